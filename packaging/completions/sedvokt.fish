@@ -1,7 +1,7 @@
 # Completes sedvokt in fish.
 
-set -l commands blocks dump manifest verify get scan compact clean
-set -l folders manifest verify get scan compact clean
+set -l commands blocks dump manifest stats verify get scan job compact install clean
+set -l folders manifest stats verify get scan job compact install clean
 
 complete -c sedvokt -f
 complete -c sedvokt -s h -l help -d 'Print help'
@@ -10,10 +10,13 @@ complete -c sedvokt -n __fish_use_subcommand -s V -l version -d 'Print the versi
 complete -c sedvokt -n __fish_use_subcommand -a blocks -d 'Merge two blocks of tables into one'
 complete -c sedvokt -n __fish_use_subcommand -a dump -d 'Print the entries of a table'
 complete -c sedvokt -n __fish_use_subcommand -a manifest -d 'Print the version of a database'
+complete -c sedvokt -n __fish_use_subcommand -a stats -d 'Print what each level of a database has'
 complete -c sedvokt -n __fish_use_subcommand -a verify -d 'Test all tables of a database'
 complete -c sedvokt -n __fish_use_subcommand -a get -d 'Print the value of a key'
 complete -c sedvokt -n __fish_use_subcommand -a scan -d 'Print keys and their values'
+complete -c sedvokt -n __fish_use_subcommand -a job -d 'Print what a compaction would read'
 complete -c sedvokt -n __fish_use_subcommand -a compact -d 'Merge files of a level into the next'
+complete -c sedvokt -n __fish_use_subcommand -a install -d 'Install what compact --out made'
 complete -c sedvokt -n __fish_use_subcommand -a clean -d 'Remove files that are not needed'
 complete -c sedvokt -n __fish_use_subcommand -a help -d 'Print help'
 
@@ -23,31 +26,42 @@ complete -c sedvokt -n "__fish_seen_subcommand_from $folders" -a '(__fish_comple
 complete -c sedvokt -n "__fish_seen_subcommand_from $folders" -s v -l verbose \
     -d 'Tell how long it took'
 complete -c sedvokt -n '__fish_seen_subcommand_from get scan' -l at -x -d 'Read at this sequence'
-complete -c sedvokt -n '__fish_seen_subcommand_from dump manifest get scan' -l text \
+complete -c sedvokt -n '__fish_seen_subcommand_from dump manifest stats get scan' -l text \
     -d 'Keys and values are text'
-complete -c sedvokt -n '__fish_seen_subcommand_from manifest verify get scan' -l json \
-    -d 'Print JSON, one object a line'
+complete -c sedvokt -n '__fish_seen_subcommand_from manifest stats verify get scan compact' \
+    -l json -d 'Print JSON, one object a line'
+complete -c sedvokt -n '__fish_seen_subcommand_from verify' -l table -r -F -d 'Test a table alone'
+complete -c sedvokt -n '__fish_seen_subcommand_from verify' -l all-faults \
+    -d 'Print what is wrong with each file'
 complete -c sedvokt -n '__fish_seen_subcommand_from get' -l raw -d 'Print the bytes themselves'
 complete -c sedvokt -n '__fish_seen_subcommand_from scan' -l from -x -d 'The first key'
 complete -c sedvokt -n '__fish_seen_subcommand_from scan' -l to -x -d 'The key before which to end'
 complete -c sedvokt -n '__fish_seen_subcommand_from scan' -l limit -x -d 'At most so many keys'
 complete -c sedvokt -n '__fish_seen_subcommand_from scan' -l keys -d 'Print keys alone'
 complete -c sedvokt -n '__fish_seen_subcommand_from clean' -l dry-run -d 'Print names, remove none'
-complete -c sedvokt -n '__fish_seen_subcommand_from verify get scan compact' -l memory -x \
+complete -c sedvokt -n '__fish_seen_subcommand_from stats verify get scan compact install' \
+    -l memory -x \
     -d 'MiB of tables that the test may hold'
 complete -c sedvokt -n '__fish_seen_subcommand_from get scan compact' -l no-verify \
     -d 'Take the version for lawful'
+complete -c sedvokt -n '__fish_seen_subcommand_from install' -l no-verify \
+    -d 'Do not compare outputs with inputs'
 complete -c sedvokt -n '__fish_seen_subcommand_from blocks' -l at -x \
     -d 'The key where the second range begins'
 
 set -l compact '__fish_seen_subcommand_from compact'
-complete -c sedvokt -n $compact -l level -x -a '0 1 2 3 4 5' -d 'The level whose files move down'
+set -l installs '__fish_seen_subcommand_from compact install'
+complete -c sedvokt -n '__fish_seen_subcommand_from job compact' -l level -x -a '0 1 2 3 4 5' \
+    -d 'The level whose files move down'
 complete -c sedvokt -n $compact -l all -d 'All levels, down to the deepest'
+complete -c sedvokt -n $compact -l out -x -a '(__fish_complete_directories)' \
+    -d 'The folder that gets the outcome'
+complete -c sedvokt -n $compact -l first-number -x -d 'The number of the first new table'
 complete -c sedvokt -n $compact -l workers -x -d 'How many workers do it, 1 to 64'
 complete -c sedvokt -n $compact -l ranges -x -d 'At most how many ranges of keys, 1 to 4096'
 complete -c sedvokt -n $compact -l explain -d 'Tell how each compaction went, with bars'
-complete -c sedvokt -n $compact -l snapshot -x -d 'The oldest snapshot that stays'
-complete -c sedvokt -n $compact -l snapshots -x -d 'The snapshots that stay, as 3,7,9'
+complete -c sedvokt -n $installs -l snapshot -x -d 'The oldest snapshot that stays'
+complete -c sedvokt -n $installs -l snapshots -x -d 'The snapshots that stay, as 3,7,9'
 complete -c sedvokt -n $compact -l block-size -x -d 'Bytes at which a block ends'
 complete -c sedvokt -n $compact -l file-size -x -d 'Bytes at which a table ends'
-complete -c sedvokt -n $compact -l clean -d 'Remove files that are not needed any more'
+complete -c sedvokt -n $installs -l clean -d 'Remove files that are not needed any more'

@@ -10,12 +10,12 @@ use Rattle.std.proofs.lemmas.Option.{none-some, same_Some}
 use Rattle.split.specs.Ranges.{KeyRange, IsIn}
 use Rattle.checks.specs.RangeOrder.{IsInBoth, common_of, earlier_bound, later_bound}
 
-less_is : (o : Ordering) → is_lt o ≡ true → o ≡ Less
+pub less_is : (o : Ordering) → is_lt o ≡ true → o ≡ Less
 less_is Less h = refl
 less_is Equal h = absurd cc
 less_is Greater h = absurd cc
 
-not_less : (o : Ordering) → is_lt o ≡ false → o ≡ Less → ⊥
+pub not_less : (o : Ordering) → is_lt o ≡ false → o ≡ Less → ⊥
 not_less Less h e = absurd cc
 not_less Equal h e = absurd cc
 not_less Greater h e = absurd cc

@@ -25,11 +25,8 @@ fn later<'k, C: Comparator>(one: Option<&'k [u8]>, two: Option<&'k [u8]>) -> Opt
         ≡ later_bound C.cmp (option_map (λ k. k.now) one.entry)
         (option_map (λ k. k.now) two.entry) }
 {
-    let Some(first) = one else {
-        return two;
-    };
-    let Some(second) = two else {
-        return Some(first);
+    let (Some(first), Some(second)) = (one, two) else {
+        return one.or(two);
     };
     Some(if is_below::<C>(first, second) {
         second
@@ -44,11 +41,8 @@ fn earlier<'k, C: Comparator>(one: Option<&'k [u8]>, two: Option<&'k [u8]>) -> O
         ≡ earlier_bound C.cmp (option_map (λ k. k.now) one.entry)
         (option_map (λ k. k.now) two.entry) }
 {
-    let Some(first) = one else {
-        return two;
-    };
-    let Some(second) = two else {
-        return Some(first);
+    let (Some(first), Some(second)) = (one, two) else {
+        return one.or(two);
     };
     Some(if is_below::<C>(first, second) {
         first

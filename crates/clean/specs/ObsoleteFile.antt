@@ -24,12 +24,12 @@ pub record IsOldNumber (cmp : KeyOrder) (v : State) (number : ℕ) : Type 0 wher
   pub no_file : IsOneOf (file_numbers cmp v) number → ⊥
 
 -- A version needs no file of this kind and number, if CURRENT names the manifest of the number
--- `manifest`. A temporary file is never needed.
+-- `manifest`. A temporary file is kept only if a file of the version has its number.
 abbrev pub IsUnneeded : KeyOrder → State → ℕ → FileKind → ℕ → Type 0
 IsUnneeded cmp v manifest Table number = IsOldNumber cmp v number
 IsUnneeded cmp v manifest OldTable number = IsOldNumber cmp v number
 IsUnneeded cmp v manifest Manifest number = number < manifest
-IsUnneeded cmp v manifest Temporary number = Unit {0}
+IsUnneeded cmp v manifest Temporary number = IsOneOf (file_numbers cmp v) number → ⊥
 
 -- The name is, just as it is written, that of a file that the version doesn't need.
 pub record IsObsoleteFile (cmp : KeyOrder) (v : State) (manifest : ℕ) (name : List ℕ)

@@ -96,7 +96,7 @@ fn is_unneeded(
     match kind {
         FileKind::Table | FileKind::OldTable => is_old(opened, numbers, number),
         FileKind::Manifest => number < manifest,
-        FileKind::Temporary => true,
+        FileKind::Temporary => !numbers.contains(&number),
     }
 }
 

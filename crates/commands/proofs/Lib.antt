@@ -3,3 +3,6 @@ mod HeldTables
 mod UnverifiedLemmas
 mod FolderLineLemmas
 mod ValueLineLemmas
+mod TableLemmas
+mod MarkPlaces
+mod StatsLines

@@ -7,3 +7,6 @@ pub mod FolderLines
 pub mod Questions
 pub mod ScanRow
 pub mod Progress
+pub mod FaultLines
+pub mod StatsTable
+pub mod StatsText

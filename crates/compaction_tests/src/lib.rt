@@ -1,8 +1,10 @@
 //! The tests of a compaction, from who draws which job and what a worker keeps to the whole and to
 //! a folder: `board`, `split`, `merge`, `keep`, `encoding`, `cut`, `request`, `compact`, `checks`,
-//! `scan` and `store`.
+//! `scan`, `faults`, `store` and `adoption`.
 #![tactic(auto)]
 
+#[cfg(test)]
+mod adoption_tests;
 #[cfg(test)]
 mod board_tests;
 #[cfg(test)]
@@ -13,6 +15,8 @@ mod compact_tests;
 mod cut_tests;
 #[cfg(test)]
 mod encoding_tests;
+#[cfg(test)]
+mod fault_tests;
 #[cfg(test)]
 mod keep_tests;
 #[cfg(test)]
@@ -25,5 +29,7 @@ mod request_tests;
 mod scan_tests;
 #[cfg(test)]
 mod split_tests;
+#[cfg(test)]
+mod stats_tests;
 #[cfg(test)]
 mod store_tests;

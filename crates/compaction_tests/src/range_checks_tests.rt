@@ -31,7 +31,7 @@ pub(crate) const U_AT_SEVEN: &[u8] = b"\
     G\xdb";
 
 /// `table: u@1 put z`
-const U_AT_ONE: &[u8] = b"\
+pub(crate) const U_AT_ONE: &[u8] = b"\
     \0\x09\x01u\x01\x01\0\0\0\0\0\0z\0\0\0\0\x01\0\0\0\0YZ\xdbJ\0\0\0\0\x01\0\0\0\0\xc0\xf2\xa1\
     \xb0\0\x09\x02u\x01\x01\0\0\0\0\0\0\0\x15\0\0\0\0\x01\0\0\0\0.\xfbO\x03\x1a\x08\x27\x16\0\0\0\
     \0\0\0\0\0\0\0\0\0\0\0\0\0\0\0\0\0\0\0\0\0\0\0\0\0\0\0\0\0\0\0\0\0W\xfb\x80\x8b\x24uG\xdb";
@@ -60,7 +60,7 @@ const SAME_KEY: &[u8] = b"\
 /// Two files of one level share a user key.
 /// `edit: comparator leveldb.BytewiseComparator, log 3, previous 0, next 20, last 10, file 1 12 114
 /// u@9 put .. u@9 put, file 1 11 114 u@7 put .. u@7 put`
-const SHARED_KEY: &[u8] = b"\
+pub(crate) const SHARED_KEY: &[u8] = b"\
     \x01\x1aleveldb.BytewiseComparator\x02\x03\x09\0\x03\x14\x04\x0a\x07\x01\x0cr\x09u\x01\x09\0\0\
     \0\0\0\0\x09u\x01\x09\0\0\0\0\0\0\x07\x01\x0br\x09u\x01\x07\0\0\0\0\0\0\x09u\x01\x07\0\0\0\0\0\
     \0";
@@ -80,7 +80,7 @@ pub(crate) const SEVERAL_RANGES: &[u8] = b"\
 /// `edit: comparator leveldb.BytewiseComparator, log 3, previous 0, next 20, last 10, file 0 13 114
 /// u@7 put .. u@7 put, file 1 10 113 a@3 put .. a@3 put, file 1 11 113 b@2 put .. b@2 put, file 1
 /// 12 114 u@9 put .. u@9 put, file 2 9 125 a@1 put .. u@1 put`
-const OLDER_ABOVE: &[u8] = b"\
+pub(crate) const OLDER_ABOVE: &[u8] = b"\
     \x01\x1aleveldb.BytewiseComparator\x02\x03\x09\0\x03\x14\x04\x0a\x07\0\x0dr\x09u\x01\x07\0\0\0\
     \0\0\0\x09u\x01\x07\0\0\0\0\0\0\x07\x01\x0aq\x09a\x01\x03\0\0\0\0\0\0\x09a\x01\x03\0\0\0\0\0\0\
     \x07\x01\x0bq\x09b\x01\x02\0\0\0\0\0\0\x09b\x01\x02\0\0\0\0\0\0\x07\x01\x0cr\x09u\x01\x09\0\0\

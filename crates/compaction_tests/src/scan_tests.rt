@@ -16,17 +16,17 @@ use std::thread::Threads;
 /// `edit: comparator leveldb.BytewiseComparator, log 3, previous 0, next 20, last 10, file 0 13 113
 /// u@4 del .. u@4 del, file 1 10 113 a@3 put .. a@3 put, file 1 11 113 b@2 put .. b@2 put, file 2 9
 /// 125 a@1 put .. u@1 put`
-const DELETION_ABOVE: &[u8] = b"\
+pub(crate) const DELETION_ABOVE: &[u8] = b"\
     \x01\x1aleveldb.BytewiseComparator\x02\x03\x09\0\x03\x14\x04\x0a\x07\0\x0dq\x09u\0\x04\0\0\0\0\
     \0\0\x09u\0\x04\0\0\0\0\0\0\x07\x01\x0aq\x09a\x01\x03\0\0\0\0\0\0\x09a\x01\x03\0\0\0\0\0\0\x07\
     \x01\x0bq\x09b\x01\x02\0\0\0\0\0\0\x09b\x01\x02\0\0\0\0\0\0\x07\x02\x09\x7d\x09a\x01\x01\0\0\0\
     \0\0\0\x09u\x01\x01\0\0\0\0\0\0";
 
 /// A file of a folder: its name and its bytes.
-type Held = (&'static str, &'static [u8]);
+pub(crate) type Held = (&'static str, &'static [u8]);
 
 /// The files of [`SEVERAL_RANGES`]: u has the values x, y and none, from the newest on.
-const VALUES: &[Held] = &[
+pub(crate) const VALUES: &[Held] = &[
     ("000009.ldb", A_AND_U),
     ("000010.ldb", A_AT_THREE),
     ("000011.ldb", B_AT_TWO),
@@ -38,7 +38,7 @@ const VALUES: &[Held] = &[
 const VALUES_OF_A: &[Held] = &[("000009.ldb", A_AND_U), ("000010.ldb", A_AT_THREE)];
 
 /// The files of [`DELETION_ABOVE`].
-const DELETED: &[Held] = &[
+pub(crate) const DELETED: &[Held] = &[
     ("000009.ldb", A_AND_U),
     ("000010.ldb", A_AT_THREE),
     ("000011.ldb", B_AT_TWO),

@@ -1,4 +1,5 @@
 //! The tests of `store`.
 
+mod outcomes;
 pub(crate) mod rows;
 mod tests;

@@ -44,7 +44,7 @@ pub(crate) fn refused_among<C: Comparator>(
 }
 
 /// The answer that a file is refused.
-fn refused(
+pub(crate) fn refused(
     alloc: Global,
     name: &str,
     fault: Fault,
@@ -105,21 +105,28 @@ fn unlawful<C: Comparator>(
 
 /// In what a table is not as the version states. None if it is.
 fn unlike<C: Comparator>(next: u64, table: &CheckedTable<'_, C>) -> Option<Detail> {
-    let meta = table.meta;
-    let held = table.sound.bytes().len() as u64;
-    if meta.number >= next {
+    if table.meta.number >= next {
         return Some(Detail::NotBelow(next));
     }
+    unlike_stated(&table.sound, table.meta)
+}
+
+/// In what a table is not as an edit or a version states. None if it is.
+pub(crate) fn unlike_stated<C: Comparator>(
+    sound: &SoundTable<'_, C>,
+    meta: &FileMeta,
+) -> Option<Detail> {
+    let held = sound.bytes().len() as u64;
     if held != meta.size {
         return Some(Detail::Size {
             held,
             stated: meta.size,
         });
     }
-    if table.sound.smallest().bytes() != meta.smallest.as_key().bytes() {
+    if sound.smallest().bytes() != meta.smallest.as_key().bytes() {
         return Some(Detail::Smallest);
     }
-    if table.sound.largest().bytes() != meta.largest.as_key().bytes() {
+    if sound.largest().bytes() != meta.largest.as_key().bytes() {
         return Some(Detail::Largest);
     }
     None

@@ -132,7 +132,7 @@ fn push_tables<'v, F: Folder>(
 }
 
 /// The answer that the table of this `number` is missing.
-fn missing(alloc: Global, number: u64) -> Result<Option<RefusedFile>, Fault> {
+pub(crate) fn missing(alloc: Global, number: u64) -> Result<Option<RefusedFile>, Fault> {
     let name = table_name(alloc, number)?;
     Ok(Some(RefusedFile {
         name,

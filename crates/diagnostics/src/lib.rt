@@ -1,6 +1,7 @@
 //! What is read of a folder again to tell of the work on it.
 //!
-//! 1. [`refused_file`]: which file is refused, and why.
+//! 1. [`refused_file`]: which file is refused, and why. [`refused_outcome`]: the same of an outcome
+//!    of a compaction.
 //! 2. [`replayed_log`]: which logs LevelDB would replay, by their names.
 //! 3. [`replaceable_file`]: which files a compaction may replace, by their names.
 //! 4. [`account_of`]: the numbers of a compaction, after it was installed.
@@ -15,11 +16,13 @@ mod diagnosis;
 mod file_numbers;
 mod manifest_diagnosis;
 mod misplaced_entry;
+mod outcome_diagnosis;
 mod replaceable_files;
 mod replayed_logs;
 
 pub use compaction_account::account_of;
 pub use detail::Detail;
 pub use diagnosis::{RefusedFile, refused_file};
+pub use outcome_diagnosis::refused_outcome;
 pub use replaceable_files::replaceable_file;
 pub use replayed_logs::replayed_log;

@@ -56,7 +56,8 @@ const NAMES: &[(&str, bool)] = &[
     ("MANIFEST-000005", false),
     ("MANIFEST-000006", false),
     ("000005.dbtmp", true),
-    ("000007.dbtmp", true),
+    ("000007.dbtmp", false),
+    ("000008.dbtmp", true),
     ("1000000.dbtmp", true),
     ("18446744073709551615.dbtmp", true),
     // No number of 64 bits.

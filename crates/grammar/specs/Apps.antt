@@ -3,10 +3,11 @@ use Rattle.std.specs.Prelude.{List, [], ◌∷◌, Some, codes, true}
 use Rattle.clap.specs.Words.{App, Rule, Text, new_app, new_rule, with_rule, with_subcommand}
 use Rattle.clap.specs.declared.builder.action.ArgAction.TheVariants.{SetTrue}
 use Rattle.clap.specs.declared.builder.value_parser.ValueParser.TheVariants as parser
-use Rattle.grammar.specs.declared.commands.TheConstants.{MAX_MEMORY}
+use Rattle.grammar.specs.declared.argument_forms.TheConstants.{MAX_MEMORY}
 use Rattle.grammar.specs.declared.command_name.CommandName.{CommandName}
 use Rattle.grammar.specs.declared.command_name.CommandName.TheVariants.{Blocks, Dump, Manifest}
-use Rattle.grammar.specs.declared.command_name.CommandName.TheVariants.{Verify, Get, Scan, Compact}
+use Rattle.grammar.specs.declared.command_name.CommandName.TheVariants.{Stats, Verify, Get, Scan}
+use Rattle.grammar.specs.declared.command_name.CommandName.TheVariants.{Job, Compact, Install}
 use Rattle.grammar.specs.declared.command_name.CommandName.TheVariants.{Clean}
 
 -- the app with these arguments too, in their order
@@ -26,27 +27,28 @@ value_rule id = record (new_rule id) { long = Some id; value_names = 1 }
 abbrev pub number_rule : Text → Rule
 number_rule id = record (value_rule id) { parser = Some (parser.Unsigned 0 18446744073709551615) }
 
--- `--at HEXKEY`, which must be given
-abbrev pub at_rule : Rule
-at_rule = record (value_rule (codes "at")) { required = true }
-
 -- a flag, as `--all`
 abbrev pub flag_rule : Text → Rule
 flag_rule id = record (new_rule id) { long = Some id; action = Some SetTrue }
+
+-- `--memory MIB`: 1 to 2^24
+abbrev pub memory_rule : Rule
+memory_rule = record (value_rule (codes "memory")) { parser = Some (parser.Unsigned 1 MAX_MEMORY) }
 
 -- `-v`, or `--verbose`
 abbrev pub verbose_rule : Rule
 verbose_rule = record (flag_rule (codes "verbose")) { short = Some 118 }
 
--- `blocks A B --at HEXKEY OUT`
-abbrev pub blocks_app : App
-blocks_app = with_rules (new_app (codes "blocks")) (required_argument (codes "A")
-    ∷ required_argument (codes "B") ∷ at_rule ∷ required_argument (codes "OUT") ∷ [])
-
 -- the program: a command must be given, and it tells its version
 abbrev pub bare_app : App
 bare_app = let app = new_app (codes "sedvokt") in
     record app { top = record app.top { has_version = true; subcommand_required = true } }
+
+-- `blocks A B --at HEXKEY OUT`
+abbrev pub blocks_app : App
+blocks_app = with_rules (new_app (codes "blocks")) (required_argument (codes "A")
+    ∷ required_argument (codes "B") ∷ record (value_rule (codes "at")) { required = true }
+    ∷ required_argument (codes "OUT") ∷ [])
 
 -- `dump TABLE [--text]`
 abbrev pub dump_app : App
@@ -58,63 +60,60 @@ abbrev pub manifest_app : App
 manifest_app = with_rules (new_app (codes "manifest")) (required_argument (codes "DIR")
     ∷ flag_rule (codes "text") ∷ flag_rule (codes "json") ∷ verbose_rule ∷ [])
 
--- `clean DIR [--dry-run] [-v]`
-abbrev pub clean_app : App
-clean_app = with_rules (new_app (codes "clean")) (required_argument (codes "DIR")
-    ∷ flag_rule (codes "dry-run") ∷ verbose_rule ∷ [])
+-- `stats DIR [--text] [--json] [--memory MIB] [-v]`
+abbrev pub stats_app : App
+stats_app = with_rules (new_app (codes "stats")) (required_argument (codes "DIR")
+    ∷ flag_rule (codes "text") ∷ flag_rule (codes "json") ∷ memory_rule ∷ verbose_rule ∷ [])
 
--- `--memory MIB`: 1 to 2^24
-abbrev pub memory_rule : Rule
-memory_rule = record (value_rule (codes "memory")) { parser = Some (parser.Unsigned 1 MAX_MEMORY) }
-
--- `[--no-verify] [--memory MIB]`, after what a command has
-abbrev pub with_testing : App → App
-with_testing app = with_rules app (flag_rule (codes "no-verify") ∷ memory_rule ∷ [])
-
--- `verify DIR [--json] [--memory MIB] [-v]`
+-- `verify [DIR] [--table FILE] [--json] [--all-faults] [--memory MIB] [-v]`
 abbrev pub verify_app : App
-verify_app = with_rules (new_app (codes "verify")) (required_argument (codes "DIR")
-    ∷ flag_rule (codes "json") ∷ memory_rule ∷ verbose_rule ∷ [])
+verify_app = with_rules (new_app (codes "verify")) (new_rule (codes "DIR")
+    ∷ value_rule (codes "table") ∷ flag_rule (codes "json") ∷ flag_rule (codes "all-faults")
+    ∷ memory_rule ∷ verbose_rule ∷ [])
 
 -- `get DIR KEY [--at N] [--text] [--raw] [--json] [--no-verify] [--memory MIB] [-v]`
 abbrev pub get_app : App
-get_app = with_rule (with_testing (with_rules (new_app (codes "get")) (required_argument
-    (codes "DIR") ∷ required_argument (codes "KEY") ∷ number_rule (codes "at")
-    ∷ flag_rule (codes "text") ∷ flag_rule (codes "raw") ∷ flag_rule (codes "json") ∷ [])))
-    verbose_rule
-
--- `[--from KEY] [--to KEY] [--at N] [--limit N] [--keys]`, after what a command has
-abbrev pub with_rows : App → App
-with_rows app = with_rules app (value_rule (codes "from") ∷ value_rule (codes "to")
-    ∷ number_rule (codes "at") ∷ number_rule (codes "limit") ∷ flag_rule (codes "keys") ∷ [])
+get_app = with_rules (new_app (codes "get")) (required_argument (codes "DIR")
+    ∷ required_argument (codes "KEY") ∷ number_rule (codes "at") ∷ flag_rule (codes "text")
+    ∷ flag_rule (codes "raw") ∷ flag_rule (codes "json") ∷ flag_rule (codes "no-verify")
+    ∷ memory_rule ∷ verbose_rule ∷ [])
 
 -- `scan DIR [--from KEY] [--to KEY] [--at N] [--limit N] [--keys] [--text] [--json] [--no-verify]
 -- [--memory MIB] [-v]`
 abbrev pub scan_app : App
-scan_app = with_rule (with_testing (with_rules (with_rows (with_rule (new_app (codes "scan"))
-    (required_argument (codes "DIR")))) (flag_rule (codes "text") ∷ flag_rule (codes "json") ∷ [])))
-    verbose_rule
+scan_app = with_rules (new_app (codes "scan")) (required_argument (codes "DIR")
+    ∷ value_rule (codes "from") ∷ value_rule (codes "to") ∷ number_rule (codes "at")
+    ∷ number_rule (codes "limit") ∷ flag_rule (codes "keys") ∷ flag_rule (codes "text")
+    ∷ flag_rule (codes "json") ∷ flag_rule (codes "no-verify") ∷ memory_rule ∷ verbose_rule ∷ [])
 
--- `[--snapshot S] [--snapshots S,S,..] [--block-size B] [--file-size F]`, after what a command has
-abbrev pub with_outputs : App → App
-with_outputs app = with_rules app (number_rule (codes "snapshot") ∷ value_rule (codes "snapshots")
-    ∷ number_rule (codes "block-size") ∷ number_rule (codes "file-size") ∷ [])
+-- `job DIR --level N [-v]`
+abbrev pub job_app : App
+job_app = with_rules (new_app (codes "job")) (required_argument (codes "DIR")
+    ∷ record (number_rule (codes "level")) { required = true } ∷ verbose_rule ∷ [])
 
--- `DIR [--level N] [--all]`, after what a command has
-abbrev pub with_levels : App → App
-with_levels app = with_rules app (required_argument (codes "DIR") ∷ number_rule (codes "level")
-    ∷ flag_rule (codes "all") ∷ [])
-
--- `[--workers W] [--ranges R] [-v] [--explain]`, after what a command has
-abbrev pub with_work : App → App
-with_work app = with_rules app (number_rule (codes "workers") ∷ number_rule (codes "ranges")
-    ∷ verbose_rule ∷ flag_rule (codes "explain") ∷ [])
-
--- `compact DIR [--level N] [--all] [--no-verify] [--memory MIB] [--workers W] [--ranges R] [-v]
--- [--explain] [--snapshot S] [--snapshots S,S,..] [--block-size B] [--file-size F] [--clean]`
+-- `compact DIR [--level N] [--all] [--out OUT] [--first-number K] [--no-verify] [--memory MIB]
+-- [--workers W] [--ranges R] [-v] [--explain] [--snapshot S] [--snapshots S,S,..] [--block-size B]
+-- [--file-size F] [--clean] [--json]`
 abbrev pub compact_app : App
-compact_app = with_rule (with_outputs (with_work (with_testing (with_levels
-    (new_app (codes "compact")))))) (flag_rule (codes "clean"))
+compact_app = with_rules (new_app (codes "compact")) (required_argument (codes "DIR")
+    ∷ number_rule (codes "level") ∷ flag_rule (codes "all") ∷ value_rule (codes "out")
+    ∷ number_rule (codes "first-number") ∷ flag_rule (codes "no-verify") ∷ memory_rule
+    ∷ number_rule (codes "workers") ∷ number_rule (codes "ranges") ∷ verbose_rule
+    ∷ flag_rule (codes "explain") ∷ number_rule (codes "snapshot") ∷ value_rule (codes "snapshots")
+    ∷ number_rule (codes "block-size") ∷ number_rule (codes "file-size") ∷ flag_rule (codes "clean")
+    ∷ flag_rule (codes "json") ∷ [])
+
+-- `install DIR OUT [--snapshot S] [--snapshots S,S,..] [--no-verify] [--memory MIB] [--clean] [-v]`
+abbrev pub install_app : App
+install_app = with_rules (new_app (codes "install")) (required_argument (codes "DIR")
+    ∷ required_argument (codes "OUT") ∷ number_rule (codes "snapshot")
+    ∷ value_rule (codes "snapshots") ∷ flag_rule (codes "no-verify") ∷ memory_rule
+    ∷ flag_rule (codes "clean") ∷ verbose_rule ∷ [])
+
+-- `clean DIR [--dry-run] [-v]`
+abbrev pub clean_app : App
+clean_app = with_rules (new_app (codes "clean")) (required_argument (codes "DIR")
+    ∷ flag_rule (codes "dry-run") ∷ verbose_rule ∷ [])
 
 -- the app with these commands too, in their order
 abbrev pub with_commands : App → List App → App
@@ -123,16 +122,19 @@ with_commands app (command ∷ commands) = with_commands (with_subcommand app co
 
 -- the program with its commands
 abbrev pub program_app : App
-program_app = with_commands bare_app (blocks_app ∷ dump_app ∷ manifest_app ∷ verify_app ∷ get_app
-    ∷ scan_app ∷ compact_app ∷ clean_app ∷ [])
+program_app = with_commands bare_app (blocks_app ∷ dump_app ∷ manifest_app ∷ stats_app ∷ verify_app
+    ∷ get_app ∷ scan_app ∷ job_app ∷ compact_app ∷ install_app ∷ clean_app ∷ [])
 
 -- the command of a name
 abbrev pub app_of_name : CommandName → App
 app_of_name Blocks = blocks_app
 app_of_name Dump = dump_app
 app_of_name Manifest = manifest_app
+app_of_name Stats = stats_app
 app_of_name Verify = verify_app
 app_of_name Get = get_app
 app_of_name Scan = scan_app
+app_of_name Job = job_app
 app_of_name Compact = compact_app
+app_of_name Install = install_app
 app_of_name Clean = clean_app

@@ -1,8 +1,15 @@
 -- How commands are put together.
-use Rattle.std.specs.Prelude.{◌≡◌, false}
-use Rattle.clap.specs.Words.{App, Rule, app_of, with_rule}
+use Rattle.std.specs.Prelude.{◌≡◌, Bool, false, map}
+use Rattle.clap.specs.Words.{App, Rule, app_of, new_app, new_rule, rule_of}
+use Rattle.clap.specs.declared.builder.arg.Arg.{Arg}
 use Rattle.clap.specs.declared.builder.command.Command.{Command}
 use Rattle.clap.specs.declared.builder.command.Command.TheViews.{out-Command}
+use Rattle.grammar.specs.Apps.{flag_rule, memory_rule, number_rule, value_rule, verbose_rule}
+use Rattle.grammar.specs.Apps.{with_rules}
+use Rattle.grammar.specs.declared.argument.Argument.{Argument}
+use Rattle.grammar.specs.declared.argument.Argument.TheVariants.{Place, Flag, Value, Number}
+use Rattle.grammar.specs.declared.argument.Argument.TheVariants.{Memory, Verbose}
+use Rattle.grammar.specs.declared.descriptions.Description.{Description}
 
 -- the command is this app, and no argument of it is one of all its subcommands
 abbrev pub IsCommand : App → Command → Type 0
@@ -14,6 +21,24 @@ abbrev pub Extends : (App → App) → Command → Command → Type 0
 Extends change old new = (app_of new ≡ change (app_of old))
     × ((out-Command new).has_globals ≡ (out-Command old).has_globals)
 
--- with one more argument
-abbrev pub with_argument : Rule → App → App
-with_argument rule app = with_rule app rule
+-- the argument has this rule, and isn't one of all subcommands
+abbrev pub IsArgument : Rule → Arg → Type 0
+IsArgument rule arg = (rule_of arg ≡ rule) × (arg.global ≡ false)
+
+-- the rule, of an argument that must be given or not
+abbrev pub is_wanted_if : Bool → Rule → Rule
+is_wanted_if is_wanted rule = record rule { required = is_wanted }
+
+-- the rule of an argument
+abbrev pub rule_of_argument : Argument → Rule
+rule_of_argument (Place id is_wanted help) = is_wanted_if is_wanted (new_rule id.now)
+rule_of_argument (Flag id help) = flag_rule id.now
+rule_of_argument (Value id name is_wanted help) = is_wanted_if is_wanted (value_rule id.now)
+rule_of_argument (Number id name is_wanted help) = is_wanted_if is_wanted (number_rule id.now)
+rule_of_argument Memory = memory_rule
+rule_of_argument Verbose = verbose_rule
+
+-- the command that is described so
+abbrev pub app_of_description : Description → App
+app_of_description description =
+    with_rules (new_app description.name.now) (map rule_of_argument description.arguments.now)

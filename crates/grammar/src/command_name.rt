@@ -6,12 +6,30 @@ pub enum CommandName {
     Blocks,
     Dump,
     Manifest,
+    Stats,
     Verify,
     Get,
     Scan,
+    Job,
     Compact,
+    Install,
     Clean,
 }
+
+/// All commands, in the order of help.
+pub(crate) const COMMANDS: &[CommandName] = &[
+    CommandName::Blocks,
+    CommandName::Dump,
+    CommandName::Manifest,
+    CommandName::Stats,
+    CommandName::Verify,
+    CommandName::Get,
+    CommandName::Scan,
+    CommandName::Job,
+    CommandName::Compact,
+    CommandName::Install,
+    CommandName::Clean,
+];
 
 impl CommandName {
     /// The name after that of the program, as a usage begins.
@@ -20,10 +38,13 @@ impl CommandName {
             CommandName::Blocks => "sedvokt blocks",
             CommandName::Dump => "sedvokt dump",
             CommandName::Manifest => "sedvokt manifest",
+            CommandName::Stats => "sedvokt stats",
             CommandName::Verify => "sedvokt verify",
             CommandName::Get => "sedvokt get",
             CommandName::Scan => "sedvokt scan",
+            CommandName::Job => "sedvokt job",
             CommandName::Compact => "sedvokt compact",
+            CommandName::Install => "sedvokt install",
             CommandName::Clean => "sedvokt clean",
         }
     }

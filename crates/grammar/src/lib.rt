@@ -5,19 +5,30 @@
 //!     blocks A B --at HEXKEY OUT
 //!     dump TABLE [--text]
 //!     manifest DIR [--text] [--json] [-v]
-//!     verify DIR [--json] [--memory MIB] [-v]
-//!     get DIR KEY [--at N] [--text] [--raw] [--json] [--no-verify] [--memory MIB] [-v]
+//!     stats DIR [--text] [--json] [--memory MIB] [-v]
+//!     verify DIR [--json | --all-faults] [--memory MIB] [-v]
+//!     verify --table FILE [--json]
+//!     get DIR KEY [--at N] [--text] [--raw | --json] [--no-verify] [--memory MIB] [-v]
 //!     scan DIR [--from KEY] [--to KEY] [--at N] [--limit N] [--keys] [--text] [--json]
 //!         [--no-verify] [--memory MIB] [-v]
+//!     job DIR --level N [-v]
 //!     compact DIR (--level N | --all) [options]
+//!     compact DIR --level N --out OUT [--first-number K] [options]
+//!     install DIR OUT [--snapshot S | --snapshots S,S,..] [--no-verify] [--memory MIB] [--clean]
+//!         [-v]
 //!     clean DIR [--dry-run] [-v]
 //!
-//! That `--level` and `--all` exclude each other, and `--raw` and `--json` too, isn't said to
-//! `clap`: `usage` tests it. No contract says which texts of help there are.
+//! Which options exclude one another, and which want another one, isn't said to `clap`: `usage`
+//! tests it. No contract says which texts of help there are.
 #![tactic(auto)]
 
+mod argument;
+mod argument_forms;
+mod arguments;
 mod command_name;
 mod commands;
+mod descriptions;
 
+pub use argument_forms::MAX_MEMORY;
 pub use command_name::CommandName;
-pub use commands::{MAX_MEMORY, command_alone, program_command};
+pub use commands::{command_alone, program_command};

@@ -122,7 +122,7 @@ fn is_compacted<R: AllocGlobal + Threads + Sync>(
     rt: &R,
     shelf: &mut Shelf<'_>,
 ) -> Result<bool, Fault> {
-    let lines = compact_dir(
+    let step = compact_dir(
         rt,
         rt.alloc(),
         shelf,
@@ -131,7 +131,7 @@ fn is_compacted<R: AllocGlobal + Threads + Sync>(
         MEMORY,
         &Open,
     )?;
-    Ok(lines.as_slice() == COMPACTED)
+    Ok(step.lines.as_slice() == COMPACTED)
 }
 
 /// Compacts level 1 of the folder. If memory was refused, the same folder is compacted again. If it

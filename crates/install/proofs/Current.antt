@@ -1,18 +1,17 @@
 -- CURRENT as the calls before the rename leave it, and what comes of reading it again.
-use Rattle.std.proofs.Common.{◌≡◌, ◌≢◌, ◌⊎◌, ◌<◌, ◌≤◌, ◌^◌, ℕ, true, List, [], ◌∷◌, ◌++◌, map, Option, Some, Result, Ok, Err, IsErrAnd, IfErr, sym, ap, subst, ◌∙◌, inl, inr}
-use Rattle.coding.proofs.Refusals.{unless_device, unless_from}
+use Rattle.std.proofs.Common.{◌≡◌, ◌≢◌, ◌⊎◌, ◌<◌, ◌≤◌, ◌^◌, ℕ, true, List, [], ◌∷◌, ◌++◌, map, Option, Some, Result, Err, sym, ap, subst, ◌∙◌, inl, inr}
+use Rattle.coding.proofs.Refusals.{unless_from}
 use Rattle.coding.specs.Answers.{UnlessMemory}
 use Rattle.coding.specs.declared.fault.Fault.{Fault}
-use Rattle.coding.specs.declared.fault.FaultName.TheVariants as name
 use Rattle.folder.specs.Calls.{Call, Created, Done, Files, FolderSynced, FolderView, Removed, Renamed, Shows, Step, Synced, Tells}
 use Rattle.folder.specs.CallSequence.{MakesCalls, ShowsAll}
 use Rattle.folder.specs.Folder.{TellsSame}
 use Rattle.folder.specs.Names.{current_text}
-use Rattle.folder.specs.OpenAnswer.{HasDeviceFailed, IsStopped}
+use Rattle.folder.specs.OpenAnswer.{IsStopped}
 use Rattle.folder.proofs.OpeningLemmas.{failed_since}
 use Rattle.folder.proofs.PutLemmas.{put_other}
 use Rattle.install.specs.CurrentAnswer.{IsCurrentAnswer}
-use Rattle.install.specs.Install.{IsStoppedOrChanged, calls_before_rename, table_calls}
+use Rattle.install.specs.Install.{calls_before_rename, table_calls}
 use Rattle.install.proofs.Parts.{RunsWhole}
 use Rattle.install.proofs.Switch.{CURRENT, manifest_no_current, table_no_current, temporary_no_current}
 
@@ -72,20 +71,6 @@ runs_read calls before middle after old between new r same is h = record {
       let told : Tells new last.0.files = λ name held. (λ x. (last.2 name held).0 ((same name held).1 x), λ x. (same name held).0 ((last.2 name held).1 x)) in
       (last.0, last.1, told);
 }
-
--- an error that `?` hands on
-pub handed_if : {X : Type 0} (P : Fault → Type 0) (r : Result X Fault) (e : Fault) → IsErrAnd r (λ f. f ≡ e) → P e → IfErr r P
-handed_if P (Ok x) e h p = tt
-handed_if P (Err f) e h p = subst P (sym h) p
-
--- the device failed if Device is answered
-pub changed_device : {X : Type 0} (before now : ℕ) (r : Result X Fault) → IfErr r (λ e. UnlessMemory e (IsStoppedOrChanged before now e)) → IfErr r (HasDeviceFailed before now)
-changed_device before now (Ok x) h = tt
-changed_device before now (Err e) h = λ same.
-    elim (unless_device e (IsStoppedOrChanged before now e) same h) [
-      | inl stopped ↦ stopped.1
-      | inr changed ↦ let other : name.Changed ≡ name.Device = sym (ap (λ (f : Fault). f.name) changed) ∙ same in absurd (cc other)
-    ]
 
 -- what a second reading of CURRENT is refused as, of all calls, if CURRENT is as it was
 pub same_refused : {T : Type 0} (tells : List ℕ → Option (List ℕ) → Type 0) (opened before middle now : ℕ) → before ≤ middle → middle ≤ now → (files : Files) → Tells tells files → files CURRENT ≡ Some (current_text opened)

@@ -8,4 +8,5 @@ mod Edited
 mod Installed
 mod Files
 mod Current
+mod InstallRuns
 mod Before

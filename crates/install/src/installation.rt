@@ -12,8 +12,9 @@ ghost use Rattle.folder.specs.OpenAnswer.{IsStopped, StopsAtDevice};
 ghost use Rattle.folder.specs.Reports.{ReportsDevice};
 ghost use Rattle.folder.specs.declared.order.Order.{Order};
 ghost use Rattle.install.specs.Install.{IsEditedBy, IsStoppedOrChanged, SurvivesCrash};
-ghost use Rattle.install.specs.Install.{calls_before_rename, install_calls, manifest_bytes};
-ghost use Rattle.install.specs.Install.{next_version_tables, tables_in};
+ghost use Rattle.install.specs.Install.{calls_before_rename, current_calls, install_calls};
+ghost use Rattle.install.specs.Install.{manifest_bytes, next_version_tables, tables_in};
+ghost use Rattle.install.specs.InstallRun.{IsInstallRun};
 
 use crate::install_steps::{name_current, test_current, write, write_tables, write_temporary};
 use crate::manifest::manifest_bytes;
@@ -107,20 +108,9 @@ fn make_calls<F: Folder>(
     tables: &[(u64, Vec<u8>)],
     manifest: &[u8],
 ) -> Result<(), Fault>
-    ensures runs { MakesCalls (install_calls manifest_number (tables_in tables.now) manifest.now)
-        (F.calls folder.old) (F.calls folder.new) (F.tells folder.old) (F.tells folder.new) result }
-    ensures left { IfErr result (λ e. e ≡ fault Changed → F.calls folder.new ≡ F.calls folder.old
-        ++ map Done (calls_before_rename manifest_number (tables_in tables.now) manifest.now)) }
-    ensures refused { IfErr result
-        (λ e. UnlessMemory e (IsStoppedOrChanged (F.failed folder.old) (F.failed folder.new) e)) }
-    ensures same_current { (files : Files) → Tells (F.tells folder.old) files →
-        files (codes "CURRENT") ≡ Some (current_text opened) → IfErr result
-        (λ e. UnlessMemory e (IsStopped (F.failed folder.old) (F.failed folder.new) e)) }
-    ensures other_current { (files : Files) → Tells (F.tells folder.old) files →
-        files (codes "CURRENT") ≢ Some (current_text opened) → IsErrAnd result
-        (λ e. UnlessMemory e (IsStoppedOrChanged (F.failed folder.old) (F.failed folder.new) e)) }
-    ensures at_once { StopsAtDevice (F.failed folder.old) (F.failed folder.new) result }
-    ensures later { F.failed folder.old ≤ F.failed folder.new }
+    ensures { IsInstallRun F.Folder
+        (calls_before_rename manifest_number (tables_in tables.now) manifest.now)
+        (current_calls manifest_number) opened folder.old folder.new result }
 {
     write_files(alloc, folder, manifest_number, tables, manifest)?;
     test_current(alloc, folder, opened)?;

@@ -1,1 +1,3 @@
 mod PieceLemmas
+mod QuotedLemmas
+mod StatsLemmas

@@ -8,21 +8,34 @@ use Rattle.serde_json.specs.View.{items_of}
 use Rattle.serde_json.specs.Written.{compact_text, items_text, members_text}
 use Rattle.ikey.specs.Comparator.{KeyOrder}
 use Rattle.ikey.specs.Key.{kind_number, kind_of, sequence_of, user_of}
+use Rattle.edit.specs.Edit.{Edit}
 use Rattle.edit.specs.Version.{State}
+use Rattle.edit.specs.declared.meta.DeletedFile.{DeletedFile}
 use Rattle.edit.specs.declared.meta.FileMeta.{FileMeta}
+use Rattle.edit.specs.declared.meta.NewFile.{NewFile}
 use Rattle.folder.specs.Levels.{all_levels, by_level}
 use Rattle.folder.specs.Manifest.{order_name}
+use Rattle.folder.specs.Names.{manifest_name}
 use Rattle.folder.specs.declared.order.Order.{Order}
 use Rattle.texts.specs.Spelling.{key_text, value_text}
 use Rattle.texts.specs.declared.spelling.Spelling.{Spelling}
-use Rattle.json_lines.specs.Objects.{json_line, lawful_object, refusal_object, row_object, value_object, with_text}
-use Rattle.json_lines.specs.Pieces.{file_items, head_text, listed_item, listed_items, named_text, pointer_items, refused_text}
+use Rattle.json_lines.specs.CompactionObject.{compaction_object, deleted_object, end_members, output_object}
+use Rattle.json_lines.specs.Objects.{json_line, lawful_object, refusal_object, removed_object, row_object, valid_object, value_object, with_text}
+use Rattle.json_lines.specs.Pieces.{end_text, file_items, head_text, level_text, listed_item, listed_items, named_text, pointer_items, refused_text}
 use Rattle.json_lines.specs.VersionObject.{file_object, file_objects, object_by, pointer_object, pointer_objects}
+use Rattle.json_lines.specs.declared.compaction_end.CompactionEnd.{CompactionEnd}
+use Rattle.json_lines.specs.declared.compaction_end.CompactionEnd.TheVariants.{Installed, Written}
 
 -- ---- pieces one after the other
 
+line_of_three : (a b c n : List ℕ) → a ++ (b ++ (c ++ n)) ≡ (a ++ (b ++ c)) ++ n
+line_of_three a b c n = simp append_assoc
+
 line_of_five : (a b c d e n : List ℕ) → a ++ (b ++ (c ++ (d ++ (e ++ n)))) ≡ (a ++ (b ++ (c ++ (d ++ e)))) ++ n
 line_of_five a b c d e n = simp append_assoc
+
+joined_line : (a b c d e n : List ℕ) → a ++ b ++ c ++ d ++ (e ++ n) ≡ (a ++ (b ++ (c ++ (d ++ e)))) ++ n
+joined_line a b c d e n = simp append_assoc
 
 line_of_six : (a b c d e f n : List ℕ) → (a ++ b) ++ c ++ d ++ e ++ (f ++ n) ≡ (a ++ (b ++ (c ++ (d ++ (e ++ f))))) ++ n
 line_of_six a b c d e f n = simp append_assoc
@@ -33,6 +46,12 @@ line_of_lists : (a b a₁ b₁ a₂ b₂ a₃ b₃ a₄ b₄ opened first closed
     ≡ (a ++ (b ++ (a₁ ++ (b₁ ++ (a₂ ++ (b₂ ++ (a₃ ++ (b₃ ++ (a₄ ++ (b₄ ++ (opened ++ ((first ++ closed) ++ (next ++ ((second ++ closed) ++ e)))))))))))))) ++ n
 line_of_lists a b a₁ b₁ a₂ b₂ a₃ b₃ a₄ b₄ opened first closed next second e n = simp append_assoc
 
+-- two lists between brackets, and what comes after them
+line_of_two_lists : (a l o first closed next second ends last n : List ℕ)
+    → (a ++ (l ++ o)) ++ first ++ (closed ++ next) ++ second ++ closed ++ ends ++ (last ++ n)
+    ≡ (a ++ (l ++ (o ++ ((first ++ closed) ++ (next ++ ((second ++ closed) ++ (ends ++ last))))))) ++ n
+line_of_two_lists a l o first closed next second ends last n = simp append_assoc
+
 -- ---- answers
 
 pub lawful_pieces : (files entries : ℕ)
@@ -40,22 +59,30 @@ pub lawful_pieces : (files entries : ℕ)
 unfolding escape_byte
 lawful_pieces files entries = line_of_five (codes "{\"lawful\":true,\"files\":") (decimal files) (codes ",\"entries\":") (decimal entries) (codes "}") (codes "\n")
 
-pub pair_pieces : (spelling : Spelling) (key value : List ℕ) (k v : List ℕ) → k ≡ quoted (key_text spelling key) → v ≡ quoted (value_text spelling value)
-    → codes "{\"key\":" ++ (k ++ (codes ",\"value\":" ++ (v ++ codes "}\n"))) ≡ json_line (value_object spelling key (Some value))
+pub valid_pieces : (entries : ℕ) → codes "{\"valid\":true,\"entries\":" ++ (decimal entries ++ codes "}\n") ≡ json_line (valid_object entries)
 unfolding escape_byte
-pair_pieces spelling key value k v is_key is_value =
-    line_of_five (codes "{\"key\":") k (codes ",\"value\":") v (codes "}") (codes "\n")
-    ∙ ap₂ (λ (x y : List ℕ). (codes "{\"key\":" ++ (x ++ (codes ",\"value\":" ++ (y ++ codes "}")))) ++ codes "\n") is_key is_value
+valid_pieces entries = line_of_three (codes "{\"valid\":true,\"entries\":") (decimal entries) (codes "}") (codes "\n")
 
-pub no_value_pieces : (spelling : Spelling) (key : List ℕ) (k : List ℕ) → k ≡ quoted (key_text spelling key)
-    → codes "{\"key\":" ++ k ++ codes ",\"value\":null}\n" ≡ json_line (value_object spelling key None)
+pub removed_pieces : (name : List ℕ) (bytes : ℕ) (k : List ℕ) → k ≡ quoted name
+    → codes "{\"removed\":" ++ (k ++ (codes ",\"bytes\":" ++ (decimal bytes ++ codes "}\n"))) ≡ json_line (removed_object name bytes)
 unfolding escape_byte
-no_value_pieces spelling key k is = rw is (simp append_assoc)
+removed_pieces name bytes k is =
+    line_of_five (codes "{\"removed\":") k (codes ",\"bytes\":") (decimal bytes) (codes "}") (codes "\n")
+    ∙ ap (λ (x : List ℕ). (codes "{\"removed\":" ++ (x ++ (codes ",\"bytes\":" ++ (decimal bytes ++ codes "}")))) ++ codes "\n") is
 
-pub key_pieces : (spelling : Spelling) (key : List ℕ) (k : List ℕ) → k ≡ quoted (key_text spelling key)
-    → codes "{\"key\":" ++ k ++ codes "}\n" ≡ json_line (row_object spelling key None)
+pub pair_pieces : (spelling : Spelling) (key value : List ℕ)
+    → codes "{\"key\":" ++ quoted (key_text spelling key) ++ codes ",\"value\":" ++ quoted (value_text spelling value) ++ codes "}\n" ≡ json_line (value_object spelling key (Some value))
 unfolding escape_byte
-key_pieces spelling key k is = rw is (simp append_assoc)
+pair_pieces spelling key value =
+    joined_line (codes "{\"key\":") (quoted (key_text spelling key)) (codes ",\"value\":") (quoted (value_text spelling value)) (codes "}") (codes "\n")
+
+pub no_value_pieces : (spelling : Spelling) (key : List ℕ) → codes "{\"key\":" ++ quoted (key_text spelling key) ++ codes ",\"value\":null}\n" ≡ json_line (value_object spelling key None)
+unfolding escape_byte
+no_value_pieces spelling key = simp append_assoc
+
+pub key_pieces : (spelling : Spelling) (key : List ℕ) → codes "{\"key\":" ++ quoted (key_text spelling key) ++ codes "}\n" ≡ json_line (row_object spelling key None)
+unfolding escape_byte
+key_pieces spelling key = simp append_assoc
 
 -- ---- refusals
 
@@ -88,7 +115,7 @@ items_after [] = refl
 items_after (d ∷ ds) = ap (λ (t : List ℕ). codes "," ++ t) (ap (λ (t : List ℕ). compact_text d ++ t) (items_after ds) ∙ sym (append_assoc (compact_text d) (listed_items ds) (codes "]")))
 
 -- all items
-items_all : (ds : List Data) → items_text false (items_of ds) ≡ drop 1 (listed_items ds) ++ codes "]"
+pub items_all : (ds : List Data) → items_text false (items_of ds) ≡ drop 1 (listed_items ds) ++ codes "]"
 items_all [] = refl
 items_all (d ∷ ds) = ap (λ (t : List ℕ). compact_text d ++ t) (items_after ds) ∙ sym (append_assoc (compact_text d) (listed_items ds) (codes "]"))
 
@@ -149,3 +176,36 @@ version_pieces spelling order cmp v head pointers files is_head is_pointers is_f
     ap (λ (h : List ℕ). h ++ codes ",\"pointers\":[" ++ drop 1 pointers ++ codes "],\"files\":[" ++ drop 1 files ++ codes "]}\n") is_head
     ∙ ap₂ (λ (x y : List ℕ). head_text order v ++ codes ",\"pointers\":[" ++ drop 1 x ++ codes "],\"files\":[" ++ drop 1 y ++ codes "]}\n") p f
     ∙ whole_line spelling order cmp v
+
+-- ---- compactions
+
+pub output_pieces : (f : NewFile) → codes ",{\"number\":" ++ (decimal f.meta.number ++ (codes ",\"size\":" ++ (decimal f.meta.size ++ codes "}"))) ≡ listed_item (output_object f)
+unfolding escape_byte
+output_pieces f = refl
+
+pub deleted_pieces : (d : DeletedFile) → codes ",{\"level\":" ++ (decimal d.level ++ (codes ",\"number\":" ++ (decimal d.number ++ codes "}"))) ≡ listed_item (deleted_object d)
+unfolding escape_byte
+deleted_pieces d = refl
+
+end_pieces : (end : CompactionEnd) → members_text true (end_members end) ≡ end_text end ++ codes "}"
+unfolding escape_byte
+end_pieces (Installed manifest) = named (codes "installed") (Some (manifest_name manifest)) no_members
+end_pieces (Written name) = named (codes "written") (Some name.now) no_members
+
+pub compaction_pieces : (level : ℕ) (e : Edit) (end : CompactionEnd) (outputs deleted last : List ℕ)
+    → outputs ≡ flat_map (λ f. listed_item (output_object f)) e.added → deleted ≡ flat_map (λ d. listed_item (deleted_object d)) e.deleted → last ≡ end_text end
+    → level_text level ++ drop 1 outputs ++ codes "],\"deleted\":[" ++ drop 1 deleted ++ codes "]" ++ last ++ codes "}\n" ≡ json_line (compaction_object level e end)
+unfolding escape_byte
+compaction_pieces level e end outputs deleted last is_outputs is_deleted is_last =
+    let os = map output_object e.added in
+    let ds = map deleted_object e.deleted in
+    let first = drop 1 (listed_items os) in
+    let second = drop 1 (listed_items ds) in
+    ap₂ (λ (x y : List ℕ). level_text level ++ drop 1 x ++ codes "],\"deleted\":[" ++ drop 1 y ++ codes "]" ++ last ++ codes "}\n")
+    (is_outputs ∙ flat_map_fused output_object listed_item e.added) (is_deleted ∙ flat_map_fused deleted_object listed_item e.deleted)
+    ∙ ap (λ (z : List ℕ). level_text level ++ first ++ codes "],\"deleted\":[" ++ second ++ codes "]" ++ z ++ codes "}\n") is_last
+    ∙ line_of_two_lists (codes "{\"level\":") (decimal level) (codes ",\"outputs\":[") first (codes "]") (codes ",\"deleted\":[") second (end_text end) (codes "}") (codes "\n")
+    ∙ ap₂ (λ (x y : List ℕ). (codes "{\"level\":" ++ (decimal level ++ (codes ",\"outputs\":[" ++ (x ++ (codes ",\"deleted\":[" ++ (y ++ (end_text end ++ codes "}"))))))) ++ codes "\n")
+    (sym (items_all os)) (sym (items_all ds))
+    ∙ ap (λ (z : List ℕ). (codes "{\"level\":" ++ (decimal level ++ (codes ",\"outputs\":[" ++ (items_text false (items_of os) ++ (codes ",\"deleted\":[" ++ (items_text false (items_of ds) ++ z)))))) ++ codes "\n")
+    (sym (end_pieces end))

@@ -1,5 +1,8 @@
 -- what contracts rest on
 pub mod Objects
 pub mod VersionObject
+pub mod CompactionObject
+pub mod StatsObject
 -- what serves proofs alone
 pub mod Pieces
+pub mod StatsPieces

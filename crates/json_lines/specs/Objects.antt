@@ -25,6 +25,16 @@ lawful_object files entries = object (member (codes "lawful") (boolean true)
     (member (codes "files") (number (unsigned files))
     (member (codes "entries") (number (unsigned entries)) no_members)))
 
+-- `{"valid":true,"entries":E}`
+abbrev pub valid_object : ℕ → Data
+valid_object entries = object (member (codes "valid") (boolean true)
+    (member (codes "entries") (number (unsigned entries)) no_members))
+
+-- `{"removed":NAME,"bytes":B}`
+abbrev pub removed_object : List ℕ → ℕ → Data
+removed_object name bytes = object (member (codes "removed") (string name)
+    (member (codes "bytes") (number (unsigned bytes)) no_members))
+
 -- `{"key":K,"value":V}`, and null in place of V for a key without a value
 abbrev pub value_object : Spelling → List ℕ → Option (List ℕ) → Data
 value_object spelling key value = object (member (codes "key") (key_data spelling key)

@@ -7,9 +7,12 @@ use Rattle.serde_json.specs.Written.{compact_text}
 use Rattle.ikey.specs.Comparator.{KeyOrder}
 use Rattle.edit.specs.Version.{State}
 use Rattle.folder.specs.Manifest.{order_name}
+use Rattle.folder.specs.Names.{manifest_name}
 use Rattle.folder.specs.declared.order.Order.{Order}
 use Rattle.texts.specs.declared.spelling.Spelling.{Spelling}
 use Rattle.json_lines.specs.VersionObject.{file_objects, pointer_objects}
+use Rattle.json_lines.specs.declared.compaction_end.CompactionEnd.{CompactionEnd}
+use Rattle.json_lines.specs.declared.compaction_end.CompactionEnd.TheVariants.{Installed, Written}
 
 -- a comma and the text of an item
 abbrev pub listed_item : Data → List ℕ
@@ -46,3 +49,12 @@ head_text order v = codes "{\"comparator\":" ++ quoted (order_name order)
     ++ named_number (codes ",\"previous\":") v.previous_log
     ++ named_number (codes ",\"next\":") v.next_file
     ++ named_number (codes ",\"last\":") v.last_sequence
+
+-- the line of a compaction up to its outputs
+abbrev pub level_text : ℕ → List ℕ
+level_text level = codes "{\"level\":" ++ (decimal level ++ codes ",\"outputs\":[")
+
+-- what became of a compaction, after a comma
+abbrev pub end_text : CompactionEnd → List ℕ
+end_text (Installed manifest) = named_text (codes ",\"installed\":") (Some (manifest_name manifest))
+end_text (Written name) = named_text (codes ",\"written\":") (Some name.now)

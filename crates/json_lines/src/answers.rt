@@ -1,12 +1,14 @@
-//! The lines of a verdict, of a value, and of one key of many.
+//! The lines of a verdict, of a removed file, of a value, and of one key of many.
 
-ghost use Rattle.std.specs.Prelude.{◌≡◌, ◌++◌, IfErr, Ok, OnOk, Some, None, string_bytes};
+ghost use Rattle.std.specs.Prelude.{◌≡◌, ◌++◌, length, take, IfErr, IsOkUnless, Ok, OnErr, OnOk};
+ghost use Rattle.std.specs.Prelude.{Some, None, string_bytes};
 ghost use Rattle.std.specs.Option.{option_map};
 ghost use Rattle.coding.specs.Answers.{EqualOrMemory, fault};
 ghost use Rattle.coding.specs.declared.fault.FaultName.TheVariants.{Memory};
-ghost use Rattle.json_lines.specs.Objects.{json_line, lawful_object, row_object, value_object};
+ghost use Rattle.json_lines.specs.Objects.{json_line, lawful_object, removed_object, row_object};
+ghost use Rattle.json_lines.specs.Objects.{valid_object, value_object};
 
-use crate::quoted::{quoted_key, quoted_value};
+use crate::quoted::{push_quoted_key, push_quoted_value, quoted};
 use coding::Fault;
 use std::alloc::Global;
 use texts::Spelling;
@@ -33,6 +35,45 @@ fn push_lawful(line: &mut String, files: usize, entries: u128) -> Result<(), Fau
     Ok(())
 }
 
+/// The line `{"removed":NAME,"bytes":B}` of a file that was removed. The only fault is Memory.
+pub fn removed_json(alloc: Global, name: &str, bytes: u64) -> Result<String, Fault>
+    ensures { EqualOrMemory string_bytes result (Ok (json_line (removed_object name.now bytes))) }
+{
+    let mut line = String::new(alloc);
+    push_removed(alloc, &mut line, name, bytes)?;
+    Ok(line)
+}
+
+/// Appends that line. The only fault is Memory.
+fn push_removed(alloc: Global, line: &mut String, name: &str, bytes: u64) -> Result<(), Fault>
+    ensures ok { OnOk result (string_bytes line.new ≡ string_bytes line.old
+        ++ json_line (removed_object name.now bytes)) }
+    ensures memory { IfErr result (λ e. e ≡ fault Memory) }
+{
+    let name = quoted(alloc, name)?;
+    writeln!(line, "{{\"removed\":{name},\"bytes\":{bytes}}}")?;
+    Ok(())
+}
+
+/// The line `{"valid":true,"entries":E}` of a valid table. The only fault is Memory.
+pub fn valid_json(alloc: Global, entries: u64) -> Result<String, Fault>
+    ensures { EqualOrMemory string_bytes result (Ok (json_line (valid_object entries))) }
+{
+    let mut line = String::new(alloc);
+    push_valid(&mut line, entries)?;
+    Ok(line)
+}
+
+/// Appends that line. The only fault is Memory.
+fn push_valid(line: &mut String, entries: u64) -> Result<(), Fault>
+    ensures ok { OnOk result (string_bytes line.new ≡ string_bytes line.old
+        ++ json_line (valid_object entries)) }
+    ensures memory { IfErr result (λ e. e ≡ fault Memory) }
+{
+    writeln!(line, "{{\"valid\":true,\"entries\":{entries}}}")?;
+    Ok(())
+}
+
 /// The line `{"key":K,"value":V}` of a key and its value; `"value":null` if it has none. The only
 /// fault is Memory.
 pub fn value_json(
@@ -40,78 +81,93 @@ pub fn value_json(
     spelling: Spelling,
     key: &[u8],
     value: Option<&[u8]>,
-) -> Result<String, Fault>
-    ensures { EqualOrMemory string_bytes result (Ok (json_line (value_object spelling key.now
-        (option_map (λ bytes. bytes.now) value.entry)))) }
+) -> Result<Vec<u8>, Fault>
+    ensures { EqualOrMemory (λ line. line.items) result (Ok (json_line (value_object spelling
+        key.now (option_map (λ bytes. bytes.now) value.entry)))) }
 {
-    let mut line = String::new(alloc);
+    let mut line = Vec::new(alloc);
+    let mut room = Vec::new(alloc);
     match value {
-        Some(bytes) => push_pair(alloc, &mut line, spelling, key, bytes)?,
-        None => push_no_value(alloc, &mut line, spelling, key)?,
+        Some(bytes) => push_pair(&mut line, &mut room, spelling, key, bytes)?,
+        None => push_no_value(&mut line, &mut room, spelling, key)?,
     }
     Ok(line)
 }
 
-/// The line `{"key":K,"value":V}` of one key of many; `{"key":K}` if no value is given. The only
-/// fault is Memory.
-pub fn row_json(
-    alloc: Global,
+/// Appends the line `{"key":K,"value":V}` of one key of many; `{"key":K}` if no value is given.
+/// What `room` holds is overwritten: if it is the same in each call, none takes memory of its own.
+///
+/// The only fault is Memory. It may leave a part of the line after what was there.
+pub fn push_row_json(
+    lines: &mut Vec<u8>,
+    room: &mut Vec<u8>,
     spelling: Spelling,
     key: &[u8],
     value: Option<&[u8]>,
-) -> Result<String, Fault>
-    ensures { EqualOrMemory string_bytes result (Ok (json_line (row_object spelling key.now
-        (option_map (λ bytes. bytes.now) value.entry)))) }
+) -> Result<(), Fault>
+    ensures ok { OnOk result (lines.new.items ≡ lines.old.items ++ json_line (row_object spelling
+        key.now (option_map (λ bytes. bytes.now) value.entry))) }
+    ensures err { OnErr result (take (length lines.old.items) lines.new.items ≡ lines.old.items) }
+    ensures memory { IsOkUnless result (fault Memory) }
 {
-    let mut line = String::new(alloc);
     match value {
-        Some(bytes) => push_pair(alloc, &mut line, spelling, key, bytes)?,
-        None => push_key(alloc, &mut line, spelling, key)?,
+        Some(bytes) => push_pair(lines, room, spelling, key, bytes),
+        None => push_lone_key(lines, room, spelling, key),
     }
-    Ok(line)
 }
 
-/// Appends the line of a key and its value. The only fault is Memory.
+/// Appends the line of a key and its value.
 fn push_pair(
-    alloc: Global,
-    line: &mut String,
+    lines: &mut Vec<u8>,
+    room: &mut Vec<u8>,
     spelling: Spelling,
     key: &[u8],
     value: &[u8],
 ) -> Result<(), Fault>
-    ensures ok { OnOk result (string_bytes line.new ≡ string_bytes line.old
+    ensures ok { OnOk result (lines.new.items ≡ lines.old.items
         ++ json_line (value_object spelling key.now (Some value.now))) }
-    ensures memory { IfErr result (λ e. e ≡ fault Memory) }
+    ensures err { OnErr result (take (length lines.old.items) lines.new.items ≡ lines.old.items) }
+    ensures memory { IsOkUnless result (fault Memory) }
 {
-    let key = quoted_key(alloc, spelling, key)?;
-    let value = quoted_value(alloc, spelling, value)?;
-    writeln!(line, "{{\"key\":{key},\"value\":{value}}}")?;
+    lines.extend_from_slice(b"{\"key\":")?;
+    push_quoted_key(lines, room, spelling, key)?;
+    lines.extend_from_slice(b",\"value\":")?;
+    push_quoted_value(lines, room, spelling, value)?;
+    lines.extend_from_slice(b"}\n")?;
     Ok(())
 }
 
 /// Appends the line of a key without a value. The only fault is Memory.
 fn push_no_value(
-    alloc: Global,
-    line: &mut String,
+    lines: &mut Vec<u8>,
+    room: &mut Vec<u8>,
     spelling: Spelling,
     key: &[u8],
 ) -> Result<(), Fault>
-    ensures ok { OnOk result (string_bytes line.new ≡ string_bytes line.old
+    ensures ok { OnOk result (lines.new.items ≡ lines.old.items
         ++ json_line (value_object spelling key.now None)) }
-    ensures memory { IfErr result (λ e. e ≡ fault Memory) }
+    ensures memory { IsOkUnless result (fault Memory) }
 {
-    let key = quoted_key(alloc, spelling, key)?;
-    writeln!(line, "{{\"key\":{key},\"value\":null}}")?;
+    lines.extend_from_slice(b"{\"key\":")?;
+    push_quoted_key(lines, room, spelling, key)?;
+    lines.extend_from_slice(b",\"value\":null}\n")?;
     Ok(())
 }
 
-/// Appends the line of a key alone. The only fault is Memory.
-fn push_key(alloc: Global, line: &mut String, spelling: Spelling, key: &[u8]) -> Result<(), Fault>
-    ensures ok { OnOk result (string_bytes line.new ≡ string_bytes line.old
+/// Appends the line of a key alone.
+fn push_lone_key(
+    lines: &mut Vec<u8>,
+    room: &mut Vec<u8>,
+    spelling: Spelling,
+    key: &[u8],
+) -> Result<(), Fault>
+    ensures ok { OnOk result (lines.new.items ≡ lines.old.items
         ++ json_line (row_object spelling key.now None)) }
-    ensures memory { IfErr result (λ e. e ≡ fault Memory) }
+    ensures err { OnErr result (take (length lines.old.items) lines.new.items ≡ lines.old.items) }
+    ensures memory { IsOkUnless result (fault Memory) }
 {
-    let key = quoted_key(alloc, spelling, key)?;
-    writeln!(line, "{{\"key\":{key}}}")?;
+    lines.extend_from_slice(b"{\"key\":")?;
+    push_quoted_key(lines, room, spelling, key)?;
+    lines.extend_from_slice(b"}\n")?;
     Ok(())
 }

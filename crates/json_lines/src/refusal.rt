@@ -51,7 +51,12 @@ fn push_name(alloc: Global, line: &mut String, name: &str) -> Result<(), Fault>
 }
 
 /// Appends a text after what names it, or nothing. The only fault is Memory.
-fn push_text(alloc: Global, line: &mut String, name: &str, text: Option<&str>) -> Result<(), Fault>
+pub(crate) fn push_text(
+    alloc: Global,
+    line: &mut String,
+    name: &str,
+    text: Option<&str>,
+) -> Result<(), Fault>
     ensures ok { OnOk result (string_bytes line.new ≡ string_bytes line.old
         ++ named_text name.now (option_map (λ text. text.now) text.entry)) }
     ensures memory { IfErr result (λ e. e ≡ fault Memory) }

@@ -13,6 +13,7 @@ ghost use Rattle.json_lines.specs.Pieces.{pointer_items};
 ghost use Rattle.json_lines.specs.VersionObject.{file_object, object_by, pointer_object};
 ghost use Rattle.json_lines.specs.VersionObject.{version_object};
 
+use crate::items::push_items;
 use crate::quoted::{quoted, quoted_key};
 use coding::Fault;
 use edit::{FileMeta, Version};
@@ -76,16 +77,6 @@ fn line_of(head: String, pointers: &str, files: &str) -> Result<Vec<u8>, Fault>
     push_items(&mut line, files.as_bytes())?;
     line.extend_from_slice(b"]}\n")?;
     Ok(line)
-}
-
-/// Appends items without the comma of the first one. The only fault is Memory.
-fn push_items(line: &mut Vec<u8>, items: &[u8]) -> Result<(), Fault>
-    ensures ok { OnOk result (line.new.items ≡ line.old.items ++ drop 1 items.now) }
-    ensures memory { IfErr result (λ e. e ≡ fault Memory) }
-{
-    let from = items.len().min(1);
-    line.extend_from_slice(&items[from..])?;
-    Ok(())
 }
 
 /// Appends the line up to the pointers. The only fault is Memory.

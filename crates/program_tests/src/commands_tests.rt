@@ -3,7 +3,8 @@ use account::{Account, text};
 use checks::Work;
 use coding::{Fault, FaultName};
 use commands::{
-    Open, ValueForm, dump, get_dir, manifest, progress_text, status, unverified_value, verify,
+    Open, ValueForm, dump, get_dir, manifest, progress_text, stats_text, status, unverified_value,
+    verify,
 };
 use diagnostics::{RefusedFile, account_of, refused_file, replaceable_file, replayed_log};
 use folder::{Failing, FolderFault, Shelf, open};
@@ -17,6 +18,8 @@ use texts::{Spelling, key_of, text_of};
 enum Call {
     Manifest(Spelling),
     Verify,
+    /// With [`TWO_LOGS`] and [`THREE_UNNAMED`].
+    Stats(Spelling),
     /// A key, a sequence, and the form of the value.
     Get(&'static [u8], Option<u64>, ValueForm),
     /// The same, of a version that isn't tested.
@@ -114,6 +117,20 @@ const ROWS: &[Row] = &[
         Place::One,
         NEVER,
         Ok("lawful: 1 files, 2 entries\n"),
+    ),
+    (
+        "how much a version has",
+        Call::Stats(Spelling::Hexadecimal),
+        Place::One,
+        NEVER,
+        Ok(ONE_STATS),
+    ),
+    (
+        "how much a version without a file has",
+        Call::Stats(Spelling::Text),
+        Place::NoneLeft,
+        NEVER,
+        Ok(NO_STATS),
     ),
     (
         "a key before it was deleted",
@@ -298,6 +315,27 @@ const ROWS: &[Row] = &[
         Err((FaultName::Short, 1)),
     ),
     (
+        "stats: no table is read",
+        Call::Stats(Spelling::Hexadecimal),
+        Place::One,
+        3,
+        Err((FaultName::Device, 3)),
+    ),
+    (
+        "stats: no table is read again",
+        Call::Stats(Spelling::Hexadecimal),
+        Place::One,
+        4,
+        Err((FaultName::Device, 3)),
+    ),
+    (
+        "stats: a damaged table",
+        Call::Stats(Spelling::Hexadecimal),
+        Place::Damaged,
+        NEVER,
+        Err((FaultName::Short, 1)),
+    ),
+    (
         "get: no CURRENT is read",
         Call::Get(b"u", None, DIGITS),
         Place::One,
@@ -426,6 +464,16 @@ fn got<R: AllocGlobal + Threads + Sync>(
     )
 }
 
+/// The lines of how much a folder's version has.
+fn stats_lines<R: AllocGlobal + Threads + Sync>(
+    rt: &R,
+    folder: &mut Shelf<'_>,
+    spelling: Spelling,
+) -> Result<Vec<u8>, Fault> {
+    let stats = stats_of(rt, folder)?;
+    stats_text(rt.alloc(), spelling, &stats, TWO_LOGS, THREE_UNNAMED)
+}
+
 /// The name of a refused file, and why.
 fn refusal_of(alloc: Global, file: &RefusedFile) -> Result<Vec<u8>, Fault> {
     let (name, fault) = (&file.name, file.fault);
@@ -494,6 +542,7 @@ fn answer<R: AllocGlobal + Threads + Sync>(
     match call {
         Call::Manifest(spelling) => manifest(alloc, *spelling, folder),
         Call::Verify => verify(rt, alloc, folder, 1 << 30, &Open),
+        Call::Stats(spelling) => stats_lines(rt, folder, *spelling),
         Call::Get(key, at, form) => got(rt, folder, key, *at, *form),
         Call::UnverifiedGet(key, at) => unverified(alloc, folder, key, *at),
         Call::RefusedFile => first_refusal(alloc, folder),

@@ -1,5 +1,12 @@
 //! Folders of files that were worked out by hand from the formats, and their lines.
 
+use coding::Fault;
+use commands::Open;
+use folder::{Shelf, open};
+use scan::{FileTotal, VersionStats, version_stats};
+use std::test::*;
+use std::thread::Threads;
+
 /// Files by their names.
 pub(crate) type Files = &'static [(&'static str, &'static [u8])];
 
@@ -58,6 +65,25 @@ pub(crate) fn files_of(place: Place) -> Files {
     }
 }
 
+/// How much the version of a folder has.
+pub(crate) fn stats_of<R: AllocGlobal + Threads + Sync>(
+    rt: &R,
+    folder: &mut Shelf<'_>,
+) -> Result<VersionStats, Fault> {
+    let alloc = rt.alloc();
+    let opened = open(alloc, folder)?;
+    let (order, version) = (opened.order, &opened.version);
+    version_stats(rt, alloc, folder, order, version, 1 << 30, &Open)
+}
+
+/// Logs, and files that no version names.
+pub(crate) const TWO_LOGS: FileTotal = FileTotal { files: 2, bytes: 8 };
+
+pub(crate) const THREE_UNNAMED: FileTotal = FileTotal {
+    files: 3,
+    bytes: 1000,
+};
+
 /// The lines of [`Place::One`].
 pub(crate) const ONE_LINES: &str =
     "comparator leveldb.BytewiseComparator\nlog 3\nprevious 0\nnext 9\nlast 4\nfile 1 7 125\n";
@@ -79,4 +105,22 @@ pub(crate) const LEVEL_1_EXPLAINED: &str = "\
 ######################################## range 2: 2 entries
                                          kept: 0 entries
 ######################################## dropped: 2 entries
+";
+
+/// How much [`Place::One`] has: the deletion hides the value.
+pub(crate) const ONE_STATS: &str = "\
+level  files  bytes  entries  deletions  hidden  share
+    1      1    125        2          1       1  100 %  ########################################
+  all      1    125        2          1       1  100 %
+level 1: from 75 to 75
+logs: 2, 8 bytes
+files that no version names: 3, 1000 bytes
+";
+
+/// How much [`Place::NoneLeft`] has.
+pub(crate) const NO_STATS: &str = "\
+level  files  bytes  entries  deletions  hidden  share
+  all      0      0        0          0       0    0 %
+logs: 2, 8 bytes
+files that no version names: 3, 1000 bytes
 ";

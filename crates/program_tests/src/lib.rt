@@ -8,6 +8,8 @@ mod account_tests;
 #[cfg(test)]
 mod commands_tests;
 #[cfg(test)]
+mod fault_lines_tests;
+#[cfg(test)]
 mod folders;
 #[cfg(test)]
 mod json_lines_tests;

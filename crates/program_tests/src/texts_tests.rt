@@ -1,7 +1,7 @@
 use coding::Fault;
 use std::alloc::Global;
 use std::test::*;
-use texts::{Spelling, bytes_of_escaped, escaped_key, escaped_value, texts_law};
+use texts::{Spelling, bytes_of_escaped, texts_law};
 
 /// Bytes, their text as a key, and as a value.
 type Written = (&'static [u8], &'static str, &'static str);
@@ -52,18 +52,27 @@ fn stands_for(alloc: Global, text: &str, wanted: Option<&[u8]>) -> Result<bool, 
     })
 }
 
-/// Whether bytes have this text as a key.
+/// Whether bytes have this text as a key, alone and appended.
 fn is_key(alloc: Global, bytes: &[u8], wanted: &str) -> Result<bool, Fault> {
-    let plain = escaped_key(alloc, bytes)?;
-    let spelled = Spelling::Text.key_text(alloc, bytes)?;
-    Ok(plain.as_str() == wanted && spelled.as_str() == wanted)
+    let alone = Spelling::Text.key_text(alloc, bytes)?;
+    let mut appended = Vec::from_slice(alloc, b"<")?;
+    Spelling::Text.push_key(&mut appended, bytes)?;
+    Ok(alone.as_str() == wanted && is_appended(alloc, &appended, wanted)?)
 }
 
-/// Whether bytes have this text as a value.
+/// Whether bytes have this text as a value, alone and appended.
 fn is_value(alloc: Global, bytes: &[u8], wanted: &str) -> Result<bool, Fault> {
-    let plain = escaped_value(alloc, bytes)?;
-    let spelled = Spelling::Text.value_text(alloc, bytes)?;
-    Ok(plain.as_str() == wanted && spelled.as_str() == wanted)
+    let alone = Spelling::Text.value_text(alloc, bytes)?;
+    let mut appended = Vec::from_slice(alloc, b"<")?;
+    Spelling::Text.push_value(&mut appended, bytes)?;
+    Ok(alone.as_str() == wanted && is_appended(alloc, &appended, wanted)?)
+}
+
+/// Whether bytes are `<` and a text.
+fn is_appended(alloc: Global, bytes: &[u8], text: &str) -> Result<bool, Fault> {
+    let mut wanted = Vec::from_slice(alloc, b"<")?;
+    wanted.extend_from_slice(text.as_bytes())?;
+    Ok(bytes == wanted.as_slice())
 }
 
 /// Whether bytes have these texts, which are read as the bytes.

@@ -10,111 +10,166 @@ type Row = (&'static str, &'static str);
 const ROWS: &[Row] = &[
     (
         "sedvokt|blocks|one|two|--at|62|three",
-        r#"Blocks { a: "one", b: "two", at: [98], out: "three" }"#,
+        r#"Blocks(BlocksLine { a: "one", b: "two", at: [98], out: "three" })"#,
     ),
     ("sedvokt|blocks|one|two|--at|6|three", "no key"),
     ("sedvokt|blocks|--help", "text"),
     ("sedvokt|--version", "text"),
     (
         "sedvokt|dump|one",
-        r#"Dump { table: "one", spelling: Hexadecimal }"#,
+        r#"Dump(DumpLine { table: "one", spelling: Hexadecimal })"#,
     ),
     (
         "sedvokt|dump|--text|one",
-        r#"Dump { table: "one", spelling: Text }"#,
+        r#"Dump(DumpLine { table: "one", spelling: Text })"#,
     ),
     (
         "sedvokt|manifest|one",
-        r#"Manifest { folder: "one", spelling: Hexadecimal, is_json: false, verbose: false }"#,
+        "Manifest(ManifestLine { folder: \"one\", spelling: Hexadecimal, is_json: false, verbose: \
+            false })",
     ),
     (
         "sedvokt|manifest|one|--text|-v|--json",
-        r#"Manifest { folder: "one", spelling: Text, is_json: true, verbose: true }"#,
+        r#"Manifest(ManifestLine { folder: "one", spelling: Text, is_json: true, verbose: true })"#,
+    ),
+    (
+        "sedvokt|stats|one|--text|--memory|2",
+        "Stats(StatsLine { folder: \"one\", spelling: Text, is_json: false, memory: 2, verbose: \
+            false })",
+    ),
+    (
+        "sedvokt|stats|-v|one|--json",
+        "Stats(StatsLine { folder: \"one\", spelling: Hexadecimal, is_json: true, memory: 1024, \
+            verbose: true })",
     ),
     (
         "sedvokt|verify|one|-v",
-        r#"Verify { folder: "one", is_json: false, memory: 1024, verbose: true }"#,
+        r#"Verify(VerifyLine { folder: "one", form: Line, memory: 1024, verbose: true })"#,
     ),
     (
         "sedvokt|verify|--json|one|--memory|16777216",
-        r#"Verify { folder: "one", is_json: true, memory: 16777216, verbose: false }"#,
+        r#"Verify(VerifyLine { folder: "one", form: Json, memory: 16777216, verbose: false })"#,
+    ),
+    (
+        "sedvokt|verify|--all-faults|one",
+        r#"Verify(VerifyLine { folder: "one", form: AllFaults, memory: 1024, verbose: false })"#,
     ),
     ("sedvokt|verify|one|--memory|16777217", "mistake"),
+    ("sedvokt|verify|one|--json|--all-faults", "mistake"),
+    (
+        "sedvokt|verify|--table|one",
+        r#"Table(TableLine { table: "one", is_json: false })"#,
+    ),
+    (
+        "sedvokt|verify|--json|--table|one",
+        r#"Table(TableLine { table: "one", is_json: true })"#,
+    ),
+    ("sedvokt|verify|one|--table|two", "mistake"),
+    ("sedvokt|verify", "mistake"),
     (
         "sedvokt|get|one|75",
-        "Get { folder: \"one\", key: [117], at: None, spelling: Hexadecimal, is_raw: false, \
-            is_json: false, testing: Testing { is_skipped: false, memory: 1024 }, verbose: false }",
+        "Get(GetLine { folder: \"one\", key: [117], at: None, spelling: Hexadecimal, is_raw: \
+            false, is_json: false, testing: Testing { is_skipped: false, memory: 1024 }, verbose: \
+            false })",
     ),
     (
         "sedvokt|get|one|-|--no-verify|--at|18446744073709551615|--memory|1|--raw",
-        "Get { folder: \"one\", key: [], at: Some(18446744073709551615), spelling: Hexadecimal, \
-            is_raw: true, is_json: false, testing: Testing { is_skipped: true, memory: 1 }, \
-            verbose: false }",
+        "Get(GetLine { folder: \"one\", key: [], at: Some(18446744073709551615), spelling: \
+            Hexadecimal, is_raw: true, is_json: false, testing: Testing { is_skipped: true, \
+            memory: 1 }, verbose: false })",
     ),
     (
         "sedvokt|get|one|7\\x4A|--text|--json",
-        "Get { folder: \"one\", key: [55, 74], at: None, spelling: Text, is_raw: false, is_json: \
-            true, testing: Testing { is_skipped: false, memory: 1024 }, verbose: false }",
+        "Get(GetLine { folder: \"one\", key: [55, 74], at: None, spelling: Text, is_raw: false, \
+            is_json: true, testing: Testing { is_skipped: false, memory: 1024 }, verbose: false \
+            })",
     ),
     ("sedvokt|get|one|7|--raw|--json", "mistake"),
     ("sedvokt|get|one|7", "not hexadecimal"),
     ("sedvokt|get|one|7\\x4|--text", "not text"),
     (
         "sedvokt|scan|one",
-        "Scan { folder: \"one\", rows: RowChoice { from: None, to: None, at: None, limit: None, \
-            with_values: true }, spelling: Hexadecimal, is_json: false, testing: Testing { \
-            is_skipped: false, memory: 1024 }, verbose: false }",
+        "Scan(ScanLine { folder: \"one\", rows: RowOptions { from: None, to: None, at: None, \
+            limit: None, with_values: true }, spelling: Hexadecimal, is_json: false, testing: \
+            Testing { is_skipped: false, memory: 1024 }, verbose: false })",
     ),
     (
         "sedvokt|scan|--to|62|one|--limit|0|--keys|--from|-|--at|7|-v|--memory|3|--no-verify",
-        "Scan { folder: \"one\", rows: RowChoice { from: Some([]), to: Some([98]), at: Some(7), \
-            limit: Some(0), with_values: false }, spelling: Hexadecimal, is_json: false, testing: \
-            Testing { is_skipped: true, memory: 3 }, verbose: true }",
+        "Scan(ScanLine { folder: \"one\", rows: RowOptions { from: Some([]), to: Some([98]), at: \
+            Some(7), limit: Some(0), with_values: false }, spelling: Hexadecimal, is_json: false, \
+            testing: Testing { is_skipped: true, memory: 3 }, verbose: true })",
     ),
     (
         "sedvokt|scan|one|--text|--from|62|--json",
-        "Scan { folder: \"one\", rows: RowChoice { from: Some([54, 50]), to: None, at: None, \
-            limit: None, with_values: true }, spelling: Text, is_json: true, testing: Testing { \
-            is_skipped: false, memory: 1024 }, verbose: false }",
+        "Scan(ScanLine { folder: \"one\", rows: RowOptions { from: Some([54, 50]), to: None, at: \
+            None, limit: None, with_values: true }, spelling: Text, is_json: true, testing: \
+            Testing { is_skipped: false, memory: 1024 }, verbose: false })",
     ),
     ("sedvokt|scan|one|--to|6", "not hexadecimal"),
     ("sedvokt|scan|one|--to|a|--from||--text", "not text"),
     ("sedvokt|scan|one|--to|6|--limit|+7", "mistake"),
     (
+        "sedvokt|job|one|--level|18446744073709551615|-v",
+        r#"Job(JobLine { folder: "one", level: 18446744073709551615, verbose: true })"#,
+    ),
+    ("sedvokt|job|one", "mistake"),
+    (
         "sedvokt|compact|one|--level|1",
-        "Compact { folder: \"one\", levels: One(1), settings: Settings { workers: 4, ranges: 8, \
-            snapshots: Listed([]), options: Options { block_size: 4096, restart_interval: 16, \
-            file_size: 2097152 } }, testing: Testing { is_skipped: false, memory: 1024 }, \
-            verbosity: Verbosity { verbose: false, explain: false }, cleans: false }",
+        "Compact(CompactLine { folder: \"one\", options: CompactOptions { work: \
+            Installed(One(1)), testing: Testing { is_skipped: false, memory: 1024 }, \
+            verbosity: Verbosity { verbose: false, explain: false }, is_json: false, cleans: \
+            false }, settings: Settings { workers: 4, ranges: 8, snapshots: Listed([]), options: \
+            Options { block_size: 4096, restart_interval: 16, file_size: 2097152 } } })",
     ),
     (
         "sedvokt|compact|--workers|0|--file-size=18446744073709551615|one|--ranges|4097|--block-siz\
-            e|007|--level|6|--snapshot|3",
-        "Compact { folder: \"one\", levels: One(6), settings: Settings { workers: 0, ranges: 4097, \
-            snapshots: From(3), options: Options { block_size: 7, restart_interval: 16, \
-            file_size: 18446744073709551615 } }, testing: Testing { is_skipped: false, memory: \
-            1024 }, verbosity: Verbosity { verbose: false, explain: false }, cleans: false }",
+            e|007|--level|6|--snapshot|3|--first-number|9|--out|two",
+        "Compact(CompactLine { folder: \"one\", options: CompactOptions { work: Written { \
+            level: 6, out: \"two\", first_number: Some(9) }, testing: Testing { \
+            is_skipped: false, memory: 1024 }, verbosity: Verbosity { verbose: false, explain: \
+            false }, is_json: false, cleans: false }, settings: Settings { workers: 0, ranges: \
+            4097, snapshots: From(3), options: Options { block_size: 7, restart_interval: 16, \
+            file_size: 18446744073709551615 } } })",
     ),
     (
         "sedvokt|compact|--explain|one|-v|--all|--snapshots|9,0,18446744073709551615|--no-verify|\
-            --clean",
-        "Compact { folder: \"one\", levels: All, settings: Settings { workers: 4, ranges: 8, \
-            snapshots: Listed([9, 0, 18446744073709551615]), options: Options { block_size: 4096, \
-            restart_interval: 16, file_size: 2097152 } }, testing: Testing { is_skipped: true, \
-            memory: 1024 }, verbosity: Verbosity { verbose: true, explain: true }, cleans: true }",
+            --clean|--json",
+        "Compact(CompactLine { folder: \"one\", options: CompactOptions { work: \
+            Installed(All), testing: Testing { is_skipped: true, memory: 1024 }, verbosity: \
+            Verbosity { verbose: true, explain: true }, is_json: true, cleans: true }, settings: \
+            Settings { workers: 4, ranges: 8, snapshots: Listed([9, 0, 18446744073709551615]), \
+            options: Options { block_size: 4096, restart_interval: 16, file_size: 2097152 } } })",
     ),
     (
         "sedvokt|compact|one|--all|--snapshots|18446744073709551616",
         "snapshots",
     ),
     ("sedvokt|compact|one|--all|--level|1", "mistake"),
+    ("sedvokt|compact|one|--level|1|--first-number|9", "mistake"),
+    ("sedvokt|compact|one|--all|--out|two", "mistake"),
+    (
+        "sedvokt|install|one|two|--snapshots|3,9",
+        "Install(InstallLine { folder: \"one\", out: \"two\", snapshots: Listed([3, 9]), testing: \
+            Testing { is_skipped: false, memory: 1024 }, cleans: false, verbose: false })",
+    ),
+    (
+        "sedvokt|install|-v|one|--no-verify|two|--memory|7|--clean",
+        "Install(InstallLine { folder: \"one\", out: \"two\", snapshots: Listed([]), testing: \
+            Testing { is_skipped: true, memory: 7 }, cleans: true, verbose: true })",
+    ),
+    ("sedvokt|install|one|two|--snapshots|3,", "snapshots"),
+    (
+        "sedvokt|install|one|two|--snapshots|3,|--no-verify",
+        "mistake",
+    ),
+    ("sedvokt|install|one", "mistake"),
     (
         "sedvokt|clean|one",
-        r#"Clean { folder: "one", is_dry_run: false, verbose: false }"#,
+        r#"Clean(CleanLine { folder: "one", is_dry_run: false, verbose: false })"#,
     ),
     (
         "sedvokt|clean|--dry-run|one|--verbose",
-        r#"Clean { folder: "one", is_dry_run: true, verbose: true }"#,
+        r#"Clean(CleanLine { folder: "one", is_dry_run: true, verbose: true })"#,
     ),
 ];
 

@@ -1,5 +1,5 @@
 use coding::Fault;
-use commands::{ValueForm, row_line, value_answer, value_lines_law};
+use commands::{ValueForm, push_row, value_answer, value_lines_law};
 use std::alloc::Global;
 use std::test::*;
 use texts::Spelling;
@@ -49,9 +49,13 @@ fn is_printed(alloc: Global, (form, value, wanted): &Printed) -> Result<bool, Fa
     })
 }
 
-/// Whether a key and its value have this line.
+/// Whether this is the line that is appended of a key and its value.
 fn is_row(alloc: Global, (spelling, key, value, wanted): &Row) -> Result<bool, Fault> {
-    Ok(row_line(alloc, *spelling, key, *value)?.as_slice() == wanted.as_bytes())
+    let mut lines = Vec::from_slice(alloc, b"a\n")?;
+    push_row(&mut lines, *spelling, key, *value)?;
+    let mut expected = Vec::from_slice(alloc, b"a\n")?;
+    expected.extend_from_slice(wanted.as_bytes())?;
+    Ok(lines.as_slice() == expected.as_slice())
 }
 
 #[test]

@@ -10,16 +10,7 @@ use Rattle.ikey.specs.Key.{user_of}
 use Rattle.block.specs.EncodedEntry.{Entry}
 use Rattle.split.specs.Ranges.{KeyRange}
 use Rattle.keep.specs.InRange.{entries_in, is_in_range}
-
-less_is : (o : Ordering) → is_lt o ≡ true → o ≡ Less
-less_is Less h = refl
-less_is Equal h = absurd cc
-less_is Greater h = absurd cc
-
-not_less : (o : Ordering) → is_lt o ≡ false → o ≡ Less → ⊥
-not_less Less h e = absurd cc
-not_less Equal h e = absurd cc
-not_less Greater h e = absurd cc
+use Rattle.checks.proofs.CommonRanges.{less_is, not_less}
 
 pub is_not : (b : Bool) → not b ≡ true → b ≡ false
 is_not true h = absurd cc

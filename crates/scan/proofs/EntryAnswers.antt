@@ -114,7 +114,7 @@ module _ (cmp : List ℕ → List ℕ → Ordering) (total : IsTotalOrder cmp) (
   abbrev IsUp : List ℕ → List ℕ → Type 0
   IsUp a b = (cmp a b ≡ Less) ⊎ (a ≡ b)
 
-  users_up : (a b : List ℕ) → is_le (internal_cmp cmp a b) ≡ true → IsUp (user_of a) (user_of b)
+  pub users_up : (a b : List ℕ) → is_le (internal_cmp cmp a b) ≡ true → IsUp (user_of a) (user_of b)
   unfolding internal_cmp
   users_up a b h =
       elim (first_up (cmp (user_of a) (user_of b)) (ordering_then (nat_cmp (sequence_of b) (sequence_of a)) (nat_cmp (kind_number (kind_of b)) (kind_number (kind_of a)))) h) [

@@ -9,3 +9,15 @@ pub mod OneList
 pub mod EmptyRanges
 pub mod RangeSteps
 pub mod ScanAnswers
+pub mod AmountSums
+pub mod CountedEntries
+pub mod HiddenSteps
+pub mod WalkCounts
+mod CountSteps
+mod RowSteps
+mod LevelParts
+pub mod SortedCounts
+pub mod LevelTables
+pub mod LevelRanges
+pub mod VersionCounts
+pub mod StatsAnswers

@@ -5,6 +5,13 @@ pub mod ChosenRows
 pub mod RowsLaw
 pub mod ToldRows
 pub mod TestedScan
+pub mod HiddenEntries
+pub mod Stats
+pub mod TestedStats
 -- serves proofs alone
 pub mod EntryRows
 pub mod RowParts
+pub mod Counts
+pub mod Parts
+pub mod LevelCounts
+pub mod LevelRows

@@ -1,11 +1,13 @@
 //! The user key that an entry decided last.
 
-ghost use Rattle.std.specs.Prelude.{◌≡◌, OnOk, IsOkUnless, Some, None};
+ghost use Rattle.std.specs.Prelude.{◌≡◌, [], IfErr, IfOk, OnOk, IsOkUnless, Some, None};
 ghost use Rattle.coding.specs.Answers.{fault};
 ghost use Rattle.coding.specs.declared.fault.FaultName.TheVariants.{Memory};
-ghost use Rattle.scan.specs.EntryRows.{is_decided};
+ghost use Rattle.ikey.specs.Key.{user_of};
+ghost use Rattle.scan.specs.EntryRows.{decided_after, is_decided};
 
 use coding::Fault;
+use ikey::InternalKey;
 use std::alloc::Global;
 use std::marker::Model;
 
@@ -53,5 +55,26 @@ impl DecidedUser {
         self.user.extend_from_slice(user).unwrap();
         self.is_some = true;
         Ok(())
+    }
+
+    /// Takes in the next entry of sorted ones, and answers whether a newer one hides it: the
+    /// sequence `at` saw a newer one of its user key. The only fault is Memory.
+    pub fn take_in(&mut self, key: InternalKey<'_>, at: u64) -> Result<bool, Fault>
+        ensures hidden { IfOk result (λ hidden. hidden
+            ≡ is_decided self.old (user_of key.entry.bytes.now)) }
+        ensures decided { OnOk result (self.new
+            ≡ decided_after at self.old (record { key = key.entry.bytes.now; value = [] })) }
+        ensures memory { IfErr result (λ e. e ≡ fault Memory) }
+    {
+        let user = key.user();
+        if self.is(user) {
+            return Ok(true);
+        }
+        let is_seen = key.sequence() <= at;
+        if !is_seen {
+            return Ok(false);
+        }
+        self.set(user)?;
+        Ok(false)
     }
 }

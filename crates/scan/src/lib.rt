@@ -1,4 +1,5 @@
-//! The rows of a version, in the order of their user keys.
+//! Walks over all entries of a version, in the order of their user keys: its rows, and how much it
+//! has.
 //!
 //! A row is a user key that has a value at a sequence, with that value: what a get answers.
 //!
@@ -6,16 +7,27 @@
 //! 2. [`scan_unverified`] reads the tables of a lawful version, a range of user keys after the
 //!    other, and tells the rows as it comes to them.
 //! 3. [`scan_version`] tests the version first.
+//! 4. [`version_stats`] tests the version, and counts what it has: [`VersionStats`], of each level
+//!    [`LevelStats`], as [`Amounts`]. A [`FileTotal`] is for files that no version names.
 //!
-//! [`scan_unverified_by`] and [`scan_version_by`] are the same by one comparator. [`rows_law`] is the
-//! law that a lawful version has just one list of rows.
+//! [`scan_unverified_by`], [`scan_version_by`] and [`version_stats_by`] are the same by one
+//! comparator. [`rows_law`] is the law that a lawful version has just one list of rows.
 //!
-//! No contract says how many tables are read, or how much memory a scan takes.
+//! No contract says how many tables are read, or how much memory a walk takes.
 #![tactic(auto)]
 
+mod amounts;
+mod count_walk;
+mod counted_version;
 mod decided_user;
 mod entry_walk;
+mod file_total;
+mod level_files;
+mod level_merges;
+mod level_rows;
+mod level_stats;
 mod merge_walk;
+mod range_counts;
 mod range_scan;
 mod row_choice;
 mod row_laws;
@@ -25,6 +37,10 @@ mod tested_scan;
 mod version_scan;
 mod wanted;
 
+pub use amounts::Amounts;
+pub use counted_version::{version_stats, version_stats_by};
+pub use file_total::FileTotal;
+pub use level_stats::{LevelStats, VersionStats};
 pub use row_choice::RowChoice;
 pub use row_laws::rows_law;
 pub use row_taker::RowTaker;

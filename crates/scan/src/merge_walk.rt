@@ -73,7 +73,7 @@ fn skip_before<'a, C: Comparator, S: Cursor<'a, C> + Drop>(
 
 /// Whether there is an entry to come whose user key is before `bound`. If there is no bound,
 /// `otherwise` says whether the first entry counts as before it.
-fn starts_before<'a, C: Comparator, S: Cursor<'a, C> + Drop>(
+pub(crate) fn starts_before<'a, C: Comparator, S: Cursor<'a, C> + Drop>(
     merging: &Merging<C, S>,
     bound: Option<&[u8]>,
     otherwise: bool,

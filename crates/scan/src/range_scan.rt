@@ -120,7 +120,7 @@ fn tell_range<C: SharedComparator + 'static, F: Folder, T: RowTaker, R: Threads 
     let before = mem::replace(held, HeldTables::none(alloc));
     let found = hold_tables::<C, F, Open, R>(rt, alloc, folder, before, &numbers, CHECKERS, &Open)?;
     let Some(tables) = found else {
-        return refused_tables::<C, F, R>(rt, alloc, folder, &numbers);
+        return refused_tables::<C, F, Wanted, R>(rt, alloc, folder, &numbers);
     };
     *held = tables;
     tell_held(alloc, held, range, at, limit, taker)
@@ -131,12 +131,12 @@ fn tell_range<C: SharedComparator + 'static, F: Folder, T: RowTaker, R: Threads 
 /// - Missing: at the first missing table.
 /// - The refusal of the first invalid table, as of `table::check`, if none is missing.
 /// - Lawless: all are there and valid, since the folder was changed meanwhile.
-fn refused_tables<C: SharedComparator, F: Folder, R: Threads + Sync>(
+pub(crate) fn refused_tables<C: SharedComparator, F: Folder, X, R: Threads + Sync>(
     rt: &R,
     alloc: Global,
     folder: &mut F,
     numbers: &[u64],
-) -> Result<Wanted, Fault>
+) -> Result<X, Fault>
     ensures refused { IfOk result (λ _. ⊥) }
     ensures device { ReportsDevice F.Folder folder.old folder.new result }
     ensures reads { OnlyReads F.Folder folder.old folder.new }

@@ -64,7 +64,7 @@ fn tell_tables<'t, C: Comparator + 't, T: RowTaker>(
 }
 
 /// The tables without their numbers. The only fault is Memory.
-fn lent_tables<'l, 't, C: Comparator>(
+pub(crate) fn lent_tables<'l, 't, C: Comparator>(
     alloc: Global,
     tables: &'l [NumberedTable<'t, C>],
 ) -> Result<Vec<&'l SoundTable<'t, C>>, Fault>

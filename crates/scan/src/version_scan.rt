@@ -105,7 +105,7 @@ pub fn scan_unverified_by<C: SharedComparator + 'static, F: Folder, T: RowTaker,
 }
 
 /// The sequence `at`, or the version's last one if it isn't given.
-fn sequence_of(version: &Version, at: Option<u64>) -> u64
+pub(crate) fn sequence_of(version: &Version, at: Option<u64>) -> u64
     ensures { result ≡ chosen_sequence version.now at }
 {
     let last = version.last_sequence().unwrap_or(0);

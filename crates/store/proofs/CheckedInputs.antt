@@ -17,10 +17,11 @@ use Rattle.checks.specs.Checked.{tables_reading}
 use Rattle.compact.specs.Sound.{AreInputs}
 use Rattle.compact.proofs.ReadInputs.{read_inputs}
 use Rattle.install.specs.Install.{tables_in}
+use Rattle.checks.proofs.FoundTables.{checked_parts}
 use Rattle.pick.proofs.Lists.{and_first, and_second}
 use Rattle.request.specs.Inputs.{inputs_reading, table_matches_metadata}
 use Rattle.store.specs.InputsCompaction.{are_stated, input_tables}
-use Rattle.store.proofs.Loaded.{checked, own_bytes}
+use Rattle.store.proofs.Loaded.{own_bytes}
 
 -- ---- whether they are as stated
 
@@ -80,8 +81,8 @@ bytes_read : (cmp : List ℕ → List ℕ → Ordering) (loaded : List (ℕ × L
     → map (λ (t : Contents). t.bytes) (map (λ (t : NumberedContents). t.contents) tables) ≡ map (λ (t : ℕ × List ℕ). t.1) loaded
 bytes_read cmp [] tables h = ap (λ (ts : List NumberedContents). map (λ (t : Contents). t.bytes) (map (λ (t : NumberedContents). t.contents) ts)) (sym (ok_is [] tables h))
 bytes_read cmp (l ∷ loaded) tables h =
-    let c = checked cmp l loaded tables h in
-    ap (λ (ts : List NumberedContents). map (λ (t : Contents). t.bytes) (map (λ (t : NumberedContents). t.contents) ts)) c.whole
+    let c = checked_parts cmp l loaded tables h in
+    ap (λ (ts : List NumberedContents). map (λ (t : Contents). t.bytes) (map (λ (t : NumberedContents). t.contents) ts)) (sym c.whole)
     ∙ ap (λ (b : List ℕ). b ∷ map (λ (t : Contents). t.bytes) (map (λ (t : NumberedContents). t.contents) c.behind)) (own_bytes cmp l.1 c.contents c.read)
     ∙ ap (λ (bs : List (List ℕ)). l.1 ∷ bs) (bytes_read cmp loaded c.behind c.rest)
 
@@ -91,11 +92,11 @@ are_inputs cmp [] [] tables same h stated = subst (λ (ts : List NumberedContent
 are_inputs cmp [] (l ∷ loaded) tables same h stated = absurd (omega (arith, same))
 are_inputs cmp (i ∷ files) [] tables same h stated = absurd (omega (arith, same))
 are_inputs cmp (i ∷ files) (l ∷ loaded) tables same h stated =
-    let c = checked cmp l loaded tables h in
+    let c = checked_parts cmp l loaded tables h in
     let own : contents_reading cmp c.contents.bytes ≡ Ok c.contents = ap (contents_reading cmp) (own_bytes cmp l.1 c.contents c.read) ∙ c.read in
-    let both : (table_matches_metadata i.meta c.contents && are_stated files c.behind) ≡ true = ap (are_stated (i ∷ files)) (sym c.whole) ∙ stated in
+    let both : (table_matches_metadata i.meta c.contents && are_stated files c.behind) ≡ true = ap (are_stated (i ∷ files)) c.whole ∙ stated in
     let rest = are_inputs cmp files loaded c.behind (omega (arith, same)) c.rest (and_second (table_matches_metadata i.meta c.contents) (are_stated files c.behind) both) in
-    subst (λ (ts : List NumberedContents). AreInputs cmp (i ∷ files) (map (λ (t : NumberedContents). t.contents) ts)) (sym c.whole)
+    subst (λ (ts : List NumberedContents). AreInputs cmp (i ∷ files) (map (λ (t : NumberedContents). t.contents) ts)) c.whole
     (own, (and_first (table_matches_metadata i.meta c.contents) (are_stated files c.behind) both, rest))
 
 -- the bytes are those that were read
@@ -123,8 +124,8 @@ same_read loaded files of h = length-map loaded (λ (t : ℕ × Vec ℕ). (t.0, 
 checked_length : (cmp : List ℕ → List ℕ → Ordering) (loaded : List (ℕ × List ℕ)) (tables : List NumberedContents) → tables_reading cmp loaded ≡ Ok tables → length tables ≡ length loaded
 checked_length cmp [] tables h = ap length (sym (ok_is [] tables h))
 checked_length cmp (l ∷ loaded) tables h =
-    let c = checked cmp l loaded tables h in
-    ap length c.whole ∙ ap suc (checked_length cmp loaded c.behind c.rest)
+    let c = checked_parts cmp l loaded tables h in
+    ap length (sym c.whole) ∙ ap suc (checked_length cmp loaded c.behind c.rest)
 
 pub read_length : (cmp : List ℕ → List ℕ → Ordering) (loaded : List (ℕ × Vec ℕ)) (tables : List NumberedContents) → tables_reading cmp (tables_in loaded) ≡ Ok tables → length tables ≡ length loaded
 read_length cmp loaded tables h = checked_length cmp (tables_in loaded) tables h ∙ length-map loaded (λ (t : ℕ × Vec ℕ). (t.0, t.1.items))

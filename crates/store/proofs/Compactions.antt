@@ -1,11 +1,14 @@
 -- The compaction of a version whose tables were loaded, step by step.
-use Rattle.std.proofs.Common.{length, false, ◌≡◌, ℕ, ◌-◌, ◌<◌, ◌^◌, Bool, true, List, Result, Ok, Err, sym, ap, subst, ◌∙◌}
-use Rattle.std.specs.Prelude.{MatchBool, ◌&&◌, nat_le, nat_lt}
+use Rattle.std.proofs.Common.{length, false, ◌≡◌, ℕ, ◌+◌, ◌-◌, ◌<◌, ◌^◌, Bool, true, if◌then◌else◌, List, Some, None, Option, Result, Ok, Err, refl, sym, ap, subst, ◌∙◌, arith}
+use Rattle.std.specs.Prelude.{MatchBool, ◌&&◌, nat_le, nat_lt, unwrap_or}
+use Rattle.std.specs.Option.{ok_or}
 use Rattle.std.specs.declared.cmp.Ordering.{Ordering}
+use Rattle.std.proofs.lemmas.Bool.Decides.{nat_tests}
 use Rattle.coding.proofs.Binds.{bind_ok, ok_is}
 use Rattle.coding.proofs.Refusals.{unless_from}
 use Rattle.coding.specs.Answers.{FailsOrMemory, fault, ◌>>=◌}
 use Rattle.coding.specs.declared.fault.Fault.{Fault}
+use Rattle.coding.specs.declared.fault.FaultName.{FaultName}
 use Rattle.coding.specs.declared.fault.FaultName.TheVariants.{Level, NoInput, Numbers, SplitCount, Workers}
 use Rattle.table.specs.ReadingSteps.{test_result}
 use Rattle.edit.specs.Version.{IsState, State}
@@ -17,37 +20,78 @@ use Rattle.checks.specs.LawfulTables.{IsLawfulTables}
 use Rattle.checks.proofs.LawfulLemmas.{sound_checked, sound_lawful}
 use Rattle.request.specs.OneThread.{Answer, compaction_result, one_thread}
 use Rattle.request.specs.Request.{RequestView}
-use Rattle.store.specs.FolderRequest.{numbered_request, compaction_of, manifest_of, request_of}
+use Rattle.store.specs.FolderRequest.{compaction_from, first_output, manifest_of, numbered_request, request_from}
 use Rattle.store.specs.Compaction.{VersionCompaction}
-use Rattle.store.specs.Joint.{JointLaw}
+use Rattle.store.specs.Joint.{NumberedJointLaw}
 use Rattle.store.specs.Lines.{compaction_lines}
+use Rattle.store.specs.Outcome.{LevelCompaction}
 use Rattle.settings.specs.declared.settings.Settings.{Settings}
 use Rattle.ikey.specs.Comparator.{ShortKeys}
 
--- the answer of a compaction is that of one thread
-pub thread_of : (cmp : List ℕ → List ℕ → Ordering) (short_keys : ShortKeys) (v : State) (loaded : List (ℕ × List ℕ)) (p : PickedInputs) (s : Settings) (answer : Answer)
-    → compaction_of cmp short_keys v loaded p s ≡ Ok answer → one_thread cmp short_keys (request_of v loaded p s) ≡ Ok answer
-thread_of cmp short_keys v loaded p s answer h =
-    let one = bind_ok (test_result (nat_le 1 s.ranges && nat_le s.ranges 4096) SplitCount) (λ _. numbered_request v loaded p s >>= λ r. compaction_result cmp short_keys s.workers r) answer h in
-    let two = bind_ok (numbered_request v loaded p s) (λ (r : RequestView). compaction_result cmp short_keys s.workers r) answer one.2 in
-    let three = bind_ok (test_result (nat_lt (manifest_of v) (2 ^ 64 - 1)) Numbers) (λ _. Ok (request_of v loaded p s)) two.0 two.1 in
-    let four = bind_ok (test_result (nat_le 1 s.workers && nat_le s.workers 64) Workers) (λ _. one_thread cmp short_keys two.0) answer two.2 in
-    subst (λ (r : RequestView). one_thread cmp short_keys r ≡ Ok answer) (sym (ok_is (request_of v loaded p s) two.0 three.2)) four.2
+-- the first number is above the manifest's
+first_above : (v : State) (first : Option ℕ) (number : ℕ) → first_output v first ≡ Some number → manifest_of v < number
+first_above v None number is = by (nat_lt (manifest_of v) (2 ^ 64 - 1)) is
+  where
+    by : (b : Bool) → (if b then Some (manifest_of v + 1) else None) ≡ Some number → manifest_of v < number
+    by true h = let same : manifest_of v + 1 ≡ number = cc h in omega (arith, same)
+    by false h = absurd (cc h)
+first_above v (Some asked) number is = by (nat_lt (manifest_of v) asked) refl is
+  where
+    below : nat_lt (manifest_of v) asked ≡ true → manifest_of v < asked
+    below e = grind (arith, nat_tests)
 
--- what a compaction answers is installed
-pub is_compacted : (cmp : List ℕ → List ℕ → Ordering) (short_keys : ShortKeys) → JointLaw cmp short_keys
-    → (order : Order) (v : State) (loaded : List (ℕ × List ℕ)) (tables : List NumberedContents) (level : ℕ) (p : PickedInputs) (s : Settings) (answer : Answer) (lines : List ℕ)
-    → IsLawfulTables cmp v loaded (Ok tables) → IsState v.pointers v.files → IsPicked cmp v level p → (request_of v loaded p s).log_number < 2 ^ 64 → (request_of v loaded p s).previous_log < 2 ^ 64
-    → compaction_of cmp short_keys v loaded p s ≡ Ok answer → lines ≡ compaction_lines answer.tables p.files (manifest_of v)
-    → VersionCompaction order cmp short_keys v loaded level s answer lines
-is_compacted cmp short_keys joint order v loaded tables level p s answer lines sound state picked log previous answered told = record {
-  tables = tables;
-  lawful = sound;
+    by : (b : Bool) → nat_lt (manifest_of v) asked ≡ b → (if b then Some asked else None) ≡ Some number → manifest_of v < number
+    by true e h = let same : asked ≡ number = cc h in subst (λ (n : ℕ). manifest_of v < n) same (below e)
+    by false e h = absurd (cc h)
+
+found_is : {A : Type 0} (o : Option A) (n : FaultName) (x : A) → ok_or o (fault n) ≡ Ok x → o ≡ Some x
+found_is (Some y) n x h = cc h
+found_is None n x h = absurd (cc h)
+
+-- the answer of a compaction is that of one thread, to the request with its first number
+record IsThread (cmp : List ℕ → List ℕ → Ordering) (short_keys : ShortKeys) (v : State) (loaded : List (ℕ × List ℕ)) (p : PickedInputs) (s : Settings) (answer : Answer) : Type 0 where
+  number : ℕ
+  high : manifest_of v < number
+  same : one_thread cmp short_keys (request_from number v loaded p s) ≡ Ok answer
+
+thread_of : (first : Option ℕ) (cmp : List ℕ → List ℕ → Ordering) (short_keys : ShortKeys) (v : State) (loaded : List (ℕ × List ℕ)) (p : PickedInputs) (s : Settings) (answer : Answer)
+    → compaction_from first cmp short_keys v loaded p s ≡ Ok answer → IsThread cmp short_keys v loaded p s answer
+thread_of first cmp short_keys v loaded p s answer h =
+    let one = bind_ok (test_result (nat_le 1 s.ranges && nat_le s.ranges 4096) SplitCount) (λ _. numbered_request first v loaded p s >>= λ r. compaction_result cmp short_keys s.workers r) answer h in
+    let two = bind_ok (numbered_request first v loaded p s) (λ (r : RequestView). compaction_result cmp short_keys s.workers r) answer one.2 in
+    let three = bind_ok (ok_or (first_output v first) (fault Numbers)) (λ (n : ℕ). Ok (request_from n v loaded p s)) two.0 two.1 in
+    let four = bind_ok (test_result (nat_le 1 s.workers && nat_le s.workers 64) Workers) (λ _. one_thread cmp short_keys two.0) answer two.2 in
+    record {
+      number = three.0;
+      high = first_above v first three.0 (found_is (first_output v first) Numbers three.0 three.1);
+      same = subst (λ (q : RequestView). one_thread cmp short_keys q ≡ Ok answer) (sym (ok_is (request_from three.0 v loaded p s) two.0 three.2)) four.2;
+    }
+
+-- what a compaction answers can be installed
+pub is_compacted : (cmp : List ℕ → List ℕ → Ordering) (short_keys : ShortKeys) → NumberedJointLaw cmp short_keys
+    → (order : Order) (v : State) (loaded : List (ℕ × List ℕ)) (tables : List NumberedContents) (level : ℕ) (first : Option ℕ) (p : PickedInputs) (s : Settings) (answer : Answer)
+    → IsLawfulTables cmp v loaded (Ok tables) → IsState v.pointers v.files → IsPicked cmp v level p → unwrap_or v.log_number 0 < 2 ^ 64 → unwrap_or v.previous_log 0 < 2 ^ 64
+    → compaction_from first cmp short_keys v loaded p s ≡ Ok answer → LevelCompaction order cmp short_keys v loaded level first s p answer
+is_compacted cmp short_keys joint order v loaded tables level first p s answer sound state picked log previous answered =
+    let thread = thread_of first cmp short_keys v loaded p s answer answered in
+    record {
+      tables = tables;
+      lawful = sound;
+      is_picked = picked;
+      answered = answered;
+      edited = joint thread.number order v loaded tables level p s answer thread.high (sound_checked cmp v loaded tables sound) (sound_lawful cmp v loaded tables sound) state.levels.file_levels picked log previous thread.same;
+    }
+
+-- a compaction whose numbers come after the manifest's, and its lines
+pub with_lines : (order : Order) (cmp : List ℕ → List ℕ → Ordering) (short_keys : ShortKeys) (v : State) (loaded : List (ℕ × List ℕ)) (level : ℕ) (s : Settings) (p : PickedInputs) (answer : Answer) (lines : List ℕ)
+    → LevelCompaction order cmp short_keys v loaded level None s p answer → lines ≡ compaction_lines answer.tables p.files (manifest_of v) → VersionCompaction order cmp short_keys v loaded level s answer lines
+with_lines order cmp short_keys v loaded level s p answer lines c told = record {
+  tables = c.tables;
+  lawful = c.lawful;
   picked = p;
-  is_picked = picked;
-  answered = answered;
-  edited = joint order v loaded tables level p s answer (sound_checked cmp v loaded tables sound) (sound_lawful cmp v loaded tables sound) state.levels.file_levels picked log previous
-      (thread_of cmp short_keys v loaded p s answer answered);
+  is_picked = c.is_picked;
+  answered = c.answered;
+  edited = c.edited;
   told = told;
 }
 

@@ -32,7 +32,7 @@ use Rattle.survival.specs.Over.{HoldOutputs, IsOver}
 use Rattle.survival.proofs.Inputs.{input_file}
 use Rattle.survival.proofs.SurvivingReads.{is_edit}
 use Rattle.checks.specs.Checked.{tables_reading}
-use Rattle.store.specs.FolderRequest.{manifest_of, request_of}
+use Rattle.store.specs.FolderRequest.{manifest_of, request_from}
 use Rattle.settings.specs.declared.settings.Settings.{Settings}
 use Rattle.store.proofs.Over.{has_next}
 use Rattle.store.proofs.TablesAfter.{HasNumber, number_of}
@@ -56,11 +56,11 @@ some_input [] h = absurd (h refl)
 some_input (i ∷ files) h = (i, first_in i files)
 
 module _ (cmp : List ℕ → List ℕ → Ordering) (total : IsTotalOrder cmp) (exact : IsExact cmp) (short_keys : ShortKeys) (applies : EditApplies cmp) (passes : PassedLaw cmp)
-    (order : Order) (v : State) (loaded : List (ℕ × List ℕ)) (tables : List NumberedContents) (level : ℕ) (p : PickedInputs) (s : Settings) (answer : Answer)
+    (number : ℕ) (order : Order) (v : State) (loaded : List (ℕ × List ℕ)) (tables : List NumberedContents) (level : ℕ) (p : PickedInputs) (s : Settings) (answer : Answer) (high : manifest_of v < number)
     (checked : tables_reading cmp loaded ≡ Ok tables) (lawful : IsLawful cmp v tables) (low : All (λ (f : NewFile). f.level ≤ 6) v.files) (picked : IsPicked cmp v level p)
-    (over : IsOver v tables (request_of v loaded p s)) (held : HoldOutputs cmp short_keys tables (request_of v loaded p s) answer) where
+    (over : IsOver v tables (request_from number v loaded p s)) (held : HoldOutputs cmp short_keys tables (request_from number v loaded p s) answer) where
   abbrev r : RequestView
-  r = request_of v loaded p s
+  r = request_from number v loaded p s
 
   abbrev pub next_version : State
   next_version = version_after v r held.outputs
@@ -93,8 +93,8 @@ module _ (cmp : List ℕ → List ℕ → Ordering) (total : IsTotalOrder cmp) (
 
   output_above : (n : ℕ) → IsOneOf (numbers_of answer.tables) n → manifest_of v ≤ n
   output_above n m =
-      let le = numbered_above (manifest_of v + 1) held.outputs n held.numbered (subst (λ (ts : List (ℕ × List ℕ)). IsOneOf (numbers_of ts) n) held.answer_tables m) in
-      omega (arith, le)
+      let le = numbered_above number held.outputs n held.numbered (subst (λ (ts : List (ℕ × List ℕ)). IsOneOf (numbers_of ts) n) held.answer_tables m) in
+      omega (arith, le, high)
 
   pub edited_by : IsEditedBy (order_name order) cmp order v (manifest_of v) answer.tables answer.edit next_version
   edited_by = record {
@@ -112,9 +112,9 @@ module _ (cmp : List ℕ → List ℕ → Ordering) (total : IsTotalOrder cmp) (
     below = file_below;
     above = output_above;
     manifest_above = omega arith;
-    next_free = manifest_of v + 1 + length (new_files r held.outputs);
+    next_free = number + length (new_files r held.outputs);
     next_file = refl;
-    manifest_below = omega arith;
+    manifest_below = omega (arith, high);
   }
 
   level_by : (f : NewFile) → Contains (staying_files v p) f ⊎ Contains (new_files r held.outputs) f → f.level ≤ 6

@@ -1,6 +1,5 @@
 -- The installation of a compaction, as a part of the call.
 use Rattle.std.proofs.Common.{◌≡◌, ℕ, List, ◌++◌, map, codes, Option, Some, Result, Ok, Err, IfErr, IfOk, IsErrAnd, OnOk, sym, ap, subst, ◌∙◌, inl, inr}
-use Rattle.std.specs.Global.{Vec}
 use Rattle.std.specs.declared.cmp.Ordering.{Ordering}
 use Rattle.coding.specs.Answers.{UnlessMemory, fault}
 use Rattle.coding.specs.declared.fault.Fault.{Fault}
@@ -22,6 +21,7 @@ use Rattle.folder.specs.Orders.{order_cmp, order_short_keys}
 use Rattle.settings.specs.declared.settings.Settings.{Settings}
 use Rattle.ikey.specs.Comparator.{ShortKeys}
 use Rattle.store.specs.VersionSync.{sync_calls}
+use Rattle.store.specs.declared.compaction_step.CompactionStep.{CompactionStep}
 use Rattle.store.proofs.Synced.{version_stands}
 use Rattle.store.proofs.SyncsTold.{syncs_tell}
 
@@ -68,18 +68,18 @@ still old new same files tells name held = (λ h. (tells name held).0 ((same nam
 
 -- an installation, told from earlier calls on
 installed_since : (order : Order) (cmp : List ℕ → List ℕ → Ordering) (short_keys : ShortKeys) (v : State) (files : Files) (level : ℕ) (s : Settings)
-    (first before after : List Step) (zero old new : List ℕ → Option (List ℕ) → Type 0) (r : Result (Vec ℕ) Fault) → before ≡ first → ((files : Files) → Tells zero files → Tells old files)
+    (first before after : List Step) (zero old new : List ℕ → Option (List ℕ) → Type 0) (r : Result CompactionStep Fault) → before ≡ first → ((files : Files) → Tells zero files → Tells old files)
     → IsInstalled order cmp short_keys v files level s before after old new r → IsInstalled order cmp short_keys v files level s first after zero new r
 installed_since order cmp short_keys v files level s first before after zero old new r is told i = record {
   compaction = i.compaction;
   survives = subst (λ (b : List Step). SurvivesCrash cmp order v i.compaction.loaded (next_of i.compaction) (next_version_tables cmp (next_of i.compaction) i.compaction.answer.tables i.compaction.loaded) b after zero new r) is
       (survives_on cmp order v (next_of i.compaction) i.compaction.loaded (next_version_tables cmp (next_of i.compaction) i.compaction.answer.tables i.compaction.loaded) before after zero old new r r (λ P x. x) told i.survives);
-  printed = i.printed;
+  step = i.step;
   refused = i.refused;
 }
 
 -- the version was opened, and its sync was refused
-pub sync_refused : {T : Type 0} (order : Order) (v : State) (manifest : ℕ) (files : Files) (level : ℕ) (s : Settings) (first before after : List Step) (zero old new : List ℕ → Option (List ℕ) → Type 0) (r : Result T Fault) (q : Result (Vec ℕ) Fault)
+pub sync_refused : {T : Type 0} (order : Order) (v : State) (manifest : ℕ) (files : Files) (level : ℕ) (s : Settings) (first before after : List Step) (zero old new : List ℕ → Option (List ℕ) → Type 0) (r : Result T Fault) (q : Result CompactionStep Fault)
     → IsOpened (IsHeldIn files) (Ok (order, v)) → files (codes "CURRENT") ≡ Some (current_text manifest) → before ≡ first → TellsSame zero old → MakesCalls (sync_calls (order_cmp order) v manifest) before after old new r → OnOk q ⊥
     → IsFolderLeft files level s first after zero new q
 sync_refused order v manifest files level s first before after zero old new r q opened named is same runs refused =
@@ -105,7 +105,7 @@ pub all_made : {T : Type 0} (calls : List Call) (steps : List Step) (r : Result 
 all_made {T = T} calls steps r x was made = subst (λ (q : Result T Fault). AreMadeBy calls steps q) was made
 
 -- the version was opened and synced, and then compacted
-pub synced_left : {T : Type 0} (order : Order) (v : State) (manifest : ℕ) (files : Files) (level : ℕ) (s : Settings) (first before synced after : List Step) (zero old middle new : List ℕ → Option (List ℕ) → Type 0) (r : Result T Fault) (x : T) (q : Result (Vec ℕ) Fault)
+pub synced_left : {T : Type 0} (order : Order) (v : State) (manifest : ℕ) (files : Files) (level : ℕ) (s : Settings) (first before synced after : List Step) (zero old middle new : List ℕ → Option (List ℕ) → Type 0) (r : Result T Fault) (x : T) (q : Result CompactionStep Fault)
     → IsOpened (IsHeldIn files) (Ok (order, v)) → files (codes "CURRENT") ≡ Some (current_text manifest) → before ≡ first → TellsSame zero old → r ≡ Ok x → MakesCalls (sync_calls (order_cmp order) v manifest) before synced old middle r
     → IsVersionLeft order (order_cmp order) (order_short_keys order) v files level s synced after middle new q → IsFolderLeft files level s first after zero new q
 synced_left order v manifest files level s first before synced after zero old middle new r x q opened named is same was runs left =

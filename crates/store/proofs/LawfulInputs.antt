@@ -1,12 +1,13 @@
 -- The inputs of a lawful version: what a compaction that reads them alone answers.
-use Rattle.std.proofs.Common.{◌≡◌, ℕ, ◌+◌, ◌-◌, ◌^◌, ◌≤◌, Bool, true, false, ◌&&◌, List, [], ◌∷◌, map, length, Result, Ok, Err, refl, sym, ap, subst, ◌∙◌, inl, inr, arith}
+use Rattle.std.proofs.Common.{◌≡◌, ℕ, ◌+◌, ◌≤◌, Bool, true, false, ◌&&◌, List, [], ◌∷◌, map, length, Option, Result, Ok, Err, refl, sym, ap, subst, ◌∙◌, inl, inr, arith}
 use Rattle.std.specs.Prelude.{Contains, MatchBool, nat_le, nat_lt, unwrap_or}
 use Rattle.std.specs.List.{AllZip}
+use Rattle.std.specs.Option.{ok_or}
 use Rattle.std.specs.Cmp.{IsTotalOrder}
 use Rattle.std.specs.declared.cmp.Ordering.{Ordering}
 use Rattle.std.proofs.lemmas.Bool.Decides.{nat_tests}
 use Rattle.std.proofs.lemmas.List.Elements.{Contains-append_cases}
-use Rattle.coding.specs.Answers.{fault, ◌>>=◌}
+use Rattle.coding.specs.Answers.{IsThen, fault, ◌>>=◌}
 use Rattle.coding.specs.declared.fault.Fault.{Fault}
 use Rattle.coding.specs.declared.fault.FaultName.TheVariants.{Bounds, Level, NoInput, Numbers, SplitCount}
 use Rattle.ikey.specs.Comparator.{ShortKeys}
@@ -35,9 +36,8 @@ use Rattle.request.specs.Request.{RequestView}
 use Rattle.survival.proofs.ClosedLevels.{in_level}
 use Rattle.survival.proofs.Inputs.{input_file}
 use Rattle.settings.specs.declared.settings.Settings.{Settings}
-use Rattle.store.specs.Answers.{IsLoadedCompacted, lines_of}
-use Rattle.store.specs.FolderRequest.{compaction_of, last_of, manifest_of}
-use Rattle.store.specs.InputsCompaction.{IsInputsCompacted, IsOrderlyAnswer, are_stated, input_numbers, input_tables}
+use Rattle.store.specs.FolderRequest.{compaction_from, first_output, last_of}
+use Rattle.store.specs.InputsCompaction.{IsInputsTold, IsOrderlyAnswer, are_stated, input_numbers, input_tables}
 use Rattle.store.proofs.Compactions.{picked_of}
 use Rattle.store.proofs.InputNumbers.{loaded_at, none_missing, number_among, of_levels, one_table, same_bytes}
 use Rattle.store.proofs.Loaded.{bytes_found, found_loaded}
@@ -56,12 +56,12 @@ low_level cmp v level p h = by (nat_lt 5 level) (nat_lt 0 (length (level_files c
     by false b e is = not_above e
 
 -- what is asked with these bytes of the inputs
-abbrev request_with : State → PickedInputs → Settings → List (List ℕ) → RequestView
-request_with v p s given = record {
+abbrev request_with : ℕ → State → PickedInputs → Settings → List (List ℕ) → RequestView
+request_with number v p s given = record {
   picked = p;
   tables = given;
   snapshots = s.snapshots;
-  first_number = manifest_of v + 1;
+  first_number = number;
   log_number = unwrap_or v.log_number 0;
   previous_log = unwrap_or v.previous_log 0;
   last_sequence = last_of v;
@@ -69,10 +69,10 @@ request_with v p s given = record {
 }
 
 -- and what is answered
-abbrev answer_with : (List ℕ → List ℕ → Ordering) → ShortKeys → State → PickedInputs → Settings → List (List ℕ) → Result Answer Fault
-answer_with cmp short_keys v p s given =
+abbrev answer_with : Option ℕ → (List ℕ → List ℕ → Ordering) → ShortKeys → State → PickedInputs → Settings → List (List ℕ) → Result Answer Fault
+answer_with first cmp short_keys v p s given =
     test_result (nat_le 1 s.ranges && nat_le s.ranges 4096) SplitCount >>= λ _.
-    (test_result (nat_lt (manifest_of v) (2 ^ 64 - 1)) Numbers >>= λ _. Ok (request_with v p s given)) >>= λ r.
+    (ok_or (first_output v first) (fault Numbers) >>= λ number. Ok (request_with number v p s given)) >>= λ r.
     compaction_result cmp short_keys s.workers r
 
 abbrev refusal : {Y : Type 0} → Fault → Result Y Fault
@@ -142,9 +142,9 @@ module _ (cmp : List ℕ → List ℕ → Ordering) (total : IsTotalOrder cmp) (
           ∙ ap (λ (bs : List (List ℕ)). table_bytes_of loaded i.meta.number ∷ bs) (all_same is (λ j at. inside j (later_in i is j at)))
 
       -- the request is the same as with the tables of all files
-      pub same_compaction : (short_keys : ShortKeys) (s : Settings) → compaction_of cmp short_keys v own p s ≡ compaction_of cmp short_keys v loaded p s
-      same_compaction short_keys s =
-          ap (λ (given : List (List ℕ)). answer_with cmp short_keys v p s given) (all_same p.files (λ i at. at))
+      pub same_compaction : (first : Option ℕ) (short_keys : ShortKeys) (s : Settings) → compaction_from first cmp short_keys v own p s ≡ compaction_from first cmp short_keys v loaded p s
+      same_compaction first short_keys s =
+          ap (λ (given : List (List ℕ)). answer_with first cmp short_keys v p s given) (all_same p.files (λ i at. at))
 
       -- and the tables are those of the version
       record AreRead (is : List InputFile) (given : List (ℕ × List ℕ)) : Type 0 where
@@ -187,10 +187,12 @@ module _ (cmp : List ℕ → List ℕ → Ordering) (total : IsTotalOrder cmp) (
           no_refusal (map (λ (t : NumberedContents). t.contents) all.found) e (sym value ∙ h)
 
   -- the answer by the inputs alone is the one by all tables
-  pub suffices : (short_keys : ShortKeys) (level : ℕ) (s : Settings) (answer : Result (List ℕ) Fault) → IsInputsCompacted cmp short_keys files v level s answer → IsLoadedCompacted cmp short_keys v loaded level s answer
-  suffices short_keys level s answer (Err e, (h, rest)) = absurd (passes e h)
-  suffices short_keys level s answer (Ok passed, (h, (Err e, (k, is)))) = (Ok tables, (sound, (Err e, (k, is))))
-  suffices short_keys level s answer (Ok passed, (h, (Ok p, (k, (Err e, (l, is)))))) = absurd (not_missing level p k e l)
-  suffices short_keys level s answer (Ok passed, (h, (Ok p, (k, (Ok own, (l, (Err e, (m, is)))))))) = absurd (tables_pass level p k own l e m)
-  suffices short_keys level s answer (Ok passed, (h, (Ok p, (k, (Ok own, (l, (Ok found, (m, is)))))))) =
-      (Ok tables, (sound, (Ok p, (k, is ∙ ap (lines_of v p) (same_compaction level p k own l short_keys s)))))
+  pub suffices : {T : Type 0} (tell : PickedInputs → Answer → T) (first : Option ℕ) (short_keys : ShortKeys) (level : ℕ) (s : Settings) (answer : Result T Fault)
+      → IsInputsTold tell first cmp short_keys files v level s answer
+      → IsThen (IsLawfulTables cmp v loaded) (λ tables. IsThen (IsInputsAnswer cmp v level) (λ p (a : Result T Fault). a ≡ (compaction_from first cmp short_keys v loaded p s >>= λ x. Ok (tell p x)))) answer
+  suffices tell first short_keys level s answer (Err e, (h, rest)) = absurd (passes e h)
+  suffices tell first short_keys level s answer (Ok passed, (h, (Err e, (k, is)))) = (Ok tables, (sound, (Err e, (k, is))))
+  suffices tell first short_keys level s answer (Ok passed, (h, (Ok p, (k, (Err e, (l, is)))))) = absurd (not_missing level p k e l)
+  suffices tell first short_keys level s answer (Ok passed, (h, (Ok p, (k, (Ok own, (l, (Err e, (m, is)))))))) = absurd (tables_pass level p k own l e m)
+  suffices tell first short_keys level s answer (Ok passed, (h, (Ok p, (k, (Ok own, (l, (Ok found, (m, is)))))))) =
+      (Ok tables, (sound, (Ok p, (k, is ∙ ap (λ (r : Result Answer Fault). r >>= λ x. Ok (tell p x)) (same_compaction level p k own l first short_keys s)))))

@@ -1,25 +1,27 @@
-mod Loaded
+pub mod Loaded
 mod Found
 mod SameTables
 mod Over
-mod TablesAfter
+pub mod TablesAfter
 mod EditedBy
 mod Joint
-mod NoDevice
+pub mod NoDevice
 mod Synced
 mod SyncsTold
 mod TableSyncs
-mod Flow
-mod InputNumbers
-mod InputsApart
+pub mod Flow
+pub mod InputNumbers
+pub mod InputsApart
 mod LentRises
 mod CheckedInputs
 mod OrderlyFiles
 mod LineLemmas
-mod Compactions
+mod Tellings
+pub mod Compactions
 mod LawfulInputs
-mod InstallPart
+pub mod InstallPart
 mod StepPart
+mod NamesThere
 mod Runs
 mod AfterEdit
 mod StepsTaken

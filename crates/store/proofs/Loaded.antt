@@ -8,11 +8,11 @@ use Rattle.std.specs.declared.cmp.Ordering.{Ordering}
 use Rattle.std.proofs.lemmas.Bool.{eqb-true, eq-eqb}
 use Rattle.std.proofs.lemmas.Option.{none-some, same_Some}
 use Rattle.coding.proofs.Binds.{bind_ok, ok_is}
-use Rattle.coding.specs.Answers.{◌>>=◌}
 use Rattle.table.specs.Checked.{contents_in}
 use Rattle.table.specs.TableContents.{Contents, blocks_of, contents_of, contents_reading}
 use Rattle.reads.specs.Tables.{NumberedContents, table_of_number}
-use Rattle.checks.specs.Checked.{numbered_reading, tables_reading}
+use Rattle.checks.specs.Checked.{tables_reading}
+use Rattle.checks.proofs.FoundTables.{CheckedParts, checked_parts}
 use Rattle.install.specs.Install.{table_bytes_of}
 
 pub not_equal : (m n : ℕ) → (m ≡ n → ⊥) → eqb m n ≡ false
@@ -44,28 +44,6 @@ held_by cmp bytes t h = rw h refl
 pub bytes_found : (loaded : List (ℕ × List ℕ)) (n : ℕ) (bytes : List ℕ) → lookup (eqb n) loaded ≡ Some bytes → table_bytes_of loaded n ≡ bytes
 bytes_found loaded n bytes h = ap (λ (o : Option (List ℕ)). unwrap_or o []) h
 
--- the parts of tables that were checked
-pub record Checked (cmp : List ℕ → List ℕ → Ordering) (t : ℕ × List ℕ) (loaded : List (ℕ × List ℕ)) (tables : List NumberedContents) : Type 0 where
-  pub contents : Contents
-  pub behind : List NumberedContents
-  pub read : contents_reading cmp t.1 ≡ Ok contents
-  pub rest : tables_reading cmp loaded ≡ Ok behind
-  pub whole : tables ≡ record { number = t.0; contents = contents } ∷ behind
-
-pub checked : (cmp : List ℕ → List ℕ → Ordering) (t : ℕ × List ℕ) (loaded : List (ℕ × List ℕ)) (tables : List NumberedContents) → tables_reading cmp (t ∷ loaded) ≡ Ok tables → Checked cmp t loaded tables
-checked cmp t loaded tables h =
-    let one = bind_ok (numbered_reading cmp t) (λ (first : NumberedContents). tables_reading cmp loaded >>= λ others. Ok (first ∷ others)) tables h in
-    let two = bind_ok (tables_reading cmp loaded) (λ (others : List NumberedContents). Ok (one.0 ∷ others)) tables one.2 in
-    let three = bind_ok (contents_reading cmp t.1) (λ (c : Contents). Ok (record { number = t.0; contents = c })) one.0 one.1 in
-    let first : record { number = t.0; contents = three.0 } ≡ one.0 = ok_is (record { number = t.0; contents = three.0 }) one.0 three.2 in
-    record {
-      contents = three.0;
-      behind = two.0;
-      read = three.1;
-      rest = two.1;
-      whole = sym (ok_is (one.0 ∷ two.0) tables two.2) ∙ sym (ap (λ (x : NumberedContents). x ∷ two.0) first);
-    }
-
 -- the bytes of a table that was checked are those that were loaded under its number
 pub found_loaded : (cmp : List ℕ → List ℕ → Ordering) (loaded : List (ℕ × List ℕ)) (tables : List NumberedContents) (n : ℕ) (t : Contents)
     → tables_reading cmp loaded ≡ Ok tables → table_of_number tables n ≡ Some t → lookup (eqb n) loaded ≡ Some t.bytes
@@ -73,10 +51,10 @@ found_loaded cmp [] tables n t h found =
     let none : tables ≡ [] = sym (ok_is [] tables h) in
     absurd (none-some t (sym (ap (λ (ts : List NumberedContents). table_of_number ts n) none) ∙ found))
 found_loaded cmp (l ∷ loaded) tables n t h found =
-    by (eqb l.0 n) refl (λ is. found_loaded cmp loaded parts.behind n t parts.rest is) (sym (ap (λ (ts : List NumberedContents). table_of_number ts n) parts.whole) ∙ found)
+    by (eqb l.0 n) refl (λ is. found_loaded cmp loaded parts.behind n t parts.rest is) (ap (λ (ts : List NumberedContents). table_of_number ts n) parts.whole ∙ found)
   where
-    parts : Checked cmp l loaded tables
-    parts = checked cmp l loaded tables h
+    parts : CheckedParts cmp l loaded tables
+    parts = checked_parts cmp l loaded tables h
 
     by : (b : Bool) → eqb l.0 n ≡ b → (table_of_number parts.behind n ≡ Some t → lookup (eqb n) loaded ≡ Some t.bytes)
         → option_map (λ (x : NumberedContents). x.contents) (cond b (Some (record { number = l.0; contents = parts.contents })) (find (λ (x : NumberedContents). eqb x.number n) parts.behind)) ≡ Some t

@@ -1,6 +1,7 @@
 -- No refusal of a compaction is Device.
-use Rattle.std.proofs.Common.{◌≡◌, ◌≢◌, ℕ, ◌+◌, ◌-◌, ◌^◌, Bool, true, false, List, [], ◌∷◌, length, Result, Ok, Err, IfErr, IsErrAnd, if◌then◌else◌, refl, sym, ap, subst, ◌∙◌}
-use Rattle.std.specs.Prelude.{◌&&◌, MatchBool, Some, nat_le, nat_lt}
+use Rattle.std.proofs.Common.{◌≡◌, ◌≢◌, ℕ, ◌+◌, ◌^◌, Bool, true, false, List, [], ◌∷◌, length, Option, Result, Ok, Err, IfErr, IsErrAnd, if◌then◌else◌, refl, sym, ap, subst, ◌∙◌}
+use Rattle.std.specs.Prelude.{◌&&◌, MatchBool, None, Some, nat_le, nat_lt}
+use Rattle.std.specs.Option.{ok_or}
 use Rattle.std.specs.declared.cmp.Ordering.{Ordering}
 use Rattle.coding.proofs.Refusals.{unless_device}
 use Rattle.coding.specs.Answers.{HoldsOrMemory, UnlessMemory, ◌>>=◌, fault}
@@ -21,16 +22,14 @@ use Rattle.keep.specs.Runs.{are_distinct}
 use Rattle.cut.specs.Outputs.{outputs}
 use Rattle.reads.specs.Tables.{NumberedContents}
 use Rattle.checks.specs.Checked.{tables_reading}
-use Rattle.checks.proofs.LawfulLemmas.{sound_other}
 use Rattle.checks.proofs.TableRefusals.{no_device}
 use Rattle.folder.specs.OpenAnswer.{HasDeviceFailed}
 use Rattle.request.specs.Inputs.{result_at_input, input_reading, inputs_reading, table_matches_metadata, union_reading}
-use Rattle.request.specs.OneThread.{one_thread, outputs_answer, table_for}
+use Rattle.request.specs.OneThread.{Answer, one_thread, outputs_answer, table_for}
 use Rattle.request.specs.OutputTables.{Output, outputs_from, outputs_test}
 use Rattle.request.specs.Request.{RequestView, below_request, has_levels, has_options, has_snapshots, is_snapshot_list, request_test}
-use Rattle.store.specs.Answers.{lines_of}
-use Rattle.store.specs.InputsCompaction.{IsOrderlyAnswer, IsReadCompacted, are_stated, input_tables}
-use Rattle.store.specs.FolderRequest.{numbered_request, compaction_of, manifest_of, request_of}
+use Rattle.store.specs.InputsCompaction.{IsOrderlyAnswer, IsReadTold, are_stated, input_tables}
+use Rattle.store.specs.FolderRequest.{compaction_from, first_output, numbered_request, request_from}
 use Rattle.settings.specs.declared.settings.Settings.{Settings}
 use Rattle.ikey.specs.Comparator.{ShortKeys}
 
@@ -64,6 +63,10 @@ tested false r s one two = two
 passes : (b : Bool) (n : FaultName) → n ≢ Device → AllOther (test_result b n)
 passes b n h = tested b _ _ (value tt) (named _ n h)
 
+found_other : {A : Type 0} (o : Option A) (n : FaultName) → n ≢ Device → AllOther (ok_or o (fault n))
+found_other (Some x) n h = value x
+found_other {A = A} None n h = named A n h
+
 -- ---- the inputs
 
 one_numbered : (cmp : List ℕ → List ℕ → Ordering) (bytes : List ℕ) (e : Fault) → contents_reading cmp bytes ≡ refusal e
@@ -91,7 +94,7 @@ inputs_other cmp place (i ∷ files) (bytes ∷ given) =
 
 -- ---- the compaction
 
-test_other : (cmp : List ℕ → List ℕ → Ordering) (r : RequestView) → AllOther (request_test cmp r)
+pub test_other : (cmp : List ℕ → List ℕ → Ordering) (r : RequestView) → AllOther (request_test cmp r)
 test_other cmp r =
     bound (test_result (is_some_list r.picked.files) NoInput) _ (passes (is_some_list r.picked.files) NoInput (λ same. cc same)) (λ _.
     bound (test_result (has_levels r.picked) Level) _ (passes (has_levels r.picked) Level (λ same. cc same)) (λ _.
@@ -116,15 +119,15 @@ module _ (cmp : List ℕ → List ℕ → Ordering) (short_keys : ShortKeys) whe
       bound (union_reading cmp inputs) _ (union_other inputs) (λ union.
       answer_other r (outputs_from (table_for cmp short_keys r) r.first_number (outputs cmp (below_request r) r.options union)))))
 
-  pub compaction_other : (v : State) (loaded : List (ℕ × List ℕ)) (p : PickedInputs) (s : Settings) → AllOther (compaction_of cmp short_keys v loaded p s)
-  compaction_other v loaded p s =
+  pub compaction_other : (first : Option ℕ) (v : State) (loaded : List (ℕ × List ℕ)) (p : PickedInputs) (s : Settings) → AllOther (compaction_from first cmp short_keys v loaded p s)
+  compaction_other first v loaded p s =
       bound (test_result (nat_le 1 s.ranges && nat_le s.ranges 4096) SplitCount) _ (passes (nat_le 1 s.ranges && nat_le s.ranges 4096) SplitCount (λ same. cc same)) (λ _.
-      bound (numbered_request v loaded p s) _ (bound (test_result (nat_lt (manifest_of v) (2 ^ 64 - 1)) Numbers) _ (passes (nat_lt (manifest_of v) (2 ^ 64 - 1)) Numbers (λ same. cc same)) (λ _. value (request_of v loaded p s))) (λ r.
+      bound (numbered_request first v loaded p s) _ (bound (ok_or (first_output v first) (fault Numbers)) _ (found_other (first_output v first) Numbers (λ same. cc same)) (λ number. value (request_from number v loaded p s))) (λ r.
       bound (test_result (nat_le 1 s.workers && nat_le s.workers 64) Workers) _ (passes (nat_le 1 s.workers && nat_le s.workers 64) Workers (λ same. cc same)) (λ _.
       thread_other r)))
 
-  lines_other : (v : State) (loaded : List (ℕ × List ℕ)) (p : PickedInputs) (s : Settings) → AllOther (lines_of v p (compaction_of cmp short_keys v loaded p s))
-  lines_other v loaded p s = bound (compaction_of cmp short_keys v loaded p s) _ (compaction_other v loaded p s) (λ a. value _)
+  told_other : {T : Type 0} (tell : PickedInputs → Answer → T) (first : Option ℕ) (v : State) (loaded : List (ℕ × List ℕ)) (p : PickedInputs) (s : Settings) → AllOther (compaction_from first cmp short_keys v loaded p s >>= λ a. Ok (tell p a))
+  told_other tell first v loaded p s = bound (compaction_from first cmp short_keys v loaded p s) (λ a. Ok (tell p a)) (compaction_other first v loaded p s) (λ a. value (tell p a))
 
 pub inputs_answer_other : (cmp : List ℕ → List ℕ → Ordering) (v : State) (level : ℕ) (e : Fault) → IsInputsAnswer cmp v level (Err e) → e.name ≢ Device
 inputs_answer_other cmp v level e h = by (nat_lt 5 level) (nat_lt 0 (length (level_files cmp v level))) refl refl h
@@ -135,15 +138,15 @@ inputs_answer_other cmp v level e h = by (nat_lt 5 level) (nat_lt 0 (length (lev
     by false true i j is = absurd is
     by false false i j is = λ same. let both = sym (ap (λ (f : Fault). f.name) (same_refusal {Y = PickedInputs} e (fault NoInput) is)) ∙ same in cc both
 
-tables_other : (cmp : List ℕ → List ℕ → Ordering) (files : List InputFile) (loaded : List (ℕ × List ℕ)) → AllOther (input_tables cmp files loaded)
+pub tables_other : (cmp : List ℕ → List ℕ → Ordering) (files : List InputFile) (loaded : List (ℕ × List ℕ)) → AllOther (input_tables cmp files loaded)
 tables_other cmp files loaded =
     bound (tables_reading cmp loaded) _ (no_device cmp loaded) (λ ts. bound (test_result (are_stated files ts) Bounds) _ (passes (are_stated files ts) Bounds (λ same. cc same)) (λ _. value _))
 
 -- nor is one of a compaction of inputs that were read
-pub read_other : (cmp : List ℕ → List ℕ → Ordering) (short_keys : ShortKeys) (v : State) (p : PickedInputs) (s : Settings) (loaded : List (ℕ × List ℕ)) (e : Fault)
-    → IsReadCompacted cmp short_keys v p s loaded (Err e) → e.name ≢ Device
-read_other cmp short_keys v p s loaded e (Err d, h) = subst (λ (f : Fault). f.name ≢ Device) (sym (same_refusal {Y = List ℕ} e d h.1)) (tables_other cmp p.files loaded d h.0)
-read_other cmp short_keys v p s loaded e (Ok tables, h) = lines_other cmp short_keys v loaded p s e (sym h.1)
+pub read_other : {T : Type 0} (tell : PickedInputs → Answer → T) (first : Option ℕ) (cmp : List ℕ → List ℕ → Ordering) (short_keys : ShortKeys) (v : State) (p : PickedInputs) (s : Settings) (loaded : List (ℕ × List ℕ)) (e : Fault)
+    → IsReadTold tell first cmp short_keys v p s loaded (Err e) → e.name ≢ Device
+read_other {T = T} tell first cmp short_keys v p s loaded e (Err d, h) = subst (λ (f : Fault). f.name ≢ Device) (sym (same_refusal {Y = T} e d h.1)) (tables_other cmp p.files loaded d h.0)
+read_other tell first cmp short_keys v p s loaded e (Ok tables, h) = told_other cmp short_keys tell first v loaded p s e (sym h.1)
 
 pub orderly_other : (cmp : List ℕ → List ℕ → Ordering) (v : State) (e : Fault) → IsOrderlyAnswer cmp v (Err e) → e.name ≢ Device
 orderly_other cmp v e h = λ same. let both = sym (ap (λ (f : Fault). f.name) h.0) ∙ same in cc both
@@ -163,6 +166,17 @@ handed_other (Err f) e P h other given =
 pub never_device_at : {X : Type 0} (before now : ℕ) (r : Result X Fault) (P : Fault → Type 0) → ((e : Fault) → P e → e.name ≢ Device) → IfErr r (λ e. UnlessMemory e (P e)) → IfErr r (HasDeviceFailed before now)
 never_device_at before now (Ok x) P other given = tt
 never_device_at before now (Err e) P other given = λ same. absurd (other e (unless_device e (P e) same given) same)
+
+-- nor does a refusal that `?` hands on say anything of the device
+pub handed_never : {X : Type 0} (before now : ℕ) (r : Result X Fault) (e : Fault) (P : Type 0) → IsErrAnd r (λ f. f ≡ e) → (P → e.name ≢ Device) → UnlessMemory e P → IfErr r (HasDeviceFailed before now)
+handed_never before now (Ok x) e P h other given = absurd h
+handed_never before now (Err f) e P h other given =
+    subst (λ (x : Fault). HasDeviceFailed before now x) (sym h) (λ same. absurd (other (unless_device e P same given) same))
+
+-- if the only refusal is Memory, nothing is said of the device
+pub memory_alone : {X : Type 0} (before now : ℕ) (r : Result X Fault) → IfErr r (λ e. e ≡ fault Memory) → IfErr r (HasDeviceFailed before now)
+memory_alone before now (Ok x) h = tt
+memory_alone before now (Err e) h = λ same. let both = sym (ap (λ (f : Fault). f.name) h) ∙ same in absurd (cc both)
 
 -- Memory is another name
 pub handed_memory : {X : Type 0} (r : Result X Fault) (e : Fault) → IsErrAnd r (λ f. f ≡ e) → e ≡ fault Memory → IfErr r (λ f. f.name ≢ Device)

@@ -1,5 +1,5 @@
 -- The request for picked inputs is one over the version that they were picked from.
-use Rattle.std.proofs.Common.{◌≡◌, ℕ, ◌+◌, ◌<◌, ◌≤◌, ◌^◌, List, [], ◌∷◌, map, Some, None, Option, Ok, refl, sym, ap, subst, ◌∙◌, arith}
+use Rattle.std.proofs.Common.{◌≡◌, ℕ, ◌<◌, ◌≤◌, ◌^◌, List, [], ◌∷◌, map, Some, None, Option, Ok, refl, sym, ap, subst, ◌∙◌, arith}
 use Rattle.std.specs.Prelude.{Contains, unwrap_or}
 use Rattle.std.specs.Cmp.{IsTotalOrder}
 use Rattle.std.specs.Option.{option_map, ForSome}
@@ -17,7 +17,7 @@ use Rattle.checks.specs.Checked.{tables_reading}
 use Rattle.install.specs.Install as install
 use Rattle.survival.specs.Over.{IsOver, input_bytes_of}
 use Rattle.survival.proofs.Inputs.{input_file}
-use Rattle.store.specs.FolderRequest.{manifest_of, request_of}
+use Rattle.store.specs.FolderRequest.{manifest_of, request_from}
 use Rattle.settings.specs.declared.settings.Settings.{Settings}
 use Rattle.store.proofs.Loaded.{bytes_found, found_loaded}
 
@@ -26,9 +26,9 @@ next_is : (next : Option ℕ) (number : ℕ) → IsBelowNextFile next number →
 next_is None number h = absurd h
 next_is (Some n) number h = refl
 
-next_below : (next : Option ℕ) → ForSome next (λ n. n ≤ unwrap_or next 0 + 1)
-next_below None = λ n is. absurd (cc is)
-next_below (Some m) = λ n is. let same : m ≡ n = cc is in omega (arith, same)
+next_below : (next : Option ℕ) (number : ℕ) → unwrap_or next 0 < number → ForSome next (λ n. n ≤ number)
+next_below None number above = λ n is. absurd (cc is)
+next_below (Some m) number above = λ n is. let same : m ≡ n = cc is in omega (arith, same, above)
 
 same_map : {X Y : Type 0} (f g : X → Y) (xs : List X) → ((x : X) → Contains xs x → f x ≡ g x) → map f xs ≡ map g xs
 same_map f g [] h = refl
@@ -52,10 +52,10 @@ module _ (cmp : List ℕ → List ℕ → Ordering) (total : IsTotalOrder cmp) (
       ap (option_map (λ (t : Contents). t.bytes)) f.there
       ∙ ap (λ (b : List ℕ). Some b) (sym (bytes_found loaded i.meta.number f.table.bytes (found_loaded cmp loaded tables i.meta.number f.table checked f.there)))
 
-  pub is_over : (s : Settings) → (request_of v loaded p s).log_number < 2 ^ 64 → (request_of v loaded p s).previous_log < 2 ^ 64 → IsOver v tables (request_of v loaded p s)
-  is_over s log previous = record {
+  pub is_over : (number : ℕ) (s : Settings) → manifest_of v < number → (request_from number v loaded p s).log_number < 2 ^ 64 → (request_from number v loaded p s).previous_log < 2 ^ 64 → IsOver v tables (request_from number v loaded p s)
+  is_over number s above log previous = record {
     bytes = same_map (input_bytes_of tables) (λ (i : InputFile). Some (install.table_bytes_of loaded i.meta.number)) p.files input_bytes ∙ some_mapped (λ (i : InputFile). install.table_bytes_of loaded i.meta.number) p.files;
-    numbers = next_below v.next_file;
+    numbers = next_below v.next_file number above;
     log_number = log;
     previous_log = previous;
   }

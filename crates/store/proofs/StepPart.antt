@@ -1,10 +1,8 @@
 -- A compaction that reads its inputs alone, as a part of a call.
-use Rattle.std.proofs.Common.{◌≡◌, ℕ, ◌<◌, ◌^◌, true, ◌∷◌, [], List, ◌++◌, append_assoc, map, codes, Option, Some, None, Result, Ok, Err, IfErr, IfOk, IsErrAnd, OnOk, refl, sym, ap, subst, ◌∙◌, inl, inr}
-use Rattle.std.specs.Prelude.{unwrap_or}
+use Rattle.std.proofs.Common.{◌≡◌, ℕ, true, ◌∷◌, [], List, ◌++◌, append_assoc, map, codes, Option, Some, None, Result, Ok, Err, IfErr, IfOk, IsErrAnd, OnOk, refl, sym, ap, subst, ◌∙◌, inl, inr}
 use Rattle.std.proofs.lemmas.List.{map-append}
-use Rattle.std.specs.Global.{Vec}
 use Rattle.std.specs.declared.cmp.Ordering.{Ordering}
-use Rattle.coding.specs.Answers.{UnlessMemory, fault}
+use Rattle.coding.specs.Answers.{IsThen, UnlessMemory, fault}
 use Rattle.coding.specs.declared.fault.Fault.{Fault}
 use Rattle.coding.specs.declared.fault.FaultName.TheVariants.{Device}
 use Rattle.ikey.specs.Comparator.{ShortKeys}
@@ -23,15 +21,12 @@ use Rattle.folder.specs.declared.order.Order.{Order}
 use Rattle.install.specs.Install.{IsEditedBy, SurvivesCrash, current_calls, install_calls, next_version_tables, table_calls, temporary_calls, write_calls}
 use Rattle.checks.specs.LawfulTables.{IsLawfulTables}
 use Rattle.reads.specs.Tables.{NumberedContents}
-use Rattle.pick.specs.Picked.{PickedInputs}
+use Rattle.pick.specs.Picked.{IsInputsAnswer}
 use Rattle.request.specs.OneThread.{Answer}
-use Rattle.compact.specs.Answered.{answer_in}
 use Rattle.settings.specs.declared.settings.Settings.{Settings}
-use Rattle.store.specs.Answers.{IsVersionCompacted}
+use Rattle.store.specs.Answers.{IsVersionCompacted, lines_of}
 use Rattle.store.specs.Compaction.{IsVersionLeft, VersionCompaction}
 use Rattle.store.specs.FolderRequest.{compaction_of, manifest_of}
-use Rattle.store.specs.Lines.{compaction_lines}
-use Rattle.store.specs.declared.loaded_compaction.Ready.{Ready}
 use Rattle.store.specs.StepLeft.{IsStepLeft}
 use Rattle.checks.specs.TestedTables.{IsTested, tested_of}
 use Rattle.checks.specs.declared.tested.Tested.{Tested}
@@ -97,23 +92,22 @@ step_installed name order cmp short_keys v loaded level s answer lines first bef
       refused = refused;
     })
 
--- a step, told from earlier calls on, as another answer
+-- a step, told from earlier calls on
 pub version_left : (order : Order) (cmp : List ℕ → List ℕ → Ordering) (short_keys : ShortKeys) (files : Files) (v : State) (loaded : List (ℕ × List ℕ)) (level : ℕ) (s : Settings)
-    (first before after : List Step) (zero old new : List ℕ → Option (List ℕ) → Type 0) (r : Result CompactionStep Fault) (q : Result (Vec ℕ) Fault)
-    → ReadsAs cmp order v loaded files → before ≡ first → TellsSame zero old → ((P : Type 0) → OnOk r P → OnOk q P)
-    → ((lines edit : List ℕ) → IfOk r (λ step. (step.lines.items ≡ lines) × (step.edit.items ≡ edit)) → IfOk q (λ text. text.items ≡ lines)) → ((P : Fault → Type 0) → IfErr r P → IfErr q P)
-    → IsStepLeft order cmp short_keys v loaded level s before after old new r → IsVersionLeft order cmp short_keys v files level s first after zero new q
-version_left order cmp short_keys files v loaded level s first before after zero old new r q reads same told f g h (inl u) =
-    inl (record { calls = u.calls ∙ same; same = told_since zero old new told u.same; refused = f ⊥ u.refused })
-version_left order cmp short_keys files v loaded level s first before after zero old new r q reads same told f g h (inr i) =
+    (first before after : List Step) (zero old new : List ℕ → Option (List ℕ) → Type 0) (r : Result CompactionStep Fault)
+    → ReadsAs cmp order v loaded files → before ≡ first → TellsSame zero old
+    → IsStepLeft order cmp short_keys v loaded level s before after old new r → IsVersionLeft order cmp short_keys v files level s first after zero new r
+version_left order cmp short_keys files v loaded level s first before after zero old new r reads same told (inl u) =
+    inl (record { calls = u.calls ∙ same; same = told_since zero old new told u.same; refused = u.refused })
+version_left order cmp short_keys files v loaded level s first before after zero old new r reads same told (inr i) =
     let next = i.compacted.edited.next in
     let tables' = next_version_tables cmp next i.answer.tables loaded in
     inr (record {
       compaction = record { loaded = loaded; reads = reads; answer = i.answer; lines = i.lines; compacted = i.compacted };
-      survives = subst (λ (b : List Step). SurvivesCrash cmp order v loaded next tables' b after zero new q) same
-          (survives_on cmp order v next loaded tables' before after zero old new r q f (still zero old told) i.survives);
-      printed = g i.lines i.answer.edit i.step;
-      refused = h (λ e. UnlessMemory e (e ≡ fault Device)) i.refused;
+      survives = subst (λ (b : List Step). SurvivesCrash cmp order v loaded next tables' b after zero new r) same
+          (survives_on cmp order v next loaded tables' before after zero old new r r (λ P x. x) (still zero old told) i.survives);
+      step = i.step;
+      refused = i.refused;
     })
 
 -- a call that was refused answers no value
@@ -146,23 +140,16 @@ has_passed cmp tells files v tested told (Err e, (l, is)) = absurd (no_refusal t
 has_passed cmp tells files v tested told (Ok loaded, (l, (Err e, (k, is)))) = absurd (no_refusal tested e is)
 has_passed cmp tells files v tested told (Ok loaded, (l, (Ok tables, (k, is)))) = record { loaded = loaded; held = loaded_in tells files (file_numbers cmp v) (Ok loaded) told l; tables = tables; sound = k }
 
--- its refusal is that of the compaction
+-- its refusal is that of what follows
+pub test_ends : {T : Type 0} (cmp : List ℕ → List ℕ → Ordering) (IsNext : List (ℕ × List ℕ) → List NumberedContents → Result T Fault → Type 0) (tells : List ℕ → Option (List ℕ) → Type 0) (files : Files) (v : State) (e : Fault)
+    → Tells tells files → IsTested tells cmp v (Err e) → IsThen (IsLoaded (IsHeldIn files) (file_numbers cmp v)) (λ loaded. IsThen (IsLawfulTables cmp v loaded) (IsNext loaded)) (Err e)
+test_ends cmp IsNext tells files v e told (Err d, (l, is)) =
+    (Err d, (loaded_in tells files (file_numbers cmp v) (Err d) told l, ap (λ (x : Fault). Err x) (same_refusal {Y = Tested} e d is)))
+test_ends cmp IsNext tells files v e told (Ok loaded, (l, (Err d, (k, is)))) =
+    (Ok loaded, (loaded_in tells files (file_numbers cmp v) (Ok loaded) told l, (Err d, (k, ap (λ (x : Fault). Err x) (same_refusal {Y = Tested} e d is)))))
+test_ends cmp IsNext tells files v e told (Ok loaded, (l, (Ok tables, (k, is)))) = absurd (no_refusal (tested_of tables) e (sym is))
+
 pub test_refused : (cmp : List ℕ → List ℕ → Ordering) (short_keys : ShortKeys) (tells : List ℕ → Option (List ℕ) → Type 0) (files : Files) (v : State) (level : ℕ) (s : Settings) (e : Fault)
     → Tells tells files → IsTested tells cmp v (Err e) → IsVersionCompacted cmp short_keys files v level s (Err e)
-test_refused cmp short_keys tells files v level s e told (Err d, (l, is)) =
-    (Err d, (loaded_in tells files (file_numbers cmp v) (Err d) told l, ap (λ (x : Fault). Err x) (same_refusal {Y = Tested} e d is)))
-test_refused cmp short_keys tells files v level s e told (Ok loaded, (l, (Err d, (k, is)))) =
-    (Ok loaded, (loaded_in tells files (file_numbers cmp v) (Ok loaded) told l, (Err d, (k, ap (λ (x : Fault). Err x) (same_refusal {Y = Tested} e d is)))))
-test_refused cmp short_keys tells files v level s e told (Ok loaded, (l, (Ok tables, (k, is)))) = absurd (no_refusal (tested_of tables) e (sym is))
-
--- ---- what is ready to be installed
-
-pub all_compacted : (cmp : List ℕ → List ℕ → Ordering) (short_keys : ShortKeys) (order : Order) (v : State) (own loaded : List (ℕ × List ℕ)) (level : ℕ) (p : PickedInputs) (s : Settings) (r : Result Ready Fault)
-    → compaction_of cmp short_keys v own p s ≡ compaction_of cmp short_keys v loaded p s
-    → IfOk r (λ c. (compaction_of cmp short_keys v own p s ≡ Ok (answer_in c.outcome)) × (c.lines.items ≡ compaction_lines (answer_in c.outcome).tables p.files (manifest_of v)))
-    → IfOk r (λ c. (unwrap_or v.log_number 0 < 2 ^ 64) × (unwrap_or v.previous_log 0 < 2 ^ 64))
-    → ((answer : Answer) (lines : List ℕ) → unwrap_or v.log_number 0 < 2 ^ 64 → unwrap_or v.previous_log 0 < 2 ^ 64 → compaction_of cmp short_keys v loaded p s ≡ Ok answer
-    → lines ≡ compaction_lines answer.tables p.files (manifest_of v) → VersionCompaction order cmp short_keys v loaded level s answer lines)
-    → IfOk r (λ c. VersionCompaction order cmp short_keys v loaded level s (answer_in c.outcome) c.lines.items)
-all_compacted cmp short_keys order v own loaded level p s (Ok ready) same outcome logs f = f (answer_in ready.outcome) ready.lines.items logs.0 logs.1 (sym same ∙ outcome.0) outcome.1
-all_compacted cmp short_keys order v own loaded level p s (Err e) same outcome logs f = tt
+test_refused cmp short_keys tells files v level s e told h =
+    test_ends cmp (λ loaded tables. IsThen (IsInputsAnswer cmp v level) (λ p (a : Result (List ℕ) Fault). a ≡ lines_of v p (compaction_of cmp short_keys v loaded p s))) tells files v e told h

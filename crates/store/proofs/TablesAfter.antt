@@ -38,7 +38,7 @@ number_of [] n m = absurd m
 number_of (f ∷ files) n (inl same) = record { file = f; there = first_in f files; is = same }
 number_of (f ∷ files) n (inr m) = let rest = number_of files n m in record { file = rest.file; there = later_in f files rest.file rest.there; is = rest.is }
 
-one_number : (files : List NewFile) (f : NewFile) → Contains files f → IsOneOf (numbers_in files) f.meta.number
+pub one_number : (files : List NewFile) (f : NewFile) → Contains files f → IsOneOf (numbers_in files) f.meta.number
 one_number [] f at = absurd (none_in f at)
 one_number (g ∷ files) f at = elim (first_or_later g files f at) [ inl same ↦ inl (ap (λ (x : NewFile). x.meta.number) same) | inr later ↦ inr (one_number files f later) ]
 

@@ -1,7 +1,6 @@
 -- What a compaction makes of a folder.
 use Rattle.std.specs.Prelude.{◌≡◌, ◌⊎◌, ℕ, ◌<◌, ◌^◌, true, List, [], ◌∷◌, ◌++◌, map, codes, Option}
 use Rattle.std.specs.Prelude.{Some, Result, Ok, IfErr, IfOk, OnOk}
-use Rattle.std.specs.Global.{Vec}
 use Rattle.std.specs.declared.cmp.Ordering.{Ordering}
 use Rattle.coding.specs.Answers.{UnlessMemory, fault}
 use Rattle.coding.specs.declared.fault.Fault.{Fault}
@@ -26,6 +25,7 @@ use Rattle.install.specs.Install.{IsEditedBy, AlwaysStandsAs, SurvivesCrash, nex
 use Rattle.store.specs.FolderRequest.{compaction_of, last_of, manifest_of}
 use Rattle.store.specs.Lines.{compaction_lines}
 use Rattle.store.specs.VersionSync.{AlwaysReadsBy, sync_calls}
+use Rattle.store.specs.declared.compaction_step.CompactionStep.{CompactionStep}
 use Rattle.folder.specs.Orders.{order_cmp, order_short_keys}
 use Rattle.settings.specs.declared.settings.Settings.{Settings}
 use Rattle.ikey.specs.Comparator.{ShortKeys}
@@ -95,24 +95,26 @@ pub record IsSynced {T : Type 0} (syncs : List Call) (before after : List Step)
   pub refused : OnOk result ⊥
 
 -- A compaction was installed, from these calls on. A crash at any moment leaves the version before
--- or the edited one. At Ok it is the edited one, and the answer is its lines. The only faults are
--- Device and Memory.
+-- or the edited one. At Ok it is the edited one, and the answer has the lines and the edit. The
+-- only faults are Device and Memory.
 pub record IsInstalled (order : Order) (cmp : List ℕ → List ℕ → Ordering)
     (short_keys : ShortKeys)
     (v : State) (files : Files) (level : ℕ) (s : Settings) (before after : List Step)
-    (old new : List ℕ → Option (List ℕ) → Type 0) (result : Result (Vec ℕ) Fault) : Type 0 where
+    (old new : List ℕ → Option (List ℕ) → Type 0) (result : Result CompactionStep Fault)
+    : Type 0 where
   pub compaction : Compaction order cmp short_keys v files level s
   pub survives : SurvivesCrash cmp order v compaction.loaded (next_of compaction)
       (next_version_tables cmp (next_of compaction) compaction.answer.tables compaction.loaded)
       before after old new result
-  pub printed : IfOk result (λ text. text.items ≡ compaction.lines)
+  pub step : IfOk result (λ step. (step.lines.items ≡ compaction.lines)
+      × (step.edit.items ≡ compaction.answer.edit))
   pub refused : IfErr result (λ e. UnlessMemory e (e ≡ fault Device))
 
 -- what is left of a folder that reads as this version, which has this order: it is unchanged, or a
 -- compaction was installed
 abbrev pub IsVersionLeft : Order → (List ℕ → List ℕ → Ordering) → ShortKeys → State → Files → ℕ →
     Settings → List Step → List Step → (List ℕ → Option (List ℕ) → Type 0) →
-    (List ℕ → Option (List ℕ) → Type 0) → Result (Vec ℕ) Fault → Type 0
+    (List ℕ → Option (List ℕ) → Type 0) → Result CompactionStep Fault → Type 0
 IsVersionLeft order cmp short_keys v files level s before after old new result =
     IsUnchanged before after old new result
     ⊎ IsInstalled order cmp short_keys v files level s before after old new result
@@ -121,7 +123,8 @@ IsVersionLeft order cmp short_keys v files level s before after old new result =
 -- it held, and at most the version was synced; or after the sync of it a compaction was installed.
 -- If the folder reads as the version, whatever was synced before, it stands for it after that sync.
 pub record IsOpenedLeft (files : Files) (level : ℕ) (s : Settings) (before after : List Step)
-    (old new : List ℕ → Option (List ℕ) → Type 0) (result : Result (Vec ℕ) Fault) : Type 0 where
+    (old new : List ℕ → Option (List ℕ) → Type 0) (result : Result CompactionStep Fault)
+    : Type 0 where
   pub order : Order
   pub version : State
   pub manifest : ℕ
@@ -139,7 +142,7 @@ pub record IsOpenedLeft (files : Files) (level : ℕ) (s : Settings) (before aft
 -- was opened.
 abbrev pub IsFolderLeft : Files → ℕ → Settings
     → List Step → List Step → (List ℕ → Option (List ℕ) → Type 0) →
-    (List ℕ → Option (List ℕ) → Type 0) → Result (Vec ℕ) Fault → Type 0
+    (List ℕ → Option (List ℕ) → Type 0) → Result CompactionStep Fault → Type 0
 IsFolderLeft files level s before after old new result =
     IsUnchanged before after old new result
     ⊎ IsOpenedLeft files level s before after old new result

@@ -1,8 +1,9 @@
 -- What is asked of a compaction, if a folder holds this version and these tables.
-use Rattle.std.specs.Prelude.{ℕ, ◌+◌, ◌-◌, ◌^◌, nat_le, nat_lt, ◌&&◌, List, map, unwrap_or, Result}
-use Rattle.std.specs.Prelude.{Ok}
+use Rattle.std.specs.Prelude.{ℕ, ◌+◌, ◌-◌, ◌^◌, nat_le, nat_lt, ◌&&◌, if◌then◌else◌, List, map}
+use Rattle.std.specs.Prelude.{unwrap_or, Option, Some, None, Result, Ok}
+use Rattle.std.specs.Option.{ok_or}
 use Rattle.std.specs.declared.cmp.Ordering.{Ordering}
-use Rattle.coding.specs.Answers.{◌>>=◌}
+use Rattle.coding.specs.Answers.{fault, ◌>>=◌}
 use Rattle.coding.specs.declared.fault.Fault.{Fault}
 use Rattle.coding.specs.declared.fault.FaultName.TheVariants.{Numbers, SplitCount}
 use Rattle.table.specs.ReadingSteps.{test_result}
@@ -25,31 +26,47 @@ manifest_of v = unwrap_or v.next_file 0
 abbrev pub last_of : State → ℕ
 last_of v = unwrap_or v.last_sequence 0
 
--- The request for these inputs: the bytes loaded of each, the version's counters, and for the
--- outputs the numbers after the manifest's. A previous log number that was never set is 0.
-abbrev pub request_of : State → List (ℕ × List ℕ) → PickedInputs → Settings → RequestView
-request_of v loaded p s = record {
+-- The request for these inputs, if the outputs have the numbers from this first one on: the bytes
+-- loaded of each, and the version's counters. A previous log number that was never set is 0.
+abbrev pub request_from : ℕ → State → List (ℕ × List ℕ) → PickedInputs → Settings → RequestView
+request_from number v loaded p s = record {
   picked = p;
   tables = map (λ (i : InputFile). table_bytes_of loaded i.meta.number) p.files;
   snapshots = s.snapshots;
-  first_number = manifest_of v + 1;
+  first_number = number;
   log_number = unwrap_or v.log_number 0;
   previous_log = unwrap_or v.previous_log 0;
   last_sequence = last_of v;
   options = s.options;
 }
 
--- that request, or Numbers if no number is left after the manifest's
-abbrev pub numbered_request : State → List (ℕ × List ℕ) → PickedInputs → Settings →
-    Result RequestView Fault
-numbered_request v loaded p s = test_result (nat_lt (manifest_of v) (2 ^ 64 - 1)) Numbers >>=
-    λ _. Ok (request_of v loaded p s)
+-- the same with the numbers after the manifest's
+abbrev pub request_of : State → List (ℕ × List ℕ) → PickedInputs → Settings → RequestView
+request_of v loaded p s = request_from (manifest_of v + 1) v loaded p s
 
--- What a compaction of these inputs answers: SplitCount if the ranges are outside 1 to 4,096, then
--- Numbers if no number is left after the manifest's, then what the request for them answers.
+-- The number of the first output: the one after the manifest's, if one is left; or the one that is
+-- asked for, if it is above the manifest's.
+abbrev pub first_output : State → Option ℕ → Option ℕ
+first_output v None = if nat_lt (manifest_of v) (2 ^ 64 - 1) then Some (manifest_of v + 1) else None
+first_output v (Some asked) = if nat_lt (manifest_of v) asked then Some asked else None
+
+-- the request with that first number, or Numbers if there is none
+abbrev pub numbered_request : Option ℕ → State → List (ℕ × List ℕ) → PickedInputs → Settings →
+    Result RequestView Fault
+numbered_request first v loaded p s = ok_or (first_output v first) (fault Numbers) >>=
+    λ number. Ok (request_from number v loaded p s)
+
+-- What a compaction of these inputs answers, for outputs with the numbers after the manifest's, or
+-- from a first one on that is asked for: SplitCount if the ranges are outside 1 to 4,096, then
+-- Numbers if there is no such first number, then what the request for them answers.
+abbrev pub compaction_from : Option ℕ → (List ℕ → List ℕ → Ordering) → ShortKeys →
+    State → List (ℕ × List ℕ) → PickedInputs → Settings → Result Answer Fault
+compaction_from first cmp short_keys v loaded p s = do
+  _ ← test_result (nat_le 1 s.ranges && nat_le s.ranges MAX_RANGES) SplitCount
+  r ← numbered_request first v loaded p s
+  compaction_result cmp short_keys s.workers r
+
+-- the same with the numbers after the manifest's
 abbrev pub compaction_of : (List ℕ → List ℕ → Ordering) → ShortKeys →
     State → List (ℕ × List ℕ) → PickedInputs → Settings → Result Answer Fault
-compaction_of cmp short_keys v loaded p s = do
-  _ ← test_result (nat_le 1 s.ranges && nat_le s.ranges MAX_RANGES) SplitCount
-  r ← numbered_request v loaded p s
-  compaction_result cmp short_keys s.workers r
+compaction_of cmp short_keys v loaded p s = compaction_from None cmp short_keys v loaded p s

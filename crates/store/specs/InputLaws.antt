@@ -1,6 +1,7 @@
--- The tables of inputs that are read alone.
-use Rattle.std.specs.Prelude.{◌≡◌, ℕ, true, List, map, Ok}
+-- Inputs that are read alone.
+use Rattle.std.specs.Prelude.{◌≡◌, ℕ, true, List, map, Option, Result, Ok}
 use Rattle.std.specs.declared.cmp.Ordering.{Ordering}
+use Rattle.coding.specs.declared.fault.Fault.{Fault}
 use Rattle.ikey.specs.Comparator.{ShortKeys}
 use Rattle.edit.specs.Version.{State, are_apart}
 use Rattle.folder.specs.Calls.{Files}
@@ -12,9 +13,15 @@ use Rattle.pick.specs.Picked.{IsInputsAnswer, IsPicked, PickedInputs}
 use Rattle.pick.specs.declared.picked.InputFile.{InputFile}
 use Rattle.reads.specs.Tables.{NumberedContents}
 use Rattle.checks.specs.LawfulTables.{IsLawfulTables}
+use Rattle.request.specs.OneThread.{Answer}
 use Rattle.settings.specs.declared.settings.Settings.{Settings}
-use Rattle.store.specs.FolderRequest.{compaction_of}
+use Rattle.store.specs.FolderRequest.{compaction_from}
 use Rattle.store.specs.InputsCompaction.{input_numbers}
+use Rattle.store.specs.Outcome.{IsLoadedOutcome, IsOutcomeOfInputs}
+
+-- an answer with its inputs
+abbrev pub with_inputs : PickedInputs → Answer → PickedInputs × Answer
+with_inputs p a = (p, a)
 
 -- the bytes that were read of picked inputs in their order are those under their numbers
 abbrev pub InputsInOrderLaw : (List ℕ → List ℕ → Ordering) → Type 0
@@ -28,9 +35,22 @@ InputsInOrderLaw cmp =
 -- with the inputs of a lawful version the same is answered as with all its tables
 abbrev pub SameInputsLaw : (List ℕ → List ℕ → Ordering) → ShortKeys → Type 0
 SameInputsLaw cmp short_keys =
-    (files : Files) (v : State) (loaded own : List (ℕ × List ℕ)) (tables : List NumberedContents)
-    (level : ℕ) (p : PickedInputs) (s : Settings) →
+    (first : Option ℕ) (files : Files) (v : State) (loaded own : List (ℕ × List ℕ))
+    (tables : List NumberedContents) (level : ℕ) (p : PickedInputs) (s : Settings) →
     IsLoaded (IsHeldIn files) (file_numbers cmp v) (Ok loaded) →
     IsLawfulTables cmp v loaded (Ok tables) → IsInputsAnswer cmp v level (Ok p) →
     IsLoaded (IsHeldIn files) (input_numbers p.files) (Ok own) →
-    compaction_of cmp short_keys v own p s ≡ compaction_of cmp short_keys v loaded p s
+    compaction_from first cmp short_keys v own p s
+    ≡ compaction_from first cmp short_keys v loaded p s
+
+-- if a version is lawful with the tables that a folder holds, the outcome by its inputs alone is
+-- the one by all tables
+abbrev pub OutcomeSufficesLaw : (List ℕ → List ℕ → Ordering) → ShortKeys → Type 0
+OutcomeSufficesLaw cmp short_keys =
+    (first : Option ℕ) (files : Files) (v : State) (loaded : List (ℕ × List ℕ))
+    (tables : List NumberedContents) (level : ℕ) (s : Settings)
+    (answer : Result (Answer × List ℕ) Fault) →
+    IsLoaded (IsHeldIn files) (file_numbers cmp v) (Ok loaded) →
+    IsLawfulTables cmp v loaded (Ok tables) →
+    IsOutcomeOfInputs first cmp short_keys files v level s answer →
+    IsLoadedOutcome first cmp short_keys v loaded level s answer

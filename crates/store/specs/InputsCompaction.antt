@@ -1,6 +1,6 @@
 -- What the compaction of a version answers that reads its inputs and no other table.
 use Rattle.std.specs.Prelude.{◌≡◌, ℕ, ◌+◌, ◌<◌, ◌≤◌, Bool, true, ◌&&◌, List, ◌∷◌, length, map}
-use Rattle.std.specs.Prelude.{slice_index_or, Result, Ok, Err}
+use Rattle.std.specs.Prelude.{slice_index_or, Option, None, Result, Ok, Err}
 use Rattle.std.specs.List.{All}
 use Rattle.std.specs.declared.cmp.Ordering.{Ordering}
 use Rattle.std.specs.declared.cmp.Ordering.TheVariants.{Less}
@@ -25,9 +25,11 @@ use Rattle.reads.specs.Tables.{NumberedContents}
 use Rattle.checks.specs.Checked.{tables_reading}
 use Rattle.checks.specs.LawfulTables.{IsLawfulTables}
 use Rattle.request.specs.Inputs.{table_matches_metadata}
+use Rattle.request.specs.OneThread.{Answer}
 use Rattle.settings.specs.declared.settings.Settings.{Settings}
-use Rattle.store.specs.Answers.{IsLoadedCompacted, lines_of}
-use Rattle.store.specs.FolderRequest.{compaction_of}
+use Rattle.store.specs.Answers.{IsLoadedCompacted}
+use Rattle.store.specs.FolderRequest.{compaction_from, manifest_of}
+use Rattle.store.specs.Lines.{compaction_lines}
 
 -- the largest key of each file is below the smallest of the next one
 abbrev pub RangesRise : (List ℕ → List ℕ → Ordering) → List FileMeta → Type 0
@@ -70,28 +72,41 @@ input_tables cmp files loaded = do
   _ ← test_result (are_stated files tables) Bounds
   Ok (map (λ (t : NumberedContents). t.contents) tables)
 
--- the answer for inputs whose tables were read: first that of their tables
-abbrev pub IsReadCompacted : (List ℕ → List ℕ → Ordering) → ShortKeys →
-    State → PickedInputs → Settings → List (ℕ × List ℕ) → Result (List ℕ) Fault → Type 0
-IsReadCompacted cmp short_keys v p s loaded =
+-- The answer for inputs whose tables were read: first that of their tables. At Ok it tells of the
+-- inputs and of the answer to the request for them.
+abbrev pub IsReadTold : {T : Type 0} → (PickedInputs → Answer → T) → Option ℕ →
+    (List ℕ → List ℕ → Ordering) → ShortKeys → State → PickedInputs → Settings →
+    List (ℕ × List ℕ) → Result T Fault → Type 0
+IsReadTold tell first cmp short_keys v p s loaded =
     IsThen (λ read. input_tables cmp p.files loaded ≡ read) (λ tables answer.
-    answer ≡ lines_of v p (compaction_of cmp short_keys v loaded p s))
+    answer ≡ (compaction_from first cmp short_keys v loaded p s >>= λ a. Ok (tell p a)))
 
 -- the answer for inputs whose tables are in a folder: first Missing of the first that is missing
-abbrev pub IsPickedCompacted : (List ℕ → List ℕ → Ordering) → ShortKeys →
-    Files → State → Settings → PickedInputs → Result (List ℕ) Fault → Type 0
-IsPickedCompacted cmp short_keys files v s p =
+abbrev pub IsPickedTold : {T : Type 0} → (PickedInputs → Answer → T) → Option ℕ →
+    (List ℕ → List ℕ → Ordering) → ShortKeys → Files → State → Settings → PickedInputs →
+    Result T Fault → Type 0
+IsPickedTold tell first cmp short_keys files v s p =
     IsThen (IsLoaded (IsHeldIn files) (input_numbers p.files))
-    (IsReadCompacted cmp short_keys v p s)
+    (IsReadTold tell first cmp short_keys v p s)
 
 -- The answer for a level of a version. The first refusal counts: of the version's files, of which
--- no table is read; of a level without inputs; of their tables; of their compaction. Else the
--- lines.
+-- no table is read; of a level without inputs; of their tables; of their compaction.
+abbrev pub IsInputsTold : {T : Type 0} → (PickedInputs → Answer → T) → Option ℕ →
+    (List ℕ → List ℕ → Ordering) → ShortKeys → Files → State → ℕ → Settings → Result T Fault →
+    Type 0
+IsInputsTold tell first cmp short_keys files v level s =
+    IsThen (IsOrderlyAnswer cmp v) (λ passed.
+    IsThen (IsInputsAnswer cmp v level) (IsPickedTold tell first cmp short_keys files v s))
+
+-- the lines of a compaction that is installed
+abbrev pub installed_lines : State → PickedInputs → Answer → List ℕ
+installed_lines v p a = compaction_lines a.tables p.files (manifest_of v)
+
+-- the answer whose Ok are these lines
 abbrev pub IsInputsCompacted : (List ℕ → List ℕ → Ordering) → ShortKeys →
     Files → State → ℕ → Settings → Result (List ℕ) Fault → Type 0
 IsInputsCompacted cmp short_keys files v level s =
-    IsThen (IsOrderlyAnswer cmp v) (λ passed.
-    IsThen (IsInputsAnswer cmp v level) (IsPickedCompacted cmp short_keys files v s))
+    IsInputsTold (installed_lines v) None cmp short_keys files v level s
 
 -- If a version is lawful with the tables that a folder holds, this is the answer of the compaction
 -- that tests all of them.

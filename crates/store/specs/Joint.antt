@@ -11,7 +11,7 @@ use Rattle.reads.specs.Tables.{NumberedContents}
 use Rattle.checks.specs.Checked.{tables_reading}
 use Rattle.request.specs.OneThread.{Answer, one_thread}
 use Rattle.survival.specs.Over.{IsOver}
-use Rattle.store.specs.FolderRequest.{request_of}
+use Rattle.store.specs.FolderRequest.{manifest_of, request_from, request_of}
 use Rattle.store.specs.Compaction.{EditedVersion}
 use Rattle.settings.specs.declared.settings.Settings.{Settings}
 use Rattle.ikey.specs.Comparator.{ShortKeys}
@@ -41,4 +41,18 @@ JointLaw cmp short_keys =
     (request_of v loaded p s).log_number < 2 ^ 64 →
     (request_of v loaded p s).previous_log < 2 ^ 64 →
     one_thread cmp short_keys (request_of v loaded p s) ≡ Ok answer →
+    EditedVersion order cmp v loaded tables s answer
+
+-- The same of a request whose outputs have the numbers from a first one on, if that one is above
+-- the manifest's.
+abbrev pub NumberedJointLaw : (List ℕ → List ℕ → Ordering) → ShortKeys → Type 0
+NumberedJointLaw cmp short_keys =
+    (number : ℕ) (order : Order) (v : State) (loaded : List (ℕ × List ℕ))
+    (tables : List NumberedContents) (level : ℕ) (p : PickedInputs) (s : Settings)
+    (answer : Answer) → manifest_of v < number →
+    tables_reading cmp loaded ≡ Ok tables → IsLawful cmp v tables →
+    All (λ (f : NewFile). f.level ≤ 6) v.files → IsPicked cmp v level p →
+    (request_from number v loaded p s).log_number < 2 ^ 64 →
+    (request_from number v loaded p s).previous_log < 2 ^ 64 →
+    one_thread cmp short_keys (request_from number v loaded p s) ≡ Ok answer →
     EditedVersion order cmp v loaded tables s answer

@@ -11,7 +11,10 @@ pub mod Joint
 pub mod Descent
 pub mod StepTaken
 pub mod AllLevels
+pub mod Outcome
+pub mod FilesToCompact
 -- serves proofs alone
 pub mod CallRun
 pub mod LentFiles
 pub mod InputLaws
+pub mod NameLines

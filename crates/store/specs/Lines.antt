@@ -24,3 +24,9 @@ abbrev pub compaction_lines : List (ℕ × List ℕ) → List InputFile → ℕ 
 compaction_lines outputs inputs number =
     flat_map output_line outputs ++ flat_map deleted_line (deletions_of inputs)
     ++ installed_line number
+
+-- the same of an outcome that is written: at the end the name of its edit
+abbrev pub outcome_lines : List (ℕ × List ℕ) → List InputFile → List ℕ
+outcome_lines outputs inputs =
+    flat_map output_line outputs ++ flat_map deleted_line (deletions_of inputs)
+    ++ codes "written EDIT\n"

@@ -156,14 +156,14 @@ fn tell_step<T: InstallWatch>(
 {
     match opened_after(alloc, opened, step) {
         Ok(after) => {
-            if told.installed(level, &step.lines, &opened.version, Some(&after.version)) {
+            if told.installed(level, step, &opened.version, Some(&after.version)) {
                 Ok(Some(after))
             } else {
                 Ok(None)
             }
         }
         Err(fault) => {
-            let _ = told.installed(level, &step.lines, &opened.version, None);
+            let _ = told.installed(level, step, &opened.version, None);
             Err(fault)
         }
     }

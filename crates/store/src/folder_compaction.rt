@@ -12,6 +12,7 @@ ghost use Rattle.folder.specs.declared.order.Order.{Order};
 ghost use Rattle.store.specs.Answers.{IsFolderCompacted, IsVersionCompacted};
 ghost use Rattle.store.specs.Compaction.{IsFolderLeft, IsVersionLeft};
 
+use crate::compaction_step::CompactionStep;
 use crate::input_compaction::compact_step;
 use crate::install_laws::inputs_suffice;
 use crate::version_sync::sync_version;
@@ -23,8 +24,8 @@ use settings::Settings;
 use std::alloc::Global;
 use std::thread::Threads;
 
-/// Compacts a `level` of the version that a folder holds, and installs the outcome. The answer is
-/// its lines, each with its newline:
+/// Compacts a `level` of the version that a folder holds, and installs the outcome. The answer has
+/// its edit, and its lines, each with its newline:
 ///
 /// - `output NUMBER SIZE` of each new table in order;
 /// - `deleted LEVEL NUMBER` of each input by level and number;
@@ -65,10 +66,10 @@ pub fn compact_dir<F: Folder, W: Watch + Sync, R: Threads + Sync>(
     settings: &Settings<'_>,
     memory: u64,
     watch: &W,
-) -> Result<Vec<u8>, Fault>
+) -> Result<CompactionStep, Fault>
     // If the folder tells these files: the lines, or the first refusal in this order.
     ensures answer { (files : Files) → Tells (F.tells folder.old) files →
-        FolderAnswers (λ v. v.items) (F.failed folder.old) (F.failed folder.new) result
+        FolderAnswers (λ step. step.lines.items) (F.failed folder.old) (F.failed folder.new) result
         (IsFolderCompacted files level settings.now) }
     // What is left of the folder: what it held, or the edited version, which is lawful and answers
     // each readable get as before.
@@ -97,11 +98,11 @@ pub fn compact_opened<F: Folder, W: Watch + Sync, R: Threads + Sync>(
     settings: &Settings<'_>,
     memory: u64,
     watch: &W,
-) -> Result<Vec<u8>, Fault>
+) -> Result<CompactionStep, Fault>
     // If the folder tells files, and CURRENT is the one that was opened.
     ensures answer { (files : Files) → Tells (F.tells folder.old) files →
         files (codes "CURRENT") ≡ Some (current_text opened.now.manifest) →
-        FolderAnswers (λ v. v.items) (F.failed folder.old) (F.failed folder.new) result
+        FolderAnswers (λ step. step.lines.items) (F.failed folder.old) (F.failed folder.new) result
         (IsVersionCompacted (order_cmp opened.now.order) (order_short_keys opened.now.order)
         files opened.now.version level settings.now) }
     // If moreover they open as this version in this order.
@@ -141,11 +142,11 @@ fn compact_version<C: SharedComparator + 'static, F: Folder, W: Watch + Sync, R:
     settings: &Settings<'_>,
     memory: u64,
     watch: &W,
-) -> Result<Vec<u8>, Fault>
+) -> Result<CompactionStep, Fault>
     requires { length C.name_bytes < 2 ^ 32 }
     ensures answer { (files : Files) → Tells (F.tells folder.old) files →
         files (codes "CURRENT") ≡ Some (current_text opened.now.manifest) →
-        FolderAnswers (λ v. v.items) (F.failed folder.old) (F.failed folder.new) result
+        FolderAnswers (λ step. step.lines.items) (F.failed folder.old) (F.failed folder.new) result
         (IsVersionCompacted C.cmp C.short_keys
         files opened.now.version level settings.now) }
     ensures left { (files : Files) (order : Order) → Tells (F.tells folder.old) files →
@@ -161,6 +162,5 @@ fn compact_version<C: SharedComparator + 'static, F: Folder, W: Watch + Sync, R:
     inputs_suffice::<C>();
     let version = &opened.version;
     test_version::<C, F, W, R>(rt, alloc, folder, version, memory, CHECKERS, watch)?;
-    let step = compact_step::<C, F, W, R>(rt, alloc, folder, opened, level, settings, watch)?;
-    Ok(step.lines)
+    compact_step::<C, F, W, R>(rt, alloc, folder, opened, level, settings, watch)
 }

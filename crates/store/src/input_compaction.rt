@@ -21,21 +21,24 @@ ghost use Rattle.store.specs.StepLeft.{IsStepLeft};
 
 use crate::compaction_step::CompactionStep;
 use crate::folder_request::manifest_of;
-use crate::input_laws::{inputs_in_order, same_inputs};
-use crate::input_tables::load_inputs;
-use crate::install_laws::answer_is_installed;
-use crate::loaded_compaction::{Ready, compact_loaded};
-use crate::version_files::test_files;
+use crate::level_compaction::level_outcome;
+use crate::lines::compaction_lines;
 use checks::Watch;
 use coding::Fault;
-use edit::Version;
+use edit::{Outcome, Version};
 use folder::{Folder, Opened, Order};
 use ikey::{Bytewise, SharedComparator, Shortlex};
 use install::install;
-use pick::inputs;
 use settings::Settings;
 use std::alloc::Global;
 use std::thread::Threads;
+
+/// What is ready to be installed: the outcome of a compaction, and its lines.
+#[derive(Drop)]
+pub(crate) struct Ready {
+    pub lines: Vec<u8>,
+    pub outcome: Outcome,
+}
 
 /// Compacts a `level` of what a folder was `opened` as, and installs the outcome. It reads the
 /// tables of the inputs and no other: so the caller says that the version is lawful, as after a
@@ -159,11 +162,17 @@ fn ready_step<C: SharedComparator + 'static, F: Folder, W: Watch + Sync, R: Thre
     ensures device { ReportsDevice F.Folder folder.old folder.new result }
     ensures reads { OnlyReads F.Folder folder.old folder.new }
 {
-    answer_is_installed::<C>();
-    inputs_in_order::<C>();
-    same_inputs::<C>();
-    test_files::<C>(alloc, version)?;
-    let picked = inputs::<C>(alloc, version, level)?;
-    let loaded = load_inputs(alloc, folder, &picked.files)?;
-    compact_loaded::<C, W, R>(rt, alloc, version, &picked, &loaded, settings, watch)
+    let made = level_outcome::<C, F, W, R>(
+        rt, alloc, folder, version, level, None, settings, watch,
+    )?;
+    let lines = compaction_lines(
+        alloc,
+        &made.outcome,
+        &made.picked.files,
+        manifest_of(version),
+    )?;
+    Ok(Ready {
+        lines,
+        outcome: made.outcome,
+    })
 }

@@ -1,6 +1,6 @@
 //! Laws of the inputs of a compaction.
 
-ghost use Rattle.store.specs.InputLaws.{InputsInOrderLaw, SameInputsLaw};
+ghost use Rattle.store.specs.InputLaws.{InputsInOrderLaw, OutcomeSufficesLaw, SameInputsLaw};
 
 use ikey::Comparator;
 
@@ -14,4 +14,9 @@ pub(crate) fn inputs_in_order<C: Comparator>()
 /// nothing.
 pub(crate) fn same_inputs<C: Comparator>()
     ensures { SameInputsLaw C.cmp C.short_keys }
+{}
+
+/// The outcome of the inputs of a lawful version is the one by all its tables. A call does nothing.
+pub(crate) fn outcome_suffices<C: Comparator>()
+    ensures { OutcomeSufficesLaw C.cmp C.short_keys }
 {}

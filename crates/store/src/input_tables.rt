@@ -22,7 +22,7 @@ use table::SoundTable;
 
 /// The tables of `inputs` in their order, with their numbers. It only reads. Missing at the first
 /// that is missing.
-pub(crate) fn load_inputs<F: Folder>(
+pub fn load_inputs<F: Folder>(
     alloc: Global,
     folder: &mut F,
     inputs: &[InputFile],
@@ -49,7 +49,7 @@ fn numbers_of(alloc: Global, inputs: &[InputFile]) -> Result<Vec<u64>, Fault>
 
 /// Checks the tables of `inputs`, which were read in that order. Refused as the first that is
 /// invalid; then Bounds, if one isn't as its file states. The only other fault is Memory.
-pub(crate) fn checked_inputs<'t, C: SharedComparator, W: Watch + Sync, R: Threads + Sync>(
+pub fn checked_inputs<'t, C: SharedComparator, W: Watch + Sync, R: Threads + Sync>(
     rt: &R,
     alloc: Global,
     inputs: &[InputFile],
@@ -103,7 +103,7 @@ fn without_numbers<'t, C: Comparator>(
 }
 
 /// The bytes of tables in their order. The only fault is Memory.
-pub(crate) fn bytes_of<'t, C: Comparator>(
+pub fn bytes_of<'t, C: Comparator>(
     alloc: Global,
     tables: &[SoundTable<'t, C>],
 ) -> Result<Vec<&'t [u8]>, Fault>

@@ -2,7 +2,7 @@
 
 ghost use Rattle.store.specs.Compaction.{SyncLaw};
 ghost use Rattle.store.specs.InputsCompaction.{InputsSufficeLaw};
-ghost use Rattle.store.specs.Joint.{JointLaw, OverLaw};
+ghost use Rattle.store.specs.Joint.{JointLaw, NumberedJointLaw, OverLaw};
 
 use ikey::Comparator;
 use request::passed_law;
@@ -25,6 +25,14 @@ pub fn inputs_suffice<C: Comparator>()
 /// call does nothing.
 pub fn answer_is_installed<C: Comparator>()
     ensures { JointLaw C.cmp C.short_keys }
+{
+    numbered_is_installed::<C>();
+}
+
+/// The same of outputs with the numbers from any first one on that is above the manifest's. A call
+/// does nothing.
+pub(crate) fn numbered_is_installed<C: Comparator>()
+    ensures { NumberedJointLaw C.cmp C.short_keys }
 {
     edit_applies::<C>();
     passed_law::<C>();

@@ -1,5 +1,6 @@
 //! Who is told of compactions that were installed.
 
+use crate::compaction_step::CompactionStep;
 use edit::Version;
 
 /// Who is told of the compactions of all levels, of each when it is installed.
@@ -9,14 +10,14 @@ pub trait InstallWatch {
     /// What a call changes that tells these lines. If it says nothing, it allows every change.
     ghost tells: { Self → List ℕ → Self → Type 0 } = { λ _ _ _. Unit {0} };
 
-    /// Tells the lines of the compaction of a `level`, with the version `before` it and the one
+    /// Tells of a `step`, the compaction of a `level`, with the version `before` it and the one
     /// `after` it; None if memory ran out for that one. The answer is whether to go on.
     fn installed(
         &mut self,
         level: u64,
-        lines: &[u8],
+        step: &CompactionStep,
         before: &Version,
         after: Option<&Version>,
     ) -> bool
-        ensures { tells self.old lines.now self.new };
+        ensures { tells self.old step.now.lines.items self.new };
 }

@@ -9,7 +9,12 @@
 //! 4. [`compact_all`] compacts all levels, one after the other. It tests the version once, and
 //!    tells an [`InstallWatch`] of each compaction that was installed. [`compact_levels`] does the
 //!    same without the test. [`bottom`] and [`next_level`] say which levels they take.
-//! 5. All tell a [`Watch`] of the work; [`Open`] is the one that does nothing.
+//! 5. [`outcome_of_opened`] and [`outcome_of_inputs`] only read: they answer the outcome, with the
+//!    numbers that are asked for. [`write_outcome`] writes it into another folder.
+//!    [`files_to_compact`] names the files that the second one needs.
+//! 6. Parts of these calls, for those who install an outcome later: [`test_files`],
+//!    [`load_inputs`], [`checked_inputs`], [`bytes_of`], [`manifest_of`], [`compaction_lines`].
+//! 7. All tell a [`Watch`] of the work; [`Open`] is the one that does nothing.
 //!
 //! What the clauses say. They are of a folder that tells contracts what it holds, but for `device`,
 //! `refused` and the calls of `runs`.
@@ -30,32 +35,45 @@
 #![tactic(auto)]
 
 mod all_levels;
+mod compaction_outcome;
 mod compaction_step;
 mod descent;
 mod descent_end;
 mod folder_compaction;
+mod folder_outcome;
 mod folder_request;
 mod input_compaction;
 mod input_laws;
 mod input_tables;
 mod install_laws;
 mod install_watch;
+mod level_compaction;
 mod lines;
 mod loaded_compaction;
+mod needed_files;
 mod next_opened;
+mod outcome_writer;
 mod version_files;
 mod version_sync;
 
 pub use all_levels::{compact_all, compact_levels};
 pub use board::Open;
 pub use checks::{Watch, Work};
+pub use compaction_outcome::CompactionOutcome;
 pub use compaction_step::CompactionStep;
 pub use descent::{bottom, next_level};
 pub use descent_end::DescentEnd;
 pub use folder_compaction::{compact_dir, compact_opened};
+pub use folder_outcome::{outcome_of_inputs, outcome_of_opened};
+pub use folder_request::manifest_of;
 pub use input_compaction::compact_inputs;
+pub use input_tables::{bytes_of, checked_inputs, load_inputs};
 pub use install_laws::{answer_is_installed, inputs_suffice, request_is_over, sync_stands};
 pub use install_watch::InstallWatch;
+pub use lines::compaction_lines;
+pub use needed_files::files_to_compact;
 pub use next_opened::opened_after;
+pub use outcome_writer::{EDIT, write_outcome};
 pub use settings::Settings;
+pub use version_files::test_files;
 pub use version_sync::sync_version;

@@ -5,7 +5,9 @@ ghost use Rattle.std.specs.List.{flat_map};
 ghost use Rattle.coding.specs.Answers.{EqualOrMemory, fault};
 ghost use Rattle.coding.specs.declared.fault.FaultName.TheVariants.{Memory};
 ghost use Rattle.install.specs.Install.{tables_in};
-ghost use Rattle.store.specs.Lines.{compaction_lines, deleted_line, installed_line, output_line};
+ghost use Rattle.request.specs.EditOf.{deletions_of};
+ghost use Rattle.store.specs.Lines.{compaction_lines, deleted_line, installed_line, outcome_lines};
+ghost use Rattle.store.specs.Lines.{output_line};
 
 use coding::Fault;
 use edit::{DeletedFile, Outcome};
@@ -22,7 +24,7 @@ use std::collections::BTreeSet;
 /// - `installed MANIFEST-NNNNNN`.
 ///
 /// The only fault is Memory.
-pub(crate) fn compaction_lines(
+pub fn compaction_lines(
     alloc: Global,
     outcome: &Outcome,
     inputs: &[InputFile],
@@ -31,12 +33,37 @@ pub(crate) fn compaction_lines(
     ensures { EqualOrMemory (λ v. v.items) result
         (Ok (compaction_lines (tables_in outcome.now.tables.items) inputs.now manifest_number)) }
 {
+    let mut text = changes_text(alloc, outcome, inputs)?;
+    push_installed(alloc, &mut text, manifest_number)?;
+    Ok(text.into_bytes())
+}
+
+/// The lines of an outcome that is not installed, each with its newline: those of its tables and of
+/// its inputs as above, and then `written EDIT`. The only fault is Memory.
+pub(crate) fn outcome_lines(
+    alloc: Global,
+    outcome: &Outcome,
+    inputs: &[InputFile],
+) -> Result<Vec<u8>, Fault>
+    ensures { EqualOrMemory (λ v. v.items) result
+        (Ok (outcome_lines (tables_in outcome.now.tables.items) inputs.now)) }
+{
+    let mut text = changes_text(alloc, outcome, inputs)?;
+    text.push_str("written EDIT\n")?;
+    Ok(text.into_bytes())
+}
+
+/// The lines of the tables of an outcome, and of its inputs. The only fault is Memory.
+fn changes_text(alloc: Global, outcome: &Outcome, inputs: &[InputFile]) -> Result<String, Fault>
+    ensures { EqualOrMemory string_bytes result
+        (Ok (flat_map output_line (tables_in outcome.now.tables.items)
+        ++ flat_map deleted_line (deletions_of inputs.now))) }
+{
     let deleted = deletions_of(alloc, inputs)?;
     let mut text = String::new(alloc);
     push_outputs(&mut text, &outcome.tables)?;
     push_all_deleted(&mut text, &deleted)?;
-    push_installed(alloc, &mut text, manifest_number)?;
-    Ok(text.into_bytes())
+    Ok(text)
 }
 
 /// Appends the lines of the outputs.

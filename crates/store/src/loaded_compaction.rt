@@ -9,13 +9,12 @@ ghost use Rattle.compact.specs.Answered.{answer_in};
 ghost use Rattle.install.specs.Install.{table_bytes_of, tables_in};
 ghost use Rattle.pick.specs.Picked.{picked_in};
 ghost use Rattle.request.specs.Inputs.{inputs_reading};
-ghost use Rattle.store.specs.FolderRequest.{compaction_of, manifest_of};
-ghost use Rattle.store.specs.InputsCompaction.{IsReadCompacted};
-ghost use Rattle.store.specs.Lines.{compaction_lines};
+ghost use Rattle.store.specs.FolderRequest.{compaction_from};
+ghost use Rattle.store.specs.InputLaws.{with_inputs};
+ghost use Rattle.store.specs.InputsCompaction.{IsReadTold};
 
-use crate::folder_request::{manifest_of, request_of};
+use crate::folder_request::request_of;
 use crate::input_tables::{bytes_of, checked_inputs};
-use crate::lines::compaction_lines;
 use checks::{Watch, Work};
 use coding::Fault;
 use compact::compact_tables;
@@ -28,14 +27,8 @@ use std::alloc::Global;
 use std::thread::Threads;
 use table::SoundTable;
 
-/// What is ready to be installed: the outcome of a compaction, and its lines.
-#[derive(Drop)]
-pub(crate) struct Ready {
-    pub lines: Vec<u8>,
-    pub outcome: Outcome,
-}
-
-/// Checks the tables of `picked` inputs, which were read in their order, and compacts them.
+/// Checks the tables of `picked` inputs, which were read in their order, and compacts them. The
+/// outputs have the numbers from `first` on, or else those after the manifest's.
 ///
 /// The first that applies: the refusal of the first invalid table; Bounds, if one isn't as its file
 /// states; what the compaction is refused as.
@@ -45,26 +38,23 @@ pub(crate) fn compact_loaded<C: SharedComparator + 'static, W: Watch + Sync, R: 
     version: &Version,
     picked: &Inputs,
     loaded: &[(u64, Vec<u8>)],
+    first: Option<u64>,
     settings: &Settings<'_>,
     watch: &W,
-) -> Result<Ready, Fault>
+) -> Result<Outcome, Fault>
     requires bytes { map (λ t. t.1) (tables_in loaded.now)
         ≡ map (λ i. table_bytes_of (tables_in loaded.now) i.meta.number) picked.now.files.items }
-    ensures answer { HoldsOrMemory (λ c. c.lines.items) result
-        (IsReadCompacted C.cmp C.short_keys version.now (picked_in picked.now) settings.now
-        (tables_in loaded.now)) }
-    ensures outcome { IfOk result (λ c. (compaction_of C.cmp C.short_keys version.now
-        (tables_in loaded.now) (picked_in picked.now) settings.now ≡ Ok (answer_in c.outcome))
-        × (c.lines.items ≡ compaction_lines (answer_in c.outcome).tables picked.now.files.items
-        (manifest_of version.now))) }
-    ensures logs { IfOk result (λ c. (unwrap_or version.now.log_number 0 < 2 ^ 64)
+    ensures answer { HoldsOrMemory (λ o. with_inputs (picked_in picked.now) (answer_in o)) result
+        (IsReadTold with_inputs first C.cmp C.short_keys version.now (picked_in picked.now)
+        settings.now (tables_in loaded.now)) }
+    ensures outcome { IfOk result (λ o. compaction_from first C.cmp C.short_keys version.now
+        (tables_in loaded.now) (picked_in picked.now) settings.now ≡ Ok (answer_in o)) }
+    ensures logs { IfOk result (λ _. (unwrap_or version.now.log_number 0 < 2 ^ 64)
         × (unwrap_or version.now.previous_log 0 < 2 ^ 64)) }
 {
     watch.begin(Work::Check, loaded.len() as u64);
     let tables = checked_inputs::<C, W, R>(rt, alloc, &picked.files, loaded, watch)?;
-    let outcome = compact_checked::<C, W, R>(rt, alloc, version, picked, &tables, settings, watch)?;
-    let lines = compaction_lines(alloc, &outcome, &picked.files, manifest_of(version))?;
-    Ok(Ready { lines, outcome })
+    compact_checked::<C, W, R>(rt, alloc, version, picked, &tables, first, settings, watch)
 }
 
 /// The outcome of the compaction of `picked` inputs, whose `tables` are checked.
@@ -74,6 +64,7 @@ fn compact_checked<C: SharedComparator + 'static, W: Watch + Sync, R: Threads + 
     version: &Version,
     picked: &Inputs,
     tables: &[SoundTable<'_, C>],
+    first: Option<u64>,
     settings: &Settings<'_>,
     watch: &W,
 ) -> Result<Outcome, Fault>
@@ -83,14 +74,14 @@ fn compact_checked<C: SharedComparator + 'static, W: Watch + Sync, R: Threads + 
         map (λ t. t.bytes) tables.now
         ≡ map (λ i. table_bytes_of loaded i.meta.number) picked.now.files.items →
         EqualOrMemory answer_in result
-        (compaction_of C.cmp C.short_keys version.now loaded
+        (compaction_from first C.cmp C.short_keys version.now loaded
         (picked_in picked.now) settings.now) }
     ensures logs { IfOk result (λ _. (unwrap_or version.now.log_number 0 < 2 ^ 64)
         × (unwrap_or version.now.previous_log 0 < 2 ^ 64)) }
 {
     let split = split_of(alloc, tables, settings.ranges)?;
     let bytes = bytes_of(alloc, tables)?;
-    let request = request_of(version, picked, &bytes, settings)?;
+    let request = request_of(version, picked, &bytes, first, settings)?;
     watch.begin(Work::Compact, split.len());
     compact_tables::<C, W, R>(rt, alloc, &request, tables, &split, settings.workers, watch)
 }

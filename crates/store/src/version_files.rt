@@ -18,7 +18,7 @@ use std::alloc::Global;
 /// Tests what the files of a version tell of it by themselves: their numbers are below next file,
 /// and the ranges of the files of each level from 1 on rise. `Lawless` if they don't. The only
 /// other fault is Memory.
-pub(crate) fn test_files<C: Comparator>(alloc: Global, version: &Version) -> Result<(), Fault>
+pub fn test_files<C: Comparator>(alloc: Global, version: &Version) -> Result<(), Fault>
     ensures { HoldsOrMemory (λ u. u) result (IsOrderlyAnswer C.cmp version.now) }
 {
     for level in 0..7 {

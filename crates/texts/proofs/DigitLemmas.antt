@@ -1,10 +1,12 @@
 -- What hexadecimal digits of either case stand for.
-use Rattle.std.proofs.Common.{◌≡◌, ◌+◌, ◌-◌, ◌*◌, ◌/◌, ◌%◌, ◌<◌, ◌==◌, ◌&&◌, ℕ, zero, suc, Bool, true, false, List, [], ◌∷◌, Option, Some, None, Result, Ok, Err, nat_le, nat_lt, ◌⊎◌, if◌then◌else◌, inl, inr, map, ap, refl, ◌∙◌, arith, slice_index, unwrap_or}
+use Rattle.std.proofs.Common.{◌≡◌, ◌+◌, ◌-◌, ◌*◌, ◌/◌, ◌%◌, ◌<◌, ◌==◌, ◌&&◌, ℕ, zero, suc, Bool, true, false, List, [], ◌∷◌, Option, Some, None, Result, Ok, Err, nat_le, nat_lt, ◌⊎◌, if◌then◌else◌, inl, inr, map, ap, refl, ◌∙◌, arith, slice_index, unwrap_or, ◌++◌, append-nil, ap₂, drop, length, replicate, take}
 use Rattle.std.proofs.lemmas.Bool.{and_parts, cases_lt, eqb-true, leb-true}
+use Rattle.std.proofs.lemmas.List.{drop_all, drop_at, length-append, length-replicate, take_all, take_at}
 use Rattle.std.specs.Char.{to_ascii_lowercase}
 use Rattle.std.specs.Result.{result_unwrap_or}
 use Rattle.hex.specs.Hex.{IsBytes, decode_pairs, digit_or_error, encode_lower, encode_with, hex_digit_value, lower_digits, ◌>>=◌}
 use Rattle.hex.specs.declared.error.FromHexError.{FromHexError}
+use Rattle.hex.proofs.HexLemmas.{length-encode_with}
 
 -- the code of a digit's lower-case character
 abbrev pub code_at : ℕ → ℕ
@@ -131,3 +133,23 @@ decode_pairs-lower i (c ∷ d ∷ text) (b ∷ bytes) fits h =
     let later = decode_pairs-lower (i + 2) text bytes (λ k. fits (suc k)) (ap (λ (t : List ℕ). tail_of (tail_of t)) h) in
     let whole : b / 16 * 16 + b % 16 ≡ b = omega arith in
     rw (first, second, later, whole) refl
+
+-- digits that are written over the room after what was there are appended to it
+pub digits_appended : (old roomy written bytes : List ℕ) (from end more n : ℕ) → from ≡ length old → end ≡ from + 2 * length bytes → more ≡ end - from → n ≡ end
+    → roomy ≡ take end old ++ replicate more 0 → written ≡ encode_lower bytes
+    → take n ((take from roomy ++ (written ++ drop (length written) (drop from roomy))) ++ drop (length (take from roomy ++ (written ++ drop (length written) (drop from roomy)))) roomy)
+    ≡ old ++ encode_lower bytes
+digits_appended old roomy written bytes from end more n f e k m r w =
+    let digits : List ℕ = encode_lower bytes in
+    let room : List ℕ = replicate more 0 in
+    let long : length digits ≡ 2 * length bytes = length-encode_with lower_digits bytes in
+    let same : length written ≡ length digits = ap length w in
+    let is : roomy ≡ old ++ room = r ∙ ap (λ (t : List ℕ). t ++ room) (take_all end old (omega arith)) in
+    let front : take from roomy ≡ old = ap (take from) is ∙ take_at old room from (omega arith) in
+    let behind : drop from roomy ≡ room = ap (drop from) is ∙ drop_at old room from (omega arith) in
+    let width : length room ≡ more = length-replicate more 0 in
+    let left : length (drop from roomy) ≡ length room = ap length behind in
+    let none : drop (length written) (drop from roomy) ≡ [] = drop_all (length written) (drop from roomy) (omega arith) in
+    let all : take from roomy ++ (written ++ drop (length written) (drop from roomy)) ≡ old ++ digits =
+    ap₂ (λ (x y : List ℕ). x ++ (written ++ y)) front none ∙ ap (λ (t : List ℕ). old ++ t) (append-nil written ∙ w) in
+    ap (λ (x : List ℕ). take n (x ++ drop (length x) roomy)) all ∙ take_at (old ++ digits) (drop (length (old ++ digits)) roomy) n (omega (arith, length-append old digits))

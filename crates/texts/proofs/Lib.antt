@@ -2,4 +2,5 @@ mod DigitLemmas
 mod EscapedLemmas
 mod PrintableLemmas
 mod TextLemmas
+pub mod Appended
 pub mod SpellingLemmas

@@ -1,5 +1,9 @@
 -- Texts of keys and values are read as these, and are printable.
-use Rattle.std.proofs.Common.{◌≡◌, ℕ, List, Some, All, arith}
+use Rattle.std.proofs.Common.{◌≡◌, ◌<◌, ℕ, List, Some, All, arith}
+use Rattle.std.specs.Str.{IsUtf8}
+use Rattle.std.proofs.lemmas.List.Elements.{All-weaker}
+use Rattle.std.proofs.lemmas.Str.{IsUtf8-from_ascii}
+use Rattle.std.proofs.lemmas.Str.Ascii.{IsAscii-from_all}
 use Rattle.hex.specs.Hex.{IsBytes}
 use Rattle.texts.specs.Escaped.{first_in_key, first_in_value}
 use Rattle.texts.specs.Spelling.{IsPrintable, bytes_of, key_text, value_text}
@@ -24,3 +28,14 @@ keys_printable Text key fits = escaped_printable first_in_key key (omega arith) 
 pub values_printable : (spelling : Spelling) (value : List ℕ) → IsBytes value → All (IsPrintable first_in_value) (value_text spelling value)
 values_printable Hexadecimal value fits = digits_printable first_in_value value (omega arith) fits
 values_printable Text value fits = escaped_printable first_in_value value (omega arith) fits
+
+-- printable characters are text
+printable_utf8 : (first : ℕ) (text : List ℕ) → All (IsPrintable first) text → IsUtf8 text
+printable_utf8 first text h =
+    IsUtf8-from_ascii text (IsAscii-from_all text (All-weaker (IsPrintable first) (λ c. c < 128) (λ c p. let most = p.1 in omega arith) text h))
+
+pub keys_utf8 : (spelling : Spelling) (key : List ℕ) → IsBytes key → IsUtf8 (key_text spelling key)
+keys_utf8 spelling key fits = printable_utf8 first_in_key (key_text spelling key) (keys_printable spelling key fits)
+
+pub values_utf8 : (spelling : Spelling) (value : List ℕ) → IsBytes value → IsUtf8 (value_text spelling value)
+values_utf8 spelling value fits = printable_utf8 first_in_value (value_text spelling value) (values_printable spelling value fits)

@@ -9,8 +9,8 @@
 //! any byte may be given as `\xHH`. No other text is read: not the empty one, nor one with a lone
 //! backslash, a control character or a letter outside ASCII.
 
-ghost use Rattle.std.specs.Prelude.{◌≡◌, ◌++◌, ◌<◌, [], ◌∷◌, length, slice_index, string_bytes};
-ghost use Rattle.std.specs.Prelude.{None, Ok, Some, IfErr, IfSome, MatchOption, OnOk, option_map};
+ghost use Rattle.std.specs.Prelude.{◌≡◌, ◌++◌, ◌<◌, length, slice_index, take, IsOkUnless, IfSome};
+ghost use Rattle.std.specs.Prelude.{None, Ok, Some, MatchOption, OnErr, OnOk, option_map};
 ghost use Rattle.std.specs.List.{flat_map};
 ghost use Rattle.coding.specs.Answers.{EqualOrMemory, fault};
 ghost use Rattle.coding.specs.declared.fault.FaultName.TheVariants.{Memory};
@@ -18,6 +18,7 @@ ghost use Rattle.hex.specs.Hex.{hex_digit_value};
 ghost use Rattle.texts.specs.Escaped.{backslash, bytes_of_escaped, escaped, escaped_byte};
 ghost use Rattle.texts.specs.Escaped.{escaped_key, escaped_value, is_plain, joined, unescaped};
 
+use crate::digits::digit_of;
 use coding::Fault;
 use std::alloc::Global;
 
@@ -33,31 +34,29 @@ const FIRST_IN_KEY: u8 = b'!';
 /// The first character that stands for itself in a value.
 const FIRST_IN_VALUE: u8 = b' ';
 
-/// What an escape begins with.
-const ESCAPE: &str = "\\x";
-
-/// The length of an escape.
-const ESCAPE_LEN: usize = 4;
-
-const DIGITS: &[u8; 16] = b"0123456789abcdef";
-
-/// The text of a key: characters from `!` to `~` but for the backslash, and `\xHH` for every other
-/// byte; `""` for no bytes, and `\x22\x22` for the two bytes `""`.
+/// Appends the text of a key: characters from `!` to `~` but for the backslash, and `\xHH` for
+/// every other byte; `""` for no bytes, and `\x22\x22` for the two bytes `""`.
 ///
-/// It reads back ([`texts_law`](crate::texts_law)). The only fault is Memory.
-pub fn escaped_key(alloc: Global, key: &[u8]) -> Result<String, Fault>
-    ensures { EqualOrMemory string_bytes result (Ok (escaped_key key.now)) }
+/// It reads back ([`texts_law`](crate::texts_law)). The only fault is Memory. It may leave a part
+/// of the text after what was there.
+pub(crate) fn push_escaped_key(out: &mut Vec<u8>, key: &[u8]) -> Result<(), Fault>
+    ensures ok { OnOk result (out.new.items ≡ out.old.items ++ escaped_key key.now) }
+    ensures err { OnErr result (take (length out.old.items) out.new.items ≡ out.old.items) }
+    ensures memory { IsOkUnless result (fault Memory) }
 {
-    escaped(alloc, key, FIRST_IN_KEY)
+    push_escaped(out, key, FIRST_IN_KEY)
 }
 
-/// The text of a value: as that of a key, but that a space stands for itself.
+/// Appends the text of a value: as that of a key, but that a space stands for itself.
 ///
-/// It reads back ([`texts_law`](crate::texts_law)). The only fault is Memory.
-pub fn escaped_value(alloc: Global, value: &[u8]) -> Result<String, Fault>
-    ensures { EqualOrMemory string_bytes result (Ok (escaped_value value.now)) }
+/// It reads back ([`texts_law`](crate::texts_law)). The only fault is Memory. It may leave a part
+/// of the text after what was there.
+pub(crate) fn push_escaped_value(out: &mut Vec<u8>, value: &[u8]) -> Result<(), Fault>
+    ensures ok { OnOk result (out.new.items ≡ out.old.items ++ escaped_value value.now) }
+    ensures err { OnErr result (take (length out.old.items) out.new.items ≡ out.old.items) }
+    ensures memory { IsOkUnless result (fault Memory) }
 {
-    escaped(alloc, value, FIRST_IN_VALUE)
+    push_escaped(out, value, FIRST_IN_VALUE)
 }
 
 /// The bytes of a text of printable ASCII, in which a backslash begins `\xHH`, with digits of
@@ -77,70 +76,49 @@ pub fn bytes_of_escaped(alloc: Global, text: &str) -> Result<Option<Vec<u8>>, Fa
     unescaped(alloc, text.as_bytes())
 }
 
-/// The text of `bytes`, in which characters from `first` on stand for themselves.
-fn escaped(alloc: Global, bytes: &[u8], first: u8) -> Result<String, Fault>
-    ensures { EqualOrMemory string_bytes result (Ok (escaped first bytes.now)) }
+/// Appends the text of `bytes`, in which characters from `first` on stand for themselves.
+fn push_escaped(out: &mut Vec<u8>, bytes: &[u8], first: u8) -> Result<(), Fault>
+    ensures ok { OnOk result (out.new.items ≡ out.old.items ++ escaped first bytes.now) }
+    ensures err { OnErr result (take (length out.old.items) out.new.items ≡ out.old.items) }
+    ensures memory { IsOkUnless result (fault Memory) }
 {
     if bytes.is_empty() {
-        return Ok(String::from_str(alloc, NOTHING)?);
+        out.extend_from_slice(NOTHING.as_bytes())?;
+        return Ok(());
     }
     if bytes == NOTHING.as_bytes() {
-        return Ok(String::from_str(alloc, QUOTATION_MARKS)?);
+        out.extend_from_slice(QUOTATION_MARKS.as_bytes())?;
+        return Ok(());
     }
-    let mut text = String::with_capacity(alloc, escaped_len(bytes, first))?;
-    push_bytes(&mut text, bytes, first)?;
-    Ok(text)
+    push_bytes(out, bytes, first)
 }
 
-/// How much room the text of `bytes` takes.
-fn escaped_len(bytes: &[u8], first: u8) -> usize {
-    let mut len: usize = 0;
-    for byte in bytes {
-        let more = if is_plain(*byte, first) {
-            1
-        } else {
-            ESCAPE_LEN
-        };
-        len = len.saturating_add(more);
-    }
-    len
-}
-
-/// Appends bytes, each itself or its escape. The only fault is Memory.
-fn push_bytes(text: &mut String, bytes: &[u8], first: u8) -> Result<(), Fault>
-    ensures ok { OnOk result (string_bytes text.new ≡ string_bytes text.old
-        ++ flat_map (escaped_byte first) bytes.now) }
-    ensures memory { IfErr result (λ e. e ≡ fault Memory) }
+/// Appends bytes, each itself or its escape.
+fn push_bytes(out: &mut Vec<u8>, bytes: &[u8], first: u8) -> Result<(), Fault>
+    ensures ok { OnOk result (out.new.items
+        ≡ out.old.items ++ flat_map (escaped_byte first) bytes.now) }
+    ensures err { OnErr result (take (length out.old.items) out.new.items ≡ out.old.items) }
+    ensures memory { IsOkUnless result (fault Memory) }
 {
     for byte in bytes {
-        push_byte(text, *byte, first)?;
+        push_byte(out, *byte, first)?;
     }
     Ok(())
 }
 
-/// Appends a byte itself, or its escape. The only fault is Memory.
+/// Appends a byte itself, or its escape. The only fault is Memory, which leaves `out` unchanged.
 #[inline]
-fn push_byte(text: &mut String, byte: u8, first: u8) -> Result<(), Fault>
-    ensures ok { OnOk result (string_bytes text.new ≡ string_bytes text.old
-        ++ escaped_byte first byte) }
-    ensures memory { IfErr result (λ e. e ≡ fault Memory) }
+fn push_byte(out: &mut Vec<u8>, byte: u8, first: u8) -> Result<(), Fault>
+    ensures ok { OnOk result (out.new.items ≡ out.old.items ++ escaped_byte first byte) }
+    ensures err { OnErr result (out.new.items ≡ out.old.items) }
+    ensures memory { IsOkUnless result (fault Memory) }
 {
     if is_plain(byte, first) {
-        return push_character(text, byte);
+        out.push(byte)?;
+        return Ok(());
     }
-    text.push_str(ESCAPE)?;
-    push_character(text, DIGITS[usize::from(byte / 16)])?;
-    push_character(text, DIGITS[usize::from(byte % 16)])
-}
-
-/// Appends a character of ASCII. The only fault is Memory.
-#[inline]
-fn push_character(text: &mut String, character: u8) -> Result<(), Fault>
-    requires { character < 128 }
-    ensures ok { OnOk result (string_bytes text.new ≡ string_bytes text.old ++ character ∷ []) }
-    ensures memory { IfErr result (λ e. e ≡ fault Memory) }
-{
-    text.push(char::from(character))?;
+    let (high, low) = (digit_of(byte / 16), digit_of(byte % 16));
+    out.extend_from_slice(&[b'\\', b'x', high, low])?;
     Ok(())
 }
 

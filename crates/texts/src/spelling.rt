@@ -1,12 +1,14 @@
 //! The two ways in which keys and values are written.
 
-ghost use Rattle.std.specs.Prelude.{Ok, option_map, string_bytes};
-ghost use Rattle.coding.specs.Answers.{EqualOrMemory};
+ghost use Rattle.std.specs.Prelude.{◌≡◌, ◌++◌, length, take, IsOkUnless, Ok, OnErr, OnOk};
+ghost use Rattle.std.specs.Prelude.{option_map, string_bytes};
+ghost use Rattle.coding.specs.Answers.{EqualOrMemory, fault};
+ghost use Rattle.coding.specs.declared.fault.FaultName.TheVariants.{Memory};
 ghost use Rattle.texts.specs.Escaped.{first_in_key, first_in_value};
 ghost use Rattle.texts.specs.Spelling.{ArePrintable, ReadBack, bytes_of, key_text, value_text};
 
-use crate::escaped::{bytes_of_escaped, escaped_key, escaped_value};
-use crate::text::{key_of, text_of};
+use crate::escaped::{bytes_of_escaped, push_escaped_key, push_escaped_value};
+use crate::text::{key_of, push_text_of};
 use coding::Fault;
 use std::alloc::Global;
 
@@ -20,24 +22,52 @@ pub enum Spelling {
 }
 
 impl Spelling {
-    /// The text of a key, which has no space. The only fault is Memory.
+    /// Appends the text of a key, which has no space.
+    ///
+    /// The only fault is Memory. It may leave a part of the text after what was there.
+    pub fn push_key(self, out: &mut Vec<u8>, key: &[u8]) -> Result<(), Fault>
+        ensures ok { OnOk result (out.new.items ≡ out.old.items ++ key_text self key.now) }
+        ensures err { OnErr result (take (length out.old.items) out.new.items ≡ out.old.items) }
+        ensures memory { IsOkUnless result (fault Memory) }
+    {
+        match self {
+            Spelling::Hexadecimal => push_text_of(out, key),
+            Spelling::Text => push_escaped_key(out, key),
+        }
+    }
+
+    /// Appends the text of a value.
+    ///
+    /// The only fault is Memory. It may leave a part of the text after what was there.
+    pub fn push_value(self, out: &mut Vec<u8>, value: &[u8]) -> Result<(), Fault>
+        ensures ok { OnOk result (out.new.items ≡ out.old.items ++ value_text self value.now) }
+        ensures err { OnErr result (take (length out.old.items) out.new.items ≡ out.old.items) }
+        ensures memory { IsOkUnless result (fault Memory) }
+    {
+        match self {
+            Spelling::Hexadecimal => push_text_of(out, value),
+            Spelling::Text => push_escaped_value(out, value),
+        }
+    }
+
+    /// The text of a key. The only fault is Memory.
     pub fn key_text(self, alloc: Global, key: &[u8]) -> Result<String, Fault>
         ensures { EqualOrMemory string_bytes result (Ok (key_text self key.now)) }
     {
-        match self {
-            Spelling::Hexadecimal => text_of(alloc, key),
-            Spelling::Text => escaped_key(alloc, key),
-        }
+        let mut text = Vec::new(alloc);
+        self.push_key(&mut text, key)?;
+        // It is ASCII.
+        Ok(String::from_utf8(text).unwrap())
     }
 
     /// The text of a value. The only fault is Memory.
     pub fn value_text(self, alloc: Global, value: &[u8]) -> Result<String, Fault>
         ensures { EqualOrMemory string_bytes result (Ok (value_text self value.now)) }
     {
-        match self {
-            Spelling::Hexadecimal => text_of(alloc, value),
-            Spelling::Text => escaped_value(alloc, value),
-        }
+        let mut text = Vec::new(alloc);
+        self.push_value(&mut text, value)?;
+        // It is ASCII.
+        Ok(String::from_utf8(text).unwrap())
     }
 
     /// The bytes that a text of a key or a value stands for; None if it stands for none. The only

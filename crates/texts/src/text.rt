@@ -1,12 +1,14 @@
 //! Keys, values and numbers as text: hexadecimal digits, `-` for no bytes, and decimal digits.
 
-ghost use Rattle.std.specs.Prelude.{◌≡◌, ◌↔◌, ℕ, List, Some, Ok, MatchOption, option_map};
-ghost use Rattle.std.specs.Prelude.{string_bytes};
-ghost use Rattle.coding.specs.Answers.{EqualOrMemory};
+ghost use Rattle.std.specs.Prelude.{◌≡◌, ◌↔◌, ◌++◌, ℕ, List, Some, Ok, MatchOption, option_map};
+ghost use Rattle.std.specs.Prelude.{IsOkUnless, OnErr, OnOk, string_bytes};
+ghost use Rattle.coding.specs.Answers.{EqualOrMemory, fault};
+ghost use Rattle.coding.specs.declared.fault.FaultName.TheVariants.{Memory};
 ghost use Rattle.hex.specs.Hex.{IsBytes};
 ghost use Rattle.std.specs.Str.Parse.{digits_value};
 ghost use Rattle.texts.specs.Text.{IsNumberText, StandsFor, bytes_of_text, text_of_bytes};
 
+use crate::digits::push_digits;
 use coding::{Fault, FaultName};
 use hex::FromHexError;
 use std::alloc::Global;
@@ -25,6 +27,19 @@ pub fn text_of(alloc: Global, bytes: &[u8]) -> Result<String, Fault>
         return Ok(String::from_str(alloc, NOTHING)?);
     }
     Ok(hex::encode(alloc, bytes)?)
+}
+
+/// Appends the text of `bytes`. The only fault is Memory, which leaves `out` unchanged.
+pub(crate) fn push_text_of(out: &mut Vec<u8>, bytes: &[u8]) -> Result<(), Fault>
+    ensures ok { OnOk result (out.new.items ≡ out.old.items ++ text_of_bytes bytes.now) }
+    ensures err { OnErr result (out.new.items ≡ out.old.items) }
+    ensures memory { IsOkUnless result (fault Memory) }
+{
+    if bytes.is_empty() {
+        out.extend_from_slice(NOTHING.as_bytes())?;
+        return Ok(());
+    }
+    push_digits(out, bytes)
 }
 
 /// The bytes of a text of hexadecimal digits of either case, two a byte; no bytes for `-`.

@@ -8,6 +8,7 @@ use pairing::blocks;
 use std::alloc::Global;
 use std::rt::Files;
 use std::thread::Threads;
+use usage::BlocksLine;
 
 /// The block of no entries.
 const NO_ENTRIES: &[u8] = b"\0\0\0\0\x01\0\0\0";
@@ -18,13 +19,10 @@ const REMEDY: &str = "give a block of a table, without its trailer";
 /// Merges the blocks in two files into one, and prints how large it is.
 pub(crate) fn merge<R: Files + Print + AllocGlobal + Threads + Sync>(
     rt: &R,
-    a: &str,
-    b: &str,
-    at: &[u8],
-    out: &str,
+    line: &BlocksLine<'_>,
 ) -> Result<(), Refusal> {
-    let (entries, block) = merged(rt, a, b, at, out)?;
-    files::replace(rt, out, block.as_slice())?;
+    let (entries, block) = merged(rt, line)?;
+    files::replace(rt, line.out, block.as_slice())?;
     let length = block.len();
     println!(rt; "{entries} entries, {length} bytes").map_err(|error| Refusal::of_output(
         rt.alloc(),
@@ -35,21 +33,24 @@ pub(crate) fn merge<R: Files + Print + AllocGlobal + Threads + Sync>(
 /// The block of the entries of the blocks in two files, and the number of entries.
 fn merged<R: Files + AllocGlobal + Threads + Sync>(
     rt: &R,
-    a: &str,
-    b: &str,
-    at: &[u8],
-    out: &str,
+    line: &BlocksLine<'_>,
 ) -> Result<(u64, Vec<u8>), Refusal> {
-    let first = read_block(rt, a)?;
-    let second = read_block(rt, b)?;
-    let answer = blocks(rt, rt.alloc(), first.as_slice(), second.as_slice(), at);
+    let first = read_block(rt, line.a)?;
+    let second = read_block(rt, line.b)?;
+    let answer = blocks(
+        rt,
+        rt.alloc(),
+        first.as_slice(),
+        second.as_slice(),
+        &line.at,
+    );
     answer.map_err(|fault| {
         if is_refused(rt, first.as_slice(), fault) {
-            refused_alone(rt.alloc(), a, fault)
+            refused_alone(rt.alloc(), line.a, fault)
         } else if is_refused(rt, second.as_slice(), fault) {
-            refused_alone(rt.alloc(), b, fault)
+            refused_alone(rt.alloc(), line.b, fault)
         } else {
-            refused_together(rt.alloc(), a, b, out, fault)
+            refused_together(rt.alloc(), line, fault)
         }
     })
 }
@@ -102,18 +103,19 @@ fn refused_alone(alloc: Global, path: &str, fault: Fault) -> Refusal {
 }
 
 /// The refusal of the blocks in two files, each of which is accepted alone.
-fn refused_together(alloc: Global, a: &str, b: &str, out: &str, fault: Fault) -> Refusal {
+fn refused_together(alloc: Global, line: &BlocksLine<'_>, fault: Fault) -> Refusal {
     let text = match fault.name {
         FaultName::Duplicate => {
+            let b = line.b;
             let wrong = format!(in alloc; "it has a user key and sequence that {b} has too");
-            RefusalText::new(alloc, a, wrong, "give blocks that share none")
+            RefusalText::new(alloc, line.a, wrong, "give blocks that share none")
         }
         FaultName::TooLarge => {
             let words = Words {
                 wrong: "the block would have more than 1073741824 bytes",
                 remedy: "merge smaller ones",
             };
-            told(alloc, out, words)
+            told(alloc, line.out, words)
         }
         _ => None,
     };

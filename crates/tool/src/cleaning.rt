@@ -2,13 +2,14 @@
 
 use crate::folder_locks::{locked_to_change, locked_to_read};
 use crate::folder_refusal::{explained, path_in};
-use crate::folder_work::{begin_work, open_folder, refused_at, sync};
+use crate::folder_work::{begin_work, open_folder, print_lines, refused_at, sync};
 use crate::refusal::{Refusal, RefusalText};
 use crate::reporter::{Telling, tell_time};
 use crate::table_sizes::sizes_tested;
 use clean::{RemovalWatch, obsolete_names, remove_obsolete};
 use coding::{Fault, FaultName};
 use folder::{Disk, Opened, SystemFiles, WholeFiles};
+use json_lines::removed_json;
 use std::alloc::Global;
 use std::rt::Files;
 use std::thread::Threads;
@@ -35,7 +36,7 @@ fn folder_cleaned<
         return Ok(());
     }
     sync(rt, telling.folder, &opened)?;
-    remove_files(rt, telling.folder, &opened, &files)
+    remove_files(rt, telling.folder, &opened, &files, false)
 }
 
 /// Prints the files of a folder that its version doesn't need. Nothing is written.
@@ -80,11 +81,11 @@ fn files_to_clean<R: SystemFiles + Eprint + Clock + AllocGlobal>(
 
 /// Files of a folder that its version doesn't need.
 #[derive(Drop)]
-struct UnneededFiles {
+pub(crate) struct UnneededFiles {
     /// Their names, which rise.
     names: Vec<String>,
     /// How many bytes each has.
-    lengths: Vec<u64>,
+    pub lengths: Vec<u64>,
 }
 
 impl UnneededFiles {
@@ -97,7 +98,7 @@ impl UnneededFiles {
 }
 
 /// The files of a folder that the version that it was opened as doesn't need.
-fn unneeded_files<R: Files + AllocGlobal>(
+pub(crate) fn unneeded_files<R: Files + AllocGlobal>(
     rt: &R,
     folder: &str,
     opened: &Opened,
@@ -148,15 +149,17 @@ fn length_of<R: Files + AllocGlobal>(
 }
 
 /// Removes these files of a folder that stands for the version that it was opened as, and prints
-/// each when it is removed.
+/// each when it is removed, as JSON if that is asked for.
 fn remove_files<R: SystemFiles + Print + AllocGlobal>(
     rt: &R,
     path: &str,
     opened: &Opened,
     files: &UnneededFiles,
+    is_json: bool,
 ) -> Result<(), Refusal> {
     let mut printer = RemovalPrinter {
         rt,
+        is_json,
         lengths: &files.lengths,
         removed: 0,
         refusal: None,
@@ -167,20 +170,24 @@ fn remove_files<R: SystemFiles + Print + AllocGlobal>(
     printer.end(path)
 }
 
-/// Removes the files of a folder that the version after an installation doesn't need.
+/// Removes the files of a folder that the version after an installation doesn't need, and prints
+/// them, as JSON if that is asked for.
 pub(crate) fn clean_installed<R: SystemFiles + Print + AllocGlobal>(
     rt: &R,
     path: &str,
+    is_json: bool,
 ) -> Result<(), Refusal> {
     let opened = open_folder(rt, path)?;
     let files = unneeded_files(rt, path, &opened)?;
-    remove_files(rt, path, &opened, &files)
+    remove_files(rt, path, &opened, &files, is_json)
 }
 
 /// Who prints files when they are removed.
 #[derive(Drop)]
 struct RemovalPrinter<'t, R> {
     rt: &'t R,
+    /// Whether the lines are JSON.
+    is_json: bool,
     /// How many bytes each file has, in the order of their removal.
     lengths: &'t [u64],
     /// How many are removed.
@@ -200,6 +207,19 @@ impl<'t, R: AllocGlobal> RemovalPrinter<'t, R> {
     }
 }
 
+impl<'t, R: Print + AllocGlobal> RemovalPrinter<'t, R> {
+    /// Prints the line of a file that is removed.
+    fn print(&self, name: &str, length: u64) -> Result<(), Refusal> {
+        let alloc = self.rt.alloc();
+        if self.is_json {
+            return print_lines(self.rt, removed_json(alloc, name, length)?.as_bytes());
+        }
+        println!(self.rt; "removed {name} {length}").map_err(|error| Refusal::of_output(
+            alloc, &error,
+        ))
+    }
+}
+
 impl<'t, R: Print + AllocGlobal> RemovalWatch for RemovalPrinter<'t, R> {
     fn removed(&mut self, name: &str) {
         let length = match self.lengths.get(self.removed) {
@@ -208,9 +228,9 @@ impl<'t, R: Print + AllocGlobal> RemovalWatch for RemovalPrinter<'t, R> {
         };
         self.removed = self.removed.saturating_add(1);
         if self.refusal.is_none()
-            && let Err(error) = println!(self.rt; "removed {name} {length}")
+            && let Err(refusal) = self.print(name, length)
         {
-            self.refusal = Some(Refusal::of_output(self.rt.alloc(), &error));
+            self.refusal = Some(refusal);
         }
     }
 }

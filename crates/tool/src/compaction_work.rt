@@ -3,13 +3,11 @@
 use crate::cleaning::clean_installed;
 use crate::folder_locks::locked_to_change;
 use crate::folder_refusal::compaction_explained;
-use crate::folder_work::{
-    begin_work, bytes_of, folder_to_test, open_folder, print_lines, refused_at, sync,
-};
+use crate::folder_work::{begin_work, bytes_of, folder_to_test, open_folder, refused_at, sync};
 use crate::progress_line::ProgressLine;
 use crate::refusal::Refusal;
 use crate::reporter::Telling;
-use crate::step_printer::{StepPrinter, explain, tell_step, unprinted};
+use crate::step_printer::{StepPrinter, explain, print_step, tell_step, unprinted};
 use crate::table_sizes::sizes_tested;
 use coding::Fault;
 use edit::Version;
@@ -19,8 +17,8 @@ use settings::Settings;
 use std::alloc::Global;
 use std::thread::Threads;
 use std::time::Clock;
-use store::{DescentEnd, bottom, compact_inputs, compact_opened, next_level};
-use usage::{Levels, Testing};
+use store::{CompactionStep, DescentEnd, bottom, compact_inputs, compact_opened, next_level};
+use usage::{CompactLine, Levels, Testing};
 
 /// What is asked for of a compaction.
 #[derive(Clone, Copy)]
@@ -28,6 +26,8 @@ pub(crate) struct CompactionTask<'t> {
     pub levels: Levels,
     pub settings: &'t Settings<'t>,
     pub testing: &'t Testing,
+    /// Whether its lines are JSON.
+    pub is_json: bool,
     /// Whether files that the version doesn't need are removed after each installation.
     pub cleans: bool,
 }
@@ -36,7 +36,14 @@ pub(crate) struct CompactionTask<'t> {
 /// anything is read of it. What it was opened as is synced once, so that it outlives a crash.
 pub(crate) fn compact_folder<
     R: SystemFiles + WholeFiles + Print + Eprint + Clock + AllocGlobal + Threads + Sync,
->(rt: &R, telling: Telling<'_>, task: CompactionTask<'_>) -> Result<(), Refusal> {
+>(rt: &R, telling: Telling<'_>, line: &CompactLine<'_>, levels: Levels) -> Result<(), Refusal> {
+    let task = CompactionTask {
+        levels,
+        settings: &line.settings,
+        testing: &line.options.testing,
+        is_json: line.options.is_json,
+        cleans: line.options.cleans,
+    };
     let _lock = locked_to_change(rt, telling.folder)?;
     compact_levels(rt, telling, task).map_err(|refusal| {
         compaction_explained(rt, telling.folder, task.levels, task.settings, refusal)
@@ -86,14 +93,14 @@ fn compact_one<R: SystemFiles + WholeFiles + Print + Eprint + Clock + AllocGloba
     task: CompactionTask<'_>,
 ) -> Result<(), Refusal> {
     let begun = telling.begin(rt);
-    let lines = if task.testing.is_skipped {
+    let step = if task.testing.is_skipped {
         inputs_compacted(rt, telling, opened, level, task.settings)?
     } else {
         let memory = bytes_of(task.testing.memory);
         tested_compacted(rt, telling, opened, level, task.settings, memory)?
     };
     tell_step(rt, level, begun);
-    print_lines(rt, lines.as_slice()).map_err(|refusal| unprinted(
+    print_step(rt, level, &opened.version, &step, task.is_json).map_err(|refusal| unprinted(
         rt.alloc(),
         telling.folder,
         task.levels,
@@ -103,7 +110,7 @@ fn compact_one<R: SystemFiles + WholeFiles + Print + Eprint + Clock + AllocGloba
         explain_one(rt, telling.folder, opened, level, task.settings.ranges);
     }
     if task.cleans {
-        clean_installed(rt, telling.folder)?;
+        clean_installed(rt, telling.folder, task.is_json)?;
     }
     Ok(())
 }
@@ -132,7 +139,7 @@ fn explain_one<R: SystemFiles + Eprint + AllocGlobal>(
     );
 }
 
-/// Tests what a folder was opened as, and compacts a level of it. The answer is the lines.
+/// Tests what a folder was opened as, and compacts a level of it.
 fn tested_compacted<R: SystemFiles + WholeFiles + Eprint + Clock + AllocGlobal + Threads + Sync>(
     rt: &R,
     telling: Telling<'_>,
@@ -140,7 +147,7 @@ fn tested_compacted<R: SystemFiles + WholeFiles + Eprint + Clock + AllocGlobal +
     level: u64,
     settings: &Settings<'_>,
     memory: u64,
-) -> Result<Vec<u8>, Refusal> {
+) -> Result<CompactionStep, Refusal> {
     let progress = ProgressLine::new(rt, telling.is_watched);
     let mut folder = folder_to_test(rt, telling.folder, opened, memory);
     let answer = compact_opened(
@@ -157,14 +164,14 @@ fn tested_compacted<R: SystemFiles + WholeFiles + Eprint + Clock + AllocGlobal +
     answer.map_err(|fault| refused_at(rt, telling.folder, &folder, fault))
 }
 
-/// Compacts a level of a folder, and reads nothing but its inputs. The answer is the lines.
+/// Compacts a level of a folder, and reads nothing but its inputs.
 fn inputs_compacted<R: SystemFiles + WholeFiles + Eprint + Clock + AllocGlobal + Threads + Sync>(
     rt: &R,
     telling: Telling<'_>,
     opened: &Opened,
     level: u64,
     settings: &Settings<'_>,
-) -> Result<Vec<u8>, Refusal> {
+) -> Result<CompactionStep, Refusal> {
     let progress = ProgressLine::new(rt, telling.is_watched);
     let mut folder = Disk::new(rt, telling.folder);
     let answer = compact_inputs(
@@ -177,10 +184,7 @@ fn inputs_compacted<R: SystemFiles + WholeFiles + Eprint + Clock + AllocGlobal +
         &progress,
     );
     progress.erase();
-    match answer {
-        Ok(step) => Ok(step.lines),
-        Err(fault) => Err(refused_at(rt, telling.folder, &folder, fault)),
-    }
+    answer.map_err(|fault| refused_at(rt, telling.folder, &folder, fault))
 }
 
 /// Compacts the first level that has a file, again and again, until all files are at the bottom.

@@ -150,6 +150,7 @@ fn in_table(name: FaultName) -> &'static str {
         FaultName::Empty => "it, or a block of it, has no entry",
         FaultName::Order => "its keys do not rise",
         FaultName::Index => "its index does not fit its blocks",
+        FaultName::Bounds => "its size or its keys are not those that the manifest says",
         _ => "it is refused",
     }
 }

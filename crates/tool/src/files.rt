@@ -143,7 +143,7 @@ fn fill<R: Files>(
 }
 
 /// Writes the names of the folder of a file through to the device.
-fn sync_folder_of<R: Files>(rt: &R, path: &str) -> io::Result<()> {
+pub(crate) fn sync_folder_of<R: Files>(rt: &R, path: &str) -> io::Result<()> {
     let folder = match path.rsplit_once('/') {
         Some(("", _)) => "/",
         Some((folder, _)) => folder,

@@ -13,13 +13,13 @@ use usage::Levels;
 
 /// The refusal of a command on the folder at a path, with what is told of it: the first file that
 /// is refused, for which the folder is read again. It isn't read after Locked, Changed, Device and
-/// Memory, nor if it is known already what is told.
+/// Memory, nor if it is known already what is told, or nothing is.
 pub(crate) fn explained<R: SystemFiles + AllocGlobal>(
     rt: &R,
     folder: &str,
     refusal: Refusal,
 ) -> Refusal {
-    if refusal.told.is_some() || is_of_no_file(refusal.fault.name) {
+    if refusal.is_silent || refusal.told.is_some() || is_of_no_file(refusal.fault.name) {
         return refusal;
     }
     let told = file_found(rt, folder, refusal.fault.name);
@@ -71,8 +71,19 @@ fn file_found<R: SystemFiles + AllocGlobal>(
     name: FaultName,
 ) -> Option<RefusalText> {
     match refused_file(rt.alloc(), &mut Disk::new(rt, folder)) {
-        Ok(Some(file)) if file.fault.name == name => file_told(rt.alloc(), folder, &file),
+        Ok(Some(file)) if is_refused_so(&file, name) => file_told(rt.alloc(), folder, &file),
         _ => None,
+    }
+}
+
+/// Whether a file is why work is refused by this name: that the version is unlawful is told of an
+/// input as Bounds.
+fn is_refused_so(file: &RefusedFile, name: FaultName) -> bool {
+    match &file.detail {
+        Some(Detail::Size { .. } | Detail::Smallest | Detail::Largest) => {
+            name == FaultName::Lawless || name == FaultName::Bounds
+        }
+        _ => file.fault.name == name,
     }
 }
 

@@ -1,5 +1,6 @@
 //! The work on a folder, from its path to what is printed.
 
+use crate::fault_printer::faults_printed;
 use crate::folder_locks::locked_to_read;
 use crate::folder_refusal::{explained, table_explained};
 use crate::progress_line::ProgressLine;
@@ -16,14 +17,14 @@ use std::thread::Threads;
 use std::time::Clock;
 use store::sync_version;
 use texts::Spelling;
-use usage::Testing;
+use usage::{GetLine, ManifestLine, VerdictForm, VerifyLine};
 
 /// The bytes of a MiB.
 const MEBIBYTE: u64 = 1 << 20;
 
 /// What is printed of the value of a key.
 #[derive(Clone, Copy)]
-pub(crate) enum ValueOutput {
+enum ValueOutput {
     /// Its line, in a spelling.
     Line(Spelling),
     /// Its bytes.
@@ -33,6 +34,17 @@ pub(crate) enum ValueOutput {
 }
 
 impl ValueOutput {
+    /// What is printed of the value that a line asks for.
+    fn of(line: &GetLine<'_>) -> ValueOutput {
+        if line.is_raw {
+            ValueOutput::Raw
+        } else if line.is_json {
+            ValueOutput::Json(line.spelling)
+        } else {
+            ValueOutput::Line(line.spelling)
+        }
+    }
+
     /// The form in which the value is asked for.
     fn form(self) -> ValueForm {
         match self {
@@ -46,45 +58,41 @@ impl ValueOutput {
 pub(crate) fn print_version<R: SystemFiles + Print + Eprint + Clock + AllocGlobal>(
     rt: &R,
     telling: Telling<'_>,
-    spelling: Spelling,
-    is_json: bool,
+    line: &ManifestLine<'_>,
 ) -> Result<(), Refusal> {
     let _lock = locked_to_read(rt, telling.folder)?;
-    version_printed(rt, telling, spelling, is_json).map_err(|refusal| explained(
-        rt,
-        telling.folder,
-        refusal,
-    ))
+    version_printed(rt, telling, line).map_err(|refusal| explained(rt, telling.folder, refusal))
 }
 
 fn version_printed<R: SystemFiles + Print + Eprint + Clock + AllocGlobal>(
     rt: &R,
     telling: Telling<'_>,
-    spelling: Spelling,
-    is_json: bool,
+    line: &ManifestLine<'_>,
 ) -> Result<(), Refusal> {
     let begun = telling.begin(rt);
     let opened = begin_work(rt, telling)?;
-    let lines = if is_json {
-        version_json(rt.alloc(), spelling, opened.order, &opened.version)?
+    let lines = if line.is_json {
+        version_json(rt.alloc(), line.spelling, opened.order, &opened.version)?
     } else {
-        manifest_lines(rt.alloc(), spelling, opened.order, &opened.version)?
+        manifest_lines(rt.alloc(), line.spelling, opened.order, &opened.version)?
     };
     tell_time(rt, "manifest", begun);
     print_lines(rt, lines.as_slice())
 }
 
 /// Checks the version of a folder, and prints the line of a lawful one, as JSON if that is asked
-/// for. The test may hold this many bytes of tables.
+/// for; or all faults of its files.
 pub(crate) fn print_verdict<
     R: SystemFiles + WholeFiles + Print + Eprint + Clock + AllocGlobal + Threads + Sync,
->(rt: &R, telling: Telling<'_>, is_json: bool, memory: u64) -> Result<(), Refusal> {
+>(rt: &R, telling: Telling<'_>, line: &VerifyLine<'_>) -> Result<(), Refusal> {
     let _lock = locked_to_read(rt, telling.folder)?;
-    verdict_printed(rt, telling, is_json, memory).map_err(|refusal| explained(
-        rt,
-        telling.folder,
-        refusal,
-    ))
+    let memory = bytes_of(line.memory);
+    let printed = match line.form {
+        VerdictForm::Line => verdict_printed(rt, telling, false, memory),
+        VerdictForm::Json => verdict_printed(rt, telling, true, memory),
+        VerdictForm::AllFaults => faults_printed(rt, telling, memory),
+    };
+    printed.map_err(|refusal| explained(rt, telling.folder, refusal))
 }
 
 fn verdict_printed<
@@ -129,24 +137,12 @@ fn json_verdict<R: SystemFiles + WholeFiles + Eprint + Clock + AllocGlobal + Thr
 /// Prints the value of a key in a folder. The version is tested before, if that is asked for.
 pub(crate) fn print_value<
     R: SystemFiles + WholeFiles + Print + Eprint + Clock + AllocGlobal + Threads + Sync,
->(
-    rt: &R,
-    telling: Telling<'_>,
-    key: &[u8],
-    at: Option<u64>,
-    output: ValueOutput,
-    testing: &Testing,
-) -> Result<(), Refusal> {
+>(rt: &R, telling: Telling<'_>, line: &GetLine<'_>) -> Result<(), Refusal> {
     let _lock = locked_to_read(rt, telling.folder)?;
-    if testing.is_skipped {
-        return print_unverified_value(rt, telling, key, at, output);
+    if line.testing.is_skipped {
+        return print_unverified_value(rt, telling, line);
     }
-    let memory = bytes_of(testing.memory);
-    value_printed(rt, telling, key, at, output, memory).map_err(|refusal| explained(
-        rt,
-        telling.folder,
-        refusal,
-    ))
+    value_printed(rt, telling, line).map_err(|refusal| explained(rt, telling.folder, refusal))
 }
 
 /// Prints the value of a key in a folder. The version was verified before. If a table is refused,
@@ -154,10 +150,9 @@ pub(crate) fn print_value<
 fn print_unverified_value<R: SystemFiles + Print + Eprint + Clock + AllocGlobal>(
     rt: &R,
     telling: Telling<'_>,
-    key: &[u8],
-    at: Option<u64>,
-    output: ValueOutput,
+    line: &GetLine<'_>,
 ) -> Result<(), Refusal> {
+    let output = ValueOutput::of(line);
     let begun = telling.begin(rt);
     let opened = begin_work(rt, telling).map_err(|refusal| explained(rt, telling.folder, refusal))?;
     let mut folder = Disk::new(rt, telling.folder);
@@ -166,8 +161,8 @@ fn print_unverified_value<R: SystemFiles + Print + Eprint + Clock + AllocGlobal>
         &mut folder,
         opened.order,
         &opened.version,
-        key,
-        at,
+        &line.key,
+        line.at,
         output.form(),
     );
     let answer = answer.map_err(|fault| table_explained(
@@ -176,27 +171,30 @@ fn print_unverified_value<R: SystemFiles + Print + Eprint + Clock + AllocGlobal>
         refused_at(rt, telling.folder, &folder, fault),
     ))?;
     tell_time(rt, "get --no-verify", begun);
-    print_value_answer(rt, telling.folder, key, output, answer)
+    print_value_answer(rt, telling.folder, &line.key, output, answer)
 }
 
 fn value_printed<
     R: SystemFiles + WholeFiles + Print + Eprint + Clock + AllocGlobal + Threads + Sync,
->(
-    rt: &R,
-    telling: Telling<'_>,
-    key: &[u8],
-    at: Option<u64>,
-    output: ValueOutput,
-    memory: u64,
-) -> Result<(), Refusal> {
+>(rt: &R, telling: Telling<'_>, line: &GetLine<'_>) -> Result<(), Refusal> {
     let begun = telling.begin(rt);
     let opened = begin_work(rt, telling)?;
     sizes_tested(rt, telling.folder, &opened)?;
-    let form = output.form();
-    let question = Question::Value { key, at, form };
-    let answer = answered(rt, telling, &opened, question, memory)?;
+    let output = ValueOutput::of(line);
+    let question = Question::Value {
+        key: &line.key,
+        at: line.at,
+        form: output.form(),
+    };
+    let answer = answered(
+        rt,
+        telling,
+        &opened,
+        question,
+        bytes_of(line.testing.memory),
+    )?;
     tell_time(rt, "get", begun);
-    print_value_answer(rt, telling.folder, key, output, answer)
+    print_value_answer(rt, telling.folder, &line.key, output, answer)
 }
 
 /// Writes the answer of a key's value to the standard output, as the JSON line of both if that is
@@ -211,7 +209,7 @@ fn print_value_answer<R: Print + Eprint + AllocGlobal>(
     match output {
         ValueOutput::Json(spelling) => {
             let line = value_json(rt.alloc(), spelling, key, answer.as_deref())?;
-            print_lines(rt, line.as_bytes())
+            print_lines(rt, &line)
         }
         _ => print_answer(rt, folder, answer),
     }

@@ -6,31 +6,43 @@ use std::path::Path;
 use std::rt::Files;
 use std::{fs, io};
 
-/// The numbers of the logs that LevelDB would replay over this version, and that have a byte; they
-/// rise. If the version isn't known, these are all logs that have a byte. The folder is listed, and
-/// no log is read.
+/// A log.
+#[derive(Clone, Copy)]
+pub(crate) struct Log {
+    pub number: u64,
+    /// How many bytes it has.
+    pub bytes: u64,
+}
+
+/// The logs that LevelDB would replay over this version, and that have a byte; their numbers rise.
+/// If the version isn't known, these are all logs that have a byte. The folder is listed, and no
+/// log is read.
 pub(crate) fn logs_with_writes<R: Files + AllocGlobal>(
     rt: &R,
     folder: &str,
     version: Option<&Version>,
-) -> io::Result<Vec<u64>> {
-    let mut numbers = Vec::new(rt.alloc());
+) -> io::Result<Vec<Log>> {
+    let mut logs = Vec::new(rt.alloc());
     for entry in fs::read_dir(&rt, folder)? {
         let entry = entry?;
         if let Some(number) = replayed_log(version, entry.file_name())
-            && holds_bytes(rt, entry.path())?
+            && let Some(bytes) = bytes_held(rt, entry.path())?
         {
-            numbers.push(number)?;
+            logs.push(Log { number, bytes })?;
         }
     }
-    numbers.sort_unstable();
-    Ok(numbers)
+    logs.sort_unstable_by_key(|log| log.number);
+    Ok(logs)
 }
 
-/// Whether a path is that of a file that isn't empty.
-fn holds_bytes<R: Files>(rt: &R, path: Path<'_>) -> io::Result<bool> {
+/// How many bytes the file at a path has. None if it is no file, or empty.
+fn bytes_held<R: Files>(rt: &R, path: Path<'_>) -> io::Result<Option<u64>> {
     let metadata = fs::metadata(rt, path)?;
-    Ok(metadata.is_file() && metadata.len() > 0)
+    if metadata.is_file() && metadata.len() > 0 {
+        Ok(Some(metadata.len()))
+    } else {
+        Ok(None)
+    }
 }
 
 /// The names of the files that compactions from this version on may replace; they rise. The folder

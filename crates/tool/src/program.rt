@@ -2,17 +2,20 @@
 
 use crate::block_files::merge;
 use crate::cleaning::{clean_folder, print_removable};
-use crate::compaction_work::{CompactionTask, compact_folder};
+use crate::compaction_work::compact_folder;
 use crate::explanations::in_words;
-use crate::files;
-use crate::folder_work::{
-    ValueOutput, bytes_of, print_lines, print_value, print_verdict, print_version,
-};
+use crate::folder_work::{print_value, print_verdict, print_version};
+use crate::install_work::install_compaction;
+use crate::job_printer::print_job;
+use crate::out_folder::{OutState, state_of};
+use crate::outcome_work::{OutcomeTask, write_compaction};
 use crate::refusal::{Refusal, RefusalParts};
 use crate::reporter::Telling;
-use crate::row_printer::{RowForm, print_rows};
+use crate::row_printer::print_rows;
+use crate::stats_printer::print_stats;
+use crate::table_files::{print_table, print_table_verdict};
 use coding::{Fault, FaultName};
-use commands::{dump, status};
+use commands::status;
 use folder::{SystemFiles, WholeFiles};
 use json_lines::{Told, refusal_json};
 use std::env::Env;
@@ -21,8 +24,7 @@ use std::rt::Files;
 use std::thread::Threads;
 use std::time::Clock;
 use std::{env, io};
-use texts::Spelling;
-use usage::{Line, Usage, line};
+use usage::{CompactWork, Line, Usage, VerdictForm, line};
 
 /// The status of work that was done, and of help or a version that was asked for.
 const DONE: u8 = 0;
@@ -61,14 +63,43 @@ pub fn run<
     };
     let mut listed = Vec::new(rt.alloc());
     match line(rt.alloc(), words.as_slice(), &mut listed) {
-        Ok(line) => match carry_out(rt, &line, is_watched) {
-            Ok(()) => DONE,
-            Err(refusal) => {
-                let is_json = is_json(&line);
-                report_refusal(rt, subject(&line), is_json, &refusal)
-            }
-        },
+        Ok(line) => answer(rt, &line, is_watched),
         Err(usage) => report_usage(rt, usage),
+    }
+}
+
+/// Does what a command line asks for, tells why not if it is refused, and answers the status.
+fn answer<R: SystemFiles + WholeFiles + Print + Eprint + Clock + AllocGlobal + Threads + Sync>(
+    rt: &R,
+    line: &Line<'_>,
+    is_watched: bool,
+) -> u8 {
+    let done = match taken_folder(rt, line) {
+        Ok(Some(out)) => return report_taken(rt, out),
+        Ok(None) => carry_out(rt, line, is_watched),
+        Err(refusal) => Err(refusal),
+    };
+    match done {
+        Ok(()) => DONE,
+        Err(refusal) => report_refusal(rt, subject(line), is_json(line), &refusal),
+    }
+}
+
+/// The path at which an empty folder has to be, if something else is there.
+fn taken_folder<'a, R: Files + AllocGlobal>(
+    rt: &R,
+    line: &Line<'a>,
+) -> Result<Option<&'a str>, Refusal> {
+    let Line::Compact(line) = line else {
+        return Ok(None);
+    };
+    let CompactWork::Written { out, .. } = line.options.work else {
+        return Ok(None);
+    };
+    if state_of(rt, out)? == OutState::Taken {
+        Ok(Some(out))
+    } else {
+        Ok(None)
     }
 }
 
@@ -84,106 +115,48 @@ fn carry_out<R: SystemFiles + WholeFiles + Print + Eprint + Clock + AllocGlobal 
     line: &Line<'_>,
     is_watched: bool,
 ) -> Result<(), Refusal> {
+    let telling = telling_of(line, is_watched);
     match line {
-        Line::Blocks { a, b, at, out } => merge(rt, a, b, at.as_slice(), out),
-        Line::Dump { table, spelling } => print_table(rt, table, *spelling),
-        Line::Manifest {
-            folder,
-            spelling,
-            is_json,
-            verbose,
-        } => {
-            let telling = telling(folder, *verbose, is_watched);
-            print_version(rt, telling, *spelling, *is_json)
-        }
-        Line::Verify {
-            folder,
-            is_json,
-            memory,
-            verbose,
-        } => {
-            let telling = telling(folder, *verbose, is_watched);
-            print_verdict(rt, telling, *is_json, bytes_of(*memory))
-        }
-        Line::Get {
-            folder,
-            key,
-            at,
-            spelling,
-            is_raw,
-            is_json,
-            testing,
-            verbose,
-        } => {
-            let telling = telling(folder, *verbose, is_watched);
-            let output = output_of(*is_raw, *is_json, *spelling);
-            print_value(rt, telling, key.as_slice(), *at, output, testing)
-        }
-        Line::Scan {
-            folder,
-            rows,
-            spelling,
-            is_json,
-            testing,
-            verbose,
-        } => {
-            let telling = telling(folder, *verbose, is_watched);
-            let form = RowForm {
-                spelling: *spelling,
-                is_json: *is_json,
-            };
-            print_rows(rt, telling, rows, form, testing)
-        }
-        Line::Compact {
-            folder,
-            levels,
-            settings,
-            testing,
-            verbosity,
-            cleans,
-        } => {
-            let telling = telling(folder, verbosity.verbose, is_watched);
-            let task = CompactionTask {
-                levels: *levels,
-                settings,
-                testing,
-                cleans: *cleans,
-            };
-            compact_folder(rt, telling.explaining(verbosity.explain), task)
-        }
-        Line::Clean {
-            folder,
-            is_dry_run,
-            verbose,
-        } => {
-            let telling = telling(folder, *verbose, is_watched);
-            if *is_dry_run {
-                print_removable(rt, telling)
-            } else {
-                clean_folder(rt, telling)
+        Line::Blocks(line) => merge(rt, line),
+        Line::Dump(line) => print_table(rt, line),
+        Line::Manifest(line) => print_version(rt, telling, line),
+        Line::Stats(line) => print_stats(rt, telling, line),
+        Line::Verify(line) => print_verdict(rt, telling, line),
+        Line::Table(line) => print_table_verdict(rt, line),
+        Line::Get(line) => print_value(rt, telling, line),
+        Line::Scan(line) => print_rows(rt, telling, line),
+        Line::Job(line) => print_job(rt, telling, line),
+        Line::Compact(line) => match line.options.work {
+            CompactWork::Installed(levels) => compact_folder(rt, telling, line, levels),
+            CompactWork::Written {
+                level,
+                out,
+                first_number,
+            } => {
+                let task = OutcomeTask {
+                    level,
+                    out,
+                    first_number,
+                };
+                write_compaction(rt, telling, line, task)
             }
-        }
-    }
-}
-
-/// What is printed of a value.
-fn output_of(is_raw: bool, is_json: bool, spelling: Spelling) -> ValueOutput {
-    if is_raw {
-        ValueOutput::Raw
-    } else if is_json {
-        ValueOutput::Json(spelling)
-    } else {
-        ValueOutput::Line(spelling)
+        },
+        Line::Install(line) => install_compaction(rt, telling, line),
+        Line::Clean(line) if line.is_dry_run => print_removable(rt, telling),
+        Line::Clean(_) => clean_folder(rt, telling),
     }
 }
 
 /// Whether answers and refusals are JSON.
 fn is_json(line: &Line<'_>) -> bool {
     match line {
-        Line::Manifest { is_json, .. }
-        | Line::Verify { is_json, .. }
-        | Line::Get { is_json, .. }
-        | Line::Scan { is_json, .. } => *is_json,
+        Line::Manifest(line) => line.is_json,
+        Line::Stats(line) => line.is_json,
+        Line::Verify(line) => line.form == VerdictForm::Json,
+        Line::Table(line) => line.is_json,
+        Line::Get(line) => line.is_json,
+        Line::Scan(line) => line.is_json,
+        Line::Compact(line) => line.options.is_json,
         _ => false,
     }
 }
@@ -191,39 +164,47 @@ fn is_json(line: &Line<'_>) -> bool {
 /// The path that a command line is about: the folder, the table or the first block.
 fn subject<'a>(line: &Line<'a>) -> &'a str {
     match line {
-        Line::Blocks { a, .. } => a,
-        Line::Dump { table, .. } => table,
-        Line::Manifest { folder, .. }
-        | Line::Verify { folder, .. }
-        | Line::Get { folder, .. }
-        | Line::Scan { folder, .. }
-        | Line::Compact { folder, .. }
-        | Line::Clean { folder, .. } => folder,
+        Line::Blocks(line) => line.a,
+        Line::Dump(line) => line.table,
+        Line::Manifest(line) => line.folder,
+        Line::Stats(line) => line.folder,
+        Line::Verify(line) => line.folder,
+        Line::Table(line) => line.table,
+        Line::Get(line) => line.folder,
+        Line::Scan(line) => line.folder,
+        Line::Job(line) => line.folder,
+        Line::Compact(line) => line.folder,
+        Line::Install(line) => line.folder,
+        Line::Clean(line) => line.folder,
     }
 }
 
-/// Prints the entries of the table in a file.
-fn print_table<R: Files + Print + AllocGlobal>(
-    rt: &R,
-    table: &str,
-    spelling: Spelling,
-) -> Result<(), Refusal> {
-    let bytes = files::read(rt, table)?;
-    let lines = dump(rt.alloc(), spelling, bytes.as_slice()).map_err(|fault| Refusal::of_file(
-        rt.alloc(),
-        table,
-        fault,
-    ))?;
-    print_lines(rt, lines.as_slice())
+/// Whether more is told on the standard error.
+fn is_verbose(line: &Line<'_>) -> bool {
+    match line {
+        Line::Blocks(_) | Line::Dump(_) | Line::Table(_) => false,
+        Line::Manifest(line) => line.verbose,
+        Line::Stats(line) => line.verbose,
+        Line::Verify(line) => line.verbose,
+        Line::Get(line) => line.verbose,
+        Line::Scan(line) => line.verbose,
+        Line::Job(line) => line.verbose,
+        Line::Compact(line) => line.options.verbosity.verbose,
+        Line::Install(line) => line.verbose,
+        Line::Clean(line) => line.verbose,
+    }
 }
 
-/// What is to be told of the work on a folder.
-fn telling(folder: &str, verbose: bool, is_watched: bool) -> Telling<'_> {
+/// What is to be told of the work that a command line asks for.
+fn telling_of<'a>(line: &Line<'a>, is_watched: bool) -> Telling<'a> {
     Telling {
-        folder,
-        is_on: verbose || is_watched,
+        folder: subject(line),
+        is_on: is_verbose(line) || is_watched,
         is_watched,
-        is_explaining: false,
+        is_explaining: match line {
+            Line::Compact(line) => line.options.verbosity.explain,
+            _ => false,
+        },
     }
 }
 
@@ -295,6 +276,13 @@ fn tell_text<R: Eprint>(rt: &R, parts: RefusalParts<'_>) {
 fn report_misuse<R: Eprint>(rt: &R, text: &str) -> u8 {
     let _ = rt.eprintln(text);
     USAGE
+}
+
+/// Tells that something is where an empty folder has to be, and answers the status.
+fn report_taken<R: Eprint>(rt: &R, out: &str) -> u8 {
+    let status = report_misuse(rt, "usage: OUT is not an empty folder");
+    let _ = eprintln!(rt; "sedvokt: {out}: give an empty folder, or a path where nothing is");
+    status
 }
 
 /// Tells why a command line asks for nothing, and answers the status.

@@ -117,10 +117,12 @@ impl<'r, R: Eprint + Clock + AllocGlobal> ProgressLine<'r, R> {
         let alloc = self.rt.alloc();
         let jobs = self.jobs.load(Ordering::SeqCst);
         let done = self.done.load(Ordering::SeqCst);
-        if !self.is_compacting.load(Ordering::SeqCst) {
-            return progress_text(alloc, Work::Check, jobs, done);
-        }
-        let text = progress_text(alloc, Work::Compact, jobs, done)?;
+        let work = if self.is_compacting.load(Ordering::SeqCst) {
+            Work::Compact
+        } else {
+            Work::Check
+        };
+        let text = progress_text(alloc, work, jobs, done)?;
         let step = self.step.load(Ordering::SeqCst);
         if step == 0 {
             return Ok(text);

@@ -12,7 +12,8 @@ pub(crate) struct Refusal {
     pub fault: Fault,
     /// What is told. If it isn't known, or there was no memory for it, the words of the fault are.
     pub told: Option<RefusalText>,
-    /// Whether nothing is told, not even the fault: who read the answer reads no further.
+    /// Whether nothing is told, not even the fault: who read the answer reads no further, or the
+    /// answer is the refusal.
     pub is_silent: bool,
 }
 
@@ -96,6 +97,15 @@ impl Refusal {
             fault,
             told,
             is_silent: false,
+        }
+    }
+
+    /// The refusal of which nothing is told, since the answer tells it.
+    pub fn silent(fault: Fault) -> Refusal {
+        Refusal {
+            fault,
+            told: None,
+            is_silent: true,
         }
     }
 

@@ -3,7 +3,7 @@
 ghost use Rattle.std.specs.Prelude.{◌≡◌, true, IfSome};
 
 use crate::folder_refusal::path_in;
-use crate::logs::{logs_with_writes, replaceable_files};
+use crate::logs::{Log, logs_with_writes, replaceable_files};
 use coding::{Fault, FaultName};
 use edit::Version;
 use std::io::ErrorKind;
@@ -53,7 +53,7 @@ impl<'a> Telling<'a> {
         version: &Version,
     ) -> Result<(), Fault> {
         match logs_with_writes(rt, self.folder, Some(version)) {
-            Ok(numbers) => tell_logs(rt, &numbers),
+            Ok(logs) => tell_logs(rt, &logs),
             Err(error) if error.kind() == ErrorKind::OutOfMemory => {
                 return Err(Fault::of(FaultName::Memory));
             }
@@ -70,10 +70,11 @@ impl<'a> Telling<'a> {
     /// Tells of each log that has a byte, of a folder that can't be opened: which of them LevelDB
     /// would replay isn't known. Nothing is told if the folder can't be listed.
     pub fn tell_unopened_logs<R: Files + Eprint + AllocGlobal>(self, rt: &R) {
-        let Ok(numbers) = logs_with_writes(rt, self.folder, None) else {
+        let Ok(logs) = logs_with_writes(rt, self.folder, None) else {
             return;
         };
-        for number in &numbers {
+        for log in &logs {
+            let number = log.number;
             let _ = eprintln!(rt;
                 "sedvokt: {number:06}.log: there may be writes in it that are in no table"
             );
@@ -110,9 +111,10 @@ impl<'a> Telling<'a> {
     }
 }
 
-/// Tells of the logs of these numbers, a line each.
-fn tell_logs<R: Eprint>(rt: &R, numbers: &[u64]) {
-    for number in numbers {
+/// Tells of these logs, a line each.
+fn tell_logs<R: Eprint>(rt: &R, logs: &[Log]) {
+    for log in logs {
+        let number = log.number;
         let _ = eprintln!(rt;
             "sedvokt: {number:06}.log: writes that are in no table; they are not seen here"
         );

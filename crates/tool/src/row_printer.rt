@@ -8,43 +8,37 @@ use crate::refusal::Refusal;
 use crate::reporter::{Telling, tell_time};
 use crate::table_sizes::sizes_tested;
 use coding::Fault;
-use commands::row_line;
+use commands::push_row;
 use folder::{Disk, Opened, SystemFiles, WholeFiles};
-use json_lines::row_json;
+use json_lines::push_row_json;
 use scan::{RowChoice, RowTaker, scan_unverified, scan_version};
 use std::thread::Threads;
 use std::time::Clock;
 use texts::Spelling;
-use usage::Testing;
+use usage::{RowOptions, ScanLine, Testing};
 
 /// How many bytes of lines are written at once, or somewhat more.
 const AT_ONCE: usize = 65_536;
 
 /// How rows are printed.
 #[derive(Clone, Copy)]
-pub(crate) struct RowForm {
-    pub spelling: Spelling,
+struct RowForm {
+    spelling: Spelling,
     /// Whether each is printed as JSON.
-    pub is_json: bool,
+    is_json: bool,
 }
 
 /// Prints the rows of a folder that are asked for. Its version is tested before, if that is asked
 /// for. If it isn't, and a table is refused, the folder isn't read again to tell of which one.
 pub(crate) fn print_rows<
     R: SystemFiles + WholeFiles + Print + Eprint + Clock + AllocGlobal + Threads + Sync,
->(
-    rt: &R,
-    telling: Telling<'_>,
-    rows: &usage::RowChoice,
-    form: RowForm,
-    testing: &Testing,
-) -> Result<(), Refusal> {
+>(rt: &R, telling: Telling<'_>, line: &ScanLine<'_>) -> Result<(), Refusal> {
     let folder = telling.folder;
     let _lock = locked_to_read(rt, folder)?;
     let begun = telling.begin(rt);
     let opened = begin_work(rt, telling).map_err(|refusal| explained(rt, folder, refusal))?;
-    if testing.is_skipped {
-        rows_printed(rt, telling, &opened, rows, form, testing).map_err(|refusal| table_explained(
+    if line.testing.is_skipped {
+        rows_printed(rt, telling, &opened, line).map_err(|refusal| table_explained(
             rt.alloc(),
             folder,
             refusal,
@@ -52,9 +46,7 @@ pub(crate) fn print_rows<
         tell_time(rt, "scan --no-verify", begun);
     } else {
         sizes_tested(rt, folder, &opened).map_err(|refusal| explained(rt, folder, refusal))?;
-        rows_printed(rt, telling, &opened, rows, form, testing).map_err(|refusal| explained(
-            rt, folder, refusal,
-        ))?;
+        rows_printed(rt, telling, &opened, line).map_err(|refusal| explained(rt, folder, refusal))?;
         tell_time(rt, "scan", begun);
     }
     Ok(())
@@ -64,14 +56,8 @@ pub(crate) fn print_rows<
 /// printed.
 fn rows_printed<
     R: SystemFiles + WholeFiles + Print + Eprint + Clock + AllocGlobal + Threads + Sync,
->(
-    rt: &R,
-    telling: Telling<'_>,
-    opened: &Opened,
-    rows: &usage::RowChoice,
-    form: RowForm,
-    testing: &Testing,
-) -> Result<(), Refusal> {
+>(rt: &R, telling: Telling<'_>, opened: &Opened, line: &ScanLine<'_>) -> Result<(), Refusal> {
+    let testing = &line.testing;
     let progress = ProgressLine::new(rt, telling.is_watched);
     let mut folder = if testing.is_skipped {
         Disk::new(rt, telling.folder)
@@ -81,16 +67,20 @@ fn rows_printed<
     let mut printer = RowPrinter {
         rt,
         progress: &progress,
-        form,
-        with_values: rows.with_values,
+        form: RowForm {
+            spelling: line.spelling,
+            is_json: line.is_json,
+        },
+        with_values: line.rows.with_values,
         lines: Vec::new(rt.alloc()),
+        room: Vec::new(rt.alloc()),
         refusal: None,
     };
     let scanned = scanned(
         rt,
         &mut folder,
         opened,
-        choice_of(rows),
+        choice_of(&line.rows),
         testing,
         &mut printer,
     );
@@ -121,7 +111,7 @@ fn scanned<R: SystemFiles + WholeFiles + Print + Eprint + Clock + AllocGlobal + 
 }
 
 /// The rows that are asked for, as a scan takes them.
-fn choice_of(rows: &usage::RowChoice) -> RowChoice<'_> {
+fn choice_of(rows: &RowOptions) -> RowChoice<'_> {
     RowChoice {
         from: rows.from.as_deref(),
         to: rows.to.as_deref(),
@@ -140,6 +130,8 @@ struct RowPrinter<'t, R> {
     with_values: bool,
     /// The lines that are not written yet.
     lines: Vec<u8>,
+    /// Room for a text.
+    room: Vec<u8>,
     /// Why a row could not be printed. No row comes after it.
     refusal: Option<Refusal>,
 }
@@ -148,13 +140,12 @@ impl<'t, R: Print + Eprint + Clock + AllocGlobal> RowPrinter<'t, R> {
     /// Adds the line of a row, and writes the lines if there are enough of them.
     fn push(&mut self, key: &[u8], value: &[u8]) -> Result<(), Refusal> {
         let value = if self.with_values { Some(value) } else { None };
-        let (alloc, spelling) = (self.rt.alloc(), self.form.spelling);
-        let line = if self.form.is_json {
-            row_json(alloc, spelling, key, value)?.into_bytes()
+        let spelling = self.form.spelling;
+        if self.form.is_json {
+            push_row_json(&mut self.lines, &mut self.room, spelling, key, value)?;
         } else {
-            row_line(alloc, spelling, key, value)?
-        };
-        self.lines.extend_from_slice(&line).map_err(Fault::from)?;
+            push_row(&mut self.lines, spelling, key, value)?;
+        }
         if self.lines.len() >= AT_ONCE {
             self.write()?;
         }

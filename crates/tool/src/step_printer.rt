@@ -11,11 +11,12 @@ use crate::work_left::WorkLeft;
 use account::text;
 use coding::{Fault, FaultName};
 use diagnostics::account_of;
-use edit::Version;
+use edit::{Version, VersionEdit};
 use folder::{Disk, Opened, Order, SystemFiles};
+use json_lines::{CompactionEnd, compaction_json};
 use std::alloc::Global;
 use std::time::{Clock, Instant};
-use store::{InstallWatch, bottom};
+use store::{CompactionStep, InstallWatch, bottom};
 use usage::Levels;
 
 /// Who prints the steps of a compaction of all levels, and has files removed after each.
@@ -28,6 +29,8 @@ pub(crate) struct StepPrinter<'t, R> {
     ranges: u64,
     /// The bytes of full blocks that a new file has when it ends.
     file_size: u64,
+    /// Whether the lines are JSON.
+    is_json: bool,
     /// Whether files that the version doesn't need are removed after each step.
     cleans: bool,
     /// The level to which all files go.
@@ -73,6 +76,7 @@ impl<'t, R: Eprint + Clock + AllocGlobal> StepPrinter<'t, R> {
             order: opened.order,
             ranges: task.settings.ranges,
             file_size: task.settings.options.file_size,
+            is_json: task.is_json,
             cleans: task.cleans,
             bottom: bottom(rt.alloc(), &opened.version)?,
             done: 0,
@@ -97,14 +101,14 @@ impl<'t, R: SystemFiles + Print + Eprint + Clock + AllocGlobal> InstallWatch
     fn installed(
         &mut self,
         level: u64,
-        lines: &[u8],
+        step: &CompactionStep,
         before: &Version,
         after: Option<&Version>,
     ) -> bool {
         self.progress.erase();
         tell_step(self.rt, level, self.begun);
         let folder = self.telling.folder;
-        if let Err(refusal) = print_lines(self.rt, lines) {
+        if let Err(refusal) = print_step(self.rt, level, before, step, self.is_json) {
             self.refusal = Some(unprinted(self.rt.alloc(), folder, Levels::All, refusal));
             return false;
         }
@@ -121,7 +125,7 @@ impl<'t, R: SystemFiles + Print + Eprint + Clock + AllocGlobal> InstallWatch
             );
         }
         if self.cleans
-            && let Err(refusal) = clean_installed(self.rt, folder)
+            && let Err(refusal) = clean_installed(self.rt, folder, self.is_json)
         {
             self.refusal = Some(refusal);
             return false;
@@ -133,6 +137,23 @@ impl<'t, R: SystemFiles + Print + Eprint + Clock + AllocGlobal> InstallWatch
         self.begun = self.telling.begin(self.rt);
         true
     }
+}
+
+/// Prints the lines of a compaction of a level of the version `before`, which is installed, or its
+/// JSON line.
+pub(crate) fn print_step<R: Print + AllocGlobal>(
+    rt: &R,
+    level: u64,
+    before: &Version,
+    step: &CompactionStep,
+    is_json: bool,
+) -> Result<(), Refusal> {
+    if !is_json {
+        return print_lines(rt, &step.lines);
+    }
+    let edit = VersionEdit::decode(rt.alloc(), &step.edit)?;
+    let end = CompactionEnd::Installed(before.next_file().unwrap_or(0));
+    print_lines(rt, &compaction_json(rt.alloc(), level, &edit, end)?)
 }
 
 /// Tells how long the compaction of a level took, if its beginning is known.

@@ -15,22 +15,22 @@ use Rattle.clap.proofs.OnLiterals.{clap_on_literals}
 use Rattle.std.proofs.lemmas.Slice.Eq.{bytes_eq-Decides}
 use Rattle.std.specs.Box.{box_value}
 use Rattle.usage.specs.CompactLine.{HasCompact}
-use Rattle.usage.specs.CompactLineParts.{CompactLine}
+use Rattle.usage.specs.CompactLineParts.{IsListFault, IsNoList}
 use Rattle.grammar.specs.Apps.{program_app}
 use Rattle.texts.specs.Spelling.{bytes_of}
 use Rattle.texts.specs.declared.spelling.Spelling.{Spelling}
 use Rattle.usage.specs.KeyParts.{IsKeyFault, IsNoKey}
 use Rattle.usage.specs.Line.{GivesNoKey, GivesRows, HasBlocks, HasGet, HasRows, LacksAll, LacksRows, LineGives, rows_under}
-use Rattle.usage.specs.LineParts.{BlocksLine, GetLine, GivesCommand, GivesTexts, IsRefusal, TextsGiven}
+use Rattle.usage.specs.InstallLine.{HasInstall}
+use Rattle.usage.specs.LineParts.{GivesCommand, GivesTexts, IsKeyAnswer, IsRefusal, TextsGiven}
 use Rattle.usage.specs.ScanLine.{AreBounds, HasScan}
-use Rattle.usage.specs.ScanLineParts.{ScanLine}
+use Rattle.usage.specs.ScanLineParts.{AreOptions}
 use Rattle.usage.specs.declared.command_line.Given.{Given}
 use Rattle.usage.specs.declared.compact_texts.CompactNumbers.{CompactNumbers}
-use Rattle.usage.specs.declared.requests.Levels.{Levels}
+use Rattle.usage.specs.declared.requests.CompactOptions.{CompactOptions}
 use Rattle.usage.specs.declared.requests.Line.{Line}
-use Rattle.usage.specs.declared.requests.Line.TheVariants as line
+use Rattle.usage.specs.declared.requests.RowOptions.{RowOptions}
 use Rattle.usage.specs.declared.requests.Testing.{Testing}
-use Rattle.usage.specs.declared.requests.Verbosity.{Verbosity}
 use Rattle.usage.specs.Usage.{TurnsInto}
 use Rattle.usage.specs.declared.requests.Usage.{Usage}
 use Rattle.usage.specs.declared.requests.Usage.TheVariants.{Key, Snapshots, Memory, Clap, Hexadecimal as NotHexadecimal, Text as NotText}
@@ -150,30 +150,23 @@ TextsGiven-lacking app words s Memory same walked lacks h = tt
 TextsGiven-lacking app words s (Clap d) same walked lacks h =
     inr (subst LacksAll (given_rows app words s same (walked (ap is_simple same ∙ is_simple-program)).1) lacks)
 
--- the line of the texts of `blocks`
-pub LineGives-blocks : (words : List Text) (a b at out : Text) (r : Result Line Usage) → GivesRows words (codes "blocks") (HasBlocks a b at out) → BlocksLine a b at out r → LineGives words r
-LineGives-blocks words a b at out (Ok (line.Blocks a' b' key out')) given h = (
-  at,
-  (
-    subst (λ (x : Text). GivesRows words (codes "blocks") (HasBlocks x b'.now at out'.now)) (sym h.0)
-        (subst (λ (x : Text). GivesRows words (codes "blocks") (HasBlocks a x at out'.now)) (sym h.1.0)
-        (subst (λ (x : Text). GivesRows words (codes "blocks") (HasBlocks a b at x)) (sym h.1.1.1) given)),
-    h.1.1.0,
-  ),
-)
-LineGives-blocks words a b at out (Ok (line.Dump table spelling)) given h = absurd h
-LineGives-blocks words a b at out (Ok (line.Manifest folder spelling is_json verbose)) given h = absurd h
-LineGives-blocks words a b at out (Ok (line.Verify folder is_json memory verbose)) given h = absurd h
-LineGives-blocks words a b at out (Ok (line.Get folder key sequence spelling is_raw is_json testing verbose)) given h = absurd h
-LineGives-blocks words a b at out (Ok (line.Scan folder choice spelling is_json testing verbose)) given h = absurd h
-LineGives-blocks words a b at out (Ok (line.Compact folder levels settings testing verbosity cleans)) given h = absurd h
-LineGives-blocks words a b at out (Ok (line.Clean folder is_dry_run verbose)) given h = absurd h
-LineGives-blocks words a b at out (Err Key) given h = (at, ((a, b, out, given), h))
-LineGives-blocks words a b at out (Err NotHexadecimal) given h = absurd h
-LineGives-blocks words a b at out (Err NotText) given h = absurd h
-LineGives-blocks words a b at out (Err Snapshots) given h = absurd h
-LineGives-blocks words a b at out (Err Memory) given h = tt
-LineGives-blocks words a b at out (Err (Clap e)) given h = absurd h
+-- what the parse gives, known as this command
+pub given_as : (words : List Text) (given known : Given) → given ≡ known → GivesTexts words given → GivesTexts words known
+given_as words given known is h = subst (GivesTexts words) is h
+
+-- the usage that a step hands on
+pub LineGives-residual : (words : List Text) (u : Usage) (r : Result Line Usage) → IsErr r × IsErrAnd r (λ handed. handed ≡ u) → LineGives words (Err u) → LineGives words r
+LineGives-residual words u (Ok made) h gives = absurd h.1
+LineGives-residual words u (Err handed) h gives = subst (λ (x : Usage). LineGives words (Err x)) (sym h.1) gives
+
+-- the usage of the key of `blocks`
+pub LineGives-key : (words : List Text) (a b at out : Text) (u : Usage) → GivesRows words (codes "blocks") (HasBlocks a b at out) → IsKeyAnswer at (Err u) → LineGives words (Err u)
+LineGives-key words a b at out Key given h = (at, ((a, b, out, given), h))
+LineGives-key words a b at out NotHexadecimal given h = absurd h
+LineGives-key words a b at out NotText given h = absurd h
+LineGives-key words a b at out Snapshots given h = absurd h
+LineGives-key words a b at out Memory given h = tt
+LineGives-key words a b at out (Clap e) given h = absurd h
 
 -- the usage of a key of `get` or `scan`
 no_key : (words : List Text) (spelling : Spelling) (Fails : Type 0) (u : Usage) → IsKeyFault spelling Fails u → (Fails → GivesNoKey words spelling) → LineGives words (Err u)
@@ -184,31 +177,10 @@ no_key words spelling Fails Snapshots h gives = absurd h
 no_key words spelling Fails Memory h gives = tt
 no_key words spelling Fails (Clap e) h gives = absurd h
 
--- the line of the texts of `get`
-pub LineGives-get : (words : List Text) (folder key : Text) (at : Option ℕ) (spelling : Spelling) (is_raw is_json : Bool) (testing : Testing) (verbose : Bool) (r : Result Line Usage)
-    → GivesRows words (codes "get") (HasGet folder key at spelling is_raw is_json testing verbose) → GetLine folder key at spelling is_raw is_json testing verbose r → LineGives words r
-LineGives-get words folder key at spelling is_raw is_json testing verbose (Ok (line.Get folder' key' at' spelling' is_raw' is_json' testing' verbose')) given h =
-    let flags = h.1.1.1.1 in (
-      key,
-      (
-        subst (λ (x : Text). GivesRows words (codes "get") (HasGet x key at' spelling' is_raw' is_json' testing' verbose')) (sym h.0)
-            (subst (λ (n : Option ℕ). GivesRows words (codes "get") (HasGet folder key n spelling' is_raw' is_json' testing' verbose')) (sym h.1.1.0)
-            (subst (λ (s : Spelling). GivesRows words (codes "get") (HasGet folder key at s is_raw' is_json' testing' verbose')) (sym h.1.1.1.0)
-            (subst (λ (b : Bool). GivesRows words (codes "get") (HasGet folder key at spelling b is_json' testing' verbose')) (sym flags.0)
-            (subst (λ (b : Bool). GivesRows words (codes "get") (HasGet folder key at spelling is_raw b testing' verbose')) (sym flags.1.0)
-            (subst (λ (t : Testing). GivesRows words (codes "get") (HasGet folder key at spelling is_raw is_json t verbose')) (sym flags.1.1.0)
-            (subst (λ (v : Bool). GivesRows words (codes "get") (HasGet folder key at spelling is_raw is_json testing v)) (sym flags.1.1.1) given)))))),
-        subst (λ (s : Spelling). bytes_of s key ≡ Some key'.items) (sym h.1.1.1.0) h.1.0,
-      ),
-    )
-LineGives-get words folder key at spelling is_raw is_json testing verbose (Ok (line.Blocks a b k out)) given h = absurd h
-LineGives-get words folder key at spelling is_raw is_json testing verbose (Ok (line.Dump table s)) given h = absurd h
-LineGives-get words folder key at spelling is_raw is_json testing verbose (Ok (line.Manifest f s j v)) given h = absurd h
-LineGives-get words folder key at spelling is_raw is_json testing verbose (Ok (line.Verify f j m v)) given h = absurd h
-LineGives-get words folder key at spelling is_raw is_json testing verbose (Ok (line.Scan f choice s j t v)) given h = absurd h
-LineGives-get words folder key at spelling is_raw is_json testing verbose (Ok (line.Compact f levels settings t v cleans)) given h = absurd h
-LineGives-get words folder key at spelling is_raw is_json testing verbose (Ok (line.Clean f d v)) given h = absurd h
-LineGives-get words folder key at spelling is_raw is_json testing verbose (Err u) given h =
+-- the usage of the key of `get`
+pub LineGives-get_key : (words : List Text) (folder key : Text) (at : Option ℕ) (spelling : Spelling) (is_raw is_json : Bool) (testing : Testing) (verbose : Bool) (u : Usage)
+    → GivesRows words (codes "get") (HasGet folder key at spelling is_raw is_json testing verbose) → IsKeyFault spelling (bytes_of spelling key ≡ None) u → LineGives words (Err u)
+LineGives-get_key words folder key at spelling is_raw is_json testing verbose u given h =
     no_key words spelling (bytes_of spelling key ≡ None) u h (λ none. (key, (inl (folder, at, is_raw, is_json, testing, verbose, given), none)))
 
 -- the text of an option that stands for no bytes
@@ -216,33 +188,10 @@ text_given : (spelling : Spelling) (text : Option Text) → IsNoKey spelling tex
 text_given spelling None h = absurd h
 text_given spelling (Some t) h = (t, (refl, h))
 
--- the line of the texts of `scan`
-pub LineGives-scan : (words : List Text) (folder : Text) (from to : Option Text) (at limit : Option ℕ) (with_values : Bool) (spelling : Spelling) (is_json : Bool) (testing : Testing) (verbose : Bool) (r : Result Line Usage)
-    → GivesRows words (codes "scan") (HasScan folder from to at limit with_values spelling is_json testing verbose) → ScanLine folder from to at limit with_values spelling is_json testing verbose r → LineGives words r
-LineGives-scan words folder from to at limit with_values spelling is_json testing verbose (Ok (line.Scan folder' choice spelling' is_json' testing' verbose')) given h =
-    let numbers = h.1.0.1 in (
-      from,
-      to,
-      (
-        subst (λ (x : Text). GivesRows words (codes "scan") (HasScan x from to choice.at choice.limit choice.with_values spelling' is_json' testing' verbose')) (sym h.0)
-            (subst (λ (n : Option ℕ). GivesRows words (codes "scan") (HasScan folder from to n choice.limit choice.with_values spelling' is_json' testing' verbose')) (sym numbers.0)
-            (subst (λ (n : Option ℕ). GivesRows words (codes "scan") (HasScan folder from to at n choice.with_values spelling' is_json' testing' verbose')) (sym numbers.1.0)
-            (subst (λ (b : Bool). GivesRows words (codes "scan") (HasScan folder from to at limit b spelling' is_json' testing' verbose')) (sym numbers.1.1)
-            (subst (λ (s : Spelling). GivesRows words (codes "scan") (HasScan folder from to at limit with_values s is_json' testing' verbose')) (sym h.1.1.0)
-            (subst (λ (b : Bool). GivesRows words (codes "scan") (HasScan folder from to at limit with_values spelling b testing' verbose')) (sym h.1.1.1.0)
-            (subst (λ (t : Testing). GivesRows words (codes "scan") (HasScan folder from to at limit with_values spelling is_json t verbose')) (sym h.1.1.1.1.0)
-            (subst (λ (v : Bool). GivesRows words (codes "scan") (HasScan folder from to at limit with_values spelling is_json testing v)) (sym h.1.1.1.1.1) given))))))),
-        subst (λ (s : Spelling). AreBounds s from to choice) (sym h.1.1.0) h.1.0.0,
-      ),
-    )
-LineGives-scan words folder from to at limit with_values spelling is_json testing verbose (Ok (line.Blocks a b k out)) given h = absurd h
-LineGives-scan words folder from to at limit with_values spelling is_json testing verbose (Ok (line.Dump table s)) given h = absurd h
-LineGives-scan words folder from to at limit with_values spelling is_json testing verbose (Ok (line.Manifest f s j v)) given h = absurd h
-LineGives-scan words folder from to at limit with_values spelling is_json testing verbose (Ok (line.Verify f j m v)) given h = absurd h
-LineGives-scan words folder from to at limit with_values spelling is_json testing verbose (Ok (line.Get f key n s b j t v)) given h = absurd h
-LineGives-scan words folder from to at limit with_values spelling is_json testing verbose (Ok (line.Compact f levels settings t v cleans)) given h = absurd h
-LineGives-scan words folder from to at limit with_values spelling is_json testing verbose (Ok (line.Clean f d v)) given h = absurd h
-LineGives-scan words folder from to at limit with_values spelling is_json testing verbose (Err u) given h =
+-- the usage of the keys of `scan`
+pub LineGives-bounds : (words : List Text) (folder : Text) (from to : Option Text) (at limit : Option ℕ) (with_values : Bool) (spelling : Spelling) (is_json : Bool) (testing : Testing) (verbose : Bool) (u : Usage)
+    → GivesRows words (codes "scan") (HasScan folder from to at limit with_values spelling is_json testing verbose) → IsKeyFault spelling (IsNoKey spelling from ⊎ IsNoKey spelling to) u → LineGives words (Err u)
+LineGives-bounds words folder from to at limit with_values spelling is_json testing verbose u given h =
     no_key words spelling (IsNoKey spelling from ⊎ IsNoKey spelling to) u h (λ none.
     elim none [
       | inl of_from ↦
@@ -253,39 +202,51 @@ LineGives-scan words folder from to at limit with_values spelling is_json testin
           (text.0, (inr (folder, from, to, at, limit, with_values, is_json, testing, verbose, (given, inr text.1.0)), text.1.1))
     ])
 
--- the line of the texts of `compact`
-pub LineGives-compact : (words : List Text) (folder : Text) (levels : Levels) (numbers : CompactNumbers) (since : Option ℕ) (listed : Option Text) (testing : Testing) (verbosity : Verbosity) (cleans : Bool) (r : Result Line Usage)
-    → GivesRows words (codes "compact") (HasCompact folder levels numbers since listed testing verbosity cleans) → CompactLine folder levels numbers since listed testing verbosity cleans r → LineGives words r
-LineGives-compact words folder levels numbers since listed testing verbosity cleans (Ok (line.Compact folder' levels' settings testing' verbosity' cleans')) given h = (
-  numbers,
-  since,
-  listed,
+-- the rows that `scan` is asked for
+pub LineGives-scan : (words : List Text) (folder : Text) (from to : Option Text) (at limit : Option ℕ) (with_values : Bool) (spelling : Spelling) (is_json : Bool) (testing : Testing) (verbose : Bool) (options : RowOptions)
+    → GivesRows words (codes "scan") (HasScan folder from to at limit with_values spelling is_json testing verbose) → AreOptions spelling from to at limit with_values options
+    → (from' to' : Option Text) × (GivesRows words (codes "scan") (HasScan folder from' to' options.at options.limit options.with_values spelling is_json testing verbose) × AreBounds spelling from' to' options)
+LineGives-scan words folder from to at limit with_values spelling is_json testing verbose options given h = (
+  from,
+  to,
   (
-    subst (λ (x : Text). GivesRows words (codes "compact") (HasCompact x levels' numbers since listed testing' verbosity' cleans')) (sym h.0)
-        (subst (λ (n : Levels). GivesRows words (codes "compact") (HasCompact folder n numbers since listed testing' verbosity' cleans')) (sym h.1.0)
-        (subst (λ (t : Testing). GivesRows words (codes "compact") (HasCompact folder levels numbers since listed t verbosity' cleans')) (sym h.1.1.1.0)
-        (subst (λ (v : Verbosity). GivesRows words (codes "compact") (HasCompact folder levels numbers since listed testing v cleans')) (sym h.1.1.1.1.0)
-        (subst (λ (b : Bool). GivesRows words (codes "compact") (HasCompact folder levels numbers since listed testing verbosity b)) (sym h.1.1.1.1.1) given)))),
-    h.1.1.0,
+    subst (λ (n : Option ℕ). GivesRows words (codes "scan") (HasScan folder from to n options.limit options.with_values spelling is_json testing verbose)) (sym h.1.0)
+        (subst (λ (n : Option ℕ). GivesRows words (codes "scan") (HasScan folder from to at n options.with_values spelling is_json testing verbose)) (sym h.1.1.0)
+        (subst (λ (b : Bool). GivesRows words (codes "scan") (HasScan folder from to at limit b spelling is_json testing verbose)) (sym h.1.1.1) given)),
+    h.0,
   ),
 )
-LineGives-compact words folder levels numbers since listed testing verbosity cleans (Ok (line.Blocks a b k out)) given h = absurd h
-LineGives-compact words folder levels numbers since listed testing verbosity cleans (Ok (line.Dump table s)) given h = absurd h
-LineGives-compact words folder levels numbers since listed testing verbosity cleans (Ok (line.Manifest f s j v)) given h = absurd h
-LineGives-compact words folder levels numbers since listed testing verbosity cleans (Ok (line.Verify f j m v)) given h = absurd h
-LineGives-compact words folder levels numbers since listed testing verbosity cleans (Ok (line.Get f key at s b j t v)) given h = absurd h
-LineGives-compact words folder levels numbers since listed testing verbosity cleans (Ok (line.Scan f choice s j t v)) given h = absurd h
-LineGives-compact words folder levels numbers since listed testing verbosity cleans (Ok (line.Clean f d v)) given h = absurd h
-LineGives-compact words folder levels numbers (Some sequence) listed testing verbosity cleans (Err Snapshots) given h = absurd h
-LineGives-compact words folder levels numbers None None testing verbosity cleans (Err Snapshots) given h = absurd h
-LineGives-compact words folder levels numbers None (Some text) testing verbosity cleans (Err Snapshots) given h = (text, ((folder, levels, numbers, testing, verbosity, cleans, given), h))
-LineGives-compact words folder levels numbers since listed testing verbosity cleans (Err Key) given h = absurd h
-LineGives-compact words folder levels numbers since listed testing verbosity cleans (Err NotHexadecimal) given h = absurd h
-LineGives-compact words folder levels numbers since listed testing verbosity cleans (Err NotText) given h = absurd h
-LineGives-compact words folder levels numbers since listed testing verbosity cleans (Err Memory) given h = tt
-LineGives-compact words folder levels numbers since listed testing verbosity cleans (Err (Clap e)) given h = absurd h
+
+-- the usage of a list
+list_fault : (words : List Text) (since : Option ℕ) (listed : Option Text) (u : Usage) → IsListFault since listed u → (IsNoList since listed → LineGives words (Err Snapshots)) → LineGives words (Err u)
+list_fault words since listed Key h gives = absurd h
+list_fault words since listed NotHexadecimal h gives = absurd h
+list_fault words since listed NotText h gives = absurd h
+list_fault words since listed Snapshots h gives = gives h
+list_fault words since listed Memory h gives = tt
+list_fault words since listed (Clap e) h gives = absurd h
+
+-- of `compact`
+pub LineGives-compact_list : (words : List Text) (folder : Text) (options : CompactOptions) (numbers : CompactNumbers) (since : Option ℕ) (listed : Option Text) (u : Usage)
+    → GivesRows words (codes "compact") (HasCompact folder options numbers since listed) → IsListFault since listed u → LineGives words (Err u)
+LineGives-compact_list words folder options numbers since listed u given h = list_fault words since listed u h (no_list since listed given)
+  where
+    no_list : (since : Option ℕ) (listed : Option Text) → GivesRows words (codes "compact") (HasCompact folder options numbers since listed) → IsNoList since listed → LineGives words (Err Snapshots)
+    no_list (Some sequence) listed given none = absurd none
+    no_list None None given none = absurd none
+    no_list None (Some text) given none = (text, (inl (folder, options, numbers, given), none))
+
+-- of `install`
+pub LineGives-install_list : (words : List Text) (folder out : Text) (since : Option ℕ) (listed : Option Text) (testing : Testing) (cleans verbose : Bool) (u : Usage)
+    → GivesRows words (codes "install") (HasInstall folder out since listed testing cleans verbose) → IsListFault since listed u → LineGives words (Err u)
+LineGives-install_list words folder out since listed testing cleans verbose u given h = list_fault words since listed u h (no_list since listed given)
+  where
+    no_list : (since : Option ℕ) (listed : Option Text) → GivesRows words (codes "install") (HasInstall folder out since listed testing cleans verbose) → IsNoList since listed → LineGives words (Err Snapshots)
+    no_list (Some sequence) listed given none = absurd none
+    no_list None None given none = absurd none
+    no_list None (Some text) given none = (text, (inr (folder, out, testing, cleans, verbose, given), none))
 
 -- none of the commands has its texts
-pub MatchOption-lacking : (parsed : Option (Text × List Row)) (r : Option Given) → r ≡ None → LacksAll parsed → MatchOption r (LacksAll parsed) (GivesCommand parsed)
-MatchOption-lacking parsed None e lacks = lacks
-MatchOption-lacking parsed (Some given) e lacks = cc e
+pub MatchOption-lacking : {T : Type 0} (Lacks : Type 0) (Gives : T → Type 0) (r : Option T) → r ≡ None → Lacks → MatchOption r Lacks Gives
+MatchOption-lacking Lacks Gives None e lacks = lacks
+MatchOption-lacking Lacks Gives (Some given) e lacks = cc e

@@ -1,5 +1,5 @@
 -- What is given to the command `compact`, and what it asks for.
-use Rattle.std.specs.Prelude.{◌≡◌, ◌≢◌, ◌⊎◌, ◌==◌, ℕ, Bool, true, false, List, [], map}
+use Rattle.std.specs.Prelude.{◌≡◌, ◌≢◌, ◌⊎◌, ◌==◌, ℕ, true, false, List, [], map}
 use Rattle.std.specs.Prelude.{Option, Some, None, codes, unwrap_or}
 use Rattle.std.specs.List.{All, slice_split}
 use Rattle.std.specs.Str.Parse.{digits_value}
@@ -12,7 +12,9 @@ use Rattle.usage.specs.declared.requests.Levels.TheVariants.{One, All as AllLeve
 use Rattle.keep.specs.declared.snapshots.Snapshots.{Snapshots}
 use Rattle.keep.specs.declared.snapshots.Snapshots.TheVariants.{From, Listed}
 use Rattle.settings.specs.declared.settings.Settings.{Settings}
-use Rattle.usage.specs.declared.requests.Testing.{Testing}
+use Rattle.usage.specs.declared.requests.CompactOptions.{CompactOptions}
+use Rattle.usage.specs.declared.requests.CompactWork.{CompactWork}
+use Rattle.usage.specs.declared.requests.CompactWork.TheVariants.{Installed, Written}
 use Rattle.usage.specs.declared.requests.Verbosity.{Verbosity}
 use Rattle.usage.specs.declared.compact_texts.CompactNumbers.{CompactNumbers}
 
@@ -59,20 +61,49 @@ abbrev pub HasVerbosity : Verbosity → List Row → Type 0
 HasVerbosity verbosity rows = (verbosity.verbose ≡ is_flagged (codes "verbose") rows)
     × (verbosity.explain ≡ is_flagged (codes "explain") rows)
 
--- the rows give this text of DIR, these levels, these options, these flags, and this flag of
--- `--clean`
-abbrev pub HasCompact : Text → Levels → CompactNumbers → Option ℕ → Option Text → Testing →
-    Verbosity → Bool → List Row → Type 0
-HasCompact folder levels numbers since listed testing verbosity cleans rows =
-    (first_of (codes "DIR") rows ≡ Some folder)
-    × HasLevels levels rows × HasNumbers numbers rows × HasReadable since listed rows
-    × HasTesting testing rows × HasVerbosity verbosity rows
-    × (cleans ≡ is_flagged (codes "clean") rows)
+-- the rows give an option of a compaction that is installed: `--all`, `--clean` or `--explain`
+abbrev pub GivesInstalled : List Row → Type 0
+GivesInstalled rows = (is_flagged (codes "all") rows ≡ true)
+    ⊎ ((is_flagged (codes "clean") rows ≡ true) ⊎ (is_flagged (codes "explain") rows ≡ true))
 
--- the rows give no text of DIR, no levels, or an invalid option
+-- the rows give these levels, and neither `--out` nor `--first-number`; or this level, this text of
+-- `--out`, this number of `--first-number`, and no option of a compaction that is installed
+abbrev pub HasWork : CompactWork → List Row → Type 0
+HasWork (Installed levels) rows = HasLevels levels rows × (first_of (codes "out") rows ≡ None)
+    × IsNumberOf (first_of (codes "first-number") rows) None
+HasWork (Written level out first_number) rows = HasLevels (One level) rows
+    × (first_of (codes "out") rows ≡ Some out.now)
+    × IsNumberOf (first_of (codes "first-number") rows) first_number
+    × (is_flagged (codes "clean") rows ≡ false) × (is_flagged (codes "explain") rows ≡ false)
+
+-- the levels are invalid, or `--first-number` is given a text that is no number, or is given without
+-- `--out`, or `--out` is given with an option of a compaction that is installed
+abbrev pub LacksWork : List Row → Type 0
+LacksWork rows = LacksLevels rows ⊎ (IsNoNumber (first_of (codes "first-number") rows)
+    ⊎ (((first_of (codes "out") rows ≡ None) × (first_of (codes "first-number") rows ≢ None))
+    ⊎ ((first_of (codes "out") rows ≢ None) × GivesInstalled rows)))
+
+-- the rows give this work, these options on the test, and these flags
+abbrev pub HasOptions : CompactOptions → List Row → Type 0
+HasOptions options rows = HasWork options.work rows × HasTesting options.testing rows
+    × HasVerbosity options.verbosity rows
+    × (options.is_json ≡ is_flagged (codes "json") rows)
+    × (options.cleans ≡ is_flagged (codes "clean") rows)
+
+-- the work is invalid, or `--memory` is given a text that is no number
+abbrev pub LacksOptions : List Row → Type 0
+LacksOptions rows = LacksWork rows ⊎ LacksMemory rows
+
+-- the rows give this text of DIR, these options, these numbers, and these snapshots
+abbrev pub HasCompact : Text → CompactOptions → CompactNumbers → Option ℕ → Option Text → List Row →
+    Type 0
+HasCompact folder options numbers since listed rows = (first_of (codes "DIR") rows ≡ Some folder)
+    × HasOptions options rows × HasNumbers numbers rows × HasReadable since listed rows
+
+-- the rows give no text of DIR, or an invalid option
 abbrev pub LacksCompact : List Row → Type 0
-LacksCompact rows = (first_of (codes "DIR") rows ≡ None) ⊎ (LacksLevels rows
-    ⊎ (LacksNumbers rows ⊎ (LacksReadable rows ⊎ LacksMemory rows)))
+LacksCompact rows = (first_of (codes "DIR") rows ≡ None)
+    ⊎ (LacksOptions rows ⊎ (LacksNumbers rows ⊎ LacksReadable rows))
 
 -- the texts between commas
 abbrev pub numerals_in : Text → List Text

@@ -5,6 +5,8 @@ pub mod Testing
 pub mod Keys
 pub mod ScanLine
 pub mod CompactLine
+pub mod InstallLine
+pub mod PlainLines
 pub mod Line
 -- serves proofs alone
 pub mod LineParts

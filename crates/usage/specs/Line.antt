@@ -5,20 +5,24 @@ use Rattle.std.specs.Str.{bytes_eq}
 use Rattle.clap.specs.Words.{IsAmong, Row, Text, fault_of, first_of, kind_of, subcommand_of}
 use Rattle.clap.specs.declared.error.Error.{Error}
 use Rattle.grammar.specs.Apps.{program_app}
-use Rattle.usage.specs.CompactLine.{AreSettings, HasCompact, IsNoNumberList, LacksCompact}
+use Rattle.usage.specs.CompactLine.{AreSettings, HasCompact, IsNoNumberList, IsReadable}
+use Rattle.usage.specs.CompactLine.{LacksCompact}
 use Rattle.usage.specs.Flags.{is_flagged, spelling_of}
+use Rattle.usage.specs.InstallLine.{HasInstall, LacksInstall}
+use Rattle.usage.specs.PlainLines.{HasClean, HasDump, HasJob, HasManifest, HasStats, HasTable}
+use Rattle.usage.specs.PlainLines.{HasVerify, LacksJob, LacksPath, LacksStats, LacksTable}
+use Rattle.usage.specs.PlainLines.{LacksVerify}
 use Rattle.usage.specs.ScanLine.{AreBounds, HasScan, LacksScan}
-use Rattle.usage.specs.Testing.{HasTesting, IsMemoryOf, LacksMemory}
+use Rattle.usage.specs.Testing.{HasTesting, LacksMemory}
 use Rattle.texts.specs.Spelling.{bytes_of}
 use Rattle.texts.specs.Text.{IsNoNumber, IsNumberOf, bytes_of_text}
 use Rattle.texts.specs.declared.spelling.Spelling.{Spelling}
 use Rattle.texts.specs.declared.spelling.Spelling.TheVariants as way
-use Rattle.usage.specs.declared.requests.Levels.{Levels}
 use Rattle.usage.specs.declared.compact_texts.CompactNumbers.{CompactNumbers}
+use Rattle.usage.specs.declared.requests.CompactOptions.{CompactOptions}
 use Rattle.usage.specs.declared.requests.Line.{Line}
 use Rattle.usage.specs.declared.requests.Line.TheVariants as line
 use Rattle.usage.specs.declared.requests.Testing.{Testing}
-use Rattle.usage.specs.declared.requests.Verbosity.{Verbosity}
 use Rattle.usage.specs.declared.requests.Usage.{Usage}
 use Rattle.usage.specs.declared.requests.Usage.TheVariants.{Key, Snapshots, Memory, Clap}
 use Rattle.usage.specs.declared.requests.Usage.TheVariants.{Hexadecimal as NotHexadecimal}
@@ -51,39 +55,6 @@ abbrev pub LacksBlocks : List Row → Type 0
 LacksBlocks rows = (first_of (codes "A") rows ≡ None) ⊎ ((first_of (codes "B") rows ≡ None)
     ⊎ ((first_of (codes "at") rows ≡ None) ⊎ (first_of (codes "OUT") rows ≡ None)))
 
--- the rows give no text of one argument
-abbrev pub LacksPath : Text → List Row → Type 0
-LacksPath id rows = first_of id rows ≡ None
-
--- the rows give this text of TABLE, and this spelling
-abbrev pub HasDump : Text → Spelling → List Row → Type 0
-HasDump table spelling rows =
-    (first_of (codes "TABLE") rows ≡ Some table) × (spelling ≡ spelling_of rows)
-
--- the rows give this text of DIR, this spelling, and these flags of `--json` and `--verbose`
-abbrev pub HasManifest : Text → Spelling → Bool → Bool → List Row → Type 0
-HasManifest folder spelling is_json verbose rows = (first_of (codes "DIR") rows ≡ Some folder)
-    × (spelling ≡ spelling_of rows) × (is_json ≡ is_flagged (codes "json") rows)
-    × (verbose ≡ is_flagged (codes "verbose") rows)
-
--- the rows give this text of DIR, and these flags of `--dry-run` and `--verbose`
-abbrev pub HasClean : Text → Bool → Bool → List Row → Type 0
-HasClean folder is_dry_run verbose rows = (first_of (codes "DIR") rows ≡ Some folder)
-    × (is_dry_run ≡ is_flagged (codes "dry-run") rows)
-    × (verbose ≡ is_flagged (codes "verbose") rows)
-
--- the rows give this text of DIR, this flag of `--json`, this number of `--memory`, and this flag
--- of `--verbose`
-abbrev pub HasVerify : Text → Bool → ℕ → Bool → List Row → Type 0
-HasVerify folder is_json memory verbose rows = (first_of (codes "DIR") rows ≡ Some folder)
-    × (is_json ≡ is_flagged (codes "json") rows)
-    × IsMemoryOf (first_of (codes "memory") rows) memory
-    × (verbose ≡ is_flagged (codes "verbose") rows)
-
--- the rows give no text of DIR, or a text of `--memory` that is no number
-abbrev pub LacksVerify : List Row → Type 0
-LacksVerify rows = (first_of (codes "DIR") rows ≡ None) ⊎ LacksMemory rows
-
 -- the rows give these flags of `--raw` and `--json`, and at most one of them is given
 abbrev pub HasValueFlags : Bool → Bool → List Row → Type 0
 HasValueFlags is_raw is_json rows = (is_raw ≡ is_flagged (codes "raw") rows)
@@ -112,16 +83,24 @@ LacksGet rows = (first_of (codes "DIR") rows ≡ None)
     ⊎ ((first_of (codes "KEY") rows ≡ None)
     ⊎ (IsNoNumber (first_of (codes "at") rows) ⊎ (LacksValueFlags rows ⊎ LacksMemory rows)))
 
+-- the parse is no command that takes neither keys nor lists, with all its texts
+abbrev pub LacksPlain : Option (Text × List Row) → Type 0
+LacksPlain parsed = LacksRows (LacksPath (codes "TABLE")) (rows_under (codes "dump") parsed)
+    × (LacksRows (LacksPath (codes "DIR")) (rows_under (codes "manifest") parsed)
+    × (LacksRows LacksStats (rows_under (codes "stats") parsed)
+    × (LacksRows LacksVerify (rows_under (codes "verify") parsed)
+    × (LacksRows LacksTable (rows_under (codes "verify") parsed)
+    × (LacksRows LacksJob (rows_under (codes "job") parsed)
+    × LacksRows (LacksPath (codes "DIR")) (rows_under (codes "clean") parsed))))))
+
 -- the parse is no command with all its texts
 abbrev pub LacksAll : Option (Text × List Row) → Type 0
-LacksAll parsed = LacksRows LacksBlocks (rows_under (codes "blocks") parsed)
-    × (LacksRows (LacksPath (codes "TABLE")) (rows_under (codes "dump") parsed)
-    × (LacksRows (LacksPath (codes "DIR")) (rows_under (codes "manifest") parsed)
-    × (LacksRows LacksVerify (rows_under (codes "verify") parsed)
+LacksAll parsed = LacksPlain parsed
+    × (LacksRows LacksBlocks (rows_under (codes "blocks") parsed)
     × (LacksRows LacksGet (rows_under (codes "get") parsed)
     × (LacksRows LacksScan (rows_under (codes "scan") parsed)
     × (LacksRows LacksCompact (rows_under (codes "compact") parsed)
-    × LacksRows (LacksPath (codes "DIR")) (rows_under (codes "clean") parsed)))))))
+    × LacksRows LacksInstall (rows_under (codes "install") parsed)))))
 
 -- `clap` refuses the words with this error, or they are no command with all its texts
 abbrev pub RefusedWith : List Text → Error → Type 0
@@ -160,44 +139,68 @@ GivesNoKey words spelling = (text : Text)
     × (bytes_of spelling text ≡ None))
 
 -- `clap` accepts the words, and they give `compact` this text of a list of snapshots
+abbrev pub GivesCompactList : List Text → Text → Type 0
+GivesCompactList words text = (folder : Text) × (options : CompactOptions)
+    × (numbers : CompactNumbers)
+    × GivesRows words (codes "compact") (HasCompact folder options numbers None (Some text))
+
+-- `clap` accepts the words, and they give `install` this text of a list of snapshots
+abbrev pub GivesInstallList : List Text → Text → Type 0
+GivesInstallList words text = (folder out : Text) × (testing : Testing) × (cleans verbose : Bool)
+    × GivesRows words (codes "install")
+    (HasInstall folder out None (Some text) testing cleans verbose)
+
+-- `clap` accepts the words, and they give one of the two this text of a list of snapshots
 abbrev pub GivesListText : List Text → Text → Type 0
-GivesListText words text = (folder : Text) × (levels : Levels) × (numbers : CompactNumbers)
-    × (testing : Testing) × (verbosity : Verbosity) × (cleans : Bool)
-    × GivesRows words (codes "compact")
-    (HasCompact folder levels numbers None (Some text) testing verbosity cleans)
+GivesListText words text = GivesCompactList words text ⊎ GivesInstallList words text
 
 -- What a command line asks for: the texts of its command, with those of keys or of a list read. Key
 -- comes exactly if the text of the key of `blocks` is invalid, Hexadecimal or Text exactly if one
--- of `get` or `scan` is, Snapshots exactly if a list is no list of numbers, and `clap`'s error if
--- it refuses the words. Memory may come for any words.
+-- of `get` or `scan` is, Snapshots exactly if a list of `compact` or `install` is no list of
+-- numbers, and `clap`'s error if it refuses the words. Memory may come for any words.
 abbrev pub LineGives : List Text → Result Line Usage → Type 0
-LineGives words (Ok (line.Blocks a b at out)) = (text : Text)
-    × (GivesRows words (codes "blocks") (HasBlocks a.now b.now text out.now)
-    × (bytes_of_text text ≡ Some at.items))
-LineGives words (Ok (line.Dump table spelling)) =
-    GivesRows words (codes "dump") (HasDump table.now spelling)
-LineGives words (Ok (line.Manifest folder spelling is_json verbose)) =
-    GivesRows words (codes "manifest") (HasManifest folder.now spelling is_json verbose)
-LineGives words (Ok (line.Verify folder is_json memory verbose)) =
-    GivesRows words (codes "verify") (HasVerify folder.now is_json memory verbose)
-LineGives words (Ok (line.Get folder key at spelling is_raw is_json testing verbose)) =
+LineGives words (Ok (line.Blocks blocks)) = (text : Text)
+    × (GivesRows words (codes "blocks") (HasBlocks blocks.a.now blocks.b.now text blocks.out.now)
+    × (bytes_of_text text ≡ Some blocks.at.items))
+LineGives words (Ok (line.Dump dump)) =
+    GivesRows words (codes "dump") (HasDump dump.table.now dump.spelling)
+LineGives words (Ok (line.Manifest manifest)) =
+    GivesRows words (codes "manifest")
+    (HasManifest manifest.folder.now manifest.spelling manifest.is_json manifest.verbose)
+LineGives words (Ok (line.Stats stats)) =
+    GivesRows words (codes "stats")
+    (HasStats stats.folder.now stats.spelling stats.is_json stats.memory stats.verbose)
+LineGives words (Ok (line.Verify verify)) =
+    GivesRows words (codes "verify")
+    (HasVerify verify.folder.now verify.form verify.memory verify.verbose)
+LineGives words (Ok (line.Table table)) =
+    GivesRows words (codes "verify") (HasTable table.table.now table.is_json)
+LineGives words (Ok (line.Get get)) =
     (text : Text)
     × (GivesRows words (codes "get")
-    (HasGet folder.now text at spelling is_raw is_json testing verbose)
-    × (bytes_of spelling text ≡ Some key.items))
-LineGives words (Ok (line.Scan folder choice spelling is_json testing verbose)) =
+    (HasGet get.folder.now text get.at get.spelling get.is_raw get.is_json get.testing get.verbose)
+    × (bytes_of get.spelling text ≡ Some get.key.items))
+LineGives words (Ok (line.Scan scan)) =
     (from to : Option Text)
     × (GivesRows words (codes "scan")
-    (HasScan folder.now from to choice.at choice.limit choice.with_values spelling is_json testing
-    verbose)
-    × AreBounds spelling from to choice)
-LineGives words (Ok (line.Compact folder levels settings testing verbosity cleans)) =
+    (HasScan scan.folder.now from to scan.rows.at scan.rows.limit scan.rows.with_values
+    scan.spelling scan.is_json scan.testing scan.verbose)
+    × AreBounds scan.spelling from to scan.rows)
+LineGives words (Ok (line.Job job)) =
+    GivesRows words (codes "job") (HasJob job.folder.now job.level job.verbose)
+LineGives words (Ok (line.Compact compact)) =
     (numbers : CompactNumbers) × (since : Option ℕ) × (listed : Option Text)
     × (GivesRows words (codes "compact")
-    (HasCompact folder.now levels numbers since listed testing verbosity cleans)
-    × AreSettings numbers since listed settings)
-LineGives words (Ok (line.Clean folder is_dry_run verbose)) =
-    GivesRows words (codes "clean") (HasClean folder.now is_dry_run verbose)
+    (HasCompact compact.folder.now compact.options numbers since listed)
+    × AreSettings numbers since listed compact.settings)
+LineGives words (Ok (line.Install install)) =
+    (since : Option ℕ) × (listed : Option Text)
+    × (GivesRows words (codes "install")
+    (HasInstall install.folder.now install.out.now since listed install.testing install.cleans
+    install.verbose)
+    × IsReadable since listed install.snapshots)
+LineGives words (Ok (line.Clean clean)) =
+    GivesRows words (codes "clean") (HasClean clean.folder.now clean.is_dry_run clean.verbose)
 LineGives words (Err Snapshots) = (text : Text) × (GivesListText words text × IsNoNumberList text)
 LineGives words (Err Key) =
     (text : Text) × (GivesBlocksKey words text × (bytes_of_text text ≡ None))

@@ -1,41 +1,54 @@
 -- What the steps of reading a command line answer.
-use Rattle.std.specs.Prelude.{◌≡◌, ℕ, Bool, List, [], Option, Some, None, Result, Ok, Err, codes}
+use Rattle.std.specs.Prelude.{◌≡◌, ℕ, List, [], Option, Some, None, Result, Ok, Err, codes}
 use Rattle.std.specs.Option.{option_map}
 use Rattle.std.specs.Global.{Vec}
 use Rattle.clap.specs.Words.{Row, Text, fault_of, subcommand_of}
 use Rattle.usage.specs.CompactLine.{HasCompact}
 use Rattle.grammar.specs.Apps.{program_app}
-use Rattle.usage.specs.KeyParts.{IsKeyFault}
-use Rattle.usage.specs.Line.{HasBlocks, HasClean, HasDump, HasGet, HasManifest, HasRows, HasVerify}
-use Rattle.usage.specs.Line.{RefusedWith, rows_under}
+use Rattle.usage.specs.InstallLine.{HasInstall}
+use Rattle.usage.specs.Line.{HasBlocks, HasGet, HasRows, LineGives, RefusedWith, rows_under}
+use Rattle.usage.specs.PlainLines.{HasClean, HasDump, HasJob, HasManifest, HasStats, HasTable}
+use Rattle.usage.specs.PlainLines.{HasVerify}
 use Rattle.usage.specs.ScanLine.{HasScan}
-use Rattle.texts.specs.Spelling.{bytes_of}
 use Rattle.texts.specs.Text.{bytes_of_text}
-use Rattle.texts.specs.declared.spelling.Spelling.{Spelling}
 use Rattle.usage.specs.declared.command_line.Given.{Given}
-use Rattle.usage.specs.declared.command_line.Given.TheVariants.{Blocks, Dump, Manifest, Verify, Get}
-use Rattle.usage.specs.declared.command_line.Given.TheVariants.{Scan, Compact, Clean}
+use Rattle.usage.specs.declared.command_line.Given.TheVariants.{Plain, Blocks, Get, Scan, Compact}
+use Rattle.usage.specs.declared.command_line.Given.TheVariants.{Install}
+use Rattle.usage.specs.declared.plain_line.PlainLine.{PlainLine}
+use Rattle.usage.specs.declared.plain_line.PlainLine.TheVariants as plain
 use Rattle.usage.specs.declared.requests.Line.{Line}
-use Rattle.usage.specs.declared.requests.Line.TheVariants as line
-use Rattle.usage.specs.declared.requests.Testing.{Testing}
 use Rattle.usage.specs.declared.requests.Usage.{Usage}
 use Rattle.usage.specs.declared.requests.Usage.TheVariants.{Key, Snapshots, Memory, Clap}
 use Rattle.usage.specs.declared.requests.Usage.TheVariants.{Hexadecimal as NotHexadecimal}
 use Rattle.usage.specs.declared.requests.Usage.TheVariants.{Text as NotText}
 
+-- the parse is a command that takes neither keys nor lists, with this line
+abbrev pub GivesPlain : Option (Text × List Row) → PlainLine → Type 0
+GivesPlain parsed (plain.Dump line) =
+    HasRows (HasDump line.table.now line.spelling) (rows_under (codes "dump") parsed)
+GivesPlain parsed (plain.Manifest line) =
+    HasRows (HasManifest line.folder.now line.spelling line.is_json line.verbose)
+    (rows_under (codes "manifest") parsed)
+GivesPlain parsed (plain.Stats line) =
+    HasRows (HasStats line.folder.now line.spelling line.is_json line.memory line.verbose)
+    (rows_under (codes "stats") parsed)
+GivesPlain parsed (plain.Verify line) =
+    HasRows (HasVerify line.folder.now line.form line.memory line.verbose)
+    (rows_under (codes "verify") parsed)
+GivesPlain parsed (plain.Table line) =
+    HasRows (HasTable line.table.now line.is_json) (rows_under (codes "verify") parsed)
+GivesPlain parsed (plain.Job line) =
+    HasRows (HasJob line.folder.now line.level line.verbose) (rows_under (codes "job") parsed)
+GivesPlain parsed (plain.Clean line) =
+    HasRows (HasClean line.folder.now line.is_dry_run line.verbose)
+    (rows_under (codes "clean") parsed)
+
 -- the parse is a command with these texts
 abbrev pub GivesCommand : Option (Text × List Row) → Given → Type 0
+GivesCommand parsed (Plain line) = GivesPlain parsed line
 GivesCommand parsed (Blocks texts) =
     HasRows (HasBlocks texts.a.now texts.b.now texts.at.now texts.out.now)
     (rows_under (codes "blocks") parsed)
-GivesCommand parsed (Dump texts) =
-    HasRows (HasDump texts.table.now texts.spelling) (rows_under (codes "dump") parsed)
-GivesCommand parsed (Manifest texts) =
-    HasRows (HasManifest texts.folder.now texts.spelling texts.is_json texts.verbose)
-    (rows_under (codes "manifest") parsed)
-GivesCommand parsed (Verify texts) =
-    HasRows (HasVerify texts.folder.now texts.is_json texts.memory texts.verbose)
-    (rows_under (codes "verify") parsed)
 GivesCommand parsed (Get texts) =
     HasRows (HasGet texts.folder.now texts.key.now texts.at texts.spelling texts.flags.is_raw
     texts.flags.is_json texts.testing texts.verbose)
@@ -46,18 +59,24 @@ GivesCommand parsed (Scan texts) =
     texts.rows.with_values texts.spelling texts.is_json texts.testing texts.verbose)
     (rows_under (codes "scan") parsed)
 GivesCommand parsed (Compact texts) =
-    HasRows (HasCompact texts.folder.now texts.levels texts.numbers texts.readable.since
-    (option_map (λ text. text.now) texts.readable.listed) texts.testing texts.verbosity
-    texts.cleans)
+    HasRows (HasCompact texts.folder.now texts.options texts.numbers texts.readable.since
+    (option_map (λ text. text.now) texts.readable.listed))
     (rows_under (codes "compact") parsed)
-GivesCommand parsed (Clean texts) =
-    HasRows (HasClean texts.folder.now texts.is_dry_run texts.verbose)
-    (rows_under (codes "clean") parsed)
+GivesCommand parsed (Install texts) =
+    HasRows (HasInstall texts.folder.now texts.out.now texts.readable.since
+    (option_map (λ text. text.now) texts.readable.listed) texts.testing texts.cleans
+    texts.verbose)
+    (rows_under (codes "install") parsed)
 
 -- `clap` accepts the words, and they give a command with these texts
 abbrev pub GivesTexts : List Text → Given → Type 0
 GivesTexts words given = (fault_of program_app words ≡ [])
     × GivesCommand (subcommand_of program_app words) given
+
+-- the line that such a command is
+abbrev pub IsPlainLine : PlainLine → Line → Type 0
+IsPlainLine plain made =
+    (words : List Text) → GivesTexts words (Plain plain) → LineGives words (Ok made)
 
 -- the refusal of words that `clap` accepts, for another reason than a key or a list
 abbrev pub IsRefusal : Usage → Type 0
@@ -87,27 +106,3 @@ IsKeyAnswer text (Err NotText) = ⊥
 IsKeyAnswer text (Err Snapshots) = ⊥
 IsKeyAnswer text (Err Memory) = Unit {0}
 IsKeyAnswer text (Err (Clap e)) = ⊥
-
--- the line of `blocks` with these texts, or Key if that of the key is invalid
-abbrev pub BlocksLine : Text → Text → Text → Text → Result Line Usage → Type 0
-BlocksLine a b at out (Ok (line.Blocks a' b' key out')) = (a'.now ≡ a)
-    × ((b'.now ≡ b) × ((bytes_of_text at ≡ Some key.items) × (out'.now ≡ out)))
-BlocksLine a b at out (Ok _) = ⊥
-BlocksLine a b at out (Err Key) = bytes_of_text at ≡ None
-BlocksLine a b at out (Err NotHexadecimal) = ⊥
-BlocksLine a b at out (Err NotText) = ⊥
-BlocksLine a b at out (Err Snapshots) = ⊥
-BlocksLine a b at out (Err Memory) = Unit {0}
-BlocksLine a b at out (Err (Clap e)) = ⊥
-
--- the line of `get` with these texts, or the usage of a key that stands for no bytes
-abbrev pub GetLine : Text → Text → Option ℕ → Spelling → Bool → Bool → Testing → Bool →
-    Result Line Usage → Type 0
-GetLine folder key at spelling is_raw is_json testing verbose
-    (Ok (line.Get folder' key' at' spelling' is_raw' is_json' testing' verbose')) =
-    (folder'.now ≡ folder) × ((bytes_of spelling key ≡ Some key'.items)
-    × ((at' ≡ at) × ((spelling' ≡ spelling) × ((is_raw' ≡ is_raw)
-    × ((is_json' ≡ is_json) × ((testing' ≡ testing) × (verbose' ≡ verbose)))))))
-GetLine folder key at spelling is_raw is_json testing verbose (Ok _) = ⊥
-GetLine folder key at spelling is_raw is_json testing verbose (Err usage) =
-    IsKeyFault spelling (bytes_of spelling key ≡ None) usage

@@ -7,7 +7,7 @@ use Rattle.texts.specs.declared.spelling.Spelling.{Spelling}
 use Rattle.usage.specs.Flags.{is_flagged, spelling_of}
 use Rattle.usage.specs.Keys.{IsKeyOf}
 use Rattle.usage.specs.Testing.{HasTesting, LacksMemory}
-use Rattle.usage.specs.declared.requests.RowChoice.{RowChoice}
+use Rattle.usage.specs.declared.requests.RowOptions.{RowOptions}
 use Rattle.usage.specs.declared.requests.Testing.{Testing}
 
 -- the rows give these texts of `--from` and `--to`, these numbers of `--at` and `--limit`, and
@@ -41,7 +41,7 @@ LacksScan rows =
 
 -- the scan begins at the key of the first text and ends before that of the second, if they are
 -- given
-abbrev pub AreBounds : Spelling → Option Text → Option Text → RowChoice → Type 0
-AreBounds spelling from to choice =
-    IsKeyOf spelling from (option_map (λ key. key.items) choice.from)
-    × IsKeyOf spelling to (option_map (λ key. key.items) choice.to)
+abbrev pub AreBounds : Spelling → Option Text → Option Text → RowOptions → Type 0
+AreBounds spelling from to options =
+    IsKeyOf spelling from (option_map (λ key. key.items) options.from)
+    × IsKeyOf spelling to (option_map (λ key. key.items) options.to)

@@ -1,14 +1,19 @@
-//! The line of the command `compact`.
+//! The lines of the commands `compact` and `install`, which may be given a list of snapshots.
 
-ghost use Rattle.std.specs.Prelude.{map, MatchOption, IfOk};
+ghost use Rattle.std.specs.Prelude.{ℕ, List, Option, codes, map, MatchOption, IfOk};
 ghost use Rattle.std.specs.Option.{option_map};
 ghost use Rattle.std.specs.List.{All};
-ghost use Rattle.usage.specs.CompactLine.{AreNumbers, IsNoNumberList, IsNumberList};
+ghost use Rattle.clap.specs.Words.{Text};
+ghost use Rattle.usage.specs.CompactLine.{AreNumbers, AreSettings, HasCompact, IsNoNumberList};
+ghost use Rattle.usage.specs.CompactLine.{IsNumberList, IsReadable};
+ghost use Rattle.usage.specs.CompactLineParts.{IsReadableAnswer};
+ghost use Rattle.usage.specs.InstallLine.{HasInstall};
+ghost use Rattle.usage.specs.Line.{GivesRows, LineGives};
 ghost use Rattle.texts.specs.Text.{IsNumberText};
-ghost use Rattle.usage.specs.CompactLineParts.{CompactLine, IsReadableAnswer};
 
-use crate::compact_texts::{CompactTexts, ReadableTexts};
-use crate::requests::{Line, Usage};
+use crate::compact_texts::{CompactNumbers, CompactTexts, ReadableTexts};
+use crate::install_texts::InstallTexts;
+use crate::requests::{CompactLine, InstallLine, Line, Usage};
 use keep::Snapshots;
 use settings::Settings;
 use std::alloc::{AllocError, Global};
@@ -22,31 +27,58 @@ pub(crate) fn compact_line<'a>(
     texts: CompactTexts<'a>,
     listed: &'a mut Vec<u64>,
 ) -> Result<Line<'a>, Usage>
-    ensures { CompactLine texts.entry.folder.now texts.entry.levels texts.entry.numbers
-        texts.entry.readable.since
-        (option_map (λ text. text.now) texts.entry.readable.listed) texts.entry.testing
-        texts.entry.verbosity texts.entry.cleans result }
+    ensures { (words : List Text) → GivesRows words (codes "compact")
+        (HasCompact texts.entry.folder.now texts.entry.options texts.entry.numbers
+        texts.entry.readable.since (option_map (λ text. text.now) texts.entry.readable.listed))
+        → LineGives words result }
 {
     let snapshots = snapshots(alloc, texts.readable, listed)?;
-    let numbers = texts.numbers;
-    let defaults = Settings::default();
-    Ok(Line::Compact {
+    Ok(Line::Compact(CompactLine {
         folder: texts.folder,
-        levels: texts.levels,
-        settings: Settings {
-            workers: numbers.workers.unwrap_or(defaults.workers),
-            ranges: numbers.ranges.unwrap_or(defaults.ranges),
-            snapshots,
-            options: Options {
-                block_size: numbers.block_size.unwrap_or(defaults.options.block_size),
-                restart_interval: defaults.options.restart_interval,
-                file_size: numbers.file_size.unwrap_or(defaults.options.file_size),
-            },
+        options: texts.options,
+        settings: settings_of(texts.numbers, snapshots),
+    }))
+}
+
+/// The settings of a compaction. A number that isn't given has its default.
+fn settings_of<'a>(numbers: CompactNumbers, snapshots: Snapshots<'a>) -> Settings<'a>
+    ensures { (since : Option ℕ) → (listed : Option Text) → IsReadable since listed snapshots.entry
+        → AreSettings numbers since listed result }
+{
+    let defaults = Settings::default();
+    Settings {
+        workers: numbers.workers.unwrap_or(defaults.workers),
+        ranges: numbers.ranges.unwrap_or(defaults.ranges),
+        snapshots,
+        options: Options {
+            block_size: numbers.block_size.unwrap_or(defaults.options.block_size),
+            restart_interval: defaults.options.restart_interval,
+            file_size: numbers.file_size.unwrap_or(defaults.options.file_size),
         },
+    }
+}
+
+/// The line of `install`, in the same way.
+pub(crate) fn install_line<'a>(
+    alloc: Global,
+    texts: InstallTexts<'a>,
+    listed: &'a mut Vec<u64>,
+) -> Result<Line<'a>, Usage>
+    ensures { (words : List Text) → GivesRows words (codes "install")
+        (HasInstall texts.entry.folder.now texts.entry.out.now texts.entry.readable.since
+        (option_map (λ text. text.now) texts.entry.readable.listed) texts.entry.testing
+        texts.entry.cleans texts.entry.verbose)
+        → LineGives words result }
+{
+    let snapshots = snapshots(alloc, texts.readable, listed)?;
+    Ok(Line::Install(InstallLine {
+        folder: texts.folder,
+        out: texts.out,
+        snapshots,
         testing: texts.testing,
-        verbosity: texts.verbosity,
         cleans: texts.cleans,
-    })
+        verbose: texts.verbose,
+    }))
 }
 
 /// The sequences that stay readable, with the numbers of a list in `listed`.

@@ -1,15 +1,17 @@
 //! What is given to the command `compact`, read from the command line.
 
-ghost use Rattle.std.specs.Prelude.{None, MatchOption, codes};
+ghost use Rattle.std.specs.Prelude.{◌≡◌, None, Some, MatchOption, codes};
 ghost use Rattle.std.specs.Option.{option_map};
-ghost use Rattle.clap.specs.Words.{found_of, rows_of, subcommand_rows_of};
-ghost use Rattle.usage.specs.CompactLine.{HasCompact, HasLevels, HasNumbers, HasReadable};
-ghost use Rattle.usage.specs.CompactLine.{HasVerbosity, LacksCompact, LacksLevels, LacksNumbers};
-ghost use Rattle.usage.specs.CompactLine.{LacksReadable};
+ghost use Rattle.clap.specs.Words.{first_of, found_of, rows_of, subcommand_rows_of};
+ghost use Rattle.texts.specs.Text.{IsNumberOf};
+ghost use Rattle.usage.specs.CompactLine.{HasCompact, HasLevels, HasNumbers};
+ghost use Rattle.usage.specs.CompactLine.{HasOptions, HasReadable, HasVerbosity, HasWork};
+ghost use Rattle.usage.specs.CompactLine.{LacksCompact, LacksLevels, LacksNumbers};
+ghost use Rattle.usage.specs.CompactLine.{LacksOptions, LacksReadable, LacksWork};
 ghost use Rattle.usage.specs.Line.{HasRows, LacksRows, rows_under};
 
 use crate::arguments::{first_number, first_text, is_flagged};
-use crate::requests::{Levels, Testing, Verbosity};
+use crate::requests::{CompactOptions, CompactWork, Levels, Verbosity};
 use crate::test_options::testing_of;
 use clap::ArgMatches;
 
@@ -58,7 +60,7 @@ pub(crate) struct ReadableTexts<'a> {
 
 impl<'a> ReadableTexts<'a> {
     /// The number or the text. None if the number is invalid, or if both are given.
-    fn of(values: &ArgMatches<'a>) -> Option<ReadableTexts<'a>>
+    pub(crate) fn of(values: &ArgMatches<'a>) -> Option<ReadableTexts<'a>>
         ensures { let rows = rows_of (found_of values.now) in
             MatchOption result (LacksReadable rows)
             (λ texts. HasReadable texts.since (option_map (λ text. text.now) texts.listed) rows) }
@@ -78,28 +80,24 @@ impl<'a> ReadableTexts<'a> {
 #[derive(Clone, Copy)]
 pub(crate) struct CompactTexts<'a> {
     pub folder: &'a str,
-    pub levels: Levels,
+    pub options: CompactOptions<'a>,
     pub numbers: CompactNumbers,
     pub readable: ReadableTexts<'a>,
-    pub testing: Testing,
-    pub verbosity: Verbosity,
-    pub cleans: bool,
 }
 
 impl<'a> CompactTexts<'a> {
-    /// The texts and numbers. None if DIR is missing, if not exactly one of `--level` and `--all`
-    /// is given, if both options on snapshots are given, or if a number is invalid.
+    /// The texts and numbers. None if DIR is missing, if options are missing or exclude one
+    /// another, or if a number is invalid.
     fn of(values: &ArgMatches<'a>) -> Option<CompactTexts<'a>>
         ensures { let rows = rows_of (found_of values.now) in
             MatchOption result (LacksCompact rows)
-            (λ texts. HasCompact texts.folder.now texts.levels texts.numbers texts.readable.since
-            (option_map (λ text. text.now) texts.readable.listed) texts.testing texts.verbosity
-            texts.cleans rows) }
+            (λ texts. HasCompact texts.folder.now texts.options texts.numbers texts.readable.since
+            (option_map (λ text. text.now) texts.readable.listed) rows) }
     {
         let Some(folder) = first_text(values, "DIR") else {
             return None;
         };
-        let Some(levels) = levels_of(values) else {
+        let Some(options) = options_of(values) else {
             return None;
         };
         let Some(numbers) = CompactNumbers::of(values) else {
@@ -108,18 +106,82 @@ impl<'a> CompactTexts<'a> {
         let Some(readable) = ReadableTexts::of(values) else {
             return None;
         };
-        let Ok(testing) = testing_of(values) else {
-            return None;
-        };
         Some(CompactTexts {
             folder,
-            levels,
+            options,
             numbers,
             readable,
-            testing,
-            verbosity: verbosity_of(values),
-            cleans: is_flagged(values, "clean"),
         })
+    }
+}
+
+/// What is asked for beside the settings. None if not exactly one of `--level` and `--all` is
+/// given, if `--out` is given with what excludes it, or `--first-number` without it, or if a number
+/// is invalid.
+fn options_of<'a>(values: &ArgMatches<'a>) -> Option<CompactOptions<'a>>
+    ensures { let rows = rows_of (found_of values.now) in
+        MatchOption result (LacksOptions rows) (λ options. HasOptions options rows) }
+{
+    let Some(work) = work_of(values) else {
+        return None;
+    };
+    let Ok(testing) = testing_of(values) else {
+        return None;
+    };
+    Some(CompactOptions {
+        work,
+        testing,
+        verbosity: verbosity_of(values),
+        is_json: is_flagged(values, "json"),
+        cleans: is_flagged(values, "clean"),
+    })
+}
+
+/// What is compacted, and where the outcome goes. None if not exactly one of `--level` and `--all`
+/// is given, if `--out` is given with an option of a compaction that is installed, if
+/// `--first-number` is given without it, or if a number is invalid.
+fn work_of<'a>(values: &ArgMatches<'a>) -> Option<CompactWork<'a>>
+    ensures { let rows = rows_of (found_of values.now) in
+        MatchOption result (LacksWork rows) (λ work. HasWork work rows) }
+{
+    let Some(levels) = levels_of(values) else {
+        return None;
+    };
+    let Ok(first_number) = first_number(values, "first-number") else {
+        return None;
+    };
+    match first_text(values, "out") {
+        Some(out) => written(values, levels, out, first_number),
+        None => match first_number {
+            Some(_) => None,
+            None => Some(CompactWork::Installed(levels)),
+        },
+    }
+}
+
+/// The compaction of a level whose outcome goes into a folder. None if it is of all levels, or if
+/// an option of a compaction that is installed is given.
+fn written<'a>(
+    values: &ArgMatches<'_>,
+    levels: Levels,
+    out: &'a str,
+    first_number: Option<u64>,
+) -> Option<CompactWork<'a>>
+    ensures { let rows = rows_of (found_of values.now) in
+        HasLevels levels rows → first_of (codes "out") rows ≡ Some out.entry.now
+        → IsNumberOf (first_of (codes "first-number") rows) first_number
+        → MatchOption result (LacksWork rows) (λ work. HasWork work rows) }
+{
+    if is_flagged(values, "clean") || is_flagged(values, "explain") {
+        return None;
+    }
+    match levels {
+        Levels::One(level) => Some(CompactWork::Written {
+            level,
+            out,
+            first_number,
+        }),
+        Levels::All => None,
     }
 }
 
@@ -154,9 +216,8 @@ pub(crate) fn compact_texts<'a>(matches: &ArgMatches<'a>) -> Option<CompactTexts
     ensures { let given = rows_under (codes "compact") (subcommand_rows_of matches.now) in
         MatchOption result (LacksRows LacksCompact given)
         (λ texts. HasRows
-        (HasCompact texts.folder.now texts.levels texts.numbers texts.readable.since
-        (option_map (λ text. text.now) texts.readable.listed) texts.testing texts.verbosity
-        texts.cleans) given) }
+        (HasCompact texts.folder.now texts.options texts.numbers texts.readable.since
+        (option_map (λ text. text.now) texts.readable.listed)) given) }
 {
     let Some(values) = matches.subcommand_matches("compact") else {
         return None;

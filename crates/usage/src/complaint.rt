@@ -4,24 +4,24 @@ ghost use Rattle.std.specs.Prelude.{◌≡◌, IfOk};
 ghost use Rattle.clap.specs.Words.{kind_of};
 
 use crate::arguments::{first_text, is_flagged};
+use crate::exclusions::{
+    COMPACT_EXCLUSIONS, Exclusion, GET_EXCLUSIONS, INSTALL_EXCLUSIONS, VERIFY_EXCLUSIONS,
+};
 use clap::ArgMatches;
 use clap::error::{Error, ErrorKind};
 use grammar::{CommandName, command_alone};
 use std::alloc::{AllocError, Global};
 
-/// The message if `--level` and `--all` are both given.
-const LEVEL_WITH_ALL: &str = "the argument '--level <N>' cannot be used with '--all'";
-
-/// The message if neither is given.
+/// The message if neither `--level` nor `--all` is given.
 const NO_LEVELS: &str =
     "the following required arguments were not provided:\n  <--level <N>|--all>";
 
-/// The message if both options on snapshots are given.
-const SNAPSHOT_WITH_LIST: &str =
-    "the argument '--snapshot <S>' cannot be used with '--snapshots <S,S,..>'";
+/// The message if `--first-number` is given alone.
+const NO_OUT: &str = "the following required arguments were not provided:\n  --out <OUT>";
 
-/// The message if both options on how a value is printed are given.
-const JSON_WITH_RAW: &str = "the argument '--json' cannot be used with '--raw'";
+/// The message if neither a folder nor a table is given.
+const NO_FOLDER: &str =
+    "the following required arguments were not provided:\n  <DIR|--table <FILE>>";
 
 /// The message for a text that is no number.
 const NO_DIGITS: &str = "a number is written in decimal digits alone";
@@ -50,13 +50,64 @@ pub(crate) fn complaint_of(matches: &ArgMatches<'_>) -> Complaint {
     if let Some(values) = matches.subcommand_matches("compact") {
         return compact_complaint(values);
     }
-    if let Some(values) = matches.subcommand_matches("get") {
-        return get_complaint(values);
+    if let Some(values) = matches.subcommand_matches("verify") {
+        return verify_complaint(values);
     }
-    if matches.subcommand_matches("verify").is_some() {
-        return number_complaint(CommandName::Verify);
+    if let Some(values) = matches.subcommand_matches("get") {
+        return complaint_by(CommandName::Get, GET_EXCLUSIONS, values);
+    }
+    if let Some(values) = matches.subcommand_matches("install") {
+        return complaint_by(CommandName::Install, INSTALL_EXCLUSIONS, values);
+    }
+    if matches.subcommand_matches("stats").is_some() {
+        return number_complaint(CommandName::Stats);
+    }
+    if matches.subcommand_matches("job").is_some() {
+        return number_complaint(CommandName::Job);
     }
     number_complaint(CommandName::Scan)
+}
+
+/// What is wrong with what is given to `verify`.
+fn verify_complaint(values: &ArgMatches<'_>) -> Complaint {
+    if first_text(values, "DIR").is_none() && first_text(values, "table").is_none() {
+        return missing(CommandName::Verify, NO_FOLDER);
+    }
+    complaint_by(CommandName::Verify, VERIFY_EXCLUSIONS, values)
+}
+
+/// What is wrong with what is given to `compact`.
+fn compact_complaint(values: &ArgMatches<'_>) -> Complaint {
+    let complaint = complaint_by(CommandName::Compact, COMPACT_EXCLUSIONS, values);
+    if complaint.kind == ErrorKind::ArgumentConflict {
+        return complaint;
+    }
+    if first_text(values, "level").is_none() && !is_flagged(values, "all") {
+        return missing(CommandName::Compact, NO_LEVELS);
+    }
+    if first_text(values, "first-number").is_some() && first_text(values, "out").is_none() {
+        return missing(CommandName::Compact, NO_OUT);
+    }
+    complaint
+}
+
+/// That arguments of the command exclude each other: the first of these whose two sides are given.
+/// If there is none, a number of it has a sign.
+fn complaint_by(
+    command: CommandName,
+    exclusions: &[Exclusion],
+    values: &ArgMatches<'_>,
+) -> Complaint {
+    for exclusion in exclusions {
+        if exclusion.applies(values) {
+            return Complaint {
+                command,
+                kind: ErrorKind::ArgumentConflict,
+                text: exclusion.text,
+            };
+        }
+    }
+    number_complaint(command)
 }
 
 /// That a number of the command has a sign.
@@ -68,39 +119,11 @@ fn number_complaint(command: CommandName) -> Complaint {
     }
 }
 
-/// What is wrong with what is given to `get`.
-fn get_complaint(values: &ArgMatches<'_>) -> Complaint {
-    if is_flagged(values, "json") && is_flagged(values, "raw") {
-        return conflict(CommandName::Get, JSON_WITH_RAW);
-    }
-    number_complaint(CommandName::Get)
-}
-
-/// What is wrong with what is given to `compact`.
-fn compact_complaint(values: &ArgMatches<'_>) -> Complaint {
-    let has_level = first_text(values, "level").is_some();
-    let has_all = is_flagged(values, "all");
-    if has_level && has_all {
-        return conflict(CommandName::Compact, LEVEL_WITH_ALL);
-    }
-    if first_text(values, "snapshot").is_some() && first_text(values, "snapshots").is_some() {
-        return conflict(CommandName::Compact, SNAPSHOT_WITH_LIST);
-    }
-    if has_level || has_all {
-        return number_complaint(CommandName::Compact);
-    }
-    Complaint {
-        command: CommandName::Compact,
-        kind: ErrorKind::MissingRequiredArgument,
-        text: NO_LEVELS,
-    }
-}
-
-/// That two options of a command exclude each other.
-fn conflict(command: CommandName, text: &'static str) -> Complaint {
+/// That an argument of the command is missing.
+fn missing(command: CommandName, text: &'static str) -> Complaint {
     Complaint {
         command,
-        kind: ErrorKind::ArgumentConflict,
+        kind: ErrorKind::MissingRequiredArgument,
         text,
     }
 }

@@ -10,11 +10,19 @@ mod command_line;
 mod compact_line;
 mod compact_texts;
 mod complaint;
+mod exclusions;
+mod install_texts;
 mod keys;
+mod plain_line;
 mod requests;
 mod scan_line;
 mod scan_texts;
 mod test_options;
+mod verify_line;
 
 pub use command_line::line;
-pub use requests::{Levels, Line, RowChoice, Testing, Usage, Verbosity};
+pub use requests::{
+    BlocksLine, CleanLine, CompactLine, CompactOptions, CompactWork, DumpLine, GetLine,
+    InstallLine, JobLine, Levels, Line, ManifestLine, RowOptions, ScanLine, StatsLine, TableLine,
+    Testing, Usage, Verbosity, VerdictForm, VerifyLine,
+};

@@ -5,6 +5,7 @@ ghost use Rattle.usage.specs.Usage.{TurnsInto};
 ghost use Rattle.usage.specs.declared.requests.Usage.TheVariants.{Memory};
 
 use clap::error::ErrorKind;
+use keep::Snapshots;
 use settings::Settings;
 use std::alloc::AllocError;
 use texts::Spelling;
@@ -13,108 +14,206 @@ use texts::Spelling;
 #[derive(Debug, Drop)]
 pub enum Line<'a> {
     /// Merges the blocks in two files into one, over two ranges: before a key and from it on.
-    Blocks {
-        /// The path of the first file.
-        a: &'a str,
-        /// The path of the second file.
-        b: &'a str,
-        /// The user key at which the second range begins.
-        at: Vec<u8>,
-        /// The path of the file that gets the block.
-        out: &'a str,
-    },
+    Blocks(BlocksLine<'a>),
     /// Prints the entries of a table.
-    Dump {
-        /// The path of the table's file.
-        table: &'a str,
-        /// How keys and values are printed.
-        spelling: Spelling,
-    },
+    Dump(DumpLine<'a>),
     /// Prints the version that a database folder holds.
-    Manifest {
-        /// The path of the folder.
-        folder: &'a str,
-        /// How keys are printed.
-        spelling: Spelling,
-        /// Whether it is printed as JSON.
-        is_json: bool,
-        /// Whether more is told on the standard error.
-        verbose: bool,
-    },
+    Manifest(ManifestLine<'a>),
+    /// Prints how many files, bytes and entries each level of a version has.
+    Stats(StatsLine<'a>),
     /// Checks whether the version that a database folder holds is lawful.
-    Verify {
-        /// The path of the folder.
-        folder: &'a str,
-        /// Whether the answer is printed as JSON.
-        is_json: bool,
-        /// How many MiB of tables the test may hold, 1 to 2^24.
-        memory: u64,
-        /// Whether more is told on the standard error.
-        verbose: bool,
-    },
+    Verify(VerifyLine<'a>),
+    /// Checks whether a file is a table.
+    Table(TableLine<'a>),
     /// Prints the value of a user key at a sequence.
-    Get {
-        /// The path of the folder.
-        folder: &'a str,
-        /// The user key.
-        key: Vec<u8>,
-        /// The sequence, any number. Without it, the version's last sequence.
-        at: Option<u64>,
-        /// How the key was given and the value is printed.
-        spelling: Spelling,
-        /// Whether the bytes of the value are printed themselves.
-        is_raw: bool,
-        /// Whether key and value are printed as JSON. At most one of the two is asked for.
-        is_json: bool,
-        /// How the version is tested before.
-        testing: Testing,
-        /// Whether more is told on the standard error.
-        verbose: bool,
-    },
+    Get(GetLine<'a>),
     /// Prints the user keys that have a value at a sequence, in their order.
-    Scan {
-        /// The path of the folder.
-        folder: &'a str,
-        /// Which keys are printed, and whether with their values.
-        rows: RowChoice,
-        /// How keys were given, and how keys and values are printed.
-        spelling: Spelling,
-        /// Whether they are printed as JSON.
-        is_json: bool,
-        /// How the version is tested before.
-        testing: Testing,
-        /// Whether more is told on the standard error.
-        verbose: bool,
-    },
+    Scan(ScanLine<'a>),
+    /// Prints the names of the files that a compaction of a level would read.
+    Job(JobLine<'a>),
     /// Compacts a level of a database folder into the next one, or all levels downwards.
-    Compact {
-        /// The path of the folder.
-        folder: &'a str,
-        /// Which levels.
-        levels: Levels,
-        /// The settings of each compaction.
-        settings: Settings<'a>,
-        /// How the version is tested before.
-        testing: Testing,
-        /// What is told of it on the standard error.
-        verbosity: Verbosity,
-        /// Whether files that no version needs are removed after each installation.
-        cleans: bool,
-    },
+    Compact(CompactLine<'a>),
+    /// Installs the outcome of a compaction in the database folder that it was made of.
+    Install(InstallLine<'a>),
     /// Removes the files of a database folder that no version needs.
-    Clean {
-        /// The path of the folder.
-        folder: &'a str,
-        /// Whether the files are only told, and none is removed.
-        is_dry_run: bool,
-        /// Whether more is told on the standard error.
-        verbose: bool,
-    },
+    Clean(CleanLine<'a>),
+}
+
+/// What is asked for of `blocks`.
+#[derive(Debug, Drop)]
+pub struct BlocksLine<'a> {
+    /// The path of the first file.
+    pub a: &'a str,
+    /// The path of the second file.
+    pub b: &'a str,
+    /// The user key at which the second range begins.
+    pub at: Vec<u8>,
+    /// The path of the file that gets the block.
+    pub out: &'a str,
+}
+
+/// What is asked for of `dump`.
+#[derive(Clone, Copy, Debug)]
+pub struct DumpLine<'a> {
+    /// The path of the table's file.
+    pub table: &'a str,
+    /// How keys and values are printed.
+    pub spelling: Spelling,
+}
+
+/// What is asked for of `manifest`.
+#[derive(Clone, Copy, Debug)]
+pub struct ManifestLine<'a> {
+    /// The path of the folder.
+    pub folder: &'a str,
+    /// How keys are printed.
+    pub spelling: Spelling,
+    /// Whether the version is printed as JSON.
+    pub is_json: bool,
+    /// Whether more is told on the standard error.
+    pub verbose: bool,
+}
+
+/// What is asked for of `stats`.
+#[derive(Clone, Copy, Debug)]
+pub struct StatsLine<'a> {
+    /// The path of the folder.
+    pub folder: &'a str,
+    /// How keys are printed.
+    pub spelling: Spelling,
+    /// Whether the answer is printed as JSON.
+    pub is_json: bool,
+    /// How many MiB of tables the test before may hold, 1 to 2^24.
+    pub memory: u64,
+    /// Whether more is told on the standard error.
+    pub verbose: bool,
+}
+
+/// What is asked for of `verify` of a folder.
+#[derive(Clone, Copy, Debug)]
+pub struct VerifyLine<'a> {
+    /// The path of the folder.
+    pub folder: &'a str,
+    /// What is printed.
+    pub form: VerdictForm,
+    /// How many MiB of tables the test may hold, 1 to 2^24.
+    pub memory: u64,
+    /// Whether more is told on the standard error.
+    pub verbose: bool,
+}
+
+/// What is asked for of `verify` of a table.
+#[derive(Clone, Copy, Debug)]
+pub struct TableLine<'a> {
+    /// The path of the table's file.
+    pub table: &'a str,
+    /// Whether the answer is printed as JSON.
+    pub is_json: bool,
+}
+
+/// What is asked for of `get`.
+#[derive(Debug, Drop)]
+pub struct GetLine<'a> {
+    /// The path of the folder.
+    pub folder: &'a str,
+    /// The user key.
+    pub key: Vec<u8>,
+    /// The sequence, any number. Without it, the version's last sequence.
+    pub at: Option<u64>,
+    /// How the key was given and the value is printed.
+    pub spelling: Spelling,
+    /// Whether the bytes of the value are printed themselves.
+    pub is_raw: bool,
+    /// Whether key and value are printed as JSON. At most one of the two is asked for.
+    pub is_json: bool,
+    /// How the version is tested before.
+    pub testing: Testing,
+    /// Whether more is told on the standard error.
+    pub verbose: bool,
+}
+
+/// What is asked for of `scan`.
+#[derive(Debug, Drop)]
+pub struct ScanLine<'a> {
+    /// The path of the folder.
+    pub folder: &'a str,
+    /// Which keys are printed, and whether with their values.
+    pub rows: RowOptions,
+    /// How keys were given, and how keys and values are printed.
+    pub spelling: Spelling,
+    /// Whether they are printed as JSON.
+    pub is_json: bool,
+    /// How the version is tested before.
+    pub testing: Testing,
+    /// Whether more is told on the standard error.
+    pub verbose: bool,
+}
+
+/// What is asked for of `job`.
+#[derive(Clone, Copy, Debug)]
+pub struct JobLine<'a> {
+    /// The path of the folder.
+    pub folder: &'a str,
+    /// The level, any number.
+    pub level: u64,
+    /// Whether more is told on the standard error.
+    pub verbose: bool,
+}
+
+/// What is asked for of `compact`.
+#[derive(Clone, Copy, Debug)]
+pub struct CompactLine<'a> {
+    /// The path of the folder.
+    pub folder: &'a str,
+    /// What is asked for beside the settings.
+    pub options: CompactOptions<'a>,
+    /// The settings of each compaction.
+    pub settings: Settings<'a>,
+}
+
+/// What is asked for of `install`.
+#[derive(Clone, Copy, Debug)]
+pub struct InstallLine<'a> {
+    /// The path of the folder.
+    pub folder: &'a str,
+    /// The path of the folder that has the outcome.
+    pub out: &'a str,
+    /// The sequences at which gets have to answer as before. None is given if the test is skipped.
+    pub snapshots: Snapshots<'a>,
+    /// How the outcome is tested before: it is compared with the inputs, unless the test is
+    /// skipped.
+    pub testing: Testing,
+    /// Whether files that no version needs are removed after the installation.
+    pub cleans: bool,
+    /// Whether more is told on the standard error.
+    pub verbose: bool,
+}
+
+/// What is asked for of `clean`.
+#[derive(Clone, Copy, Debug)]
+pub struct CleanLine<'a> {
+    /// The path of the folder.
+    pub folder: &'a str,
+    /// Whether the files are only told, and none is removed.
+    pub is_dry_run: bool,
+    /// Whether more is told on the standard error.
+    pub verbose: bool,
+}
+
+/// What `verify` prints of a version.
+#[derive(Clone, Copy, Debug, PartialEq, Eq)]
+pub enum VerdictForm {
+    /// A line, if it is lawful.
+    Line,
+    /// The same as JSON.
+    Json,
+    /// All faults of its files, a line each.
+    AllFaults,
 }
 
 /// Which rows a scan prints.
 #[derive(Debug, Drop)]
-pub struct RowChoice {
+pub struct RowOptions {
     /// The user key at which the scan begins. Without it, the first one.
     pub from: Option<Vec<u8>>,
     /// The user key before which the scan ends. Without it, the scan ends with the last one.
@@ -125,6 +224,39 @@ pub struct RowChoice {
     pub limit: Option<u64>,
     /// Whether each key has its value beside it.
     pub with_values: bool,
+}
+
+/// What is asked for of `compact` beside its settings.
+#[derive(Clone, Copy, Debug)]
+pub struct CompactOptions<'a> {
+    /// Which levels, and where the outcome goes.
+    pub work: CompactWork<'a>,
+    /// How the version is tested before.
+    pub testing: Testing,
+    /// What is told of it on the standard error.
+    pub verbosity: Verbosity,
+    /// Whether its lines are JSON.
+    pub is_json: bool,
+    /// Whether files that no version needs are removed after each installation.
+    pub cleans: bool,
+}
+
+/// What is compacted, and where the outcome goes.
+#[derive(Clone, Copy, Debug)]
+pub enum CompactWork<'a> {
+    /// These levels. Each outcome is installed in the folder.
+    Installed(Levels),
+    /// A level, once. The outcome goes into a folder of its own, and the other one is only read. No
+    /// account is told then, and no file is removed.
+    Written {
+        /// The level.
+        level: u64,
+        /// The path of the folder that gets the outcome.
+        out: &'a str,
+        /// The number of the first new table. Without it, the one after the version's next file
+        /// number.
+        first_number: Option<u64>,
+    },
 }
 
 /// How a version is tested before the work on it.
@@ -164,7 +296,7 @@ pub enum Usage {
     Hexadecimal,
     /// The text of a key of `get` or `scan` stands for no bytes, and `--text` is given.
     Text,
-    /// The text of a list of snapshots is no list of numbers.
+    /// The text of a list of snapshots, of `compact` or `install`, is no list of numbers.
     Snapshots,
     /// Out of memory.
     Memory,

@@ -27,7 +27,7 @@ pub(crate) struct Row {
 pub(crate) const CURRENT: &[u8] = b"MANIFEST-000005\n";
 
 /// CURRENT of manifest 9.
-const NINE: (&str, &[u8]) = ("CURRENT", b"MANIFEST-000009\n");
+pub(crate) const NINE: (&str, &[u8]) = ("CURRENT", b"MANIFEST-000009\n");
 
 /// The default settings.
 pub(crate) const DEFAULTS: Settings<'static> = Settings {
@@ -95,13 +95,13 @@ const NOTHING_LEFT: &[u8] = b"\
 
 /// `log: comparator leveldb.BytewiseComparator, log 3, previous 0, next 9, last 4, file 1 7 125
 /// u@4 del .. u@2 put, file 3 8 127 t@1 put .. v@1 put`
-const FILE_ABOVE: &[u8] = b"\
+pub(crate) const FILE_ABOVE: &[u8] = b"\
     \xb3\xf7\x8e\x0eT\0\x01\x01\x1aleveldb.BytewiseComparator\x02\x03\x09\0\x03\x09\x04\x04\x07\
     \x01\x07\x7d\x09u\0\x04\0\0\0\0\0\0\x09u\x01\x02\0\0\0\0\0\0\x07\x03\x08\x7f\x09t\x01\x01\0\0\
     \0\0\0\0\x09v\x01\x01\0\0\0\0\0\0";
 
 /// `table: t@1 put x, v@1 put x`
-const T_AND_V: &[u8] = b"\
+pub(crate) const T_AND_V: &[u8] = b"\
     \0\x09\x01t\x01\x01\0\0\0\0\0\0x\0\x09\x01v\x01\x01\0\0\0\0\0\0x\0\0\0\0\x01\0\0\0\0\x60\xd8EQ\
     \0\0\0\0\x01\0\0\0\0\xc0\xf2\xa1\xb0\0\x09\x02v\x01\x01\0\0\0\0\0\0\0\x22\0\0\0\0\x01\0\0\0\0\
     \x25\x5e\x5d\xfa\x27\x084\x16\0\0\0\0\0\0\0\0\0\0\0\0\0\0\0\0\0\0\0\0\0\0\0\0\0\0\0\0\0\0\0\0\
@@ -116,21 +116,21 @@ pub(crate) const U4_DELETED: &[u8] = b"\
 /// `log: comparator leveldb.BytewiseComparator, file 1 7 125 u@4 del .. u@2 put, file 3 8 127 t@1
 /// put .. v@1 put | log 3, previous 0, next 11, last 4, pointer 1 u@2 put, delete 1 7, file 2 10
 /// 113 u@4 del .. u@4 del`
-const DELETION_LEFT: &[u8] = b"\
+pub(crate) const DELETION_LEFT: &[u8] = b"\
     \x8b\x89\xe2FL\0\x01\x01\x1aleveldb.BytewiseComparator\x07\x01\x07\x7d\x09u\0\x04\0\0\0\0\0\0\
     \x09u\x01\x02\0\0\0\0\0\0\x07\x03\x08\x7f\x09t\x01\x01\0\0\0\0\0\0\x09v\x01\x01\0\0\0\0\0\0\
     \xcc\xda\x9e\x40\x2f\0\x01\x02\x03\x09\0\x03\x0b\x04\x04\x05\x01\x09u\x01\x02\0\0\0\0\0\0\x06\
     \x01\x07\x07\x02\x0aq\x09u\0\x04\0\0\0\0\0\0\x09u\0\x04\0\0\0\0\0\0";
 
 /// `table: b@2 put x`
-const B: &[u8] = b"\
+pub(crate) const B: &[u8] = b"\
     \0\x09\x01b\x01\x02\0\0\0\0\0\0x\0\0\0\0\x01\0\0\0\0\x8d\x9a\xfa\xfe\0\0\0\0\x01\0\0\0\0\xc0\
     \xf2\xa1\xb0\0\x09\x02b\x01\x02\0\0\0\0\0\0\0\x15\0\0\0\0\x01\0\0\0\0x\xb9Y\xc4\x1a\x08\x27\
     \x16\0\0\0\0\0\0\0\0\0\0\0\0\0\0\0\0\0\0\0\0\0\0\0\0\0\0\0\0\0\0\0\0\0\0\0\0W\xfb\x80\x8b\x24u\
     G\xdb";
 
 /// `shortlex: b@2 put x, aa@1 put x`
-const B_AA: &[u8] = b"\
+pub(crate) const B_AA: &[u8] = b"\
     \0\x09\x01b\x01\x02\0\0\0\0\0\0x\0\x0a\x01aa\x01\x01\0\0\0\0\0\0x\0\0\0\0\x01\0\0\0\0\xcfqH\
     \x60\0\0\0\0\x01\0\0\0\0\xc0\xf2\xa1\xb0\0\x0a\x02aa\x01\x01\0\0\0\0\0\0\0\x23\0\0\0\0\x01\0\0\
     \0\0\x0e\xd4\xf9a\x28\x085\x17\0\0\0\0\0\0\0\0\0\0\0\0\0\0\0\0\0\0\0\0\0\0\0\0\0\0\0\0\0\0\0\0\
@@ -138,12 +138,12 @@ const B_AA: &[u8] = b"\
 
 /// `log: comparator subcompaction.ShortlexComparator, log 3, previous 0, next 9, last 4, file 1 7
 /// 129 b@2 put .. aa@1 put`
-const SHORTLEX: &[u8] = b"\
+pub(crate) const SHORTLEX: &[u8] = b"\
     P\x2aT\xc5D\0\x01\x01\x20subcompaction.ShortlexComparator\x02\x03\x09\0\x03\x09\x04\x04\x07\
     \x01\x07\x81\x01\x09b\x01\x02\0\0\0\0\0\0\x0aaa\x01\x01\0\0\0\0\0\0";
 
 /// `shortlex: aa@1 put x`
-const AA: &[u8] = b"\
+pub(crate) const AA: &[u8] = b"\
     \0\x0a\x01aa\x01\x01\0\0\0\0\0\0x\0\0\0\0\x01\0\0\0\0\xd4Hz\x14\0\0\0\0\x01\0\0\0\0\xc0\xf2\
     \xa1\xb0\0\x0a\x02aa\x01\x01\0\0\0\0\0\0\0\x16\0\0\0\0\x01\0\0\0\0\xfc\x09\x1b\x5d\x1b\x08\x28\
     \x17\0\0\0\0\0\0\0\0\0\0\0\0\0\0\0\0\0\0\0\0\0\0\0\0\0\0\0\0\0\0\0\0\0\0\0\0W\xfb\x80\x8b\x24u\

@@ -13,12 +13,12 @@ use std::alloc::Global;
 use std::test::*;
 use std::thread::Threads;
 use store::{
-    DescentEnd, InstallWatch, Open, Settings, compact_all, compact_dir, compact_inputs,
-    opened_after,
+    CompactionStep, DescentEnd, InstallWatch, Open, Settings, compact_all, compact_dir,
+    compact_inputs, opened_after,
 };
 
 /// How many bytes of tables are held while a version is tested.
-const MEMORY: u64 = 1_073_741_824;
+pub(crate) const MEMORY: u64 = 1_073_741_824;
 
 /// These bytes, or `others` if they are empty.
 fn or(bytes: &'static [u8], others: &'static [u8]) -> &'static [u8] {
@@ -26,7 +26,7 @@ fn or(bytes: &'static [u8], others: &'static [u8]) -> &'static [u8] {
 }
 
 /// The files of the folder of a row.
-fn files_of(row: &Row) -> [(&'static str, &'static [u8]); 4] {
+pub(crate) fn files_of(row: &Row) -> [(&'static str, &'static [u8]); 4] {
     [
         ("CURRENT", CURRENT),
         ("MANIFEST-000005", or(row.manifest, ONE_FILE)),
@@ -41,7 +41,7 @@ fn answer_of<R: AllocGlobal + Threads + Sync>(
     folder: &mut Shelf<'_>,
     row: &Row,
 ) -> Result<Vec<u8>, Fault> {
-    compact_dir(
+    let step = compact_dir(
         rt,
         rt.alloc(),
         folder,
@@ -49,7 +49,8 @@ fn answer_of<R: AllocGlobal + Threads + Sync>(
         &row.settings,
         MEMORY,
         &Open,
-    )
+    )?;
+    Ok(step.lines)
 }
 
 /// Whether an answer is this text, or this refusal.
@@ -72,7 +73,7 @@ fn answers<R: AllocGlobal + Threads + Sync>(
 }
 
 /// Whether a folder holds these files.
-fn holds(folder: &Shelf<'_>, files: Files) -> bool {
+pub(crate) fn holds(folder: &Shelf<'_>, files: Files) -> bool {
     for (name, bytes) in files {
         if folder.held(name) != Some(*bytes) {
             return false;
@@ -139,11 +140,11 @@ impl InstallWatch for Collected {
     fn installed(
         &mut self,
         _level: u64,
-        lines: &[u8],
+        step: &CompactionStep,
         _before: &Version,
         _after: Option<&Version>,
     ) -> bool {
-        let _ = self.lines.extend_from_slice(lines);
+        let _ = self.lines.extend_from_slice(&step.lines);
         self.left = self.left.saturating_sub(1);
         self.left > 0
     }

@@ -1,16 +1,12 @@
-use Rattle.std.proofs.Common.{◌≡◌, ℕ, List, Result, Ok, Err, sym, ap, subst}
+use Rattle.std.proofs.Common.{◌≡◌, List, Result, Ok, sym, ap, subst}
 use Rattle.coding.specs.Answers.{EqualOrMemory, ◌>>=◌}
 use Rattle.coding.specs.declared.fault.Fault.{Fault}
 use Rattle.block.specs.EncodedEntry.{Entry}
 use Rattle.ikey.specs.Bytewise.{bytewise_cmp}
-use Rattle.table.specs.TableContents.{Contents, DataBlock, blocks_of, contents_of, entries_of, table_reading}
+use Rattle.table.specs.TableContents.{blocks_of, table_reading}
 use Rattle.commands.specs.Dump.{dump_lines}
+use Rattle.commands.proofs.TableLemmas.{from_contents}
 use Rattle.commands.proofs.table_dump.dump.Goals as goal
-
--- the entries of what the bytes hold
-from_contents : (b : Result (List DataBlock) Fault) (bytes : List ℕ) (t : Contents) → (b >>= λ blocks. Ok (contents_of bytes blocks)) ≡ Ok t → (b >>= λ blocks. Ok (entries_of blocks)) ≡ Ok t.entries
-from_contents (Ok blocks) bytes t h = cc
-from_contents (Err e) bytes t h = absurd cc
 
 pub returns : goal.returns
 returns c =

@@ -5,7 +5,6 @@ use Rattle.folder.specs.Calls.{Done}
 use Rattle.folder.proofs.ReportLemmas.{reports_steady}
 use Rattle.install.specs.Install.{calls_before_rename, install_calls, manifest_bytes, next_version_tables, tables_in}
 use Rattle.install.proofs.Before.{stays_before}
-use Rattle.install.proofs.Current.{changed_device}
 use Rattle.install.proofs.Installed.{survives, undone}
 use Rattle.install.proofs.Parts.{hands_none, runs_same}
 use Rattle.install.proofs.installation.install.Goals as goal
@@ -42,13 +41,7 @@ pub returns-in_err-manifest-clause-device : goal.returns-in_err-manifest-clause-
 returns-in_err-manifest-clause-device g c = reports_steady c.from_residual.result refl (search rules)
 
 pub returns-clause-device : goal.returns-clause-device
-returns-clause-device g c =
-    let failed = g.F.Folder.failed in
-    record {
-      device = changed_device (failed c.args.folder.now) (failed c.make_calls.new.folder) c.make_calls.result c.make_calls.ensures.refused;
-      at_once = c.make_calls.ensures.at_once;
-      later = c.make_calls.ensures.later;
-    }
+returns-clause-device g c = c.make_calls.ensures.device
 
 pub returns-clause-before : goal.returns-clause-before
 returns-clause-before g c order next tables h =

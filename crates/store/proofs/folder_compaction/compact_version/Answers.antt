@@ -1,16 +1,15 @@
-use Rattle.std.proofs.Common.{ℕ, Result, Ok, Err, arith, inl}
-use Rattle.std.specs.Global.{Vec}
-use Rattle.coding.specs.declared.fault.Fault.{Fault}
-use Rattle.folder.proofs.OpeningLemmas.{hands_on}
-use Rattle.folder.proofs.ReportLemmas.{reports_after, reports_handed, reports_then}
-use Rattle.folder.specs.ReadsAs.{IsHeldIn, ReadsAs}
-use Rattle.store.specs.Answers.{IsVersionCompacted}
-use Rattle.store.specs.InputsCompaction.{IsInputsCompacted}
+use Rattle.std.proofs.Common.{arith, inl}
 use Rattle.checks.specs.TestedTables.{IsTested}
+use Rattle.folder.proofs.OpeningLemmas.{hands_on}
+use Rattle.folder.proofs.ReportLemmas.{reports_handed, reports_then}
+use Rattle.folder.specs.Levels.{file_numbers}
+use Rattle.folder.specs.LoadedTables.{IsLoaded}
+use Rattle.folder.specs.ReadsAs.{IsHeldIn, ReadsAs}
+use Rattle.store.specs.Answers.{IsLoadedCompacted, IsVersionCompacted}
+use Rattle.store.specs.InputsCompaction.{IsInputsCompacted}
 use Rattle.store.specs.declared.compaction_step.CompactionStep.{CompactionStep}
-use Rattle.store.proofs.Flow.{no_value, told_still, told_themselves}
-use Rattle.store.proofs.InstallPart.{refused_ok, refused_on}
-use Rattle.store.proofs.StepPart.{has_passed, refused_err, test_refused, version_left}
+use Rattle.store.proofs.Flow.{answers_behind, no_value, told_still, told_themselves}
+use Rattle.store.proofs.StepPart.{has_passed, test_refused, version_left}
 use Rattle.store.proofs.folder_compaction.compact_version.Goals as goal
 
 pub returns-in_err-test_version-clause-answer : goal.returns-in_err-test_version-clause-answer
@@ -20,7 +19,7 @@ returns-in_err-test_version-clause-answer g c files told current =
     let tells = g.F.Folder.tells c.args.folder.now in
     let failed = g.F.Folder.failed in
     let e = c.in_err-test_version.field-0.0 in
-    hands_on (λ v. v.items) (failed c.args.folder.now) (failed c.args.folder.now) (failed c.test_version.new.folder) c.from_residual.result e (IsTested (IsHeldIn files) cmp v)
+    hands_on (λ (step : CompactionStep). step.lines.items) (failed c.args.folder.now) (failed c.args.folder.now) (failed c.test_version.new.folder) c.from_residual.result e (IsTested (IsHeldIn files) cmp v)
     (IsVersionCompacted cmp g.C.Comparator.short_keys files v c.args.level c.args.settings.now)
     c.from_residual.ensures.1 (omega arith) c.test_version.ensures.device.later (c.in_err-test_version.ensures.answer files told)
     (λ h. test_refused cmp g.C.Comparator.short_keys (IsHeldIn files) files v c.args.level c.args.settings.now e (told_themselves files) h)
@@ -35,61 +34,22 @@ returns-in_err-test_version-clause-other g c files told other = no_value c.from_
 pub returns-in_err-test_version-clause-device : goal.returns-in_err-test_version-clause-device
 returns-in_err-test_version-clause-device g c = reports_handed c.from_residual.result c.in_err-test_version.was c.test_version.ensures.device c.from_residual.ensures.1
 
-pub returns-in_err-step-clause-answer : goal.returns-in_err-step-clause-answer
-returns-in_err-step-clause-answer g c files told current =
-    let cmp = g.C.Comparator.cmp in
-    let v = c.args.opened.now.version in
-    let s = c.args.settings.now in
-    let tells = g.F.Folder.tells in
-    let failed = g.F.Folder.failed in
-    let e = c.in_err-step.field-0.0 in
-    let passed = has_passed cmp (IsHeldIn files) files v _ (told_themselves files) (c.in_ok-test_version.ensures.answer files told) in
-    let still = told_still (tells c.args.folder.now) (tells c.test_version.new.folder) files c.test_version.ensures.reads.same told in
-    hands_on (λ v. v.items) (failed c.args.folder.now) (failed c.test_version.new.folder) (failed c.compact_step.new.folder) c.from_residual-in_err-step.result e
-    (IsInputsCompacted cmp g.C.Comparator.short_keys files v c.args.level s) (IsVersionCompacted cmp g.C.Comparator.short_keys files v c.args.level s)
-    c.from_residual-in_err-step.ensures.1 c.test_version.ensures.device.later c.compact_step.ensures.device.later (c.in_err-step.ensures.answer files still current)
-    (λ h. (Ok passed.loaded, (passed.held, c.inputs_suffice.ensures files v passed.loaded passed.tables c.args.level s (Err e) passed.held passed.sound h)))
-
-pub returns-in_err-step-clause-left : goal.returns-in_err-step-clause-left
-returns-in_err-step-clause-left g c files order told current named opened =
-    let cmp = g.C.Comparator.cmp in
-    let v = c.args.opened.now.version in
-    let calls = g.F.Folder.calls in
-    let tells = g.F.Folder.tells in
-    let q = c.from_residual-in_err-step.result in
-    let e = c.in_err-step.field-0.0 in
-    let h = c.from_residual-in_err-step.ensures.1 in
-    let passed = has_passed cmp (IsHeldIn files) files v _ (told_themselves files) (c.in_ok-test_version.ensures.answer files told) in
-    let still = told_still (tells c.args.folder.now) (tells c.test_version.new.folder) files c.test_version.ensures.reads.same told in
-    let reads : ReadsAs cmp order v passed.loaded files = record { opened = opened; loaded = passed.held } in
-    version_left order cmp g.C.Comparator.short_keys files v passed.loaded c.args.level c.args.settings.now
-    (calls c.args.folder.now) (calls c.test_version.new.folder) (calls c.compact_step.new.folder) (tells c.args.folder.now) (tells c.test_version.new.folder) (tells c.compact_step.new.folder) (Err e) q
-    reads c.test_version.ensures.reads.calls c.test_version.ensures.reads.same
-    (λ P x. refused_on {T = CompactionStep} (Err e) q e P h x) (λ lines edit x. refused_ok q e _ h) (λ P x. refused_err q e P h x)
-    (c.in_err-step.ensures.left files order passed.loaded passed.tables still current named reads passed.sound)
-
-pub returns-in_err-step-clause-other : goal.returns-in_err-step-clause-other
-returns-in_err-step-clause-other g c files told other = no_value c.from_residual-in_err-step.result _ c.from_residual-in_err-step.ensures.1
-
-pub returns-in_err-step-clause-device : goal.returns-in_err-step-clause-device
-returns-in_err-step-clause-device g c =
-    reports_then c.in_ok-test_version.was c.test_version.ensures.device
-    (reports_handed c.from_residual-in_err-step.result c.in_err-step.was c.compact_step.ensures.device c.from_residual-in_err-step.ensures.1)
-
 pub returns-clause-answer : goal.returns-clause-answer
 returns-clause-answer g c files told current =
     let cmp = g.C.Comparator.cmp in
+    let short_keys = g.C.Comparator.short_keys in
     let v = c.args.opened.now.version in
+    let level = c.args.level in
     let s = c.args.settings.now in
     let tells = g.F.Folder.tells in
+    let failed = g.F.Folder.failed in
     let passed = has_passed cmp (IsHeldIn files) files v _ (told_themselves files) (c.in_ok-test_version.ensures.answer files told) in
-    let still = told_still (tells c.args.folder.now) (tells c.test_version.new.folder) files c.test_version.ensures.reads.same told in (
-      Ok passed.loaded,
-      (
-        passed.held,
-        c.inputs_suffice.ensures files v passed.loaded passed.tables c.args.level s (Ok c.in_ok-step.step.lines.items) passed.held passed.sound (c.in_ok-step.ensures.answer files still current),
-      ),
-    )
+    let still = told_still (tells c.args.folder.now) (tells c.test_version.new.folder) files c.test_version.ensures.reads.same told in
+    answers_behind (λ (step : CompactionStep). step.lines.items) (failed c.args.folder.now) (failed c.test_version.new.folder) (failed c.compact_step.new.folder) c.compact_step.result
+    (IsLoaded (IsHeldIn files) (file_numbers cmp v)) (λ loaded. IsLoadedCompacted cmp short_keys v loaded level s) (λ _. IsInputsCompacted cmp short_keys files v level s) passed.loaded
+    c.test_version.ensures.device.later c.compact_step.ensures.device.later passed.held
+    (λ answer h. c.inputs_suffice.ensures files v passed.loaded passed.tables level s answer passed.held passed.sound h)
+    (c.compact_step.ensures.answer files still current)
 
 pub returns-clause-left : goal.returns-clause-left
 returns-clause-left g c files order told current named opened =
@@ -97,21 +57,17 @@ returns-clause-left g c files order told current named opened =
     let v = c.args.opened.now.version in
     let calls = g.F.Folder.calls in
     let tells = g.F.Folder.tells in
-    let q : Result (Vec ℕ) Fault = Ok c.in_ok-step.step.lines in
     let passed = has_passed cmp (IsHeldIn files) files v _ (told_themselves files) (c.in_ok-test_version.ensures.answer files told) in
     let still = told_still (tells c.args.folder.now) (tells c.test_version.new.folder) files c.test_version.ensures.reads.same told in
     let reads : ReadsAs cmp order v passed.loaded files = record { opened = opened; loaded = passed.held } in
     version_left order cmp g.C.Comparator.short_keys files v passed.loaded c.args.level c.args.settings.now
-    (calls c.args.folder.now) (calls c.test_version.new.folder) (calls c.compact_step.new.folder) (tells c.args.folder.now) (tells c.test_version.new.folder) (tells c.compact_step.new.folder) (Ok c.in_ok-step.step) q
+    (calls c.args.folder.now) (calls c.test_version.new.folder) (calls c.compact_step.new.folder) (tells c.args.folder.now) (tells c.test_version.new.folder) (tells c.compact_step.new.folder) c.compact_step.result
     reads c.test_version.ensures.reads.calls c.test_version.ensures.reads.same
-    (λ P x. x) (λ lines edit x. x.0) (λ P x. x)
-    (c.in_ok-step.ensures.left files order passed.loaded passed.tables still current named reads passed.sound)
+    (c.compact_step.ensures.left files order passed.loaded passed.tables still current named reads passed.sound)
 
 pub returns-clause-other : goal.returns-clause-other
 returns-clause-other g c files told other =
-    c.in_ok-step.ensures.other files (told_still (g.F.Folder.tells c.args.folder.now) (g.F.Folder.tells c.test_version.new.folder) files c.test_version.ensures.reads.same told) other
+    c.compact_step.ensures.other files (told_still (g.F.Folder.tells c.args.folder.now) (g.F.Folder.tells c.test_version.new.folder) files c.test_version.ensures.reads.same told) other
 
 pub returns-clause-device : goal.returns-clause-device
-returns-clause-device g c =
-    let q : Result (Vec ℕ) Fault = Ok c.in_ok-step.step.lines in
-    reports_then c.in_ok-test_version.was c.test_version.ensures.device (reports_after q c.in_ok-step.was c.compact_step.ensures.device tt)
+returns-clause-device g c = reports_then c.in_ok-test_version.was c.test_version.ensures.device c.compact_step.ensures.device

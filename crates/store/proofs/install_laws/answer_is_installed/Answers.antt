@@ -1,7 +1,7 @@
-use Rattle.store.proofs.Joint as lemma
+use Rattle.std.proofs.Common.{◌+◌, arith}
+use Rattle.store.specs.FolderRequest.{manifest_of}
 use Rattle.store.proofs.install_laws.answer_is_installed.Goals as goal
 
 pub returns : goal.returns
-returns g c =
-    lemma.joint g.C.Comparator.cmp g.met.C.Comparator.total g.met.C.Comparator.exact g.C.Comparator.short_keys
-    c.edit_applies.ensures c.passed_law.ensures c.outputs_hold.ensures c.stands_after.ensures c.gets_after.ensures
+returns g c = λ order v loaded tables level p s answer checked lawful low picked log previous answered.
+    c.numbered_is_installed.ensures (manifest_of v + 1) order v loaded tables level p s answer (omega arith) checked lawful low picked log previous answered

@@ -34,13 +34,13 @@ returns-in_err-request-clause-answer g c loaded given =
     let bytes = ap (map (λ (b : Bor (List ℕ)). b.now)) c.deref.ensures.value ∙ sym (ok_is _ _ c.in_ok-bytes.ensures) ∙ given in
     let p = err_from_is_err_and c.from_residual-in_err-request.result c.from_residual-in_err-request.ensures.1 in
     rw (p.1, p.2)
-    (refused_behind (test_result (nat_le 1 c.args.settings.now.ranges && nat_le c.args.settings.now.ranges 4096) SplitCount) (numbered_request c.args.version.now loaded (picked_in c.args.picked.now) c.args.settings.now)
+    (refused_behind (test_result (nat_le 1 c.args.settings.now.ranges && nat_le c.args.settings.now.ranges 4096) SplitCount) (numbered_request c.args.first c.args.version.now loaded (picked_in c.args.picked.now) c.args.settings.now)
     (λ (r : RequestView). compaction_result g.C.Comparator.cmp g.C.Comparator.short_keys c.args.settings.now.workers r) c.in_err-request.field-0.0 c.in_ok-split.ensures (c.in_err-request.ensures.asked loaded bytes))
 
 pub returns-clause-answer : goal.returns-clause-answer
 returns-clause-answer g c loaded given =
     let bytes = ap (map (λ (b : Bor (List ℕ)). b.now)) c.deref.ensures.value ∙ sym (ok_is _ _ c.in_ok-bytes.ensures) ∙ given in
     subst (λ (a : Result Answer Fault). EqualOrMemory answer_in c.compact_tables.result a)
-    (sym (answer_behind (test_result (nat_le 1 c.args.settings.now.ranges && nat_le c.args.settings.now.ranges 4096) SplitCount) (numbered_request c.args.version.now loaded (picked_in c.args.picked.now) c.args.settings.now)
+    (sym (answer_behind (test_result (nat_le 1 c.args.settings.now.ranges && nat_le c.args.settings.now.ranges 4096) SplitCount) (numbered_request c.args.first c.args.version.now loaded (picked_in c.args.picked.now) c.args.settings.now)
     (λ (r : RequestView). compaction_result g.C.Comparator.cmp g.C.Comparator.short_keys c.args.settings.now.workers r) (request_in c.in_ok-request.request) c.in_ok-split.ensures (c.in_ok-request.ensures.asked loaded bytes)))
     c.compact_tables.ensures.same

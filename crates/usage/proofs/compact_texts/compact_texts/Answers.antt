@@ -9,6 +9,5 @@ pub returns : goal.returns
 returns c =
     let m = c.args.matches.now in
     let values = c.in-Some.ensures in
-    MatchOption-rows _ (rows_of (found_of c.in-Some.values.now)) _ LacksCompact
-    (λ texts. HasCompact texts.folder.now texts.levels texts.numbers texts.readable.since (option_map (λ text. text.now) texts.readable.listed) texts.testing texts.verbosity texts.cleans)
+    MatchOption-rows _ (rows_of (found_of c.in-Some.values.now)) _ LacksCompact (λ texts. HasCompact texts.folder.now texts.options texts.numbers texts.readable.since (option_map (λ text. text.now) texts.readable.listed))
     (rows_under-named (codes "compact") (subcommand_rows_of m) _ (sym (subcommand_name_of-rows m) ∙ values.found.0 refl) values.rows) c.of.ensures

@@ -1,0 +1,144 @@
+-- The steps of an adoption, as parts of a call.
+use Rattle.std.proofs.Common.{◌≡◌, ◌⊎◌, ℕ, List, Result, Ok, Err, IfOk, refl, sym, ap, subst, ◌∙◌, inl, inr, codes}
+use Rattle.std.specs.Global.{Vec}
+use Rattle.coding.proofs.Binds.{done, ok_is}
+use Rattle.coding.proofs.Refusals.{only_memory, unless_from}
+use Rattle.coding.specs.Answers.{EqualOrMemory, FailsOrMemory, HoldsOrMemory, IsThen, UnlessMemory, fault}
+use Rattle.coding.specs.declared.fault.Fault.{Fault}
+use Rattle.coding.specs.declared.fault.FaultName.TheVariants.{Device, Memory}
+use Rattle.ikey.specs.Comparator.{KeyOrder}
+use Rattle.edit.specs.Edit.{Edit}
+use Rattle.edit.specs.Version.{State}
+use Rattle.folder.proofs.LoadingLemmas.{told_since}
+use Rattle.folder.proofs.OpeningLemmas.{held_before}
+use Rattle.folder.specs.Calls.{Files, Step, Tells, ToldFiles}
+use Rattle.folder.specs.Folder.{TellsSame}
+use Rattle.folder.specs.OpenAnswer.{FolderAnswers, IsStopped}
+use Rattle.folder.specs.ReadsAs.{IsHeldIn}
+use Rattle.folder.specs.declared.folder.Folder.{Ghosts}
+use Rattle.folder.specs.declared.order.Order.{Order}
+use Rattle.install.specs.Install.{SurvivesCrash, next_version_tables, tables_in}
+use Rattle.checks.specs.TestedTables.{IsTested}
+use Rattle.checks.specs.declared.tested.Tested.{Tested}
+use Rattle.store.proofs.Flow.{loaded_in, no_refusal}
+use Rattle.store.proofs.InstallPart.{still, survives_on}
+use Rattle.store.specs.Compaction.{IsUnchanged}
+use Rattle.store.specs.Lines.{compaction_lines}
+use Rattle.pick.specs.declared.picked.InputFile.{InputFile}
+use Rattle.store.specs.InputsCompaction.{input_numbers}
+use Rattle.adoption.specs.Adoption.{Adoption, IsEditGiven, IsGiven, with_tables}
+use Rattle.adoption.specs.AdoptionLeft.{AdoptedVersion, IsInstallation, IsOutcomeLeft, IsTestedLeft, KeepsReads}
+use Rattle.adoption.specs.Both.{AnswersFrom, HasEitherFailed}
+use Rattle.adoption.specs.declared.comparison.Comparison.{Comparison}
+
+pub tells_itself : (tells : ToldFiles) → TellsSame tells tells
+tells_itself tells name held = (λ h. h, λ h. h)
+
+-- what has a value is refused as Memory alone
+pub never_refused : {Y : Type 0} (y : Y) (e : Fault) → FailsOrMemory e (Ok y) → e ≡ fault Memory
+never_refused {Y = Y} y e h = only_memory e (Ok y ≡ Err e) (no_refusal y e) h
+
+-- what one answer is, another is too
+pub answers_with : {X Y : Type 0} (view : X → Y) (before now : ℕ) (r : Result X Fault) (IsFirst IsAnswer : Result Y Fault → Type 0)
+    → ((a : Result Y Fault) → IsFirst a → IsAnswer a) → FolderAnswers view before now r IsFirst → FolderAnswers view before now r IsAnswer
+answers_with view before now (Ok x) IsFirst IsAnswer f given = f (Ok (view x)) given
+answers_with view before now (Err e) IsFirst IsAnswer f given =
+    unless_from e (IsStopped before now e ⊎ IsFirst (Err e)) (IsStopped before now e ⊎ IsAnswer (Err e)) (λ g. elim g [ inl stopped ↦ inl stopped | inr found ↦ inr (f (Err e) found) ]) given
+
+-- a value, or a refusal, that was answered
+pub ok_answers : {X Y : Type 0} (view : X → Y) (before now : ℕ) (r : Result X Fault) (x : X) (IsAnswer : Result Y Fault → Type 0) → r ≡ Ok x → FolderAnswers view before now r IsAnswer → IsAnswer (Ok (view x))
+ok_answers {X = X} view before now r x IsAnswer is given = subst (λ (q : Result X Fault). FolderAnswers view before now q IsAnswer) is given
+
+pub err_answers : {X Y : Type 0} (view : X → Y) (before now : ℕ) (r : Result X Fault) (e : Fault) (IsAnswer : Result Y Fault → Type 0) → r ≡ Err e → FolderAnswers view before now r IsAnswer → UnlessMemory e (IsStopped before now e ⊎ IsAnswer (Err e))
+err_answers {X = X} view before now r e IsAnswer is given = subst (λ (q : Result X Fault). FolderAnswers view before now q IsAnswer) is given
+
+-- a test with these tables
+pub tested_with : (before now : ℕ) (r : Result Tested Fault) (slice tables : List (ℕ × Vec ℕ)) (cmp : KeyOrder) (v : State) (files : Files) → slice ≡ tables → FolderAnswers (λ tested. tested) before now r (IsTested (IsHeldIn (with_tables (tables_in slice) files)) cmp v)
+    → FolderAnswers (λ tested. tested) before now r (IsTested (IsHeldIn (with_tables (tables_in tables) files)) cmp v)
+tested_with before now r slice tables cmp v files is given = subst (λ (ts : List (ℕ × Vec ℕ)). FolderAnswers (λ tested. tested) before now r (IsTested (IsHeldIn (with_tables (tables_in ts) files)) cmp v)) is given
+
+-- the answer of a step after one that had this value
+pub holds_behind : {X Y B : Type 0} (view : X → B) (r : Result X Fault) (IsFirst : Result Y Fault → Type 0) (IsNext : Y → Result B Fault → Type 0) (a : Y) → IsFirst (Ok a) → HoldsOrMemory view r (IsNext a) → HoldsOrMemory view r (IsThen IsFirst IsNext)
+holds_behind view (Ok x) IsFirst IsNext a h given = (Ok a, (h, given))
+holds_behind view (Err e) IsFirst IsNext a h given = unless_from e (IsNext a (Err e)) (IsThen IsFirst IsNext (Err e)) (λ next. (Ok a, (h, next))) given
+
+-- an answer that is determined
+pub equal_holds : {X Y : Type 0} (view : X → Y) (r : Result X Fault) (answer : Result Y Fault) (IsAnswer : Result Y Fault → Type 0) → ((a : Result Y Fault) → answer ≡ a → IsAnswer a) → EqualOrMemory view r answer → HoldsOrMemory view r IsAnswer
+equal_holds view (Ok x) answer IsAnswer f given = f (Ok (view x)) given
+equal_holds view (Err e) answer IsAnswer f given = unless_from e (answer ≡ Err e) (IsAnswer (Err e)) (f (Err e)) given
+
+pub ok_with : {T E : Type 0} (r : Result T E) (P Q : T → Type 0) → ((x : T) → P x → Q x) → IfOk r P → IfOk r Q
+ok_with (Ok x) P Q f h = f x h
+ok_with (Err e) P Q f h = tt
+
+-- a refusal of a first step is one of the whole
+pub refused_with : {Y Z : Type 0} (before now : ℕ) (e : Fault) (IsFirst : Result Z Fault → Type 0) (IsAnswer : Result Y Fault → Type 0)
+    → (IsFirst (Err e) → IsAnswer (Err e)) → UnlessMemory e (IsStopped before now e ⊎ IsFirst (Err e)) → UnlessMemory e (IsStopped before now e ⊎ IsAnswer (Err e))
+refused_with before now e IsFirst IsAnswer f given =
+    unless_from e (IsStopped before now e ⊎ IsFirst (Err e)) (IsStopped before now e ⊎ IsAnswer (Err e)) (λ g. elim g [ inl stopped ↦ inl stopped | inr found ↦ inr (f found) ]) given
+
+-- the lines of these inputs and this number
+pub lines_are : (tables : List (ℕ × List ℕ)) (inputs files : List InputFile) (number n : ℕ) (text : List ℕ) → done (compaction_lines tables inputs number) ≡ done text → inputs ≡ files → number ≡ n → text ≡ compaction_lines tables files n
+lines_are tables inputs files number n text h same is =
+    sym (ok_is (compaction_lines tables inputs number) text h) ∙ (ap (λ (i : List InputFile). compaction_lines tables i number) same ∙ ap (compaction_lines tables files) is)
+
+-- ---- what is left
+
+pub unchanged_since : {T : Type 0} (first before after : List Step) (zero old new : ToldFiles) (q : Result T Fault) → before ≡ first → TellsSame zero old → IsUnchanged before after old new q → IsUnchanged first after zero new q
+unchanged_since first before after zero old new q is told u = record { calls = u.calls ∙ is; same = told_since zero old new told u.same; refused = u.refused }
+
+module _ (order : Order) (cmp : KeyOrder) (v : State) (loaded : List (ℕ × List ℕ)) (given : Adoption × List (ℕ × List ℕ)) (first before after : List Step) (zero old new : ToldFiles) (q : Result (Vec ℕ) Fault) (is : before ≡ first) (told : TellsSame zero old) where
+  pub installed_since : IsInstallation cmp order v loaded given before after old new q → IsInstallation cmp order v loaded given first after zero new q
+  installed_since i =
+      let tables = next_version_tables cmp given.0.next given.1 loaded in
+      record {
+        survives = subst (λ (b : List Step). SurvivesCrash cmp order v loaded given.0.next tables b after zero new q) is
+            (survives_on cmp order v given.0.next loaded tables before after zero old new q q (λ P x. x) (still zero old told) i.survives);
+        printed = i.printed;
+        refused = i.refused;
+      }
+
+  -- an outcome that was tested, told from earlier calls on
+  pub tested_since : AdoptedVersion order cmp v loaded given → IsUnchanged before after old new q ⊎ IsInstallation cmp order v loaded given before after old new q → IsTestedLeft order cmp v loaded given first after zero new q
+  tested_since version (inl u) = inl (unchanged_since first before after zero old new q is told u)
+  tested_since version (inr i) = inr (version, installed_since i)
+
+  -- the same with what gets answer
+  pub outcome_since : (comparison : Comparison) → ((version : AdoptedVersion order cmp v loaded given) → KeepsReads cmp v loaded given.0 comparison version.tables_next) → IsTestedLeft order cmp v loaded given before after old new q
+      → IsOutcomeLeft order cmp v loaded given comparison first after zero new q
+  outcome_since comparison gets (inl u) = inl (unchanged_since first before after zero old new q is told u)
+  outcome_since comparison gets (inr i) = inr (record { version = i.0; gets = gets i.0; installation = installed_since i.1 })
+
+-- ---- two folders
+
+module _ {F G X Y B : Type 0} (view : X → B) (f : Ghosts F) (g : Ghosts G) (one one_now : F) (other other_now : G) where
+  -- after a value that one folder gave the other answers
+  pub both_behind : (r : Result X Fault) (IsFirst : Result Y Fault → Type 0) (IsNext : Y → Result B Fault → Type 0) (a : Y) → IsFirst (Ok a) → FolderAnswers view (f.failed one) (f.failed one_now) r (IsNext a)
+      → AnswersFrom view f g one one_now other other_now r (IsThen IsFirst IsNext)
+  both_behind (Ok x) IsFirst IsNext a h given = (Ok a, (h, given))
+  both_behind (Err e) IsFirst IsNext a h given =
+      unless_from e (IsStopped (f.failed one) (f.failed one_now) e ⊎ IsNext a (Err e)) (((e ≡ fault Device) × HasEitherFailed f g one one_now other other_now) ⊎ IsThen IsFirst IsNext (Err e))
+      (λ s. elim s [ inl stopped ↦ inl (stopped.0, inl stopped.1) | inr found ↦ inr (Ok a, (h, found)) ]) given
+
+  -- what one folder refuses is refused
+  pub both_refused : (e : Fault) (IsTold IsFirst : Result Y Fault → Type 0) (IsNext : Y → Result B Fault → Type 0) → (IsTold (Err e) → IsFirst (Err e)) → UnlessMemory e (IsStopped (g.failed other) (g.failed other_now) e ⊎ IsTold (Err e))
+      → UnlessMemory e (((e ≡ fault Device) × HasEitherFailed f g one one_now other other_now) ⊎ IsThen IsFirst IsNext (Err e))
+  both_refused e IsTold IsFirst IsNext held given =
+      unless_from e (IsStopped (g.failed other) (g.failed other_now) e ⊎ IsTold (Err e)) (((e ≡ fault Device) × HasEitherFailed f g one one_now other other_now) ⊎ IsThen IsFirst IsNext (Err e))
+      (λ s. elim s [ inl stopped ↦ inl (stopped.0, inr stopped.1) | inr found ↦ inr (Err e, (held found, refl)) ]) given
+
+-- what a folder that tells files gives is what they hold
+told_in : (tells : ToldFiles) (files : Files) → Tells tells files → TellsSame (IsHeldIn files) tells
+told_in tells files h name held = ((h name held).1, (h name held).0)
+
+edit_held : (tells : ToldFiles) (files : Files) (r : Result Edit Fault) → Tells tells files → IsEditGiven tells r → IsEditGiven (IsHeldIn files) r
+edit_held tells files r h (Err e, (held, is)) = (Err e, (held_before (IsHeldIn files) tells (codes "EDIT") (codes "EDIT") (Err e) (told_in tells files h) refl held, is))
+edit_held tells files r h (Ok bytes, (held, is)) = (Ok bytes, (held_before (IsHeldIn files) tells (codes "EDIT") (codes "EDIT") (Ok bytes) (told_in tells files h) refl held, is))
+
+pub given_held : (cmp : KeyOrder) (v : State) (tells : ToldFiles) (files : Files) (r : Result (Adoption × List (ℕ × List ℕ)) Fault) → Tells tells files → IsGiven cmp tells v r → IsGiven cmp (IsHeldIn files) v r
+given_held cmp v tells files r h (Err e, (edit, is)) = (Err e, (edit_held tells files (Err e) h edit, is))
+given_held cmp v tells files r h (Ok e, (edit, (Err f, (adoption, is)))) = (Ok e, (edit_held tells files (Ok e) h edit, (Err f, (adoption, is))))
+given_held cmp v tells files r h (Ok e, (edit, (Ok a, (adoption, (Err f, (loaded, is)))))) =
+    (Ok e, (edit_held tells files (Ok e) h edit, (Ok a, (adoption, (Err f, (loaded_in tells files (input_numbers a.outputs) (Err f) h loaded, is))))))
+given_held cmp v tells files r h (Ok e, (edit, (Ok a, (adoption, (Ok tables, (loaded, is)))))) =
+    (Ok e, (edit_held tells files (Ok e) h edit, (Ok a, (adoption, (Ok tables, (loaded_in tells files (input_numbers a.outputs) (Ok tables) h loaded, is))))))

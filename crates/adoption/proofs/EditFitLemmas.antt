@@ -1,0 +1,76 @@
+-- Whether an edit fits a version.
+use Rattle.std.proofs.Common.{◌≡◌, ℕ, suc, ◌+◌, ◌<◌, ◌≤◌, Bool, true, false, ◌&&◌, List, ◌∷◌, length, drop, drop-cons, add-one, get_or, Option, Some, Ok, Err, MatchBool, refl, sym, ap, subst, ◌∙◌, arith, nat_eq, nat_lt}
+use Rattle.std.proofs.lemmas.Bool.{ltb-false, eqb-true}
+use Rattle.std.specs.Option.{ok_or}
+use Rattle.std.specs.Bool.{Decides}
+use Rattle.std.specs.Cmp.Lexicographic.{pointwise, pointwise_decides}
+use Rattle.edit.specs.declared.meta.DeletedFile.{DeletedFile}
+use Rattle.coding.specs.Answers.{fault}
+use Rattle.coding.specs.declared.fault.Fault.{Fault}
+use Rattle.coding.specs.declared.fault.FaultName.TheVariants.{Apply, Level, NoInput}
+use Rattle.ikey.specs.Comparator.{KeyOrder}
+use Rattle.edit.specs.Edit.{Edit}
+use Rattle.edit.specs.Version.{State}
+use Rattle.edit.specs.VersionOrder.{level_files}
+use Rattle.pick.specs.Picked.{IsInputsAnswer, IsPicked, PickedInputs}
+use Rattle.edit.specs.declared.meta.NewFile.{NewFile}
+use Rattle.adoption.specs.EditFit.{IsChoiceOf, IsEditFor, IsFitting, only_level, rise_between}
+
+-- one more file rises
+pub rises_on : (last high : ℕ) (files : List NewFile) (k : ℕ) (f : NewFile) → k < length files → f ≡ get_or files k f → (nat_lt last f.meta.number && nat_lt f.meta.number high) ≡ true → rise_between last high (drop k files) ≡ rise_between f.meta.number high (drop (k + 1) files)
+rises_on last high files k f lt is between =
+    let here : drop k files ≡ f ∷ drop (suc k) files = drop-cons files k f lt ∙ ap (λ (x : NewFile). x ∷ drop (suc k) files) (sym is) in
+    ap (rise_between last high) here ∙ (ap (λ (b : Bool). b && rise_between f.meta.number high (drop (suc k) files)) between ∙ ap (λ (n : ℕ). rise_between f.meta.number high (drop n files)) (sym (add-one k)))
+
+pub rises_not : (last high : ℕ) (files : List NewFile) (k : ℕ) (f : NewFile) → k < length files → f ≡ get_or files k f → (nat_lt last f.meta.number && nat_lt f.meta.number high) ≡ false → rise_between last high (drop k files) ≡ false
+rises_not last high files k f lt is outside =
+    let here : drop k files ≡ f ∷ drop (suc k) files = drop-cons files k f lt ∙ ap (λ (x : NewFile). x ∷ drop (suc k) files) (sym is) in
+    ap (rise_between last high) here ∙ ap (λ (b : Bool). b && rise_between f.meta.number high (drop (suc k) files)) outside
+
+-- ---- deletions
+
+two_parts : (a b : Bool) → (a && b) ≡ true → (a ≡ true) × (b ≡ true)
+two_parts true b h = (refl, h)
+two_parts false b h = absurd cc
+
+same_file : (a b : DeletedFile) → Decides (nat_eq a.level b.level && nat_eq a.number b.number) (a ≡ b)
+same_file a b = (
+  λ h.
+      let parts = two_parts (nat_eq a.level b.level) (nat_eq a.number b.number) h in
+      ap (λ (n : ℕ). record { level = n; number = a.number }) (eqb-true a.level b.level parts.0) ∙ ap (λ (n : ℕ). record { level = b.level; number = n }) (eqb-true a.number b.number parts.1),
+  λ is. subst (λ (x : DeletedFile). (nat_eq a.level x.level && nat_eq a.number x.number) ≡ true) is (both_are (nat_eq a.level a.level) (nat_eq a.number a.number) (grind arith) (grind arith)),
+)
+  where
+    both_are : (a b : Bool) → a ≡ true → b ≡ true → (a && b) ≡ true
+    both_are true true h k = refl
+    both_are true false h k = absurd (cc k)
+    both_are false b h k = absurd (cc h)
+
+pub same_deletions : (xs ys : List DeletedFile) → Decides (pointwise (λ (a b : DeletedFile). nat_eq a.level b.level && nat_eq a.number b.number) xs ys) (xs ≡ ys)
+same_deletions = pointwise_decides same_file
+
+-- ---- the level
+
+-- the level of picked inputs is at most 5
+pub level_low : (cmp : KeyOrder) (v : State) (level : ℕ) (p : PickedInputs) → IsInputsAnswer cmp v level (Ok p) → p.level ≤ 5
+level_low cmp v level p h = by (nat_lt 5 level) refl (nat_lt 0 (length (level_files cmp v level))) h
+  where
+    by : (a : Bool) → nat_lt 5 level ≡ a → (b : Bool) → MatchBool a (Ok p ≡ Err (fault Level)) (MatchBool b (IsPicked cmp v level p) (Ok p ≡ Err (fault NoInput))) → p.level ≤ 5
+    by true e b is = absurd (cc is)
+    by false e true is = let low = ltb-false 5 level e in let own = is.level_is in omega (arith, low, own)
+    by false e false is = absurd (cc is)
+
+-- ---- the answer, by its steps
+
+module _ (cmp : KeyOrder) (v : State) (e : Edit) (level : ℕ) (only : Some level ≡ only_level e.pointers) where
+  is_level : Ok level ≡ ok_or (only_level e.pointers) (fault Apply)
+  is_level = ap (λ (o : Option ℕ). ok_or o (fault Apply)) only
+
+  pub no_choice : (f : Fault) → IsChoiceOf cmp v level (Err f) → IsFitting cmp v e (Err f)
+  no_choice f choice = (Ok level, (is_level, (Err f, (choice, refl))))
+
+  pub no_fit : (p : PickedInputs) → IsChoiceOf cmp v level (Ok p) → (IsEditFor v p e → ⊥) → IsFitting cmp v e (Err (fault Apply))
+  no_fit p choice not = (Ok level, (is_level, (Ok p, (choice, (refl, not)))))
+
+  pub fits_so : (p : PickedInputs) → IsChoiceOf cmp v level (Ok p) → IsEditFor v p e → IsFitting cmp v e (Ok p)
+  fits_so p choice fit = (Ok level, (is_level, (Ok p, (choice, (refl, fit)))))

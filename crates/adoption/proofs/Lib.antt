@@ -1,0 +1,12 @@
+pub mod OverlayCalls
+pub mod LaidNames
+pub mod OverlayFiles
+pub mod KeptLemmas
+pub mod ComparedOutputs
+pub mod EditFitLemmas
+pub mod AdoptionSteps
+pub mod AdoptedSo
+pub mod LaidTables
+pub mod EditedVersion
+pub mod SortedMembers
+pub mod KeptReads

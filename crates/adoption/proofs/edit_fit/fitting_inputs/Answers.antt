@@ -1,0 +1,40 @@
+use Rattle.std.proofs.Common.{◌≡◌, Some, Err, sym, ap, subst, ◌∙◌}
+use Rattle.checks.proofs.LawfulLemmas.{handed_on}
+use Rattle.coding.proofs.Refusals.{unless}
+use Rattle.coding.specs.Answers.{UnlessMemory, fault}
+use Rattle.coding.specs.declared.fault.Fault.{Fault}
+use Rattle.coding.specs.declared.fault.FaultName.TheVariants.{Apply}
+use Rattle.edit.specs.Edit.{edit_in}
+use Rattle.pick.specs.Picked.{picked_in}
+use Rattle.adoption.specs.EditFit.{IsChoiceOf, IsFitting, only_level}
+use Rattle.adoption.proofs.EditFitLemmas.{fits_so, no_choice, no_fit}
+use Rattle.adoption.proofs.edit_fit.fitting_inputs.Goals as goal
+
+pub returns-in_err-picked-clause-picked : goal.returns-in_err-picked-clause-picked
+returns-in_err-picked-clause-picked g c =
+    let cmp = g.C.Comparator.cmp in
+    let v = c.args.version.now in
+    let e = edit_in c.args.edit.now in
+    let level = c.in-Some.level in
+    let f = c.in_err-picked.field-0.0 in
+    let only : Some level ≡ only_level e.pointers = c.in-Some.ensures ∙ ap only_level c.deref.ensures.value in
+    handed_on picked_in c.from_residual.result f (IsChoiceOf cmp v level) (IsFitting cmp v e) c.from_residual.ensures.1 c.in_err-picked.ensures.picked (no_choice cmp v e level only f)
+
+pub returns-then-not-branch-clause-picked : goal.returns-then-not-branch-clause-picked
+returns-then-not-branch-clause-picked g c =
+    let cmp = g.C.Comparator.cmp in
+    let v = c.args.version.now in
+    let e = edit_in c.args.edit.now in
+    let level = c.in-Some.level in
+    let only : Some level ≡ only_level e.pointers = c.in-Some.ensures ∙ ap only_level c.deref.ensures.value in
+    subst (λ (f : Fault). UnlessMemory f (IsFitting cmp v e (Err f))) (sym c.of-then-not-branch.ensures)
+    (unless (fault Apply) (IsFitting cmp v e (Err (fault Apply)))
+    (no_fit cmp v e level only (picked_in c.in_ok-picked.picked) c.in_ok-picked.ensures.picked
+    (λ fit. let both = sym (c.in_ok-is_edit_for.ensures.exact.1 fit) ∙ c.if-not-branch.true in cc both)))
+
+pub returns-clause-picked : goal.returns-clause-picked
+returns-clause-picked g c =
+    let e = edit_in c.args.edit.now in
+    let level = c.in-Some.level in
+    let only : Some level ≡ only_level e.pointers = c.in-Some.ensures ∙ ap only_level c.deref.ensures.value in
+    fits_so g.C.Comparator.cmp c.args.version.now e level only (picked_in c.in_ok-picked.picked) c.in_ok-picked.ensures.picked (c.in_ok-is_edit_for.ensures.exact.0 c.if-not-branch.false)

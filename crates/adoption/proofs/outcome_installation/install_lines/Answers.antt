@@ -1,0 +1,103 @@
+use Rattle.std.proofs.Common.{◌≡◌, ℕ, List, Result, Ok, refl, sym, ap, subst, arith, inl, inr}
+use Rattle.std.specs.Global.{Vec}
+use Rattle.coding.specs.declared.fault.Fault.{Fault}
+use Rattle.folder.proofs.OpeningLemmas.{refuses}
+use Rattle.folder.proofs.ReportLemmas.{reports_after, reports_handed, reports_steady}
+use Rattle.install.specs.Install.{IsEditedBy, next_version_tables, tables_in}
+use Rattle.store.specs.FolderRequest.{manifest_of}
+use Rattle.store.specs.Lines.{compaction_lines}
+use Rattle.store.proofs.Flow.{no_refusal, no_value, stopped_on}
+use Rattle.store.proofs.InstallPart.{refused_ok, refused_on, stopped_named, survives_on, valued_on}
+use Rattle.store.proofs.NoDevice.{handed_memory}
+use Rattle.adoption.proofs.AdoptionSteps.{lines_are, never_refused, tells_itself}
+use Rattle.adoption.proofs.outcome_installation.install_lines.Goals as goal
+
+pub returns-in_err-lines-clause-answer : goal.returns-in_err-lines-clause-answer
+returns-in_err-lines-clause-answer g c files told current =
+    let failed = g.F.Folder.failed in
+    let given = c.args.given.now in
+    let tables = tables_in given.outcome.tables.items in
+    let lines = compaction_lines tables c.deref.result.now c.manifest_of-number.result in
+    let e = c.in_err-lines.field-0.0 in
+    refuses (λ v. v.items) (failed c.args.folder.now) (failed c.args.folder.now) c.from_residual.result e (λ a. Ok lines ≡ a) (λ a. a ≡ Ok (compaction_lines tables given.picked.files.items (manifest_of c.args.opened.now.version)))
+    c.from_residual.ensures.1 c.in_err-lines.ensures (λ h. absurd (no_refusal lines e h))
+
+pub returns-in_err-lines-clause-left : goal.returns-in_err-lines-clause-left
+returns-in_err-lines-clause-left g c files order loaded told current edited =
+    inl (record { calls = refl; same = tells_itself (g.F.Folder.tells c.args.folder.now); refused = no_value c.from_residual.result _ c.from_residual.ensures.1 })
+
+pub returns-in_err-lines-clause-other : goal.returns-in_err-lines-clause-other
+returns-in_err-lines-clause-other g c files told other = no_value c.from_residual.result _ c.from_residual.ensures.1
+
+pub returns-in_err-lines-clause-device : goal.returns-in_err-lines-clause-device
+returns-in_err-lines-clause-device g c =
+    let lines = compaction_lines (tables_in c.args.given.now.outcome.tables.items) c.deref.result.now c.manifest_of-number.result in
+    let e = c.in_err-lines.field-0.0 in
+    reports_steady c.from_residual.result refl (handed_memory c.from_residual.result e c.from_residual.ensures.1 (never_refused lines e c.in_err-lines.ensures))
+
+pub returns-in_err-install-clause-answer : goal.returns-in_err-install-clause-answer
+returns-in_err-install-clause-answer g c files told current =
+    let failed = g.F.Folder.failed in
+    let given = c.args.given.now in
+    stopped_on (λ v. v.items) (failed c.args.folder.now) (failed c.args.folder.now) (failed c.install.new.folder) c.from_residual-in_err-install.result c.in_err-install.field-0.0
+    (λ a. a ≡ Ok (compaction_lines (tables_in given.outcome.tables.items) given.picked.files.items (manifest_of c.args.opened.now.version)))
+    c.from_residual-in_err-install.ensures.1 (omega arith) c.install.ensures.device.later (c.in_err-install.ensures.same_current files told current)
+
+pub returns-in_err-install-clause-left : goal.returns-in_err-install-clause-left
+returns-in_err-install-clause-left g c files order loaded told current edited =
+    let cmp = g.C.Comparator.cmp in
+    let name = g.C.Comparator.name_bytes in
+    let calls = g.F.Folder.calls in
+    let tells = g.F.Folder.tells in
+    let failed = g.F.Folder.failed in
+    let v = c.args.opened.now.version in
+    let given = c.args.given.now in
+    let tables = tables_in given.outcome.tables.items in
+    let q = c.from_residual-in_err-install.result in
+    let e = c.in_err-install.field-0.0 in
+    let h = c.from_residual-in_err-install.ensures.1 in
+    let by = subst (λ (n : ℕ). IsEditedBy name cmp order v n tables given.outcome.edit.items given.next) (sym c.manifest_of-number.ensures) edited in
+    inr (record {
+      survives = survives_on cmp order v given.next loaded (next_version_tables cmp given.next tables loaded) (calls c.args.folder.now) (calls c.install.new.folder) (tells c.args.folder.now) (tells c.args.folder.now) (tells c.install.new.folder) c.install.result q
+          (λ P x. refused_on c.install.result q e P h x) (λ files tells. tells) (c.install.ensures.survives order given.next loaded by);
+      printed = refused_ok q e _ h;
+      refused = stopped_named (failed c.args.folder.now) (failed c.install.new.folder) q e h (c.in_err-install.ensures.same_current files told current);
+    })
+
+pub returns-in_err-install-clause-other : goal.returns-in_err-install-clause-other
+returns-in_err-install-clause-other g c files told other = no_value c.from_residual-in_err-install.result _ c.from_residual-in_err-install.ensures.1
+
+pub returns-in_err-install-clause-device : goal.returns-in_err-install-clause-device
+returns-in_err-install-clause-device g c = reports_handed c.from_residual-in_err-install.result c.in_err-install.was c.install.ensures.device c.from_residual-in_err-install.ensures.1
+
+pub returns-clause-answer : goal.returns-clause-answer
+returns-clause-answer g c files told current =
+    let given = c.args.given.now in
+    ap (λ (text : List ℕ). Ok text)
+    (lines_are (tables_in given.outcome.tables.items) c.deref.result.now given.picked.files.items c.manifest_of-number.result (manifest_of c.args.opened.now.version) c.in_ok-lines.lines.items c.in_ok-lines.ensures c.deref.ensures.value c.manifest_of-number.ensures)
+
+pub returns-clause-left : goal.returns-clause-left
+returns-clause-left g c files order loaded told current edited =
+    let cmp = g.C.Comparator.cmp in
+    let name = g.C.Comparator.name_bytes in
+    let calls = g.F.Folder.calls in
+    let tells = g.F.Folder.tells in
+    let v = c.args.opened.now.version in
+    let given = c.args.given.now in
+    let tables = tables_in given.outcome.tables.items in
+    let q : Result (Vec ℕ) Fault = Ok c.in_ok-lines.lines in
+    let by = subst (λ (n : ℕ). IsEditedBy name cmp order v n tables given.outcome.edit.items given.next) (sym c.manifest_of-number.ensures) edited in
+    inr (record {
+      survives = survives_on cmp order v given.next loaded (next_version_tables cmp given.next tables loaded) (calls c.args.folder.now) (calls c.install.new.folder) (tells c.args.folder.now) (tells c.args.folder.now) (tells c.install.new.folder) c.install.result q
+          (λ P x. valued_on c.install.result _ q P c.in_ok-install.was x) (λ files tells. tells) (c.install.ensures.survives order given.next loaded by);
+      printed = lines_are tables c.deref.result.now given.picked.files.items c.manifest_of-number.result (manifest_of v) c.in_ok-lines.lines.items c.in_ok-lines.ensures c.deref.ensures.value c.manifest_of-number.ensures;
+      refused = tt;
+    })
+
+pub returns-clause-other : goal.returns-clause-other
+returns-clause-other g c files told other = c.in_ok-install.ensures.other_current files told other
+
+pub returns-clause-device : goal.returns-clause-device
+returns-clause-device g c =
+    let q : Result (Vec ℕ) Fault = Ok c.in_ok-lines.lines in
+    reports_after q c.in_ok-install.was c.install.ensures.device tt

@@ -1,0 +1,93 @@
+-- What the installation of an outcome leaves of a folder.
+use Rattle.std.specs.Prelude.{◌≡◌, ◌⊎◌, ℕ, true, List, Result, Ok, IfErr, IfOk}
+use Rattle.std.specs.Global.{Vec}
+use Rattle.coding.specs.Answers.{UnlessMemory, fault}
+use Rattle.coding.specs.declared.fault.Fault.{Fault}
+use Rattle.coding.specs.declared.fault.FaultName.TheVariants.{Device}
+use Rattle.ikey.specs.Comparator.{KeyOrder}
+use Rattle.edit.specs.Version.{State}
+use Rattle.folder.specs.Calls.{Files, Step, ToldFiles}
+use Rattle.folder.specs.Manifest.{order_name}
+use Rattle.folder.specs.ReadsAs.{IsHeldIn}
+use Rattle.folder.specs.declared.order.Order.{Order}
+use Rattle.install.specs.Install.{IsEditedBy, SurvivesCrash, next_version_tables}
+use Rattle.keep.specs.Readable.{is_read, readable_of}
+use Rattle.reads.specs.Gets.{get_of}
+use Rattle.reads.specs.Tables.{NumberedContents}
+use Rattle.checks.specs.LawfulTables.{IsLawfulTables}
+use Rattle.store.specs.Compaction.{IsUnchanged}
+use Rattle.store.specs.FolderRequest.{last_of, manifest_of}
+use Rattle.store.specs.Lines.{compaction_lines}
+use Rattle.adoption.specs.Adoption.{Adoption, IsGiven}
+use Rattle.adoption.specs.declared.comparison.Comparison.{Comparison}
+use Rattle.adoption.specs.declared.comparison.Comparison.TheVariants.{With, LeftOut}
+
+-- The edited version of an outcome. The adopted edit makes it of the version, by a manifest whose
+-- number is next file. Last sequence stays. With the tables that an installation leaves it is
+-- lawful.
+pub record AdoptedVersion (order : Order) (cmp : KeyOrder) (v : State) (loaded : List (ℕ × List ℕ))
+    (given : Adoption × List (ℕ × List ℕ)) : Type 0 where
+  pub edited : IsEditedBy (order_name order) cmp order v (manifest_of v) given.1 given.0.edit
+      given.0.next
+  pub last : last_of given.0.next ≡ last_of v
+  pub tables_next : List NumberedContents
+  pub lawful : IsLawfulTables cmp given.0.next
+      (next_version_tables cmp given.0.next given.1 loaded) (Ok tables_next)
+
+-- If the version was lawful and outputs were compared, each get at a readable sequence answers as
+-- before.
+abbrev pub KeepsReads : KeyOrder → State → List (ℕ × List ℕ) → Adoption → Comparison →
+    List NumberedContents → Type 0
+KeepsReads cmp v loaded a (With snapshots) tables_next =
+    (tables : List NumberedContents) → IsLawfulTables cmp v loaded (Ok tables) →
+    (user : List ℕ) (at : ℕ) → is_read (readable_of snapshots a.last) at ≡ true →
+    get_of a.next tables_next user at ≡ get_of v tables user at
+KeepsReads cmp v loaded a LeftOut tables_next = Unit {0}
+
+-- An outcome was installed, from these calls on. A crash at any moment leaves the version before or
+-- the edited one. At Ok it is the edited one, and the answer is the lines. The only faults are
+-- Device and Memory.
+pub record IsInstallation (cmp : KeyOrder) (order : Order) (v : State) (loaded : List (ℕ × List ℕ))
+    (given : Adoption × List (ℕ × List ℕ)) (before after : List Step) (old new : ToldFiles)
+    (result : Result (Vec ℕ) Fault) : Type 0 where
+  pub survives : SurvivesCrash cmp order v loaded given.0.next
+      (next_version_tables cmp given.0.next given.1 loaded) before after old new result
+  pub printed : IfOk result (λ text. text.items
+      ≡ compaction_lines given.1 given.0.picked.files (manifest_of v))
+  pub refused : IfErr result (λ e. UnlessMemory e (e ≡ fault Device))
+
+-- what is left after the test of outputs: the folder is unchanged, or the outcome was installed,
+-- and the edited version is what it should be
+abbrev pub IsTestedLeft : Order → KeyOrder → State → List (ℕ × List ℕ) →
+    Adoption × List (ℕ × List ℕ) → List Step → List Step → ToldFiles → ToldFiles →
+    Result (Vec ℕ) Fault → Type 0
+IsTestedLeft order cmp v loaded given before after old new result =
+    IsUnchanged before after old new result
+    ⊎ (AdoptedVersion order cmp v loaded given
+    × IsInstallation cmp order v loaded given before after old new result)
+
+-- It was, and gets answer as they should.
+pub record IsOutcomeInstalled (order : Order) (cmp : KeyOrder) (v : State)
+    (loaded : List (ℕ × List ℕ)) (given : Adoption × List (ℕ × List ℕ)) (comparison : Comparison)
+    (before after : List Step) (old new : ToldFiles) (result : Result (Vec ℕ) Fault)
+    : Type 0 where
+  pub version : AdoptedVersion order cmp v loaded given
+  pub gets : KeepsReads cmp v loaded given.0 comparison version.tables_next
+  pub installation : IsInstallation cmp order v loaded given before after old new result
+
+-- what is left of a folder that reads as this version with these tables, by an outcome that was
+-- given: it is unchanged, or the outcome was installed
+abbrev pub IsOutcomeLeft : Order → KeyOrder → State → List (ℕ × List ℕ) →
+    Adoption × List (ℕ × List ℕ) → Comparison → List Step → List Step → ToldFiles → ToldFiles →
+    Result (Vec ℕ) Fault → Type 0
+IsOutcomeLeft order cmp v loaded given comparison before after old new result =
+    IsUnchanged before after old new result
+    ⊎ IsOutcomeInstalled order cmp v loaded given comparison before after old new result
+
+-- the same by the outcome that another folder holds
+abbrev pub IsAdoptionLeft : Order → KeyOrder → State → List (ℕ × List ℕ) → Files → Comparison →
+    List Step → List Step → ToldFiles → ToldFiles → Result (Vec ℕ) Fault → Type 0
+IsAdoptionLeft order cmp v loaded source comparison before after old new result =
+    IsUnchanged before after old new result
+    ⊎ ((given : Adoption × List (ℕ × List ℕ)) × IsGiven cmp (IsHeldIn source) v (Ok given)
+    × IsOutcomeInstalled order cmp v loaded given comparison before after old new result)

@@ -1,0 +1,33 @@
+-- What the outputs of a compaction hold.
+use Rattle.std.specs.Prelude.{◌≡◌, Bool, false, ◌&&◌, List, [], ◌∷◌, Result, Ok, Err}
+use Rattle.std.specs.Str.{bytes_eq}
+use Rattle.coding.specs.Answers.{fault}
+use Rattle.coding.specs.declared.fault.Fault.{Fault}
+use Rattle.coding.specs.declared.fault.FaultName.TheVariants.{Lawless}
+use Rattle.ikey.specs.Comparator.{KeyOrder}
+use Rattle.block.specs.EncodedEntry.{Entry}
+use Rattle.edit.specs.declared.meta.FileMeta.{FileMeta}
+use Rattle.merge.specs.Merged.{merged}
+use Rattle.merge.specs.Union.{IsUnion}
+use Rattle.keep.specs.DropRule.{kept}
+use Rattle.keep.specs.Readable.{Readable}
+
+-- The inputs have a union, and the outputs together hold just the entries of it that a compaction
+-- keeps. How these are cut into outputs makes no difference.
+pub record HoldsKept (cmp : KeyOrder) (r : Readable) (deeper : List FileMeta)
+    (inputs outputs : List (List Entry)) : Type 0 where
+  pub union : List Entry
+  pub is_union : IsUnion cmp inputs union
+  pub same : kept cmp r deeper union ≡ merged cmp outputs
+
+-- what the comparison answers: Lawless unless the outputs hold that
+abbrev pub IsKeptAnswer : KeyOrder → Readable → List FileMeta → List (List Entry) →
+    List (List Entry) → Result (Unit {0}) Fault → Type 0
+IsKeptAnswer cmp r deeper inputs outputs (Ok u) = HoldsKept cmp r deeper inputs outputs
+IsKeptAnswer cmp r deeper inputs outputs (Err e) = (e ≡ fault Lawless)
+    × (HoldsKept cmp r deeper inputs outputs → ⊥)
+
+-- whether the first of the entries is this one
+abbrev pub begins_with : Entry → List Entry → Bool
+begins_with e [] = false
+begins_with e (f ∷ fs) = bytes_eq f.key e.key && bytes_eq f.value e.value

@@ -1,0 +1,169 @@
+//! Whether an edit fits a version.
+
+ghost use Rattle.std.specs.Prelude.{◌≡◌, ◌↔◌, ◌≤◌, ◌&&◌, ◌∷◌, [], nat_eq, nat_lt, IsTrue, IfOk};
+ghost use Rattle.std.specs.Prelude.{IfErr, OnOk};
+ghost use Rattle.std.specs.List.{list_all};
+ghost use Rattle.coding.specs.Answers.{HoldsOrMemory, fault};
+ghost use Rattle.coding.specs.declared.fault.FaultName.TheVariants.{Memory};
+ghost use Rattle.edit.specs.Edit.{edit_in};
+ghost use Rattle.edit.specs.Version.{IsState};
+ghost use Rattle.pick.specs.Picked.{picked_in};
+ghost use Rattle.request.specs.EditOf.{deletions_of};
+ghost use Rattle.adoption.specs.EditFit.{IsChoiceOf, IsEditFor, IsFitting, are_counted};
+ghost use Rattle.adoption.specs.EditFit.{is_reached, only_level, rise_between, rise_within};
+
+use coding::{Fault, FaultName};
+use edit::{CompactPointer, NewFile, Version, VersionEdit};
+use ikey::Comparator;
+use pick::{InputFile, Inputs, inputs};
+use request::deletions_of;
+use std::alloc::Global;
+
+/// The inputs of the compaction that has this edit: those that a compaction of the level of its
+/// compact pointer takes of `version`. Apply if the edit isn't one for them. The only other fault
+/// is Memory.
+pub(crate) fn fitting_inputs<C: Comparator>(
+    alloc: Global,
+    version: &Version,
+    edit: &VersionEdit,
+) -> Result<Inputs, Fault>
+    ensures picked { HoldsOrMemory picked_in result
+        (IsFitting C.cmp version.now (edit_in edit.now)) }
+    ensures state { OnOk result (IsState version.now.pointers version.now.files) }
+{
+    let Some(level) = only_level(&edit.pointers) else {
+        return Err(Fault::of(FaultName::Apply));
+    };
+    let picked = inputs_of::<C>(alloc, version, level)?;
+    if !is_edit_for(alloc, version, &picked, edit)? {
+        return Err(Fault::of(FaultName::Apply));
+    }
+    Ok(picked)
+}
+
+/// The level of the only compact pointer; None if there isn't just one.
+fn only_level(pointers: &[CompactPointer]) -> Option<u64>
+    ensures { result ≡ only_level pointers.now }
+{
+    if pointers.len() == 1 {
+        Some(pointers[0].level)
+    } else {
+        None
+    }
+}
+
+/// The inputs of a compaction of a `level`. Apply if there are none. The only other fault is
+/// Memory.
+fn inputs_of<C: Comparator>(alloc: Global, version: &Version, level: u64) -> Result<Inputs, Fault>
+    ensures picked { HoldsOrMemory picked_in result (IsChoiceOf C.cmp version.now level) }
+    ensures state { OnOk result (IsState version.now.pointers version.now.files) }
+{
+    match inputs::<C>(alloc, version, level) {
+        Ok(picked) => Ok(picked),
+        Err(refused) => match refused.name {
+            FaultName::Memory => Err(Fault::of(FaultName::Memory)),
+            _ => Err(Fault::of(FaultName::Apply)),
+        },
+    }
+}
+
+/// Whether an edit is one of a compaction of `picked` inputs of a version. The only fault is
+/// Memory.
+fn is_edit_for(
+    alloc: Global,
+    version: &Version,
+    picked: &Inputs,
+    edit: &VersionEdit,
+) -> Result<bool, Fault>
+    requires { picked.now.level ≤ 5 }
+    ensures exact { IfOk result (λ b. IsTrue b
+        ↔ IsEditFor version.now (picked_in picked.now) (edit_in edit.now)) }
+    ensures memory { IfErr result (λ e. e ≡ fault Memory) }
+{
+    let deletes = deletes_all(alloc, edit, &picked.files)?;
+    let points = points_to(&edit.pointers, &picked.pointer);
+    let stands = are_at_level(&edit.added, picked.level + 1);
+    let counts = are_counted(version, edit);
+    Ok(edit.comparator.is_none() && points && deletes && stands && counts)
+}
+
+/// Whether `pointer` is the only one.
+fn points_to(pointers: &[CompactPointer], pointer: &CompactPointer) -> bool
+    ensures { IsTrue result ↔ (pointers.now ≡ pointer.now ∷ []) }
+{
+    pointers.len() == 1 && is_same_pointer(&pointers[0], pointer)
+}
+
+/// Whether two compact pointers have one level and one key.
+fn is_same_pointer(one: &CompactPointer, other: &CompactPointer) -> bool
+    ensures { IsTrue result ↔ (one.now ≡ other.now) }
+{
+    one.level == other.level && one.key.as_key().bytes() == other.key.as_key().bytes()
+}
+
+/// Whether an edit deletes these inputs, and no other file. The only fault is Memory.
+fn deletes_all(alloc: Global, edit: &VersionEdit, files: &[InputFile]) -> Result<bool, Fault>
+    ensures exact { IfOk result (λ b. IsTrue b ↔ ((edit_in edit.now).deleted
+        ≡ deletions_of files.now)) }
+    ensures memory { IfErr result (λ e. e ≡ fault Memory) }
+{
+    let deleted = deletions_of(alloc, files)?;
+    Ok(edit.deleted == deleted)
+}
+
+/// Whether files are all at this `level`.
+fn are_at_level(files: &[NewFile], level: u64) -> bool
+    ensures { result ≡ list_all (λ f. nat_eq f.level level) files.now }
+{
+    files.iter().all(|file| file.level == level)
+}
+
+/// Whether the counters of an edit fit a version.
+fn are_counted(version: &Version, edit: &VersionEdit) -> bool
+    ensures { result ≡ are_counted version.now (edit_in edit.now) }
+{
+    rise_within(version.next_file(), edit.next_file, &edit.added)
+        && is_reached(edit.last_sequence, version.last_sequence())
+}
+
+/// Whether the numbers of files rise from above `low` to below `high`, which are both set.
+fn rise_within(low: Option<u64>, high: Option<u64>, files: &[NewFile]) -> bool
+    ensures { result ≡ rise_within low high files.now }
+{
+    match (low, high) {
+        (Some(low), Some(high)) => rise_between(low, high, files),
+        _ => false,
+    }
+}
+
+/// Whether the numbers of files rise from above `low` to below `high`.
+fn rise_between(low: u64, high: u64, files: &[NewFile]) -> bool
+    ensures { result ≡ rise_between low high files.now }
+{
+    let mut last = low;
+    for file in files {
+        let number = file.meta.number;
+        if !is_between(last, number, high) {
+            return false;
+        }
+        last = number;
+    }
+    true
+}
+
+/// Whether a number is above `low` and below `high`.
+fn is_between(low: u64, number: u64, high: u64) -> bool
+    ensures { result ≡ (nat_lt low number && nat_lt number high) }
+{
+    low < number && number < high
+}
+
+/// Whether a sequence is set, and isn't above the last one `now`, which is 0 if it isn't set.
+fn is_reached(sequence: Option<u64>, now: Option<u64>) -> bool
+    ensures { result ≡ is_reached sequence now }
+{
+    match sequence {
+        Some(sequence) => sequence <= now.unwrap_or(0),
+        None => false,
+    }
+}

@@ -1,0 +1,103 @@
+//! The test of the edited version.
+
+ghost use Rattle.std.specs.Prelude.{◌≡◌, map, string_bytes};
+ghost use Rattle.folder.specs.Calls.{Files, Tells};
+ghost use Rattle.folder.specs.OpenAnswer.{FolderAnswers};
+ghost use Rattle.folder.specs.ReadsAs.{IsHeldIn};
+ghost use Rattle.folder.specs.Reports.{OnlyReads, ReportsDevice};
+ghost use Rattle.install.specs.Install.{tables_in};
+ghost use Rattle.checks.specs.TestedTables.{IsTested};
+ghost use Rattle.adoption.specs.Adoption.{with_tables};
+ghost use Rattle.adoption.specs.Overlay.{names_of};
+
+use crate::overlay::{Overlay, names_of};
+use crate::refusals::Refusals;
+use checks::{CHECKERS, Tested, Watch, test_version};
+use coding::Fault;
+use edit::Version;
+use folder::Folder;
+use ikey::SharedComparator;
+use std::alloc::Global;
+use std::thread::Threads;
+
+/// The folder in which a version was tested, and the answer.
+#[derive(Drop)]
+pub(crate) struct TestEnd<F> {
+    pub folder: F,
+    pub answer: Result<Tested, Fault>,
+}
+
+/// Tests whether the edited version `next` is lawful with `tables` and, of its other files, the
+/// tables in the folder. Refused as `checks::test_version` refuses it. It only reads.
+pub(crate) fn test_edited<
+    C: SharedComparator + 'static,
+    F: Folder + Drop,
+    W: Watch + Sync,
+    R: Threads + Sync,
+>(
+    rt: &R,
+    alloc: Global,
+    folder: F,
+    next: &Version,
+    tables: &[(u64, Vec<u8>)],
+    memory: u64,
+    watch: &W,
+) -> TestEnd<F>
+    ensures answer { (files : Files) → Tells (F.tells folder) files →
+        FolderAnswers (λ tested. tested) (F.failed folder) (F.failed result.folder)
+        result.answer
+        (IsTested (IsHeldIn (with_tables (tables_in tables.now) files)) C.cmp next.now) }
+    ensures device { ReportsDevice F.Folder folder result.folder result.answer }
+    ensures reads { OnlyReads F.Folder folder result.folder }
+{
+    match names_of(alloc, tables) {
+        Ok(names) => test_named::<C, F, W, R>(
+            rt, alloc, folder, next, tables, names, memory, watch,
+        ),
+        Err(fault) => TestEnd {
+            folder,
+            answer: Err(fault),
+        },
+    }
+}
+
+/// The same with the names of the tables.
+fn test_named<C: SharedComparator + 'static, F: Folder + Drop, W: Watch + Sync, R: Threads + Sync>(
+    rt: &R,
+    alloc: Global,
+    folder: F,
+    next: &Version,
+    tables: &[(u64, Vec<u8>)],
+    names: Vec<String>,
+    memory: u64,
+    watch: &W,
+) -> TestEnd<F>
+    requires { map string_bytes names.items ≡ names_of (tables_in tables.now) }
+    ensures answer { (files : Files) → Tells (F.tells folder) files →
+        FolderAnswers (λ tested. tested) (F.failed folder) (F.failed result.folder)
+        result.answer
+        (IsTested (IsHeldIn (with_tables (tables_in tables.now) files)) C.cmp next.now) }
+    ensures device { ReportsDevice F.Folder folder result.folder result.answer }
+    ensures reads { OnlyReads F.Folder folder result.folder }
+{
+    let mut overlay = Overlay {
+        alloc,
+        folder,
+        tables,
+        names,
+        refusals: Refusals::none(),
+    };
+    let answer = test_version::<C, Overlay<'_, F>, W, R>(
+        rt,
+        alloc,
+        &mut overlay,
+        next,
+        memory,
+        CHECKERS,
+        watch,
+    );
+    TestEnd {
+        folder: overlay.folder,
+        answer,
+    }
+}

@@ -1,0 +1,33 @@
+//! Installs the outcome of a compaction that was carried out elsewhere: its output tables, and a
+//! file EDIT that has its version edit.
+//!
+//! [`install_outcome`] reads these files from a folder, and tests them against the database folder:
+//!
+//! 1. The edit fits the version: it is an edit of a compaction of the inputs that a compaction of
+//!    its level takes now.
+//! 2. Each output is there and is a table, as the edit states it.
+//! 3. The outputs hold just what a compaction of the inputs keeps, as [`Comparison`] says.
+//! 4. The edited version is lawful with the outputs and the other tables of the folder.
+//!
+//! Then it is installed as a compaction is, so that a crash at any moment leaves the version before
+//! or the edited one.
+//!
+//! The database may have been in use meanwhile. So the counters of the edit that is installed are
+//! those of the version now.
+#![tactic(auto)]
+
+mod adopted_edit;
+mod adoption_end;
+mod comparison;
+mod edit_fit;
+mod edited_test;
+mod given_outcome;
+mod kept_comparison;
+mod kept_entries;
+mod outcome_installation;
+mod overlay;
+mod refusals;
+
+pub use adoption_end::AdoptionEnd;
+pub use comparison::Comparison;
+pub use outcome_installation::install_outcome;

@@ -1,0 +1,299 @@
+//! Installing the outcome of a compaction that was carried out elsewhere.
+
+ghost use Rattle.std.specs.Prelude.{◌≡◌, ◌≢◌, ◌⊎◌, ◌<◌, ◌^◌, ℕ, List, length, codes, Some, Ok};
+ghost use Rattle.std.specs.Prelude.{OnOk};
+ghost use Rattle.folder.specs.Calls.{Files, Tells};
+ghost use Rattle.folder.specs.Manifest.{order_name};
+ghost use Rattle.folder.specs.Names.{current_text};
+ghost use Rattle.folder.specs.OpenAnswer.{FolderAnswers};
+ghost use Rattle.folder.specs.Orders.{order_cmp};
+ghost use Rattle.folder.specs.ReadsAs.{ReadsAs};
+ghost use Rattle.folder.specs.Reports.{OnlyReads, ReportsDevice};
+ghost use Rattle.folder.specs.declared.order.Order.{Order};
+ghost use Rattle.install.specs.Install.{IsEditedBy};
+ghost use Rattle.store.specs.Compaction.{IsUnchanged};
+ghost use Rattle.store.specs.FolderRequest.{manifest_of};
+ghost use Rattle.store.specs.Lines.{compaction_lines};
+ghost use Rattle.adoption.specs.Adoption.{IsAdopted, IsEditedInstalled, IsGivenInstalled};
+ghost use Rattle.adoption.specs.Adoption.{IsInstalledFrom};
+ghost use Rattle.adoption.specs.AdoptionIn.{given_in};
+ghost use Rattle.adoption.specs.AdoptionLeft.{IsAdoptionLeft, IsInstallation, IsOutcomeLeft};
+ghost use Rattle.adoption.specs.AdoptionLeft.{IsTestedLeft};
+ghost use Rattle.adoption.specs.Both.{AnswersFrom, ReportsEither};
+
+use crate::adoption_end::AdoptionEnd;
+use crate::comparison::Comparison;
+use crate::edited_test::test_edited;
+use crate::given_outcome::{GivenOutcome, given_outcome};
+use crate::kept_comparison::test_outputs;
+use checks::Watch;
+use coding::Fault;
+use folder::{Folder, Opened, Order};
+use ikey::{Bytewise, Comparator, SharedComparator, Shortlex};
+use install::install;
+use std::alloc::Global;
+use std::thread::Threads;
+use store::{compaction_lines, manifest_of};
+use survival::gets_after;
+
+/// Installs the outcome that `source` holds in what `folder` was `opened` as. The caller has locked
+/// the folder, and synced what was opened. The answer is the lines of the installation, each with
+/// its newline:
+///
+/// - `output NUMBER SIZE` of each output in the edit's order;
+/// - `deleted LEVEL NUMBER` of each input by level and number;
+/// - `installed MANIFEST-NNNNNN`.
+///
+/// `source` holds the outputs as tables, and the version edit in a file EDIT. The edit that is
+/// installed has its files and its compact pointer. Its log numbers and its last sequence are those
+/// of the version that was opened, and its next file is the greater of EDIT's and the one after the
+/// manifest. The number of the manifest is the version's next file. So if the version is still the
+/// one that was compacted, the folder gets what a compaction of it would have left there.
+///
+/// The first that applies:
+///
+/// - Missing: there is no EDIT;
+/// - EditTag or EditField: its bytes are no edit;
+/// - Lawless: a file's number isn't below next file, or the files of a level from 1 on don't rise;
+/// - Apply: EDIT isn't an edit of a compaction of this version: it has just one compact pointer; it
+///   deletes the inputs that a compaction of that pointer's level takes, and its pointer is theirs;
+///   its new files are of the next level, and their numbers rise from above the version's next file
+///   to below EDIT's; its last sequence isn't above the version's; it names no comparator;
+/// - Numbers: next file is 2^64 - 1;
+/// - Missing: at the first output that is missing;
+/// - the first invalid output, as `table::check` refuses it;
+/// - Bounds: an output isn't as EDIT states it;
+/// - if outputs are compared, of the inputs' tables: Missing at the first missing one; the first
+///   invalid one; Bounds; Options, if there are more than 256. Then Snapshot or SnapshotList of the
+///   snapshots. Then Lawless, if the outputs don't hold just what a compaction of the inputs keeps;
+/// - of the edited version: Missing at the first missing table, by level and in version order; the
+///   first invalid one; Lawless, if it isn't lawful;
+/// - Changed: just before CURRENT is replaced it isn't what it was when the folder was opened.
+///
+/// If the device fails a call on one of the folders, the answer is Device and no further call is
+/// made. If memory runs out, it is Memory. After these two the folder reads as the version before
+/// or as the edited one, and has to be opened again. After Changed CURRENT stays as it is, and what
+/// was written stays too. After any other refusal the folder holds what it held.
+///
+/// The work is told to `watch`, which is `&Open` if nobody watches. The test of the edited version
+/// holds at most `memory` bytes of tables, as `checks::test_version` does.
+pub fn install_outcome<F: Folder + Drop, G: Folder, W: Watch + Sync, R: Threads + Sync>(
+    rt: &R,
+    alloc: Global,
+    folder: F,
+    source: &mut G,
+    opened: &Opened,
+    comparison: Comparison<'_>,
+    memory: u64,
+    watch: &W,
+) -> AdoptionEnd<F>
+    // If both folders tell files, and CURRENT is the one that was opened.
+    ensures answer { (files given : Files) → Tells (F.tells folder) files →
+        Tells (G.tells source.old) given →
+        files (codes "CURRENT") ≡ Some (current_text opened.now.manifest) →
+        AnswersFrom (λ v. v.items) F.Folder G.Folder folder result.folder source.old
+        source.new result.answer (IsInstalledFrom (order_cmp opened.now.order) files given
+        opened.now.version comparison.entry) }
+    // If moreover they read as this version.
+    ensures left { (files given : Files) (loaded : List (ℕ × List ℕ)) →
+        Tells (F.tells folder) files → Tells (G.tells source.old) given →
+        files (codes "CURRENT") ≡ Some (current_text opened.now.manifest) →
+        ReadsAs (order_cmp opened.now.order) opened.now.order opened.now.version loaded files →
+        IsAdoptionLeft opened.now.order (order_cmp opened.now.order) opened.now.version loaded
+        given comparison.entry (F.calls folder) (F.calls result.folder)
+        (F.tells folder) (F.tells result.folder) result.answer }
+    // If CURRENT is another one, the answer is never Ok.
+    ensures other { (files : Files) → Tells (F.tells folder) files →
+        files (codes "CURRENT") ≢ Some (current_text opened.now.manifest) →
+        OnOk result.answer ⊥ }
+    ensures device { ReportsEither F.Folder G.Folder folder result.folder source.old
+        source.new result.answer }
+    ensures reads { OnlyReads G.Folder source.old source.new }
+{
+    match opened.order {
+        Order::Bytewise => install_from::<Bytewise, F, G, W, R>(
+            rt, alloc, folder, source, opened, comparison, memory, watch,
+        ),
+        Order::Shortlex => install_from::<Shortlex, F, G, W, R>(
+            rt, alloc, folder, source, opened, comparison, memory, watch,
+        ),
+    }
+}
+
+/// The same by this comparator, whose name has fewer than 2^32 bytes.
+fn install_from<
+    C: SharedComparator + 'static,
+    F: Folder + Drop,
+    G: Folder,
+    W: Watch + Sync,
+    R: Threads + Sync,
+>(
+    rt: &R,
+    alloc: Global,
+    folder: F,
+    source: &mut G,
+    opened: &Opened,
+    comparison: Comparison<'_>,
+    memory: u64,
+    watch: &W,
+) -> AdoptionEnd<F>
+    requires { length C.name_bytes < 2 ^ 32 }
+    ensures answer { (files given : Files) → Tells (F.tells folder) files →
+        Tells (G.tells source.old) given →
+        files (codes "CURRENT") ≡ Some (current_text opened.now.manifest) →
+        AnswersFrom (λ v. v.items) F.Folder G.Folder folder result.folder source.old
+        source.new result.answer (IsInstalledFrom C.cmp files given opened.now.version
+        comparison.entry) }
+    ensures left { (files given : Files) (order : Order) (loaded : List (ℕ × List ℕ)) →
+        Tells (F.tells folder) files → Tells (G.tells source.old) given →
+        files (codes "CURRENT") ≡ Some (current_text opened.now.manifest) →
+        order_name order ≡ C.name_bytes → ReadsAs C.cmp order opened.now.version loaded files →
+        IsAdoptionLeft order C.cmp opened.now.version loaded given comparison.entry
+        (F.calls folder) (F.calls result.folder) (F.tells folder)
+        (F.tells result.folder) result.answer }
+    ensures other { (files : Files) → Tells (F.tells folder) files →
+        files (codes "CURRENT") ≢ Some (current_text opened.now.manifest) →
+        OnOk result.answer ⊥ }
+    ensures device { ReportsEither F.Folder G.Folder folder result.folder source.old
+        source.new result.answer }
+    ensures reads { OnlyReads G.Folder source.old source.new }
+{
+    match given_outcome::<C, G>(alloc, source, &opened.version) {
+        Ok(given) => install_given::<C, F, W, R>(
+            rt, alloc, folder, opened, &given, comparison, memory, watch,
+        ),
+        Err(fault) => AdoptionEnd {
+            folder,
+            answer: Err(fault),
+        },
+    }
+}
+
+/// Tests an outcome that was adopted, and installs it. The comparator's name has fewer than 2^32
+/// bytes.
+fn install_given<
+    C: SharedComparator + 'static,
+    F: Folder + Drop,
+    W: Watch + Sync,
+    R: Threads + Sync,
+>(
+    rt: &R,
+    alloc: Global,
+    folder: F,
+    opened: &Opened,
+    given: &GivenOutcome,
+    comparison: Comparison<'_>,
+    memory: u64,
+    watch: &W,
+) -> AdoptionEnd<F>
+    requires name { length C.name_bytes < 2 ^ 32 }
+    requires adopted { IsAdopted C.cmp opened.now.version (given_in given.now) }
+    ensures answer { (files : Files) → Tells (F.tells folder) files →
+        files (codes "CURRENT") ≡ Some (current_text opened.now.manifest) →
+        FolderAnswers (λ v. v.items) (F.failed folder) (F.failed result.folder) result.answer
+        (IsGivenInstalled C.cmp files opened.now.version (given_in given.now) comparison.entry) }
+    ensures left { (files : Files) (order : Order) (loaded : List (ℕ × List ℕ)) →
+        Tells (F.tells folder) files →
+        files (codes "CURRENT") ≡ Some (current_text opened.now.manifest) →
+        order_name order ≡ C.name_bytes → ReadsAs C.cmp order opened.now.version loaded files →
+        IsOutcomeLeft order C.cmp opened.now.version loaded (given_in given.now) comparison.entry
+        (F.calls folder) (F.calls result.folder) (F.tells folder)
+        (F.tells result.folder) result.answer }
+    ensures other { (files : Files) → Tells (F.tells folder) files →
+        files (codes "CURRENT") ≢ Some (current_text opened.now.manifest) →
+        OnOk result.answer ⊥ }
+    ensures device { ReportsDevice F.Folder folder result.folder result.answer }
+{
+    gets_after::<C>();
+    let mut folder = folder;
+    match test_outputs::<C, F, W, R>(rt, alloc, &mut folder, given, comparison, watch) {
+        Ok(()) => install_tested::<C, F, W, R>(rt, alloc, folder, opened, given, memory, watch),
+        Err(fault) => AdoptionEnd {
+            folder,
+            answer: Err(fault),
+        },
+    }
+}
+
+/// Tests the edited version, and installs an outcome whose outputs were tested.
+fn install_tested<
+    C: SharedComparator + 'static,
+    F: Folder + Drop,
+    W: Watch + Sync,
+    R: Threads + Sync,
+>(
+    rt: &R,
+    alloc: Global,
+    folder: F,
+    opened: &Opened,
+    given: &GivenOutcome,
+    memory: u64,
+    watch: &W,
+) -> AdoptionEnd<F>
+    requires name { length C.name_bytes < 2 ^ 32 }
+    requires adopted { IsAdopted C.cmp opened.now.version (given_in given.now) }
+    ensures answer { (files : Files) → Tells (F.tells folder) files →
+        files (codes "CURRENT") ≡ Some (current_text opened.now.manifest) →
+        FolderAnswers (λ v. v.items) (F.failed folder) (F.failed result.folder) result.answer
+        (IsEditedInstalled C.cmp files opened.now.version (given_in given.now)) }
+    ensures left { (files : Files) (order : Order) (loaded : List (ℕ × List ℕ)) →
+        Tells (F.tells folder) files →
+        files (codes "CURRENT") ≡ Some (current_text opened.now.manifest) →
+        order_name order ≡ C.name_bytes → ReadsAs C.cmp order opened.now.version loaded files →
+        IsTestedLeft order C.cmp opened.now.version loaded (given_in given.now)
+        (F.calls folder) (F.calls result.folder) (F.tells folder)
+        (F.tells result.folder) result.answer }
+    ensures other { (files : Files) → Tells (F.tells folder) files →
+        files (codes "CURRENT") ≢ Some (current_text opened.now.manifest) →
+        OnOk result.answer ⊥ }
+    ensures device { ReportsDevice F.Folder folder result.folder result.answer }
+{
+    let next = &given.next;
+    let tables = given.outcome.tables.as_slice();
+    let end = test_edited::<C, F, W, R>(rt, alloc, folder, next, tables, memory, watch);
+    match end.answer {
+        Ok(_) => {
+            let mut folder = end.folder;
+            let answer = install_lines::<C, F>(alloc, &mut folder, opened, given);
+            AdoptionEnd { folder, answer }
+        }
+        Err(fault) => AdoptionEnd {
+            folder: end.folder,
+            answer: Err(fault),
+        },
+    }
+}
+
+/// Installs an outcome that was tested. The answer is its lines.
+fn install_lines<C: Comparator, F: Folder>(
+    alloc: Global,
+    folder: &mut F,
+    opened: &Opened,
+    given: &GivenOutcome,
+) -> Result<Vec<u8>, Fault>
+    requires { length C.name_bytes < 2 ^ 32 }
+    ensures answer { (files : Files) → Tells (F.tells folder.old) files →
+        files (codes "CURRENT") ≡ Some (current_text opened.now.manifest) →
+        FolderAnswers (λ v. v.items) (F.failed folder.old) (F.failed folder.new) result
+        (λ answer. answer ≡ Ok (compaction_lines (given_in given.now).1
+        given.now.picked.files.items (manifest_of opened.now.version))) }
+    ensures left { (files : Files) (order : Order) (loaded : List (ℕ × List ℕ)) →
+        Tells (F.tells folder.old) files →
+        files (codes "CURRENT") ≡ Some (current_text opened.now.manifest) →
+        IsEditedBy C.name_bytes C.cmp order opened.now.version (manifest_of opened.now.version)
+        (given_in given.now).1 given.now.outcome.edit.items given.now.next →
+        IsUnchanged (F.calls folder.old) (F.calls folder.new) (F.tells folder.old)
+        (F.tells folder.new) result
+        ⊎ IsInstallation C.cmp order opened.now.version loaded (given_in given.now)
+        (F.calls folder.old) (F.calls folder.new) (F.tells folder.old) (F.tells folder.new) result }
+    ensures other { (files : Files) → Tells (F.tells folder.old) files →
+        files (codes "CURRENT") ≢ Some (current_text opened.now.manifest) → OnOk result ⊥ }
+    ensures device { ReportsDevice F.Folder folder.old folder.new result }
+{
+    let version = &opened.version;
+    let number = manifest_of(version);
+    let outcome = &given.outcome;
+    let lines = compaction_lines(alloc, outcome, &given.picked.files, number)?;
+    install::<C, F>(alloc, folder, opened.manifest, version, number, outcome)?;
+    Ok(lines)
+}

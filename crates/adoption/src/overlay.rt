@@ -1,0 +1,151 @@
+//! A folder over whose files tables are laid.
+
+ghost use Rattle.std.specs.Prelude.{◌≡◌, [], ◌∷◌, ◌++◌, map, Ok, Err, string_bytes};
+ghost use Rattle.std.specs.Option.{option_map};
+ghost use Rattle.std.specs.Str.{bytes_eq};
+ghost use Rattle.coding.specs.Answers.{EqualOrMemory};
+ghost use Rattle.folder.specs.Calls.{Tried};
+ghost use Rattle.folder.specs.Folder.{part_of};
+ghost use Rattle.folder.specs.Names.{table_name};
+ghost use Rattle.folder.specs.declared.folder.FolderFault.TheVariants.{Memory};
+ghost use Rattle.install.specs.Install.{tables_in};
+ghost use Rattle.adoption.specs.Adoption.{laid_table};
+ghost use Rattle.adoption.specs.Overlay.{names_of, refused_call};
+
+use crate::refusals::{Refusals, RefusedCall};
+use coding::Fault;
+use folder::{Folder, FolderFault, table_name};
+use std::alloc::Global;
+
+/// A folder over whose files tables are laid: what is read under the name of a table is that table,
+/// and all else is read in the folder.
+///
+/// It is for readers. Each call that writes is refused as if memory ran out, and does nothing.
+#[derive(Drop)]
+pub(crate) struct Overlay<'o, F> {
+    pub alloc: Global,
+    pub folder: F,
+    pub tables: &'o [(u64, Vec<u8>)],
+    /// The names of the tables, in their order.
+    pub names: Vec<String>,
+    pub refusals: Refusals,
+    ghost named: { map string_bytes names.items ≡ names_of (tables_in tables.now) },
+}
+
+impl<'o, F> Overlay<'o, F> {
+    /// The table of this `name`, if one is laid over.
+    fn laid(&self, name: &str) -> Option<&'o [u8]>
+        ensures { option_map (λ bytes. bytes.now) result
+            ≡ laid_table (tables_in self.now.tables.now) name.now }
+    {
+        laid_in(self.tables, &self.names, name)
+    }
+
+    /// Refuses a call that writes.
+    fn refuse(&mut self, call: RefusedCall<'_>) -> Result<(), FolderFault>
+        ensures answer { result ≡ Err Memory }
+        ensures folder { self.new.folder ≡ self.old.folder }
+        ensures tables { self.new.tables ≡ self.old.tables }
+        ensures refused { self.new.refusals.steps
+            ≡ self.old.refusals.steps ++ Tried (refused_call call.entry) ∷ [] }
+    {
+        self.refusals = self.refusals.then(&call);
+        Err(FolderFault::Memory)
+    }
+}
+
+impl<'o, F: Folder> Folder for Overlay<'o, F> {
+    ghost use Rattle.install.specs.Install.{tables_in};
+    ghost use Rattle.adoption.specs.Overlay.{overlay_calls, overlay_tells};
+
+    ghost tells = { λ o. overlay_tells (F.tells o.folder) (tables_in o.tables.now) };
+
+    ghost calls = { λ o. overlay_calls (F.calls o.folder) o.refusals.steps };
+
+    ghost failed = { λ o. F.failed o.folder };
+
+    fn read(&mut self, name: &str) -> Result<Option<Vec<u8>>, FolderFault> {
+        match self.laid(name) {
+            Some(bytes) => Ok(Some(Vec::from_slice(self.alloc, bytes)?)),
+            None => self.folder.read(name),
+        }
+    }
+
+    fn read_part(
+        &mut self,
+        name: &str,
+        offset: u64,
+        len: usize,
+    ) -> Result<Option<Vec<u8>>, FolderFault> {
+        match self.laid(name) {
+            Some(bytes) => Ok(Some(Vec::from_slice(self.alloc, part_of(bytes, offset, len))?)),
+            None => self.folder.read_part(name, offset, len),
+        }
+    }
+
+    fn create(&mut self, name: &str, bytes: &[u8]) -> Result<(), FolderFault> {
+        self.refuse(RefusedCall::Create(name, bytes))
+    }
+
+    fn sync(&mut self, name: &str) -> Result<(), FolderFault> {
+        self.refuse(RefusedCall::Sync(name))
+    }
+
+    fn rename(&mut self, from: &str, to: &str) -> Result<(), FolderFault> {
+        self.refuse(RefusedCall::Rename(from, to))
+    }
+
+    fn remove(&mut self, name: &str) -> Result<(), FolderFault> {
+        self.refuse(RefusedCall::Remove(name))
+    }
+
+    fn sync_folder(&mut self) -> Result<(), FolderFault> {
+        self.refuse(RefusedCall::SyncFolder)
+    }
+
+    fn failures(&self) -> u64 {
+        self.folder.failures()
+    }
+}
+
+/// The table of this `name`, of tables whose names are `names`.
+fn laid_in<'o>(tables: &'o [(u64, Vec<u8>)], names: &[String], name: &str) -> Option<&'o [u8]>
+    requires { map string_bytes names.now ≡ names_of (tables_in tables.now) }
+    ensures { option_map (λ bytes. bytes.now) result ≡ laid_table (tables_in tables.now) name.now }
+{
+    for place in 0..tables.len() {
+        if is_named(&names[place], name) {
+            return Some(tables[place].1.as_slice());
+        }
+    }
+    None
+}
+
+/// Whether a text is this `name`.
+fn is_named(text: &String, name: &str) -> bool
+    ensures { result ≡ bytes_eq (string_bytes text.now) name.now }
+{
+    text.as_str() == name
+}
+
+/// The `len` bytes from `offset` on, or as many as there are.
+fn part_of(bytes: &[u8], offset: u64, len: usize) -> &[u8]
+    ensures { result.now ≡ part_of offset len bytes.now }
+{
+    let start = offset.min(bytes.len() as u64) as usize;
+    let (_, rest) = bytes.split_at(start);
+    let (part, _) = rest.split_at(len.min(rest.len()));
+    part
+}
+
+/// The names of tables, in their order. The only fault is Memory.
+pub(crate) fn names_of(alloc: Global, tables: &[(u64, Vec<u8>)]) -> Result<Vec<String>, Fault>
+    ensures { EqualOrMemory (λ v. map string_bytes v.items) result
+        (Ok (names_of (tables_in tables.now))) }
+{
+    let mut names = Vec::with_capacity(alloc, tables.len())?;
+    for (number, _) in tables {
+        names.push(table_name(alloc, *number)?)?;
+    }
+    Ok(names)
+}

@@ -1,0 +1,62 @@
+//! Testing a table, and the line of a valid one.
+
+ghost use Rattle.std.specs.Prelude.{◌≡◌, ◌++◌, IfErr, Ok, OnOk, string_bytes};
+ghost use Rattle.coding.specs.Answers.{EqualOrMemory, fault};
+ghost use Rattle.coding.specs.declared.fault.FaultName.TheVariants.{Memory};
+ghost use Rattle.commands.specs.FaultLines.{counted_entries, table_count, table_verdict};
+ghost use Rattle.commands.specs.FaultLines.{valid_line};
+
+use coding::Fault;
+use ikey::Bytewise;
+use std::alloc::Global;
+use table::{Cursor, SoundTable, TableCursor, check};
+
+/// The line `valid: E entries` of a table in bytewise order. An invalid table is refused as
+/// [`dump`](crate::dump) refuses it.
+pub fn verify_table(alloc: Global, bytes: &[u8]) -> Result<Vec<u8>, Fault>
+    ensures { EqualOrMemory (λ line. line.items) result (table_verdict bytes.now) }
+{
+    let count = table_entries(alloc, bytes)?;
+    valid_line(alloc, count)
+}
+
+/// How many entries a table in bytewise order has; 2^64 - 1 if it had more. An invalid table is
+/// refused by the first test that fails, as `table::check` refuses it.
+pub fn table_entries(alloc: Global, bytes: &[u8]) -> Result<u64, Fault>
+    ensures { EqualOrMemory (λ count. count) result (table_count bytes.now) }
+{
+    let table = check::<Bytewise>(alloc, bytes)?;
+    counted_entries(alloc, &table)
+}
+
+/// How many entries a table has. The only fault is Memory.
+fn counted_entries(alloc: Global, table: &SoundTable<'_, Bytewise>) -> Result<u64, Fault>
+    ensures { EqualOrMemory (λ count. count) result (Ok (counted_entries table.now.entries)) }
+{
+    let mut cursor = TableCursor::new(alloc, table)?;
+    let mut count: u64 = 0;
+    while cursor.valid() {
+        count = count.saturating_add(1);
+        cursor.advance()?;
+    }
+    Ok(count)
+}
+
+/// The line `valid: E entries`. The only fault is Memory.
+fn valid_line(alloc: Global, entries: u64) -> Result<Vec<u8>, Fault>
+    ensures { EqualOrMemory (λ line. line.items) result (Ok (valid_line entries)) }
+{
+    let mut line = String::new(alloc);
+    push_valid(&mut line, entries)?;
+    Ok(line.into_bytes())
+}
+
+/// Appends that line. The only fault is Memory.
+fn push_valid(line: &mut String, entries: u64) -> Result<(), Fault>
+    ensures ok { OnOk result (string_bytes line.new ≡ string_bytes line.old
+        ++ valid_line entries) }
+    ensures memory { IfErr result (λ e. e ≡ fault Memory) }
+{
+    writeln!(line, "valid: {entries} entries")?;
+    Ok(())
+}

@@ -1,0 +1,4 @@
+//! The tests of `adoption`.
+
+mod rows;
+mod tests;

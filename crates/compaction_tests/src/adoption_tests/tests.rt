@@ -1,0 +1,113 @@
+//! Outcomes that are installed in folders in memory.
+
+use crate::adoption_tests::rows::{INSTALLED, OWN, REFUSED_EDITS, REFUSED_OUTPUTS, Row};
+use crate::store_tests::rows::{CURRENT, Files, T_AND_V};
+use adoption::{AdoptionEnd, install_outcome};
+use coding::{Fault, FaultName};
+use folder::{Shelf, open};
+use std::test::*;
+use std::thread::Threads;
+use store::Open;
+
+/// How many bytes of tables are held while a version is tested.
+const MEMORY: u64 = 1_073_741_824;
+
+/// The files of the folder of a row.
+fn files_of(row: &Row) -> [(&'static str, &'static [u8]); 4] {
+    [
+        ("CURRENT", CURRENT),
+        ("MANIFEST-000005", row.manifest),
+        ("000007.ldb", row.seven),
+        ("000008.ldb", T_AND_V),
+    ]
+}
+
+/// Whether an answer is this text, or this refusal.
+fn is_answer(answer: &Result<Vec<u8>, Fault>, wanted: Result<&str, FaultName>) -> bool {
+    match (answer, wanted) {
+        (Ok(lines), Ok(text)) => lines.as_slice() == text.as_bytes(),
+        (Err(fault), Err(name)) => *fault == Fault::of(name),
+        _ => false,
+    }
+}
+
+/// Whether a folder holds these files.
+fn holds(folder: &Shelf<'_>, files: Files) -> bool {
+    for (name, bytes) in files {
+        if folder.held(name) != Some(*bytes) {
+            return false;
+        }
+    }
+    true
+}
+
+/// Installs the outcome of a row in a folder.
+fn installed<'f, R: AllocGlobal + Threads + Sync>(
+    rt: &R,
+    folder: Shelf<'f>,
+    row: &Row,
+) -> AdoptionEnd<Shelf<'f>> {
+    let alloc = rt.alloc();
+    let mut folder = folder;
+    let mut source = Shelf::new(alloc, row.outcome);
+    match open(alloc, &mut folder) {
+        Ok(opened) => {
+            let comparison = row.comparison;
+            install_outcome(
+                rt,
+                alloc,
+                folder,
+                &mut source,
+                &opened,
+                comparison,
+                MEMORY,
+                &Open,
+            )
+        }
+        Err(fault) => AdoptionEnd {
+            folder,
+            answer: Err(fault),
+        },
+    }
+}
+
+/// Whether the installation of a row has its answer and leaves its files.
+fn is_answered<R: AllocGlobal + Threads + Sync>(rt: &R, row: &Row) -> bool {
+    let files = files_of(row);
+    let end = installed(rt, Shelf::new(rt.alloc(), &files), row);
+    is_answer(&end.answer, row.answer) && holds(&end.folder, row.left)
+}
+
+/// Whether an outcome that was installed is refused if it is installed again, and the folder stays.
+fn is_refused_twice<R: AllocGlobal + Threads + Sync>(rt: &R, row: &Row) -> bool {
+    let files = files_of(row);
+    let first = installed(rt, Shelf::new(rt.alloc(), &files), row);
+    let second = installed(rt, first.folder, row);
+    is_answer(&second.answer, Err(FaultName::Apply)) && holds(&second.folder, row.left)
+}
+
+#[test]
+fn outcomes_that_are_installed(rt: HostRuntime) {
+    for row in INSTALLED {
+        assert!(rt; is_answered(&rt, row), "{}", row.name);
+    }
+}
+
+#[test]
+fn edits_that_are_refused(rt: HostRuntime) {
+    for row in REFUSED_EDITS {
+        assert!(rt; is_answered(&rt, row), "{}", row.name);
+    }
+}
+
+#[test]
+fn outputs_that_are_refused(rt: HostRuntime) {
+    for row in REFUSED_OUTPUTS {
+        assert!(rt; is_answered(&rt, row), "{}", row.name);
+    }
+}
+
+#[test]
+fn outcomes_that_are_installed_twice(rt: HostRuntime) {
+    assert!(rt; is_refused_twice(&rt, &OWN));
+}

@@ -1,0 +1,127 @@
+//! The program `embedding`: how a store makes one compaction by the call `compact`.
+//!
+//! The store has two tables at level 0 and one at level 1, and the edit that made its version. It
+//! compacts level 0 by one worker, and once more by four workers over two ranges. Both answer the
+//! same bytes. Then it applies the edit. `docs/EMBEDDING.md` explains the steps.
+#![tactic(auto)]
+
+mod store;
+
+use crate::store::{FILES, TABLES};
+use anyhow::{Result, ensure};
+use board::Open;
+use coding::Fault;
+use compact::compact;
+use edit::{Outcome, Version, VersionEdit};
+use ikey::Bytewise;
+use keep::Snapshots;
+use pick::inputs;
+use request::Request;
+use split::Split;
+use std::alloc::Global;
+use std::thread::Threads;
+use table::Options;
+
+/// Only the last sequence and later ones stay readable.
+const LAST_ALONE: Snapshots<'static> = Snapshots::Listed(&[]);
+
+/// A version, after the edit of these bytes.
+fn edited(alloc: Global, version: Version, bytes: &[u8]) -> Result<Version, Fault> {
+    let edit = VersionEdit::decode(alloc, bytes)?;
+    version.applied::<Bytewise>(edit)
+}
+
+/// All user keys as one range, or as those before and those from `boundary` on.
+fn split_at(alloc: Global, boundary: Option<&[u8]>) -> Result<Split<Bytewise>, Fault> {
+    let mut keys = Vec::new(alloc);
+    if let Some(key) = boundary {
+        keys.push(Vec::from_slice(alloc, key)?)?;
+    }
+    Split::from_keys(keys)
+}
+
+/// The compaction of level 0 of this version, whose inputs have the tables `TABLES`.
+fn compacted<R: Threads + Sync>(
+    rt: &R,
+    alloc: Global,
+    version: &Version,
+    split: &Split<Bytewise>,
+    workers: u64,
+) -> Result<Outcome, Fault> {
+    let picked = inputs::<Bytewise>(alloc, version, 0)?;
+    let request = Request {
+        picked: &picked,
+        tables: TABLES,
+        snapshots: LAST_ALONE,
+        first_number: version.next_file().unwrap_or(0),
+        log_number: version.log_number().unwrap_or(0),
+        previous_log: version.previous_log().unwrap_or(0),
+        last_sequence: version.last_sequence().unwrap_or(0),
+        options: Options::default(),
+    };
+    compact(rt, alloc, &request, split, workers, &Open)
+}
+
+/// Whether two outcomes are the same tables and the same edit.
+fn are_same(one: &Outcome, other: &Outcome) -> bool {
+    one.edit.as_slice() == other.edit.as_slice()
+        && one.tables.len() == other.tables.len()
+        && are_same_tables(&one.tables, &other.tables)
+}
+
+/// Whether the tables of two equally long lists are the same.
+fn are_same_tables(tables: &[(u64, Vec<u8>)], others: &[(u64, Vec<u8>)]) -> bool {
+    for (place, table) in tables.iter().enumerate() {
+        let same = match others.get(place) {
+            Some(other) => table.0 == other.0 && table.1.as_slice() == other.1.as_slice(),
+            None => false,
+        };
+        if !same {
+            return false;
+        }
+    }
+    true
+}
+
+/// Compacts level 0 twice, and answers the outcome and whether it was the same.
+fn compacted_twice<R: Threads + Sync>(
+    rt: &R,
+    alloc: Global,
+    version: &Version,
+) -> Result<(Outcome, bool), Fault> {
+    let whole = split_at(alloc, None)?;
+    let halves = split_at(alloc, Some(b"c"))?;
+    let once = compacted(rt, alloc, version, &whole, 1)?;
+    let again = compacted(rt, alloc, version, &halves, 4)?;
+    let same = are_same(&once, &again);
+    Ok((once, same))
+}
+
+/// Prints the outputs and the length of the edit.
+fn print_outcome<R: Print>(rt: &R, outcome: &Outcome) -> Result<()> {
+    for (number, table) in &outcome.tables {
+        println!(rt; "output {number} of {} bytes", table.len())?;
+    }
+    println!(rt; "an edit of {} bytes", outcome.edit.len())?;
+    Ok(())
+}
+
+/// Prints the files of a version.
+fn print_files<R: AllocGlobal + Print>(rt: &R, version: &Version) -> Result<()> {
+    for level in 0..7 {
+        for file in version.files::<Bytewise>(rt.alloc(), level)? {
+            println!(rt; "file {} at level {level}", file.number)?;
+        }
+    }
+    Ok(())
+}
+
+fn main(rt: HostRuntime) -> Result<()> {
+    let alloc = rt.alloc();
+    let version = edited(alloc, Version::empty(alloc), FILES)?;
+    print_files(&rt, &version)?;
+    let (outcome, same) = compacted_twice(&rt, alloc, &version)?;
+    ensure!(same, "the second answer is another one");
+    print_outcome(&rt, &outcome)?;
+    print_files(&rt, &edited(alloc, version, &outcome.edit)?)
+}

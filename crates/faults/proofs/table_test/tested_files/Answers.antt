@@ -1,0 +1,21 @@
+use Rattle.std.proofs.Common.{◌≡◌, Result, Ok, Err, map, arith}
+use Rattle.coding.specs.declared.fault.Fault.{Fault}
+use Rattle.checks.proofs.FolderTests.{told_still}
+use Rattle.faults.specs.FileFaults.{file_reading}
+use Rattle.faults.specs.Findings.{IsTestAnswer, file_in, finding_of, found_in}
+use Rattle.faults.specs.declared.table_finding.TableFinding.{TableFinding}
+use Rattle.faults.proofs.FaultAnswers.{handed_answer, no_value}
+use Rattle.faults.proofs.table_test.tested_files.Goals as goal
+
+pub returns-in_err-finding-clause-answer : goal.returns-in_err-finding-clause-answer
+returns-in_err-finding-clause-answer g c held told =
+    let cmp = g.C.Comparator.cmp in
+    let tells = g.F.Folder.tells in
+    let failed = g.F.Folder.failed in
+    let now = c.loop-file in
+    let f = c.file-item.result in
+    let own : Result TableFinding Fault = Ok (finding_of f.meta.now (file_reading cmp held f.meta.now.number)) in
+    let e = c.in_err-finding.field-0.0 in
+    handed_answer (λ v. map found_in v.items) (failed c.args.folder.now) (failed now.folder) (failed c.table_finding.new.folder) c.from_residual-in_err-finding.result (IsTestAnswer cmp held (map file_in c.args.files.now)) e (let r : Result TableFinding Fault = Err e in r ≡ own) c.from_residual-in_err-finding.ensures.1 (omega (arith, now.invariant.failures)) c.table_finding.ensures.device.later
+    (λ h. no_value e (finding_of f.meta.now (file_reading cmp held f.meta.now.number)) h)
+    (c.in_err-finding.ensures.answer held (told_still (tells c.args.folder.now) (tells now.folder) held now.invariant.reads.same told))

@@ -1,0 +1,163 @@
+//! What is wrong with the files of a version.
+
+ghost use Rattle.std.specs.Prelude.{◌≡◌, ◌++◌, ◌&&◌, map, not, true, Ok, OnOk, IsOkUnless, IfErr};
+ghost use Rattle.std.specs.Prelude.{unwrap_or};
+ghost use Rattle.coding.specs.Answers.{EqualOrMemory, fault};
+ghost use Rattle.coding.specs.declared.fault.FaultName.TheVariants.{Memory};
+ghost use Rattle.reads.specs.StatedFiles.{is_below};
+ghost use Rattle.faults.specs.FileFaults.{are_disjoint, lies_before, overlap, overlap_faults};
+ghost use Rattle.faults.specs.FileFaults.{unless};
+ghost use Rattle.faults.specs.Findings.{faults_of_found, file_in, finding_faults, found_faults};
+ghost use Rattle.faults.specs.Findings.{found_in};
+ghost use Rattle.faults.specs.Telling.{IsTelling};
+
+use crate::fault_taker::FaultTaker;
+use crate::file_fault::FileFault;
+use crate::listed_file::ListedFile;
+use crate::table_finding::TableFinding;
+use crate::tested_file::TestedFile;
+use crate::told::{Told, tell_file};
+use coding::Fault;
+use edit::FileMeta;
+use ikey::Comparator;
+use std::alloc::Global;
+
+/// Tells what is wrong with files of which this was found, one after the other, until the taker
+/// says to stop. `next` is the version's next file. The only fault is Memory.
+pub(crate) fn tell_files<C: Comparator, T: FaultTaker>(
+    alloc: Global,
+    tested: &[TestedFile<'_>],
+    next: Option<u64>,
+    taker: &mut T,
+    told: Told,
+) -> Result<Told, Fault>
+    requires { told.goes ≡ true }
+    ensures told { IsTelling T.tells (faults_of_found C.cmp next (map found_in tested.now))
+        taker.old told.count taker.new result }
+    ensures memory { IfErr result (λ e. e ≡ fault Memory) }
+{
+    let mut told = told;
+    for place in 0..tested.len() {
+        let file = &tested[place];
+        let faults = file_faults::<C>(alloc, next, file, &tested[place + 1..])?;
+        told = tell_file(taker, file.file.meta.number, &faults, told);
+        if !told.goes {
+            return Ok(told);
+        }
+    }
+    Ok(told)
+}
+
+/// What is wrong with a file of which this was found, if these come after it. The only fault is
+/// Memory.
+fn file_faults<C: Comparator>(
+    alloc: Global,
+    next: Option<u64>,
+    tested: &TestedFile<'_>,
+    behind: &[TestedFile<'_>],
+) -> Result<Vec<FileFault>, Fault>
+    ensures { EqualOrMemory (λ v. v.items) result
+        (Ok (found_faults C.cmp next (found_in tested.now)
+        (map (λ t. file_in t.file) behind.now))) }
+{
+    let mut faults = Vec::new(alloc);
+    let meta = tested.file.meta;
+    if !is_below(next, meta.number) {
+        faults.push(FileFault::NotBelow(next.unwrap_or(0)))?;
+    }
+    push_finding(&mut faults, meta, tested.finding)?;
+    push_overlaps::<C>(&mut faults, tested.file, behind)?;
+    Ok(faults)
+}
+
+/// Whether `number` is below `next`; false if there is no `next`.
+fn is_below(next: Option<u64>, number: u64) -> bool
+    ensures { result ≡ is_below next number }
+{
+    match next {
+        Some(next) => number < next,
+        None => false,
+    }
+}
+
+/// Appends what is wrong with a file's table. The only fault is Memory.
+fn push_finding(
+    faults: &mut Vec<FileFault>,
+    file: &FileMeta,
+    finding: TableFinding,
+) -> Result<(), Fault>
+    ensures ok { OnOk result (faults.new.items
+        ≡ faults.old.items ++ finding_faults file.now finding) }
+    ensures memory { IsOkUnless result (fault Memory) }
+{
+    match finding {
+        TableFinding::Unreadable(name) => push_unless(faults, false, FileFault::Refused(name)),
+        TableFinding::Readable {
+            length,
+            has_smallest,
+            has_largest,
+        } => {
+            let stated = file.size;
+            let wrong = FileFault::Length {
+                held: length,
+                stated,
+            };
+            push_unless(faults, stated == length, wrong)?;
+            push_unless(faults, has_smallest, FileFault::Smallest)?;
+            push_unless(faults, has_largest, FileFault::Largest)
+        }
+    }
+}
+
+/// Appends a fault, unless a test holds. The only fault is Memory.
+fn push_unless(faults: &mut Vec<FileFault>, holds: bool, wrong: FileFault) -> Result<(), Fault>
+    ensures ok { OnOk result (faults.new.items ≡ faults.old.items ++ unless holds wrong) }
+    ensures memory { IsOkUnless result (fault Memory) }
+{
+    if !holds {
+        faults.push(wrong)?;
+    }
+    Ok(())
+}
+
+/// Appends that a file overlaps some of those that come after it. The only fault is Memory.
+fn push_overlaps<C: Comparator>(
+    faults: &mut Vec<FileFault>,
+    file: ListedFile<'_>,
+    behind: &[TestedFile<'_>],
+) -> Result<(), Fault>
+    ensures ok { OnOk result (faults.new.items ≡ faults.old.items
+        ++ overlap_faults C.cmp (file_in file.entry) (map (λ t. file_in t.file) behind.now)) }
+    ensures memory { IsOkUnless result (fault Memory) }
+{
+    for tested in behind {
+        if overlap::<C>(&file, &tested.file) {
+            faults.push(FileFault::Overlaps(tested.file.meta.number))?;
+        }
+    }
+    Ok(())
+}
+
+/// Whether two files are at one level from 1 on, and their ranges of internal keys are not
+/// disjoint.
+fn overlap<C: Comparator>(file: &ListedFile<'_>, other: &ListedFile<'_>) -> bool
+    ensures { result ≡ overlap C.cmp (file_in file.now) (file_in other.now) }
+{
+    file.level > 0 && file.level == other.level && !are_disjoint::<C>(file.meta, other.meta)
+}
+
+/// Whether two files have no internal key in common, by their ranges.
+fn are_disjoint<C: Comparator>(file: &FileMeta, other: &FileMeta) -> bool
+    ensures { result ≡ are_disjoint C.cmp file.now other.now }
+{
+    lies_before::<C>(file, other) || lies_before::<C>(other, file)
+}
+
+/// Whether a file ends before another one begins.
+fn lies_before<C: Comparator>(file: &FileMeta, other: &FileMeta) -> bool
+    ensures { result ≡ lies_before C.cmp file.now other.now }
+{
+    let largest = file.largest.as_key();
+    let smallest = other.smallest.as_key();
+    largest.compare::<C>(&smallest).is_lt()
+}

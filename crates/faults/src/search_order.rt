@@ -1,0 +1,90 @@
+//! The files whose entries are compared, in the order in which a get searches them.
+
+ghost use Rattle.std.specs.Prelude.{◌≡◌, map, IfOk, IfErr};
+ghost use Rattle.std.specs.List.{IsDistinct};
+ghost use Rattle.std.specs.Ordering.{nat_cmp};
+ghost use Rattle.coding.specs.Answers.{fault};
+ghost use Rattle.coding.specs.declared.fault.FaultName.TheVariants.{Memory};
+ghost use Rattle.reads.specs.FileChecks.{same_file};
+ghost use Rattle.faults.specs.KeyFaults.{falling_cmp};
+ghost use Rattle.faults.specs.Findings.{file_in, found_in, is_deep_found, is_sound_finding};
+ghost use Rattle.faults.specs.Findings.{is_top_found, metas_found, searched_found};
+
+use crate::table_finding::TableFinding;
+use crate::tested_file::TestedFile;
+use coding::Fault;
+use edit::FileMeta;
+use std::alloc::Global;
+use std::cmp::Ordering;
+
+/// Of files by level and in version order those whose tables can be read and are what the version
+/// states: those of level 0 by falling number, then the others. The only fault is Memory.
+pub(crate) fn searched_files<'v>(
+    alloc: Global,
+    tested: &[TestedFile<'v>],
+) -> Result<Vec<&'v FileMeta>, Fault>
+    requires { IsDistinct same_file (map (λ t. file_in t.file) tested.now) }
+    ensures searched { IfOk result (λ v. map (λ f. f.now) v.items
+        ≡ searched_found (map found_in tested.now)) }
+    ensures memory { IfErr result (λ e. e ≡ fault Memory) }
+{
+    let mut files = top_files(alloc, tested)?;
+    files.sort_unstable_by(|file, other| falling_order(file, other));
+    let mut deep = deep_files(alloc, tested)?;
+    files.append(&mut deep)?;
+    Ok(files)
+}
+
+/// The sound files of level 0, in order. The only fault is Memory.
+fn top_files<'v>(alloc: Global, tested: &[TestedFile<'v>]) -> Result<Vec<&'v FileMeta>, Fault>
+    ensures files { IfOk result (λ v. map (λ f. f.now) v.items
+        ≡ metas_found is_top_found (map found_in tested.now)) }
+    ensures memory { IfErr result (λ e. e ≡ fault Memory) }
+{
+    let mut files = Vec::new(alloc);
+    for file in tested {
+        if file.file.level == 0 && is_sound(file) {
+            files.push(file.file.meta)?;
+        }
+    }
+    Ok(files)
+}
+
+/// The sound files of the other levels, in order. The only fault is Memory.
+fn deep_files<'v>(alloc: Global, tested: &[TestedFile<'v>]) -> Result<Vec<&'v FileMeta>, Fault>
+    ensures files { IfOk result (λ v. map (λ f. f.now) v.items
+        ≡ metas_found is_deep_found (map found_in tested.now)) }
+    ensures memory { IfErr result (λ e. e ≡ fault Memory) }
+{
+    let mut files = Vec::new(alloc);
+    for file in tested {
+        if file.file.level != 0 && is_sound(file) {
+            files.push(file.file.meta)?;
+        }
+    }
+    Ok(files)
+}
+
+/// Whether a file's table can be read, and has the length and bounds that the version states.
+fn is_sound(tested: &TestedFile<'_>) -> bool
+    ensures { result ≡ is_sound_finding tested.now.file.meta.now tested.now.finding }
+{
+    match tested.finding {
+        TableFinding::Unreadable(_) => false,
+        TableFinding::Readable {
+            length,
+            has_smallest,
+            has_largest,
+        } => {
+            let stated = tested.file.meta.size;
+            stated == length && has_smallest && has_largest
+        }
+    }
+}
+
+/// The order of files by falling number.
+fn falling_order(file: &FileMeta, other: &FileMeta) -> Ordering
+    ensures { result ≡ falling_cmp file.now other.now }
+{
+    other.number.cmp(&file.number)
+}

@@ -1,0 +1,138 @@
+//! The test of a file's table in a folder.
+
+ghost use Rattle.std.specs.Prelude.{◌≡◌, map, Ok, IfOk};
+ghost use Rattle.std.specs.Option.{option_map};
+ghost use Rattle.coding.specs.Answers.{EqualOrMemory};
+ghost use Rattle.folder.specs.Calls.{Files, Tells};
+ghost use Rattle.folder.specs.OpenAnswer.{FolderAnswers};
+ghost use Rattle.folder.specs.Reports.{OnlyReads, ReportsDevice};
+ghost use Rattle.table.specs.TableContents.{contents_reading};
+ghost use Rattle.faults.specs.FileFaults.{file_reading, table_held};
+ghost use Rattle.faults.specs.Findings.{IsTestAnswer, file_in, finding_of, found_in};
+
+use crate::listed_file::ListedFile;
+use crate::table_finding::TableFinding;
+use crate::table_length::is_too_long;
+use crate::tested_file::TestedFile;
+use coding::{Fault, FaultName};
+use edit::FileMeta;
+use folder::{Folder, old_table_name, table_name};
+use ikey::Comparator;
+use std::alloc::Global;
+use table::{SoundTable, check};
+
+/// The files in order, each with what the test of its table finds. It only reads.
+///
+/// One table is in memory at a time. If the device fails a call, the answer is Device and no
+/// further call is made. The only other fault is Memory.
+pub(crate) fn tested_files<'v, C: Comparator, F: Folder>(
+    alloc: Global,
+    folder: &mut F,
+    files: &[ListedFile<'v>],
+) -> Result<Vec<TestedFile<'v>>, Fault>
+    ensures answer { (held : Files) → Tells (F.tells folder.old) held →
+        FolderAnswers (λ v. map found_in v.items) (F.failed folder.old) (F.failed folder.new) result
+        (IsTestAnswer C.cmp held (map file_in files.now)) }
+    ensures files { IfOk result
+        (λ v. map (λ t. file_in t.file) v.items ≡ map file_in files.now) }
+    ensures device { ReportsDevice F.Folder folder.old folder.new result }
+    ensures reads { OnlyReads F.Folder folder.old folder.new }
+{
+    let mut tested = Vec::with_capacity(alloc, files.len())?;
+    for file in files {
+        let finding = table_finding::<C, F>(alloc, folder, file.meta)?;
+        tested.push(TestedFile {
+            file: *file,
+            finding,
+        })?;
+    }
+    Ok(tested)
+}
+
+/// What the test of a file's table finds. It only reads. A table that is too long isn't read.
+fn table_finding<C: Comparator, F: Folder>(
+    alloc: Global,
+    folder: &mut F,
+    file: &FileMeta,
+) -> Result<TableFinding, Fault>
+    ensures answer { (held : Files) → Tells (F.tells folder.old) held →
+        FolderAnswers (λ finding. finding) (F.failed folder.old) (F.failed folder.new) result
+        (λ answer. answer ≡ Ok (finding_of file.now (file_reading C.cmp held file.now.number))) }
+    ensures device { ReportsDevice F.Folder folder.old folder.new result }
+    ensures reads { OnlyReads F.Folder folder.old folder.new }
+{
+    let is_over = is_too_long(alloc, folder, file.number)?;
+    if is_over {
+        return Ok(TableFinding::Unreadable(FaultName::Size));
+    }
+    read_finding::<C, F>(alloc, folder, file)
+}
+
+/// The same of a table that is read. It only reads.
+fn read_finding<C: Comparator, F: Folder>(
+    alloc: Global,
+    folder: &mut F,
+    file: &FileMeta,
+) -> Result<TableFinding, Fault>
+    ensures answer { (held : Files) → Tells (F.tells folder.old) held →
+        FolderAnswers (λ finding. finding) (F.failed folder.old) (F.failed folder.new) result
+        (λ answer. answer ≡ Ok (finding_of file.now (file_reading C.cmp held file.now.number))) }
+    ensures device { ReportsDevice F.Folder folder.old folder.new result }
+    ensures reads { OnlyReads F.Folder folder.old folder.new }
+{
+    let Some(bytes) = held_bytes(alloc, folder, file.number)? else {
+        return Ok(TableFinding::Unreadable(FaultName::Missing));
+    };
+    finding_in::<C>(alloc, file, &bytes)
+}
+
+/// The bytes of the table of a number. None if there is none. It only reads.
+fn held_bytes<F: Folder>(
+    alloc: Global,
+    folder: &mut F,
+    number: u64,
+) -> Result<Option<Vec<u8>>, Fault>
+    ensures answer { (held : Files) → Tells (F.tells folder.old) held →
+        FolderAnswers (option_map (λ v. v.items)) (F.failed folder.old) (F.failed folder.new) result
+        (λ answer. answer ≡ Ok (table_held held number)) }
+    ensures device { ReportsDevice F.Folder folder.old folder.new result }
+    ensures reads { OnlyReads F.Folder folder.old folder.new }
+{
+    let name = table_name(alloc, number)?;
+    let old_name = old_table_name(alloc, number)?;
+    match folder.read(name.as_str())? {
+        Some(bytes) => Ok(Some(bytes)),
+        None => Ok(folder.read(old_name.as_str())?),
+    }
+}
+
+/// What the test of the bytes of a file's table finds. The only fault is Memory.
+fn finding_in<C: Comparator>(
+    alloc: Global,
+    file: &FileMeta,
+    bytes: &[u8],
+) -> Result<TableFinding, Fault>
+    ensures { EqualOrMemory (λ finding. finding) result
+        (Ok (finding_of file.now (contents_reading C.cmp bytes.now))) }
+{
+    match check::<C>(alloc, bytes) {
+        Ok(table) => Ok(readable(file, &table)),
+        Err(refused) => match refused.name {
+            FaultName::Memory => Err(Fault::of(FaultName::Memory)),
+            name => Ok(TableFinding::Unreadable(name)),
+        },
+    }
+}
+
+/// What is found of a file's table that can be read. Takes no memory.
+fn readable<C: Comparator>(file: &FileMeta, table: &SoundTable<'_, C>) -> TableFinding
+    ensures { result ≡ finding_of file.now (Ok table.now) }
+{
+    let smallest = table.smallest();
+    let largest = table.largest();
+    TableFinding::Readable {
+        length: table.bytes().len() as u64,
+        has_smallest: file.smallest.as_key().bytes() == smallest.bytes(),
+        has_largest: file.largest.as_key().bytes() == largest.bytes(),
+    }
+}

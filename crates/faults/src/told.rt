@@ -1,0 +1,80 @@
+//! How many faults were told, and telling more.
+
+ghost use Rattle.std.specs.Prelude.{◌≡◌, true, map};
+ghost use Rattle.faults.specs.VersionFault.{OfFile, OfKey};
+ghost use Rattle.faults.specs.KeyWalk.{misplaced_in};
+ghost use Rattle.faults.specs.Telling.{IsTold, next_count};
+
+use crate::fault_taker::FaultTaker;
+use crate::file_fault::FileFault;
+use crate::key_fault::KeyFault;
+
+/// How many faults were told, and whether the taker wants more.
+#[derive(Clone, Copy)]
+pub(crate) struct Told {
+    /// 2^64 - 1 if there were more.
+    pub count: u64,
+    /// Whether the taker said to go on.
+    pub goes: bool,
+}
+
+impl Told {
+    /// None yet.
+    pub fn none() -> Told
+        ensures { result ≡ record { count = 0; goes = true } }
+    {
+        Told {
+            count: 0,
+            goes: true,
+        }
+    }
+
+    /// One more, after which the taker said whether to go on.
+    pub fn one_more(self, goes: bool) -> Told
+        ensures { result ≡ record { count = next_count self.count; goes = goes } }
+    {
+        Told {
+            count: self.count.saturating_add(1),
+            goes,
+        }
+    }
+}
+
+/// Tells faults of the file of a number, until the taker says to stop.
+pub(crate) fn tell_file<T: FaultTaker>(
+    taker: &mut T,
+    number: u64,
+    faults: &[FileFault],
+    told: Told,
+) -> Told
+    requires { told.goes ≡ true }
+    ensures { IsTold T.tells (map (OfFile number) faults.now) taker.old told.count
+        taker.new result }
+{
+    let mut told = told;
+    for fault in faults {
+        let goes = taker.file_fault(number, *fault);
+        told = told.one_more(goes);
+        if !goes {
+            return told;
+        }
+    }
+    told
+}
+
+/// Tells faults of user keys, until the taker says to stop.
+pub(crate) fn tell_keys<T: FaultTaker>(taker: &mut T, faults: &[KeyFault], told: Told) -> Told
+    requires { told.goes ≡ true }
+    ensures { IsTold T.tells (map (λ k. OfKey (misplaced_in k)) faults.now) taker.old
+        told.count taker.new result }
+{
+    let mut told = told;
+    for fault in faults {
+        let goes = taker.key_fault(&fault.user, fault.file, fault.other);
+        told = told.one_more(goes);
+        if !goes {
+            return told;
+        }
+    }
+    told
+}

@@ -1,0 +1,120 @@
+-- The calls of an installation, of which CURRENT is read again in the middle.
+use Rattle.std.proofs.Common.{◌≡◌, ◌≢◌, ◌⊎◌, ◌≤◌, ℕ, List, ◌++◌, codes, Option, Some, Result, Ok, Err, IsErrAnd, IfErr, refl, sym, ap, subst, ◌∙◌, inl, inr}
+use Rattle.coding.proofs.Refusals.{unless_from}
+use Rattle.coding.specs.Answers.{UnlessMemory, fault}
+use Rattle.coding.specs.declared.fault.Fault.{Fault}
+use Rattle.coding.specs.declared.fault.FaultName.TheVariants as name
+use Rattle.folder.specs.Calls.{Call, Files, Step, Tells}
+use Rattle.folder.specs.CallSequence.{MakesCalls}
+use Rattle.folder.specs.Names.{current_text}
+use Rattle.folder.specs.OpenAnswer.{IsStopped, StopsAtDevice}
+use Rattle.folder.specs.Reports.{OnlyReads, ReportsDevice}
+use Rattle.folder.specs.declared.folder.Folder.{Ghosts}
+use Rattle.folder.proofs.OpeningLemmas.{failed_since}
+use Rattle.folder.proofs.ReportLemmas.{reports_handed, reports_then, stopped_device}
+use Rattle.folder.proofs.RunLemmas.{runs_then}
+use Rattle.install.specs.CurrentAnswer.{IsCurrentAnswer}
+use Rattle.install.specs.Install.{IsStoppedOrChanged}
+use Rattle.install.specs.InstallRun.{IsInstallRun}
+use Rattle.install.proofs.Current.{runs_read, same_refused}
+use Rattle.install.proofs.Parts.{hands_behind, hands_stopped, runs_whole}
+
+-- a refusal of the device isn't Changed
+not_changed : (before now : ℕ) (e : Fault) → UnlessMemory e (IsStopped before now e) → e ≢ fault name.Changed
+not_changed before now e h is =
+    let stopped : IsStopped before now (fault name.Changed) = subst (λ (f : Fault). UnlessMemory f (IsStopped before now f)) is h in
+    let both : name.Changed ≡ name.Device = ap (λ (f : Fault). f.name) stopped.0 in
+    cc both
+
+weaker : (before now : ℕ) (e : Fault) → UnlessMemory e (IsStopped before now e) → UnlessMemory e (IsStoppedOrChanged before now e)
+weaker before now e h = unless_from e (IsStopped before now e) (IsStoppedOrChanged before now e) (λ s. inl s) h
+
+stopped_since : {X : Type 0} (before middle now : ℕ) (r : Result X Fault) → before ≤ middle → middle ≤ now → IfErr r (λ e. UnlessMemory e (IsStopped middle now e)) → IfErr r (λ e. UnlessMemory e (IsStopped before now e))
+stopped_since before middle now (Ok x) one two given = tt
+stopped_since before middle now (Err e) one two given = unless_from e (IsStopped middle now e) (IsStopped before now e) (λ s. (s.0, failed_since before middle now one two s.1)) given
+
+-- that a folder that tells files tells the same CURRENT later
+abbrev TellsCurrent : (List ℕ → Option (List ℕ) → Type 0) → (List ℕ → Option (List ℕ) → Type 0) → Type 0
+TellsCurrent old new = (files : Files) → Tells old files → (now : Files) × Tells new now × (now (codes "CURRENT") ≡ files (codes "CURRENT"))
+
+module _ {D : Type 0} {g : Ghosts D} (first last : List Call) (opened : ℕ) where
+  -- one of the first calls failed, or memory ran out
+  pub install_stopped : {X : Type 0} (a b : D) (e : Fault) (r : Result X Fault) → IsErrAnd r (λ f. f ≡ e)
+      → MakesCalls {T = Unit {0}} {E = Fault} first (g.calls a) (g.calls b) (g.tells a) (g.tells b) (Err e)
+      → UnlessMemory e (IsStopped (g.failed a) (g.failed b) e) → StopsAtDevice {X = Unit {0}} (g.failed a) (g.failed b) (Err e) → g.failed a ≤ g.failed b
+      → IsInstallRun g first last opened a b r
+  install_stopped a b e (Ok x) h runs refused at_once later = absurd h
+  install_stopped a b e (Err f) h runs refused at_once later =
+      let stopped = subst (λ (x : Fault). UnlessMemory x (IsStopped (g.failed a) (g.failed b) x)) (sym h) refused in
+      let part : ReportsDevice {X = Unit {0}} g a b (Err e) = record { device = stopped_device {X = Unit {0}} (g.failed a) (g.failed b) (Err e) refused; at_once = at_once; later = later } in
+      record {
+        runs = hands_stopped (λ x. x ≡ e) first last (g.calls a) (g.calls b) (g.tells a) (g.tells b) e (Err f) h runs;
+        left = λ is. absurd (not_changed (g.failed a) (g.failed b) f stopped is);
+        refused = weaker (g.failed a) (g.failed b) f stopped;
+        same_current = λ files tell is. stopped;
+        other_current = λ files tell other. weaker (g.failed a) (g.failed b) f stopped;
+        device = reports_handed (Err f) refl part h;
+      }
+
+  -- CURRENT couldn't be read, or isn't as it was
+  pub install_refused : {X Y : Type 0} (a b d : D) (y : Y) (e : Fault) (r : Result X Fault) → IsErrAnd r (λ f. f ≡ e)
+      → MakesCalls {E = Fault} first (g.calls a) (g.calls b) (g.tells a) (g.tells b) (Ok y) → StopsAtDevice (g.failed a) (g.failed b) (Ok y) → g.failed a ≤ g.failed b → TellsCurrent (g.tells a) (g.tells b)
+      → OnlyReads g b d → ReportsDevice {X = Unit {0}} g b d (Err e) → UnlessMemory e (IsStopped (g.failed b) (g.failed d) e ⊎ IsCurrentAnswer {T = Unit {0}} (g.tells b) opened (Err e))
+      → IsInstallRun g first last opened a d r
+  install_refused a b d y e (Ok x) h runs at_once later current reads two answer = absurd h
+  install_refused {Y = Y} a b d y e (Err f) h runs at_once later current reads two answer =
+      let whole = runs_whole first (g.calls a) (g.calls b) (g.tells a) (g.tells b) y runs in
+      let one : ReportsDevice {X = Y} g a b (Ok y) = record { device = tt; at_once = at_once; later = later } in
+      let given = unless_from e (IsStopped (g.failed b) (g.failed d) e ⊎ IsCurrentAnswer {T = Unit {0}} (g.tells b) opened (Err e)) (IsStoppedOrChanged (g.failed a) (g.failed d) e)
+      (λ x. elim x [
+        | inl s ↦ inl (s.0, failed_since (g.failed a) (g.failed b) (g.failed d) later two.later s.1)
+        | inr changed ↦ inr changed.3
+      ]) answer in
+      let refused = subst (λ (x : Fault). UnlessMemory x (IsStoppedOrChanged (g.failed a) (g.failed d) x)) (sym h) given in
+      record {
+        runs = hands_behind (λ x. x ≡ e) first last (g.calls a) (g.calls d) (g.tells a) (g.tells d) (Err f) h (runs_read first (g.calls a) (g.calls b) (g.calls d) (g.tells a) (g.tells b) (g.tells d) (Ok tt) reads.same reads.calls whole);
+        left = λ is. reads.calls ∙ (whole.appended ∙ ap (λ (s : List Step). g.calls a ++ s) whole.made);
+        refused = refused;
+        same_current = λ files tell is.
+            let now = current files tell in
+            subst (λ (x : Fault). UnlessMemory x (IsStopped (g.failed a) (g.failed d) x)) (sym h)
+            (same_refused {T = Unit {0}} (g.tells b) opened (g.failed a) (g.failed b) (g.failed d) later two.later now.0 now.1 (now.2 ∙ is) (Ok tt) e answer);
+        other_current = λ files tell other. refused;
+        device = reports_then refl one (reports_handed (Err f) refl two h);
+      }
+
+  named_by : {X : Type 0} (a b : D) (r : Result X Fault) → MakesCalls (first ++ last) (g.calls a) (g.calls b) (g.tells a) (g.tells b) r → IfErr r (λ e. UnlessMemory e (IsStopped (g.failed a) (g.failed b) e))
+      → ((files : Files) → Tells (g.tells a) files → files (codes "CURRENT") ≡ Some (current_text opened)) → ReportsDevice g a b r → IsInstallRun g first last opened a b r
+  named_by a b (Ok x) runs stopped is device = record {
+    runs = runs;
+    left = tt;
+    refused = tt;
+    same_current = λ files tell same. tt;
+    other_current = λ files tell other. other (is files tell);
+    device = device;
+  }
+  named_by a b (Err f) runs stopped is device = record {
+    runs = runs;
+    left = λ e. absurd (not_changed (g.failed a) (g.failed b) f stopped e);
+    refused = weaker (g.failed a) (g.failed b) f stopped;
+    same_current = λ files tell same. stopped;
+    other_current = λ files tell other. absurd (other (is files tell));
+    device = device;
+  }
+
+  -- CURRENT is as it was, so the last calls were made
+  pub install_named : {X Y Z : Type 0} (a b d n : D) (y : Y) (z : Z) (r : Result X Fault)
+      → MakesCalls {E = Fault} first (g.calls a) (g.calls b) (g.tells a) (g.tells b) (Ok y) → StopsAtDevice (g.failed a) (g.failed b) (Ok y) → g.failed a ≤ g.failed b → TellsCurrent (g.tells a) (g.tells b)
+      → OnlyReads g b d → ReportsDevice g b d (Ok z) → g.tells b (codes "CURRENT") (Some (current_text opened))
+      → MakesCalls last (g.calls d) (g.calls n) (g.tells d) (g.tells n) r → IfErr r (λ e. UnlessMemory e (IsStopped (g.failed d) (g.failed n) e)) → StopsAtDevice (g.failed d) (g.failed n) r → g.failed d ≤ g.failed n
+      → IsInstallRun g first last opened a n r
+  install_named {Y = Y} {Z = Z} a b d n y z r runs at_once later current reads two answer more refused at_once' later' =
+      let whole = runs_whole first (g.calls a) (g.calls b) (g.tells a) (g.tells b) y runs in
+      let one : ReportsDevice {X = Y} g a b (Ok y) = record { device = tt; at_once = at_once; later = later } in
+      let both : ReportsDevice {X = Z} g a d (Ok z) = reports_then refl one two in
+      let three : ReportsDevice g d n r = record { device = stopped_device (g.failed d) (g.failed n) r refused; at_once = at_once'; later = later' } in
+      named_by a n r
+      (runs_then first last (g.calls a) (g.calls d) (g.calls n) (g.tells a) (g.tells d) (g.tells n) tt r (runs_read first (g.calls a) (g.calls b) (g.calls d) (g.tells a) (g.tells b) (g.tells d) (Ok tt) reads.same reads.calls whole) more)
+      (stopped_since (g.failed a) (g.failed d) (g.failed n) r both.later later' refused)
+      (λ files tell. let now = current files tell in sym now.2 ∙ (now.1 (codes "CURRENT") (Some (current_text opened))).0 answer)
+      (reports_then refl both three)

@@ -1,0 +1,19 @@
+use Rattle.std.proofs.Common.{List, ℕ, codes, ap, ◌∙◌, ◌++◌}
+use Rattle.json.specs.Print.{quoted}
+use Rattle.texts.specs.Spelling.{key_text}
+use Rattle.texts.proofs.Appended.{appended_on, kept_on}
+use Rattle.json_lines.proofs.PieceLemmas.{key_pieces}
+use Rattle.json_lines.proofs.answers.push_lone_key.Goals as goal
+
+pub returns-in_err-push_quoted_key-clause-err : goal.returns-in_err-push_quoted_key-clause-err
+returns-in_err-push_quoted_key-clause-err c =
+    kept_on c.from_residual-in_err-push_quoted_key.result c.args.lines.now.items (codes "{\"key\":") c.extend_from_slice.new.self.items c.push_quoted_key.new.line.items c.in_ok-extend_from_slice.ensures.items c.in_err-push_quoted_key.ensures.err
+
+pub returns-clause-ok : goal.returns-clause-ok
+returns-clause-ok c =
+    let old = c.args.lines.now.items in
+    let k = quoted (key_text c.args.spelling c.args.key.now) in
+    let a = codes "{\"key\":" in
+    let two = appended_on old c.extend_from_slice.new.self.items c.push_quoted_key.new.line.items a k c.in_ok-extend_from_slice.ensures.items c.in_ok-push_quoted_key.ensures.ok in
+    let three = appended_on old c.push_quoted_key.new.line.items c.extend_from_slice-2.new.self.items (a ++ k) (codes "}\n") two c.in_ok-extend_from_slice-2.ensures.items in
+    three ∙ ap (λ (t : List ℕ). old ++ t) (key_pieces c.args.spelling c.args.key.now)

@@ -1,0 +1,139 @@
+//! How much a version has whose tables lie in a folder.
+
+ghost use Rattle.std.specs.Prelude.{◌≡◌, ℕ, ◌≤◌, ◌-◌, ◌^◌, List, Ok, IfOk, IfErr};
+ghost use Rattle.coding.specs.Answers.{UnlessMemory, fault};
+ghost use Rattle.coding.specs.declared.fault.FaultName.TheVariants.{Lawless};
+ghost use Rattle.checks.specs.LawfulTables.{IsLawfulTables};
+ghost use Rattle.checks.specs.TestedTables.{entry_count};
+ghost use Rattle.folder.specs.Calls.{Files, Tells};
+ghost use Rattle.folder.specs.Levels.{file_numbers};
+ghost use Rattle.folder.specs.LoadedTables.{IsLoaded};
+ghost use Rattle.folder.specs.OpenAnswer.{FolderAnswers};
+ghost use Rattle.folder.specs.Orders.{order_cmp};
+ghost use Rattle.folder.specs.ReadsAs.{IsHeldIn};
+ghost use Rattle.folder.specs.Reports.{OnlyReads, ReportsDevice};
+ghost use Rattle.reads.specs.TableOrder.{IsNeverLawful};
+ghost use Rattle.reads.specs.Tables.{NumberedContents};
+ghost use Rattle.scan.specs.LevelCounts.{IsFewStanding};
+ghost use Rattle.scan.specs.Stats.{seen_stats, version_stats};
+ghost use Rattle.scan.specs.TestedStats.{IsTestedStats};
+
+use crate::level_files::files_by_level;
+use crate::level_rows::stats_of;
+use crate::level_stats::VersionStats;
+use crate::range_counts::count_ranges;
+use crate::version_scan::sequence_of;
+use checks::{CHECKERS, Watch, group_split, test_version};
+use coding::{Fault, FaultName};
+use edit::Version;
+use folder::{Folder, Order};
+use ikey::{Bytewise, SharedComparator, Shortlex};
+use reads::standing_files;
+use split::Split;
+use std::alloc::Global;
+use std::thread::Threads;
+
+/// Tests a `version` of this `order` with the tables in the folder, and then counts what it has: at
+/// each level its files, their bytes, the entries of their tables, and which of these are deletions
+/// and which a newer entry hides at the version's last sequence. It only reads.
+///
+/// Refused as `checks::test_version` refuses the version; else only as Device or Memory. The test is
+/// told to `watch`, which is `&Open` if nobody watches.
+///
+/// After the test all tables are read once more, a range of user keys after the other, and each is
+/// checked by four workers. At most `memory` bytes of them are in memory at once, if no single user
+/// key needs more. No contract says so.
+pub fn version_stats<F: Folder, W: Watch + Sync, R: Threads + Sync>(
+    rt: &R,
+    alloc: Global,
+    folder: &mut F,
+    order: Order,
+    version: &Version,
+    memory: u64,
+    watch: &W,
+) -> Result<VersionStats, Fault>
+    ensures stats { (files : Files) → Tells (F.tells folder.old) files →
+        FolderAnswers seen_stats (F.failed folder.old) (F.failed folder.new) result
+        (IsTestedStats (IsHeldIn files) (order_cmp order) version.now) }
+    ensures device { ReportsDevice F.Folder folder.old folder.new result }
+    ensures reads { OnlyReads F.Folder folder.old folder.new }
+{
+    match order {
+        Order::Bytewise => {
+            version_stats_by::<Bytewise, F, W, R>(rt, alloc, folder, version, memory, watch)
+        }
+        Order::Shortlex => {
+            version_stats_by::<Shortlex, F, W, R>(rt, alloc, folder, version, memory, watch)
+        }
+    }
+}
+
+/// The same by this comparator.
+pub fn version_stats_by<
+    C: SharedComparator + 'static,
+    F: Folder,
+    W: Watch + Sync,
+    R: Threads + Sync,
+>(
+    rt: &R,
+    alloc: Global,
+    folder: &mut F,
+    version: &Version,
+    memory: u64,
+    watch: &W,
+) -> Result<VersionStats, Fault>
+    ensures stats { (files : Files) → Tells (F.tells folder.old) files →
+        FolderAnswers seen_stats (F.failed folder.old) (F.failed folder.new) result
+        (IsTestedStats (IsHeldIn files) C.cmp version.now) }
+    ensures device { ReportsDevice F.Folder folder.old folder.new result }
+    ensures reads { OnlyReads F.Folder folder.old folder.new }
+{
+    test_version::<C, F, W, R>(rt, alloc, folder, version, memory, CHECKERS, watch)?;
+    unverified_stats::<C, F, R>(rt, alloc, folder, version, memory)
+}
+
+/// The same of a version that is lawful with the tables in the folder, which isn't tested. The
+/// number of their entries fits.
+fn unverified_stats<C: SharedComparator + 'static, F: Folder, R: Threads + Sync>(
+    rt: &R,
+    alloc: Global,
+    folder: &mut F,
+    version: &Version,
+    memory: u64,
+) -> Result<VersionStats, Fault>
+    ensures stats { (files : Files) (loaded : List (ℕ × List ℕ)) (tables : List NumberedContents) →
+        Tells (F.tells folder.old) files →
+        IsLoaded (F.tells folder.old) (file_numbers C.cmp version.now) (Ok loaded) →
+        IsLawfulTables C.cmp version.now loaded (Ok tables) →
+        entry_count tables ≤ 2 ^ 128 - 1 →
+        FolderAnswers seen_stats (F.failed folder.old) (F.failed folder.new) result
+        (λ answer. answer ≡ Ok (version_stats C.cmp version.now tables)) }
+    ensures device { ReportsDevice F.Folder folder.old folder.new result }
+    ensures reads { OnlyReads F.Folder folder.old folder.new }
+{
+    let split = level_split::<C>(alloc, version, memory)?;
+    let levels = files_by_level::<C>(alloc, version)?;
+    let last = sequence_of(version, None);
+    let amounts = count_ranges::<C, F, R>(rt, alloc, folder, &levels, &split, last)?;
+    stats_of::<C>(alloc, &levels, &amounts)
+}
+
+/// A split into ranges whose tables have at most `memory` bytes together, if the version is lawful
+/// with some tables.
+///
+/// - Lawless: it is lawful with no tables.
+/// - Memory otherwise.
+fn level_split<C: SharedComparator>(
+    alloc: Global,
+    version: &Version,
+    memory: u64,
+) -> Result<Split<C>, Fault>
+    ensures few { IfOk result (λ _. IsFewStanding C.cmp version.now) }
+    ensures refused { IfErr result (λ e. UnlessMemory e
+        ((e ≡ fault Lawless) × IsNeverLawful C.cmp version.now)) }
+{
+    let Some(standing) = standing_files::<C>(alloc, version)? else {
+        return Err(Fault::of(FaultName::Lawless));
+    };
+    group_split::<C>(alloc, &standing, memory)
+}

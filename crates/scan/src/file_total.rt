@@ -1,0 +1,35 @@
+//! Files that are counted.
+
+ghost use Rattle.std.specs.Prelude.{◌≡◌, ◌+◌, ◌-◌, ◌^◌, min};
+
+/// Files of a folder: how many, and their bytes.
+#[derive(Clone, Copy, Debug, PartialEq, Eq)]
+pub struct FileTotal {
+    /// How many files there are.
+    pub files: u64,
+    /// How many bytes they have together.
+    pub bytes: u64,
+}
+
+impl FileTotal {
+    /// No file.
+    pub fn none() -> FileTotal
+        ensures { result ≡ record { files = 0; bytes = 0 } }
+    {
+        FileTotal { files: 0, bytes: 0 }
+    }
+
+    /// The same with one more file of this many bytes. A number that doesn't fit is the greatest
+    /// that does.
+    pub fn with(self, bytes: u64) -> FileTotal
+        ensures { result ≡ record {
+          files = min (self.files + 1) (2 ^ 64 - 1);
+          bytes = min (self.bytes + bytes) (2 ^ 64 - 1);
+        } }
+    {
+        FileTotal {
+            files: self.files.saturating_add(1),
+            bytes: self.bytes.saturating_add(bytes),
+        }
+    }
+}

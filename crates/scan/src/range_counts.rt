@@ -1,0 +1,130 @@
+//! The amounts of a version's files, counted a range of user keys after the other.
+
+ghost use Rattle.std.specs.Prelude.{◌≡◌, ℕ, List, length, map, Option, Ok, IfOk, IfErr, OnOk};
+ghost use Rattle.coding.specs.Answers.{EqualOrMemory, UnlessMemory};
+ghost use Rattle.folder.specs.Calls.{Files, Tells};
+ghost use Rattle.folder.specs.OpenAnswer.{IsStopped};
+ghost use Rattle.folder.specs.Reports.{OnlyReads, ReportsDevice};
+ghost use Rattle.split.specs.Ranges.{key_range};
+ghost use Rattle.keep.specs.InRange.{entries_in};
+ghost use Rattle.reads.specs.Tables.{NumberedContents};
+ghost use Rattle.checks.specs.HeldTables.{AreHeldIn};
+ghost use Rattle.scan.specs.Counts.{AreCounted, capped_files};
+ghost use Rattle.scan.specs.LevelCounts.{AreLevelsIn, all_of_levels, lists_of_levels};
+ghost use Rattle.scan.specs.Stats.{amounts_of, told_amounts};
+
+use crate::amounts::Amounts;
+use crate::level_files::{needed_by_level, numbers_by_level};
+use crate::level_merges::count_held;
+use crate::range_scan::refused_tables;
+use board::Open;
+use checks::{CHECKERS, HeldTables, hold_tables};
+use coding::Fault;
+use edit::FileMeta;
+use folder::Folder;
+use ikey::SharedComparator;
+use split::{Range, Split};
+use std::alloc::Global;
+use std::mem;
+use std::thread::Threads;
+
+/// How much the files of each level and their tables have. Newer entries hide older ones at the
+/// sequence `last`.
+///
+/// It goes from range to range of the split, and reads the tables that one needs when it comes to
+/// it. They are held until no later range needs them. It only reads.
+pub(crate) fn count_ranges<C: SharedComparator + 'static, F: Folder, R: Threads + Sync>(
+    rt: &R,
+    alloc: Global,
+    folder: &mut F,
+    levels: &[Vec<&FileMeta>],
+    split: &Split<C>,
+    last: u64,
+) -> Result<Vec<Amounts>, Fault>
+    // If the folder tells files that hold these tables, and each is what the version states.
+    ensures counted { (files : Files) (next : Option ℕ) (tables : List NumberedContents) →
+        Tells (F.tells folder.old) files →
+        AreLevelsIn C.cmp files next (map (λ fs. map (λ f. f.now) fs.items) levels.now) tables →
+        IfOk result (λ v. v.items ≡ map (λ fs. told_amounts (amounts_of last
+        (all_of_levels tables (map (λ fs. map (λ f. f.now) fs.items) levels.now)) tables fs))
+        (map (λ fs. map (λ f. f.now) fs.items) levels.now)) }
+    ensures errors { (files : Files) (next : Option ℕ) (tables : List NumberedContents) →
+        Tells (F.tells folder.old) files →
+        AreLevelsIn C.cmp files next (map (λ fs. map (λ f. f.now) fs.items) levels.now) tables →
+        IfErr result
+        (λ e. UnlessMemory e (IsStopped (F.failed folder.old) (F.failed folder.new) e)) }
+    ensures number { IfOk result (λ v. length v.items ≡ length levels.now) }
+    ensures device { ReportsDevice F.Folder folder.old folder.new result }
+    ensures reads { OnlyReads F.Folder folder.old folder.new }
+{
+    let mut amounts = amounts_by_level(alloc, levels)?;
+    let mut held = HeldTables::none(alloc);
+    for number in 0..split.len() {
+        let range = split.range(number);
+        count_range::<C, F, R>(
+            rt,
+            alloc,
+            folder,
+            levels,
+            &mut held,
+            range,
+            last,
+            &mut amounts,
+        )?;
+    }
+    Ok(amounts)
+}
+
+/// How much the files of each level have, without their entries. The only fault is Memory.
+fn amounts_by_level(alloc: Global, levels: &[Vec<&FileMeta>]) -> Result<Vec<Amounts>, Fault>
+    ensures { EqualOrMemory (λ v. v.items) result
+        (Ok (map capped_files (map (λ fs. map (λ f. f.now) fs.items) levels.now))) }
+{
+    let mut amounts = Vec::with_capacity(alloc, levels.len())?;
+    for files in levels {
+        amounts.push(Amounts::of_files(files))?;
+    }
+    Ok(amounts)
+}
+
+/// Counts the entries in one range. `held` are tables of the folder; those that the range needs
+/// replace them.
+fn count_range<C: SharedComparator + 'static, F: Folder, R: Threads + Sync>(
+    rt: &R,
+    alloc: Global,
+    folder: &mut F,
+    levels: &[Vec<&FileMeta>],
+    held: &mut HeldTables<C>,
+    range: Range<'_>,
+    last: u64,
+    amounts: &mut [Amounts],
+) -> Result<(), Fault>
+    requires { length amounts.old ≡ length levels.now }
+    ensures counted { (files : Files) (next : Option ℕ) (tables : List NumberedContents) →
+        Tells (F.tells folder.old) files →
+        AreLevelsIn C.cmp files next (map (λ fs. map (λ f. f.now) fs.items) levels.now) tables →
+        AreHeldIn C.cmp files held.old →
+        OnOk result (AreCounted last (map (entries_in C.cmp (key_range range.entry))
+        (lists_of_levels tables (map (λ fs. map (λ f. f.now) fs.items) levels.now)))
+        amounts.old amounts.new) }
+    ensures errors { (files : Files) (next : Option ℕ) (tables : List NumberedContents) →
+        Tells (F.tells folder.old) files →
+        AreLevelsIn C.cmp files next (map (λ fs. map (λ f. f.now) fs.items) levels.now) tables →
+        AreHeldIn C.cmp files held.old →
+        IfErr result
+        (λ e. UnlessMemory e (IsStopped (F.failed folder.old) (F.failed folder.new) e)) }
+    ensures held { (files : Files) → Tells (F.tells folder.old) files →
+        AreHeldIn C.cmp files held.old → AreHeldIn C.cmp files held.new }
+    ensures device { ReportsDevice F.Folder folder.old folder.new result }
+    ensures reads { OnlyReads F.Folder folder.old folder.new }
+{
+    let needed = needed_by_level::<C>(alloc, levels, range)?;
+    let numbers = numbers_by_level(alloc, &needed)?;
+    let before = mem::replace(held, HeldTables::none(alloc));
+    let found = hold_tables::<C, F, Open, R>(rt, alloc, folder, before, &numbers, CHECKERS, &Open)?;
+    let Some(tables) = found else {
+        return refused_tables::<C, F, (), R>(rt, alloc, folder, &numbers);
+    };
+    *held = tables;
+    count_held(alloc, held, &needed, range, last, amounts)
+}

@@ -1,0 +1,42 @@
+-- The names of the files that a compaction of a level reads.
+use Rattle.std.specs.Prelude.{◌≡◌, ℕ, List, [], ◌∷◌, ◌++◌, codes, is_some, if◌then◌else◌}
+use Rattle.std.specs.Prelude.{Result, Ok, Err}
+use Rattle.std.specs.List.{flat_map}
+use Rattle.std.specs.declared.cmp.Ordering.{Ordering}
+use Rattle.coding.specs.Answers.{IsThen, fault, ◌>>=◌}
+use Rattle.coding.specs.declared.fault.Fault.{Fault}
+use Rattle.coding.specs.declared.fault.FaultName.TheVariants.{Missing}
+use Rattle.edit.specs.Version.{State}
+use Rattle.folder.specs.Calls.{Files}
+use Rattle.folder.specs.Names.{manifest_name, old_table_name, table_name}
+use Rattle.pick.specs.Picked.{IsInputsAnswer}
+use Rattle.store.specs.InputsCompaction.{IsOrderlyAnswer, input_numbers}
+
+-- the name under which the table of a number is there, or Missing if it is under neither
+abbrev pub name_there : Files → ℕ → Result (List ℕ) Fault
+name_there files number =
+    if is_some (files (table_name number)) then Ok (table_name number)
+    else (if is_some (files (old_table_name number)) then Ok (old_table_name number)
+    else Err (fault Missing))
+
+-- those of these numbers in their order, or Missing if one is missing
+abbrev pub names_there : Files → List ℕ → Result (List (List ℕ)) Fault
+names_there files [] = Ok []
+names_there files (number ∷ numbers) = do
+  name ← name_there files number
+  names ← names_there files numbers
+  Ok (name ∷ names)
+
+-- a name and a newline
+abbrev pub name_line : List ℕ → List ℕ
+name_line name = name ++ codes "\n"
+
+-- The lines of a level of a version that was opened by the manifest of a number: CURRENT, that
+-- manifest, and each input in order. The first refusal counts: of the version's files; of a level
+-- without inputs; Missing if a table of theirs is missing.
+abbrev pub AreFilesToCompact : (List ℕ → List ℕ → Ordering) → Files → State → ℕ → ℕ →
+    Result (List ℕ) Fault → Type 0
+AreFilesToCompact cmp files v manifest level =
+    IsThen (IsOrderlyAnswer cmp v) (λ passed. IsThen (IsInputsAnswer cmp v level) (λ p answer.
+    answer ≡ (names_there files (input_numbers p.files) >>= λ names.
+    Ok (flat_map name_line (codes "CURRENT" ∷ manifest_name manifest ∷ names)))))

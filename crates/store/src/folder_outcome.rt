@@ -1,0 +1,199 @@
+//! The outcome of a compaction of a folder that is not installed.
+
+ghost use Rattle.std.specs.Prelude.{◌≡◌, ℕ, List, Ok, IfOk};
+ghost use Rattle.checks.specs.LawfulTables.{IsLawfulTables};
+ghost use Rattle.compact.specs.Answered.{answer_in};
+ghost use Rattle.folder.specs.Calls.{Files, Tells};
+ghost use Rattle.folder.specs.Levels.{file_numbers};
+ghost use Rattle.folder.specs.LoadedTables.{IsLoaded};
+ghost use Rattle.folder.specs.OpenAnswer.{FolderAnswers};
+ghost use Rattle.folder.specs.Orders.{order_cmp, order_short_keys};
+ghost use Rattle.folder.specs.ReadsAs.{IsHeldIn};
+ghost use Rattle.folder.specs.Reports.{OnlyReads, ReportsDevice};
+ghost use Rattle.folder.specs.declared.order.Order.{Order};
+ghost use Rattle.pick.specs.Picked.{PickedInputs};
+ghost use Rattle.reads.specs.Tables.{NumberedContents};
+ghost use Rattle.store.specs.Outcome.{IsOutcomeOfInputs, IsOutcomeOfVersion, LevelCompaction};
+
+use crate::compaction_outcome::CompactionOutcome;
+use crate::input_laws::outcome_suffices;
+use crate::level_compaction::level_outcome;
+use crate::lines::outcome_lines;
+use checks::{CHECKERS, Watch, test_version};
+use coding::Fault;
+use edit::Version;
+use folder::{Folder, Opened, Order};
+use ikey::{Bytewise, SharedComparator, Shortlex};
+use settings::Settings;
+use std::alloc::Global;
+use std::thread::Threads;
+
+/// The outcome of the compaction of a `level` of what a folder was `opened` as. Nothing is
+/// installed: it only reads. All tables are tested first. Then it does what [`outcome_of_inputs`]
+/// does, which reads those of the inputs again.
+///
+/// The first that applies:
+///
+/// - what [`compact_opened`](crate::compact_opened) is refused as, up to SplitCount;
+/// - Numbers: `first` isn't above the version's next file; or without it next file is 2^64 - 1;
+/// - what `compact::compact` is refused as, Workers first.
+///
+/// With an outcome of these numbers the version is lawful, and its edited version too, as after an
+/// installation.
+pub fn outcome_of_opened<F: Folder, W: Watch + Sync, R: Threads + Sync>(
+    rt: &R,
+    alloc: Global,
+    folder: &mut F,
+    opened: &Opened,
+    level: u64,
+    first: Option<u64>,
+    settings: &Settings<'_>,
+    memory: u64,
+    watch: &W,
+) -> Result<CompactionOutcome, Fault>
+    // If the folder tells files: the outcome with its lines, or the first refusal in this order.
+    ensures answer { (files : Files) → Tells (F.tells folder.old) files →
+        FolderAnswers (λ o. (answer_in o.outcome, o.lines.items)) (F.failed folder.old)
+        (F.failed folder.new) result (IsOutcomeOfVersion first (order_cmp opened.now.order)
+        (order_short_keys opened.now.order) files opened.now.version level settings.now) }
+    // At Ok the version is lawful with the tables that they hold, and the outcome makes the edited
+    // version.
+    ensures compacted { (files : Files) → Tells (F.tells folder.old) files →
+        IfOk result (λ o. (loaded : List (ℕ × List ℕ))
+        × IsLoaded (IsHeldIn files) (file_numbers (order_cmp opened.now.order) opened.now.version)
+        (Ok loaded) × ((p : PickedInputs) × LevelCompaction opened.now.order
+        (order_cmp opened.now.order) (order_short_keys opened.now.order) opened.now.version loaded
+        level first settings.now p (answer_in o.outcome))) }
+    ensures device { ReportsDevice F.Folder folder.old folder.new result }
+    ensures reads { OnlyReads F.Folder folder.old folder.new }
+{
+    let version = &opened.version;
+    match opened.order {
+        Order::Bytewise => outcome_tested::<Bytewise, F, W, R>(
+            rt, alloc, folder, version, level, first, settings, memory, watch,
+        ),
+        Order::Shortlex => outcome_tested::<Shortlex, F, W, R>(
+            rt, alloc, folder, version, level, first, settings, memory, watch,
+        ),
+    }
+}
+
+/// The outcome of the compaction of a `level` of what a folder was `opened` as. Nothing is
+/// installed: it only reads, and no table but those of the inputs. So the caller says that the
+/// version is lawful.
+///
+/// The answer is the outcome, and its lines, each with its newline:
+///
+/// - `output NUMBER SIZE` of each table in order;
+/// - `deleted LEVEL NUMBER` of each input by level and number;
+/// - `written EDIT`.
+///
+/// The numbers of the outputs are those from `first` on. Without it they are those of
+/// [`compact_inputs`](crate::compact_inputs): the first one comes after next file.
+///
+/// The first that applies:
+///
+/// - what [`compact_inputs`](crate::compact_inputs) is refused as, up to SplitCount;
+/// - Numbers: `first` isn't above the version's next file; or without it next file is 2^64 - 1;
+/// - what `compact::compact` is refused as, Workers first.
+pub fn outcome_of_inputs<F: Folder, W: Watch + Sync, R: Threads + Sync>(
+    rt: &R,
+    alloc: Global,
+    folder: &mut F,
+    opened: &Opened,
+    level: u64,
+    first: Option<u64>,
+    settings: &Settings<'_>,
+    watch: &W,
+) -> Result<CompactionOutcome, Fault>
+    // If the folder tells files. Whether the version is lawful makes no difference.
+    ensures answer { (files : Files) → Tells (F.tells folder.old) files →
+        FolderAnswers (λ o. (answer_in o.outcome, o.lines.items)) (F.failed folder.old)
+        (F.failed folder.new) result (IsOutcomeOfInputs first (order_cmp opened.now.order)
+        (order_short_keys opened.now.order) files opened.now.version level settings.now) }
+    // If moreover the version is lawful with the tables that they hold, the outcome makes the
+    // edited version, also by a later installation.
+    ensures compacted { (files : Files) (loaded : List (ℕ × List ℕ))
+        (tables : List NumberedContents) → Tells (F.tells folder.old) files →
+        IsLoaded (IsHeldIn files) (file_numbers (order_cmp opened.now.order) opened.now.version)
+        (Ok loaded) →
+        IsLawfulTables (order_cmp opened.now.order) opened.now.version loaded (Ok tables) →
+        IfOk result (λ o. (p : PickedInputs) × LevelCompaction opened.now.order
+        (order_cmp opened.now.order) (order_short_keys opened.now.order) opened.now.version loaded
+        level first settings.now p (answer_in o.outcome)) }
+    ensures device { ReportsDevice F.Folder folder.old folder.new result }
+    ensures reads { OnlyReads F.Folder folder.old folder.new }
+{
+    let version = &opened.version;
+    match opened.order {
+        Order::Bytewise => outcome_untested::<Bytewise, F, W, R>(
+            rt, alloc, folder, version, level, first, settings, watch,
+        ),
+        Order::Shortlex => outcome_untested::<Shortlex, F, W, R>(
+            rt, alloc, folder, version, level, first, settings, watch,
+        ),
+    }
+}
+
+/// The outcome of the compaction of a `level` of a version, after a test of the version.
+fn outcome_tested<C: SharedComparator + 'static, F: Folder, W: Watch + Sync, R: Threads + Sync>(
+    rt: &R,
+    alloc: Global,
+    folder: &mut F,
+    version: &Version,
+    level: u64,
+    first: Option<u64>,
+    settings: &Settings<'_>,
+    memory: u64,
+    watch: &W,
+) -> Result<CompactionOutcome, Fault>
+    ensures answer { (files : Files) → Tells (F.tells folder.old) files →
+        FolderAnswers (λ o. (answer_in o.outcome, o.lines.items)) (F.failed folder.old)
+        (F.failed folder.new) result
+        (IsOutcomeOfVersion first C.cmp C.short_keys files version.now level settings.now) }
+    ensures compacted { (files : Files) (order : Order) → Tells (F.tells folder.old) files →
+        IfOk result (λ o. (loaded : List (ℕ × List ℕ))
+        × IsLoaded (IsHeldIn files) (file_numbers C.cmp version.now) (Ok loaded)
+        × ((p : PickedInputs) × LevelCompaction order C.cmp C.short_keys version.now loaded level
+        first settings.now p (answer_in o.outcome))) }
+    ensures device { ReportsDevice F.Folder folder.old folder.new result }
+    ensures reads { OnlyReads F.Folder folder.old folder.new }
+{
+    outcome_suffices::<C>();
+    test_version::<C, F, W, R>(rt, alloc, folder, version, memory, CHECKERS, watch)?;
+    outcome_untested::<C, F, W, R>(rt, alloc, folder, version, level, first, settings, watch)
+}
+
+/// The outcome of the compaction of a `level` of a version by its inputs alone, and its lines.
+fn outcome_untested<C: SharedComparator + 'static, F: Folder, W: Watch + Sync, R: Threads + Sync>(
+    rt: &R,
+    alloc: Global,
+    folder: &mut F,
+    version: &Version,
+    level: u64,
+    first: Option<u64>,
+    settings: &Settings<'_>,
+    watch: &W,
+) -> Result<CompactionOutcome, Fault>
+    ensures answer { (files : Files) → Tells (F.tells folder.old) files →
+        FolderAnswers (λ o. (answer_in o.outcome, o.lines.items)) (F.failed folder.old)
+        (F.failed folder.new) result
+        (IsOutcomeOfInputs first C.cmp C.short_keys files version.now level settings.now) }
+    ensures compacted { (files : Files) (order : Order) (loaded : List (ℕ × List ℕ))
+        (tables : List NumberedContents) → Tells (F.tells folder.old) files →
+        IsLoaded (IsHeldIn files) (file_numbers C.cmp version.now) (Ok loaded) →
+        IsLawfulTables C.cmp version.now loaded (Ok tables) →
+        IfOk result (λ o. (p : PickedInputs) × LevelCompaction order C.cmp C.short_keys version.now
+        loaded level first settings.now p (answer_in o.outcome)) }
+    ensures device { ReportsDevice F.Folder folder.old folder.new result }
+    ensures reads { OnlyReads F.Folder folder.old folder.new }
+{
+    let made = level_outcome::<C, F, W, R>(
+        rt, alloc, folder, version, level, first, settings, watch,
+    )?;
+    let lines = outcome_lines(alloc, &made.outcome, &made.picked.files)?;
+    Ok(CompactionOutcome {
+        lines,
+        outcome: made.outcome,
+    })
+}

@@ -1,0 +1,82 @@
+//! The compaction of a level by its inputs, up to its outcome.
+
+ghost use Rattle.std.specs.Prelude.{ℕ, List, Ok, IfOk};
+ghost use Rattle.checks.specs.LawfulTables.{IsLawfulTables};
+ghost use Rattle.compact.specs.Answered.{answer_in};
+ghost use Rattle.folder.specs.Calls.{Files, Tells};
+ghost use Rattle.folder.specs.Levels.{file_numbers};
+ghost use Rattle.folder.specs.LoadedTables.{IsLoaded};
+ghost use Rattle.folder.specs.OpenAnswer.{FolderAnswers};
+ghost use Rattle.folder.specs.ReadsAs.{IsHeldIn};
+ghost use Rattle.folder.specs.Reports.{OnlyReads, ReportsDevice};
+ghost use Rattle.folder.specs.declared.order.Order.{Order};
+ghost use Rattle.pick.specs.Picked.{picked_in};
+ghost use Rattle.reads.specs.Tables.{NumberedContents};
+ghost use Rattle.store.specs.InputLaws.{with_inputs};
+ghost use Rattle.store.specs.InputsCompaction.{IsInputsTold};
+ghost use Rattle.store.specs.Outcome.{LevelCompaction};
+
+use crate::input_laws::{inputs_in_order, same_inputs};
+use crate::input_tables::load_inputs;
+use crate::install_laws::numbered_is_installed;
+use crate::loaded_compaction::compact_loaded;
+use crate::version_files::test_files;
+use checks::Watch;
+use coding::Fault;
+use edit::{Outcome, Version};
+use folder::Folder;
+use ikey::SharedComparator;
+use pick::{Inputs, inputs};
+use settings::Settings;
+use std::alloc::Global;
+use std::thread::Threads;
+
+/// The inputs that were picked of a level, and the outcome of their compaction.
+#[derive(Drop)]
+pub(crate) struct LevelOutcome {
+    pub picked: Inputs,
+    pub outcome: Outcome,
+}
+
+/// The outcome of the compaction of a `level` of a version, with its inputs. The outputs have the
+/// numbers from `first` on, or else those after the manifest's. It only reads, and no table but
+/// those of the inputs.
+pub(crate) fn level_outcome<
+    C: SharedComparator + 'static,
+    F: Folder,
+    W: Watch + Sync,
+    R: Threads + Sync,
+>(
+    rt: &R,
+    alloc: Global,
+    folder: &mut F,
+    version: &Version,
+    level: u64,
+    first: Option<u64>,
+    settings: &Settings<'_>,
+    watch: &W,
+) -> Result<LevelOutcome, Fault>
+    ensures answer { (files : Files) → Tells (F.tells folder.old) files →
+        FolderAnswers (λ o. with_inputs (picked_in o.picked) (answer_in o.outcome))
+        (F.failed folder.old) (F.failed folder.new) result
+        (IsInputsTold with_inputs first C.cmp C.short_keys files version.now level settings.now) }
+    ensures compacted { (files : Files) (order : Order) (loaded : List (ℕ × List ℕ))
+        (tables : List NumberedContents) → Tells (F.tells folder.old) files →
+        IsLoaded (IsHeldIn files) (file_numbers C.cmp version.now) (Ok loaded) →
+        IsLawfulTables C.cmp version.now loaded (Ok tables) →
+        IfOk result (λ o. LevelCompaction order C.cmp C.short_keys version.now loaded level first
+        settings.now (picked_in o.picked) (answer_in o.outcome)) }
+    ensures device { ReportsDevice F.Folder folder.old folder.new result }
+    ensures reads { OnlyReads F.Folder folder.old folder.new }
+{
+    numbered_is_installed::<C>();
+    inputs_in_order::<C>();
+    same_inputs::<C>();
+    test_files::<C>(alloc, version)?;
+    let picked = inputs::<C>(alloc, version, level)?;
+    let loaded = load_inputs(alloc, folder, &picked.files)?;
+    let outcome = compact_loaded::<C, W, R>(
+        rt, alloc, version, &picked, &loaded, first, settings, watch,
+    )?;
+    Ok(LevelOutcome { picked, outcome })
+}

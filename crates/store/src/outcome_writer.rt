@@ -1,0 +1,96 @@
+//! An outcome as files of a folder.
+
+ghost use Rattle.std.specs.Prelude.{◌≡◌, IfErr};
+ghost use Rattle.coding.specs.Answers.{UnlessMemory};
+ghost use Rattle.compact.specs.Answered.{answer_in};
+ghost use Rattle.folder.specs.CallSequence.{MakesCalls};
+ghost use Rattle.folder.specs.Folder.{failures_after};
+ghost use Rattle.folder.specs.Names.{table_name};
+ghost use Rattle.folder.specs.OpenAnswer.{IsStopped};
+ghost use Rattle.folder.specs.Reports.{ReportsDevice};
+ghost use Rattle.install.specs.Install.{table_calls, tables_in, write_calls};
+ghost use Rattle.store.specs.CallRun.{IsRunOf};
+ghost use Rattle.store.specs.Outcome.{outcome_calls};
+
+use coding::Fault;
+use edit::Outcome;
+use folder::{Folder, FolderFault, table_name};
+use std::alloc::Global;
+
+/// The file of an outcome that has the bytes of its edit.
+pub const EDIT: &str = "EDIT";
+
+/// Writes an outcome into a folder, which should be an empty one. In this order
+///
+/// 1. each table is made and synced, under its name `%06d.ldb`;
+/// 2. [`EDIT`] is made of the bytes of the edit, and synced;
+/// 3. the folder is synced.
+///
+/// So EDIT is there only after all tables are. At Ok all of it outlives a crash.
+///
+/// The faults are Device and Memory. If the device fails a call, no further call is made; what was
+/// written by then stays.
+pub fn write_outcome<F: Folder>(
+    alloc: Global,
+    folder: &mut F,
+    outcome: &Outcome,
+) -> Result<(), Fault>
+    // The calls in their order, each once, up to one that fails.
+    ensures runs { MakesCalls (outcome_calls (answer_in outcome.now)) (F.calls folder.old)
+        (F.calls folder.new) (F.tells folder.old) (F.tells folder.new) result }
+    // Only Device and Memory are answered, Device only if the device failed.
+    ensures refused { IfErr result
+        (λ e. UnlessMemory e (IsStopped (F.failed folder.old) (F.failed folder.new) e)) }
+    ensures device { ReportsDevice F.Folder folder.old folder.new result }
+{
+    write_files(alloc, folder, outcome)
+}
+
+/// Writes the tables and the edit, and syncs the folder.
+fn write_files<F: Folder>(alloc: Global, folder: &mut F, outcome: &Outcome) -> Result<(), Fault>
+    ensures { IsRunOf F.Folder (outcome_calls (answer_in outcome.now)) folder.old folder.new
+        result }
+{
+    write_tables(alloc, folder, &outcome.tables)?;
+    write_file(folder, EDIT, &outcome.edit)?;
+    Ok(folder.sync_folder()?)
+}
+
+/// Makes and syncs each table under its name.
+fn write_tables<F: Folder>(
+    alloc: Global,
+    folder: &mut F,
+    tables: &[(u64, Vec<u8>)],
+) -> Result<(), Fault>
+    ensures { IsRunOf F.Folder (table_calls (tables_in tables.now)) folder.old folder.new result }
+{
+    for table in tables {
+        let (number, bytes) = table;
+        write_table(alloc, folder, *number, bytes)?;
+    }
+    Ok(())
+}
+
+/// Makes and syncs the table of a `number`.
+fn write_table<F: Folder>(
+    alloc: Global,
+    folder: &mut F,
+    number: u64,
+    bytes: &[u8],
+) -> Result<(), Fault>
+    ensures { IsRunOf F.Folder (write_calls (table_name number) bytes.now) folder.old folder.new
+        result }
+{
+    let name = table_name(alloc, number)?;
+    Ok(write_file(folder, name.as_str(), bytes)?)
+}
+
+/// Makes a file and syncs it.
+fn write_file<F: Folder>(folder: &mut F, name: &str, bytes: &[u8]) -> Result<(), FolderFault>
+    ensures runs { MakesCalls (write_calls name.now bytes.now) (F.calls folder.old)
+        (F.calls folder.new) (F.tells folder.old) (F.tells folder.new) result }
+    ensures failures { F.failed folder.new ≡ failures_after (F.failed folder.old) result }
+{
+    folder.create(name, bytes)?;
+    folder.sync(name)
+}

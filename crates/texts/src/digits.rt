@@ -1,0 +1,60 @@
+//! Hexadecimal digits, appended to bytes.
+
+ghost use Rattle.std.specs.Prelude.{◌≡◌, ◌+◌, ◌*◌, ◌<◌, ◌++◌, ⊤, length, slice_index, MatchOption};
+ghost use Rattle.std.specs.Prelude.{IsOkUnless, OnErr, OnOk};
+ghost use Rattle.coding.specs.Answers.{fault};
+ghost use Rattle.coding.specs.declared.fault.FaultName.TheVariants.{Memory};
+ghost use Rattle.hex.specs.Hex.{encode_lower, lower_digits};
+
+use coding::{Fault, FaultName};
+
+/// Appends the lower-case digits of `bytes`, two a byte. The only fault is Memory, which leaves
+/// `out` unchanged.
+pub(crate) fn push_digits(out: &mut Vec<u8>, bytes: &[u8]) -> Result<(), Fault>
+    ensures ok { OnOk result (out.new.items ≡ out.old.items ++ encode_lower bytes.now) }
+    ensures err { OnErr result (out.new.items ≡ out.old.items) }
+    ensures memory { IsOkUnless result (fault Memory) }
+{
+    let from = out.len();
+    let Some(end) = end_of_digits(from, bytes.len()) else {
+        // No memory holds as many.
+        return Err(Fault::of(FaultName::Memory));
+    };
+    out.resize(end, 0)?;
+    write_digits(out.slice_mut(from..), bytes);
+    Ok(())
+}
+
+/// Where the digits of `len` bytes end, if they begin at `from`; None if that is 2^64 or more.
+fn end_of_digits(from: usize, len: usize) -> Option<usize>
+    ensures { MatchOption result ⊤ (λ end. end ≡ from + 2 * len) }
+{
+    from.checked_add(len.checked_mul(2)?)
+}
+
+/// Writes the digits of `bytes` over `room`.
+fn write_digits(room: &mut [u8], bytes: &[u8])
+    requires { length room.old ≡ 2 * length bytes.now }
+    ensures { room.new ≡ encode_lower bytes.now }
+{
+    for place in 0..bytes.len() {
+        let byte = bytes[place];
+        room[2 * place] = digit_of(byte / 16);
+        room[2 * place + 1] = digit_of(byte % 16);
+    }
+}
+
+/// The digit of a number below 16. It is computed, not looked up, so that several digits can be
+/// made at once.
+#[inline]
+#[tactic(auto, using(crate::proofs::DigitLemmas::lower_digit))]
+pub(crate) fn digit_of(number: u8) -> u8
+    requires { number < 16 }
+    ensures { result ≡ slice_index lower_digits number }
+{
+    if number < 10 {
+        b'0' + number
+    } else {
+        b'a' - 10 + number
+    }
+}

@@ -1,0 +1,86 @@
+//! The installation of an outcome, from the paths to what is printed.
+
+use crate::cleaning::clean_installed;
+use crate::folder_locks::locked_to_change;
+use crate::folder_refusal::explained;
+use crate::folder_work::{begin_work, bytes_of, folder_to_test, print_lines, refused_at, sync};
+use crate::outcome_refusal::outcome_explained;
+use crate::progress_line::ProgressLine;
+use crate::refusal::Refusal;
+use crate::reporter::{Telling, tell_time};
+use crate::step_printer::unprinted;
+use crate::table_sizes::sizes_tested;
+use adoption::{AdoptionEnd, Comparison, install_outcome};
+use folder::{Disk, Opened, SystemFiles, WholeFiles};
+use std::thread::Threads;
+use std::time::Clock;
+use usage::{InstallLine, Levels};
+
+/// Installs in a folder the outcome that another one has. The folder is locked before anything is
+/// read of it, and what it was opened as is synced, so that it outlives a crash.
+pub(crate) fn install_compaction<
+    R: SystemFiles + WholeFiles + Print + Eprint + Clock + AllocGlobal + Threads + Sync,
+>(rt: &R, telling: Telling<'_>, line: &InstallLine<'_>) -> Result<(), Refusal> {
+    let folder = telling.folder;
+    let _lock = locked_to_change(rt, folder)?;
+    let begun = telling.begin(rt);
+    let opened = opened_to_install(rt, telling).map_err(|refusal| explained(rt, folder, refusal))?;
+    let lines = outcome_installed(rt, telling, line, &opened).map_err(|refusal| {
+        outcome_explained(rt, line, opened.order, refusal)
+    })?;
+    tell_time(rt, "install", begun);
+    print_lines(rt, &lines).map_err(|refusal| {
+        unprinted(rt.alloc(), folder, Levels::One(0), refusal)
+    })?;
+    if line.cleans {
+        clean_installed(rt, folder, false)?;
+    }
+    Ok(())
+}
+
+/// What a folder is opened as, synced.
+fn opened_to_install<R: SystemFiles + WholeFiles + Eprint + Clock + AllocGlobal + Threads>(
+    rt: &R,
+    telling: Telling<'_>,
+) -> Result<Opened, Refusal> {
+    let opened = begin_work(rt, telling)?;
+    sizes_tested(rt, telling.folder, &opened)?;
+    telling.tell_replaceable(rt, &opened.version, &[]);
+    sync(rt, telling.folder, &opened)?;
+    Ok(opened)
+}
+
+/// Installs an outcome in what a folder was opened as. The answer is the lines.
+fn outcome_installed<R: SystemFiles + WholeFiles + Eprint + Clock + AllocGlobal + Threads + Sync>(
+    rt: &R,
+    telling: Telling<'_>,
+    line: &InstallLine<'_>,
+    opened: &Opened,
+) -> Result<Vec<u8>, Refusal> {
+    let memory = bytes_of(line.testing.memory);
+    let comparison = if line.testing.is_skipped {
+        Comparison::LeftOut
+    } else {
+        Comparison::With(line.snapshots)
+    };
+    let progress = ProgressLine::new(rt, telling.is_watched);
+    let mut out = Disk::new(rt, line.out);
+    let AdoptionEnd { folder, answer } = install_outcome(
+        rt,
+        rt.alloc(),
+        folder_to_test(rt, telling.folder, opened, memory),
+        &mut out,
+        opened,
+        comparison,
+        memory,
+        &progress,
+    );
+    progress.erase();
+    answer.map_err(|fault| {
+        if out.last_failure().is_some() {
+            refused_at(rt, line.out, &out, fault)
+        } else {
+            refused_at(rt, telling.folder, &folder, fault)
+        }
+    })
+}

@@ -1,0 +1,38 @@
+//! The files that a compaction of a folder would read, from its path to what is printed.
+
+use crate::folder_refusal::compaction_explained;
+use crate::folder_work::{begin_work, print_lines, refused_at};
+use crate::refusal::Refusal;
+use crate::reporter::{Telling, tell_time};
+use folder::{Disk, SystemFiles};
+use settings::Settings;
+use std::time::Clock;
+use store::files_to_compact;
+use usage::{JobLine, Levels};
+
+/// Prints the names of the files that a compaction of a level would read. No table is read, and no
+/// lock is taken.
+pub(crate) fn print_job<R: SystemFiles + Print + Eprint + Clock + AllocGlobal>(
+    rt: &R,
+    telling: Telling<'_>,
+    line: &JobLine<'_>,
+) -> Result<(), Refusal> {
+    job_printed(rt, telling, line.level).map_err(|refusal| {
+        let levels = Levels::One(line.level);
+        compaction_explained(rt, telling.folder, levels, &Settings::default(), refusal)
+    })
+}
+
+fn job_printed<R: SystemFiles + Print + Eprint + Clock + AllocGlobal>(
+    rt: &R,
+    telling: Telling<'_>,
+    level: u64,
+) -> Result<(), Refusal> {
+    let begun = telling.begin(rt);
+    let opened = begin_work(rt, telling)?;
+    let mut folder = Disk::new(rt, telling.folder);
+    let lines = files_to_compact(rt.alloc(), &mut folder, &opened, level);
+    let lines = lines.map_err(|fault| refused_at(rt, telling.folder, &folder, fault))?;
+    tell_time(rt, "job", begun);
+    print_lines(rt, &lines)
+}

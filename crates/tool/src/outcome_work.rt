@@ -1,0 +1,174 @@
+//! A compaction whose outcome goes into a folder of its own, from the paths to what is printed.
+
+use crate::explanations::{Words, in_words};
+use crate::folder_refusal::compaction_explained;
+use crate::folder_work::{begin_work, bytes_of, folder_to_test, print_lines, refused_at};
+use crate::out_folder::fill;
+use crate::progress_line::ProgressLine;
+use crate::refusal::{Refusal, RefusalText, told};
+use crate::reporter::Telling;
+use crate::step_printer::tell_step;
+use crate::table_sizes::sizes_tested;
+use coding::FaultName;
+use edit::VersionEdit;
+use folder::{Disk, Opened, SystemFiles, WholeFiles};
+use json_lines::{CompactionEnd, compaction_json};
+use std::alloc::Global;
+use std::thread::Threads;
+use std::time::Clock;
+use store::{CompactionOutcome, EDIT, outcome_of_inputs, outcome_of_opened};
+use usage::{CompactLine, Levels};
+
+/// What is asked for of such a compaction.
+#[derive(Clone, Copy)]
+pub(crate) struct OutcomeTask<'t> {
+    pub level: u64,
+    /// The folder that gets the outcome.
+    pub out: &'t str,
+    /// The number of the first new table, if it is given.
+    pub first_number: Option<u64>,
+}
+
+/// Compacts a level of a folder, which is only read, and writes the outcome into another one. No
+/// lock is taken.
+pub(crate) fn write_compaction<
+    R: SystemFiles + WholeFiles + Print + Eprint + Clock + AllocGlobal + Threads + Sync,
+>(
+    rt: &R,
+    telling: Telling<'_>,
+    line: &CompactLine<'_>,
+    task: OutcomeTask<'_>,
+) -> Result<(), Refusal> {
+    compaction_written(rt, telling, line, task).map_err(|refusal| {
+        let levels = Levels::One(task.level);
+        compaction_explained(rt, telling.folder, levels, &line.settings, refusal)
+    })
+}
+
+fn compaction_written<
+    R: SystemFiles + WholeFiles + Print + Eprint + Clock + AllocGlobal + Threads + Sync,
+>(
+    rt: &R,
+    telling: Telling<'_>,
+    line: &CompactLine<'_>,
+    task: OutcomeTask<'_>,
+) -> Result<(), Refusal> {
+    let begun = telling.begin(rt);
+    let opened = begin_work(rt, telling)?;
+    let made = outcome_made(rt, telling, line, task, &opened).map_err(|refusal| {
+        numbers_explained(rt.alloc(), telling.folder, task, &opened, refusal)
+    })?;
+    fill(rt, task.out, &made.outcome)?;
+    tell_step(rt, task.level, begun);
+    outcome_printed(rt, line, task, &made).map_err(|refusal| unprinted(
+        rt.alloc(),
+        task.out,
+        refusal,
+    ))
+}
+
+/// Prints the lines of an outcome, or its JSON line.
+fn outcome_printed<R: Print + AllocGlobal>(
+    rt: &R,
+    line: &CompactLine<'_>,
+    task: OutcomeTask<'_>,
+    made: &CompactionOutcome,
+) -> Result<(), Refusal> {
+    if !line.options.is_json {
+        return print_lines(rt, &made.lines);
+    }
+    let edit = VersionEdit::decode(rt.alloc(), &made.outcome.edit)?;
+    let end = CompactionEnd::Written(EDIT);
+    print_lines(rt, &compaction_json(rt.alloc(), task.level, &edit, end)?)
+}
+
+/// The refusal that the lines of an outcome can't be written. It is in its folder by then.
+fn unprinted(alloc: Global, out: &str, refusal: Refusal) -> Refusal {
+    let wrong = "the outcome is written, but its lines could not be written";
+    let told = RefusalText::alone(alloc, out, String::from_str(alloc, wrong));
+    Refusal::new(refusal.fault, told)
+}
+
+/// The outcome of the compaction. The version is tested before, if that is asked for.
+fn outcome_made<R: SystemFiles + WholeFiles + Eprint + Clock + AllocGlobal + Threads + Sync>(
+    rt: &R,
+    telling: Telling<'_>,
+    line: &CompactLine<'_>,
+    task: OutcomeTask<'_>,
+    opened: &Opened,
+) -> Result<CompactionOutcome, Refusal> {
+    if line.options.testing.is_skipped {
+        return inputs_compacted(rt, telling, line, task, opened);
+    }
+    sizes_tested(rt, telling.folder, opened)?;
+    let memory = bytes_of(line.options.testing.memory);
+    let progress = ProgressLine::new(rt, telling.is_watched);
+    let mut folder = folder_to_test(rt, telling.folder, opened, memory);
+    let made = outcome_of_opened(
+        rt,
+        rt.alloc(),
+        &mut folder,
+        opened,
+        task.level,
+        task.first_number,
+        &line.settings,
+        memory,
+        &progress,
+    );
+    progress.erase();
+    made.map_err(|fault| refused_at(rt, telling.folder, &folder, fault))
+}
+
+/// The same without a test: nothing but the inputs is read.
+fn inputs_compacted<R: SystemFiles + WholeFiles + Eprint + Clock + AllocGlobal + Threads + Sync>(
+    rt: &R,
+    telling: Telling<'_>,
+    line: &CompactLine<'_>,
+    task: OutcomeTask<'_>,
+    opened: &Opened,
+) -> Result<CompactionOutcome, Refusal> {
+    let progress = ProgressLine::new(rt, telling.is_watched);
+    let mut folder = Disk::new(rt, telling.folder);
+    let made = outcome_of_inputs(
+        rt,
+        rt.alloc(),
+        &mut folder,
+        opened,
+        task.level,
+        task.first_number,
+        &line.settings,
+        &progress,
+    );
+    progress.erase();
+    made.map_err(|fault| refused_at(rt, telling.folder, &folder, fault))
+}
+
+/// The refusal, with what is told of a first number that can't be used.
+fn numbers_explained(
+    alloc: Global,
+    folder: &str,
+    task: OutcomeTask<'_>,
+    opened: &Opened,
+    refusal: Refusal,
+) -> Refusal {
+    let Some(first) = task.first_number else {
+        return refusal;
+    };
+    if refusal.fault.name != FaultName::Numbers {
+        return refusal;
+    }
+    let next = opened.version.next_file().unwrap_or(0);
+    let told = if first <= next {
+        let wrong = format!(in alloc;
+            "--first-number {first} is not above the version's next file number, {next}"
+        );
+        RefusalText::new(alloc, folder, wrong, "give a greater number")
+    } else {
+        let words = Words {
+            wrong: in_words(FaultName::Numbers).wrong,
+            remedy: "give a smaller --first-number",
+        };
+        told(alloc, folder, words)
+    };
+    Refusal::new(refusal.fault, told)
+}

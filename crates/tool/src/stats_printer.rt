@@ -1,0 +1,93 @@
+//! The statistics of a folder, from its path to what is printed.
+
+use crate::cleaning::unneeded_files;
+use crate::folder_locks::locked_to_read;
+use crate::folder_refusal::explained;
+use crate::folder_work::{begin_work, bytes_of, folder_to_test, print_lines, refused_at};
+use crate::logs::logs_with_writes;
+use crate::progress_line::ProgressLine;
+use crate::refusal::Refusal;
+use crate::reporter::{Telling, tell_time};
+use crate::table_sizes::sizes_tested;
+use commands::stats_text;
+use folder::{Opened, SystemFiles, WholeFiles};
+use json_lines::stats_json;
+use scan::{FileTotal, VersionStats, version_stats};
+use std::rt::Files;
+use std::thread::Threads;
+use std::time::Clock;
+use usage::StatsLine;
+
+/// Prints how many files, bytes and entries each level of a folder has, and what else there is. Its
+/// version is tested before.
+pub(crate) fn print_stats<
+    R: SystemFiles + WholeFiles + Print + Eprint + Clock + AllocGlobal + Threads + Sync,
+>(rt: &R, telling: Telling<'_>, line: &StatsLine<'_>) -> Result<(), Refusal> {
+    let _lock = locked_to_read(rt, telling.folder)?;
+    stats_printed(rt, telling, line).map_err(|refusal| explained(rt, telling.folder, refusal))
+}
+
+fn stats_printed<
+    R: SystemFiles + WholeFiles + Print + Eprint + Clock + AllocGlobal + Threads + Sync,
+>(rt: &R, telling: Telling<'_>, line: &StatsLine<'_>) -> Result<(), Refusal> {
+    let begun = telling.begin(rt);
+    let opened = begin_work(rt, telling)?;
+    sizes_tested(rt, telling.folder, &opened)?;
+    let logs = logs_counted(rt, telling.folder)?;
+    let unnamed = unneeded_counted(rt, telling.folder, &opened)?;
+    let stats = version_counted(rt, telling, &opened, bytes_of(line.memory))?;
+    let lines = if line.is_json {
+        stats_json(rt.alloc(), line.spelling, &stats, logs, unnamed)?
+    } else {
+        stats_text(rt.alloc(), line.spelling, &stats, logs, unnamed)?
+    };
+    tell_time(rt, "stats", begun);
+    print_lines(rt, &lines)
+}
+
+/// The statistics of what a folder was opened as, which is tested before.
+fn version_counted<R: SystemFiles + WholeFiles + Eprint + Clock + AllocGlobal + Threads + Sync>(
+    rt: &R,
+    telling: Telling<'_>,
+    opened: &Opened,
+    memory: u64,
+) -> Result<VersionStats, Refusal> {
+    let progress = ProgressLine::new(rt, telling.is_watched);
+    let mut folder = folder_to_test(rt, telling.folder, opened, memory);
+    let counted = version_stats(
+        rt,
+        rt.alloc(),
+        &mut folder,
+        opened.order,
+        &opened.version,
+        memory,
+        &progress,
+    );
+    progress.erase();
+    counted.map_err(|fault| refused_at(rt, telling.folder, &folder, fault))
+}
+
+/// The logs that have a byte.
+fn logs_counted<R: Files + AllocGlobal>(rt: &R, folder: &str) -> Result<FileTotal, Refusal> {
+    let logs = logs_with_writes(rt, folder, None).map_err(|error| {
+        Refusal::of_call(rt.alloc(), folder, "list its files", &error)
+    })?;
+    let mut total = FileTotal::none();
+    for log in &logs {
+        total = total.with(log.bytes);
+    }
+    Ok(total)
+}
+
+/// The files that the version doesn't need.
+fn unneeded_counted<R: Files + AllocGlobal>(
+    rt: &R,
+    folder: &str,
+    opened: &Opened,
+) -> Result<FileTotal, Refusal> {
+    let mut total = FileTotal::none();
+    for bytes in &unneeded_files(rt, folder, opened)?.lengths {
+        total = total.with(*bytes);
+    }
+    Ok(total)
+}

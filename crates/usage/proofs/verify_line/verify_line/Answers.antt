@@ -1,0 +1,12 @@
+use Rattle.std.proofs.Common.{codes, refl, sym, ◌∙◌}
+use Rattle.clap.specs.Words.{found_of, rows_of, subcommand_rows_of}
+use Rattle.usage.specs.PlainLines.{HasVerify, LacksVerify}
+use Rattle.usage.proofs.LineLemmas.{MatchOption-rows, rows_under-named, subcommand_name_of-rows}
+use Rattle.usage.proofs.verify_line.verify_line.Goals as goal
+
+pub returns : goal.returns
+returns c =
+    let m = c.args.matches.now in
+    let values = c.in-Some.ensures in
+    MatchOption-rows _ (rows_of (found_of c.in-Some.values.now)) _ LacksVerify (λ line. HasVerify line.folder.now line.form line.memory line.verbose)
+    (rows_under-named (codes "verify") (subcommand_rows_of m) _ (sym (subcommand_name_of-rows m) ∙ values.found.0 refl) values.rows) c.of.ensures

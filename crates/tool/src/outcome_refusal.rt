@@ -37,10 +37,10 @@ pub(crate) fn outcome_explained<'a, R: SystemFiles + AllocGlobal>(
         ..Settings::default()
     };
     let explained = compaction_explained(rt, line.folder, Levels::All, &settings, refusal);
-    match explained.told {
-        Some(told) => Refusal::new(explained.fault, Some(told)),
-        None => Refusal::new(explained.fault, outcome_told(rt.alloc(), line.out, name)),
+    if explained.told.is_some() {
+        return explained;
     }
+    Refusal::new(explained.fault, outcome_told(rt.alloc(), line.out, name))
 }
 
 /// Whether a refusal of this name is about no file that can be found.

@@ -5,7 +5,7 @@ use Rattle.coding.specs.Answers.{IsThen, ◌>>=◌}
 use Rattle.coding.specs.declared.fault.Fault.{Fault}
 use Rattle.ikey.specs.Comparator.{ShortKeys}
 use Rattle.edit.specs.Version.{State}
-use Rattle.folder.specs.Calls.{Call, Files, FolderSynced}
+use Rattle.folder.specs.Calls.{Call, Files, FolderSynced, Renamed}
 use Rattle.folder.specs.Levels.{file_numbers}
 use Rattle.folder.specs.LoadedTables.{IsLoaded}
 use Rattle.folder.specs.ReadsAs.{IsHeldIn}
@@ -60,8 +60,12 @@ pub record LevelCompaction (order : Order) (cmp : List ℕ → List ℕ → Orde
   pub answered : compaction_from first cmp short_keys v loaded p s ≡ Ok answer
   pub edited : EditedVersion order cmp v loaded tables s answer
 
--- the calls that write an outcome: each table is made and synced, then the edit, and then the
--- folder is synced
+-- the calls that write an edit: it is made and synced under a temporary name, then it gets its name,
+-- and then the folder is synced
+abbrev pub edit_calls : List ℕ → List Call
+edit_calls edit = write_calls (codes "EDIT.dbtmp") edit
+    ++ (Renamed (codes "EDIT.dbtmp") (codes "EDIT") ∷ FolderSynced ∷ [])
+
+-- the calls that write an outcome: each table is made and synced, and then the edit is written
 abbrev pub outcome_calls : Answer → List Call
-outcome_calls answer = table_calls answer.tables
-    ++ (write_calls (codes "EDIT") answer.edit ++ FolderSynced ∷ [])
+outcome_calls answer = table_calls answer.tables ++ edit_calls answer.edit

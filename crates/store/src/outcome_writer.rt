@@ -1,16 +1,17 @@
 //! An outcome as files of a folder.
 
-ghost use Rattle.std.specs.Prelude.{◌≡◌, IfErr};
+ghost use Rattle.std.specs.Prelude.{◌≡◌, ◌∷◌, [], IfErr, codes};
 ghost use Rattle.coding.specs.Answers.{UnlessMemory};
 ghost use Rattle.compact.specs.Answered.{answer_in};
 ghost use Rattle.folder.specs.CallSequence.{MakesCalls};
+ghost use Rattle.folder.specs.Calls.{FolderSynced, Renamed};
 ghost use Rattle.folder.specs.Folder.{failures_after};
 ghost use Rattle.folder.specs.Names.{table_name};
 ghost use Rattle.folder.specs.OpenAnswer.{IsStopped};
 ghost use Rattle.folder.specs.Reports.{ReportsDevice};
 ghost use Rattle.install.specs.Install.{table_calls, tables_in, write_calls};
 ghost use Rattle.store.specs.CallRun.{IsRunOf};
-ghost use Rattle.store.specs.Outcome.{outcome_calls};
+ghost use Rattle.store.specs.Outcome.{edit_calls, outcome_calls};
 
 use coding::Fault;
 use edit::Outcome;
@@ -20,13 +21,17 @@ use std::alloc::Global;
 /// The file of an outcome that has the bytes of its edit.
 pub const EDIT: &str = "EDIT";
 
+/// The name of that file until all of its bytes are synced.
+const UNFINISHED_EDIT: &str = "EDIT.dbtmp";
+
 /// Writes an outcome into a folder, which should be an empty one. In this order
 ///
 /// 1. each table is made and synced, under its name `%06d.ldb`;
-/// 2. [`EDIT`] is made of the bytes of the edit, and synced;
-/// 3. the folder is synced.
+/// 2. `EDIT.dbtmp` is made of the bytes of the edit, and synced;
+/// 3. it is renamed to [`EDIT`];
+/// 4. the folder is synced.
 ///
-/// So EDIT is there only after all tables are. At Ok all of it outlives a crash.
+/// So EDIT is there only after all tables are, and never in part. At Ok all of it outlives a crash.
 ///
 /// The faults are Device and Memory. If the device fails a call, no further call is made; what was
 /// written by then stays.
@@ -46,14 +51,13 @@ pub fn write_outcome<F: Folder>(
     write_files(alloc, folder, outcome)
 }
 
-/// Writes the tables and the edit, and syncs the folder.
+/// Writes the tables and the edit.
 fn write_files<F: Folder>(alloc: Global, folder: &mut F, outcome: &Outcome) -> Result<(), Fault>
     ensures { IsRunOf F.Folder (outcome_calls (answer_in outcome.now)) folder.old folder.new
         result }
 {
     write_tables(alloc, folder, &outcome.tables)?;
-    write_file(folder, EDIT, &outcome.edit)?;
-    Ok(folder.sync_folder()?)
+    Ok(write_edit(folder, &outcome.edit)?)
 }
 
 /// Makes and syncs each table under its name.
@@ -93,4 +97,24 @@ fn write_file<F: Folder>(folder: &mut F, name: &str, bytes: &[u8]) -> Result<(),
 {
     folder.create(name, bytes)?;
     folder.sync(name)
+}
+
+/// Writes the edit under its temporary name, and then names it.
+fn write_edit<F: Folder>(folder: &mut F, bytes: &[u8]) -> Result<(), FolderFault>
+    ensures runs { MakesCalls (edit_calls bytes.now) (F.calls folder.old) (F.calls folder.new)
+        (F.tells folder.old) (F.tells folder.new) result }
+    ensures failures { F.failed folder.new ≡ failures_after (F.failed folder.old) result }
+{
+    write_file(folder, UNFINISHED_EDIT, bytes)?;
+    name_edit(folder)
+}
+
+/// Gives the written edit its name, and syncs the folder.
+fn name_edit<F: Folder>(folder: &mut F) -> Result<(), FolderFault>
+    ensures runs { MakesCalls (Renamed (codes "EDIT.dbtmp") (codes "EDIT") ∷ FolderSynced ∷ [])
+        (F.calls folder.old) (F.calls folder.new) (F.tells folder.old) (F.tells folder.new) result }
+    ensures failures { F.failed folder.new ≡ failures_after (F.failed folder.old) result }
+{
+    folder.rename(UNFINISHED_EDIT, EDIT)?;
+    folder.sync_folder()
 }

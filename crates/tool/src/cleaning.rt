@@ -11,6 +11,7 @@ use coding::{Fault, FaultName};
 use folder::{Disk, Opened, SystemFiles, WholeFiles};
 use json_lines::removed_json;
 use std::alloc::Global;
+use std::io::ErrorKind;
 use std::rt::Files;
 use std::thread::Threads;
 use std::time::Clock;
@@ -132,19 +133,23 @@ fn names_in<R: Files + AllocGlobal>(rt: &R, folder: &str) -> io::Result<Vec<Stri
     Ok(names)
 }
 
-/// How many bytes a folder's file has. None of a folder, and of what isn't there. The only fault is
-/// Memory.
+/// How many bytes a folder's file has. None of a folder, and of what isn't there. Device if the
+/// system doesn't tell it.
 fn length_of<R: Files + AllocGlobal>(
     rt: &R,
     folder: &str,
     name: &str,
-) -> Result<Option<u64>, Fault> {
+) -> Result<Option<u64>, Refusal> {
     let Some(path) = path_in(rt.alloc(), folder, name) else {
-        return Err(Fault::of(FaultName::Memory));
+        return Err(Fault::of(FaultName::Memory).into());
     };
     match fs::symlink_metadata(rt, path.as_str()) {
-        Ok(metadata) if !metadata.is_dir() => Ok(Some(metadata.len())),
-        _ => Ok(None),
+        Ok(metadata) if metadata.is_dir() => Ok(None),
+        Ok(metadata) => Ok(Some(metadata.len())),
+        Err(error) if error.kind() == ErrorKind::NotFound => Ok(None),
+        Err(error) => {
+            Err(Refusal::of_call(rt.alloc(), path.as_str(), "read its length", &error))
+        }
     }
 }
 

@@ -17,3 +17,4 @@ mod WalkLemmas
 mod TableSizes
 pub mod TableRefusals
 pub mod LawfulLemmas
+mod CheckedTables

@@ -2,12 +2,14 @@
 use Rattle.std.specs.Prelude.{◌≡◌, ℕ, List, map, Option, Some, None, Result, Ok, Err}
 use Rattle.std.specs.List.{All, AllZip}
 use Rattle.std.specs.declared.cmp.Ordering.{Ordering}
+use Rattle.coding.specs.Answers.{IsThen}
 use Rattle.coding.specs.declared.fault.Fault.{Fault}
 use Rattle.table.specs.TableContents.{Contents, contents_reading}
 use Rattle.folder.specs.Calls.{Files}
-use Rattle.folder.specs.LoadedTables.{IsTableAnswer}
+use Rattle.folder.specs.LoadedTables.{IsLoaded, IsTableAnswer}
 use Rattle.folder.specs.ReadsAs.{IsHeldIn}
 use Rattle.reads.specs.Tables.{NumberedContents}
+use Rattle.checks.specs.Checked.{tables_reading}
 
 -- the table of a number among these files, and what it holds
 pub record IsTableIn (cmp : List ℕ → List ℕ → Ordering) (files : Files) (number : ℕ) (x : Contents)
@@ -29,6 +31,22 @@ abbrev pub AreFound : (List ℕ → List ℕ → Ordering) → Files → List �
 AreFound cmp files numbers tables =
     AllZip (λ (n : ℕ) (t : NumberedContents). (t.number ≡ n) × IsTableIn cmp files n t.contents)
     numbers tables
+
+-- the numbers and the bytes of tables
+abbrev pub held_bytes : List NumberedContents → List (ℕ × List ℕ)
+held_bytes tables = map (λ (t : NumberedContents). (t.number, t.contents.bytes)) tables
+
+-- the bytes of each table read as what it holds
+abbrev pub AreReadAs : (List ℕ → List ℕ → Ordering) → List NumberedContents → Type 0
+AreReadAs cmp tables =
+    All (λ (t : NumberedContents). contents_reading cmp t.contents.bytes ≡ Ok t.contents) tables
+
+-- the tables of the numbers, or the first refusal: all of them are read, in order, and then each is
+-- checked
+abbrev pub IsCheckedAnswer : (List ℕ → List ℕ → Ordering) → Files → List ℕ →
+    Result (List NumberedContents) Fault → Type 0
+IsCheckedAnswer cmp files numbers =
+    IsThen (IsLoaded (IsHeldIn files) numbers) (λ loaded answer. tables_reading cmp loaded ≡ answer)
 
 -- the tables of the numbers; None if one of them is missing or invalid
 abbrev pub IsFoundAnswer : (List ℕ → List ℕ → Ordering) → Files → List ℕ →

@@ -2,6 +2,7 @@
 
 ghost use Rattle.std.specs.Prelude.{◌≡◌, Ok};
 ghost use Rattle.coding.specs.Answers.{EqualOrMemory};
+ghost use Rattle.table.specs.TableContents.{contents_reading};
 
 use coding::Fault;
 use ikey::Comparator;
@@ -43,8 +44,11 @@ impl<C: Comparator> HeldTable<C> {
 
     /// The table, lent. It takes the memory of two keys. The only fault is Memory.
     pub fn lend(&self, alloc: Global) -> Result<NumberedTable<'_, C>, Fault>
-        ensures { EqualOrMemory (λ t. t) result (Ok self.now) }
+        ensures table { EqualOrMemory (λ t. t) result (Ok self.now) }
+        ensures reading { contents_reading C.cmp self.now.contents.bytes ≡ Ok self.now.contents }
     {
+        // Why: the answer also says that the bytes read as the table.
+        let _bytes = self.table.bytes();
         let table = self.table.lend(alloc)?;
         Ok(NumberedTable::of(self.number, table))
     }

@@ -1,11 +1,11 @@
 //! Tables of a folder that were checked, held from one range of user keys to the next.
 
-ghost use Rattle.std.specs.Prelude.{◌≡◌, ◌<◌, ◌≤◌, [], Ok, IfOk, IfSome};
+ghost use Rattle.std.specs.Prelude.{◌≡◌, ◌<◌, ◌≤◌, [], Ok, IfOk, IfSome, OnOk};
 ghost use Rattle.coding.specs.Answers.{EqualOrMemory};
 ghost use Rattle.folder.specs.Calls.{Files, Tells};
 ghost use Rattle.folder.specs.OpenAnswer.{FolderAnswers};
 ghost use Rattle.folder.specs.Reports.{OnlyReads, ReportsDevice};
-ghost use Rattle.checks.specs.HeldTables.{AreHeldIn, IsFoundAnswer, held_numbers};
+ghost use Rattle.checks.specs.HeldTables.{AreHeldIn, AreReadAs, IsFoundAnswer, held_numbers};
 
 use crate::found_tables::read_tables;
 use crate::held_table::HeldTable;
@@ -52,7 +52,8 @@ impl<C: Comparator> HeldTables<C> {
     ///
     /// It takes the memory of two keys for each. The only fault is Memory.
     pub fn lend(&self, alloc: Global) -> Result<Vec<NumberedTable<'_, C>>, Fault>
-        ensures { EqualOrMemory (λ v. v.items) result (Ok self.now) }
+        ensures tables { EqualOrMemory (λ v. v.items) result (Ok self.now) }
+        ensures read { OnOk result (AreReadAs C.cmp self.now) }
     {
         let tables = self.tables.as_slice();
         let mut lent = Vec::with_capacity(alloc, tables.len())?;

@@ -7,7 +7,8 @@
 //!
 //! For work on a version in bounded memory, [`group_split`] splits the user keys into ranges whose
 //! tables fit into memory together, and [`needed_files`] tells which files a range needs.
-//! [`HeldTables`] are their tables, held from range to range.
+//! [`HeldTables`] are their tables, held from range to range. [`test_and_hold`] hands on those that
+//! the test still holds, and [`checked_tables`] reads what is wanted beside them.
 //! [`common_range`] is what two ranges have in common.
 //!
 //! The answer doesn't depend on the workers, nor on the order in which they do their jobs.
@@ -31,8 +32,10 @@ mod sequence_order;
 mod table_check;
 mod table_places;
 mod tested;
+mod tested_version;
 mod version_check;
 mod version_test;
+mod wanted_tables;
 mod watch;
 
 pub use file_groups::group_split;
@@ -41,6 +44,8 @@ pub use range_files::{needed_files, numbers_of};
 pub use range_intersection::common_range;
 pub use rounds::check_tables;
 pub use tested::Tested;
+pub use tested_version::TestedVersion;
 pub use version_check::{CHECKERS, lawful_tables};
-pub use version_test::test_version;
+pub use version_test::{test_and_hold, test_version};
+pub use wanted_tables::checked_tables;
 pub use watch::{Watch, Work};

@@ -25,8 +25,8 @@ use std::thread::Threads;
 /// table is what the version states and of each user key the sequences fall. Else None. `next` is
 /// the version's next file.
 ///
-/// The tables that a range needs are held for it, and dropped when no later range needs them. It
-/// only reads.
+/// The tables that a range needs are held for it, and dropped when no later range needs them: those
+/// of the last range stay in `held`. It only reads.
 pub(crate) fn test_ranges<
     C: SharedComparator + 'static,
     F: Folder,
@@ -39,6 +39,7 @@ pub(crate) fn test_ranges<
     standing: &[&FileMeta],
     next: Option<u64>,
     split: &Split<C>,
+    held: &mut HeldTables<C>,
     workers: u64,
     gate: &G,
 ) -> Result<Option<u128>, Fault>
@@ -46,18 +47,20 @@ pub(crate) fn test_ranges<
     requires few { workers ≤ 64 }
     requires few_files { length standing.now ≤ 2 ^ 40 }
     ensures answer { (files : Files) → Tells (F.tells folder.old) files →
+        AreHeldIn C.cmp files held.old →
         FolderAnswers (λ found. found) (F.failed folder.old) (F.failed folder.new) result
         (IsRangesAnswer C.cmp files next (map (λ f. f.now) standing.now) split.now) }
+    ensures held { (files : Files) → Tells (F.tells folder.old) files →
+        AreHeldIn C.cmp files held.old → AreHeldIn C.cmp files held.new }
     ensures cover { IsCover C.cmp split.now }
     ensures device { ReportsDevice F.Folder folder.old folder.new result }
     ensures reads { OnlyReads F.Folder folder.old folder.new }
 {
-    let mut held = HeldTables::none(alloc);
     let mut entries = 0;
     for number in 0..split.len() {
         let range = split.range(number);
         let found = test_range::<C, F, G, R>(
-            rt, alloc, folder, standing, next, &mut held, range, workers, gate,
+            rt, alloc, folder, standing, next, held, range, workers, gate,
         )?;
         let Some(count) = found else {
             return Ok(None);

@@ -1,17 +1,20 @@
 //! The test whether a version is lawful with the tables that a folder holds, in bounded memory.
 
-ghost use Rattle.std.specs.Prelude.{◌<◌, ◌≤◌};
+ghost use Rattle.std.specs.Prelude.{◌<◌, ◌≤◌, IfOk};
 ghost use Rattle.folder.specs.Calls.{Files, Tells};
 ghost use Rattle.folder.specs.OpenAnswer.{FolderAnswers};
 ghost use Rattle.folder.specs.ReadsAs.{IsHeldIn};
 ghost use Rattle.folder.specs.Reports.{OnlyReads, ReportsDevice};
 ghost use Rattle.checks.specs.GroupTest.{IsSweepAnswer};
+ghost use Rattle.checks.specs.HeldTables.{AreHeldIn};
 ghost use Rattle.checks.specs.TestedTables.{IsTested};
 
 use crate::file_groups::group_split;
 use crate::first_refusal::check_in_order;
+use crate::held_tables::HeldTables;
 use crate::range_test::test_ranges;
 use crate::tested::Tested;
+use crate::tested_version::TestedVersion;
 use crate::watch::{Watch, Work};
 use board::Gate;
 use coding::{Fault, FaultName};
@@ -60,19 +63,56 @@ pub fn test_version<C: SharedComparator + 'static, F: Folder, W: Watch + Sync, R
     ensures device { ReportsDevice F.Folder folder.old folder.new result }
     ensures reads { OnlyReads F.Folder folder.old folder.new }
 {
+    let found = test_and_hold::<C, F, W, R>(rt, alloc, folder, version, memory, workers, watch)?;
+    Ok(found.tested)
+}
+
+/// Tests a version as [`test_version`] does, and hands on the tables that it still holds: those of
+/// the last range of user keys, which are all if they fit into `memory` together. It only reads.
+pub fn test_and_hold<C: SharedComparator + 'static, F: Folder, W: Watch + Sync, R: Threads + Sync>(
+    rt: &R,
+    alloc: Global,
+    folder: &mut F,
+    version: &Version,
+    memory: u64,
+    workers: u64,
+    watch: &W,
+) -> Result<TestedVersion<C>, Fault>
+    requires some { 0 < workers }
+    requires few { workers ≤ 64 }
+    ensures answer { (files : Files) → Tells (F.tells folder.old) files →
+        FolderAnswers (λ found. found.tested) (F.failed folder.old) (F.failed folder.new) result
+        (IsTested (IsHeldIn files) C.cmp version.now) }
+    ensures held { (files : Files) → Tells (F.tells folder.old) files →
+        IfOk result (λ found. AreHeldIn C.cmp files found.tables) }
+    ensures device { ReportsDevice F.Folder folder.old folder.new result }
+    ensures reads { OnlyReads F.Folder folder.old folder.new }
+{
     let numbers = file_numbers::<C>(alloc, version)?;
     watch.begin(Work::Check, numbers.len() as u64);
-    let found = tested_entries::<C, F, W, R>(rt, alloc, folder, version, memory, workers, watch)?;
+    let mut tables = HeldTables::none(alloc);
+    let found = tested_entries::<C, F, W, R>(
+        rt,
+        alloc,
+        folder,
+        version,
+        memory,
+        workers,
+        &mut tables,
+        watch,
+    )?;
     if let Some(entries) = found {
         let files = numbers.len();
-        return Ok(Tested { files, entries });
+        let tested = Tested { files, entries };
+        return Ok(TestedVersion { tested, tables });
     }
+    drop(tables);
     check_in_order::<C, F, R>(rt, alloc, folder, &numbers, workers)?;
     Err(Fault::of(FaultName::Lawless))
 }
 
 /// How many entries the tables of a version have, if it is lawful with them. Else None. It only
-/// reads.
+/// reads. `held` are tables of the folder; those of the last range replace them.
 fn tested_entries<C: SharedComparator + 'static, F: Folder, G: Gate + Sync, R: Threads + Sync>(
     rt: &R,
     alloc: Global,
@@ -80,13 +120,17 @@ fn tested_entries<C: SharedComparator + 'static, F: Folder, G: Gate + Sync, R: T
     version: &Version,
     memory: u64,
     workers: u64,
+    held: &mut HeldTables<C>,
     gate: &G,
 ) -> Result<Option<u128>, Fault>
     requires some { 0 < workers }
     requires few { workers ≤ 64 }
     ensures answer { (files : Files) → Tells (F.tells folder.old) files →
+        AreHeldIn C.cmp files held.old →
         FolderAnswers (λ found. found) (F.failed folder.old) (F.failed folder.new) result
         (IsSweepAnswer C.cmp files version.now) }
+    ensures held { (files : Files) → Tells (F.tells folder.old) files →
+        AreHeldIn C.cmp files held.old → AreHeldIn C.cmp files held.new }
     ensures device { ReportsDevice F.Folder folder.old folder.new result }
     ensures reads { OnlyReads F.Folder folder.old folder.new }
 {
@@ -98,5 +142,7 @@ fn tested_entries<C: SharedComparator + 'static, F: Folder, G: Gate + Sync, R: T
     }
     let split = group_split::<C>(alloc, &standing, memory)?;
     let next = version.next_file();
-    test_ranges::<C, F, G, R>(rt, alloc, folder, &standing, next, &split, workers, gate)
+    test_ranges::<C, F, G, R>(
+        rt, alloc, folder, &standing, next, &split, held, workers, gate,
+    )
 }

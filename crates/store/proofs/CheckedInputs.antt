@@ -2,7 +2,9 @@
 use Rattle.std.proofs.Common.{◌≡◌, ℕ, suc, ◌+◌, ◌<◌, ◌≤◌, Bool, true, ◌&&◌, List, [], ◌∷◌, map, length, drop, drop-cons, add-one, get_or, Result, Ok, Err, refl, sym, ap, subst, ◌∙◌, arith}
 use Rattle.std.specs.Global.{Vec}
 use Rattle.std.specs.declared.cmp.Ordering.{Ordering}
+use Rattle.std.specs.List.{AllByRecursion}
 use Rattle.std.proofs.lemmas.List.{drop_all, length-map}
+use Rattle.std.proofs.lemmas.List.Elements.{recursion_from_All}
 use Rattle.coding.proofs.Binds.{bind_ok, ok_is}
 use Rattle.coding.proofs.Refusals.{unless_from}
 use Rattle.coding.specs.Answers.{FailsOrMemory, ◌>>=◌}
@@ -14,6 +16,7 @@ use Rattle.table.specs.TableContents.{Contents, contents_reading}
 use Rattle.pick.specs.declared.picked.InputFile.{InputFile}
 use Rattle.reads.specs.Tables.{NumberedContents}
 use Rattle.checks.specs.Checked.{tables_reading}
+use Rattle.checks.specs.HeldTables.{AreReadAs, held_bytes}
 use Rattle.compact.specs.Sound.{AreInputs}
 use Rattle.compact.proofs.ReadInputs.{read_inputs}
 use Rattle.install.specs.Install.{tables_in}
@@ -47,16 +50,37 @@ stated_end files tables k le = ap (λ (fs : List InputFile). are_stated fs (drop
 
 -- ---- their tables
 
+abbrev pub read_ok : List NumberedContents → Result (List NumberedContents) Fault
+read_ok tables = Ok tables
+
 pub tables_refused : (cmp : List ℕ → List ℕ → Ordering) (files : List InputFile) (loaded : List (ℕ × List ℕ)) (e : Fault) → FailsOrMemory e (tables_reading cmp loaded) → FailsOrMemory e (input_tables cmp files loaded)
 tables_refused cmp files loaded e given =
     unless_from e (tables_reading cmp loaded ≡ Err e) (input_tables cmp files loaded ≡ Err e)
     (λ is. ap (λ (r : Result (List NumberedContents) Fault). r >>= λ ts. test_result (are_stated files ts) Bounds >>= λ _. Ok (map (λ (t : NumberedContents). t.contents) ts)) is) given
+
+-- what was lent is refused for want of memory alone
+pub lent_refused : (cmp : List ℕ → List ℕ → Ordering) (files : List InputFile) (held : List NumberedContents) (e : Fault) → FailsOrMemory e (read_ok held) → FailsOrMemory e (input_tables cmp files (held_bytes held))
+lent_refused cmp files held e given = unless_from e (read_ok held ≡ Err e) (input_tables cmp files (held_bytes held) ≡ Err e) (λ is. absurd (no_error held e is)) given
+  where
+    no_error : (tables : List NumberedContents) (e : Fault) → read_ok tables ≡ Err e → ⊥
+    no_error tables e h = cc
 
 pub tables_are : (cmp : List ℕ → List ℕ → Ordering) (files : List InputFile) (loaded : List (ℕ × List ℕ)) (ts : List NumberedContents) (b : Bool) → tables_reading cmp loaded ≡ Ok ts → are_stated files ts ≡ b
     → input_tables cmp files loaded ≡ (test_result b Bounds >>= λ _. Ok (map (λ (t : NumberedContents). t.contents) ts))
 tables_are cmp files loaded ts b read is =
     ap (λ (r : Result (List NumberedContents) Fault). r >>= λ xs. test_result (are_stated files xs) Bounds >>= λ _. Ok (map (λ (t : NumberedContents). t.contents) xs)) read
     ∙ ap (λ (a : Bool). test_result a Bounds >>= λ _. Ok (map (λ (t : NumberedContents). t.contents) ts)) is
+
+-- the bytes of tables that were checked read as these
+reading_each : (cmp : List ℕ → List ℕ → Ordering) (tables : List NumberedContents) → AllByRecursion (λ (t : NumberedContents). contents_reading cmp t.contents.bytes ≡ Ok t.contents) tables
+    → tables_reading cmp (held_bytes tables) ≡ Ok tables
+reading_each cmp [] h = refl
+reading_each cmp (t ∷ tables) h =
+    ap (λ (r : Result Contents Fault). (r >>= λ contents. Ok (record { number = t.number; contents = contents })) >>= λ (first : NumberedContents). tables_reading cmp (held_bytes tables) >>= λ others. Ok (first ∷ others)) h.0
+    ∙ ap (λ (r : Result (List NumberedContents) Fault). r >>= λ others. Ok (t ∷ others)) (reading_each cmp tables h.1)
+
+pub held_reading : (cmp : List ℕ → List ℕ → Ordering) (tables : List NumberedContents) → AreReadAs cmp tables → tables_reading cmp (held_bytes tables) ≡ Ok tables
+held_reading cmp tables h = reading_each cmp tables (recursion_from_All (λ (t : NumberedContents). contents_reading cmp t.contents.bytes ≡ Ok t.contents) tables h)
 
 -- ---- what they are read as
 
@@ -114,11 +138,11 @@ read_as_inputs cmp files loaded contents same h =
     read_inputs cmp 0 files contents (subst (AreInputs cmp files) (sym r.whole) (are_inputs cmp files loaded r.tables same r.reading r.stated))
 
 -- as many were read as there are inputs
-pub same_length : (loaded : List (ℕ × Vec ℕ)) (files : List InputFile) (of : InputFile → List ℕ) → map (λ (t : ℕ × List ℕ). t.1) (tables_in loaded) ≡ map of files → length loaded ≡ length files
-same_length loaded files of h = simp length-map at (ap length h)
+pub same_read : (loaded : List (ℕ × List ℕ)) (files : List InputFile) (of : InputFile → List ℕ) → map (λ (t : ℕ × List ℕ). t.1) loaded ≡ map of files → length loaded ≡ length files
+same_read loaded files of h = sym (length-map loaded (λ (t : ℕ × List ℕ). t.1)) ∙ ap (λ (bs : List (List ℕ)). length bs) h ∙ length-map files of
 
-pub same_read : (loaded : List (ℕ × Vec ℕ)) (files : List InputFile) (of : InputFile → List ℕ) → map (λ (t : ℕ × List ℕ). t.1) (tables_in loaded) ≡ map of files → length (tables_in loaded) ≡ length files
-same_read loaded files of h = length-map loaded (λ (t : ℕ × Vec ℕ). (t.0, t.1.items)) ∙ same_length loaded files of h
+pub held_length : (tables : List NumberedContents) (files : List InputFile) (of : InputFile → List ℕ) → map (λ (t : ℕ × List ℕ). t.1) (held_bytes tables) ≡ map of files → length tables ≡ length files
+held_length tables files of h = sym (length-map tables (λ (t : NumberedContents). (t.number, t.contents.bytes))) ∙ same_read (held_bytes tables) files of h
 
 -- as many are checked as were read
 checked_length : (cmp : List ℕ → List ℕ → Ordering) (loaded : List (ℕ × List ℕ)) (tables : List NumberedContents) → tables_reading cmp loaded ≡ Ok tables → length tables ≡ length loaded

@@ -14,6 +14,7 @@ pub mod InputNumbers
 pub mod InputsApart
 mod LentRises
 mod CheckedInputs
+mod HeldInputs
 mod OrderlyFiles
 mod LineLemmas
 mod Tellings

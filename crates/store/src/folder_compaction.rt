@@ -16,7 +16,7 @@ use crate::compaction_step::CompactionStep;
 use crate::input_compaction::compact_step;
 use crate::install_laws::inputs_suffice;
 use crate::version_sync::sync_version;
-use checks::{CHECKERS, Watch, test_version};
+use checks::{CHECKERS, Watch, test_and_hold};
 use coding::Fault;
 use folder::{Folder, Opened, Order, open};
 use ikey::{Bytewise, SharedComparator, Shortlex};
@@ -87,8 +87,8 @@ pub fn compact_dir<F: Folder, W: Watch + Sync, R: Threads + Sync>(
 /// [`compact_dir`] does after the folder was opened and the version synced. The number of the
 /// manifest is the version's next file; the outputs have the numbers after it.
 ///
-/// All tables are tested first. Then it does what [`compact_inputs`](crate::compact_inputs) does,
-/// which reads those of the inputs again.
+/// All tables are tested first. Then it does what [`compact_inputs`](crate::compact_inputs) does;
+/// the tables of inputs that the test still holds are not read again.
 pub fn compact_opened<F: Folder, W: Watch + Sync, R: Threads + Sync>(
     rt: &R,
     alloc: Global,
@@ -161,6 +161,15 @@ fn compact_version<C: SharedComparator + 'static, F: Folder, W: Watch + Sync, R:
 {
     inputs_suffice::<C>();
     let version = &opened.version;
-    test_version::<C, F, W, R>(rt, alloc, folder, version, memory, CHECKERS, watch)?;
-    compact_step::<C, F, W, R>(rt, alloc, folder, opened, level, settings, watch)
+    let found = test_and_hold::<C, F, W, R>(rt, alloc, folder, version, memory, CHECKERS, watch)?;
+    compact_step::<C, F, W, R>(
+        rt,
+        alloc,
+        folder,
+        found.tables,
+        opened,
+        level,
+        settings,
+        watch,
+    )
 }

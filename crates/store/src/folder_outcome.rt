@@ -1,6 +1,7 @@
 //! The outcome of a compaction of a folder that is not installed.
 
 ghost use Rattle.std.specs.Prelude.{◌≡◌, ℕ, List, Ok, IfOk};
+ghost use Rattle.checks.specs.HeldTables.{AreHeldIn};
 ghost use Rattle.checks.specs.LawfulTables.{IsLawfulTables};
 ghost use Rattle.compact.specs.Answered.{answer_in};
 ghost use Rattle.folder.specs.Calls.{Files, Tells};
@@ -19,7 +20,7 @@ use crate::compaction_outcome::CompactionOutcome;
 use crate::input_laws::outcome_suffices;
 use crate::level_compaction::level_outcome;
 use crate::lines::outcome_lines;
-use checks::{CHECKERS, Watch, test_version};
+use checks::{CHECKERS, HeldTables, Watch, test_and_hold};
 use coding::Fault;
 use edit::Version;
 use folder::{Folder, Opened, Order};
@@ -30,7 +31,7 @@ use std::thread::Threads;
 
 /// The outcome of the compaction of a `level` of what a folder was `opened` as. Nothing is
 /// installed: it only reads. All tables are tested first. Then it does what [`outcome_of_inputs`]
-/// does, which reads those of the inputs again.
+/// does; the tables of inputs that the test still holds are not read again.
 ///
 /// The first that applies:
 ///
@@ -126,12 +127,18 @@ pub fn outcome_of_inputs<F: Folder, W: Watch + Sync, R: Threads + Sync>(
 {
     let version = &opened.version;
     match opened.order {
-        Order::Bytewise => outcome_untested::<Bytewise, F, W, R>(
-            rt, alloc, folder, version, level, first, settings, watch,
-        ),
-        Order::Shortlex => outcome_untested::<Shortlex, F, W, R>(
-            rt, alloc, folder, version, level, first, settings, watch,
-        ),
+        Order::Bytewise => {
+            let none = HeldTables::none(alloc);
+            outcome_untested::<Bytewise, F, W, R>(
+                rt, alloc, folder, none, version, level, first, settings, watch,
+            )
+        }
+        Order::Shortlex => {
+            let none = HeldTables::none(alloc);
+            outcome_untested::<Shortlex, F, W, R>(
+                rt, alloc, folder, none, version, level, first, settings, watch,
+            )
+        }
     }
 }
 
@@ -160,15 +167,27 @@ fn outcome_tested<C: SharedComparator + 'static, F: Folder, W: Watch + Sync, R: 
     ensures reads { OnlyReads F.Folder folder.old folder.new }
 {
     outcome_suffices::<C>();
-    test_version::<C, F, W, R>(rt, alloc, folder, version, memory, CHECKERS, watch)?;
-    outcome_untested::<C, F, W, R>(rt, alloc, folder, version, level, first, settings, watch)
+    let found = test_and_hold::<C, F, W, R>(rt, alloc, folder, version, memory, CHECKERS, watch)?;
+    outcome_untested::<C, F, W, R>(
+        rt,
+        alloc,
+        folder,
+        found.tables,
+        version,
+        level,
+        first,
+        settings,
+        watch,
+    )
 }
 
-/// The outcome of the compaction of a `level` of a version by its inputs alone, and its lines.
+/// The outcome of the compaction of a `level` of a version by its inputs alone, and its lines. `held`
+/// are tables of the folder.
 fn outcome_untested<C: SharedComparator + 'static, F: Folder, W: Watch + Sync, R: Threads + Sync>(
     rt: &R,
     alloc: Global,
     folder: &mut F,
+    held: HeldTables<C>,
     version: &Version,
     level: u64,
     first: Option<u64>,
@@ -176,11 +195,13 @@ fn outcome_untested<C: SharedComparator + 'static, F: Folder, W: Watch + Sync, R
     watch: &W,
 ) -> Result<CompactionOutcome, Fault>
     ensures answer { (files : Files) → Tells (F.tells folder.old) files →
+        AreHeldIn C.cmp files held →
         FolderAnswers (λ o. (answer_in o.outcome, o.lines.items)) (F.failed folder.old)
         (F.failed folder.new) result
         (IsOutcomeOfInputs first C.cmp C.short_keys files version.now level settings.now) }
     ensures compacted { (files : Files) (order : Order) (loaded : List (ℕ × List ℕ))
         (tables : List NumberedContents) → Tells (F.tells folder.old) files →
+        AreHeldIn C.cmp files held →
         IsLoaded (IsHeldIn files) (file_numbers C.cmp version.now) (Ok loaded) →
         IsLawfulTables C.cmp version.now loaded (Ok tables) →
         IfOk result (λ o. (p : PickedInputs) × LevelCompaction order C.cmp C.short_keys version.now
@@ -189,7 +210,7 @@ fn outcome_untested<C: SharedComparator + 'static, F: Folder, W: Watch + Sync, R
     ensures reads { OnlyReads F.Folder folder.old folder.new }
 {
     let made = level_outcome::<C, F, W, R>(
-        rt, alloc, folder, version, level, first, settings, watch,
+        rt, alloc, folder, held, version, level, first, settings, watch,
     )?;
     let lines = outcome_lines(alloc, &made.outcome, &made.picked.files)?;
     Ok(CompactionOutcome {

@@ -2,6 +2,7 @@
 
 ghost use Rattle.std.specs.Prelude.{◌≡◌, ◌≢◌, ◌<◌, ◌^◌, ℕ, List, length, codes, Some, Ok, IfOk};
 ghost use Rattle.std.specs.Prelude.{OnOk};
+ghost use Rattle.checks.specs.HeldTables.{AreHeldIn};
 ghost use Rattle.checks.specs.LawfulTables.{IsLawfulTables};
 ghost use Rattle.compact.specs.Answered.{answer_in};
 ghost use Rattle.folder.specs.Calls.{Files, Tells};
@@ -23,7 +24,7 @@ use crate::compaction_step::CompactionStep;
 use crate::folder_request::manifest_of;
 use crate::level_compaction::level_outcome;
 use crate::lines::compaction_lines;
-use checks::Watch;
+use checks::{HeldTables, Watch};
 use coding::Fault;
 use edit::{Outcome, Version};
 use folder::{Folder, Opened, Order};
@@ -87,16 +88,23 @@ pub fn compact_inputs<F: Folder, W: Watch + Sync, R: Threads + Sync>(
 {
     match opened.order {
         Order::Bytewise => {
-            compact_step::<Bytewise, F, W, R>(rt, alloc, folder, opened, level, settings, watch)
+            let none = HeldTables::none(alloc);
+            compact_step::<Bytewise, F, W, R>(
+                rt, alloc, folder, none, opened, level, settings, watch,
+            )
         }
         Order::Shortlex => {
-            compact_step::<Shortlex, F, W, R>(rt, alloc, folder, opened, level, settings, watch)
+            let none = HeldTables::none(alloc);
+            compact_step::<Shortlex, F, W, R>(
+                rt, alloc, folder, none, opened, level, settings, watch,
+            )
         }
     }
 }
 
 /// Compacts a `level` of the version that a folder was `opened` as, by its inputs alone, and
-/// installs the outcome. The comparator's name has fewer than 2^32 bytes.
+/// installs the outcome. `held` are tables of the folder. The comparator's name has fewer than 2^32
+/// bytes.
 pub(crate) fn compact_step<
     C: SharedComparator + 'static,
     F: Folder,
@@ -106,6 +114,7 @@ pub(crate) fn compact_step<
     rt: &R,
     alloc: Global,
     folder: &mut F,
+    held: HeldTables<C>,
     opened: &Opened,
     level: u64,
     settings: &Settings<'_>,
@@ -114,12 +123,14 @@ pub(crate) fn compact_step<
     requires { length C.name_bytes < 2 ^ 32 }
     ensures answer { (files : Files) → Tells (F.tells folder.old) files →
         files (codes "CURRENT") ≡ Some (current_text opened.now.manifest) →
+        AreHeldIn C.cmp files held →
         FolderAnswers (λ step. step.lines.items) (F.failed folder.old) (F.failed folder.new) result
         (IsInputsCompacted C.cmp C.short_keys files opened.now.version level settings.now) }
     ensures left { (files : Files) (order : Order) (loaded : List (ℕ × List ℕ))
         (tables : List NumberedContents) →
         Tells (F.tells folder.old) files →
         files (codes "CURRENT") ≡ Some (current_text opened.now.manifest) →
+        AreHeldIn C.cmp files held →
         order_name order ≡ C.name_bytes →
         ReadsAs C.cmp order opened.now.version loaded files →
         IsLawfulTables C.cmp opened.now.version loaded (Ok tables) →
@@ -130,7 +141,7 @@ pub(crate) fn compact_step<
     ensures device { ReportsDevice F.Folder folder.old folder.new result }
 {
     let version = &opened.version;
-    let ready = ready_step::<C, F, W, R>(rt, alloc, folder, version, level, settings, watch)?;
+    let ready = ready_step::<C, F, W, R>(rt, alloc, folder, held, version, level, settings, watch)?;
     let outcome = &ready.outcome;
     let number = manifest_of(version);
     install::<C, F>(alloc, folder, opened.manifest, version, number, outcome)?;
@@ -145,16 +156,19 @@ fn ready_step<C: SharedComparator + 'static, F: Folder, W: Watch + Sync, R: Thre
     rt: &R,
     alloc: Global,
     folder: &mut F,
+    held: HeldTables<C>,
     version: &Version,
     level: u64,
     settings: &Settings<'_>,
     watch: &W,
 ) -> Result<Ready, Fault>
     ensures answer { (files : Files) → Tells (F.tells folder.old) files →
+        AreHeldIn C.cmp files held →
         FolderAnswers (λ ready. ready.lines.items) (F.failed folder.old) (F.failed folder.new)
         result (IsInputsCompacted C.cmp C.short_keys files version.now level settings.now) }
     ensures compacted { (files : Files) (order : Order) (loaded : List (ℕ × List ℕ))
         (tables : List NumberedContents) → Tells (F.tells folder.old) files →
+        AreHeldIn C.cmp files held →
         IsLoaded (IsHeldIn files) (file_numbers C.cmp version.now) (Ok loaded) →
         IsLawfulTables C.cmp version.now loaded (Ok tables) →
         IfOk result (λ ready. VersionCompaction order C.cmp C.short_keys version.now loaded level
@@ -163,7 +177,7 @@ fn ready_step<C: SharedComparator + 'static, F: Folder, W: Watch + Sync, R: Thre
     ensures reads { OnlyReads F.Folder folder.old folder.new }
 {
     let made = level_outcome::<C, F, W, R>(
-        rt, alloc, folder, version, level, None, settings, watch,
+        rt, alloc, folder, held, version, level, None, settings, watch,
     )?;
     let lines = compaction_lines(
         alloc,

@@ -2,6 +2,7 @@
 
 ghost use Rattle.std.specs.Prelude.{◌≡◌, length, map, Ok};
 ghost use Rattle.coding.specs.Answers.{EqualOrMemory};
+ghost use Rattle.checks.specs.HeldTables.{held_bytes};
 ghost use Rattle.folder.specs.LoadedTables.{IsLoaded};
 ghost use Rattle.folder.specs.OpenAnswer.{FolderAnswers};
 ghost use Rattle.folder.specs.Reports.{OnlyReads, ReportsDevice};
@@ -9,7 +10,7 @@ ghost use Rattle.install.specs.Install.{tables_in};
 ghost use Rattle.request.specs.Inputs.{table_matches_metadata};
 ghost use Rattle.store.specs.InputsCompaction.{are_stated, input_numbers, input_tables};
 
-use checks::{CHECKERS, Watch, check_tables};
+use checks::{CHECKERS, HeldTables, Watch, check_tables};
 use coding::{Fault, FaultName};
 use edit::FileMeta;
 use folder::{Folder, load_numbers};
@@ -37,7 +38,7 @@ pub fn load_inputs<F: Folder>(
 }
 
 /// The numbers of inputs in their order. The only fault is Memory.
-fn numbers_of(alloc: Global, inputs: &[InputFile]) -> Result<Vec<u64>, Fault>
+pub(crate) fn numbers_of(alloc: Global, inputs: &[InputFile]) -> Result<Vec<u64>, Fault>
     ensures { EqualOrMemory (λ v. v.items) result (Ok (input_numbers inputs.now)) }
 {
     let mut numbers = Vec::with_capacity(alloc, inputs.len())?;
@@ -61,6 +62,24 @@ pub fn checked_inputs<'t, C: SharedComparator, W: Watch + Sync, R: Threads + Syn
         (input_tables C.cmp inputs.now (tables_in loaded.now)) }
 {
     let tables = check_tables::<C, W, R>(rt, alloc, loaded, CHECKERS, watch)?;
+    if !are_stated(inputs, &tables) {
+        return Err(Fault::of(FaultName::Bounds));
+    }
+    without_numbers(alloc, tables)
+}
+
+/// The held tables of `inputs`, lent in their order. Bounds, if one isn't as its file states. The
+/// only other fault is Memory.
+pub(crate) fn stated_tables<'h, C: Comparator>(
+    alloc: Global,
+    inputs: &[InputFile],
+    held: &'h HeldTables<C>,
+) -> Result<Vec<SoundTable<'h, C>>, Fault>
+    requires lengths { length held.now ≡ length inputs.now }
+    ensures { EqualOrMemory (λ v. v.items) result
+        (input_tables C.cmp inputs.now (held_bytes held.now)) }
+{
+    let tables = held.lend(alloc)?;
     if !are_stated(inputs, &tables) {
         return Err(Fault::of(FaultName::Bounds));
     }

@@ -1,6 +1,7 @@
 //! The compaction of a level by its inputs, up to its outcome.
 
 ghost use Rattle.std.specs.Prelude.{ℕ, List, Ok, IfOk};
+ghost use Rattle.checks.specs.HeldTables.{AreHeldIn};
 ghost use Rattle.checks.specs.LawfulTables.{IsLawfulTables};
 ghost use Rattle.compact.specs.Answered.{answer_in};
 ghost use Rattle.folder.specs.Calls.{Files, Tells};
@@ -16,12 +17,12 @@ ghost use Rattle.store.specs.InputLaws.{with_inputs};
 ghost use Rattle.store.specs.InputsCompaction.{IsInputsTold};
 ghost use Rattle.store.specs.Outcome.{LevelCompaction};
 
+use crate::held_compaction::compact_held;
 use crate::input_laws::{inputs_in_order, same_inputs};
-use crate::input_tables::load_inputs;
+use crate::input_tables::numbers_of;
 use crate::install_laws::numbered_is_installed;
-use crate::loaded_compaction::compact_loaded;
 use crate::version_files::test_files;
-use checks::Watch;
+use checks::{CHECKERS, HeldTables, Watch, Work, checked_tables};
 use coding::Fault;
 use edit::{Outcome, Version};
 use folder::Folder;
@@ -40,7 +41,7 @@ pub(crate) struct LevelOutcome {
 
 /// The outcome of the compaction of a `level` of a version, with its inputs. The outputs have the
 /// numbers from `first` on, or else those after the manifest's. It only reads, and no table but
-/// those of the inputs.
+/// those of the inputs that aren't among `held`, which are tables of the folder.
 pub(crate) fn level_outcome<
     C: SharedComparator + 'static,
     F: Folder,
@@ -50,6 +51,7 @@ pub(crate) fn level_outcome<
     rt: &R,
     alloc: Global,
     folder: &mut F,
+    held: HeldTables<C>,
     version: &Version,
     level: u64,
     first: Option<u64>,
@@ -57,11 +59,13 @@ pub(crate) fn level_outcome<
     watch: &W,
 ) -> Result<LevelOutcome, Fault>
     ensures answer { (files : Files) → Tells (F.tells folder.old) files →
+        AreHeldIn C.cmp files held →
         FolderAnswers (λ o. with_inputs (picked_in o.picked) (answer_in o.outcome))
         (F.failed folder.old) (F.failed folder.new) result
         (IsInputsTold with_inputs first C.cmp C.short_keys files version.now level settings.now) }
     ensures compacted { (files : Files) (order : Order) (loaded : List (ℕ × List ℕ))
         (tables : List NumberedContents) → Tells (F.tells folder.old) files →
+        AreHeldIn C.cmp files held →
         IsLoaded (IsHeldIn files) (file_numbers C.cmp version.now) (Ok loaded) →
         IsLawfulTables C.cmp version.now loaded (Ok tables) →
         IfOk result (λ o. LevelCompaction order C.cmp C.short_keys version.now loaded level first
@@ -74,9 +78,11 @@ pub(crate) fn level_outcome<
     same_inputs::<C>();
     test_files::<C>(alloc, version)?;
     let picked = inputs::<C>(alloc, version, level)?;
-    let loaded = load_inputs(alloc, folder, &picked.files)?;
-    let outcome = compact_loaded::<C, W, R>(
-        rt, alloc, version, &picked, &loaded, first, settings, watch,
+    let numbers = numbers_of(alloc, &picked.files)?;
+    watch.begin(Work::Check, numbers.len() as u64);
+    let tables = checked_tables::<C, F, W, R>(rt, alloc, folder, held, &numbers, CHECKERS, watch)?;
+    let outcome = compact_held::<C, W, R>(
+        rt, alloc, version, &picked, &tables, first, settings, watch,
     )?;
     Ok(LevelOutcome { picked, outcome })
 }

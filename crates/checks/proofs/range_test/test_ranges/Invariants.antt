@@ -11,8 +11,8 @@ invariant-loop-number g l =
     let tells = g.F.Folder.tells in
     let failed = g.F.Folder.failed in
     record {
-      sound : (files : Files) → Tells (tells l.fn.folder) files → AreRangesSound g.C.Comparator.cmp files l.next (map (λ f. f.now) l.standing) l.split l.number l.entries;
-      held : (files : Files) → Tells (tells l.fn.folder) files → AreHeldIn g.C.Comparator.cmp files l.held;
+      sound : (files : Files) → Tells (tells l.fn.folder) files → AreHeldIn g.C.Comparator.cmp files l.fn.held → AreRangesSound g.C.Comparator.cmp files l.next (map (λ f. f.now) l.standing) l.split l.number l.entries;
+      held : (files : Files) → Tells (tells l.fn.folder) files → AreHeldIn g.C.Comparator.cmp files l.fn.held → AreHeldIn g.C.Comparator.cmp files l.held;
       small : l.entries ≤ l.number * 2 ^ 100;
       reads : OnlyReads g.F.Folder l.fn.folder l.folder;
       failures : failed l.folder ≡ failed l.fn.folder;

@@ -8,7 +8,7 @@ use Rattle.checks.proofs.FolderTests.{answers_since, never_answer, sweep_answer}
 use Rattle.checks.proofs.version_test.tested_entries.Goals as goal
 
 pub returns-in_default-clause-answer : goal.returns-in_default-clause-answer
-returns-in_default-clause-answer g c files told =
+returns-in_default-clause-answer g c files told are =
     let cmp = g.C.Comparator.cmp in
     let v = c.args.version.now in
     never_answer cmp files v
@@ -16,7 +16,7 @@ returns-in_default-clause-answer g c files told =
     c.in_ok-standing.ensures.added
 
 pub returns-clause-answer : goal.returns-clause-answer
-returns-clause-answer g c files told =
+returns-clause-answer g c files told are =
     let cmp = g.C.Comparator.cmp in
     let v = c.args.version.now in
     let failed = g.F.Folder.failed in
@@ -30,4 +30,7 @@ returns-clause-answer g c files told =
     (subst (λ (n : Option ℕ). IsRangesAnswer cmp files n standing boundaries a) c.next_file-next.ensures
     (subst (λ (fs : List (Bor FileMeta)). IsRangesAnswer cmp files c.next_file-next.result (map now_of fs) boundaries a) c.deref-2.ensures.value h)) in
     answers_since (λ found. found) (failed c.args.folder.now) (failed c.args.folder.now) (failed c.test_ranges.new.folder) c.test_ranges.result
-    (IsRangesAnswer cmp files c.next_file-next.result (map now_of c.deref-2.result.now) boundaries) (IsSweepAnswer cmp files v) over (omega arith) c.test_ranges.ensures.device.later (c.test_ranges.ensures.answer files told)
+    (IsRangesAnswer cmp files c.next_file-next.result (map now_of c.deref-2.result.now) boundaries) (IsSweepAnswer cmp files v) over (omega arith) c.test_ranges.ensures.device.later (c.test_ranges.ensures.answer files told are)
+
+pub returns-clause-held : goal.returns-clause-held
+returns-clause-held g c files told are = c.test_ranges.ensures.held files told are

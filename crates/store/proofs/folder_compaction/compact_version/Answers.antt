@@ -12,27 +12,27 @@ use Rattle.store.proofs.Flow.{answers_behind, no_value, told_still, told_themsel
 use Rattle.store.proofs.StepPart.{has_passed, test_refused, version_left}
 use Rattle.store.proofs.folder_compaction.compact_version.Goals as goal
 
-pub returns-in_err-test_version-clause-answer : goal.returns-in_err-test_version-clause-answer
-returns-in_err-test_version-clause-answer g c files told current =
+pub returns-in_err-found-clause-answer : goal.returns-in_err-found-clause-answer
+returns-in_err-found-clause-answer g c files told current =
     let cmp = g.C.Comparator.cmp in
     let v = c.args.opened.now.version in
     let tells = g.F.Folder.tells c.args.folder.now in
     let failed = g.F.Folder.failed in
-    let e = c.in_err-test_version.field-0.0 in
-    hands_on (λ (step : CompactionStep). step.lines.items) (failed c.args.folder.now) (failed c.args.folder.now) (failed c.test_version.new.folder) c.from_residual.result e (IsTested (IsHeldIn files) cmp v)
+    let e = c.in_err-found.field-0.0 in
+    hands_on (λ (step : CompactionStep). step.lines.items) (failed c.args.folder.now) (failed c.args.folder.now) (failed c.test_and_hold.new.folder) c.from_residual.result e (IsTested (IsHeldIn files) cmp v)
     (IsVersionCompacted cmp g.C.Comparator.short_keys files v c.args.level c.args.settings.now)
-    c.from_residual.ensures.1 (omega arith) c.test_version.ensures.device.later (c.in_err-test_version.ensures.answer files told)
+    c.from_residual.ensures.1 (omega arith) c.test_and_hold.ensures.device.later (c.in_err-found.ensures.answer files told)
     (λ h. test_refused cmp g.C.Comparator.short_keys (IsHeldIn files) files v c.args.level c.args.settings.now e (told_themselves files) h)
 
-pub returns-in_err-test_version-clause-left : goal.returns-in_err-test_version-clause-left
-returns-in_err-test_version-clause-left g c files order told current named opened =
-    inl (record { calls = c.test_version.ensures.reads.calls; same = c.test_version.ensures.reads.same; refused = no_value c.from_residual.result _ c.from_residual.ensures.1 })
+pub returns-in_err-found-clause-left : goal.returns-in_err-found-clause-left
+returns-in_err-found-clause-left g c files order told current named opened =
+    inl (record { calls = c.test_and_hold.ensures.reads.calls; same = c.test_and_hold.ensures.reads.same; refused = no_value c.from_residual.result _ c.from_residual.ensures.1 })
 
-pub returns-in_err-test_version-clause-other : goal.returns-in_err-test_version-clause-other
-returns-in_err-test_version-clause-other g c files told other = no_value c.from_residual.result _ c.from_residual.ensures.1
+pub returns-in_err-found-clause-other : goal.returns-in_err-found-clause-other
+returns-in_err-found-clause-other g c files told other = no_value c.from_residual.result _ c.from_residual.ensures.1
 
-pub returns-in_err-test_version-clause-device : goal.returns-in_err-test_version-clause-device
-returns-in_err-test_version-clause-device g c = reports_handed c.from_residual.result c.in_err-test_version.was c.test_version.ensures.device c.from_residual.ensures.1
+pub returns-in_err-found-clause-device : goal.returns-in_err-found-clause-device
+returns-in_err-found-clause-device g c = reports_handed c.from_residual.result c.in_err-found.was c.test_and_hold.ensures.device c.from_residual.ensures.1
 
 pub returns-clause-answer : goal.returns-clause-answer
 returns-clause-answer g c files told current =
@@ -43,13 +43,13 @@ returns-clause-answer g c files told current =
     let s = c.args.settings.now in
     let tells = g.F.Folder.tells in
     let failed = g.F.Folder.failed in
-    let passed = has_passed cmp (IsHeldIn files) files v _ (told_themselves files) (c.in_ok-test_version.ensures.answer files told) in
-    let still = told_still (tells c.args.folder.now) (tells c.test_version.new.folder) files c.test_version.ensures.reads.same told in
-    answers_behind (λ (step : CompactionStep). step.lines.items) (failed c.args.folder.now) (failed c.test_version.new.folder) (failed c.compact_step.new.folder) c.compact_step.result
+    let passed = has_passed cmp (IsHeldIn files) files v _ (told_themselves files) (c.in_ok-found.ensures.answer files told) in
+    let still = told_still (tells c.args.folder.now) (tells c.test_and_hold.new.folder) files c.test_and_hold.ensures.reads.same told in
+    answers_behind (λ (step : CompactionStep). step.lines.items) (failed c.args.folder.now) (failed c.test_and_hold.new.folder) (failed c.compact_step.new.folder) c.compact_step.result
     (IsLoaded (IsHeldIn files) (file_numbers cmp v)) (λ loaded. IsLoadedCompacted cmp short_keys v loaded level s) (λ _. IsInputsCompacted cmp short_keys files v level s) passed.loaded
-    c.test_version.ensures.device.later c.compact_step.ensures.device.later passed.held
+    c.test_and_hold.ensures.device.later c.compact_step.ensures.device.later passed.held
     (λ answer h. c.inputs_suffice.ensures files v passed.loaded passed.tables level s answer passed.held passed.sound h)
-    (c.compact_step.ensures.answer files still current)
+    (c.compact_step.ensures.answer files still current (c.in_ok-found.ensures.held files told))
 
 pub returns-clause-left : goal.returns-clause-left
 returns-clause-left g c files order told current named opened =
@@ -57,17 +57,17 @@ returns-clause-left g c files order told current named opened =
     let v = c.args.opened.now.version in
     let calls = g.F.Folder.calls in
     let tells = g.F.Folder.tells in
-    let passed = has_passed cmp (IsHeldIn files) files v _ (told_themselves files) (c.in_ok-test_version.ensures.answer files told) in
-    let still = told_still (tells c.args.folder.now) (tells c.test_version.new.folder) files c.test_version.ensures.reads.same told in
+    let passed = has_passed cmp (IsHeldIn files) files v _ (told_themselves files) (c.in_ok-found.ensures.answer files told) in
+    let still = told_still (tells c.args.folder.now) (tells c.test_and_hold.new.folder) files c.test_and_hold.ensures.reads.same told in
     let reads : ReadsAs cmp order v passed.loaded files = record { opened = opened; loaded = passed.held } in
     version_left order cmp g.C.Comparator.short_keys files v passed.loaded c.args.level c.args.settings.now
-    (calls c.args.folder.now) (calls c.test_version.new.folder) (calls c.compact_step.new.folder) (tells c.args.folder.now) (tells c.test_version.new.folder) (tells c.compact_step.new.folder) c.compact_step.result
-    reads c.test_version.ensures.reads.calls c.test_version.ensures.reads.same
-    (c.compact_step.ensures.left files order passed.loaded passed.tables still current named reads passed.sound)
+    (calls c.args.folder.now) (calls c.test_and_hold.new.folder) (calls c.compact_step.new.folder) (tells c.args.folder.now) (tells c.test_and_hold.new.folder) (tells c.compact_step.new.folder) c.compact_step.result
+    reads c.test_and_hold.ensures.reads.calls c.test_and_hold.ensures.reads.same
+    (c.compact_step.ensures.left files order passed.loaded passed.tables still current (c.in_ok-found.ensures.held files told) named reads passed.sound)
 
 pub returns-clause-other : goal.returns-clause-other
 returns-clause-other g c files told other =
-    c.compact_step.ensures.other files (told_still (g.F.Folder.tells c.args.folder.now) (g.F.Folder.tells c.test_version.new.folder) files c.test_version.ensures.reads.same told) other
+    c.compact_step.ensures.other files (told_still (g.F.Folder.tells c.args.folder.now) (g.F.Folder.tells c.test_and_hold.new.folder) files c.test_and_hold.ensures.reads.same told) other
 
 pub returns-clause-device : goal.returns-clause-device
-returns-clause-device g c = reports_then c.in_ok-test_version.was c.test_version.ensures.device c.compact_step.ensures.device
+returns-clause-device g c = reports_then c.in_ok-found.was c.test_and_hold.ensures.device c.compact_step.ensures.device

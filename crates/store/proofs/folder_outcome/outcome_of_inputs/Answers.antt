@@ -1,4 +1,5 @@
 use Rattle.std.proofs.Common.{Ok, IfOk, subst, sym}
+use Rattle.std.proofs.lemmas.List.Elements.{All-nil}
 use Rattle.compact.specs.Answered.{answer_in}
 use Rattle.folder.specs.Levels.{file_numbers}
 use Rattle.folder.specs.LoadedTables.{IsLoaded}
@@ -8,6 +9,8 @@ use Rattle.folder.specs.ReadsAs.{IsHeldIn}
 use Rattle.folder.specs.declared.order.Order.{Order}
 use Rattle.folder.specs.declared.order.Order.TheVariants.{Bytewise, Shortlex}
 use Rattle.pick.specs.Picked.{PickedInputs}
+use Rattle.reads.specs.Tables.{NumberedContents}
+use Rattle.checks.specs.HeldTables.{AreHeldIn, IsTableIn}
 use Rattle.checks.specs.LawfulTables.{IsLawfulTables}
 use Rattle.store.specs.Outcome.{IsOutcomeOfInputs, LevelCompaction}
 use Rattle.store.proofs.folder_outcome.outcome_of_inputs.Goals as goal
@@ -17,14 +20,14 @@ returns-in-Bytewise-clause-answer g c files told =
     let failed = g.F.Folder.failed in
     subst (λ (order : Order). FolderAnswers (λ o. (answer_in o.outcome, o.lines.items)) (failed c.args.folder.now) (failed c.outcome_untested.new.folder) c.outcome_untested.result
     (IsOutcomeOfInputs c.args.first (order_cmp order) (order_short_keys order) files c.args.opened.now.version c.args.level c.args.settings.now))
-    (sym c.in-Bytewise.is) (c.outcome_untested.ensures.answer files told)
+    (sym c.in-Bytewise.is) (c.outcome_untested.ensures.answer files told (subst (AreHeldIn (order_cmp Bytewise) files) (sym c.none-none.ensures) (All-nil (λ (t : NumberedContents). IsTableIn (order_cmp Bytewise) files t.number t.contents))))
 
 pub returns-in-Bytewise-clause-compacted : goal.returns-in-Bytewise-clause-compacted
 returns-in-Bytewise-clause-compacted g c files loaded tables told held sound =
     let v = c.args.opened.now.version in
     let is = c.in-Bytewise.is in
     subst (λ (order : Order). IfOk c.outcome_untested.result (λ o. (p : PickedInputs) × LevelCompaction order (order_cmp order) (order_short_keys order) v loaded c.args.level c.args.first c.args.settings.now p (answer_in o.outcome)))
-    (sym is) (c.outcome_untested.ensures.compacted files Bytewise loaded tables told
+    (sym is) (c.outcome_untested.ensures.compacted files Bytewise loaded tables told (subst (AreHeldIn (order_cmp Bytewise) files) (sym c.none-none.ensures) (All-nil (λ (t : NumberedContents). IsTableIn (order_cmp Bytewise) files t.number t.contents)))
     (subst (λ (order : Order). IsLoaded (IsHeldIn files) (file_numbers (order_cmp order) v) (Ok loaded)) is held) (subst (λ (order : Order). IsLawfulTables (order_cmp order) v loaded (Ok tables)) is sound))
 
 pub returns-in-Shortlex-clause-answer : goal.returns-in-Shortlex-clause-answer
@@ -32,12 +35,12 @@ returns-in-Shortlex-clause-answer g c files told =
     let failed = g.F.Folder.failed in
     subst (λ (order : Order). FolderAnswers (λ o. (answer_in o.outcome, o.lines.items)) (failed c.args.folder.now) (failed c.outcome_untested-in-Shortlex.new.folder) c.outcome_untested-in-Shortlex.result
     (IsOutcomeOfInputs c.args.first (order_cmp order) (order_short_keys order) files c.args.opened.now.version c.args.level c.args.settings.now))
-    (sym c.in-Shortlex.is) (c.outcome_untested-in-Shortlex.ensures.answer files told)
+    (sym c.in-Shortlex.is) (c.outcome_untested-in-Shortlex.ensures.answer files told (subst (AreHeldIn (order_cmp Shortlex) files) (sym c.none-none-in-Shortlex.ensures) (All-nil (λ (t : NumberedContents). IsTableIn (order_cmp Shortlex) files t.number t.contents))))
 
 pub returns-in-Shortlex-clause-compacted : goal.returns-in-Shortlex-clause-compacted
 returns-in-Shortlex-clause-compacted g c files loaded tables told held sound =
     let v = c.args.opened.now.version in
     let is = c.in-Shortlex.is in
     subst (λ (order : Order). IfOk c.outcome_untested-in-Shortlex.result (λ o. (p : PickedInputs) × LevelCompaction order (order_cmp order) (order_short_keys order) v loaded c.args.level c.args.first c.args.settings.now p (answer_in o.outcome)))
-    (sym is) (c.outcome_untested-in-Shortlex.ensures.compacted files Shortlex loaded tables told
+    (sym is) (c.outcome_untested-in-Shortlex.ensures.compacted files Shortlex loaded tables told (subst (AreHeldIn (order_cmp Shortlex) files) (sym c.none-none-in-Shortlex.ensures) (All-nil (λ (t : NumberedContents). IsTableIn (order_cmp Shortlex) files t.number t.contents)))
     (subst (λ (order : Order). IsLoaded (IsHeldIn files) (file_numbers (order_cmp order) v) (Ok loaded)) is held) (subst (λ (order : Order). IsLawfulTables (order_cmp order) v loaded (Ok tables)) is sound))

@@ -17,22 +17,22 @@ use Rattle.store.proofs.Flow.{answers_behind, told_still, told_themselves}
 use Rattle.store.proofs.StepPart.{has_passed, test_ends}
 use Rattle.store.proofs.folder_outcome.outcome_tested.Goals as goal
 
-pub returns-in_err-test_version-clause-answer : goal.returns-in_err-test_version-clause-answer
-returns-in_err-test_version-clause-answer g c files told =
+pub returns-in_err-found-clause-answer : goal.returns-in_err-found-clause-answer
+returns-in_err-found-clause-answer g c files told =
     let cmp = g.C.Comparator.cmp in
     let keys = g.C.Comparator.short_keys in
     let v = c.args.version.now in
     let s = c.args.settings.now in
     let failed = g.F.Folder.failed in
-    let e = c.in_err-test_version.field-0.0 in
-    hands_on (λ o. (answer_in o.outcome, o.lines.items)) (failed c.args.folder.now) (failed c.args.folder.now) (failed c.test_version.new.folder) c.from_residual.result e (IsTested (IsHeldIn files) cmp v)
+    let e = c.in_err-found.field-0.0 in
+    hands_on (λ o. (answer_in o.outcome, o.lines.items)) (failed c.args.folder.now) (failed c.args.folder.now) (failed c.test_and_hold.new.folder) c.from_residual.result e (IsTested (IsHeldIn files) cmp v)
     (IsOutcomeOfVersion c.args.first cmp keys files v c.args.level s)
-    c.from_residual.ensures.1 (omega arith) c.test_version.ensures.device.later (c.in_err-test_version.ensures.answer files told)
+    c.from_residual.ensures.1 (omega arith) c.test_and_hold.ensures.device.later (c.in_err-found.ensures.answer files told)
     (λ h. test_ends cmp (λ loaded tables. IsThen (IsInputsAnswer cmp v c.args.level) (λ p (a : Result (Answer × List ℕ) Fault). a ≡ (compaction_from c.args.first cmp keys v loaded p s >>= λ x. Ok (outcome_told p x))))
     (IsHeldIn files) files v e (told_themselves files) h)
 
-pub returns-in_err-test_version-clause-device : goal.returns-in_err-test_version-clause-device
-returns-in_err-test_version-clause-device g c = reports_handed c.from_residual.result c.in_err-test_version.was c.test_version.ensures.device c.from_residual.ensures.1
+pub returns-in_err-found-clause-device : goal.returns-in_err-found-clause-device
+returns-in_err-found-clause-device g c = reports_handed c.from_residual.result c.in_err-found.was c.test_and_hold.ensures.device c.from_residual.ensures.1
 
 pub returns-clause-answer : goal.returns-clause-answer
 returns-clause-answer g c files told =
@@ -42,12 +42,12 @@ returns-clause-answer g c files told =
     let s = c.args.settings.now in
     let tells = g.F.Folder.tells in
     let failed = g.F.Folder.failed in
-    let passed = has_passed cmp (IsHeldIn files) files v _ (told_themselves files) (c.in_ok-test_version.ensures.answer files told) in
-    let still = told_still (tells c.args.folder.now) (tells c.test_version.new.folder) files c.test_version.ensures.reads.same told in
-    answers_behind (λ o. (answer_in o.outcome, o.lines.items)) (failed c.args.folder.now) (failed c.test_version.new.folder) (failed c.outcome_untested.new.folder) c.outcome_untested.result (IsLoaded (IsHeldIn files) (file_numbers cmp v))
+    let passed = has_passed cmp (IsHeldIn files) files v _ (told_themselves files) (c.in_ok-found.ensures.answer files told) in
+    let still = told_still (tells c.args.folder.now) (tells c.test_and_hold.new.folder) files c.test_and_hold.ensures.reads.same told in
+    answers_behind (λ o. (answer_in o.outcome, o.lines.items)) (failed c.args.folder.now) (failed c.test_and_hold.new.folder) (failed c.outcome_untested.new.folder) c.outcome_untested.result (IsLoaded (IsHeldIn files) (file_numbers cmp v))
     (λ loaded. IsLoadedOutcome c.args.first cmp keys v loaded c.args.level s) (λ loaded. IsOutcomeOfInputs c.args.first cmp keys files v c.args.level s) passed.loaded
-    c.test_version.ensures.device.later c.outcome_untested.ensures.device.later passed.held
-    (λ a h. c.outcome_suffices.ensures c.args.first files v passed.loaded passed.tables c.args.level s a passed.held passed.sound h) (c.outcome_untested.ensures.answer files still)
+    c.test_and_hold.ensures.device.later c.outcome_untested.ensures.device.later passed.held
+    (λ a h. c.outcome_suffices.ensures c.args.first files v passed.loaded passed.tables c.args.level s a passed.held passed.sound h) (c.outcome_untested.ensures.answer files still (c.in_ok-found.ensures.held files told))
 
 pub returns-clause-compacted : goal.returns-clause-compacted
 returns-clause-compacted g c files order told =
@@ -56,14 +56,14 @@ returns-clause-compacted g c files order told =
     let v = c.args.version.now in
     let s = c.args.settings.now in
     let tells = g.F.Folder.tells in
-    let passed = has_passed cmp (IsHeldIn files) files v _ (told_themselves files) (c.in_ok-test_version.ensures.answer files told) in
-    let still = told_still (tells c.args.folder.now) (tells c.test_version.new.folder) files c.test_version.ensures.reads.same told in
+    let passed = has_passed cmp (IsHeldIn files) files v _ (told_themselves files) (c.in_ok-found.ensures.answer files told) in
+    let still = told_still (tells c.args.folder.now) (tells c.test_and_hold.new.folder) files c.test_and_hold.ensures.reads.same told in
     IfOk-weaker c.outcome_untested.result (λ o. (p : PickedInputs) × LevelCompaction order cmp keys v passed.loaded c.args.level c.args.first s p (answer_in o.outcome))
     (λ o. (loaded : List (ℕ × List ℕ)) × IsLoaded (IsHeldIn files) (file_numbers cmp v) (Ok loaded) × ((p : PickedInputs) × LevelCompaction order cmp keys v loaded c.args.level c.args.first s p (answer_in o.outcome)))
-    (λ o h. (passed.loaded, passed.held, h)) (c.outcome_untested.ensures.compacted files order passed.loaded passed.tables still passed.held passed.sound)
+    (λ o h. (passed.loaded, passed.held, h)) (c.outcome_untested.ensures.compacted files order passed.loaded passed.tables still (c.in_ok-found.ensures.held files told) passed.held passed.sound)
 
 pub returns-clause-device : goal.returns-clause-device
-returns-clause-device g c = reports_then c.in_ok-test_version.was c.test_version.ensures.device c.outcome_untested.ensures.device
+returns-clause-device g c = reports_then c.in_ok-found.was c.test_and_hold.ensures.device c.outcome_untested.ensures.device
 
 pub returns-clause-reads : goal.returns-clause-reads
-returns-clause-reads g c = reads_then c.test_version.ensures.reads c.outcome_untested.ensures.reads
+returns-clause-reads g c = reads_then c.test_and_hold.ensures.reads c.outcome_untested.ensures.reads

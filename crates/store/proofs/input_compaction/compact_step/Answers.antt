@@ -13,14 +13,14 @@ use Rattle.store.proofs.StepPart.{current_named, no_ok, step_installed}
 use Rattle.store.proofs.input_compaction.compact_step.Goals as goal
 
 pub returns-in_err-ready-clause-answer : goal.returns-in_err-ready-clause-answer
-returns-in_err-ready-clause-answer g c files told current =
+returns-in_err-ready-clause-answer g c files told current are =
     let failed = g.F.Folder.failed in
     let answers = IsInputsCompacted g.C.Comparator.cmp g.C.Comparator.short_keys files c.args.opened.now.version c.args.level c.args.settings.now in
     hands_on (λ step. step.lines.items) (failed c.args.folder.now) (failed c.args.folder.now) (failed c.ready_step.new.folder) c.from_residual.result c.in_err-ready.field-0.0 answers answers
-    c.from_residual.ensures.1 (omega arith) c.ready_step.ensures.device.later (c.in_err-ready.ensures.answer files told) (λ h. h)
+    c.from_residual.ensures.1 (omega arith) c.ready_step.ensures.device.later (c.in_err-ready.ensures.answer files told are) (λ h. h)
 
 pub returns-in_err-ready-clause-left : goal.returns-in_err-ready-clause-left
-returns-in_err-ready-clause-left g c files order loaded tables told current named reads sound =
+returns-in_err-ready-clause-left g c files order loaded tables told current are named reads sound =
     inl (record { calls = c.ready_step.ensures.reads.calls; same = c.ready_step.ensures.reads.same; refused = no_value c.from_residual.result _ c.from_residual.ensures.1 })
 
 pub returns-in_err-ready-clause-other : goal.returns-in_err-ready-clause-other
@@ -30,7 +30,7 @@ pub returns-in_err-ready-clause-device : goal.returns-in_err-ready-clause-device
 returns-in_err-ready-clause-device g c = reports_handed c.from_residual.result c.in_err-ready.was c.ready_step.ensures.device c.from_residual.ensures.1
 
 pub returns-in_err-install-clause-answer : goal.returns-in_err-install-clause-answer
-returns-in_err-install-clause-answer g c files told current =
+returns-in_err-install-clause-answer g c files told current are =
     let failed = g.F.Folder.failed in
     let tells = g.F.Folder.tells in
     stopped_on (λ step. step.lines.items) (failed c.args.folder.now) (failed c.ready_step.new.folder) (failed c.install.new.folder) c.from_residual-in_err-install.result c.in_err-install.field-0.0
@@ -39,7 +39,7 @@ returns-in_err-install-clause-answer g c files told current =
     (c.in_err-install.ensures.same_current files (told_still (tells c.args.folder.now) (tells c.ready_step.new.folder) files c.ready_step.ensures.reads.same told) current)
 
 pub returns-in_err-install-clause-left : goal.returns-in_err-install-clause-left
-returns-in_err-install-clause-left g c files order loaded tables told current named reads sound =
+returns-in_err-install-clause-left g c files order loaded tables told current are named reads sound =
     let cmp = g.C.Comparator.cmp in
     let v = c.args.opened.now.version in
     let name = g.C.Comparator.name_bytes in
@@ -55,7 +55,7 @@ returns-in_err-install-clause-left g c files order loaded tables told current na
     let promises = subst (λ (n : ℕ). Promises name cmp v n answer (calls c.ready_step.new.folder) (calls c.install.new.folder) (tells c.ready_step.new.folder) (tells c.install.new.folder) c.install.result) c.manifest_of-number.ensures c.install.ensures.survives in
     step_installed name order cmp g.C.Comparator.short_keys v loaded c.args.level s answer lines
     (calls c.args.folder.now) (calls c.ready_step.new.folder) (calls c.install.new.folder) (tells c.args.folder.now) (tells c.ready_step.new.folder) (tells c.install.new.folder) c.install.result q
-    named (c.in_ok-ready.ensures.compacted files order loaded tables told reads.loaded sound)
+    named (c.in_ok-ready.ensures.compacted files order loaded tables told are reads.loaded sound)
     (λ P x. refused_on c.install.result q e P h x) c.ready_step.ensures.reads.calls c.ready_step.ensures.reads.same
     (no_ok _ q e h) (refused_ok q e _ h)
     (stopped_named (failed c.ready_step.new.folder) (failed c.install.new.folder) q e h (c.in_err-install.ensures.same_current files (told_still (tells c.args.folder.now) (tells c.ready_step.new.folder) files c.ready_step.ensures.reads.same told) current)) promises
@@ -69,10 +69,10 @@ returns-in_err-install-clause-device g c =
     (reports_handed c.from_residual-in_err-install.result c.in_err-install.was c.install.ensures.device c.from_residual-in_err-install.ensures.1)
 
 pub returns-clause-answer : goal.returns-clause-answer
-returns-clause-answer g c files told current = c.in_ok-ready.ensures.answer files told
+returns-clause-answer g c files told current are = c.in_ok-ready.ensures.answer files told are
 
 pub returns-clause-left : goal.returns-clause-left
-returns-clause-left g c files order loaded tables told current named reads sound =
+returns-clause-left g c files order loaded tables told current are named reads sound =
     let cmp = g.C.Comparator.cmp in
     let v = c.args.opened.now.version in
     let name = g.C.Comparator.name_bytes in
@@ -88,7 +88,7 @@ returns-clause-left g c files order loaded tables told current named reads sound
     (told_still (tells c.args.folder.now) (tells c.ready_step.new.folder) files c.ready_step.ensures.reads.same told)) in
     step_installed name order cmp g.C.Comparator.short_keys v loaded c.args.level s answer lines
     (calls c.args.folder.now) (calls c.ready_step.new.folder) (calls c.install.new.folder) (tells c.args.folder.now) (tells c.ready_step.new.folder) (tells c.install.new.folder) c.install.result q
-    named (c.in_ok-ready.ensures.compacted files order loaded tables told reads.loaded sound)
+    named (c.in_ok-ready.ensures.compacted files order loaded tables told are reads.loaded sound)
     (λ P x. valued_on c.install.result _ q P c.in_ok-install.was x) c.ready_step.ensures.reads.calls c.ready_step.ensures.reads.same
     now (refl, refl) tt promises
 

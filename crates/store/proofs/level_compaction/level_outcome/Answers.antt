@@ -1,5 +1,5 @@
-use Rattle.std.proofs.Common.{◌≡◌, List, ℕ, map, Result, Ok, Err, refl, sym, subst, ◌∙◌, arith}
-use Rattle.std.specs.Global.{Vec}
+use Rattle.std.proofs.Common.{◌≡◌, List, ℕ, Result, Ok, Err, refl, sym, ap, subst, ◌∙◌, arith}
+use Rattle.coding.proofs.Binds.{ok_is}
 use Rattle.coding.specs.Answers.{IsThen}
 use Rattle.coding.specs.declared.fault.Fault.{Fault}
 use Rattle.compact.specs.Answered.{answer_in}
@@ -7,20 +7,19 @@ use Rattle.folder.proofs.OpeningLemmas.{hands_on, refuses}
 use Rattle.folder.proofs.ReportLemmas.{reports_after, reports_handed, reports_steady}
 use Rattle.folder.specs.LoadedTables.{IsLoaded}
 use Rattle.folder.specs.ReadsAs.{IsHeldIn}
-use Rattle.install.specs.Install.{table_bytes_of, tables_in}
 use Rattle.pick.specs.Picked.{IsInputsAnswer, PickedInputs, picked_in}
-use Rattle.pick.specs.declared.picked.InputFile.{InputFile}
+use Rattle.checks.specs.HeldTables.{IsCheckedAnswer, held_bytes}
 use Rattle.request.specs.OneThread.{Answer}
 use Rattle.store.specs.InputLaws.{with_inputs}
 use Rattle.store.specs.InputsCompaction.{IsInputsTold, IsOrderlyAnswer, IsPickedTold, IsReadTold, input_numbers}
 use Rattle.store.proofs.Compactions.{is_compacted, picked_of}
-use Rattle.store.proofs.Flow.{first_passed, first_refused, loaded_in}
-use Rattle.store.proofs.InputsApart.{numbers_loaded}
+use Rattle.store.proofs.Flow.{first_passed, first_refused, no_refusal}
+use Rattle.store.proofs.HeldInputs.{checked_loaded, checked_refused, numbers_held}
 use Rattle.store.proofs.NoDevice.{handed_never, handed_other, inputs_answer_other, orderly_other, read_other}
 use Rattle.store.proofs.level_compaction.level_outcome.Goals as goal
 
 pub returns-in_err-test_files-clause-answer : goal.returns-in_err-test_files-clause-answer
-returns-in_err-test_files-clause-answer g c files told =
+returns-in_err-test_files-clause-answer g c files told are =
     let cmp = g.C.Comparator.cmp in
     let v = c.args.version.now in
     let s = c.args.settings.now in
@@ -37,7 +36,7 @@ returns-in_err-test_files-clause-device g c =
     (handed_other c.from_residual.result e (IsOrderlyAnswer g.C.Comparator.cmp c.args.version.now (Err e)) c.from_residual.ensures.1 (orderly_other g.C.Comparator.cmp c.args.version.now e) c.in_err-test_files.ensures)
 
 pub returns-in_err-picked-clause-answer : goal.returns-in_err-picked-clause-answer
-returns-in_err-picked-clause-answer g c files told =
+returns-in_err-picked-clause-answer g c files told are =
     let cmp = g.C.Comparator.cmp in
     let v = c.args.version.now in
     let s = c.args.settings.now in
@@ -55,58 +54,70 @@ returns-in_err-picked-clause-device g c =
     (handed_other c.from_residual-in_err-picked.result e (IsInputsAnswer g.C.Comparator.cmp c.args.version.now c.args.level (Err e)) c.from_residual-in_err-picked.ensures.1
     (inputs_answer_other g.C.Comparator.cmp c.args.version.now c.args.level e) c.in_err-picked.ensures.picked)
 
-pub returns-in_err-loaded-clause-answer : goal.returns-in_err-loaded-clause-answer
-returns-in_err-loaded-clause-answer g c files told =
+pub returns-in_err-numbers-clause-answer : goal.returns-in_err-numbers-clause-answer
+returns-in_err-numbers-clause-answer g c files told are =
+    let failed = g.F.Folder.failed in
+    let e = c.in_err-numbers.field-0.0 in
+    let numbers = input_numbers c.deref.result.now in
+    refuses {Z = List ℕ} (λ o. with_inputs (picked_in o.picked) (answer_in o.outcome)) (failed c.args.folder.now) (failed c.args.folder.now) c.from_residual-in_err-numbers.result e (λ a. Ok numbers ≡ a)
+    (IsInputsTold with_inputs c.args.first g.C.Comparator.cmp g.C.Comparator.short_keys files c.args.version.now c.args.level c.args.settings.now)
+    c.from_residual-in_err-numbers.ensures.1 c.in_err-numbers.ensures (λ h. absurd (no_refusal numbers e h))
+
+pub returns-in_err-numbers-clause-device : goal.returns-in_err-numbers-clause-device
+returns-in_err-numbers-clause-device g c =
+    let e = c.in_err-numbers.field-0.0 in
+    let numbers = input_numbers c.deref.result.now in
+    reports_steady c.from_residual-in_err-numbers.result refl
+    (handed_other c.from_residual-in_err-numbers.result e (Ok numbers ≡ Err e) c.from_residual-in_err-numbers.ensures.1 (λ h. absurd (no_refusal numbers e h)) c.in_err-numbers.ensures)
+
+pub returns-in_err-tables-clause-answer : goal.returns-in_err-tables-clause-answer
+returns-in_err-tables-clause-answer g c files told are =
     let cmp = g.C.Comparator.cmp in
     let v = c.args.version.now in
     let s = c.args.settings.now in
     let failed = g.F.Folder.failed in
-    let tells = g.F.Folder.tells c.args.folder.now in
-    let e = c.in_err-loaded.field-0.0 in
+    let e = c.in_err-tables.field-0.0 in
     let p = picked_in c.in_ok-picked.picked in
     let inputs = λ (passed : Unit {0}). IsThen (IsInputsAnswer cmp v c.args.level) (IsPickedTold with_inputs c.args.first cmp g.C.Comparator.short_keys files v s) in
-    hands_on (λ o. with_inputs (picked_in o.picked) (answer_in o.outcome)) (failed c.args.folder.now) (failed c.args.folder.now) (failed c.load_inputs.new.folder) c.from_residual-in_err-loaded.result e (IsLoaded tells (input_numbers c.deref.result.now))
+    let numbers : c.deref-2.result.now ≡ input_numbers p.files = c.deref-2.ensures.value ∙ sym (ok_is _ _ c.in_ok-numbers.ensures) ∙ ap input_numbers c.deref.ensures.value in
+    hands_on (λ o. with_inputs (picked_in o.picked) (answer_in o.outcome)) (failed c.args.folder.now) (failed c.args.folder.now) (failed c.checked_tables.new.folder) c.from_residual-in_err-tables.result e (IsCheckedAnswer cmp files c.deref-2.result.now)
     (IsInputsTold with_inputs c.args.first cmp g.C.Comparator.short_keys files v c.args.level s)
-    c.from_residual-in_err-loaded.ensures.1 (omega arith) c.load_inputs.ensures.device.later c.in_err-loaded.ensures.answer
+    c.from_residual-in_err-tables.ensures.1 (omega arith) c.checked_tables.ensures.device.later (c.in_err-tables.ensures.answer files told are)
     (λ h.
-    let is = subst (λ (fs : List InputFile). IsLoaded tells (input_numbers fs) (Err e)) c.deref.ensures.value h in
     first_passed (IsOrderlyAnswer cmp v) inputs tt (Err e) c.in_ok-test_files.ensures
     (first_passed (IsInputsAnswer cmp v c.args.level) (IsPickedTold with_inputs c.args.first cmp g.C.Comparator.short_keys files v s) p (Err e) c.in_ok-picked.ensures.picked
-    (first_refused (IsLoaded (IsHeldIn files) (input_numbers p.files)) (IsReadTold with_inputs c.args.first cmp g.C.Comparator.short_keys v p s) e (loaded_in tells files (input_numbers p.files) (Err e) told is))))
+    (checked_refused cmp with_inputs c.args.first g.C.Comparator.short_keys files v s p e (subst (λ (ns : List ℕ). IsCheckedAnswer cmp files ns (Err e)) numbers h))))
 
-pub returns-in_err-loaded-clause-device : goal.returns-in_err-loaded-clause-device
-returns-in_err-loaded-clause-device g c = reports_handed c.from_residual-in_err-loaded.result c.in_err-loaded.was c.load_inputs.ensures.device c.from_residual-in_err-loaded.ensures.1
+pub returns-in_err-tables-clause-device : goal.returns-in_err-tables-clause-device
+returns-in_err-tables-clause-device g c = reports_handed c.from_residual-in_err-tables.result c.in_err-tables.was c.checked_tables.ensures.device c.from_residual-in_err-tables.ensures.1
 
-pub compact_loaded-requires-clause-bytes : goal.compact_loaded-requires-clause-bytes
-compact_loaded-requires-clause-bytes g c κs within =
+pub compact_held-requires-clause-bytes : goal.compact_held-requires-clause-bytes
+compact_held-requires-clause-bytes g c κs within =
     let cmp = g.C.Comparator.cmp in
     let v = c.args.version.now in
     let p = picked_in c.in_ok-picked.picked in
-    let tells = g.F.Folder.tells c.args.folder.now in
-    let loaded = tables_in c.in_ok-loaded.loaded.items in
-    let read = subst (λ (fs : List InputFile). IsLoaded tells (input_numbers fs) (Ok loaded)) c.deref.ensures.value c.in_ok-loaded.ensures.answer in
-    subst (λ (ts : List (ℕ × Vec ℕ)). map (λ (t : ℕ × List ℕ). t.1) (tables_in ts) ≡ map (λ (i : InputFile). table_bytes_of (tables_in ts) i.meta.number) p.files) (sym c.deref-2.ensures.value)
-    (c.inputs_in_order.ensures v c.args.level p loaded c.in_ok-picked.ensures.state.apart (picked_of cmp v c.args.level p c.in_ok-picked.ensures.picked) (numbers_loaded tells (input_numbers p.files) loaded read))
+    let numbers : c.deref-2.result.now ≡ input_numbers p.files = c.deref-2.ensures.value ∙ sym (ok_is _ _ c.in_ok-numbers.ensures) ∙ ap input_numbers c.deref.ensures.value in
+    c.inputs_in_order.ensures v c.args.level p (held_bytes c.in_ok-tables.tables) c.in_ok-picked.ensures.state.apart (picked_of cmp v c.args.level p c.in_ok-picked.ensures.picked)
+    (numbers_held c.in_ok-tables.tables ∙ c.in_ok-tables.ensures.numbers ∙ numbers)
 
 pub returns-in_err-outcome-clause-answer : goal.returns-in_err-outcome-clause-answer
-returns-in_err-outcome-clause-answer g c files told =
+returns-in_err-outcome-clause-answer g c files told are =
     let cmp = g.C.Comparator.cmp in
     let v = c.args.version.now in
     let s = c.args.settings.now in
     let failed = g.F.Folder.failed in
-    let tells = g.F.Folder.tells c.args.folder.now in
     let e = c.in_err-outcome.field-0.0 in
     let p = picked_in c.in_ok-picked.picked in
-    let loaded = tables_in c.deref-2.result.now in
+    let loaded = held_bytes c.in_ok-tables.tables in
     let inputs = λ (passed : Unit {0}). IsThen (IsInputsAnswer cmp v c.args.level) (IsPickedTold with_inputs c.args.first cmp g.C.Comparator.short_keys files v s) in
-    let first = subst (λ (fs : List InputFile). IsLoaded tells (input_numbers fs) (Ok (tables_in c.in_ok-loaded.loaded.items))) c.deref.ensures.value c.in_ok-loaded.ensures.answer in
-    let read = subst (λ (ts : List (ℕ × Vec ℕ)). IsLoaded tells (input_numbers p.files) (Ok (tables_in ts))) (sym c.deref-2.ensures.value) first in
-    refuses (λ o. with_inputs (picked_in o.picked) (answer_in o.outcome)) (failed c.args.folder.now) (failed c.load_inputs.new.folder) c.from_residual-in_err-outcome.result e (IsReadTold with_inputs c.args.first cmp g.C.Comparator.short_keys v p s loaded)
+    let numbers : c.deref-2.result.now ≡ input_numbers p.files = c.deref-2.ensures.value ∙ sym (ok_is _ _ c.in_ok-numbers.ensures) ∙ ap input_numbers c.deref.ensures.value in
+    let read = subst (λ (ns : List ℕ). IsLoaded (IsHeldIn files) ns (Ok loaded)) numbers (checked_loaded cmp files c.deref-2.result.now c.in_ok-tables.tables (c.in_ok-tables.ensures.answer files told are)) in
+    refuses (λ o. with_inputs (picked_in o.picked) (answer_in o.outcome)) (failed c.args.folder.now) (failed c.checked_tables.new.folder) c.from_residual-in_err-outcome.result e (IsReadTold with_inputs c.args.first cmp g.C.Comparator.short_keys v p s loaded)
     (IsInputsTold with_inputs c.args.first cmp g.C.Comparator.short_keys files v c.args.level s)
     c.from_residual-in_err-outcome.ensures.1 c.in_err-outcome.ensures.answer
     (λ h. first_passed (IsOrderlyAnswer cmp v) inputs tt (Err e) c.in_ok-test_files.ensures
     (first_passed (IsInputsAnswer cmp v c.args.level) (IsPickedTold with_inputs c.args.first cmp g.C.Comparator.short_keys files v s) p (Err e) c.in_ok-picked.ensures.picked
-    (first_passed (IsLoaded (IsHeldIn files) (input_numbers p.files)) (IsReadTold with_inputs c.args.first cmp g.C.Comparator.short_keys v p s) loaded (Err e) (loaded_in tells files (input_numbers p.files) (Ok loaded) told read) h)))
+    (first_passed (IsLoaded (IsHeldIn files) (input_numbers p.files)) (IsReadTold with_inputs c.args.first cmp g.C.Comparator.short_keys v p s) loaded (Err e) read h)))
 
 pub returns-in_err-outcome-clause-device : goal.returns-in_err-outcome-clause-device
 returns-in_err-outcome-clause-device g c =
@@ -116,40 +127,38 @@ returns-in_err-outcome-clause-device g c =
     let failed = g.F.Folder.failed in
     let e = c.in_err-outcome.field-0.0 in
     let p = picked_in c.in_ok-picked.picked in
-    let loaded = tables_in c.deref-2.result.now in
-    reports_after c.from_residual-in_err-outcome.result c.in_ok-loaded.was c.load_inputs.ensures.device
-    (handed_never (failed c.args.folder.now) (failed c.load_inputs.new.folder) c.from_residual-in_err-outcome.result e (IsReadTold with_inputs c.args.first cmp g.C.Comparator.short_keys v p s loaded (Err e))
+    let loaded = held_bytes c.in_ok-tables.tables in
+    reports_after c.from_residual-in_err-outcome.result c.in_ok-tables.was c.checked_tables.ensures.device
+    (handed_never (failed c.args.folder.now) (failed c.checked_tables.new.folder) c.from_residual-in_err-outcome.result e (IsReadTold with_inputs c.args.first cmp g.C.Comparator.short_keys v p s loaded (Err e))
     c.from_residual-in_err-outcome.ensures.1 (read_other with_inputs c.args.first cmp g.C.Comparator.short_keys v p s loaded e) c.in_err-outcome.ensures.answer)
 
 pub returns-clause-answer : goal.returns-clause-answer
-returns-clause-answer g c files told =
+returns-clause-answer g c files told are =
     let cmp = g.C.Comparator.cmp in
     let v = c.args.version.now in
     let s = c.args.settings.now in
-    let tells = g.F.Folder.tells c.args.folder.now in
     let p = picked_in c.in_ok-picked.picked in
-    let loaded = tables_in c.deref-2.result.now in
+    let loaded = held_bytes c.in_ok-tables.tables in
     let a : Result (PickedInputs × Answer) Fault = Ok (with_inputs p (answer_in c.in_ok-outcome.outcome)) in
     let inputs = λ (passed : Unit {0}). IsThen (IsInputsAnswer cmp v c.args.level) (IsPickedTold with_inputs c.args.first cmp g.C.Comparator.short_keys files v s) in
-    let first = subst (λ (fs : List InputFile). IsLoaded tells (input_numbers fs) (Ok (tables_in c.in_ok-loaded.loaded.items))) c.deref.ensures.value c.in_ok-loaded.ensures.answer in
-    let read = subst (λ (ts : List (ℕ × Vec ℕ)). IsLoaded tells (input_numbers p.files) (Ok (tables_in ts))) (sym c.deref-2.ensures.value) first in
+    let numbers : c.deref-2.result.now ≡ input_numbers p.files = c.deref-2.ensures.value ∙ sym (ok_is _ _ c.in_ok-numbers.ensures) ∙ ap input_numbers c.deref.ensures.value in
+    let read = subst (λ (ns : List ℕ). IsLoaded (IsHeldIn files) ns (Ok loaded)) numbers (checked_loaded cmp files c.deref-2.result.now c.in_ok-tables.tables (c.in_ok-tables.ensures.answer files told are)) in
     first_passed (IsOrderlyAnswer cmp v) inputs tt a c.in_ok-test_files.ensures
     (first_passed (IsInputsAnswer cmp v c.args.level) (IsPickedTold with_inputs c.args.first cmp g.C.Comparator.short_keys files v s) p a c.in_ok-picked.ensures.picked
-    (first_passed (IsLoaded (IsHeldIn files) (input_numbers p.files)) (IsReadTold with_inputs c.args.first cmp g.C.Comparator.short_keys v p s) loaded a (loaded_in tells files (input_numbers p.files) (Ok loaded) told read) c.in_ok-outcome.ensures.answer))
+    (first_passed (IsLoaded (IsHeldIn files) (input_numbers p.files)) (IsReadTold with_inputs c.args.first cmp g.C.Comparator.short_keys v p s) loaded a read c.in_ok-outcome.ensures.answer))
 
 pub returns-clause-device : goal.returns-clause-device
-returns-clause-device g c = reports_after _ c.in_ok-loaded.was c.load_inputs.ensures.device tt
+returns-clause-device g c = reports_after _ c.in_ok-tables.was c.checked_tables.ensures.device tt
 
 pub returns-clause-compacted : goal.returns-clause-compacted
-returns-clause-compacted g c files order loaded tables told held sound =
+returns-clause-compacted g c files order loaded tables told are held sound =
     let cmp = g.C.Comparator.cmp in
     let v = c.args.version.now in
     let s = c.args.settings.now in
-    let tells = g.F.Folder.tells c.args.folder.now in
     let p = picked_in c.in_ok-picked.picked in
-    let own = tables_in c.deref-2.result.now in
-    let first = subst (λ (fs : List InputFile). IsLoaded tells (input_numbers fs) (Ok (tables_in c.in_ok-loaded.loaded.items))) c.deref.ensures.value c.in_ok-loaded.ensures.answer in
-    let read = loaded_in tells files (input_numbers p.files) (Ok own) told (subst (λ (ts : List (ℕ × Vec ℕ)). IsLoaded tells (input_numbers p.files) (Ok (tables_in ts))) (sym c.deref-2.ensures.value) first) in
+    let own = held_bytes c.in_ok-tables.tables in
+    let numbers : c.deref-2.result.now ≡ input_numbers p.files = c.deref-2.ensures.value ∙ sym (ok_is _ _ c.in_ok-numbers.ensures) ∙ ap input_numbers c.deref.ensures.value in
+    let read = subst (λ (ns : List ℕ). IsLoaded (IsHeldIn files) ns (Ok own)) numbers (checked_loaded cmp files c.deref-2.result.now c.in_ok-tables.tables (c.in_ok-tables.ensures.answer files told are)) in
     let same = c.same_inputs.ensures c.args.first files v loaded own tables c.args.level p s held sound c.in_ok-picked.ensures.picked read in
     is_compacted cmp g.C.Comparator.short_keys c.numbered_is_installed.ensures order v loaded tables c.args.level c.args.first p s (answer_in c.in_ok-outcome.outcome)
     sound c.in_ok-picked.ensures.state (picked_of cmp v c.args.level p c.in_ok-picked.ensures.picked) c.in_ok-outcome.ensures.logs.0 c.in_ok-outcome.ensures.logs.1 (sym same ∙ c.in_ok-outcome.ensures.outcome)

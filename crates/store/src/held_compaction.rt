@@ -1,4 +1,4 @@
-//! The compaction of inputs whose tables were read.
+//! The compaction of inputs whose tables are held.
 
 ghost use Rattle.std.specs.Prelude.{◌≡◌, ◌&&◌, ◌<◌, ◌^◌, nat_le, ℕ, List, map, IfOk, Ok};
 ghost use Rattle.std.specs.Prelude.{unwrap_or};
@@ -6,7 +6,8 @@ ghost use Rattle.coding.specs.Answers.{EqualOrMemory, HoldsOrMemory};
 ghost use Rattle.coding.specs.declared.fault.FaultName.TheVariants.{SplitCount};
 ghost use Rattle.table.specs.ReadingSteps.{test_result};
 ghost use Rattle.compact.specs.Answered.{answer_in};
-ghost use Rattle.install.specs.Install.{table_bytes_of, tables_in};
+ghost use Rattle.checks.specs.HeldTables.{held_bytes};
+ghost use Rattle.install.specs.Install.{table_bytes_of};
 ghost use Rattle.pick.specs.Picked.{picked_in};
 ghost use Rattle.request.specs.Inputs.{inputs_reading};
 ghost use Rattle.store.specs.FolderRequest.{compaction_from};
@@ -14,8 +15,8 @@ ghost use Rattle.store.specs.InputLaws.{with_inputs};
 ghost use Rattle.store.specs.InputsCompaction.{IsReadTold};
 
 use crate::folder_request::request_of;
-use crate::input_tables::{bytes_of, checked_inputs};
-use checks::{Watch, Work};
+use crate::input_tables::{bytes_of, stated_tables};
+use checks::{HeldTables, Watch, Work};
 use coding::Fault;
 use compact::compact_tables;
 use edit::{Outcome, Version};
@@ -27,33 +28,32 @@ use std::alloc::Global;
 use std::thread::Threads;
 use table::SoundTable;
 
-/// Checks the tables of `picked` inputs, which were read in their order, and compacts them. The
-/// outputs have the numbers from `first` on, or else those after the manifest's.
+/// Compacts `picked` inputs whose tables are held in their order. The outputs have the numbers from
+/// `first` on, or else those after the manifest's.
 ///
-/// The first that applies: the refusal of the first invalid table; Bounds, if one isn't as its file
-/// states; what the compaction is refused as.
-pub(crate) fn compact_loaded<C: SharedComparator + 'static, W: Watch + Sync, R: Threads + Sync>(
+/// The first that applies: Bounds, if a table isn't as its file states; what the compaction is
+/// refused as.
+pub(crate) fn compact_held<C: SharedComparator + 'static, W: Watch + Sync, R: Threads + Sync>(
     rt: &R,
     alloc: Global,
     version: &Version,
     picked: &Inputs,
-    loaded: &[(u64, Vec<u8>)],
+    held: &HeldTables<C>,
     first: Option<u64>,
     settings: &Settings<'_>,
     watch: &W,
 ) -> Result<Outcome, Fault>
-    requires bytes { map (λ t. t.1) (tables_in loaded.now)
-        ≡ map (λ i. table_bytes_of (tables_in loaded.now) i.meta.number) picked.now.files.items }
+    requires bytes { map (λ t. t.1) (held_bytes held.now)
+        ≡ map (λ i. table_bytes_of (held_bytes held.now) i.meta.number) picked.now.files.items }
     ensures answer { HoldsOrMemory (λ o. with_inputs (picked_in picked.now) (answer_in o)) result
         (IsReadTold with_inputs first C.cmp C.short_keys version.now (picked_in picked.now)
-        settings.now (tables_in loaded.now)) }
+        settings.now (held_bytes held.now)) }
     ensures outcome { IfOk result (λ o. compaction_from first C.cmp C.short_keys version.now
-        (tables_in loaded.now) (picked_in picked.now) settings.now ≡ Ok (answer_in o)) }
+        (held_bytes held.now) (picked_in picked.now) settings.now ≡ Ok (answer_in o)) }
     ensures logs { IfOk result (λ _. (unwrap_or version.now.log_number 0 < 2 ^ 64)
         × (unwrap_or version.now.previous_log 0 < 2 ^ 64)) }
 {
-    watch.begin(Work::Check, loaded.len() as u64);
-    let tables = checked_inputs::<C, W, R>(rt, alloc, &picked.files, loaded, watch)?;
+    let tables = stated_tables(alloc, &picked.files, held)?;
     compact_checked::<C, W, R>(rt, alloc, version, picked, &tables, first, settings, watch)
 }
 

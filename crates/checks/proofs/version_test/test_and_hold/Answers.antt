@@ -1,4 +1,5 @@
 use Rattle.std.proofs.Common.{◌≡◌, ℕ, List, Option, Ok, Err, length, sym, ap, subst, ◌∙◌, inr, arith, ◌⊎◌}
+use Rattle.std.proofs.lemmas.List.Elements.{All-nil}
 use Rattle.coding.proofs.Binds.{ok_is}
 use Rattle.coding.specs.Answers.{UnlessMemory}
 use Rattle.coding.specs.declared.fault.Fault.{Fault}
@@ -6,19 +7,21 @@ use Rattle.folder.proofs.OpeningLemmas.{hands_on}
 use Rattle.folder.specs.Levels.{file_numbers}
 use Rattle.folder.specs.OpenAnswer.{IsStopped}
 use Rattle.folder.specs.ReadsAs.{IsHeldIn}
+use Rattle.reads.specs.Tables.{NumberedContents}
 use Rattle.checks.specs.GroupTest.{IsSweepAnswer}
+use Rattle.checks.specs.HeldTables.{AreHeldIn, IsTableIn}
 use Rattle.checks.specs.InOrder.{AreChecked}
 use Rattle.checks.specs.TestedTables.{IsTested}
 use Rattle.checks.proofs.FolderTests.{not_lawful_tested, not_tested, tested_ok, told_still}
-use Rattle.checks.proofs.version_test.test_version.Goals as goal
+use Rattle.checks.proofs.version_test.test_and_hold.Goals as goal
 
 pub returns-in_err-found-clause-answer : goal.returns-in_err-found-clause-answer
 returns-in_err-found-clause-answer g c files told =
     let cmp = g.C.Comparator.cmp in
     let v = c.args.version.now in
     let failed = g.F.Folder.failed in
-    hands_on (λ tested. tested) (failed c.args.folder.now) (failed c.args.folder.now) (failed c.tested_entries.new.folder) c.from_residual-in_err-found.result c.in_err-found.field-0.0 (IsSweepAnswer cmp files v) (IsTested (IsHeldIn files) cmp v)
-    c.from_residual-in_err-found.ensures.1 (omega arith) c.tested_entries.ensures.device.later (c.in_err-found.ensures.answer files told) (λ h. absurd h)
+    hands_on (λ found. found.tested) (failed c.args.folder.now) (failed c.args.folder.now) (failed c.tested_entries.new.folder) c.from_residual-in_err-found.result c.in_err-found.field-0.0 (IsSweepAnswer cmp files v) (IsTested (IsHeldIn files) cmp v)
+    c.from_residual-in_err-found.ensures.1 (omega arith) c.tested_entries.ensures.device.later (c.in_err-found.ensures.answer files told (subst (AreHeldIn cmp files) (sym c.none-tables.ensures) (All-nil (λ (t : NumberedContents). IsTableIn cmp files t.number t.contents)))) (λ h. absurd h)
 
 pub returns-in-Some-clause-answer : goal.returns-in-Some-clause-answer
 returns-in-Some-clause-answer g c files told =
@@ -26,7 +29,7 @@ returns-in-Some-clause-answer g c files told =
     let v = c.args.version.now in
     let numbers : length c.in_ok-numbers.numbers.items ≡ length (file_numbers cmp v) = ap (λ (ns : List ℕ). length ns) (sym (ok_is _ _ c.in_ok-numbers.ensures)) in
     tested_ok cmp files v c.len-files.result c.in-Some.entries (c.len-files.ensures ∙ c.in_ok-numbers.numbers.ok.0 ∙ numbers)
-    (subst (λ (o : Option ℕ). IsSweepAnswer cmp files v (Ok o)) c.in-Some.is (c.in_ok-found.ensures.answer files told))
+    (subst (λ (o : Option ℕ). IsSweepAnswer cmp files v (Ok o)) c.in-Some.is (c.in_ok-found.ensures.answer files told (subst (AreHeldIn cmp files) (sym c.none-tables.ensures) (All-nil (λ (t : NumberedContents). IsTableIn cmp files t.number t.contents)))))
 
 pub returns-in_err-check_in_order-clause-answer : goal.returns-in_err-check_in_order-clause-answer
 returns-in_err-check_in_order-clause-answer g c files told =
@@ -36,7 +39,7 @@ returns-in_err-check_in_order-clause-answer g c files told =
     let tells = g.F.Folder.tells in
     let e = c.in_err-check_in_order.field-0.0 in
     let numbers : c.deref.result.now ≡ file_numbers cmp v = c.deref.ensures.value ∙ sym (ok_is _ _ c.in_ok-numbers.ensures) in
-    hands_on (λ tested. tested) (failed c.args.folder.now) (failed c.tested_entries.new.folder) (failed c.check_in_order.new.folder) c.from_residual-in_err-check_in_order.result e (AreChecked cmp files c.deref.result.now) (IsTested (IsHeldIn files) cmp v)
+    hands_on (λ found. found.tested) (failed c.args.folder.now) (failed c.tested_entries.new.folder) (failed c.check_in_order.new.folder) c.from_residual-in_err-check_in_order.result e (AreChecked cmp files c.deref.result.now) (IsTested (IsHeldIn files) cmp v)
     c.from_residual-in_err-check_in_order.ensures.1 c.tested_entries.ensures.device.later c.check_in_order.ensures.device.later
     (c.in_err-check_in_order.ensures.answer files (told_still (tells c.args.folder.now) (tells c.tested_entries.new.folder) files c.tested_entries.ensures.reads.same told))
     (λ h. not_tested cmp files v e (subst (λ (ns : List ℕ). AreChecked cmp files ns (Err e)) numbers h))
@@ -48,8 +51,13 @@ returns-clause-answer g c files told =
     let failed = g.F.Folder.failed in
     let tells = g.F.Folder.tells in
     let numbers : c.deref.result.now ≡ file_numbers cmp v = c.deref.ensures.value ∙ sym (ok_is _ _ c.in_ok-numbers.ensures) in
-    let swept = subst (λ (o : Option ℕ). IsSweepAnswer cmp files v (Ok o)) c.in_default.is (c.in_ok-found.ensures.answer files told) in
+    let swept = subst (λ (o : Option ℕ). IsSweepAnswer cmp files v (Ok o)) c.in_default.is (c.in_ok-found.ensures.answer files told (subst (AreHeldIn cmp files) (sym c.none-tables.ensures) (All-nil (λ (t : NumberedContents). IsTableIn cmp files t.number t.contents)))) in
     let checked = subst (λ (ns : List ℕ). AreChecked cmp files ns (Ok tt)) numbers
     (c.in_ok-check_in_order.ensures.answer files (told_still (tells c.args.folder.now) (tells c.tested_entries.new.folder) files c.tested_entries.ensures.reads.same told)) in
     subst (λ (e : Fault). UnlessMemory e (IsStopped (failed c.args.folder.now) (failed c.check_in_order.new.folder) e ⊎ IsTested (IsHeldIn files) cmp v (Err e))) (sym c.of.ensures)
     (inr (not_lawful_tested cmp files v swept.0 swept.1 checked))
+
+pub returns-in-Some-clause-held : goal.returns-in-Some-clause-held
+returns-in-Some-clause-held g c files told =
+    let cmp = g.C.Comparator.cmp in
+    c.tested_entries.ensures.held files told (subst (AreHeldIn cmp files) (sym c.none-tables.ensures) (All-nil (λ (t : NumberedContents). IsTableIn cmp files t.number t.contents)))

@@ -15,7 +15,7 @@ use Rattle.request.specs.Request.{RequestView, request_in}
 use Rattle.compact.specs.Answered.{answer_in}
 use Rattle.store.specs.FolderRequest.{numbered_request}
 use Rattle.store.proofs.Compactions.{answer_behind, refused_behind}
-use Rattle.store.proofs.loaded_compaction.compact_checked.Goals as goal
+use Rattle.store.proofs.held_compaction.compact_checked.Goals as goal
 
 pub compact_tables-requires-clause-read : goal.compact_tables-requires-clause-read
 compact_tables-requires-clause-read g c κs within =

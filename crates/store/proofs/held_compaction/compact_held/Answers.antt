@@ -2,30 +2,31 @@ use Rattle.std.proofs.Common.{◌≡◌, List, length, map, Result, Ok, Err, sym
 use Rattle.coding.specs.Answers.{UnlessMemory, ◌>>=◌}
 use Rattle.coding.specs.declared.fault.Fault.{Fault}
 use Rattle.table.specs.TableContents.{Contents}
-use Rattle.install.specs.Install.{table_bytes_of, tables_in}
+use Rattle.install.specs.Install.{table_bytes_of}
 use Rattle.compact.specs.Answered.{answer_in}
 use Rattle.pick.specs.Picked.{PickedInputs, picked_in}
 use Rattle.pick.specs.declared.picked.InputFile.{InputFile}
+use Rattle.checks.specs.HeldTables.{held_bytes}
 use Rattle.checks.proofs.LawfulLemmas.{handed_on}
 use Rattle.request.specs.Inputs.{inputs_reading}
 use Rattle.request.specs.OneThread.{Answer}
 use Rattle.store.specs.FolderRequest.{compaction_from}
 use Rattle.store.specs.InputLaws.{with_inputs}
 use Rattle.store.specs.InputsCompaction.{IsReadTold, input_tables}
-use Rattle.store.proofs.CheckedInputs.{read_as_inputs, read_bytes, same_length, same_read}
+use Rattle.store.proofs.CheckedInputs.{held_length, read_as_inputs, read_bytes, same_read}
 use Rattle.store.proofs.Flow.{first_passed, first_refused}
 use Rattle.store.proofs.Tellings.{answered_so, told_with}
-use Rattle.store.proofs.loaded_compaction.compact_loaded.Goals as goal
+use Rattle.store.proofs.held_compaction.compact_held.Goals as goal
 
-pub checked_inputs-requires-clause-lengths : goal.checked_inputs-requires-clause-lengths
-checked_inputs-requires-clause-lengths g c κs within =
-    same_length c.args.loaded.now c.args.picked.now.files.items (λ i. table_bytes_of (tables_in c.args.loaded.now) i.meta.number) c.requires.bytes ∙ ap length (sym c.deref.ensures.value)
+pub stated_tables-requires-clause-lengths : goal.stated_tables-requires-clause-lengths
+stated_tables-requires-clause-lengths g c κs within =
+    held_length c.args.held.now c.args.picked.now.files.items (λ i. table_bytes_of (held_bytes c.args.held.now) i.meta.number) c.requires.bytes ∙ ap length (sym c.deref.ensures.value)
 
 pub returns-in_err-tables-clause-answer : goal.returns-in_err-tables-clause-answer
 returns-in_err-tables-clause-answer g c =
     let cmp = g.C.Comparator.cmp in
     let v = c.args.version.now in
-    let loaded = tables_in c.args.loaded.now in
+    let loaded = held_bytes c.args.held.now in
     let p = picked_in c.args.picked.now in
     let s = c.args.settings.now in
     let e = c.in_err-tables.field-0.0 in
@@ -38,16 +39,16 @@ pub compact_checked-requires-clause-read : goal.compact_checked-requires-clause-
 compact_checked-requires-clause-read g c κs within =
     let cmp = g.C.Comparator.cmp in
     let files = c.args.picked.now.files.items in
-    let loaded = tables_in c.args.loaded.now in
+    let loaded = held_bytes c.args.held.now in
     let found = subst (λ (fs : List InputFile). input_tables cmp fs loaded ≡ Ok c.in_ok-tables.tables.items) c.deref.ensures.value c.in_ok-tables.ensures in
     subst (λ (ts : List Contents). inputs_reading cmp 0 files (map (λ (t : Contents). t.bytes) ts) ≡ Ok (map (λ (t : Contents). t.entries) ts)) (sym c.deref-2.ensures.value)
-    (read_as_inputs cmp files loaded c.in_ok-tables.tables.items (same_read c.args.loaded.now files (λ i. table_bytes_of loaded i.meta.number) c.requires.bytes) found)
+    (read_as_inputs cmp files loaded c.in_ok-tables.tables.items (same_read (held_bytes c.args.held.now) files (λ i. table_bytes_of loaded i.meta.number) c.requires.bytes) found)
 
 pub returns-clause-answer : goal.returns-clause-answer
 returns-clause-answer g c =
     let cmp = g.C.Comparator.cmp in
     let v = c.args.version.now in
-    let loaded = tables_in c.args.loaded.now in
+    let loaded = held_bytes c.args.held.now in
     let p = picked_in c.args.picked.now in
     let s = c.args.settings.now in
     let first = λ (read : Result (List Contents) Fault). input_tables cmp p.files loaded ≡ read in
@@ -61,7 +62,7 @@ pub returns-clause-outcome : goal.returns-clause-outcome
 returns-clause-outcome g c =
     let cmp = g.C.Comparator.cmp in
     let v = c.args.version.now in
-    let loaded = tables_in c.args.loaded.now in
+    let loaded = held_bytes c.args.held.now in
     let p = picked_in c.args.picked.now in
     let found = subst (λ (fs : List InputFile). input_tables cmp fs loaded ≡ Ok c.in_ok-tables.tables.items) c.deref.ensures.value c.in_ok-tables.ensures in
     let bytes = ap (map (λ (t : Contents). t.bytes)) c.deref-2.ensures.value ∙ read_bytes cmp p.files loaded c.in_ok-tables.tables.items found ∙ c.requires.bytes in

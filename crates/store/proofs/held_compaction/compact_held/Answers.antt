@@ -18,9 +18,10 @@ use Rattle.store.proofs.Flow.{first_passed, first_refused}
 use Rattle.store.proofs.Tellings.{answered_so, told_with}
 use Rattle.store.proofs.held_compaction.compact_held.Goals as goal
 
-pub stated_tables-requires-clause-lengths : goal.stated_tables-requires-clause-lengths
-stated_tables-requires-clause-lengths g c κs within =
-    held_length c.args.held.now c.args.picked.now.files.items (λ i. table_bytes_of (held_bytes c.args.held.now) i.meta.number) c.requires.bytes ∙ ap length (sym c.deref.ensures.value)
+pub stated_tables-requires : goal.stated_tables-requires
+stated_tables-requires g c = record {
+  lengths = held_length c.args.held.now c.args.picked.now.files.items (λ i. table_bytes_of (held_bytes c.args.held.now) i.meta.number) c.requires.bytes ∙ ap length (sym c.deref.ensures.value);
+}
 
 pub returns-in_err-tables-clause-answer : goal.returns-in_err-tables-clause-answer
 returns-in_err-tables-clause-answer g c =

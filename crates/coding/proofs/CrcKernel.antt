@@ -122,10 +122,10 @@ joins m n c low y h =
     ∙ sym (after_steps-add n m (bit_xor (bit_xor c low) (y * 2 ^ n)))
     ∙ ap (register_after_steps (n + m)) (xor_assoc c low (y * 2 ^ n) ∙ ap (bit_xor c) above)
 
-abbrev word : ℕ → ℕ → ℕ → ℕ → ℕ
+abbrev pub word : ℕ → ℕ → ℕ → ℕ → ℕ
 word a b c d = a + b * 256 + c * 65536 + d * 16777216
 
-word_fed : (r a b c d : ℕ) (bytes : List ℕ) → a < 256 → b < 256 → c < 256 → d < 256
+pub word_fed : (r a b c d : ℕ) (bytes : List ℕ) → a < 256 → b < 256 → c < 256 → d < 256
     → register_after_bits r (bits_of (a ∷ b ∷ c ∷ d ∷ bytes)) ≡ register_after_bits (register_after_steps 32 (bit_xor r (word a b c d))) (bits_of bytes)
 word_fed r a b c d bytes ha hb hc hd =
     let one = register_after_steps 8 (bit_xor r a) in

@@ -14,7 +14,7 @@ xor_pairs a b c d =
     ∙ ap (bit_xor a) (sym (xor_assoc b c d) ∙ ap (λ x. bit_xor x d) (xor_comm b c) ∙ xor_assoc c b d)
     ∙ sym (xor_assoc a c (bit_xor b d))
 
-bit_cases : (P : ℕ → Type 0) → P 0 → P 1 → (d : ℕ) → d < 2 → P d
+pub bit_cases : (P : ℕ → Type 0) → P 0 → P 1 → (d : ℕ) → d < 2 → P d
 bit_cases P p0 p1 zero h = p0
 bit_cases P p0 p1 (suc zero) h = p1
 bit_cases P p0 p1 (suc (suc d)) h = absurd (omega arith)
@@ -83,7 +83,7 @@ after_steps-split n x =
     ap (register_after_steps n) (sym (split_at n x)) ∙ after_steps-xor n (x / 2 ^ n * 2 ^ n) (x % 2 ^ n)
     ∙ ap (λ y. bit_xor y (register_after_steps n (x % 2 ^ n))) (after_steps-shifted n (x / 2 ^ n))
 
-after_step_fits : (c : ℕ) → c < 2 ^ 32 → register_after_step c < 2 ^ 32
+pub after_step_fits : (c : ℕ) → c < 2 ^ 32 → register_after_step c < 2 ^ 32
 unfolding register_after_step
 after_step_fits c h =
     let high : c / 2 < 2 ^ 32 = omega arith in
@@ -92,13 +92,13 @@ after_step_fits c h =
 
 -- ---- bits fed in
 
-abbrev digit : Bool → ℕ
+abbrev pub digit : Bool → ℕ
 digit b = if b then 1 else 0
 
 digit_of : (d : ℕ) → d < 2 → digit (nat_eq d 1) ≡ d
 digit_of = bit_cases (λ d. digit (nat_eq d 1) ≡ d) refl refl
 
-digit_below : (b : Bool) → digit b < 2
+pub digit_below : (b : Bool) → digit b < 2
 digit_below true = omega arith
 digit_below false = omega arith
 
@@ -107,7 +107,7 @@ unfolding register_after_bits
 fed-append c [] ys = refl
 fed-append c (x ∷ xs) ys = fed-append (register_after_step (bit_xor c (digit x))) xs ys
 
-fed_fits : (c : ℕ) (bits : List Bool) → c < 2 ^ 32 → register_after_bits c bits < 2 ^ 32
+pub fed_fits : (c : ℕ) (bits : List Bool) → c < 2 ^ 32 → register_after_bits c bits < 2 ^ 32
 unfolding register_after_bits
 fed_fits c [] h = h
 fed_fits c (b ∷ bits) h =
@@ -133,7 +133,7 @@ fed_bits (suc n) c x h =
 
 -- ---- the register is the remainder
 
-length-low_bits : (n x : ℕ) → length (low_bits n x) ≡ n
+pub length-low_bits : (n x : ℕ) → length (low_bits n x) ≡ n
 length-low_bits zero x = refl
 length-low_bits (suc n) x = ap suc (length-low_bits n (x / 2))
 
@@ -142,7 +142,7 @@ lowest-xor =
     bit_cases (λ x. (y : ℕ) → y < 2 → nat_eq (bit_xor x y) 1 ≡ coefficient_sum (nat_eq x 1) (nat_eq y 1))
     (bit_cases _ refl refl) (bit_cases _ refl refl)
 
-low_bits-xor : (n x y : ℕ) → low_bits n (bit_xor x y) ≡ leading_sum (low_bits n x) (low_bits n y)
+pub low_bits-xor : (n x y : ℕ) → low_bits n (bit_xor x y) ≡ leading_sum (low_bits n x) (low_bits n y)
 low_bits-xor zero x y = refl
 low_bits-xor (suc n) x y =
     ap₂ (λ b bits. b ∷ bits)

@@ -7,6 +7,7 @@ pub mod CrcKernel
 pub mod CrcMask
 pub mod CrcRegisterLemmas
 pub mod CrcTables
+pub mod CrcWindows
 pub mod Bytes
 pub mod Binds
 pub mod Beginnings

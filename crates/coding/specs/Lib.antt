@@ -4,3 +4,4 @@ pub mod Varint
 pub mod Crc
 -- serves proofs alone
 pub mod CrcRegister
+pub mod CrcWindow

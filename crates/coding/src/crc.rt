@@ -6,8 +6,10 @@
 //! 1. Steps are linear over exclusive or. So a table can hold what n steps make of each byte.
 //! 2. Sixteen bytes are taken at a time, as four words. Each word is advanced by itself, so the
 //!    four don't wait for each other. All four use the same four tables.
+//! 3. Of many bytes, all but the last go without tables: they are added to later ones (`window`).
 
 mod tables;
+mod window;
 
 ghost use Rattle.std.specs.Prelude.{◌≡◌, ℕ, ◌+◌, ◌^◌, ◌<◌, ◌++◌, bit_xor};
 ghost use Rattle.coding.specs.Crc.{RemainderLaw, bits_of, crc32c, masked};
@@ -16,9 +18,13 @@ ghost use Rattle.coding.specs.CrcRegister.{register_after_steps};
 ghost use Rattle.std.specs.List.{concat};
 
 use tables::{AFTER_FIFTEEN, AFTER_FOURTEEN, AFTER_ONE, AFTER_SIXTEEN, AFTER_THIRTEEN};
+use window::advanced_by_window;
 
 /// The divisor without its leading coefficient; the coefficient of power 31 is the lowest bit.
 const CASTAGNOLI: u32 = 0x82f6_3b78;
+
+/// The fewest chunks for which a window is worth its cost.
+const FEWEST: usize = 40;
 
 /// What [`mask`] adds.
 const MASK_DELTA: u32 = 0xa282_ead8;
@@ -90,12 +96,19 @@ fn advanced(register: u32, bytes: &[u8]) -> u32
     ensures { result ≡ register_after_bits register (bits_of bytes.now) }
 {
     let (chunks, rest) = bytes.as_chunks::<16>();
+    advanced_by_bytes(advanced_by_chunks(register, chunks), rest)
+}
+
+/// The register after `chunks`.
+fn advanced_by_chunks(register: u32, chunks: &[[u8; 16]]) -> u32
+    ensures { result ≡ register_after_bits register (bits_of (concat chunks.now)) }
+{
+    if chunks.len() >= FEWEST {
+        return advanced_by_window(register, chunks);
+    }
     match chunks.split_first() {
-        Some((first, chunks)) => {
-            let lanes = Lanes::begun(register, first);
-            advanced_by_bytes(lanes.over(chunks).settled(), rest)
-        }
-        None => advanced_by_bytes(register, rest),
+        Some((first, chunks)) => Lanes::begun(register, first).over(chunks).settled(),
+        None => register,
     }
 }
 

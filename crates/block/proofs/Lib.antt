@@ -10,3 +10,4 @@ pub mod Built
 pub mod Sizes
 pub mod BlockReadings
 pub mod CheckingSteps
+mod KeyRooms

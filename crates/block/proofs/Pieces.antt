@@ -1,10 +1,10 @@
 -- A piece that is read is the piece that was spelt, and what was spelt is read again.
-use Rattle.std.proofs.Common.{◌≡◌, ℕ, zero, suc, ◌+◌, ◌^◌, ◌<◌, ◌≤◌, true, false, List, [], ◌∷◌, ◌++◌, length, take, drop, get_or, Option, Some, None, refl, sym, ap, subst, ◌∙◌, append_assoc, arith, lit≤, leb}
+use Rattle.std.proofs.Common.{◌≡◌, ℕ, zero, suc, ◌+◌, ◌-◌, ◌*◌, ◌/◌, ◌%◌, ◌^◌, ◌<◌, ◌≤◌, true, false, List, [], ◌∷◌, ◌++◌, length, take, drop, get_or, Option, Some, None, refl, sym, ap, subst, ◌∙◌, append_assoc, arith, lit≤, leb}
 use Rattle.std.specs.List.{flat_map}
 use Rattle.std.proofs.lemmas.List.{take_at, drop_at, take-append-drop, length-append, length-take-le, length-drop, drop-drop}
-use Rattle.std.proofs.lemmas.Bool.{le-leb, leb-true}
+use Rattle.std.proofs.lemmas.Bool.{le-leb, leb-true, lt-ltb, le-ltb}
 use Rattle.std.proofs.lemmas.Option.{same_Some, cond_some}
-use Rattle.coding.specs.Varint.{varint, varint_reading}
+use Rattle.coding.specs.Varint.{groups, varint, varint_reading}
 use Rattle.block.specs.EncodedEntry.{Entry, EncodedEntry, encoded_entry_bytes, key_after, entries_after, IsEncodedEntryAfter, AreEncodedEntries}
 use Rattle.coding.specs.Answers.{and_then}
 use Rattle.block.specs.EntryFormat.{FieldReading, length_at, entry_of_lengths, encoded_entry_at}
@@ -42,6 +42,37 @@ front_entry_at-small [] long a b c = absurd (omega arith)
 front_entry_at-small (x ∷ []) long a b c = absurd (omega arith)
 front_entry_at-small (x ∷ y ∷ []) long a b c = absurd (omega arith)
 front_entry_at-small (x ∷ y ∷ z ∷ rest) long a b c = rw (length_at-small x (y ∷ z ∷ rest) a, length_at-small y (z ∷ rest) b, length_at-small z rest c) refl
+
+-- a number of two groups
+groups_two : (n x : ℕ) → 128 ≤ x → x / 128 < 128 → groups (suc (suc n)) x ≡ (128 + x % 128) ∷ (x / 128) ∷ []
+groups_two n x le lt = rw (le-ltb x 128 le, lt-ltb (x / 128) 128 lt) refl
+
+-- the number that two bytes spell
+abbrev pub two_bytes : ℕ → ℕ → ℕ
+two_bytes low high = (low - 128) + 128 * high
+
+varint_two : (low high : ℕ) → 128 ≤ low → low < 256 → 0 < high → high < 128 → varint (two_bytes low high) ≡ low ∷ high ∷ []
+unfolding varint
+varint_two low high large byte some last =
+    let first : 128 + two_bytes low high % 128 ≡ low = omega arith in
+    let second : two_bytes low high / 128 ≡ high = omega arith in
+    groups_two 7 (two_bytes low high) (omega arith) (omega arith) ∙ rw (first, second) refl
+
+-- a length of two bytes
+length_at-two : (low high : ℕ) (rest : List ℕ) → 128 ≤ low → low < 256 → 0 < high → high < 128 → length_at (low ∷ high ∷ rest) ≡ found (two_bytes low high) rest
+length_at-two low high rest large byte some last =
+    ap (λ (front : List ℕ). length_at (front ++ rest)) (sym (varint_two low high large byte some last))
+    ∙ length_at-varint (two_bytes low high) rest (omega arith)
+
+-- two lengths of one byte each, and one of two
+pub front_entry_at-two : (bytes : List ℕ) → 4 ≤ length bytes → get_or bytes 0 0 < 128 → get_or bytes 1 0 < 128 → 128 ≤ get_or bytes 2 0 → get_or bytes 2 0 < 256 → 0 < get_or bytes 3 0 → get_or bytes 3 0 < 128
+    → encoded_entry_at bytes ≡ entry_of_lengths (get_or bytes 0 0) (get_or bytes 1 0) (two_bytes (get_or bytes 2 0) (get_or bytes 3 0)) (drop 4 bytes)
+unfolding encoded_entry_at
+front_entry_at-two [] long a b large byte some last = absurd (omega arith)
+front_entry_at-two (x ∷ []) long a b large byte some last = absurd (omega arith)
+front_entry_at-two (x ∷ y ∷ []) long a b large byte some last = absurd (omega arith)
+front_entry_at-two (x ∷ y ∷ z ∷ []) long a b large byte some last = absurd (omega arith)
+front_entry_at-two (x ∷ y ∷ z ∷ w ∷ rest) long a b large byte some last = rw (length_at-small x (y ∷ z ∷ w ∷ rest) a, length_at-small y (z ∷ w ∷ rest) b, length_at-two z w rest large byte some last) refl
 
 -- what is after the three lengths
 tail_at : List ℕ → List ℕ → List ℕ → List ℕ

@@ -15,6 +15,7 @@ length-key_after before p le = omega (arith, length-append (take p.shared before
 
 -- the entry of the piece at the front, and those after it
 pub record Steps (before rest : List ℕ) (x : FieldReading EncodedEntry) : Type 0 where
+  pub within : x.field.shared ≤ length before
   pub entries : entries_behind before rest ≡ record { key = key_after before x.field; value = x.field.value } ∷ entries_behind (key_after before x.field) x.rest
   pub behind : AreEncodedEntriesAfter (key_after before x.field) x.rest
 
@@ -30,6 +31,7 @@ steps_of before rest x (p ∷ ps) h e f =
     let pieces : AreEncodedEntries (length (key_after before p)) ps = subst (λ (n : ℕ). AreEncodedEntries n ps) (sym (length-key_after before p h.0.shared)) h.1 in
     subst (Steps before rest) (same_Some _ _ (sym (front_read before rest p ps h e) ∙ f))
     (record {
+      within = h.0.shared;
       entries = behind_of before rest (p ∷ ps) h e ∙ ap (λ (es : List Entry). record { key = key_after before p; value = p.value } ∷ es) (sym (behind_of (key_after before p) (flat_map encoded_entry_bytes ps) ps pieces refl));
       behind = (ps, pieces, refl);
     })

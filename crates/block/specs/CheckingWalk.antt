@@ -12,8 +12,8 @@ abbrev pub checking_of : Inside → BlockChecking
 checking_of c = record {
   bytes = c.bytes.now;
   all = entries_behind [] c.area.now;
-  ahead = if c.valid then record { key = c.key.items; value = c.value.now } ∷ entries_behind
-      c.key.items c.rest.now else [];
+  ahead = if c.valid then record { key = c.key; value = c.value.now } ∷ entries_behind
+      c.key c.rest.now else [];
 }
 
 -- The bytes up to the place pass the tests. If no entry is there, all of them do.
@@ -27,4 +27,4 @@ pub record Passes (bytes area rest pending key : List ℕ) (valid : Bool) : Type
 
 -- the bytes of a checking cursor up to its place pass the tests
 abbrev pub IsTesting : Inside → Type 0
-IsTesting c = Passes c.bytes.now c.area.now c.rest.now c.pending.now c.key.items c.valid
+IsTesting c = Passes c.bytes.now c.area.now c.rest.now c.pending.now c.key c.valid

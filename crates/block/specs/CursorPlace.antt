@@ -6,9 +6,9 @@ use Rattle.block.specs.declared.cursor.BlockCursor.TheInside.{Inside}
 
 -- the entry at the place, if there is one, and those after it
 abbrev pub remaining_entries : Inside → List Entry
-remaining_entries c = if c.valid then record { key = c.key.items; value = c.value.now } ∷
-    entries_behind c.key.items c.rest.now else []
+remaining_entries c = if c.valid then record { key = c.key; value = c.value.now } ∷
+    entries_behind c.key c.rest.now else []
 
 -- the bytes there are encoded entries that come after the key
 abbrev pub IsWalking : Inside → Type 0
-IsWalking c = AreEncodedEntriesAfter c.key.items c.rest.now
+IsWalking c = AreEncodedEntriesAfter c.key c.rest.now

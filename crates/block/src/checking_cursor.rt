@@ -6,7 +6,7 @@ ghost use Rattle.std.specs.Option.{option_map};
 ghost use Rattle.coding.specs.Answers.{FailsOrMemory};
 ghost use Rattle.block.specs.ReadingBlocks.{block_reading};
 
-use crate::cursor::replace_end;
+use crate::key_room::KeyRoom;
 use crate::sound_block::{are_begun, next_entry, split};
 use coding::{Fault, FaultName};
 use std::alloc::Global;
@@ -27,7 +27,7 @@ pub struct CheckingCursor<'a> {
     pending: &'a [u8],
     rest: &'a [u8],
     valid: bool,
-    key: Vec<u8>,
+    key: KeyRoom,
     value: &'a [u8],
 }
 
@@ -54,7 +54,7 @@ impl<'a> CheckingCursor<'a> {
             pending: &[],
             rest: &[],
             valid: false,
-            key: Vec::new(alloc),
+            key: KeyRoom::new(alloc),
             value: &[],
         }
     }
@@ -86,7 +86,7 @@ impl<'a> CheckingCursor<'a> {
         let Some(first) = next_entry(parts.area, parts.area, parts.restarts, 0) else {
             return Err(Fault::of(FaultName::Block));
         };
-        replace_end(&mut self.key, 0, first.piece.unshared)?;
+        self.key.replace_end(0, first.piece)?;
         self.bytes = bytes;
         self.area = parts.area;
         self.pending = first.pending;
@@ -97,7 +97,7 @@ impl<'a> CheckingCursor<'a> {
     }
 
     /// Whether an entry is still to come. If none is, the bytes are a block of all the entries.
-    #[inline]
+    #[inline(always)]
     pub fn valid(&self) -> bool
         ensures some { IsTrue result ↔ (0 < length self.now.ahead) }
         ensures ended { result ≡ false → block_reading self.now.bytes ≡ Ok self.now.all }
@@ -106,16 +106,16 @@ impl<'a> CheckingCursor<'a> {
     }
 
     /// The key of the next entry, until the next `advance`.
-    #[inline]
+    #[inline(always)]
     pub fn key(&self) -> &[u8]
         requires { 0 < length self.now.ahead }
         ensures { option_map (λ e. e.key) (slice_get self.now.ahead 0) ≡ Some result.now }
     {
-        &self.key
+        self.key.as_slice()
     }
 
     /// The value of the next entry, a part of the bytes.
-    #[inline]
+    #[inline(always)]
     pub fn value(&self) -> &'a [u8]
         requires { 0 < length self.now.ahead }
         ensures { option_map (λ e. e.value) (slice_get self.now.ahead 0) ≡ Some result.now }
@@ -127,7 +127,7 @@ impl<'a> CheckingCursor<'a> {
     ///
     /// Faults: Block if this step finds that the bytes are no block; else only Memory. A refusal
     /// leaves the cursor unchanged.
-    #[inline]
+    #[inline(always)]
     pub fn advance(&mut self) -> Result<(), Fault>
         requires { 0 < length self.old.ahead }
         ensures ok { OnOk result (self.new ≡ record {
@@ -149,7 +149,7 @@ impl<'a> CheckingCursor<'a> {
         let Some(next) = next_entry(self.area, self.rest, self.pending, key_len) else {
             return Err(Fault::of(FaultName::Block));
         };
-        replace_end(&mut self.key, next.piece.shared, next.piece.unshared)?;
+        self.key.replace_end(next.piece.shared, next.piece)?;
         self.pending = next.pending;
         self.rest = next.piece.rest;
         self.value = next.piece.value;

@@ -1,14 +1,14 @@
 //! The walk over the entries of a block.
 
 ghost use Rattle.std.specs.Prelude.{◌≡◌, ◌<◌, ◌↔◌, [], length, IsTrue, IfOk, OnOk, OnErr};
-ghost use Rattle.std.specs.Prelude.{IsOkUnless, IfErr, slice_get, slice_index, Some, take, drop};
-ghost use Rattle.std.specs.Prelude.{◌++◌};
+ghost use Rattle.std.specs.Prelude.{IsOkUnless, IfErr, slice_get, slice_index, Some, drop};
 ghost use Rattle.std.specs.Option.{option_map};
 ghost use Rattle.block.specs.Behind.{entries_behind, AreEncodedEntriesAfter};
 ghost use Rattle.coding.specs.Answers.{fault};
 ghost use Rattle.coding.specs.declared.fault.FaultName.TheVariants.{Memory};
 
 use crate::front_entry::front_entry_at;
+use crate::key_room::KeyRoom;
 use crate::read_ahead::ReadAhead;
 use crate::sound_block::SoundBlock;
 use coding::Fault;
@@ -21,7 +21,7 @@ use std::marker::Model;
 #[derive(Drop)]
 pub struct BlockCursor<'a> {
     valid: bool,
-    key: Vec<u8>,
+    key: KeyRoom,
     value: &'a [u8],
     rest: &'a [u8],
     ahead: ReadAhead,
@@ -66,7 +66,7 @@ impl<'a> BlockCursor<'a> {
     {
         BlockCursor {
             valid: false,
-            key: Vec::new(alloc),
+            key: KeyRoom::new(alloc),
             value: &[],
             rest: &[],
             ahead: ReadAhead::nothing(),
@@ -74,6 +74,7 @@ impl<'a> BlockCursor<'a> {
     }
 
     /// Whether an entry is still to come.
+    #[inline(always)]
     pub fn valid(&self) -> bool
         ensures { IsTrue result ↔ (0 < length self.now) }
     {
@@ -81,14 +82,16 @@ impl<'a> BlockCursor<'a> {
     }
 
     /// The key of the next entry, until the next `advance`.
+    #[inline(always)]
     pub fn key(&self) -> &[u8]
         requires { 0 < length self.now }
         ensures { option_map (λ e. e.key) (slice_get self.now 0) ≡ Some result.now }
     {
-        &self.key
+        self.key.as_slice()
     }
 
     /// The value of the next entry, a part of the block's bytes.
+    #[inline(always)]
     pub fn value(&self) -> &'a [u8]
         requires { 0 < length self.now }
         ensures { option_map (λ e. e.value) (slice_get self.now 0) ≡ Some result.now }
@@ -97,6 +100,7 @@ impl<'a> BlockCursor<'a> {
     }
 
     /// Whether the next entry is the last one.
+    #[inline(always)]
     pub fn is_last(&self) -> bool
         requires { 0 < length self.now }
         ensures { IsTrue result ↔ (length self.now ≡ 1) }
@@ -105,6 +109,7 @@ impl<'a> BlockCursor<'a> {
     }
 
     /// Takes off the next entry. The only fault is Memory, which leaves the cursor unchanged.
+    #[inline(always)]
     pub fn advance(&mut self) -> Result<(), Fault>
         requires { 0 < length self.old }
         ensures ok { OnOk result (self.new ≡ drop 1 self.old) }
@@ -115,7 +120,7 @@ impl<'a> BlockCursor<'a> {
             self.valid = false;
             return Ok(());
         };
-        replace_end(&mut self.key, piece.shared, piece.unshared)?;
+        self.key.replace_end(piece.shared, piece)?;
         self.value = piece.value;
         self.rest = piece.rest;
         self.ahead.reach(piece.rest);
@@ -133,7 +138,7 @@ impl<'a> BlockCursor<'a> {
             self.valid = false;
             return Ok(());
         };
-        replace_end(&mut self.key, 0, first.unshared)?;
+        self.key.replace_end(0, first)?;
         self.valid = true;
         self.value = first.value;
         self.rest = first.rest;
@@ -150,8 +155,8 @@ impl<'a> BlockCursor<'a> {
         let Some(piece) = front_entry_at(pieces) else {
             return Ok(BlockCursor::none(alloc));
         };
-        let mut key = Vec::new(alloc);
-        replace_end(&mut key, piece.shared, piece.unshared)?;
+        let mut key = KeyRoom::new(alloc);
+        key.replace_end(piece.shared, piece)?;
         Ok(BlockCursor {
             valid: true,
             key,
@@ -160,18 +165,4 @@ impl<'a> BlockCursor<'a> {
             ahead: ReadAhead::nothing(),
         })
     }
-}
-
-/// Keeps the first `shared` bytes of a key and appends `unshared`. The only fault is Memory, which
-/// leaves the key unchanged.
-#[inline]
-pub(crate) fn replace_end(key: &mut Vec<u8>, shared: usize, unshared: &[u8]) -> Result<(), Fault>
-    ensures ok { OnOk result (key.new.items ≡ take shared key.old.items ++ unshared.now) }
-    ensures err { OnErr result (key.new.items ≡ key.old.items) }
-    ensures memory { IsOkUnless result (fault Memory) }
-{
-    key.reserve(unshared.len())?;
-    key.truncate(shared);
-    key.extend_from_slice(unshared).unwrap();
-    Ok(())
 }

@@ -1,6 +1,6 @@
 //! What is at the front of a block's bytes, and the bytes after it.
 
-ghost use Rattle.std.specs.Prelude.{◌<◌, ◌^◌, length};
+ghost use Rattle.std.specs.Prelude.{◌≡◌, ◌<◌, ◌^◌, length, take};
 
 /// An entry at the front of bytes, as it is stored, and the bytes after it.
 #[derive(Clone, Copy)]
@@ -9,10 +9,13 @@ pub(crate) struct FrontEntry<'a> {
     pub shared: usize,
     /// The other bytes of its key.
     pub unshared: &'a [u8],
+    /// The unshared bytes and all bytes after them.
+    pub behind: &'a [u8],
     pub value: &'a [u8],
     pub rest: &'a [u8],
     ghost shared_fits: { shared < 2 ^ 32 },
     ghost unshared_fits: { length unshared.now < 2 ^ 32 },
+    ghost begins: { take (length unshared.now) behind.now ≡ unshared.now },
 }
 
 /// A length at the front of bytes, and the bytes after it.

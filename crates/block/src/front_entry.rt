@@ -9,7 +9,7 @@ use crate::front::{FrontEntry, FrontLength};
 use coding::read_u32_varint;
 
 /// The entry at the front of bytes, if there is one.
-#[inline]
+#[inline(always)]
 pub(crate) fn front_entry_at(bytes: &[u8]) -> Option<FrontEntry<'_>>
     ensures { option_map front_field result ≡ encoded_entry_at bytes.now }
 {
@@ -24,11 +24,23 @@ pub(crate) fn front_entry_at(bytes: &[u8]) -> Option<FrontEntry<'_>>
                 behind,
             )
         }
+        // A value's length often has two.
+        [shared, unshared, low, high, behind @ ..]
+            if *shared < 128 && *unshared < 128 && *low >= 128 && *high > 0 && *high < 128 => {
+            entry_of_lengths(
+                *shared as usize,
+                *unshared as usize,
+                (*low - 128) as usize + 128 * *high as usize,
+                behind,
+            )
+        }
         _ => front_entry_by_varints(bytes),
     }
 }
 
 /// The entry at the front of bytes, whose lengths may have several bytes.
+#[cold]
+#[inline(never)]
 #[tactic(auto, unfolding(crate::specs::EntryFormat::encoded_entry_at))]
 fn front_entry_by_varints(bytes: &[u8]) -> Option<FrontEntry<'_>>
     ensures { option_map front_field result ≡ encoded_entry_at bytes.now }
@@ -40,7 +52,7 @@ fn front_entry_by_varints(bytes: &[u8]) -> Option<FrontEntry<'_>>
 }
 
 /// The entry of these lengths, if `bytes` begin with the unshared bytes of its key and its value.
-#[inline]
+#[inline(always)]
 fn entry_of_lengths(
     shared: usize,
     unshared: usize,
@@ -55,11 +67,13 @@ fn entry_of_lengths(
     if bytes.len() < unshared + value {
         return None;
     }
+    let behind = bytes;
     let (unshared, bytes) = bytes.split_at(unshared);
     let (value, rest) = bytes.split_at(value);
     Some(FrontEntry {
         shared,
         unshared,
+        behind,
         value,
         rest,
     })

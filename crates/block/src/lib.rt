@@ -23,6 +23,7 @@ mod checking_cursor;
 mod cursor;
 mod front;
 mod front_entry;
+mod key_room;
 mod layout;
 mod read_ahead;
 mod sound_block;

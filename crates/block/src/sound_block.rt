@@ -188,7 +188,7 @@ pub(crate) fn split(bytes: &[u8]) -> Option<Parts<'_>>
 }
 
 /// Whether the next restart is `at`.
-#[inline]
+#[inline(always)]
 fn is_next(pending: &[u8], at: usize) -> bool
     ensures { IsTrue result ↔ ((at < 2 ^ 32) × BeginsWith pending.now at) }
 {
@@ -219,7 +219,7 @@ pub(crate) struct NextEntry<'a> {
 
 /// The entry at the front of `rest`, and the restarts after it. None if there is no entry, if it
 /// shares more than the key before it has, or if a restart points at it and it shares something.
-#[inline]
+#[inline(always)]
 pub(crate) fn next_entry<'a>(
     area: &[u8],
     rest: &'a [u8],

@@ -51,12 +51,12 @@ invariant_of-self-2 c =
     let area = c.in-Some.parts.area.now in
     let restarts = c.in-Some.parts.restarts.now in
     let some : area ≢ [] = λ e. eqb-false _ _ (sym c.is_empty.ensures ∙ c.if-is_empty.false) (ap length e) in
-    passes_first c.args.bytes.now area restarts (front_field c.in-Some-next_entry.first.piece) c.in-Some-next_entry.first.pending.now c.replace_end.new.key.items c.in-Some.ensures.found (c.are_begun.ensures.begins c.if-not-are_begun.false) some c.in-Some-next_entry.ensures.next c.in_ok-replace_end.ensures.ok
+    passes_first c.args.bytes.now area restarts (front_field c.in-Some-next_entry.first.piece) c.in-Some-next_entry.first.pending.now c.replace_end.new.self c.in-Some.ensures.found (c.are_begun.ensures.begins c.if-not-are_begun.false) some c.in-Some-next_entry.ensures.next c.in_ok-replace_end.ensures.ok
 
 pub returns-clause-ahead : goal.returns-clause-ahead
 returns-clause-ahead c =
     let piece = front_field c.in-Some-next_entry.first.piece in
-    let key : c.replace_end.new.key.items ≡ key_after [] piece.field = c.in_ok-replace_end.ensures.ok ∙ sym (first_key_whole piece.field) in
+    let key : c.replace_end.new.self ≡ key_after [] piece.field = c.in_ok-replace_end.ensures.ok ∙ sym (first_key_whole piece.field) in
     ap (λ (k : List ℕ). record { key = k; value = c.in-Some-next_entry.first.piece.value.now } ∷ entries_behind k c.in-Some-next_entry.first.piece.rest.now) key
     ∙ sym (one_behind [] c.in-Some.parts.area.now piece c.in-Some-next_entry.ensures.next.read)
 

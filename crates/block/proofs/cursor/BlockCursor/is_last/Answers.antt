@@ -7,7 +7,7 @@ use Rattle.block.proofs.cursor.BlockCursor.is_last.Goals as goal
 
 pub returns : goal.returns
 returns c =
-    let key = c.self.inside.key.items in
+    let key = c.self.inside.key in
     let rest = c.self.inside.rest.now in
     let last = last_by c.self.inside.valid _ (entries_behind key rest) c.args.self.now c.self.view_is c.requires in (
       λ h. let none : rest ≡ [] = nil_from_length rest (eqb-true _ _ (sym c.is_empty.ensures ∙ h)) in

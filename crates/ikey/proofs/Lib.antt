@@ -3,3 +3,4 @@ pub mod Ordered
 pub mod Shortened
 pub mod Answered
 pub mod Words
+pub mod Heads

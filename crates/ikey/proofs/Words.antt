@@ -7,12 +7,12 @@ use Rattle.std.specs.Cmp.{nat_cmp_is, ranks}
 use Rattle.std.specs.Cmp.Lexicographic.{slice_cmp}
 use Rattle.std.proofs.lemmas.Bool.{cases_lt}
 use Rattle.std.proofs.lemmas.List.{length-drop}
-use Rattle.std.proofs.Math.Nat.{add-mul, mul-le-mul_right}
 use Rattle.byteorder.specs.Endian.{big_from, big_number}
 use Rattle.byteorder.specs.Numbers.{big_from-cons, big_from-lt}
 use Rattle.coding.proofs.Bytes.{IsBytes, IsBytes-drop}
 use Rattle.coding.proofs.Beginnings.{take_further}
 use Rattle.ikey.specs.Bytewise.{bytewise_cmp}
+use Rattle.ikey.specs.BytewiseLaws.{greater_byte}
 
 -- ---- after a beginning that is the same
 
@@ -53,13 +53,6 @@ pub record Orders (n : ℕ) (xs ys : List ℕ) (x y : ℕ) : Type 0 where
   pub less : x < y → bytewise_cmp xs ys ≡ Less
   pub same : x ≡ y → take n xs ≡ take n ys
   pub greater : y < x → bytewise_cmp xs ys ≡ Greater
-
--- a greater byte makes a greater word
-greater_byte : (x y p r s : ℕ) → x < y → r < p → x * p + r < y * p + s
-greater_byte x y p r s less small =
-    let step : (x + 1) * p ≤ y * p = mul-le-mul_right p (omega arith) in
-    let split : (x + 1) * p ≡ x * p + 1 * p = add-mul x 1 p in
-    omega (arith, step, split)
 
 ordered_same : (n x : ℕ) (xs ys : List ℕ) (p r s : ℕ) → Orders n xs ys r s → Orders (suc n) (x ∷ xs) (x ∷ ys) (x * p + r) (x * p + s)
 ordered_same n x xs ys p r s rest =

@@ -1,6 +1,6 @@
 -- The order of user keys as unsigned bytes, its separator and its successor.
-use Rattle.std.specs.Prelude.{codes, ℕ, ◌+◌, nat_eq, nat_lt, ◌&&◌, if◌then◌else◌, List, [], ◌∷◌}
-use Rattle.std.specs.Prelude.{◌++◌, length, take, slice_index}
+use Rattle.std.specs.Prelude.{codes, ℕ, zero, suc, ◌+◌, ◌-◌, ◌*◌, ◌^◌, min, nat_eq, nat_lt, ◌&&◌}
+use Rattle.std.specs.Prelude.{if◌then◌else◌, List, [], ◌∷◌, ◌++◌, length, take, slice_index}
 use Rattle.std.specs.List.{common_prefix_len, prefix_len}
 use Rattle.std.specs.Ordering.{nat_cmp}
 use Rattle.std.specs.Cmp.Lexicographic.{slice_cmp}
@@ -40,3 +40,14 @@ bytewise_successor key =
 -- the short keys of unsigned bytes
 abbrev pub bytewise_short_keys : ShortKeys
 bytewise_short_keys = record { separator = bytewise_separator; successor = bytewise_successor }
+
+-- The number in the first n bytes, the most significant first, with zeros behind a shorter list. Of
+-- a list that isn't of bytes it is the greatest number of n bytes from the first such element on.
+abbrev pub leading_number : ℕ → List ℕ → ℕ
+leading_number zero key = 0
+leading_number (suc n) [] = 0
+leading_number (suc n) (b ∷ bs) = min (b * 256 ^ n + leading_number n bs) (256 ^ suc n - 1)
+
+-- the head of a key: its first sixteen bytes
+unfoldable pub bytewise_head : List ℕ → ℕ
+bytewise_head key = leading_number 16 key

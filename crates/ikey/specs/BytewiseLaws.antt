@@ -1,5 +1,6 @@
 -- That the order of user keys as unsigned bytes is a comparator.
-use Rattle.std.specs.Prelude.{◌≡◌, ◌≢◌, ◌<◌, ℕ, zero, suc, ◌+◌, Bool, true, false, cond, ◌&&◌}
+use Rattle.std.specs.Prelude.{◌≡◌, ◌≢◌, ◌<◌, ◌≤◌, ℕ, zero, suc, ◌+◌, ◌-◌, ◌*◌, ◌^◌, min, Bool}
+use Rattle.std.specs.Prelude.{true, false, cond, ◌&&◌}
 use Rattle.std.specs.Prelude.{if◌then◌else◌, nat_eq, nat_lt, List, [], ◌∷◌, length, slice_index}
 use Rattle.std.specs.Prelude.{refl}
 use Rattle.std.specs.List.{common_prefix_len}
@@ -7,21 +8,23 @@ use Rattle.std.specs.Cmp.{nat_cmp_is}
 use Rattle.std.specs.Cmp.Lexicographic.{slice_cmp}
 use Rattle.std.specs.Ordering.{nat_cmp, ordering_then}
 use Rattle.std.specs.declared.cmp.Ordering.TheVariants.{Less, Equal, Greater}
-use Rattle.std.proofs.Common.{ap, sym, ◌∙◌, arith}
+use Rattle.std.proofs.Common.{inl, inr, ap, sym, ◌∙◌, arith}
+use Rattle.std.proofs.Math.Nat.{add-mul, mul-le-mul_right, one-le-pow}
+use Rattle.std.proofs.lemmas.Bool.{cases_lt}
 use Rattle.std.proofs.lemmas.Cmp.{nat_list_cmp_total, tied_itself}
 use Rattle.std.proofs.lemmas.Map.Lookups.{exact_bytes}
 use Rattle.ikey.specs.Bytewise.{bytewise_cmp, bytewise_separator, bytewise_successor}
-use Rattle.ikey.specs.Bytewise.{first_raisable, raised_at}
-use Rattle.ikey.specs.Comparator.{IsBetween, IsExact, Separates, Succeeds}
+use Rattle.ikey.specs.Bytewise.{first_raisable, raised_at, leading_number, bytewise_head}
+use Rattle.ikey.specs.Comparator.{IsBetween, IsExact, Separates, Succeeds, HeadsRise}
 use borrow.Author.Tests.{eqb-true, ltb-true}
 
 pub bytewise_exact : IsExact bytewise_cmp
 bytewise_exact = exact_bytes
 
-nat_less : (x y : ℕ) → x < y → nat_cmp x y ≡ Less
+pub nat_less : (x y : ℕ) → x < y → nat_cmp x y ≡ Less
 nat_less x y h = sym (nat_cmp_is x y Less h)
 
-nat_same : (x y : ℕ) → x ≡ y → nat_cmp x y ≡ Equal
+pub nat_same : (x y : ℕ) → x ≡ y → nat_cmp x y ≡ Equal
 nat_same x y h = sym (nat_cmp_is x y Equal h)
 
 -- a raised byte makes a key greater
@@ -97,3 +100,56 @@ pub bytewise_above : Succeeds bytewise_cmp bytewise_successor
 unfolding bytewise_successor
 bytewise_above key = succeeded key (first_raisable key) (nat_lt (first_raisable key) (length key))
     refl
+
+-- ---- heads
+
+-- a greater byte makes a greater number
+pub greater_byte : (x y p r s : ℕ) → x < y → r < p → x * p + r < y * p + s
+greater_byte x y p r s less small =
+    let step : (x + 1) * p ≤ y * p = mul-le-mul_right p (omega arith) in
+    let split : (x + 1) * p ≡ x * p + 1 * p = add-mul x 1 p in
+    omega (arith, step, split)
+
+-- a number of n bytes
+pub leading_number-lt : (n : ℕ) (key : List ℕ) → leading_number n key < 256 ^ n
+leading_number-lt zero key = omega arith
+leading_number-lt (suc n) [] = let some = one-le-pow (suc n) 256 (omega arith) in omega (arith, some)
+leading_number-lt (suc n) (b ∷ bs) =
+    let some = one-le-pow (suc n) 256 (omega arith) in omega (arith, some)
+
+below_limit : (a b limit : ℕ) → min a limit < min b limit → a < b
+below_limit a b limit h = omega (arith, h)
+
+-- the list with the lower leading number is less
+pub leading_less : (n : ℕ) (a b : List ℕ) → leading_number n a < leading_number n b →
+    bytewise_cmp a b ≡ Less
+leading_less zero a b h = absurd (omega arith)
+leading_less (suc n) [] [] h = absurd (omega arith)
+leading_less (suc n) (x ∷ xs) [] h = absurd (omega arith)
+leading_less (suc n) [] (y ∷ ys) h = refl
+leading_less (suc n) (x ∷ xs) (y ∷ ys) h =
+    let p = 256 ^ n in
+    let r = leading_number n xs in
+    let s = leading_number n ys in
+    let below : x * p + r < y * p + s =
+    below_limit (x * p + r) (y * p + s) (256 ^ suc n - 1) h in
+    elim (cases_lt x y) [
+      | inl less ↦ ap (λ o. ordering_then o (slice_cmp nat_cmp xs ys)) (nat_less x y less)
+      | inr not_less ↦ elim (cases_lt y x) [
+        | inl greater ↦ absurd (let above = greater_byte y x p s r greater (leading_number-lt n ys) in omega (arith, above, below))
+        | inr not_greater ↦ same_first n x y xs ys (omega arith) below (λ (k : r < s). leading_less n xs ys k)
+      ]
+    ]
+  where
+    same_first : (n x y : ℕ) (xs ys : List ℕ) → x ≡ y → x * 256 ^ n + leading_number n xs < y * 256 ^ n + leading_number n ys → (leading_number n xs < leading_number n ys → bytewise_cmp xs ys ≡ Less) → bytewise_cmp (x ∷ xs) (y ∷ ys) ≡ Less
+    same_first n x y xs ys same below rest =
+        let products : x * 256 ^ n ≡ y * 256 ^ n = ap (λ (b : ℕ). b * 256 ^ n) same in
+        ap (λ o. ordering_then o (slice_cmp nat_cmp xs ys)) (nat_same x y same) ∙ rest (omega (arith, products, below))
+
+pub bytewise_rises : HeadsRise bytewise_cmp bytewise_head
+unfolding bytewise_head
+bytewise_rises a b h = leading_less 16 a b h
+
+pub bytewise_head-lt : (key : List ℕ) → bytewise_head key < 2 ^ 128
+unfolding bytewise_head
+bytewise_head-lt key = leading_number-lt 16 key

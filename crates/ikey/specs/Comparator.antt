@@ -1,5 +1,5 @@
 -- What a comparator of user keys promises of its order, separators and successors.
-use Rattle.std.specs.Prelude.{◌≡◌, ◌≢◌, ℕ, List}
+use Rattle.std.specs.Prelude.{◌≡◌, ◌≢◌, ℕ, ◌<◌, List}
 use Rattle.std.specs.declared.cmp.Ordering.{Ordering}
 use Rattle.std.specs.declared.cmp.Ordering.TheVariants.{Less, Equal, Greater}
 
@@ -30,3 +30,7 @@ Separates cmp separator_of =
 -- each successor of a key is at least the key
 abbrev pub Succeeds : KeyOrder → (List ℕ → List ℕ) → Type 0
 Succeeds cmp successor_of = (key : List ℕ) → cmp key (successor_of key) ≢ Greater
+
+-- the key with the lower head is less
+abbrev pub HeadsRise : KeyOrder → (List ℕ → ℕ) → Type 0
+HeadsRise cmp head_of = (a b : List ℕ) → head_of a < head_of b → cmp a b ≡ Less

@@ -1,9 +1,10 @@
 -- The order of user keys by length first, its separator and its successor.
-use Rattle.std.specs.Prelude.{codes, ℕ, List, length}
+use Rattle.std.specs.Prelude.{codes, ℕ, ◌+◌, ◌*◌, ◌/◌, ◌^◌, List, length}
 use Rattle.std.specs.Ordering.{nat_cmp, ordering_then}
 use Rattle.std.specs.Cmp.Lexicographic.{slice_cmp}
 use Rattle.std.specs.declared.cmp.Ordering.{Ordering}
 use Rattle.ikey.specs.Comparator.{ShortKeys}
+use Rattle.ikey.specs.Bytewise.{bytewise_head}
 
 -- the comparator's name
 abbrev pub shortlex_name : List ℕ
@@ -24,3 +25,7 @@ shortlex_successor key = key
 -- the short keys of the order by length first
 abbrev pub shortlex_short_keys : ShortKeys
 shortlex_short_keys = record { separator = shortlex_separator; successor = shortlex_successor }
+
+-- the head of a key: its length, and then its first eight bytes
+unfoldable pub shortlex_head : List ℕ → ℕ
+shortlex_head key = length key * 2 ^ 64 + bytewise_head key / 2 ^ 64

@@ -1,13 +1,15 @@
 //! The order of user keys as unsigned bytes.
 
-ghost use Rattle.std.specs.Prelude.{◌≡◌, ◌+◌, ◌<◌, ◌≤◌, Ok, length, drop, slice_index};
+ghost use Rattle.std.specs.Prelude.{◌≡◌, ◌+◌, ◌-◌, ◌<◌, ◌≤◌, ◌++◌, Ok, length, drop, replicate};
+ghost use Rattle.std.specs.Prelude.{slice_index};
 ghost use Rattle.byteorder.specs.Endian.{big_number};
 ghost use Rattle.coding.specs.Answers.{EqualOrMemory};
 ghost use Rattle.ikey.specs.Bytewise.{bytewise_name, bytewise_cmp, bytewise_separator};
-ghost use Rattle.ikey.specs.Bytewise.{bytewise_short_keys};
+ghost use Rattle.ikey.specs.Bytewise.{bytewise_head, bytewise_short_keys};
 ghost use Rattle.ikey.specs.Bytewise.{bytewise_successor, first_raisable, raised_at};
 ghost use Rattle.std.proofs.lemmas.Cmp.{nat_list_cmp_total};
-ghost use Rattle.ikey.specs.BytewiseLaws.{bytewise_exact, bytewise_between, bytewise_above};
+ghost use Rattle.ikey.specs.BytewiseLaws.{bytewise_exact, bytewise_rises, bytewise_between};
+ghost use Rattle.ikey.specs.BytewiseLaws.{bytewise_above};
 
 use crate::comparator::{Comparator, SharedComparator};
 use byteorder::{BigEndian, ByteOrder};
@@ -17,6 +19,9 @@ use std::cmp::Ordering;
 
 /// How many bytes of two keys are compared at a time.
 const WORD_LEN: usize = 8;
+
+/// How many bytes of a key its head has.
+const HEAD_LEN: usize = 16;
 
 /// User keys as unsigned bytes, a proper prefix first: LevelDB's comparator.
 ///
@@ -32,11 +37,15 @@ impl Comparator for Bytewise {
 
     ghost cmp = { bytewise_cmp };
 
+    ghost head_of = { bytewise_head };
+
     ghost short_keys = { bytewise_short_keys };
 
     ghost total = { nat_list_cmp_total };
 
     ghost exact = { bytewise_exact };
+
+    ghost rising = { bytewise_rises };
 
     ghost between = { bytewise_between };
 
@@ -48,6 +57,11 @@ impl Comparator for Bytewise {
 
     fn compare(a: &[u8], b: &[u8]) -> Ordering {
         by_words(a, b)
+    }
+
+    #[inline]
+    fn head(key: &[u8]) -> u128 {
+        leading(key)
     }
 
     #[tactic(auto, unfolding(crate::specs::Bytewise::bytewise_separator))]
@@ -114,6 +128,37 @@ fn word_at(bytes: &[u8], place: usize) -> u64
     ensures { result ≡ big_number 8 (drop place bytes.now) }
 {
     BigEndian::read_u64(&bytes[place..])
+}
+
+/// The number in the first sixteen bytes, the most significant byte first, with zeros behind a
+/// shorter key.
+#[inline]
+pub(crate) fn leading(key: &[u8]) -> u128
+    ensures { result ≡ bytewise_head key.now }
+{
+    if key.len() < HEAD_LEN {
+        return short_leading(key);
+    }
+    BigEndian::read_u128(key)
+}
+
+/// The same of a key of fewer bytes.
+fn short_leading(key: &[u8]) -> u128
+    requires { length key.now < 16 }
+    ensures { result ≡ bytewise_head key.now }
+{
+    let bytes = with_zeros(key);
+    BigEndian::read_u128(&bytes)
+}
+
+/// A key of fewer than sixteen bytes, with zeros behind it.
+fn with_zeros(key: &[u8]) -> [u8; HEAD_LEN]
+    requires { length key.now < 16 }
+    ensures { result ≡ key.now ++ replicate (16 - length key.now) 0 }
+{
+    let mut bytes = [0; HEAD_LEN];
+    bytes[..key.len()].copy_from_slice(key);
+    bytes
 }
 
 /// The place of the first byte that isn't 0xff; the length if there is none.

@@ -4,7 +4,7 @@ ghost use Rattle.std.specs.Prelude.{◌≡◌, ℕ, List, Ok};
 ghost use Rattle.std.specs.declared.cmp.Ordering.{Ordering};
 ghost use Rattle.std.specs.Cmp.{IsTotalOrder};
 ghost use Rattle.coding.specs.Answers.{EqualOrMemory};
-ghost use Rattle.ikey.specs.Comparator.{IsExact, Separates, ShortKeys, Succeeds};
+ghost use Rattle.ikey.specs.Comparator.{HeadsRise, IsExact, Separates, ShortKeys, Succeeds};
 
 use coding::Fault;
 use std::alloc::Global;
@@ -17,6 +17,8 @@ pub trait Comparator {
 
     ghost cmp: { List ℕ → List ℕ → Ordering };
 
+    ghost head_of: { List ℕ → ℕ };
+
     ghost short_keys: { ShortKeys };
 
     /// The name that a version edit states.
@@ -26,6 +28,11 @@ pub trait Comparator {
     /// The order of `a` and `b`.
     fn compare(a: &[u8], b: &[u8]) -> Ordering
         ensures { result ≡ cmp a.now b.now };
+
+    /// A number that never falls if keys rise. Where the heads of two keys differ, they decide; equal
+    /// heads say nothing.
+    fn head(key: &[u8]) -> u128
+        ensures { result ≡ head_of key.now };
 
     /// A key at or above `start`; it is below `limit` if `start` is.
     ///
@@ -43,6 +50,8 @@ pub trait Comparator {
     ghost total: { IsTotalOrder cmp };
 
     ghost exact: { IsExact cmp };
+
+    ghost rising: { HeadsRise cmp head_of };
 
     ghost between: { Separates cmp short_keys.separator };
 

@@ -11,7 +11,7 @@ use Rattle.coding.specs.declared.fault.Fault.{Fault}
 use Rattle.coding.specs.declared.fault.FaultName.TheVariants.{Memory}
 use Rattle.table.specs.SoundTables.{IsCheckedTable}
 use Rattle.table.specs.TableContents.{Contents, contents_reading}
-use Rattle.table.specs.declared.sound_table.Bounds.{Bounds}
+use Rattle.table.specs.declared.bounds.Bounds.{Bounds}
 use Rattle.folder.specs.Calls.{Files, ToldFiles}
 use Rattle.folder.specs.LoadedTables.{IsTableOf}
 use Rattle.folder.specs.OpenAnswer.{FolderAnswers, IsStopped}
@@ -26,7 +26,7 @@ use Rattle.checks.proofs.TableRounds.{reading_append, tables_after}
 
 module _ (cmp : List ℕ → List ℕ → Ordering) where
   abbrev pub IsBoundOf : NumberedContents → Bounds → Type 0
-  IsBoundOf t b = IsCheckedTable cmp t.contents.bytes b.smallest b.largest
+  IsBoundOf t b = IsCheckedTable cmp t.contents.bytes b
 
   -- the bounds of tables that were checked are those of their bytes
   pub bounds_loaded : (loaded : List (ℕ × List ℕ)) (tables : List NumberedContents) (bounds : List Bounds) → tables_reading cmp loaded ≡ Ok tables → AllZip IsBoundOf tables bounds → AreBounds cmp loaded bounds
@@ -38,7 +38,7 @@ module _ (cmp : List ℕ → List ℕ → Ordering) where
   bounds_loaded (t ∷ loaded) tables (b ∷ bounds) read h =
       let parts = checked_parts cmp t loaded tables read in
       let both = subst (λ (ts : List NumberedContents). AllZip IsBoundOf ts (b ∷ bounds)) (sym parts.whole) h in
-      (subst (λ (bytes : List ℕ). IsCheckedTable cmp bytes b.smallest b.largest) (sym (own_bytes cmp t.1 parts.contents parts.read)) both.0, bounds_loaded loaded parts.behind bounds parts.rest both.1)
+      (subst (λ (bytes : List ℕ). IsCheckedTable cmp bytes b) (sym (own_bytes cmp t.1 parts.contents parts.read)) both.0, bounds_loaded loaded parts.behind bounds parts.rest both.1)
 
   -- a table more
   pub read_more : (before : List (ℕ × Vec ℕ)) (t : ℕ × Vec ℕ) (tables : List NumberedContents) (x : Contents) → tables_reading cmp (map lent_table before) ≡ Ok tables → contents_reading cmp t.1.items ≡ Ok x

@@ -7,7 +7,7 @@ use Rattle.coding.specs.Answers.{fault}
 use Rattle.coding.specs.declared.fault.Fault.{Fault}
 use Rattle.coding.specs.declared.fault.FaultName.TheVariants.{Missing}
 use Rattle.table.specs.SoundTables.{IsCheckedTable}
-use Rattle.table.specs.declared.sound_table.Bounds.{Bounds}
+use Rattle.table.specs.declared.bounds.Bounds.{Bounds}
 use Rattle.folder.specs.Calls.{ToldFiles}
 use Rattle.folder.specs.LoadedTables.{IsLoaded}
 use Rattle.reads.specs.Tables.{NumberedContents}
@@ -51,5 +51,5 @@ IsLoadedIfThere tells numbers (Err e) = ⊥
 -- the bytes of each are a table with these bounds
 abbrev pub AreBounds : (List ℕ → List ℕ → Ordering) → List (ℕ × List ℕ) → List Bounds → Type 0
 AreBounds cmp loaded bounds =
-    AllZip (λ (t : ℕ × List ℕ) (b : Bounds). IsCheckedTable cmp t.1 b.smallest b.largest)
+    AllZip (λ (t : ℕ × List ℕ) (b : Bounds). IsCheckedTable cmp t.1 b)
     loaded bounds

@@ -128,7 +128,7 @@ fn bounds_of_tables<'t, C: Comparator>(
     tables: Vec<NumberedTable<'t, C>>,
 ) -> Result<Vec<Bounds>, Fault>
     ensures bounds { IfOk result
-        (λ v. AllZip (λ t b. IsCheckedTable C.cmp t.contents.bytes b.smallest b.largest)
+        (λ v. AllZip (λ t b. IsCheckedTable C.cmp t.contents.bytes b)
         tables.entry.items v.items) }
     ensures memory { IfErr result (λ e. e ≡ fault Memory) }
 {

@@ -12,15 +12,16 @@ use Rattle.block.specs.EncodedEntry.{Entry}
 use Rattle.block.specs.BuilderView.{last_key}
 use Rattle.ikey.specs.Key.{user_of}
 use Rattle.table.specs.ReadingSteps.{test_result}
-use Rattle.table.specs.ReadingEntries.{first_key, key_behind, is_some_list, data_test}
-use Rattle.table.specs.Ends.{Ends, ends_of}
+use Rattle.table.specs.ReadingEntries.{HaveInternalKeys, first_key, key_behind, is_some_list, data_test}
+use Rattle.table.specs.BoundsReading.{bounds_of}
+use Rattle.table.specs.declared.bounds.Bounds.{Bounds}
 use Rattle.table.specs.ReadingIndex.{IndexEntry, block_in, index_reading}
 use Rattle.table.specs.TableContents.{DataBlock, blocks_reading, index_fits, data_reading, index_in, blocks_of, entries_of, Contents, contents_of, contents_reading, table_reading}
 use Rattle.table.specs.Checked.{contents_in}
-use Rattle.table.specs.SoundTables.{IsChecked}
+use Rattle.table.specs.SoundTables.{HasBounds, IsChecked}
 use Rattle.table.specs.ReadingTables.{IsTable}
 use Rattle.table.proofs.Steps.{fails_map}
-use Rattle.table.proofs.DataSteps.{all_ends}
+use Rattle.table.proofs.DataSteps.{all_bounds}
 
 -- ---- what it holds
 
@@ -150,17 +151,23 @@ map_ok : {A B : Type 0} (f : A → B) (r : Result A Fault) (y : B) → result_ma
 map_ok f (Ok x) y h = (x, refl, let same : f x ≡ y = cc in same)
 map_ok f (Err e) y h = absurd cc
 
-pub ends_refused : (cmp : List ℕ → List ℕ → Ordering) (bytes : List ℕ) (named : List Entry) (index : List IndexEntry) (d : Fault) → index_in bytes ≡ Ok named → index_reading bytes named ≡ Ok index → all_ends cmp index ≡ Err d
+pub bounds_refused : (cmp : List ℕ → List ℕ → Ordering) (bytes : List ℕ) (named : List Entry) (index : List IndexEntry) (d : Fault) → index_in bytes ≡ Ok named → index_reading bytes named ≡ Ok index → all_bounds cmp index ≡ Err d
     → contents_reading cmp bytes ≡ Err d
-ends_refused cmp bytes named index d e f h =
+bounds_refused cmp bytes named index d e f h =
     contents_refused cmp bytes d (blocks_by cmp bytes ∙ ap (λ (r : Result (List Entry) Fault). r >>= λ entries. index_reading bytes entries >>= λ is. data_reading cmp is) e
-    ∙ ap (λ (r : Result (List IndexEntry) Fault). r >>= λ is. data_reading cmp is) f ∙ map_err ends_of (data_reading cmp index) d h)
+    ∙ ap (λ (r : Result (List IndexEntry) Fault). r >>= λ is. data_reading cmp is) f ∙ map_err bounds_of (data_reading cmp index) d h)
 
-pub checked : (cmp : List ℕ → List ℕ → Ordering) (bytes : List ℕ) (named : List Entry) (index : List IndexEntry) (x : Ends) → index_in bytes ≡ Ok named → index_reading bytes named ≡ Ok index → all_ends cmp index ≡ Ok x
-    → IsChecked cmp bytes named x.smallest x.largest
-checked cmp bytes named index x e f h =
-    let a = map_ok ends_of (data_reading cmp index) x h in
-    record { index = index; blocks = a.0; index_block = e; index_entries = f; data_blocks = a.1; first = sym (ap (λ (y : Ends). y.smallest) a.2); last = sym (ap (λ (y : Ends). y.largest) a.2) }
+pub checked : (cmp : List ℕ → List ℕ → Ordering) (bytes : List ℕ) (named : List Entry) (index : List IndexEntry) (x : Bounds) → index_in bytes ≡ Ok named → index_reading bytes named ≡ Ok index → all_bounds cmp index ≡ Ok x
+    → ((es : List Entry) → table_reading cmp bytes ≡ Ok es → HaveInternalKeys es) → HasBounds cmp bytes named x
+checked cmp bytes named index x e f h keys =
+    let a = map_ok bounds_of (data_reading cmp index) x h in
+    let found : IsChecked cmp bytes named x.smallest x.largest =
+    record { index = index; blocks = a.0; index_block = e; index_entries = f; data_blocks = a.1; first = sym (ap (λ (y : Bounds). y.smallest) a.2); last = sym (ap (λ (y : Bounds). y.largest) a.2) } in
+    record {
+      checked = found;
+      keys = keys (entries_of a.0) (ap (λ (r : Result (List DataBlock) Fault). r >>= λ blocks. done (entries_of blocks)) (blocks_are cmp bytes named x.smallest x.largest found));
+      tally = sym (ap (λ (y : Bounds). y.tally) a.2);
+    }
 
 -- ---- the user keys of the index
 

@@ -6,6 +6,7 @@ pub mod Refused
 pub mod Indexes
 pub mod Cuts
 pub mod Steps
+pub mod Tallies
 pub mod DataSteps
 pub mod OneWalk
 pub mod CheckedTables
@@ -17,5 +18,6 @@ pub mod ReadBack
 pub mod StoredTables
 pub mod Tables
 pub mod NamedBlocks
+pub mod KeyBytes
 pub mod KeyLists
 pub mod OwnedTables

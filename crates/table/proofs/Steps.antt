@@ -14,7 +14,9 @@ use Rattle.block.specs.EncodedEntry.{Entry, IsBlock}
 use Rattle.block.specs.BuilderView.{last_key}
 use Rattle.block.specs.ReadingBlocks.{block_reading}
 use Rattle.table.specs.ReadingEntries.{first_key, entry_test, entries_test}
-use Rattle.table.specs.Ends.{ends_reading}
+use Rattle.table.specs.BoundsReading.{bounds_reading}
+use Rattle.table.specs.TallySteps.{tally_behind}
+use Rattle.table.specs.declared.tally.Tally.{Tally}
 use Rattle.table.specs.ReadingIndex.{IndexEntry, index_entry, index_reading}
 use Rattle.block.proofs.BlockReadings.{reads_blocks, refused}
 
@@ -96,9 +98,10 @@ handed_on {X} {Y} view r e d total same name h =
 
 -- ---- the bounds of a data block
 
-pub ends_refused : (cmp : List ℕ → List ℕ → Ordering) (before : Option (List ℕ)) (q : List Entry) (d : Fault) → 0 < length q → entries_test cmp before q ≡ Err d → ends_reading cmp before q ≡ Err d
-ends_refused cmp before [] d some h = absurd (omega arith)
-ends_refused cmp before (e ∷ q) d some h = ap (λ (r : Result (Unit {0}) Fault). r >>= λ _. done (record { smallest = first_key (e ∷ q); largest = last_key [] (e ∷ q) })) h
+pub bounds_refused : (cmp : List ℕ → List ℕ → Ordering) (before : Option (List ℕ)) (so_far : Tally) (q : List Entry) (d : Fault) → 0 < length q → entries_test cmp before q ≡ Err d → bounds_reading cmp before so_far q ≡ Err d
+bounds_refused cmp before so_far [] d some h = absurd (omega arith)
+bounds_refused cmp before so_far (e ∷ q) d some h =
+    ap (λ (r : Result (Unit {0}) Fault). r >>= λ _. done (record { smallest = first_key (e ∷ q); largest = last_key [] (e ∷ q); tally = tally_behind so_far before (e ∷ q) })) h
 
 -- ---- a loop's list
 

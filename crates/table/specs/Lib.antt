@@ -11,12 +11,14 @@ pub mod ReadingTables
 pub mod ReadingBack
 pub mod ReadingCursors
 pub mod Checked
+pub mod Tallies
 pub mod SoundTables
 -- serves proofs alone
 pub mod KeyLists
 pub mod Flushed
 pub mod BuilderState
 pub mod Indexed
-pub mod Ends
+pub mod TallySteps
+pub mod BoundsReading
 pub mod IndexWalk
 pub mod RestartSearch

@@ -8,7 +8,7 @@ use Rattle.coding.specs.declared.fault.Fault.{Fault}
 use Rattle.coding.specs.declared.fault.FaultName.TheVariants.{TooLarge, Order, Empty}
 use Rattle.block.specs.EncodedEntry.{Entry}
 use Rattle.block.specs.BuilderView.{last_key}
-use Rattle.ikey.specs.Key.{internal_key_reading}
+use Rattle.ikey.specs.Key.{IsInternalKey, internal_key_reading}
 use Rattle.ikey.specs.Order.{internal_cmp}
 use Rattle.ikey.specs.Comparator.{KeyOrder}
 use Rattle.table.specs.ReadingSteps.{test_result}
@@ -60,3 +60,7 @@ data_test cmp before entries = do
 -- each key is an internal key
 abbrev pub HaveKeys : List Entry → Type 0
 HaveKeys entries = AllByRecursion (λ e. internal_key_reading e.key ≡ Ok e.key) entries
+
+-- the same, and each key is bytes
+abbrev pub HaveInternalKeys : List Entry → Type 0
+HaveInternalKeys entries = AllByRecursion (λ e. IsInternalKey e.key) entries

@@ -3,9 +3,11 @@ use Rattle.std.specs.Prelude.{◌≡◌, ℕ, List, [], Ok}
 use Rattle.ikey.specs.Comparator.{KeyOrder}
 use Rattle.block.specs.EncodedEntry.{Entry}
 use Rattle.block.specs.BuilderView.{last_key}
-use Rattle.table.specs.ReadingEntries.{first_key}
+use Rattle.table.specs.ReadingEntries.{HaveInternalKeys, first_key}
 use Rattle.table.specs.ReadingIndex.{IndexEntry, index_reading}
 use Rattle.table.specs.TableContents.{DataBlock, index_in, data_reading, entries_of}
+use Rattle.table.specs.Tallies.{tally_of}
+use Rattle.table.specs.declared.bounds.Bounds.{Bounds}
 
 -- The bytes have an index block of these entries, and data blocks that begin with the first of
 -- these keys and end with the second.
@@ -19,8 +21,14 @@ pub record IsChecked (cmp : KeyOrder) (bytes : List ℕ) (named : List Entry)
   pub first : smallest ≡ first_key (entries_of blocks)
   pub last : largest ≡ last_key [] (entries_of blocks)
 
+-- the same, the keys are internal keys, and this is counted of the entries of the data blocks
+pub record HasBounds (cmp : KeyOrder) (bytes : List ℕ) (named : List Entry)
+    (bounds : Bounds) : Type 0 where
+  pub checked : IsChecked cmp bytes named bounds.smallest bounds.largest
+  pub keys : HaveInternalKeys (entries_of checked.blocks)
+  pub tally : bounds.tally ≡ tally_of (entries_of checked.blocks)
+
 -- the same for some entries of the index block
-pub record IsCheckedTable (cmp : KeyOrder) (bytes : List ℕ)
-    (smallest largest : List ℕ) : Type 0 where
+pub record IsCheckedTable (cmp : KeyOrder) (bytes : List ℕ) (bounds : Bounds) : Type 0 where
   pub named : List Entry
-  pub checked : IsChecked cmp bytes named smallest largest
+  pub has : HasBounds cmp bytes named bounds

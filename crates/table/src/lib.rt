@@ -14,6 +14,7 @@
 #![tactic(auto)]
 
 mod block_walk;
+mod bounds;
 mod builder;
 mod cursor;
 mod flushed;
@@ -28,14 +29,17 @@ mod sound_table;
 mod table_check;
 mod table_cursor;
 mod table_laws;
+mod tally;
 
+pub use bounds::Bounds;
 pub use builder::TableBuilder;
 pub use cursor::{Cursor, Entries};
 pub use key_list::KeyList;
 pub use layout::{push_closing, push_index_entry, push_stored};
 pub use options::{MAX_BLOCK_SIZE, Options};
 pub use owned_table::OwnedTable;
-pub use sound_table::{Bounds, SoundTable};
+pub use sound_table::SoundTable;
 pub use table_check::{MAX_TABLE_LEN, MAX_VALUE_LEN, check, reads_tables};
 pub use table_cursor::TableCursor;
 pub use table_laws::{data_blocks_law, table_reads_back};
+pub use tally::Tally;

@@ -6,7 +6,8 @@ ghost use Rattle.coding.specs.Answers.{EqualOrMemory, FailsOrMemory};
 ghost use Rattle.table.specs.TableContents.{contents_reading, index_in};
 ghost use Rattle.table.specs.SoundTables.{IsCheckedTable};
 
-use crate::sound_table::{Bounds, SoundTable};
+use crate::bounds::Bounds;
+use crate::sound_table::SoundTable;
 use crate::table_check::{check, stored_at};
 use block::{SoundBlock, reopen};
 use coding::Fault;
@@ -18,7 +19,7 @@ use std::marker::{Model, PhantomData};
 /// A table that was checked, and owns its bytes. It can be lent as a [`SoundTable`] again and
 /// again, and is not checked again. Contracts see what the table holds.
 ///
-/// Beside the bytes it keeps two keys.
+/// Beside the bytes it keeps two keys and what was counted.
 #[derive(Drop)]
 pub struct OwnedTable<C: Comparator> {
     bytes: Vec<u8>,
@@ -35,7 +36,7 @@ impl<C: Comparator> Model for OwnedTable<C> {
 
     ghost view = { λ t. contents_in C.cmp t.bytes.items };
 
-    ghost invariant = { λ t. IsCheckedTable C.cmp t.bytes.items t.bounds.smallest t.bounds.largest };
+    ghost invariant = { λ t. IsCheckedTable C.cmp t.bytes.items t.bounds };
 }
 
 impl<C: Comparator> OwnedTable<C> {
@@ -54,7 +55,7 @@ impl<C: Comparator> OwnedTable<C> {
     /// The table of these bytes, whose check found these bounds. No test is made again. Takes no
     /// memory.
     pub fn of(bytes: Vec<u8>, bounds: Bounds) -> OwnedTable<C>
-        requires { IsCheckedTable C.cmp bytes.items bounds.smallest bounds.largest }
+        requires { IsCheckedTable C.cmp bytes.items bounds }
         ensures { contents_reading C.cmp bytes.items ≡ Ok result }
     {
         OwnedTable {
@@ -99,9 +100,9 @@ impl<C: Comparator> OwnedTable<C> {
     }
 }
 
-/// The first and the last key of the table that the bytes are. Refused as `check` refuses them.
+/// What a check finds of the table that the bytes are. Refused as `check` refuses them.
 fn checked_bounds<C: Comparator>(alloc: Global, bytes: &[u8]) -> Result<Bounds, Fault>
-    ensures ok { IfOk result (λ b. IsCheckedTable C.cmp bytes.now b.smallest b.largest) }
+    ensures ok { IfOk result (IsCheckedTable C.cmp bytes.now) }
     ensures err { IfErr result (λ e. FailsOrMemory e (contents_reading C.cmp bytes.now)) }
 {
     let table = check::<C>(alloc, bytes)?;

@@ -6,17 +6,19 @@ ghost use Rattle.coding.specs.Answers.{EqualOrMemory};
 ghost use Rattle.table.specs.TableContents.{contents_reading};
 
 use crate::block_walk::first_key;
+use crate::bounds::Bounds;
 use crate::key_list::KeyList;
+use crate::tally::Tally;
 use block::{BlockCursor, SoundBlock};
 use coding::Fault;
-use ikey::{Comparator, InternalKey, KeyBuf};
+use ikey::{Comparator, InternalKey};
 use std::alloc::Global;
 use std::marker::{Model, PhantomData};
 
 /// A table that was checked: its bytes, the one list of its entries, and the user keys of its index
 /// in order.
 ///
-/// Beside the bytes it keeps two keys.
+/// Beside the bytes it keeps two keys and what was counted.
 #[derive(Drop)]
 pub struct SoundTable<'a, C: Comparator> {
     bytes: &'a [u8],
@@ -28,18 +30,20 @@ pub struct SoundTable<'a, C: Comparator> {
 impl<'a, C: Comparator> Model for SoundTable<'a, C> {
     ghost use Rattle.table.specs.Checked.{contents_in};
     ghost use Rattle.table.specs.TableContents.{Contents};
-    ghost use Rattle.table.specs.SoundTables.{IsChecked};
+    ghost use Rattle.table.specs.SoundTables.{HasBounds};
 
     ghost Value = { Contents };
 
     ghost view = { λ t. contents_in C.cmp t.bytes.now };
 
-    ghost invariant = { λ t.
-        IsChecked C.cmp t.bytes.now t.index.entries t.bounds.smallest t.bounds.largest };
+    ghost invariant = { λ t. HasBounds C.cmp t.bytes.now t.index.entries t.bounds };
 }
 
 impl<'a, C: Comparator> SoundTable<'a, C> {
-    ghost use Rattle.table.specs.SoundTables.{IsChecked, IsCheckedTable};
+    ghost use Rattle.table.specs.SoundTables.{HasBounds, IsCheckedTable};
+    ghost use Rattle.table.specs.Tallies.{tally_of};
+    ghost use Rattle.table.specs.ReadingCursors.{EntriesRise};
+    ghost use Rattle.table.specs.ReadingEntries.{HaveInternalKeys};
     ghost use Rattle.table.specs.IndexWalk.{Indexes};
 
     /// The bytes of the table, which read as what contracts see of it.
@@ -63,6 +67,16 @@ impl<'a, C: Comparator> SoundTable<'a, C> {
             ≡ option_map (λ e. e.key) (slice_get self.now.entries (length self.now.entries - 1)) }
     {
         self.bounds.largest.as_key()
+    }
+
+    /// What the check counted of the entries, whose keys are internal keys and rise. Takes no
+    /// memory.
+    pub fn tally(&self) -> Tally
+        ensures tally { result ≡ tally_of self.now.entries }
+        ensures keys { HaveInternalKeys self.now.entries }
+        ensures rising { EntriesRise C.cmp self.now.entries }
+    {
+        self.bounds.tally
     }
 
     /// The user keys of the index, one for each data block, in the order of the index.
@@ -99,7 +113,7 @@ impl<'a, C: Comparator> SoundTable<'a, C> {
 
     /// The table of these bytes, with this index block and these bounds.
     pub(crate) fn of(bytes: &'a [u8], index: SoundBlock<'a>, bounds: Bounds) -> SoundTable<'a, C>
-        requires { IsChecked C.cmp bytes.now index.entries bounds.smallest bounds.largest }
+        requires { HasBounds C.cmp bytes.now index.entries bounds }
         ensures { contents_reading C.cmp bytes.now ≡ Ok result }
     {
         SoundTable {
@@ -110,11 +124,11 @@ impl<'a, C: Comparator> SoundTable<'a, C> {
         }
     }
 
-    /// The first and the last key, which are what a check finds beside the bytes. With them
-    /// [`OwnedTable::of`](crate::OwnedTable::of()) makes the table of its bytes, without another
-    /// check. Takes no memory.
+    /// The first and the last key and what was counted, which is what a check finds beside the
+    /// bytes. With it [`OwnedTable::of`](crate::OwnedTable::of()) makes the table of its bytes,
+    /// without another check. Takes no memory.
     pub fn into_bounds(self) -> Bounds
-        ensures { IsCheckedTable C.cmp self.entry.bytes result.smallest result.largest }
+        ensures { IsCheckedTable C.cmp self.entry.bytes result }
     {
         self.bounds
     }
@@ -124,24 +138,5 @@ impl<'a, C: Comparator> SoundTable<'a, C> {
         ensures { Indexes C.cmp self.now.bytes result.now.entries self.now.entries }
     {
         &self.index
-    }
-}
-
-/// The first and the last key of entries.
-#[derive(Drop)]
-pub struct Bounds {
-    pub smallest: KeyBuf,
-    pub largest: KeyBuf,
-}
-
-impl Bounds {
-    /// A copy. The only fault is Memory.
-    pub(crate) fn copied(&self, alloc: Global) -> Result<Bounds, Fault>
-        ensures { EqualOrMemory (λ bounds. bounds) result (Ok self.now) }
-    {
-        Ok(Bounds {
-            smallest: KeyBuf::of(alloc, self.smallest.as_key())?,
-            largest: KeyBuf::of(alloc, self.largest.as_key())?,
-        })
     }
 }

@@ -12,11 +12,13 @@ ghost use Rattle.table.specs.ReadingTables.{IsTable, ReadsTables};
 ghost use Rattle.table.specs.ReadingEntries.{is_above, entry_test};
 ghost use Rattle.table.specs.ReadingIndex.{stored_at, block_in, index_entry, index_reading};
 ghost use Rattle.table.specs.TableContents.{data_reading, index_in, contents_reading};
-ghost use Rattle.table.specs.Ends.{ends_of, ends_reading, stored_ends};
+ghost use Rattle.table.specs.BoundsReading.{bounds_of, bounds_reading, stored_bounds};
 ghost use Rattle.table.specs.Indexed.{index_entry_of, index_entries_of};
 
+use crate::bounds::Bounds;
 use crate::indexed_block::IndexedBlock;
-use crate::sound_table::{Bounds, SoundTable};
+use crate::sound_table::SoundTable;
+use crate::tally::Tally;
 use block::{BlockCursor, CheckingCursor, SoundBlock};
 use coding::{Fault, FaultName};
 use frame::{BlockHandle, FOOTER_LEN, Footer, TRAILER_LEN, contents};
@@ -56,8 +58,8 @@ pub const MAX_VALUE_LEN: usize = 16_777_215;
 /// (1) Its checksum is that of contents and type: `Trailer`; the type isn't 1, which is Snappy's:
 ///     `Compressed`; it is 0: `BlockType`; the contents are a block: `Block`.
 ///
-/// Or the fault is Memory. It reads each data block once, and keeps two keys; on the way it takes
-/// the memory of the index keys. What a footer or an index claims is compared with the bytes that
+/// Or the fault is Memory. It reads each data block once, keeps two keys, and counts; on the way it
+/// takes the memory of the index keys. What a footer or an index claims is compared with the bytes that
 /// are there before memory is asked for.
 pub fn check<C: Comparator>(alloc: Global, bytes: &[u8]) -> Result<SoundTable<'_, C>, Fault>
     // The bytes are a table of what is read.
@@ -197,48 +199,57 @@ fn test_entry<'k, C: Comparator>(
 }
 
 /// The first and the last key of the entries still to come, after the key `before`, if they are of
-/// a block and pass their tests. A fault of an entry may be answered although the bytes are no
-/// block.
+/// a block and pass their tests. Counting goes on from `so_far`. A fault of an entry may be answered
+/// although the bytes are no block.
 fn bounds_ahead<C: Comparator>(
     alloc: Global,
     cursor: &mut CheckingCursor<'_>,
     before: Option<InternalKey<'_>>,
+    so_far: Tally,
 ) -> Result<Bounds, Fault>
     ensures block { OnOk result (block_reading cursor.old.bytes ≡ Ok cursor.old.all) }
-    ensures ends { IsOk (block_reading cursor.old.bytes)
-        → EqualOrMemory (λ b. record { smallest = b.smallest; largest = b.largest }) result
-        (ends_reading C.cmp (option_map (λ key. key.bytes.now) before.entry) cursor.old.ahead) }
+    ensures bounds { IsOk (block_reading cursor.old.bytes)
+        → EqualOrMemory (λ bounds. bounds) result (bounds_reading C.cmp
+        (option_map (λ key. key.bytes.now) before.entry) so_far cursor.old.ahead) }
 {
     if !cursor.valid() {
         return Err(Fault::of(FaultName::Empty));
     }
     let first = test_entry::<C>(before, cursor.key(), cursor.value())?;
+    let mut tally = so_far.with(before, first);
     let smallest = KeyBuf::of(alloc, first)?;
     let mut largest = KeyBuf::of(alloc, first)?;
     cursor.advance()?;
     while cursor.valid() {
-        let key = test_entry::<C>(Some(largest.as_key()), cursor.key(), cursor.value())?;
+        let last = Some(largest.as_key());
+        let key = test_entry::<C>(last, cursor.key(), cursor.value())?;
+        tally = tally.with(last, key);
         largest.set(key)?;
         cursor.advance()?;
     }
-    Ok(Bounds { smallest, largest })
+    Ok(Bounds {
+        smallest,
+        largest,
+        tally,
+    })
 }
 
 /// The first and the last key of a stored data block after the key `before`, or the first test that
-/// it fails. `cursor` walks over it, wherever it was before.
+/// it fails. Counting goes on from `so_far`. `cursor` walks over it, wherever it was before.
 fn bounds_of<'a, C: Comparator>(
     alloc: Global,
     cursor: &mut CheckingCursor<'a>,
     stored: &'a [u8],
     before: Option<InternalKey<'_>>,
+    so_far: Tally,
 ) -> Result<Bounds, Fault>
     requires { 5 ≤ length stored.now }
-    ensures { EqualOrMemory (λ b. record { smallest = b.smallest; largest = b.largest }) result
-        (stored_ends C.cmp (option_map (λ key. key.bytes.now) before.entry) stored.now) }
+    ensures { EqualOrMemory (λ bounds. bounds) result
+        (stored_bounds C.cmp (option_map (λ key. key.bytes.now) before.entry) so_far stored.now) }
 {
     let bytes = contents(stored)?;
     cursor.enter(bytes)?;
-    match bounds_ahead::<C>(alloc, cursor, before) {
+    match bounds_ahead::<C>(alloc, cursor, before, so_far) {
         Ok(bounds) => Ok(bounds),
         Err(refused) => {
             // What is wrong with the block itself comes first.
@@ -262,29 +273,30 @@ fn is_between<C: Comparator>(below: Option<&KeyBuf>, bounds: &Bounds, key: &KeyB
     above && bounds.largest.as_key().compare::<C>(&key.as_key()) != Ordering::Greater
 }
 
-/// The first and the last key of the data blocks that the index names, or the first test that they
-/// or the index keys among them fail.
+/// The first and the last key of the data blocks that the index names, and what is counted of their
+/// entries, or the first test that they or the index keys among them fail.
 fn bounds_of_all<'a, C: Comparator>(
     alloc: Global,
     index: &[IndexedBlock<'a>],
 ) -> Result<Bounds, Fault>
-    ensures { EqualOrMemory (λ b. record { smallest = b.smallest; largest = b.largest }) result
-        (result_map_both ends_of (λ e. e) (data_reading C.cmp (index_entries_of index.now))) }
+    ensures { EqualOrMemory (λ bounds. bounds) result
+        (result_map_both bounds_of (λ e. e) (data_reading C.cmp (index_entries_of index.now))) }
 {
     let Some((first, others)) = index.split_first() else {
         return Err(Fault::of(FaultName::Empty));
     };
     // One cursor walks all blocks, so the memory of its key is asked for once.
     let mut cursor = CheckingCursor::none(alloc);
-    let mut bounds = bounds_of::<C>(alloc, &mut cursor, first.stored, None)?;
+    let mut bounds = bounds_of::<C>(alloc, &mut cursor, first.stored, None, Tally::none())?;
     let mut fits = is_between::<C>(None, &bounds, &first.key);
     let mut below = &first.key;
     for entry in others {
         let before = Some(bounds.largest.as_key());
-        let next = bounds_of::<C>(alloc, &mut cursor, entry.stored, before)?;
+        let next = bounds_of::<C>(alloc, &mut cursor, entry.stored, before, bounds.tally)?;
         fits = is_between::<C>(Some(below), &next, &entry.key) && fits;
         below = &entry.key;
         bounds.largest = next.largest;
+        bounds.tally = next.tally;
     }
     if !fits {
         return Err(Fault::of(FaultName::Index));

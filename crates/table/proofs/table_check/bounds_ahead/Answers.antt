@@ -11,23 +11,28 @@ use Rattle.block.specs.EncodedEntry.{Entry}
 use Rattle.block.specs.BuilderView.{last_key}
 use Rattle.block.specs.ReadingBlocks.{block_reading}
 use Rattle.table.specs.ReadingEntries.{first_key, entry_test, entries_test}
-use Rattle.table.specs.Ends.{Ends, ends_reading}
-use Rattle.table.proofs.Steps.{first_entry, entries_go_on, entries_end, last_goes_on, ends_refused, handed_on}
+use Rattle.table.specs.BoundsReading.{bounds_reading}
+use Rattle.table.specs.TallySteps.{tally_behind, tally_with}
+use Rattle.table.specs.declared.bounds.Bounds.{Bounds}
+use Rattle.table.specs.declared.tally.Tally.{Tally}
+use Rattle.ikey.specs.declared.key.InternalKey.{InternalKey}
+use Rattle.table.proofs.Steps.{first_entry, entries_go_on, entries_end, last_goes_on, bounds_refused, handed_on}
 use Rattle.table.proofs.OneWalk.{walk_refused}
+use Rattle.table.proofs.Tallies.{tally_goes_on}
 use Rattle.table.proofs.Walks.{none_valid}
 use Rattle.table.proofs.table_check.bounds_ahead.Goals as goal
 
-pub returns-in_err-advance-clause-ends : goal.returns-in_err-advance-clause-ends
-returns-in_err-advance-clause-ends g c ok =
+pub returns-in_err-advance-clause-bounds : goal.returns-in_err-advance-clause-bounds
+returns-in_err-advance-clause-bounds g c ok =
     let p = err_from_is_err_and c.from_residual-in_err-advance.result c.from_residual-in_err-advance.ensures.1 in
     let d = c.in_err-advance.field-0.0 in
     let cursor = c.args.cursor.now in
-    let total = ends_reading g.C.Comparator.cmp (option_map (λ key. key.bytes.now) c.args.before) cursor.ahead in
-    handed_on (λ b. record { smallest = b.smallest; largest = b.largest }) c.from_residual-in_err-advance.result p.0 d total p.1 p.2
+    let total = bounds_reading g.C.Comparator.cmp (option_map (λ key. key.bytes.now) c.args.before) c.args.so_far cursor.ahead in
+    handed_on (λ b. b) c.from_residual-in_err-advance.result p.0 d total p.1 p.2
     (walk_refused d (block_reading cursor.bytes) total ok c.in_err-advance.ensures.refused)
 
-pub returns-in_err-key-clause-ends : goal.returns-in_err-key-clause-ends
-returns-in_err-key-clause-ends g c ok =
+pub returns-in_err-key-clause-bounds : goal.returns-in_err-key-clause-bounds
+returns-in_err-key-clause-bounds g c ok =
     let p = err_from_is_err_and c.from_residual-in_err-key.result c.from_residual-in_err-key.ensures.1 in
     let cmp = g.C.Comparator.cmp in
     let q = c.loop-largest.cursor.ahead in
@@ -42,16 +47,16 @@ returns-in_err-key-clause-ends g c ok =
     let total : entries_test cmp before entries ≡ Err d = entries_end cmp (Some c.loop-largest.largest) q k v d (entries_test cmp before entries) first refused c.loop-largest.invariant.tests in
     let start = first_entry entries c.key.result.now c.value.result.now c.key.ensures c.value.ensures in
     let some : 0 < length entries = subst (λ (es : List Entry). 0 < length es) (sym start) (omega arith) in
-    handed_on (λ b. record { smallest = b.smallest; largest = b.largest }) c.from_residual-in_err-key.result p.0 d (ends_reading cmp before entries) p.1 p.2
-    (FailsOrMemory-from d (ends_reading cmp before entries) (ends_refused cmp before entries d some total))
+    handed_on (λ b. b) c.from_residual-in_err-key.result p.0 d (bounds_reading cmp before c.args.so_far entries) p.1 p.2
+    (FailsOrMemory-from d (bounds_reading cmp before c.args.so_far entries) (bounds_refused cmp before c.args.so_far entries d some total))
 
-pub returns-in_err-advance-2-clause-ends : goal.returns-in_err-advance-2-clause-ends
-returns-in_err-advance-2-clause-ends g c ok =
+pub returns-in_err-advance-2-clause-bounds : goal.returns-in_err-advance-2-clause-bounds
+returns-in_err-advance-2-clause-bounds g c ok =
     let p = err_from_is_err_and c.from_residual-in_err-advance-2.result c.from_residual-in_err-advance-2.ensures.1 in
     let d = c.in_err-advance-2.field-0.0 in
     let cursor = c.args.cursor.now in
-    let total = ends_reading g.C.Comparator.cmp (option_map (λ key. key.bytes.now) c.args.before) cursor.ahead in
-    handed_on (λ b. record { smallest = b.smallest; largest = b.largest }) c.from_residual-in_err-advance-2.result p.0 d total p.1 p.2
+    let total = bounds_reading g.C.Comparator.cmp (option_map (λ key. key.bytes.now) c.args.before) c.args.so_far cursor.ahead in
+    handed_on (λ b. b) c.from_residual-in_err-advance-2.result p.0 d total p.1 p.2
     (walk_refused d (block_reading cursor.bytes) total ok (subst (λ (bytes : List ℕ). FailsOrMemory d (block_reading bytes)) c.loop-largest.invariant.bytes c.in_err-advance-2.ensures.refused))
 
 pub returns-clause-block : goal.returns-clause-block
@@ -59,8 +64,8 @@ returns-clause-block g c =
     let kept = c.loop-largest.invariant in
     subst (λ (bytes : List ℕ). block_reading bytes ≡ Ok c.args.cursor.now.all) kept.bytes (c.valid-in-loop-largest.ensures.ended c.loop-largest-test.false ∙ ap (λ (es : List Entry). done es) kept.all)
 
-pub returns-in_err-first-clause-ends : goal.returns-in_err-first-clause-ends
-returns-in_err-first-clause-ends g c ok =
+pub returns-in_err-first-clause-bounds : goal.returns-in_err-first-clause-bounds
+returns-in_err-first-clause-bounds g c ok =
     let p = err_from_is_err_and c.from_residual.result c.from_residual.ensures.1 in
     let cmp = g.C.Comparator.cmp in
     let d = c.in_err-first.field-0.0 in
@@ -71,8 +76,8 @@ returns-in_err-first-clause-ends g c ok =
     let start = first_entry entries k v c.key.ensures c.value.ensures in
     let total : entries_test cmp before entries ≡ Err d = entries_end cmp before entries k v d (entries_test cmp before entries) start c.in_err-first.ensures.test refl in
     let some : 0 < length entries = c.valid.ensures.some.0 c.if-not-valid.false in
-    handed_on (λ b. record { smallest = b.smallest; largest = b.largest }) c.from_residual.result p.0 d (ends_reading cmp before entries) p.1 p.2
-    (FailsOrMemory-from d (ends_reading cmp before entries) (ends_refused cmp before entries d some total))
+    handed_on (λ b. b) c.from_residual.result p.0 d (bounds_reading cmp before c.args.so_far entries) p.1 p.2
+    (FailsOrMemory-from d (bounds_reading cmp before c.args.so_far entries) (bounds_refused cmp before c.args.so_far entries d some total))
 
 -- ---- an entry is there
 
@@ -101,6 +106,29 @@ loop-largest-smaller g c =
 
 -- ---- the walk and its end
 
+pub loop-largest-init : goal.loop-largest-init
+loop-largest-init g c =
+    let cmp = g.C.Comparator.cmp in
+    let k = c.key.result.now in
+    let v = c.value.result.now in
+    let entries = c.args.cursor.now.ahead in
+    let before : Option (List ℕ) = option_map (λ key. key.bytes.now) c.args.before in
+    let ok = c.in_ok-advance.ensures.ok in
+    let start = first_entry entries k v c.key.ensures c.value.ensures in
+    let largest : c.in_ok-largest.largest ≡ k = sym (ok_is _ _ c.in_ok-largest.ensures) ∙ c.in_ok-first.ensures.key in
+    let tests : entries_test cmp (Some k) (drop 1 entries) ≡ entries_test cmp before entries = entries_go_on cmp before entries k v (entries_test cmp before entries) start c.in_ok-first.ensures.test refl in
+    let last : last_key k (drop 1 entries) ≡ last_key [] entries = last_goes_on [] entries k v (last_key [] entries) start refl in
+    let with_key : c.with-tally.result ≡ tally_with c.args.so_far before k = c.with-tally.ensures ∙ ap (tally_with c.args.so_far before) c.in_ok-first.ensures.key in
+    let tally : tally_behind c.with-tally.result (Some k) (drop 1 entries) ≡ tally_behind c.args.so_far before entries =
+    ap (λ (t : Tally). tally_behind t (Some k) (drop 1 entries)) with_key ∙ tally_goes_on c.args.so_far before entries k v (tally_behind c.args.so_far before entries) start refl in
+    record {
+      bytes = ap (λ walk. walk.bytes) ok;
+      all = ap (λ walk. walk.all) ok;
+      tests = rw (ap (λ walk. walk.ahead) ok) (rw largest tests);
+      last = rw (ap (λ walk. walk.ahead) ok) (rw largest last);
+      tally = rw (ap (λ walk. walk.ahead) ok) (rw largest tally);
+    }
+
 pub loop-largest-preserved : goal.loop-largest-preserved
 loop-largest-preserved g c =
     let cmp = g.C.Comparator.cmp in
@@ -117,24 +145,31 @@ loop-largest-preserved g c =
     let tests : entries_test cmp (Some k) (drop 1 q) ≡ entries_test cmp before entries = entries_go_on cmp (Some c.loop-largest.largest) q k v (entries_test cmp before entries) first passed kept.tests in
     let last : last_key k (drop 1 q) ≡ last_key [] entries = last_goes_on c.loop-largest.largest q k v (last_key [] entries) first kept.last in
     let set = c.in_ok-set.ensures.ok ∙ c.in_ok-key.ensures.key in
+    let last_is : option_map (λ (key : InternalKey). key.bytes.now) (Some c.as_key.result) ≡ Some c.loop-largest.largest = ap (λ (b : List ℕ). Some b) c.as_key.ensures in
+    let with_key : c.with-tally-in-loop-largest.result ≡ tally_with c.loop-largest.tally (Some c.loop-largest.largest) k =
+    c.with-tally-in-loop-largest.ensures ∙ ap (λ (b : Option (List ℕ)). tally_with c.loop-largest.tally b c.in_ok-key.key.bytes.now) last_is ∙ ap (tally_with c.loop-largest.tally (Some c.loop-largest.largest)) c.in_ok-key.ensures.key in
+    let tally : tally_behind c.with-tally-in-loop-largest.result (Some k) (drop 1 q) ≡ tally_behind c.args.so_far before entries =
+    ap (λ (t : Tally). tally_behind t (Some k) (drop 1 q)) with_key ∙ tally_goes_on c.loop-largest.tally (Some c.loop-largest.largest) q k v (tally_behind c.args.so_far before entries) first kept.tally in
     record {
       bytes = ap (λ walk. walk.bytes) ok ∙ kept.bytes;
       all = ap (λ walk. walk.all) ok ∙ kept.all;
       tests = rw (ap (λ walk. walk.ahead) ok) (rw set tests);
       last = rw (ap (λ walk. walk.ahead) ok) (rw set last);
+      tally = rw (ap (λ walk. walk.ahead) ok) (rw set tally);
     }
 
--- entries that pass their tests have these ends
-ends_read : (cmp : List ℕ → List ℕ → Ordering) (before : Option (List ℕ)) (q : List Entry) (smallest largest : List ℕ) → 0 < length q → entries_test cmp before q ≡ Ok tt → first_key q ≡ smallest → last_key [] q ≡ largest
-    → ends_reading cmp before q ≡ Ok (record { smallest = smallest; largest = largest })
-ends_read cmp before [] smallest largest some passed first last = absurd (omega (arith, some))
-ends_read cmp before (e ∷ q) smallest largest some passed first last =
-    ap (λ (r : Result (Unit {0}) Fault). r >>= λ _. done (record { smallest = first_key (e ∷ q); largest = last_key [] (e ∷ q) })) passed
-    ∙ ap (λ (k : List ℕ). let x : Ends = record { smallest = k; largest = last_key [] (e ∷ q) } in done x) first
-    ∙ ap (λ (k : List ℕ). let x : Ends = record { smallest = smallest; largest = k } in done x) last
+-- entries that pass their tests have these bounds
+bounds_read : (cmp : List ℕ → List ℕ → Ordering) (before : Option (List ℕ)) (so_far : Tally) (q : List Entry) (x : Bounds) → 0 < length q → entries_test cmp before q ≡ Ok tt → first_key q ≡ x.smallest → last_key [] q ≡ x.largest
+    → tally_behind so_far before q ≡ x.tally → bounds_reading cmp before so_far q ≡ Ok x
+bounds_read cmp before so_far [] x some passed first last counted = absurd (omega (arith, some))
+bounds_read cmp before so_far (e ∷ q) x some passed first last counted =
+    ap (λ (r : Result (Unit {0}) Fault). r >>= λ _. done (record { smallest = first_key (e ∷ q); largest = last_key [] (e ∷ q); tally = tally_behind so_far before (e ∷ q) })) passed
+    ∙ ap (λ (k : List ℕ). let y : Bounds = record { smallest = k; largest = last_key [] (e ∷ q); tally = tally_behind so_far before (e ∷ q) } in done y) first
+    ∙ ap (λ (k : List ℕ). let y : Bounds = record { smallest = x.smallest; largest = k; tally = tally_behind so_far before (e ∷ q) } in done y) last
+    ∙ ap (λ (t : Tally). let y : Bounds = record { smallest = x.smallest; largest = x.largest; tally = t } in done y) counted
 
-pub returns-clause-ends : goal.returns-clause-ends
-returns-clause-ends g c ok =
+pub returns-clause-bounds : goal.returns-clause-bounds
+returns-clause-bounds g c ok =
     let cmp = g.C.Comparator.cmp in
     let q = c.loop-largest.cursor.ahead in
     let entries = c.args.cursor.now.ahead in
@@ -142,8 +177,10 @@ returns-clause-ends g c ok =
     let kept = c.loop-largest.invariant in
     let start = first_entry entries c.key.result.now c.value.result.now c.key.ensures c.value.ensures in
     let none : q ≡ [] = nil_from_length q (none_valid c.valid-in-loop-largest.result q c.valid-in-loop-largest.ensures.some.1 c.loop-largest-test.false) in
-    ends_read cmp before entries c.in_ok-smallest.smallest c.loop-largest.largest
+    let found : Bounds = record { smallest = c.in_ok-smallest.smallest; largest = c.loop-largest.largest; tally = c.loop-largest.tally } in
+    bounds_read cmp before c.args.so_far entries found
     (c.valid.ensures.some.0 c.if-not-valid.false)
     (sym kept.tests ∙ ap (entries_test cmp (Some c.loop-largest.largest)) none)
     (ap first_key start ∙ sym c.in_ok-first.ensures.key ∙ ok_is _ _ c.in_ok-smallest.ensures)
     (sym kept.last ∙ ap (last_key c.loop-largest.largest) none)
+    (sym kept.tally ∙ ap (tally_behind c.loop-largest.tally (Some c.loop-largest.largest)) none)

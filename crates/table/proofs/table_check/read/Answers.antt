@@ -1,13 +1,16 @@
-use Rattle.std.proofs.Common.{List, sym, ap, ◌∙◌}
+use Rattle.std.proofs.Common.{List, sym, ap, ◌∙◌, arith}
 use Rattle.std.proofs.lemmas.Result.{err_from_is_err_and}
-use Rattle.table.specs.Ends.{Ends}
+use Rattle.table.specs.declared.bounds.Bounds.{Bounds}
 use Rattle.table.specs.ReadingIndex.{IndexEntry, index_reading}
 use Rattle.table.specs.TableContents.{index_in, contents_reading}
 use Rattle.table.specs.Indexed.{index_entries_of}
 use Rattle.table.specs.declared.indexed_block.IndexedBlock.{IndexedBlock}
 use Rattle.table.proofs.Steps.{fails_map, handed_on}
-use Rattle.table.proofs.DataSteps.{all_ends}
-use Rattle.table.proofs.CheckedTables.{index_refused, entries_refused, ends_refused, checked}
+use Rattle.table.proofs.DataSteps.{all_bounds}
+use Rattle.coding.proofs.Bytes.{IsBytes}
+use Rattle.table.proofs.KeyBytes.{table_keys}
+use Rattle.table.proofs.Tables.{reads_tables}
+use Rattle.table.proofs.CheckedTables.{index_refused, entries_refused, bounds_refused, checked}
 use Rattle.table.proofs.table_check.read.Goals as goal
 
 pub returns-in_err-block : goal.returns-in_err-block
@@ -37,15 +40,17 @@ returns-in_err-bounds g c =
     let d = c.in_err-bounds.field-0.0 in
     let named = c.in_ok-block.block.entries in
     let index : List IndexEntry = index_entries_of c.in_ok-index.index.items in
-    let lent = ap (λ (xs : List IndexedBlock). all_ends cmp (index_entries_of xs)) c.deref.ensures.value in
+    let lent = ap (λ (xs : List IndexedBlock). all_bounds cmp (index_entries_of xs)) c.deref.ensures.value in
     handed_on (λ t. t) c.from_residual-in_err-bounds.result p.0 d (contents_reading cmp bytes) p.1 p.2
-    (fails_map d (all_ends cmp (index_entries_of c.deref.result.now)) (contents_reading cmp bytes) (λ h. ends_refused cmp bytes named index d c.in_ok-block.ensures c.in_ok-index.ensures (sym lent ∙ h)) c.in_err-bounds.ensures)
+    (fails_map d (all_bounds cmp (index_entries_of c.deref.result.now)) (contents_reading cmp bytes) (λ h. bounds_refused cmp bytes named index d c.in_ok-block.ensures c.in_ok-index.ensures (sym lent ∙ h)) c.in_err-bounds.ensures)
 
 pub of-requires : goal.of-requires
 of-requires g c =
     let cmp = g.C.Comparator.cmp in
     let bytes = c.args.bytes.now in
     let index : List IndexEntry = index_entries_of c.in_ok-index.index.items in
-    let x : Ends = record { smallest = c.in_ok-bounds.bounds.smallest; largest = c.in_ok-bounds.bounds.largest } in
-    let lent = ap (λ (xs : List IndexedBlock). all_ends cmp (index_entries_of xs)) c.deref.ensures.value in
+    let x : Bounds = c.in_ok-bounds.bounds in
+    let lent = ap (λ (xs : List IndexedBlock). all_bounds cmp (index_entries_of xs)) c.deref.ensures.value in
+    let fits : IsBytes bytes = λ i. omega (arith, c.type_inv.bytes i) in
     checked cmp bytes c.in_ok-block.block.entries index x c.in_ok-block.ensures c.in_ok-index.ensures (sym lent ∙ c.in_ok-bounds.ensures)
+    (λ es h. table_keys cmp bytes es fits ((reads_tables cmp g.met.C.Comparator.total).found bytes es fits h))

@@ -9,7 +9,7 @@ pub returns-clause-bytes : goal.returns-clause-bytes
 returns-clause-bytes g c =
     let cmp = g.C.Comparator.cmp in
     let t = c.self.inside in
-    let k = c.self.invariant.checked in
+    let k = c.self.invariant.has.checked in
     let found = blocks_are cmp t.bytes.items c.self.invariant.named t.bounds.smallest t.bounds.largest k in
     c.deref.ensures.value ∙ sym (ap (λ (x : Contents). x.bytes) (sym c.self.view_is ∙ contents_are cmp t.bytes.items k.blocks found))
 
@@ -17,7 +17,7 @@ pub returns-clause-reading : goal.returns-clause-reading
 returns-clause-reading g c =
     let cmp = g.C.Comparator.cmp in
     let t = c.self.inside in
-    let k = c.self.invariant.checked in
+    let k = c.self.invariant.has.checked in
     let found = blocks_are cmp t.bytes.items c.self.invariant.named t.bounds.smallest t.bounds.largest k in
     let same : c.args.self.now.bytes ≡ t.bytes.items = ap (λ (x : Contents). x.bytes) (sym c.self.view_is ∙ contents_are cmp t.bytes.items k.blocks found) in
     let ok : Contents → Result Contents Fault = λ x. Ok x in

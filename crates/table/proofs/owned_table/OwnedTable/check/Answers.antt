@@ -19,10 +19,10 @@ returns-in_err-bounds g c =
 
 pub invariant_of-result : goal.invariant_of-result
 invariant_of-result g c =
-    subst (λ (bytes : List ℕ). IsCheckedTable g.C.Comparator.cmp bytes c.in_ok-bounds.bounds.smallest c.in_ok-bounds.bounds.largest) c.deref.ensures.value c.in_ok-bounds.ensures.ok
+    subst (λ (bytes : List ℕ). IsCheckedTable g.C.Comparator.cmp bytes c.in_ok-bounds.bounds) c.deref.ensures.value c.in_ok-bounds.ensures.ok
 
 pub returns : goal.returns
 returns g c =
     let cmp = g.C.Comparator.cmp in
-    let k = subst (λ (bytes : List ℕ). IsCheckedTable cmp bytes c.in_ok-bounds.bounds.smallest c.in_ok-bounds.bounds.largest) c.deref.ensures.value c.in_ok-bounds.ensures.ok in
-    contents_read cmp c.args.bytes.items k.checked.blocks (blocks_are cmp c.args.bytes.items k.named c.in_ok-bounds.bounds.smallest c.in_ok-bounds.bounds.largest k.checked)
+    let k = subst (λ (bytes : List ℕ). IsCheckedTable cmp bytes c.in_ok-bounds.bounds) c.deref.ensures.value c.in_ok-bounds.ensures.ok in
+    contents_read cmp c.args.bytes.items k.has.checked.blocks (blocks_are cmp c.args.bytes.items k.named c.in_ok-bounds.bounds.smallest c.in_ok-bounds.bounds.largest k.has.checked)

@@ -9,7 +9,7 @@ use Rattle.table.proofs.owned_table.OwnedTable.largest.Goals as goal
 pub returns : goal.returns
 returns g c =
     let cmp = g.C.Comparator.cmp in
-    let k = c.self.invariant.checked in
+    let k = c.self.invariant.has.checked in
     let t = c.self.inside in
     let blocks = blocks_are cmp t.bytes.items c.self.invariant.named t.bounds.smallest t.bounds.largest k in
     let same : c.args.self.now.entries ≡ entries_of k.blocks = ap (λ (x : Contents). x.entries) (sym c.self.view_is ∙ contents_are cmp t.bytes.items k.blocks blocks) in

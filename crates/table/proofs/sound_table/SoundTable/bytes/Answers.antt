@@ -9,7 +9,7 @@ pub returns-clause-reading : goal.returns-clause-reading
 returns-clause-reading g c =
     let cmp = g.C.Comparator.cmp in
     let t = c.self.inside in
-    let k = c.self.invariant in
+    let k = c.self.invariant.checked in
     let found = blocks_are cmp t.bytes.now t.index.entries t.bounds.smallest t.bounds.largest k in
     let same : c.args.self.now.bytes ≡ t.bytes.now = ap (λ (x : Contents). x.bytes) (sym c.self.view_is ∙ contents_are cmp t.bytes.now k.blocks found) in
     let ok : Contents → Result Contents Fault = λ x. Ok x in

@@ -17,7 +17,7 @@ pub loop-users-init : goal.loop-users-init
 loop-users-init g c =
     let cmp = g.C.Comparator.cmp in
     let t = c.self.inside in
-    let x = indexes cmp t.bytes.now t.index.entries t.bounds.smallest t.bounds.largest c.args.self.now g.met.C.Comparator.total c.self.invariant c.self.view_is in
+    let x = indexes cmp t.bytes.now t.index.entries t.bounds.smallest t.bounds.largest c.args.self.now g.met.C.Comparator.total c.self.invariant.checked c.self.view_is in
     record {
       users = rw c.new-users.ensures refl;
       keys = subst HaveKeys (sym c.in_ok-entries.ensures.all) (named_keys cmp c.args.self.now.bytes t.index.entries x.named);
@@ -39,7 +39,7 @@ loop-users-preserved g c =
 pub returns : goal.returns
 returns g c =
     let t = c.self.inside in
-    let k = c.self.invariant in
+    let k = c.self.invariant.checked in
     let front : List (List ℕ) = c.loop-users.users in
     let ended : c.loop-users.entries ≡ [] = nil_from_length c.loop-users.entries (none_valid c.valid.result c.loop-users.entries c.valid.ensures.1 c.loop-users-test.false) in
     let none : front ++ users_in c.loop-users.entries ≡ front = ap (λ (es : List Entry). front ++ users_in es) ended ∙ append-nil front in

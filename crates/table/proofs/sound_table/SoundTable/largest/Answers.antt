@@ -9,7 +9,7 @@ use Rattle.table.proofs.sound_table.SoundTable.largest.Goals as goal
 pub returns : goal.returns
 returns g c =
     let cmp = g.C.Comparator.cmp in
-    let k = c.self.invariant in
+    let k = c.self.invariant.checked in
     let t = c.self.inside in
     let blocks = blocks_are cmp t.bytes.now t.index.entries t.bounds.smallest t.bounds.largest k in
     let same : c.args.self.now.entries ≡ entries_of k.blocks = ap (λ (x : Contents). x.entries) (sym c.self.view_is ∙ contents_are cmp t.bytes.now k.blocks blocks) in

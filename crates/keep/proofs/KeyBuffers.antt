@@ -1,15 +1,18 @@
 -- Entries as they are stored in a range's run.
-use Rattle.std.proofs.Common.{◌≡◌, ℕ, zero, suc, ◌-◌, ◌<◌, ◌≤◌, List, [], ◌∷◌, ◌++◌, length, take, drop, get_or, Some, refl, sym, ap, subst, ◌∙◌, arith, length-append}
-use Rattle.std.specs.Prelude.{slice_get, slice_range}
-use Rattle.std.specs.List.{AllByRecursion}
+use Rattle.std.proofs.Common.{◌≡◌, ℕ, zero, suc, ◌+◌, ◌*◌, ◌-◌, ◌<◌, ◌≤◌, List, [], ◌∷◌, ◌++◌, length, map, min, take, drop, get_or, Some, refl, sym, ap, subst, ◌∙◌, arith, length-append}
+use Rattle.std.specs.Prelude.{nat_eq, slice_get, slice_range}
+use Rattle.std.specs.List.{AllByRecursion, common_prefix_len}
+use Rattle.std.specs.Option.{option_map}
 use Rattle.std.proofs.Math.Seq.{drop-append_seam}
-use Rattle.std.proofs.lemmas.List.{length-drop, take-append-le, take_all}
-use Rattle.std.proofs.lemmas.Option.{same_Some, none-some}
+use Rattle.std.proofs.lemmas.List.{length-drop, length-map, length-take, map-append, drop-drop, drop-map, take-append-le, take_all}
+use Rattle.std.proofs.lemmas.Option.{same_Some, none-some, slice_get-map, slice_get_read}
 use Rattle.ikey.specs.Key.{IsInternalKey}
 use Rattle.block.specs.EncodedEntry.{Entry}
+use Rattle.block.specs.BuilderView.{last_key}
 use Rattle.merge.proofs.Orders.{all_append}
 use Rattle.keep.specs.declared.kept_entry.KeptEntry.{KeptEntry}
-use Rattle.keep.specs.KeyBuffer.{entries_at, AreBufferEnds, AreKeys}
+use Rattle.keep.specs.KeyBuffer.{entries_at, start_of, AreBufferEnds, AreKeys}
+use Rattle.keep.specs.SharedLengths.{shared_lens}
 
 ends_last : (at last : ℕ) (ks : List KeptEntry) → AreBufferEnds at last ks → at ≤ last
 ends_last at last [] h = omega (arith, h)
@@ -45,25 +48,78 @@ ends_push : (at : ℕ) (keys key : List ℕ) (ks : List KeptEntry) (k : KeptEntr
 ends_push at keys key [] k h e = (omega (arith, h, e, length-append keys key), e)
 ends_push at keys key (j ∷ ks) k h e = (h.0, ends_push j.end keys key ks k h.1 e)
 
-pub keys_push : (keys key : List ℕ) (ks : List KeptEntry) (k : KeptEntry) → AreKeys keys ks → k.end ≡ length (keys ++ key) → IsInternalKey key → AreKeys (keys ++ key) (ks ++ k ∷ [])
-keys_push keys key ks k h e internal = record {
-  ends = ends_push 0 keys key ks k h.ends e;
-  internal =
-      subst (AllByRecursion (λ (f : Entry). IsInternalKey f.key)) (sym (entries_push 0 keys key ks k h.ends e))
-      (all_append (λ (f : Entry). IsInternalKey f.key) (entries_at 0 keys ks) (record { key = key; value = k.value.now } ∷ []) h.internal (internal, tt));
-}
-
--- ---- one of them
+-- ---- the lengths that keys share
 
 pub length-entries : (at : ℕ) (keys : List ℕ) (ks : List KeptEntry) → length (entries_at at keys ks) ≡ length ks
 length-entries at keys [] = refl
 length-entries at keys (k ∷ ks) = ap suc (length-entries k.end keys ks)
 
--- where the key of the entry at a place begins
-abbrev pub start_of : ℕ → List KeptEntry → ℕ → ℕ
-start_of at ks zero = at
-start_of at [] (suc i) = at
-start_of at (k ∷ ks) (suc i) = start_of k.end ks i
+tail_same : (before other : List ℕ) (es : List Entry) → drop 1 (shared_lens before es) ≡ drop 1 (shared_lens other es)
+tail_same before other [] = refl
+tail_same before other (e ∷ es) = refl
+
+pub shared_push : (before : List ℕ) (es : List Entry) (e : Entry) → shared_lens before (es ++ e ∷ []) ≡ shared_lens before es ++ common_prefix_len nat_eq (last_key before es) e.key ∷ []
+shared_push before [] e = refl
+shared_push before (f ∷ es) e = ap (λ (ns : List ℕ). common_prefix_len nat_eq before f.key ∷ ns) (shared_push f.key es e)
+
+pub shared_drop : (n : ℕ) (before : List ℕ) (es : List Entry) → drop n (shared_lens before es) ≡ shared_lens (last_key before (take n es)) (drop n es)
+shared_drop zero before es = refl
+shared_drop (suc n) before [] = refl
+shared_drop (suc n) before (e ∷ es) = shared_drop n e.key es
+
+length-shared : (before : List ℕ) (es : List Entry) → length (shared_lens before es) ≡ length es
+length-shared before [] = refl
+length-shared before (e ∷ es) = ap suc (length-shared e.key es)
+
+-- lists that are the same but for their first
+tail_grown : (xs ys : List ℕ) (n m : ℕ) → length xs ≡ length ys → drop 1 xs ≡ drop 1 ys → (0 < length ys → n ≡ m) → drop 1 (xs ++ n ∷ []) ≡ drop 1 (ys ++ m ∷ [])
+tail_grown [] [] n m l h same = refl
+tail_grown [] (y ∷ ys) n m l h same = absurd (omega (arith, l))
+tail_grown (x ∷ xs) [] n m l h same = absurd (omega (arith, l))
+tail_grown (x ∷ xs) (y ∷ ys) n m l h same = ap (λ (zs : List ℕ). zs ++ n ∷ []) h ∙ ap (λ (k : ℕ). ys ++ k ∷ []) (same (omega arith))
+
+tail_at : (xs ys : List ℕ) (i : ℕ) → 0 < i → drop 1 xs ≡ drop 1 ys → slice_get xs i ≡ slice_get ys i
+tail_at xs ys zero some h = absurd (omega arith)
+tail_at [] [] (suc i) some h = refl
+tail_at [] (y ∷ ys) (suc i) some h = ap (λ (zs : List ℕ). slice_get zs i) h
+tail_at (x ∷ xs) [] (suc i) some h = ap (λ (zs : List ℕ). slice_get zs i) h
+tail_at (x ∷ xs) (y ∷ ys) (suc i) some h = ap (λ (zs : List ℕ). slice_get zs i) h
+
+-- what a kept entry has of its key
+abbrev shared_of : KeptEntry → ℕ
+shared_of k = k.shared
+
+pub keys_push : (keys key : List ℕ) (ks : List KeptEntry) (k : KeptEntry) → AreKeys 0 keys ks → k.end ≡ length (keys ++ key) → IsInternalKey key
+    → (0 < length (entries_at 0 keys ks) → k.shared ≡ common_prefix_len nat_eq (last_key [] (entries_at 0 keys ks)) key) → AreKeys 0 (keys ++ key) (ks ++ k ∷ [])
+keys_push keys key ks k h e internal shared =
+    let es : List Entry = entries_at 0 keys ks in
+    let f : Entry = record { key = key; value = k.value.now } in
+    let grown : entries_at 0 (keys ++ key) (ks ++ k ∷ []) ≡ es ++ f ∷ [] = entries_push 0 keys key ks k h.ends e in
+    let same : length (map shared_of ks) ≡ length (shared_lens [] es) = length-map ks shared_of ∙ sym (length-entries 0 keys ks) ∙ sym (length-shared [] es) in
+    record {
+      ends = ends_push 0 keys key ks k h.ends e;
+      internal =
+          subst (AllByRecursion (λ (g : Entry). IsInternalKey g.key)) (sym grown)
+          (all_append (λ (g : Entry). IsInternalKey g.key) es (f ∷ []) h.internal (internal, tt));
+      shared =
+          ap (drop 1) (map-append shared_of ks (k ∷ []))
+          ∙ tail_grown (map shared_of ks) (shared_lens [] es) k.shared (common_prefix_len nat_eq (last_key [] es) key) same h.shared (λ some. shared (omega (arith, some, length-shared [] es)))
+          ∙ ap (drop 1) (sym (shared_push [] es f))
+          ∙ ap (λ (gs : List Entry). drop 1 (shared_lens [] gs)) (sym grown);
+    }
+
+-- an internal key has at most 65,543 bytes, so there is an end to the bytes of all
+pub keys_bound : (at : ℕ) (keys : List ℕ) (ks : List KeptEntry) → AreBufferEnds at (length keys) ks → AllByRecursion (λ (e : Entry). IsInternalKey e.key) (entries_at at keys ks)
+    → length keys ≤ at + 65543 * length ks
+keys_bound at keys [] h internal = omega (arith, h)
+keys_bound at keys (k ∷ ks) h internal =
+    let end : k.end ≤ length keys = ends_last k.end (length keys) ks h.1 in
+    let more : length keys ≤ k.end + 65543 * length ks = keys_bound k.end keys ks h.1 internal.1 in
+    let fits : length (slice_range keys at k.end) ≤ 65543 = internal.0.fits in
+    let key : length (slice_range keys at k.end) ≡ min (k.end - at) (length (drop at keys)) = length-take (k.end - at) (drop at keys) in
+    omega (arith, h.0, end, more, fits, key, length-drop at keys)
+
+-- ---- one of them
 
 pub entry_at : (at : ℕ) (keys : List ℕ) (ks : List KeptEntry) (i : ℕ) (k : KeptEntry) → i < length ks → k ≡ get_or ks i k
     → slice_get (entries_at at keys ks) i ≡ Some (record { key = slice_range keys (start_of at ks i) k.end; value = k.value.now })
@@ -91,13 +147,55 @@ all_at P [] i e h at = absurd (none-some e at)
 all_at P (f ∷ es) zero e h at = subst P (same_Some f e at) h.0
 all_at P (f ∷ es) (suc i) e h at = all_at P es i e h.1 at
 
-pub internal_at : (keys : List ℕ) (ks : List KeptEntry) (i : ℕ) (k : KeptEntry) → AreKeys keys ks → i < length ks → k ≡ get_or ks i k → IsInternalKey (slice_range keys (start_of 0 ks i) k.end)
-internal_at keys ks i k h lt e =
-    all_at (λ (f : Entry). IsInternalKey f.key) (entries_at 0 keys ks) i (record { key = slice_range keys (start_of 0 ks i) k.end; value = k.value.now }) h.internal (entry_at 0 keys ks i k lt e)
+pub internal_at : (at : ℕ) (keys : List ℕ) (ks : List KeptEntry) (i : ℕ) (k : KeptEntry) → AreKeys at keys ks → i < length ks → k ≡ get_or ks i k → IsInternalKey (slice_range keys (start_of at ks i) k.end)
+internal_at at keys ks i k h lt e =
+    all_at (λ (f : Entry). IsInternalKey f.key) (entries_at at keys ks) i (record { key = slice_range keys (start_of at ks i) k.end; value = k.value.now }) h.internal (entry_at at keys ks i k lt e)
 
-pub start_first : (ks : List KeptEntry) (i : ℕ) → i ≡ 0 → start_of 0 ks i ≡ 0
-start_first ks zero h = refl
-start_first ks (suc i) h = absurd (omega arith)
+-- the length that the key of an entry shares with the one before it
+pub shared_at : (at : ℕ) (keys : List ℕ) (ks : List KeptEntry) (i : ℕ) (k : KeptEntry) → AreKeys at keys ks → 0 < i → i < length ks → k ≡ get_or ks i k → slice_get (shared_lens [] (entries_at at keys ks)) i ≡ Some k.shared
+shared_at at keys ks i k h some lt e =
+    sym (tail_at (map shared_of ks) (shared_lens [] (entries_at at keys ks)) i some h.shared)
+    ∙ slice_get-map shared_of ks i
+    ∙ ap (option_map shared_of) (slice_get_read ks (length ks) i k refl lt e)
 
-pub start_later : (ks : List KeptEntry) (i j : ℕ) (k : KeptEntry) → i ≡ suc j → j < length ks → k ≡ get_or ks j k → start_of 0 ks i ≡ k.end
-start_later ks i j k h lt e = ap (start_of 0 ks) h ∙ start_behind 0 ks j k lt e
+-- ---- those from one on
+
+entries_drop : (n at : ℕ) (keys : List ℕ) (ks : List KeptEntry) → entries_at (start_of at ks n) keys (drop n ks) ≡ drop n (entries_at at keys ks)
+entries_drop zero at keys ks = refl
+entries_drop (suc n) at keys [] = refl
+entries_drop (suc n) at keys (k ∷ ks) = entries_drop n k.end keys ks
+
+ends_drop : (n at last : ℕ) (ks : List KeptEntry) → AreBufferEnds at last ks → AreBufferEnds (start_of at ks n) last (drop n ks)
+ends_drop zero at last ks h = h
+ends_drop (suc n) at last [] h = h
+ends_drop (suc n) at last (k ∷ ks) h = ends_drop n k.end last ks h.1
+
+all_drop : (P : Entry → Type 0) (n : ℕ) (es : List Entry) → AllByRecursion P es → AllByRecursion P (drop n es)
+all_drop P zero es h = h
+all_drop P (suc n) [] h = h
+all_drop P (suc n) (e ∷ es) h = all_drop P n es h.1
+
+-- one dropped, and then some, or the other way round
+drop_turned : (n : ℕ) (xs : List ℕ) → drop 1 (drop n xs) ≡ drop n (drop 1 xs)
+drop_turned n xs =
+    let sum : n + 1 ≡ 1 + n = omega arith in
+    drop-drop 1 n xs ∙ ap (λ (m : ℕ). drop m xs) sum ∙ sym (drop-drop n 1 xs)
+
+pub keys_drop : (n : ℕ) (keys : List ℕ) (ks : List KeptEntry) → AreKeys 0 keys ks → AreKeys (start_of 0 ks n) keys (drop n ks)
+keys_drop n keys ks h =
+    let es : List Entry = entries_at 0 keys ks in
+    record {
+      ends = ends_drop n 0 (length keys) ks h.ends;
+      internal = subst (AllByRecursion (λ (e : Entry). IsInternalKey e.key)) (sym (entries_drop n 0 keys ks)) (all_drop (λ (e : Entry). IsInternalKey e.key) n es h.internal);
+      shared =
+          ap (drop 1) (sym (drop-map shared_of n ks))
+          ∙ drop_turned n (map shared_of ks)
+          ∙ ap (drop n) h.shared
+          ∙ sym (drop_turned n (shared_lens [] es))
+          ∙ ap (drop 1) (shared_drop n [] es)
+          ∙ tail_same (last_key [] (take n es)) [] (drop n es)
+          ∙ ap (λ (fs : List Entry). drop 1 (shared_lens [] fs)) (sym (entries_drop n 0 keys ks));
+    }
+
+pub entries_from : (n : ℕ) (keys : List ℕ) (ks : List KeptEntry) → entries_at (start_of 0 ks n) keys (drop n ks) ≡ drop n (entries_at 0 keys ks)
+entries_from n keys ks = entries_drop n 0 keys ks

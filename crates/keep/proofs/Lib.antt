@@ -9,6 +9,7 @@ pub mod LeftEntries
 pub mod Bounds
 pub mod KeyBuffers
 pub mod PieceLists
+pub mod LastKept
 pub mod RisingSearch
 pub mod RangeWalks
 pub mod Neighbours

@@ -1,8 +1,10 @@
 -- Entries in full pieces, and those after them.
-use Rattle.std.proofs.Common.{◌≡◌, ℕ, zero, suc, ◌+◌, ◌*◌, ◌/◌, ◌%◌, ◌<◌, ◌≤◌, List, [], ◌∷◌, ◌++◌, length, Some, refl, sym, ap, subst, ◌∙◌, arith, length-append, append_assoc, append-nil, mod-lt}
+use Rattle.std.proofs.Common.{◌≡◌, ℕ, zero, suc, ◌+◌, ◌*◌, ◌/◌, ◌%◌, ◌<◌, ◌≤◌, List, [], ◌∷◌, ◌++◌, length, take, drop, Some, refl, sym, ap, subst, ◌∙◌, arith, length-append, append_assoc, append-nil, mod-lt}
 use Rattle.std.specs.Prelude.{slice_get}
 use Rattle.std.specs.List.{AllByRecursion}
 use Rattle.std.proofs.Math.Nat.{div-add-mod}
+use Rattle.std.proofs.Math.Seq.{take-length, take-append_seam, drop-append-add}
+use Rattle.std.proofs.lemmas.List.{drop-append-le}
 use Rattle.std.proofs.lemmas.Option.{same_Some}
 use Rattle.ikey.specs.Key.{IsInternalKey}
 use Rattle.block.specs.EncodedEntry.{Entry}
@@ -47,31 +49,17 @@ pieces_push ps last n m e h k internal lt =
       internal = subst (AllByRecursion IsKeyed) (sym (all_kept_push ps last e)) (all_append IsKeyed (all_kept ps last) (e ∷ []) h.internal (internal, tt));
     }
 
--- ---- one of them
+-- ---- those from one on
 
-at_front : (xs ys : List Entry) (i : ℕ) → i < length xs → slice_get (xs ++ ys) i ≡ slice_get xs i
-at_front [] ys i h = absurd (omega arith)
-at_front (x ∷ xs) ys zero h = refl
-at_front (x ∷ xs) ys (suc i) h = at_front xs ys i (omega arith)
-
-at_behind : (xs ys : List Entry) (i j : ℕ) → j ≡ length xs + i → slice_get (xs ++ ys) j ≡ slice_get ys i
-at_behind [] ys i j h =
-    let sum : j ≡ zero + i = h in
-    let place : j ≡ i = omega (arith, sum) in
-    ap (slice_get ys) place
-at_behind (x ∷ xs) ys i zero h =
-    let sum : zero ≡ suc (length xs) + i = h in
-    absurd (omega (arith, sum))
-at_behind (x ∷ xs) ys i (suc j) h =
-    let sum : suc j ≡ suc (length xs) + i = h in
-    let place : j ≡ length xs + i = omega (arith, sum) in
-    at_behind xs ys i j place
-
--- the entry at a place stands in the piece of this number, at this place
+-- the entry at a place stands in the chunk of this number, at this place, and those after it in the chunk are those after it
 pub record StandsIn (ps : List (List Entry)) (last : List Entry) (number at place : ℕ) : Type 0 where
   pub numbered : number ≤ length ps
   pub within : (p : List Entry) → slice_get (ps ++ last ∷ []) number ≡ Some p → at < length p
-  pub same : (p : List Entry) → slice_get (ps ++ last ∷ []) number ≡ Some p → slice_get p at ≡ slice_get (all_kept ps last) place
+  pub front : (p : List Entry) → slice_get (ps ++ last ∷ []) number ≡ Some p → take (length (drop at p)) (drop place (all_kept ps last)) ≡ drop at p
+
+-- the front of a list with more behind it
+front_of : (xs ys : List Entry) (i : ℕ) → i < length xs → take (length (drop i xs)) (drop i (xs ++ ys)) ≡ drop i xs
+front_of xs ys i h = ap (take (length (drop i xs))) (drop-append-le i xs ys (omega (arith, h))) ∙ take-append_seam (drop i xs) ys
 
 stands_at : (ps : List (List Entry)) (last : List Entry) (q r i : ℕ) → i ≡ 4096 * q + r → r < 4096 → AllByRecursion IsFull ps → length last ≤ 4096 → i < length (all_kept ps last) → StandsIn ps last q r i
 stands_at [] last zero r i e b h l lt =
@@ -81,7 +69,7 @@ stands_at [] last zero r i e b h l lt =
     record {
       numbered = omega arith;
       within = λ p at. subst (λ (es : List Entry). r < length es) (same_Some last p at) below;
-      same = λ p at. ap (λ (es : List Entry). slice_get es r) (sym (same_Some last p at)) ∙ ap (slice_get last) place;
+      front = λ p at. subst (λ (es : List Entry). take (length (drop r es)) (drop i last) ≡ drop r es) (same_Some last p at) (ap (λ (n : ℕ). take (length (drop r last)) (drop n last)) (sym place) ∙ take-length (drop r last));
     }
 stands_at [] last (suc q) r i e b h l lt =
     let within : i < length last = lt in
@@ -93,7 +81,7 @@ stands_at (p ∷ ps) last zero r i e b h l lt =
     record {
       numbered = omega arith;
       within = λ o at. subst (λ (es : List Entry). r < length es) (same_Some p o at) below;
-      same = λ o at. ap (λ (es : List Entry). slice_get es r) (sym (same_Some p o at)) ∙ sym (at_front p (all_kept ps last) r below) ∙ ap (slice_get (p ++ all_kept ps last)) place;
+      front = λ o at. subst (λ (es : List Entry). take (length (drop r es)) (drop i (p ++ all_kept ps last)) ≡ drop r es) (same_Some p o at) (ap (λ (n : ℕ). take (length (drop r p)) (drop n (p ++ all_kept ps last))) (sym place) ∙ front_of p (all_kept ps last) r below);
     }
 stands_at (p ∷ ps) last (suc q) r i e b h l lt =
     let full : length p ≡ 4096 = h.0 in
@@ -101,13 +89,29 @@ stands_at (p ∷ ps) last (suc q) r i e b h l lt =
     let behind : 4096 * q + r < length (all_kept ps last) = omega (arith, length-append p (all_kept ps last), full, within, e) in
     let more = stands_at ps last q r (4096 * q + r) refl b h.1 l behind in
     let place : i ≡ length p + (4096 * q + r) = omega (arith, e, full) in
+    let same : drop i (p ++ all_kept ps last) ≡ drop (4096 * q + r) (all_kept ps last) = ap (λ (n : ℕ). drop n (p ++ all_kept ps last)) place ∙ drop-append-add p (all_kept ps last) (4096 * q + r) in
     record {
       numbered = omega (arith, more.numbered);
       within = more.within;
-      same = λ o at. more.same o at ∙ sym (at_behind p (all_kept ps last) (4096 * q + r) i place);
+      front = λ o at. ap (take (length (drop r o))) same ∙ more.front o at;
     }
 
 pub stands_in : (ps : List (List Entry)) (last : List Entry) (n i : ℕ) → AreInChunks ps last n → i < length (all_kept ps last) → StandsIn ps last (i / 4096) (i % 4096) i
 stands_in ps last n i h lt =
     let below : i % 4096 < 4096 = mod-lt i {m = 4096} (omega arith) in
     stands_at ps last (i / 4096) (i % 4096) i (sym (div-add-mod i 4096)) below h.full h.last lt
+
+-- ---- the first of a piece
+
+first_taken : (n : ℕ) (xs : List Entry) → 0 < n → slice_get (take n xs) 0 ≡ slice_get xs 0
+first_taken zero xs some = absurd (omega arith)
+first_taken (suc n) [] some = refl
+first_taken (suc n) (x ∷ xs) some = refl
+
+first_dropped : (n : ℕ) (xs : List Entry) → slice_get (drop n xs) 0 ≡ slice_get xs n
+first_dropped zero xs = refl
+first_dropped (suc n) [] = refl
+first_dropped (suc n) (x ∷ xs) = first_dropped n xs
+
+pub first_of : (p all : List Entry) (n : ℕ) → 0 < length p → take (length p) (drop n all) ≡ p → slice_get p 0 ≡ slice_get all n
+first_of p all n some front = ap (λ (es : List Entry). slice_get es 0) (sym front) ∙ first_taken (length p) (drop n all) some ∙ first_dropped n all

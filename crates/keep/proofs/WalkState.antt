@@ -15,7 +15,7 @@ use Rattle.block.specs.EncodedEntry.{Entry}
 use Rattle.table.specs.ReadingCursors.{NeverFalls}
 use Rattle.merge.proofs.Orders.{all_weaker}
 use Rattle.keep.specs.declared.mark.Mark.{Mark}
-use Rattle.keep.specs.declared.walk.Walk.{Walk}
+use Rattle.keep.specs.Walked.{Walked}
 use Rattle.keep.specs.Readable.{Readable}
 use Rattle.keep.specs.Versions.{EntryVersion, version_of, newer_of}
 use Rattle.keep.specs.DropRule.{is_same_user, is_snapshot_between, is_hidden, is_obsolete, keeps, kept_behind, kept}
@@ -40,7 +40,7 @@ told None passed = None
 told (Some p) passed = Some passed
 
 -- what is done is that of entries of which these are left
-pub record Stands (cmp : List ℕ → List ℕ → Ordering) (b : CompactionContext) (all rest : List Entry) (w : Walk) : Type 0 where
+pub record Stands (cmp : List ℕ → List ℕ → Ordering) (b : CompactionContext) (all rest : List Entry) (w : Walked) : Type 0 where
   pub before : Option Entry
   pub last : w.last ≡ last_of before
   pub kept : w.run.kept ++ kept_behind cmp b.readable b.deeper before rest ≡ kept cmp b.readable b.deeper all
@@ -98,11 +98,11 @@ module _ (cmp : List ℕ → List ℕ → Ordering) (b : CompactionContext) wher
 
   -- ---- one entry
 
-  abbrev at : Walk → Entry → Option ℕ
+  abbrev at : Walked → Entry → Option ℕ
   at w e = newer_of w.last (user_of e.key)
 
   -- the marks after the head of an entry
-  headed_by : (before : Option Entry) (w : Walk) (e : Entry) (n : ℕ) (hs : List Mark) (same : Bool) → (before ≡ None → same ≡ false) → w.last ≡ last_of before → is_first before e ≡ not same
+  headed_by : (before : Option Entry) (w : Walked) (e : Entry) (n : ℕ) (hs : List Mark) (same : Bool) → (before ≡ None → same ≡ false) → w.last ≡ last_of before → is_first before e ≡ not same
       → w.run.marks ++ ch (told before w.passed) ((if is_first before e then record { below = below e; kept = length w.run.kept } ∷ [] else []) ++ hs)
       ≡ (walk_after_head cmp b (if same then Some n else None) w e.key).run.marks ++ changes_behind (walk_after_head cmp b (if same then Some n else None) w e.key).passed hs
   headed_by before w e n hs false none last first =
@@ -116,18 +116,18 @@ module _ (cmp : List ℕ → List ℕ → Ordering) (b : CompactionContext) wher
       let m : Mark = record { below = below e; kept = length w.run.kept } in
       ap (λ s. w.run.marks ++ changes_behind w.passed ((if s then m ∷ [] else []) ++ hs)) first
 
-  headed_at : (before : Option Entry) (w : Walk) (e : Entry) (hs : List Mark) → w.last ≡ last_of before
+  headed_at : (before : Option Entry) (w : Walked) (e : Entry) (hs : List Mark) → w.last ≡ last_of before
       → w.run.marks ++ ch (told before w.passed) ((if is_first before e then record { below = below e; kept = length w.run.kept } ∷ [] else []) ++ hs)
       ≡ (walk_after_head cmp b (newer_of (last_of before) (user_of e.key)) w e.key).run.marks ++ changes_behind (walk_after_head cmp b (newer_of (last_of before) (user_of e.key)) w e.key).passed hs
   headed_at None w e hs last = headed_by None w e 0 hs false (λ none. refl) last refl
   headed_at (Some p) w e hs last = headed_by (Some p) w e (sequence_of p.key) hs (is_same_user p e) (λ none. absurd cc) last refl
 
-  headed_kept : (newer : Option ℕ) (w : Walk) (key : List ℕ) → (walk_after_head cmp b newer w key).run.kept ≡ w.run.kept
+  headed_kept : (newer : Option ℕ) (w : Walked) (key : List ℕ) → (walk_after_head cmp b newer w key).run.kept ≡ w.run.kept
   headed_kept None w key = refl
   headed_kept (Some n) w key = refl
 
   -- `passed` lie below each later entry
-  headed_reached : (total : IsTotalOrder cmp) (newer : Option ℕ) (w : Walk) (e : Entry) (es : List Entry) → AllByRecursion (λ f. w.passed ≤ below f) es → AllByRecursion (λ f. is_le (internal_cmp cmp e.key f.key) ≡ true) es
+  headed_reached : (total : IsTotalOrder cmp) (newer : Option ℕ) (w : Walked) (e : Entry) (es : List Entry) → AllByRecursion (λ f. w.passed ≤ below f) es → AllByRecursion (λ f. is_le (internal_cmp cmp e.key f.key) ≡ true) es
       → AllByRecursion (λ f. (walk_after_head cmp b newer w e.key).passed ≤ below f) es
   headed_reached total None w e es h falls = all_weaker (λ (f : Entry). is_le (internal_cmp cmp e.key f.key) ≡ true) (λ f. below e ≤ below f) (λ f le. below_grows cmp total b.grandparents e.key f.key le) es falls
   headed_reached total (Some n) w e es h falls = h
@@ -136,10 +136,10 @@ module _ (cmp : List ℕ → List ℕ → Ordering) (b : CompactionContext) wher
   counted true xs e = sym (length-append xs (e ∷ []))
   counted false xs e = ap length (sym (append-nil xs))
 
-  pub stands_walked : IsTotalOrder cmp → (all rest : List Entry) (w : Walk) (e : Entry) → Stands cmp b all (e ∷ rest) w → is_repeated (newer_of w.last (user_of e.key)) e.key ≡ false → Stands cmp b all rest (walk_after cmp b w e)
+  pub stands_walked : IsTotalOrder cmp → (all rest : List Entry) (w : Walked) (e : Entry) → Stands cmp b all (e ∷ rest) w → is_repeated (newer_of w.last (user_of e.key)) e.key ≡ false → Stands cmp b all rest (walk_after cmp b w e)
   stands_walked total all rest w e s fresh =
       let newer : Option ℕ = newer_of w.last (user_of e.key) in
-      let head : Walk = walk_after_head cmp b newer w e.key in
+      let head : Walked = walk_after_head cmp b newer w e.key in
       let k : Bool = keeps_behind cmp b newer e in
       let own : List Entry = if k then e ∷ [] else [] in
       let same : newer_of w.last (user_of e.key) ≡ newer_of (last_of s.before) (user_of e.key) = ap (λ (l : Option EntryVersion). newer_of l (user_of e.key)) s.last in
@@ -168,7 +168,7 @@ module _ (cmp : List ℕ → List ℕ → Ordering) (b : CompactionContext) wher
         falls = s.falls.1;
       }
 
-  pub stands_repeated : (all rest : List Entry) (w : Walk) (e : Entry) → Stands cmp b all (e ∷ rest) w → is_repeated (newer_of w.last (user_of e.key)) e.key ≡ true → are_distinct all ≡ false
+  pub stands_repeated : (all rest : List Entry) (w : Walked) (e : Entry) → Stands cmp b all (e ∷ rest) w → is_repeated (newer_of w.last (user_of e.key)) e.key ≡ true → are_distinct all ≡ false
   stands_repeated all rest w e s again =
       sym s.apart
       ∙ ap (λ c. not c && apart_behind (Some e) rest) (repeats_same s.before e ∙ ap (λ (l : Option EntryVersion). is_repeated (newer_of l (user_of e.key)) e.key) (sym s.last) ∙ again)
@@ -188,14 +188,14 @@ module _ (cmp : List ℕ → List ℕ → Ordering) (b : CompactionContext) wher
   ch_none None = refl
   ch_none (Some n) = refl
 
-  pub stands_kept : (all : List Entry) (w : Walk) → Stands cmp b all [] w → w.run ≡ run_of cmp b all
+  pub stands_kept : (all : List Entry) (w : Walked) → Stands cmp b all [] w → w.run ≡ run_of cmp b all
   stands_kept all w s =
       let kept_all : w.run.kept ≡ kept cmp b.readable b.deeper all = sym (append-nil w.run.kept) ∙ s.kept in
       let marks_all : w.run.marks ≡ marks cmp b all = sym (ap (λ (ms : List Mark). w.run.marks ++ ms) (ch_none (told s.before w.passed)) ∙ append-nil w.run.marks) ∙ s.marks in
       ap (λ (ks : List Entry). record { kept = ks; marks = w.run.marks }) kept_all ∙ ap (λ (ms : List Mark). record { kept = kept cmp b.readable b.deeper all; marks = ms }) marks_all
 
-  pub stands_distinct : (all : List Entry) (w : Walk) → Stands cmp b all [] w → are_distinct all ≡ true
+  pub stands_distinct : (all : List Entry) (w : Walked) → Stands cmp b all [] w → are_distinct all ≡ true
   stands_distinct all w s = sym s.apart
 
-  pub stands_passed : (all rest : List Entry) (w : Walk) (e : Entry) → Stands cmp b all (e ∷ rest) w → w.passed ≤ below e
+  pub stands_passed : (all rest : List Entry) (w : Walked) (e : Entry) → Stands cmp b all (e ∷ rest) w → w.passed ≤ below e
   stands_passed all rest w e s = s.reached.0

@@ -9,8 +9,10 @@ pub mod Left
 pub mod Begun
 pub mod OneKey
 pub mod FirstEntry
+pub mod SharedLengths
 -- serves proofs alone
 pub mod Versions
 pub mod KeyBuffer
 pub mod EntryChunks
+pub mod Walked
 pub mod RangeWalk

@@ -1,15 +1,18 @@
 //! A chunk of the kept entries of a range.
 //!
 //!     keys    key 0 | key 1 | key 2 | ...      one buffer
-//!     kept    end of key i in it, and value i  a slice of an input's bytes
+//!     kept    end of key i in it, the length that it shares with key i - 1,
+//!             and value i                      a slice of an input's bytes
 
-ghost use Rattle.std.specs.Prelude.{◌≡◌, ◌<◌, ◌≤◌, [], ◌∷◌, ◌++◌, length, slice_get, slice_range};
-ghost use Rattle.std.specs.Prelude.{OnOk, OnErr, IsOkUnless, Some, Ok};
-ghost use Rattle.std.specs.Option.{option_map};
+ghost use Rattle.std.specs.Prelude.{◌≡◌, ◌<◌, [], ◌∷◌, ◌++◌, length, drop, OnOk, OnErr};
+ghost use Rattle.std.specs.Prelude.{IsOkUnless, Ok, ◌≤◌, nat_eq};
+ghost use Rattle.std.specs.List.{common_prefix_len};
+ghost use Rattle.block.specs.BuilderView.{last_key};
 ghost use Rattle.coding.specs.Answers.{EqualOrMemory, fault};
 ghost use Rattle.coding.specs.declared.fault.FaultName.TheVariants.{Memory};
 
 use crate::kept_entry::KeptEntry;
+use crate::kept_piece::KeptPiece;
 use coding::Fault;
 use ikey::InternalKey;
 use std::alloc::Global;
@@ -34,16 +37,7 @@ impl<'a> Model for EntryChunk<'a> {
 
     ghost view = { λ p. entries_at 0 p.keys.items p.kept.items };
 
-    ghost invariant = { λ p. AreKeys p.keys.items p.kept.items };
-}
-
-/// The bytes from offset `start` to before offset `end`.
-fn part_of(bytes: &[u8], start: usize, end: usize) -> &[u8]
-    requires rises { start ≤ end }
-    requires within { end ≤ length bytes.now }
-    ensures { result.now ≡ slice_range bytes.now start end }
-{
-    &bytes[start..end]
+    ghost invariant = { λ p. AreKeys 0 p.keys.items p.kept.items };
 }
 
 impl<'a> EntryChunk<'a> {
@@ -68,8 +62,18 @@ impl<'a> EntryChunk<'a> {
         })
     }
 
-    /// Appends an entry. The only fault is Memory, which leaves the chunk unchanged.
-    pub fn push(&mut self, key: InternalKey<'_>, value: &'a [u8]) -> Result<(), Fault>
+    /// Appends an entry whose key shares `shared` bytes with the last one. Requires that there are
+    /// fewer than 4,096. The only fault is Memory, which leaves the chunk unchanged.
+    pub fn push(
+        &mut self,
+        key: InternalKey<'_>,
+        value: &'a [u8],
+        shared: usize,
+    ) -> Result<(), Fault>
+        requires room { length self.old < 4096 }
+        requires shared { 0 < length self.old →
+            shared ≡ common_prefix_len nat_eq (last_key [] self.old) key.bytes.now }
+        requires within { shared ≤ length key.bytes.now }
         ensures ok { OnOk result (self.new ≡ self.old
             ++ record { key = key.entry.bytes.now; value = value.now } ∷ []) }
         ensures err { OnErr result (self.new ≡ self.old) }
@@ -78,7 +82,12 @@ impl<'a> EntryChunk<'a> {
         self.kept.reserve(1)?;
         self.keys.extend_from_slice(key.bytes())?;
         let end = self.keys.len();
-        self.kept.push(KeptEntry { end, value }).unwrap();
+        let entry = KeptEntry {
+            end: end as u32,
+            shared: shared as u32,
+            value,
+        };
+        self.kept.push(entry).unwrap();
         Ok(())
     }
 
@@ -89,25 +98,12 @@ impl<'a> EntryChunk<'a> {
         self.kept.len()
     }
 
-    /// The internal key of the entry at `place`. Takes no memory.
-    pub fn key(&self, place: usize) -> InternalKey<'_>
+    /// The entries from `place` on. Takes no memory.
+    #[inline(always)]
+    pub fn piece(&self, place: usize) -> KeptPiece<'_, 'a>
         requires { place < length self.now }
-        ensures { option_map (λ e. e.key) (slice_get self.now place) ≡ Some result.bytes.now }
+        ensures { result ≡ drop place self.now }
     {
-        let start = if place == 0 {
-            0
-        } else {
-            self.kept[place - 1].end
-        };
-        let bytes = part_of(&self.keys, start, self.kept[place].end);
-        InternalKey { bytes }
-    }
-
-    /// The value of the entry at `place`, a slice of an input's bytes. Takes no memory.
-    pub fn value(&self, place: usize) -> &'a [u8]
-        requires { place < length self.now }
-        ensures { option_map (λ e. e.value) (slice_get self.now place) ≡ Some result.now }
-    {
-        self.kept[place].value
+        KeptPiece::of(&self.keys, &self.kept, place)
     }
 }

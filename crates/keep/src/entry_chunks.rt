@@ -1,15 +1,16 @@
 //! The kept entries of a range, in chunks.
 
-ghost use Rattle.std.specs.Prelude.{◌≡◌, ◌<◌, ◌≤◌, [], ◌∷◌, ◌++◌, length, slice_get, OnOk, OnErr};
-ghost use Rattle.std.specs.Prelude.{IsOkUnless, Some};
-ghost use Rattle.std.specs.List.{AllByRecursion};
-ghost use Rattle.std.specs.Option.{option_map};
+ghost use Rattle.std.specs.Prelude.{◌≡◌, ◌<◌, ◌≤◌, [], ◌∷◌, ◌++◌, length, take, drop, slice_get};
+ghost use Rattle.std.specs.Prelude.{OnOk, OnErr, IsOkUnless, Some, nat_eq};
+ghost use Rattle.std.specs.List.{AllByRecursion, common_prefix_len};
+ghost use Rattle.block.specs.BuilderView.{last_key};
 ghost use Rattle.coding.specs.Answers.{fault};
 ghost use Rattle.coding.specs.declared.fault.FaultName.TheVariants.{Memory};
 ghost use Rattle.ikey.specs.Key.{IsInternalKey};
 ghost use Rattle.keep.specs.EntryChunks.{all_kept};
 
 use crate::entry_chunk::EntryChunk;
+use crate::kept_piece::KeptPiece;
 use coding::Fault;
 use ikey::InternalKey;
 use std::alloc::Global;
@@ -101,8 +102,17 @@ impl<'a> EntryChunks<'a> {
         }
     }
 
-    /// Appends an entry. The only fault is Memory, which leaves the list unchanged.
-    pub fn push(&mut self, key: InternalKey<'_>, value: &'a [u8]) -> Result<(), Fault>
+    /// Appends an entry whose key shares `shared` bytes with the last one. The only fault is Memory,
+    /// which leaves the list unchanged.
+    pub fn push(
+        &mut self,
+        key: InternalKey<'_>,
+        value: &'a [u8],
+        shared: usize,
+    ) -> Result<(), Fault>
+        requires shared { shared
+            ≡ common_prefix_len nat_eq (last_key [] self.old) key.bytes.now }
+        requires within { shared ≤ length key.bytes.now }
         ensures ok { OnOk result (self.new ≡ self.old
             ++ record { key = key.entry.bytes.now; value = value.now } ∷ []) }
         ensures err { OnErr result (self.new ≡ self.old) }
@@ -110,7 +120,7 @@ impl<'a> EntryChunks<'a> {
     {
         self.tally.reserve(1)?;
         make_room(self.alloc, &mut self.full, &mut self.last)?;
-        self.last.push(key, value)?;
+        self.last.push(key, value, shared)?;
         self.tally.push(()).unwrap();
         Ok(())
     }
@@ -123,21 +133,14 @@ impl<'a> EntryChunks<'a> {
         self.tally.len()
     }
 
-    /// The internal key of the entry at `place`. Takes no memory.
-    pub fn key(&self, place: usize) -> InternalKey<'_>
+    /// The entries from `place` on that lie in one chunk, at least one. Takes no memory.
+    #[inline(always)]
+    pub fn piece(&self, place: usize) -> KeptPiece<'_, 'a>
         requires { place < length self.now }
-        ensures { option_map (λ e. e.key) (slice_get self.now place) ≡ Some result.bytes.now }
+        ensures some { 0 < length result }
+        ensures front { take (length result) (drop place self.now) ≡ result }
     {
-        let piece = chunk_of(&self.full, &self.last, place / CHUNK_LEN);
-        piece.key(place % CHUNK_LEN)
-    }
-
-    /// The value of the entry at `place`, a slice of an input's bytes. Takes no memory.
-    pub fn value(&self, place: usize) -> &'a [u8]
-        requires { place < length self.now }
-        ensures { option_map (λ e. e.value) (slice_get self.now place) ≡ Some result.now }
-    {
-        let piece = chunk_of(&self.full, &self.last, place / CHUNK_LEN);
-        piece.value(place % CHUNK_LEN)
+        let chunk = chunk_of(&self.full, &self.last, place / CHUNK_LEN);
+        chunk.piece(place % CHUNK_LEN)
     }
 }

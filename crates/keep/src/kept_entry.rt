@@ -1,10 +1,14 @@
 //! A kept entry, as a run stores it.
 
-/// A kept entry: where its key ends in the buffer of its chunk, and its value.
+/// A kept entry: where its key ends in the buffer of its chunk, how much of it the key before it
+/// has, and its value.
 #[derive(Clone, Copy)]
 pub(crate) struct KeptEntry<'a> {
     /// The offset after the last byte of the key. The key begins where the one before it ends.
-    pub end: usize,
+    pub end: u32,
+    /// How many bytes the key shares with the one before it in its chunk. Of a chunk's first entry
+    /// no one reads it.
+    pub shared: u32,
     /// The value, a slice of an input's bytes.
     pub value: &'a [u8],
 }

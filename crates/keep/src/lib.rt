@@ -21,6 +21,7 @@ mod entry_chunk;
 mod entry_chunks;
 mod grandparents;
 mod kept_entry;
+mod kept_piece;
 mod last_version;
 mod mark;
 mod range_cursors;
@@ -36,6 +37,7 @@ pub use conditions::{is_rising, largest_rise};
 pub use drop_rule_laws::{
     begun_law, distinct_law, holds_law, kept_in_range, one_key, ranges_compose,
 };
+pub use kept_piece::KeptPiece;
 pub use mark::Mark;
 pub use range_cursors::{add_cursor, cursors_from};
 pub use range_merge::merge_range;

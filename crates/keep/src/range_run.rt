@@ -1,8 +1,9 @@
 //! What a merge of a range answers.
 
-ghost use Rattle.std.specs.Prelude.{◌≡◌, ◌<◌, [], ◌∷◌, ◌++◌, length, slice_get, OnOk, OnErr};
-ghost use Rattle.std.specs.Prelude.{IsOkUnless, Some};
-ghost use Rattle.std.specs.List.{AllByRecursion};
+ghost use Rattle.std.specs.Prelude.{◌≡◌, ◌<◌, [], ◌∷◌, ◌++◌, length, take, drop, slice_get};
+ghost use Rattle.std.specs.Prelude.{OnOk, OnErr, IsOkUnless, Some, nat_eq, ◌≤◌};
+ghost use Rattle.std.specs.List.{AllByRecursion, common_prefix_len};
+ghost use Rattle.block.specs.BuilderView.{last_key};
 ghost use Rattle.std.specs.Option.{option_map};
 ghost use Rattle.coding.specs.Answers.{fault};
 ghost use Rattle.coding.specs.declared.fault.FaultName.TheVariants.{Memory};
@@ -10,6 +11,7 @@ ghost use Rattle.ikey.specs.Key.{IsInternalKey};
 ghost use Rattle.keep.specs.Runs.{Run};
 
 use crate::entry_chunks::EntryChunks;
+use crate::kept_piece::KeptPiece;
 use crate::mark::Mark;
 use coding::Fault;
 use ikey::InternalKey;
@@ -45,8 +47,17 @@ impl<'a> RangeRun<'a> {
         }
     }
 
-    /// Appends a kept entry. The only fault is Memory, which leaves the run unchanged.
-    pub(crate) fn push(&mut self, key: InternalKey<'_>, value: &'a [u8]) -> Result<(), Fault>
+    /// Appends a kept entry whose key shares `shared` bytes with the last one. The only fault is
+    /// Memory, which leaves the run unchanged.
+    pub(crate) fn push(
+        &mut self,
+        key: InternalKey<'_>,
+        value: &'a [u8],
+        shared: usize,
+    ) -> Result<(), Fault>
+        requires shared { shared
+            ≡ common_prefix_len nat_eq (last_key [] self.old.kept) key.bytes.now }
+        requires within { shared ≤ length key.bytes.now }
         ensures ok { OnOk result (self.new ≡ record {
           kept = self.old.kept ++ record { key = key.entry.bytes.now; value = value.now } ∷ [];
           marks = self.old.marks;
@@ -54,7 +65,19 @@ impl<'a> RangeRun<'a> {
         ensures err { OnErr result (self.new ≡ self.old) }
         ensures memory { IsOkUnless result (fault Memory) }
     {
-        self.kept.push(key, value)
+        self.kept.push(key, value, shared)
+    }
+
+    /// The bytes of the last kept key, an internal key; none if there is no entry. Takes no memory.
+    pub(crate) fn last_key(&self) -> &[u8]
+        ensures value { result.now ≡ last_key [] self.now.kept }
+        ensures tagged { 0 < length self.now.kept → 8 ≤ length result.now }
+    {
+        let len = self.kept.len();
+        if len == 0 {
+            return &[];
+        }
+        self.kept.piece(len - 1).key(0).bytes()
     }
 
     /// Appends a mark, with `below` grandparents, before the next kept entry. The only fault is
@@ -85,7 +108,7 @@ impl<'a> RangeRun<'a> {
         requires { place < length self.now.kept }
         ensures { option_map (λ e. e.key) (slice_get self.now.kept place) ≡ Some result.bytes.now }
     {
-        self.kept.key(place)
+        self.kept.piece(place).key(0)
     }
 
     /// The value of the kept entry at `place`, a slice of an input's bytes. Takes no memory.
@@ -93,7 +116,17 @@ impl<'a> RangeRun<'a> {
         requires { place < length self.now.kept }
         ensures { option_map (λ e. e.value) (slice_get self.now.kept place) ≡ Some result.now }
     {
-        self.kept.value(place)
+        self.kept.piece(place).value(0)
+    }
+
+    /// The kept entries from `place` on that lie in one chunk, at least one. Takes no memory.
+    #[inline(always)]
+    pub fn piece(&self, place: usize) -> KeptPiece<'_, 'a>
+        requires { place < length self.now.kept }
+        ensures some { 0 < length result }
+        ensures front { take (length result) (drop place self.now.kept) ≡ result }
+    {
+        self.kept.piece(place)
     }
 
     /// The marks, in order. Takes no memory.

@@ -1,19 +1,23 @@
 //! What one entry does to a walk.
 
-ghost use Rattle.std.specs.Prelude.{◌≡◌, ◌≤◌, true, false, [], OnOk, IsOkUnless, IfErr, None};
+ghost use Rattle.std.specs.Prelude.{◌≡◌, ◌≤◌, nat_eq, true, false, [], length, OnOk, IsOkUnless};
+ghost use Rattle.std.specs.Prelude.{IfErr, None};
+ghost use Rattle.std.specs.List.{common_prefix_len};
+ghost use Rattle.block.specs.BuilderView.{last_key};
 ghost use Rattle.coding.specs.Answers.{fault, UnlessMemory};
 ghost use Rattle.coding.specs.declared.fault.FaultName.TheVariants.{Memory, Duplicate};
 ghost use Rattle.ikey.specs.Key.{user_of};
 ghost use Rattle.keep.specs.Marks.{grandparents_below, LargestRise};
 ghost use Rattle.keep.specs.Versions.{newer_of};
 ghost use Rattle.keep.specs.RangeWalk.{is_repeated, sets_mark, walk_after_first, walk_after};
+ghost use Rattle.keep.specs.RangeWalk.{walk_after_entry};
 
 use crate::grandparents::count_below;
 use crate::last_version::LastVersion;
 use crate::range_run::RangeRun;
 use crate::rule::Rule;
 use crate::walk::Walk;
-use coding::{Fault, FaultName};
+use coding::{Fault, FaultName, common_len};
 use ikey::{Comparator, InternalKey};
 use std::alloc::Global;
 
@@ -56,6 +60,48 @@ impl<'a> Walk<'a> {
         Ok(())
     }
 
+    /// How many bytes `key` shares with the last kept key. Takes no memory.
+    fn shared_with(&self, key: InternalKey<'_>) -> usize
+        ensures value { result
+            ≡ common_prefix_len nat_eq (last_key [] self.now.run.kept) key.entry.bytes.now }
+        ensures within { result ≤ length key.entry.bytes.now }
+    {
+        common_len(self.run.last_key(), key.bytes())
+    }
+
+    /// The sequence of the previous entry if it has the user key of `key`, else None. `key` shares
+    /// `shared` bytes with the last kept key. Takes no memory.
+    fn newer_of(&self, key: InternalKey<'_>, shared: usize) -> Option<u64>
+        requires { shared ≡ common_prefix_len nat_eq (last_key [] self.now.run.kept) key.bytes.now }
+        ensures { result ≡ newer_of self.now.last (user_of key.entry.bytes.now) }
+    {
+        self.last.newer_of(key, self.run.last_key(), shared)
+    }
+
+    /// Keeps or drops an entry, whose key shares `shared` bytes with the last kept key. The only
+    /// fault is Memory.
+    fn take(
+        &mut self,
+        keeps: bool,
+        key: InternalKey<'_>,
+        value: &'a [u8],
+        shared: usize,
+    ) -> Result<(), Fault>
+        requires shared { shared
+            ≡ common_prefix_len nat_eq (last_key [] self.old.run.kept) key.bytes.now }
+        requires within { shared ≤ length key.bytes.now }
+        ensures ok { OnOk result (self.new ≡ walk_after_entry keeps self.old
+            (record { key = key.entry.bytes.now; value = value.now })) }
+        ensures memory { IsOkUnless result (fault Memory) }
+    {
+        if keeps {
+            self.run.push(key, value, shared)?;
+            self.last.keep(key);
+            return Ok(());
+        }
+        self.last.set(key)
+    }
+
     /// Walks the next entry: it is kept or dropped. Faults: Duplicate if it has the user key and
     /// the sequence of the previous entry, else only Memory.
     pub fn step<C: Comparator>(
@@ -78,7 +124,8 @@ impl<'a> Walk<'a> {
             × (is_repeated (newer_of self.old.last (user_of key.entry.bytes.now))
             key.entry.bytes.now ≡ true))) }
     {
-        let newer = self.last.newer_of(key.user());
+        let shared = self.shared_with(key);
+        let newer = self.newer_of(key, shared);
         match newer {
             Some(sequence) => {
                 if sequence == key.sequence() {
@@ -87,9 +134,7 @@ impl<'a> Walk<'a> {
             }
             None => self.begin::<C>(rule, &key)?,
         }
-        if rule.keeps::<C>(newer, &key) {
-            self.run.push(key, value)?;
-        }
-        self.last.set(key)
+        let keeps = rule.keeps::<C>(newer, &key);
+        self.take(keeps, key, value, shared)
     }
 }

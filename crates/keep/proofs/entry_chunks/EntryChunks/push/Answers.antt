@@ -1,6 +1,10 @@
-use Rattle.std.proofs.Common.{◌≡◌, ◌+◌, List, [], ◌∷◌, ◌++◌, length, sym, ap, subst, ◌∙◌, rules, arith, length-append}
+use Rattle.std.proofs.Common.{◌≡◌, ◌+◌, ℕ, List, [], ◌∷◌, ◌++◌, length, sym, ap, subst, ◌∙◌, rules, arith, length-append}
+use Rattle.std.specs.Prelude.{nat_eq}
+use Rattle.std.specs.List.{common_prefix_len}
 use Rattle.block.specs.EncodedEntry.{Entry}
+use Rattle.block.specs.BuilderView.{last_key}
 use Rattle.keep.specs.EntryChunks.{all_kept, AreInChunks}
+use Rattle.keep.proofs.LastKept.{last_of_all}
 use Rattle.keep.proofs.PieceLists.{all_kept_push, pieces_same, pieces_push}
 use Rattle.keep.proofs.entry_chunks.EntryChunks.push.Goals as goal
 
@@ -24,3 +28,16 @@ returns-clause-ok c =
     ap (λ (es : List Entry). all_kept full es) c.in_ok-push.ensures.ok
     ∙ all_kept_push full c.make_room.new.last e
     ∙ ap (λ (es : List Entry). es ++ e ∷ []) (c.make_room.ensures.same ∙ c.self.view_is)
+
+pub push-requires-clause-shared : goal.push-requires-clause-shared
+push-requires-clause-shared c =
+    λ some.
+    let was = c.self.inside in
+    let full : List (List Entry) = c.make_room.new.full.items in
+    let last : List Entry = c.make_room.new.last in
+    let key : last_key [] c.args.self.now ≡ last_key [] last =
+    ap (last_key []) (sym c.self.view_is ∙ sym c.make_room.ensures.same) ∙ last_of_all full last some in
+    c.requires.shared ∙ ap (λ (bytes : List ℕ). common_prefix_len nat_eq bytes c.args.key.bytes.now) key
+
+pub push-requires-clause-room : goal.push-requires-clause-room
+push-requires-clause-room c = c.in_ok-make_room.ensures.room

@@ -1,5 +1,6 @@
 pub mod Lent
 mod TableRounds
+mod BoundsLemmas
 pub mod FallingRanges
 pub mod CommonRanges
 pub mod NeededLemmas

@@ -5,6 +5,7 @@ pub mod TestedTables
 pub mod NeededFiles
 pub mod HeldTables
 pub mod RangeOrder
+pub mod TableBounds
 -- serves proofs alone
 pub mod TablePlaces
 pub mod GroupTest

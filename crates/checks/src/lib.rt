@@ -9,7 +9,8 @@
 //! tables fit into memory together, and [`needed_files`] tells which files a range needs.
 //! [`HeldTables`] are their tables, held from range to range. [`test_and_hold`] hands on those that
 //! the test still holds, and [`checked_tables`] reads what is wanted beside them.
-//! [`common_range`] is what two ranges have in common.
+//! [`common_range`] is what two ranges have in common. [`bounds_tell`] is the law why the entries of
+//! some tables need no walk.
 //!
 //! The answer doesn't depend on the workers, nor on the order in which they do their jobs.
 //! [`CHECKERS`] is how many a command takes. A [`Watch`] is a gate that is told to which long work
@@ -29,6 +30,7 @@ mod range_walk;
 mod rounds;
 mod sampled_ranges;
 mod sequence_order;
+mod table_bounds;
 mod table_check;
 mod table_places;
 mod tested;
@@ -43,6 +45,7 @@ pub use held_tables::{HeldTables, hold_tables};
 pub use range_files::{needed_files, numbers_of};
 pub use range_intersection::common_range;
 pub use rounds::check_tables;
+pub use table_bounds::bounds_tell;
 pub use tested::Tested;
 pub use tested_version::TestedVersion;
 pub use version_check::{CHECKERS, lawful_tables};

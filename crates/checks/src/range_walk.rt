@@ -10,7 +10,6 @@ ghost use Rattle.checks.specs.GroupTest.{IsWalkAnswer, entries_of_all};
 
 use crate::entry_counts::counted_files;
 use crate::held_tables::HeldTables;
-use crate::sampled_ranges::sampled_split;
 use crate::sequence_order::entries_fall;
 use board::Open;
 use coding::Fault;
@@ -46,7 +45,7 @@ pub(crate) fn walk_range<C: SharedComparator + 'static, R: Threads + Sync>(
     ensures memory { IfErr result (λ e. e ≡ fault Memory) }
 {
     let tables = held.lend(alloc)?;
-    let Some(count) = counted_files(alloc, files, next, &tables, range)? else {
+    let Some(count) = counted_files(files, next, &tables, range) else {
         return Ok(None);
     };
     if !tables_fall(rt, alloc, &tables, range, workers)? {
@@ -71,8 +70,7 @@ fn tables_fall<'t, C: SharedComparator + 'static, R: Threads + Sync>(
     ensures memory { IfErr result (λ e. e ≡ fault Memory) }
 {
     let lent = lent_tables(alloc, tables)?;
-    let split = sampled_split::<C>(alloc, &lent)?;
-    entries_fall(rt, alloc, &lent, range, &split, workers, &Open)
+    entries_fall(rt, alloc, &lent, range, workers, &Open)
 }
 
 /// The tables without their numbers. The only fault is Memory.

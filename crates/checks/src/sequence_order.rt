@@ -10,6 +10,8 @@ ghost use Rattle.reads.specs.TableOrder.{AreFalling, AreFallingIn};
 ghost use Rattle.checks.specs.RangeOrder.{TellsRange};
 
 use crate::range_intersection::common_range;
+use crate::sampled_ranges::sampled_split;
+use crate::table_bounds::tables_to_walk;
 use board::{Gate, Labour, run};
 use coding::Fault;
 use ikey::{Comparator, SharedComparator};
@@ -51,9 +53,33 @@ impl<'r, 't, C: Comparator + 't + 'static> Labour for Falls<'r, 't, C> {
 /// Whether, for each user key of the range `within`, sequences strictly decrease if the tables are
 /// read one after the other.
 ///
-/// What it has of the ranges of the split is walked by 1 to 64 workers, each a job. The only fault
-/// is Memory.
+/// Tables that bounds tell apart from each other one aren't walked. Of the others, what `within` has
+/// of ranges of about one size is walked by 1 to 64 workers, each a job. The only fault is Memory.
 pub(crate) fn entries_fall<'t, C: SharedComparator + 'static, G: Gate + Sync, R: Threads + Sync>(
+    rt: &R,
+    alloc: Global,
+    tables: &[&SoundTable<'t, C>],
+    within: Range<'_>,
+    workers: u64,
+    gate: &G,
+) -> Result<bool, Fault>
+    requires some { 0 < workers }
+    requires few { workers ≤ 64 }
+    ensures falls { IfOk result (λ falls. (falls ≡ true)
+        ↔ AreFallingIn (IsIn C.cmp (key_range within.entry))
+        (entries_of_lists (map (λ t. t.now.entries) tables.now))) }
+    ensures memory { IfErr result (λ e. e ≡ fault Memory) }
+{
+    let walked = tables_to_walk(alloc, tables)?;
+    if walked.is_empty() {
+        return Ok(true);
+    }
+    let split = sampled_split::<C>(alloc, &walked)?;
+    walk_falls(rt, alloc, &walked, within, &split, workers, gate)
+}
+
+/// The same, of all tables. What `within` has of the ranges of the split is walked, each a job.
+fn walk_falls<'t, C: SharedComparator + 'static, G: Gate + Sync, R: Threads + Sync>(
     rt: &R,
     alloc: Global,
     tables: &[&SoundTable<'t, C>],
@@ -79,7 +105,7 @@ pub(crate) fn entries_fall<'t, C: SharedComparator + 'static, G: Gate + Sync, R:
     Ok(are_all_true(&found))
 }
 
-/// The same of all user keys.
+/// The same as `entries_fall`, of all user keys.
 pub(crate) fn all_entries_fall<
     't,
     C: SharedComparator + 'static,
@@ -89,7 +115,6 @@ pub(crate) fn all_entries_fall<
     rt: &R,
     alloc: Global,
     tables: &[&SoundTable<'t, C>],
-    split: &Split<C>,
     workers: u64,
     gate: &G,
 ) -> Result<bool, Fault>
@@ -103,7 +128,7 @@ pub(crate) fn all_entries_fall<
         lower: None,
         upper: None,
     };
-    entries_fall(rt, alloc, tables, all, split, workers, gate)
+    entries_fall(rt, alloc, tables, all, workers, gate)
 }
 
 /// How many ranges a split has.

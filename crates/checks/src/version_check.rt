@@ -7,7 +7,6 @@ ghost use Rattle.reads.specs.Lawful.{IsLawful, IsUnlawful};
 ghost use Rattle.checks.specs.LawfulTables.{IsLawfulTables};
 
 use crate::rounds::check_tables;
-use crate::sampled_ranges::sampled_split;
 use crate::sequence_order::all_entries_fall;
 use board::Gate;
 use coding::{Fault, FaultName};
@@ -44,7 +43,7 @@ pub fn lawful_tables<'t, C: SharedComparator + 'static, G: Gate + Sync, R: Threa
 }
 
 /// Tests whether a version is lawful with these tables, as `reads::lawful` does. The entries of
-/// each user key are walked by 1 to 64 workers, a range of user keys a job.
+/// tables that bounds don't tell apart are walked by 1 to 64 workers, a range of user keys a job.
 fn lawful<'t, C: SharedComparator + 'static, G: Gate + Sync, R: Threads + Sync>(
     rt: &R,
     alloc: Global,
@@ -59,8 +58,7 @@ fn lawful<'t, C: SharedComparator + 'static, G: Gate + Sync, R: Threads + Sync>(
         (λ e. UnlessMemory e (IsUnlawful C.cmp version.now tables.now e)) }
 {
     let standing = standing_tables(alloc, version, tables)?;
-    let split = sampled_split::<C>(alloc, &standing)?;
-    if !all_entries_fall(rt, alloc, &standing, &split, workers, gate)? {
+    if !all_entries_fall(rt, alloc, &standing, workers, gate)? {
         return Err(Fault::of(FaultName::Lawless));
     }
     Ok(())

@@ -8,6 +8,8 @@ mod adoption_tests;
 #[cfg(test)]
 mod board_tests;
 #[cfg(test)]
+mod bounds_tests;
+#[cfg(test)]
 mod checks_tests;
 #[cfg(test)]
 mod compact_tests;

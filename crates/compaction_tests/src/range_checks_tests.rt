@@ -204,7 +204,10 @@ pub(crate) fn version_after(alloc: Global, edit: &[u8]) -> Result<Version, Fault
 }
 
 /// Whether an answer is the expected one.
-fn is_told(answer: Result<Tested, Fault>, told: Result<(usize, u128), FaultName>) -> bool {
+pub(crate) fn is_told(
+    answer: Result<Tested, Fault>,
+    told: Result<(usize, u128), FaultName>,
+) -> bool {
     match (answer, told) {
         (Ok(tested), Ok((files, entries))) => tested.files == files && tested.entries == entries,
         (Err(fault), Err(name)) => fault.name == name,

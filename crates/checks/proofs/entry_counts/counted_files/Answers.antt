@@ -1,11 +1,11 @@
-use Rattle.std.proofs.Common.{Bor, ◌≡◌, ℕ, ◌<◌, ◌≤◌, ◌^◌, List, Option, length, map, get_or, sym, ap, subst, ◌∙◌, arith, IfSome}
+use Rattle.std.proofs.Common.{Bor, ◌≡◌, ℕ, ◌<◌, ◌≤◌, ◌^◌, List, length, map, get_or, sym, ap, subst, ◌∙◌, arith}
 use Rattle.std.proofs.lemmas.List.{length-map}
 use Rattle.std.proofs.Math.ListN.{get_or-map}
 use Rattle.table.specs.TableContents.{Contents}
 use Rattle.edit.specs.declared.meta.FileMeta.{FileMeta}
 use Rattle.reads.specs.Tables.{NumberedContents}
 use Rattle.split.specs.Ranges.{key_range}
-use Rattle.checks.specs.GroupTest.{IsFileCount, contents_of_all}
+use Rattle.checks.specs.GroupTest.{contents_of_all}
 use Rattle.checks.proofs.CountLemmas.{count_more, not_stated, stated_more}
 use Rattle.checks.proofs.entry_counts.counted_files.Goals as goal
 
@@ -39,7 +39,7 @@ returns-in_default-clause-counted g c =
     let lt : k < length c.args.files.now = omega arith in
     let p = place_of c.args.files.now c.args.tables.now k c.index-files-place.result c.index-tables-place.result x c.requires.same lt c.index-files-place.is c.index-tables-place.is c.table-table.ensures in
     not_stated cmp c.args.next range (map (λ f. f.now) c.args.files.now) (contents_of_all c.args.tables.now) p.same k f x p.lt p.is p.at
-    (subst (IsFileCount cmp c.args.next range f x) c.in_default.is c.in_ok-entries.ensures.counted)
+    c.in_default.ensures.counted
 
 pub loop-place-preserved : goal.loop-place-preserved
 loop-place-preserved g c =
@@ -52,8 +52,8 @@ loop-place-preserved g c =
     let xs : List Contents = contents_of_all c.args.tables.now in
     let lt : k < length c.args.files.now = omega arith in
     let p = place_of c.args.files.now c.args.tables.now k c.index-files-place.result c.index-tables-place.result x c.requires.same lt c.index-files-place.is c.index-tables-place.is c.table-table.ensures in
-    let counted = subst (IsFileCount cmp c.args.next range f x) c.in-Some.is c.in_ok-entries.ensures.counted in
-    let few : c.in-Some.entries ≤ 2 ^ 60 = subst (λ (o : Option ℕ). IfSome o (λ n. n ≤ 2 ^ 60)) c.in-Some.is c.in_ok-entries.ensures.small in
+    let counted = c.in-Some.ensures.counted in
+    let few : c.in-Some.entries ≤ 2 ^ 60 = c.in-Some.ensures.small in
     record {
       stated = stated_more cmp c.args.next range metas xs p.same k f x p.lt p.is p.at c.loop-place.invariant.stated counted.0;
       all = count_more cmp c.args.next range metas xs p.same k c.loop-place.count c.from-count.result _ f x p.lt p.is p.at c.loop-place.invariant.all (c.from-count.ensures ∙ counted.1);

@@ -53,8 +53,9 @@ impl<'r, 't, C: Comparator + 't + 'static> Labour for Falls<'r, 't, C> {
 /// Whether, for each user key of the range `within`, sequences strictly decrease if the tables are
 /// read one after the other.
 ///
-/// Tables that bounds tell apart from each other one aren't walked. Of the others, what `within` has
-/// of ranges of about one size is walked by 1 to 64 workers, each a job. The only fault is Memory.
+/// Tables that bounds tell apart from each other one aren't walked. Of the others, what `within`
+/// has of ranges of about one size is walked by 1 to 64 workers, each a job. The only fault is
+/// Memory.
 pub(crate) fn entries_fall<'t, C: SharedComparator + 'static, G: Gate + Sync, R: Threads + Sync>(
     rt: &R,
     alloc: Global,

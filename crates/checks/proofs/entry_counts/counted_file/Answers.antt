@@ -1,4 +1,4 @@
-use Rattle.std.proofs.Common.{◌≡◌, ◌≤◌, ◌^◌, List, ℕ, length, ap, sym, ◌∙◌, arith}
+use Rattle.std.proofs.Common.{◌≡◌, ◌-◌, ◌≤◌, ◌^◌, min, List, ℕ, length, ap, sym, ◌∙◌, arith}
 use Rattle.reads.specs.StatedFiles.{matches_metadata}
 use Rattle.reads.proofs.SoundFiles.{stated_tests}
 use Rattle.split.specs.Ranges.{key_range}
@@ -25,7 +25,9 @@ returns-then-not-starts_in-clause-counted g c =
 
 -- as many as there are
 counted : (n : ℕ) (x : Contents) → n ≡ (tally_of x.entries).entries → length x.entries ≤ 2 ^ 60 → n ≡ length x.entries
-counted n x is few = omega (arith, is, few)
+counted n x is few =
+    let same : n ≡ min (length x.entries) (2 ^ 64 - 1) = is in
+    omega (arith, same, few)
 
 pub returns-clause-small : goal.returns-clause-small
 returns-clause-small g c =

@@ -3,6 +3,7 @@ pub mod SortedEntries
 pub mod Merges
 pub mod Leasts
 pub mod Tournaments
+pub mod Heads
 pub mod Seeks
 pub mod Refused
 pub mod OneMerge

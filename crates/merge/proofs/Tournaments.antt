@@ -1,15 +1,17 @@
 -- A tournament: what a match does to it, what a change of one list does, and who wins at the root.
-use Rattle.std.proofs.Common.{Option, Bool, true, false, cond, ◌≡◌, ◌≢◌, ◌⊎◌, ℕ, ◌+◌, ◌-◌, ◌*◌, ◌/◌, ◌<◌, ◌≤◌, List, [], ◌∷◌, ◌++◌, length, map, replicate, get_or, take, drop, set, suc, zero, Some, None, inl, inr, ⊎_elim, refl, sym, ap, subst, ◌∙◌, arith, length-set, get_or-set_same, get_or-set_other}
-use Rattle.std.specs.Prelude.{slice_get, nat_lt}
+use Rattle.std.proofs.Common.{◌≡◌, ◌≢◌, ◌⊎◌, ℕ, ◌+◌, ◌-◌, ◌*◌, ◌/◌, ◌%◌, ◌<◌, ◌≤◌, List, [], ◌∷◌, ◌++◌, length, map, replicate, get_or, take, drop, set, suc, zero, Some, None, inl, inr, ⊎_elim, refl, sym, ap, subst, ◌∙◌, arith, length-set, get_or-set_same, get_or-set_other}
+use Rattle.std.specs.Prelude.{slice_get}
 use Rattle.std.specs.Option.{option_map}
 use Rattle.std.specs.List.{AllByRecursion}
 use Rattle.std.specs.Cmp.{IsTotalOrder}
-use Rattle.std.specs.Ordering.{is_le, match_ordering, ordering_reverse}
+use Rattle.std.specs.Ordering.{is_le, ordering_reverse}
 use Rattle.std.specs.declared.cmp.Ordering.{Ordering}
 use Rattle.std.specs.declared.cmp.Ordering.TheVariants.{Less, Equal, Greater}
+use Rattle.std.specs.Int.Bits.{bit_xor, bit_and, xor_add_and}
+use Rattle.std.proofs.lemmas.Nat.{and_mask}
 use Rattle.std.proofs.Math.ListN.{length-replicate, get_or-replicate, get_or-append}
 use Rattle.std.proofs.Math.Seq.{get_or-append_seam}
-use Rattle.std.proofs.lemmas.Bool.{cases_eq, cases_lt, ltb-true, ltb-false}
+use Rattle.std.proofs.lemmas.Bool.{cases_eq, cases_lt}
 use Rattle.std.proofs.lemmas.List.{get_or_default, nil_from_length, length_push, length-map, map-set}
 use Rattle.std.proofs.lemmas.Option.{same_Some, none-some, slice_get_read, slice_get_within, get_or_from_slice_get}
 use Rattle.block.specs.EncodedEntry.{Entry}
@@ -18,10 +20,10 @@ use Rattle.ikey.proofs.Ordered.{internal_cmp-total}
 use Rattle.table.specs.ReadingCursors.{NeverFalls}
 use Rattle.merge.specs.Merged.{merged}
 use Rattle.merge.specs.Least.{StartsAbove, StartsFrom, IsLeast, IsMerging}
-use Rattle.merge.specs.Tournament.{first_key_at, comes_first, AreBeside, IsAhead, Beats, IsWinner, IsBracket, IsPlayed, IsMatch, IsAboveBy, IsAbove, IsTournament}
+use Rattle.merge.specs.Tournament.{AreBeside, IsAhead, Beats, IsWinner, IsBracket, IsPlayed, IsMatch, IsAboveBy, IsAbove, IsTournament}
 use Rattle.merge.proofs.Orders.{lt_le_trans, never_falls_drop, all_append}
 use Rattle.merge.proofs.Merges.{one_of}
-use Rattle.merge.proofs.Leasts.{at_place, none_without_least, take_next}
+use Rattle.merge.proofs.Leasts.{none_without_least, take_next}
 
 -- ---- lists and their places
 
@@ -30,7 +32,7 @@ equal_self Less h = absurd cc
 equal_self Equal h = refl
 equal_self Greater h = absurd cc
 
-ahead_same : (cmp : List ℕ → List ℕ → Ordering) → IsTotalOrder cmp → (place : ℕ) (list : List Entry) → IsAhead cmp place list place list
+pub ahead_same : (cmp : List ℕ → List ℕ → Ordering) → IsTotalOrder cmp → (place : ℕ) (list : List Entry) → IsAhead cmp place list place list
 ahead_same cmp total place [] = tt
 ahead_same cmp total place (e ∷ es) = inr (equal_self (internal_cmp cmp e.key e.key) ((internal_cmp-total total).antisymm e.key e.key), omega arith)
 
@@ -121,50 +123,18 @@ module _ (cmp : List ℕ → List ℕ → Ordering) (total : IsTotalOrder cmp) (
         (λ is. subst (λ n. Beats cmp lists n other) (sym is) (ahead_same cmp total other (get_or lists other []))) either;
   }
 
--- what is at a place, by the first key there
-none_first : (list : List Entry) → option_map (λ e. e.key) (slice_get list 0) ≡ None → list ≡ []
-none_first [] h = refl
-none_first (e ∷ es) h = absurd cc
-
-stands_at : (lists : List (List Entry)) (place : ℕ) → place < length lists → slice_get lists place ≡ Some (get_or lists place [])
+pub stands_at : (lists : List (List Entry)) (place : ℕ) → place < length lists → slice_get lists place ≡ Some (get_or lists place [])
 stands_at lists place within = slice_get_read lists (length lists) place (get_or lists place []) refl within (get_or_default lists place [] (get_or lists place []) within)
 
-none_long : (list : List Entry) → list ≡ [] → length list ≡ 0
-none_long list is = ap length is
-
-module _ (cmp : List ℕ → List ℕ → Ordering) (total : IsTotalOrder cmp) (lists : List (List Entry)) (best other : ℕ) (low : best < length lists) (high : other < length lists) where
-  -- a place without a key loses
-  pub best_alone : None ≡ first_key_at lists other → IsWinner cmp lists best other best
-  best_alone none = wins_of_none cmp total lists best other (get_or lists other []) (stands_at lists other high) (none_long (get_or lists other []) (none_first (get_or lists other []) (sym none)))
-
-  module _ (key : List ℕ) (second : Some key ≡ first_key_at lists other) where
-    by_order : (best_key : List ℕ) (o : Ordering) (b : Bool) → Some best_key ≡ first_key_at lists best → internal_cmp cmp best_key key ≡ o → b ≡ match_ordering o false (nat_lt other best) true → IsWinner cmp lists best other (cond b other best)
-    by_order best_key Less true first is test = absurd cc
-    by_order best_key Less false first is test = lesser_wins cmp total lists best other (get_or lists best []) (get_or lists other []) best_key key (stands_at lists best low) (stands_at lists other high) (sym first) (sym second) is
-    by_order best_key Greater false first is test = absurd cc
-    by_order best_key Greater true first is test = greater_loses cmp total lists best other (get_or lists best []) (get_or lists other []) best_key key (stands_at lists best low) (stands_at lists other high) (sym first) (sym second) is
-    by_order best_key Equal true first is test =
-        let below : other < best = ltb-true other best (sym test) in
-        lower_wins cmp total lists best other (get_or lists best []) (get_or lists other []) best_key key (stands_at lists best low) (stands_at lists other high) (sym first) (sym second) other is (inr refl) (omega arith) (omega arith)
-    by_order best_key Equal false first is test =
-        let from : best ≤ other = ltb-false other best (sym test) in
-        lower_wins cmp total lists best other (get_or lists best []) (get_or lists other []) best_key key (stands_at lists best low) (stands_at lists other high) (sym first) (sym second) best is (inl refl) (omega arith) (omega arith)
-
-    -- the one that comes first wins
-    pub first_wins : (best_key : Option (List ℕ)) (b : Bool) → best_key ≡ first_key_at lists best → b ≡ comes_first cmp key other best_key best → IsWinner cmp lists best other (cond b other best)
-    first_wins None true first test =
-        none_wins cmp total lists best other (get_or lists best []) (stands_at lists best low) (none_long (get_or lists best []) (none_first (get_or lists best []) (sym first)))
-    first_wins None false first test = absurd cc
-    first_wins (Some best_key) b first test = by_order best_key (internal_cmp cmp best_key key) b first refl test
-
--- the first key of the list that a cursor is seen as
-pub key_is : {X : Type 0} (remaining : X → List Entry) (cursors : List X) (place : ℕ) (cursor : X) → place < length cursors → cursor ≡ get_or cursors place cursor → first_key_at (map remaining cursors) place ≡ option_map (λ e. e.key) (slice_get (remaining cursor) 0)
-key_is remaining cursors place cursor within is =
-    ap (λ (l : List Entry). option_map (λ e. e.key) (slice_get l 0)) (get_or_from_slice_get (map remaining cursors) place (remaining cursor) [] (at_place remaining cursors place cursor within is))
-
-pub none_there : (list : List Entry) → length list ≡ 0 → None ≡ option_map (λ (e : Entry). e.key) (slice_get list 0)
-none_there [] h = refl
-none_there (e ∷ es) h = absurd cc
+-- the nodes below one node differ in the lowest bit
+pub lowest_bit : (node : ℕ) → AreBeside node (bit_xor node 1)
+lowest_bit node =
+    let sum : bit_xor node 1 + bit_and node 1 * 2 ≡ node + 1 = xor_add_and node 1 in
+    let low : bit_and node 1 ≡ node % 2 = and_mask node 1 in
+    elim (cases_lt (node % 2) 1) [
+      | inl even ↦ inl (omega (arith, even), omega (arith, even, sum, low))
+      | inr odd ↦ inr (omega (arith, odd), omega (arith, odd, sum, low))
+    ]
 
 -- the places of the two below a node are places
 pub left_within : (number : ℕ) (winners : List ℕ) (node : ℕ) → IsBracket number winners → node < number → get_or winners (2 * node) 0 < number

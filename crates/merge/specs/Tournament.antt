@@ -1,12 +1,10 @@
 -- A tournament of lists: the list whose first entry comes first wins each match.
-use Rattle.std.specs.Prelude.{◌≡◌, ◌⊎◌, ℕ, zero, suc, ◌+◌, ◌*◌, ◌/◌, ◌<◌, ◌≤◌, List, [], ◌∷◌}
-use Rattle.std.specs.Prelude.{length, slice_get, slice_index, slice_index_or, set, Bool, true}
-use Rattle.std.specs.Prelude.{false, Option, Some, None, nat_lt}
-use Rattle.std.specs.Ordering.{match_ordering}
-use Rattle.std.specs.Option.{option_map}
+use Rattle.std.specs.Prelude.{◌≡◌, ◌⊎◌, ℕ, zero, suc, ◌+◌, ◌-◌, ◌*◌, ◌/◌, ◌^◌, ◌<◌, ◌≤◌, List, []}
+use Rattle.std.specs.Prelude.{◌∷◌, length, slice_index, slice_index_or, set}
 use Rattle.std.specs.List.{AllByRecursion}
 use Rattle.std.specs.declared.cmp.Ordering.TheVariants.{Less, Equal}
 use Rattle.block.specs.EncodedEntry.{Entry}
+use Rattle.ikey.specs.Key.{user_of}
 use Rattle.ikey.specs.Order.{internal_cmp}
 use Rattle.ikey.specs.Comparator.{KeyOrder}
 use Rattle.table.specs.ReadingCursors.{NeverFalls}
@@ -30,16 +28,6 @@ pub record IsWinner (cmp : KeyOrder) (lists : List (List Entry)) (one other winn
   pub either : (winner ≡ one) ⊎ (winner ≡ other)
   pub over_one : Beats cmp lists winner one
   pub over_other : Beats cmp lists winner other
-
--- the key of the first entry of the list at a place; None if it has no entry
-abbrev pub first_key_at : List (List Entry) → ℕ → Option (List ℕ)
-first_key_at lists place = option_map (λ e. e.key) (slice_get (slice_index_or lists place []) 0)
-
--- whether a key at a place comes before best at another place; if there is no best, it does
-abbrev pub comes_first : KeyOrder → List ℕ → ℕ → Option (List ℕ) → ℕ → Bool
-comes_first cmp key place None other = true
-comes_first cmp key place (Some best) other =
-    match_ordering (internal_cmp cmp best key) false (nat_lt place other) true
 
 -- two nodes are the two below one node
 abbrev pub AreBeside : ℕ → ℕ → Type 0
@@ -83,3 +71,21 @@ pub record IsTournament (cmp : KeyOrder) (lists : List (List Entry)) (winners : 
   pub ordered : AllByRecursion (NeverFalls cmp) lists
   pub bracket : IsBracket (length lists) winners
   pub matches : IsPlayed cmp lists winners (λ node. ⊥)
+
+-- the head of the first key of a list; the greatest number of sixteen bytes if it has no entry
+abbrev pub first_head : (List ℕ → ℕ) → List Entry → ℕ
+first_head head_of [] = 2 ^ 128 - 1
+first_head head_of (e ∷ es) = head_of (user_of e.key)
+
+-- the heads of the first keys of lists
+pub record AreHeads (head_of : List ℕ → ℕ) (lists : List (List Entry)) (heads : List ℕ)
+    : Type 0 where
+  pub size : length heads ≡ length lists
+  pub each : (place : ℕ) → place < length lists →
+      slice_index heads place ≡ first_head head_of (slice_index_or lists place [])
+
+-- a tournament, with the heads of its lists' first keys
+pub record IsHeaded (cmp : KeyOrder) (head_of : List ℕ → ℕ) (lists : List (List Entry))
+    (winners heads : List ℕ) : Type 0 where
+  pub tournament : IsTournament cmp lists winners
+  pub headed : AreHeads head_of lists heads

@@ -9,7 +9,9 @@ ghost use Rattle.merge.specs.Merged.{merged};
 ghost use Rattle.merge.specs.Least.{IsAdvanced, IsMerging};
 ghost use Rattle.merge.specs.Seeks.{each_from, EachLeavesFrom};
 
-use crate::tournament::{bracket, next_cursor, next_place, play_all, play_path};
+use crate::tournament::{
+    advance_cursor, bracket, first_place, next_cursor, next_place, play_all, play_path,
+};
 use coding::Fault;
 use ikey::{Comparator, InternalKey};
 use std::alloc::Global;
@@ -30,19 +32,22 @@ pub struct Merging<C: Comparator, S: Entries + Drop> {
     cursors: Vec<S>,
     /// The winners of the tournament, a node each.
     winners: Vec<usize>,
+    /// The head of each cursor's first key.
+    heads: Vec<u128>,
     order: PhantomData<C>,
 }
 
 impl<C: Comparator, S: Entries + Drop> Model for Merging<C, S> {
     ghost use Rattle.std.specs.Prelude.{List, map};
     ghost use Rattle.block.specs.EncodedEntry.{Entry};
-    ghost use Rattle.merge.specs.Tournament.{IsTournament};
+    ghost use Rattle.merge.specs.Tournament.{IsHeaded};
 
     ghost Value = { List (List Entry) };
 
     ghost view = { λ m. map S.remaining m.cursors.items };
 
-    ghost invariant = { λ m. IsTournament C.cmp (map S.remaining m.cursors.items) m.winners.items };
+    ghost invariant = { λ m.
+        IsHeaded C.cmp C.head_of (map S.remaining m.cursors.items) m.winners.items m.heads.items };
 }
 
 impl<'c, C: Comparator, S: Cursor<'c, C> + Drop> Merging<C, S> {
@@ -68,11 +73,13 @@ impl<'c, C: Comparator, S: Cursor<'c, C> + Drop> Merging<C, S> {
         ensures unchanged { OnErr result (cursors.new.items ≡ cursors.old.items) }
     {
         let mut winners = bracket(alloc, cursors.len())?;
+        let mut heads = Vec::from_elem(alloc, 0, cursors.len())?;
         let cursors = mem::replace(cursors, Vec::new(alloc));
-        play_all::<C, S>(&cursors, &mut winners);
+        play_all::<C, S>(&cursors, &mut heads, &mut winners);
         Ok(Merging {
             cursors,
             winners,
+            heads,
             order: PhantomData,
         })
     }
@@ -84,6 +91,7 @@ impl<'c, C: Comparator, S: Cursor<'c, C> + Drop> Merging<C, S> {
         let Merging {
             cursors,
             winners: _,
+            heads: _,
             order: _,
         } = self;
         cursors
@@ -147,12 +155,13 @@ impl<'c, C: Comparator, S: Cursor<'c, C> + Drop> Cursor<'c, C> for Merging<C, S>
         ensures memory { IsOkUnless result (fault Memory) }
     {
         let cursors = self.cursors.as_slice();
-        if let Some(place) = next_place::<C, S>(cursors, &self.winners) {
-            self.cursors[place].advance()?;
-            let changed = self.cursors.as_slice();
-            let winners = self.winners.as_mut_slice();
-            play_path::<C, S>(changed, winners, place);
-        }
+        let place = first_place::<C, S>(cursors, &self.winners);
+        let head = advance_cursor::<C, S>(&mut self.cursors[place])?;
+        self.heads[place] = head;
+        let changed = self.cursors.as_slice();
+        let heads = self.heads.as_slice();
+        let winners = self.winners.as_mut_slice();
+        play_path::<C, S>(changed, heads, winners, place);
         Ok(())
     }
 
@@ -173,7 +182,7 @@ impl<'c, C: Comparator, S: Cursor<'c, C> + Drop> Cursor<'c, C> for Merging<C, S>
     {
         let cursors = self.cursors.as_mut_slice();
         let sought = seek_all::<C, S>(cursors, target);
-        play_all::<C, S>(cursors, &mut self.winners);
+        play_all::<C, S>(cursors, &mut self.heads, &mut self.winners);
         sought
     }
 }

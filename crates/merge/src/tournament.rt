@@ -9,20 +9,19 @@
 //! A step changes one cursor's first entry. Only the matches above its place are played again, one
 //! a round; a pass over all cursors would compare each of them.
 
-ghost use Rattle.std.specs.Prelude.{◌≡◌, ◌+◌, ◌<◌, ◌≤◌, ◌⊎◌, map, length, slice_get, IfOk};
-ghost use Rattle.std.specs.Prelude.{IsOkUnless};
-ghost use Rattle.std.specs.Option.{option_map};
+ghost use Rattle.std.specs.Prelude.{◌≡◌, ◌+◌, ◌<◌, ◌≤◌, ◌⊎◌, [], map, length, slice_get, IfOk};
+ghost use Rattle.std.specs.Prelude.{Some, drop, slice_index_or, if◌then◌else◌, IsOkUnless, OnOk, OnErr};
 ghost use Rattle.std.specs.List.{AllByRecursion};
 ghost use Rattle.coding.specs.Answers.{fault};
 ghost use Rattle.coding.specs.declared.fault.FaultName.TheVariants.{Memory};
 ghost use Rattle.table.specs.ReadingCursors.{NeverFalls};
 ghost use Rattle.merge.specs.Least.{IsMerging};
 ghost use Rattle.merge.specs.Merged.{merged};
-ghost use Rattle.merge.specs.Tournament.{first_key_at, comes_first, AreBeside, IsWinner, IsBracket};
-ghost use Rattle.merge.specs.Tournament.{IsPlayed, IsMatch, IsAbove, IsTournament};
+ghost use Rattle.merge.specs.Tournament.{AreBeside, IsWinner, IsBracket, IsPlayed, IsMatch};
+ghost use Rattle.merge.specs.Tournament.{IsAbove, IsTournament, first_head, AreHeads, IsHeaded};
 
 use coding::Fault;
-use ikey::{Comparator, InternalKey};
+use ikey::Comparator;
 use std::alloc::Global;
 use std::cmp::Ordering;
 use table::{Cursor, Entries};
@@ -86,42 +85,61 @@ fn play<'c, C: Comparator, S: Cursor<'c, C>>(cursors: &[S], winners: &mut [usize
     winners[node] = winner::<C, S>(cursors, winners[2 * node], winners[2 * node + 1]);
 }
 
-/// The first key of the cursor at `place`; None if it is at its end.
-fn key_at<'a, 'c, C: Comparator, S: Cursor<'c, C>>(
-    cursors: &'a [S],
-    place: usize,
-) -> Option<InternalKey<'a>>
-    requires { place < length cursors.now }
-    ensures { option_map (λ key. key.bytes.now) result
-        ≡ first_key_at (map S.remaining cursors.now) place }
+/// The head of the first key of a cursor; the greatest number if it is at its end. Takes no memory.
+#[inline]
+pub(crate) fn first_head<'c, C: Comparator, S: Cursor<'c, C>>(cursor: &S) -> u128
+    ensures head { result ≡ first_head C.head_of (S.remaining cursor.now) }
+    ensures ordered { NeverFalls C.cmp (S.remaining cursor.now) }
 {
-    let cursor = &cursors[place];
     if !cursor.valid() {
-        return None;
+        return u128::MAX;
     }
-    Some(cursor.key())
+    C::head(cursor.key().user())
 }
 
-/// Whether the cursor with `key` at `place` wins against the one with `best_key` at `best`. The
-/// smaller key wins; of equal keys the lower place; a cursor without a key loses.
-fn comes_first<C: Comparator>(
-    key: InternalKey<'_>,
-    place: usize,
-    best_key: Option<InternalKey<'_>>,
-    best: usize,
-) -> bool
-    ensures { result
-        ≡ comes_first C.cmp key.entry.bytes.now place
-        (option_map (λ key. key.bytes.now) best_key.entry) best }
+/// Takes off the first entry of a cursor. The result is the head of its first key then.
+///
+/// The only fault is Memory, which leaves the cursor unchanged.
+#[inline]
+pub(crate) fn advance_cursor<'c, C: Comparator, S: Cursor<'c, C>>(
+    cursor: &mut S,
+) -> Result<u128, Fault>
+    requires { 0 < length (S.remaining cursor.old) }
+    ensures head { IfOk result (λ head. head ≡ first_head C.head_of (S.remaining cursor.new)) }
+    ensures ok { OnOk result (S.remaining cursor.new ≡ drop 1 (S.remaining cursor.old)) }
+    ensures err { OnErr result (S.remaining cursor.new ≡ S.remaining cursor.old) }
+    ensures memory { IsOkUnless result (fault Memory) }
 {
-    let Some(best_key) = best_key else {
+    cursor.advance()?;
+    Ok(first_head::<C, S>(cursor))
+}
+
+/// Whether the cursor at `other`, with `head`, wins against the one at `best`, with `best_head`. If
+/// the heads differ, no key is read.
+#[inline]
+fn wins<'c, C: Comparator, S: Cursor<'c, C>>(
+    cursors: &[S],
+    best: usize,
+    best_head: u128,
+    other: usize,
+    head: u128,
+) -> bool
+    requires best { best < length cursors.now }
+    requires other { other < length cursors.now }
+    requires best_head { best_head
+        ≡ first_head C.head_of (slice_index_or (map S.remaining cursors.now) best []) }
+    requires head { head
+        ≡ first_head C.head_of (slice_index_or (map S.remaining cursors.now) other []) }
+    ensures { IsWinner C.cmp (map S.remaining cursors.now) best other
+        (if result then other else best) }
+{
+    if head < best_head {
         return true;
-    };
-    match best_key.compare::<C>(&key) {
-        Ordering::Less => false,
-        Ordering::Greater => true,
-        Ordering::Equal => place < best,
     }
+    if best_head < head {
+        return false;
+    }
+    winner::<C, S>(cursors, best, other) == other
 }
 
 /// The other node below the node that this one is below.
@@ -129,18 +147,18 @@ fn beside(node: usize) -> usize
     requires { 0 < node }
     ensures { AreBeside node result }
 {
-    if node % 2 == 0 { node + 1 } else { node - 1 }
+    node ^ 1
 }
 
 /// Plays again the matches above `place`. All others were played.
-///
-/// The winner so far is kept with its key, so each match asks one cursor only.
 pub(crate) fn play_path<'c, C: Comparator, S: Cursor<'c, C>>(
     cursors: &[S],
+    heads: &[u128],
     winners: &mut [usize],
     place: usize,
 )
     requires within { place < length cursors.now }
+    requires heads { AreHeads C.head_of (map S.remaining cursors.now) heads.now }
     requires bracket { IsBracket (length cursors.now) winners.old }
     requires others { IsPlayed C.cmp (map S.remaining cursors.now) winners.old
         (λ node. IsAbove node (length cursors.now + place)) }
@@ -149,14 +167,13 @@ pub(crate) fn play_path<'c, C: Comparator, S: Cursor<'c, C>>(
 {
     let mut node = cursors.len() + place;
     let mut best = place;
-    let mut best_key = key_at::<C, S>(cursors, place);
+    let mut best_head = heads[place];
     while node > 1 {
         let other = winners[beside(node)];
-        if let Some(key) = key_at::<C, S>(cursors, other) {
-            if comes_first::<C>(key, other, best_key, best) {
-                best = other;
-                best_key = Some(key);
-            }
+        let head = heads[other];
+        if wins::<C, S>(cursors, best, best_head, other, head) {
+            best = other;
+            best_head = head;
         }
         node /= 2;
         winners[node] = best;
@@ -176,21 +193,29 @@ fn play_matches<'c, C: Comparator, S: Cursor<'c, C>>(cursors: &[S], winners: &mu
     }
 }
 
-/// Asks each cursor whether it has an entry. Why: that answer also says that its keys never fall.
-fn ask_all<'c, C: Comparator, S: Cursor<'c, C>>(cursors: &[S])
-    ensures { AllByRecursion (NeverFalls C.cmp) (map S.remaining cursors.now) }
+/// Notes the head of each cursor's first key. What each one answers also says that its keys never
+/// fall.
+fn note_heads<'c, C: Comparator, S: Cursor<'c, C>>(cursors: &[S], heads: &mut [u128])
+    requires { length heads.old ≡ length cursors.now }
+    ensures heads { AreHeads C.head_of (map S.remaining cursors.now) heads.new }
+    ensures ordered { AllByRecursion (NeverFalls C.cmp) (map S.remaining cursors.now) }
 {
-    for cursor in cursors {
-        let _valid = cursor.valid();
+    for place in 0..cursors.len() {
+        heads[place] = first_head::<C, S>(&cursors[place]);
     }
 }
 
 /// Plays a whole tournament of these cursors.
-pub(crate) fn play_all<'c, C: Comparator, S: Cursor<'c, C>>(cursors: &[S], winners: &mut [usize])
-    requires { IsBracket (length cursors.now) winners.old }
-    ensures { IsTournament C.cmp (map S.remaining cursors.now) winners.new }
+pub(crate) fn play_all<'c, C: Comparator, S: Cursor<'c, C>>(
+    cursors: &[S],
+    heads: &mut [u128],
+    winners: &mut [usize],
+)
+    requires heads { length heads.old ≡ length cursors.now }
+    requires bracket { IsBracket (length cursors.now) winners.old }
+    ensures { IsHeaded C.cmp C.head_of (map S.remaining cursors.now) winners.new heads.new }
 {
-    ask_all::<C, S>(cursors);
+    note_heads::<C, S>(cursors, heads);
     play_matches::<C, S>(cursors, winners);
 }
 
@@ -209,6 +234,15 @@ pub(crate) fn next_place<'c, C: Comparator, S: Cursor<'c, C>>(
     } else {
         None
     }
+}
+
+/// The place of the cursor whose first entry comes next. Takes no memory.
+pub(crate) fn first_place<C: Comparator, S: Entries>(cursors: &[S], winners: &[usize]) -> usize
+    requires tournament { IsTournament C.cmp (map S.remaining cursors.now) winners.now }
+    requires some { 0 < length (merged C.cmp (map S.remaining cursors.now)) }
+    ensures { IsMerging C.cmp (map S.remaining cursors.now) (Some result) }
+{
+    winners[1]
 }
 
 /// The cursor whose first entry comes next. Takes no memory.

@@ -33,7 +33,7 @@ returns-clause-ok g c =
     (λ sought.
     ap (λ cursors. merged cmp (map remaining cursors)) (with_items_is c.self.inside.cursors c.seek_all-sought.new.cursors same)
     ∙ ap (merged cmp) (sought ∙ ap (λ cursors. each_from cmp target (map remaining cursors)) c.as_mut_slice-cursors.ensures.value)
-    ∙ merged_from cmp g.met.C.Comparator.total target lists c.self.invariant.ordered
+    ∙ merged_from cmp g.met.C.Comparator.total target lists c.self.invariant.tournament.ordered
     ∙ ap (λ ls. entries_from cmp target (merged cmp ls)) c.self.view_is
     ) c.seek_all-sought.ensures.ok
 

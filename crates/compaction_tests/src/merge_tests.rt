@@ -54,7 +54,8 @@ const ACF: &[u8] = b"\
     \0\0\0\0\x2f\0\0\0\0\x01\0\0\0\0q\xc5\x88\xfe4\x08A\x16\0\0\0\0\0\0\0\0\0\0\0\0\0\0\0\0\0\0\0\
     \0\0\0\0\0\0\0\0\0\0\0\0\0\0\0\0\0W\xfb\x80\x8b\x24uG\xdb";
 
-/// `table: p*7@1 put a, p*8\0@1 put c, p*16@1 put f, p*32@1 put h, p*32\0@1 put i`
+/// `shortlex: p*7@1 put a, 0x707070707070707000@1 put c, p*16@1 put f, p*32@1 put h,
+/// 0x707070707070707070707070707070707070707070707070707070707070707000@1 put i`
 const SHARING: &[u8] = b"\
     \0\x0f\x01ppppppp\x01\x01\0\0\0\0\0\0a\x07\x0a\x01p\0\x01\x01\0\0\0\0\0\0c\x08\x10\x01pppppppp\
     \x01\x01\0\0\0\0\0\0f\x10\x18\x01pppppppppppppppp\x01\x01\0\0\0\0\0\0h\x20\x09\x01\0\x01\x01\0\
@@ -62,7 +63,8 @@ const SHARING: &[u8] = b"\
     ppppppppppppppppppppppppppp\0\x01\x01\0\0\0\0\0\0\0f\0\0\0\0\x01\0\0\0\0H\xffG\xd9k\x08x6\0\0\0\
     \0\0\0\0\0\0\0\0\0\0\0\0\0\0\0\0\0\0\0\0\0\0\0\0\0\0\0\0\0\0\0\0\0W\xfb\x80\x8b\x24uG\xdb";
 
-/// `table: p*8@1 put b, p*15@1 put d, p*16\0@1 put g, p*32q@1 put j`
+/// `shortlex: p*8@1 put b, p*15@1 put d, 0x7070707070707070707070707070707000@1 put g,
+/// 0x707070707070707070707070707070707070707070707070707070707070707071@1 put j`
 const SHARING_TOO: &[u8] = b"\
     \0\x10\x01pppppppp\x01\x01\0\0\0\0\0\0b\x08\x0f\x01ppppppp\x01\x01\0\0\0\0\0\0d\x0f\x0a\x01p\0\
     \x01\x01\0\0\0\0\0\0g\x10\x19\x01ppppppppppppppppq\x01\x01\0\0\0\0\0\0j\0\0\0\0\x01\0\0\0\0\x5c\
@@ -70,7 +72,7 @@ const SHARING_TOO: &[u8] = b"\
     \x01\0\0\0\0\0\0\0Z\0\0\0\0\x01\0\0\0\0\x1b\x3b\xf9\xf6\x5f\x08l6\0\0\0\0\0\0\0\0\0\0\0\0\0\0\0\
     \0\0\0\0\0\0\0\0\0\0\0\0\0\0\0\0\0\0\0\0\0W\xfb\x80\x8b\x24uG\xdb";
 
-/// `table: q@1 put m, \xff*16@1 put n, \xff*17@1 put o`
+/// `shortlex: q@1 put m, 0xff*16@1 put n, 0xff*17@1 put o`
 const APART: &[u8] = b"\
     \0\x09\x01q\x01\x01\0\0\0\0\0\0m\0\x18\x01\xff\xff\xff\xff\xff\xff\xff\xff\xff\xff\xff\xff\xff\
     \xff\xff\xff\x01\x01\0\0\0\0\0\0n\x10\x09\x01\xff\x01\x01\0\0\0\0\0\0o\0\0\0\0\x01\0\0\0\0\xa0\
@@ -79,14 +81,14 @@ const APART: &[u8] = b"\
     \x08P\x26\0\0\0\0\0\0\0\0\0\0\0\0\0\0\0\0\0\0\0\0\0\0\0\0\0\0\0\0\0\0\0\0\0\0\0\0W\xfb\x80\x8b\
     \x24uG\xdb";
 
-/// `table: p*8q@1 put l`
+/// `shortlex: 0x707070707070707071@1 put l`
 const LONGER: &[u8] = b"\
     \0\x11\x01ppppppppq\x01\x01\0\0\0\0\0\0l\0\0\0\0\x01\0\0\0\0H5C\x08\0\0\0\0\x01\0\0\0\0\xc0\xf2\
     \xa1\xb0\0\x11\x02ppppppppq\x01\x01\0\0\0\0\0\0\0\x1d\0\0\0\0\x01\0\0\0\0\x3e\xbf\x21\x86\x22\
     \x08\x2f\x1e\0\0\0\0\0\0\0\0\0\0\0\0\0\0\0\0\0\0\0\0\0\0\0\0\0\0\0\0\0\0\0\0\0\0\0\0W\xfb\x80\
     \x8b\x24uG\xdb";
 
-/// `table: p*16@9 put e, p*16q@1 put k`
+/// `shortlex: p*16@9 put e, 0x7070707070707070707070707070707071@1 put k`
 const NEWER: &[u8] = b"\
     \0\x18\x01pppppppppppppppp\x01\x09\0\0\0\0\0\0e\x10\x09\x01q\x01\x01\0\0\0\0\0\0k\0\0\0\0\x01\0\
     \0\0\0\x8d1\x9f\xb2\0\0\0\0\x01\0\0\0\0\xc0\xf2\xa1\xb0\0\x19\x02ppppppppppppppppq\x01\x01\0\0\

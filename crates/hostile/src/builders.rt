@@ -2,7 +2,7 @@
 //! the call is made again on it.
 
 use crate::cases::SMALLEST;
-use crate::memory::Memory;
+use crate::fault::is_memory;
 use crate::worked::{
     A_AT_ONE, A_AT_TWO, BLOCK, DELETION_LEFT, SHORT_RECORD, SNAPSHOT_NINE, TABLE_THREE_BLOCKS,
     VERSION_SEVEN,
@@ -27,18 +27,13 @@ const THREE_KEYS: [&[u8; 9]; 3] = [
 
 /// Adds an entry to a block that is not full.
 #[tactic(auto, using(block::proofs::Sizes::fits_with_entry))]
-pub fn add_entry(
-    memory: &mut Memory,
-    builder: &mut BlockBuilder,
-    key: &[u8; 9],
-    value: &[u8; 1],
-) -> Result<(), Fault> {
+pub fn add_entry(builder: &mut BlockBuilder, key: &[u8; 9], value: &[u8; 1]) -> Result<(), Fault> {
     let estimate = builder.estimate();
     if estimate >= BLOCK_LEN {
         return Err(Fault::of(FaultName::TooLarge));
     }
     let answer = builder.add(key, value);
-    if !memory.is_refused(&answer) {
+    if !is_memory(&answer) {
         return answer;
     }
     if builder.estimate() != estimate {
@@ -48,26 +43,22 @@ pub fn add_entry(
 }
 
 /// The worked block, built.
-pub fn block_built(alloc: Global, memory: &mut Memory) -> Result<bool, Fault> {
+pub fn block_built(alloc: Global) -> Result<bool, Fault> {
     let mut builder = BlockBuilder::new(alloc, 16);
-    add_entry(memory, &mut builder, &A_AT_TWO, b"x")?;
-    add_entry(memory, &mut builder, &A_AT_ONE, b"y")?;
+    add_entry(&mut builder, &A_AT_TWO, b"x")?;
+    add_entry(&mut builder, &A_AT_ONE, b"y")?;
     Ok(builder.finish()?.as_slice() == BLOCK)
 }
 
 /// Adds an entry of the value `x` to a table, above its last one.
-pub fn add_row(
-    memory: &mut Memory,
-    builder: &mut TableBuilder<Bytewise>,
-    key: &[u8; 9],
-) -> Result<(), Fault> {
+pub fn add_row(builder: &mut TableBuilder<Bytewise>, key: &[u8; 9]) -> Result<(), Fault> {
     let key = InternalKey::parse(key)?;
     if !builder.is_above_last(&key) {
         return Err(Fault::of(FaultName::Order));
     }
     let flushed = builder.flushed();
     let answer = builder.add(key, b"x");
-    if !memory.is_refused(&answer) {
+    if !is_memory(&answer) {
         return answer;
     }
     if builder.flushed() != flushed || !builder.is_above_last(&key) {
@@ -77,10 +68,10 @@ pub fn add_row(
 }
 
 /// The table of three blocks, built.
-pub fn table_built(alloc: Global, memory: &mut Memory) -> Result<bool, Fault> {
+pub fn table_built(alloc: Global) -> Result<bool, Fault> {
     let mut builder = TableBuilder::<Bytewise>::new(alloc, SMALLEST);
     for key in THREE_KEYS {
-        add_row(memory, &mut builder, key)?;
+        add_row(&mut builder, key)?;
     }
     Ok(builder.finish()?.as_slice() == TABLE_THREE_BLOCKS)
 }

@@ -1,12 +1,13 @@
-//! Calls that take no memory. Their arguments are made before.
+//! Calls that take no memory. Their arguments are made before; then each request for memory is
+//! refused, and none may be made.
 
 use crate::boards::{are_worked, is_closed};
 use crate::builders::{add_entry, add_row, version_of};
 use crate::case::{picked, three_ranges};
 use crate::cases::{DELETION, SMALLEST};
 use crate::cursors::cursors_over;
-use crate::memory::Memory;
 use crate::plans::runs_of;
+use crate::refusals::{Order, refuse, was_refused};
 use crate::worked::{A_AT_ONE, A_AT_TWO, B_AT_ONE, BLOCK, TABLE, VERSION_TEN};
 use block::{BlockBuilder, BlockCursor};
 use board::Board;
@@ -65,12 +66,11 @@ fn are_keys(own: &KeyBuf) -> bool {
 }
 
 /// Numbers, faults and keys.
-pub fn numbers(alloc: Global, memory: &mut Memory) -> Result<bool, Fault> {
+pub fn numbers(alloc: Global) -> Result<bool, Fault> {
     let own = KeyBuf::of(alloc, InternalKey::parse(&A_AT_ONE)?)?;
-    memory.leave(alloc, 0)?;
+    refuse(alloc, &Order::Bytes(0));
     let is_right = are_numbers() && are_keys(&own);
-    memory.loosen();
-    Ok(is_right)
+    Ok(is_right && !was_refused(alloc))
 }
 
 /// The restarts of bytes that are checked, and of the same block reopened.
@@ -120,44 +120,37 @@ fn are_builders(alloc: Global, block: &BlockBuilder, table: &TableBuilder<Bytewi
 /// Whether a cursor and builders are right while each request for memory is refused.
 fn are_right(
     alloc: Global,
-    memory: &mut Memory,
     cursor: &BlockCursor<'_>,
     block: &BlockBuilder,
     table: &TableBuilder<Bytewise>,
-) -> Result<bool, Fault> {
-    memory.leave(alloc, 0)?;
+) -> bool {
+    refuse(alloc, &Order::Bytes(0));
     let is_right = are_blocks(alloc, cursor) && are_builders(alloc, block, table);
-    memory.loosen();
-    Ok(is_right)
+    is_right && !was_refused(alloc)
 }
 
 /// The same, with a table that is made before.
 fn are_beside_table(
     alloc: Global,
-    memory: &mut Memory,
     cursor: &BlockCursor<'_>,
     block: &BlockBuilder,
 ) -> Result<bool, Fault> {
     let mut table = TableBuilder::<Bytewise>::new(alloc, SMALLEST);
-    add_row(memory, &mut table, &A_AT_ONE)?;
-    are_right(alloc, memory, cursor, block, &table)
+    add_row(&mut table, &A_AT_ONE)?;
+    Ok(are_right(alloc, cursor, block, &table))
 }
 
 /// The same, with a block that is made before that.
-fn are_beside_block(
-    alloc: Global,
-    memory: &mut Memory,
-    cursor: &BlockCursor<'_>,
-) -> Result<bool, Fault> {
+fn are_beside_block(alloc: Global, cursor: &BlockCursor<'_>) -> Result<bool, Fault> {
     let mut block = BlockBuilder::new(alloc, 16);
-    add_entry(memory, &mut block, &A_AT_ONE, b"x")?;
-    are_beside_table(alloc, memory, cursor, &block)
+    add_entry(&mut block, &A_AT_ONE, b"x")?;
+    are_beside_table(alloc, cursor, &block)
 }
 
 /// Blocks, their cursor, and builders.
-pub fn blocks(alloc: Global, memory: &mut Memory) -> Result<bool, Fault> {
+pub fn blocks(alloc: Global) -> Result<bool, Fault> {
     let cursor = BlockCursor::new(alloc, &block::check(BLOCK)?)?;
-    are_beside_block(alloc, memory, &cursor)
+    are_beside_block(alloc, &cursor)
 }
 
 /// Whether a cursor's first entry is `a` at 1 with the value `x`.
@@ -196,49 +189,42 @@ fn are_tables(
 /// Whether a handle, a table and cursors are right while each request for memory is refused.
 fn are_walkable(
     alloc: Global,
-    memory: &mut Memory,
     table: &SoundTable<'_, Bytewise>,
     cursors: &[TableCursor<'_, Bytewise>],
     merging: &Merging<Bytewise, TableCursor<'_, Bytewise>>,
-) -> Result<bool, Fault> {
-    memory.leave(alloc, 0)?;
+) -> bool {
+    refuse(alloc, &Order::Bytes(0));
     let is_right = is_handle() && are_tables(table, cursors, merging);
-    memory.loosen();
-    Ok(is_right)
+    is_right && !was_refused(alloc)
 }
 
 /// The same, with a merging cursor that is made before.
 fn are_merging(
     alloc: Global,
-    memory: &mut Memory,
     table: &SoundTable<'_, Bytewise>,
     cursors: &[TableCursor<'_, Bytewise>],
 ) -> Result<bool, Fault> {
     let merging = Merging::new(alloc, cursors_over(alloc, &[TABLE])?)?;
-    are_walkable(alloc, memory, table, cursors, &merging)
+    Ok(are_walkable(alloc, table, cursors, &merging))
 }
 
 /// The same, with cursors that are made before that.
-fn are_walked(
-    alloc: Global,
-    memory: &mut Memory,
-    table: &SoundTable<'_, Bytewise>,
-) -> Result<bool, Fault> {
+fn are_walked(alloc: Global, table: &SoundTable<'_, Bytewise>) -> Result<bool, Fault> {
     let cursors = cursors_over(alloc, &[TABLE])?;
-    are_merging(alloc, memory, table, &cursors)
+    are_merging(alloc, table, &cursors)
 }
 
 /// Tables and their cursors.
-pub fn tables(alloc: Global, memory: &mut Memory) -> Result<bool, Fault> {
+pub fn tables(alloc: Global) -> Result<bool, Fault> {
     let table = check::<Bytewise>(alloc, TABLE)?;
-    are_walked(alloc, memory, &table)
+    are_walked(alloc, &table)
 }
 
 /// Readable sequences, the orders that a request is tested for, and user keys that a deeper file
 /// from `t0` to `v0` may hold.
-pub fn rules(alloc: Global, memory: &mut Memory) -> Result<bool, Fault> {
+pub fn rules(alloc: Global) -> Result<bool, Fault> {
     let inputs = picked(alloc, DELETION)?;
-    memory.leave(alloc, 0)?;
+    refuse(alloc, &Order::Bytes(0));
     let is_right = Snapshots::From(9).floor(4) == 9
         && Snapshots::Listed(&[1]).floor(4) == 4
         && Snapshots::Listed(&[1]).listed() == [1].as_slice()
@@ -247,8 +233,7 @@ pub fn rules(alloc: Global, memory: &mut Memory) -> Result<bool, Fault> {
         && largest_rise::<Bytewise>(&inputs.deeper)
         && is_base::<Bytewise>(&inputs, b"s")
         && !is_base::<Bytewise>(&inputs, b"u");
-    memory.loosen();
-    Ok(is_right)
+    Ok(is_right && !was_refused(alloc))
 }
 
 /// Whether a range keeps its one entry, with its mark.
@@ -294,22 +279,20 @@ fn is_plan(plan: &Plan<'_, '_, Bytewise>) -> bool {
 /// memory is refused.
 fn are_planned(
     alloc: Global,
-    memory: &mut Memory,
     split: &Split<Bytewise>,
     runs: &[RangeRun<'_>],
 ) -> Result<bool, Fault> {
     let plan = plan::<Bytewise>(alloc, runs, &[], SMALLEST, 5)?;
-    memory.leave(alloc, 0)?;
+    refuse(alloc, &Order::Bytes(0));
     let is_right = is_kept(runs) && are_ranges(alloc, split) && is_plan(&plan);
-    memory.loosen();
-    Ok(is_right)
+    Ok(is_right && !was_refused(alloc))
 }
 
 /// What a range keeps, splits, and a plan.
-pub fn plans(alloc: Global, memory: &mut Memory) -> Result<bool, Fault> {
+pub fn plans(alloc: Global) -> Result<bool, Fault> {
     let split = three_ranges(alloc)?;
     let runs = runs_of(alloc, TABLE)?;
-    are_planned(alloc, memory, &split, &runs)
+    are_planned(alloc, &split, &runs)
 }
 
 /// Whether the counters of a version are these, an empty version has none, and there is a compact
@@ -329,19 +312,17 @@ fn is_version(alloc: Global, version: &Version) -> bool {
 }
 
 /// A version.
-pub fn versions(alloc: Global, memory: &mut Memory) -> Result<bool, Fault> {
+pub fn versions(alloc: Global) -> Result<bool, Fault> {
     let version = version_of(alloc, VERSION_TEN)?;
-    memory.leave(alloc, 0)?;
+    refuse(alloc, &Order::Bytes(0));
     let is_right = is_version(alloc, &version);
-    memory.loosen();
-    Ok(is_right)
+    Ok(is_right && !was_refused(alloc))
 }
 
 /// A board of five jobs and five seats.
-pub fn board(alloc: Global, memory: &mut Memory) -> Result<bool, Fault> {
+pub fn board(alloc: Global) -> Result<bool, Fault> {
     let (board, mut seats) = Board::new(alloc, 5, 5)?;
-    memory.leave(alloc, 0)?;
+    refuse(alloc, &Order::Bytes(0));
     let is_right = are_worked(&board, &mut seats) && is_closed(board, seats);
-    memory.loosen();
-    Ok(is_right)
+    Ok(is_right && !was_refused(alloc))
 }

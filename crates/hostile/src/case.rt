@@ -136,7 +136,14 @@ pub fn compacted<R: AllocGlobal + Threads + Sync>(
     tables: &[&[u8]],
 ) -> Result<Outcome, Fault> {
     let split = three_ranges(rt.alloc())?;
-    carried(rt, case, picked, tables, &split, &Held::new(0))
+    carried(
+        rt,
+        case,
+        picked,
+        tables,
+        &split,
+        &Held::new(rt.alloc(), None, None),
+    )
 }
 
 /// Whether tables with their numbers are these.

@@ -4,7 +4,7 @@ use crate::case::{Case, Meta, Want};
 use crate::worked::{
     DELETION_LEFT, GRANDPARENTS_EDIT, OUTPUTS_EDIT, TABLE, TABLE_A_AND_B, TABLE_A_AND_F, TABLE_B,
     TABLE_B_AND_G, TABLE_B_TWO_SPOILT, TABLE_C, TABLE_C_DELETED, TABLE_F, TABLE_G, TABLE_SPOILT,
-    TABLE_U_DELETED, TABLE_U_TWICE,
+    TABLE_U, TABLE_U_DELETED, TABLE_U_TWICE,
 };
 use coding::FaultName;
 use table::Options;
@@ -29,6 +29,13 @@ const A: Meta<'static> = (7, 114, b"a\x01\x01\0\0\0\0\0\0", b"a\x01\x01\0\0\0\0\
 const C: Meta<'static> = (8, 114, b"c\x01\x03\0\0\0\0\0\0", b"c\x01\x03\0\0\0\0\0\0");
 
 const B: Meta<'static> = (9, 114, b"b\x01\x02\0\0\0\0\0\0", b"b\x01\x02\0\0\0\0\0\0");
+
+/// Files of `f` at 4, `g` at 5 and `u` at 1.
+const F: Meta<'static> = (10, 114, b"f\x01\x04\0\0\0\0\0\0", b"f\x01\x04\0\0\0\0\0\0");
+
+const G: Meta<'static> = (11, 114, b"g\x01\x05\0\0\0\0\0\0", b"g\x01\x05\0\0\0\0\0\0");
+
+const U: Meta<'static> = (12, 114, b"u\x01\x01\0\0\0\0\0\0", b"u\x01\x01\0\0\0\0\0\0");
 
 /// The tables of `a`, `b` and `c` as outputs.
 const ABC: Want = Want::Outcome(&[(5, TABLE), (6, TABLE_B), (7, TABLE_C)], OUTPUTS_EDIT);
@@ -121,4 +128,26 @@ pub const SPOILT: &Case = &Case {
     options: SMALLEST,
     workers: 2,
     want: Want::Refused(FaultName::Trailer, Some(0)),
+};
+
+/// The third of six inputs has a changed byte in its data block.
+pub const THIRD_SPOILT: &Case = &Case {
+    level: 1,
+    files: &[A, C, B, F, G, U],
+    tables: &[
+        TABLE,
+        TABLE_C,
+        TABLE_B_TWO_SPOILT,
+        TABLE_F,
+        TABLE_G,
+        TABLE_U,
+    ],
+    grandparents: &[],
+    deeper: &[],
+    oldest: 1,
+    last_sequence: 9,
+    first_number: 5,
+    options: SMALLEST,
+    workers: 2,
+    want: Want::Refused(FaultName::Trailer, Some(2)),
 };

@@ -1,9 +1,11 @@
-//! Cursors. If memory was refused, a cursor has to be where it was, and the call is made again on
-//! it.
+//! Cursors. If memory was refused to a step, a cursor has to be where it was, and the step is made
+//! again. If it was refused to a seek, or to the merge of a range, a cursor may have lost entries
+//! before the key or the range's end.
 
-use crate::fault::wanted;
-use crate::memory::Memory;
-use crate::worked::{A_AT_ONE, A_AT_TWO, BLOCK, TABLE_ABCDE, TABLE_ACE, TABLE_ACF, TABLE_BD};
+use crate::fault::{is_memory, wanted};
+use crate::worked::{
+    A_AT_ONE, A_AT_TWO, BLOCK, C_AT_ONE, TABLE_ABCDE, TABLE_ACE, TABLE_ACF, TABLE_BD,
+};
 use block::BlockCursor;
 use coding::{Fault, FaultName};
 use ikey::{Bytewise, InternalKey};
@@ -20,13 +22,13 @@ fn first<'a, S: Cursor<'a, Bytewise>>(cursor: &S) -> Option<u8> {
 }
 
 /// Takes a cursor past its entry, if it has one.
-fn step<'a, S: Cursor<'a, Bytewise>>(memory: &mut Memory, cursor: &mut S) -> Result<(), Fault> {
+fn step<'a, S: Cursor<'a, Bytewise>>(cursor: &mut S) -> Result<(), Fault> {
     if !cursor.valid() {
         return Ok(());
     }
     let user = first(cursor);
     let answer = cursor.advance();
-    if !memory.is_refused(&answer) {
+    if !is_memory(&answer) {
         return answer;
     }
     if !cursor.valid() || first(cursor) != user {
@@ -36,45 +38,33 @@ fn step<'a, S: Cursor<'a, Bytewise>>(memory: &mut Memory, cursor: &mut S) -> Res
 }
 
 /// Seeks a user key at sequence 1.
-fn seek<'a, S: Cursor<'a, Bytewise>>(
-    memory: &mut Memory,
-    cursor: &mut S,
-    user: u8,
-) -> Result<(), Fault> {
+fn seek<'a, S: Cursor<'a, Bytewise>>(cursor: &mut S, user: u8) -> Result<(), Fault> {
     let target = [user, 1, 1, 0, 0, 0, 0, 0, 0];
     let answer = cursor.seek(InternalKey::parse(&target)?);
-    if !memory.is_refused(&answer) {
+    if !is_memory(&answer) {
         return answer;
     }
     cursor.seek(InternalKey::parse(&target)?)
 }
 
 /// Whether a cursor has entries of just these user keys. It takes the cursor to its end.
-fn has_users<'a, S: Cursor<'a, Bytewise>>(
-    memory: &mut Memory,
-    cursor: &mut S,
-    users: &[u8],
-) -> Result<bool, Fault> {
+fn has_users<'a, S: Cursor<'a, Bytewise>>(cursor: &mut S, users: &[u8]) -> Result<bool, Fault> {
     for user in users {
         if first(cursor) != Some(*user) {
             return Ok(false);
         }
-        step(memory, cursor)?;
+        step(cursor)?;
     }
     Ok(first(cursor) == None)
 }
 
 /// Whether a cursor has entries of just these user keys after a step, a seek of `c` and one back to
 /// `a`.
-fn is_walked<'a, S: Cursor<'a, Bytewise>>(
-    memory: &mut Memory,
-    cursor: &mut S,
-    users: &[u8],
-) -> Result<bool, Fault> {
-    step(memory, cursor)?;
-    seek(memory, cursor, b'c')?;
-    seek(memory, cursor, b'a')?;
-    has_users(memory, cursor, users)
+fn is_walked<'a, S: Cursor<'a, Bytewise>>(cursor: &mut S, users: &[u8]) -> Result<bool, Fault> {
+    step(cursor)?;
+    seek(cursor, b'c')?;
+    seek(cursor, b'a')?;
+    has_users(cursor, users)
 }
 
 /// A cursor over a table.
@@ -84,9 +74,9 @@ fn cursor_over<'a>(alloc: Global, bytes: &'a [u8]) -> Result<TableCursor<'a, Byt
 }
 
 /// A cursor over five blocks, sought forwards and backwards.
-pub fn table_walked(alloc: Global, memory: &mut Memory) -> Result<bool, Fault> {
+pub fn table_walked(alloc: Global) -> Result<bool, Fault> {
     let mut cursor = cursor_over(alloc, TABLE_ABCDE)?;
-    is_walked(memory, &mut cursor, b"cde")
+    is_walked(&mut cursor, b"cde")
 }
 
 /// Cursors over these tables.
@@ -104,22 +94,107 @@ pub fn cursors_over<'a>(
 /// The cursors, merged as one.
 fn taken<'a>(
     alloc: Global,
-    memory: &mut Memory,
     cursors: &mut Vec<TableCursor<'a, Bytewise>>,
 ) -> Result<Merging<Bytewise, TableCursor<'a, Bytewise>>, Fault> {
     let count = cursors.len();
     let answer = Merging::take(alloc, cursors);
-    if !memory.is_refused(&answer) || cursors.len() != count {
+    if !is_memory(&answer) {
         return answer;
     }
+    wanted(cursors.len() == count)?;
     Merging::take(alloc, cursors)
 }
 
 /// Three cursors, merged as one over `a`, `a`, `b`, `c`, `c`, `d`, `e` and `f`.
-pub fn merged(alloc: Global, memory: &mut Memory) -> Result<bool, Fault> {
+pub fn merged(alloc: Global) -> Result<bool, Fault> {
     let mut cursors = cursors_over(alloc, &[TABLE_ACE, TABLE_BD, TABLE_ACF])?;
-    let mut merging = taken(alloc, memory, &mut cursors)?;
-    is_walked(memory, &mut merging, b"ccdef")
+    let mut merging = taken(alloc, &mut cursors)?;
+    is_walked(&mut merging, b"ccdef")
+}
+
+/// The user keys of a table's entries, and those of them that a seek, or the merge of a range,
+/// leaves.
+pub struct Left<'l> {
+    pub whole: &'l [u8],
+    pub kept: &'l [u8],
+}
+
+/// What a seek of `c` leaves of three tables.
+const SOUGHT: &[Left<'static>] = &[
+    Left {
+        whole: b"ace",
+        kept: b"ce",
+    },
+    Left {
+        whole: b"bd",
+        kept: b"d",
+    },
+    Left {
+        whole: b"acf",
+        kept: b"cf",
+    },
+];
+
+/// More entries than a worked table has.
+const ENTRIES: usize = 8;
+
+/// The user keys of a cursor's entries to come. It takes the cursor to its end.
+fn users_left<'a, S: Cursor<'a, Bytewise>>(
+    alloc: Global,
+    cursor: &mut S,
+) -> Result<Vec<u8>, Fault> {
+    let mut users = Vec::new(alloc);
+    for _ in 0..ENTRIES {
+        if let Some(user) = first(cursor) {
+            users.push(user)?;
+        }
+        step(cursor)?;
+    }
+    Ok(users)
+}
+
+/// Whether a cursor has just the entries that are left; if memory was refused, maybe the last of
+/// those before them too.
+fn is_left<'a, S: Cursor<'a, Bytewise>>(
+    alloc: Global,
+    cursor: &mut S,
+    left: &Left<'_>,
+    was_refused: bool,
+) -> Result<bool, Fault> {
+    let users = users_left(alloc, cursor)?;
+    if was_refused {
+        return Ok(left.whole.ends_with(users.as_slice()) && users.ends_with(left.kept));
+    }
+    Ok(users.as_slice() == left.kept)
+}
+
+/// Whether that holds of each of these cursors. It takes them to their ends.
+pub fn are_left(
+    alloc: Global,
+    cursors: &mut Vec<TableCursor<'_, Bytewise>>,
+    lefts: &[Left<'_>],
+    was_refused: bool,
+) -> Result<bool, Fault> {
+    for place in 0..lefts.len() {
+        let Some(cursor) = cursors.get_mut(place) else {
+            return Ok(false);
+        };
+        if !is_left(alloc, cursor, &lefts[place], was_refused)? {
+            return Ok(false);
+        }
+    }
+    Ok(cursors.len() == lefts.len())
+}
+
+/// Three cursors, sought as one, and given back.
+pub fn sought(alloc: Global) -> Result<bool, Fault> {
+    let cursors = cursors_over(alloc, &[TABLE_ACE, TABLE_BD, TABLE_ACF])?;
+    let mut merging = Merging::<Bytewise, _>::new(alloc, cursors)?;
+    let answer = merging.seek(InternalKey::parse(&C_AT_ONE)?);
+    let mut cursors = merging.into_cursors();
+    wanted(are_left(alloc, &mut cursors, SOUGHT, is_memory(&answer))?)?;
+    answer?;
+    Ok(true)
 }
 
 /// Whether a cursor's entry is this one.
@@ -128,17 +203,12 @@ fn is_at(cursor: &BlockCursor<'_>, key: &[u8; 9], value: &[u8; 1]) -> bool {
 }
 
 /// Takes a cursor past this entry. Lawless if it has another or none.
-fn pass(
-    memory: &mut Memory,
-    cursor: &mut BlockCursor<'_>,
-    key: &[u8; 9],
-    value: &[u8; 1],
-) -> Result<(), Fault> {
+fn pass(cursor: &mut BlockCursor<'_>, key: &[u8; 9], value: &[u8; 1]) -> Result<(), Fault> {
     if !cursor.valid() || !is_at(cursor, key, value) {
         return Err(Fault::of(FaultName::Lawless));
     }
     let answer = cursor.advance();
-    if !memory.is_refused(&answer) {
+    if !is_memory(&answer) {
         return answer;
     }
     if !cursor.valid() || !is_at(cursor, key, value) {
@@ -148,9 +218,9 @@ fn pass(
 }
 
 /// The worked block, walked.
-pub fn block_walked(alloc: Global, memory: &mut Memory) -> Result<bool, Fault> {
+pub fn block_walked(alloc: Global) -> Result<bool, Fault> {
     let mut cursor = BlockCursor::new(alloc, &block::check(BLOCK)?)?;
-    pass(memory, &mut cursor, &A_AT_TWO, b"x")?;
-    pass(memory, &mut cursor, &A_AT_ONE, b"y")?;
+    pass(&mut cursor, &A_AT_TWO, b"x")?;
+    pass(&mut cursor, &A_AT_ONE, b"y")?;
     Ok(!cursor.valid())
 }

@@ -1,4 +1,4 @@
-//! The fault of an unexpected answer.
+//! Expected and unexpected answers.
 
 use coding::{Fault, FaultName};
 
@@ -8,5 +8,13 @@ pub fn wanted(is_right: bool) -> Result<(), Fault> {
         Ok(())
     } else {
         Err(Fault::of(FaultName::Lawless))
+    }
+}
+
+/// Whether a call was refused since there was no memory for it.
+pub fn is_memory<T>(answer: &Result<T, Fault>) -> bool {
+    match answer {
+        Ok(_) => false,
+        Err(fault) => fault.name == FaultName::Memory,
     }
 }

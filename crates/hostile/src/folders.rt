@@ -1,13 +1,14 @@
 //! A folder in memory that is opened, installed into, compacted and asked, and the calls of other
 //! commands.
 
-use crate::fault::wanted;
-use crate::memory::Memory;
+use crate::fault::{is_memory, wanted};
 use crate::worked::{
     BOTH_ENTRIES, CURRENT_FIVE, FIRST_BLOCK, MANIFEST, NEXT_TEN, SECOND_BLOCK, TABLE_U_TWICE,
 };
 use coding::{Fault, FaultName};
-use commands::{Spelling, ValueForm, dump, get_dir, manifest, unverified_value, verify};
+use commands::{
+    Spelling, ValueForm, dump, get_dir, manifest, progress_text, unverified_value, verify,
+};
 use edit::{Outcome, Version};
 use folder::{Shelf, load, open};
 use ikey::Bytewise;
@@ -15,7 +16,7 @@ use install::install;
 use pairing::blocks;
 use std::alloc::Global;
 use std::thread::Threads;
-use store::{Open, Settings, compact_dir};
+use store::{Open, Settings, Work, compact_dir};
 
 /// A folder of one table: `u` deleted at 4 and put `x` at 2.
 const FILES: &[(&str, &[u8])] = &[
@@ -108,10 +109,10 @@ fn carried(alloc: Global, shelf: &mut Shelf<'_>) -> Result<bool, Fault> {
 
 /// A folder of one table, compacted to none. If memory was refused, the same folder is opened
 /// again.
-pub fn installed(alloc: Global, memory: &mut Memory) -> Result<bool, Fault> {
+pub fn installed(alloc: Global) -> Result<bool, Fault> {
     let mut shelf = Shelf::new(alloc, FILES);
     let answer = carried(alloc, &mut shelf);
-    if !memory.is_refused(&answer) {
+    if !is_memory(&answer) {
         return answer;
     }
     carried(alloc, &mut shelf)
@@ -136,13 +137,10 @@ fn is_compacted<R: AllocGlobal + Threads + Sync>(
 
 /// Compacts level 1 of the folder. If memory was refused, the same folder is compacted again. If it
 /// was refused after the last rename, the version is installed already, and no input is left.
-pub fn folder_compacted<R: AllocGlobal + Threads + Sync>(
-    rt: &R,
-    memory: &mut Memory,
-) -> Result<bool, Fault> {
+pub fn folder_compacted<R: AllocGlobal + Threads + Sync>(rt: &R) -> Result<bool, Fault> {
     let mut shelf = Shelf::new(rt.alloc(), FILES);
     let answer = is_compacted(rt, &mut shelf);
-    if !memory.is_refused(&answer) {
+    if !is_memory(&answer) {
         return answer;
     }
     match is_compacted(rt, &mut shelf) {
@@ -187,32 +185,30 @@ fn unverified(alloc: Global, shelf: &mut Shelf<'_>, at: Option<u64>) -> Result<V
 /// Whether a folder answers these lines. If memory was refused, it is asked again.
 fn is_told<R: AllocGlobal + Threads + Sync>(
     rt: &R,
-    memory: &mut Memory,
     shelf: &mut Shelf<'_>,
     (question, lines): &(Question, &[u8]),
 ) -> Result<bool, Fault> {
     let mut answer = told(rt, shelf, question);
-    if memory.is_refused(&answer) {
+    if is_memory(&answer) {
         answer = told(rt, shelf, question);
     }
     Ok(answer?.as_slice() == *lines)
 }
 
 /// The folder, asked for its version, whether that is lawful, and for values of a key.
-pub fn folder_asked<R: AllocGlobal + Threads + Sync>(
-    rt: &R,
-    memory: &mut Memory,
-) -> Result<bool, Fault> {
+pub fn folder_asked<R: AllocGlobal + Threads + Sync>(rt: &R) -> Result<bool, Fault> {
     let mut shelf = Shelf::new(rt.alloc(), FILES);
     for asked in QUESTIONS {
-        wanted(is_told(rt, memory, &mut shelf, asked)?)?;
+        wanted(is_told(rt, &mut shelf, asked)?)?;
     }
     Ok(true)
 }
 
-/// A table of two entries, dumped.
+/// A table of two entries, dumped; and a line of progress.
 pub fn table_dumped(alloc: Global) -> Result<bool, Fault> {
-    Ok(dump(alloc, Spelling::Hexadecimal, TABLE_U_TWICE)?.as_slice() == DUMPED)
+    let lines = dump(alloc, Spelling::Hexadecimal, TABLE_U_TWICE)?;
+    let progress = progress_text(alloc, Work::Compact, 8, 3)?;
+    Ok(lines.as_slice() == DUMPED && progress.as_str() == "ranges merged: 3 of 8")
 }
 
 /// Two blocks of one entry each, merged to one.

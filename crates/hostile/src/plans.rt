@@ -1,9 +1,10 @@
 //! Ranges merged, outputs planned and encoded, boards and splits.
 
-use crate::case::picked;
+use crate::case::{picked, three_ranges};
 use crate::cases::{DELETION, SMALLEST};
-use crate::cursors::cursors_over;
-use crate::worked::{TABLE_ABC, TABLE_ABCD};
+use crate::cursors::{Left, are_left, cursors_over};
+use crate::fault::{is_memory, wanted};
+use crate::worked::{TABLE_ABC, TABLE_ABCD, TABLE_ACF, TABLE_BD};
 use board::{Board, Tally};
 use coding::{Fault, FaultName};
 use cut::{Plan, plan};
@@ -12,7 +13,7 @@ use keep::{RangeRun, largest_rise, merge_range};
 use pick::Inputs;
 use split::Split;
 use std::alloc::Global;
-use table::check;
+use table::{TableCursor, check};
 
 /// The run of a split's first range over a table, with all sequences from 1 on readable.
 fn first_run_of<'a>(
@@ -41,6 +42,42 @@ pub fn runs_of<'a>(alloc: Global, bytes: &'a [u8]) -> Result<Vec<RangeRun<'a>>, 
     let mut runs = Vec::new(alloc);
     runs.push(run)?;
     Ok(runs)
+}
+
+/// What the merge from `c` to `f` leaves of two tables.
+const MERGED: &[Left<'static>] = &[
+    Left {
+        whole: b"bd",
+        kept: b"",
+    },
+    Left {
+        whole: b"acf",
+        kept: b"f",
+    },
+];
+
+/// Whether the second of three ranges keeps two entries of these cursors, and each of them has left
+/// what is after the range.
+fn is_range_merged(
+    alloc: Global,
+    cursors: &mut Vec<TableCursor<'_, Bytewise>>,
+    split: &Split<Bytewise>,
+    inputs: &Inputs,
+) -> Result<bool, Fault> {
+    if split.len() != 3 || !largest_rise::<Bytewise>(&inputs.grandparents) {
+        return Ok(false);
+    }
+    let answer = merge_range::<Bytewise, _>(alloc, cursors, split.range(1), &[], 1, inputs);
+    wanted(are_left(alloc, cursors, MERGED, is_memory(&answer))?)?;
+    Ok(answer?.len() == 2)
+}
+
+/// Two tables, merged from `c` to `f`.
+pub fn range_merged(alloc: Global) -> Result<bool, Fault> {
+    let inputs = picked(alloc, DELETION)?;
+    let split = three_ranges(alloc)?;
+    let mut cursors = cursors_over(alloc, &[TABLE_BD, TABLE_ACF])?;
+    is_range_merged(alloc, &mut cursors, &split, &inputs)
 }
 
 /// Whether the outputs of a plan have 114 bytes each, and the numbers from 5 on.

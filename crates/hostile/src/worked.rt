@@ -321,3 +321,47 @@ pub const VERSION_TEN: &[u8] = b"\
 /// What the record `x` adds to a log after a record of 32,754 bytes: an empty first fragment, and
 /// the last one.
 pub const SHORT_RECORD: &[u8] = b"dQ\xd0\xe9\0\0\x02,t\x1b\xd8\x01\0\x04x";
+
+/// `table: a@3 put -`
+pub const TABLE_A_AT_THREE: &[u8] = b"\
+    \0\x09\0a\x01\x03\0\0\0\0\0\0\0\0\0\0\x01\0\0\0\0E\xed\x3a\x01\0\0\0\0\x01\0\0\0\0\xc0\xf2\xa1\
+    \xb0\0\x09\x02a\x01\x03\0\0\0\0\0\0\0\x14\0\0\0\0\x01\0\0\0\0.\xe0\xc8\x85\x19\x08\x26\x16\0\0\
+    \0\0\0\0\0\0\0\0\0\0\0\0\0\0\0\0\0\0\0\0\0\0\0\0\0\0\0\0\0\0\0\0\0\0W\xfb\x80\x8b\x24uG\xdb";
+
+/// `table: u@9 put x`
+pub const TABLE_U_AT_NINE: &[u8] = b"\
+    \0\x09\x01u\x01\x09\0\0\0\0\0\0x\0\0\0\0\x01\0\0\0\0\xd4\x8b\x9dW\0\0\0\0\x01\0\0\0\0\xc0\xf2\
+    \xa1\xb0\0\x09\x02u\x01\x09\0\0\0\0\0\0\0\x15\0\0\0\0\x01\0\0\0\0\x9e\xd1\0\xe5\x1a\x08\x27\
+    \x16\0\0\0\0\0\0\0\0\0\0\0\0\0\0\0\0\0\0\0\0\0\0\0\0\0\0\0\0\0\0\0\0\0\0\0\0W\xfb\x80\x8b\x24u\
+    G\xdb";
+
+/// `table: u@7 put y`
+pub const TABLE_U_AT_SEVEN: &[u8] = b"\
+    \0\x09\x01u\x01\x07\0\0\0\0\0\0y\0\0\0\0\x01\0\0\0\0\x99\x3f\x86\xc4\0\0\0\0\x01\0\0\0\0\xc0\
+    \xf2\xa1\xb0\0\x09\x02u\x01\x07\0\0\0\0\0\0\0\x15\0\0\0\0\x01\0\0\0\0\x92A\xbc\x1b\x1a\x08\x27\
+    \x16\0\0\0\0\0\0\0\0\0\0\0\0\0\0\0\0\0\0\0\0\0\0\0\0\0\0\0\0\0\0\0\0\0\0\0\0W\xfb\x80\x8b\x24u\
+    G\xdb";
+
+/// `table: a@1 put -, u@1 put -`
+pub const TABLE_A_AND_U: &[u8] = b"\
+    \0\x09\0a\x01\x01\0\0\0\0\0\0\0\x09\0u\x01\x01\0\0\0\0\0\0\0\0\0\0\x01\0\0\0\0eBSN\0\0\0\0\x01\
+    \0\0\0\0\xc0\xf2\xa1\xb0\0\x09\x02u\x01\x01\0\0\0\0\0\0\0\x20\0\0\0\0\x01\0\0\0\0\x1c\xd1\xa6\
+    \x07\x25\x082\x16\0\0\0\0\0\0\0\0\0\0\0\0\0\0\0\0\0\0\0\0\0\0\0\0\0\0\0\0\0\0\0\0\0\0\0\0W\xfb\
+    \x80\x8b\x24uG\xdb";
+
+/// `table: b@2 put -`
+pub const TABLE_B_NO_VALUE: &[u8] = b"\
+    \0\x09\0b\x01\x02\0\0\0\0\0\0\0\0\0\0\x01\0\0\0\0\xdb\xafB\xec\0\0\0\0\x01\0\0\0\0\xc0\xf2\xa1\
+    \xb0\0\x09\x02b\x01\x02\0\0\0\0\0\0\0\x14\0\0\0\0\x01\0\0\0\0\xe4B\x20y\x19\x08\x26\x16\0\0\0\
+    \0\0\0\0\0\0\0\0\0\0\0\0\0\0\0\0\0\0\0\0\0\0\0\0\0\0\0\0\0\0\0\0\0W\xfb\x80\x8b\x24uG\xdb";
+
+/// Files of several ranges of user keys, one of which reaches over all.
+/// `edit: comparator leveldb.BytewiseComparator, log 3, previous 0, next 20, last 10, file 0 13 114
+/// u@9 put .. u@9 put, file 1 10 113 a@3 put .. a@3 put, file 1 11 113 b@2 put .. b@2 put, file 1
+/// 12 114 u@7 put .. u@7 put, file 2 9 125 a@1 put .. u@1 put`
+pub const SEVERAL_RANGES: &[u8] = b"\
+    \x01\x1aleveldb.BytewiseComparator\x02\x03\x09\0\x03\x14\x04\x0a\x07\0\x0dr\x09u\x01\x09\0\0\0\
+    \0\0\0\x09u\x01\x09\0\0\0\0\0\0\x07\x01\x0aq\x09a\x01\x03\0\0\0\0\0\0\x09a\x01\x03\0\0\0\0\0\0\
+    \x07\x01\x0bq\x09b\x01\x02\0\0\0\0\0\0\x09b\x01\x02\0\0\0\0\0\0\x07\x01\x0cr\x09u\x01\x07\0\0\
+    \0\0\0\0\x09u\x01\x07\0\0\0\0\0\0\x07\x02\x09\x7d\x09a\x01\x01\0\0\0\0\0\0\x09u\x01\x01\0\0\0\
+    \0\0\0";

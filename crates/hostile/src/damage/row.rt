@@ -2,7 +2,7 @@
 
 use crate::damage::call::{Answer, Call, answer};
 use crate::fault::wanted;
-use crate::memory::Memory;
+use crate::refusals::{Order, refuse, was_refused};
 use anyhow::Result;
 use coding::{Fault, crc32c, mask};
 use std::alloc::Global;
@@ -162,29 +162,31 @@ fn is_short_of(alloc: Global, len: usize) -> bool {
     room.is_err()
 }
 
-/// What a call answers to bytes. While memory is short, the call gets 32 bytes for each of them and
+/// What a call answers to bytes. If memory `is_tight`, the call gets 32 bytes for each of them and
 /// 4,096, so that there is no memory for as many as they claim.
 fn answered<R: AllocGlobal + Threads + Sync>(
     rt: &R,
-    memory: &mut Memory,
+    is_tight: bool,
     row: &Row,
     bytes: &[u8],
 ) -> Result<Answer, Fault> {
-    memory.leave(
-        rt.alloc(),
-        bytes.len().saturating_mul(32).saturating_add(4_096),
-    )?;
-    let is_short = is_short_of(rt.alloc(), row.claimed);
+    if !is_tight {
+        return Ok(answer(rt, &row.call, bytes));
+    }
+    let alloc = rt.alloc();
+    let room = bytes.len().saturating_mul(32).saturating_add(4_096);
+    refuse(alloc, &Order::Bytes(room));
+    let is_short = is_short_of(alloc, row.claimed);
     let given = answer(rt, &row.call, bytes);
-    memory.loosen();
-    wanted(is_short || !memory.is_short)?;
+    let _ = was_refused(alloc);
+    wanted(is_short)?;
     Ok(given)
 }
 
 /// What a row's call answers to its bytes, one after the other.
 fn answers<R: AllocGlobal + Threads + Sync>(
     rt: &R,
-    memory: &mut Memory,
+    is_tight: bool,
     row: &Row,
     whole: &[u8],
 ) -> Result<Vec<Answer>, Fault> {
@@ -192,7 +194,7 @@ fn answers<R: AllocGlobal + Threads + Sync>(
     for step in 0..row.steps {
         let mut bytes = Vec::from_slice(rt.alloc(), whole)?;
         if make(row, &mut bytes, step) {
-            answers.push(answered(rt, memory, row, &bytes)?)?;
+            answers.push(answered(rt, is_tight, row, &bytes)?)?;
         }
     }
     Ok(answers)
@@ -234,11 +236,11 @@ fn are_expected(answers: &[Answer], expected: &Expected) -> bool {
 /// Tests that a row has its expected answers, else Lawless.
 fn test_row<R: AllocGlobal + Threads + Sync>(
     rt: &R,
-    memory: &mut Memory,
+    is_tight: bool,
     row: &Row,
 ) -> Result<(), Fault> {
     let bytes = whole(rt.alloc(), &row.source)?;
-    let answers = answers(rt, memory, row, &bytes)?;
+    let answers = answers(rt, is_tight, row, &bytes)?;
     wanted(are_expected(&answers, &row.want))
 }
 
@@ -246,11 +248,11 @@ fn test_row<R: AllocGlobal + Threads + Sync>(
 /// is the one after the last line.
 pub fn print_rows<R: AllocGlobal + Print + Threads + Sync>(
     rt: &R,
-    memory: &mut Memory,
+    is_tight: bool,
     rows: &[Row],
 ) -> Result<()> {
     for row in rows {
-        test_row(rt, memory, row)?;
+        test_row(rt, is_tight, row)?;
         println!(rt; "{}", row.line)?;
     }
     Ok(())

@@ -2,7 +2,7 @@ use Rattle.std.proofs.Common.{◌≡◌, List, ap, sym, subst, ◌∙◌}
 use Rattle.std.specs.Prelude.{slice_get}
 use Rattle.std.specs.List.{AllByRecursion}
 use Rattle.block.specs.EncodedEntry.{Entry}
-use Rattle.folder.proofs.ReportLemmas.{reports_after}
+use Rattle.folder.proofs.ReportLemmas.{reports_after, reports_then}
 use Rattle.table.specs.IndexWalk.{NamesBlock, all_named}
 use Rattle.table.specs.ReadingCursors.{entries_from}
 use Rattle.table.specs.ReadingIndex.{block_in}
@@ -39,3 +39,6 @@ returns-clause-given g c bytes names entries file read indexes =
     gives_from c.first_ahead.result (λ found. found ≡ slice_get (entries_from cmp t (all_named bytes index)) 0) (λ found. found ≡ slice_get (entries_from cmp t entries) 0)
     (λ found same. same ∙ ap (λ (es : List Entry). slice_get (entries_from cmp t (all_named bytes es)) 0) is ∙ ap (λ (es : List Entry). slice_get es 0) ahead.reached)
     (c.first_ahead.ensures.given bytes (file_later _ _ c.args.file.now bytes c.index_block.ensures.reads.same file) (subst (AllByRecursion (NamesBlock cmp bytes)) (sym is) ahead.named))
+
+pub returns-clause-device : goal.returns-clause-device
+returns-clause-device g c = reports_then c.in_ok-stored.was c.index_block.ensures.device c.first_ahead.ensures.device

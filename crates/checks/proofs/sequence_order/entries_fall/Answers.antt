@@ -13,7 +13,7 @@ pub returns-then-is_empty-clause-falls : goal.returns-then-is_empty-clause-falls
 returns-then-is_empty-clause-falls g c =
     let all : List (List Entry) = map (λ t. t.now.entries) c.args.tables.now in
     let walked : List (List Entry) = map (λ t. t.now.entries) c.in_ok-walked.walked.items in
-    let none : walked ≡ [] = ap (map (λ t. t.now.entries)) (nil_from_length c.in_ok-walked.walked.items (eqb-true _ _ (sym c.is_empty.ensures ∙ c.if-is_empty.true))) in
+    let none : walked ≡ [] = ap (map (λ t. t.now.entries)) (nil_from_length c.in_ok-walked.walked.items (sym c.in_ok-walked.walked.ok.0 ∙ eqb-true _ _ (sym c.is_empty.ensures ∙ c.if-is_empty.true))) in
     none_walked g.C.Comparator.cmp (key_range c.args.within) walked all c.in_ok-walked.ensures.walked none
 
 pub returns-clause-falls : goal.returns-clause-falls

@@ -9,7 +9,7 @@ negated true h = absurd cc
 negated false h = refl
 
 pub returns : goal.returns
-returns g c yes =
+returns g c told =
     let es = c.args.table.now.entries in
-    let none : has_twins None es ≡ false = sym (ap (λ (t : Tally). t.has_twins) c.tally.ensures.tally) ∙ negated c.tally.result.has_twins yes in
+    let none : has_twins None es ≡ false = sym (ap (λ (t : Tally). t.has_twins) c.tally.ensures.tally) ∙ negated c.tally.result.has_twins told in
     (bounds_tell g.C.Comparator.cmp g.met.C.Comparator.total g.met.C.Comparator.exact).alone es (record { keys = c.tally.ensures.keys; rising = c.tally.ensures.rising }) none

@@ -21,7 +21,7 @@ loop-other-preserved g c =
     all_more (λ (entries : List Entry). AreNewer c.args.table.now.entries entries) all k (entries_in c.other-item.result) lt is c.loop-other.invariant (c.are_apart.ensures c.if-not-are_apart.false)
 
 pub returns : goal.returns
-returns g c yes entries at =
+returns g c told entries at =
     let entries_in : Bor Contents → List Entry = λ t. t.now.entries in
     let all : List (List Entry) = map entries_in c.args.others.now in
     c.loop-other.invariant entries (all_so_far all c.loop-other.other-index (omega (arith, c.loop-other-test.false, length-map c.args.others.now entries_in)) entries at)

@@ -16,7 +16,7 @@ entries_in t = t.now.entries
 pub loop-place-init : goal.loop-place-init
 loop-place-init g c =
     let all : List (List Entry) = map entries_in c.args.tables.now in
-    let none : map entries_in c.new-walked.result.items ≡ [] = ap (map entries_in) c.new-walked.ensures in
+    let none : map entries_in c.new-walked.result.items ≡ [] = ap (map entries_in) c.new-walked.ensures.items in
     record {
       alike = walk_begins g.C.Comparator.cmp (map entries_in c.new-walked.result.items) all none;
       from = λ list at. absurd (none_in list (subst (λ (ls : List (List Entry)). Contains ls list) none at));
@@ -47,7 +47,7 @@ loop-place-preserved g c =
       | else-not-is_settled w ↦
           let now : map entries_in c.if-not-is_settled.walked.items ≡ map entries_in was = ap (λ v. map entries_in v.items) w.walked-is in
           let before : map entries_in c.split_at.result.0.now ≡ take k all = ap (map entries_in) c.split_at.ensures.front ∙ sym (take-map entries_in k tables) in
-          let behind : map entries_in c.split_at-2.result.1.now ≡ drop (k + 1) all = ap (map entries_in) c.split_at-2.ensures.back ∙ sym (drop-map entries_in (k + 1) tables) in
+          let behind : map entries_in c.split_at-in-loop-place.result.1.now ≡ drop (k + 1) all = ap (map entries_in) c.split_at-in-loop-place.ensures.back ∙ sym (drop-map entries_in (k + 1) tables) in
           let settled : IsSettled (take k all) (entries_in t) (drop (k + 1) all) =
           subst (λ (ls : List (List Entry)). IsSettled ls (entries_in t) (drop (k + 1) all)) before
           (subst (λ (ls : List (List Entry)). IsSettled (map entries_in c.split_at.result.0.now) (entries_in t) ls) behind (c.is_settled.ensures w.if-not-is_settled.false)) in

@@ -17,5 +17,5 @@ returns-in_err-tables-clause-told g c =
 pub returns-clause-told : goal.returns-clause-told
 returns-clause-told g c =
     let tells = g.T.RowTaker.tells in
-    let same = c.deref.ensures.value ∙ sym (ok_is _ _ c.in_ok-tables.ensures) in
+    let same = c.deref.ensures.value ∙ sym (ok_is _ _ c.in_ok-tables.ensures.tables) in
     subst (λ (ts : List NumberedContents). AreTelling tells (sorted_rows g.C.Comparator.cmp (key_range c.args.range) c.args.at (entries_each ts)) c.args.taker.now c.args.limit c.tell_tables.new.taker c.tell_tables.result) same c.tell_tables.ensures.told

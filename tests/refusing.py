@@ -250,6 +250,9 @@ class Outcome(Change):
         left = files_of("out") if os.path.exists("out") else {}
         if end.status == 0 and left != self.outcome:
             end.fail("another outcome")
+        # The edit, if it hasn't got its name yet.
+        if "EDIT.dbtmp" in left and "EDIT" not in left:
+            left["EDIT"] = left.pop("EDIT.dbtmp")
         if end.refused == "memory" and not left.items() <= self.outcome.items():
             end.fail("another file")
         if files_of("db") != self.start:

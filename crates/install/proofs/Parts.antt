@@ -49,26 +49,6 @@ pub hands_behind : {U G : Type 0} (P : G → Type 0) (calls more : List Call) (b
     → RunsWhole calls before after old new → MakesCalls (calls ++ more) before after old new r
 hands_behind P calls more before after old new r h k = runs_then {E = Fault} calls more before after after old new new tt r k (hands_none P more after new r h)
 
--- the calls of tables, and of more tables after them
-calls_append : (xs ys : List (ℕ × Vec ℕ)) → table_calls (tables_in (xs ++ ys)) ≡ table_calls (tables_in xs) ++ table_calls (tables_in ys)
-calls_append [] ys = refl
-calls_append (x ∷ xs) ys = ap (λ (t : List Call). write_calls (table_name x.0) x.1.items ++ t) (calls_append xs ys)
-
--- the tables before a place, the one at it and those after
-pub tables_around : (tables : List (ℕ × Vec ℕ)) (i : ℕ) (t : ℕ × Vec ℕ) → i < length tables → t ≡ get_or tables i t
-    → table_calls (tables_in (take i tables)) ++ (write_calls (table_name t.0) t.1.items ++ table_calls (tables_in (drop (suc i) tables))) ≡ table_calls (tables_in tables)
-tables_around tables i t h is =
-    let behind : drop i tables ≡ t ∷ drop (suc i) tables = drop-cons tables i t h ∙ ap (λ (x : ℕ × Vec ℕ). x ∷ drop (suc i) tables) (sym is) in
-    let parts : take i tables ++ t ∷ drop (suc i) tables ≡ tables = ap (λ (x : List (ℕ × Vec ℕ)). take i tables ++ x) (sym behind) ∙ take-append-drop i tables in
-    sym (calls_append (take i tables) (t ∷ drop (suc i) tables)) ∙ ap (λ (x : List (ℕ × Vec ℕ)). table_calls (tables_in x)) parts
-
--- one table more
-pub tables_on : (tables : List (ℕ × Vec ℕ)) (i : ℕ) (t : ℕ × Vec ℕ) → i < length tables → t ≡ get_or tables i t
-    → table_calls (tables_in (take i tables)) ++ write_calls (table_name t.0) t.1.items ≡ table_calls (tables_in (take (i + 1) tables))
-tables_on tables i t h is =
-    let more : take (i + 1) tables ≡ take i tables ++ t ∷ [] = take_more tables i t h ∙ ap (λ (x : ℕ × Vec ℕ). take i tables ++ x ∷ []) (sym is) in
-    sym (calls_append (take i tables) (t ∷ [])) ∙ ap (λ (x : List (ℕ × Vec ℕ)). table_calls (tables_in x)) (sym more)
-
 -- if the device failed after a time, it failed after an earlier one
 pub refused_by : {U : Type 0} (before middle now : ℕ) (r : Result U Fault) (e : FolderFault) → IsErrAnd r (λ f. f ≡ fault (fault_name e)) → before ≤ middle → now ≡ failures_after {T = Unit {0}} middle (Err e)
     → IfErr r (λ f. UnlessMemory f (IsStopped before now f))

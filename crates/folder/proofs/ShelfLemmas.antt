@@ -173,7 +173,6 @@ one_more tables i t old made new within is so_far one =
 pub one_failed : (tables : List (ℕ × Vec ℕ)) (i : ℕ) (t : ℕ × Vec ℕ) (old made new : Files) → i < length tables → t ≡ get_or tables i t → made ≡ with_files old (table_files (take i tables))
     → AltersEach ((table_name t.0, t.1.items) ∷ []) made new → AltersEach (table_files tables) old new
 one_failed tables i t old made new within is so_far torn =
-    let file = (table_name t.0, t.1.items) in
     subst (λ (fs : List (List ℕ × List ℕ)). AltersEach fs old new) (tables_around tables i t within is)
-    (altered_then (table_files (take i tables)) file (table_files (drop (suc i) tables)) old new
-    (subst (λ (m : Files). AltersEach (file ∷ []) m new) so_far torn))
+    (altered_then (table_files (take i tables)) (table_name t.0, t.1.items) (table_files (drop (suc i) tables)) old new
+    (subst (λ (m : Files). AltersEach ((table_name t.0, t.1.items) ∷ []) m new) so_far torn))

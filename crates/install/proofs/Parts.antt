@@ -1,7 +1,5 @@
 -- The parts of an installation, one after the other.
-use Rattle.std.proofs.Common.{◌≡◌, ℕ, ◌+◌, ◌<◌, suc, List, [], ◌∷◌, ◌++◌, take, drop, length, get_or, Option, Result, Ok, Err, IsErrAnd, IfErr, subst, ◌≤◌, arith, refl, sym, ap, ◌∙◌, drop-cons}
-use Rattle.std.proofs.lemmas.List.{take_more, take-append-drop}
-use Rattle.std.specs.Global.{Vec}
+use Rattle.std.proofs.Common.{◌≡◌, ℕ, ◌<◌, List, ◌++◌, Option, Result, Ok, Err, IsErrAnd, IfErr, subst, ◌≤◌, arith, refl, sym, ap, ◌∙◌}
 use Rattle.coding.specs.declared.fault.Fault.{Fault}
 use Rattle.folder.specs.Calls.{Call, Step}
 use Rattle.folder.specs.CallSequence.{MakesCalls}
@@ -13,9 +11,8 @@ use Rattle.folder.specs.declared.folder.FolderFault.TheVariants.{Device, Memory}
 use Rattle.coding.specs.declared.fault.FaultName.TheVariants as name
 use Rattle.folder.proofs.CountLemmas.{count_device, count_later}
 use Rattle.folder.proofs.OpeningLemmas.{failed_since}
-use Rattle.folder.specs.Names.{table_name}
 use Rattle.folder.proofs.RunLemmas.{runs_none, runs_stopped, runs_then}
-use Rattle.install.specs.Install.{table_calls, tables_in, write_calls}
+use Rattle.install.specs.Install.{write_calls}
 
 -- calls that were all made
 abbrev pub RunsWhole : List Call → List Step → List Step → (List ℕ → Option (List ℕ) → Type 0) → (List ℕ → Option (List ℕ) → Type 0) → Type 0

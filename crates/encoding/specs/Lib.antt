@@ -4,5 +4,4 @@ pub mod Planned
 -- serves proofs alone
 pub mod RunPlace
 pub mod SlicePlaces
-pub mod Walking
 pub mod PlaceKey

@@ -10,8 +10,7 @@ ghost use Rattle.block.specs.BlockFormat.{encoded_entries_from, block};
 ghost use Rattle.block.specs.declared.builder.TheConstants.{MAX_BLOCK_LEN, MAX_RESTART_INTERVAL};
 
 use crate::part::EntryRef;
-use crate::walk::EntryWalk;
-use block::{next_since, push_fields, push_restarts};
+use block::{next_since, push_fields, push_restarts, shared_len};
 use coding::Fault;
 
 /// Appends the block of `entries`, at a restart interval from 1 to 1,024. Requires that it has at
@@ -59,19 +58,18 @@ fn push_entries(
         ≡ restarts_from 0 (encoded_entries_from interval 0 [] entries.now.entries)) }
     ensures memory { IsOkUnless result (fault Memory) }
 {
-    if entries.len() == 0 {
-        return Ok(());
-    }
     let start = out.len();
+    let mut before: &[u8] = &[];
     let mut since = 0;
-    let mut walk = EntryWalk::new(entries.first(), None);
+    let mut cursor = entries.first();
     for _ in 0..entries.len() {
-        let key = walk.key().bytes();
+        let key = cursor.key().bytes();
         push_restart(restarts, since, out.len() - start)?;
-        let shared = walk.left_out(since);
-        push_fields(out, shared, &key[shared..], walk.value())?;
+        let shared = shared_len(since, before, key);
+        push_fields(out, shared, &key[shared..], cursor.value())?;
+        before = key;
         since = next_since(since, interval);
-        walk.advance();
+        cursor.advance();
     }
     Ok(())
 }

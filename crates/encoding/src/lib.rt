@@ -2,7 +2,7 @@
 //! blocks and joined to tables.
 //!
 //! A [`EntryCursor`] is a place in that list, a [`EntrySpan`] grows entry by entry, and a
-//! [`EntryRef`] is entries that stay as they are. An [`EntryWalk`] walks them in pieces. Keys and values stay where the runs have them,
+//! [`EntryRef`] is entries that stay as they are. Keys and values stay where the runs have them,
 //! and no call of these three takes memory.
 //!
 //! A [`PlannedBlock`] is a data block of which no byte is written yet. [`encode_blocks`] writes
@@ -24,7 +24,6 @@ mod planned_block;
 mod slice;
 mod table_assembly;
 mod table_index;
-mod walk;
 
 pub use cursor::EntryCursor;
 pub use data_blocks::encode_blocks;
@@ -32,4 +31,3 @@ pub use part::EntryRef;
 pub use planned_block::PlannedBlock;
 pub use slice::EntrySpan;
 pub use table_assembly::assemble_table;
-pub use walk::EntryWalk;

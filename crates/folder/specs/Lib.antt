@@ -11,7 +11,6 @@ pub mod LoadedTables
 pub mod Crash
 pub mod ReadsAs
 pub mod CallSequence
-pub mod TableFiles
 pub mod Shelf
 -- serves proofs alone
 pub mod Attempts

@@ -1,13 +1,12 @@
 //! New files of a folder, which belong to whom its CURRENT belongs.
 
 use crate::names::CURRENT;
-use crate::system_files::{OwnedFiles, opened};
+use crate::system_files::{SystemFiles, opened};
 use crate::whole_files::path_in;
 use std::alloc::Global;
 use std::fs::{File, OpenOptions, Permissions};
 use std::io::ErrorKind;
 use std::os::unix::fs::{MetadataExt, OpenOptionsExt, PermissionsExt, fchown};
-use std::rt::Files;
 use std::{fs, io};
 
 /// The bits of a mode that say who may read, write and run a file.
@@ -24,29 +23,32 @@ const OWNER_READS_AND_WRITES: u32 = 0o600;
 
 /// Who may use a file, and whose it is.
 #[derive(Clone, Copy, Drop)]
-pub(crate) struct Access {
+struct Access {
     mode: u32,
     owner: u32,
     group: u32,
 }
 
-/// Makes a file at `path`, open for reading and writing. AlreadyExists if anything is there, a
-/// symbolic link too.
+/// Makes a file of a folder, open for reading and writing. AlreadyExists if anything has its name,
+/// a symbolic link too.
 ///
 /// It gets the permissions of the folder's CURRENT, and its owner and group if the program may set
 /// them; in between it never has more. Its owner may read and write it in any event, and its group
 /// may nothing if it isn't that of CURRENT. Without CURRENT it gets what the system gives new files.
-pub(crate) fn new_file<R: OwnedFiles>(
+pub(crate) fn new_file<R: SystemFiles>(
     rt: &R,
-    path: &str,
-    access: Option<Access>,
+    alloc: Global,
+    folder: &str,
+    name: &str,
 ) -> io::Result<File> {
+    let path = path_in(alloc, folder, name)?;
+    let access = access_in(rt, alloc, folder)?;
     let mut options = OpenOptions::new();
     options.read(true).write(true).create_new(true);
     if let Some(access) = access {
         options.mode(access.mode & OF_OWNER);
     }
-    let file = opened(rt, &options, path)?;
+    let file = opened(rt, &options, path.as_str())?;
     if let Some(access) = access {
         give(&file, access)?;
     }
@@ -54,11 +56,7 @@ pub(crate) fn new_file<R: OwnedFiles>(
 }
 
 /// Who may use CURRENT, and whose it is. None if there is no CURRENT.
-pub(crate) fn access_in<R: Files>(
-    rt: &R,
-    alloc: Global,
-    folder: &str,
-) -> io::Result<Option<Access>> {
+fn access_in<R: SystemFiles>(rt: &R, alloc: Global, folder: &str) -> io::Result<Option<Access>> {
     let path = path_in(alloc, folder, CURRENT)?;
     match fs::metadata(rt, path.as_str()) {
         Ok(found) => Ok(Some(Access {

@@ -87,7 +87,7 @@ fn due(name: String, older: Option<String>) -> Due {
     Due {
         name,
         older,
-        answer: None,
+        is_synced: false,
     }
 }
 

@@ -1,5 +1,7 @@
 -- The parts of an installation, one after the other.
-use Rattle.std.proofs.Common.{◌≡◌, ℕ, ◌<◌, List, ◌++◌, Option, Result, Ok, Err, IsErrAnd, IfErr, subst, ◌≤◌, arith, refl, sym, ap, ◌∙◌}
+use Rattle.std.proofs.Common.{◌≡◌, ℕ, ◌+◌, ◌<◌, suc, List, [], ◌∷◌, ◌++◌, take, drop, length, get_or, Option, Result, Ok, Err, IsErrAnd, IfErr, subst, ◌≤◌, arith, refl, sym, ap, ◌∙◌, drop-cons}
+use Rattle.std.proofs.lemmas.List.{take_more, take-append-drop}
+use Rattle.std.specs.Global.{Vec}
 use Rattle.coding.specs.declared.fault.Fault.{Fault}
 use Rattle.folder.specs.Calls.{Call, Step}
 use Rattle.folder.specs.CallSequence.{MakesCalls}
@@ -11,8 +13,9 @@ use Rattle.folder.specs.declared.folder.FolderFault.TheVariants.{Device, Memory}
 use Rattle.coding.specs.declared.fault.FaultName.TheVariants as name
 use Rattle.folder.proofs.CountLemmas.{count_device, count_later}
 use Rattle.folder.proofs.OpeningLemmas.{failed_since}
+use Rattle.folder.specs.Names.{table_name}
 use Rattle.folder.proofs.RunLemmas.{runs_none, runs_stopped, runs_then}
-use Rattle.install.specs.Install.{write_calls}
+use Rattle.install.specs.Install.{table_calls, tables_in, write_calls}
 
 -- calls that were all made
 abbrev pub RunsWhole : List Call → List Step → List Step → (List ℕ → Option (List ℕ) → Type 0) → (List ℕ → Option (List ℕ) → Type 0) → Type 0
@@ -45,6 +48,26 @@ same_writes a b x y one two = cc
 pub hands_behind : {U G : Type 0} (P : G → Type 0) (calls more : List Call) (before after : List Step) (old new : List ℕ → Option (List ℕ) → Type 0) (r : Result U G) → IsErrAnd r P
     → RunsWhole calls before after old new → MakesCalls (calls ++ more) before after old new r
 hands_behind P calls more before after old new r h k = runs_then {E = Fault} calls more before after after old new new tt r k (hands_none P more after new r h)
+
+-- the calls of tables, and of more tables after them
+calls_append : (xs ys : List (ℕ × Vec ℕ)) → table_calls (tables_in (xs ++ ys)) ≡ table_calls (tables_in xs) ++ table_calls (tables_in ys)
+calls_append [] ys = refl
+calls_append (x ∷ xs) ys = ap (λ (t : List Call). write_calls (table_name x.0) x.1.items ++ t) (calls_append xs ys)
+
+-- the tables before a place, the one at it and those after
+pub tables_around : (tables : List (ℕ × Vec ℕ)) (i : ℕ) (t : ℕ × Vec ℕ) → i < length tables → t ≡ get_or tables i t
+    → table_calls (tables_in (take i tables)) ++ (write_calls (table_name t.0) t.1.items ++ table_calls (tables_in (drop (suc i) tables))) ≡ table_calls (tables_in tables)
+tables_around tables i t h is =
+    let behind : drop i tables ≡ t ∷ drop (suc i) tables = drop-cons tables i t h ∙ ap (λ (x : ℕ × Vec ℕ). x ∷ drop (suc i) tables) (sym is) in
+    let parts : take i tables ++ t ∷ drop (suc i) tables ≡ tables = ap (λ (x : List (ℕ × Vec ℕ)). take i tables ++ x) (sym behind) ∙ take-append-drop i tables in
+    sym (calls_append (take i tables) (t ∷ drop (suc i) tables)) ∙ ap (λ (x : List (ℕ × Vec ℕ)). table_calls (tables_in x)) parts
+
+-- one table more
+pub tables_on : (tables : List (ℕ × Vec ℕ)) (i : ℕ) (t : ℕ × Vec ℕ) → i < length tables → t ≡ get_or tables i t
+    → table_calls (tables_in (take i tables)) ++ write_calls (table_name t.0) t.1.items ≡ table_calls (tables_in (take (i + 1) tables))
+tables_on tables i t h is =
+    let more : take (i + 1) tables ≡ take i tables ++ t ∷ [] = take_more tables i t h ∙ ap (λ (x : ℕ × Vec ℕ). take i tables ++ x ∷ []) (sym is) in
+    sym (calls_append (take i tables) (t ∷ [])) ∙ ap (λ (x : List (ℕ × Vec ℕ)). table_calls (tables_in x)) (sym more)
 
 -- if the device failed after a time, it failed after an earlier one
 pub refused_by : {U : Type 0} (before middle now : ℕ) (r : Result U Fault) (e : FolderFault) → IsErrAnd r (λ f. f ≡ fault (fault_name e)) → before ≤ middle → now ≡ failures_after {T = Unit {0}} middle (Err e)

@@ -21,9 +21,8 @@ ghost use Rattle.install.specs.Install.{temporary_calls, write_calls};
 ghost use Rattle.folder.specs.Names.{current_text, temporary_name};
 
 use coding::{Fault, FaultName};
-use folder::{CURRENT, Folder, FolderFault, current_text, temporary_name};
+use folder::{CURRENT, Folder, FolderFault, current_text, table_name, temporary_name};
 use std::alloc::Global;
-use std::thread::Threads;
 
 /// Makes a file and syncs it.
 pub(crate) fn write<F: Folder>(folder: &mut F, name: &str, bytes: &[u8]) -> Result<(), FolderFault>
@@ -45,9 +44,9 @@ pub(crate) fn write<F: Folder>(folder: &mut F, name: &str, bytes: &[u8]) -> Resu
     make_file(folder, name, bytes)
 }
 
-/// Makes each table under the name of its number, and syncs it.
-pub(crate) fn write_tables<F: Folder, R: Threads + Sync>(
-    rt: &R,
+/// Makes and syncs each table under the name of its number.
+pub(crate) fn write_tables<F: Folder>(
+    alloc: Global,
     folder: &mut F,
     tables: &[(u64, Vec<u8>)],
 ) -> Result<(), Fault>
@@ -58,7 +57,11 @@ pub(crate) fn write_tables<F: Folder, R: Threads + Sync>(
     ensures at_once { StopsAtDevice (F.failed folder.old) (F.failed folder.new) result }
     ensures later { F.failed folder.old ≤ F.failed folder.new }
 {
-    Ok(folder.write_tables(rt, tables)?)
+    for (number, bytes) in tables {
+        let name = table_name(alloc, *number)?;
+        write(folder, name.as_str(), bytes)?;
+    }
+    Ok(())
 }
 
 /// Makes and syncs CURRENT's text under its temporary name, and syncs the folder.

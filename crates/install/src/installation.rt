@@ -23,7 +23,6 @@ use edit::{Outcome, Version};
 use folder::{Folder, manifest_name};
 use ikey::Comparator;
 use std::alloc::Global;
-use std::thread::Threads;
 
 /// Makes the edited version the folder's version: writes the outcome's tables, a manifest of this
 /// `manifest_number`, and CURRENT.
@@ -35,8 +34,7 @@ use std::thread::Threads;
 /// The other faults are `Device` and `Memory`. After one of them the folder reads as the version
 /// before or as the edited one, and has to be opened again. If the device fails a call, no further
 /// call is made. The comparator's name has fewer than 2^32 bytes.
-pub fn install<C: Comparator, F: Folder, R: Threads + Sync>(
-    rt: &R,
+pub fn install<C: Comparator, F: Folder>(
     alloc: Global,
     folder: &mut F,
     opened: u64,
@@ -91,7 +89,6 @@ pub fn install<C: Comparator, F: Folder, R: Threads + Sync>(
 {
     let manifest = manifest_bytes::<C>(alloc, version, &outcome.edit)?;
     make_calls(
-        rt,
         alloc,
         folder,
         opened,
@@ -103,8 +100,7 @@ pub fn install<C: Comparator, F: Folder, R: Threads + Sync>(
 
 /// Writes the tables, the manifest and CURRENT, if CURRENT still names the manifest of the number
 /// `opened`.
-fn make_calls<F: Folder, R: Threads + Sync>(
-    rt: &R,
+fn make_calls<F: Folder>(
     alloc: Global,
     folder: &mut F,
     opened: u64,
@@ -116,14 +112,13 @@ fn make_calls<F: Folder, R: Threads + Sync>(
         (calls_before_rename manifest_number (tables_in tables.now) manifest.now)
         (current_calls manifest_number) opened folder.old folder.new result }
 {
-    write_files(rt, alloc, folder, manifest_number, tables, manifest)?;
+    write_files(alloc, folder, manifest_number, tables, manifest)?;
     test_current(alloc, folder, opened)?;
     name_current(alloc, folder, manifest_number)
 }
 
 /// Writes the tables, the manifest, and CURRENT's text under its temporary name.
-fn write_files<F: Folder, R: Threads + Sync>(
-    rt: &R,
+fn write_files<F: Folder>(
     alloc: Global,
     folder: &mut F,
     manifest_number: u64,
@@ -139,7 +134,7 @@ fn write_files<F: Folder, R: Threads + Sync>(
     ensures later { F.failed folder.old ≤ F.failed folder.new }
 {
     let name = manifest_name(alloc, manifest_number)?;
-    write_tables(rt, folder, tables)?;
+    write_tables(alloc, folder, tables)?;
     write(folder, name.as_str(), manifest)?;
     write_temporary(alloc, folder, manifest_number)
 }

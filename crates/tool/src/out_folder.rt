@@ -7,7 +7,6 @@ use edit::Outcome;
 use folder::{Disk, SystemFiles};
 use std::io::ErrorKind;
 use std::rt::Files;
-use std::thread::Threads;
 use std::{fs, io};
 use store::write_outcome;
 
@@ -42,7 +41,7 @@ fn state_at<R: Files + AllocGlobal>(rt: &R, out: &str) -> io::Result<OutState> {
 }
 
 /// Writes an outcome into such a folder, which is made if nothing is there.
-pub(crate) fn fill<R: SystemFiles + AllocGlobal + Threads + Sync>(
+pub(crate) fn fill<R: SystemFiles + AllocGlobal>(
     rt: &R,
     out: &str,
     outcome: &Outcome,
@@ -57,7 +56,7 @@ pub(crate) fn fill<R: SystemFiles + AllocGlobal + Threads + Sync>(
         ))?;
     }
     let mut folder = Disk::new(rt, out);
-    let written = write_outcome(rt, &mut folder, outcome);
+    let written = write_outcome(rt.alloc(), &mut folder, outcome);
     written.map_err(|fault| refused_at(rt, out, &folder, fault))?;
     if is_new {
         let path = out.trim_end_matches('/');

@@ -111,11 +111,12 @@ fn outcome_of<R: AllocGlobal + Threads + Sync>(
     }
 }
 
-/// Whether an outcome is written as these files, by two calls each and one for the folder.
+/// Whether an outcome is written as these files, by two calls each, one that names the edit, and one
+/// for the folder.
 fn is_written(alloc: Global, outcome: &Outcome, files: Files) -> bool {
     let mut folder = Shelf::new(alloc, NO_FILES);
     let answer = write_outcome(alloc, &mut folder, outcome);
-    answer == Ok(()) && holds(&folder, files) && folder.calls() == 2 * files.len() as u64 + 1
+    answer == Ok(()) && holds(&folder, files) && folder.calls() == 2 * files.len() as u64 + 2
 }
 
 /// Whether the outcome of a row is its answer, and leaves its folder as it was.
@@ -153,9 +154,9 @@ fn outcomes_that_are_written(rt: HostRuntime) {
     }
 }
 
-/// The calls that write the outcome of one table: two for it, two for its edit, and one for the
+/// The calls that write the outcome of one table: two for it, three for its edit, and one for the
 /// folder.
-const CALLS: u64 = 5;
+const CALLS: u64 = 6;
 
 /// Whether a failing call ends the writing of an outcome of one table, and the edit isn't there
 /// before the table is synced.
@@ -174,7 +175,7 @@ fn ends_there<R: AllocGlobal + Threads + Sync>(rt: &R, call: u64) -> Result<bool
     Ok(
         answer == Err(Fault::of(FaultName::Device))
             && folder.calls() == call
-            && has_edit == (call > 3),
+            && has_edit == (call > 5),
     )
 }
 

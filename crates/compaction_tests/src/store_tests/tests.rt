@@ -213,10 +213,10 @@ const FAILURES: &[(FolderFault, bool, FaultName)] = &[
     (FolderFault::Memory, true, FaultName::Memory),
 ];
 
-/// The calls of the compaction of the deletion: two reads, five syncs, the read of the table for
-/// the test and as an input, and eight of the installation, the last but one of which renames the
-/// new CURRENT.
-const CALLS: u64 = 17;
+/// The calls of the compaction of the deletion: two reads, five syncs, the read of the table, which
+/// the test holds for the compaction, and eight of the installation, the last but one of which
+/// renames the new CURRENT.
+const CALLS: u64 = 16;
 
 /// What a second compaction answers: that no input is left if CURRENT was renamed, else the lines
 /// of the first.

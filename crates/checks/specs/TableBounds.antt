@@ -31,7 +31,7 @@ are_apart cmp newer older = nat_lt (greatest_sequence older) (least_sequence new
     || are_below cmp newer older || are_below cmp older newer
 
 -- A table among others falls itself, each of those before it is newer, and it is newer than each of
--- those behind it.
+-- those after it.
 pub record IsSettled (before : List (List Entry)) (entries : List Entry)
     (behind : List (List Entry)) : Type 0 where
   pub falling : AreFalling entries

@@ -9,8 +9,8 @@
 //! tables fit into memory together, and [`needed_files`] tells which files a range needs.
 //! [`HeldTables`] are their tables, held from range to range. [`test_and_hold`] hands on those that
 //! the test still holds, and [`checked_tables`] reads what is wanted beside them.
-//! [`common_range`] is what two ranges have in common. [`bounds_tell`] is the law why the entries of
-//! some tables need no walk.
+//! [`common_range`] is what two ranges have in common. [`bounds_tell`] is the law why some
+//! tables need no walk.
 //!
 //! The answer doesn't depend on the workers, nor on the order in which they do their jobs.
 //! [`CHECKERS`] is how many a command takes. A [`Watch`] is a gate that is told to which long work

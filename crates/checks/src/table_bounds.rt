@@ -48,7 +48,7 @@ pub(crate) fn tables_to_walk<'l, 't, C: Comparator>(
 }
 
 /// Whether bounds tell that a table falls, that each one before it is newer, and that it is newer
-/// than each one behind it.
+/// than each one after it.
 fn is_settled<C: Comparator>(
     before: &[&SoundTable<'_, C>],
     table: &SoundTable<'_, C>,

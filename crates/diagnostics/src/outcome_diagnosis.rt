@@ -11,8 +11,8 @@ use ikey::{Bytewise, Comparator, Shortlex};
 use std::alloc::Global;
 use table::check;
 
-/// The first file of an outcome that is refused by this `fault`; None if none is. It only reads. The
-/// file is
+/// The first file of an outcome that is refused by this `fault`; None if none is. It only reads.
+/// The file is
 ///
 /// - the edit, which has this `name`, if it is missing or can't be read;
 /// - a new table, in the edit's order, that is missing, invalid, or not as the edit states it.

@@ -130,7 +130,7 @@ fn word_at(bytes: &[u8], place: usize) -> u64
     BigEndian::read_u64(&bytes[place..])
 }
 
-/// The number in the first sixteen bytes, the most significant byte first, with zeros behind a
+/// The number in the first sixteen bytes, the most significant byte first, with zeros after a
 /// shorter key.
 #[inline]
 pub(crate) fn leading(key: &[u8]) -> u128
@@ -151,7 +151,7 @@ fn short_leading(key: &[u8]) -> u128
     BigEndian::read_u128(&bytes)
 }
 
-/// A key of fewer than sixteen bytes, with zeros behind it.
+/// A key of fewer than sixteen bytes, with zeros after it.
 fn with_zeros(key: &[u8]) -> [u8; HEAD_LEN]
     requires { length key.now < 16 }
     ensures { result ≡ key.now ++ replicate (16 - length key.now) 0 }

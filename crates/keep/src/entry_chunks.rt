@@ -102,8 +102,8 @@ impl<'a> EntryChunks<'a> {
         }
     }
 
-    /// Appends an entry whose key shares `shared` bytes with the last one. The only fault is Memory,
-    /// which leaves the list unchanged.
+    /// Appends an entry whose key shares `shared` bytes with the last one. The only fault is
+    /// Memory, which leaves the list unchanged.
     pub fn push(
         &mut self,
         key: InternalKey<'_>,

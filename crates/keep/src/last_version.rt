@@ -87,8 +87,8 @@ impl LastVersion {
         self.sequence = Some(key.sequence());
     }
 
-    /// Makes the entry of `key` the previous one, which was not kept. The only fault is Memory, which
-    /// changes nothing.
+    /// Makes the entry of `key` the previous one, which was not kept. The only fault is Memory,
+    /// which changes nothing.
     pub fn set(&mut self, key: InternalKey<'_>) -> Result<(), Fault>
         ensures ok { OnOk result (self.new ≡ record {
           is_kept = false;

@@ -37,8 +37,8 @@ use std::thread::Threads;
 /// each level its files, their bytes, the entries of their tables, and which of these are deletions
 /// and which a newer entry hides at the version's last sequence. It only reads.
 ///
-/// Refused as `checks::test_version` refuses the version; else only as Device or Memory. The test is
-/// told to `watch`, which is `&Open` if nobody watches.
+/// Refused as `checks::test_version` refuses the version; else only as Device or Memory. The test
+/// is told to `watch`, which is `&Open` if nobody watches.
 ///
 /// After the test all tables are read once more, a range of user keys after the other, and each is
 /// checked by four workers. At most `memory` bytes of them are in memory at once, if no single user

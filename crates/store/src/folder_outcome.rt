@@ -181,8 +181,8 @@ fn outcome_tested<C: SharedComparator + 'static, F: Folder, W: Watch + Sync, R: 
     )
 }
 
-/// The outcome of the compaction of a `level` of a version by its inputs alone, and its lines. `held`
-/// are tables of the folder.
+/// The outcome of the compaction of a `level` of a version by its inputs alone, and its lines.
+/// `held` are tables of the folder.
 fn outcome_untested<C: SharedComparator + 'static, F: Folder, W: Watch + Sync, R: Threads + Sync>(
     rt: &R,
     alloc: Global,

@@ -59,8 +59,8 @@ pub const MAX_VALUE_LEN: usize = 16_777_215;
 ///     `Compressed`; it is 0: `BlockType`; the contents are a block: `Block`.
 ///
 /// Or the fault is Memory. It reads each data block once, keeps two keys, and counts; on the way it
-/// takes the memory of the index keys. What a footer or an index claims is compared with the bytes that
-/// are there before memory is asked for.
+/// takes the memory of the index keys. What a footer or an index claims is compared with the bytes
+/// that are there before memory is asked for.
 pub fn check<C: Comparator>(alloc: Global, bytes: &[u8]) -> Result<SoundTable<'_, C>, Fault>
     // The bytes are a table of what is read.
     ensures found { IfOk result (λ table. IsTable C.cmp bytes.now table.entries) }
@@ -199,8 +199,8 @@ fn test_entry<'k, C: Comparator>(
 }
 
 /// The first and the last key of the entries still to come, after the key `before`, if they are of
-/// a block and pass their tests. Counting goes on from `so_far`. A fault of an entry may be answered
-/// although the bytes are no block.
+/// a block and pass their tests. Counting goes on from `so_far`. A fault of an entry may be
+/// answered although the bytes are no block.
 fn bounds_ahead<C: Comparator>(
     alloc: Global,
     cursor: &mut CheckingCursor<'_>,

@@ -1,5 +1,5 @@
 -- Tables that are held, and the bytes that they read as.
-use Rattle.std.proofs.Common.{◌≡◌, ℕ, None, ◌+◌, ◌<◌, List, [], ◌∷◌, ◌++◌, length, take, get_or, Result, Ok, Err, refl, sym, ap, subst, ◌∙◌}
+use Rattle.std.proofs.Common.{◌≡◌, ℕ, None, ◌+◌, ◌<◌, List, [], ◌∷◌, ◌++◌, length, take, get_or, Ok, Err, sym, ap, subst, ◌∙◌}
 use Rattle.std.specs.List.{AllZip}
 use Rattle.std.specs.declared.cmp.Ordering.{Ordering}
 use Rattle.std.proofs.lemmas.List.{take_more}
@@ -11,7 +11,6 @@ use Rattle.folder.specs.LoadedTables.{IsTableOf}
 use Rattle.folder.specs.ReadsAs.{IsHeldIn}
 use Rattle.table.specs.TableContents.{contents_reading}
 use Rattle.reads.specs.Tables.{NumberedContents}
-use Rattle.checks.specs.Checked.{tables_reading}
 use Rattle.checks.specs.HeldTables.{AreFound, AreReadAs, IsCheckedAnswer, IsFoundAnswer, held_bytes}
 use Rattle.checks.specs.InOrder.{AreChecked}
 use Rattle.checks.proofs.FoundTables.{found_read, found_tables}

@@ -75,9 +75,7 @@ impl<C: Comparator> HeldTables<C> {
 /// If the device fails a call, the answer is Device and no further call is made. If memory runs
 /// out, it is Memory.
 ///
-/// No contract says which tables are read. A held table is kept if its place among `held` is as
-/// among `numbers`. So it is if both are in the order of [`needed_files`](crate::needed_files()),
-/// for ranges of one version.
+/// No contract says which tables are read.
 pub fn hold_tables<C: SharedComparator, F: Folder, G: Gate + Sync, R: Threads + Sync>(
     rt: &R,
     alloc: Global,

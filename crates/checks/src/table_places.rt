@@ -1,7 +1,8 @@
 //! Which held tables are kept, and the places of those that are still to be read.
 
-ghost use Rattle.std.specs.Prelude.{◌≡◌, ◌++◌, List, ◌∷◌, Contains, Option, Ok, IfOk, IfErr};
-ghost use Rattle.std.specs.Prelude.{IfSome};
+ghost use Rattle.std.specs.Prelude.{◌≡◌, ◌<◌, ◌++◌, List, ◌∷◌, Contains, Option, Ok, IfOk, IfErr};
+ghost use Rattle.std.specs.Prelude.{IfSome, length, slice_index_or};
+ghost use Rattle.reads.specs.Tables.{NumberedContents};
 ghost use Rattle.std.specs.List.{All};
 ghost use Rattle.std.specs.Option.{option_to_list};
 ghost use Rattle.std.specs.Vec.Iter.{into_iter_items};
@@ -59,7 +60,7 @@ impl<C: Comparator> TablePlace<C> {
 }
 
 /// The places of the tables with these numbers, in order. Each has the held table of its number, if
-/// the held tables are in that order. The other held tables are dropped. The only fault is Memory.
+/// there is one. The other held tables are dropped. The only fault is Memory.
 pub(crate) fn kept_places<C: Comparator>(
     alloc: Global,
     held: Vec<HeldTable<C>>,
@@ -103,16 +104,29 @@ fn kept_tables<C: Comparator>(
     Ok(kept)
 }
 
-/// Takes out the last of the tables, if it has this number.
+/// Takes out the table of this number, if it is there. It is searched from the last table on: there
+/// it stands, if the tables are in the order in which they are asked for.
 fn taken<C: Comparator>(ahead: &mut Vec<HeldTable<C>>, number: u64) -> Option<HeldTable<C>>
-    ensures rest { ahead.old.items ≡ ahead.new.items ++ option_to_list result }
+    ensures held { (held : List NumberedContents) → All (Contains held) ahead.old.items →
+        All (Contains held) ahead.new.items × IfSome result (Contains held) }
     ensures number { IfSome result (λ t. t.number ≡ number) }
 {
-    let last = ahead.len().checked_sub(1)?;
-    if ahead[last].number() != number {
-        return None;
+    let place = place_of(ahead, number)?;
+    Some(ahead.remove(place))
+}
+
+/// The last place of a table of this number. None if there is none.
+fn place_of<C: Comparator>(tables: &[HeldTable<C>], number: u64) -> Option<usize>
+    ensures number { IfSome result
+        (λ place. (t : NumberedContents) → (slice_index_or tables.now place t).number ≡ number) }
+    ensures within { IfSome result (λ place. place < length tables.now) }
+{
+    for place in (0..tables.len()).rev() {
+        if tables[place].number() == number {
+            return Some(place);
+        }
     }
-    ahead.pop()
+    None
 }
 
 /// The numbers of the places without a table, in order. The only fault is Memory.

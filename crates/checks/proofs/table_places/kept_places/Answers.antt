@@ -1,7 +1,7 @@
 use Rattle.std.proofs.Common.{◌≡◌, ◌<◌, ◌++◌, ◌∷◌, [], ℕ, List, length, get_or, sym, ap, ◌∙◌, arith}
-use Rattle.std.specs.Prelude.{Contains, Option}
+use Rattle.std.specs.Prelude.{Option}
 use Rattle.std.proofs.lemmas.List.{map-append, take_more}
-use Rattle.std.proofs.lemmas.List.Elements.{All-nil, All-pop, All-push, All-same}
+use Rattle.std.proofs.lemmas.List.Elements.{All-nil, All-push, All-same}
 use Rattle.reads.specs.Tables.{NumberedContents}
 use Rattle.checks.specs.TablePlaces.{HasKept, place_numbers}
 use Rattle.checks.proofs.KeptTables.{has_kept}
@@ -24,7 +24,7 @@ loop-number-preserved g c =
     let lt : c.loop-number.number-index < length c.args.numbers.now = omega arith in
     let kept : Option NumberedContents = c.taken-kept.result in
     let placed : List (ℕ × Option NumberedContents) = c.loop-number.places.items in
-    let popped = All-pop (Contains held) c.loop-number.ahead.items c.taken-kept.new.ahead.items kept c.taken-kept.ensures.rest i.ahead in
+    let popped = c.taken-kept.ensures.held held i.ahead in
     let pushed : c.push.new.self.items ≡ placed ++ (n, kept) ∷ [] = c.in_ok-push.ensures.items in
     record {
       ahead = popped.0;

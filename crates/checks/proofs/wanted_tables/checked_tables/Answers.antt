@@ -1,7 +1,7 @@
-use Rattle.std.proofs.Common.{◌≡◌, ℕ, List, Option, None, Ok, Err, IfSome, subst, sym, inr, arith, ◌⊎◌}
+use Rattle.std.proofs.Common.{◌≡◌, List, Option, Ok, IfSome, subst, arith}
 use Rattle.folder.proofs.OpeningLemmas.{hands_on}
 use Rattle.reads.specs.Tables.{NumberedContents}
-use Rattle.checks.specs.HeldTables.{AreFound, IsCheckedAnswer, IsFoundAnswer, held_numbers}
+use Rattle.checks.specs.HeldTables.{IsCheckedAnswer, IsFoundAnswer, held_numbers}
 use Rattle.checks.specs.InOrder.{AreChecked}
 use Rattle.checks.proofs.CheckedTables.{found_checked, never_passed, refused_in_order}
 use Rattle.checks.proofs.FolderTests.{told_still}

@@ -1,36 +1,40 @@
 -- A block that takes in entries, one after the other, until it is full.
-use Rattle.std.proofs.Common.{◌≡◌, ℕ, ◌+◌, ◌-◌, ◌^◌, ◌<◌, ◌≤◌, false, List, [], ◌∷◌, ◌++◌, length, take, drop, min, refl, sym, ap, subst, ◌∙◌, append_assoc, append-nil, inl, inr, arith}
-use Rattle.std.specs.Prelude.{Option, Some, slice_get}
+use Rattle.std.proofs.Common.{◌≡◌, ℕ, zero, suc, ◌+◌, ◌-◌, ◌^◌, ◌<◌, ◌≤◌, false, List, [], ◌∷◌, ◌++◌, length, take, drop, min, refl, sym, ap, subst, ◌∙◌, append_assoc, append-nil, inl, inr, arith}
+use Rattle.std.specs.Prelude.{Option, Some, None, slice_get}
+use Rattle.std.specs.List.{last_or}
 use Rattle.std.specs.Option.{option_map}
 use Rattle.std.proofs.lemmas.Bool.{cases_lt, leb-false, lt-leb}
-use Rattle.std.proofs.lemmas.List.{drop-drop, length-drop}
+use Rattle.std.proofs.lemmas.List.{length-append, length-drop, length-take}
 use Rattle.std.proofs.Math.Seq.{take-add}
 use Rattle.block.specs.EncodedEntry.{Entry}
 use Rattle.block.specs.BlockFormat.{block}
 use Rattle.table.specs.declared.options.Options.{Options}
 use Rattle.table.specs.DataBlocks.{is_full}
 use Rattle.encoding.proofs.Lists.{length_le_block}
-use Rattle.encoding.proofs.Places.{drop_next}
+use Rattle.encoding.proofs.Places.{drop_next, last_joined, last_counted}
 use Rattle.cut.specs.Metered.{BlockInProgress, IsMetered, block_after_entries, last_entry_key, next_since, added_size}
 use Rattle.cut.specs.Sizes.{saturated_length}
-use Rattle.cut.proofs.Metered.{few_entries, metered_push}
+use Rattle.cut.proofs.Metered.{metered_push}
 
--- `taken` of the entries after are taken in, and the block was full before none of them
-pub record IsFilling (o : Options) (m : BlockInProgress) (taken : ℕ) (q behind : List Entry) (len since : ℕ) : Type 0 where
-  pub metered : IsMetered m.interval q len since
-  pub entries : q ≡ m.entries ++ take taken m.behind
-  pub behind_is : behind ≡ drop taken m.behind
+-- `taken` of the entries after are taken in, and the block was full before none of them; `rest` is what is left, and `before` the key
+-- before it
+pub record IsFilling (o : Options) (m : BlockInProgress) (taken : ℕ) (rest : List Entry) (before : Option (List ℕ)) (len since : ℕ) : Type 0 where
+  pub metered : IsMetered m.interval (m.entries ++ take taken m.behind) len since
+  pub rest_is : rest ≡ drop taken m.behind
+  pub before_is : before ≡ last_entry_key (m.entries ++ take taken m.behind)
   pub within : taken ≤ length m.behind
   pub part : (n : ℕ) → n < taken → is_full o (block_after_entries n m).entries ≡ false
 
-pub filling_first : (o : Options) (m : BlockInProgress) (q behind : List Entry) (len since : ℕ) → q ≡ m.entries → behind ≡ m.behind → IsMetered m.interval m.entries len since → IsFilling o m 0 q behind len since
-filling_first o m q behind len since q_is behind_is is = record {
-  metered = subst (λ (xs : List Entry). IsMetered m.interval xs len since) (sym q_is) is;
-  entries = q_is ∙ sym (append-nil m.entries);
-  behind_is = behind_is;
-  within = omega arith;
-  part = λ n lt. absurd (omega (arith, lt));
-}
+pub filling_first : (o : Options) (m : BlockInProgress) (rest : List Entry) (before : Option (List ℕ)) (len since : ℕ) → rest ≡ m.behind → before ≡ last_entry_key m.entries → IsMetered m.interval m.entries len since → IsFilling o m 0 rest before len since
+filling_first o m rest before len since rest_is before_is is =
+    let none : m.entries ≡ m.entries ++ take 0 m.behind = sym (append-nil m.entries) in
+    record {
+      metered = subst (λ (xs : List Entry). IsMetered m.interval xs len since) none is;
+      rest_is = rest_is;
+      before_is = before_is ∙ ap last_entry_key none;
+      within = omega arith;
+      part = λ n lt. absurd (omega (arith, lt));
+    }
 
 not_full : (o : Options) (r : ℕ) (q : List Entry) (len since : ℕ) → IsMetered r q len since → r ≡ o.restart_interval → (q ≡ [] → ⊥) → len < o.block_size → o.block_size ≤ 4194304 → is_full o q ≡ false
 not_full o r [] len since h interval some lt le = absurd (some refl)
@@ -45,43 +49,47 @@ counted_part o r (e ∷ es) interval le part =
     let below : length (block o.restart_interval (e ∷ es)) < o.block_size = leb-false o.block_size (length (block o.restart_interval (e ∷ es))) part in
     omega (arith, below, le, length_le_block o.restart_interval (e ∷ es))
 
-some_more : (p q : List Entry) → (p ≡ [] → ⊥) → p ++ q ≡ [] → ⊥
-some_more [] q some none = some refl
-some_more (x ∷ xs) q some none = omega (arith, ap length none)
+-- the key of the last one taken in
+pub last_in : (m : BlockInProgress) (taken : ℕ) → 0 < taken → taken ≤ length m.behind → last_entry_key (m.entries ++ take taken m.behind) ≡ option_map (λ (e : Entry). e.key) (slice_get m.behind (taken - 1))
+last_in m taken some within =
+    ap (option_map (λ (e : Entry). e.key)) (last_joined None m.entries (take taken m.behind) ∙ last_counted (last_or None m.entries) m.behind taken some within)
 
-pub filling_more : (o : Options) (m : BlockInProgress) (taken : ℕ) (q behind : List Entry) (len since : ℕ) (key value : List ℕ) (before : Option (List ℕ)) → IsFilling o m taken q behind len since
-    → o.block_size ≤ 4194304 → m.interval ≡ o.restart_interval → (m.entries ≡ [] → ⊥) → len < o.block_size → 0 < length behind
-    → option_map (λ (e : Entry). e.key) (slice_get behind 0) ≡ Some key → option_map (λ (e : Entry). e.value) (slice_get behind 0) ≡ Some value → before ≡ last_entry_key q
-    → IsFilling o m (taken + 1) (q ++ take 1 behind) (drop 1 behind) (min (len + saturated_length (added_size since before key (length value))) (2 ^ 64 - 1)) (next_since m.interval since)
-filling_more o m taken q behind len since key value before h le interval any lt some key_is value_is before_is =
-    let part : is_full o q ≡ false = not_full o m.interval q len since h.metered interval (λ none. some_more m.entries (take taken m.behind) any (sym h.entries ∙ none)) lt le in
-    let here : is_full o (m.entries ++ take taken m.behind) ≡ false = ap (is_full o) (sym h.entries) ∙ part in
+first_at : (n : ℕ) (xs : List Entry) → slice_get (drop n xs) 0 ≡ slice_get xs n
+first_at zero xs = refl
+first_at (suc n) [] = refl
+first_at (suc n) (x ∷ xs) = first_at n xs
+
+pub filling_more : (o : Options) (m : BlockInProgress) (taken : ℕ) (rest : List Entry) (before : Option (List ℕ)) (len since added : ℕ) → IsFilling o m taken rest before len since
+    → o.block_size ≤ 4194304 → m.interval ≡ o.restart_interval → is_full o (m.entries ++ take taken m.behind) ≡ false → 0 < length rest
+    → option_map (λ (e : Entry). saturated_length (added_size since before e.key (length e.value))) (slice_get rest 0) ≡ Some added
+    → IsFilling o m (taken + 1) (drop 1 rest) (option_map (λ (e : Entry). e.key) (slice_get rest 0)) (min (len + added) (2 ^ 64 - 1)) (next_since m.interval since)
+filling_more o m taken rest before len since added h le interval part some added_is =
+    let q : List Entry = m.entries ++ take taken m.behind in
+    let few : length q < 2 ^ 64 - 1 = counted_part o m.interval q interval le part in
+    let grown : q ++ take 1 rest ≡ m.entries ++ take (taken + 1) m.behind =
+    append_assoc m.entries (take taken m.behind) (take 1 rest)
+    ∙ ap (λ (xs : List Entry). m.entries ++ (take taken m.behind ++ take 1 xs)) h.rest_is
+    ∙ ap (λ (xs : List Entry). m.entries ++ xs) (sym (take-add taken 1 m.behind)) in
+    let within : taken + 1 ≤ length m.behind = omega (arith, some, ap length h.rest_is, length-drop taken m.behind) in
+    let place : taken ≡ (taken + 1) - 1 = omega arith in
     record {
-      metered = metered_push m.interval q behind len since key value before h.metered (few_entries m.interval q len since h.metered (omega (arith, lt, le))) some key_is value_is before_is;
-      entries =
-          ap (λ (xs : List Entry). xs ++ take 1 behind) h.entries
-          ∙ append_assoc m.entries (take taken m.behind) (take 1 behind)
-          ∙ ap (λ (xs : List Entry). m.entries ++ (take taken m.behind ++ take 1 xs)) h.behind_is
-          ∙ ap (λ (xs : List Entry). m.entries ++ xs) (sym (take-add taken 1 m.behind));
-      behind_is = ap (drop 1) h.behind_is ∙ sym (drop_next taken m.behind);
-      within = omega (arith, some, ap length h.behind_is, length-drop taken m.behind);
+      metered =
+          subst (λ (xs : List Entry). IsMetered m.interval xs (min (len + added) (2 ^ 64 - 1)) (next_since m.interval since)) grown
+          (metered_push m.interval q rest len since added before h.metered few added_is h.before_is);
+      rest_is = ap (drop 1) h.rest_is ∙ sym (drop_next taken m.behind);
+      before_is =
+          ap (option_map (λ (e : Entry). e.key)) (ap (λ (xs : List Entry). slice_get xs 0) h.rest_is ∙ first_at taken m.behind ∙ ap (slice_get m.behind) place)
+          ∙ sym (last_in m (taken + 1) (omega arith) within);
+      within = within;
       part = λ n below. elim (cases_lt n taken) [
         | inl lower ↦ h.part n lower
-        | inr above ↦ (let same : taken ≡ n = omega (arith, above, below) in subst (λ (k : ℕ). is_full o (m.entries ++ take k m.behind) ≡ false) same here)
+        | inr above ↦ (let same : taken ≡ n = omega (arith, above, below) in subst (λ (k : ℕ). is_full o (m.entries ++ take k m.behind) ≡ false) same part)
       ];
     }
 
--- one entry, and then others, are as many in one
-pub grown_behind : (n : ℕ) (m : BlockInProgress) → block_after_entries n (block_after_entries 1 m) ≡ block_after_entries (1 + n) m
-grown_behind n m =
-    let entries : (m.entries ++ take 1 m.behind) ++ take n (drop 1 m.behind) ≡ m.entries ++ take (1 + n) m.behind =
-    append_assoc m.entries (take 1 m.behind) (take n (drop 1 m.behind)) ∙ ap (λ (xs : List Entry). m.entries ++ xs) (sym (take-add 1 n m.behind)) in
-    ap (λ (xs : List Entry). record { interval = m.interval; entries = xs; behind = drop n (drop 1 m.behind) }) entries
-    ∙ ap (λ (xs : List Entry). record { interval = m.interval; entries = m.entries ++ take (1 + n) m.behind; behind = xs }) (drop-drop n 1 m.behind)
-
-pub part_behind : (o : Options) (m : BlockInProgress) (count : ℕ) → ((n : ℕ) → n < count → is_full o (block_after_entries n (block_after_entries 1 m)).entries ≡ false) → (n : ℕ) → 0 < n → n < 1 + count → is_full o (block_after_entries n m).entries ≡ false
-part_behind o m count part n some lt =
-    let later : 1 + (n - 1) ≡ n = omega (arith, some) in
-    ap (λ (k : ℕ). is_full o (block_after_entries k m).entries) (sym later)
-    ∙ ap (λ (k : BlockInProgress). is_full o k.entries) (sym (grown_behind (n - 1) m))
-    ∙ part (n - 1) (omega (arith, some, lt))
+-- a block that has an entry and fewer bytes than its size is not full
+pub filling_part : (o : Options) (m : BlockInProgress) (taken : ℕ) (rest : List Entry) (before : Option (List ℕ)) (len since : ℕ) → IsFilling o m taken rest before len since → 0 < taken
+    → o.block_size ≤ 4194304 → m.interval ≡ o.restart_interval → len < o.block_size → is_full o (m.entries ++ take taken m.behind) ≡ false
+filling_part o m taken rest before len since h some le interval lt =
+    let number : length (m.entries ++ take taken m.behind) ≡ length m.entries + min taken (length m.behind) = length-append m.entries (take taken m.behind) ∙ ap (λ (n : ℕ). length m.entries + n) (length-take taken m.behind) in
+    not_full o m.interval (m.entries ++ take taken m.behind) len since h.metered interval (λ none. omega (arith, number, some, h.within, ap length none)) lt le

@@ -1,9 +1,10 @@
 -- One more entry is measured.
-use Rattle.std.proofs.Common.{◌≡◌, ℕ, ◌+◌, ◌-◌, ◌%◌, ◌^◌, ◌<◌, ◌≤◌, Bool, true, false, cond, eqb, List, [], ◌∷◌, ◌++◌, length, take, min, refl, sym, ap, ◌∙◌, inl, inr, arith}
+use Rattle.std.proofs.Common.{◌≡◌, ℕ, ◌+◌, ◌-◌, ◌%◌, ◌^◌, ◌<◌, ◌≤◌, Bool, true, false, cond, eqb, List, [], ◌∷◌, ◌++◌, length, take, min, refl, sym, ap, subst, ◌∙◌, inl, inr, arith}
 use Rattle.std.specs.Prelude.{Option, Some, None, slice_get, ◌&&◌}
 use Rattle.std.specs.List.{last_or}
 use Rattle.std.specs.Option.{option_map}
 use Rattle.std.proofs.lemmas.Bool.{cases_eq, eq-eqb, ne_eqb}
+use Rattle.std.proofs.lemmas.Option.{none-some, same_Some}
 use Rattle.std.proofs.lemmas.List.{length-append, length-drop, length_push}
 use Rattle.std.proofs.lemmas.Nat.{mod_below}
 use Rattle.std.proofs.Math.Nat.{zero-mod, mod-add-mod, mod_self, mod-eq_of_lt}
@@ -12,7 +13,6 @@ use Rattle.block.specs.EncodedEntry.{Entry, EncodedEntry, encoded_entry_bytes}
 use Rattle.block.specs.BlockFormat.{block}
 use Rattle.block.specs.BuilderView.{last_key}
 use Rattle.block.proofs.Written.{common, piece_at_restart}
-use Rattle.encoding.proofs.Lists.{length_le_block}
 use Rattle.cut.specs.Lengths.{added_len}
 use Rattle.cut.specs.Sizes.{saturated_length, encoded_entry_size}
 use Rattle.cut.specs.Metered.{IsMetered, last_entry_key, next_since, added_size}
@@ -75,10 +75,6 @@ metered_first interval pos le = record {
   counted = omega arith;
 }
 
--- if a block has fewer bytes than the largest number, there are fewer entries
-pub few_entries : (interval : ℕ) (q : List Entry) (len since : ℕ) → IsMetered interval q len since → len < 2 ^ 64 - 1 → length q < 2 ^ 64 - 1
-few_entries interval q len since h lt = omega (arith, h.len_is, lt, length_le_block interval q)
-
 -- both sums stop at the largest number
 sum_saturated : (whole before added : ℕ) → whole ≡ before + added → min (saturated_length before + saturated_length added) (2 ^ 64 - 1) ≡ saturated_length whole
 sum_saturated whole before added is = omega arith
@@ -98,15 +94,15 @@ pushed interval q e len since h few =
       counted = omega (arith, few, length_push q e);
     }
 
--- the first of the entries after is taken in, of which these are the key and the value
-pub metered_push : (interval : ℕ) (q behind : List Entry) (len since : ℕ) (key value : List ℕ) (before : Option (List ℕ)) → IsMetered interval q len since → length q < 2 ^ 64 - 1 → 0 < length behind
-    → option_map (λ (e : Entry). e.key) (slice_get behind 0) ≡ Some key → option_map (λ (e : Entry). e.value) (slice_get behind 0) ≡ Some value → before ≡ last_entry_key q
-    → IsMetered interval (q ++ take 1 behind) (min (len + saturated_length (added_size since before key (length value))) (2 ^ 64 - 1)) (next_since interval since)
-metered_push interval q [] len since key value before h few some key_is value_is before_is = absurd (omega arith)
-metered_push interval q (e ∷ es) len since key value before h few some key_is value_is before_is =
-    let k : e.key ≡ key = cc in
-    let v : e.value ≡ value = cc in
-    rw (before_is, ← k, ← v) (pushed interval q e len since h few)
+-- the first of the entries after is taken in, which adds so much
+pub metered_push : (interval : ℕ) (q behind : List Entry) (len since added : ℕ) (before : Option (List ℕ)) → IsMetered interval q len since → length q < 2 ^ 64 - 1
+    → option_map (λ (e : Entry). saturated_length (added_size since before e.key (length e.value))) (slice_get behind 0) ≡ Some added → before ≡ last_entry_key q
+    → IsMetered interval (q ++ take 1 behind) (min (len + added) (2 ^ 64 - 1)) (next_since interval since)
+metered_push interval q [] len since added before h few added_is before_is = absurd (none-some added added_is)
+metered_push interval q (e ∷ es) len since added before h few added_is before_is =
+    let is : saturated_length (added_size since (last_entry_key q) e.key (length e.value)) ≡ added =
+    ap (λ (b : Option (List ℕ)). saturated_length (added_size since b e.key (length e.value))) (sym before_is) ∙ same_Some _ added added_is in
+    subst (λ (n : ℕ). IsMetered interval (q ++ e ∷ []) (min (len + n) (2 ^ 64 - 1)) (next_since interval since)) is (pushed interval q e len since h few)
 
 pub since_below : (interval : ℕ) (q : List Entry) (len since : ℕ) → IsMetered interval q len since → since < interval
 since_below interval q len since h = omega (arith, h.since_is, mod_below (length q) interval h.positive)

@@ -1,10 +1,11 @@
 -- A data block that is measured entry by entry, before any of its bytes is made.
-use Rattle.std.specs.Prelude.{◌≡◌, ℕ, ◌+◌, ◌-◌, ◌%◌, ◌^◌, ◌≤◌, nat_eq, ◌==◌, ◌&&◌, if◌then◌else◌}
-use Rattle.std.specs.Prelude.{List, ◌++◌, length, take, drop, Option, Some, None}
-use Rattle.std.specs.List.{common_prefix_len, last_or}
+use Rattle.std.specs.Prelude.{◌≡◌, ℕ, ◌+◌, ◌-◌, ◌%◌, ◌^◌, ◌≤◌, ◌==◌, ◌&&◌, if◌then◌else◌}
+use Rattle.std.specs.Prelude.{List, ◌++◌, length, take, drop, Option, None}
+use Rattle.std.specs.List.{last_or}
 use Rattle.std.specs.Option.{is_some, option_map}
 use Rattle.block.specs.EncodedEntry.{Entry}
 use Rattle.block.specs.BlockFormat.{block}
+use Rattle.encoding.specs.Walking.{left_out_len}
 use Rattle.cut.specs.Sizes.{saturated_length, encoded_entry_size}
 use Rattle.block.specs.declared.builder.TheConstants.{MAX_RESTART_INTERVAL}
 
@@ -39,15 +40,6 @@ next_since interval since = if since + 1 == interval then 0 else since + 1
 -- the key of the last of these entries; None if there is none
 abbrev pub last_entry_key : List Entry → Option (List ℕ)
 last_entry_key q = option_map (λ (e : Entry). e.key) (last_or None q)
-
--- how many bytes a key shares with the one before it, if there is one
-abbrev pub shared_with : Option (List ℕ) → List ℕ → ℕ
-shared_with None key = 0
-shared_with (Some before) key = common_prefix_len nat_eq before key
-
--- how many bytes of the key an entry leaves out: none if a restart points at it
-abbrev pub left_out_len : ℕ → Option (List ℕ) → List ℕ → ℕ
-left_out_len since before key = if since == 0 then 0 else shared_with before key
 
 -- How many bytes an entry adds to a block: its own bytes, and those of its restart if it has one
 -- and is not the first.

@@ -1,19 +1,17 @@
 //! The data block of a plan that takes the next entry.
 
-ghost use Rattle.std.specs.Prelude.{◌≡◌, ◌≢◌, ℕ, ◌↔◌, ◌-◌, ◌^◌, ◌≤◌, ◌<◌, false, [], length};
-ghost use Rattle.std.specs.Prelude.{IsTrue};
+ghost use Rattle.std.specs.Prelude.{◌≡◌, ℕ, ◌↔◌, ◌≤◌, ◌<◌, false, [], length, slice_get};
+ghost use Rattle.std.specs.Prelude.{IsTrue, Some};
 ghost use Rattle.std.specs.Option.{option_map};
 ghost use Rattle.block.specs.BlockFormat.{block};
 ghost use Rattle.table.specs.DataBlocks.{is_full};
 ghost use Rattle.table.specs.Options.{AreInLimits};
 ghost use Rattle.cut.specs.Sizes.{saturated_length};
-ghost use Rattle.cut.specs.Metered.{block_after_entries, last_entry_key, next_since, left_out_len};
-ghost use Rattle.cut.specs.Metered.{added_size};
+ghost use Rattle.cut.specs.Metered.{block_after_entries, last_entry_key, next_since, added_size};
 ghost use Rattle.block.specs.declared.builder.TheConstants.{MAX_RESTART_INTERVAL};
 
 use crate::lengths::encoded_entry_len;
-use coding::common_len;
-use encoding::{EntryCursor, EntrySpan, PlannedBlock};
+use encoding::{EntryCursor, EntrySpan, EntryWalk, PlannedBlock};
 use ikey::InternalKey;
 use std::marker::Model;
 use std::mem;
@@ -51,41 +49,26 @@ impl<'r, 'a> Model for OpenBlock<'r, 'a> {
     ghost invariant = { λ b. IsMetered b.interval b.slice.entries b.len b.since };
 }
 
-/// How many bytes of `key` the next entry shares with the key before it: none if `since`, the
-/// number of entries after the last whole interval, is 0, for then a restart points at it.
+/// How many bytes the next entry of a walk adds to the block, if `since` entries come after the
+/// last whole interval. A sum of 2^64 or more is answered as 2^64 - 1.
 #[inline(always)]
-fn left_out(since: u64, before: Option<InternalKey<'_>>, key: InternalKey<'_>) -> usize
-    ensures value { result
-        ≡ left_out_len since (option_map (λ k. k.bytes.now) before.entry) key.entry.bytes.now }
-    ensures within { result ≤ length key.entry.bytes.now }
+fn added_len(since: u64, walk: &EntryWalk<'_, '_>) -> u64
+    requires { 0 < length walk.now.rest }
+    ensures { option_map
+        (λ e. saturated_length (added_size since walk.now.before e.key (length e.value)))
+        (slice_get walk.now.rest 0)
+        ≡ Some result }
 {
-    if since == 0 {
-        return 0;
-    }
-    match before {
-        Some(before) => common_len(before.bytes(), key.bytes()),
-        None => 0,
-    }
-}
-
-/// How many bytes the next entry adds to the block, if `since` entries come after the last whole
-/// interval and `before` is the key before it. A sum of 2^64 or more is answered as 2^64 - 1.
-#[inline(always)]
-fn added_len(since: u64, before: Option<InternalKey<'_>>, key: InternalKey<'_>, value: &[u8]) -> u64
-    ensures { result
-        ≡ saturated_length
-        (added_size since (option_map (λ k. k.bytes.now) before.entry) key.entry.bytes.now
-        (length value.now)) }
-{
-    let shared = left_out(since, before, key);
-    let piece = encoded_entry_len(shared, key.bytes().len() - shared, value.len());
+    let shared = walk.left_out(since);
+    let key = walk.key();
+    let entry = encoded_entry_len(shared, key.bytes().len() - shared, walk.value().len());
     // The first entry's restart is there from the start.
-    let restart = if since == 0 && before.is_some() {
+    let restart = if since == 0 && walk.before().is_some() {
         RESTART_LEN
     } else {
         0
     };
-    piece.saturating_add(restart)
+    entry.saturating_add(restart)
 }
 
 /// The number of entries after the last whole interval, with one entry more.
@@ -112,54 +95,6 @@ impl<'r, 'a> OpenBlock<'r, 'a> {
         }
     }
 
-    /// Takes in the next entry.
-    fn push(&mut self)
-        requires any { 0 < length self.old.behind }
-        requires counted { length self.old.entries < 2 ^ 64 - 1 }
-        ensures { self.new ≡ block_after_entries 1 self.old }
-    {
-        let place = self.slice.behind();
-        let key = place.key();
-        let added = added_len(self.since, self.slice.last_key(), key, place.value());
-        self.slice.push(key);
-        self.len = self.len.saturating_add(added);
-        self.since = next_since(self.since, self.interval);
-    }
-
-    /// Takes in the next entries until the block reaches the block size, at most `most`, and
-    /// answers how many. The block has an entry already.
-    fn fill(&mut self, options: Options, most: u64) -> u64
-        requires limits { AreInLimits options }
-        requires interval { self.old.interval ≡ options.restart_interval }
-        requires some { self.old.entries ≢ [] }
-        ensures new { self.new ≡ block_after_entries result self.old }
-        ensures most { result ≤ most }
-        ensures within { result ≤ length self.old.behind }
-        ensures part { (n : ℕ) → n < result →
-            is_full options (block_after_entries n self.old).entries ≡ false }
-    {
-        // What each entry changes is in variables of the loop, so that none of it is written back
-        // before the loop's end.
-        let next = EntrySpan::at(self.slice.behind());
-        let mut slice = mem::replace(&mut self.slice, next);
-        let mut len = self.len;
-        let mut since = self.since;
-        let mut taken = 0;
-        while taken < most && len < options.block_size && slice.behind().valid() {
-            let place = slice.behind();
-            let key = place.key();
-            let added = added_len(since, slice.last_key(), key, place.value());
-            slice.push(key);
-            len = len.saturating_add(added);
-            since = next_since(since, self.interval);
-            taken += 1;
-        }
-        self.slice = slice;
-        self.len = len;
-        self.since = since;
-        taken
-    }
-
     /// Takes in the next entries until the block reaches the block size, at least one and at most
     /// `most`, and answers how many. Takes no memory.
     pub fn take_in(&mut self, options: Options, most: u64) -> u64
@@ -175,8 +110,24 @@ impl<'r, 'a> OpenBlock<'r, 'a> {
         ensures part { (n : ℕ) → 0 < n → n < result →
             is_full options (block_after_entries n self.old).entries ≡ false }
     {
-        self.push();
-        1 + self.fill(options, most - 1)
+        let mut walk = EntryWalk::new(self.slice.behind(), self.slice.last_key());
+        // What each entry changes is in variables of the loop, so that none of it is written back
+        // before the loop's end.
+        let mut len = self.len.saturating_add(added_len(self.since, &walk));
+        let mut since = next_since(self.since, self.interval);
+        walk.advance();
+        let mut taken = 1;
+        while taken < most && len < options.block_size && walk.valid() {
+            len = len.saturating_add(added_len(since, &walk));
+            since = next_since(since, self.interval);
+            walk.advance();
+            taken += 1;
+        }
+        let last = walk.before();
+        self.slice.push_all(taken, last);
+        self.len = len;
+        self.since = since;
+        taken
     }
 
     /// The key of the last entry; None if there is no entry.

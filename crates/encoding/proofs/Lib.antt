@@ -1,5 +1,6 @@
 pub mod Places
 pub mod Skips
+pub mod Walks
 pub mod LastKeys
 pub mod Lists
 pub mod Appended

@@ -1,10 +1,10 @@
 -- Places among the entries of runs.
-use Rattle.std.proofs.Common.{◌≡◌, ℕ, zero, suc, ◌+◌, ◌-◌, ◌^◌, ◌<◌, List, [], ◌∷◌, ◌++◌, length, take, drop, refl, sym, ap, ◌∙◌, arith}
+use Rattle.std.proofs.Common.{◌≡◌, ℕ, zero, suc, ◌+◌, ◌-◌, ◌^◌, ◌<◌, ◌≤◌, List, [], ◌∷◌, ◌++◌, length, take, drop, refl, sym, ap, ◌∙◌, arith}
 use Rattle.std.specs.Prelude.{min, slice_get, slice_index_or, Option, Some, None}
 use Rattle.std.specs.List.{last_or}
 use Rattle.std.specs.Option.{option_map}
 use Rattle.std.proofs.Math.Seq.{take-add}
-use Rattle.std.proofs.lemmas.List.{drop_at, length-drop}
+use Rattle.std.proofs.lemmas.List.{drop_at, drop-drop, length-drop}
 use Rattle.std.proofs.lemmas.Option.{none-some}
 use Rattle.block.specs.EncodedEntry.{Entry}
 use Rattle.keep.specs.Runs.{Run}
@@ -85,3 +85,45 @@ pushed_by from to len last key (e ∷ later) h is k = (
 pub pushed : (from to : List Entry) (len : ℕ) (last : Option (List ℕ)) (key : List ℕ) → IsSliced from to len last → option_map (λ (e : Entry). e.key) (slice_get to 0) ≡ Some key
     → IsSliced from (drop 1 to) (min (len + 1) (2 ^ 64 - 1)) (Some key) × (slice_between from (drop 1 to) ≡ record { entries = take (length from - length to) from ++ take 1 to; behind = drop 1 to })
 pushed from to len last key is k = pushed_by from to len last key to refl is k
+
+-- ---- a slice with several entries more
+
+pub last_joined : {X : Type 0} (o : Option X) (xs ys : List X) → last_or o (xs ++ ys) ≡ last_or (last_or o xs) ys
+last_joined o [] ys = refl
+last_joined o (x ∷ xs) ys = last_joined (Some x) xs ys
+
+last_taken : {X : Type 0} (o : Option X) (xs : List X) (n : ℕ) → n < length xs → last_or o (take (suc n) xs) ≡ slice_get xs n
+last_taken o [] n h = absurd (omega arith)
+last_taken o (x ∷ xs) zero h = refl
+last_taken o (x ∷ xs) (suc n) h = last_taken (Some x) xs n (omega arith)
+
+pub last_counted : {X : Type 0} (o : Option X) (xs : List X) (count : ℕ) → 0 < count → count ≤ length xs → last_or o (take count xs) ≡ slice_get xs (count - 1)
+last_counted o xs zero some h = absurd (omega arith)
+last_counted o xs (suc n) some h =
+    let place : n ≡ suc n - 1 = omega arith in
+    last_taken o xs n (omega (arith, h)) ∙ ap (slice_get xs) place
+
+-- how far the second place is from the first, with so many entries more
+wide : (from to : List Entry) (count : ℕ) → count ≤ length to → drop (length from - length to) from ≡ to → length from - length (drop count to) ≡ (length from - length to) + count
+wide from to count le d =
+    let n : length from - (length from - length to) ≡ length to = sym (length-drop (length from - length to) from) ∙ ap length d in
+    omega (arith, n, le, length-drop count to)
+
+-- several entries more: the invariant, and what is seen
+pub pushed_all : (from to : List Entry) (len count : ℕ) (last key : Option (List ℕ)) → IsSliced from to len last → 0 < count → count ≤ length to
+    → key ≡ option_map (λ (e : Entry). e.key) (slice_get to (count - 1))
+    → IsSliced from (drop count to) (min (len + count) (2 ^ 64 - 1)) key × (slice_between from (drop count to) ≡ record { entries = take (length from - length to) from ++ take count to; behind = drop count to })
+pushed_all from to len count last key is some le k =
+    let gap : ℕ = length from - length to in
+    let far : length from - length (drop count to) ≡ gap + count = wide from to count le is.later in
+    let whole : take (length from - length (drop count to)) from ≡ take gap from ++ take count to =
+    ap (λ (n : ℕ). take n from) far ∙ take-add gap count from ∙ ap (λ (es : List Entry). take gap from ++ take count es) is.later in (
+      record {
+        later = ap (λ (n : ℕ). drop n from) far ∙ sym (drop-drop count gap from) ∙ ap (drop count) is.later;
+        count = omega (arith, is.count, far);
+        ended =
+            k
+            ∙ ap (option_map (λ (e : Entry). e.key)) (sym (last_counted (last_or None (take gap from)) to count some le) ∙ sym (last_joined None (take gap from) (take count to)) ∙ ap (last_or None) (sym whole));
+      },
+      ap (λ (es : List Entry). record { entries = es; behind = drop count to }) whole,
+    )

@@ -4,4 +4,5 @@ pub mod Planned
 -- serves proofs alone
 pub mod RunPlace
 pub mod SlicePlaces
+pub mod Walking
 pub mod PlaceKey

@@ -10,7 +10,8 @@ ghost use Rattle.block.specs.BlockFormat.{encoded_entries_from, block};
 ghost use Rattle.block.specs.declared.builder.TheConstants.{MAX_BLOCK_LEN, MAX_RESTART_INTERVAL};
 
 use crate::part::EntryRef;
-use block::{next_since, push_fields, push_restarts, shared_len};
+use crate::walk::EntryWalk;
+use block::{next_since, push_fields, push_restarts};
 use coding::Fault;
 
 /// Appends the block of `entries`, at a restart interval from 1 to 1,024. Requires that it has at
@@ -58,18 +59,19 @@ fn push_entries(
         ≡ restarts_from 0 (encoded_entries_from interval 0 [] entries.now.entries)) }
     ensures memory { IsOkUnless result (fault Memory) }
 {
+    if entries.len() == 0 {
+        return Ok(());
+    }
     let start = out.len();
-    let mut before: &[u8] = &[];
     let mut since = 0;
-    let mut cursor = entries.first();
+    let mut walk = EntryWalk::new(entries.first(), None);
     for _ in 0..entries.len() {
-        let key = cursor.key().bytes();
+        let key = walk.key().bytes();
         push_restart(restarts, since, out.len() - start)?;
-        let shared = shared_len(since, before, key);
-        push_fields(out, shared, &key[shared..], cursor.value())?;
-        before = key;
+        let shared = walk.left_out(since);
+        push_fields(out, shared, &key[shared..], walk.value())?;
         since = next_since(since, interval);
-        cursor.advance();
+        walk.advance();
     }
     Ok(())
 }

@@ -1,12 +1,12 @@
 //! A place among the kept entries of runs.
 
-ghost use Rattle.std.specs.Prelude.{◌≡◌, ◌<◌, ◌≤◌, ◌↔◌, length, drop, flat_map, slice_get};
+ghost use Rattle.std.specs.Prelude.{◌≡◌, ◌<◌, ◌≤◌, ◌↔◌, length, take, drop, flat_map, slice_get};
 ghost use Rattle.std.specs.Prelude.{IsTrue, Some};
 ghost use Rattle.std.specs.Option.{option_map};
 ghost use Rattle.encoding.specs.RunPlace.{kept_of_runs, IsPlaceInRuns};
 
 use ikey::InternalKey;
-use keep::RangeRun;
+use keep::{KeptPiece, RangeRun};
 use std::marker::Model;
 
 /// A place among the kept entries of runs, one run after the other: the entries from there on.
@@ -73,6 +73,16 @@ impl<'r, 'a> EntryCursor<'r, 'a> {
         ensures { option_map (λ e. e.value) (slice_get self.now 0) ≡ Some result.now }
     {
         self.runs[0].value(self.entry)
+    }
+
+    /// The next entries that lie in one chunk of a run, at least one. Takes no memory.
+    #[inline(always)]
+    pub(crate) fn piece(&self) -> KeptPiece<'r, 'a>
+        requires { 0 < length self.now }
+        ensures some { 0 < length result }
+        ensures front { take (length result) self.now ≡ result }
+    {
+        self.runs[0].piece(self.entry)
     }
 
     /// Takes off the next entry. Takes no memory.

@@ -2,8 +2,8 @@
 //! blocks and joined to tables.
 //!
 //! A [`EntryCursor`] is a place in that list, a [`EntrySpan`] grows entry by entry, and a
-//! [`EntryRef`] is entries that stay as they are. Keys and values stay where the runs have them,
-//! and no call of these three takes memory.
+//! [`EntryRef`] is entries that stay as they are. An [`EntryWalk`] walks them in pieces. Keys and
+//! values stay where the runs have them, and no call of these four takes memory.
 //!
 //! A [`PlannedBlock`] is a data block of which no byte is written yet. [`encode_blocks`] writes
 //! consecutive data blocks, apart from all others, and [`assemble_table`] joins what it wrote to a
@@ -24,6 +24,7 @@ mod planned_block;
 mod slice;
 mod table_assembly;
 mod table_index;
+mod walk;
 
 pub use cursor::EntryCursor;
 pub use data_blocks::encode_blocks;
@@ -31,3 +32,4 @@ pub use part::EntryRef;
 pub use planned_block::PlannedBlock;
 pub use slice::EntrySpan;
 pub use table_assembly::assemble_table;
+pub use walk::EntryWalk;

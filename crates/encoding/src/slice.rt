@@ -1,6 +1,6 @@
 //! Consecutive entries of runs.
 
-ghost use Rattle.std.specs.Prelude.{◌≡◌, ◌-◌, ◌^◌, ◌≤◌, ◌↔◌, [], ◌++◌, length, take, drop};
+ghost use Rattle.std.specs.Prelude.{◌≡◌, ◌-◌, ◌^◌, ◌<◌, ◌≤◌, ◌↔◌, [], ◌++◌, length, take, drop};
 ghost use Rattle.std.specs.Prelude.{slice_get, IsTrue, Some, None};
 ghost use Rattle.std.specs.List.{last_or};
 ghost use Rattle.std.specs.Option.{option_map};
@@ -59,6 +59,23 @@ impl<'r, 'a> EntrySpan<'r, 'a> {
         self.behind.advance();
         self.len = self.len.saturating_add(1);
         self.last = Some(key);
+    }
+
+    /// Takes in the next `count` entries, at least one. `last` is the key of the last of them.
+    /// Takes no memory.
+    pub fn push_all(&mut self, count: u64, last: Option<InternalKey<'r>>)
+        requires some { 0 < count }
+        requires within { count ≤ length self.old.behind }
+        requires last { option_map (λ key. key.bytes.now) last
+            ≡ option_map (λ e. e.key) (slice_get self.old.behind (count - 1)) }
+        ensures { self.new ≡ record {
+          entries = self.old.entries ++ take count self.old.behind;
+          behind = drop count self.old.behind;
+        } }
+    {
+        self.behind = self.behind.skip(count);
+        self.len = self.len.saturating_add(count);
+        self.last = last;
     }
 
     /// Whether there are no entries. Takes no memory.

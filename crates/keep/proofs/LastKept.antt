@@ -1,8 +1,8 @@
 -- The last of kept keys, and whether another key has its user key.
 use Rattle.std.proofs.Common.{◌≡◌, ℕ, zero, suc, ◌+◌, ◌-◌, ◌<◌, ◌≤◌, Bool, true, false, eqb, cond, List, [], ◌∷◌, ◌++◌, length, take, Some, None, Option, refl, sym, ap, subst, ◌∙◌, inl, inr, arith, length-append}
-use Rattle.std.specs.Prelude.{nat_eq, nat_le, ◌&&◌, slice_get}
+use Rattle.std.specs.Prelude.{nat_eq, nat_le, ◌&&◌, if◌then◌else◌, slice_get}
 use Rattle.std.specs.List.{common_prefix_len}
-use Rattle.std.specs.Option.{option_map, is_none}
+use Rattle.std.specs.Option.{option_map, is_some}
 use Rattle.std.specs.Str.{bytes_eq}
 use Rattle.std.proofs.lemmas.Bool.{cases_Bool, eqb-true, eq-eqb, leb-true, le-leb, and_parts, and_from, both_ways}
 use Rattle.std.proofs.lemmas.List.{length-take-le}
@@ -13,6 +13,7 @@ use Rattle.ikey.specs.Key.{user_of}
 use Rattle.block.specs.EncodedEntry.{Entry}
 use Rattle.block.specs.BuilderView.{last_key}
 use Rattle.keep.specs.EntryChunks.{all_kept}
+use Rattle.keep.specs.Versions.{EntryVersion, StoredVersion, last_version, newer_of}
 
 -- the key at the last place is the last key
 pub last_found : (before key : List ℕ) (es : List Entry) (n : ℕ) → length es ≡ n + 1 → option_map (λ (e : Entry). e.key) (slice_get es n) ≡ Some key → last_key before es ≡ key
@@ -87,6 +88,16 @@ same_user kept key shared s k l =
 
 -- ---- the previous entry
 
-pub none_is : {X Y : Type 0} (f : X → Y) (o : Option X) → is_none (option_map f o) ≡ is_none o
-none_is f None = refl
-none_is f (Some x) = refl
+same_by : (same : Bool) (sequence : ℕ) (newer : Option ℕ) → newer ≡ (if same then Some sequence else None) → is_some newer ≡ true → same ≡ true
+same_by true n newer is some = refl
+same_by false n newer is some = absurd (both_ways (is_some newer) (ap is_some is) some)
+
+same_of : (sequence : Option ℕ) (own user : List ℕ) (newer : Option ℕ) → newer ≡ newer_of (option_map (λ (n : ℕ). record { user = own; sequence = n }) sequence) user → is_some newer ≡ true → own ≡ user
+same_of None own user newer is some = absurd (both_ways (is_some newer) (ap is_some is) some)
+same_of (Some n) own user newer is some = (bytes_eq-Decides own user).0 (same_by (bytes_eq own user) n newer is some)
+
+-- if it has a user key, that lies where it lay
+pub passed_by : (kept user : List ℕ) (v : StoredVersion) (newer : Option ℕ) (sequence : ℕ) → newer ≡ newer_of (last_version kept v) user → is_some newer ≡ true
+    → last_version kept (record { is_kept = v.is_kept; user = v.user; sequence = Some sequence }) ≡ Some (record { user = user; sequence = sequence })
+passed_by kept user v newer sequence is some =
+    ap (λ (own : List ℕ). Some (record { user = own; sequence = sequence })) (same_of v.sequence (if v.is_kept then user_of kept else v.user) user newer is some)

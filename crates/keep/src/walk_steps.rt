@@ -78,11 +78,12 @@ impl<'a> Walk<'a> {
         self.last.newer_of(key, self.run.last_key(), shared)
     }
 
-    /// Keeps or drops an entry, whose key shares `shared` bytes with the last kept key. The only
-    /// fault is Memory.
+    /// Keeps or drops an entry, whose key shares `shared` bytes with the last kept key. `newer` is
+    /// the previous entry's sequence if it has the same user key. The only fault is Memory.
     fn take(
         &mut self,
         keeps: bool,
+        newer: Option<u64>,
         key: InternalKey<'_>,
         value: &'a [u8],
         shared: usize,
@@ -90,6 +91,7 @@ impl<'a> Walk<'a> {
         requires shared { shared
             ≡ common_prefix_len nat_eq (last_key [] self.old.run.kept) key.bytes.now }
         requires within { shared ≤ length key.bytes.now }
+        requires newer { newer ≡ newer_of self.old.last (user_of key.bytes.now) }
         ensures ok { OnOk result (self.new ≡ walk_after_entry keeps self.old
             (record { key = key.entry.bytes.now; value = value.now })) }
         ensures memory { IsOkUnless result (fault Memory) }
@@ -97,6 +99,10 @@ impl<'a> Walk<'a> {
         if keeps {
             self.run.push(key, value, shared)?;
             self.last.keep(key);
+            return Ok(());
+        }
+        if newer.is_some() {
+            self.last.pass(key);
             return Ok(());
         }
         self.last.set(key)
@@ -135,6 +141,6 @@ impl<'a> Walk<'a> {
             None => self.begin::<C>(rule, &key)?,
         }
         let keeps = rule.keeps::<C>(newer, &key);
-        self.take(keeps, key, value, shared)
+        self.take(keeps, newer, key, value, shared)
     }
 }

@@ -1,0 +1,5 @@
+use Rattle.encoding.proofs.Walks.{walk_first}
+use Rattle.encoding.proofs.walk.EntryWalk.new.Goals as goal
+
+pub invariant_of-result : goal.invariant_of-result
+invariant_of-result c = walk_first c.args.start c.piece-piece.result _ c.piece-piece.ensures.some c.piece-piece.ensures.front

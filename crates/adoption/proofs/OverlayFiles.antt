@@ -8,7 +8,7 @@ use Rattle.std.proofs.lemmas.Slice.Eq.{bytes_eq-Decides}
 use Rattle.coding.specs.declared.fault.Fault.{Fault}
 use Rattle.ikey.specs.Comparator.{KeyOrder}
 use Rattle.edit.specs.Version.{State}
-use Rattle.folder.specs.Calls.{Call, Created, Files, FolderSynced, Removed, Renamed, Synced, Tells, TellsAfter, ToldFiles, Tried, step_of, with_contents, with_value}
+use Rattle.folder.specs.Calls.{AreTorn, Call, Created, Files, FolderSynced, FolderView, Removed, Renamed, Synced, Tells, TellsAfter, ToldFiles, Tried, Written, step_of, with_contents, with_value}
 use Rattle.folder.specs.Folder.{TellsSame}
 use Rattle.folder.specs.LoadedTables.{IsLoaded, IsTableAnswer, IsTableOf}
 use Rattle.folder.specs.Names.{old_table_name, six_digits, table_name}
@@ -150,10 +150,19 @@ still_held files name other = by (bytes_eq other name) refl
     by true e = ap files (sym ((bytes_eq-Decides other name).0 e))
     by false e = refl
 
+-- each of several files may be torn so that it holds what it held
+torn_same : (files : List (List ℕ × List ℕ)) (tells : ToldFiles) (s : FolderView) → Tells tells s.files → (next : FolderView) × AreTorn files s next × Tells tells next.files
+torn_same [] tells s told = (s, refl, told)
+torn_same (file ∷ files) tells s told =
+    let held = s.files file.0 in
+    let rest = torn_same files tells (with_contents s file.0 held) (λ other h. subst (λ (x : Option (List ℕ)). tells other h ↔ (x ≡ h)) (sym (still_held s.files file.0 other)) (told other h)) in
+    (rest.0, (held, rest.1), rest.2)
+
 -- a call that failed may have changed nothing
 nothing_changed : (call : Call) (tells : ToldFiles) → TellsAfter (Tried call) tells tells
 nothing_changed (Created name bytes) tells s told =
     (with_contents s name (s.files name), (s.files name, refl), λ other held. subst (λ (x : Option (List ℕ)). tells other held ↔ (x ≡ held)) (sym (still_held s.files name other)) (told other held))
+nothing_changed (Written files) tells s told = torn_same files tells s told
 nothing_changed (Synced name) tells s told = (s, refl, told)
 nothing_changed (Renamed from to) tells s told = (s, inl refl, told)
 nothing_changed (Removed name) tells s told = (s, inl refl, told)

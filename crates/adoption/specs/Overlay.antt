@@ -3,12 +3,13 @@ use Rattle.std.specs.Prelude.{◌≡◌, ℕ, nat_eq, if◌then◌else◌, List,
 use Rattle.std.specs.Prelude.{replicate, Option, Some, None, MatchOption}
 use Rattle.std.specs.Option.{option_map}
 use Rattle.folder.specs.Calls.{Call, Created, Done, FolderSynced, Removed, Renamed, Step, Synced}
-use Rattle.folder.specs.Calls.{ToldFiles, Tried}
+use Rattle.folder.specs.Calls.{ToldFiles, Tried, Written}
 use Rattle.folder.specs.Names.{table_name}
+use Rattle.folder.specs.TableFiles.{table_files}
 use Rattle.adoption.specs.Adoption.{laid_table}
 use Rattle.adoption.specs.declared.refusals.RefusedCall.{RefusedCall}
 use Rattle.adoption.specs.declared.refusals.RefusedCall.TheVariants.{Create, Remove, Rename, Sync}
-use Rattle.adoption.specs.declared.refusals.RefusedCall.TheVariants.{SyncFolder}
+use Rattle.adoption.specs.declared.refusals.RefusedCall.TheVariants.{SyncFolder, WriteTables}
 
 -- the names of tables
 abbrev pub names_of : List (ℕ × List ℕ) → List (List ℕ)
@@ -16,6 +17,7 @@ names_of tables = map (λ (t : ℕ × List ℕ). table_name t.0) tables
 
 abbrev pub refused_call : RefusedCall → Call
 refused_call (Create name bytes) = Created name.now bytes.now
+refused_call (WriteTables tables) = Written (table_files tables.now)
 refused_call (Sync name) = Synced name.now
 refused_call (Rename from to) = Renamed from.now to.now
 refused_call (Remove name) = Removed name.now

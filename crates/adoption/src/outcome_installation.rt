@@ -254,7 +254,7 @@ fn install_tested<
     match end.answer {
         Ok(_) => {
             let mut folder = end.folder;
-            let answer = install_lines::<C, F>(alloc, &mut folder, opened, given);
+            let answer = install_lines::<C, F, R>(rt, alloc, &mut folder, opened, given);
             AdoptionEnd { folder, answer }
         }
         Err(fault) => AdoptionEnd {
@@ -265,7 +265,8 @@ fn install_tested<
 }
 
 /// Installs an outcome that was tested. The answer is its lines.
-fn install_lines<C: Comparator, F: Folder>(
+fn install_lines<C: Comparator, F: Folder, R: Threads + Sync>(
+    rt: &R,
     alloc: Global,
     folder: &mut F,
     opened: &Opened,
@@ -294,6 +295,6 @@ fn install_lines<C: Comparator, F: Folder>(
     let number = manifest_of(version);
     let outcome = &given.outcome;
     let lines = compaction_lines(alloc, outcome, &given.picked.files, number)?;
-    install::<C, F>(alloc, folder, opened.manifest, version, number, outcome)?;
+    install::<C, F, R>(rt, alloc, folder, opened.manifest, version, number, outcome)?;
     Ok(lines)
 }

@@ -16,6 +16,7 @@ use crate::refusals::{Refusals, RefusedCall};
 use coding::Fault;
 use folder::{Folder, FolderFault, table_name};
 use std::alloc::Global;
+use std::thread::Threads;
 
 /// A folder over whose files tables are laid: what is read under the name of a table is that table,
 /// and all else is read in the folder.
@@ -85,6 +86,14 @@ impl<'o, F: Folder> Folder for Overlay<'o, F> {
 
     fn create(&mut self, name: &str, bytes: &[u8]) -> Result<(), FolderFault> {
         self.refuse(RefusedCall::Create(name, bytes))
+    }
+
+    fn write_tables<T: Threads + Sync>(
+        &mut self,
+        _rt: &T,
+        tables: &[(u64, Vec<u8>)],
+    ) -> Result<(), FolderFault> {
+        self.refuse(RefusedCall::WriteTables(tables))
     }
 
     fn sync(&mut self, name: &str) -> Result<(), FolderFault> {

@@ -21,6 +21,7 @@ impl Model for Refusals {
 #[derive(Clone, Copy, Drop)]
 pub(crate) enum RefusedCall<'a> {
     Create(&'a str, &'a [u8]),
+    WriteTables(&'a [(u64, Vec<u8>)]),
     Sync(&'a str),
     Rename(&'a str, &'a str),
     Remove(&'a str),

@@ -3,7 +3,7 @@ use Rattle.std.proofs.Common.{◌≡◌, ◌⊎◌, ℕ, true, List, [], ◌∷�
 use Rattle.std.proofs.lemmas.List.{append-nil}
 use Rattle.std.specs.declared.cmp.Ordering.{Ordering}
 use Rattle.edit.specs.Version.{State}
-use Rattle.folder.specs.Calls.{Call, Created, Done, Files, FolderSynced, FolderView, Removed, Renamed, Step, Synced, Tried, with_contents, with_value}
+use Rattle.folder.specs.Calls.{Call, Created, Done, Files, FolderSynced, FolderView, Removed, Renamed, Step, Synced, Tried, Written, with_contents, with_value}
 use Rattle.folder.specs.CallSequence.{AreMade, MakesCalls}
 use Rattle.folder.specs.Crash.{Happens, IsMoment, Leads, World, open_world}
 use Rattle.folder.specs.ReadsAs.{Current, ReadsBy, StandsBy}
@@ -58,6 +58,7 @@ module _ (cmp : List ℕ → List ℕ → Ordering) (order : Order) (v : State) 
   Spares (Removed name) = IsObsoleteFile cmp v manifest name
   Spares FolderSynced = Unit {0}
   Spares (Created name bytes) = ⊥
+  Spares (Written files) = ⊥
   Spares (Synced name) = ⊥
   Spares (Renamed from to) = ⊥
 
@@ -94,6 +95,7 @@ module _ (cmp : List ℕ → List ℕ → Ordering) (order : Order) (v : State) 
   done (Removed name) w next o h happens = removed w next name h o (inr happens.0) happens.1
   done FolderSynced w next o h happens = folder_synced w next h happens
   done (Created name bytes) w next o h happens = absurd o
+  done (Written files) w next o h happens = absurd o
   done (Synced name) w next o h happens = absurd o
   done (Renamed from to) w next o h happens = absurd o
 
@@ -101,6 +103,7 @@ module _ (cmp : List ℕ → List ℕ → Ordering) (order : Order) (v : State) 
   tried (Removed name) w next o h happens = removed w next name h o happens.0 happens.1
   tried FolderSynced w next o h happens = still w next h happens.0 happens.1
   tried (Created name bytes) w next o h happens = absurd o
+  tried (Written files) w next o h happens = absurd o
   tried (Synced name) w next o h happens = absurd o
   tried (Renamed from to) w next o h happens = absurd o
 

@@ -1,7 +1,7 @@
 -- Files that are removed and told, one after the other.
 use Rattle.std.proofs.Common.{◌≡◌, ℕ, List, [], ◌∷◌, ◌++◌, map, Option, Result, Ok, Err, IsErrAnd, refl, sym, ap, subst, ◌∙◌, inl, inr, append_assoc}
 use Rattle.std.proofs.lemmas.List.{append-nil, map-append}
-use Rattle.folder.specs.Calls.{Call, Created, Done, FolderSynced, Removed, Renamed, Step, Synced, TellsAfter, Tried, step_of}
+use Rattle.folder.specs.Calls.{Call, Created, Done, FolderSynced, Removed, Renamed, Step, Synced, TellsAfter, Tried, Written, step_of}
 use Rattle.folder.specs.CallSequence.{AreMadeBy}
 use Rattle.folder.specs.declared.folder.FolderFault.{FolderFault}
 use Rattle.folder.proofs.RunLemmas.{changes_then, made_behind, made_front}
@@ -16,6 +16,7 @@ removed_append : (a b : List Step) → removed_by (a ++ b) ≡ removed_by a ++ r
 removed_append [] b = refl
 removed_append (Done (Removed name) ∷ a) b = ap (λ (names : List (List ℕ)). name ∷ names) (removed_append a b)
 removed_append (Done (Created name bytes) ∷ a) b = removed_append a b
+removed_append (Done (Written files) ∷ a) b = removed_append a b
 removed_append (Done (Synced name) ∷ a) b = removed_append a b
 removed_append (Done (Renamed from to) ∷ a) b = removed_append a b
 removed_append (Done FolderSynced ∷ a) b = removed_append a b

@@ -8,9 +8,9 @@ use Rattle.edit.specs.Version.{State, empty_state}
 use Rattle.coding.specs.Answers.{IsThen, fault, ◌>>=◌}
 use Rattle.coding.specs.declared.fault.FaultName.TheVariants.{Apply}
 use Rattle.logrec.specs.LogReader.{records_of}
-use Rattle.folder.specs.Calls.{Created, Done, Files, FolderSynced, Removed, Renamed, FolderView, Shows, Step, Synced, Tried, with_value, with_contents, with_synced}
+use Rattle.folder.specs.Calls.{AreTorn, Created, Done, Files, FolderSynced, Removed, Renamed, FolderView, Shows, Step, Synced, Tried, Written, with_value, with_contents, with_synced, with_written}
 use Rattle.folder.specs.CallSequence.{ShowsAll}
-use Rattle.folder.specs.Crash.{Happens, IsDurable, Leads, Leaves, World, open_world}
+use Rattle.folder.specs.Crash.{Happens, IsDurable, Leads, Leaves, MayHold, World, open_world}
 use Rattle.folder.specs.Free.{IsFree}
 use Rattle.folder.specs.Manifest.{AreEdits, IsEditsAnswer, IsManifestAnswer, is_complete, order_name, order_of, version_after_edits, version_from}
 use Rattle.folder.specs.Names.{manifest_name}
@@ -176,10 +176,21 @@ stands_folder_synced cmp order v tables w next h kept happens =
 pub left_reads : (cmp : List ℕ → List ℕ → Ordering) (order : Order) (v : State) (tables : List (ℕ × List ℕ)) (w : World) → StandsAs cmp order v tables w → ReadsAs cmp order v tables w.left
 left_reads cmp order v tables w h = reads_same cmp order v tables w.shown.files w.left h.reads (λ name r. (h.settled name r).left)
 
+-- files that were written, or torn, may be left just so
+written_held : (files : List (List ℕ × List ℕ)) (s next : FolderView) → next ≡ with_written s files → MayHold files s.files next.files
+written_held [] s next is = ap (λ (t : FolderView). t.files) is
+written_held (file ∷ files) s next is = (Some file.1, written_held files (with_synced (with_contents s file.0 (Some file.1)) file.0) next is)
+
+torn_held : (files : List (List ℕ × List ℕ)) (s next : FolderView) → AreTorn files s next → MayHold files s.files next.files
+torn_held [] s next is = ap (λ (t : FolderView). t.files) is
+torn_held (file ∷ files) s next h = (h.0, torn_held files (with_contents s file.0 h.0) next h.1)
+
 -- a step that shows something may leave just that
 left_shown : (step : Step) (s next : FolderView) → Shows step s next → Leaves step s s.files next.files
 left_shown (Done (Created name bytes)) s next h = (Some bytes, ap (λ (t : FolderView). t.files) h)
 left_shown (Tried (Created name bytes)) s next h = (h.0, ap (λ (t : FolderView). t.files) h.1)
+left_shown (Done (Written files)) s next h = written_held files s next h
+left_shown (Tried (Written files)) s next h = torn_held files s next h
 left_shown (Done (Renamed from to)) s next h = inr (ap (λ (t : FolderView). t.files) h)
 left_shown (Tried (Renamed from to)) s next (inl h) = inl (ap (λ (t : FolderView). t.files) h)
 left_shown (Tried (Renamed from to)) s next (inr h) = inr (ap (λ (t : FolderView). t.files) h)

@@ -3,6 +3,7 @@ mod ManifestLemmas
 pub mod OpeningLemmas
 pub mod LoadingLemmas
 mod RefusalLemmas
+mod TableLemmas
 pub mod TellsLemmas
 pub mod PutLemmas
 pub mod ReadsLemmas

@@ -1,11 +1,16 @@
 -- What a call on a folder in memory changes of what may be read.
-use Rattle.std.proofs.Common.{◌≡◌, ℕ, ◌+◌, ◌<◌, Bor, true, false, List, [], ◌∷◌, length, map, drop, get_or, Option, Some, None, refl, sym, ap, subst, ◌∙◌, inl, inr, if◌then◌else◌, add-one, drop-cons}
+use Rattle.std.proofs.Common.{◌≡◌, ℕ, ◌+◌, ◌<◌, suc, Bor, true, false, List, [], ◌∷◌, ◌++◌, length, map, take, drop, get_or, Option, Some, None, Result, Ok, Err, IsErrAnd, refl, sym, ap, subst, ◌∙◌, inl, inr, if◌then◌else◌, add-one, drop-cons}
+use Rattle.std.specs.Global.{Vec}
 use Rattle.std.specs.Str.{bytes_eq}
-use Rattle.folder.specs.Calls.{Created, Done, Files, FolderSynced, Removed, Renamed, Step, Synced, Tells, TellsAfter, Tried, with_moved, with_value, with_renamed, with_contents, with_synced}
-use Rattle.folder.specs.Attempts.{Alters}
+use Rattle.folder.specs.Calls.{AreTorn, Call, Created, Done, Files, FolderSynced, FolderView, Removed, Renamed, Step, Synced, Tells, TellsAfter, Tried, Written, step_of, with_moved, with_value, with_renamed, with_contents, with_synced, with_written}
+use Rattle.folder.specs.Attempts.{Alters, AltersEach, with_files}
+use Rattle.folder.specs.Names.{table_name}
 use Rattle.folder.specs.Shelf.{files_after_steps, files_in}
+use Rattle.folder.specs.TableFiles.{table_files}
+use Rattle.folder.specs.declared.folder.FolderFault.{FolderFault}
 use Rattle.folder.specs.declared.shelf_step.ShelfStep.{ShelfStep}
 use Rattle.folder.proofs.PutLemmas.{put_other, put_same, same_name}
+use Rattle.folder.proofs.TableLemmas.{tables_around, tables_on}
 
 -- lent files by their names and bytes
 abbrev pub lent : List (Bor (List ℕ) × Bor (List ℕ)) → List (List ℕ × List ℕ)
@@ -43,6 +48,21 @@ tells_alike a b same name held = (λ h. same name ∙ h, λ h. sym (same name) �
 alike_told : (a b : Files) → Tells (told a) b → Alike b a
 alike_told a b tells name = (tells name (a name)).0 refl
 
+-- files that were written, or torn, over files that hold the same
+written_alike : (files : List (List ℕ × List ℕ)) (s : FolderView) (old : Files) → Alike s.files old → Alike (with_written s files).files (with_files old files)
+written_alike [] s old same = same
+written_alike (file ∷ files) s old same = written_alike files (with_synced (with_contents s file.0 (Some file.1)) file.0) (with_value old file.0 (Some file.1)) (put_alike s.files old file.0 (Some file.1) same)
+
+torn_alike : (files : List (List ℕ × List ℕ)) (s : FolderView) (old new : Files) → Alike s.files old → AltersEach files old new → (next : FolderView) × AreTorn files s next × Alike next.files new
+torn_alike [] s old new same is = (s, refl, λ n. same n ∙ sym (is_at new old is n))
+torn_alike (file ∷ files) s old new same (inl h) =
+    let held = s.files file.0 in
+    let rest = torn_alike files (with_contents s file.0 held) old new (λ n. put_back s.files file.0 n ∙ same n) h in
+    (rest.0, (held, rest.1), rest.2)
+torn_alike (file ∷ files) s old new same (inr h) =
+    let rest = torn_alike files (with_contents s file.0 h.0) (with_value old file.0 h.0) new (put_alike s.files old file.0 h.0 same) h.1 in
+    (rest.0, (h.0, rest.1), rest.2)
+
 alters_tells : (step : Step) (old new : Files) → Alters step old new → TellsAfter step (told old) (told new)
 alters_tells (Done (Created name bytes)) old new is s tells =
     let next = with_contents s name (Some bytes) in
@@ -53,6 +73,12 @@ alters_tells (Tried (Created name bytes)) old new (inl is) s tells =
 alters_tells (Tried (Created name bytes)) old new (inr is) s tells =
     let next = with_contents s name is.0 in
     (next, (is.0, refl), tells_alike new next.files (λ n. put_alike s.files old name is.0 (alike_told old s.files tells) n ∙ sym (is_at new _ is.1 n)))
+alters_tells (Done (Written files)) old new is s tells =
+    let next = with_written s files in
+    (next, refl, tells_alike new next.files (λ n. written_alike files s old (alike_told old s.files tells) n ∙ sym (is_at new _ is n)))
+alters_tells (Tried (Written files)) old new is s tells =
+    let torn = torn_alike files s old new (alike_told old s.files tells) is in
+    (torn.0, torn.1, tells_alike new torn.0.files torn.2)
 alters_tells (Done (Renamed from to)) old new is s tells =
     let next = with_renamed s from to in
     (next, refl, tells_alike new next.files (λ n. moved_alike s.files old from to (alike_told old s.files tells) n ∙ sym (is_at new _ is n)))
@@ -107,3 +133,46 @@ pub found_later : (files : List (Bor (List ℕ) × Bor (List ℕ))) (i : ℕ) (n
 found_later files i name within is =
     let file = get_or files i no_file in
     ap (λ (fs : List (Bor (List ℕ) × Bor (List ℕ))). files_in (lent fs) name) (drop_at files i within) ∙ later name file.0.now file.1.now (lent (drop (i + 1) files)) is
+
+-- ---- files that are written one after the other
+
+-- a call's failure that `?` hands on
+pub tried_of : {U : Type 0} (P : FolderFault → Type 0) (call : Call) (r : Result U FolderFault) → IsErrAnd r P → step_of call r ≡ Tried call
+tried_of P call (Ok x) h = absurd h
+tried_of P call (Err e) h = refl
+
+-- one file is made, and then synced or not
+pub then_synced : {U : Type 0} (name bytes : List ℕ) (r : Result U FolderFault) (old made new : Files) → made ≡ with_value old name (Some bytes) → Alters (step_of (Synced name) r) made new → Alters (step_of (Written ((name, bytes) ∷ [])) r) old new
+then_synced name bytes (Ok x) old made new first second = second ∙ first
+then_synced name bytes (Err e) old made new first second = inr (Some bytes, second ∙ first)
+
+with_files_then : (one two : List (List ℕ × List ℕ)) (old : Files) → with_files old (one ++ two) ≡ with_files (with_files old one) two
+with_files_then [] two old = refl
+with_files_then (file ∷ one) two old = with_files_then one two (with_value old file.0 (Some file.1))
+
+unaltered : (files : List (List ℕ × List ℕ)) (old new : Files) → new ≡ old → AltersEach files old new
+unaltered [] old new is = is
+unaltered (file ∷ files) old new is = inl (unaltered files old new is)
+
+-- the first files are written, one is torn, and the others stay as they were
+altered_then : (one : List (List ℕ × List ℕ)) (file : List ℕ × List ℕ) (rest : List (List ℕ × List ℕ)) (old new : Files) → AltersEach (file ∷ []) (with_files old one) new → AltersEach (one ++ file ∷ rest) old new
+altered_then [] file rest old new (inl is) = inl (unaltered rest old new is)
+altered_then [] file rest old new (inr h) = inr (h.0, unaltered rest (with_value old file.0 h.0) new h.1)
+altered_then (other ∷ one) file rest old new h = inr (Some other.1, altered_then one file rest (with_value old other.0 (Some other.1)) new h)
+
+-- one table more is written
+pub one_more : (tables : List (ℕ × Vec ℕ)) (i : ℕ) (t : ℕ × Vec ℕ) (old made new : Files) → i < length tables → t ≡ get_or tables i t → made ≡ with_files old (table_files (take i tables))
+    → new ≡ with_value made (table_name t.0) (Some t.1.items) → new ≡ with_files old (table_files (take (i + 1) tables))
+one_more tables i t old made new within is so_far one =
+    one
+    ∙ (ap (λ (m : Files). with_value m (table_name t.0) (Some t.1.items)) so_far
+    ∙ (sym (with_files_then (table_files (take i tables)) ((table_name t.0, t.1.items) ∷ []) old)
+    ∙ ap (with_files old) (tables_on tables i t within is)))
+
+-- one table more is torn, and no other follows
+pub one_failed : (tables : List (ℕ × Vec ℕ)) (i : ℕ) (t : ℕ × Vec ℕ) (old made new : Files) → i < length tables → t ≡ get_or tables i t → made ≡ with_files old (table_files (take i tables))
+    → AltersEach ((table_name t.0, t.1.items) ∷ []) made new → AltersEach (table_files tables) old new
+one_failed tables i t old made new within is so_far torn =
+    subst (λ (fs : List (List ℕ × List ℕ)). AltersEach fs old new) (tables_around tables i t within is)
+    (altered_then (table_files (take i tables)) (table_name t.0, t.1.items) (table_files (drop (suc i) tables)) old new
+    (subst (λ (m : Files). AltersEach ((table_name t.0, t.1.items) ∷ []) m new) so_far torn))

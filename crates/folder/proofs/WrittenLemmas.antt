@@ -1,5 +1,5 @@
 -- Files that are made and synced while the folder stands for a version.
-use Rattle.std.proofs.Common.{◌≡◌, ◌≢◌, ◌⊎◌, ℕ, true, false, List, [], ◌∷◌, ◌++◌, map, Option, Some, sym, ap, subst, ◌∙◌, inl, inr}
+use Rattle.std.proofs.Common.{◌≡◌, ◌≢◌, ◌⊎◌, ℕ, true, false, List, [], ◌∷◌, ◌++◌, map, Option, Some, refl, sym, ap, subst, ◌∙◌, inl, inr}
 use Rattle.std.specs.declared.cmp.Ordering.{Ordering}
 use Rattle.edit.specs.Version.{State}
 use Rattle.folder.specs.Calls.{Call, Created, Done, FolderView, Step, Synced, Tried, with_value, with_contents, with_synced}
@@ -95,6 +95,22 @@ module _ (cmp : List ℕ → List ℕ → Ordering) (order : Order) (v : State) 
 
   same_world : (a b : World) → b ≡ a → Stands a → Stands b
   same_world a b is h = subst Stands (sym is) h
+
+  -- a file is made under a free name and synced at once; a crash may leave anything of it
+  pub file_stands : (name bytes : List ℕ) (files : List (List ℕ × List ℕ)) (start next : World) (torn : Option (List ℕ)) → Stands start → IsFree cmp v name → AllOther name files → AllWritten files start
+      → next.shown ≡ with_synced (with_contents start.shown name (Some bytes)) name → next.left ≡ with_value start.left name torn → Stands next × AllWritten ((name, bytes) ∷ files) next
+  file_stands name bytes files start next torn h free other all shown left =
+      let made : World = record { shown = with_contents start.shown name (Some bytes); left = with_value start.left name torn } in
+      let stands : Stands made = stands_made cmp order v tables start made name (Some bytes) torn h free refl refl in (
+        stands_synced cmp order v tables made next name stands shown left,
+        (
+          record {
+            held = at next.shown.files made.shown.files name (ap (λ (s : FolderView). s.files) shown) ∙ put_same start.shown.files name (Some bytes);
+            synced = at next.shown.synced (with_value made.shown.synced name true) name (ap (λ (s : FolderView). s.synced) shown) ∙ put_same made.shown.synced name true;
+          },
+          written_synced files name made next shown (written_others files name start made (Some bytes) refl other all),
+        ),
+      )
 
   -- a file is synced that was made
   sync_passed : (name bytes : List ℕ) (rest : List Call) (files : List (List ℕ × List ℕ)) (steps : List Step) (start w : World) → Stands start → AllWritten files start → start.shown.files name ≡ Some bytes

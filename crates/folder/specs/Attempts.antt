@@ -1,7 +1,10 @@
 -- A call of the code as a step, and what the step makes of files.
-use Rattle.std.specs.Prelude.{◌≡◌, ◌⊎◌, ℕ, Bool, if◌then◌else◌, List, Option, Some, None}
+use Rattle.std.specs.Prelude.{◌≡◌, ◌⊎◌, ℕ, Bool, if◌then◌else◌, List, [], ◌∷◌, Option, Some, None}
 use Rattle.folder.specs.Calls.{Call, Created, Done, Files, FolderSynced, Removed, Renamed, Step}
-use Rattle.folder.specs.Calls.{Synced, Tried, with_moved, with_value}
+use Rattle.folder.specs.Calls.{Synced, Tried, Written, with_moved, with_value}
+use Rattle.folder.specs.TableFiles.{table_files}
+use Rattle.folder.specs.declared.trail.AnyWrite.{AnyWrite}
+use Rattle.folder.specs.declared.trail.AnyWrite.TheVariants.{One, Tables}
 use Rattle.folder.specs.declared.trail.Attempt.{Attempt}
 use Rattle.folder.specs.declared.trail.WriteCall.{WriteCall}
 use Rattle.folder.specs.declared.trail.WriteCall.TheVariants.{Create, Remove, Rename, Sync}
@@ -14,16 +17,33 @@ call_in (Rename from to) = Renamed from.now to.now
 call_in (Remove name) = Removed name.now
 call_in SyncFolder = FolderSynced
 
-abbrev pub step_in : Attempt → Step
-step_in attempt = if attempt.is_done then Done (call_in attempt.call) else Tried
-    (call_in attempt.call)
+abbrev pub any_call_in : AnyWrite → Call
+any_call_in (One call) = call_in call
+any_call_in (Tables tables) = Written (table_files tables.now)
 
--- What a step makes of files. A call that failed may have made a file of any bytes or none, or
--- renamed one or not, or removed one or not.
+abbrev pub step_in : Attempt → Step
+step_in attempt = if attempt.is_done then Done (any_call_in attempt.call) else Tried
+    (any_call_in attempt.call)
+
+-- the same, but these files are there with their bytes
+abbrev pub with_files : Files → List (List ℕ × List ℕ) → Files
+with_files old [] = old
+with_files old (file ∷ files) = with_files (with_value old file.0 (Some file.1)) files
+
+-- the same, but each of these files may have any bytes or be missing
+abbrev pub AltersEach : List (List ℕ × List ℕ) → Files → Files → Type 0
+AltersEach [] old new = new ≡ old
+AltersEach (file ∷ files) old new = AltersEach files old new
+    ⊎ ((held : Option (List ℕ)) × AltersEach files (with_value old file.0 held) new)
+
+-- What a step makes of files. A call that failed may have made a file of any bytes or none, or each
+-- of several files so, or renamed one or not, or removed one or not.
 abbrev pub Alters : Step → Files → Files → Type 0
 Alters (Done (Created name bytes)) old new = new ≡ with_value old name (Some bytes)
 Alters (Tried (Created name bytes)) old new = (new ≡ old)
     ⊎ ((held : Option (List ℕ)) × (new ≡ with_value old name held))
+Alters (Done (Written files)) old new = new ≡ with_files old files
+Alters (Tried (Written files)) old new = AltersEach files old new
 Alters (Done (Renamed from to)) old new = new ≡ with_moved None old from to
 Alters (Tried (Renamed from to)) old new = (new ≡ old) ⊎ (new ≡ with_moved None old from to)
 Alters (Done (Removed name)) old new = new ≡ with_value old name None

@@ -1,13 +1,14 @@
 -- The calls that write to a folder, and what they change.
-use Rattle.std.specs.Prelude.{◌≡◌, ◌⊎◌, ◌↔◌, ℕ, Bool, true, false, if◌then◌else◌, List, Option}
-use Rattle.std.specs.Prelude.{Some, None, Result, Ok, Err}
+use Rattle.std.specs.Prelude.{◌≡◌, ◌⊎◌, ◌↔◌, ℕ, Bool, true, false, if◌then◌else◌, List, [], ◌∷◌}
+use Rattle.std.specs.Prelude.{Option, Some, None, Result, Ok, Err}
 use Rattle.std.specs.Str.{bytes_eq}
 use Rattle.folder.specs.declared.folder.FolderFault.{FolderFault}
 
--- a call that writes: a file is made of these bytes, a file is synced, a file is renamed, a file is
--- removed, the folder is synced
+-- a call that writes: a file is made of these bytes, files are made of these bytes and synced in any
+-- order, a file is synced, a file is renamed, a file is removed, the folder is synced
 pub data Call : Type 0 where
   Created : List ℕ → List ℕ → Call
+  Written : List (List ℕ × List ℕ) → Call
   Synced : List ℕ → Call
   Renamed : List ℕ → List ℕ → Call
   Removed : List ℕ → Call
@@ -51,12 +52,26 @@ abbrev pub with_renamed : FolderView → List ℕ → List ℕ → FolderView
 with_renamed s from to =
     record { files = with_moved None s.files from to; synced = with_moved false s.synced from to }
 
+-- the same, but these files are there with their bytes, and were synced since
+abbrev pub with_written : FolderView → List (List ℕ × List ℕ) → FolderView
+with_written s [] = s
+with_written s (file ∷ files) =
+    with_written (with_synced (with_contents s file.0 (Some file.1)) file.0) files
+
+-- the same, but each of these files has any bytes or is missing
+abbrev pub AreTorn : List (List ℕ × List ℕ) → FolderView → FolderView → Type 0
+AreTorn [] s next = next ≡ s
+AreTorn (file ∷ files) s next = (held : Option (List ℕ))
+    × AreTorn files (with_contents s file.0 held) next
+
 -- What a step changes if no crash comes. A call that failed may have made a file of any bytes or
--- none, or renamed one or not, or removed one or not.
+-- none, or each of several files so, or renamed one or not, or removed one or not.
 abbrev pub Shows : Step → FolderView → FolderView → Type 0
 Shows (Done (Created name bytes)) s next = next ≡ with_contents s name (Some bytes)
 Shows (Tried (Created name bytes)) s next = (held : Option (List ℕ))
     × (next ≡ with_contents s name held)
+Shows (Done (Written files)) s next = next ≡ with_written s files
+Shows (Tried (Written files)) s next = AreTorn files s next
 Shows (Done (Renamed from to)) s next = next ≡ with_renamed s from to
 Shows (Tried (Renamed from to)) s next = (next ≡ s) ⊎ (next ≡ with_renamed s from to)
 Shows (Done (Removed name)) s next = next ≡ with_contents s name None

@@ -11,6 +11,7 @@ pub mod LoadedTables
 pub mod Crash
 pub mod ReadsAs
 pub mod CallSequence
+pub mod TableFiles
 pub mod Shelf
 -- serves proofs alone
 pub mod Attempts

@@ -1,20 +1,22 @@
 //! A folder of the system.
 
 ghost use Rattle.std.specs.Prelude.{◌≡◌, [], ◌∷◌, ◌++◌, IfOk, Ok};
-ghost use Rattle.folder.specs.Calls.{step_of};
+ghost use Rattle.folder.specs.Calls.{Written, step_of};
 ghost use Rattle.folder.specs.Folder.{failures_after, one_more};
 ghost use Rattle.folder.specs.Attempts.{call_in};
+ghost use Rattle.folder.specs.TableFiles.{table_files};
 
 use crate::failure::{Failure, FolderCall};
 use crate::folder::{Folder, FolderFault};
 use crate::kept::Kept;
+use crate::making::{files_of, first_failed, make_in_turn};
 use crate::order::Order;
 use crate::reads_ahead::ReadsAhead;
 use crate::system::{done_in, part_in, read_in};
 use crate::system_files::SystemFiles;
 use crate::table_loader::{files_due, numbers_in, tables_ahead};
 use crate::table_sizes::check_sizes_in;
-use crate::trail::{Attempt, Trail, WriteCall};
+use crate::trail::{AnyWrite, Attempt, Trail, WriteCall};
 use crate::whole_files::{Ahead, WholeFiles, read_all, sync_all, take};
 use coding::Fault;
 use edit::Version;
@@ -106,8 +108,9 @@ impl<'r, R: SystemFiles + WholeFiles + AllocGlobal + Threads> Disk<'r, R> {
     /// for: CURRENT, the manifest of the number `manifest`, and each table, under its older name if
     /// it has only that.
     ///
-    /// A later sync of such a file makes no call, until a file is made, renamed or removed. A file
-    /// that can't be synced now, for whatever reason, is synced when that is asked for.
+    /// A later sync of such a file makes no call and answers as this one did, until a file is made,
+    /// renamed or removed; if this one failed, until that befalls the file itself. A file that can't
+    /// be opened now, for whatever reason, is synced when that is asked for.
     pub fn sync_ahead(&mut self, order: Order, version: &Version, manifest: u64)
         ensures failed { ⟦<Disk<'r, R> as Folder>⟧.failed self.new
             ≡ ⟦<Disk<'r, R> as Folder>⟧.failed self.old }
@@ -150,6 +153,15 @@ impl<'r, R: SystemFiles + AllocGlobal> Folder for Disk<'r, R> {
     fn create(&mut self, name: &str, bytes: &[u8]) -> Result<(), FolderFault> {
         self.ahead.clear();
         self.write(WriteCall::Create(name, bytes))
+    }
+
+    fn write_tables<T: Threads + Sync>(
+        &mut self,
+        rt: &T,
+        tables: &[(u64, Vec<u8>)],
+    ) -> Result<(), FolderFault> {
+        self.ahead.clear();
+        self.write_all(rt, tables)
     }
 
     fn sync(&mut self, name: &str) -> Result<(), FolderFault> {
@@ -221,6 +233,52 @@ impl<'r, R: SystemFiles + AllocGlobal> Disk<'r, R> {
         }
     }
 
+    /// Makes tables and syncs them, and adds that to the trail.
+    fn write_all<T: Threads + Sync>(
+        &mut self,
+        rt: &T,
+        tables: &[(u64, Vec<u8>)],
+    ) -> Result<(), FolderFault>
+        ensures trail { self.new.trail ≡ self.old.trail
+            ++ step_of (Written (table_files tables.now)) result ∷ [] }
+        ensures failures { self.new.failures ≡ failures_after self.old.failures result }
+    {
+        let answer = self.made(rt, tables);
+        self.trail = self.trail.then(&Attempt {
+            call: AnyWrite::Tables(tables),
+            is_done: answer.is_ok(),
+        });
+        answer
+    }
+
+    /// Makes tables and syncs them: by several threads if their numbers rise, else one after the
+    /// other. No more memory is taken after the first one is begun.
+    fn made<T: Threads + Sync>(
+        &mut self,
+        rt: &T,
+        tables: &[(u64, Vec<u8>)],
+    ) -> Result<(), FolderFault>
+        ensures failures { self.new.failures ≡ failures_after self.old.failures result }
+        ensures trail { self.new.trail ≡ self.old.trail }
+    {
+        let Ok(mut files) = files_of(self.rt, self.rt.alloc(), self.path, tables) else {
+            return Err(FolderFault::Memory);
+        };
+        self.kept.forget_all(&files);
+        if are_rising(tables) {
+            self.rt.make_all(rt, &mut files);
+        } else {
+            make_in_turn(self.rt, &mut files);
+        }
+        match first_failed(&files) {
+            Some(place) => {
+                let file = &files[place];
+                self.counted(file.answer, file.call, file.name.as_str())
+            }
+            None => Ok(()),
+        }
+    }
+
     /// Makes a call that writes, and adds it to the trail.
     fn write(&mut self, call: WriteCall<'_>) -> Result<(), FolderFault>
         ensures trail { self.new.trail ≡ self.old.trail
@@ -231,9 +289,15 @@ impl<'r, R: SystemFiles + AllocGlobal> Disk<'r, R> {
         let (kind, name) = call.told();
         let answer = self.counted(done, kind, name);
         let is_done = answer.is_ok();
+        let call = AnyWrite::One(call);
         self.trail = self.trail.then(&Attempt { call, is_done });
         answer
     }
+}
+
+/// Whether the numbers of tables rise, so that no two are one.
+fn are_rising(tables: &[(u64, Vec<u8>)]) -> bool {
+    tables.is_sorted_by(|table, other| table.0 < other.0)
 }
 
 /// One failure more.

@@ -7,6 +7,7 @@ ghost use Rattle.folder.specs.declared.folder.FolderFault.TheVariants.{Memory};
 
 use coding::{Fault, FaultName};
 use std::alloc::{AllocError, AllocFailed};
+use std::thread::Threads;
 use thiserror::Error;
 
 /// Why a call of a folder failed.
@@ -53,8 +54,10 @@ impl<T: Drop> From<AllocFailed<T>> for FolderFault {
 pub trait Folder {
     ghost use Rattle.std.specs.Prelude.{◌≡◌, ◌∷◌, ◌++◌, [], ℕ, List, Option, IfOk};
     ghost use Rattle.std.specs.Option.{option_map};
+    ghost use Rattle.std.specs.Thread.{IsSync};
     ghost use Rattle.folder.specs.Calls.{Step, step_of, Created, Synced, Renamed, Removed};
-    ghost use Rattle.folder.specs.Calls.{FolderSynced, TellsAfter};
+    ghost use Rattle.folder.specs.Calls.{FolderSynced, TellsAfter, Written};
+    ghost use Rattle.folder.specs.TableFiles.{table_files};
     ghost use Rattle.folder.specs.Folder.{TellsPart, TellsSame, failures_after};
 
     /// What the folder tells: whether a read of a name may give these bytes, or None. A folder that
@@ -96,6 +99,24 @@ pub trait Folder {
             ++ step_of (Created name.now bytes.now) result ∷ [] }
         ensures change { TellsAfter (step_of (Created name.now bytes.now) result) (tells self.old)
             (tells self.new) }
+        ensures failures { failed self.new ≡ failures_after (failed self.old) result };
+
+    /// Makes each of these tables a file under the name of its number, and writes it through to the
+    /// device. It replaces files of these names.
+    ///
+    /// They may be made in any order, by threads of `rt`. If that fails or a crash comes meanwhile,
+    /// each of them may be there, in part or whole.
+    fn write_tables<T: Threads + Sync>(
+        &mut self,
+        rt: &T,
+        tables: &[(u64, Vec<u8>)],
+    ) -> Result<(), FolderFault>
+        // The bound `T: Sync`, which proofs of a trait's call know by a clause alone.
+        requires { IsSync T.row }
+        ensures calls { calls self.new ≡ calls self.old
+            ++ step_of (Written (table_files tables.now)) result ∷ [] }
+        ensures change { TellsAfter (step_of (Written (table_files tables.now)) result)
+            (tells self.old) (tells self.new) }
         ensures failures { failed self.new ≡ failures_after (failed self.old) result };
 
     /// Writes a file's bytes through to the device. If no file has this name, nothing is written,

@@ -9,7 +9,7 @@
 //!
 //! Why the first: if the second is held, it tells whether that is by this program.
 
-use crate::owned::new_file;
+use crate::owned::{access_in, new_file};
 use crate::system_files::{ByteLock, SystemFiles, opened, regular};
 use crate::whole_files::path_in;
 use coding::{Fault, FaultName};
@@ -136,7 +136,7 @@ fn bytes_locked<R: SystemFiles>(
 
 /// LOCK, made unless another program has just done so.
 fn made<R: SystemFiles>(rt: &R, alloc: Global, folder: &str, path: &str) -> io::Result<File> {
-    match new_file(rt, alloc, folder, LOCK) {
+    match new_file(rt, path, access_in(rt, alloc, folder)?) {
         Err(error) if error.kind() == ErrorKind::AlreadyExists => opened(rt, &to_write(), path),
         answer => answer,
     }

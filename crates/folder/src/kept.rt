@@ -2,8 +2,10 @@
 
 ghost use Rattle.std.specs.Prelude.{◌<◌, length, IfSome};
 
+use crate::making::Making;
 use std::alloc::{AllocError, Global};
 use std::fs::File;
+use std::io;
 
 /// A file that was made, and is open until it is synced.
 #[derive(Drop)]
@@ -18,8 +20,8 @@ pub(crate) struct Due {
     pub name: String,
     /// The name that it has instead if no file has the first one.
     pub older: Option<String>,
-    /// Whether it was synced, under the name that it has now.
-    pub is_synced: bool,
+    /// What its sync answered, under the name that it has now. None if it wasn't opened.
+    pub answer: Option<io::Result<()>>,
 }
 
 /// The files that were made and not synced since, and those that were synced ahead.
@@ -61,20 +63,39 @@ impl Kept {
         self.ahead = files;
     }
 
-    /// Forgets which files were synced ahead.
-    pub fn forget_ahead(&mut self) {
-        self.ahead.clear();
+    /// Forgets which files were synced ahead, but for those whose sync failed and that have another
+    /// name than this.
+    pub fn forget_ahead(&mut self, name: &str) {
+        self.ahead
+            .retain(|due| has_failed(due) && due.name.as_str() != name);
     }
 
-    /// Whether the file of this `name` was synced ahead.
-    pub fn is_synced(&self, name: &str) -> bool {
+    /// Forgets these files, which are made anew.
+    pub fn forget_all(&mut self, files: &[Making<'_>]) {
+        for file in files {
+            let name = file.name.as_str();
+            self.forget_ahead(name);
+            drop(self.taken(name));
+        }
+    }
+
+    /// What the sync ahead of the file of this `name` answered. None if it wasn't synced ahead.
+    pub fn answer(&self, name: &str) -> Option<io::Result<()>> {
         let found = self
             .ahead
             .binary_search_by(|due| due.name.as_str().cmp(name));
         match found {
-            Ok(place) => self.ahead[place].is_synced,
-            Err(_) => false,
+            Ok(place) => self.ahead[place].answer,
+            Err(_) => None,
         }
+    }
+}
+
+/// Whether the sync of a file failed.
+fn has_failed(due: &Due) -> bool {
+    match due.answer {
+        Some(answer) => answer.is_err(),
+        None => false,
     }
 }
 

@@ -15,7 +15,10 @@
 //! - create: the name is removed, and a new file is made of the bytes. So no file that is there is
 //!   written to, be it through a link. The new one gets the permissions of CURRENT, and its owner
 //!   and group if the program may set them. If it can't be written whole, it is removed again.
-//! - sync: `sync_all`, through the handle that made the file, or else under its name.
+//! - write_tables: each is made as `create` makes it, and synced by the same handle; by up to 16
+//!   threads if their numbers rise. All of them are tried, also after one failed.
+//! - sync: `sync_all`, through the handle that made the file, or else under its name. If it was
+//!   synced ahead, the answer is what that came to.
 //! - rename is `fs::rename`, remove is `fs::remove_file`, sync_folder is `sync_all` of the folder.
 //! - [`lock_to_change`] and [`lock_to_read`] keep out others that lock the folder as LevelDB does.
 //!
@@ -26,6 +29,8 @@
 //!   or removed, or a rename replaces it. A renamed file is as synced as it was.
 //! - A name without a file at a sync of the folder has none until one is made or renamed to it.
 //! - Any other file may hold any bytes after a crash, or be missing.
+//! - Until tables that are written together are answered Ok, each is such a file, whatever the
+//!   others are.
 //! - A rename after which the folder was not synced is wholly there or wholly not. So is a removal.
 //! - A call that failed or was under way may be done as far as these say.
 #![tactic(auto)]
@@ -38,6 +43,7 @@ mod folder;
 mod folder_answer_laws;
 mod folder_lock;
 mod kept;
+mod making;
 mod names;
 mod order;
 mod owned;
@@ -57,6 +63,7 @@ pub use failure::{Failure, FolderCall};
 pub use folder::{Folder, FolderFault};
 pub use folder_answer_laws::{crash_laws, folder_laws, reading_laws};
 pub use folder_lock::{FolderLock, lock_to_change, lock_to_read};
+pub use making::Making;
 pub use names::{
     CURRENT, current_text, manifest_name, number_in_current, old_table_name, table_name,
     temporary_name,
@@ -65,6 +72,6 @@ pub use order::Order;
 pub use reads_ahead::{ReadsAhead, read_numbers_ahead};
 pub use shelf::{Failing, Shelf};
 pub use shelf_step::{ShelfCall, ShelfStep};
-pub use system_files::SystemFiles;
+pub use system_files::{OwnedFiles, SystemFiles};
 pub use table_loader::{file_numbers, load, load_numbers};
 pub use whole_files::{Ahead, WholeFiles};

@@ -1,12 +1,13 @@
 //! New files of a folder, which belong to whom its CURRENT belongs.
 
 use crate::names::CURRENT;
-use crate::system_files::{SystemFiles, opened};
+use crate::system_files::{OwnedFiles, opened};
 use crate::whole_files::path_in;
 use std::alloc::Global;
 use std::fs::{File, OpenOptions, Permissions};
 use std::io::ErrorKind;
 use std::os::unix::fs::{MetadataExt, OpenOptionsExt, PermissionsExt, fchown};
+use std::rt::Files;
 use std::{fs, io};
 
 /// The bits of a mode that say who may read, write and run a file.
@@ -23,32 +24,29 @@ const OWNER_READS_AND_WRITES: u32 = 0o600;
 
 /// Who may use a file, and whose it is.
 #[derive(Clone, Copy, Drop)]
-struct Access {
+pub(crate) struct Access {
     mode: u32,
     owner: u32,
     group: u32,
 }
 
-/// Makes a file of a folder, open for reading and writing. AlreadyExists if anything has its name,
-/// a symbolic link too.
+/// Makes a file at `path`, open for reading and writing. AlreadyExists if anything is there, a
+/// symbolic link too.
 ///
 /// It gets the permissions of the folder's CURRENT, and its owner and group if the program may set
 /// them; in between it never has more. Its owner may read and write it in any event, and its group
 /// may nothing if it isn't that of CURRENT. Without CURRENT it gets what the system gives new files.
-pub(crate) fn new_file<R: SystemFiles>(
+pub(crate) fn new_file<R: OwnedFiles>(
     rt: &R,
-    alloc: Global,
-    folder: &str,
-    name: &str,
+    path: &str,
+    access: Option<Access>,
 ) -> io::Result<File> {
-    let path = path_in(alloc, folder, name)?;
-    let access = access_in(rt, alloc, folder)?;
     let mut options = OpenOptions::new();
     options.read(true).write(true).create_new(true);
     if let Some(access) = access {
         options.mode(access.mode & OF_OWNER);
     }
-    let file = opened(rt, &options, path.as_str())?;
+    let file = opened(rt, &options, path)?;
     if let Some(access) = access {
         give(&file, access)?;
     }
@@ -56,7 +54,11 @@ pub(crate) fn new_file<R: SystemFiles>(
 }
 
 /// Who may use CURRENT, and whose it is. None if there is no CURRENT.
-fn access_in<R: SystemFiles>(rt: &R, alloc: Global, folder: &str) -> io::Result<Option<Access>> {
+pub(crate) fn access_in<R: Files>(
+    rt: &R,
+    alloc: Global,
+    folder: &str,
+) -> io::Result<Option<Access>> {
     let path = path_in(alloc, folder, CURRENT)?;
     match fs::metadata(rt, path.as_str()) {
         Ok(found) => Ok(Some(Access {

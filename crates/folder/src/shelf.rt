@@ -3,18 +3,22 @@
 ghost use Rattle.std.specs.Prelude.{◌≡◌, [], ◌∷◌, ◌++◌, map, Err, IfOk};
 ghost use Rattle.std.specs.Option.{option_map};
 ghost use Rattle.folder.specs.Attempts.{Alters, call_in, tried_if};
-ghost use Rattle.folder.specs.Calls.{Files, Tells, step_of};
+ghost use Rattle.folder.specs.Calls.{Files, Tells, Written, step_of};
 ghost use Rattle.folder.specs.Folder.{failures_after, part_of};
+ghost use Rattle.folder.specs.Names.{table_name};
 ghost use Rattle.folder.specs.Shelf.{files_after_steps, files_in, held_by, made_by};
+ghost use Rattle.folder.specs.TableFiles.{table_files};
 ghost use Rattle.folder.specs.declared.folder.FolderFault.TheVariants.{Memory};
 
 use crate::folder::{Folder, FolderFault};
+use crate::names::table_name;
 use crate::reads_ahead::ReadsAhead;
 use crate::shelf_step::{ShelfCall, ShelfStep, Source};
-use crate::trail::{Attempt, Trail, WriteCall};
+use crate::trail::{AnyWrite, Attempt, Trail, WriteCall};
 use crate::whole_files::Ahead;
 use std::alloc::{AllocError, Global};
 use std::marker::Model;
+use std::thread::Threads;
 
 /// A call that is to fail.
 #[derive(Clone, Copy, Drop)]
@@ -29,6 +33,7 @@ pub struct Failing {
 }
 
 /// A folder in memory, of lent files. One of its calls may fail. It records the calls that write.
+/// Tables are made one after the other, and each counts as two calls.
 ///
 /// Out of memory a call is `Memory` and changes nothing.
 #[derive(Drop)]
@@ -164,6 +169,14 @@ impl<'a> Folder for Shelf<'a> {
         self.write(WriteCall::Create(name, bytes))
     }
 
+    fn write_tables<T: Threads + Sync>(
+        &mut self,
+        _rt: &T,
+        tables: &[(u64, Vec<u8>)],
+    ) -> Result<(), FolderFault> {
+        self.write_all(tables)
+    }
+
     fn sync(&mut self, name: &str) -> Result<(), FolderFault> {
         self.write(WriteCall::Sync(name))
     }
@@ -206,8 +219,71 @@ impl<'a> Shelf<'a> {
     {
         let answer = self.record(call);
         let is_done = answer.is_ok();
+        let call = AnyWrite::One(call);
         self.trail = self.trail.then(&Attempt { call, is_done });
         answer
+    }
+
+    /// Makes and syncs tables, and adds that to the trail.
+    fn write_all(&mut self, tables: &[(u64, Vec<u8>)]) -> Result<(), FolderFault>
+        ensures calls { self.new.trail ≡ self.old.trail
+            ++ step_of (Written (table_files tables.now)) result ∷ [] }
+        ensures change { (files : Files) →
+            Alters (step_of (Written (table_files tables.now)) result)
+            (files_after_steps self.old.steps files) (files_after_steps self.new.steps files) }
+        ensures start { self.new.start ≡ self.old.start }
+        ensures failures { self.new.failures ≡ failures_after self.old.failures result }
+    {
+        let answer = self.record_tables(tables);
+        self.trail = self.trail.then(&Attempt {
+            call: AnyWrite::Tables(tables),
+            is_done: answer.is_ok(),
+        });
+        answer
+    }
+
+    /// Makes and syncs tables, one after the other, up to a call that fails.
+    fn record_tables(&mut self, tables: &[(u64, Vec<u8>)]) -> Result<(), FolderFault>
+        ensures change { (files : Files) →
+            Alters (step_of (Written (table_files tables.now)) result)
+            (files_after_steps self.old.steps files) (files_after_steps self.new.steps files) }
+        ensures start { self.new.start ≡ self.old.start }
+        ensures failures { self.new.failures ≡ failures_after self.old.failures result }
+        ensures trail { self.new.trail ≡ self.old.trail }
+    {
+        for table in tables {
+            let (number, bytes) = table;
+            self.record_table(*number, bytes)?;
+        }
+        Ok(())
+    }
+
+    /// Makes and syncs the table of a `number`.
+    fn record_table(&mut self, number: u64, bytes: &[u8]) -> Result<(), FolderFault>
+        ensures change { (files : Files) →
+            Alters (step_of (Written ((table_name number, bytes.now) ∷ [])) result)
+            (files_after_steps self.old.steps files) (files_after_steps self.new.steps files) }
+        ensures start { self.new.start ≡ self.old.start }
+        ensures failures { self.new.failures ≡ failures_after self.old.failures result }
+        ensures trail { self.new.trail ≡ self.old.trail }
+    {
+        match table_name(self.alloc, number) {
+            Ok(name) => self.record_file(name.as_str(), bytes),
+            Err(_) => Err(FolderFault::Memory),
+        }
+    }
+
+    /// Makes and syncs the file of this `name`.
+    fn record_file(&mut self, name: &str, bytes: &[u8]) -> Result<(), FolderFault>
+        ensures change { (files : Files) →
+            Alters (step_of (Written ((name.now, bytes.now) ∷ [])) result)
+            (files_after_steps self.old.steps files) (files_after_steps self.new.steps files) }
+        ensures start { self.new.start ≡ self.old.start }
+        ensures failures { self.new.failures ≡ failures_after self.old.failures result }
+        ensures trail { self.new.trail ≡ self.old.trail }
+    {
+        self.record(WriteCall::Create(name, bytes))?;
+        self.record(WriteCall::Sync(name))
     }
 
     /// Adds a call that writes to the record. It fails if it is the failing one.

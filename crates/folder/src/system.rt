@@ -3,13 +3,14 @@
 ghost use Rattle.std.specs.Prelude.{◌≤◌, length, IfOk, IfSome};
 
 use crate::kept::Kept;
-use crate::owned::new_file;
+use crate::making::{made_at, remove_at};
+use crate::owned::access_in;
 use crate::system_files::{SystemFiles, regular};
 use crate::trail::WriteCall;
 use crate::whole_files::{path_in, synced, whole};
 use std::alloc::Global;
 use std::fs::{File, OpenFile};
-use std::io::{ErrorKind, Read, Seek, SeekFrom, Write};
+use std::io::{ErrorKind, Read, Seek, SeekFrom};
 use std::rt::Files;
 use std::{fs, io};
 
@@ -98,20 +99,12 @@ pub(crate) fn done_in<R: SystemFiles>(
         WriteCall::Create(name, bytes) => create_in(rt, alloc, folder, kept, name, bytes),
         WriteCall::Sync(name) => sync_in(rt, alloc, folder, kept, name),
         WriteCall::Rename(from, to) => rename_in(rt, alloc, folder, kept, from, to),
-        WriteCall::Remove(name) => {
-            kept.forget_ahead();
-            drop(kept.taken(name));
-            remove_in(rt, alloc, folder, name)
-        }
+        WriteCall::Remove(name) => remove_in(rt, alloc, folder, kept, name),
         WriteCall::SyncFolder => sync_folder(rt, folder),
     }
 }
 
-/// Makes a file anew, and keeps it open. What had its name before keeps its bytes, if it has
-/// another name or is open elsewhere.
-///
-/// If that fails, the part of the file that was written is removed, if it can be. Else a disk that
-/// is full would stay full.
+/// Makes a file anew as [`made_at`] does, and keeps it open.
 fn create_in<R: SystemFiles>(
     rt: &R,
     alloc: Global,
@@ -120,41 +113,29 @@ fn create_in<R: SystemFiles>(
     name: &str,
     bytes: &[u8],
 ) -> io::Result<()> {
-    kept.forget_ahead();
+    kept.forget_ahead(name);
     drop(kept.taken(name));
-    remove_in(rt, alloc, folder, name)?;
-    let written = write_in(rt, alloc, folder, kept, name, bytes);
-    if let Err(error) = &written
-        // Then another program has made the file.
-        && error.kind() != ErrorKind::AlreadyExists
-    {
-        let _ = remove_in(rt, alloc, folder, name);
+    let path = path_in(alloc, folder, name)?;
+    let access = access_in(rt, alloc, folder)?;
+    let file = made_at(rt, path.as_str(), access, bytes)?;
+    let answer = kept.keep(name, file);
+    if answer.is_err() {
+        let _ = remove_at(rt, path.as_str());
     }
-    written
+    Ok(answer?)
 }
 
-/// Makes a file that isn't there, and keeps it open.
-fn write_in<R: SystemFiles>(
+/// Removes a file, if it is there.
+fn remove_in<R: Files>(
     rt: &R,
     alloc: Global,
     folder: &str,
     kept: &mut Kept,
     name: &str,
-    bytes: &[u8],
 ) -> io::Result<()> {
-    let mut file = new_file(rt, alloc, folder, name)?;
-    file.write_all(bytes)?;
-    kept.keep(name, file)?;
-    Ok(())
-}
-
-/// Removes a name, if it is there.
-fn remove_in<R: Files>(rt: &R, alloc: Global, folder: &str, name: &str) -> io::Result<()> {
-    let path = path_in(alloc, folder, name)?;
-    match fs::remove_file(rt, path.as_str()) {
-        Err(error) if error.kind() == ErrorKind::NotFound => Ok(()),
-        answer => answer,
-    }
+    kept.forget_ahead(name);
+    drop(kept.taken(name));
+    remove_at(rt, path_in(alloc, folder, name)?.as_str())
 }
 
 /// Syncs a file: by the handle that it was made with, or else under its name. If no file has the
@@ -169,13 +150,14 @@ fn sync_in<R: Files>(
     if let Some(file) = kept.taken(name) {
         return file.sync_all();
     }
-    if kept.is_synced(name) {
-        return Ok(());
+    if let Some(answer) = kept.answer(name) {
+        return answer;
     }
     let path = path_in(alloc, folder, name)?;
     match synced(rt, path.as_str()) {
+        Ok(answer) => answer,
         Err(error) if error.kind() == ErrorKind::NotFound => Ok(()),
-        answer => answer,
+        Err(error) => Err(error),
     }
 }
 
@@ -187,7 +169,8 @@ fn rename_in<R: Files>(
     from: &str,
     to: &str,
 ) -> io::Result<()> {
-    kept.forget_ahead();
+    kept.forget_ahead(from);
+    kept.forget_ahead(to);
     drop(kept.taken(from));
     drop(kept.taken(to));
     let from = path_in(alloc, folder, from)?;

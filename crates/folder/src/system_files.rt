@@ -1,12 +1,15 @@
 //! Files of the system, opened under descriptors of their own.
 
+use crate::making::{Making, make};
+use crate::whole_files::THREADS;
 use sqlite_disk::Unknown;
 use sqlite_std_file::OpenError;
 use std::fs::{File, Metadata, OpenOptions};
 use std::io::ErrorKind;
 use std::os::fd::AsRawFd;
 use std::rt::Files;
-use std::{fs, io};
+use std::thread::Threads;
+use std::{fs, io, thread};
 
 /// The last descriptor of a standard stream.
 const LAST_STREAM: i32 = 2;
@@ -18,10 +21,15 @@ pub struct ByteLock {
     _files: sqlite_disk::Files<sqlite_std_file::File>,
 }
 
-/// Files of the system, which have descriptors, and so locks and owners.
-pub trait SystemFiles: Files {
+/// Files of the system, which have descriptors, and so owners.
+pub trait OwnedFiles: Files {
     /// Opens the file at `path` as [`Files`] does.
     fn open_own(&self, how: &OpenOptions, path: &str) -> io::Result<File>;
+}
+
+/// The same, with locks, and made by several threads.
+pub trait SystemFiles: OwnedFiles {
+    ghost use Rattle.std.specs.Thread.{IsSync};
 
     /// Takes a lock on bytes of the file at `path` that nobody shares. It does not wait. A lock that
     /// another program has on the whole file is in its way, and this one in the way of such a lock.
@@ -29,13 +37,20 @@ pub trait SystemFiles: Files {
     /// It needs a regular file with one name that may be read and written. A file of its name and
     /// `-wal` after it is made beside it, and can be removed. WouldBlock if another is in the way.
     fn lock_bytes(&self, path: &str) -> io::Result<ByteLock>;
+
+    /// Makes and syncs each of these files, by threads of `rt`.
+    fn make_all<T: Threads + Sync>(&self, rt: &T, files: &mut [Making<'_>])
+        // The bound `T: Sync`, as at [`Folder::write_tables`](crate::Folder::write_tables).
+        requires { IsSync T.row };
 }
 
-impl SystemFiles for HostRuntime {
+impl OwnedFiles for HostRuntime {
     fn open_own(&self, how: &OpenOptions, path: &str) -> io::Result<File> {
         self.open_file(how, path)
     }
+}
 
+impl SystemFiles for HostRuntime {
     fn lock_bytes(&self, path: &str) -> io::Result<ByteLock> {
         match sqlite_std_file::open(self, path, Unknown) {
             Ok(files) => Ok(ByteLock { _files: files }),
@@ -45,11 +60,15 @@ impl SystemFiles for HostRuntime {
             Err(OpenError::HotJournal) => Err(ErrorKind::InvalidData.into()),
         }
     }
+
+    fn make_all<T: Threads + Sync>(&self, rt: &T, files: &mut [Making<'_>]) {
+        thread::for_each_mut(rt, files, THREADS, &|_, file| make(self, file));
+    }
 }
 
 /// Opens a file under a descriptor that is none of a standard stream. If such a stream was closed
 /// when the program began, what is meant for it must not land in the file.
-pub(crate) fn opened<R: SystemFiles>(rt: &R, how: &OpenOptions, path: &str) -> io::Result<File> {
+pub(crate) fn opened<R: OwnedFiles>(rt: &R, how: &OpenOptions, path: &str) -> io::Result<File> {
     let file = rt.open_own(how, path)?;
     if file.as_raw_fd() > LAST_STREAM {
         Ok(file)

@@ -87,7 +87,7 @@ fn due(name: String, older: Option<String>) -> Due {
     Due {
         name,
         older,
-        is_synced: false,
+        answer: None,
     }
 }
 

@@ -17,7 +17,7 @@ impl Model for Trail {
     ghost also_owns = { λ _. ftrue };
 }
 
-/// A call that writes.
+/// A call that writes, of one file or of the folder.
 #[derive(Clone, Copy, Drop)]
 pub enum WriteCall<'a> {
     Create(&'a str, &'a [u8]),
@@ -27,10 +27,17 @@ pub enum WriteCall<'a> {
     SyncFolder,
 }
 
+/// A call that writes: of one file or of the folder, or of tables by their numbers.
+#[derive(Clone, Copy, Drop)]
+pub enum AnyWrite<'a> {
+    One(WriteCall<'a>),
+    Tables(&'a [(u64, Vec<u8>)]),
+}
+
 /// A call, and whether it was done.
 #[derive(Clone, Copy, Drop)]
 pub struct Attempt<'a> {
-    pub call: WriteCall<'a>,
+    pub call: AnyWrite<'a>,
     pub is_done: bool,
 }
 

@@ -11,7 +11,7 @@ use std::thread::Threads;
 use std::{io, thread};
 
 /// The most threads that read, or sync. Why more than processors: they mostly wait for the system.
-const THREADS: usize = 16;
+pub(crate) const THREADS: usize = 16;
 
 /// Files that are read or synced whole, through a handle that threads share.
 pub trait WholeFiles: Send + Sync {
@@ -20,9 +20,10 @@ pub trait WholeFiles: Send + Sync {
     /// than 2^30 bytes.
     fn whole(&self, alloc: Global, path: &str) -> io::Result<Vec<u8>>;
 
-    /// Writes the bytes of the file at `path` through to the device. The system's error if there is
-    /// no such file, or if it can't be synced. Other if it is no regular file.
-    fn synced(&self, path: &str) -> io::Result<()>;
+    /// Writes the bytes of the file at `path` through to the device, and answers what came of it.
+    /// The system's error if there is no such file, or if it can't be opened. Other if it is no
+    /// regular file.
+    fn synced(&self, path: &str) -> io::Result<io::Result<()>>;
 }
 
 /// A file that is read ahead.
@@ -38,7 +39,7 @@ impl WholeFiles for HostRuntime {
         whole(self, alloc, path)
     }
 
-    fn synced(&self, path: &str) -> io::Result<()> {
+    fn synced(&self, path: &str) -> io::Result<io::Result<()>> {
         synced(self, path)
     }
 }
@@ -63,9 +64,9 @@ pub(crate) fn whole<R: Files>(rt: &R, alloc: Global, path: &str) -> io::Result<V
 
 /// Syncs the file at `path`. It is opened for reading, which suffices for that. Fails as
 /// [`WholeFiles::synced`] does.
-pub(crate) fn synced<R: Files>(rt: &R, path: &str) -> io::Result<()> {
+pub(crate) fn synced<R: Files>(rt: &R, path: &str) -> io::Result<io::Result<()>> {
     regular(rt, path)?;
-    File::open(rt, path)?.sync_all()
+    Ok(File::open(rt, path)?.sync_all())
 }
 
 /// Reads these files of a folder, each by one of several threads. One that can't be read stays
@@ -86,8 +87,8 @@ pub(crate) fn read_all<R: WholeFiles + Threads>(
     );
 }
 
-/// Syncs these files of a folder, each by one of several threads. One that can't be synced stays
-/// as not synced.
+/// Syncs these files of a folder, each by one of several threads. One that can't be opened stays
+/// without an answer.
 pub(crate) fn sync_all<R: WholeFiles + Threads>(
     rt: &R,
     alloc: Global,
@@ -108,11 +109,11 @@ fn sync_due<R: WholeFiles>(rt: &R, alloc: Global, folder: &str, due: &mut Due) {
     match answer {
         Err(error) if error.kind() == ErrorKind::NotFound => {
             if let Some(older) = due.older.take() {
-                due.is_synced = synced_in(rt, alloc, folder, older.as_str()).is_ok();
+                due.answer = synced_in(rt, alloc, folder, older.as_str()).ok();
                 due.name = older;
             }
         }
-        _ => due.is_synced = answer.is_ok(),
+        _ => due.answer = answer.ok(),
     }
 }
 
@@ -140,8 +141,13 @@ fn bytes_in<R: WholeFiles>(rt: &R, alloc: Global, folder: &str, name: &str) -> i
     rt.whole(alloc, path.as_str())
 }
 
-/// Syncs the file of this `name` in a folder.
-fn synced_in<R: WholeFiles>(rt: &R, alloc: Global, folder: &str, name: &str) -> io::Result<()> {
+/// Syncs the file of this `name` in a folder. Fails as [`WholeFiles::synced`] does.
+fn synced_in<R: WholeFiles>(
+    rt: &R,
+    alloc: Global,
+    folder: &str,
+    name: &str,
+) -> io::Result<io::Result<()>> {
     let path = path_in(alloc, folder, name)?;
     rt.synced(path.as_str())
 }

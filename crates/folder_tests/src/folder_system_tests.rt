@@ -12,7 +12,7 @@ use std::process::Abort;
 use std::test::Fail;
 
 /// The path of a file in a folder of the system.
-fn path_of(rt: &HostRuntime, folder: &str, name: &str) -> Result<String, Fail> {
+pub(crate) fn path_of(rt: &HostRuntime, folder: &str, name: &str) -> Result<String, Fail> {
     Ok(format!(in rt.alloc(); "{folder}/{name}")?)
 }
 
@@ -63,7 +63,11 @@ fn files_are_as_open_as_current(rt: HostRuntime) -> Result<(), Fail> {
 }
 
 /// Whether the newest call that failed prints as this line.
-fn is_told(rt: &HostRuntime, disk: &Disk<'_, HostRuntime>, line: &str) -> Result<bool, Fail> {
+pub(crate) fn is_told(
+    rt: &HostRuntime,
+    disk: &Disk<'_, HostRuntime>,
+    line: &str,
+) -> Result<bool, Fail> {
     match disk.last_failure() {
         Some(failure) => Ok(format!(in rt.alloc(); "{failure}")?.as_str() == line),
         None => Ok(false),

@@ -22,4 +22,6 @@ mod folder_shelf_tests;
 #[cfg(test)]
 mod folder_system_tests;
 #[cfg(test)]
+mod folder_write_tests;
+#[cfg(test)]
 mod install_tests;

@@ -1,23 +1,26 @@
 -- CURRENT as the calls before the rename leave it, and what comes of reading it again.
-use Rattle.std.proofs.Common.{◌≡◌, ◌≢◌, ◌⊎◌, ◌<◌, ◌≤◌, ◌^◌, ℕ, true, List, [], ◌∷◌, ◌++◌, map, Option, Some, Result, Err, sym, ap, subst, ◌∙◌, inl, inr}
+use Rattle.std.proofs.Common.{◌≡◌, ◌≢◌, ◌⊎◌, ◌<◌, ◌≤◌, ◌^◌, ℕ, true, List, [], ◌∷◌, map, Option, Some, Result, Err, sym, ap, subst, ◌∙◌, inl, inr}
 use Rattle.coding.proofs.Refusals.{unless_from}
 use Rattle.coding.specs.Answers.{UnlessMemory}
 use Rattle.coding.specs.declared.fault.Fault.{Fault}
-use Rattle.folder.specs.Calls.{Call, Created, Done, Files, FolderSynced, FolderView, Removed, Renamed, Shows, Step, Synced, Tells}
+use Rattle.folder.specs.Calls.{Call, Created, Done, Files, FolderSynced, FolderView, Removed, Renamed, Shows, Step, Synced, Tells, Written, with_contents, with_synced, with_written}
 use Rattle.folder.specs.CallSequence.{MakesCalls, ShowsAll}
 use Rattle.folder.specs.Folder.{TellsSame}
 use Rattle.folder.specs.Names.{current_text}
 use Rattle.folder.specs.OpenAnswer.{IsStopped}
 use Rattle.folder.proofs.OpeningLemmas.{failed_since}
 use Rattle.folder.proofs.PutLemmas.{put_other}
+use Rattle.folder.proofs.WrittenLemmas.{AllOther}
+use Rattle.folder.specs.TableFiles.{named_tables}
 use Rattle.install.specs.CurrentAnswer.{IsCurrentAnswer}
-use Rattle.install.specs.Install.{calls_before_rename, table_calls}
+use Rattle.install.specs.Install.{calls_before_rename}
 use Rattle.install.proofs.Parts.{RunsWhole}
 use Rattle.install.proofs.Switch.{CURRENT, manifest_no_current, table_no_current, temporary_no_current}
 
 -- a call that leaves CURRENT as it is
 abbrev LeavesCurrent : Call → Type 0
 LeavesCurrent (Created name bytes) = name ≢ CURRENT
+LeavesCurrent (Written files) = AllOther CURRENT files
 LeavesCurrent (Synced name) = Unit {0}
 LeavesCurrent (Renamed from to) = ⊥
 LeavesCurrent (Removed name) = ⊥
@@ -27,20 +30,22 @@ abbrev AllLeaveCurrent : List Call → Type 0
 AllLeaveCurrent [] = Unit {0}
 AllLeaveCurrent (call ∷ calls) = LeavesCurrent call × AllLeaveCurrent calls
 
-all_leave : (calls more : List Call) → AllLeaveCurrent calls → AllLeaveCurrent more → AllLeaveCurrent (calls ++ more)
-all_leave [] more h k = k
-all_leave (call ∷ calls) more h k = (h.0, all_leave calls more h.1 k)
-
-tables_leave : (outputs : List (ℕ × List ℕ)) → AllLeaveCurrent (table_calls outputs)
+tables_leave : (outputs : List (ℕ × List ℕ)) → AllOther CURRENT (named_tables outputs)
 tables_leave [] = tt
-tables_leave (t ∷ outputs) = (table_no_current t.0, (tt, tables_leave outputs))
+tables_leave (t ∷ outputs) = (table_no_current t.0, tables_leave outputs)
 
 -- none of the calls before the rename is one of CURRENT
 files_leave : (number : ℕ) (outputs : List (ℕ × List ℕ)) (manifest : List ℕ) → number < 2 ^ 64 → AllLeaveCurrent (calls_before_rename number outputs manifest)
-files_leave number outputs manifest small = all_leave (table_calls outputs) _ (tables_leave outputs) (manifest_no_current number small, (tt, (temporary_no_current number, (tt, (tt, tt)))))
+files_leave number outputs manifest small = (tables_leave outputs, (manifest_no_current number small, (tt, (temporary_no_current number, (tt, (tt, tt))))))
+
+written_current : (files : List (List ℕ × List ℕ)) (s next : FolderView) → AllOther CURRENT files → next ≡ with_written s files → next.files CURRENT ≡ s.files CURRENT
+written_current [] s next h is = ap (λ (v : FolderView). v.files CURRENT) is
+written_current (file ∷ files) s next h is =
+    written_current files (with_synced (with_contents s file.0 (Some file.1)) file.0) next h.1 is ∙ put_other s.files file.0 (Some file.1) CURRENT (λ e. h.0 (sym e))
 
 shows_current : (call : Call) (s next : FolderView) → LeavesCurrent call → Shows (Done call) s next → next.files CURRENT ≡ s.files CURRENT
 shows_current (Created name bytes) s next h is = ap (λ (v : FolderView). v.files CURRENT) is ∙ put_other s.files name (Some bytes) CURRENT (λ e. h (sym e))
+shows_current (Written files) s next h is = written_current files s next h is
 shows_current (Synced name) s next h is = ap (λ (v : FolderView). v.files CURRENT) is
 shows_current (Renamed from to) s next h is = absurd h
 shows_current (Removed name) s next h is = absurd h

@@ -5,16 +5,18 @@ use Rattle.std.specs.List.{AllZip}
 use Rattle.std.specs.Map.{lookup}
 use Rattle.std.specs.declared.cmp.Ordering.{Ordering}
 use Rattle.edit.specs.Version.{State}
-use Rattle.folder.specs.Calls.{Call, Created, Done, Files, Step, Synced}
+use Rattle.folder.specs.Calls.{AreTorn, Call, Files, Step, Written, with_contents, with_synced, with_value, with_written}
 use Rattle.folder.specs.CallSequence.{AreMade}
-use Rattle.folder.specs.Crash.{Leads, World}
+use Rattle.folder.specs.Crash.{Leads, MayHold, World}
 use Rattle.folder.specs.Free.{IsFree}
 use Rattle.folder.specs.LoadedTables.{IsTableAnswer, IsTableOf}
 use Rattle.folder.specs.Names.{table_name}
 use Rattle.folder.specs.ReadsAs.{IsOneOf, StandsAs}
+use Rattle.folder.specs.TableFiles.{named_tables}
 use Rattle.folder.specs.declared.order.Order.{Order}
-use Rattle.folder.proofs.WrittenLemmas.{AllOther, AllWritten, IsShort, Passed, file_passed, short_behind}
-use Rattle.install.specs.Install.{table_bytes_of, numbers_of, table_calls, write_calls}
+use Rattle.folder.proofs.CrashLemmas.{stands_made, stands_still}
+use Rattle.folder.proofs.WrittenLemmas.{AllOther, AllWritten, IsShort, Passed, file_stands, leads_first, leads_none, short_none, short_tried, written_still}
+use Rattle.install.specs.Install.{table_bytes_of, numbers_of, table_calls}
 
 -- the tables as files, before other files
 abbrev pub filed : List (ℕ × List ℕ) → List (List ℕ × List ℕ) → List (List ℕ × List ℕ)
@@ -26,29 +28,37 @@ abbrev pub AreApart : (List ℕ → List ℕ → Ordering) → State → List (�
 AreApart cmp v [] done = Unit {0}
 AreApart cmp v (t ∷ tables) done = IsFree cmp v (table_name t.0) × AllOther (table_name t.0) done × AreApart cmp v tables ((table_name t.0, t.1) ∷ done)
 
--- all tables are written
-pub tables_passed : (cmp : List ℕ → List ℕ → Ordering) (order : Order) (v : State) (tables : List (ℕ × List ℕ)) (outputs : List (ℕ × List ℕ)) (done : List (List ℕ × List ℕ)) (rest : List Call) (steps : List Step) (start w : World) → StandsAs cmp order v tables start
-    → AreApart cmp v outputs done → AllWritten done start → AreMade (table_calls outputs ++ rest) steps → Leads start steps w → (StandsAs cmp order v tables w × IsShort steps (table_calls outputs ++ rest)) ⊎ Passed cmp order v tables (table_calls outputs) rest (filed outputs done) steps w
-tables_passed cmp order v tables [] done rest steps start w h apart all made l = inr (record { world = start; more = steps; stands = h; written = all; made = made; leads = l; whole = refl })
-tables_passed cmp order v tables (t ∷ outputs) done rest steps start w h apart all made l =
-    elim (file_passed cmp order v tables (table_name t.0) t.1 (table_calls outputs ++ rest) done steps start w h apart.0 apart.1 all made l) [
-      | inl still ↦ inl still
-      | inr one ↦
-          let file = Created (table_name t.0) t.1 in
-          let sync = Synced (table_name t.0) in
-          elim (tables_passed cmp order v tables outputs ((table_name t.0, t.1) ∷ done) rest one.more one.world w one.stands apart.2 one.written one.made one.leads) [
-            | inl still ↦ inl (still.0, short_behind steps (Done sync ∷ one.more) file (sync ∷ table_calls outputs ++ rest) one.whole (short_behind (Done sync ∷ one.more) one.more sync (table_calls outputs ++ rest) refl still.1))
-            | inr others ↦ inr (record {
-              world = others.world;
-              more = others.more;
-              stands = others.stands;
-              written = others.written;
-              made = others.made;
-              leads = others.leads;
-              whole = one.whole ∙ ap (λ (s : List Step). map Done (write_calls (table_name t.0) t.1) ++ s) others.whole;
-            })
-          ]
-    ]
+module _ (cmp : List ℕ → List ℕ → Ordering) (order : Order) (v : State) (tables : List (ℕ × List ℕ)) where
+  -- all tables are written
+  tables_stand : (outputs : List (ℕ × List ℕ)) (done : List (List ℕ × List ℕ)) (start w : World) → StandsAs cmp order v tables start → AreApart cmp v outputs done → AllWritten done start → w.shown ≡ with_written start.shown (named_tables outputs)
+      → MayHold (named_tables outputs) start.left w.left → StandsAs cmp order v tables w × AllWritten (filed outputs done) w
+  tables_stand [] done start w h apart all shown left = (stands_still cmp order v tables start w h shown left, written_still done start w shown all)
+  tables_stand (t ∷ outputs) done start w h apart all shown left =
+      let name = table_name t.0 in
+      let next : World = record { shown = with_synced (with_contents start.shown name (Some t.1)) name; left = with_value start.left name left.0 } in
+      let one = file_stands cmp order v tables name t.1 done start next left.0 h apart.0 apart.1 all refl refl in
+      tables_stand outputs ((name, t.1) ∷ done) next w one.0 apart.2 one.1 shown left.1
+
+  -- each of them was written, or torn, or not begun
+  tables_torn : (outputs : List (ℕ × List ℕ)) (done : List (List ℕ × List ℕ)) (start w : World) → StandsAs cmp order v tables start → AreApart cmp v outputs done → AreTorn (named_tables outputs) start.shown w.shown
+      → MayHold (named_tables outputs) start.left w.left → StandsAs cmp order v tables w
+  tables_torn [] done start w h apart shown left = stands_still cmp order v tables start w h shown left
+  tables_torn (t ∷ outputs) done start w h apart shown left =
+      let name = table_name t.0 in
+      let next : World = record { shown = with_contents start.shown name shown.0; left = with_value start.left name left.0 } in
+      tables_torn outputs ((name, t.1) ∷ done) next w (stands_made cmp order v tables start next name shown.0 left.0 h apart.0 refl refl) apart.2 shown.1 left.1
+
+  pub tables_passed : (outputs : List (ℕ × List ℕ)) (done : List (List ℕ × List ℕ)) (rest : List Call) (steps : List Step) (start w : World) → StandsAs cmp order v tables start → AreApart cmp v outputs done → AllWritten done start
+      → AreMade (table_calls outputs ++ rest) steps → Leads start steps w → (StandsAs cmp order v tables w × IsShort steps (table_calls outputs ++ rest)) ⊎ Passed cmp order v tables (table_calls outputs) rest (filed outputs done) steps w
+  tables_passed outputs done rest steps start w h apart all (inl none') l =
+      inl (subst (StandsAs cmp order v tables) (sym (leads_none start w steps none' l)) h, short_none steps (Written (named_tables outputs)) rest none')
+  tables_passed outputs done rest steps start w h apart all (inr (inl one)) l =
+      let l' = leads_first start w steps [] _ one l in
+      inl (subst (StandsAs cmp order v tables) (sym l'.2) (tables_torn outputs done start l'.0 h apart l'.1.0 l'.1.1), short_tried steps (Written (named_tables outputs)) rest one)
+  tables_passed outputs done rest steps start w h apart all (inr (inr more)) l =
+      let l' = leads_first start w steps more.0 _ more.1 l in
+      let one = tables_stand outputs done start l'.0 h apart all l'.1.0 l'.1.1 in
+      inr (record { world = l'.0; more = more.0; stands = one.0; written = one.1; made = more.2; leads = l'.2; whole = more.1 })
 
 -- each table is held under its name
 abbrev pub AllHeld : List (ℕ × List ℕ) → Files → Type 0

@@ -13,13 +13,14 @@ use Rattle.edit.specs.Version.{State, applied}
 use Rattle.edit.specs.VersionOrder.{snapshot_of}
 use Rattle.edit.specs.declared.meta.NewFile.{NewFile}
 use Rattle.folder.specs.Calls.{Call, Created, Files, FolderSynced, Renamed, Step, Synced, Tells}
-use Rattle.folder.specs.Calls.{ToldFiles}
+use Rattle.folder.specs.Calls.{ToldFiles, Written}
 use Rattle.folder.specs.Crash.{Leads, LeavesOnly, World}
 use Rattle.folder.specs.Levels.{file_numbers}
 use Rattle.folder.specs.Manifest.{order_name}
-use Rattle.folder.specs.Names.{current_text, manifest_name, table_name, temporary_name}
+use Rattle.folder.specs.Names.{current_text, manifest_name, temporary_name}
 use Rattle.folder.specs.OpenAnswer.{IsStopped}
 use Rattle.folder.specs.ReadsAs.{IsOneOf, ReadsAs, StandsAs, StandsBy}
+use Rattle.folder.specs.TableFiles.{named_tables}
 use Rattle.folder.specs.declared.order.Order.{Order}
 
 -- tables of the code as numbers and bytes
@@ -30,10 +31,9 @@ tables_in tables = map (λ (t : ℕ × Vec ℕ). (t.0, t.1.items)) tables
 abbrev pub write_calls : List ℕ → List ℕ → List Call
 write_calls name bytes = Created name bytes ∷ Synced name ∷ []
 
--- each table is made and synced
+-- the tables are made and synced, in any order
 abbrev pub table_calls : List (ℕ × List ℕ) → List Call
-table_calls [] = []
-table_calls (table ∷ tables) = write_calls (table_name table.0) table.1 ++ table_calls tables
+table_calls tables = Written (named_tables tables) ∷ []
 
 -- the manifest of the edited version: a log of the snapshot of the version before, and the edit
 abbrev pub manifest_bytes : List ℕ → KeyOrder → State → List ℕ → List ℕ

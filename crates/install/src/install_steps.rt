@@ -21,8 +21,9 @@ ghost use Rattle.install.specs.Install.{temporary_calls, write_calls};
 ghost use Rattle.folder.specs.Names.{current_text, temporary_name};
 
 use coding::{Fault, FaultName};
-use folder::{CURRENT, Folder, FolderFault, current_text, table_name, temporary_name};
+use folder::{CURRENT, Folder, FolderFault, current_text, temporary_name};
 use std::alloc::Global;
+use std::thread::Threads;
 
 /// Makes a file and syncs it.
 pub(crate) fn write<F: Folder>(folder: &mut F, name: &str, bytes: &[u8]) -> Result<(), FolderFault>
@@ -44,9 +45,9 @@ pub(crate) fn write<F: Folder>(folder: &mut F, name: &str, bytes: &[u8]) -> Resu
     make_file(folder, name, bytes)
 }
 
-/// Makes and syncs each table under the name of its number.
-pub(crate) fn write_tables<F: Folder>(
-    alloc: Global,
+/// Makes each table under the name of its number, and syncs it.
+pub(crate) fn write_tables<F: Folder, R: Threads + Sync>(
+    rt: &R,
     folder: &mut F,
     tables: &[(u64, Vec<u8>)],
 ) -> Result<(), Fault>
@@ -57,11 +58,7 @@ pub(crate) fn write_tables<F: Folder>(
     ensures at_once { StopsAtDevice (F.failed folder.old) (F.failed folder.new) result }
     ensures later { F.failed folder.old ≤ F.failed folder.new }
 {
-    for (number, bytes) in tables {
-        let name = table_name(alloc, *number)?;
-        write(folder, name.as_str(), bytes)?;
-    }
-    Ok(())
+    Ok(folder.write_tables(rt, tables)?)
 }
 
 /// Makes and syncs CURRENT's text under its temporary name, and syncs the folder.

@@ -23,6 +23,7 @@ use edit::{Outcome, Version};
 use folder::{Folder, manifest_name};
 use ikey::Comparator;
 use std::alloc::Global;
+use std::thread::Threads;
 
 /// Makes the edited version the folder's version: writes the outcome's tables, a manifest of this
 /// `manifest_number`, and CURRENT.
@@ -34,7 +35,8 @@ use std::alloc::Global;
 /// The other faults are `Device` and `Memory`. After one of them the folder reads as the version
 /// before or as the edited one, and has to be opened again. If the device fails a call, no further
 /// call is made. The comparator's name has fewer than 2^32 bytes.
-pub fn install<C: Comparator, F: Folder>(
+pub fn install<C: Comparator, F: Folder, R: Threads + Sync>(
+    rt: &R,
     alloc: Global,
     folder: &mut F,
     opened: u64,
@@ -89,6 +91,7 @@ pub fn install<C: Comparator, F: Folder>(
 {
     let manifest = manifest_bytes::<C>(alloc, version, &outcome.edit)?;
     make_calls(
+        rt,
         alloc,
         folder,
         opened,
@@ -100,7 +103,8 @@ pub fn install<C: Comparator, F: Folder>(
 
 /// Writes the tables, the manifest and CURRENT, if CURRENT still names the manifest of the number
 /// `opened`.
-fn make_calls<F: Folder>(
+fn make_calls<F: Folder, R: Threads + Sync>(
+    rt: &R,
     alloc: Global,
     folder: &mut F,
     opened: u64,
@@ -112,13 +116,14 @@ fn make_calls<F: Folder>(
         (calls_before_rename manifest_number (tables_in tables.now) manifest.now)
         (current_calls manifest_number) opened folder.old folder.new result }
 {
-    write_files(alloc, folder, manifest_number, tables, manifest)?;
+    write_files(rt, alloc, folder, manifest_number, tables, manifest)?;
     test_current(alloc, folder, opened)?;
     name_current(alloc, folder, manifest_number)
 }
 
 /// Writes the tables, the manifest, and CURRENT's text under its temporary name.
-fn write_files<F: Folder>(
+fn write_files<F: Folder, R: Threads + Sync>(
+    rt: &R,
     alloc: Global,
     folder: &mut F,
     manifest_number: u64,
@@ -134,7 +139,7 @@ fn write_files<F: Folder>(
     ensures later { F.failed folder.old ≤ F.failed folder.new }
 {
     let name = manifest_name(alloc, manifest_number)?;
-    write_tables(alloc, folder, tables)?;
+    write_tables(rt, folder, tables)?;
     write(folder, name.as_str(), manifest)?;
     write_temporary(alloc, folder, manifest_number)
 }

@@ -3,7 +3,7 @@
 //!
 //! [`install`] makes its calls in this order, each once, up to one that fails:
 //!
-//! 1. each table is made and synced;
+//! 1. the tables are made and synced, in any order, by several threads if the folder does so;
 //! 2. the manifest is made and synced;
 //! 3. CURRENT's text is made under a temporary name and synced, and the folder is synced;
 //! 4. CURRENT is read: if it isn't what it was when the version was opened, the answer is Changed

@@ -1,8 +1,8 @@
 -- Syncs change nothing of what is read.
-use Rattle.std.proofs.Common.{◌≡◌, ℕ, false, List, [], ◌∷◌, ◌++◌, Option, Result, sym, ap, subst, ◌∙◌, inl, inr}
+use Rattle.std.proofs.Common.{◌≡◌, ℕ, false, List, [], ◌∷◌, ◌++◌, Option, Result, ap, subst, ◌∙◌, inl, inr}
 use Rattle.std.specs.declared.cmp.Ordering.{Ordering}
 use Rattle.edit.specs.Version.{State}
-use Rattle.folder.specs.Calls.{Call, Created, Done, Files, FolderSynced, FolderView, Removed, Renamed, Shows, Step, Synced, Tells, Tried}
+use Rattle.folder.specs.Calls.{Call, Created, Done, Files, FolderSynced, FolderView, Removed, Renamed, Shows, Step, Synced, Tells, Tried, Written}
 use Rattle.folder.specs.CallSequence.{AreMade, MakesCalls, ShowsAll}
 use Rattle.folder.specs.Levels.{file_numbers}
 use Rattle.install.proofs.Moments.{made_by}
@@ -10,6 +10,7 @@ use Rattle.store.specs.VersionSync.{sync_calls, table_syncs}
 
 abbrev IsSync : Call → Type 0
 IsSync (Created name bytes) = ⊥
+IsSync (Written files) = ⊥
 IsSync (Synced name) = Unit {0}
 IsSync (Renamed from to) = ⊥
 IsSync (Removed name) = ⊥
@@ -21,6 +22,7 @@ AreSyncs (call ∷ calls) = IsSync call × AreSyncs calls
 
 done_told : (call : Call) (s next : FolderView) → IsSync call → Shows (Done call) s next → next.files ≡ s.files
 done_told (Created name bytes) s next is h = absurd is
+done_told (Written files) s next is h = absurd is
 done_told (Synced name) s next is h = ap (λ (t : FolderView). t.files) h
 done_told (Renamed from to) s next is h = absurd is
 done_told (Removed name) s next is h = absurd is
@@ -28,6 +30,7 @@ done_told FolderSynced s next is h = ap (λ (t : FolderView). t.files) h
 
 tried_told : (call : Call) (s next : FolderView) → IsSync call → Shows (Tried call) s next → next.files ≡ s.files
 tried_told (Created name bytes) s next is h = absurd is
+tried_told (Written files) s next is h = absurd is
 tried_told (Synced name) s next is h = ap (λ (t : FolderView). t.files) h
 tried_told (Renamed from to) s next is h = absurd is
 tried_told (Removed name) s next is h = absurd is

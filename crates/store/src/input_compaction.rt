@@ -144,7 +144,7 @@ pub(crate) fn compact_step<
     let ready = ready_step::<C, F, W, R>(rt, alloc, folder, held, version, level, settings, watch)?;
     let outcome = &ready.outcome;
     let number = manifest_of(version);
-    install::<C, F>(alloc, folder, opened.manifest, version, number, outcome)?;
+    install::<C, F, R>(rt, alloc, folder, opened.manifest, version, number, outcome)?;
     Ok(CompactionStep {
         lines: ready.lines,
         edit: ready.outcome.edit,

@@ -6,7 +6,6 @@ ghost use Rattle.compact.specs.Answered.{answer_in};
 ghost use Rattle.folder.specs.CallSequence.{MakesCalls};
 ghost use Rattle.folder.specs.Calls.{FolderSynced, Renamed};
 ghost use Rattle.folder.specs.Folder.{failures_after};
-ghost use Rattle.folder.specs.Names.{table_name};
 ghost use Rattle.folder.specs.OpenAnswer.{IsStopped};
 ghost use Rattle.folder.specs.Reports.{ReportsDevice};
 ghost use Rattle.install.specs.Install.{table_calls, tables_in, write_calls};
@@ -15,8 +14,8 @@ ghost use Rattle.store.specs.Outcome.{edit_calls, outcome_calls};
 
 use coding::Fault;
 use edit::Outcome;
-use folder::{Folder, FolderFault, table_name};
-use std::alloc::Global;
+use folder::{Folder, FolderFault};
+use std::thread::Threads;
 
 /// The file of an outcome that has the bytes of its edit.
 pub const EDIT: &str = "EDIT";
@@ -26,7 +25,7 @@ const UNFINISHED_EDIT: &str = "EDIT.dbtmp";
 
 /// Writes an outcome into a folder, which should be an empty one. In this order
 ///
-/// 1. each table is made and synced, under its name `%06d.ldb`;
+/// 1. the tables are made and synced, in any order, each under its name `%06d.ldb`;
 /// 2. `EDIT.dbtmp` is made of the bytes of the edit, and synced;
 /// 3. it is renamed to [`EDIT`];
 /// 4. the folder is synced.
@@ -35,8 +34,8 @@ const UNFINISHED_EDIT: &str = "EDIT.dbtmp";
 ///
 /// The faults are Device and Memory. If the device fails a call, no further call is made; what was
 /// written by then stays.
-pub fn write_outcome<F: Folder>(
-    alloc: Global,
+pub fn write_outcome<F: Folder, R: Threads + Sync>(
+    rt: &R,
     folder: &mut F,
     outcome: &Outcome,
 ) -> Result<(), Fault>
@@ -48,45 +47,31 @@ pub fn write_outcome<F: Folder>(
         (λ e. UnlessMemory e (IsStopped (F.failed folder.old) (F.failed folder.new) e)) }
     ensures device { ReportsDevice F.Folder folder.old folder.new result }
 {
-    write_files(alloc, folder, outcome)
+    write_files(rt, folder, outcome)
 }
 
 /// Writes the tables and the edit.
-fn write_files<F: Folder>(alloc: Global, folder: &mut F, outcome: &Outcome) -> Result<(), Fault>
+fn write_files<F: Folder, R: Threads + Sync>(
+    rt: &R,
+    folder: &mut F,
+    outcome: &Outcome,
+) -> Result<(), Fault>
     ensures { IsRunOf F.Folder (outcome_calls (answer_in outcome.now)) folder.old folder.new
         result }
 {
-    write_tables(alloc, folder, &outcome.tables)?;
+    write_tables(rt, folder, &outcome.tables)?;
     Ok(write_edit(folder, &outcome.edit)?)
 }
 
 /// Makes and syncs each table under its name.
-fn write_tables<F: Folder>(
-    alloc: Global,
+fn write_tables<F: Folder, R: Threads + Sync>(
+    rt: &R,
     folder: &mut F,
     tables: &[(u64, Vec<u8>)],
 ) -> Result<(), Fault>
     ensures { IsRunOf F.Folder (table_calls (tables_in tables.now)) folder.old folder.new result }
 {
-    for table in tables {
-        let (number, bytes) = table;
-        write_table(alloc, folder, *number, bytes)?;
-    }
-    Ok(())
-}
-
-/// Makes and syncs the table of a `number`.
-fn write_table<F: Folder>(
-    alloc: Global,
-    folder: &mut F,
-    number: u64,
-    bytes: &[u8],
-) -> Result<(), Fault>
-    ensures { IsRunOf F.Folder (write_calls (table_name number) bytes.now) folder.old folder.new
-        result }
-{
-    let name = table_name(alloc, number)?;
-    Ok(write_file(folder, name.as_str(), bytes)?)
+    Ok(folder.write_tables(rt, tables)?)
 }
 
 /// Makes a file and syncs it.

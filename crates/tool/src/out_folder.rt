@@ -7,6 +7,7 @@ use edit::Outcome;
 use folder::{Disk, SystemFiles};
 use std::io::ErrorKind;
 use std::rt::Files;
+use std::thread::Threads;
 use std::{fs, io};
 use store::write_outcome;
 
@@ -41,7 +42,7 @@ fn state_at<R: Files + AllocGlobal>(rt: &R, out: &str) -> io::Result<OutState> {
 }
 
 /// Writes an outcome into such a folder, which is made if nothing is there.
-pub(crate) fn fill<R: SystemFiles + AllocGlobal>(
+pub(crate) fn fill<R: SystemFiles + AllocGlobal + Threads + Sync>(
     rt: &R,
     out: &str,
     outcome: &Outcome,
@@ -56,7 +57,7 @@ pub(crate) fn fill<R: SystemFiles + AllocGlobal>(
         ))?;
     }
     let mut folder = Disk::new(rt, out);
-    let written = write_outcome(rt.alloc(), &mut folder, outcome);
+    let written = write_outcome(rt, &mut folder, outcome);
     written.map_err(|fault| refused_at(rt, out, &folder, fault))?;
     if is_new {
         let path = out.trim_end_matches('/');

@@ -111,11 +111,11 @@ fn outcome_of<R: AllocGlobal + Threads + Sync>(
     }
 }
 
-/// Whether an outcome is written as these files, by two calls each, one that names the edit, and
-/// one for the folder.
-fn is_written(alloc: Global, outcome: &Outcome, files: Files) -> bool {
-    let mut folder = Shelf::new(alloc, NO_FILES);
-    let answer = write_outcome(alloc, &mut folder, outcome);
+/// Whether an outcome is written as these files, by two calls each, one that names the edit, and one
+/// for the folder.
+fn is_written<R: AllocGlobal + Threads + Sync>(rt: &R, outcome: &Outcome, files: Files) -> bool {
+    let mut folder = Shelf::new(rt.alloc(), NO_FILES);
+    let answer = write_outcome(rt, &mut folder, outcome);
     answer == Ok(()) && holds(&folder, files) && folder.calls() == 2 * files.len() as u64 + 2
 }
 
@@ -131,8 +131,7 @@ fn is_outcome<R: AllocGlobal + Threads + Sync>(
     folder.steps().is_empty()
         && match answer {
             Ok(made) => {
-                is_text(&made.lines, asked.answer)
-                    && is_written(rt.alloc(), &made.outcome, asked.written)
+                is_text(&made.lines, asked.answer) && is_written(rt, &made.outcome, asked.written)
             }
             Err(fault) => asked.answer == Err(fault.name) && fault == Fault::of(fault.name),
         }
@@ -170,7 +169,7 @@ fn ends_there<R: AllocGlobal + Threads + Sync>(rt: &R, call: u64) -> Result<bool
         fault: FolderFault::Device,
         is_half_done: false,
     });
-    let answer = write_outcome(alloc, &mut folder, &made.outcome);
+    let answer = write_outcome(rt, &mut folder, &made.outcome);
     let has_edit = folder.held(EDIT).is_some();
     Ok(
         answer == Err(Fault::of(FaultName::Device))

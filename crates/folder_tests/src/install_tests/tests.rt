@@ -6,6 +6,7 @@ use ikey::Bytewise;
 use install::install;
 use std::alloc::Global;
 use std::process::Abort;
+use std::thread::Threads;
 
 /// `log: comparator leveldb.BytewiseComparator, log 3, previous 0, next 8, last 4, file 1 6 3 t@1
 /// put .. t@1 put, file 1 7 5 u@2 put .. u@2 put`
@@ -149,14 +150,23 @@ fn tables_of(
 }
 
 /// Installs the outcome of a row over a version.
-fn installed(
-    alloc: Global,
+fn installed<R: AllocGlobal + Threads + Sync>(
+    rt: &R,
     shelf: &mut Shelf<'_>,
     version: &Version,
     row: &Row,
 ) -> Result<(), Fault> {
+    let alloc = rt.alloc();
     let outcome = outcome_of(alloc, row)?;
-    install::<Bytewise, Shelf<'_>>(alloc, shelf, row.opened, version, row.manifest, &outcome)
+    install::<Bytewise, Shelf<'_>, R>(
+        rt,
+        alloc,
+        shelf,
+        row.opened,
+        version,
+        row.manifest,
+        &outcome,
+    )
 }
 
 /// Whether the tables are these.
@@ -201,14 +211,24 @@ pub(crate) fn read_as(alloc: Global, folder: &mut Shelf<'_>) -> u64 {
 }
 
 /// Opens a folder, loads its tables and installs the outcome of a row.
-fn install_row(alloc: Global, shelf: &mut Shelf<'_>, row: &Row) -> Result<(), Fault> {
+fn install_row<R: AllocGlobal + Threads + Sync>(
+    rt: &R,
+    shelf: &mut Shelf<'_>,
+    row: &Row,
+) -> Result<(), Fault> {
+    let alloc = rt.alloc();
     let (version, _number) = opened(alloc, shelf)?;
-    installed(alloc, shelf, &version, row)
+    installed(rt, shelf, &version, row)
 }
 
 /// The same, and then opens it and loads its tables again. The next file of what it reads as.
-fn round(alloc: Global, shelf: &mut Shelf<'_>, row: &Row) -> Result<u64, Fault> {
-    install_row(alloc, shelf, row)?;
+fn round<R: AllocGlobal + Threads + Sync>(
+    rt: &R,
+    shelf: &mut Shelf<'_>,
+    row: &Row,
+) -> Result<u64, Fault> {
+    let alloc = rt.alloc();
+    install_row(rt, shelf, row)?;
     let (_version, number) = opened(alloc, shelf)?;
     Ok(number)
 }
@@ -261,9 +281,10 @@ fn wrong_moment(
 }
 
 /// The first moment of the installation of a row at which a crash leaves what it should not.
-fn wrong_crash(alloc: Global, row: &Row) -> Option<usize> {
+fn wrong_crash<R: AllocGlobal + Threads + Sync>(rt: &R, row: &Row) -> Option<usize> {
+    let alloc = rt.alloc();
     let mut shelf = Shelf::new(alloc, FILES);
-    if install_row(alloc, &mut shelf, row).is_err() {
+    if install_row(rt, &mut shelf, row).is_err() {
         return Some(0);
     }
     wrong_moment(alloc, shelf.steps(), 0, (BEFORE, row.edited))
@@ -271,13 +292,14 @@ fn wrong_crash(alloc: Global, row: &Row) -> Option<usize> {
 
 /// Syncs a folder after a failure and installs again: the same outcome if it reads as the version
 /// before, the second outcome over the version with one output. What the folder then reads as.
-fn run_again(alloc: Global, shelf: &mut Shelf<'_>, row: &Row) -> u64 {
+fn run_again<R: AllocGlobal + Threads + Sync>(rt: &R, shelf: &mut Shelf<'_>, row: &Row) -> u64 {
+    let alloc = rt.alloc();
     if shelf.sync_folder().is_err() {
         return 0;
     }
     match read_as(alloc, shelf) {
-        BEFORE => round(alloc, shelf, row).unwrap_or(0),
-        10 => round(alloc, shelf, SECOND).unwrap_or(0),
+        BEFORE => round(rt, shelf, row).unwrap_or(0),
+        10 => round(rt, shelf, SECOND).unwrap_or(0),
         other => other,
     }
 }
@@ -302,8 +324,14 @@ fn calls_of(row: &Row) -> u64 {
 /// Whether an installation ends at a call that fails. A crash then leaves the version before, or
 /// from the rename on either. The folder reads as the version before, or after the rename as the
 /// edited one. A second run goes on from there.
-fn ends_there(alloc: Global, shelf: &mut Shelf<'_>, row: &Row, failing: Failing) -> bool {
-    let answer = install_row(alloc, shelf, row);
+fn ends_there<R: AllocGlobal + Threads + Sync>(
+    rt: &R,
+    shelf: &mut Shelf<'_>,
+    row: &Row,
+    failing: Failing,
+) -> bool {
+    let alloc = rt.alloc();
+    let answer = install_row(rt, shelf, row);
     let rename = calls_of(row).saturating_sub(1);
     let is_renamed = failing.call > rename || (failing.call == rename && failing.is_half_done);
     let (read, again) = if is_renamed {
@@ -317,12 +345,13 @@ fn ends_there(alloc: Global, shelf: &mut Shelf<'_>, row: &Row, failing: Failing)
     is_last(shelf, answer, failing)
         && (is_other || found(alloc, shelf.steps(), (BEFORE, row.edited)) == left)
         && read_as(alloc, shelf) == read
-        && run_again(alloc, shelf, row) == again
+        && run_again(rt, shelf, row) == again
 }
 
 /// The first call of reading and installing a row for whose failure this is wrong: by the device or
 /// by memory, half done or not at all.
-fn wrong_failure(alloc: Global, row: &Row) -> Option<usize> {
+fn wrong_failure<R: AllocGlobal + Threads + Sync>(rt: &R, row: &Row) -> Option<usize> {
+    let alloc = rt.alloc();
     let calls = calls_of(row);
     for way in 0..calls.saturating_mul(4) {
         let failing = Failing {
@@ -335,7 +364,7 @@ fn wrong_failure(alloc: Global, row: &Row) -> Option<usize> {
             is_half_done: way % 4 > 1,
         };
         if !ends_there(
-            alloc,
+            rt,
             &mut Shelf::new(alloc, FILES).failing(failing),
             row,
             failing,
@@ -354,8 +383,8 @@ fn is_none(rt: &impl Abort, wrong: Option<usize>, row: &Row) {
 #[test]
 fn crashes_and_calls_that_fail(rt: HostRuntime) {
     for row in ROWS {
-        is_none(&rt, wrong_crash(rt.alloc(), row), row);
-        is_none(&rt, wrong_failure(rt.alloc(), row), row);
+        is_none(&rt, wrong_crash(&rt, row), row);
+        is_none(&rt, wrong_failure(&rt, row), row);
     }
 }
 
@@ -369,9 +398,13 @@ const LAST_SYNC: Failing = Failing {
 /// The first moment at which a crash leaves what it should not, of a second run after an
 /// installation whose last call failed. After its sync of the folder, the tenth call, that is never
 /// the version before.
-fn wrong_after_the_last_sync(alloc: Global, shelf: &mut Shelf<'_>) -> Option<usize> {
-    if install_row(alloc, shelf, ONE).is_err()
-        && run_again(alloc, shelf, ONE) == SECOND.edited
+fn wrong_after_the_last_sync<R: AllocGlobal + Threads + Sync>(
+    rt: &R,
+    shelf: &mut Shelf<'_>,
+) -> Option<usize> {
+    let alloc = rt.alloc();
+    if install_row(rt, shelf, ONE).is_err()
+        && run_again(rt, shelf, ONE) == SECOND.edited
         && shelf.steps().len() == 19
     {
         wrong_moment(alloc, shelf.steps(), 20, (ONE.edited, SECOND.edited))
@@ -383,11 +416,7 @@ fn wrong_after_the_last_sync(alloc: Global, shelf: &mut Shelf<'_>) -> Option<usi
 #[test]
 fn folder_not_synced_first(rt: HostRuntime) {
     let mut shelf = Shelf::new(rt.alloc(), FILES).failing(LAST_SYNC);
-    is_none(
-        &rt,
-        wrong_after_the_last_sync(rt.alloc(), &mut shelf),
-        SECOND,
-    );
+    is_none(&rt, wrong_after_the_last_sync(&rt, &mut shelf), SECOND);
 }
 
 /// Whether the row's calls that write were made, none failed, and CURRENT names the new manifest.
@@ -399,8 +428,9 @@ fn is_made(shelf: &Shelf<'_>, row: &Row) -> bool {
 
 /// Whether an installation makes its calls and the folder then reads as the edited version; or it
 /// is refused as Memory, and leaves one of the two. Only one request for memory is refused.
-fn ends_well(alloc: Global, shelf: &mut Shelf<'_>, row: &Row) -> bool {
-    match round(alloc, shelf, row) {
+fn ends_well<R: AllocGlobal + Threads + Sync>(rt: &R, shelf: &mut Shelf<'_>, row: &Row) -> bool {
+    let alloc = rt.alloc();
+    match round(rt, shelf, row) {
         Ok(number) => number == row.edited && is_made(shelf, row),
         Err(fault) => {
             let number = read_as(alloc, shelf);
@@ -414,11 +444,7 @@ fn ends_well(alloc: Global, shelf: &mut Shelf<'_>, row: &Row) -> bool {
 fn a_refused_growth_is_memory(rt: HostRuntime) {
     for row in ROWS {
         let mut shelf = Shelf::new(rt.alloc(), FILES);
-        assert!(rt;
-            ends_well(rt.alloc(), &mut shelf, row),
-            "of {} calls",
-            row.calls
-        );
+        assert!(rt; ends_well(&rt, &mut shelf, row), "of {} calls", row.calls);
     }
 }
 
@@ -435,21 +461,23 @@ fn replace(shelf: &mut Shelf<'_>, current: Option<&[u8]>) -> Result<(), FolderFa
 }
 
 /// Opens a folder, replaces CURRENT, and installs the outcome of a row.
-fn install_late(
-    alloc: Global,
+fn install_late<R: AllocGlobal + Threads + Sync>(
+    rt: &R,
     shelf: &mut Shelf<'_>,
     row: &Row,
     current: Option<&[u8]>,
 ) -> Result<(), Fault> {
+    let alloc = rt.alloc();
     let (version, _number) = opened(alloc, shelf)?;
     replace(shelf, current)?;
-    installed(alloc, shelf, &version, row)
+    installed(rt, shelf, &version, row)
 }
 
 /// Whether it is refused as Changed, after all calls but the last two, and leaves that CURRENT.
-fn is_refused(alloc: Global, row: &Row, current: Option<&[u8]>) -> bool {
+fn is_refused<R: AllocGlobal + Threads + Sync>(rt: &R, row: &Row, current: Option<&[u8]>) -> bool {
+    let alloc = rt.alloc();
     let mut shelf = Shelf::new(alloc, FILES);
-    let answer = install_late(alloc, &mut shelf, row, current);
+    let answer = install_late(rt, &mut shelf, row, current);
     // The call that replaced CURRENT is counted too.
     answer == Err(Fault::of(FaultName::Changed))
         && shelf.calls() == calls_of(row).saturating_sub(1)
@@ -461,11 +489,7 @@ fn is_refused(alloc: Global, row: &Row, current: Option<&[u8]>) -> bool {
 fn current_that_changed(rt: HostRuntime) {
     for row in ROWS {
         for current in REPLACED {
-            assert!(rt;
-                is_refused(rt.alloc(), row, *current),
-                "of {} calls",
-                row.calls
-            );
+            assert!(rt; is_refused(&rt, row, *current), "of {} calls", row.calls);
         }
     }
 }

@@ -59,3 +59,19 @@ returns-clause-before g c order next tables h =
     let one : tables_in c.deref-2.result.now ≡ outputs = ap tables_in c.deref-2.ensures.value in
     let left = subst (λ (t : List (ℕ × List ℕ)). IfErr c.make_calls.result (λ e. e ≡ fault Changed → calls now ≡ calls before ++ map Done (calls_before_rename n t c.deref-3.result.now))) one c.make_calls.ensures.left in
     stays_before name cmp order v next tables outputs n edit c.deref-3.result.now small h (install_calls n (tables_in c.deref-2.result.now) c.deref-3.result.now) (calls before) (calls now) (tells' before) (tells' now) c.make_calls.result c.make_calls.ensures.runs left
+
+pub returns-clause-left : goal.returns-clause-left
+returns-clause-left g c =
+    let calls = g.F.Folder.calls in
+    let name = g.C.Comparator.name_bytes in
+    let cmp = g.C.Comparator.cmp in
+    let v = c.args.version.now in
+    let n = c.args.manifest_number in
+    let outputs = tables_in c.args.outcome.now.tables.items in
+    let edit = c.args.outcome.now.edit.items in
+    let before = c.args.folder.now in
+    let now = c.make_calls.new.folder in
+    let one : tables_in c.deref-2.result.now ≡ outputs = ap tables_in c.deref-2.ensures.value in
+    let two : c.deref-3.result.now ≡ manifest_bytes name cmp v edit = c.deref-3.ensures.value ∙ (c.in_ok-manifest.ensures.bytes ∙ ap (manifest_bytes name cmp v) c.deref.ensures.value) in
+    subst (λ (m : List ℕ). IfErr c.make_calls.result (λ e. e ≡ fault Changed → calls now ≡ calls before ++ map Done (calls_before_rename n outputs m))) two
+    (subst (λ (t : List (ℕ × List ℕ)). IfErr c.make_calls.result (λ e. e ≡ fault Changed → calls now ≡ calls before ++ map Done (calls_before_rename n t c.deref-3.result.now))) one c.make_calls.ensures.left)

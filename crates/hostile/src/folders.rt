@@ -19,7 +19,7 @@ use std::thread::Threads;
 use store::{Open, Settings, Work, compact_dir};
 
 /// A folder of one table: `u` deleted at 4 and put `x` at 2.
-const FILES: &[(&str, &[u8])] = &[
+pub const FILES: &[(&str, &[u8])] = &[
     ("CURRENT", CURRENT_FIVE),
     ("MANIFEST-000005", MANIFEST),
     ("000007.ldb", TABLE_U_TWICE),
@@ -71,27 +71,36 @@ fn is_loaded(alloc: Global, shelf: &mut Shelf<'_>, version: &Version) -> Result<
 }
 
 /// Installs the edit that deletes the folder's file. CURRENT named manifest 5 when it was opened.
-fn install_next(alloc: Global, shelf: &mut Shelf<'_>, version: &Version) -> Result<(), Fault> {
+fn install_next<R: AllocGlobal + Threads + Sync>(
+    rt: &R,
+    shelf: &mut Shelf<'_>,
+    version: &Version,
+) -> Result<(), Fault> {
+    let alloc = rt.alloc();
     let outcome = Outcome {
         tables: Vec::new(alloc),
         edit: Vec::from_slice(alloc, NEXT_TEN)?,
     };
-    install::<Bytewise, Shelf<'_>>(alloc, shelf, 5, version, 9, &outcome)
+    install::<Bytewise, Shelf<'_>, R>(rt, alloc, shelf, 5, version, 9, &outcome)
 }
 
 /// Loads and installs, if this is the version before.
-fn carry_on(alloc: Global, shelf: &mut Shelf<'_>, version: &Version) -> Result<(), Fault> {
+fn carry_on<R: AllocGlobal + Threads + Sync>(
+    rt: &R,
+    shelf: &mut Shelf<'_>,
+    version: &Version,
+) -> Result<(), Fault> {
     if version.next_file() != Some(9) {
         return Ok(());
     }
-    wanted(is_loaded(alloc, shelf, version)?)?;
-    install_next(alloc, shelf, version)
+    wanted(is_loaded(rt.alloc(), shelf, version)?)?;
+    install_next(rt, shelf, version)
 }
 
 /// Opens the folder. Loads and installs, if it reads as the version before.
-fn carry(alloc: Global, shelf: &mut Shelf<'_>) -> Result<(), Fault> {
-    let version = open(alloc, shelf)?.version;
-    carry_on(alloc, shelf, &version)
+fn carry<R: AllocGlobal + Threads + Sync>(rt: &R, shelf: &mut Shelf<'_>) -> Result<(), Fault> {
+    let version = open(rt.alloc(), shelf)?.version;
+    carry_on(rt, shelf, &version)
 }
 
 /// Whether the folder reads as the edited version.
@@ -102,20 +111,20 @@ fn is_edited(alloc: Global, shelf: &mut Shelf<'_>) -> Result<bool, Fault> {
 
 /// Opens the folder, and installs if it reads as the version before. Whether it then reads as the
 /// edited one.
-fn carried(alloc: Global, shelf: &mut Shelf<'_>) -> Result<bool, Fault> {
-    carry(alloc, shelf)?;
-    is_edited(alloc, shelf)
+fn carried<R: AllocGlobal + Threads + Sync>(rt: &R, shelf: &mut Shelf<'_>) -> Result<bool, Fault> {
+    carry(rt, shelf)?;
+    is_edited(rt.alloc(), shelf)
 }
 
 /// A folder of one table, compacted to none. If memory was refused, the same folder is opened
 /// again.
-pub fn installed(alloc: Global) -> Result<bool, Fault> {
-    let mut shelf = Shelf::new(alloc, FILES);
-    let answer = carried(alloc, &mut shelf);
+pub fn installed<R: AllocGlobal + Threads + Sync>(rt: &R) -> Result<bool, Fault> {
+    let mut shelf = Shelf::new(rt.alloc(), FILES);
+    let answer = carried(rt, &mut shelf);
     if !is_memory(&answer) {
         return answer;
     }
-    carried(alloc, &mut shelf)
+    carried(rt, &mut shelf)
 }
 
 /// Compacts level 1 of a folder. Whether the lines are right.

@@ -25,12 +25,14 @@ mod fault;
 mod folders;
 mod groups;
 mod held;
+mod outcomes;
 mod plans;
 mod refusals;
 mod requests;
 mod rows;
 mod tries;
 mod worked;
+mod wrongs;
 
 use crate::damage::{print_claims, print_damage};
 use crate::fault::wanted;

@@ -21,6 +21,10 @@
 //! | a folder is asked (4) | `manifest`, `verify`, `get_dir`, `unverified_value` | lines |
 //! | a version in groups | `test_version` | files, entries |
 //! | rows in groups | `scan_unverified` | rows, of which the first may be told before a refusal |
+//! | values in groups (6) | `answer_opened` | lines |
+//! | counts in groups (6) | `version_stats` | amounts of each level |
+//! | faults in groups (6) | `all_faults` and their lines | lines, as of rows in groups |
+//! | an outcome (4) | `install_outcome` | lines, version after |
 //! | a table is dumped | `dump`, `progress_text` | lines, text |
 //!
 //! If a call was refused, the next try makes all anew, except:
@@ -31,6 +35,7 @@
 //! 3. The cursors may only have lost entries before the key, or before the end of the range.
 //! 4. The calls are made again on the same folder.
 //! 5. The next try has the same inputs and split.
+//! 6. The calls are made again on the same version and folder.
 
 use crate::case::Case;
 use crate::cases::{DELETION, FOUR_WORKERS, GRANDPARENTS, OUTPUTS, SPOILT, THIRD_SPOILT};
@@ -75,6 +80,10 @@ pub enum Row {
     FolderAsked,
     Groups,
     Rows,
+    Values,
+    Counts,
+    Faults,
+    Outcome,
     Dump,
     Resting(Resting),
 }
@@ -185,6 +194,16 @@ pub const GROWTHS: &[(Row, &str)] = &[
     ),
     (Row::Groups, "  a version is tested in groups"),
     (Row::Rows, "  the rows of a version are told in groups"),
+    (Row::Values, "  a version in groups is asked for values"),
+    (
+        Row::Counts,
+        "  the entries of a version are counted in groups",
+    ),
+    (
+        Row::Faults,
+        "  all that is wrong with a version is told in groups",
+    ),
+    (Row::Outcome, "  an outcome is tested and installed"),
     (
         Row::Dump,
         "  a table is dumped, and a line of progress made",

@@ -10,12 +10,14 @@ use crate::case::{Case, carried, is_answer, picked, three_ranges};
 use crate::cursors::{block_walked, merged, sought, table_walked};
 use crate::fault::{is_memory, wanted};
 use crate::folders::{blocks_merged, folder_asked, folder_compacted, installed, table_dumped};
-use crate::groups::{version_scanned, version_tested};
+use crate::groups::{version_asked, version_counted, version_scanned, version_tested};
 use crate::held::{Held, Wait, Wanting};
+use crate::outcomes::outcome_installed;
 use crate::plans::{chosen, planned, range_merged, seated};
 use crate::refusals::{Order, has_as_many, refuse, was_refused};
 use crate::requests::is_answered_of_many;
 use crate::rows::{Resting, Row, Workers};
+use crate::wrongs::faults_told;
 use anyhow::Result;
 use coding::{Fault, FaultName};
 use ikey::Bytewise;
@@ -155,7 +157,7 @@ fn is_right<R: AllocGlobal + Threads + Sync>(rt: &R, row: &Row) -> Result<bool, 
         Row::Plan => planned(alloc),
         Row::Split => chosen(alloc),
         Row::Board => seated(alloc),
-        Row::Install => installed(alloc),
+        Row::Install => installed(rt),
         Row::Case(..) => Ok(false),
         Row::Many(case, count) => is_answered_of_many(rt, case, *count),
         Row::Blocks => blocks_merged(rt),
@@ -164,6 +166,10 @@ fn is_right<R: AllocGlobal + Threads + Sync>(rt: &R, row: &Row) -> Result<bool, 
         Row::FolderAsked => folder_asked(rt),
         Row::Groups => version_tested(rt),
         Row::Rows => version_scanned(rt),
+        Row::Values => version_asked(rt),
+        Row::Counts => version_counted(rt),
+        Row::Faults => faults_told(rt),
+        Row::Outcome => outcome_installed(rt),
         Row::Dump => table_dumped(alloc),
         Row::Resting(resting) => is_resting(alloc, resting),
     }
@@ -205,7 +211,11 @@ fn is_counted(tried: &Tried<'_>) -> bool {
             | Row::Folder
             | Row::FolderAsked
             | Row::Groups
-            | Row::Rows,
+            | Row::Rows
+            | Row::Values
+            | Row::Counts
+            | Row::Faults
+            | Row::Outcome,
         ) => false,
         Tried::Row(_) => true,
         Tried::Asked(_) => false,

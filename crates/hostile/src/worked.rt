@@ -365,3 +365,21 @@ pub const SEVERAL_RANGES: &[u8] = b"\
     \x07\x01\x0bq\x09b\x01\x02\0\0\0\0\0\0\x09b\x01\x02\0\0\0\0\0\0\x07\x01\x0cr\x09u\x01\x07\0\0\
     \0\0\0\0\x09u\x01\x07\0\0\0\0\0\0\x07\x02\x09\x7d\x09a\x01\x01\0\0\0\0\0\0\x09u\x01\x01\0\0\0\
     \0\0\0";
+
+/// Files of which those of level 1 have older entries of two user keys than those below.
+/// `edit: comparator leveldb.BytewiseComparator, log 3, previous 0, next 20, last 10, file 1 9 125
+/// a@1 put .. u@1 put, file 2 10 113 a@3 put .. a@3 put, file 2 11 113 b@2 put .. b@2 put, file 2
+/// 12 114 u@7 put .. u@7 put`
+pub const DISORDERED: &[u8] = b"\
+    \x01\x1aleveldb.BytewiseComparator\x02\x03\x09\0\x03\x14\x04\x0a\x07\x01\x09\x7d\x09a\x01\x01\
+    \0\0\0\0\0\0\x09u\x01\x01\0\0\0\0\0\0\x07\x02\x0aq\x09a\x01\x03\0\0\0\0\0\0\x09a\x01\x03\0\0\0\
+    \0\0\0\x07\x02\x0bq\x09b\x01\x02\0\0\0\0\0\0\x09b\x01\x02\0\0\0\0\0\0\x07\x02\x0cr\x09u\x01\x07\
+    \0\0\0\0\0\0\x09u\x01\x07\0\0\0\0\0\0";
+
+/// Log 3, previous log 0, next file 11, last sequence 4, a compact pointer of `u` at 2 at level 1,
+/// file 7 of level 1 deleted, and at level 2 file 10 of 125 bytes from `u` at 4 to `u` at 2.
+/// `edit: log 3, previous 0, next 11, last 4, pointer 1 u@2 put, delete 1 7, file 2 10 125 u@4 del
+/// .. u@2 put`
+pub const TWICE_LEFT: &[u8] = b"\
+    \x02\x03\x09\0\x03\x0b\x04\x04\x05\x01\x09u\x01\x02\0\0\0\0\0\0\x06\x01\x07\x07\x02\x0a\x7d\x09\
+    u\0\x04\0\0\0\0\0\0\x09u\x01\x02\0\0\0\0\0\0";

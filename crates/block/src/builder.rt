@@ -49,7 +49,8 @@ impl Model for BlockBuilder {
 
     ghost Value = { BlockBuilding };
 
-    ghost view = { λ b. record { interval = b.interval; entries = entries_behind [] b.bytes.items } };
+    ghost view = { λ b.
+        record { interval = b.interval; entries = entries_behind [] b.bytes.items } };
 
     ghost invariant = { λ b.
         IsBlockBuilder b.interval (entries_behind [] b.bytes.items) b.bytes.items

@@ -44,7 +44,7 @@ pub fn next_since(since: u64, interval: u64) -> u64
     if since + 1 == interval { 0 } else { since + 1 }
 }
 
-/// How many bytes of the key before it an entry shares. It is none if the entry begins an interval,
+/// How many bytes of the key before it an entry shares. It is 0 if the entry begins an interval,
 /// for then a restart points at it.
 ///
 /// `since` is how many entries of the interval come before it. Takes no memory.

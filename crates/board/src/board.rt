@@ -53,7 +53,8 @@ impl Model for Board {
 
     ghost Value = { Layout };
 
-    ghost view = { λ b. layout b.table.shared.table_id b.table.shared.key.jobs b.table.shared.key.seats };
+    ghost view = { λ b.
+        layout b.table.shared.table_id b.table.shared.key.jobs b.table.shared.key.seats };
 
     ghost invariant = { λ b.
         (b.table.shared.table_id.words ≡ 65) × (b.table.shared.table_id.slots ≡ 0)

@@ -31,11 +31,11 @@ impl<'t, C: Comparator> Labour for Checks<'t, C> {
 
     ghost jobs = { λ s. length s.loaded.now };
 
-    ghost refusal = { λ s job. refusal_at (table_answers C.cmp (map (λ t. (t.0, t.1.items)) s.loaded.now))
-        job };
+    ghost refusal = { λ s job.
+        refusal_at (table_answers C.cmp (map (λ t. (t.0, t.1.items)) s.loaded.now)) job };
 
-    ghost gives = { λ s job out. HasValue (table_answers C.cmp (map (λ t. (t.0, t.1.items)) s.loaded.now))
-        job out };
+    ghost gives = { λ s job out.
+        HasValue (table_answers C.cmp (map (λ t. (t.0, t.1.items)) s.loaded.now)) job out };
 
     fn work(&self, job: u64) -> Result<NumberedTable<'t, C>, Fault> {
         check_at(self.alloc, self.loaded, job)

@@ -87,7 +87,7 @@ impl<'r, 'a> EntryWalk<'r, 'a> {
     }
 
     /// How many bytes of its key the next entry leaves out in a block: those that it shares with
-    /// the key before it, if there is one. It is none if `since`, the number of entries after the
+    /// the key before it, if there is one. It is 0 if `since`, the number of entries after the
     /// last whole interval, is 0, for then a restart points at it. Takes no memory.
     #[inline(always)]
     pub fn left_out(&self, since: u64) -> usize

@@ -12,7 +12,7 @@ use Rattle.std.proofs.lemmas.List.Elements.{All-from_recursion, Contains-append_
 use Rattle.std.proofs.lemmas.Option.{same_Some}
 use Rattle.ikey.specs.Comparator.{IsExact, KeyOrder}
 use Rattle.ikey.specs.Key.{user_of}
-use Rattle.edit.proofs.Inserted.{from_all, sorted_all}
+use Rattle.edit.proofs.Inserted.{sorted_all}
 use Rattle.edit.proofs.Inserted as inserted
 use Rattle.keep.specs.InRange.{is_in_range}
 use Rattle.keep.proofs.Distinct.{holds_tells}

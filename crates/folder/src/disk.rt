@@ -109,8 +109,8 @@ impl<'r, R: SystemFiles + WholeFiles + AllocGlobal + Threads> Disk<'r, R> {
     /// it has only that.
     ///
     /// A later sync of such a file makes no call and answers as this one did, until a file is made,
-    /// renamed or removed; if this one failed, until that befalls the file itself. A file that can't
-    /// be opened now, for whatever reason, is synced when that is asked for.
+    /// renamed or removed; if this one failed, until that befalls the file itself. A file that
+    /// can't be opened now, for whatever reason, is synced when that is asked for.
     pub fn sync_ahead(&mut self, order: Order, version: &Version, manifest: u64)
         ensures failed { ⟦<Disk<'r, R> as Folder>⟧.failed self.new
             ≡ ⟦<Disk<'r, R> as Folder>⟧.failed self.old }

@@ -3,9 +3,9 @@
 //! LevelDB locks the whole of LOCK by `fcntl`. A [`FolderLock`] is two locks on that file:
 //!
 //! 1. A lock by `flock`, which this program alone asks for. Those who read share it.
-//! 2. The lock that the kit's `sqlite_std_file` takes by `fcntl`, on bytes of the file. It is in the
-//!    way of LevelDB's, and LevelDB's is in its way. It can't be shared: of several that read one
-//!    folder, the first holds it.
+//! 2. The lock that the kit's `sqlite_std_file` takes by `fcntl`, on bytes of the file. It is in
+//!    the way of LevelDB's, and LevelDB's is in its way. It can't be shared: of several that read
+//!    one folder, the first holds it.
 //!
 //! Why the first: if the second is held, it tells whether that is by this program.
 
@@ -53,8 +53,8 @@ pub fn lock_to_change<R: SystemFiles>(
 /// read it by this program. It does not wait.
 ///
 /// None if there is no LOCK, if it may not be opened, or if the system has no locks for it: then
-/// nothing keeps others out. If the second lock can't be had, since LOCK may not be written, has two
-/// names, or nothing can be made beside it, only this program is kept from changing the folder.
+/// nothing keeps others out. If the second lock can't be had, since LOCK may not be written, has
+/// two names, or nothing can be made beside it, only this program is kept from changing the folder.
 ///
 /// - Locked: another holds the lock of [`lock_to_change`], or has the database open.
 /// - Device: LOCK can't be opened or locked for any other reason, or is no regular file.

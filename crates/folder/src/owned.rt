@@ -35,7 +35,8 @@ pub(crate) struct Access {
 ///
 /// It gets the permissions of the folder's CURRENT, and its owner and group if the program may set
 /// them; in between it never has more. Its owner may read and write it in any event, and its group
-/// may nothing if it isn't that of CURRENT. Without CURRENT it gets what the system gives new files.
+/// may nothing if it isn't that of CURRENT. Without CURRENT it gets what the system gives new
+/// files.
 pub(crate) fn new_file<R: OwnedFiles>(
     rt: &R,
     path: &str,

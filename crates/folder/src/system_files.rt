@@ -31,8 +31,9 @@ pub trait OwnedFiles: Files {
 pub trait SystemFiles: OwnedFiles {
     ghost use Rattle.std.specs.Thread.{IsSync};
 
-    /// Takes a lock on bytes of the file at `path` that nobody shares. It does not wait. A lock that
-    /// another program has on the whole file is in its way, and this one in the way of such a lock.
+    /// Takes a lock on bytes of the file at `path` that nobody shares. It does not wait. A lock
+    /// that another program has on the whole file is in its way, and this one in the way of such a
+    /// lock.
     ///
     /// It needs a regular file with one name that may be read and written. A file of its name and
     /// `-wal` after it is made beside it, and can be removed. WouldBlock if another is in the way.

@@ -113,7 +113,8 @@ greater_byte x y p r s less small =
 -- a number of n bytes
 pub leading_number-lt : (n : ℕ) (key : List ℕ) → leading_number n key < 256 ^ n
 leading_number-lt zero key = omega arith
-leading_number-lt (suc n) [] = let some = one-le-pow (suc n) 256 (omega arith) in omega (arith, some)
+leading_number-lt (suc n) [] =
+    let some = one-le-pow (suc n) 256 (omega arith) in omega (arith, some)
 leading_number-lt (suc n) (b ∷ bs) =
     let some = one-le-pow (suc n) 256 (omega arith) in omega (arith, some)
 
@@ -136,15 +137,22 @@ leading_less (suc n) (x ∷ xs) (y ∷ ys) h =
     elim (cases_lt x y) [
       | inl less ↦ ap (λ o. ordering_then o (slice_cmp nat_cmp xs ys)) (nat_less x y less)
       | inr not_less ↦ elim (cases_lt y x) [
-        | inl greater ↦ absurd (let above = greater_byte y x p s r greater (leading_number-lt n ys) in omega (arith, above, below))
-        | inr not_greater ↦ same_first n x y xs ys (omega arith) below (λ (k : r < s). leading_less n xs ys k)
+        | inl greater ↦ absurd
+            (let above = greater_byte y x p s r greater (leading_number-lt n ys) in
+            omega (arith, above, below))
+        | inr not_greater ↦ same_first n x y xs ys (omega arith) below
+            (λ (k : r < s). leading_less n xs ys k)
       ]
     ]
   where
-    same_first : (n x y : ℕ) (xs ys : List ℕ) → x ≡ y → x * 256 ^ n + leading_number n xs < y * 256 ^ n + leading_number n ys → (leading_number n xs < leading_number n ys → bytewise_cmp xs ys ≡ Less) → bytewise_cmp (x ∷ xs) (y ∷ ys) ≡ Less
+    same_first : (n x y : ℕ) (xs ys : List ℕ) → x ≡ y
+        → x * 256 ^ n + leading_number n xs < y * 256 ^ n + leading_number n ys
+        → (leading_number n xs < leading_number n ys → bytewise_cmp xs ys ≡ Less)
+        → bytewise_cmp (x ∷ xs) (y ∷ ys) ≡ Less
     same_first n x y xs ys same below rest =
         let products : x * 256 ^ n ≡ y * 256 ^ n = ap (λ (b : ℕ). b * 256 ^ n) same in
-        ap (λ o. ordering_then o (slice_cmp nat_cmp xs ys)) (nat_same x y same) ∙ rest (omega (arith, products, below))
+        ap (λ o. ordering_then o (slice_cmp nat_cmp xs ys)) (nat_same x y same)
+        ∙ rest (omega (arith, products, below))
 
 pub bytewise_rises : HeadsRise bytewise_cmp bytewise_head
 unfolding bytewise_head

@@ -44,7 +44,8 @@ shortlex_rises a b h =
     let low_a = bytewise_head-lt a in
     let low_b = bytewise_head-lt b in
     elim (cases_lt (length a) (length b)) [
-      | inl less ↦ ap (λ o. ordering_then o (slice_cmp nat_cmp a b)) (nat_less (length a) (length b) less)
+      | inl less ↦
+          ap (λ o. ordering_then o (slice_cmp nat_cmp a b)) (nat_less (length a) (length b) less)
       | inr not_less ↦
           let same : length a ≡ length b = omega (arith, h, low_a, low_b, not_less) in
           ap (λ o. ordering_then o (slice_cmp nat_cmp a b)) (nat_same (length a) (length b) same)

@@ -24,8 +24,8 @@ abbrev pub AreBufferEnds : ℕ → ℕ → List KeptEntry → Type 0
 AreBufferEnds at last [] = at ≡ last
 AreBufferEnds at last (k ∷ ks) = (at ≤ k.end) × AreBufferEnds k.end last ks
 
--- From offset `at` on the bytes are the keys of these entries, each an internal key. With each entry
--- but the first stands the length that its key shares with the key before it.
+-- From offset `at` on the bytes are the keys of these entries, each an internal key. With each
+-- entry but the first stands the length that its key shares with the key before it.
 pub record AreKeys (at : ℕ) (keys : List ℕ) (kept : List KeptEntry) : Type 0 where
   pub ends : AreBufferEnds at (length keys) kept
   pub internal : AllByRecursion (λ e. IsInternalKey e.key) (entries_at at keys kept)

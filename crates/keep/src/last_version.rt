@@ -87,8 +87,8 @@ impl LastVersion {
         self.sequence = Some(key.sequence());
     }
 
-    /// Makes the entry of `key` the previous one, which was not kept and has the user key of the one
-    /// before it.
+    /// Makes the entry of `key` the previous one, which was not kept and has the user key of the
+    /// one before it.
     pub fn pass(&mut self, key: InternalKey<'_>)
         ensures { self.new ≡ record {
           is_kept = self.old.is_kept;
@@ -99,8 +99,8 @@ impl LastVersion {
         self.sequence = Some(key.sequence());
     }
 
-    /// Makes the entry of `key` the previous one, which was not kept. The only fault is Memory, which
-    /// changes nothing.
+    /// Makes the entry of `key` the previous one, which was not kept. The only fault is Memory,
+    /// which changes nothing.
     pub fn set(&mut self, key: InternalKey<'_>) -> Result<(), Fault>
         ensures ok { OnOk result (self.new ≡ record {
           is_kept = false;

@@ -1,9 +1,9 @@
 -- What is tested of a version's files, one by one and in order.
-use Rattle.std.specs.Prelude.{◌≡◌, ℕ, ◌+◌, ◌-◌, ◌<◌, nat_lt, nat_le, nat_eq, Bool, true, false, not}
-use Rattle.std.specs.Prelude.{◌&&◌, ◌||◌, if◌then◌else◌, List, length, map, slice_get}
-use Rattle.std.specs.Prelude.{slice_index_or, Option, Some, None, Ok, AllPairs, Contains}
+use Rattle.std.specs.Prelude.{◌≡◌, ℕ, ◌+◌, ◌<◌, nat_lt, nat_le, nat_eq, Bool, true, not}
+use Rattle.std.specs.Prelude.{◌&&◌, ◌||◌, if◌then◌else◌, List, length, map}
+use Rattle.std.specs.Prelude.{slice_index_or, Option, AllPairs, Contains}
 use Rattle.std.specs.List.{IsDistinct}
-use Rattle.std.specs.Option.{option_map, option_map_or}
+use Rattle.std.specs.Option.{option_map_or}
 use Rattle.std.specs.List.Sorted.{IsSortedBy}
 use Rattle.std.specs.Ordering.{nat_cmp, ordering_then, is_lt}
 use Rattle.std.specs.declared.cmp.Ordering.{Ordering}
@@ -11,15 +11,13 @@ use Rattle.std.specs.Str.{bytes_eq}
 use Rattle.ikey.specs.Key.{user_of, sequence_of}
 use Rattle.ikey.specs.Order.{internal_cmp}
 use Rattle.ikey.specs.Comparator.{KeyOrder}
-use Rattle.table.specs.TableContents.{Contents, contents_reading}
-use Rattle.table.specs.ReadingCursors.{EntriesRise}
 use Rattle.split.specs.Ranges.{KeyRange}
 use Rattle.edit.specs.Version.{are_apart}
 use Rattle.edit.specs.declared.meta.FileMeta.{FileMeta}
 use Rattle.edit.specs.declared.meta.NewFile.{NewFile}
 use Rattle.reads.specs.declared.level_file.LevelFile.{LevelFile}
 pub use Rattle.reads.specs.StatedFiles.{is_below, matches_metadata, IsStatedFile}
-use Rattle.reads.specs.Tables.{NumberedContents, table_of_number, table_entries}
+use Rattle.reads.specs.Tables.{NumberedContents, table_entries}
 use Rattle.reads.specs.Lawful.{IsFileOf, IsBelowNextFile, AreDistinct}
 
 -- a file and its level

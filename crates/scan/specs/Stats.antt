@@ -90,7 +90,8 @@ pub record Stats : Type 0 where
 abbrev pub version_stats : KeyOrder → State → List NumberedContents → Stats
 version_stats cmp v tables = record {
   levels = all_levels (λ level.
-      level_stats cmp level (told_amounts (level_amounts cmp v tables level)) (level_files cmp v level));
+      level_stats cmp level (told_amounts (level_amounts cmp v tables level))
+      (level_files cmp v level));
   all = told_amounts (amounts_sum (all_levels (λ level. level_amounts cmp v tables level ∷ [])));
 }
 

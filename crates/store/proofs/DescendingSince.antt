@@ -7,10 +7,8 @@ use Rattle.coding.specs.declared.fault.Fault.{Fault}
 use Rattle.edit.specs.Version.{State}
 use Rattle.ikey.specs.Comparator.{ShortKeys}
 use Rattle.folder.proofs.LoadingLemmas.{told_since}
-use Rattle.folder.specs.Calls.{Files, Step, Tells}
+use Rattle.folder.specs.Calls.{Step}
 use Rattle.folder.specs.Folder.{TellsSame}
-use Rattle.folder.specs.Levels.{file_numbers}
-use Rattle.folder.specs.ReadsAs.{IsHeldIn}
 use Rattle.folder.specs.declared.order.Order.{Order}
 use Rattle.reads.specs.Tables.{NumberedContents}
 use Rattle.settings.specs.declared.settings.Settings.{Settings}

@@ -13,7 +13,6 @@ use Rattle.folder.specs.Calls.{Files}
 use Rattle.folder.specs.LoadedTables.{IsLoaded}
 use Rattle.folder.specs.ReadsAs.{IsHeldIn}
 use Rattle.pick.specs.Picked.{PickedInputs}
-use Rattle.pick.specs.declared.picked.InputFile.{InputFile}
 use Rattle.reads.specs.Tables.{NumberedContents}
 use Rattle.checks.specs.Checked.{tables_reading}
 use Rattle.checks.specs.HeldTables.{IsCheckedAnswer, held_bytes, held_numbers}

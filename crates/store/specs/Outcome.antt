@@ -60,8 +60,8 @@ pub record LevelCompaction (order : Order) (cmp : List ℕ → List ℕ → Orde
   pub answered : compaction_from first cmp short_keys v loaded p s ≡ Ok answer
   pub edited : EditedVersion order cmp v loaded tables s answer
 
--- the calls that write an edit: it is made and synced under a temporary name, then it gets its name,
--- and then the folder is synced
+-- the calls that write an edit: it is made and synced under a temporary name, then it gets its
+-- name, and then the folder is synced
 abbrev pub edit_calls : List ℕ → List Call
 edit_calls edit = write_calls (codes "EDIT.dbtmp") edit
     ++ (Renamed (codes "EDIT.dbtmp") (codes "EDIT") ∷ FolderSynced ∷ [])

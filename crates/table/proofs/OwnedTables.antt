@@ -1,11 +1,9 @@
 -- The index block of a table that was checked, found again.
-use Rattle.std.proofs.Common.{◌≡◌, ℕ, ◌-◌, ◌^◌, ◌≤◌, nat_le, Bool, true, false, List, length, drop, Option, Result, Ok, Err, refl, sym, ap, subst, ◌∙◌, arith}
+use Rattle.std.proofs.Common.{◌≡◌, ℕ, ◌-◌, ◌^◌, ◌≤◌, nat_le, Bool, true, false, List, length, drop, Result, Ok, Err, refl, sym, ap, subst, ◌∙◌}
 use Rattle.std.proofs.lemmas.Bool.{leb-true}
 use Rattle.std.specs.Prelude.{IsOk}
 use Rattle.std.specs.declared.cmp.Ordering.{Ordering}
-use Rattle.coding.specs.Answers.{◌>>=◌}
 use Rattle.coding.specs.declared.fault.Fault.{Fault}
-use Rattle.coding.specs.declared.fault.FaultName.{FaultName}
 use Rattle.coding.specs.declared.fault.FaultName.TheVariants.{Size, Short}
 use Rattle.coding.proofs.Binds.{done, bind_ok, ok_is}
 use Rattle.block.specs.EncodedEntry.{Entry, IsBlock}
@@ -16,7 +14,7 @@ use Rattle.frame.specs.Trailer.{stored_reading}
 use Rattle.frame.specs.declared.footer.Footer.{Footer}
 use Rattle.table.specs.ReadingSteps.{test_result}
 use Rattle.table.specs.ReadingIndex.{stored_at, block_in}
-use Rattle.table.specs.TableContents.{DataBlock, index_in, blocks_of, Contents, contents_of, contents_reading}
+use Rattle.table.specs.TableContents.{index_in, blocks_of, Contents, contents_of, contents_reading}
 
 -- the index block of these entries, step by step
 pub record IndexThere (bytes : List ℕ) (entries : List Entry) : Type 0 where

@@ -8,8 +8,8 @@ use Rattle.usage.specs.declared.requests.RowOptions.{RowOptions}
 use Rattle.usage.specs.declared.requests.Usage.{Usage}
 
 -- the options on rows by these texts and numbers
-abbrev pub AreOptions : Spelling → Option Text → Option Text → Option ℕ → Option ℕ → Bool → RowOptions
-    → Type 0
+abbrev pub AreOptions : Spelling → Option Text → Option Text → Option ℕ → Option ℕ → Bool
+    → RowOptions → Type 0
 AreOptions spelling from to at limit with_values options = AreBounds spelling from to options
     × ((options.at ≡ at) × ((options.limit ≡ limit) × (options.with_values ≡ with_values)))
 

@@ -55,7 +55,8 @@ fn begun(register: u32) -> [u8; LEN]
 fn take_out(taken: &mut [u8; LEN], chunks: &[[u8; 16]])
     requires { length chunks.now ≤ 64 }
     ensures { (register : ℕ) → StandsFor (take 266 taken.old) register →
-        StandsFor (take 266 taken.new) (register_after_bits register (bits_of (concat chunks.now))) }
+        StandsFor (take 266 taken.new)
+        (register_after_bits register (bits_of (concat chunks.now))) }
 {
     let mut place = REACH;
     for chunk in chunks {

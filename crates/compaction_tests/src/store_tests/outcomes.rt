@@ -111,8 +111,8 @@ fn outcome_of<R: AllocGlobal + Threads + Sync>(
     }
 }
 
-/// Whether an outcome is written as these files, by two calls each, one that names the edit, and one
-/// for the folder.
+/// Whether an outcome is written as these files, by two calls each, one that names the edit, and
+/// one for the folder.
 fn is_written<R: AllocGlobal + Threads + Sync>(rt: &R, outcome: &Outcome, files: Files) -> bool {
     let mut folder = Shelf::new(rt.alloc(), NO_FILES);
     let answer = write_outcome(rt, &mut folder, outcome);

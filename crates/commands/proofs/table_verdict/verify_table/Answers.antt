@@ -1,4 +1,4 @@
-use Rattle.std.proofs.Common.{◌≡◌, ℕ, Result, Ok, sym, ap, subst}
+use Rattle.std.proofs.Common.{ℕ, Result, Ok, sym, ap, subst}
 use Rattle.coding.specs.Answers.{EqualOrMemory, ◌>>=◌}
 use Rattle.coding.specs.declared.fault.Fault.{Fault}
 use Rattle.commands.specs.FaultLines.{valid_line}

@@ -1,4 +1,4 @@
-use Rattle.std.proofs.Common.{[], List, ℕ, refl, subst}
+use Rattle.std.proofs.Common.{[], List, ℕ, subst}
 use Rattle.std.specs.Global.{Vec}
 use Rattle.folder.specs.CallSequence.{MakesCalls}
 use Rattle.install.specs.Install.{table_calls, tables_in}

@@ -1,13 +1,13 @@
-use Rattle.std.proofs.Common.{◌≡◌, ◌∷◌, [], ◌++◌, ℕ, List, Ok, ap, codes, refl, string_bytes, subst, sym, ◌∙◌}
+use Rattle.std.proofs.Common.{◌≡◌, ◌∷◌, [], ◌++◌, ℕ, List, codes, refl, string_bytes, subst, sym, ◌∙◌}
 use Rattle.coding.proofs.Binds.{ok_is}
 use Rattle.folder.proofs.RunLemmas.{runs_one}
 use Rattle.folder.specs.CallSequence.{MakesCalls}
-use Rattle.folder.specs.Calls.{Call, FolderSynced, Synced}
+use Rattle.folder.specs.Calls.{FolderSynced, Synced}
 use Rattle.folder.specs.Levels.{file_numbers}
 use Rattle.folder.specs.Names.{manifest_name}
 use Rattle.folder.specs.Orders.{order_cmp}
 use Rattle.store.specs.VersionSync.{table_syncs}
-use Rattle.store.proofs.Runs.{run_done, run_failed, run_handed, run_same, run_then}
+use Rattle.store.proofs.Runs.{run_done, run_failed, run_handed, run_then}
 use Rattle.store.proofs.version_sync.make_syncs.Goals as goal
 
 pub returns-in_err-sync_both : goal.returns-in_err-sync_both

@@ -1,4 +1,4 @@
-use Rattle.std.proofs.Common.{◌≡◌, ◌+◌, ◌-◌, ◌++◌, Bor, ℕ, List, Ok, ap, append_assoc, map, refl, sym, ◌∙◌, rules}
+use Rattle.std.proofs.Common.{◌≡◌, ◌+◌, ◌-◌, ◌++◌, Bor, ℕ, List, ap, map, refl, sym, ◌∙◌}
 use Rattle.coding.proofs.Binds.{ok_is}
 use Rattle.coding.proofs.Refusals.{only_memory}
 use Rattle.edit.specs.declared.meta.FileMeta.{FileMeta}

@@ -1,5 +1,3 @@
-use Rattle.std.proofs.Common.{◌≡◌, ℕ, List, ◌++◌, map, Option, Result, Ok, Err, OnOk, ap, subst, sym, ◌∙◌}
-use Rattle.std.specs.declared.cmp.Ordering.{Ordering}
 use Rattle.folder.specs.Orders.{order_cmp}
 use Rattle.store.proofs.SyncsTold.{syncs_tell}
 use Rattle.store.proofs.Synced.{synced_stands}

@@ -1,4 +1,4 @@
-use Rattle.std.proofs.Common.{ap, subst, List, ℕ}
+use Rattle.std.proofs.Common.{subst, List, ℕ}
 use Rattle.table.specs.SoundTables.{IsCheckedTable}
 use Rattle.table.proofs.OwnedTables.{own_bytes}
 use Rattle.table.proofs.owned_table.checked_bounds.Goals as goal

@@ -1,4 +1,4 @@
-use Rattle.std.proofs.Common.{◌≡◌, List, ℕ, Some, sym, ap, ◌∙◌, arith}
+use Rattle.std.proofs.Common.{List, ℕ, Some, sym, ap, ◌∙◌, arith}
 use Rattle.install.specs.Install.{tables_in}
 use Rattle.adoption.proofs.AdoptionSteps.{ok_with}
 use Rattle.adoption.proofs.OverlayFiles.{bytes_end, told_laid, told_plainly}

@@ -1,4 +1,4 @@
-use Rattle.std.proofs.Common.{refl, ◌∙◌, arith}
+use Rattle.std.proofs.Common.{arith}
 use Rattle.std.specs.List.{concat}
 use Rattle.coding.specs.Crc.{bits_of}
 use Rattle.coding.specs.CrcRegister.{register_after_bits}

@@ -1,4 +1,4 @@
-use Rattle.std.proofs.Common.{◌≡◌, ◌^◌, ◌<◌, [], refl, ◌∙◌, arith}
+use Rattle.std.proofs.Common.{◌≡◌, [], refl, ◌∙◌, arith}
 use Rattle.coding.specs.Crc.{bits_of}
 use Rattle.coding.specs.CrcRegister.{register_after_bits, register_of_lanes}
 use Rattle.coding.proofs.CrcWindows.{left_done, left_first, left_more, lanes_fit, no_lanes}

@@ -1,4 +1,4 @@
-use Rattle.std.proofs.Common.{◌-◌, [], length, take, refl, sym, ap, ◌∙◌, arith}
+use Rattle.std.proofs.Common.{◌-◌, [], take, refl, sym, ap, ◌∙◌, arith}
 use Rattle.std.proofs.lemmas.Simd.{length-put_chunk}
 use Rattle.std.specs.List.{concat}
 use borrow.Rule.Slice.PartMut.{mid_of, put_mid, same_len_mid}

@@ -1,7 +1,6 @@
-use Rattle.std.proofs.Common.{◌≡◌, ◌<◌, ℕ, List, length, drop, sym, ap, subst, ◌∙◌, arith}
-use Rattle.block.specs.EncodedEntry.{Entry}
+use Rattle.std.proofs.Common.{◌≡◌, ◌<◌, ℕ, List, length, drop, sym, ap, ◌∙◌, arith}
 use Rattle.keep.specs.declared.kept_entry.KeptEntry.{KeptEntry}
-use Rattle.keep.specs.KeyBuffer.{entries_at, AreKeys}
+use Rattle.keep.specs.KeyBuffer.{entries_at}
 use Rattle.keep.proofs.KeyBuffers.{length-entries}
 use Rattle.keep.proofs.entry_chunk.EntryChunk.piece.Goals as goal
 

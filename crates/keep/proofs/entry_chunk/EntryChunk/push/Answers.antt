@@ -4,7 +4,7 @@ use Rattle.std.specs.List.{common_prefix_len}
 use Rattle.block.specs.EncodedEntry.{Entry}
 use Rattle.block.specs.BuilderView.{last_key}
 use Rattle.keep.specs.declared.kept_entry.KeptEntry.{KeptEntry}
-use Rattle.keep.specs.KeyBuffer.{entries_at, AreKeys}
+use Rattle.keep.specs.KeyBuffer.{entries_at}
 use Rattle.keep.proofs.KeyBuffers.{entries_push, keys_push, keys_bound, length-entries}
 use Rattle.keep.proofs.entry_chunk.EntryChunk.push.Goals as goal
 

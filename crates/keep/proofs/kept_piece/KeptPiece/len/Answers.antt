@@ -1,4 +1,4 @@
-use Rattle.std.proofs.Common.{◌≡◌, length, sym, ap, ◌∙◌}
+use Rattle.std.proofs.Common.{length, sym, ap, ◌∙◌}
 use Rattle.keep.proofs.KeyBuffers.{length-entries}
 use Rattle.keep.proofs.kept_piece.KeptPiece.len.Goals as goal
 

@@ -1,5 +1,4 @@
-use Rattle.std.proofs.Common.{◌≡◌, ℕ, true, Some, ap, ◌∙◌}
-use Rattle.ikey.specs.Key.{sequence_of}
+use Rattle.std.proofs.Common.{ℕ, true, Some, ap, ◌∙◌}
 use Rattle.keep.specs.Versions.{StoredVersion}
 use Rattle.keep.proofs.last_version.LastVersion.keep.Goals as goal
 

@@ -1,4 +1,4 @@
-use Rattle.std.proofs.Common.{◌≡◌, ℕ, Some, ap, ◌∙◌}
+use Rattle.std.proofs.Common.{ℕ, Some, ap, ◌∙◌}
 use Rattle.keep.specs.Versions.{StoredVersion}
 use Rattle.keep.proofs.last_version.LastVersion.pass.Goals as goal
 

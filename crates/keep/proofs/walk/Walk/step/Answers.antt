@@ -1,8 +1,4 @@
-use Rattle.std.proofs.Common.{◌≡◌, ℕ, List, [], sym, ap, ◌∙◌, rules}
-use Rattle.std.specs.Prelude.{nat_eq}
-use Rattle.std.specs.List.{common_prefix_len}
-use Rattle.block.specs.BuilderView.{last_key}
-use Rattle.keep.specs.Walked.{Walked}
+use Rattle.std.proofs.Common.{rules}
 use Rattle.keep.proofs.walk.Walk.step.Goals as goal
 
 pub returns-clause-new : goal.returns-clause-new

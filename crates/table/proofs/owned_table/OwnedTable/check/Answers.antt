@@ -1,8 +1,6 @@
-use Rattle.std.proofs.Common.{ap, subst, sym, ◌∙◌, List, ℕ, Ok}
-use Rattle.std.specs.Prelude.{Result}
+use Rattle.std.proofs.Common.{subst, List, ℕ}
 use Rattle.std.proofs.lemmas.Result.{err_from_is_err_and}
 use Rattle.coding.specs.Answers.{FailsOrMemory}
-use Rattle.coding.specs.declared.fault.Fault.{Fault}
 use Rattle.table.specs.SoundTables.{IsCheckedTable}
 use Rattle.table.specs.TableContents.{contents_reading}
 use Rattle.table.proofs.CheckedTables.{blocks_are, contents_read}

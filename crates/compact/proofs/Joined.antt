@@ -1,6 +1,6 @@
 -- The runs of a request, and what one thread answers: both go on from the union of the inputs.
 use Rattle.std.proofs.Common.{◌≡◌, ℕ, suc, ◌+◌, ◌<◌, ◌≤◌, ◌^◌, Bool, true, false, List, [], ◌∷◌, length, Result, Ok, Err, refl, sym, ap, subst, ◌∙◌}
-use Rattle.std.specs.Prelude.{nat_le, nat_lt, ◌&&◌, if◌then◌else◌, IfOk}
+use Rattle.std.specs.Prelude.{nat_le, nat_lt, ◌&&◌, if◌then◌else◌, IfOk, IfErr}
 use Rattle.std.specs.declared.cmp.Ordering.{Ordering}
 use Rattle.std.specs.List.{list_all}
 use Rattle.std.proofs.lemmas.Bool.{and_parts, leb-true, ltb-true}
@@ -23,6 +23,7 @@ use Rattle.request.specs.Inputs.{inputs_reading, union_reading}
 use Rattle.request.specs.OneThread.{Answer, one_thread, outputs_answer}
 use Rattle.request.specs.OutputTables.{outputs_from}
 use Rattle.compact.specs.RangeMerges.{by_workers, runs_reading}
+use Rattle.compact.specs.Merged.{runs_answer}
 use Rattle.compact.specs.Written.{written_of}
 use Rattle.compact.proofs.PlanAnswers.{outputs_planned}
 use Rattle.compact.proofs.WorkerAnswers.{within, within_limits}
@@ -108,6 +109,16 @@ module _ (cmp : List ℕ → List ℕ → Ordering) (short_keys : ShortKeys) (r 
     refused_answer e h =
         subst (FailsOrMemory e) (sym (thread_is inputs tested read))
         (fails_on (union_reading cmp inputs) (runs_of cmp (below_request r) boundaries) ending e (subst (FailsOrMemory e) runs_are h))
+
+    module _ {V : Type 0} (runs_in : V → List Run) where
+      pub runs_merged : DistinctLaw cmp → RangesCutLaw cmp → IsSplit cmp boundaries → (result : Result V Fault) → EqualOrMemory runs_in result (by_workers workers all_runs)
+          → IfOk result (λ v. one_thread cmp short_keys r ≡ runs_answer cmp short_keys r (runs_in v))
+      runs_merged distinct cut split (Ok v) h = whole_answer distinct cut split (runs_in v) h
+      runs_merged distinct cut split (Err e) h = tt
+
+      pub runs_refused : (result : Result V Fault) → EqualOrMemory runs_in result (by_workers workers all_runs) → IfErr result (λ e. FailsOrMemory e (one_thread cmp short_keys r))
+      runs_refused (Ok v) h = tt
+      runs_refused (Err e) h = refused_answer e h
 
 -- ---- before one thread
 

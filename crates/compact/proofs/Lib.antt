@@ -6,3 +6,4 @@ mod PieceAnswers
 mod PlanAnswers
 mod Joined
 mod NewFiles
+mod GroupedAnswers

@@ -1,33 +1,29 @@
 //! The whole of a compaction.
 
-ghost use Rattle.std.specs.Prelude.{◌≡◌, ◌≤◌, true, map, Ok, IfOk};
-ghost use Rattle.coding.specs.Answers.{EqualOrMemory};
-ghost use Rattle.table.specs.Options.{AreInLimits};
-ghost use Rattle.table.specs.Table.{table};
+ghost use Rattle.std.specs.Prelude.{◌≡◌, ◌≤◌, map, Ok, IfOk, IfErr};
+ghost use Rattle.coding.specs.Answers.{EqualOrMemory, FailsOrMemory};
 ghost use Rattle.split.specs.Boundaries.{IsSplit};
-ghost use Rattle.keep.specs.Runs.{joined_run};
-ghost use Rattle.pick.specs.Picked.{picked_in};
-ghost use Rattle.cut.specs.Outputs.{outputs_of};
 ghost use Rattle.request.specs.Inputs.{inputs_reading};
-ghost use Rattle.request.specs.OneThread.{compaction_result, one_thread};
-ghost use Rattle.request.specs.Request.{has_levels, request_in, request_test};
+ghost use Rattle.request.specs.OneThread.{Answer, compaction_result, one_thread};
+ghost use Rattle.request.specs.Request.{request_in, request_test};
 ghost use Rattle.survival.specs.Survive.{LeavesReads};
 ghost use Rattle.compact.specs.Answered.{answer_in};
-ghost use Rattle.compact.specs.Written.{written_of};
+ghost use Rattle.compact.specs.Merged.{runs_answer};
 
 use crate::inputs::check_inputs;
-use crate::output_writer::write_plan;
+use crate::merged_request::Merged;
 use crate::ranges::merge_ranges;
 use crate::workers::check_workers;
 use board::Gate;
 use coding::Fault;
-use cut::{plan, ranges_cut};
+use cut::ranges_cut;
 use edit::Outcome;
 use ikey::{Comparator, SharedComparator};
 use keep::{RangeRun, distinct_law};
 use request::{Request, passed_law};
 use split::Split;
 use std::alloc::Global;
+use std::marker::PhantomData;
 use std::thread::Threads;
 use survival::reads_survive;
 use table::SoundTable;
@@ -103,14 +99,55 @@ pub fn compact_tables<'t, C: SharedComparator + 'static, G: Gate + Sync, R: Thre
     ensures reads { IfOk result
         (λ outcome. LeavesReads C.cmp (request_in request.now) (answer_in outcome)) }
 {
-    reads_survive::<C>();
-    check_workers(workers)?;
-    request.check::<C>()?;
-    compact_sound(rt, alloc, request, tables, split, workers, gate)
+    let merged = merge_request(rt, alloc, request, tables, split, workers, gate)?;
+    merged.written(rt, alloc, gate)
 }
 
-/// Merges the tables of a request that passed its tests, and writes the outputs and the edit.
-fn compact_sound<'t, C: SharedComparator + 'static, G: Gate + Sync, R: Threads + Sync>(
+/// Merges tables that are checked already, those of the request's inputs in their order, by 1 to 64
+/// workers. What is merged answers as [`compact_tables`]: [`Merged::planned`] plans its outputs, so
+/// that the tables can be written group by group.
+///
+/// The first that applies:
+///
+/// - `Workers`: `workers` is outside 1 to 64.
+/// - What `Request::check` refuses.
+/// - `Duplicate`: the tables have one user key and sequence twice.
+///
+/// The only other fault is `Memory`.
+pub fn merge_request<'q, 't, C: SharedComparator + 'static, G: Gate + Sync, R: Threads + Sync>(
+    rt: &R,
+    alloc: Global,
+    request: &'q Request<'_>,
+    tables: &[SoundTable<'t, C>],
+    split: &Split<C>,
+    workers: u64,
+    gate: &G,
+) -> Result<Merged<'q, 't, C>, Fault>
+    requires read { inputs_reading C.cmp 0 request.now.picked.now.files.items
+        (map (λ t. t.now) request.now.tables.now)
+        ≡ Ok (map (λ t. t.entries) tables.now) }
+    ensures merged { IfOk result (λ merged. merged
+        ≡ compaction_result C.cmp C.short_keys workers (request_in request.now)) }
+    ensures refused { IfErr result (λ e. FailsOrMemory e
+        (compaction_result C.cmp C.short_keys workers (request_in request.now))) }
+    ensures reads { IfOk result (λ merged. (answer : Answer) → merged ≡ Ok answer →
+        LeavesReads C.cmp (request_in request.now) answer) }
+{
+    reads_survive::<C>();
+    passed_law::<C>();
+    check_workers(workers)?;
+    request.check::<C>()?;
+    let runs = merge_tested(rt, alloc, request, tables, split, workers, gate)?;
+    Ok(Merged {
+        request,
+        runs,
+        workers,
+        order: PhantomData,
+    })
+}
+
+/// Merges the tables of a request that passed its tests.
+fn merge_tested<'t, C: SharedComparator + 'static, G: Gate + Sync, R: Threads + Sync>(
     rt: &R,
     alloc: Global,
     request: &Request<'_>,
@@ -118,15 +155,17 @@ fn compact_sound<'t, C: SharedComparator + 'static, G: Gate + Sync, R: Threads +
     split: &Split<C>,
     workers: u64,
     gate: &G,
-) -> Result<Outcome, Fault>
+) -> Result<Vec<RangeRun<'t>>, Fault>
     requires some { 1 ≤ workers }
     requires limited { workers ≤ 64 }
     requires tested { request_test C.cmp (request_in request.now) ≡ Ok tt }
     requires read { inputs_reading C.cmp 0 request.now.picked.now.files.items
         (map (λ t. t.now) request.now.tables.now)
         ≡ Ok (map (λ t. t.entries) tables.now) }
-    ensures { EqualOrMemory answer_in result
-        (one_thread C.cmp C.short_keys (request_in request.now)) }
+    ensures merged { IfOk result (λ runs. one_thread C.cmp C.short_keys (request_in request.now)
+        ≡ runs_answer C.cmp C.short_keys (request_in request.now) runs.items) }
+    ensures refused { IfErr result (λ e. FailsOrMemory e
+        (one_thread C.cmp C.short_keys (request_in request.now))) }
 {
     distinct_law::<C>();
     ranges_cut::<C>();
@@ -135,40 +174,9 @@ fn compact_sound<'t, C: SharedComparator + 'static, G: Gate + Sync, R: Threads +
     let inputs = request.picked;
     let listed = request.snapshots.listed();
     let floor = request.snapshots.floor(request.last_sequence);
-    let runs = merge_ranges(
+    merge_ranges(
         rt, alloc, tables, split, listed, floor, inputs, workers, gate,
-    )?;
-    write_runs::<C, G, R>(rt, alloc, request, &runs, workers, gate)
-}
-
-/// Plans the outputs of runs, and writes them by 1 to 64 workers.
-fn write_runs<'r, 'a, C: SharedComparator + 'static, G: Gate + Sync, R: Threads + Sync>(
-    rt: &R,
-    alloc: Global,
-    request: &Request<'_>,
-    runs: &'r [RangeRun<'a>],
-    workers: u64,
-    gate: &G,
-) -> Result<Outcome, Fault>
-    requires some { 1 ≤ workers }
-    requires limited { workers ≤ 64 }
-    requires limits { AreInLimits request.now.options }
-    requires levels { has_levels (picked_in request.now.picked.now) ≡ true }
-    ensures { EqualOrMemory answer_in result
-        (written_of (table C.cmp C.short_keys request.now.options)
-        (request_in request.now)
-        (outputs_of request.now.picked.now.grandparents.items request.now.options
-        (joined_run runs.now))) }
-{
-    let grandparents = &request.picked.grandparents;
-    let plan = plan::<C>(
-        alloc,
-        runs,
-        grandparents,
-        request.options,
-        request.first_number,
-    )?;
-    write_plan(rt, alloc, request, &plan, workers, gate)
+    )
 }
 
 /// The boundaries of a split rise. A call does nothing.

@@ -5,17 +5,23 @@
 //! 3. The pieces of the plan are encoded, a piece a job, and joined to tables.
 //!
 //! [`compact`] does all of it; [`compact_tables`] the last two runs, over tables that are checked
-//! already. The answer doesn't depend on the workers, nor on the order in which they do their jobs.
+//! already. [`merge_request`] is the second run alone; [`Planned`] then encodes the tables group by
+//! group, so that not all are in memory at once. The answer doesn't depend on the workers, nor on
+//! the order in which they do their jobs.
 #![tactic(auto)]
 
 mod compaction;
 mod edit_bytes;
+mod grouped_plan;
 mod inputs;
+mod merged_request;
 mod output_writer;
 mod piece_encoder;
 mod ranges;
 mod workers;
 
-pub use compaction::{compact, compact_tables};
+pub use compaction::{compact, compact_tables, merge_request};
+pub use grouped_plan::{MOST_TABLES, Planned};
 pub use inputs::check_inputs;
+pub use merged_request::Merged;
 pub use ranges::merge_ranges;

@@ -1,8 +1,9 @@
 //! The outputs of a plan, written by workers.
 
-ghost use Rattle.std.specs.Prelude.{◌≡◌, ◌+◌, ◌<◌, ◌≤◌, ◌^◌, true, length, Ok};
+ghost use Rattle.std.specs.Prelude.{◌≡◌, ◌+◌, ◌<◌, ◌≤◌, ◌^◌, true, length, map, Ok};
 ghost use Rattle.coding.specs.Answers.{EqualOrMemory};
 ghost use Rattle.table.specs.Table.{table};
+ghost use Rattle.cut.specs.Plan.{plan_tables};
 ghost use Rattle.pick.specs.Picked.{picked_in};
 ghost use Rattle.request.specs.Request.{has_levels, request_in};
 ghost use Rattle.compact.specs.Answered.{answer_in};
@@ -19,8 +20,27 @@ use request::Request;
 use std::alloc::Global;
 use std::thread::Threads;
 
-/// Encodes the pieces of a plan by 1 to 64 workers, joins them to the tables of the outputs, and
-/// makes the edit.
+/// Encodes the pieces of a plan by 1 to 64 workers, and joins them to the tables of the outputs,
+/// each with its number.
+///
+/// The only fault is `Memory`.
+pub(crate) fn encode_tables<'p, C: SharedComparator + 'static, G: Gate + Sync, R: Threads + Sync>(
+    rt: &R,
+    alloc: Global,
+    plan: &'p Plan<'p, 'p, C>,
+    workers: u64,
+    gate: &G,
+) -> Result<Vec<(u64, Vec<u8>)>, Fault>
+    requires some { 1 ≤ workers }
+    requires limited { workers ≤ 64 }
+    ensures { EqualOrMemory (λ tables. map (λ t. (t.0, t.1.items)) tables.items) result
+        (Ok (plan_tables (table C.cmp C.short_keys plan.now.options) plan.now.outputs)) }
+{
+    let pieces = encode_pieces(rt, alloc, plan, workers, gate)?;
+    plan.assemble(alloc, pieces)
+}
+
+/// The tables of a plan's outputs, encoded by 1 to 64 workers, and the edit.
 ///
 /// The only fault is `Memory`.
 pub(crate) fn write_plan<'p, C: SharedComparator + 'static, G: Gate + Sync, R: Threads + Sync>(
@@ -39,8 +59,7 @@ pub(crate) fn write_plan<'p, C: SharedComparator + 'static, G: Gate + Sync, R: T
         (Ok (answer_of (table C.cmp C.short_keys plan.now.options)
         (request_in request.now) plan.now.outputs)) }
 {
-    let pieces = encode_pieces(rt, alloc, plan, workers, gate)?;
+    let tables = encode_tables(rt, alloc, plan, workers, gate)?;
     let edit = edit_bytes(alloc, request, plan)?;
-    let tables = plan.assemble(alloc, pieces)?;
     Ok(Outcome { tables, edit })
 }

@@ -22,3 +22,4 @@ pub mod Dealt
 pub mod PlanPieces
 pub mod ReadyPieces
 pub mod Collected
+pub mod Grouped

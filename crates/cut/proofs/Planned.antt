@@ -11,17 +11,14 @@ use Rattle.coding.specs.Answers.{fault}
 use Rattle.coding.specs.declared.fault.FaultName.TheVariants.{Numbers, TooLarge}
 use Rattle.block.specs.EncodedEntry.{Entry}
 use Rattle.table.specs.declared.options.Options.{Options}
-use Rattle.table.specs.Options.{AreInLimits}
 use Rattle.table.specs.DataBlocks.{data_blocks, AreDataBlocks}
 use Rattle.table.specs.Table.{index_keys, table}
 use Rattle.table.proofs.Cuts.{are_data_blocks}
 use Rattle.encoding.specs.declared.planned_block.PlannedBlock.{PlannedBlock}
-use Rattle.cut.specs.declared.piece.Piece.{Piece}
 use Rattle.cut.specs.declared.planned_output.PlannedOutput.{PlannedOutput}
-use Rattle.cut.specs.Divided.{places_all, counts_all, piece_limit}
 use Rattle.cut.specs.Opened.{parts_of, entries_in_blocks, ArePlanned}
 use Rattle.cut.specs.Plan.{OutputView, block_ends_from, planned_from, parts, plan_of}
-use Rattle.cut.specs.PlanInvariant.{planned_of, HaveEntries, numbered_from, block_count, IsPlannedOutput, IsPlan}
+use Rattle.cut.specs.PlanInvariant.{planned_of, HaveEntries, numbered_from, block_count, IsPlannedOutput}
 use Rattle.cut.specs.Sizes.{saturated_length}
 use Rattle.cut.specs.TableLength.{capped_length, table_size}
 use Rattle.cut.proofs.TableLengths.{size_is}
@@ -167,17 +164,9 @@ module _ (cmp : List ℕ → List ℕ → Ordering) (short_keys : ShortKeys) (o 
       let both = and_parts (list_all (λ (p : PlannedOutput). nat_le p.len (2 ^ 30)) (numbered_from size number ended)) (nat_le (block_count (numbered_from size number ended)) (2 ^ 40)) small in
       each_is number ended h.planned (have_entries o ended h.planned (subst (AllByRecursion (λ q. q ≢ [])) (sym h.entries) some)) both.0
 
-  pub plan_kept : (number : ℕ) (ended : List (Vec PlannedBlock)) (outputs : List (List Entry)) (places : List Piece) (counts : List ℕ) → AreInLimits o → IsMade o ended outputs → AllByRecursion (λ q. q ≢ []) outputs
+  pub plan_few : (number : ℕ) (ended : List (Vec PlannedBlock))
       → (list_all (λ (p : PlannedOutput). nat_le p.len (2 ^ 30)) (numbered_from size number ended) && nat_le (block_count (numbered_from size number ended)) (2 ^ 40)) ≡ true
-      → places ≡ places_all (piece_limit (block_count (numbered_from size number ended))) 0 (numbered_from size number ended)
-      → counts ≡ counts_all (piece_limit (block_count (numbered_from size number ended))) 0 (numbered_from size number ended)
-      → IsPlan T o (numbered_from size number ended) places counts
-  plan_kept number ended outputs places counts limits h some small are counts_is =
+      → block_count (numbered_from size number ended) ≤ 2 ^ 40
+  plan_few number ended small =
       let both = and_parts (list_all (λ (p : PlannedOutput). nat_le p.len (2 ^ 30)) (numbered_from size number ended)) (nat_le (block_count (numbered_from size number ended)) (2 ^ 40)) small in
-      record {
-        limits = limits;
-        each = each_is number ended h.planned (have_entries o ended h.planned (subst (AllByRecursion (λ q. q ≢ [])) (sym h.entries) some)) both.0;
-        few = leb-true (block_count (numbered_from size number ended)) (2 ^ 40) both.1;
-        places = are;
-        counts_are = counts_is;
-      }
+      leb-true (block_count (numbered_from size number ended)) (2 ^ 40) both.1

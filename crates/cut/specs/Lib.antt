@@ -4,6 +4,7 @@ pub mod Outputs
 pub mod Segments
 pub mod Plan
 pub mod OutputPlan
+pub mod Groups
 pub mod OutputMeta
 pub mod Lengths
 -- serves proofs alone

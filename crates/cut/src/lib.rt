@@ -9,6 +9,9 @@
 //!    thread may encode any piece.
 //! 4. [`Plan::assemble`] joins the pieces, in the order of their jobs, to tables.
 //!
+//! [`Plan::groups`] deals the outputs out to plans of a few, so that not all tables are in memory
+//! at once.
+//!
 //! So the bytes of a compaction depend on neither ranges nor workers. The laws of this crate say it
 //! over the definitions: [`whole_law`], [`outputs_law`], [`ranges_cut`], [`pieces_law`] and others.
 //!
@@ -26,6 +29,7 @@ mod output_plan;
 mod piece;
 mod piece_division;
 mod plan_assembly;
+mod plan_groups;
 mod planned_output;
 mod stops;
 mod table_len;

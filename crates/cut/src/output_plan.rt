@@ -1,7 +1,7 @@
 //! Planning the outputs of a compaction.
 
 ghost use Rattle.std.specs.Prelude.{◌≡◌, ◌+◌, ◌^◌, ◌<◌, ◌≤◌, ◌&&◌, nat_le, length, IfOk};
-ghost use Rattle.std.specs.Prelude.{IfErr};
+ghost use Rattle.std.specs.Prelude.{IfErr, map, Ok};
 ghost use Rattle.std.specs.List.{AllByRecursion, list_all};
 ghost use Rattle.coding.specs.Answers.{EqualOrMemory, fault};
 ghost use Rattle.coding.specs.declared.fault.FaultName.TheVariants.{Memory};
@@ -12,7 +12,8 @@ ghost use Rattle.keep.specs.Runs.{joined_run};
 ghost use Rattle.cut.specs.Divided.{places_all, counts_all, piece_limit};
 ghost use Rattle.cut.specs.Outputs.{outputs_of};
 ghost use Rattle.cut.specs.Plan.{plan_of};
-ghost use Rattle.cut.specs.PlanInvariant.{HaveEntries, block_count, numbered_from};
+ghost use Rattle.cut.specs.PlanInvariant.{HaveEntries, IsPlannedOutput, block_count};
+ghost use Rattle.cut.specs.PlanInvariant.{numbered_from, planned_of};
 ghost use Rattle.cut.specs.Sizes.{saturated_length};
 ghost use Rattle.cut.specs.TableLength.{lens_of, table_size};
 ghost use Rattle.cut.specs.declared.output_plan.TheConstants.{MAX_BLOCKS};
@@ -70,6 +71,22 @@ pub fn plan<'r, 'a, C: Comparator>(
     if !are_small(&outputs) {
         return Err(Fault::of(FaultName::TooLarge));
     }
+    plan_with(alloc, options, outputs)
+}
+
+/// The plan with these outputs. The only fault is Memory.
+pub(crate) fn plan_with<'r, 'a, C: Comparator>(
+    alloc: Global,
+    options: Options,
+    outputs: Vec<PlannedOutput<'r, 'a>>,
+) -> Result<Plan<'r, 'a, C>, Fault>
+    requires limits { AreInLimits options }
+    requires each { AllByRecursion
+        (IsPlannedOutput (table C.cmp C.short_keys options) options) outputs.items }
+    requires few { block_count outputs.items ≤ MAX_BLOCKS }
+    ensures { EqualOrMemory (λ p. p) result
+        (Ok (record { options = options; outputs = map planned_of outputs.entry.items })) }
+{
     let division = divided(alloc, &outputs)?;
     Ok(Plan {
         options,

@@ -14,7 +14,7 @@ use Rattle.folder.specs.ReadsAs.{StandsAs}
 use Rattle.folder.specs.declared.order.Order.{Order}
 use Rattle.folder.proofs.CrashLemmas.{left_reads, shown_left}
 use Rattle.folder.proofs.WrittenLemmas.{file_passed}
-use Rattle.install.specs.Install.{IsBeforeOrAfter, IsEditedBy, SurvivesCrash, calls_before_rename, temporary_calls}
+use Rattle.install.specs.Install.{IsBeforeOrAfter, IsEditedBy, SurvivesCrash, calls_before_rename, tables_of_groups, temporary_calls}
 use Rattle.install.proofs.Edited.{apart_of}
 use Rattle.install.proofs.Files.{settled_stands}
 use Rattle.install.proofs.Moments.{Apart, leads_split, made_by, moment_made}
@@ -25,9 +25,9 @@ apart_named : (name : List ℕ) (cmp : List ℕ → List ℕ → Ordering) (orde
     → Apart cmp v outputs number manifest
 apart_named name cmp order v next number outputs bytes manifest small h = apart_of cmp order v next number outputs bytes (subst (λ (n : List ℕ). IsEditedBy n cmp order v number outputs bytes next) (sym h.named) h) small manifest
 
-module _ (cmp : List ℕ → List ℕ → Ordering) (order : Order) (v : State) (tables outputs : List (ℕ × List ℕ)) (number : ℕ) (manifest : List ℕ) (apart : Apart cmp v outputs number manifest) where
+module _ (cmp : List ℕ → List ℕ → Ordering) (order : Order) (v : State) (tables : List (ℕ × List ℕ)) (groups : List (List (ℕ × List ℕ))) (number : ℕ) (manifest : List ℕ) (apart : Apart cmp v (tables_of_groups groups) number manifest) where
   abbrev first_calls : List Call
-  first_calls = calls_before_rename number outputs manifest
+  first_calls = calls_before_rename number groups manifest
 
   -- whatever part of the calls before the rename was made
   files_stand : (start w : World) (steps : List Step) → StandsAs cmp order v tables start → AreMade first_calls steps → Leads start steps w → StandsAs cmp order v tables w
@@ -35,9 +35,9 @@ module _ (cmp : List ℕ → List ℕ → Ordering) (order : Order) (v : State) 
       let m = manifest_name number in
       let t = temporary_name number in
       let rest = Created m manifest ∷ Synced m ∷ temporary_calls number in
-      elim (tables_passed cmp order v tables outputs [] rest steps start w h apart.outputs_apart tt made l) [
+      elim (tables_passed cmp order v tables groups [] rest steps start w h apart.outputs_apart tt made l) [
         | inl still ↦ still.0
-        | inr one ↦ elim (file_passed cmp order v tables m manifest (temporary_calls number) (filed outputs []) one.more one.world w one.stands apart.manifest_free apart.manifest_other one.written one.made one.leads) [
+        | inr one ↦ elim (file_passed cmp order v tables m manifest (temporary_calls number) (filed (tables_of_groups groups) []) one.more one.world w one.stands apart.manifest_free apart.manifest_other one.written one.made one.leads) [
           | inl still ↦ still.0
           | inr two ↦ (settled_stands cmp order v tables t (current_text number) apart.temporary_free two.world w two.more two.stands two.made two.leads).0
         ]
@@ -68,9 +68,9 @@ module _ (cmp : List ℕ → List ℕ → Ordering) (order : Order) (v : State) 
       }
 
 -- at Changed the version before stands
-pub stays_before : {T : Type 0} (name : List ℕ) (cmp : List ℕ → List ℕ → Ordering) (order : Order) (v next : State) (tables outputs : List (ℕ × List ℕ)) (number : ℕ) (bytes manifest : List ℕ) → number < 2 ^ 64 → IsEditedBy name cmp order v number outputs bytes next
+pub stays_before : {T : Type 0} (name : List ℕ) (cmp : List ℕ → List ℕ → Ordering) (order : Order) (v next : State) (tables : List (ℕ × List ℕ)) (groups : List (List (ℕ × List ℕ))) (number : ℕ) (bytes manifest : List ℕ) → number < 2 ^ 64 → IsEditedBy name cmp order v number (tables_of_groups groups) bytes next
     → (calls : List Call) (before now : List Step) (old new : List ℕ → Option (List ℕ) → Type 0) (r : Result T Fault) → MakesCalls calls before now old new r
-    → IfErr r (λ e. e ≡ fault Changed → now ≡ before ++ map Done (calls_before_rename number outputs manifest)) → IfErr r (λ e. e ≡ fault Changed → SurvivesCrash cmp order v tables v tables before now old new r)
-stays_before name cmp order v next tables outputs number bytes manifest small h calls before now old new (Ok x) runs left = tt
-stays_before name cmp order v next tables outputs number bytes manifest small h calls before now old new (Err e) runs left =
-    λ changed. stays cmp order v tables outputs number manifest (apart_named name cmp order v next number outputs bytes manifest small h) calls before now old new e (left changed) runs
+    → IfErr r (λ e. e ≡ fault Changed → now ≡ before ++ map Done (calls_before_rename number groups manifest)) → IfErr r (λ e. e ≡ fault Changed → SurvivesCrash cmp order v tables v tables before now old new r)
+stays_before name cmp order v next tables groups number bytes manifest small h calls before now old new (Ok x) runs left = tt
+stays_before name cmp order v next tables groups number bytes manifest small h calls before now old new (Err e) runs left =
+    λ changed. stays cmp order v tables groups number manifest (apart_named name cmp order v next number (tables_of_groups groups) bytes manifest small h) calls before now old new e (left changed) runs

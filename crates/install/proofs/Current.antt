@@ -13,12 +13,12 @@ use Rattle.folder.proofs.PutLemmas.{put_other}
 use Rattle.folder.proofs.WrittenLemmas.{AllOther}
 use Rattle.folder.specs.TableFiles.{named_tables}
 use Rattle.install.specs.CurrentAnswer.{IsCurrentAnswer}
-use Rattle.install.specs.Install.{calls_before_rename}
+use Rattle.install.specs.Install.{manifest_calls, table_calls}
 use Rattle.install.proofs.Parts.{RunsWhole}
 use Rattle.install.proofs.Switch.{CURRENT, manifest_no_current, table_no_current, temporary_no_current}
 
 -- a call that leaves CURRENT as it is
-abbrev LeavesCurrent : Call → Type 0
+abbrev pub LeavesCurrent : Call → Type 0
 LeavesCurrent (Created name bytes) = name ≢ CURRENT
 LeavesCurrent (Written files) = AllOther CURRENT files
 LeavesCurrent (Synced name) = Unit {0}
@@ -26,7 +26,7 @@ LeavesCurrent (Renamed from to) = ⊥
 LeavesCurrent (Removed name) = ⊥
 LeavesCurrent FolderSynced = Unit {0}
 
-abbrev AllLeaveCurrent : List Call → Type 0
+abbrev pub AllLeaveCurrent : List Call → Type 0
 AllLeaveCurrent [] = Unit {0}
 AllLeaveCurrent (call ∷ calls) = LeavesCurrent call × AllLeaveCurrent calls
 
@@ -35,8 +35,12 @@ tables_leave [] = tt
 tables_leave (t ∷ outputs) = (table_no_current t.0, tables_leave outputs)
 
 -- none of the calls before the rename is one of CURRENT
-files_leave : (number : ℕ) (outputs : List (ℕ × List ℕ)) (manifest : List ℕ) → number < 2 ^ 64 → AllLeaveCurrent (calls_before_rename number outputs manifest)
-files_leave number outputs manifest small = (tables_leave outputs, (manifest_no_current number small, (tt, (temporary_no_current number, (tt, (tt, tt))))))
+pub groups_leave : (groups : List (List (ℕ × List ℕ))) → AllLeaveCurrent (table_calls groups)
+groups_leave [] = tt
+groups_leave (g ∷ groups) = (tables_leave g, groups_leave groups)
+
+pub manifest_leaves : (number : ℕ) (manifest : List ℕ) → number < 2 ^ 64 → AllLeaveCurrent (manifest_calls number manifest)
+manifest_leaves number manifest small = (manifest_no_current number small, (tt, (temporary_no_current number, (tt, (tt, tt)))))
 
 written_current : (files : List (List ℕ × List ℕ)) (s next : FolderView) → AllOther CURRENT files → next ≡ with_written s files → next.files CURRENT ≡ s.files CURRENT
 written_current [] s next h is = ap (λ (v : FolderView). v.files CURRENT) is
@@ -55,14 +59,17 @@ show_current : (calls : List Call) (s last : FolderView) → AllLeaveCurrent cal
 show_current [] s last h is = ap (λ (v : FolderView). v.files CURRENT) is
 show_current (call ∷ calls) s last h shows = show_current calls shows.0 last h.1 shows.2 ∙ shows_current call s shows.0 h.0 shows.1
 
--- a folder that tells files tells the same CURRENT after the calls before the rename
-pub told_current : (number : ℕ) (outputs : List (ℕ × List ℕ)) (manifest : List ℕ) → number < 2 ^ 64 → (before after : List Step) (old new : List ℕ → Option (List ℕ) → Type 0) → RunsWhole (calls_before_rename number outputs manifest) before after old new
-    → (files : Files) → Tells old files → (now : Files) × Tells new now × (now CURRENT ≡ files CURRENT)
-told_current number outputs manifest small before after old new runs files tell =
+-- that a folder that tells files tells the same CURRENT later
+abbrev pub TellsCurrent : (List ℕ → Option (List ℕ) → Type 0) → (List ℕ → Option (List ℕ) → Type 0) → Type 0
+TellsCurrent old new = (files : Files) → Tells old files → (now : Files) × Tells new now × (now CURRENT ≡ files CURRENT)
+
+-- it does after calls that leave CURRENT as it is
+pub told_current : (calls : List Call) → AllLeaveCurrent calls → (before after : List Step) (old new : List ℕ → Option (List ℕ) → Type 0) → RunsWhole calls before after old new → TellsCurrent old new
+told_current calls leave before after old new runs files tell =
     let s : FolderView = record { files = files; synced = λ name. true } in
     let last = runs.change s tell in
     let shows = subst (λ (steps : List Step). ShowsAll steps s last.0) runs.made last.1 in
-    (last.0.files, last.2, show_current (calls_before_rename number outputs manifest) s last.0 (files_leave number outputs manifest small) shows)
+    (last.0.files, last.2, show_current calls s last.0 leave shows)
 
 -- reading changes nothing of what was made
 pub runs_read : {T E : Type 0} (calls : List Call) (before middle after : List Step) (old between new : List ℕ → Option (List ℕ) → Type 0) (r : Result T E) → TellsSame between new → after ≡ middle → MakesCalls calls before middle old between r

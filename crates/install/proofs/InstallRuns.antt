@@ -1,10 +1,11 @@
 -- The calls of an installation, of which CURRENT is read again in the middle.
-use Rattle.std.proofs.Common.{◌≡◌, ◌≢◌, ◌⊎◌, ◌≤◌, ℕ, List, ◌++◌, codes, Option, Some, Result, Ok, Err, IsErrAnd, IfErr, refl, sym, ap, subst, ◌∙◌, inl, inr}
+use Rattle.std.proofs.Common.{◌≡◌, ◌≢◌, ◌⊎◌, ◌≤◌, ℕ, List, ◌++◌, append_assoc, codes, map, Option, Some, Result, Ok, Err, IsErrAnd, IfErr, refl, sym, ap, subst, ◌∙◌, inl, inr, arith}
+use Rattle.std.proofs.lemmas.List.{map-append}
 use Rattle.coding.proofs.Refusals.{unless_from}
 use Rattle.coding.specs.Answers.{UnlessMemory, fault}
 use Rattle.coding.specs.declared.fault.Fault.{Fault}
 use Rattle.coding.specs.declared.fault.FaultName.TheVariants as name
-use Rattle.folder.specs.Calls.{Call, Files, Step, Tells}
+use Rattle.folder.specs.Calls.{Call, Done, Files, Step, Tells}
 use Rattle.folder.specs.CallSequence.{MakesCalls}
 use Rattle.folder.specs.Names.{current_text}
 use Rattle.folder.specs.OpenAnswer.{IsStopped, StopsAtDevice}
@@ -12,12 +13,12 @@ use Rattle.folder.specs.Reports.{OnlyReads, ReportsDevice}
 use Rattle.folder.specs.declared.folder.Folder.{Ghosts}
 use Rattle.folder.proofs.OpeningLemmas.{failed_since}
 use Rattle.folder.proofs.ReportLemmas.{reports_handed, reports_then, stopped_device}
-use Rattle.folder.proofs.RunLemmas.{runs_then}
+use Rattle.folder.proofs.RunLemmas.{runs_none, runs_then}
 use Rattle.install.specs.CurrentAnswer.{IsCurrentAnswer}
 use Rattle.install.specs.Install.{IsStoppedOrChanged}
 use Rattle.install.specs.InstallRun.{IsInstallRun}
-use Rattle.install.proofs.Current.{runs_read, same_refused}
-use Rattle.install.proofs.Parts.{hands_behind, hands_stopped, runs_whole}
+use Rattle.install.proofs.Current.{AllLeaveCurrent, TellsCurrent, runs_read, same_refused, told_current}
+use Rattle.install.proofs.Parts.{hands_behind, hands_stopped, runs_same, runs_whole}
 
 -- a refusal of the device isn't Changed
 not_changed : (before now : ℕ) (e : Fault) → UnlessMemory e (IsStopped before now e) → e ≢ fault name.Changed
@@ -26,6 +27,19 @@ not_changed before now e h is =
     let both : name.Changed ≡ name.Device = ap (λ (f : Fault). f.name) stopped.0 in
     cc both
 
+refused_since : {X : Type 0} (before middle now : ℕ) (r : Result X Fault) → before ≤ middle → middle ≤ now → IfErr r (λ e. UnlessMemory e (IsStoppedOrChanged middle now e)) → IfErr r (λ e. UnlessMemory e (IsStoppedOrChanged before now e))
+refused_since before middle now (Ok x) one two given = tt
+refused_since before middle now (Err e) one two given = unless_from e (IsStoppedOrChanged middle now e) (IsStoppedOrChanged before now e) (λ g. elim g [ inl s ↦ inl (s.0, failed_since before middle now one two s.1) | inr changed ↦ inr changed ]) given
+
+refused_always_since : {X : Type 0} (before middle now : ℕ) (r : Result X Fault) → before ≤ middle → middle ≤ now → IsErrAnd r (λ e. UnlessMemory e (IsStoppedOrChanged middle now e)) → IsErrAnd r (λ e. UnlessMemory e (IsStoppedOrChanged before now e))
+refused_always_since before middle now (Ok x) one two given = absurd given
+refused_always_since {X = X} before middle now (Err e) one two given = refused_since {X = X} before middle now (Err e) one two given
+
+left_since : {X : Type 0} (front first : List Call) (before middle now : List Step) (r : Result X Fault) → middle ≡ before ++ map Done front → IfErr r (λ e. e ≡ fault name.Changed → now ≡ middle ++ map Done first) → IfErr r (λ e. e ≡ fault name.Changed → now ≡ before ++ map Done (front ++ first))
+left_since front first before middle now (Ok x) is given = tt
+left_since front first before middle now (Err e) is given = λ changed.
+    given changed ∙ (ap (λ (s : List Step). s ++ map Done first) is ∙ (append_assoc before (map Done front) (map Done first) ∙ ap (λ (s : List Step). before ++ s) (sym (map-append Done front first))))
+
 weaker : (before now : ℕ) (e : Fault) → UnlessMemory e (IsStopped before now e) → UnlessMemory e (IsStoppedOrChanged before now e)
 weaker before now e h = unless_from e (IsStopped before now e) (IsStoppedOrChanged before now e) (λ s. inl s) h
 
@@ -33,20 +47,16 @@ stopped_since : {X : Type 0} (before middle now : ℕ) (r : Result X Fault) → 
 stopped_since before middle now (Ok x) one two given = tt
 stopped_since before middle now (Err e) one two given = unless_from e (IsStopped middle now e) (IsStopped before now e) (λ s. (s.0, failed_since before middle now one two s.1)) given
 
--- that a folder that tells files tells the same CURRENT later
-abbrev TellsCurrent : (List ℕ → Option (List ℕ) → Type 0) → (List ℕ → Option (List ℕ) → Type 0) → Type 0
-TellsCurrent old new = (files : Files) → Tells old files → (now : Files) × Tells new now × (now (codes "CURRENT") ≡ files (codes "CURRENT"))
-
 module _ {D : Type 0} {g : Ghosts D} (first last : List Call) (opened : ℕ) where
   -- one of the first calls failed, or memory ran out
-  pub install_stopped : {X : Type 0} (a b : D) (e : Fault) (r : Result X Fault) → IsErrAnd r (λ f. f ≡ e)
-      → MakesCalls {T = Unit {0}} {E = Fault} first (g.calls a) (g.calls b) (g.tells a) (g.tells b) (Err e)
-      → UnlessMemory e (IsStopped (g.failed a) (g.failed b) e) → StopsAtDevice {X = Unit {0}} (g.failed a) (g.failed b) (Err e) → g.failed a ≤ g.failed b
+  pub install_stopped : {X Y : Type 0} (a b : D) (e : Fault) (r : Result X Fault) → IsErrAnd r (λ f. f ≡ e)
+      → MakesCalls {T = Y} {E = Fault} first (g.calls a) (g.calls b) (g.tells a) (g.tells b) (Err e)
+      → UnlessMemory e (IsStopped (g.failed a) (g.failed b) e) → StopsAtDevice {X = Y} (g.failed a) (g.failed b) (Err e) → g.failed a ≤ g.failed b
       → IsInstallRun g first last opened a b r
   install_stopped a b e (Ok x) h runs refused at_once later = absurd h
-  install_stopped a b e (Err f) h runs refused at_once later =
+  install_stopped {Y = Y} a b e (Err f) h runs refused at_once later =
       let stopped = subst (λ (x : Fault). UnlessMemory x (IsStopped (g.failed a) (g.failed b) x)) (sym h) refused in
-      let part : ReportsDevice {X = Unit {0}} g a b (Err e) = record { device = stopped_device {X = Unit {0}} (g.failed a) (g.failed b) (Err e) refused; at_once = at_once; later = later } in
+      let part : ReportsDevice {X = Y} g a b (Err e) = record { device = stopped_device {X = Y} (g.failed a) (g.failed b) (Err e) refused; at_once = at_once; later = later } in
       record {
         runs = hands_stopped (λ x. x ≡ e) first last (g.calls a) (g.calls b) (g.tells a) (g.tells b) e (Err f) h runs;
         left = λ is. absurd (not_changed (g.failed a) (g.failed b) f stopped is);
@@ -118,3 +128,31 @@ module _ {D : Type 0} {g : Ghosts D} (first last : List Call) (opened : ℕ) whe
       (stopped_since (g.failed a) (g.failed d) (g.failed n) r both.later later' refused)
       (λ files tell. let now = current files tell in sym now.2 ∙ (now.1 (codes "CURRENT") (Some (current_text opened))).0 answer)
       (reports_then refl both three)
+
+-- after other calls that leave CURRENT as it is
+pub install_after : {D X Y : Type 0} {g : Ghosts D} (front first last : List Call) (opened : ℕ) (a b d : D) (y : Y) (r : Result X Fault)
+    → MakesCalls {E = Fault} front (g.calls a) (g.calls b) (g.tells a) (g.tells b) (Ok y) → StopsAtDevice (g.failed a) (g.failed b) (Ok y) → g.failed a ≤ g.failed b → AllLeaveCurrent front
+    → IsInstallRun g first last opened b d r → IsInstallRun g (front ++ first) last opened a d r
+install_after {Y = Y} {g = g} front first last opened a b d y r runs at_once later leave rest =
+    let whole = runs_whole front (g.calls a) (g.calls b) (g.tells a) (g.tells b) y runs in
+    let one : ReportsDevice {X = Y} g a b (Ok y) = record { device = tt; at_once = at_once; later = later } in
+    let current = told_current front leave (g.calls a) (g.calls b) (g.tells a) (g.tells b) whole in
+    record {
+      runs = runs_same (front ++ (first ++ last)) ((front ++ first) ++ last) (g.calls a) (g.calls d) (g.tells a) (g.tells d) r (sym (append_assoc front first last))
+          (runs_then front (first ++ last) (g.calls a) (g.calls b) (g.calls d) (g.tells a) (g.tells b) (g.tells d) tt r whole rest.runs);
+      left = left_since front first (g.calls a) (g.calls b) (g.calls d) r (whole.appended ∙ ap (λ (s : List Step). g.calls a ++ s) whole.made) rest.left;
+      refused = refused_since (g.failed a) (g.failed b) (g.failed d) r later rest.device.later rest.refused;
+      same_current = λ files tell is.
+          let now = current files tell in
+          stopped_since (g.failed a) (g.failed b) (g.failed d) r later rest.device.later (rest.same_current now.0 now.1 (now.2 ∙ is));
+      other_current = λ files tell other.
+          let now = current files tell in
+          refused_always_since (g.failed a) (g.failed b) (g.failed d) r later rest.device.later (rest.other_current now.0 now.1 (λ is. other (sym now.2 ∙ is)));
+      device = reports_then refl one rest.device;
+    }
+
+-- nothing was done, since memory ran out
+pub install_none : {D X : Type 0} {g : Ghosts D} (first last : List Call) (opened : ℕ) (a : D) (e : Fault) (r : Result X Fault) → e ≡ fault name.Memory → IsErrAnd r (λ f. f ≡ e) → IsInstallRun g first last opened a a r
+install_none {g = g} first last opened a e r is h =
+    install_stopped first last opened {Y = Unit {0}} a a e r h (runs_none {T = Unit {0}} first (g.calls a) (g.tells a) e)
+    (subst (λ (f : Fault). UnlessMemory f (IsStopped (g.failed a) (g.failed a) f)) (sym is) tt) (λ rose. absurd (omega (arith, rose))) (omega arith)

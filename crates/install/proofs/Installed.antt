@@ -11,7 +11,7 @@ use Rattle.folder.specs.Crash.{Leads, LeavesOnly, World}
 use Rattle.folder.specs.ReadsAs.{ReadsAs, StandsAs}
 use Rattle.folder.specs.declared.order.Order.{Order}
 use Rattle.folder.specs.Manifest.{order_name}
-use Rattle.install.specs.Install.{IsBeforeOrAfter, IsEditedBy, SurvivesCrash, install_calls, manifest_bytes, next_version_tables}
+use Rattle.install.specs.Install.{IsBeforeOrAfter, IsEditedBy, SurvivesCrash, install_calls, tables_of_groups, manifest_bytes, next_version_tables}
 use Rattle.edit.proofs.Remade.{remade}
 use Rattle.install.proofs.Edited.{apart_of, setting_of}
 use Rattle.install.proofs.Moments.{any_moment, chained, install_chain, nothing_done, reads_then, stands_installed}
@@ -22,12 +22,15 @@ use Rattle.install.proofs.Switch.{Setting}
 abbrev pub ReadsBack : List ℕ → (List ℕ → List ℕ → Ordering) → State → Type 0
 ReadsBack name cmp v = IsEdit (edit_bytes (snapshot_of name cmp v)) (snapshot_of name cmp v)
 
-module _ (cmp : List ℕ → List ℕ → Ordering) (order : Order) (v next : State) (tables outputs : List (ℕ × List ℕ)) (number : ℕ) (bytes : List ℕ) (small : number < 2 ^ 64) (total : IsTotalOrder cmp) (state : IsState v.pointers v.files) where
+module _ (cmp : List ℕ → List ℕ → Ordering) (order : Order) (v next : State) (tables : List (ℕ × List ℕ)) (groups : List (List (ℕ × List ℕ))) (number : ℕ) (bytes : List ℕ) (small : number < 2 ^ 64) (total : IsTotalOrder cmp) (state : IsState v.pointers v.files) where
+  abbrev outputs : List (ℕ × List ℕ)
+  outputs = tables_of_groups groups
+
   abbrev after : List (ℕ × List ℕ)
   after = next_version_tables cmp next outputs tables
 
   abbrev calls : List ℕ → List Rattle.folder.specs.Calls.Call
-  calls name = install_chain number outputs (manifest_bytes name cmp v bytes)
+  calls name = install_chain number groups (manifest_bytes name cmp v bytes)
 
   setting : IsEditedBy (order_name order) cmp order v number outputs bytes next → ReadsBack (order_name order) cmp v → (w : World) → StandsAs cmp order v tables w → Setting cmp order v next tables outputs number (manifest_bytes (order_name order) cmp v bytes)
   setting h back w stands = setting_of cmp order v next number outputs bytes h small tables state (remade total (order_name order) v state) back
@@ -39,7 +42,7 @@ module _ (cmp : List ℕ → List ℕ → Ordering) (order : Order) (v next : St
       → ((w : World) → Leads start before w → StandsAs cmp order v tables w) → MakesCalls (calls n) before now old new r → LeavesOnly start before now (IsBeforeOrAfter cmp order v tables next after))
       h.named
       (λ h back start before now old new r stands runs.
-      any_moment cmp order v next tables outputs number (manifest_bytes (order_name order) cmp v bytes) (setting h back) (apart_of cmp order v next number outputs bytes h small (manifest_bytes (order_name order) cmp v bytes)) start before now old new r stands runs)
+      any_moment cmp order v next tables groups number (manifest_bytes (order_name order) cmp v bytes) (setting h back) (apart_of cmp order v next number outputs bytes h small (manifest_bytes (order_name order) cmp v bytes)) start before now old new r stands runs)
       h
 
   installed : {T E : Type 0} (name : List ℕ) → IsEditedBy name cmp order v number outputs bytes next → ReadsBack name cmp v → (start : World) (before now : List Step) (old new : List ℕ → Option (List ℕ) → Type 0) (r : Result T E)
@@ -49,7 +52,7 @@ module _ (cmp : List ℕ → List ℕ → Ordering) (order : Order) (v next : St
       → ((w : World) → Leads start before w → StandsAs cmp order v tables w) → MakesCalls (calls n) before now old new r → OnOk r ((w : World) → Leads start now w → StandsAs cmp order next after w))
       h.named
       (λ h back start before now old new r stands runs.
-      stands_installed cmp order v next tables outputs number (manifest_bytes (order_name order) cmp v bytes) (setting h back) (apart_of cmp order v next number outputs bytes h small (manifest_bytes (order_name order) cmp v bytes)) start before now old new r stands runs)
+      stands_installed cmp order v next tables groups number (manifest_bytes (order_name order) cmp v bytes) (setting h back) (apart_of cmp order v next number outputs bytes h small (manifest_bytes (order_name order) cmp v bytes)) start before now old new r stands runs)
       h
 
   reads : {T E : Type 0} (name : List ℕ) → IsEditedBy name cmp order v number outputs bytes next → ReadsBack name cmp v → (before now : List Step) (old new : List ℕ → Option (List ℕ) → Type 0) (r : Result T E) → MakesCalls (calls name) before now old new r
@@ -59,14 +62,14 @@ module _ (cmp : List ℕ → List ℕ → Ordering) (order : Order) (v next : St
       → (files : Files) → Tells old files → ReadsAs cmp order v tables files → (files' : Files) × Tells new files' × IsBeforeOrAfter cmp order v tables next after files' × OnOk r (ReadsAs cmp order next after files'))
       h.named
       (λ h back before now old new r runs files tells read.
-      reads_then cmp order v next tables outputs number (manifest_bytes (order_name order) cmp v bytes) (setting h back) (apart_of cmp order v next number outputs bytes h small (manifest_bytes (order_name order) cmp v bytes)) before now old new r runs files tells read)
+      reads_then cmp order v next tables groups number (manifest_bytes (order_name order) cmp v bytes) (setting h back) (apart_of cmp order v next number outputs bytes h small (manifest_bytes (order_name order) cmp v bytes)) before now old new r runs files tells read)
       h
 
   -- all three
   pub survives : {T E : Type 0} (name : List ℕ) → IsEditedBy name cmp order v number outputs bytes next → ReadsBack name cmp v → (before now : List Step) (old new : List ℕ → Option (List ℕ) → Type 0) (r : Result T E)
-      → MakesCalls (install_calls number outputs (manifest_bytes name cmp v bytes)) before now old new r → SurvivesCrash cmp order v tables next after before now old new r
+      → MakesCalls (install_calls number groups (manifest_bytes name cmp v bytes)) before now old new r → SurvivesCrash cmp order v tables next after before now old new r
   survives name h back before now old new r made =
-      let runs = runs_same (install_calls number outputs (manifest_bytes name cmp v bytes)) (calls name) before now old new r (chained number outputs (manifest_bytes name cmp v bytes)) made in
+      let runs = runs_same (install_calls number groups (manifest_bytes name cmp v bytes)) (calls name) before now old new r (chained number groups (manifest_bytes name cmp v bytes)) made in
       record {
         any_moment = λ start stands. moments name h back start before now old new r stands runs;
         installed = λ start stands. installed name h back start before now old new r stands runs;

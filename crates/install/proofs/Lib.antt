@@ -10,3 +10,4 @@ mod Files
 mod Current
 mod InstallRuns
 mod Before
+pub mod Grouped

@@ -13,7 +13,7 @@ use Rattle.folder.specs.declared.order.Order.{Order}
 use Rattle.folder.proofs.CrashLemmas.{left_reads, shown_left}
 use Rattle.folder.proofs.RunLemmas.{made_behind}
 use Rattle.folder.proofs.WrittenLemmas.{AllOther, IsShort, file_passed}
-use Rattle.install.specs.Install.{IsBeforeOrAfter, current_calls, install_calls, table_calls, temporary_calls, next_version_tables, write_calls}
+use Rattle.install.specs.Install.{IsBeforeOrAfter, current_calls, install_calls, tables_of_groups, table_calls, temporary_calls, next_version_tables, write_calls}
 use Rattle.install.proofs.Outputs.{AreApart, filed, tables_passed}
 use Rattle.install.proofs.Switch.{Setting, ends, last_calls}
 
@@ -50,11 +50,11 @@ made_by calls steps (Ok x) h =
 made_by calls steps (Err e) h = h
 
 -- the calls of an installation, each part before all that follow
-abbrev pub install_chain : ℕ → List (ℕ × List ℕ) → List ℕ → List Call
-install_chain number outputs manifest = table_calls outputs ++ (write_calls (manifest_name number) manifest ++ (temporary_calls number ++ current_calls number))
+abbrev pub install_chain : ℕ → List (List (ℕ × List ℕ)) → List ℕ → List Call
+install_chain number groups manifest = table_calls groups ++ (write_calls (manifest_name number) manifest ++ (temporary_calls number ++ current_calls number))
 
-pub chained : (number : ℕ) (outputs : List (ℕ × List ℕ)) (manifest : List ℕ) → install_calls number outputs manifest ≡ install_chain number outputs manifest
-chained number outputs manifest = append_assoc (table_calls outputs) (write_calls (manifest_name number) manifest ++ temporary_calls number) (current_calls number)
+pub chained : (number : ℕ) (groups : List (List (ℕ × List ℕ))) (manifest : List ℕ) → install_calls number groups manifest ≡ install_chain number groups manifest
+chained number groups manifest = append_assoc (table_calls groups) (write_calls (manifest_name number) manifest ++ temporary_calls number) (current_calls number)
 
 -- no two of the names are one, and none is of use to the version before
 pub record Apart (cmp : List ℕ → List ℕ → Ordering) (v : State) (outputs : List (ℕ × List ℕ)) (number : ℕ) (manifest : List ℕ) : Type 0 where
@@ -64,7 +64,10 @@ pub record Apart (cmp : List ℕ → List ℕ → Ordering) (v : State) (outputs
   pub temporary_free : IsFree cmp v (temporary_name number)
   pub temporary_other : AllOther (temporary_name number) ((manifest_name number, manifest) ∷ filed outputs [])
 
-module _ (cmp : List ℕ → List ℕ → Ordering) (order : Order) (v next : State) (tables outputs : List (ℕ × List ℕ)) (number : ℕ) (manifest : List ℕ) (setting : (w : World) → StandsAs cmp order v tables w → Setting cmp order v next tables outputs number manifest) (apart : Apart cmp v outputs number manifest) where
+module _ (cmp : List ℕ → List ℕ → Ordering) (order : Order) (v next : State) (tables : List (ℕ × List ℕ)) (groups : List (List (ℕ × List ℕ))) (number : ℕ) (manifest : List ℕ) (setting : (w : World) → StandsAs cmp order v tables w → Setting cmp order v next tables (tables_of_groups groups) number manifest) (apart : Apart cmp v (tables_of_groups groups) number manifest) where
+  abbrev outputs : List (ℕ × List ℕ)
+  outputs = tables_of_groups groups
+
   abbrev IsLeft : World → Type 0
   IsLeft w = IsBeforeOrAfter cmp order v tables next (next_version_tables cmp next outputs tables) w.left
 
@@ -72,7 +75,7 @@ module _ (cmp : List ℕ → List ℕ → Ordering) (order : Order) (v next : St
   StandsNext w = StandsAs cmp order next (next_version_tables cmp next outputs tables) w
 
   abbrev all_calls : List Call
-  all_calls = install_chain number outputs manifest
+  all_calls = install_chain number groups manifest
 
   short_of : (steps : List Step) (w : World) → StandsAs cmp order v tables w × IsShort steps all_calls → IsLeft w × (steps ≡ map Done all_calls → StandsNext w)
   short_of steps w h = (inl (left_reads cmp order v tables w h.0), λ done. absurd (h.1 done))
@@ -85,17 +88,17 @@ module _ (cmp : List ℕ → List ℕ → Ordering) (order : Order) (v next : St
       let t = temporary_name number in
       let rest_two = Created t (current_text number) ∷ Synced t ∷ last_calls cmp order v next tables outputs number manifest given in
       let rest_one = Created m manifest ∷ Synced m ∷ rest_two in
-      elim (tables_passed cmp order v tables outputs [] rest_one steps start w h apart.outputs_apart tt made l) [
+      elim (tables_passed cmp order v tables groups [] rest_one steps start w h apart.outputs_apart tt made l) [
         | inl still ↦ short_of steps w still
         | inr one ↦ elim (file_passed cmp order v tables m manifest rest_two (filed outputs []) one.more one.world w one.stands apart.manifest_free apart.manifest_other one.written one.made one.leads) [
-          | inl still ↦ short_of steps w (still.0, behind steps (table_calls outputs) rest_one one.more one.whole still.1)
+          | inl still ↦ short_of steps w (still.0, behind steps (table_calls groups) rest_one one.more one.whole still.1)
           | inr two ↦ elim (file_passed cmp order v tables t (current_text number) (last_calls cmp order v next tables outputs number manifest given) ((m, manifest) ∷ filed outputs []) two.more two.world w two.stands apart.temporary_free apart.temporary_other two.written two.made two.leads) [
-            | inl still ↦ short_of steps w (still.0, behind steps (table_calls outputs) rest_one one.more one.whole (behind one.more (Created m manifest ∷ Synced m ∷ []) rest_two two.more two.whole still.1))
+            | inl still ↦ short_of steps w (still.0, behind steps (table_calls groups) rest_one one.more one.whole (behind one.more (Created m manifest ∷ Synced m ∷ []) rest_two two.more two.whole still.1))
             | inr three ↦
                 let end = ends cmp order v next tables outputs number manifest given three.world w three.more three.stands three.written three.made three.leads in (
                   end.0,
                   λ done.
-                      let a = after steps (table_calls outputs) rest_one one.more one.whole done in
+                      let a = after steps (table_calls groups) rest_one one.more one.whole done in
                       let b = after one.more (Created m manifest ∷ Synced m ∷ []) rest_two two.more two.whole a in
                       let c = after two.more (Created t (current_text number) ∷ Synced t ∷ []) (last_calls cmp order v next tables outputs number manifest given) three.more three.whole b in
                       end.1 c,

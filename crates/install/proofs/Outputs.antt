@@ -5,7 +5,7 @@ use Rattle.std.specs.List.{AllZip}
 use Rattle.std.specs.Map.{lookup}
 use Rattle.std.specs.declared.cmp.Ordering.{Ordering}
 use Rattle.edit.specs.Version.{State}
-use Rattle.folder.specs.Calls.{AreTorn, Call, Files, Step, Written, with_contents, with_synced, with_value, with_written}
+use Rattle.folder.specs.Calls.{AreTorn, Call, Done, Files, Step, Written, with_contents, with_synced, with_value, with_written}
 use Rattle.folder.specs.CallSequence.{AreMade}
 use Rattle.folder.specs.Crash.{Leads, MayHold, World}
 use Rattle.folder.specs.Free.{IsFree}
@@ -15,8 +15,8 @@ use Rattle.folder.specs.ReadsAs.{IsOneOf, StandsAs}
 use Rattle.folder.specs.TableFiles.{named_tables}
 use Rattle.folder.specs.declared.order.Order.{Order}
 use Rattle.folder.proofs.CrashLemmas.{stands_made, stands_still}
-use Rattle.folder.proofs.WrittenLemmas.{AllOther, AllWritten, IsShort, Passed, file_stands, leads_first, leads_none, short_none, short_tried, written_still}
-use Rattle.install.specs.Install.{table_bytes_of, numbers_of, table_calls}
+use Rattle.folder.proofs.WrittenLemmas.{AllOther, AllWritten, IsShort, Passed, file_stands, leads_first, leads_none, short_behind, short_none, short_tried, written_still}
+use Rattle.install.specs.Install.{tables_of_groups, table_bytes_of, numbers_of, table_calls}
 
 -- the tables as files, before other files
 abbrev pub filed : List (ℕ × List ℕ) → List (List ℕ × List ℕ) → List (List ℕ × List ℕ)
@@ -28,8 +28,16 @@ abbrev pub AreApart : (List ℕ → List ℕ → Ordering) → State → List (�
 AreApart cmp v [] done = Unit {0}
 AreApart cmp v (t ∷ tables) done = IsFree cmp v (table_name t.0) × AllOther (table_name t.0) done × AreApart cmp v tables ((table_name t.0, t.1) ∷ done)
 
+filed_joined : (one two : List (ℕ × List ℕ)) (done : List (List ℕ × List ℕ)) → filed (one ++ two) done ≡ filed two (filed one done)
+filed_joined [] two done = refl
+filed_joined (t ∷ one) two done = filed_joined one two ((table_name t.0, t.1) ∷ done)
+
+apart_parts : (cmp : List ℕ → List ℕ → Ordering) (v : State) (one two : List (ℕ × List ℕ)) (done : List (List ℕ × List ℕ)) → AreApart cmp v (one ++ two) done → AreApart cmp v one done × AreApart cmp v two (filed one done)
+apart_parts cmp v [] two done h = (tt, h)
+apart_parts cmp v (t ∷ one) two done h = let rest = apart_parts cmp v one two ((table_name t.0, t.1) ∷ done) h.2 in ((h.0, h.1, rest.0), rest.1)
+
 module _ (cmp : List ℕ → List ℕ → Ordering) (order : Order) (v : State) (tables : List (ℕ × List ℕ)) where
-  -- all tables are written
+  -- all tables of a group are written
   tables_stand : (outputs : List (ℕ × List ℕ)) (done : List (List ℕ × List ℕ)) (start w : World) → StandsAs cmp order v tables start → AreApart cmp v outputs done → AllWritten done start → w.shown ≡ with_written start.shown (named_tables outputs)
       → MayHold (named_tables outputs) start.left w.left → StandsAs cmp order v tables w × AllWritten (filed outputs done) w
   tables_stand [] done start w h apart all shown left = (stands_still cmp order v tables start w h shown left, written_still done start w shown all)
@@ -48,17 +56,42 @@ module _ (cmp : List ℕ → List ℕ → Ordering) (order : Order) (v : State) 
       let next : World = record { shown = with_contents start.shown name shown.0; left = with_value start.left name left.0 } in
       tables_torn outputs ((name, t.1) ∷ done) next w (stands_made cmp order v tables start next name shown.0 left.0 h apart.0 refl refl) apart.2 shown.1 left.1
 
-  pub tables_passed : (outputs : List (ℕ × List ℕ)) (done : List (List ℕ × List ℕ)) (rest : List Call) (steps : List Step) (start w : World) → StandsAs cmp order v tables start → AreApart cmp v outputs done → AllWritten done start
-      → AreMade (table_calls outputs ++ rest) steps → Leads start steps w → (StandsAs cmp order v tables w × IsShort steps (table_calls outputs ++ rest)) ⊎ Passed cmp order v tables (table_calls outputs) rest (filed outputs done) steps w
-  tables_passed outputs done rest steps start w h apart all (inl none') l =
+  -- one group
+  group_passed : (outputs : List (ℕ × List ℕ)) (done : List (List ℕ × List ℕ)) (rest : List Call) (steps : List Step) (start w : World) → StandsAs cmp order v tables start → AreApart cmp v outputs done → AllWritten done start
+      → AreMade (Written (named_tables outputs) ∷ rest) steps → Leads start steps w → (StandsAs cmp order v tables w × IsShort steps (Written (named_tables outputs) ∷ rest)) ⊎ Passed cmp order v tables (Written (named_tables outputs) ∷ []) rest (filed outputs done) steps w
+  group_passed outputs done rest steps start w h apart all (inl none') l =
       inl (subst (StandsAs cmp order v tables) (sym (leads_none start w steps none' l)) h, short_none steps (Written (named_tables outputs)) rest none')
-  tables_passed outputs done rest steps start w h apart all (inr (inl one)) l =
+  group_passed outputs done rest steps start w h apart all (inr (inl one)) l =
       let l' = leads_first start w steps [] _ one l in
       inl (subst (StandsAs cmp order v tables) (sym l'.2) (tables_torn outputs done start l'.0 h apart l'.1.0 l'.1.1), short_tried steps (Written (named_tables outputs)) rest one)
-  tables_passed outputs done rest steps start w h apart all (inr (inr more)) l =
+  group_passed outputs done rest steps start w h apart all (inr (inr more)) l =
       let l' = leads_first start w steps more.0 _ more.1 l in
       let one = tables_stand outputs done start l'.0 h apart all l'.1.0 l'.1.1 in
       inr (record { world = l'.0; more = more.0; stands = one.0; written = one.1; made = more.2; leads = l'.2; whole = more.1 })
+
+  -- The groups in their order. After each the version before stands, and the tables so far are written.
+  pub tables_passed : (groups : List (List (ℕ × List ℕ))) (done : List (List ℕ × List ℕ)) (rest : List Call) (steps : List Step) (start w : World) → StandsAs cmp order v tables start → AreApart cmp v (tables_of_groups groups) done → AllWritten done start
+      → AreMade (table_calls groups ++ rest) steps → Leads start steps w → (StandsAs cmp order v tables w × IsShort steps (table_calls groups ++ rest)) ⊎ Passed cmp order v tables (table_calls groups) rest (filed (tables_of_groups groups) done) steps w
+  tables_passed [] done rest steps start w h apart all made l =
+      inr (record { world = start; more = steps; stands = h; written = all; made = made; leads = l; whole = refl })
+  tables_passed (g ∷ groups) done rest steps start w h apart all made l =
+      let call = Written (named_tables g) in
+      let parts = apart_parts cmp v g (tables_of_groups groups) done apart in
+      elim (group_passed g done (table_calls groups ++ rest) steps start w h parts.0 all made l) [
+        | inl still ↦ inl still
+        | inr one ↦ elim (tables_passed groups (filed g done) rest one.more one.world w one.stands parts.1 one.written one.made one.leads) [
+          | inl still ↦ inl (still.0, short_behind steps one.more call (table_calls groups ++ rest) one.whole still.1)
+          | inr two ↦ inr (record {
+            world = two.world;
+            more = two.more;
+            stands = two.stands;
+            written = subst (λ (files : List (List ℕ × List ℕ)). AllWritten files two.world) (sym (filed_joined g (tables_of_groups groups) done)) two.written;
+            made = two.made;
+            leads = two.leads;
+            whole = one.whole ∙ ap (λ (s : List Step). Done call ∷ s) two.whole;
+          })
+        ]
+      ]
 
 -- each table is held under its name
 abbrev pub AllHeld : List (ℕ × List ℕ) → Files → Type 0

@@ -2,6 +2,7 @@
 use Rattle.std.specs.Prelude.{◌≡◌, ◌⊎◌, ◌<◌, ◌≤◌, ℕ, nat_eq, List, [], ◌∷◌, ◌++◌, map, unwrap_or}
 use Rattle.std.specs.Prelude.{codes, Some, None, is_some, true, Result, OnOk}
 use Rattle.std.specs.Global.{Vec}
+use Rattle.std.specs.List.{flat_map}
 use Rattle.std.specs.Map.{lookup}
 use Rattle.coding.specs.Answers.{fault}
 use Rattle.coding.specs.declared.fault.Fault.{Fault}
@@ -31,9 +32,13 @@ tables_in tables = map (λ (t : ℕ × Vec ℕ). (t.0, t.1.items)) tables
 abbrev pub write_calls : List ℕ → List ℕ → List Call
 write_calls name bytes = Created name bytes ∷ Synced name ∷ []
 
--- the tables are made and synced, in any order
-abbrev pub table_calls : List (ℕ × List ℕ) → List Call
-table_calls tables = Written (named_tables tables) ∷ []
+-- the tables of all groups, in their order
+abbrev pub tables_of_groups : List (List (ℕ × List ℕ)) → List (ℕ × List ℕ)
+tables_of_groups groups = flat_map (λ (g : List (ℕ × List ℕ)). g) groups
+
+-- One group of tables after the other is made and synced, the tables of a group in any order.
+abbrev pub table_calls : List (List (ℕ × List ℕ)) → List Call
+table_calls groups = map (λ (g : List (ℕ × List ℕ)). Written (named_tables g)) groups
 
 -- the manifest of the edited version: a log of the snapshot of the version before, and the edit
 abbrev pub manifest_bytes : List ℕ → KeyOrder → State → List ℕ → List ℕ
@@ -48,15 +53,19 @@ temporary_calls number = write_calls (temporary_name number) (current_text numbe
 abbrev pub current_calls : ℕ → List Call
 current_calls number = Renamed (temporary_name number) (codes "CURRENT") ∷ FolderSynced ∷ []
 
--- the calls before the rename: tables, manifest, CURRENT's text
-abbrev pub calls_before_rename : ℕ → List (ℕ × List ℕ) → List ℕ → List Call
-calls_before_rename number outputs manifest =
-    table_calls outputs ++ (write_calls (manifest_name number) manifest ++ temporary_calls number)
+-- the calls between the tables and the rename: manifest, CURRENT's text
+abbrev pub manifest_calls : ℕ → List ℕ → List Call
+manifest_calls number manifest =
+    write_calls (manifest_name number) manifest ++ temporary_calls number
+
+-- the calls before the rename: groups of tables, manifest, CURRENT's text
+abbrev pub calls_before_rename : ℕ → List (List (ℕ × List ℕ)) → List ℕ → List Call
+calls_before_rename number groups manifest = table_calls groups ++ manifest_calls number manifest
 
 -- The calls of an installation that write. CURRENT is read again between the two parts.
-abbrev pub install_calls : ℕ → List (ℕ × List ℕ) → List ℕ → List Call
-install_calls number outputs manifest =
-    calls_before_rename number outputs manifest ++ current_calls number
+abbrev pub install_calls : ℕ → List (List (ℕ × List ℕ)) → List ℕ → List Call
+install_calls number groups manifest =
+    calls_before_rename number groups manifest ++ current_calls number
 
 -- the device failed, and Device is the answer; or CURRENT was not as it was, and Changed is
 abbrev pub IsStoppedOrChanged : ℕ → ℕ → Fault → Type 0

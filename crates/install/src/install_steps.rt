@@ -1,4 +1,4 @@
-//! The parts of an installation, of at most four calls each.
+//! The parts of an installation: a group of tables, and all that follows the tables.
 
 ghost use Rattle.std.specs.Prelude.{◌≡◌, ◌∷◌, ◌++◌, [], ◌≤◌, ℕ, List, IfErr, OnOk, codes};
 ghost use Rattle.std.specs.Prelude.{string_bytes};
@@ -16,17 +16,80 @@ ghost use Rattle.folder.specs.Folder.{failures_after};
 ghost use Rattle.folder.specs.OpenAnswer.{FolderAnswers, IsStopped, StopsAtDevice};
 ghost use Rattle.folder.specs.Reports.{OnlyReads, ReportsDevice};
 ghost use Rattle.install.specs.CurrentAnswer.{IsCurrentAnswer};
-ghost use Rattle.install.specs.Install.{AlwaysStandsAs, current_calls, table_calls, tables_in};
-ghost use Rattle.install.specs.Install.{temporary_calls, write_calls};
+ghost use Rattle.install.specs.Install.{AlwaysStandsAs, current_calls, manifest_calls};
+ghost use Rattle.install.specs.Install.{table_calls, tables_in, temporary_calls, write_calls};
+ghost use Rattle.install.specs.InstallRun.{IsInstallRun};
 ghost use Rattle.folder.specs.Names.{current_text, temporary_name};
 
 use coding::{Fault, FaultName};
-use folder::{CURRENT, Folder, FolderFault, current_text, temporary_name};
+use folder::{CURRENT, Folder, FolderFault, current_text, manifest_name, temporary_name};
 use std::alloc::Global;
 use std::thread::Threads;
 
+/// Makes each table of a group under the name of its number, and syncs it: in any order, by several
+/// threads if the folder does so.
+///
+/// An installation may write its tables by several such calls, so that no more than one group has
+/// to be in memory. [`install_manifest`] is what follows them.
+pub fn write_group<F: Folder, R: Threads + Sync>(
+    rt: &R,
+    folder: &mut F,
+    tables: &[(u64, Vec<u8>)],
+) -> Result<(), Fault>
+    ensures runs { MakesCalls (table_calls (tables_in tables.now ∷ []))
+        (F.calls folder.old) (F.calls folder.new) (F.tells folder.old) (F.tells folder.new) result }
+    ensures refused { IfErr result
+        (λ e. UnlessMemory e (IsStopped (F.failed folder.old) (F.failed folder.new) e)) }
+    ensures at_once { StopsAtDevice (F.failed folder.old) (F.failed folder.new) result }
+    ensures later { F.failed folder.old ≤ F.failed folder.new }
+{
+    Ok(folder.write_tables(rt, tables)?)
+}
+
+/// What an installation does after its tables are written: it writes the `manifest`, which has this
+/// `number`, and makes CURRENT name it, if CURRENT still names the manifest of the number `opened`.
+///
+/// After the groups of the tables of an outcome, with the bytes of [`manifest_bytes`], all calls
+/// together guarantee what [`install`] does (`IsGroupedInstallation`).
+///
+/// [`install`]: crate::install
+/// [`manifest_bytes`]: crate::manifest_bytes
+pub fn install_manifest<F: Folder>(
+    alloc: Global,
+    folder: &mut F,
+    opened: u64,
+    number: u64,
+    manifest: &[u8],
+) -> Result<(), Fault>
+    ensures { IsInstallRun F.Folder (manifest_calls number manifest.now) (current_calls number)
+        opened folder.old folder.new result }
+{
+    write_manifest(alloc, folder, number, manifest)?;
+    test_current(alloc, folder, opened)?;
+    name_current(alloc, folder, number)
+}
+
+/// Writes the manifest, and CURRENT's text under its temporary name.
+fn write_manifest<F: Folder>(
+    alloc: Global,
+    folder: &mut F,
+    number: u64,
+    manifest: &[u8],
+) -> Result<(), Fault>
+    ensures runs { MakesCalls (manifest_calls number manifest.now)
+        (F.calls folder.old) (F.calls folder.new) (F.tells folder.old) (F.tells folder.new) result }
+    ensures refused { IfErr result
+        (λ e. UnlessMemory e (IsStopped (F.failed folder.old) (F.failed folder.new) e)) }
+    ensures at_once { StopsAtDevice (F.failed folder.old) (F.failed folder.new) result }
+    ensures later { F.failed folder.old ≤ F.failed folder.new }
+{
+    let name = manifest_name(alloc, number)?;
+    write(folder, name.as_str(), manifest)?;
+    write_temporary(alloc, folder, number)
+}
+
 /// Makes a file and syncs it.
-pub(crate) fn write<F: Folder>(folder: &mut F, name: &str, bytes: &[u8]) -> Result<(), FolderFault>
+fn write<F: Folder>(folder: &mut F, name: &str, bytes: &[u8]) -> Result<(), FolderFault>
     ensures runs { MakesCalls (write_calls name.now bytes.now) (F.calls folder.old)
         (F.calls folder.new) (F.tells folder.old) (F.tells folder.new) result }
     // If the name is free, a crash at any moment leaves the version before.
@@ -45,28 +108,8 @@ pub(crate) fn write<F: Folder>(folder: &mut F, name: &str, bytes: &[u8]) -> Resu
     make_file(folder, name, bytes)
 }
 
-/// Makes each table under the name of its number, and syncs it.
-pub(crate) fn write_tables<F: Folder, R: Threads + Sync>(
-    rt: &R,
-    folder: &mut F,
-    tables: &[(u64, Vec<u8>)],
-) -> Result<(), Fault>
-    ensures runs { MakesCalls (table_calls (tables_in tables.now))
-        (F.calls folder.old) (F.calls folder.new) (F.tells folder.old) (F.tells folder.new) result }
-    ensures refused { IfErr result
-        (λ e. UnlessMemory e (IsStopped (F.failed folder.old) (F.failed folder.new) e)) }
-    ensures at_once { StopsAtDevice (F.failed folder.old) (F.failed folder.new) result }
-    ensures later { F.failed folder.old ≤ F.failed folder.new }
-{
-    Ok(folder.write_tables(rt, tables)?)
-}
-
 /// Makes and syncs CURRENT's text under its temporary name, and syncs the folder.
-pub(crate) fn write_temporary<F: Folder>(
-    alloc: Global,
-    folder: &mut F,
-    number: u64,
-) -> Result<(), Fault>
+fn write_temporary<F: Folder>(alloc: Global, folder: &mut F, number: u64) -> Result<(), Fault>
     ensures runs { MakesCalls (temporary_calls number)
         (F.calls folder.old) (F.calls folder.new) (F.tells folder.old) (F.tells folder.new) result }
     // If the name is free, a crash at any moment leaves the version before.
@@ -93,11 +136,7 @@ pub(crate) fn write_temporary<F: Folder>(
 
 /// Changed if CURRENT doesn't name the manifest of the number `opened`, or isn't there. It only
 /// reads.
-pub(crate) fn test_current<F: Folder>(
-    alloc: Global,
-    folder: &mut F,
-    opened: u64,
-) -> Result<(), Fault>
+fn test_current<F: Folder>(alloc: Global, folder: &mut F, opened: u64) -> Result<(), Fault>
     ensures answer { FolderAnswers (λ u. u) (F.failed folder.old) (F.failed folder.new) result
         (IsCurrentAnswer (F.tells folder.old) opened) }
     ensures device { ReportsDevice F.Folder folder.old folder.new result }
@@ -111,11 +150,7 @@ pub(crate) fn test_current<F: Folder>(
 }
 
 /// Renames the file of the temporary name to CURRENT, and syncs the folder.
-pub(crate) fn name_current<F: Folder>(
-    alloc: Global,
-    folder: &mut F,
-    number: u64,
-) -> Result<(), Fault>
+fn name_current<F: Folder>(alloc: Global, folder: &mut F, number: u64) -> Result<(), Fault>
     ensures runs { MakesCalls (current_calls number) (F.calls folder.old) (F.calls folder.new)
         (F.tells folder.old) (F.tells folder.new) result }
     ensures refused { IfErr result

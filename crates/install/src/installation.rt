@@ -1,6 +1,6 @@
 //! Installing the outcome of a compaction.
 
-ghost use Rattle.std.specs.Prelude.{◌≡◌, ◌≢◌, ◌++◌, ◌<◌, ◌≤◌, ◌^◌, ℕ, List, length, map, codes};
+ghost use Rattle.std.specs.Prelude.{◌≡◌, ◌≢◌, ◌∷◌, ◌++◌, [], ◌<◌, ◌^◌, ℕ, List, length, map, codes};
 ghost use Rattle.std.specs.Prelude.{IfErr, IsErrAnd, Some};
 ghost use Rattle.coding.specs.Answers.{UnlessMemory, fault};
 ghost use Rattle.coding.specs.declared.fault.FaultName.TheVariants.{Changed};
@@ -8,19 +8,19 @@ ghost use Rattle.edit.specs.Version.{State};
 ghost use Rattle.folder.specs.CallSequence.{MakesCalls};
 ghost use Rattle.folder.specs.Calls.{Done, Files, Tells};
 ghost use Rattle.folder.specs.Names.{current_text};
-ghost use Rattle.folder.specs.OpenAnswer.{IsStopped, StopsAtDevice};
+ghost use Rattle.folder.specs.OpenAnswer.{IsStopped};
 ghost use Rattle.folder.specs.Reports.{ReportsDevice};
 ghost use Rattle.folder.specs.declared.order.Order.{Order};
 ghost use Rattle.install.specs.Install.{IsEditedBy, IsStoppedOrChanged, SurvivesCrash};
-ghost use Rattle.install.specs.Install.{calls_before_rename, current_calls, install_calls};
-ghost use Rattle.install.specs.Install.{manifest_bytes, next_version_tables, tables_in};
-ghost use Rattle.install.specs.InstallRun.{IsInstallRun};
+ghost use Rattle.install.specs.Install.{calls_before_rename, install_calls, manifest_bytes};
+ghost use Rattle.install.specs.Install.{next_version_tables, tables_in};
+ghost use Rattle.install.specs.InstallRun.{IsGroupedInstallation};
 
-use crate::install_steps::{name_current, test_current, write, write_tables, write_temporary};
+use crate::install_steps::{install_manifest, write_group};
 use crate::manifest::manifest_bytes;
 use coding::Fault;
 use edit::{Outcome, Version};
-use folder::{Folder, manifest_name};
+use folder::Folder;
 use ikey::Comparator;
 use std::alloc::Global;
 use std::thread::Threads;
@@ -48,13 +48,13 @@ pub fn install<C: Comparator, F: Folder, R: Threads + Sync>(
 
     // The calls that write, in their order, up to one that fails.
     ensures runs { MakesCalls
-        (install_calls manifest_number (tables_in outcome.now.tables.items)
+        (install_calls manifest_number (tables_in outcome.now.tables.items ∷ [])
         (manifest_bytes C.name_bytes C.cmp version.now outcome.now.edit.items))
         (F.calls folder.old) (F.calls folder.new) (F.tells folder.old) (F.tells folder.new) result }
 
     // At Changed those before the rename were made, and no others.
     ensures left { IfErr result (λ e. e ≡ fault Changed → F.calls folder.new ≡ F.calls folder.old
-        ++ map Done (calls_before_rename manifest_number (tables_in outcome.now.tables.items)
+        ++ map Done (calls_before_rename manifest_number (tables_in outcome.now.tables.items ∷ [])
         (manifest_bytes C.name_bytes C.cmp version.now outcome.now.edit.items))) }
 
     // If the folder stands for the version, a crash at any moment leaves it or the edited version.
@@ -89,57 +89,25 @@ pub fn install<C: Comparator, F: Folder, R: Threads + Sync>(
         (λ e. UnlessMemory e (IsStoppedOrChanged (F.failed folder.old) (F.failed folder.new) e)) }
     ensures device { ReportsDevice F.Folder folder.old folder.new result }
 {
-    let manifest = manifest_bytes::<C>(alloc, version, &outcome.edit)?;
-    make_calls(
-        rt,
-        alloc,
-        folder,
-        opened,
-        manifest_number,
-        &outcome.tables,
-        &manifest,
-    )
+    install_group::<C, F, R>(rt, alloc, folder, opened, version, manifest_number, outcome)
 }
 
-/// Writes the tables, the manifest and CURRENT, if CURRENT still names the manifest of the number
-/// `opened`.
-fn make_calls<F: Folder, R: Threads + Sync>(
+/// The same, whose tables are one group.
+fn install_group<C: Comparator, F: Folder, R: Threads + Sync>(
     rt: &R,
     alloc: Global,
     folder: &mut F,
     opened: u64,
+    version: &Version,
     manifest_number: u64,
-    tables: &[(u64, Vec<u8>)],
-    manifest: &[u8],
+    outcome: &Outcome,
 ) -> Result<(), Fault>
-    ensures { IsInstallRun F.Folder
-        (calls_before_rename manifest_number (tables_in tables.now) manifest.now)
-        (current_calls manifest_number) opened folder.old folder.new result }
+    requires { length C.name_bytes < 2 ^ 32 }
+    ensures { IsGroupedInstallation F.Folder C.name_bytes C.cmp version.now opened manifest_number
+        (tables_in outcome.now.tables.items ∷ []) outcome.now.edit.items folder.old folder.new
+        result }
 {
-    write_files(rt, alloc, folder, manifest_number, tables, manifest)?;
-    test_current(alloc, folder, opened)?;
-    name_current(alloc, folder, manifest_number)
-}
-
-/// Writes the tables, the manifest, and CURRENT's text under its temporary name.
-fn write_files<F: Folder, R: Threads + Sync>(
-    rt: &R,
-    alloc: Global,
-    folder: &mut F,
-    manifest_number: u64,
-    tables: &[(u64, Vec<u8>)],
-    manifest: &[u8],
-) -> Result<(), Fault>
-    ensures runs { MakesCalls
-        (calls_before_rename manifest_number (tables_in tables.now) manifest.now)
-        (F.calls folder.old) (F.calls folder.new) (F.tells folder.old) (F.tells folder.new) result }
-    ensures refused { IfErr result
-        (λ e. UnlessMemory e (IsStopped (F.failed folder.old) (F.failed folder.new) e)) }
-    ensures at_once { StopsAtDevice (F.failed folder.old) (F.failed folder.new) result }
-    ensures later { F.failed folder.old ≤ F.failed folder.new }
-{
-    let name = manifest_name(alloc, manifest_number)?;
-    write_tables(rt, folder, tables)?;
-    write(folder, name.as_str(), manifest)?;
-    write_temporary(alloc, folder, manifest_number)
+    let manifest = manifest_bytes::<C>(alloc, version, &outcome.edit)?;
+    write_group(rt, folder, &outcome.tables)?;
+    install_manifest(alloc, folder, opened, manifest_number, &manifest)
 }

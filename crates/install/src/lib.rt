@@ -10,6 +10,10 @@
 //!    and no further call is made;
 //! 5. the temporary name is renamed to CURRENT, and the folder is synced.
 //!
+//! A caller that makes its tables in groups asks for [`manifest_bytes`], then for [`write_group`]
+//! of each group, and then for [`install_manifest`], which does all from the second on. Then the
+//! same holds (`IsGroupedInstallation`; the lemma is `grouped`).
+//!
 //! Why the first three: CURRENT never names a manifest that a crash could take away.
 //!
 //! Why the fourth: a program that ignores the folder's lock may have changed the version meanwhile,
@@ -25,4 +29,6 @@ mod install_steps;
 mod installation;
 mod manifest;
 
+pub use install_steps::{install_manifest, write_group};
 pub use installation::install;
+pub use manifest::manifest_bytes;

@@ -13,11 +13,11 @@ use edit::Version;
 use ikey::Comparator;
 use std::alloc::Global;
 
-/// The manifest's log of two records: the snapshot of `version`, and the bytes of `edit`. The only
-/// fault is Memory.
+/// The manifest of the edited version. Its log has two records: the snapshot of `version`, and the
+/// bytes of `edit`. The only fault is Memory.
 ///
 /// The comparator's name has fewer than 2^32 bytes.
-pub(crate) fn manifest_bytes<C: Comparator>(
+pub fn manifest_bytes<C: Comparator>(
     alloc: Global,
     version: &Version,
     edit: &[u8],

@@ -3,7 +3,7 @@ use Rattle.folder.specs.Calls.{Written}
 use Rattle.folder.specs.TableFiles.{table_files}
 use Rattle.folder.proofs.RunLemmas.{runs_one}
 use Rattle.install.proofs.Parts.{hands_stopped, runs_whole}
-use Rattle.install.proofs.install_steps.write_tables.Goals as goal
+use Rattle.install.proofs.install_steps.write_group.Goals as goal
 
 pub returns-in_err-write_tables-clause-runs : goal.returns-in_err-write_tables-clause-runs
 returns-in_err-write_tables-clause-runs g c =

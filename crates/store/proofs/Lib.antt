@@ -15,6 +15,7 @@ pub mod InputsApart
 mod LentRises
 mod CheckedInputs
 mod HeldInputs
+mod FoundInputs
 mod OrderlyFiles
 mod LineLemmas
 mod Tellings
@@ -22,8 +23,10 @@ pub mod Compactions
 mod LawfulInputs
 pub mod InstallPart
 mod StepPart
+mod PlannedPart
 mod NamesThere
 mod Runs
+mod GroupRuns
 mod AfterEdit
 mod StepsTaken
 mod Chains

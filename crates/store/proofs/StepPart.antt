@@ -50,24 +50,24 @@ named_after number m last (one, made, (two, synced, (three, kept, (four, renamed
     ∙ put_same m.files t (Some (current_text number))
 
 -- the calls of an installation end with those that name the manifest
-last_calls : (number : ℕ) (outputs : List (ℕ × List ℕ)) (manifest : List ℕ)
-    → map Done (install_calls number outputs manifest) ≡ map Done (table_calls outputs ++ write_calls (manifest_name number) manifest) ++ map Done (temporary_calls number ++ current_calls number)
-last_calls number outputs manifest =
-    let tables = table_calls outputs in
+last_calls : (number : ℕ) (groups : List (List (ℕ × List ℕ))) (manifest : List ℕ)
+    → map Done (install_calls number groups manifest) ≡ map Done (table_calls groups ++ write_calls (manifest_name number) manifest) ++ map Done (temporary_calls number ++ current_calls number)
+last_calls number groups manifest =
+    let tables = table_calls groups in
     let write = write_calls (manifest_name number) manifest in
     ap (map Done)
     (ap (λ (calls : List Call). calls ++ current_calls number) (sym (append_assoc tables write (temporary_calls number)))
     ∙ append_assoc (tables ++ write) (temporary_calls number) (current_calls number))
     ∙ map-append Done (tables ++ write) (temporary_calls number ++ current_calls number)
 
-pub current_named : {T : Type 0} (number : ℕ) (outputs : List (ℕ × List ℕ)) (manifest : List ℕ) (before after : List Step) (old new : List ℕ → Option (List ℕ) → Type 0) (r : Result T Fault) (x : T) (files : Files)
-    → r ≡ Ok x → MakesCalls (install_calls number outputs manifest) before after old new r → Tells old files → new (codes "CURRENT") (Some (current_text number))
-current_named number outputs manifest before after old new r x files was runs tells =
+pub current_named : {T : Type 0} (number : ℕ) (groups : List (List (ℕ × List ℕ))) (manifest : List ℕ) (before after : List Step) (old new : List ℕ → Option (List ℕ) → Type 0) (r : Result T Fault) (x : T) (files : Files)
+    → r ≡ Ok x → MakesCalls (install_calls number groups manifest) before after old new r → Tells old files → new (codes "CURRENT") (Some (current_text number))
+current_named number groups manifest before after old new r x files was runs tells =
     let s : FolderView = record { files = files; synced = λ name. true } in
     let last = runs.change s tells in
-    let steps = all_made (install_calls number outputs manifest) runs.steps r x was runs.made ∙ last_calls number outputs manifest in
+    let steps = all_made (install_calls number groups manifest) runs.steps r x was runs.made ∙ last_calls number groups manifest in
     let shown = subst (λ (t : List Step). ShowsAll t s last.0) steps last.1 in
-    let parts = shows_split (map Done (table_calls outputs ++ write_calls (manifest_name number) manifest)) (map Done (temporary_calls number ++ current_calls number)) s last.0 shown in
+    let parts = shows_split (map Done (table_calls groups ++ write_calls (manifest_name number) manifest)) (map Done (temporary_calls number ++ current_calls number)) s last.0 shown in
     (last.2 (codes "CURRENT") (Some (current_text number))).1 (named_after number parts.0 last.0 parts.2)
 
 -- ---- what is left

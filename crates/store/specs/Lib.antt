@@ -17,4 +17,5 @@ pub mod FilesToCompact
 pub mod CallRun
 pub mod LentFiles
 pub mod InputLaws
+pub mod FoundInputs
 pub mod NameLines

@@ -68,4 +68,4 @@ edit_calls edit = write_calls (codes "EDIT.dbtmp") edit
 
 -- the calls that write an outcome: each table is made and synced, and then the edit is written
 abbrev pub outcome_calls : Answer → List Call
-outcome_calls answer = table_calls answer.tables ++ edit_calls answer.edit
+outcome_calls answer = table_calls (answer.tables ∷ []) ++ edit_calls answer.edit

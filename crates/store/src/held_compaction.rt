@@ -1,25 +1,36 @@
 //! The compaction of inputs whose tables are held.
 
 ghost use Rattle.std.specs.Prelude.{◌≡◌, ◌&&◌, ◌<◌, ◌^◌, nat_le, ℕ, List, map, IfOk, Ok};
-ghost use Rattle.std.specs.Prelude.{unwrap_or};
+ghost use Rattle.std.specs.Prelude.{◌≢◌, None, OnOk, Some, codes, length, unwrap_or};
 ghost use Rattle.coding.specs.Answers.{EqualOrMemory, HoldsOrMemory};
 ghost use Rattle.coding.specs.declared.fault.FaultName.TheVariants.{SplitCount};
 ghost use Rattle.table.specs.ReadingSteps.{test_result};
 ghost use Rattle.compact.specs.Answered.{answer_in};
 ghost use Rattle.checks.specs.HeldTables.{held_bytes};
+ghost use Rattle.folder.specs.Calls.{Files, Tells};
+ghost use Rattle.folder.specs.Manifest.{order_name};
+ghost use Rattle.folder.specs.Names.{current_text};
+ghost use Rattle.folder.specs.OpenAnswer.{FolderAnswers};
+ghost use Rattle.folder.specs.Reports.{ReportsDevice};
+ghost use Rattle.folder.specs.declared.order.Order.{Order};
 ghost use Rattle.install.specs.Install.{table_bytes_of};
 ghost use Rattle.pick.specs.Picked.{picked_in};
 ghost use Rattle.request.specs.Inputs.{inputs_reading};
 ghost use Rattle.store.specs.FolderRequest.{compaction_from};
+ghost use Rattle.store.specs.FoundInputs.{CanBeInstalled, answer_as};
 ghost use Rattle.store.specs.InputLaws.{with_inputs};
-ghost use Rattle.store.specs.InputsCompaction.{IsReadTold};
+ghost use Rattle.store.specs.InputsCompaction.{IsReadTold, installed_lines};
+ghost use Rattle.store.specs.StepLeft.{IsStepLeft};
 
+use crate::compaction_step::CompactionStep;
 use crate::folder_request::request_of;
 use crate::input_tables::{bytes_of, stated_tables};
+use crate::planned_installation::install_merged;
 use checks::{HeldTables, Watch, Work};
 use coding::Fault;
-use compact::compact_tables;
+use compact::{compact_tables, merge_request};
 use edit::{Outcome, Version};
+use folder::{Folder, Opened};
 use ikey::{Comparator, SharedComparator};
 use pick::Inputs;
 use settings::Settings;
@@ -84,6 +95,101 @@ fn compact_checked<C: SharedComparator + 'static, W: Watch + Sync, R: Threads + 
     let request = request_of(version, picked, &bytes, first, settings)?;
     watch.begin(Work::Compact, split.len());
     compact_tables::<C, W, R>(rt, alloc, &request, tables, &split, settings.workers, watch)
+}
+
+/// Compacts `picked` inputs of the version that a folder was `opened` as, whose tables are held in
+/// their order, and installs the outcome.
+///
+/// The first that applies: Bounds, if a table isn't as its file states; what the compaction is
+/// refused as; what an installation is.
+pub(crate) fn install_held<
+    C: SharedComparator + 'static,
+    F: Folder,
+    W: Watch + Sync,
+    R: Threads + Sync,
+>(
+    rt: &R,
+    alloc: Global,
+    folder: &mut F,
+    opened: &Opened,
+    picked: &Inputs,
+    held: &HeldTables<C>,
+    settings: &Settings<'_>,
+    watch: &W,
+) -> Result<CompactionStep, Fault>
+    requires name { length C.name_bytes < 2 ^ 32 }
+    requires bytes { map (λ t. t.1) (held_bytes held.now)
+        ≡ map (λ i. table_bytes_of (held_bytes held.now) i.meta.number) picked.now.files.items }
+    ensures answer { (files : Files) → Tells (F.tells folder.old) files →
+        files (codes "CURRENT") ≡ Some (current_text opened.now.manifest) →
+        FolderAnswers (λ step. step.lines.items) (F.failed folder.old) (F.failed folder.new) result
+        (IsReadTold (installed_lines opened.now.version) None C.cmp C.short_keys opened.now.version
+        (picked_in picked.now) settings.now (held_bytes held.now)) }
+    ensures left { (files : Files) (order : Order) (loaded : List (ℕ × List ℕ)) (level : ℕ) →
+        Tells (F.tells folder.old) files →
+        files (codes "CURRENT") ≡ Some (current_text opened.now.manifest) →
+        order_name order ≡ C.name_bytes →
+        CanBeInstalled order C.cmp C.short_keys opened.now.version loaded level settings.now
+        (picked_in picked.now) (compaction_from None C.cmp C.short_keys opened.now.version
+        (held_bytes held.now) (picked_in picked.now) settings.now) →
+        IsStepLeft order C.cmp C.short_keys opened.now.version loaded level settings.now
+        (F.calls folder.old) (F.calls folder.new) (F.tells folder.old) (F.tells folder.new) result }
+    ensures other { (files : Files) → Tells (F.tells folder.old) files →
+        files (codes "CURRENT") ≢ Some (current_text opened.now.manifest) → OnOk result ⊥ }
+    ensures device { ReportsDevice F.Folder folder.old folder.new result }
+{
+    let tables = stated_tables(alloc, &picked.files, held)?;
+    install_checked::<C, F, W, R>(rt, alloc, folder, opened, picked, &tables, settings, watch)
+}
+
+/// Compacts `picked` inputs, whose `tables` are checked, and installs the outcome.
+fn install_checked<C: SharedComparator + 'static, F: Folder, W: Watch + Sync, R: Threads + Sync>(
+    rt: &R,
+    alloc: Global,
+    folder: &mut F,
+    opened: &Opened,
+    picked: &Inputs,
+    tables: &[SoundTable<'_, C>],
+    settings: &Settings<'_>,
+    watch: &W,
+) -> Result<CompactionStep, Fault>
+    requires name { length C.name_bytes < 2 ^ 32 }
+    requires read { inputs_reading C.cmp 0 picked.now.files.items (map (λ t. t.bytes) tables.now)
+        ≡ Ok (map (λ t. t.entries) tables.now) }
+    // Each input has the bytes of its number.
+    requires bytes { (loaded : List (ℕ × List ℕ)) × (map (λ t. t.bytes) tables.now
+        ≡ map (λ i. table_bytes_of loaded i.meta.number) picked.now.files.items) }
+    ensures answer { (files : Files) (loaded : List (ℕ × List ℕ)) →
+        Tells (F.tells folder.old) files →
+        files (codes "CURRENT") ≡ Some (current_text opened.now.manifest) →
+        map (λ t. t.bytes) tables.now
+        ≡ map (λ i. table_bytes_of loaded i.meta.number) picked.now.files.items →
+        FolderAnswers (λ step. step.lines.items) (F.failed folder.old) (F.failed folder.new) result
+        (λ lines. lines ≡ answer_as (installed_lines opened.now.version (picked_in picked.now))
+        (compaction_from None C.cmp C.short_keys opened.now.version loaded (picked_in picked.now)
+        settings.now)) }
+    ensures left { (files : Files) (order : Order) (own loaded : List (ℕ × List ℕ)) (level : ℕ) →
+        Tells (F.tells folder.old) files →
+        files (codes "CURRENT") ≡ Some (current_text opened.now.manifest) →
+        map (λ t. t.bytes) tables.now
+        ≡ map (λ i. table_bytes_of own i.meta.number) picked.now.files.items →
+        order_name order ≡ C.name_bytes →
+        CanBeInstalled order C.cmp C.short_keys opened.now.version loaded level settings.now
+        (picked_in picked.now) (compaction_from None C.cmp C.short_keys opened.now.version
+        own (picked_in picked.now) settings.now) →
+        IsStepLeft order C.cmp C.short_keys opened.now.version loaded level settings.now
+        (F.calls folder.old) (F.calls folder.new) (F.tells folder.old) (F.tells folder.new) result }
+    ensures other { (files : Files) → Tells (F.tells folder.old) files →
+        files (codes "CURRENT") ≢ Some (current_text opened.now.manifest) → OnOk result ⊥ }
+    ensures device { ReportsDevice F.Folder folder.old folder.new result }
+{
+    let split = split_of(alloc, tables, settings.ranges)?;
+    let bytes = bytes_of(alloc, tables)?;
+    let request = request_of(&opened.version, picked, &bytes, None, settings)?;
+    watch.begin(Work::Compact, split.len());
+    let workers = settings.workers;
+    let merged = merge_request::<C, W, R>(rt, alloc, &request, tables, &split, workers, watch)?;
+    install_merged(rt, alloc, folder, opened, &merged, &picked.files, watch)
 }
 
 /// The split of the keys of these tables into at most `ranges` ranges. `SplitCount` if `ranges` is

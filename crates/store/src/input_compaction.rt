@@ -1,45 +1,33 @@
 //! The compaction of a folder that reads its inputs and no other table.
 
-ghost use Rattle.std.specs.Prelude.{◌≡◌, ◌≢◌, ◌<◌, ◌^◌, ℕ, List, length, codes, Some, Ok, IfOk};
+ghost use Rattle.std.specs.Prelude.{◌≡◌, ◌≢◌, ◌<◌, ◌^◌, ℕ, List, length, codes, Some, Ok};
 ghost use Rattle.std.specs.Prelude.{OnOk};
 ghost use Rattle.checks.specs.HeldTables.{AreHeldIn};
 ghost use Rattle.checks.specs.LawfulTables.{IsLawfulTables};
-ghost use Rattle.compact.specs.Answered.{answer_in};
 ghost use Rattle.folder.specs.Calls.{Files, Tells};
-ghost use Rattle.folder.specs.Levels.{file_numbers};
-ghost use Rattle.folder.specs.LoadedTables.{IsLoaded};
 ghost use Rattle.folder.specs.Manifest.{order_name};
 ghost use Rattle.folder.specs.Names.{current_text};
 ghost use Rattle.folder.specs.OpenAnswer.{FolderAnswers};
 ghost use Rattle.folder.specs.Orders.{order_cmp, order_short_keys};
-ghost use Rattle.folder.specs.ReadsAs.{IsHeldIn, ReadsAs};
-ghost use Rattle.folder.specs.Reports.{OnlyReads, ReportsDevice};
+ghost use Rattle.folder.specs.ReadsAs.{ReadsAs};
+ghost use Rattle.folder.specs.Reports.{ReportsDevice};
 ghost use Rattle.folder.specs.declared.order.Order.{Order};
 ghost use Rattle.reads.specs.Tables.{NumberedContents};
-ghost use Rattle.store.specs.Compaction.{VersionCompaction};
 ghost use Rattle.store.specs.InputsCompaction.{IsInputsCompacted};
 ghost use Rattle.store.specs.StepLeft.{IsStepLeft};
 
 use crate::compaction_step::CompactionStep;
-use crate::folder_request::manifest_of;
-use crate::level_compaction::level_outcome;
-use crate::lines::compaction_lines;
+use crate::held_compaction::install_held;
+use crate::input_laws::same_inputs;
+use crate::install_laws::numbered_is_installed;
+use crate::level_inputs::level_inputs;
 use checks::{HeldTables, Watch};
 use coding::Fault;
-use edit::{Outcome, Version};
 use folder::{Folder, Opened, Order};
 use ikey::{Bytewise, SharedComparator, Shortlex};
-use install::install;
 use settings::Settings;
 use std::alloc::Global;
 use std::thread::Threads;
-
-/// What is ready to be installed: the outcome of a compaction, and its lines.
-#[derive(Drop)]
-pub(crate) struct Ready {
-    pub lines: Vec<u8>,
-    pub outcome: Outcome,
-}
 
 /// Compacts a `level` of what a folder was `opened` as, and installs the outcome. It reads the
 /// tables of the inputs and no other: so the caller says that the version is lawful, as after a
@@ -140,53 +128,18 @@ pub(crate) fn compact_step<
         files (codes "CURRENT") ≢ Some (current_text opened.now.manifest) → OnOk result ⊥ }
     ensures device { ReportsDevice F.Folder folder.old folder.new result }
 {
+    numbered_is_installed::<C>();
+    same_inputs::<C>();
     let version = &opened.version;
-    let ready = ready_step::<C, F, W, R>(rt, alloc, folder, held, version, level, settings, watch)?;
-    let outcome = &ready.outcome;
-    let number = manifest_of(version);
-    install::<C, F, R>(rt, alloc, folder, opened.manifest, version, number, outcome)?;
-    Ok(CompactionStep {
-        lines: ready.lines,
-        edit: ready.outcome.edit,
-    })
-}
-
-/// What the compaction of a `level` of a version is to install. It only reads.
-fn ready_step<C: SharedComparator + 'static, F: Folder, W: Watch + Sync, R: Threads + Sync>(
-    rt: &R,
-    alloc: Global,
-    folder: &mut F,
-    held: HeldTables<C>,
-    version: &Version,
-    level: u64,
-    settings: &Settings<'_>,
-    watch: &W,
-) -> Result<Ready, Fault>
-    ensures answer { (files : Files) → Tells (F.tells folder.old) files →
-        AreHeldIn C.cmp files held →
-        FolderAnswers (λ ready. ready.lines.items) (F.failed folder.old) (F.failed folder.new)
-        result (IsInputsCompacted C.cmp C.short_keys files version.now level settings.now) }
-    ensures compacted { (files : Files) (order : Order) (loaded : List (ℕ × List ℕ))
-        (tables : List NumberedContents) → Tells (F.tells folder.old) files →
-        AreHeldIn C.cmp files held →
-        IsLoaded (IsHeldIn files) (file_numbers C.cmp version.now) (Ok loaded) →
-        IsLawfulTables C.cmp version.now loaded (Ok tables) →
-        IfOk result (λ ready. VersionCompaction order C.cmp C.short_keys version.now loaded level
-        settings.now (answer_in ready.outcome) ready.lines.items) }
-    ensures device { ReportsDevice F.Folder folder.old folder.new result }
-    ensures reads { OnlyReads F.Folder folder.old folder.new }
-{
-    let made = level_outcome::<C, F, W, R>(
-        rt, alloc, folder, held, version, level, None, settings, watch,
-    )?;
-    let lines = compaction_lines(
+    let inputs = level_inputs::<C, F, W, R>(rt, alloc, folder, held, version, level, watch)?;
+    install_held::<C, F, W, R>(
+        rt,
         alloc,
-        &made.outcome,
-        &made.picked.files,
-        manifest_of(version),
-    )?;
-    Ok(Ready {
-        lines,
-        outcome: made.outcome,
-    })
+        folder,
+        opened,
+        &inputs.picked,
+        &inputs.tables,
+        settings,
+        watch,
+    )
 }

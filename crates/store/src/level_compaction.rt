@@ -18,16 +18,15 @@ ghost use Rattle.store.specs.InputsCompaction.{IsInputsTold};
 ghost use Rattle.store.specs.Outcome.{LevelCompaction};
 
 use crate::held_compaction::compact_held;
-use crate::input_laws::{inputs_in_order, same_inputs};
-use crate::input_tables::numbers_of;
+use crate::input_laws::same_inputs;
 use crate::install_laws::numbered_is_installed;
-use crate::version_files::test_files;
-use checks::{CHECKERS, HeldTables, Watch, Work, checked_tables};
+use crate::level_inputs::level_inputs;
+use checks::{HeldTables, Watch};
 use coding::Fault;
 use edit::{Outcome, Version};
 use folder::Folder;
 use ikey::SharedComparator;
-use pick::{Inputs, inputs};
+use pick::Inputs;
 use settings::Settings;
 use std::alloc::Global;
 use std::thread::Threads;
@@ -74,15 +73,20 @@ pub(crate) fn level_outcome<
     ensures reads { OnlyReads F.Folder folder.old folder.new }
 {
     numbered_is_installed::<C>();
-    inputs_in_order::<C>();
     same_inputs::<C>();
-    test_files::<C>(alloc, version)?;
-    let picked = inputs::<C>(alloc, version, level)?;
-    let numbers = numbers_of(alloc, &picked.files)?;
-    watch.begin(Work::Check, numbers.len() as u64);
-    let tables = checked_tables::<C, F, W, R>(rt, alloc, folder, held, &numbers, CHECKERS, watch)?;
+    let inputs = level_inputs::<C, F, W, R>(rt, alloc, folder, held, version, level, watch)?;
     let outcome = compact_held::<C, W, R>(
-        rt, alloc, version, &picked, &tables, first, settings, watch,
+        rt,
+        alloc,
+        version,
+        &inputs.picked,
+        &inputs.tables,
+        first,
+        settings,
+        watch,
     )?;
-    Ok(LevelOutcome { picked, outcome })
+    Ok(LevelOutcome {
+        picked: inputs.picked,
+        outcome,
+    })
 }

@@ -49,10 +49,12 @@ mod input_tables;
 mod install_laws;
 mod install_watch;
 mod level_compaction;
+mod level_inputs;
 mod lines;
 mod needed_files;
 mod next_opened;
 mod outcome_writer;
+mod planned_installation;
 mod version_files;
 mod version_sync;
 

@@ -1,13 +1,14 @@
 //! The lines of a compaction.
 
-ghost use Rattle.std.specs.Prelude.{◌≡◌, ◌++◌, Ok, IfErr, OnOk, string_bytes};
+ghost use Rattle.std.specs.Prelude.{◌≡◌, ◌++◌, ℕ, List, Ok, IfErr, OnOk, string_bytes};
 ghost use Rattle.std.specs.List.{flat_map};
 ghost use Rattle.coding.specs.Answers.{EqualOrMemory, fault};
 ghost use Rattle.coding.specs.declared.fault.FaultName.TheVariants.{Memory};
+ghost use Rattle.compact.specs.Grouped.{table_sizes};
 ghost use Rattle.install.specs.Install.{tables_in};
 ghost use Rattle.request.specs.EditOf.{deletions_of};
 ghost use Rattle.store.specs.Lines.{compaction_lines, deleted_line, installed_line, outcome_lines};
-ghost use Rattle.store.specs.Lines.{output_line};
+ghost use Rattle.store.specs.Lines.{size_line};
 
 use coding::Fault;
 use edit::{DeletedFile, Outcome};
@@ -33,7 +34,22 @@ pub fn compaction_lines(
     ensures { EqualOrMemory (λ v. v.items) result
         (Ok (compaction_lines (tables_in outcome.now.tables.items) inputs.now manifest_number)) }
 {
-    let mut text = changes_text(alloc, outcome, inputs)?;
+    let sizes = sizes_of(alloc, &outcome.tables)?;
+    installed_lines(alloc, &sizes, inputs, manifest_number)
+}
+
+/// The same of outputs that are known by their numbers and their lengths. The only fault is Memory.
+pub(crate) fn installed_lines(
+    alloc: Global,
+    sizes: &[(u64, u64)],
+    inputs: &[InputFile],
+    manifest_number: u64,
+) -> Result<Vec<u8>, Fault>
+    ensures { (outputs : List (ℕ × List ℕ)) → sizes.now ≡ table_sizes outputs →
+        EqualOrMemory (λ v. v.items) result
+        (Ok (compaction_lines outputs inputs.now manifest_number)) }
+{
+    let mut text = changes_text(alloc, sizes, inputs)?;
     push_installed(alloc, &mut text, manifest_number)?;
     Ok(text.into_bytes())
 }
@@ -48,44 +64,54 @@ pub(crate) fn outcome_lines(
     ensures { EqualOrMemory (λ v. v.items) result
         (Ok (outcome_lines (tables_in outcome.now.tables.items) inputs.now)) }
 {
-    let mut text = changes_text(alloc, outcome, inputs)?;
+    let sizes = sizes_of(alloc, &outcome.tables)?;
+    let mut text = changes_text(alloc, &sizes, inputs)?;
     text.push_str("written EDIT\n")?;
     Ok(text.into_bytes())
 }
 
-/// The lines of the tables of an outcome, and of its inputs. The only fault is Memory.
-fn changes_text(alloc: Global, outcome: &Outcome, inputs: &[InputFile]) -> Result<String, Fault>
+/// The numbers and the lengths of tables. The only fault is Memory.
+fn sizes_of(alloc: Global, tables: &[(u64, Vec<u8>)]) -> Result<Vec<(u64, u64)>, Fault>
+    ensures { EqualOrMemory (λ v. v.items) result (Ok (table_sizes (tables_in tables.now))) }
+{
+    let mut sizes = Vec::with_capacity(alloc, tables.len())?;
+    for (number, bytes) in tables {
+        sizes.push((*number, bytes.len() as u64))?;
+    }
+    Ok(sizes)
+}
+
+/// The lines of outputs, by their numbers and their lengths, and of inputs. The only fault is
+/// Memory.
+fn changes_text(alloc: Global, sizes: &[(u64, u64)], inputs: &[InputFile]) -> Result<String, Fault>
     ensures { EqualOrMemory string_bytes result
-        (Ok (flat_map output_line (tables_in outcome.now.tables.items)
-        ++ flat_map deleted_line (deletions_of inputs.now))) }
+        (Ok (flat_map size_line sizes.now ++ flat_map deleted_line (deletions_of inputs.now))) }
 {
     let deleted = deletions_of(alloc, inputs)?;
     let mut text = String::new(alloc);
-    push_outputs(&mut text, &outcome.tables)?;
+    push_outputs(&mut text, sizes)?;
     push_all_deleted(&mut text, &deleted)?;
     Ok(text)
 }
 
 /// Appends the lines of the outputs.
-fn push_outputs(text: &mut String, tables: &[(u64, Vec<u8>)]) -> Result<(), Fault>
+fn push_outputs(text: &mut String, sizes: &[(u64, u64)]) -> Result<(), Fault>
     ensures ok { OnOk result (string_bytes text.new ≡ string_bytes text.old
-        ++ flat_map (λ t. output_line (t.0, t.1.items)) tables.now) }
+        ++ flat_map size_line sizes.now) }
     ensures memory { IfErr result (λ e. e ≡ fault Memory) }
 {
-    for table in tables {
-        let (number, bytes) = table;
-        push_output(text, *number, bytes)?;
+    for (number, size) in sizes {
+        push_output(text, *number, *size)?;
     }
     Ok(())
 }
 
 /// Appends the line of an output.
-fn push_output(text: &mut String, number: u64, bytes: &[u8]) -> Result<(), Fault>
+fn push_output(text: &mut String, number: u64, size: u64) -> Result<(), Fault>
     ensures ok { OnOk result (string_bytes text.new ≡ string_bytes text.old
-        ++ output_line (number, bytes.now)) }
+        ++ size_line (number, size)) }
     ensures memory { IfErr result (λ e. e ≡ fault Memory) }
 {
-    let size = bytes.len();
     writeln!(text, "output {number} {size}")?;
     Ok(())
 }

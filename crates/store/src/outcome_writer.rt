@@ -69,7 +69,8 @@ fn write_tables<F: Folder, R: Threads + Sync>(
     folder: &mut F,
     tables: &[(u64, Vec<u8>)],
 ) -> Result<(), Fault>
-    ensures { IsRunOf F.Folder (table_calls (tables_in tables.now)) folder.old folder.new result }
+    ensures { IsRunOf F.Folder (table_calls (tables_in tables.now ∷ [])) folder.old folder.new
+        result }
 {
     Ok(folder.write_tables(rt, tables)?)
 }

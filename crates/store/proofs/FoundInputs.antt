@@ -1,0 +1,83 @@
+-- The inputs of a level, and what their compaction answers.
+use Rattle.std.proofs.Common.{◌≡◌, ℕ, List, Option, Result, Ok, Err, sym, ap, subst}
+use Rattle.std.specs.declared.cmp.Ordering.{Ordering}
+use Rattle.coding.specs.Answers.{IsThen}
+use Rattle.coding.specs.declared.fault.Fault.{Fault}
+use Rattle.ikey.specs.Comparator.{ShortKeys}
+use Rattle.edit.specs.Version.{State}
+use Rattle.folder.specs.Calls.{Files}
+use Rattle.folder.specs.LoadedTables.{IsLoaded}
+use Rattle.folder.specs.ReadsAs.{IsHeldIn}
+use Rattle.pick.specs.Picked.{IsInputsAnswer, PickedInputs}
+use Rattle.reads.specs.Tables.{NumberedContents}
+use Rattle.checks.specs.HeldTables.{IsCheckedAnswer, held_bytes}
+use Rattle.request.specs.OneThread.{Answer}
+use Rattle.settings.specs.declared.settings.Settings.{Settings}
+use Rattle.store.specs.FoundInputs.{IsInputsFound}
+use Rattle.store.specs.InputsCompaction.{IsInputsTold, IsOrderlyAnswer, IsPickedTold, IsReadTold, input_numbers}
+use Rattle.store.proofs.Flow.{first_passed, first_refused}
+use Rattle.store.proofs.HeldInputs.{checked_loaded, checked_refused}
+
+abbrev Found : Type 0
+Found = PickedInputs × List NumberedContents
+
+abbrev found : Found → Result Found Fault
+found x = Ok x
+
+abbrev refused : Fault → Result Found Fault
+refused e = Err e
+
+same_fault : (d e : Fault) → refused e ≡ refused d → d ≡ e
+same_fault d e h = cc h
+
+no_fault : (x : Found) (e : Fault) → found x ≡ refused e → ⊥
+no_fault x e h = cc
+
+same_found : (x y : Found) → found x ≡ found y → x ≡ y
+same_found x y h = cc h
+
+module _ (cmp : List ℕ → List ℕ → Ordering) (files : Files) (v : State) (level : ℕ) where
+  -- a refusal of the inputs is that of their compaction
+  pub inputs_refused : {T : Type 0} (tell : PickedInputs → Answer → T) (first : Option ℕ) (short_keys : ShortKeys) (s : Settings) (e : Fault)
+      → IsInputsFound cmp files v level (Err e) → IsInputsTold tell first cmp short_keys files v level s (Err e)
+  inputs_refused tell first short_keys s e (Err d, (h, is)) =
+      first_refused (IsOrderlyAnswer cmp v) (λ passed. IsThen (IsInputsAnswer cmp v level) (IsPickedTold tell first cmp short_keys files v s)) e
+      (subst (λ (f : Fault). IsOrderlyAnswer cmp v (Err f)) (same_fault d e is) h)
+  inputs_refused tell first short_keys s e (Ok passed, (h, (Err d, (k, is)))) =
+      first_passed (IsOrderlyAnswer cmp v) (λ passed. IsThen (IsInputsAnswer cmp v level) (IsPickedTold tell first cmp short_keys files v s)) passed (Err e) h
+      (first_refused (IsInputsAnswer cmp v level) (IsPickedTold tell first cmp short_keys files v s) e
+      (subst (λ (f : Fault). IsInputsAnswer cmp v level (Err f)) (same_fault d e is) k))
+  inputs_refused tell first short_keys s e (Ok passed, (h, (Ok p, (k, (Err d, (l, is)))))) =
+      first_passed (IsOrderlyAnswer cmp v) (λ passed. IsThen (IsInputsAnswer cmp v level) (IsPickedTold tell first cmp short_keys files v s)) passed (Err e) h
+      (first_passed (IsInputsAnswer cmp v level) (IsPickedTold tell first cmp short_keys files v s) p (Err e) k
+      (checked_refused cmp tell first short_keys files v s p e (subst (λ (f : Fault). IsCheckedAnswer cmp files (input_numbers p.files) (Err f)) (same_fault d e is) l)))
+  inputs_refused tell first short_keys s e (Ok passed, (h, (Ok p, (k, (Ok tables, (l, is)))))) = absurd (no_fault (p, tables) e (sym is))
+
+  -- inputs that were found: they are picked, and their tables are loaded
+  pub record AreLevelInputs (p : PickedInputs) (tables : List NumberedContents) : Type 0 where
+    pub orderly : IsOrderlyAnswer cmp v (Ok tt)
+    pub picked : IsInputsAnswer cmp v level (Ok p)
+    pub loaded : IsLoaded (IsHeldIn files) (input_numbers p.files) (Ok (held_bytes tables))
+
+  pub inputs_found : (p : PickedInputs) (tables : List NumberedContents) → IsInputsFound cmp files v level (Ok (p, tables)) → AreLevelInputs p tables
+  inputs_found p tables (Err d, (h, is)) = absurd (no_fault (p, tables) d is)
+  inputs_found p tables (Ok passed, (h, (Err d, (k, is)))) = absurd (no_fault (p, tables) d is)
+  inputs_found p tables (Ok passed, (h, (Ok q, (k, (Err d, (l, is)))))) = absurd (no_fault (p, tables) d is)
+  inputs_found p tables (Ok passed, (h, (Ok q, (k, (Ok found_tables, (l, is)))))) =
+      let both : (p, tables) ≡ (q, found_tables) = same_found (p, tables) (q, found_tables) is in
+      let one : q ≡ p = sym (ap (λ (x : Found). x.0) both) in
+      let two : found_tables ≡ tables = sym (ap (λ (x : Found). x.1) both) in
+      record {
+        orderly = h;
+        picked = subst (λ (x : PickedInputs). IsInputsAnswer cmp v level (Ok x)) one k;
+        loaded = subst (λ (ts : List NumberedContents). IsLoaded (IsHeldIn files) (input_numbers p.files) (Ok (held_bytes ts))) two
+            (checked_loaded cmp files (input_numbers p.files) found_tables (subst (λ (x : PickedInputs). IsCheckedAnswer cmp files (input_numbers x.files) (Ok found_tables)) one l));
+      }
+
+  -- what the compaction of inputs that were found answers is the level's answer
+  pub level_told : {T : Type 0} (tell : PickedInputs → Answer → T) (first : Option ℕ) (short_keys : ShortKeys) (s : Settings) (p : PickedInputs) (tables : List NumberedContents) (answer : Result T Fault)
+      → AreLevelInputs p tables → IsReadTold tell first cmp short_keys v p s (held_bytes tables) answer → IsInputsTold tell first cmp short_keys files v level s answer
+  level_told tell first short_keys s p tables answer given told =
+      first_passed (IsOrderlyAnswer cmp v) (λ passed. IsThen (IsInputsAnswer cmp v level) (IsPickedTold tell first cmp short_keys files v s)) tt answer given.orderly
+      (first_passed (IsInputsAnswer cmp v level) (IsPickedTold tell first cmp short_keys files v s) p answer given.picked
+      (first_passed (IsLoaded (IsHeldIn files) (input_numbers p.files)) (IsReadTold tell first cmp short_keys v p s) (held_bytes tables) answer given.loaded told))

@@ -1,0 +1,101 @@
+-- A compaction that is installed while its tables are encoded, as a part of the call.
+use Rattle.std.proofs.Common.{◌≡◌, ◌≢◌, ◌⊎◌, ℕ, List, Option, Result, Ok, Err, IfErr, IsErrAnd, refl, sym, ap, subst, ◌∙◌, inl, inr}
+use Rattle.std.specs.Prelude.{◌&&◌, nat_le}
+use Rattle.std.specs.declared.cmp.Ordering.{Ordering}
+use Rattle.coding.proofs.Refusals.{unless_from}
+use Rattle.coding.specs.Answers.{FailsOrMemory, UnlessMemory, fault, ◌>>=◌}
+use Rattle.coding.specs.declared.fault.Fault.{Fault}
+use Rattle.coding.specs.declared.fault.FaultName.TheVariants.{Device, Memory, SplitCount}
+use Rattle.ikey.specs.Comparator.{ShortKeys}
+use Rattle.table.specs.ReadingSteps.{test_result}
+use Rattle.edit.specs.Version.{State}
+use Rattle.folder.proofs.LoadingLemmas.{told_since}
+use Rattle.folder.proofs.OpeningLemmas.{refuses}
+use Rattle.folder.specs.Calls.{Step}
+use Rattle.folder.specs.Folder.{TellsSame}
+use Rattle.folder.specs.OpenAnswer.{FolderAnswers, IsStopped}
+use Rattle.folder.specs.declared.order.Order.{Order}
+use Rattle.install.specs.Install.{SurvivesCrash, next_version_tables}
+use Rattle.pick.specs.Picked.{PickedInputs}
+use Rattle.request.specs.OneThread.{Answer, compaction_result}
+use Rattle.request.specs.Request.{RequestView}
+use Rattle.settings.specs.declared.settings.Settings.{Settings}
+use Rattle.store.specs.Compaction.{IsUnchanged}
+use Rattle.store.specs.FolderRequest.{compaction_from, numbered_request}
+use Rattle.store.specs.StepLeft.{IsStepLeft}
+use Rattle.store.specs.declared.compaction_step.CompactionStep.{CompactionStep}
+use Rattle.store.proofs.Flow.{no_value}
+use Rattle.store.proofs.InstallPart.{still, survives_on}
+
+-- an answer that is another one too
+pub answers_as : {X Y : Type 0} (view : X → Y) (before now : ℕ) (r : Result X Fault) (IsOne IsOther : Result Y Fault → Type 0) → ((a : Result Y Fault) → IsOne a → IsOther a)
+    → FolderAnswers view before now r IsOne → FolderAnswers view before now r IsOther
+answers_as view before now (Ok x) IsOne IsOther f given = f (Ok (view x)) given
+answers_as view before now (Err e) IsOne IsOther f given =
+    unless_from e (IsStopped before now e ⊎ IsOne (Err e)) (IsStopped before now e ⊎ IsOther (Err e)) (λ g. elim g [
+      | inl stopped ↦ inl stopped
+      | inr one ↦ inr (f (Err e) one)
+    ]) given
+
+-- a refusal of a compaction is that of its lines
+pub lines_refused : {X Y : Type 0} (view : X → Y) (before now : ℕ) (r : Result X Fault) (e : Fault) (compacted : Result Answer Fault) (tell : Answer → Y) → IsErrAnd r (λ f. f ≡ e) → FailsOrMemory e compacted
+    → FolderAnswers view before now r (λ told. told ≡ (compacted >>= λ a. Ok (tell a)))
+lines_refused {Y = Y} view before now r e compacted tell h given =
+    refuses {Z = Answer} view before now r e (λ a. compacted ≡ a) (λ (told : Result Y Fault). told ≡ (compacted >>= λ a. Ok (tell a))) h given
+    (λ is. sym (ap (λ (a : Result Answer Fault). a >>= λ x. Ok (tell x)) is))
+
+-- and its value is that of its lines
+pub lines_told : {Y : Type 0} (compacted : Result Answer Fault) (answer : Answer) (tell : Answer → Y) → compacted ≡ Ok answer → Ok (tell answer) ≡ (compacted >>= λ a. Ok (tell a))
+lines_told compacted answer tell is = sym (ap (λ (a : Result Answer Fault). a >>= λ x. Ok (tell x)) is)
+
+-- nothing was written before a refusal
+pub unchanged : {T : Type 0} (steps : List Step) (tells : List ℕ → Option (List ℕ) → Type 0) (r : Result T Fault) (P : Fault → Type 0) → IsErrAnd r P → IsUnchanged steps steps tells tells r
+unchanged steps tells r P h = record { calls = refl; same = λ name held. ((λ x. x), (λ x. x)); refused = no_value r P h }
+
+-- a step, told from earlier calls on that only read
+pub step_since : (order : Order) (cmp : List ℕ → List ℕ → Ordering) (short_keys : ShortKeys) (v : State) (loaded : List (ℕ × List ℕ)) (level : ℕ) (s : Settings)
+    (first before after : List Step) (zero old new : List ℕ → Option (List ℕ) → Type 0) (r : Result CompactionStep Fault) → before ≡ first → TellsSame zero old
+    → IsStepLeft order cmp short_keys v loaded level s before after old new r → IsStepLeft order cmp short_keys v loaded level s first after zero new r
+step_since order cmp short_keys v loaded level s first before after zero old new r same told (inl u) =
+    inl (record { calls = u.calls ∙ same; same = told_since zero old new told u.same; refused = u.refused })
+step_since order cmp short_keys v loaded level s first before after zero old new r same told (inr i) =
+    let next = i.compacted.edited.next in
+    let tables' = next_version_tables cmp next i.answer.tables loaded in
+    inr (record {
+      answer = i.answer;
+      lines = i.lines;
+      compacted = i.compacted;
+      survives = subst (λ (b : List Step). SurvivesCrash cmp order v loaded next tables' b after zero new r) same
+          (survives_on cmp order v next loaded tables' before after zero old new r r (λ P x. x) (still zero old told) i.survives);
+      named = i.named;
+      step = i.step;
+      refused = i.refused;
+    })
+
+-- a split that was refused
+pub split_refused : (cmp : List ℕ → List ℕ → Ordering) (short_keys : ShortKeys) (v : State) (loaded : List (ℕ × List ℕ)) (p : PickedInputs) (s : Settings) (first : Option ℕ) (e : Fault)
+    → FailsOrMemory e (test_result (nat_le 1 s.ranges && nat_le s.ranges 4096) SplitCount) → FailsOrMemory e (compaction_from first cmp short_keys v loaded p s)
+split_refused cmp short_keys v loaded p s first e given =
+    let test = test_result (nat_le 1 s.ranges && nat_le s.ranges 4096) SplitCount in
+    unless_from e (test ≡ Err e) (compaction_from first cmp short_keys v loaded p s ≡ Err e)
+    (λ is. ap (λ (t : Result (Unit {0}) Fault). t >>= λ _. numbered_request first v loaded p s >>= λ (r : RequestView). compaction_result cmp short_keys s.workers r) is) given
+
+abbrev pub value : {A : Type 0} → A → Result A Fault
+value x = Ok x
+
+-- a step whose only refusal is Memory
+pub never_refused : {A : Type 0} {B : Type 0} (x : A) (e : Fault) (other : Result B Fault) → FailsOrMemory e (value x) → FailsOrMemory e other
+never_refused {A} {B} x e other given = unless_from e (value x ≡ Err e) (other ≡ Err e) (λ h. absurd (none h)) given
+  where
+    none : value x ≡ Err e → ⊥
+    none h = cc
+
+-- memory ran out, of which no answer says anything
+pub memory_answers : {X Y : Type 0} (view : X → Y) (before now : ℕ) (r : Result X Fault) (e : Fault) (IsAnswer : Result Y Fault → Type 0) → IsErrAnd r (λ f. f ≡ e) → e ≡ fault Memory → FolderAnswers view before now r IsAnswer
+memory_answers view before now (Ok x) e IsAnswer h is = absurd h
+memory_answers view before now (Err f) e IsAnswer h is = subst (λ (x : Fault). UnlessMemory x (IsStopped before now x ⊎ IsAnswer (Err x))) (sym (h ∙ is)) tt
+
+-- and which isn't Device
+pub memory_apart : {X : Type 0} (r : Result X Fault) (e : Fault) → IsErrAnd r (λ f. f ≡ e) → e ≡ fault Memory → IfErr r (λ f. f.name ≢ Device)
+memory_apart (Ok x) e h is = absurd h
+memory_apart (Err f) e h is = λ same. let both : Memory ≡ Device = sym (ap (λ (x : Fault). x.name) (h ∙ is)) ∙ same in cc both

@@ -3,13 +3,13 @@
 ghost use Rattle.std.specs.Prelude.{◌≡◌, ◌++◌, IfErr, Ok, OnOk, string_bytes};
 ghost use Rattle.coding.specs.Answers.{EqualOrMemory, fault};
 ghost use Rattle.coding.specs.declared.fault.FaultName.TheVariants.{Memory};
-ghost use Rattle.commands.specs.FaultLines.{counted_entries, table_count, table_verdict};
+ghost use Rattle.commands.specs.FaultLines.{table_count, table_verdict};
 ghost use Rattle.commands.specs.FaultLines.{valid_line};
 
 use coding::Fault;
 use ikey::Bytewise;
 use std::alloc::Global;
-use table::{Cursor, SoundTable, TableCursor, check};
+use table::check;
 
 /// The line `valid: E entries` of a table in bytewise order. An invalid table is refused as
 /// [`dump`](crate::dump) refuses it.
@@ -26,20 +26,7 @@ pub fn table_entries(alloc: Global, bytes: &[u8]) -> Result<u64, Fault>
     ensures { EqualOrMemory (λ count. count) result (table_count bytes.now) }
 {
     let table = check::<Bytewise>(alloc, bytes)?;
-    counted_entries(alloc, &table)
-}
-
-/// How many entries a table has. The only fault is Memory.
-fn counted_entries(alloc: Global, table: &SoundTable<'_, Bytewise>) -> Result<u64, Fault>
-    ensures { EqualOrMemory (λ count. count) result (Ok (counted_entries table.now.entries)) }
-{
-    let mut cursor = TableCursor::new(alloc, table)?;
-    let mut count: u64 = 0;
-    while cursor.valid() {
-        count = count.saturating_add(1);
-        cursor.advance()?;
-    }
-    Ok(count)
+    Ok(table.tally().entries)
 }
 
 /// The line `valid: E entries`. The only fault is Memory.

@@ -18,7 +18,7 @@ const NEWER: &[u8] = b"\
     \0\0\0\0\0\0W\xfb\x80\x8b\x24uG\xdb";
 
 /// `table: a@1 put y, u@2 put y`
-const OLDER: &[u8] = b"\
+pub(crate) const OLDER: &[u8] = b"\
     \0\x09\x01a\x01\x01\0\0\0\0\0\0y\0\x09\x01u\x01\x02\0\0\0\0\0\0y\0\0\0\0\x01\0\0\0\0\x2a\xde\
     \x86\xe1\0\0\0\0\x01\0\0\0\0\xc0\xf2\xa1\xb0\0\x09\x02u\x01\x02\0\0\0\0\0\0\0\x22\0\0\0\0\x01\
     \0\0\0\0\x8b\xce1\x0d\x27\x084\x16\0\0\0\0\0\0\0\0\0\0\0\0\0\0\0\0\0\0\0\0\0\0\0\0\0\0\0\0\0\0\
@@ -53,7 +53,7 @@ const FRONT: &[u8] = b"\
     \0\0\0W\xfb\x80\x8b\x24uG\xdb";
 
 /// `table: m@2 put y, u@4 put y`
-const BEHIND: &[u8] = b"\
+pub(crate) const BEHIND: &[u8] = b"\
     \0\x09\x01m\x01\x02\0\0\0\0\0\0y\0\x09\x01u\x01\x04\0\0\0\0\0\0y\0\0\0\0\x01\0\0\0\0\xff\x23\
     \xdbB\0\0\0\0\x01\0\0\0\0\xc0\xf2\xa1\xb0\0\x09\x02u\x01\x04\0\0\0\0\0\0\0\x22\0\0\0\0\x01\0\0\
     \0\07\x90\xdd\x15\x27\x084\x16\0\0\0\0\0\0\0\0\0\0\0\0\0\0\0\0\0\0\0\0\0\0\0\0\0\0\0\0\0\0\0\0\
@@ -65,6 +65,13 @@ const LATER: &[u8] = b"\
     \xe5\0\0\0\0\x01\0\0\0\0\xc0\xf2\xa1\xb0\0\x09\x02u\x01\x04\0\0\0\0\0\0\0\x22\0\0\0\0\x01\0\0\
     \0\07\x90\xdd\x15\x27\x084\x16\0\0\0\0\0\0\0\0\0\0\0\0\0\0\0\0\0\0\0\0\0\0\0\0\0\0\0\0\0\0\0\0\
     \0\0\0\0W\xfb\x80\x8b\x24uG\xdb";
+
+/// `table: m@4 put y, n@2 put y`
+const TWO_TO_FOUR: &[u8] = b"\
+    \0\x09\x01m\x01\x04\0\0\0\0\0\0y\0\x09\x01n\x01\x02\0\0\0\0\0\0y\0\0\0\0\x01\0\0\0\0\xce\xf1\
+    \xb0f\0\0\0\0\x01\0\0\0\0\xc0\xf2\xa1\xb0\0\x09\x02n\x01\x02\0\0\0\0\0\0\0\x22\0\0\0\0\x01\0\0\
+    \0\0\xa3\xc6\x18\xaf\x27\x084\x16\0\0\0\0\0\0\0\0\0\0\0\0\0\0\0\0\0\0\0\0\0\0\0\0\0\0\0\0\0\0\
+    \0\0\0\0\0\0W\xfb\x80\x8b\x24uG\xdb";
 
 /// `table: u@4 put x, u@4 del`
 const TWINS: &[u8] = b"\
@@ -135,6 +142,20 @@ const TOUCHING: &[u8] = b"\
 const ONE_SEQUENCE: &[u8] = b"\
     \x01\x1aleveldb.BytewiseComparator\x02\x03\x09\0\x03\x14\x04\x0a\x07\x01\x0c\x7f\x09a\x01\x02\
     \0\0\0\0\0\0\x09u\x01\x04\0\0\0\0\0\0\x07\x02\x0b\x7f\x09a\x01\x01\0\0\0\0\0\0\x09u\x01\x02\0\
+    \0\0\0\0\0";
+
+/// `edit: comparator leveldb.BytewiseComparator, log 3, previous 0, next 20, last 10, file 1 12 127
+/// a@2 put .. u@4 put, file 2 11 127 m@4 put .. n@2 put`
+const SAME_BOUNDS: &[u8] = b"\
+    \x01\x1aleveldb.BytewiseComparator\x02\x03\x09\0\x03\x14\x04\x0a\x07\x01\x0c\x7f\x09a\x01\x02\
+    \0\0\0\0\0\0\x09u\x01\x04\0\0\0\0\0\0\x07\x02\x0b\x7f\x09m\x01\x04\0\0\0\0\0\0\x09n\x01\x02\0\
+    \0\0\0\0\0";
+
+/// `edit: comparator leveldb.BytewiseComparator, log 3, previous 0, next 20, last 10, file 1 12 127
+/// a@2 put .. u@4 put, file 2 11 127 m@2 put .. u@4 put`
+const SAME_BOUNDS_AND_KEY: &[u8] = b"\
+    \x01\x1aleveldb.BytewiseComparator\x02\x03\x09\0\x03\x14\x04\x0a\x07\x01\x0c\x7f\x09a\x01\x02\
+    \0\0\0\0\0\0\x09u\x01\x04\0\0\0\0\0\0\x07\x02\x0b\x7f\x09m\x01\x02\0\0\0\0\0\0\x09u\x01\x04\0\
     \0\0\0\0\0";
 
 /// `edit: comparator leveldb.BytewiseComparator, log 3, previous 0, next 20, last 10, file 1 12 127
@@ -231,6 +252,18 @@ const ROWS: &[Row] = &[
         name: "one sequence in both, of one user key",
         edit: ONE_VERSION,
         files: &[("000012.ldb", LEAST_IS_TWO), ("000011.ldb", SAME_VERSION)],
+        told: Err(FaultName::Lawless),
+    },
+    Row {
+        name: "the same sequences in both, of other user keys",
+        edit: SAME_BOUNDS,
+        files: &[("000012.ldb", LEAST_IS_TWO), ("000011.ldb", TWO_TO_FOUR)],
+        told: Ok((2, 4)),
+    },
+    Row {
+        name: "the same sequences in both, one of them of one user key",
+        edit: SAME_BOUNDS_AND_KEY,
+        files: &[("000012.ldb", LEAST_IS_TWO), ("000011.ldb", BEHIND)],
         told: Err(FaultName::Lawless),
     },
     Row {

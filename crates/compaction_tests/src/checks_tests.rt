@@ -128,7 +128,7 @@ fn loaded(alloc: Global, tables: &[Given]) -> Result<Vec<(u64, Vec<u8>)>, Fault>
 }
 
 /// Whether tables have these numbers, and first keys of these sequences.
-fn are_tables(tables: &[NumberedTable<'_, Bytewise>], wanted: &[(u64, u64)]) -> bool {
+pub(crate) fn are_tables(tables: &[NumberedTable<'_, Bytewise>], wanted: &[(u64, u64)]) -> bool {
     for (table, (number, sequence)) in tables.iter().zip(wanted) {
         let first = table.table().smallest().sequence();
         if table.number() != *number || first != *sequence {

@@ -1,6 +1,7 @@
-//! The tests of `compact`: rows of the whole, over ranges and workers.
+//! The tests of `compact`: rows of the whole, over ranges and workers, at once and in groups.
 
 mod gates;
+mod groups;
 mod rows;
 mod tables;
 mod tests;

@@ -10,7 +10,9 @@ ghost use Rattle.encoding.specs.Planned.{IsPlanned, parts_of};
 use block::BlockBuilder;
 use coding::{Fault, FaultName};
 use edit::CompactPointer;
-use encoding::{EntryCursor, EntryRef, EntrySpan, PlannedBlock, assemble_table, encode_blocks};
+use encoding::{
+    EntryCursor, EntryRef, EntrySpan, EntryWalk, PlannedBlock, assemble_table, encode_blocks,
+};
 use ikey::{Bytewise, InternalKey, KeyBuf, Kind};
 use keep::{RangeRun, is_rising, largest_rise, merge_range};
 use pick::Inputs;
@@ -18,7 +20,7 @@ use split::Range;
 use std::alloc::Global;
 use std::process::Abort;
 use std::test::*;
-use table::{TableCursor, check};
+use table::{MAX_VALUE_LEN, Options, TableBuilder, TableCursor, check};
 
 /// `table: abcz@9 put x | abfa@8 put y`
 const TWO_BLOCKS: &[u8] = b"\
@@ -69,31 +71,36 @@ fn inputs(alloc: Global) -> Result<Inputs, Fault> {
     })
 }
 
-/// The cursor over the table.
-fn cursor(alloc: Global) -> Result<TableCursor<'static, Bytewise>, Fault> {
-    TableCursor::new(alloc, &check::<Bytewise>(alloc, TWO_BLOCKS)?)
+/// The cursor over a table.
+fn cursor(alloc: Global, table: &[u8]) -> Result<TableCursor<'_, Bytewise>, Fault> {
+    TableCursor::new(alloc, &check::<Bytewise>(alloc, table)?)
 }
 
-/// The run of a range over the table.
-fn run_of(
+/// The run of a range over a table.
+fn run_of<'a>(
     alloc: Global,
+    table: &'a [u8],
     range: Range<'static>,
     inputs: &Inputs,
-) -> Result<RangeRun<'static>, Fault> {
+) -> Result<RangeRun<'a>, Fault> {
     if !is_rising(&[]) || !largest_rise::<Bytewise>(&inputs.grandparents) {
         return Err(Fault::of(FaultName::Options));
     }
     let mut cursors = Vec::new(alloc);
-    cursors.push(cursor(alloc)?)?;
+    cursors.push(cursor(alloc, table)?)?;
     merge_range::<Bytewise, _>(alloc, &mut cursors, range, &[], 0, inputs)
 }
 
-/// The runs of all ranges.
-fn runs(alloc: Global) -> Result<Vec<RangeRun<'static>>, Fault> {
+/// The runs of ranges over a table.
+fn runs<'a>(
+    alloc: Global,
+    table: &'a [u8],
+    ranges: &[Range<'static>],
+) -> Result<Vec<RangeRun<'a>>, Fault> {
     let inputs = inputs(alloc)?;
     let mut runs = Vec::new(alloc);
-    for range in RANGES {
-        runs.push(run_of(alloc, *range, &inputs)?)?;
+    for range in ranges {
+        runs.push(run_of(alloc, table, *range, &inputs)?)?;
     }
     Ok(runs)
 }
@@ -223,8 +230,142 @@ fn is_slice(first: &EntryCursor<'_, '_>) -> bool {
 
 #[test]
 fn two_pieces_of_runs_make_their_table(rt: HostRuntime) -> Result<(), Fault> {
-    let runs = runs(rt.alloc())?;
+    let runs = runs(rt.alloc(), TWO_BLOCKS, RANGES)?;
     assert!(rt; is_slice(&EntryCursor::new(&runs)));
     assert!(rt; make_the_table(rt.alloc(), &runs)?);
     Ok(())
+}
+
+/// All user keys, in one range and in two.
+const WHOLE: &[Range<'static>] = &[Range {
+    lower: None,
+    upper: None,
+}];
+
+const AT_256: &[Range<'static>] = &[
+    Range {
+        lower: None,
+        upper: Some(b"\x01\0"),
+    },
+    Range {
+        lower: Some(b"\x01\0"),
+        upper: None,
+    },
+];
+
+/// How many numbered entries there are, the number from which on they are walked, and the ranges
+/// that they are merged in. Runs have chunks of 4,096 entries.
+type Walked = (u16, u16, &'static [Range<'static>]);
+
+const WALKED: &[Walked] = &[
+    (1, 0, WHOLE),
+    (255, 0, WHOLE),
+    (256, 0, WHOLE),
+    (257, 0, AT_256),
+    (257, 256, AT_256),
+    (4_095, 4_094, WHOLE),
+    (4_096, 0, WHOLE),
+    (4_097, 0, AT_256),
+    (4_097, 4_095, WHOLE),
+    (4_097, 4_096, WHOLE),
+];
+
+/// The internal key of a numbered entry: the number in two bytes, the most significant first, put
+/// at 1.
+fn key_of(number: u16) -> [u8; 10] {
+    let [high, low] = number.to_be_bytes();
+    [high, low, 1, 1, 0, 0, 0, 0, 0, 0]
+}
+
+/// Adds a numbered entry to a table: its value is the last byte of its user key.
+fn add(table: &mut TableBuilder<Bytewise>, number: u16) -> Result<(), Fault> {
+    let bytes = key_of(number);
+    let key = InternalKey::parse(&bytes)?;
+    let value = &bytes[1..2];
+    if !table.is_above_last(&key) || value.len() > MAX_VALUE_LEN {
+        return Err(Fault::of(FaultName::Order));
+    }
+    table.add(key, value)
+}
+
+/// The table of so many numbered entries.
+fn table_of(alloc: Global, count: u16) -> Result<Vec<u8>, Fault> {
+    let options = Options::default();
+    if !options.are_in_limits() {
+        return Err(Fault::of(FaultName::Options));
+    }
+    let mut table = TableBuilder::<Bytewise>::new(alloc, options);
+    for number in 0..count {
+        add(&mut table, number)?;
+    }
+    table.finish()
+}
+
+/// Whether a key is that of the entry before a numbered one. None is before the first.
+fn is_before(key: Option<InternalKey<'_>>, number: u16) -> bool {
+    match key {
+        Some(key) => number > 0 && key.bytes() == key_of(number - 1).as_slice(),
+        None => number == 0,
+    }
+}
+
+/// Whether a numbered entry is next in a walk, which is taken past it. Its key shares the first
+/// byte with the one before it, unless its second byte is 0: then it shares none.
+fn passes(walk: &mut EntryWalk<'_, '_>, number: u16) -> bool {
+    if !walk.valid() {
+        return false;
+    }
+    let key = key_of(number);
+    let shared = if key[1] == 0 { 0 } else { 1 };
+    let is_this = walk.key().bytes() == key.as_slice()
+        && walk.value() == &key[1..2]
+        && is_before(walk.before(), number)
+        && (walk.left_out(0), walk.left_out(1)) == (0, shared);
+    walk.advance();
+    is_this
+}
+
+/// Whether the entries from `start` on are those of the numbers from `first` to before `count`.
+fn pass(start: EntryCursor<'_, '_>, (count, first): (u16, u16)) -> bool {
+    if !start.valid() {
+        return false;
+    }
+    let bytes = key_of(first.saturating_sub(1));
+    let before = match first {
+        0 => None,
+        _ => InternalKey::parse(&bytes).ok(),
+    };
+    let mut walk = EntryWalk::new(start, before);
+    for number in first..count {
+        if !passes(&mut walk, number) {
+            return false;
+        }
+    }
+    !walk.valid()
+}
+
+/// Whether numbered entries are walked as they are.
+fn are_walked(alloc: Global, (count, first, ranges): Walked) -> Result<bool, Fault> {
+    let table = table_of(alloc, count)?;
+    let runs = runs(alloc, &table, ranges)?;
+    let mut start = EntryCursor::new(&runs);
+    for _entry in 0..first {
+        if !start.valid() {
+            return Ok(false);
+        }
+        start.advance();
+    }
+    Ok(pass(start, (count, first)))
+}
+
+#[test]
+fn entries_are_walked_over_chunks_and_runs(rt: HostRuntime) {
+    for row in WALKED {
+        assert!(rt;
+            are_walked(rt.alloc(), *row) == Ok(true),
+            "{} {}",
+            row.0,
+            row.1
+        );
+    }
 }

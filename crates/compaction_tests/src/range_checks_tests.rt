@@ -1,7 +1,8 @@
 //! The test of a version with the tables of a folder, in one range of user keys and in several.
 
+use crate::checks_tests::are_tables;
 use board::Open;
-use checks::{Tested, test_version};
+use checks::{HeldTables, Tested, checked_tables, test_and_hold, test_version};
 use coding::{Fault, FaultName};
 use edit::{Version, VersionEdit};
 use folder::Shelf;
@@ -245,5 +246,115 @@ fn versions_tested_in_ranges(rt: HostRuntime) {
                 row.name
             );
         }
+    }
+}
+
+/// The tables of several ranges, and one that is no table.
+const OF_SEVERAL: &[Held] = &[
+    ("000008.ldb", b"short"),
+    ("000009.ldb", A_AND_U),
+    ("000010.ldb", A_AT_THREE),
+    ("000011.ldb", B_AT_TWO),
+    ("000012.ldb", U_AT_SEVEN),
+    ("000013.ldb", U_AT_NINE),
+];
+
+/// Tables by their numbers, each with the sequence of its first key.
+type Firsts = &'static [(u64, u64)];
+
+/// What the test of the version of several ranges holds at its end with a budget of memory, numbers
+/// that are wanted then, and what is answered of them.
+struct HeldRow {
+    memory: u64,
+    held: Firsts,
+    wanted: &'static [u64],
+    told: Result<Firsts, FaultName>,
+    /// How many calls of the folder that makes together: one for each table that is tested, and one
+    /// for each that is wanted and isn't held. If one of these is wrong, each that is wanted is
+    /// read again. A missing table is looked for under both of its names.
+    calls: u64,
+}
+
+const HELD: &[HeldRow] = &[
+    // All tables, by level. They are wanted in another order.
+    HeldRow {
+        memory: 1 << 30,
+        held: &[(13, 9), (10, 3), (11, 2), (12, 7), (9, 1)],
+        wanted: &[9, 10, 11, 12, 13],
+        told: Ok(&[(9, 1), (10, 3), (11, 2), (12, 7), (13, 9)]),
+        calls: 5,
+    },
+    // Those that reach into the range from `u` on.
+    HeldRow {
+        memory: 1,
+        held: &[(13, 9), (12, 7), (9, 1)],
+        wanted: &[12, 11, 13],
+        told: Ok(&[(12, 7), (11, 2), (13, 9)]),
+        calls: 6,
+    },
+    HeldRow {
+        memory: 1,
+        held: &[(13, 9), (12, 7), (9, 1)],
+        wanted: &[],
+        told: Ok(&[]),
+        calls: 5,
+    },
+    HeldRow {
+        memory: 1,
+        held: &[(13, 9), (12, 7), (9, 1)],
+        wanted: &[8, 12],
+        told: Err(FaultName::Short),
+        calls: 5 + 1 + 2,
+    },
+    HeldRow {
+        memory: 1,
+        held: &[(13, 9), (12, 7), (9, 1)],
+        wanted: &[8, 14],
+        told: Err(FaultName::Missing),
+        calls: 5 + 3 + 3,
+    },
+];
+
+/// Whether what is answered of wanted tables is what a row says.
+fn are_checked(
+    alloc: Global,
+    answer: Result<HeldTables<Bytewise>, Fault>,
+    told: Result<Firsts, FaultName>,
+) -> Result<bool, Fault> {
+    match (answer, told) {
+        (Ok(tables), Ok(firsts)) => Ok(are_tables(&tables.lend(alloc)?, firsts)),
+        (Err(fault), Err(name)) => Ok(fault.name == name),
+        _ => Ok(false),
+    }
+}
+
+/// Whether the test holds the tables of a row, and those that are wanted are answered so.
+fn are_held(rt: &(impl Threads + Sync + AllocGlobal), row: &HeldRow) -> Result<bool, Fault> {
+    let alloc = rt.alloc();
+    let version = version_after(alloc, SEVERAL_RANGES)?;
+    let mut shelf = Shelf::new(alloc, OF_SEVERAL);
+    let found = test_and_hold::<Bytewise, _, _, _>(
+        rt, alloc, &mut shelf, &version, row.memory, 4, &Open,
+    )?;
+    let is_held = are_tables(&found.tables.lend(alloc)?, row.held);
+    let is_tested = found.tested
+        == Tested {
+            files: 5,
+            entries: 6,
+        };
+    let answer = checked_tables(rt, alloc, &mut shelf, found.tables, row.wanted, 4, &Open);
+    let is_checked = are_checked(alloc, answer, row.told)?;
+    Ok(is_held && is_tested && is_checked && shelf.calls() == row.calls)
+}
+
+#[test]
+fn tables_that_are_held_and_wanted(rt: HostRuntime) {
+    for row in HELD {
+        assert!(rt;
+            are_held(&rt, row) == Ok(true),
+            "{} {:?}",
+            row.memory,
+            row.wanted
+        );
     }
 }

@@ -1,5 +1,6 @@
 //! The tests of `store`.
 
 mod outcomes;
+mod read_counts;
 pub(crate) mod rows;
 mod tests;

@@ -166,3 +166,77 @@ fn internal_keys(rt: HostRuntime) {
         holds(&rt, is_row(rt.alloc(), row), row.bytes);
     }
 }
+
+/// A user key, and its head in each of the two orders.
+type Heads = (&'static [u8], u128, u128);
+
+/// In the bytewise order the head is the number in the first 16 bytes, the first of them the most
+/// significant, with zeros after a shorter key. In the order by length the upper half is the
+/// length, and the lower half the number in the first 8 bytes.
+const HEADS: &[Heads] = &[
+    (b"", 0, 0),
+    (b"\0", 0, 0x1_0000_0000_0000_0000),
+    (
+        b"a",
+        0x6100_0000_0000_0000_0000_0000_0000_0000,
+        0x1_6100_0000_0000_0000,
+    ),
+    (
+        b"a\0",
+        0x6100_0000_0000_0000_0000_0000_0000_0000,
+        0x2_6100_0000_0000_0000,
+    ),
+    (
+        b"abcdefg",
+        0x6162_6364_6566_6700_0000_0000_0000_0000,
+        0x7_6162_6364_6566_6700,
+    ),
+    (
+        b"abcdefgh",
+        0x6162_6364_6566_6768_0000_0000_0000_0000,
+        0x8_6162_6364_6566_6768,
+    ),
+    (
+        b"abcdefghi",
+        0x6162_6364_6566_6768_6900_0000_0000_0000,
+        0x9_6162_6364_6566_6768,
+    ),
+    (
+        b"abcdefghijklmno",
+        0x6162_6364_6566_6768_696a_6b6c_6d6e_6f00,
+        0xf_6162_6364_6566_6768,
+    ),
+    (
+        b"abcdefghijklmnop",
+        0x6162_6364_6566_6768_696a_6b6c_6d6e_6f70,
+        0x10_6162_6364_6566_6768,
+    ),
+    (
+        b"abcdefghijklmnopq",
+        0x6162_6364_6566_6768_696a_6b6c_6d6e_6f70,
+        0x11_6162_6364_6566_6768,
+    ),
+    (
+        b"abcdefghijklmnopqrstuvwxyz012345",
+        0x6162_6364_6566_6768_696a_6b6c_6d6e_6f70,
+        0x20_6162_6364_6566_6768,
+    ),
+    (
+        b"abcdefghijklmnopqrstuvwxyz0123456",
+        0x6162_6364_6566_6768_696a_6b6c_6d6e_6f70,
+        0x21_6162_6364_6566_6768,
+    ),
+    (
+        b"\xff\xff\xff\xff\xff\xff\xff\xff\xff\xff\xff\xff\xff\xff\xff\xff",
+        u128::MAX,
+        0x10_ffff_ffff_ffff_ffff,
+    ),
+];
+
+#[test]
+fn heads_of_user_keys(rt: HostRuntime) {
+    for row in HEADS {
+        let heads = (Bytewise::head(row.0), Shortlex::head(row.0));
+        holds(&rt, heads == (row.1, row.2), row.0);
+    }
+}

@@ -415,3 +415,50 @@ fn is_built_again(alloc: Global) -> Result<bool, Fault> {
 fn a_table_of_leveldb_is_built_again(rt: HostRuntime) {
     assert!(rt; is_built_again(rt.alloc()) == Ok(true));
 }
+
+/// `table: u@4 put x, u@4 del`
+const TWINS: &[u8] = b"\
+    \0\x09\x01u\x01\x04\0\0\0\0\0\0x\x01\x08\0\0\x04\0\0\0\0\0\0\0\0\0\0\x01\0\0\0\0u\xa6\xf2\x85\
+    \0\0\0\0\x01\0\0\0\0\xc0\xf2\xa1\xb0\0\x09\x02u\0\x04\0\0\0\0\0\0\0\x20\0\0\0\0\x01\0\0\0\0\
+    \x80\xdce\x8c\x25\x082\x16\0\0\0\0\0\0\0\0\0\0\0\0\0\0\0\0\0\0\0\0\0\0\0\0\0\0\0\0\0\0\0\0\0\0\
+    \0\0W\xfb\x80\x8b\x24uG\xdb";
+
+/// `table: u@4 put x | u@4 del`
+const PARTED_TWINS: &[u8] = b"\
+    \0\x09\x01u\x01\x04\0\0\0\0\0\0x\0\0\0\0\x01\0\0\0\0\x0f\xed\x0d\xbf\0\x09\0u\0\x04\0\0\0\0\0\
+    \0\0\0\0\0\x01\0\0\0\0\x0dk\x91\xcc\0\0\0\0\x01\0\0\0\0\xc0\xf2\xa1\xb0\0\x09\x02u\x01\x04\0\0\
+    \0\0\0\0\0\x15\0\x09\x02u\0\x04\0\0\0\0\0\0\x1a\x14\0\0\0\0\x0e\0\0\0\x02\0\0\0\01\xf9dl3\x08\
+    \x40\x28\0\0\0\0\0\0\0\0\0\0\0\0\0\0\0\0\0\0\0\0\0\0\0\0\0\0\0\0\0\0\0\0\0\0\0\0W\xfb\x80\x8b\
+    \x24uG\xdb";
+
+/// A table, the number of its entries, their least and greatest sequence, and whether two
+/// neighbours have one user key and one sequence.
+type Counted = (&'static [u8], u64, u64, u64, bool);
+
+const COUNTED: &[Counted] = &[
+    (ONE_ENTRY, 1, 1, 1, false),
+    // One user key, two sequences.
+    (TWO_ENTRIES, 2, 2, 4, false),
+    // One sequence, of other user keys.
+    (FIVE, 5, 1, 1, false),
+    (FORTY, 40, 1, 1, false),
+    (TWINS, 2, 4, 4, true),
+    (PARTED_TWINS, 2, 4, 4, true),
+    (OF_LEVELDB, ENTRIES as u64, 1, 160, false),
+];
+
+/// Whether so much is counted of a table.
+fn is_counted(alloc: Global, wanted: &Counted) -> Result<bool, Fault> {
+    let tally = check::<Bytewise>(alloc, wanted.0)?.tally();
+    Ok(
+        (tally.entries, tally.oldest, tally.newest, tally.has_twins)
+            == (wanted.1, wanted.2, wanted.3, wanted.4),
+    )
+}
+
+#[test]
+fn entries_are_counted(rt: HostRuntime) {
+    for wanted in COUNTED {
+        assert!(rt; is_counted(rt.alloc(), wanted) == Ok(true), "{}", wanted.1);
+    }
+}

@@ -10,7 +10,7 @@ use keep::Snapshots;
 pub(crate) type Parting = (u16, u16, u16);
 
 /// Into one range.
-const WHOLE: Parting = (0, 0, 0);
+pub(crate) const WHOLE: Parting = (0, 0, 0);
 
 /// Into three ranges, at `c` and `f`.
 const AT_C_AND_F: Parting = (0x6300, 0x0300, 2);
@@ -70,6 +70,8 @@ pub(crate) struct Row {
     pub wait: Wait,
     pub boards: u64,
     pub answer: Answer,
+    /// How many tables each group of outputs has, if there are several. Then no answer is named.
+    pub groups: &'static [usize],
 }
 
 /// What rows have if they say nothing else. Without tables there is no input.
@@ -88,6 +90,7 @@ const PLAIN: Row = Row {
     wait: Wait::ForNone,
     boards: 0,
     answer: Answer::Refused(FaultName::NoInput, None),
+    groups: &[],
 };
 
 /// Level 1, and the last sequence 4.
@@ -202,6 +205,11 @@ const SAME: &[u8] = b"\
 const A_U_AND_U: &[u8] = b"\
     \x07\0\x07\x7f\x09a\x01\x01\0\0\0\0\0\0\x09u\x01\x05\0\0\0\0\0\0\x07\0\x08r\x09u\x01\x09\0\0\0\
     \0\0\0\x09u\x01\x09\0\0\0\0\0\0";
+
+/// File 7 of level 0: `a` to `r` at 1, 18 user keys.
+/// `edit: file 0 7 340 a@1 put .. r@1 put`
+const A_TO_R_FILE: &[u8] = b"\
+    \x07\0\x07\xd4\x02\x09a\x01\x01\0\0\0\0\0\0\x09r\x01\x01\0\0\0\0\0\0";
 
 /// Rows that have tables and an edit.
 pub(crate) const WRITTEN: &[Row] = &[
@@ -344,6 +352,16 @@ pub(crate) const WRITTEN: &[Row] = &[
         ..PLAIN
     },
 ];
+
+/// A row of 18 outputs.
+pub(crate) const EIGHTEEN: &Row = &Row {
+    name: "18 outputs",
+    files: A_TO_R_FILE,
+    tables: &[A_TO_R],
+    runs: &[(WHOLE, 1), (AT_C_AND_F, 4)],
+    groups: &[16, 2],
+    ..SMALLEST
+};
 
 /// The first sequence that no snapshot may have, 2^56 - 1.
 const TOO_HIGH: u64 = 72_057_594_037_927_935;

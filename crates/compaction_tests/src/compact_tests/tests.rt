@@ -17,7 +17,10 @@ use std::thread::Threads;
 use table::{Options, check};
 
 /// The split into these ranges.
-fn split_of(alloc: Global, (first, step, count): Parting) -> Result<Split<Bytewise>, Fault> {
+pub(crate) fn split_of(
+    alloc: Global,
+    (first, step, count): Parting,
+) -> Result<Split<Bytewise>, Fault> {
     let mut keys = Vec::new(alloc);
     for place in 0..count {
         let key = place.wrapping_mul(step).wrapping_add(first).to_be_bytes();
@@ -33,7 +36,7 @@ fn version_of(alloc: Global, row: &Row) -> Result<Version, Fault> {
 }
 
 /// The inputs of a row.
-fn picked(alloc: Global, row: &Row) -> Result<Inputs, Fault> {
+pub(crate) fn picked(alloc: Global, row: &Row) -> Result<Inputs, Fault> {
     let mut picked = inputs::<Bytewise>(alloc, &version_of(alloc, row)?, row.from)?;
     picked.level = row.level;
     picked.files.truncate(row.tables.len());
@@ -41,7 +44,7 @@ fn picked(alloc: Global, row: &Row) -> Result<Inputs, Fault> {
 }
 
 /// The request of a row over these inputs.
-fn asked<'x>(row: &Row, picked: &'x Inputs) -> Request<'x> {
+pub(crate) fn asked<'x>(row: &Row, picked: &'x Inputs) -> Request<'x> {
     Request {
         picked,
         tables: row.tables,
@@ -59,7 +62,7 @@ fn asked<'x>(row: &Row, picked: &'x Inputs) -> Request<'x> {
 }
 
 /// What a compaction answers.
-fn answer_of<R: AllocGlobal + Threads + Sync>(
+pub(crate) fn answer_of<R: AllocGlobal + Threads + Sync>(
     rt: &R,
     row: &Row,
     (parting, workers): Run,
@@ -82,7 +85,7 @@ fn are_tables(tables: &[(u64, Vec<u8>)], wanted: &[(u64, &[u8])]) -> bool {
 }
 
 /// Whether an answer is this one.
-fn is_answer(answer: &Result<Outcome, Fault>, wanted: Answer) -> bool {
+pub(crate) fn is_answer(answer: &Result<Outcome, Fault>, wanted: Answer) -> bool {
     match (answer, wanted) {
         (Ok(outcome), Answer::Tables(tables, edit)) => {
             are_tables(&outcome.tables, tables)

@@ -6,7 +6,7 @@
 //!
 //! [`compact`] does all of it; [`compact_tables`] the last two runs, over tables that are checked
 //! already. [`merge_request`] is the second run alone; [`Planned`] then encodes the tables group by
-//! group, so that not all are in memory at once. The answer doesn't depend on the workers, nor on
+//! group, so that they needn't all be in memory. The answer doesn't depend on the workers, nor on
 //! the order in which they do their jobs.
 #![tactic(auto)]
 

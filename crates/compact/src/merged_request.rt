@@ -74,7 +74,7 @@ impl<'q, 't, C: Comparator> Merged<'q, 't, C> {
 }
 
 impl<'q, 't, C: SharedComparator + 'static> Merged<'q, 't, C> {
-    /// The tables and the edit, all at once.
+    /// All tables, and the edit.
     ///
     /// `Numbers` or `TooLarge` of the outputs. The only other fault is `Memory`.
     pub(crate) fn written<G: Gate + Sync, R: Threads + Sync>(

@@ -1,4 +1,4 @@
-//! The tests of `compact`: rows of the whole, over ranges and workers, at once and in groups.
+//! The tests of `compact`: rows of the whole, over ranges and workers, whole and in groups.
 
 mod gates;
 mod groups;

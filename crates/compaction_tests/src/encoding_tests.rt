@@ -288,7 +288,7 @@ fn add(table: &mut TableBuilder<Bytewise>, number: u16) -> Result<(), Fault> {
     table.add(key, value)
 }
 
-/// The table of so many numbered entries.
+/// The table of `count` numbered entries.
 fn table_of(alloc: Global, count: u16) -> Result<Vec<u8>, Fault> {
     let options = Options::default();
     if !options.are_in_limits() {

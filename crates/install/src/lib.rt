@@ -12,7 +12,7 @@
 //!
 //! A caller that makes its tables in groups asks for [`manifest_bytes`], then for [`write_group`]
 //! of each group, and then for [`install_manifest`], which does all from the second on. Then the
-//! same holds (`IsGroupedInstallation`; the lemma is `grouped`).
+//! same holds (`IsGroupedInstallation`; the lemmas are in `proofs/Grouped.antt`).
 //!
 //! Why the first three: CURRENT never names a manifest that a crash could take away.
 //!

@@ -36,7 +36,7 @@ complete -c sedvokt -n '__fish_seen_subcommand_from verify' -l all-faults \
 complete -c sedvokt -n '__fish_seen_subcommand_from get' -l raw -d 'Print the bytes themselves'
 complete -c sedvokt -n '__fish_seen_subcommand_from scan' -l from -x -d 'The first key'
 complete -c sedvokt -n '__fish_seen_subcommand_from scan' -l to -x -d 'The key before which to end'
-complete -c sedvokt -n '__fish_seen_subcommand_from scan' -l limit -x -d 'At most so many keys'
+complete -c sedvokt -n '__fish_seen_subcommand_from scan' -l limit -x -d 'At most N keys'
 complete -c sedvokt -n '__fish_seen_subcommand_from scan' -l keys -d 'Print keys alone'
 complete -c sedvokt -n '__fish_seen_subcommand_from clean' -l dry-run -d 'Print names, remove none'
 complete -c sedvokt -n '__fish_seen_subcommand_from stats verify get scan compact install' \

@@ -13,8 +13,8 @@ use crate::numbers::{Account, LevelInputs, Output, RangeEntries};
 use coding::Fault;
 use std::alloc::Global;
 
-/// The lines of an account, each with its newline and, before it, a bar of 40 places: the inputs by
-/// level, the ranges, what was kept and what was dropped, and the outputs.
+/// The lines of an account: the inputs by level, the ranges, what was kept and what was dropped,
+/// and the outputs. Each has its newline and, before it, a bar of 40 places.
 ///
 /// Place i of a bar, from 0 on, is marked if `i * most < amount * 40`, `most` being the largest
 /// amount of the line's group. Levels and outputs are measured in bytes; ranges, kept and dropped

@@ -20,7 +20,7 @@ use Rattle.pick.specs.Picked.{IsInputsAnswer, PickedInputs}
 use Rattle.store.proofs.Flow.{no_refusal}
 use Rattle.store.specs.FolderRequest.{manifest_of}
 use Rattle.store.specs.InputsCompaction.{IsOrderly, input_numbers}
-use Rattle.adoption.specs.Adoption.{Adoption, IsAdoption, adopted, adoption_by, counted_edit, outputs_of}
+use Rattle.adoption.specs.Adoption.{Adoption, IsAdoption, adopted, adoption_by, counted_edit, outputs_in_edit}
 use Rattle.adoption.specs.EditFit.{IsEditFor, IsFitting, are_counted, is_reached, rise_between, rise_within}
 
 pub record IsAdoptedSo (cmp : KeyOrder) (v : State) (e : Edit) (a : Adoption) : Type 0 where
@@ -30,7 +30,7 @@ pub record IsAdoptedSo (cmp : KeyOrder) (v : State) (e : Edit) (a : Adoption) : 
   pub fits : IsEditFor v a.picked e
   pub few : nat_lt (manifest_of v) (2 ^ 64 - 1) ≡ true
   pub applies : applied v (adopted v e) ≡ Some a.next
-  pub outputs : a.outputs ≡ outputs_of e.added
+  pub outputs : a.outputs ≡ outputs_in_edit e.added
   pub edit : a.edit ≡ edit_bytes (adopted v e)
   pub last : a.last ≡ unwrap_or e.last_sequence 0
 
@@ -80,7 +80,7 @@ counted_is v e x h =
 abbrev made_of : State → PickedInputs → Edit → Edit → State → Adoption
 made_of v p e installed next = record {
   picked = p;
-  outputs = outputs_of e.added;
+  outputs = outputs_in_edit e.added;
   edit = edit_bytes installed;
   next = next;
   last = unwrap_or e.last_sequence 0;
@@ -113,7 +113,7 @@ adopted_so cmp v e a (Ok u, (orderly, (Ok p, (fit, is)))) = made_so cmp v e a p 
 
 -- ---- numbers
 
-pub numbers_same : (added : List NewFile) → input_numbers (outputs_of added) ≡ numbers_in added
+pub numbers_same : (added : List NewFile) → input_numbers (outputs_in_edit added) ≡ numbers_in added
 numbers_same [] = refl
 numbers_same (f ∷ added) = ap (λ (ns : List ℕ). f.meta.number ∷ ns) (numbers_same added)
 

@@ -27,7 +27,7 @@ use Rattle.store.specs.Lines.{compaction_lines}
 use Rattle.pick.specs.declared.picked.InputFile.{InputFile}
 use Rattle.store.specs.InputsCompaction.{input_numbers}
 use Rattle.adoption.specs.Adoption.{Adoption, IsEditGiven, IsGiven, with_tables}
-use Rattle.adoption.specs.AdoptionLeft.{AdoptedVersion, IsInstallation, IsOutcomeLeft, IsTestedLeft, KeepsReads}
+use Rattle.adoption.specs.AdoptionLeft.{AdoptedVersion, IsInstallation, IsOutcomeLeft, IsTestedLeft, AdoptionKeepsReads}
 use Rattle.adoption.specs.Both.{AnswersFrom, HasEitherFailed}
 use Rattle.adoption.specs.declared.comparison.Comparison.{Comparison}
 
@@ -104,7 +104,7 @@ module _ (order : Order) (cmp : KeyOrder) (v : State) (loaded : List (ℕ × Lis
   tested_since version (inr i) = inr (version, installed_since i)
 
   -- the same with what gets answer
-  pub outcome_since : (comparison : Comparison) → ((version : AdoptedVersion order cmp v loaded given) → KeepsReads cmp v loaded given.0 comparison version.tables_next) → IsTestedLeft order cmp v loaded given before after old new q
+  pub outcome_since : (comparison : Comparison) → ((version : AdoptedVersion order cmp v loaded given) → AdoptionKeepsReads cmp v loaded given.0 comparison version.tables_next) → IsTestedLeft order cmp v loaded given before after old new q
       → IsOutcomeLeft order cmp v loaded given comparison first after zero new q
   outcome_since comparison gets (inl u) = inl (unchanged_since first before after zero old new q is told u)
   outcome_since comparison gets (inr i) = inr (record { version = i.0; gets = gets i.0; installation = installed_since i.1 })

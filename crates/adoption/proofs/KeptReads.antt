@@ -57,7 +57,7 @@ use Rattle.store.proofs.TablesAfter.{number_of, one_number}
 use Rattle.store.specs.FolderRequest.{manifest_of}
 use Rattle.store.specs.InputsCompaction.{are_stated, input_numbers, input_tables}
 use Rattle.adoption.specs.Adoption.{Adoption, IsAdopted, IsGivenTested, IsOutputsCompared, adopted}
-use Rattle.adoption.specs.AdoptionLeft.{AdoptedVersion, KeepsReads}
+use Rattle.adoption.specs.AdoptionLeft.{AdoptedVersion, AdoptionKeepsReads}
 use Rattle.adoption.specs.declared.comparison.Comparison.{Comparison}
 use Rattle.adoption.specs.declared.comparison.Comparison.TheVariants.{LeftOut, With}
 use Rattle.adoption.specs.EditFit.{rise_between}
@@ -373,7 +373,7 @@ module _ (cmp : KeyOrder) (total : IsTotalOrder cmp) (order : Order) (v : State)
 
 module _ (cmp : KeyOrder) (total : IsTotalOrder cmp) (order : Order) (v : State) (a : Adoption) (outputs : List (ℕ × List ℕ)) (ad : IsAdopted cmp v (a, outputs)) (files : Files) (loaded : List (ℕ × List ℕ))
     (read : AllZip (IsTableOf (IsHeldIn files)) (file_numbers cmp v) loaded) (law : GetsAfter cmp) where
-  keeps_compared : (snapshots : Snapshots) (outs : List Contents) (version : AdoptedVersion order cmp v loaded (a, outputs)) → input_tables cmp a.outputs outputs ≡ Ok outs → IsOutputsCompared cmp files a snapshots outs (Ok tt) → KeepsReads cmp v loaded a (With snapshots) version.tables_next
+  keeps_compared : (snapshots : Snapshots) (outs : List Contents) (version : AdoptedVersion order cmp v loaded (a, outputs)) → input_tables cmp a.outputs outputs ≡ Ok outs → IsOutputsCompared cmp files a snapshots outs (Ok tt) → AdoptionKeepsReads cmp v loaded a (With snapshots) version.tables_next
   keeps_compared snapshots outs version outs_are (Err e, (h, is)) = absurd (no_refusal tt e is)
   keeps_compared snapshots outs version outs_are (Ok own, (own_read, (Err e, (h, is)))) = absurd (no_refusal tt e is)
   keeps_compared snapshots outs version outs_are (Ok own, (own_read, (Ok inputs, (inputs_are, (Err e, (h, is)))))) = absurd (no_refusal tt e is)
@@ -381,7 +381,7 @@ module _ (cmp : KeyOrder) (total : IsTotalOrder cmp) (order : Order) (v : State)
       λ tables sound user at is.
       kept_reads cmp total order v a outputs ad files loaded tables read sound version own inputs outs (readable_of snapshots a.last) own_read inputs_are outs_are held law user at is
 
-  pub keeps_reads : (comparison : Comparison) (version : AdoptedVersion order cmp v loaded (a, outputs)) → IsGivenTested cmp files (a, outputs) comparison (Ok tt) → KeepsReads cmp v loaded a comparison version.tables_next
+  pub keeps_reads : (comparison : Comparison) (version : AdoptedVersion order cmp v loaded (a, outputs)) → IsGivenTested cmp files (a, outputs) comparison (Ok tt) → AdoptionKeepsReads cmp v loaded a comparison version.tables_next
   keeps_reads (With snapshots) version (Err e, (h, is)) = absurd (no_refusal tt e is)
   keeps_reads (With snapshots) version (Ok outs, (outs_are, compared)) = keeps_compared snapshots outs version outs_are compared
   keeps_reads LeftOut version h = tt

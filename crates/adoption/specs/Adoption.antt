@@ -60,10 +60,10 @@ counted_edit v e = test_result (nat_lt (manifest_of v) (2 ^ 64 - 1)) Numbers >>=
     λ _. Ok (adopted v e)
 
 -- new files as files whose tables are read and tested
-abbrev pub outputs_of : List NewFile → List InputFile
-outputs_of added = map (λ (f : NewFile). record { level = f.level; meta = f.meta }) added
+abbrev pub outputs_in_edit : List NewFile → List InputFile
+outputs_in_edit added = map (λ (f : NewFile). record { level = f.level; meta = f.meta }) added
 
--- an adopted edit: the inputs of its compaction, its new files, the bytes that are installed, the
+-- an adopted edit: its compaction's inputs, its new files, the bytes that are installed, the
 -- version that they make, and the last sequence of the version that was compacted
 pub record Adoption : Type 0 where
   pub picked : PickedInputs
@@ -79,7 +79,7 @@ adoption_by v p e = do
   next ← ok_or (applied v installed) (fault Apply)
   Ok (record {
     picked = p;
-    outputs = outputs_of e.added;
+    outputs = outputs_in_edit e.added;
     edit = edit_bytes installed;
     next = next;
     last = unwrap_or e.last_sequence 0;

@@ -36,13 +36,13 @@ pub record AdoptedVersion (order : Order) (cmp : KeyOrder) (v : State) (loaded :
 
 -- If the version was lawful and outputs were compared, each get at a readable sequence answers as
 -- before.
-abbrev pub KeepsReads : KeyOrder → State → List (ℕ × List ℕ) → Adoption → Comparison →
+abbrev pub AdoptionKeepsReads : KeyOrder → State → List (ℕ × List ℕ) → Adoption → Comparison →
     List NumberedContents → Type 0
-KeepsReads cmp v loaded a (With snapshots) tables_next =
+AdoptionKeepsReads cmp v loaded a (With snapshots) tables_next =
     (tables : List NumberedContents) → IsLawfulTables cmp v loaded (Ok tables) →
     (user : List ℕ) (at : ℕ) → is_read (readable_of snapshots a.last) at ≡ true →
     get_of a.next tables_next user at ≡ get_of v tables user at
-KeepsReads cmp v loaded a LeftOut tables_next = Unit {0}
+AdoptionKeepsReads cmp v loaded a LeftOut tables_next = Unit {0}
 
 -- An outcome was installed, from these calls on. A crash at any moment leaves the version before or
 -- the edited one. At Ok it is the edited one, and the answer is the lines. The only faults are
@@ -72,7 +72,7 @@ pub record IsOutcomeInstalled (order : Order) (cmp : KeyOrder) (v : State)
     (before after : List Step) (old new : ToldFiles) (result : Result (Vec ℕ) Fault)
     : Type 0 where
   pub version : AdoptedVersion order cmp v loaded given
-  pub gets : KeepsReads cmp v loaded given.0 comparison version.tables_next
+  pub gets : AdoptionKeepsReads cmp v loaded given.0 comparison version.tables_next
   pub installation : IsInstallation cmp order v loaded given before after old new result
 
 -- what is left of a folder that reads as this version with these tables, by an outcome that was

@@ -7,7 +7,7 @@ ghost use Rattle.edit.specs.Edit.{HasValidLevels, IsEdit, edit_in};
 ghost use Rattle.edit.specs.Version.{IsState};
 ghost use Rattle.pick.specs.Picked.{picked_in};
 ghost use Rattle.adoption.specs.Adoption.{IsAdoption, adopted, adoption_by};
-ghost use Rattle.adoption.specs.Adoption.{counted_edit, outputs_of};
+ghost use Rattle.adoption.specs.Adoption.{counted_edit, outputs_in_edit};
 ghost use Rattle.adoption.specs.AdoptionIn.{adoption_in};
 
 use crate::edit_fit::fitting_inputs;
@@ -120,7 +120,7 @@ fn greater(one: u64, other: u64) -> u64
 
 /// New files as files whose tables are read. The only fault is Memory.
 fn outputs_of(alloc: Global, added: Vec<NewFile>) -> Result<Vec<InputFile>, Fault>
-    ensures { EqualOrMemory (λ v. v.items) result (Ok (outputs_of added.items)) }
+    ensures { EqualOrMemory (λ v. v.items) result (Ok (outputs_in_edit added.items)) }
 {
     let mut outputs = Vec::with_capacity(alloc, added.len())?;
     for file in added {

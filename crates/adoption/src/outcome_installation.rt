@@ -55,10 +55,15 @@ use survival::gets_after;
 /// - Missing: there is no EDIT;
 /// - EditTag or EditField: its bytes are no edit;
 /// - Lawless: a file's number isn't below next file, or the files of a level from 1 on don't rise;
-/// - Apply: EDIT isn't an edit of a compaction of this version: it has just one compact pointer; it
-///   deletes the inputs that a compaction of that pointer's level takes, and its pointer is theirs;
-///   its new files are of the next level, and their numbers rise from above the version's next file
-///   to below EDIT's; its last sequence isn't above the version's; it names no comparator;
+/// - Apply: EDIT isn't an edit of a compaction of this version. Of such an edit each of these
+///   holds:
+///   - it has just one compact pointer;
+///   - it deletes the inputs that a compaction of that pointer's level takes, and its pointer is
+///     theirs;
+///   - its new files are of the next level, and their numbers rise from above the version's next
+///     file to below EDIT's;
+///   - its last sequence isn't above the version's;
+///   - it names no comparator;
 /// - Numbers: next file is 2^64 - 1;
 /// - Missing: at the first output that is missing;
 /// - the first invalid output, as `table::check` refuses it;

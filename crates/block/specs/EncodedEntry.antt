@@ -11,7 +11,7 @@ pub record Entry : Type 0 where
   pub value : List ℕ
 
 -- An entry as it is stored in a block: how many bytes of the key before it begin its key, the other
--- bytes of its key, and its value; and whether a restart points at it.
+-- bytes of its key, and its value. And whether a restart points at it.
 pub record EncodedEntry : Type 0 where
   pub is_restart : Bool
   pub shared : ℕ
@@ -82,7 +82,10 @@ pub record AreOfBlock (ps : List EncodedEntry) : Type 0 where
   pub restarts : AllByRecursion (λ restart. restart < 2 ^ 32)
       (length (restarts_of ps) ∷ restarts_of ps)
 
--- The bytes are a block of these entries, with any lawful sharing and any lawful restarts.
+-- The bytes are a block of these entries, with any lawful sharing and any lawful restarts. A
+-- cross-check of `block_reading`, which takes encoded entries out of the bytes: this says that
+-- there are some whose block the bytes are. `reads_blocks` is the law that both agree. Both rest on
+-- `block_bytes` and `entries_after`.
 abbrev pub IsBlock : List ℕ → List Entry → Type 0
 IsBlock bytes entries = (ps : List EncodedEntry) × AreOfBlock ps × (bytes ≡ block_bytes ps)
     × (entries_after [] ps ≡ entries)

@@ -33,7 +33,7 @@ use Rattle.reads.proofs.Newer.{newer_at, newer_of}
 use Rattle.reads.proofs.Orders.{before_later, later_older, not_before_itself, users_rise}
 use Rattle.reads.proofs.Pairs.{Pairs, pairs_from, pairs_to, pairs_append, pairs_left, pairs_right, pairs_across}
 use Rattle.reads.proofs.Sought.{above_first}
-use Rattle.checks.specs.TableBounds.{AreChecked, BoundsTell, FallAlike, IsSettled, are_apart, are_below}
+use Rattle.checks.specs.TableBounds.{AreCheckedEntries, BoundsTell, FallAlike, IsApartFromOthers, bounds_tell_apart, are_below}
 
 or_parts : (a b : Bool) → (a || b) ≡ true → (a ≡ true) ⊎ (b ≡ true)
 or_parts true b h = inl refl
@@ -144,7 +144,7 @@ module _ (cmp : List ℕ → List ℕ → Ordering) (total : IsTotalOrder cmp) w
       ] in
       not_before_itself cmp total (user_of y.key) (subst (λ (u : List ℕ). cmp u (user_of y.key) ≡ Less) same below)
 
-  pub apart_newer : (newer older : List Entry) → EntriesRise cmp newer → EntriesRise cmp older → are_apart cmp newer older ≡ true → AreNewer newer older
+  pub apart_newer : (newer older : List Entry) → EntriesRise cmp newer → EntriesRise cmp older → bounds_tell_apart cmp newer older ≡ true → AreNewer newer older
   apart_newer newer older one two h =
       elim (or_parts (nat_lt (greatest_sequence older) (least_sequence newer) || are_below cmp newer older) (are_below cmp older newer) h) [
         | inl left ↦ elim (or_parts (nat_lt (greatest_sequence older) (least_sequence newer)) (are_below cmp newer older) left) [
@@ -155,7 +155,7 @@ module _ (cmp : List ℕ → List ℕ → Ordering) (total : IsTotalOrder cmp) w
       ]
 
   -- the same, by what was counted and by each comparison
-  module _ (newer older : List Entry) (one : AreChecked cmp newer) (two : AreChecked cmp older) where
+  module _ (newer older : List Entry) (one : AreCheckedEntries cmp newer) (two : AreCheckedEntries cmp older) where
     pub by_sequences : (counted others : Tally) → counted ≡ tally_of newer → others ≡ tally_of older → nat_lt others.newest counted.oldest ≡ true → AreNewer newer older
     by_sequences counted others is are h =
         below_newer newer older (subst (λ (n : ℕ). greatest_sequence older < n) (ap (λ (t : Tally). t.oldest) is) (subst (λ (n : ℕ). n < counted.oldest) (ap (λ (t : Tally). t.newest) are) ((Decides-ltb others.newest counted.oldest).0 h)))
@@ -205,7 +205,7 @@ module _ (cmp : List ℕ → List ℕ → Ordering) (total : IsTotalOrder cmp) w
         let next = (both_false (is_twin (Some e.key) g.key) (has_twins (Some g.key) es) rest).0 in
         (older_behind e g es rising next, falls_behind (Some e.key) (g ∷ es) rising.1 rest)
 
-    pub alone : (es : List Entry) → AreChecked cmp es → has_twins None es ≡ false → AreFalling es
+    pub alone : (es : List Entry) → AreCheckedEntries cmp es → has_twins None es ≡ false → AreFalling es
     alone es h none = record {
       keys = λ k d lt. key_at es h.keys k d lt;
       newer = pairs_to IsNewer es (falls_behind None es h.rising none);
@@ -285,7 +285,7 @@ module _ (P : List ℕ → Type 0) where
           (λ a b i j. pairs_across (IsNewerIn P) xs (own ++ ys) h.newer a b i (Contains-append_right own ys b j));
     }
 
-pub left_out : (cmp : List ℕ → List ℕ → Ordering) (before : List (List Entry)) (entries : List Entry) (behind : List (List Entry)) → IsSettled before entries behind → FallAlike cmp (before ++ behind) (before ++ entries ∷ behind)
+pub left_out : (cmp : List ℕ → List ℕ → Ordering) (before : List (List Entry)) (entries : List Entry) (behind : List (List Entry)) → IsApartFromOthers before entries behind → FallAlike cmp (before ++ behind) (before ++ entries ∷ behind)
 left_out cmp before entries behind h range =
     let P : List ℕ → Type 0 = IsIn cmp range in
     let xs = entries_of_lists before in
@@ -336,10 +336,10 @@ module _ (cmp : List ℕ → List ℕ → Ordering) where
 
   -- it is left out
   pub walk_passes : (walked all : List (List Entry)) (place : ℕ) (own : List Entry) → place < length all → own ≡ get_or all place own → ((list : List Entry) → Contains walked list → Contains (take place all) list)
-      → IsSettled (take place all) own (drop (place + 1) all) → FallAlike cmp (walked ++ drop place all) all → FallAlike cmp (walked ++ drop (place + 1) all) all
+      → IsApartFromOthers (take place all) own (drop (place + 1) all) → FallAlike cmp (walked ++ drop place all) all → FallAlike cmp (walked ++ drop (place + 1) all) all
   walk_passes walked all place own lt is from settled so_far =
       let rest = drop (place + 1) all in
-      let among : IsSettled walked own rest = record { falling = settled.falling; below = λ other at. settled.below other (from other at); above = settled.above } in
+      let among : IsApartFromOthers walked own rest = record { falling = settled.falling; below = λ other at. settled.below other (from other at); above = settled.above } in
       through (walked ++ rest) (walked ++ own ∷ rest) all (left_out cmp walked own rest among)
       (through (walked ++ own ∷ rest) (walked ++ drop place all) all (same_alike (walked ++ own ∷ rest) (walked ++ drop place all) (ap (λ (ls : List (List Entry)). walked ++ ls) (sym (here all place own lt is)))) so_far)
 

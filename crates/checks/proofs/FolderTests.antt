@@ -26,7 +26,7 @@ use Rattle.checks.specs.Checked.{tables_reading}
 use Rattle.checks.specs.GroupTest.{IsLawfulIn, IsLawlessIn, IsRangeAnswer, IsRangesAnswer, IsSweepAnswer, IsWalkAnswer}
 use Rattle.checks.specs.HeldTables.{AreFound, IsFoundAnswer}
 use Rattle.checks.specs.InOrder.{AreChecked}
-use Rattle.checks.specs.NeededFiles.{is_needed}
+use Rattle.checks.specs.NeededFiles.{is_file_needed}
 use Rattle.checks.specs.TestedTables.{IsTested, tested_of}
 use Rattle.checks.specs.declared.tested.Tested.{Tested}
 use Rattle.checks.proofs.FileTables.{numbers_in}
@@ -59,7 +59,7 @@ answers_since view before middle now (Err e) IsFirst IsAnswer f one two given =
 
 module _ (cmp : List ℕ → List ℕ → Ordering) (total : IsTotalOrder cmp) (files : Files) (next : Option ℕ) (standing : List FileMeta) (range : KeyRange) where
   abbrev needed : List FileMeta
-  needed = filter (is_needed cmp range) standing
+  needed = filter (is_file_needed cmp range) standing
 
   pub range_answer : (tables : List NumberedContents) → AreFound cmp files (numbers_in needed) tables → (found : Option ℕ) → IsWalkAnswer cmp next range needed tables found → IsRangeAnswer cmp files next standing range (Ok found)
   range_answer tables there (Some count) w = walked_sound cmp total files next standing range tables there count w

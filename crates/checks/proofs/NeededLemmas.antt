@@ -19,7 +19,7 @@ use Rattle.reads.specs.StatedFiles.{IsStatedFile}
 use Rattle.reads.specs.TableOrder.{lists_of_files}
 use Rattle.reads.specs.Tables.{NumberedContents, table_entries}
 use Rattle.reads.proofs.Answers.{entries_are}
-use Rattle.checks.specs.NeededFiles.{is_needed, is_user_before, starts_in}
+use Rattle.checks.specs.NeededFiles.{is_file_needed, is_user_before, starts_in}
 use Rattle.checks.specs.GroupTest.{count_in}
 
 needed_by : (begins earlier ends : Bool) → (begins && not earlier) ≡ true → (begins && (not earlier || not ends)) ≡ true
@@ -43,7 +43,7 @@ not_started_by true h = absurd (h refl)
 not_started_by false h = refl
 
 module _ (cmp : List ℕ → List ℕ → Ordering) (total : IsTotalOrder cmp) (range : KeyRange) where
-  pub starts_needed : (f : FileMeta) → starts_in cmp range f ≡ true → is_needed cmp range f ≡ true
+  pub starts_needed : (f : FileMeta) → starts_in cmp range f ≡ true → is_file_needed cmp range f ≡ true
   starts_needed f h = needed_by (is_user_before cmp range.upper true (user_of f.smallest)) (is_user_before cmp range.lower false (user_of f.smallest)) (is_user_before cmp range.lower false (user_of f.largest)) h
 
   -- the test of a range, as the other one has it
@@ -64,7 +64,7 @@ module _ (cmp : List ℕ → List ℕ → Ordering) (total : IsTotalOrder cmp) (
   where_starts f h = (holds_tells cmp range (user_of f.smallest)).0 (back range.lower (is_user_before cmp range.upper true (user_of f.smallest)) (user_of f.smallest) h)
 
   module _ (next : Option ℕ) (tables : List NumberedContents) where
-    missed : (f : FileMeta) → IsStatedFile cmp tables next f → is_needed cmp range f ≡ false → entries_in cmp range (table_entries tables f.number) ≡ []
+    missed : (f : FileMeta) → IsStatedFile cmp tables next f → is_file_needed cmp range f ≡ false → entries_in cmp range (table_entries tables f.number) ≡ []
     missed f s isnt =
         ap (entries_in cmp range) (entries_are tables f.number s.table s.there)
         ∙ elim (not_needed_by (is_user_before cmp range.upper true (user_of f.smallest)) (is_user_before cmp range.lower false (user_of f.smallest)) (is_user_before cmp range.lower false (user_of f.largest)) isnt) [
@@ -76,27 +76,27 @@ module _ (cmp : List ℕ → List ℕ → Ordering) (total : IsTotalOrder cmp) (
     joined fs = entries_of_lists (lists_of_files tables fs)
 
     -- the files that a range needs have all entries in it
-    pub needed_entries : (standing : List FileMeta) → All (IsStatedFile cmp tables next) standing → entries_in cmp range (joined (filter (is_needed cmp range) standing)) ≡ entries_in cmp range (joined standing)
+    pub needed_entries : (standing : List FileMeta) → All (IsStatedFile cmp tables next) standing → entries_in cmp range (joined (filter (is_file_needed cmp range) standing)) ≡ entries_in cmp range (joined standing)
     needed_entries [] stated = refl
-    needed_entries (f ∷ fs) stated = by (is_needed cmp range f) refl (needed_entries fs (All-tail (IsStatedFile cmp tables next) f fs stated))
+    needed_entries (f ∷ fs) stated = by (is_file_needed cmp range f) refl (needed_entries fs (All-tail (IsStatedFile cmp tables next) f fs stated))
       where
         whole : entries_in cmp range (table_entries tables f.number ++ joined fs) ≡ entries_in cmp range (table_entries tables f.number) ++ entries_in cmp range (joined fs)
         whole = filter-append (λ e. is_in_range cmp range (user_of e.key)) (table_entries tables f.number) (joined fs)
 
-        by : (b : Bool) → is_needed cmp range f ≡ b → entries_in cmp range (joined (filter (is_needed cmp range) fs)) ≡ entries_in cmp range (joined fs)
-            → entries_in cmp range (joined (cond b (f ∷ filter (is_needed cmp range) fs) (filter (is_needed cmp range) fs))) ≡ entries_in cmp range (table_entries tables f.number ++ joined fs)
+        by : (b : Bool) → is_file_needed cmp range f ≡ b → entries_in cmp range (joined (filter (is_file_needed cmp range) fs)) ≡ entries_in cmp range (joined fs)
+            → entries_in cmp range (joined (cond b (f ∷ filter (is_file_needed cmp range) fs) (filter (is_file_needed cmp range) fs))) ≡ entries_in cmp range (table_entries tables f.number ++ joined fs)
         by true is rest =
-            filter-append (λ e. is_in_range cmp range (user_of e.key)) (table_entries tables f.number) (joined (filter (is_needed cmp range) fs))
+            filter-append (λ e. is_in_range cmp range (user_of e.key)) (table_entries tables f.number) (joined (filter (is_file_needed cmp range) fs))
             ∙ ap (λ (es : List Entry). entries_in cmp range (table_entries tables f.number) ++ es) rest ∙ sym whole
         by false is rest =
             rest ∙ sym (ap (λ (es : List Entry). es ++ entries_in cmp range (joined fs)) (missed f (All-head (IsStatedFile cmp tables next) f fs stated) is)) ∙ sym whole
 
   -- the files that a range needs are all that begin in it
-  pub needed_count : (tables : List NumberedContents) (standing : List FileMeta) → count_in cmp range tables (filter (is_needed cmp range) standing) ≡ count_in cmp range tables standing
+  pub needed_count : (tables : List NumberedContents) (standing : List FileMeta) → count_in cmp range tables (filter (is_file_needed cmp range) standing) ≡ count_in cmp range tables standing
   needed_count tables [] = refl
-  needed_count tables (f ∷ fs) = by (is_needed cmp range f) refl (needed_count tables fs)
+  needed_count tables (f ∷ fs) = by (is_file_needed cmp range f) refl (needed_count tables fs)
     where
-      none : is_needed cmp range f ≡ false → (if starts_in cmp range f then length (table_entries tables f.number) else 0) ≡ 0
+      none : is_file_needed cmp range f ≡ false → (if starts_in cmp range f then length (table_entries tables f.number) else 0) ≡ 0
       none isnt =
           ap (λ (b : Bool). if b then length (table_entries tables f.number) else 0)
           (not_started_by (starts_in cmp range f) (λ starts. let both : true ≡ false = sym (starts_needed f starts) ∙ isnt in absurd cc))
@@ -104,7 +104,7 @@ module _ (cmp : List ℕ → List ℕ → Ordering) (total : IsTotalOrder cmp) (
       plus_none : (a b : ℕ) → a ≡ 0 → b ≡ a + b
       plus_none a b h = omega (arith, h)
 
-      by : (b : Bool) → is_needed cmp range f ≡ b → count_in cmp range tables (filter (is_needed cmp range) fs) ≡ count_in cmp range tables fs
-          → count_in cmp range tables (cond b (f ∷ filter (is_needed cmp range) fs) (filter (is_needed cmp range) fs)) ≡ (if starts_in cmp range f then length (table_entries tables f.number) else 0) + count_in cmp range tables fs
+      by : (b : Bool) → is_file_needed cmp range f ≡ b → count_in cmp range tables (filter (is_file_needed cmp range) fs) ≡ count_in cmp range tables fs
+          → count_in cmp range tables (cond b (f ∷ filter (is_file_needed cmp range) fs) (filter (is_file_needed cmp range) fs)) ≡ (if starts_in cmp range f then length (table_entries tables f.number) else 0) + count_in cmp range tables fs
       by true is rest = ap (λ (n : ℕ). (if starts_in cmp range f then length (table_entries tables f.number) else 0) + n) rest
       by false is rest = rest ∙ plus_none (if starts_in cmp range f then length (table_entries tables f.number) else 0) (count_in cmp range tables fs) (none is)

@@ -16,22 +16,22 @@ use Rattle.reads.specs.TableOrder.{AreFallingIn, lists_of_files}
 use Rattle.reads.specs.Tables.{NumberedContents}
 use Rattle.reads.proofs.Members.{from_filter, in_filter}
 use Rattle.reads.proofs.Ranged.{fall_in}
-use Rattle.checks.specs.NeededFiles.{is_needed}
-use Rattle.checks.specs.GroupTest.{AreRangesSound, AreStatedBy, AreTablesIn, IsRangeSound, IsStatedIn, IsWalkAnswer, IsWalked, NeverFalls, contents_of_all, count_in, counts_of, entries_of_all}
+use Rattle.checks.specs.NeededFiles.{is_file_needed}
+use Rattle.checks.specs.GroupTest.{AreRangesSound, AreStatedBy, AreTablesIn, IsRangeSound, IsStatedIn, IsWalkAnswer, IsWalked, NoTablesFall, contents_of_all, count_in, counts_of, entries_of_all}
 use Rattle.checks.specs.HeldTables.{AreFound, IsFoundAnswer}
 use Rattle.checks.proofs.FallingRanges.{same_in_range}
 use Rattle.checks.proofs.FileTables.{all_found, found_counts, found_lists, found_stated, numbers_in, stated_found}
 use Rattle.checks.proofs.NeededLemmas.{needed_count, needed_entries}
 
 -- what each of a list has, each of a part of it has
-some_of : (P : FileMeta → Type 0) (cmp : List ℕ → List ℕ → Ordering) (range : KeyRange) (standing : List FileMeta) → All P standing → All P (filter (is_needed cmp range) standing)
+some_of : (P : FileMeta → Type 0) (cmp : List ℕ → List ℕ → Ordering) (range : KeyRange) (standing : List FileMeta) → All P standing → All P (filter (is_file_needed cmp range) standing)
 some_of P cmp range standing all k d lt =
-    let part : List FileMeta = filter (is_needed cmp range) standing in
-    All-contains P standing (get_or part k d) all (from_filter (is_needed cmp range) standing (get_or part k d) (Contains-get_or part k d lt)).0
+    let part : List FileMeta = filter (is_file_needed cmp range) standing in
+    All-contains P standing (get_or part k d) all (from_filter (is_file_needed cmp range) standing (get_or part k d) (Contains-get_or part k d lt)).0
 
 module _ (cmp : List ℕ → List ℕ → Ordering) (total : IsTotalOrder cmp) (files : Files) (next : Option ℕ) (standing : List FileMeta) (range : KeyRange) where
   abbrev needed : List FileMeta
-  needed = filter (is_needed cmp range) standing
+  needed = filter (is_file_needed cmp range) standing
 
   abbrev joined : List NumberedContents → List FileMeta → List Entry
   joined tables metas = entries_of_lists (lists_of_files tables metas)
@@ -60,17 +60,17 @@ module _ (cmp : List ℕ → List ℕ → Ordering) (total : IsTotalOrder cmp) (
     -- a walk that finds nothing wrong
     pub walked_sound : (count : ℕ) → IsWalked cmp next range needed found count → IsRangeSound cmp files next standing range count
     walked_sound count w = record {
-      stated = λ f at is. stated_found cmp files next needed found there w.stated f (in_filter (is_needed cmp range) standing f is at);
+      stated = λ f at is. stated_found cmp files next needed found there w.stated f (in_filter (is_file_needed cmp range) standing f is at);
       falls = λ tables are. falls_here tables are w.falls;
       is = λ tables are. same_count tables are count w.is;
     }
 
     -- a walk that finds something wrong
-    pub walked_wrong : IsWalkAnswer cmp next range needed found None → NeverFalls cmp files next standing
+    pub walked_wrong : IsWalkAnswer cmp next range needed found None → NoTablesFall cmp files next standing
     walked_wrong w tables are falling = w (stated_here tables are) (falls_there tables are (fall_in (IsIn cmp range) (joined tables standing) falling))
 
   -- a table that is missing or invalid
-  pub unfound_wrong : IsFoundAnswer cmp files (numbers_in needed) (Ok None) → NeverFalls cmp files next standing
+  pub unfound_wrong : IsFoundAnswer cmp files (numbers_in needed) (Ok None) → NoTablesFall cmp files next standing
   unfound_wrong h tables are falling =
       let some = all_found cmp files next tables are.read needed (some_of (IsStatedFile cmp tables next) cmp range standing are.stated) in
       h some.0 some.1
@@ -86,7 +86,7 @@ ranges_none cmp files next standing boundaries = record {
 pub ranges_more : (cmp : List ℕ → List ℕ → Ordering) (files : Files) (next : Option ℕ) (standing : List FileMeta) (boundaries : List (List ℕ)) (n count more : ℕ)
     → AreRangesSound cmp files next standing boundaries n count → IsRangeSound cmp files next standing (range_at boundaries n) more → AreRangesSound cmp files next standing boundaries (suc n) (count + more)
 ranges_more cmp files next standing boundaries n count more so_far one = record {
-  stated = λ i lt f at. by_place i lt (λ (k : ℕ). is_needed cmp (range_at boundaries k) f ≡ true → IsStatedIn cmp files next f) (so_far_stated f at) (one.stated f at);
+  stated = λ i lt f at. by_place i lt (λ (k : ℕ). is_file_needed cmp (range_at boundaries k) f ≡ true → IsStatedIn cmp files next f) (so_far_stated f at) (one.stated f at);
   falls = λ i lt tables are. by_place i lt (λ (k : ℕ). AreFallingIn (IsIn cmp (range_at boundaries k)) (entries_of_lists (lists_of_files tables standing))) (λ k small. so_far.falls k small tables are) (one.falls tables are);
   is = λ tables are. ap₂ (λ (a b : ℕ). a + b) (so_far.is tables are) (one.is tables are);
 }
@@ -100,5 +100,5 @@ ranges_more cmp files next standing boundaries n count more so_far one = record 
     by_place : (i : ℕ) → i < suc n → (P : ℕ → Type 0) → ((k : ℕ) → k < n → P k) → P n → P i
     by_place i lt P before here = elim (last_or_before i lt) [ inl same ↦ subst P (sym same) here | inr small ↦ before i small ]
 
-    so_far_stated : (f : FileMeta) → Contains standing f → (k : ℕ) → k < n → is_needed cmp (range_at boundaries k) f ≡ true → IsStatedIn cmp files next f
+    so_far_stated : (f : FileMeta) → Contains standing f → (k : ℕ) → k < n → is_file_needed cmp (range_at boundaries k) f ≡ true → IsStatedIn cmp files next f
     so_far_stated f at k small = so_far.stated k small f at

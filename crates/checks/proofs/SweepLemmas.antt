@@ -37,7 +37,7 @@ use Rattle.reads.proofs.Members.{first_in, first_or_later, in_map, later_in, non
 use Rattle.checks.specs.Checked.{tables_reading}
 use Rattle.checks.specs.NeededFiles.{starts_in}
 use Rattle.checks.specs.TestedTables.{entry_count}
-use Rattle.checks.specs.GroupTest.{AreRangesSound, AreTablesIn, IsLawfulIn, IsLawlessIn, IsStatedIn, NeverFalls, count_below, count_in}
+use Rattle.checks.specs.GroupTest.{AreRangesSound, AreTablesIn, IsLawfulIn, IsLawlessIn, IsStatedIn, NoTablesFall, count_below, count_in}
 use Rattle.checks.specs.HeldTables.{AreFound, IsTableIn}
 use Rattle.checks.proofs.FallingRanges.{fall_in_each}
 use Rattle.checks.proofs.FileTables.{numbers_in, stated_among}
@@ -210,7 +210,7 @@ module _ (cmp : List ℕ → List ℕ → Ordering) (files : Files) where
 
 module _ (cmp : List ℕ → List ℕ → Ordering) (total : IsTotalOrder cmp) (files : Files) (v : State) (standing : List FileMeta) (stand : AreStandingFiles cmp v standing) where
   -- the tables that files hold, of a version that is lawful with some
-  pub lawless : NeverFalls cmp files v.next_file standing → IsLawlessIn cmp files v
+  pub lawless : NoTablesFall cmp files v.next_file standing → IsLawlessIn cmp files v
   lawless never loaded tables there read lawful =
       let is = (stand.lawful tables).0 lawful in
       never tables (record { read = found_at cmp files (file_numbers cmp v) tables (found_tables cmp files (file_numbers cmp v) loaded tables there read); stated = is.0 }) is.1

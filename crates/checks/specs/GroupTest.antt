@@ -20,7 +20,7 @@ use Rattle.reads.specs.TableOrder.{AreAllAdded, AreFalling, AreFallingIn, lists_
 use Rattle.reads.specs.Tables.{NumberedContents, table_of_number, table_entries}
 use Rattle.checks.specs.Checked.{tables_reading}
 use Rattle.checks.specs.HeldTables.{IsTableIn}
-use Rattle.checks.specs.NeededFiles.{is_needed, starts_in}
+use Rattle.checks.specs.NeededFiles.{is_file_needed, starts_in}
 use Rattle.checks.specs.TestedTables.{entry_count}
 
 -- ---- tables by themselves
@@ -81,8 +81,8 @@ pub record IsWalked (cmp : List ℕ → List ℕ → Ordering) (next : Option �
   pub falls : AreFallingIn (IsIn cmp range) (entries_of_all tables)
   pub is : count ≡ counts_of cmp range metas (contents_of_all tables)
 
--- what a walk over the tables of files finds: how many entries they count for a range; None if the
--- tables are not what the version states, or their entries don't fall
+-- What a walk over the tables of files finds: how many entries they count for a range. None if the
+-- tables are not what the version states, or their entries don't fall.
 abbrev pub IsWalkAnswer : (List ℕ → List ℕ → Ordering) → Option ℕ → KeyRange → List FileMeta →
     List NumberedContents → Option ℕ → Type 0
 IsWalkAnswer cmp next range metas tables (Some count) = IsWalked cmp next range metas tables count
@@ -118,7 +118,7 @@ count_in cmp range tables (f ∷ standing) =
 -- sequences fall through all tables. This many entries have those that begin in it.
 pub record IsRangeSound (cmp : List ℕ → List ℕ → Ordering) (files : Files) (next : Option ℕ)
     (standing : List FileMeta) (range : KeyRange) (count : ℕ) : Type 0 where
-  pub stated : (f : FileMeta) → Contains standing f → is_needed cmp range f ≡ true →
+  pub stated : (f : FileMeta) → Contains standing f → is_file_needed cmp range f ≡ true →
       IsStatedIn cmp files next f
   pub falls : (tables : List NumberedContents) → AreTablesIn cmp files next standing tables →
       AreFallingIn (IsIn cmp range) (entries_of_lists (lists_of_files tables standing))
@@ -126,8 +126,8 @@ pub record IsRangeSound (cmp : List ℕ → List ℕ → Ordering) (files : File
       count ≡ count_in cmp range tables standing
 
 -- with no tables among the files do the sequences of each user key fall
-abbrev pub NeverFalls : (List ℕ → List ℕ → Ordering) → Files → Option ℕ → List FileMeta → Type 0
-NeverFalls cmp files next standing =
+abbrev pub NoTablesFall : (List ℕ → List ℕ → Ordering) → Files → Option ℕ → List FileMeta → Type 0
+NoTablesFall cmp files next standing =
     (tables : List NumberedContents) → AreTablesIn cmp files next standing tables →
     AreFalling (entries_of_lists (lists_of_files tables standing)) → ⊥
 
@@ -136,7 +136,7 @@ abbrev pub IsRangeAnswer : (List ℕ → List ℕ → Ordering) → Files → Op
     KeyRange → Result (Option ℕ) Fault → Type 0
 IsRangeAnswer cmp files next standing range (Ok (Some count)) =
     IsRangeSound cmp files next standing range count
-IsRangeAnswer cmp files next standing range (Ok None) = NeverFalls cmp files next standing
+IsRangeAnswer cmp files next standing range (Ok None) = NoTablesFall cmp files next standing
 IsRangeAnswer cmp files next standing range (Err e) = ⊥
 
 -- how many entries the tables have that begin in the first n ranges
@@ -151,7 +151,7 @@ count_below cmp boundaries tables standing (suc n) =
 pub record AreRangesSound (cmp : List ℕ → List ℕ → Ordering) (files : Files) (next : Option ℕ)
     (standing : List FileMeta) (boundaries : List (List ℕ)) (n count : ℕ) : Type 0 where
   pub stated : (i : ℕ) → i < n → (f : FileMeta) → Contains standing f →
-      is_needed cmp (range_at boundaries i) f ≡ true → IsStatedIn cmp files next f
+      is_file_needed cmp (range_at boundaries i) f ≡ true → IsStatedIn cmp files next f
   pub falls : (i : ℕ) → i < n → (tables : List NumberedContents) →
       AreTablesIn cmp files next standing tables →
       AreFallingIn (IsIn cmp (range_at boundaries i))
@@ -164,7 +164,7 @@ abbrev pub IsRangesAnswer : (List ℕ → List ℕ → Ordering) → Files → O
     List (List ℕ) → Result (Option ℕ) Fault → Type 0
 IsRangesAnswer cmp files next standing boundaries (Ok (Some count)) =
     AreRangesSound cmp files next standing boundaries (length boundaries + 1) count
-IsRangesAnswer cmp files next standing boundaries (Ok None) = NeverFalls cmp files next standing
+IsRangesAnswer cmp files next standing boundaries (Ok None) = NoTablesFall cmp files next standing
 IsRangesAnswer cmp files next standing boundaries (Err e) = ⊥
 
 -- ---- a version

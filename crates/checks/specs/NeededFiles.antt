@@ -18,7 +18,7 @@ starts_in cmp range f = is_user_before cmp range.upper true (user_of f.smallest)
     && not (is_user_before cmp range.lower false (user_of f.smallest))
 
 -- whether a file begins in a range, or begins before it and doesn't end before it
-abbrev pub is_needed : (List ℕ → List ℕ → Ordering) → KeyRange → FileMeta → Bool
-is_needed cmp range f = is_user_before cmp range.upper true (user_of f.smallest)
+abbrev pub is_file_needed : (List ℕ → List ℕ → Ordering) → KeyRange → FileMeta → Bool
+is_file_needed cmp range f = is_user_before cmp range.upper true (user_of f.smallest)
     && (not (is_user_before cmp range.lower false (user_of f.smallest))
     || not (is_user_before cmp range.lower false (user_of f.largest)))

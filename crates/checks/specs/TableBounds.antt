@@ -15,7 +15,7 @@ use Rattle.reads.specs.Lawful.{AreNewer}
 use Rattle.reads.specs.TableOrder.{AreFalling, AreFallingIn}
 
 -- what is known of the entries of a checked table: their keys are internal keys, and rise
-pub record AreChecked (cmp : KeyOrder) (entries : List Entry) : Type 0 where
+pub record AreCheckedEntries (cmp : KeyOrder) (entries : List Entry) : Type 0 where
   pub keys : HaveInternalKeys entries
   pub rising : EntriesRise cmp entries
 
@@ -23,16 +23,16 @@ pub record AreChecked (cmp : KeyOrder) (entries : List Entry) : Type 0 where
 abbrev pub are_below : KeyOrder → List Entry → List Entry → Bool
 are_below cmp first second = is_lt (cmp (user_of (last_key [] first)) (user_of (first_key second)))
 
--- Whether bounds tell that each of the first entries is newer than each of the second: the
--- sequences of the second are all below those of the first, or the user keys of one are all below
--- those of the other.
-abbrev pub are_apart : KeyOrder → List Entry → List Entry → Bool
-are_apart cmp newer older = nat_lt (greatest_sequence older) (least_sequence newer)
+-- Whether bounds tell that each of the first entries is newer than each of the second. They do if
+-- the sequences of the second are all below those of the first, or the user keys of one are all
+-- below those of the other.
+abbrev pub bounds_tell_apart : KeyOrder → List Entry → List Entry → Bool
+bounds_tell_apart cmp newer older = nat_lt (greatest_sequence older) (least_sequence newer)
     || are_below cmp newer older || are_below cmp older newer
 
 -- A table among others falls itself, each of those before it is newer, and it is newer than each of
 -- those after it.
-pub record IsSettled (before : List (List Entry)) (entries : List Entry)
+pub record IsApartFromOthers (before : List (List Entry)) (entries : List Entry)
     (behind : List (List Entry)) : Type 0 where
   pub falling : AreFalling entries
   pub below : (other : List Entry) → Contains before other → AreNewer other entries
@@ -46,10 +46,12 @@ FallAlike cmp lists others = (range : KeyRange) →
 
 -- The law of bounds: why a table that they tell apart from all others needs no walk.
 pub record BoundsTell (cmp : KeyOrder) : Type 0 where
-  pub alone : (entries : List Entry) → AreChecked cmp entries → has_twins None entries ≡ false →
+  pub alone : (entries : List Entry) → AreCheckedEntries cmp entries →
+      has_twins None entries ≡ false →
       AreFalling entries
-  pub apart : (newer older : List Entry) → AreChecked cmp newer → AreChecked cmp older →
-      are_apart cmp newer older ≡ true → AreNewer newer older
+  pub apart : (newer older : List Entry) → AreCheckedEntries cmp newer →
+      AreCheckedEntries cmp older →
+      bounds_tell_apart cmp newer older ≡ true → AreNewer newer older
   pub left_out : (before : List (List Entry)) (entries : List Entry) (behind : List (List Entry)) →
-      IsSettled before entries behind → FallAlike cmp (before ++ behind)
+      IsApartFromOthers before entries behind → FallAlike cmp (before ++ behind)
       (before ++ entries ∷ behind)

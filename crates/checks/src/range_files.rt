@@ -6,7 +6,7 @@ ghost use Rattle.coding.specs.Answers.{EqualOrMemory, fault};
 ghost use Rattle.coding.specs.declared.fault.FaultName.TheVariants.{Memory};
 ghost use Rattle.ikey.specs.Key.{user_of};
 ghost use Rattle.split.specs.Ranges.{key_range};
-ghost use Rattle.checks.specs.NeededFiles.{is_needed, is_user_before, starts_in};
+ghost use Rattle.checks.specs.NeededFiles.{is_file_needed, is_user_before, starts_in};
 
 use coding::Fault;
 use edit::FileMeta;
@@ -25,7 +25,7 @@ pub fn needed_files<'v, C: Comparator>(
     range: Range<'_>,
 ) -> Result<Vec<&'v FileMeta>, Fault>
     ensures needed { IfOk result (λ v. map (λ f. f.now) v.items
-        ≡ filter (is_needed C.cmp (key_range range.entry)) (map (λ f. f.now) files.now)) }
+        ≡ filter (is_file_needed C.cmp (key_range range.entry)) (map (λ f. f.now) files.now)) }
     ensures memory { IfErr result (λ e. e ≡ fault Memory) }
 {
     let mut needed = Vec::new(alloc);
@@ -59,7 +59,7 @@ pub(crate) fn starts_in<C: Comparator>(file: &FileMeta, range: Range<'_>) -> boo
 
 /// Whether the file begins in `range`, or begins before it and doesn't end before it.
 fn is_needed<C: Comparator>(file: &FileMeta, range: Range<'_>) -> bool
-    ensures { result ≡ is_needed C.cmp (key_range range.entry) file.now }
+    ensures { result ≡ is_file_needed C.cmp (key_range range.entry) file.now }
 {
     let begins = is_before::<C>(file.smallest.as_key(), range.upper, true);
     let is_earlier = is_before::<C>(file.smallest.as_key(), range.lower, false);

@@ -21,8 +21,8 @@ use std::alloc::Global;
 use std::mem;
 use std::thread::Threads;
 
-/// How many entries the tables of the `standing` files have, if in each range of the split each
-/// table is what the version states and of each user key the sequences fall. Else None. `next` is
+/// How many entries the tables of the `standing` files have. None unless, in each range of the
+/// split, each table is what the version states and of each user key the sequences fall. `next` is
 /// the version's next file.
 ///
 /// The tables that a range needs are held for it, and dropped when no later range needs them: those

@@ -21,9 +21,9 @@ use std::alloc::Global;
 use std::thread::Threads;
 use table::SoundTable;
 
-/// How many entries the held tables of these files have that begin in `range`, if each table is
-/// what the version states of its file, and of each user key of the range the sequences fall
-/// through them. Else None. `next` is the version's next file.
+/// How many entries the held tables of these files have that begin in `range`. None unless each
+/// table is what the version states of its file, and of each user key of the range the sequences
+/// fall through them. `next` is the version's next file.
 ///
 /// 1 to 64 workers walk the range. The only fault is Memory.
 pub(crate) fn walk_range<C: SharedComparator + 'static, R: Threads + Sync>(

@@ -6,7 +6,7 @@ ghost use Rattle.coding.specs.declared.fault.FaultName.TheVariants.{Memory};
 ghost use Rattle.block.specs.EncodedEntry.{Entry};
 ghost use Rattle.reads.specs.Lawful.{AreNewer};
 ghost use Rattle.reads.specs.TableOrder.{AreFalling};
-ghost use Rattle.checks.specs.TableBounds.{BoundsTell, FallAlike, IsSettled, are_below};
+ghost use Rattle.checks.specs.TableBounds.{BoundsTell, FallAlike, IsApartFromOthers, are_below};
 
 use coding::Fault;
 use ikey::Comparator;
@@ -54,7 +54,8 @@ fn is_settled<C: Comparator>(
     table: &SoundTable<'_, C>,
     behind: &[&SoundTable<'_, C>],
 ) -> bool
-    ensures { IsTrue result → IsSettled (map (λ t. t.now.entries) before.now) table.now.entries
+    ensures { IsTrue result
+        → IsApartFromOthers (map (λ t. t.now.entries) before.now) table.now.entries
         (map (λ t. t.now.entries) behind.now) }
 {
     if !falls_alone(table) {

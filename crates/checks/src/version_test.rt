@@ -39,11 +39,11 @@ const MOST_FILES: usize = 1_099_511_627_776;
 /// If the device fails a call, the answer is Device and no further call is made. If memory runs
 /// out, it is Memory; so it is if the version has more than 2^40 files.
 ///
-/// The tables in memory have at most `memory` bytes together, if no single user key needs more: a
-/// range of user keys is tested after the other, with the tables that reach into it. A table is
-/// read and checked for the first range that needs it, and held until the last one has been tested.
-/// No contract says so. 1 to 64 workers check the tables and walk over their entries. If something
-/// is wrong, all tables are read again, in order, for the first refusal.
+/// The tables in memory have at most `memory` bytes together, if no single user key needs more. For
+/// that, one range of user keys is tested after the other, with the tables that reach into it. A
+/// table is read and checked for the first range that needs it, and held until the last one has
+/// been tested. No contract says so. 1 to 64 workers check the tables and walk over their entries.
+/// If something is wrong, all tables are read again, in order, for the first refusal.
 ///
 /// The work is told to `watch`, which is `&Open` if nobody watches.
 pub fn test_version<C: SharedComparator + 'static, F: Folder, W: Watch + Sync, R: Threads + Sync>(
@@ -67,8 +67,9 @@ pub fn test_version<C: SharedComparator + 'static, F: Folder, W: Watch + Sync, R
     Ok(found.tested)
 }
 
-/// Tests a version as [`test_version`] does, and hands on the tables that it still holds: those of
-/// the last range of user keys, which are all if they fit into `memory` together. It only reads.
+/// Tests a version as [`test_version`] does, and hands on the tables that it still holds. They are
+/// the tables of the last range of user keys: all, if they fit into `memory` together. It only
+/// reads.
 pub fn test_and_hold<C: SharedComparator + 'static, F: Folder, W: Watch + Sync, R: Threads + Sync>(
     rt: &R,
     alloc: Global,

@@ -64,7 +64,7 @@ impl FileKind {
         }
     }
 
-    /// The number that stands in a `name` of this kind. None if there is none.
+    /// The number that is in a `name` of this kind. None if there is none.
     fn number_between(self, name: &[u8]) -> Option<u64>
         ensures { (n : ℕ) → n < 2 ^ 64 → name.now ≡ name_of self n → result ≡ Some n }
     {

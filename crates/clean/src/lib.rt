@@ -24,9 +24,13 @@
 //! CURRENT, LOCK, LOG, newer manifests and all other files stay, there as here.
 //!
 //! [`remove_obsolete`] removes, of the names that it is given, those that [`is_obsolete`] tells;
-//! [`obsolete_names`] answers these. Premises of what is said of a crash: nobody else writes the
-//! folder; it stands for the version by its manifest (`StandsBy`), as after `sync_version` of
-//! `store`; and the crash model of `folder`.
+//! [`obsolete_names`] answers these.
+//!
+//! Premises of what is said of a crash:
+//!
+//! - nobody else writes the folder;
+//! - it stands for the version by its manifest (`StandsBy`), as after `sync_version` of `store`;
+//! - the crash model of `folder`.
 //!
 //! `compact --clean` calls it after each installation, through a folder value of its own, which no
 //! contract joins to that of the steps. Why that changes nothing for them:

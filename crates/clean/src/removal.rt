@@ -40,8 +40,8 @@ pub fn remove_obsolete<F: Folder, W: RemovalWatch>(
         ⊎ AreRemoved W.tells (order_cmp opened.now.order) opened.now.version opened.now.manifest
         (map string_bytes names.now) (F.calls folder.old) (F.calls folder.new)
         (F.tells folder.old) (F.tells folder.new) (watch.old) (watch.new) result }
-    // If the folder stands for the version by this manifest, a crash at any moment leaves it, and
-    // the folder stands for it after the call, be the answer Ok or not.
+    // If the folder stands for the version by this manifest, a crash at any moment leaves it. In
+    // that case the folder also stands for it after the call, be the answer Ok or not.
     ensures stays { (tables : List (ℕ × List ℕ)) → StaysAs (order_cmp opened.now.order)
         opened.now.order opened.now.version opened.now.manifest tables (F.calls folder.old)
         (F.calls folder.new) (F.tells folder.old) (F.tells folder.new) }

@@ -13,7 +13,7 @@ use lib.Seq.{paste}
 use borrow.Rule.Slice.PartMut.{mid_of, post_of, put_mid}
 use Rattle.coding.specs.Crc.{low_bits, bits_of, coefficient_sum, leading_sum}
 use Rattle.coding.specs.CrcRegister.{register_after_step, register_after_steps, register_after_bits, register_of_lanes}
-use Rattle.coding.specs.CrcWindow.{the_lags, last_bytes, chunk_sum, register_of_taken, StandsFor}
+use Rattle.coding.specs.CrcWindow.{the_lags, last_bytes, chunk_sum, register_of_taken, IsRegisterOf}
 use Rattle.coding.proofs.CrcKernel.{chunks_all, chunks_next, fed_byte, fed_bytes-append, fed_none, word, word_fed}
 use Rattle.coding.proofs.CrcRegisterLemmas.{xor_pairs, bit_cases, split_at, after_step-xor, after_steps-xor, after_steps-add, after_steps-after_steps, after_step_fits, digit, fed_fits, low_bits-xor, length-low_bits}
 
@@ -301,7 +301,7 @@ taken_more taken more long h =
 
 -- a chunk is taken out
 pub stands_more : (register : ℕ) (taken chunk : List ℕ) → 266 ≤ length taken → length chunk ≡ 16
-    → StandsFor taken register → StandsFor (taken ++ chunk_sum the_lags taken chunk) (fed register chunk)
+    → IsRegisterOf taken register → IsRegisterOf (taken ++ chunk_sum the_lags taken chunk) (fed register chunk)
 stands_more register taken chunk long h stands =
     let sum = chunk_sum the_lags taken chunk in
     let added = register_after_steps 2128 (chunk_added the_lags taken) in
@@ -325,7 +325,7 @@ no_lanes = refl
 abbrev pub StandWith : List ℕ → ℕ → ℕ → Type 0
 StandWith taken done register = bit_xor (register_after_steps 2128 done) (register_of_taken the_lags taken) ≡ register_after_steps 2128 register
 
-pub stand_first : (taken : List ℕ) (register : ℕ) → StandsFor taken register → StandWith taken 0 register
+pub stand_first : (taken : List ℕ) (register : ℕ) → IsRegisterOf taken register → StandWith taken 0 register
 stand_first taken register stands =
     ap (λ x. bit_xor x (register_of_taken the_lags taken)) (steps_zero 2128) ∙ xor_zero_l (register_of_taken the_lags taken) ∙ stands
 
@@ -395,7 +395,7 @@ farthest_alone (lag ∷ lags) bytes near h =
     ∙ xor_zero_l (register_after_steps 2096 (fed 0 bytes))
 
 pub stands_first : (register a b c d : ℕ) → a < 256 → b < 256 → c < 256 → d < 256 → word a b c d ≡ register
-    → StandsFor (a ∷ b ∷ c ∷ d ∷ replicate 262 0) register
+    → IsRegisterOf (a ∷ b ∷ c ∷ d ∷ replicate 262 0) register
 stands_first register a b c d ha hb hc hd is =
     farthest_alone (123 ∷ 145 ∷ 178 ∷ 195 ∷ []) (a ∷ b ∷ c ∷ d ∷ []) (omega arith, (omega arith, (omega arith, (omega arith, tt)))) refl
     ∙ ap (register_after_steps 2096)
@@ -424,7 +424,7 @@ worth_of_last [] taken within long = refl
 worth_of_last (lag ∷ lags) taken within long =
     ap₂ bit_xor (ap (λ t. register_after_steps (8 * (266 - lag)) (fed 0 t)) (last_of_last lag taken within.0.1 long)) (worth_of_last lags taken within.1 long)
 
-pub stands_last : (register : ℕ) (taken : List ℕ) → 266 ≤ length taken → StandsFor taken register → StandsFor (last_bytes 266 taken) register
+pub stands_last : (register : ℕ) (taken : List ℕ) → 266 ≤ length taken → IsRegisterOf taken register → IsRegisterOf (last_bytes 266 taken) register
 stands_last register taken long stands = worth_of_last the_lags taken the_lags_within long ∙ stands
 
 -- ---- the lists of the loops
@@ -465,8 +465,8 @@ pub out_more : (old taken new : List ℕ) (chunks : List (List ℕ)) (i place : 
     → i < length chunks → length (get_or chunks i d) ≡ 16
     → sum ≡ chunk_sum the_lags (take place taken) (get_or chunks i d)
     → new ≡ put_mid place (1290 - place) taken (put_chunk 0 (mid_of place (1290 - place) taken) sum)
-    → ((r : ℕ) → StandsFor (take 266 old) r → StandsFor (take place taken) (fed r (concat (take i chunks))))
-    → (r : ℕ) → StandsFor (take 266 old) r → StandsFor (take (place + 16) new) (fed r (concat (take (i + 1) chunks)))
+    → ((r : ℕ) → IsRegisterOf (take 266 old) r → IsRegisterOf (take place taken) (fed r (concat (take i chunks))))
+    → (r : ℕ) → IsRegisterOf (take 266 old) r → IsRegisterOf (take (place + 16) new) (fed r (concat (take (i + 1) chunks)))
 out_more old taken new chunks i place d sum far room len inside h sum_is new_is stands r first =
     let front = take place taken in
     let chunk = get_or chunks i d in
@@ -478,8 +478,8 @@ out_more old taken new chunks i place d sum far room len inside h sum_is new_is 
     ∙ ap (register_after_steps 2128) (chunks_next r chunks i d inside)
 
 -- the last 266 bytes are moved to the front
-pub moved : (place register : ℕ) (taken : List ℕ) → 266 ≤ place → place ≤ length taken → StandsFor (take place taken) register
-    → StandsFor (take 266 (paste taken 0 (drop (place - 266) taken) (place - (place - 266)))) register
+pub moved : (place register : ℕ) (taken : List ℕ) → 266 ≤ place → place ≤ length taken → IsRegisterOf (take place taken) register
+    → IsRegisterOf (take 266 (paste taken 0 (drop (place - 266) taken) (place - (place - 266)))) register
 moved place register taken far room stands =
     let n : place - (place - 266) ≡ 266 = omega arith in
     let whole : place ≡ place - 266 + 266 = omega arith in
@@ -508,8 +508,8 @@ pub left_more : (old filled : List ℕ) (chunks : List (List ℕ)) (i place done
     → length (get_or chunks i d) ≡ 16 → filled ≡ replicate (length (mid_of 266 272 old)) 0
     → sum ≡ chunk_sum the_lags (take place (put_mid 266 272 old filled)) (get_or chunks i d)
     → next ≡ fed done sum
-    → ((r : ℕ) → StandsFor (take 266 old) r → StandWith (take 266 old ++ replicate (16 * i) 0) done (fed r (concat (take i chunks))))
-    → (r : ℕ) → StandsFor (take 266 old) r → StandWith (take 266 old ++ replicate (16 * (i + 1)) 0) next (fed r (concat (take (i + 1) chunks)))
+    → ((r : ℕ) → IsRegisterOf (take 266 old) r → StandWith (take 266 old ++ replicate (16 * i) 0) done (fed r (concat (take i chunks))))
+    → (r : ℕ) → IsRegisterOf (take 266 old) r → StandWith (take 266 old ++ replicate (16 * (i + 1)) 0) next (fed r (concat (take (i + 1) chunks)))
 left_more old filled chunks i place done next d sum len place_is inside few h filled_is sum_is next_is stand r first =
     let front = take 266 old in
     let rest = drop 272 (drop 266 old) in
@@ -538,7 +538,7 @@ left_done old chunks i done register is all hr hd stand =
     ∙ stand ∙ ap (register_after_steps 2128) (chunks_all register chunks i all))
 
 -- before the first of them
-pub left_first : (old : List ℕ) (r : ℕ) → StandsFor (take 266 old) r
+pub left_first : (old : List ℕ) (r : ℕ) → IsRegisterOf (take 266 old) r
     → StandWith (take 266 old ++ []) (register_of_lanes (record { first = 0; second = 0; third = 0; fourth = 0 })) (register_after_bits r [])
 left_first old r first =
     ap₂ (λ x t. bit_xor (register_after_steps 2128 x) (register_of_taken the_lags t)) no_lanes (append-nil (take 266 old))
@@ -553,11 +553,11 @@ lanes_fit old next sum h is = rw is (fed_fits old (bits_of sum) h)
 pub record GoesOn (taken : List ℕ) (rest : List (List ℕ)) (whole : ℕ) : Type 0 where
   pub register : ℕ
   pub fits : register < 2 ^ 32
-  pub stands : StandsFor (take 266 taken) register
+  pub stands : IsRegisterOf (take 266 taken) register
   pub rest_is : register_after_bits register (bits_of (concat rest)) ≡ whole
 
 pub goes_more : (taken new : List ℕ) (rest round behind : List (List ℕ)) (k whole : ℕ) → round ≡ take k rest → behind ≡ drop k rest
-    → ((r : ℕ) → StandsFor (take 266 taken) r → StandsFor (take 266 new) (fed r (concat round)))
+    → ((r : ℕ) → IsRegisterOf (take 266 taken) r → IsRegisterOf (take 266 new) (fed r (concat round)))
     → GoesOn taken rest whole → GoesOn new behind whole
 goes_more taken new rest round behind k whole round_is behind_is step g = record {
   register = fed g.register (concat round);

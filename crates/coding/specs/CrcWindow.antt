@@ -27,6 +27,6 @@ register_of_taken (lag ∷ lags) taken =
     bit_xor (register_after_steps (8 * (266 - lag)) added) (register_of_taken lags taken)
 
 -- what is still to be added is worth this register
-abbrev pub StandsFor : List ℕ → ℕ → Type 0
-StandsFor taken register =
+abbrev pub IsRegisterOf : List ℕ → ℕ → Type 0
+IsRegisterOf taken register =
     register_of_taken the_lags taken ≡ register_after_steps 2128 register

@@ -144,7 +144,7 @@ impl Display for FaultName {
 
 impl Error for FaultName {}
 
-/// A named refusal, with the position of the input that it is about, where it is about one.
+/// A named refusal, with the position of the input that it is about, if it is about one.
 #[derive(Clone, Copy, Debug, PartialEq, Eq, thiserror::Error)]
 #[error("{name}")]
 pub struct Fault {

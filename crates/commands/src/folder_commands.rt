@@ -109,8 +109,8 @@ pub fn verify<F: Folder, W: Watch + Sync, R: Threads + Sync>(
 /// What is printed of the value of a user `key` at a sequence, in the version that a folder holds.
 /// It only reads.
 ///
-/// In the form `Line` that is the value's text, or `none` if the key has no value there; in the
-/// form `Raw` the value's bytes, and None if the key has no value.
+/// In the form `Line` that is the value's text, or `none` if the key has no value there. In the
+/// form `Raw` it is the value's bytes, and None if the key has no value.
 ///
 /// The sequence `at` may be any number. If it isn't given, it is the version's last sequence.
 /// Refused as `verify` is, and told to `watch` in the same way.

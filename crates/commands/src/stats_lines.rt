@@ -22,7 +22,7 @@ use texts::Spelling;
 ///
 /// Columns are as wide as their widest cell, with two spaces between. Cells are at their right. A
 /// share is that of the bytes in whole percent, rounded down, and 0 if there are none. After it a
-/// level's line has a bar of its bytes: place i, from 0 to 39, is marked if
+/// level's line has a bar of its bytes. Place i, from 0 to 39, is marked if
 /// `i * most < bytes * 40`, `most` being the most bytes of a level. No line ends with a blank. The
 /// only fault is Memory.
 pub fn stats_text(

@@ -269,7 +269,7 @@ fn gap(column: Column) -> &'static str
     }
 }
 
-/// Appends so many spaces. The only fault is Memory.
+/// Appends `number` spaces. The only fault is Memory.
 fn push_spaces(text: &mut String, number: usize) -> Result<(), Fault>
     ensures ok { OnOk result (string_bytes text.new ≡ string_bytes text.old
         ++ replicate number 32) }

@@ -26,8 +26,8 @@ use std::alloc::Global;
 /// program changed the folder since. It only reads.
 ///
 /// It reads the tables whose range of user keys holds the key, level by level until one of them has
-/// it, and of each the footer, the index block and one or two data blocks. What it reads it tests.
-/// Missing if such a table is missing; no other table is looked at.
+/// it. Of each it reads the footer, the index block and one or two data blocks. What it reads it
+/// tests. Missing if such a table is missing; no other table is looked at.
 pub fn unverified_value<F: Folder>(
     alloc: Global,
     folder: &mut F,

@@ -69,9 +69,8 @@ fn lone_text(alloc: Global, spelling: Spelling, value: &[u8]) -> Result<String, 
     }
 }
 
-/// The law that in either spelling the line of a value, but for its newline, is printable ASCII and
-/// is read as this value, and that it is never the line of a key without a value. A call does
-/// nothing.
+/// The law of the line of a value, in either spelling. But for its newline it is printable ASCII
+/// and is read as this value. It is never the line of a key without a value. A call does nothing.
 pub fn value_lines_law()
     ensures values { ReadBack value_line_text }
     ensures characters { ArePrintable first_in_value value_line_text }

@@ -1,4 +1,4 @@
--- The answers for the pieces of a plan, one by one.
+-- The answers for the pieces of a plan, and for its outputs, one by one.
 use Rattle.std.proofs.Common.{◌≡◌, ℕ, List, [], ◌∷◌, map, length, Some, Result, Ok, refl, ap, ◌∙◌}
 use Rattle.std.specs.Prelude.{slice_get}
 use Rattle.std.specs.Option.{option_map}
@@ -7,17 +7,18 @@ use Rattle.std.proofs.lemmas.Option.{slice_get-map}
 use Rattle.coding.specs.declared.fault.Fault.{Fault}
 use Rattle.coding.specs.Answers.{◌>>=◌}
 use Rattle.board.specs.Collected.{collected_results}
-use Rattle.cut.specs.Plan.{encoded_pieces, pieces, jobs}
+use Rattle.block.specs.EncodedEntry.{Entry}
+use Rattle.cut.specs.Plan.{OutputView, encoded_pieces, pieces, plan_tables, jobs}
 use Rattle.cut.specs.OutputPlan.{PlanSeen, lists_in}
-use Rattle.compact.specs.JobAnswers.{piece_answers}
+use Rattle.compact.specs.JobAnswers.{piece_answers, output_answers}
 
-abbrev good : List ℕ → Result (List ℕ) Fault
-good bytes = Ok bytes
+abbrev good : {X : Type 0} → X → Result X Fault
+good value = Ok value
 
 -- answers without a refusal are collected as they are
-pub all_good : (values : List (List ℕ)) → collected_results (map good values) ≡ Ok values
+pub all_good : {X : Type 0} (values : List X) → collected_results (map good values) ≡ Ok values
 all_good [] = refl
-all_good (v ∷ vs) = ap (λ (rest : Result (List (List ℕ)) Fault). good v >>= λ value. rest >>= λ values. Ok (value ∷ values)) (all_good vs)
+all_good {X} (v ∷ vs) = ap (λ (rest : Result (List X) Fault). good v >>= λ value. rest >>= λ values. Ok (value ∷ values)) (all_good vs)
 
 pub pieces_collected : (p : PlanSeen) → collected_results (piece_answers p) ≡ Ok (encoded_pieces p.options (lists_in p.outputs))
 pieces_collected p = all_good (encoded_pieces p.options (lists_in p.outputs))
@@ -29,3 +30,15 @@ pieces_length p =
 pub piece_answer_at : (p : PlanSeen) (job : ℕ) (bytes : List ℕ) → slice_get (encoded_pieces p.options (lists_in p.outputs)) job ≡ Some bytes
     → slice_get (piece_answers p) job ≡ Some (Ok bytes)
 piece_answer_at p job bytes is = slice_get-map good (encoded_pieces p.options (lists_in p.outputs)) job ∙ ap (option_map good) is
+
+-- ---- the answers for the outputs of a plan
+
+pub tables_collected : (table_of : List Entry → List ℕ) (outputs : List OutputView) → collected_results (output_answers table_of outputs) ≡ Ok (plan_tables table_of outputs)
+tables_collected table_of outputs = all_good (plan_tables table_of outputs)
+
+pub tables_length : (table_of : List Entry → List ℕ) (outputs : List OutputView) → length (output_answers table_of outputs) ≡ length outputs
+tables_length table_of outputs = length-map (plan_tables table_of outputs) good ∙ length-map outputs _
+
+pub table_answer_at : (table_of : List Entry → List ℕ) (outputs : List OutputView) (job : ℕ) (t : ℕ × List ℕ) → slice_get (plan_tables table_of outputs) job ≡ Some t
+    → slice_get (output_answers table_of outputs) job ≡ Some (Ok t)
+table_answer_at table_of outputs job t is = slice_get-map good (plan_tables table_of outputs) job ∙ ap (option_map good) is

@@ -6,7 +6,7 @@ use Rattle.block.specs.EncodedEntry.{Entry}
 use Rattle.pick.specs.declared.picked.InputFile.{InputFile}
 use Rattle.keep.specs.Marks.{CompactionContext}
 use Rattle.keep.specs.Runs.{Run, range_run, ranges_of}
-use Rattle.cut.specs.Plan.{encoded_pieces}
+use Rattle.cut.specs.Plan.{OutputView, encoded_pieces, plan_tables}
 use Rattle.cut.specs.OutputPlan.{PlanSeen, lists_in}
 use Rattle.request.specs.Inputs.{result_at_input, input_reading}
 
@@ -25,6 +25,12 @@ range_answers cmp b boundaries inputs = map (range_run cmp b inputs) (ranges_of 
 -- the answer for each piece, its bytes
 abbrev pub piece_answers : PlanSeen → List (Result (List ℕ) Fault)
 piece_answers p = map (λ (bytes : List ℕ). Ok bytes) (encoded_pieces p.options (lists_in p.outputs))
+
+-- the answer for each output of a plan, its number and its table
+abbrev pub output_answers : (List Entry → List ℕ) → List OutputView →
+    List (Result (ℕ × List ℕ) Fault)
+output_answers table_of outputs =
+    map (λ (table : ℕ × List ℕ). Ok table) (plan_tables table_of outputs)
 
 -- What the second run merges: what the drop rule and the marks need to know, the boundaries, and
 -- the entries of each input.

@@ -28,16 +28,22 @@ use std::thread::Threads;
 use survival::reads_survive;
 use table::SoundTable;
 
-/// Compacts by 1 to 64 workers, and answers the tables and the edit: just what one thread answers,
-/// whatever the ranges of the split, the number of workers and the order of their jobs.
+/// Compacts by 1 to 64 workers, and answers the tables and the edit. They are what one thread
+/// answers, whatever the ranges of the split, the number of workers and the order of their jobs.
 ///
-/// It checks the tables of the inputs itself, and then calls [`compact_tables`]. The program calls
-/// that function, since it has checked all tables of its folder before.
+/// It checks the tables of the inputs itself, and then calls [`compact_tables`]. The program has
+/// checked all tables of its folder before. `compact DIR` calls [`merge_request`],
+/// [`Merged::planned`] and [`crate::Planned::tables`], and `compact --out` calls
+/// [`compact_tables`].
 ///
-/// Reads survive (`LeavesReads`). Premises (`IsOver`): the inputs were picked from a lawful version
-/// with files at levels up to 6; the request has the bytes of their tables, log numbers below 2^64,
-/// and a first number at or above the version's next file. Then the edit applies, the version after
-/// it is lawful with the outputs, and each get at a readable sequence answers as before.
+/// Reads survive (`LeavesReads`). Premises (`IsOver`):
+///
+/// - the inputs were picked from a lawful version with files at levels up to 6;
+/// - the request has the bytes of their tables, log numbers below 2^64, and a first number at or
+///   above the version's next file.
+///
+/// Then the edit applies, the version after it is lawful with the outputs, and each get at a
+/// readable sequence answers as before.
 ///
 /// The first that applies:
 ///
@@ -72,7 +78,7 @@ pub fn compact<'a, C: SharedComparator + 'static, G: Gate + Sync, R: Threads + S
 /// Compacts tables that are checked already, those of the request's inputs in their order: just
 /// what [`compact`] answers. It checks no table again.
 ///
-/// The program's call, and the last step of [`compact`].
+/// The call of `compact --out`, and the last step of [`compact`].
 ///
 /// The first that applies:
 ///

@@ -2,7 +2,8 @@
 //!
 //! 1. [`check_inputs`] checks the inputs, a table a job.
 //! 2. [`merge_ranges`] merges them, a range of user keys a job. Then one thread plans the outputs.
-//! 3. The pieces of the plan are encoded, a piece a job, and joined to tables.
+//! 3. The tables of the plan are encoded, a table a job, or a piece a job if an output has several,
+//!    and joined.
 //!
 //! [`compact`] does all of it; [`compact_tables`] the last two runs, over tables that are checked
 //! already. [`merge_request`] is the second run alone; [`Planned`] then encodes the tables group by
@@ -18,6 +19,7 @@ mod merged_request;
 mod output_writer;
 mod piece_encoder;
 mod ranges;
+mod table_encoder;
 mod workers;
 
 pub use compaction::{compact, compact_tables, merge_request};

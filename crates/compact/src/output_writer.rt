@@ -11,6 +11,7 @@ ghost use Rattle.compact.specs.Written.{answer_of};
 
 use crate::edit_bytes::edit_bytes;
 use crate::piece_encoder::encode_pieces;
+use crate::table_encoder::encode_outputs;
 use board::Gate;
 use coding::Fault;
 use cut::Plan;
@@ -21,7 +22,7 @@ use std::alloc::Global;
 use std::thread::Threads;
 
 /// Encodes the pieces of a plan by 1 to 64 workers, and joins them to the tables of the outputs,
-/// each with its number.
+/// each with its number. If each output is one piece, its worker makes the whole table.
 ///
 /// The only fault is `Memory`.
 pub(crate) fn encode_tables<'p, C: SharedComparator + 'static, G: Gate + Sync, R: Threads + Sync>(
@@ -36,6 +37,9 @@ pub(crate) fn encode_tables<'p, C: SharedComparator + 'static, G: Gate + Sync, R
     ensures { EqualOrMemory (λ tables. map (λ t. (t.0, t.1.items)) tables.items) result
         (Ok (plan_tables (table C.cmp C.short_keys plan.now.options) plan.now.outputs)) }
 {
+    if plan.jobs() == plan.len() as u64 {
+        return encode_outputs(rt, alloc, plan, workers, gate);
+    }
     let pieces = encode_pieces(rt, alloc, plan, workers, gate)?;
     plan.assemble(alloc, pieces)
 }

@@ -1,6 +1,6 @@
 //! The tests of a compaction, from who draws which job and what a worker keeps to the whole and to
-//! a folder: `board`, `split`, `merge`, `keep`, `encoding`, `cut`, `request`, `compact`, `checks`,
-//! `scan`, `faults`, `store` and `adoption`.
+//! a folder. They are of `board`, `split`, `merge`, `keep`, `encoding`, `cut`, `request`,
+//! `compact`, `checks`, `scan`, `faults`, `store` and `adoption`.
 #![tactic(auto)]
 
 #[cfg(test)]

@@ -165,8 +165,11 @@ fn is_refused(alloc: Global, row: &Row) -> Result<bool, Fault> {
     Ok(refused == row.refused.map(Fault::of))
 }
 
-/// Whether an edit has the counters of the request with next file 9, the compact pointer of level 1
-/// at `u` at 2, deletes file 7 of level 1, and adds no file.
+/// Whether an edit
+///
+/// - has the counters of the request with next file 9;
+/// - has the compact pointer of level 1 at `u` at 2;
+/// - deletes file 7 of level 1, and adds no file.
 fn is_edit(edit: &VersionEdit) -> bool {
     let numbers = [
         edit.log_number,

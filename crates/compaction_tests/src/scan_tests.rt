@@ -53,8 +53,8 @@ const ALL: RowChoice<'static> = RowChoice {
     limit: None,
 };
 
-/// A version, the files of a folder, which rows are chosen, after how many the taker says to stop,
-/// the rows that are told, and the answer: a refusal if there is one.
+/// A version, the files of a folder, which rows are chosen, and after how many the taker says to
+/// stop. Then the rows that are told, and the answer: a refusal if there is one.
 #[derive(Clone, Copy)]
 struct Row {
     name: &'static str,

@@ -57,7 +57,7 @@ const EMPTY_AND_X: &[u8] = b"\
     \x80\x8b\x24uG\xdb";
 
 /// A version, the files of a folder, and what is told: a line for each level with a file, and one
-/// for all, with the numbers of files, bytes, entries, deletions and hidden entries, and with the
+/// for all. Told are the numbers of files, bytes, entries, deletions and hidden entries, and the
 /// smallest and the largest user key of a level.
 struct Row {
     name: &'static str,

@@ -13,7 +13,8 @@ use Rattle.table.specs.declared.table_check.TheConstants.{MAX_TABLE_LEN}
 use Rattle.table.specs.Table.{table}
 use Rattle.encoding.specs.declared.planned_block.PlannedBlock.{PlannedBlock}
 use Rattle.cut.specs.declared.planned_output.PlannedOutput.{PlannedOutput}
-use Rattle.cut.specs.Opened.{parts_of, entries_in_blocks}
+use Rattle.encoding.specs.Planned.{parts_of}
+use Rattle.cut.specs.Opened.{entries_in_blocks}
 use Rattle.cut.specs.Plan.{block_ends_from, stored_len}
 use Rattle.cut.specs.PlanInvariant.{IsPlannedOutput}
 use Rattle.cut.proofs.Metered.{length-piece}

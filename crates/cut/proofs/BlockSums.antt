@@ -10,7 +10,8 @@ use Rattle.block.specs.BuilderView.{last_key}
 use Rattle.table.specs.ReadingEntries.{first_key}
 use Rattle.encoding.specs.declared.planned_block.PlannedBlock.{PlannedBlock}
 use Rattle.cut.specs.Metered.{last_entry_key}
-use Rattle.cut.specs.Opened.{parts_of, entries_in_blocks}
+use Rattle.encoding.specs.Planned.{parts_of}
+use Rattle.cut.specs.Opened.{entries_in_blocks}
 use Rattle.cut.specs.Plan.{block_ends_from}
 use Rattle.cut.specs.PlanInvariant.{HaveEntries}
 use Rattle.cut.proofs.Metered.{ended_is}

@@ -11,7 +11,8 @@ use Rattle.table.specs.declared.options.Options.{Options}
 use Rattle.table.specs.DataBlocks.{is_full, open_block, blocks_behind, data_blocks}
 use Rattle.encoding.specs.declared.planned_block.PlannedBlock.{PlannedBlock}
 use Rattle.cut.specs.OutputCuts.{OutputsInProgress, outputs_left}
-use Rattle.cut.specs.Opened.{parts_of, entries_in_blocks, HasLen, ArePlanned, ends_by}
+use Rattle.encoding.specs.Planned.{parts_of}
+use Rattle.cut.specs.Opened.{entries_in_blocks, HasLen, ArePlanned, ends_by}
 use Rattle.cut.specs.Outputs.{all_of, ends_before, outputs_behind, outputs_in, segments}
 
 module _ (o : Options) where

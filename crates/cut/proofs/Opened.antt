@@ -23,7 +23,8 @@ use Rattle.cut.specs.Metered.{BlockInProgress, block_after_entries, last_entry_k
 use Rattle.cut.specs.Outputs.{all_of, ends_before, outputs_behind}
 use Rattle.cut.specs.Plan.{stored_len}
 use Rattle.cut.specs.Sizes.{saturated_length}
-use Rattle.cut.specs.Opened.{parts_of, entries_in_blocks, HasLen, IsFlushed, ends_by, IsOpen}
+use Rattle.encoding.specs.Planned.{parts_of}
+use Rattle.cut.specs.Opened.{entries_in_blocks, HasLen, IsFlushed, ends_by, IsOpen}
 use Rattle.cut.proofs.MeteredLengths.{lengths_law}
 
 -- ---- the last key

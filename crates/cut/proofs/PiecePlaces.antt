@@ -12,7 +12,8 @@ use Rattle.encoding.specs.declared.planned_block.PlannedBlock.{PlannedBlock}
 use Rattle.cut.specs.declared.piece.Piece.{Piece}
 use Rattle.cut.specs.declared.planned_output.PlannedOutput.{PlannedOutput}
 use Rattle.cut.specs.Divided.{blocks_at, piece_blocks, piece_places_from, places_all, piece_limit}
-use Rattle.cut.specs.Opened.{parts_of, entries_in_blocks, HasLen, ArePlanned}
+use Rattle.encoding.specs.Planned.{parts_of}
+use Rattle.cut.specs.Opened.{entries_in_blocks, HasLen, ArePlanned}
 use Rattle.cut.specs.Plan.{open_piece, pieces_behind, pieces_in, stored_len}
 use Rattle.cut.specs.TableLength.{lens_of}
 use Rattle.cut.proofs.Opened.{parts_push}

@@ -18,7 +18,8 @@ use Rattle.encoding.specs.declared.planned_block.PlannedBlock.{PlannedBlock}
 use Rattle.cut.specs.declared.piece.Piece.{Piece}
 use Rattle.cut.specs.declared.planned_output.PlannedOutput.{PlannedOutput}
 use Rattle.cut.specs.Divided.{blocks_at, piece_blocks, piece_places_from, places_all, piece_limit}
-use Rattle.cut.specs.Opened.{parts_of, entries_in_blocks, HasLen}
+use Rattle.encoding.specs.Planned.{parts_of}
+use Rattle.cut.specs.Opened.{entries_in_blocks, HasLen}
 use Rattle.cut.specs.Plan.{OutputView, parts, pieces, pieces_in}
 use Rattle.cut.specs.OutputPlan.{lists_in}
 use Rattle.cut.specs.PlanInvariant.{planned_of, block_count, IsPlannedOutput, IsPlan}
@@ -194,7 +195,7 @@ blocks_here [] i p lt is = absurd (omega arith)
 blocks_here (x ∷ xs) zero p lt is = ap (λ (y : PlannedOutput). y.blocks.items) is
 blocks_here (x ∷ xs) (suc i) p lt is = blocks_here xs i p (omega arith) is
 
-output_here : (outputs : List PlannedOutput) (i : ℕ) (p : PlannedOutput) → i < length outputs → get_or outputs i p ≡ p → slice_get (map planned_of outputs) i ≡ Some (planned_of p)
+pub output_here : (outputs : List PlannedOutput) (i : ℕ) (p : PlannedOutput) → i < length outputs → get_or outputs i p ≡ p → slice_get (map planned_of outputs) i ≡ Some (planned_of p)
 output_here [] i p lt is = absurd (omega arith)
 output_here (x ∷ xs) zero p lt is = ap (λ (y : PlannedOutput). Some (planned_of y)) is
 output_here (x ∷ xs) (suc i) p lt is = output_here xs i p (omega arith) is

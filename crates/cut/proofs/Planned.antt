@@ -16,7 +16,8 @@ use Rattle.table.specs.Table.{index_keys, table}
 use Rattle.table.proofs.Cuts.{are_data_blocks}
 use Rattle.encoding.specs.declared.planned_block.PlannedBlock.{PlannedBlock}
 use Rattle.cut.specs.declared.planned_output.PlannedOutput.{PlannedOutput}
-use Rattle.cut.specs.Opened.{parts_of, entries_in_blocks, ArePlanned}
+use Rattle.encoding.specs.Planned.{parts_of}
+use Rattle.cut.specs.Opened.{entries_in_blocks, ArePlanned}
 use Rattle.cut.specs.Plan.{OutputView, block_ends_from, planned_from, parts, plan_of}
 use Rattle.cut.specs.PlanInvariant.{planned_of, HaveEntries, numbered_from, block_count, IsPlannedOutput}
 use Rattle.cut.specs.Sizes.{saturated_length}

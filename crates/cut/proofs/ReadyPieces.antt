@@ -1,5 +1,5 @@
 -- The pieces of a plan make its tables.
-use Rattle.std.proofs.Common.{◌≡◌, ◌≢◌, ℕ, zero, suc, ◌+◌, ◌<◌, ◌≤◌, List, [], ◌∷◌, ◌++◌, length, map, take, drop, get_or, refl, sym, ap, subst, ◌∙◌, append-nil, arith}
+use Rattle.std.proofs.Common.{◌≡◌, ◌≢◌, ℕ, zero, suc, ◌+◌, ◌^◌, ◌<◌, ◌≤◌, List, [], ◌∷◌, ◌++◌, length, map, take, drop, get_or, refl, sym, ap, subst, ◌∙◌, append-nil, arith}
 use Rattle.std.specs.Prelude.{flat_map}
 use Rattle.std.specs.List.{AllByRecursion}
 use Rattle.std.specs.declared.cmp.Ordering.{Ordering}
@@ -8,19 +8,21 @@ use Rattle.block.specs.EncodedEntry.{Entry}
 use Rattle.table.specs.declared.options.Options.{Options}
 use Rattle.table.specs.Table.{IndexKeys, index_keys, stored_blocks, table, table_of_blocks}
 use Rattle.encoding.specs.declared.planned_block.PlannedBlock.{PlannedBlock}
-use Rattle.encoding.specs.Planned.{IsPlanned}
+use Rattle.encoding.specs.Planned.{IsPlanned, parts_of}
 use Rattle.cut.specs.declared.piece.Piece.{Piece}
 use Rattle.cut.specs.declared.planned_output.PlannedOutput.{PlannedOutput}
 use Rattle.cut.specs.PlanTables.{IsReady, AreReady, tables_of}
 use Rattle.cut.specs.Divided.{piece_places_from, counts_all, piece_limit}
-use Rattle.cut.specs.Opened.{parts_of, entries_in_blocks, HasLen, ArePlanned}
-use Rattle.cut.specs.Plan.{plan_tables, encoded_pieces, pieces_in}
+use Rattle.cut.specs.Opened.{entries_in_blocks, HasLen, ArePlanned}
+use Rattle.cut.specs.Plan.{OutputView, plan_tables, encoded_pieces, pieces_in}
 use Rattle.cut.specs.OutputPlan.{lists_in}
 use Rattle.cut.specs.PlanInvariant.{planned_of, block_count, IsPlannedOutput, IsPlan}
-use Rattle.std.specs.Prelude.{slice_range}
+use Rattle.std.specs.Prelude.{slice_get, slice_range, Some}
+use Rattle.std.specs.Option.{option_map}
+use Rattle.std.proofs.lemmas.Option.{slice_get-map}
 use Rattle.cut.proofs.JoinedPieces.{pieces_join}
 use Rattle.cut.proofs.PiecePlaces.{divided_behind, places_are, one_are}
-use Rattle.cut.proofs.PlanPieces.{short_one, lists_seen, count_seen}
+use Rattle.cut.proofs.PlanPieces.{short_one, lists_seen, count_seen, output_here}
 use Rattle.ikey.specs.Comparator.{ShortKeys}
 
 -- ---- pieces are taken off
@@ -159,3 +161,20 @@ module _ (cmp : List ℕ → List ℕ → Ordering) (short_keys : ShortKeys) (o 
   tables_are (p ∷ ps) h =
       ap (λ (bs : List ℕ). (p.number, bs) ∷ tables_of keys o.restart_interval ps) (sym (table_is cmp short_keys o p.blocks.items h.0.planned))
       ∙ ap (λ (ts : List (ℕ × List ℕ)). (p.number, T (entries_in_blocks p.blocks.items)) ∷ ts) (tables_are ps h.1)
+
+  -- ---- one output, encoded whole
+
+  pub one_planned : (p : PlannedOutput) → IsPlannedOutput T o p → AllByRecursion (IsPlanned o.restart_interval) p.blocks.items
+  one_planned p h = each_planned o p.blocks.items h.planned.lens h.some.some
+
+  pub one_fits : (p : PlannedOutput) → IsPlannedOutput T o p → length (table_of_blocks keys o.restart_interval (parts_of p.blocks.items)) ≤ 2 ^ 30
+  one_fits p h = omega (arith, h.len_is, h.len_le, ap length (table_is cmp short_keys o p.blocks.items h.planned))
+
+  -- its number and its table
+  pub table_here : (outputs : List PlannedOutput) (i : ℕ) (p : PlannedOutput) → i < length outputs → get_or outputs i p ≡ p → IsPlannedOutput T o p
+      → slice_get (plan_tables T (map planned_of outputs)) i ≡ Some (p.number, table_of_blocks keys o.restart_interval (parts_of p.blocks.items))
+  table_here outputs i p lt is h =
+      let seen : OutputView → ℕ × List ℕ = λ v. (v.number, T v.entries) in
+      slice_get-map seen (map planned_of outputs) i
+      ∙ ap (option_map seen) (output_here outputs i p lt is)
+      ∙ ap (λ (bs : List ℕ). Some (p.number, bs)) (table_is cmp short_keys o p.blocks.items h.planned)

@@ -24,7 +24,8 @@ use Rattle.table.specs.Table.{IndexKeys, index_key, index_keys, index_from, hand
 use Rattle.encoding.specs.declared.planned_block.PlannedBlock.{PlannedBlock}
 use Rattle.cut.specs.Lengths.{added_len}
 use Rattle.cut.specs.Metered.{last_entry_key}
-use Rattle.cut.specs.Opened.{parts_of, entries_in_blocks, HasLen, ArePlanned}
+use Rattle.encoding.specs.Planned.{parts_of}
+use Rattle.cut.specs.Opened.{entries_in_blocks, HasLen, ArePlanned}
 use Rattle.cut.specs.Plan.{stored_len}
 use Rattle.cut.specs.Sizes.{saturated_length, encoded_entry_size}
 use Rattle.cut.specs.TableLength.{capped_length, lens_of, planned_index_key, planned_index_entries, index_sizes, table_size}

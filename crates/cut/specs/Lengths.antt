@@ -4,6 +4,7 @@ use Rattle.std.specs.Prelude.{length}
 use Rattle.block.specs.EncodedEntry.{Entry, encoded_entry_bytes}
 use Rattle.block.specs.BlockFormat.{block, encoded_entry_of}
 use Rattle.block.specs.BuilderView.{last_key}
+use Rattle.frame.specs.declared.trailer.TheConstants.{TRAILER_LEN}
 use Rattle.table.specs.Table.{closing_bytes, stored_blocks}
 
 -- the bytes of the restart of the entry at a place, if it has one; the first entry's is counted in
@@ -27,6 +28,6 @@ pub record LengthsLaw : Type 0 where
       ≡ length (block interval q) + added_len interval q e
   pub stored : (interval : ℕ) (parts : List (List Entry)) (p : List Entry) →
       length (stored_blocks interval (parts ++ p ∷ []))
-      ≡ length (stored_blocks interval parts) + (length (block interval p) + 5)
+      ≡ length (stored_blocks interval parts) + (length (block interval p) + TRAILER_LEN)
   pub closed : (at : ℕ) (index : List Entry) → length (closing_bytes at index)
       ≡ length (block 1 index) + 66

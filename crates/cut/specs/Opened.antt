@@ -1,5 +1,5 @@
 -- An open output of a plan.
-use Rattle.std.specs.Prelude.{◌≡◌, ℕ, Bool, false, true, List, [], ◌∷◌, ◌++◌, length, map, Option}
+use Rattle.std.specs.Prelude.{◌≡◌, ℕ, Bool, false, true, List, [], ◌∷◌, ◌++◌, length, Option}
 use Rattle.std.specs.List.{AllByRecursion}
 use Rattle.block.specs.EncodedEntry.{Entry}
 use Rattle.block.specs.BlockFormat.{block}
@@ -7,6 +7,7 @@ use Rattle.table.specs.declared.options.Options.{Options}
 use Rattle.table.specs.Options.{AreInLimits}
 use Rattle.table.specs.DataBlocks.{is_full, blocks_behind, data_blocks}
 use Rattle.encoding.specs.declared.planned_block.PlannedBlock.{PlannedBlock}
+use Rattle.encoding.specs.Planned.{parts_of}
 use Rattle.cut.specs.Metered.{BlockInProgress, last_entry_key}
 use Rattle.cut.specs.Outputs.{all_of, ends_before}
 use Rattle.cut.specs.Plan.{stored_len}
@@ -17,10 +18,6 @@ pub record OutputInProgress : Type 0 where
   pub options : Options
   pub entries : List Entry
   pub behind : List Entry
-
--- the entries of each planned data block
-abbrev pub parts_of : List PlannedBlock → List (List Entry)
-parts_of blocks = map (λ (b : PlannedBlock). b.entries.entries) blocks
 
 -- the entries of planned data blocks, one block after the other
 abbrev pub entries_in_blocks : List PlannedBlock → List Entry

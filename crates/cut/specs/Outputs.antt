@@ -60,7 +60,7 @@ pub record MayEnd (o : Options) (q rest : List Entry) : Type 0 where
   pub reached : o.file_size ≤ flushed o q
   pub whole : AllByRecursion (λ e. user_of e.key ≢ user_of (last_key [] q)) rest
 
--- q is an output, with the rest of its segment after it: it has an entry, and it is the shortest
+-- q is an output, with the rest of its segment after it. It has an entry, and it is the shortest
 -- beginning that may end, or all of the segment.
 pub record IsOutput (o : Options) (q rest : List Entry) : Type 0 where
   pub some : q ≢ []

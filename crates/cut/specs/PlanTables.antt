@@ -2,9 +2,8 @@
 use Rattle.std.specs.Prelude.{◌≡◌, ℕ, ◌≤◌, List, [], ◌∷◌, length, map, take, drop, flat_map}
 use Rattle.std.specs.List.{AllByRecursion}
 use Rattle.table.specs.Table.{IndexKeys, stored_blocks, table_of_blocks}
-use Rattle.encoding.specs.Planned.{IsPlanned}
+use Rattle.encoding.specs.Planned.{IsPlanned, parts_of}
 use Rattle.cut.specs.declared.planned_output.PlannedOutput.{PlannedOutput}
-use Rattle.cut.specs.Opened.{parts_of}
 use Rattle.table.specs.declared.table_check.TheConstants.{MAX_TABLE_LEN}
 
 -- an output whose table can be joined of these pieces

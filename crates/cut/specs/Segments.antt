@@ -57,9 +57,9 @@ pub record AreSegments (cmp : KeyOrder) (grandparents : List FileMeta) (file_siz
   pub all : all_of segments ≡ union
   pub each : EachReachesNext cmp grandparents file_size segments
 
--- A union has segments, and only these. What is kept of the union is what is kept of each of them,
--- and the outputs are those of what is kept of each: of entries in order, the shortest beginnings
--- that may end.
+-- A union has segments, and only these. What is kept of the union is what is kept of each of them.
+-- The outputs are those of what is kept of each: of entries in order, the shortest beginnings that
+-- may end.
 pub record SegmentsLaw (cmp : KeyOrder) : Type 0 where
   pub found : (grandparents : List FileMeta) (file_size : ℕ) (union : List Entry) →
       (segments : List (List Entry)) × AreSegments cmp grandparents file_size union segments

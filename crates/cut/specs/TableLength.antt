@@ -3,9 +3,10 @@ use Rattle.std.specs.Prelude.{ℕ, ◌+◌, nat_lt, if◌then◌else◌, List, [
 use Rattle.std.specs.List.{sum_by}
 use Rattle.block.specs.EncodedEntry.{Entry}
 use Rattle.block.specs.BlockFormat.{block}
+use Rattle.frame.specs.declared.trailer.TheConstants.{TRAILER_LEN}
 use Rattle.table.specs.Table.{IndexKeys, index_key, handle_entry}
 use Rattle.encoding.specs.declared.planned_block.PlannedBlock.{PlannedBlock}
-use Rattle.cut.specs.Opened.{parts_of}
+use Rattle.encoding.specs.Planned.{parts_of}
 use Rattle.cut.specs.Sizes.{encoded_entry_size}
 use Rattle.table.specs.declared.table_check.TheConstants.{MAX_TABLE_LEN}
 
@@ -15,7 +16,7 @@ capped_length n = min n (MAX_TABLE_LEN + 1)
 
 -- the length of planned data blocks, each with its trailer
 abbrev pub lens_of : List PlannedBlock → ℕ
-lens_of blocks = sum_by (λ (b : PlannedBlock). b.len + 5) blocks
+lens_of blocks = sum_by (λ (b : PlannedBlock). b.len + TRAILER_LEN) blocks
 
 -- the index key of the first of these data blocks
 abbrev pub planned_index_key : IndexKeys → List PlannedBlock → List ℕ
@@ -26,7 +27,7 @@ planned_index_key keys (b ∷ bs) = index_key keys b.entries.entries (parts_of b
 abbrev pub planned_index_entries : IndexKeys → ℕ → List PlannedBlock → List Entry
 planned_index_entries keys at [] = []
 planned_index_entries keys at (b ∷ bs) = handle_entry (planned_index_key keys (b ∷ bs)) at b.len ∷
-    planned_index_entries keys (at + b.len + 5) bs
+    planned_index_entries keys (at + b.len + TRAILER_LEN) bs
 
 -- the length of the table of planned data blocks, or one more than MAX_TABLE_LEN if it is longer
 abbrev pub table_size : IndexKeys → List PlannedBlock → ℕ

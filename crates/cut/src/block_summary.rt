@@ -5,7 +5,8 @@ ghost use Rattle.std.specs.Option.{option_map};
 ghost use Rattle.table.specs.declared.table_check.TheConstants.{MAX_TABLE_LEN};
 ghost use Rattle.cut.specs.Metered.{last_entry_key};
 ghost use Rattle.cut.specs.OutputMeta.{IsMetaOf};
-ghost use Rattle.cut.specs.Opened.{entries_in_blocks, parts_of};
+ghost use Rattle.encoding.specs.Planned.{parts_of};
+ghost use Rattle.cut.specs.Opened.{entries_in_blocks};
 ghost use Rattle.cut.specs.Plan.{block_ends_from};
 ghost use Rattle.cut.specs.PlanInvariant.{HaveEntries, planned_of};
 

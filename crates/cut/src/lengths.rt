@@ -4,6 +4,9 @@ ghost use Rattle.std.specs.Prelude.{◌≡◌, ◌≤◌, length};
 ghost use Rattle.coding.specs.Varint.{varint};
 ghost use Rattle.cut.specs.Sizes.{saturated_length, encoded_entry_size};
 
+/// The length of a restart, and of the count of restarts.
+pub(crate) const RESTART_LEN: u64 = 4;
+
 /// The length of a number as a varint: 1 to 10 bytes.
 pub(crate) fn varint_len(number: u64) -> u64
     ensures value { result ≡ length (varint number) }

@@ -7,7 +7,8 @@
 //!    entries of its data blocks, and [`Plan::block_end`] where they end.
 //! 3. [`Plan::jobs`] says how many pieces are to be encoded, and [`Plan::encode`] encodes one. Any
 //!    thread may encode any piece.
-//! 4. [`Plan::assemble`] joins the pieces, in the order of their jobs, to tables.
+//! 4. [`Plan::assemble`] joins the pieces, in the order of their jobs, to tables. [`Plan::table`]
+//!    makes one whole table.
 //!
 //! [`Plan::groups`] deals the outputs out to plans of a few, so that not all tables are in memory
 //! at once.

@@ -7,10 +7,11 @@ ghost use Rattle.block.specs.BlockFormat.{block};
 ghost use Rattle.table.specs.DataBlocks.{is_full};
 ghost use Rattle.table.specs.Options.{AreInLimits};
 ghost use Rattle.cut.specs.Sizes.{saturated_length};
-ghost use Rattle.cut.specs.Metered.{block_after_entries, last_entry_key, next_since, added_size};
+ghost use Rattle.cut.specs.Metered.{block_after_entries, last_entry_key, added_size};
 ghost use Rattle.block.specs.declared.builder.TheConstants.{MAX_RESTART_INTERVAL};
 
-use crate::lengths::encoded_entry_len;
+use crate::lengths::{RESTART_LEN, encoded_entry_len};
+use block::next_since;
 use encoding::{EntryCursor, EntrySpan, EntryWalk, PlannedBlock};
 use ikey::InternalKey;
 use std::marker::Model;
@@ -19,9 +20,6 @@ use table::Options;
 
 /// The length of a block without entries: one restart, and the count.
 const EMPTY_LEN: u64 = 8;
-
-/// The length of a restart.
-const RESTART_LEN: u64 = 4;
 
 /// An open data block: its restart interval, its entries, and the entries still to come.
 #[derive(Drop)]
@@ -69,14 +67,6 @@ fn added_len(since: u64, walk: &EntryWalk<'_, '_>) -> u64
         0
     };
     entry.saturating_add(restart)
-}
-
-/// The number of entries after the last whole interval, with one entry more.
-fn next_since(since: u64, interval: u64) -> u64
-    requires { since < interval }
-    ensures { result ≡ next_since interval since }
-{
-    if since + 1 == interval { 0 } else { since + 1 }
 }
 
 impl<'r, 'a> OpenBlock<'r, 'a> {

@@ -15,7 +15,8 @@ ghost use Rattle.coding.specs.declared.fault.FaultName.TheVariants.{Memory};
 ghost use Rattle.block.specs.EncodedEntry.{Entry};
 ghost use Rattle.table.specs.Options.{AreInLimits};
 ghost use Rattle.table.specs.DataBlocks.{data_blocks};
-ghost use Rattle.cut.specs.Opened.{parts_of, HasLen, ends_by};
+ghost use Rattle.encoding.specs.Planned.{parts_of};
+ghost use Rattle.cut.specs.Opened.{HasLen, ends_by};
 ghost use Rattle.cut.specs.Outputs.{outputs_behind};
 
 use crate::open_block::OpenBlock;

@@ -10,8 +10,9 @@ use ikey::Comparator;
 
 /// The law of the stops at marks. A call does nothing.
 ///
-/// - Marks have the stops that `stops` finds, and no others: each is at the first mark at which
-///   more than 10 times the maximal file size is passed since the stop before.
+/// - Marks have the stops that `stops` finds, and no others.
+/// - Each stop is at the first mark at which more than 10 times the maximal file size is passed
+///   since the stop before.
 /// - A mark that repeats the number of the mark before is never a stop.
 /// - Sizes of grandparents add up, so a running sum finds the stops.
 pub fn stops_law()

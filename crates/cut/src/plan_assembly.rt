@@ -3,16 +3,21 @@
 //! Pieces are in the order of their jobs, whatever the order in which workers encoded them. So the
 //! first output has the first ones, as many as it has pieces, and so on.
 
-ghost use Rattle.std.specs.Prelude.{◌≡◌, length, take, drop, map, IfOk, IfErr, Ok, OnOk};
+ghost use Rattle.std.specs.Prelude.{◌≡◌, ◌≤◌, length, take, drop, map, IfOk, IfErr, Ok, OnOk};
+ghost use Rattle.std.specs.List.{AllByRecursion};
 ghost use Rattle.std.specs.Vec.Iter.{into_iter_items};
 ghost use Rattle.coding.specs.Answers.{EqualOrMemory, fault};
 ghost use Rattle.coding.specs.declared.fault.FaultName.TheVariants.{Memory};
-ghost use Rattle.table.specs.Table.{index_keys};
+ghost use Rattle.block.specs.BlockFormat.{block};
+ghost use Rattle.block.specs.declared.builder.TheConstants.{MAX_BLOCK_LEN, MAX_RESTART_INTERVAL};
+ghost use Rattle.table.specs.Table.{index_keys, table_of_blocks};
+ghost use Rattle.table.specs.declared.table_check.TheConstants.{MAX_TABLE_LEN};
+ghost use Rattle.encoding.specs.Planned.{parts_of, IsPlanned};
 ghost use Rattle.cut.specs.PlanTables.{AreReady, tables_of};
 
 use crate::planned_output::PlannedOutput;
 use coding::Fault;
-use encoding::assemble_table;
+use encoding::{PlannedBlock, assemble_table, encode_blocks};
 use ikey::Comparator;
 use std::alloc::Global;
 use std::vec::IntoIter;
@@ -35,6 +40,31 @@ fn take_front(
         own.push(piece)?;
     }
     Ok(own)
+}
+
+/// The table of data blocks that are encoded as one piece. The memory has room for `room` bytes
+/// from the start. The only fault is Memory.
+pub(crate) fn whole_table<C: Comparator>(
+    alloc: Global,
+    blocks: &[PlannedBlock<'_, '_>],
+    interval: u64,
+    room: usize,
+) -> Result<Vec<u8>, Fault>
+    requires positive { 1 ≤ interval }
+    requires limited { interval ≤ MAX_RESTART_INTERVAL }
+    requires short { AllByRecursion
+        (λ b. length (block interval b.entries.entries) ≤ MAX_BLOCK_LEN) blocks.now }
+    requires planned { AllByRecursion (IsPlanned interval) blocks.now }
+    requires fits { length
+        (table_of_blocks (index_keys C.cmp C.short_keys) interval
+        (parts_of blocks.now)) ≤ MAX_TABLE_LEN }
+    ensures { EqualOrMemory (λ v. v.items) result
+        (Ok (table_of_blocks (index_keys C.cmp C.short_keys) interval
+        (parts_of blocks.now))) }
+{
+    let mut pieces = Vec::with_capacity(alloc, 1)?;
+    pieces.push(encode_blocks(alloc, blocks, interval, room)?)?;
+    assemble_table::<C>(alloc, blocks, interval, pieces)
 }
 
 /// The number and the table of each output. Output i has `counts[i]` of the pieces. The only fault

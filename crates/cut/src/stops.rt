@@ -12,9 +12,9 @@
 //! There is a stop before an entry of the union
 //!
 //! (1) that is the first of its user key, so all entries of a user key go to one output, and
-//! (2) before which more than 10 times the maximal file size of grandparents is passed since the
-//!     last stop, or since the first entry of all if there was no stop yet.
+//! (2) before which more than 10 times the maximal file size of grandparents is passed.
 //!
+//! What is passed counts from the last stop, or from the first entry of all if there was none yet.
 //! A grandparent is passed when its largest key is below the entry's. Dropped entries count as kept
 //! ones do: the marks of the runs say how many grandparents are below each. Only a stop begins the
 //! count anew; the end of an output by its size does not.

@@ -17,16 +17,13 @@ ghost use Rattle.cut.specs.Sizes.{saturated_length};
 ghost use Rattle.cut.specs.TableLength.{planned_index_entries, planned_index_key, lens_of};
 ghost use Rattle.cut.specs.TableLength.{table_size};
 
-use crate::lengths::{encoded_entry_len, varint_len};
+use crate::lengths::{RESTART_LEN, encoded_entry_len, varint_len};
 use coding::Fault;
 use encoding::PlannedBlock;
 use frame::TRAILER_LEN;
 use ikey::{Comparator, KeyBuf, internal_separator, internal_successor};
 use std::alloc::Global;
 use table::MAX_TABLE_LEN;
-
-/// The length of a restart, and of the count of restarts.
-const RESTART_LEN: u64 = 4;
 
 /// What a table has beside its data blocks and the contents of its index: the metaindex, its
 /// trailer, the trailer of the index, and the footer.

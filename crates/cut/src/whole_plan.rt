@@ -16,7 +16,7 @@ ghost use Rattle.cut.specs.declared.output_plan.TheConstants.{MAX_BLOCKS};
 use crate::block_summary::{end_of, entries_of, meta_of};
 use crate::output_meta::OutputMeta;
 use crate::piece::Piece;
-use crate::plan_assembly::assemble_all;
+use crate::plan_assembly::{assemble_all, whole_table};
 use crate::planned_output::PlannedOutput;
 use crate::table_len::stored_len;
 use coding::Fault;
@@ -29,7 +29,7 @@ use table::Options;
 /// The outputs of a compaction before a byte of them is written. Of each it knows the number, the
 /// entries, the ends of its data blocks, and the exact length of its table.
 ///
-/// It holds places, lengths, and the last keys as they lie in their runs: keys and values stay
+/// It holds places, lengths, and the last keys as they lie in their runs. Keys and values stay
 /// where the runs have them, and no key is built for an entry. No contract says so.
 #[derive(Drop)]
 pub struct Plan<'r, 'a, C: Comparator> {
@@ -134,6 +134,23 @@ impl<'r, 'a, C: Comparator> Plan<'r, 'a, C> {
     {
         let interval = self.options.restart_interval;
         assemble_all::<C>(alloc, &self.outputs, &self.counts, interval, pieces)
+    }
+
+    /// The number and the table of the output at `place`. The only fault is Memory.
+    ///
+    /// The memory of the table is asked for once.
+    pub fn table(&self, alloc: Global, place: usize) -> Result<(u64, Vec<u8>), Fault>
+        requires { place < length self.now.outputs }
+        ensures table { IfOk result (λ t.
+            slice_get (plan_tables (table C.cmp C.short_keys self.now.options) self.now.outputs)
+            place
+            ≡ Some (t.0, t.1.items)) }
+        ensures memory { IfErr result (λ e. e ≡ fault Memory) }
+    {
+        let interval = self.options.restart_interval;
+        let output = &self.outputs[place];
+        let bytes = whole_table::<C>(alloc, &output.blocks, interval, output.len as usize)?;
+        Ok((output.number, bytes))
     }
 
     /// What is known of the output at `place`. Takes no memory.

@@ -80,9 +80,9 @@ fn rank<C: Comparator>(table: &CheckedTable<'_, C>) -> u64 {
     }
 }
 
-/// The first table that isn't as the version states; else the first that reaches into the next one;
-/// else the first with an entry of a user key that is not in its order. The tables are given with
-/// newer entries first.
+/// The first table that isn't as the version states. If there is none, the first that reaches into
+/// the next one. If there is none of these either, the first with an entry of a user key that is
+/// not in its order. The tables are given with newer entries first.
 fn unlawful<C: Comparator>(
     alloc: Global,
     next: u64,

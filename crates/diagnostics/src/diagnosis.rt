@@ -34,8 +34,8 @@ pub struct RefusedFile {
 /// - else the first table that makes the version unlawful, those with newer entries first.
 ///
 /// The only faults are Device and Memory: what is wrong with a file is the answer. If one of these
-/// two comes while the folder is opened, or if memory runs out while a table is checked, it may be
-/// answered as what is wrong with that file.
+/// two comes while the folder is opened, it may be answered as what is wrong with that file. So it
+/// may be if memory runs out while a table is checked.
 pub fn refused_file<F: Folder>(alloc: Global, folder: &mut F) -> Result<Option<RefusedFile>, Fault>
     ensures reads { OnlyReads F.Folder folder.old folder.new }
 {

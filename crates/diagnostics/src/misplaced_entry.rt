@@ -70,7 +70,8 @@ fn step_back<'c, C: Comparator, S: Cursor<'c, C> + Drop>(
 }
 
 /// Whether `key`, from the table at `next`, breaks the order after `last`, from the table at
-/// `place`: it has the same user key, and comes from an earlier table or has no lower sequence.
+/// `place`. It does if it has the same user key, and comes from an earlier table or has no lower
+/// sequence.
 fn is_step_back(last: InternalKey<'_>, place: usize, key: InternalKey<'_>, next: usize) -> bool {
     key.user() == last.user() && (next < place || last.sequence() <= key.sequence())
 }

@@ -1,11 +1,11 @@
-//! The files that stand where new ones may be made.
+//! The files that are where new ones may be made.
 
 use crate::file_numbers::number_in;
 use edit::Version;
 
 /// The number of the file of this `name`, if a compaction of the `version`, or one after it, may
-/// give the name to a new file: next file or above of a manifest and of a temporary file, and above
-/// next file of a table. None of every other name.
+/// give the name to a new file. Such a number is next file or above of a manifest and of a
+/// temporary file, and above next file of a table. None of every other name.
 ///
 /// An interrupted compaction leaves such a file. So does a copy whose manifest was taken before its
 /// tables.

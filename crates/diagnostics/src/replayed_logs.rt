@@ -3,9 +3,9 @@
 use crate::file_numbers::number_in;
 use edit::Version;
 
-/// The number of the log that `name` is, if LevelDB replays it when it opens the `version`: the
-/// number is not below the version's log number, or is its previous log. If the version isn't
-/// known, LevelDB may replay any log. None of every other name.
+/// The number of the log that `name` is, if LevelDB replays it when it opens the `version`. It does
+/// so if the number is not below the version's log number, or is its previous log. If the version
+/// isn't known, LevelDB may replay any log. None of every other name.
 ///
 /// A log's name is `%06d.log`.
 pub fn replayed_log(version: Option<&Version>, name: &str) -> Option<u64> {

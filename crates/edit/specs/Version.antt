@@ -126,8 +126,8 @@ pub record AreLevelled (pointers : List (ℕ × List ℕ)) (files : List NewFile
   pub file_levels : All (λ (f : NewFile). f.level ≤ 6) files
   pub pointer_levels : All (λ (level : ℕ). level ≤ 6) (keys_of pointers)
 
--- What holds of each version: files rise by number, so no two have one number; pointers rise by
--- level, so a level has at most one; and levels are from 0 to 6.
+-- What holds of each version. Files rise by number, so no two have one number. Pointers rise by
+-- level, so a level has at most one. Levels are from 0 to 6.
 pub record IsState (pointers : List (ℕ × List ℕ)) (files : List NewFile) : Type 0 where
   pub files_rise : IsStrictlySortedBy number_cmp files
   pub apart : are_apart files ≡ true

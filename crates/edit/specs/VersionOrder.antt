@@ -45,8 +45,8 @@ added_from cmp files level (suc n) =
 abbrev pub pointer_entry : ℕ × List ℕ → CompactPointer
 pointer_entry p = record { level = p.0; key = p.1 }
 
--- The edit that makes a version of an empty one, but without its numbers: the comparator's name,
--- the compact pointers by level, and all files as new files, by level and in version order.
+-- The edit that makes a version of an empty one, but without its numbers. It has the comparator's
+-- name, the compact pointers by level, and all files as new files, by level and in version order.
 abbrev pub snapshot_of : List ℕ → KeyOrder → State → Edit
 snapshot_of name cmp v = record {
   comparator = Some name;

@@ -1,10 +1,11 @@
 //! Whole tables, joined of their pieces.
 
-ghost use Rattle.std.specs.Prelude.{◌≡◌, ◌≤◌, ◌^◌, length, flat_map, IfOk, IfErr, Ok};
+ghost use Rattle.std.specs.Prelude.{◌≡◌, ◌≤◌, length, flat_map, IfOk, IfErr, Ok};
 ghost use Rattle.std.specs.List.{AllByRecursion};
 ghost use Rattle.coding.specs.Answers.{EqualOrMemory, fault};
 ghost use Rattle.coding.specs.declared.fault.FaultName.TheVariants.{Memory};
 ghost use Rattle.table.specs.Table.{index_keys, stored_blocks, table_of_blocks};
+ghost use Rattle.table.specs.declared.table_check.TheConstants.{MAX_TABLE_LEN};
 ghost use Rattle.encoding.specs.Planned.{parts_of, IsPlanned};
 
 use crate::planned_block::PlannedBlock;
@@ -31,7 +32,7 @@ pub fn assemble_table<C: Comparator>(
         ≡ stored_blocks interval (parts_of blocks.now) }
     requires fits { length
         (table_of_blocks (index_keys C.cmp C.short_keys) interval
-        (parts_of blocks.now)) ≤ 2 ^ 30 }
+        (parts_of blocks.now)) ≤ MAX_TABLE_LEN }
     ensures { EqualOrMemory (λ v. v.items) result
         (Ok (table_of_blocks (index_keys C.cmp C.short_keys) interval
         (parts_of blocks.now))) }

@@ -1,10 +1,11 @@
 //! The index of a table whose data blocks are planned.
 
-ghost use Rattle.std.specs.Prelude.{◌≡◌, ◌≤◌, ◌<◌, ◌^◌, length, drop, IfOk, IfErr, Ok};
+ghost use Rattle.std.specs.Prelude.{◌≡◌, ◌≤◌, ◌<◌, length, drop, IfOk, IfErr, Ok};
 ghost use Rattle.std.specs.List.{AllByRecursion};
 ghost use Rattle.coding.specs.Answers.{EqualOrMemory, fault};
 ghost use Rattle.coding.specs.declared.fault.FaultName.TheVariants.{Memory};
 ghost use Rattle.table.specs.Table.{index_keys, index_from, table_of_blocks};
+ghost use Rattle.table.specs.declared.table_check.TheConstants.{MAX_TABLE_LEN};
 ghost use Rattle.encoding.specs.Planned.{parts_of, IsPlanned};
 ghost use Rattle.encoding.specs.PlaceKey.{place_key};
 
@@ -26,7 +27,7 @@ pub(crate) fn index_block<C: Comparator>(
     requires planned { AllByRecursion (IsPlanned interval) blocks.now }
     requires fits { length
         (table_of_blocks (index_keys C.cmp C.short_keys) interval
-        (parts_of blocks.now)) ≤ 2 ^ 30 }
+        (parts_of blocks.now)) ≤ MAX_TABLE_LEN }
     ensures index { IfOk result (λ b. b ≡ record {
       interval = 1;
       entries = index_from (index_keys C.cmp C.short_keys) interval 0

@@ -18,7 +18,7 @@ use Rattle.keep.proofs.Reaching.{begins_behind, ends_before, table_never_falls}
 use Rattle.split.specs.Ranges.{IsIn, KeyRange}
 use Rattle.reads.specs.Tables.{NumberedContents}
 use Rattle.checks.specs.HeldTables.{AreFound}
-use Rattle.checks.specs.NeededFiles.{is_needed, is_user_before}
+use Rattle.checks.specs.NeededFiles.{is_file_needed, is_user_before}
 use Rattle.checks.proofs.FileTables.{numbers_in}
 use Rattle.faults.specs.VersionFault.{MisplacedKey}
 use Rattle.faults.specs.FileFaults.{file_reading}
@@ -94,7 +94,7 @@ module _ (cmp : KeyOrder) (total : IsTotalOrder cmp) (range : KeyRange) where
   -- ---- the files that the range needs
 
   module _ (files : Files) where
-    missed : (f : FileMeta) → is_sound cmp files f ≡ true → is_needed cmp range f ≡ false → entries_in cmp range (read_file cmp files f).entries ≡ []
+    missed : (f : FileMeta) → is_sound cmp files f ≡ true → is_file_needed cmp range f ≡ false → entries_in cmp range (read_file cmp files f).entries ≡ []
     missed f sound isnt =
         let h = sound_held cmp files f sound in
         let falls = table_never_falls cmp total h.contents.bytes h.contents (held_table cmp files f h).read in
@@ -105,9 +105,9 @@ module _ (cmp : KeyOrder) (total : IsTotalOrder cmp) (range : KeyRange) where
         ]
 
     pub needed_same : (user : List ℕ) → IsIn cmp range user → (fs : List FileMeta) → AreSoundIn cmp files fs
-        → filter (is_of user) (searched_of (map (read_file cmp files) (filter (is_needed cmp range) fs))) ≡ filter (is_of user) (searched_of (map (read_file cmp files) fs))
+        → filter (is_of user) (searched_of (map (read_file cmp files) (filter (is_file_needed cmp range) fs))) ≡ filter (is_of user) (searched_of (map (read_file cmp files) fs))
     needed_same user within [] sound = refl
-    needed_same user within (f ∷ fs) sound = by (is_needed cmp range f) refl (needed_same user within fs (All-tail (λ (g : FileMeta). is_sound cmp files g ≡ true) f fs sound))
+    needed_same user within (f ∷ fs) sound = by (is_file_needed cmp range f) refl (needed_same user within fs (All-tail (λ (g : FileMeta). is_sound cmp files g ≡ true) f fs sound))
       where
         own : List SearchedEntry
         own = searched_in (read_file cmp files f)
@@ -116,9 +116,9 @@ module _ (cmp : KeyOrder) (total : IsTotalOrder cmp) (range : KeyRange) where
         rest_of = searched_of (map (read_file cmp files) fs)
 
         needed : List FileMeta
-        needed = filter (is_needed cmp range) fs
+        needed = filter (is_file_needed cmp range) fs
 
-        by : (b : Bool) → is_needed cmp range f ≡ b → filter (is_of user) (searched_of (map (read_file cmp files) needed)) ≡ filter (is_of user) rest_of
+        by : (b : Bool) → is_file_needed cmp range f ≡ b → filter (is_of user) (searched_of (map (read_file cmp files) needed)) ≡ filter (is_of user) rest_of
             → filter (is_of user) (searched_of (map (read_file cmp files) (cond b (f ∷ needed) needed))) ≡ filter (is_of user) (own ++ rest_of)
         by true is rest =
             filter-append (is_of user) own (searched_of (map (read_file cmp files) needed))

@@ -12,7 +12,7 @@ use Rattle.split.specs.Ranges.{IsIn, KeyRange, range_at}
 use Rattle.reads.specs.Tables.{NumberedContents}
 use Rattle.reads.proofs.Members.{from_filter}
 use Rattle.checks.specs.HeldTables.{AreFound}
-use Rattle.checks.specs.NeededFiles.{is_needed}
+use Rattle.checks.specs.NeededFiles.{is_file_needed}
 use Rattle.checks.proofs.FileTables.{numbers_in}
 use Rattle.faults.specs.VersionFault.{MisplacedKey, VersionFault, OfKey}
 use Rattle.faults.specs.KeyFaults.{FileEntries, is_of, is_sound, read_file, searched_of}
@@ -29,11 +29,11 @@ numbers_are lent needed metas numbers is are told =
 
 module _ (cmp : KeyOrder) (total : IsTotalOrder cmp) (range : KeyRange) (files : Files) (standing : List FileMeta) (sound : AreSoundIn cmp files standing) where
   abbrev needed : List FileMeta
-  needed = filter (is_needed cmp range) standing
+  needed = filter (is_file_needed cmp range) standing
 
   some_sound : AreSoundIn cmp files needed
   some_sound k d lt =
-      All-contains (λ (f : FileMeta). is_sound cmp files f ≡ true) standing (get_or needed k d) sound (from_filter (is_needed cmp range) standing (get_or needed k d) (Contains-get_or needed k d lt)).0
+      All-contains (λ (f : FileMeta). is_sound cmp files f ≡ true) standing (get_or needed k d) sound (from_filter (is_file_needed cmp range) standing (get_or needed k d) (Contains-get_or needed k d lt)).0
 
   -- they are found
   pub never_unfound : ((found : List NumberedContents) → AreFound cmp files (numbers_in needed) found → ⊥) → ⊥

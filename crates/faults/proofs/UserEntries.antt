@@ -17,7 +17,7 @@ use Rattle.table.specs.ReadingCursors.{NeverFalls}
 use Rattle.reads.proofs.FallingEntries.{each_of, of_each}
 use Rattle.reads.proofs.Members.{from_flat_map, from_map, in_flat_map, in_map}
 use Rattle.faults.specs.KeyFaults.{FileEntries, SearchedEntry, is_of, searched_in, searched_of}
-use Rattle.faults.specs.KeyWalk.{behind_user, entries_behind, entries_of, is_user, with_user}
+use Rattle.faults.specs.KeyWalk.{behind_user, entries_after_user, entries_of_user, is_user, with_user}
 
 -- ---- tests
 
@@ -40,24 +40,24 @@ searched n e = record { file = n; key = e.key }
 
 -- ---- the entries of one file
 
-pub all_behind : (P : Entry → Type 0) (user : List ℕ) (es : List Entry) → AllByRecursion P es → AllByRecursion P (entries_behind user es)
+pub all_behind : (P : Entry → Type 0) (user : List ℕ) (es : List Entry) → AllByRecursion P es → AllByRecursion P (entries_after_user user es)
 all_behind P user [] h = tt
 all_behind P user (e ∷ es) h = by (is_user user e) (all_behind P user es h.1)
   where
-    by : (b : Bool) → AllByRecursion P (entries_behind user es) → AllByRecursion P (cond b (entries_behind user es) (e ∷ es))
+    by : (b : Bool) → AllByRecursion P (entries_after_user user es) → AllByRecursion P (cond b (entries_after_user user es) (e ∷ es))
     by true rest = rest
     by false rest = h
 
 -- those of other user keys are left
-other_left : (n : ℕ) (user other : List ℕ) → (user ≡ other → ⊥) → (es : List Entry) → filter (is_of other) (map (searched n) (entries_behind user es)) ≡ filter (is_of other) (map (searched n) es)
+other_left : (n : ℕ) (user other : List ℕ) → (user ≡ other → ⊥) → (es : List Entry) → filter (is_of other) (map (searched n) (entries_after_user user es)) ≡ filter (is_of other) (map (searched n) es)
 other_left n user other isnt [] = refl
 other_left n user other isnt (e ∷ es) = by (is_user user e) refl (other_left n user other isnt es)
   where
     rest_of : List SearchedEntry
     rest_of = filter (is_of other) (map (searched n) es)
 
-    by : (b : Bool) → is_user user e ≡ b → filter (is_of other) (map (searched n) (entries_behind user es)) ≡ rest_of
-        → filter (is_of other) (map (searched n) (cond b (entries_behind user es) (e ∷ es))) ≡ cond (is_of other (searched n e)) (searched n e ∷ rest_of) rest_of
+    by : (b : Bool) → is_user user e ≡ b → filter (is_of other) (map (searched n) (entries_after_user user es)) ≡ rest_of
+        → filter (is_of other) (map (searched n) (cond b (entries_after_user user es) (e ∷ es))) ≡ cond (is_of other (searched n e)) (searched n e ∷ rest_of) rest_of
     by true is rest =
         let own : user_of e.key ≡ user = of_user user (searched n e) is in
         let isnt_other : is_of other (searched n e) ≡ false = false_of (is_of other (searched n e)) (λ h. isnt (sym own ∙ of_user other (searched n e) h)) in
@@ -65,7 +65,7 @@ other_left n user other isnt (e ∷ es) = by (is_user user e) refl (other_left n
     by false is rest = refl
 
 -- the entries of a file are those at its front, and those after them
-split_length : (user : List ℕ) (es : List Entry) → length es ≡ length (entries_of user es) + length (entries_behind user es)
+split_length : (user : List ℕ) (es : List Entry) → length es ≡ length (entries_of_user user es) + length (entries_after_user user es)
 split_length user [] = refl
 split_length user (e ∷ es) = by (is_user user e) (split_length user es)
   where
@@ -75,9 +75,9 @@ split_length user (e ∷ es) = by (is_user user e) (split_length user es)
     none_more : (a : ℕ) → a ≡ 0 + a
     none_more a = omega arith
 
-    by : (b : Bool) → length es ≡ length (entries_of user es) + length (entries_behind user es)
-        → suc (length es) ≡ length (cond b (e ∷ entries_of user es) []) + length (cond b (entries_behind user es) (e ∷ es))
-    by true rest = one_more (length es) (length (entries_of user es)) (length (entries_behind user es)) rest
+    by : (b : Bool) → length es ≡ length (entries_of_user user es) + length (entries_after_user user es)
+        → suc (length es) ≡ length (cond b (e ∷ entries_of_user user es) []) + length (cond b (entries_after_user user es) (e ∷ es))
+    by true rest = one_more (length es) (length (entries_of_user user es)) (length (entries_after_user user es)) rest
     by false rest = none_more (suc (length es))
 
 module _ (cmp : KeyOrder) (total : IsTotalOrder cmp) (exact : IsExact cmp) where
@@ -126,11 +126,11 @@ module _ (cmp : KeyOrder) (total : IsTotalOrder cmp) (exact : IsExact cmp) where
       (first, all_after user e es falls.0 first)
 
   -- what comes after the front is of later user keys
-  behind_after : (user : List ℕ) (es : List Entry) → NeverFalls cmp es → AllByRecursion (IsFrom user) es → AllByRecursion (IsAfter user) (entries_behind user es)
+  behind_after : (user : List ℕ) (es : List Entry) → NeverFalls cmp es → AllByRecursion (IsFrom user) es → AllByRecursion (IsAfter user) (entries_after_user user es)
   behind_after user [] falls from = tt
   behind_after user (e ∷ es) falls from = by (is_user user e) refl (behind_after user es falls.1 from.1)
     where
-      by : (b : Bool) → is_user user e ≡ b → AllByRecursion (IsAfter user) (entries_behind user es) → AllByRecursion (IsAfter user) (cond b (entries_behind user es) (e ∷ es))
+      by : (b : Bool) → is_user user e ≡ b → AllByRecursion (IsAfter user) (entries_after_user user es) → AllByRecursion (IsAfter user) (cond b (entries_after_user user es) (e ∷ es))
       by true is rest = rest
       by false is rest = from_other user e es falls from.0 is
 
@@ -148,14 +148,14 @@ module _ (cmp : KeyOrder) (total : IsTotalOrder cmp) (exact : IsExact cmp) where
           absurd cc
 
   -- the front has all entries of the user key
-  own_front : (n : ℕ) (user : List ℕ) (es : List Entry) → NeverFalls cmp es → AllByRecursion (IsFrom user) es → filter (is_of user) (map (searched n) es) ≡ map (searched n) (entries_of user es)
+  own_front : (n : ℕ) (user : List ℕ) (es : List Entry) → NeverFalls cmp es → AllByRecursion (IsFrom user) es → filter (is_of user) (map (searched n) es) ≡ map (searched n) (entries_of_user user es)
   own_front n user [] falls from = refl
   own_front n user (e ∷ es) falls from = by (is_user user e) refl (own_front n user es falls.1 from.1)
     where
       rest_of : List SearchedEntry
       rest_of = filter (is_of user) (map (searched n) es)
 
-      by : (b : Bool) → is_user user e ≡ b → rest_of ≡ map (searched n) (entries_of user es) → cond b (searched n e ∷ rest_of) rest_of ≡ map (searched n) (cond b (e ∷ entries_of user es) [])
+      by : (b : Bool) → is_user user e ≡ b → rest_of ≡ map (searched n) (entries_of_user user es) → cond b (searched n e ∷ rest_of) rest_of ≡ map (searched n) (cond b (e ∷ entries_of_user user es) [])
       by true is rest = ap (λ (xs : List SearchedEntry). searched n e ∷ xs) rest
       by false is rest = none_own n user es (from_other user e es falls from.0 is).1
 
@@ -192,7 +192,7 @@ module _ (cmp : KeyOrder) (total : IsTotalOrder cmp) (exact : IsExact cmp) where
     file : FileEntries
     file_there : Contains fs file
     entry : Entry
-    there : Contains (entries_behind user file.entries) entry
+    there : Contains (entries_after_user user file.entries) entry
     is : searched file.number entry ≡ e
 
   behind_of : (fs : List FileEntries) (user : List ℕ) (e : SearchedEntry) → Contains (searched_of (map (behind_user user) fs)) e → IsBehind fs user e
@@ -200,7 +200,7 @@ module _ (cmp : KeyOrder) (total : IsTotalOrder cmp) (exact : IsExact cmp) where
       let from = from_flat_map searched_in (map (behind_user user) fs) e at in
       let file = from_map (behind_user user) fs from.source from.there in
       let held : Contains (searched_in (behind_user user file.source)) e = subst (λ (f : FileEntries). Contains (searched_in f) e) (sym file.is) from.held in
-      let entry = from_map (searched file.source.number) (entries_behind user file.source.entries) e held in
+      let entry = from_map (searched file.source.number) (entries_after_user user file.source.entries) e held in
       record { file = file.source; file_there = file.there; entry = entry.source; there = entry.there; is = entry.is }
 
   in_files : (fs : List FileEntries) (f : FileEntries) (e : Entry) → Contains fs f → Contains f.entries e → Contains (searched_of fs) (searched f.number e)
@@ -209,7 +209,7 @@ module _ (cmp : KeyOrder) (total : IsTotalOrder cmp) (exact : IsExact cmp) where
   pub files_part : (fs : List FileEntries) (user : List ℕ) (e : SearchedEntry) → Contains (searched_of (map (behind_user user) fs)) e → Contains (searched_of fs) e
   files_part fs user e at =
       let b = behind_of fs user e at in
-      let own : Contains b.file.entries b.entry = each_of (Contains b.file.entries) (entries_behind user b.file.entries) (all_behind (Contains b.file.entries) user b.file.entries (of_each (Contains b.file.entries) b.file.entries (λ x there. there))) b.entry b.there in
+      let own : Contains b.file.entries b.entry = each_of (Contains b.file.entries) (entries_after_user user b.file.entries) (all_behind (Contains b.file.entries) user b.file.entries (of_each (Contains b.file.entries) b.file.entries (λ x there. there))) b.entry b.there in
       subst (Contains (searched_of fs)) b.is (in_files fs b.file b.entry b.file_there own)
 
   pub files_after : (fs : List FileEntries) (user : List ℕ) → AllByRecursion (NeverFalls cmp) (lists_of fs) → AreFrom fs user → (e : SearchedEntry) → Contains (searched_of (map (behind_user user) fs)) e → cmp user (user_of e.key) ≡ Less
@@ -217,14 +217,14 @@ module _ (cmp : KeyOrder) (total : IsTotalOrder cmp) (exact : IsExact cmp) where
       let b = behind_of fs user e at in
       let own_falls : NeverFalls cmp b.file.entries = each_of (NeverFalls cmp) (lists_of fs) falls b.file.entries (in_map (λ (f : FileEntries). f.entries) fs b.file b.file_there) in
       let own : AllByRecursion (IsFrom user) b.file.entries = of_each (IsFrom user) b.file.entries (λ x there. from (searched b.file.number x) (in_files fs b.file x b.file_there there)) in
-      subst (λ (x : SearchedEntry). cmp user (user_of x.key) ≡ Less) b.is (each_of (IsAfter user) (entries_behind user b.file.entries) (behind_after user b.file.entries own_falls own) b.entry b.there)
+      subst (λ (x : SearchedEntry). cmp user (user_of x.key) ≡ Less) b.is (each_of (IsAfter user) (entries_after_user user b.file.entries) (behind_after user b.file.entries own_falls own) b.entry b.there)
 
   pub parts_length : (fs : List FileEntries) (user : List ℕ) → length (searched_of fs) ≡ length (searched_of (map (with_user user) fs)) + length (searched_of (map (behind_user user) fs))
   parts_length [] user = refl
   parts_length (f ∷ fs) user =
       let one : length (searched_in f) ≡ length (searched_in (with_user user f)) + length (searched_in (behind_user user f)) =
       length-map f.entries (searched f.number) ∙ split_length user f.entries
-      ∙ ap₂ (λ (a b : ℕ). a + b) (sym (length-map (entries_of user f.entries) (searched f.number))) (sym (length-map (entries_behind user f.entries) (searched f.number))) in
+      ∙ ap₂ (λ (a b : ℕ). a + b) (sym (length-map (entries_of_user user f.entries) (searched f.number))) (sym (length-map (entries_after_user user f.entries) (searched f.number))) in
       joined (length (searched_in f)) (length (searched_in (with_user user f))) (length (searched_in (behind_user user f))) (length (searched_of fs)) (length (searched_of (map (with_user user) fs))) (length (searched_of (map (behind_user user) fs)))
       (length (searched_in f ++ searched_of fs)) (length (searched_in (with_user user f) ++ searched_of (map (with_user user) fs))) (length (searched_in (behind_user user f) ++ searched_of (map (behind_user user) fs)))
       one (parts_length fs user) (length-append (searched_in f) (searched_of fs)) (length-append (searched_in (with_user user f)) (searched_of (map (with_user user) fs))) (length-append (searched_in (behind_user user f)) (searched_of (map (behind_user user) fs)))

@@ -16,8 +16,8 @@ use Rattle.faults.specs.KeyFaults.{misplaced_keys, searched_entries}
 abbrev pub all_files : KeyOrder → State → List NewFile
 all_files cmp v = added_from cmp v.files 0 7
 
--- All that is wrong with a version, with the tables that files hold: with each file, by level and
--- in version order, and then with each user key, in the order of the keys.
+-- All that is wrong with a version, with the tables that files hold. First what is wrong with each
+-- file, by level and in version order, and then with each user key, in the order of the keys.
 abbrev pub version_faults : KeyOrder → Files → State → List VersionFault
 version_faults cmp files v = faults_of_files cmp files v.next_file (all_files cmp v)
     ++ map OfKey (misplaced_keys cmp (searched_entries cmp files (all_files cmp v)))

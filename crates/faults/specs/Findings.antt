@@ -1,5 +1,5 @@
 -- What is wrong with files, by what the tests of their tables find.
-use Rattle.std.specs.Prelude.{◌≡◌, ℕ, ◌^◌, nat_eq, nat_lt, Bool, false, not, ◌&&◌, List, [], ◌∷◌}
+use Rattle.std.specs.Prelude.{◌≡◌, ℕ, nat_eq, nat_lt, Bool, false, not, ◌&&◌, List, [], ◌∷◌}
 use Rattle.std.specs.Prelude.{◌++◌, length, map, filter, fold, Option, unwrap_or, Result, Ok, Err}
 use Rattle.std.specs.BTreeSet.{insert_key}
 use Rattle.std.specs.Option.{option_map_or}
@@ -7,6 +7,7 @@ use Rattle.std.specs.Str.{bytes_eq}
 use Rattle.coding.specs.declared.fault.Fault.{Fault}
 use Rattle.ikey.specs.Comparator.{KeyOrder}
 use Rattle.table.specs.TableContents.{Contents}
+use Rattle.table.specs.declared.table_check.TheConstants.{MAX_TABLE_LEN}
 use Rattle.edit.specs.declared.meta.FileMeta.{FileMeta}
 use Rattle.edit.specs.declared.meta.NewFile.{NewFile}
 use Rattle.folder.specs.Calls.{Files}
@@ -23,12 +24,12 @@ use Rattle.faults.specs.declared.table_finding.TableFinding.TheVariants.{Readabl
 use Rattle.faults.specs.declared.tested_file.TestedFile.{TestedFile}
 
 -- a file and its level
-abbrev pub file_in : ListedFile → NewFile
-file_in f = record { level = f.level; meta = f.meta.now }
+abbrev pub new_file_listed : ListedFile → NewFile
+new_file_listed f = record { level = f.level; meta = f.meta.now }
 
 -- whether these are more bytes than a table may have
 abbrev pub is_long : List ℕ → Bool
-is_long bytes = nat_lt (2 ^ 30) (length bytes)
+is_long bytes = nat_lt MAX_TABLE_LEN (length bytes)
 
 -- the same of the bytes of a table; false if there are none
 abbrev pub is_too_long : Option (List ℕ) → Bool
@@ -47,7 +48,7 @@ pub record FoundFile : Type 0 where
   pub finding : TableFinding
 
 abbrev pub found_in : TestedFile → FoundFile
-found_in t = record { file = file_in t.file; finding = t.finding }
+found_in t = record { file = new_file_listed t.file; finding = t.finding }
 
 -- what is found of a file whose table these files hold
 abbrev pub found_file : KeyOrder → Files → NewFile → FoundFile

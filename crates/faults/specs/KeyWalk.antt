@@ -31,21 +31,21 @@ abbrev pub is_user : List ℕ → Entry → Bool
 is_user user e = bytes_eq (user_of e.key) user
 
 -- the first entries, as long as they have this user key
-abbrev pub entries_of : List ℕ → List Entry → List Entry
-entries_of user [] = []
-entries_of user (e ∷ es) = if is_user user e then e ∷ entries_of user es else []
+abbrev pub entries_of_user : List ℕ → List Entry → List Entry
+entries_of_user user [] = []
+entries_of_user user (e ∷ es) = if is_user user e then e ∷ entries_of_user user es else []
 
 -- the entries after them
-abbrev pub entries_behind : List ℕ → List Entry → List Entry
-entries_behind user [] = []
-entries_behind user (e ∷ es) = if is_user user e then entries_behind user es else e ∷ es
+abbrev pub entries_after_user : List ℕ → List Entry → List Entry
+entries_after_user user [] = []
+entries_after_user user (e ∷ es) = if is_user user e then entries_after_user user es else e ∷ es
 
 -- the same of a file
 abbrev pub with_user : List ℕ → FileEntries → FileEntries
-with_user user f = record { number = f.number; entries = entries_of user f.entries }
+with_user user f = record { number = f.number; entries = entries_of_user user f.entries }
 
 abbrev pub behind_user : List ℕ → FileEntries → FileEntries
-behind_user user f = record { number = f.number; entries = entries_behind user f.entries }
+behind_user user f = record { number = f.number; entries = entries_after_user user f.entries }
 
 -- exactly the user keys of a kind whose entries are not in their order, each once, in the order of
 -- the keys

@@ -1,24 +1,23 @@
 //! The entries of a file's table, read in order.
 
-ghost use Rattle.std.specs.Prelude.{◌≡◌, ◌++◌, List, Ok, IfOk, IfErr, OnOk, IsOkUnless};
+ghost use Rattle.std.specs.Prelude.{◌≡◌, ◌++◌, List, Ok, IfOk, IfErr, OnOk};
 ghost use Rattle.coding.specs.Answers.{fault};
 ghost use Rattle.coding.specs.declared.fault.FaultName.TheVariants.{Memory};
 ghost use Rattle.keep.specs.FirstEntry.{first_is};
 ghost use Rattle.keep.specs.InRange.{entries_in};
 ghost use Rattle.split.specs.Ranges.{key_range};
-ghost use Rattle.table.specs.TableContents.{table_reading};
 ghost use Rattle.faults.specs.KeyFaults.{SearchedEntry, searched_in};
 ghost use Rattle.faults.specs.KeyWalk.{behind_user, break_of, is_user, with_user};
 
 use crate::entry_order::EntryOrder;
 use coding::Fault;
 use ikey::{Comparator, InternalKey};
-use keep::seek_range;
+use keep::cursor_from;
 use reads::NumberedTable;
 use split::Range;
 use std::alloc::Global;
 use std::marker::Model;
-use table::{Cursor, Entries, SoundTable, TableCursor};
+use table::{Cursor, Entries, TableCursor};
 
 /// The entries of a file's table that are still to come. Contracts see them, and the number of the
 /// file.
@@ -104,36 +103,4 @@ impl<'t, C: Comparator> Cursor<'t, C> for FileCursor<'t, C> {
     fn seek(&mut self, target: InternalKey<'_>) -> Result<(), Fault> {
         self.cursor.seek(target)
     }
-}
-
-/// A cursor over `table`, without the entries before `range`. The only fault is Memory.
-fn cursor_from<'t, C: Comparator + 't>(
-    alloc: Global,
-    table: &SoundTable<'t, C>,
-    range: Range<'_>,
-) -> Result<TableCursor<'t, C>, Fault>
-    ensures held { IfOk result (λ cursor. entries_in C.cmp (key_range range.entry) cursor
-        ≡ entries_in C.cmp (key_range range.entry) table.now.entries) }
-    ensures memory { IfErr result (λ e. e ≡ fault Memory) }
-{
-    let mut cursor = TableCursor::new(alloc, table)?;
-    seek_table(alloc, table.bytes(), &mut cursor, range)?;
-    Ok(cursor)
-}
-
-/// Takes the entries before `range` off a cursor over the table of `bytes`. The only fault is
-/// Memory.
-fn seek_table<'t, C: Comparator + 't>(
-    alloc: Global,
-    bytes: &[u8],
-    cursor: &mut TableCursor<'t, C>,
-    range: Range<'_>,
-) -> Result<(), Fault>
-    requires { table_reading C.cmp bytes.now ≡ Ok cursor.old }
-    ensures held { entries_in C.cmp (key_range range.entry) cursor.new
-        ≡ entries_in C.cmp (key_range range.entry) cursor.old }
-    ensures memory { IsOkUnless result (fault Memory) }
-{
-    let _ = bytes;
-    seek_range::<C, _>(alloc, cursor, range)
 }

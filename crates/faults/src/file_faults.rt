@@ -7,7 +7,8 @@ ghost use Rattle.coding.specs.declared.fault.FaultName.TheVariants.{Memory};
 ghost use Rattle.reads.specs.StatedFiles.{is_below};
 ghost use Rattle.faults.specs.FileFaults.{are_disjoint, lies_before, overlap, overlap_faults};
 ghost use Rattle.faults.specs.FileFaults.{unless};
-ghost use Rattle.faults.specs.Findings.{faults_of_found, file_in, finding_faults, found_faults};
+ghost use Rattle.faults.specs.Findings.{faults_of_found, finding_faults, found_faults};
+ghost use Rattle.faults.specs.Findings.{new_file_listed};
 ghost use Rattle.faults.specs.Findings.{found_in};
 ghost use Rattle.faults.specs.Telling.{IsTelling};
 
@@ -58,7 +59,7 @@ fn file_faults<C: Comparator>(
 ) -> Result<Vec<FileFault>, Fault>
     ensures { EqualOrMemory (λ v. v.items) result
         (Ok (found_faults C.cmp next (found_in tested.now)
-        (map (λ t. file_in t.file) behind.now))) }
+        (map (λ t. new_file_listed t.file) behind.now))) }
 {
     let mut faults = Vec::new(alloc);
     let meta = tested.file.meta;
@@ -127,7 +128,8 @@ fn push_overlaps<C: Comparator>(
     behind: &[TestedFile<'_>],
 ) -> Result<(), Fault>
     ensures ok { OnOk result (faults.new.items ≡ faults.old.items
-        ++ overlap_faults C.cmp (file_in file.entry) (map (λ t. file_in t.file) behind.now)) }
+        ++ overlap_faults C.cmp (new_file_listed file.entry)
+        (map (λ t. new_file_listed t.file) behind.now)) }
     ensures memory { IsOkUnless result (fault Memory) }
 {
     for tested in behind {
@@ -141,7 +143,7 @@ fn push_overlaps<C: Comparator>(
 /// Whether two files are at one level from 1 on, and their ranges of internal keys are not
 /// disjoint.
 fn overlap<C: Comparator>(file: &ListedFile<'_>, other: &ListedFile<'_>) -> bool
-    ensures { result ≡ overlap C.cmp (file_in file.now) (file_in other.now) }
+    ensures { result ≡ overlap C.cmp (new_file_listed file.now) (new_file_listed other.now) }
 {
     file.level > 0 && file.level == other.level && !are_disjoint::<C>(file.meta, other.meta)
 }

@@ -7,7 +7,7 @@ ghost use Rattle.edit.specs.Version.{IsState};
 ghost use Rattle.edit.specs.VersionOrder.{at_level};
 ghost use Rattle.reads.specs.FileChecks.{AreAll};
 ghost use Rattle.faults.specs.AllFaults.{all_files};
-ghost use Rattle.faults.specs.Findings.{file_in};
+ghost use Rattle.faults.specs.Findings.{new_file_listed};
 
 use crate::listed_file::ListedFile;
 use coding::Fault;
@@ -23,8 +23,10 @@ pub(crate) fn listed_files<'v, C: Comparator>(
     alloc: Global,
     version: &'v Version,
 ) -> Result<Vec<ListedFile<'v>>, Fault>
-    ensures order { IfOk result (λ files. map file_in files.items ≡ all_files C.cmp version.now) }
-    ensures all { IfOk result (λ files. AreAll version.now.files (map file_in files.items)) }
+    ensures order { IfOk result
+        (λ files. map new_file_listed files.items ≡ all_files C.cmp version.now) }
+    ensures all { IfOk result
+        (λ files. AreAll version.now.files (map new_file_listed files.items)) }
     ensures memory { IfErr result (λ e. e ≡ fault Memory) }
 {
     let mut all = Vec::new(alloc);
@@ -40,8 +42,8 @@ fn push_level<'v>(
     level: u64,
     files: &[&'v FileMeta],
 ) -> Result<(), Fault>
-    ensures ok { OnOk result (map file_in all.new.items
-        ≡ map file_in all.old.items ++ map (λ f. at_level level f.now) files.now) }
+    ensures ok { OnOk result (map new_file_listed all.new.items
+        ≡ map new_file_listed all.old.items ++ map (λ f. at_level level f.now) files.now) }
     ensures memory { IfErr result (λ e. e ≡ fault Memory) }
 {
     for file in files {

@@ -7,7 +7,7 @@ ghost use Rattle.coding.specs.Answers.{fault};
 ghost use Rattle.coding.specs.declared.fault.FaultName.TheVariants.{Memory};
 ghost use Rattle.reads.specs.FileChecks.{same_file};
 ghost use Rattle.faults.specs.KeyFaults.{falling_cmp};
-ghost use Rattle.faults.specs.Findings.{file_in, found_in, is_deep_found, is_sound_finding};
+ghost use Rattle.faults.specs.Findings.{new_file_listed, found_in, is_deep_found, is_sound_finding};
 ghost use Rattle.faults.specs.Findings.{is_top_found, metas_found, searched_found};
 
 use crate::table_finding::TableFinding;
@@ -23,7 +23,7 @@ pub(crate) fn searched_files<'v>(
     alloc: Global,
     tested: &[TestedFile<'v>],
 ) -> Result<Vec<&'v FileMeta>, Fault>
-    requires { IsDistinct same_file (map (λ t. file_in t.file) tested.now) }
+    requires { IsDistinct same_file (map (λ t. new_file_listed t.file) tested.now) }
     ensures searched { IfOk result (λ v. map (λ f. f.now) v.items
         ≡ searched_found (map found_in tested.now)) }
     ensures memory { IfErr result (λ e. e ≡ fault Memory) }

@@ -8,7 +8,7 @@ ghost use Rattle.folder.specs.OpenAnswer.{FolderAnswers};
 ghost use Rattle.folder.specs.Reports.{OnlyReads, ReportsDevice};
 ghost use Rattle.table.specs.TableContents.{contents_reading};
 ghost use Rattle.faults.specs.FileFaults.{file_reading, table_held};
-ghost use Rattle.faults.specs.Findings.{IsTestAnswer, file_in, finding_of, found_in};
+ghost use Rattle.faults.specs.Findings.{IsTestAnswer, new_file_listed, finding_of, found_in};
 
 use crate::listed_file::ListedFile;
 use crate::table_finding::TableFinding;
@@ -32,9 +32,9 @@ pub(crate) fn tested_files<'v, C: Comparator, F: Folder>(
 ) -> Result<Vec<TestedFile<'v>>, Fault>
     ensures answer { (held : Files) → Tells (F.tells folder.old) held →
         FolderAnswers (λ v. map found_in v.items) (F.failed folder.old) (F.failed folder.new) result
-        (IsTestAnswer C.cmp held (map file_in files.now)) }
+        (IsTestAnswer C.cmp held (map new_file_listed files.now)) }
     ensures files { IfOk result
-        (λ v. map (λ t. file_in t.file) v.items ≡ map file_in files.now) }
+        (λ v. map (λ t. new_file_listed t.file) v.items ≡ map new_file_listed files.now) }
     ensures device { ReportsDevice F.Folder folder.old folder.new result }
     ensures reads { OnlyReads F.Folder folder.old folder.new }
 {

@@ -28,24 +28,25 @@ const COMPARED_BYTES: u64 = 33_554_432;
 /// Tells all that is wrong with a `version` of this `order`, with the tables in the folder, and
 /// answers how many faults were told. It only reads.
 ///
-/// 1. With each file, by level and in version order: its number isn't below next file; its table is
-///    missing or invalid, or its length, smallest or largest key is not the one that the version
-///    states; its range of internal keys overlaps that of a later file of its level, from level 1
-///    on.
+/// 1. With each file, by level and in version order:
+///    - its number isn't below next file;
+///    - its table is missing or invalid, or its length, smallest or largest key is not the one that
+///      the version states;
+///    - its range of internal keys overlaps that of a later file of its level, from level 1 on.
 /// 2. With each user key, in the order of the keys: its entries are not in their order. Read are
-///    the tables that can be read and are what the version states: those of level 0 by falling
-///    number, then those of levels 1 to 6 in version order. Told are the files of the first two
-///    neighbours of which the second isn't older.
+///    the tables that can be read and are what the version states. Those of level 0 are read by
+///    falling number, then those of levels 1 to 6 in version order. Told are the files of the first
+///    two neighbours of which the second isn't older.
 ///
 /// Nothing is told exactly if `checks::test_version` accepts the version. A taker that says to stop
 /// is told nothing more.
 ///
 /// If the device fails a call, the answer is Device and no further call is made. If memory runs
-/// out, it is Memory. Changed comes only if a table that was tested isn't there any more, or not
-/// as it was. Each table is read once by itself. Then those that are compared are read a range of
-/// user keys after the other, and checked by four workers, which is told to `watch`; at most
-/// `memory` bytes of them are in memory at once, and at most 32 MiB, if no single user key needs
-/// more. No contract says so.
+/// out, it is Memory. Changed comes only if a table that was tested isn't there any more, or not as
+/// it was. Each table is read once by itself. Then those that are compared are read a range of user
+/// keys after the other, and checked by four workers, which is told to `watch`. At most `memory`
+/// bytes of them are in memory together, and at most 32 MiB, if no single user key needs more. No
+/// contract says so.
 pub fn all_faults<F: Folder, T: FaultTaker, W: Watch + Sync, R: Threads + Sync>(
     rt: &R,
     alloc: Global,

@@ -4,8 +4,13 @@ use Rattle.std.specs.Prelude.{Option, Some, None, Result, Ok, Err}
 use Rattle.std.specs.Str.{bytes_eq}
 use Rattle.folder.specs.declared.folder.FolderFault.{FolderFault}
 
--- a call that writes: a file is made of these bytes, files are made of these bytes and synced in
--- any order, a file is synced, a file is renamed, a file is removed, the folder is synced
+-- a call that writes:
+-- - a file is made of these bytes;
+-- - files are made of these bytes and synced in any order;
+-- - a file is synced;
+-- - a file is renamed;
+-- - a file is removed;
+-- - the folder is synced
 pub data Call : Type 0 where
   Created : List ℕ → List ℕ → Call
   Written : List (List ℕ × List ℕ) → Call

@@ -34,8 +34,8 @@ abbrev pub IsOneOf : List ℕ → ℕ → Type 0
 IsOneOf [] n = ⊥
 IsOneOf (m ∷ numbers) n = (n ≡ m) ⊎ IsOneOf numbers n
 
--- The names on which that reading rests: CURRENT, the manifest that it names, and of each table its
--- name, and its older name if there is no file under the first.
+-- The names on which that reading rests. They are CURRENT, the manifest that it names, and of each
+-- table its name, and its older name if there is no file under the first.
 pub data RestsOn (cmp : KeyOrder) (v : State) (files : Files) : List ℕ → Type 0 where
   Current : RestsOn cmp v files (codes "CURRENT")
   Manifest : (number : ℕ) → number < 2 ^ 64 → files (codes "CURRENT") ≡ Some (current_text number) →

@@ -105,12 +105,13 @@ impl<'r, R: SystemFiles + WholeFiles + AllocGlobal + Threads> Disk<'r, R> {
     }
 
     /// Syncs the files of `version` by several threads, before [`Folder::sync`] of them is asked
-    /// for: CURRENT, the manifest of the number `manifest`, and each table, under its older name if
-    /// it has only that.
+    /// for. These are CURRENT, the manifest of the number `manifest`, and each table, under its
+    /// older name if it has only that.
     ///
     /// A later sync of such a file makes no call and answers as this one did, until a file is made,
-    /// renamed or removed; if this one failed, until that befalls the file itself. A file that
-    /// can't be opened now, for whatever reason, is synced when that is asked for.
+    /// renamed or removed. If this one failed, that lasts until the file itself is made, renamed or
+    /// removed. A file that can't be opened now, for whatever reason, is synced when that is asked
+    /// for.
     pub fn sync_ahead(&mut self, order: Order, version: &Version, manifest: u64)
         ensures failed { ⟦<Disk<'r, R> as Folder>⟧.failed self.new
             ≡ ⟦<Disk<'r, R> as Folder>⟧.failed self.old }

@@ -53,8 +53,9 @@ pub fn lock_to_change<R: SystemFiles>(
 /// read it by this program. It does not wait.
 ///
 /// None if there is no LOCK, if it may not be opened, or if the system has no locks for it: then
-/// nothing keeps others out. If the second lock can't be had, since LOCK may not be written, has
-/// two names, or nothing can be made beside it, only this program is kept from changing the folder.
+/// nothing keeps others out. If the second lock can't be had, only this program is kept from
+/// changing the folder. Reasons are that LOCK may not be written, that it has two names, or that
+/// nothing can be made beside it.
 ///
 /// - Locked: another holds the lock of [`lock_to_change`], or has the database open.
 /// - Device: LOCK can't be opened or locked for any other reason, or is no regular file.

@@ -69,22 +69,50 @@ pub(crate) fn synced<R: Files>(rt: &R, path: &str) -> io::Result<io::Result<()>>
     Ok(File::open(rt, path)?.sync_all())
 }
 
-/// Reads these files of a folder, each by one of several threads. One that can't be read stays
-/// without bytes.
+/// Reads these files of a folder by several threads. One that can't be read stays without bytes.
+///
+/// Each thread takes every 16th file. Why: large files are neighbours, and go to different threads.
 pub(crate) fn read_all<R: WholeFiles + Threads>(
     rt: &R,
     alloc: Global,
     folder: &str,
     files: &mut [Ahead],
 ) {
-    thread::for_each_mut(
+    let shared: &[Ahead] = files;
+    let read = thread::map_indices(
         rt,
-        files,
-        THREADS,
-        &|_, file| {
-            file.bytes = bytes_in(rt, alloc, folder, file.name.as_str()).ok();
-        },
+        alloc,
+        shared.len().min(THREADS),
+        &|first| read_from(rt, alloc, folder, shared, first),
     );
+    let Ok(mut hands) = read else {
+        return;
+    };
+    for (place, file) in files.iter_mut().enumerate() {
+        let hand = place % THREADS;
+        let turn = place / THREADS;
+        if hand < hands.len() && turn < hands[hand].len() {
+            file.bytes = hands[hand][turn].take();
+        }
+    }
+}
+
+/// The bytes of every 16th file from place `first` on. It ends early if memory runs out.
+fn read_from<R: WholeFiles>(
+    rt: &R,
+    alloc: Global,
+    folder: &str,
+    files: &[Ahead],
+    first: usize,
+) -> Vec<Option<Vec<u8>>> {
+    let mut hand = Vec::new(alloc);
+    for file in files.iter().skip(first).step_by(THREADS) {
+        let bytes = bytes_in(rt, alloc, folder, file.name.as_str()).ok();
+        if hand.push(bytes).is_err() {
+            return hand;
+        }
+    }
+    hand
 }
 
 /// Syncs these files of a folder, each by one of several threads. One that can't be opened stays

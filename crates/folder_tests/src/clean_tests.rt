@@ -9,9 +9,9 @@ use std::alloc::Global;
 use std::process::Abort;
 use store::sync_version;
 
-/// The files of a version whose next file is 8, and others beside them: an old table, a table under
-/// its other name, an old manifest, a temporary file, a table from next file on, a newer manifest
-/// and a log.
+/// The files of a version whose next file is 8, and others beside them. These are an old table, a
+/// table under its other name, an old manifest, a temporary file, a table from next file on, a
+/// newer manifest and a log.
 const FILES: &[(&str, &[u8])] = &[
     ("CURRENT", b"MANIFEST-000005\n"),
     ("MANIFEST-000005", MANIFEST),

@@ -117,7 +117,8 @@ const ROWS: &[Row] = &[
     },
     Row {
         name: "a whole key without a restart",
-        bytes: b"\0\x09\x01a\x01\x02\0\0\0\0\0\0x\0\x09\x01a\x01\x01\0\0\0\0\0\0y\0\0\0\0\x01\0\0\0",
+        bytes: b"\
+            \0\x09\x01a\x01\x02\0\0\0\0\0\0x\0\x09\x01a\x01\x01\0\0\0\0\0\0y\0\0\0\0\x01\0\0\0",
         entries: ENTRIES,
         restarts: 1,
         last_key: Some(&FIRST_KEY),

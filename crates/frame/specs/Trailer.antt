@@ -18,8 +18,8 @@ trailer_bytes contents = 0 ∷ little_bytes 4 (masked (crc32c (contents ++ 0 ∷
 abbrev pub stored_block : List ℕ → List ℕ
 stored_block contents = contents ++ trailer_bytes contents
 
--- The contents of a stored block, of at least 5 bytes, or the first test that fails: the checksum
--- is that of the contents and the type, the type is not 1, and it is 0.
+-- The contents of a stored block, of at least 5 bytes, or the first test that fails. The tests are:
+-- the checksum is that of the contents and the type, the type is not 1, and it is 0.
 unfoldable pub stored_reading : List ℕ → Result (List ℕ) Fault
 stored_reading bytes =
     let size = length bytes - TRAILER_LEN in

@@ -267,9 +267,9 @@ pub const TABLE_B_TWO_SPOILT: &[u8] =
         '\x16\0\0\0\0\0\0\0\0\0\0\0\0\0\0\0\0\0\0\0\0\0\0\0\0\0\0\0\0\0\0\0\0\0\0\0\0W\xfb\x80\x8b$\
         uG\xdb";
 
-/// Log 3, previous log 0, next file 8, last sequence 9, a compact pointer of `u` at 2 at level 0,
-/// files 7 to 9 of level 0 deleted, and at level 1 the files 5 of 127 bytes from `a` at 1 to `b`
-/// at 2, 6 of 114 bytes of `f` at 4, and 7 of 114 bytes of `g` at 5.
+/// Log 3, previous log 0, next file 8, last sequence 9, and at level 0 a compact pointer of `u`
+/// at 2. Files 7 to 9 of level 0 are deleted. At level 1 file 5 has 127 bytes, from `a` at 1 to `b`
+/// at 2. File 6 there has 114 bytes of `f` at 4, and file 7 has 114 bytes of `g` at 5.
 /// `edit: log 3, previous 0, next 8, last 9, pointer 0 u@2 put, delete 0 7, delete 0 8, delete 0
 /// 9, file 1 5 127 a@1 put .. b@2 put, file 1 6 114 f@4 put .. f@4 put, file 1 7 114 g@5 put ..
 /// g@5 put`
@@ -279,9 +279,9 @@ pub const GRANDPARENTS_EDIT: &[u8] = b"\
     \0\0\0\0\0\x09f\x01\x04\0\0\0\0\0\0\x07\x01\x07r\x09g\x01\x05\0\0\0\0\0\0\x09g\x01\x05\0\0\0\0\
     \0\0";
 
-/// Log 3, previous log 0, next file 8, last sequence 9, a compact pointer of `u` at 2 at level 1,
-/// files 7 to 9 of level 1 deleted, and at level 2 the files 5, 6 and 7 of 114 bytes each, of `a`
-/// at 1, `b` at 2 and `c` at 3.
+/// Log 3, previous log 0, next file 8, last sequence 9, and at level 1 a compact pointer of `u`
+/// at 2. Files 7 to 9 of level 1 are deleted. At level 2 there are the files 5, 6 and 7 of 114
+/// bytes each, of `a` at 1, `b` at 2 and `c` at 3.
 /// `edit: log 3, previous 0, next 8, last 9, pointer 1 u@2 put, delete 1 7, delete 1 8, delete 1
 /// 9, file 2 5 114 a@1 put .. a@1 put, file 2 6 114 b@2 put .. b@2 put, file 2 7 114 c@3 put ..
 /// c@3 put`
@@ -310,7 +310,7 @@ pub const SNAPSHOT_NINE: &[u8] = b"\
     \x01\x1aleveldb.BytewiseComparator\x05\x01\x09u\x01\x02\0\0\0\0\0\0\x07\x02\x09q\x09u\0\x04\0\
     \0\0\0\0\0\x09u\0\x04\0\0\0\0\0\0";
 
-/// The snapshot of a version of log 3, previous log 0, next file 10, last sequence 4, with a
+/// The snapshot of a version of log 3, previous log 0, next file 10 and last sequence 4. It has a
 /// compact pointer of `u` at 2 at level 1 and no file.
 /// `edit: comparator leveldb.BytewiseComparator, log 3, previous 0, next 10, last 4, pointer 1 u@2
 /// put`
@@ -376,8 +376,9 @@ pub const DISORDERED: &[u8] = b"\
     \0\0\0\x07\x02\x0bq\x09b\x01\x02\0\0\0\0\0\0\x09b\x01\x02\0\0\0\0\0\0\x07\x02\x0cr\x09u\x01\x07\
     \0\0\0\0\0\0\x09u\x01\x07\0\0\0\0\0\0";
 
-/// Log 3, previous log 0, next file 11, last sequence 4, a compact pointer of `u` at 2 at level 1,
-/// file 7 of level 1 deleted, and at level 2 file 10 of 125 bytes from `u` at 4 to `u` at 2.
+/// Log 3, previous log 0, next file 11, last sequence 4, and at level 1 a compact pointer of `u`
+/// at 2. File 7 of level 1 is deleted. At level 2 there is file 10 of 125 bytes from `u` at 4 to
+/// `u` at 2.
 /// `edit: log 3, previous 0, next 11, last 4, pointer 1 u@2 put, delete 1 7, file 2 10 125 u@4 del
 /// .. u@2 put`
 pub const TWICE_LEFT: &[u8] = b"\

@@ -41,7 +41,7 @@ bytewise_successor key =
 abbrev pub bytewise_short_keys : ShortKeys
 bytewise_short_keys = record { separator = bytewise_separator; successor = bytewise_successor }
 
--- The number in the first n bytes, the most significant first, with zeros behind a shorter list. Of
+-- The number in the first n bytes, the most significant first, with zeros after a shorter list. Of
 -- a list that isn't of bytes it is the greatest number of n bytes from the first such element on.
 abbrev pub leading_number : ℕ → List ℕ → ℕ
 leading_number zero key = 0

@@ -1,6 +1,6 @@
 -- An installation whose tables are written in groups, from the run of the groups and that of what follows them.
-use Rattle.std.proofs.Common.{◌≡◌, ◌<◌, ◌^◌, ℕ, ◌≤◌, List, [], ◌∷◌, ◌++◌, map, Option, Result, Ok, Err, IfErr, IsErrAnd, sym, ap, subst, ◌∙◌}
-use Rattle.std.proofs.lemmas.List.{append-nil, map-append}
+use Rattle.std.proofs.Common.{◌≡◌, ◌<◌, ◌^◌, ℕ, ◌≤◌, List, [], ◌∷◌, ◌++◌, Result, Ok, Err, IfErr, IsErrAnd, subst}
+use Rattle.std.proofs.lemmas.List.{append-nil}
 use Rattle.std.specs.Cmp.{IsTotalOrder}
 use Rattle.std.specs.declared.cmp.Ordering.{Ordering}
 use Rattle.coding.specs.Answers.{UnlessMemory, fault}
@@ -9,50 +9,19 @@ use Rattle.coding.specs.declared.fault.FaultName.TheVariants.{Changed, Memory}
 use Rattle.edit.specs.Edit.{IsEdit, edit_bytes}
 use Rattle.edit.specs.Version.{IsState, State}
 use Rattle.edit.specs.VersionOrder.{snapshot_of}
-use Rattle.folder.specs.Calls.{Call, Done, Step, Written}
 use Rattle.folder.specs.CallSequence.{MakesCalls}
 use Rattle.folder.specs.OpenAnswer.{IsStopped, StopsAtDevice}
-use Rattle.folder.specs.TableFiles.{named_tables}
 use Rattle.folder.specs.declared.folder.Folder.{Ghosts}
 use Rattle.folder.specs.declared.order.Order.{Order}
-use Rattle.folder.proofs.RunLemmas.{runs_stopped, runs_then}
+use Rattle.folder.proofs.RunLemmas.{runs_stopped}
 use Rattle.install.specs.Install.{IsEditedBy, SurvivesCrash, calls_before_rename, current_calls, install_calls, tables_of_groups, manifest_bytes, manifest_calls, next_version_tables, table_calls}
 use Rattle.install.specs.InstallRun.{IsInstallRun, IsGroupedInstallation}
 use Rattle.install.proofs.Before.{stays_before}
 use Rattle.install.proofs.Current.{groups_leave}
 use Rattle.install.proofs.InstallRuns.{install_after, install_none, install_stopped}
 use Rattle.install.proofs.Installed.{survives, undone}
-use Rattle.install.proofs.Parts.{RunsWhole, hands_behind, runs_same, runs_whole}
-
--- ---- one group after the other
-
-joined_calls : (one two : List (List (ℕ × List ℕ))) → table_calls one ++ table_calls two ≡ table_calls (one ++ two)
-joined_calls one two = sym (map-append (λ (g : List (ℕ × List ℕ)). Written (named_tables g)) one two)
-
--- further groups after those so far
-pub groups_then : {T E U G : Type 0} (one two : List (List (ℕ × List ℕ))) (before middle after : List Step) (old between new : List ℕ → Option (List ℕ) → Type 0) (x : T) (r : Result U G)
-    → MakesCalls {E = E} (table_calls one) before middle old between (Ok x) → MakesCalls (table_calls two) middle after between new r → MakesCalls (table_calls (one ++ two)) before after old new r
-groups_then one two before middle after old between new x r h k =
-    runs_same (table_calls one ++ table_calls two) (table_calls (one ++ two)) before after old new r (joined_calls one two) (runs_then (table_calls one) (table_calls two) before middle after old between new x r h k)
-
--- groups of which one failed, whatever was to follow them
-pub groups_failed : {T E U G : Type 0} (one two : List (List (ℕ × List ℕ))) (before after : List Step) (old new : List ℕ → Option (List ℕ) → Type 0) (e : E) (f : G)
-    → MakesCalls {T = T} (table_calls one) before after old new (Err e) → MakesCalls {T = U} (table_calls (one ++ two)) before after old new (Err f)
-groups_failed {U = U} {G = G} one two before after old new e f h =
-    runs_same {T = U} {E = G} (table_calls one ++ table_calls two) (table_calls (one ++ two)) before after old new (Err f) (joined_calls one two) (runs_stopped (table_calls one) (table_calls two) before after old new e f h)
-
--- groups that were all made, if the next one isn't
-pub groups_ended : {U G : Type 0} (P : G → Type 0) (one two : List (List (ℕ × List ℕ))) (before after : List Step) (old new : List ℕ → Option (List ℕ) → Type 0) (r : Result U G) → IsErrAnd r P
-    → RunsWhole (table_calls one) before after old new → MakesCalls (table_calls (one ++ two)) before after old new r
-groups_ended P one two before after old new r h k =
-    runs_same (table_calls one ++ table_calls two) (table_calls (one ++ two)) before after old new r (joined_calls one two) (hands_behind P (table_calls one) (table_calls two) before after old new r h k)
 
 -- ---- the whole
-
--- what is to follow the groups: nothing if one failed, which `?` hands on, else the rest of the installation
-abbrev pub Follows : {D X Y : Type 0} → Ghosts D → ℕ → ℕ → List ℕ → Result Y Fault → D → D → Result X Fault → Type 0
-Follows g opened number manifest (Ok y) b d r = IsInstallRun g (manifest_calls number manifest) (current_calls number) opened b d r
-Follows g opened number manifest (Err e) b d r = (d ≡ b) × IsErrAnd r (λ f. f ≡ e)
 
 module _ {D : Type 0} {g : Ghosts D} (name : List ℕ) (cmp : List ℕ → List ℕ → Ordering) (v : State) (opened number : ℕ) (groups : List (List (ℕ × List ℕ))) (edit manifest : List ℕ) where
   -- memory ran out before the first call
@@ -104,14 +73,6 @@ module _ {D : Type 0} {g : Ghosts D} (name : List ℕ) (cmp : List ℕ → List 
     groups_installed a b d y r runs at_once later rest =
         whole_installed a d r (install_after (table_calls groups) (manifest_calls number (manifest_bytes name cmp v edit)) (current_calls number) opened a b d y r runs at_once later (groups_leave groups)
         (subst (λ (m : List ℕ). IsInstallRun g (manifest_calls number m) (current_calls number) opened b d r) is rest))
-
-    -- The groups and then the rest are an installation.
-    pub grouped : {X Y : Type 0} (a b d : D) (first : Result Y Fault) (r : Result X Fault)
-        → MakesCalls (table_calls groups) (g.calls a) (g.calls b) (g.tells a) (g.tells b) first → IfErr first (λ e. UnlessMemory e (IsStopped (g.failed a) (g.failed b) e)) → StopsAtDevice (g.failed a) (g.failed b) first → g.failed a ≤ g.failed b
-        → Follows g opened number manifest first b d r → IsGroupedInstallation g name cmp v opened number groups edit a d r
-    grouped a b d (Ok y) r runs refused at_once later follows = groups_installed a b d y r runs at_once later follows
-    grouped {Y = Y} a b d (Err e) r runs refused at_once later follows =
-        subst (λ (x : D). IsGroupedInstallation g name cmp v opened number groups edit a x r) (sym follows.0) (groups_stopped {Y = Y} a b e r follows.1 runs refused at_once later)
 
 -- ---- the tables as one list
 

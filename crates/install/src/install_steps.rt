@@ -46,7 +46,7 @@ pub fn write_group<F: Folder, R: Threads + Sync>(
     Ok(folder.write_tables(rt, tables)?)
 }
 
-/// What an installation does after its tables are written: it writes the `manifest`, which has this
+/// What an installation does after its tables are written. It writes the `manifest`, which has this
 /// `number`, and makes CURRENT name it, if CURRENT still names the manifest of the number `opened`.
 ///
 /// After the groups of the tables of an outcome, with the bytes of [`manifest_bytes`], all calls

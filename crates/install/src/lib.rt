@@ -20,9 +20,12 @@
 //! and the rename would undo that. A change between this read and the rename isn't seen. Files that
 //! the other program made under the names of the first three are replaced by then.
 //!
-//! Premises of what is said of a crash: nobody else writes the folder; it stands for the version
-//! (`StandsAs`); the outcome makes the edited version of it (`IsEditedBy`); and the crash model of
-//! `folder`.
+//! Premises of what is said of a crash:
+//!
+//! - nobody else writes the folder;
+//! - it stands for the version (`StandsAs`);
+//! - the outcome makes the edited version of it (`IsEditedBy`);
+//! - the crash model of `folder`.
 #![tactic(auto)]
 
 mod install_steps;

@@ -27,15 +27,19 @@ abbrev pub is_snapshot_between : Entry → Entry → ℕ → Bool
 is_snapshot_between newer older at = nat_le (sequence_of older.key) at
     && nat_lt at (sequence_of newer.key)
 
--- Whether an entry is hidden: the previous entry has the same user key, its sequence is at or below
--- the floor, and no listed sequence is below that and at or above the entry's own.
+-- Whether an entry is hidden, that is, if all of these hold:
+-- - the previous entry has the same user key;
+-- - the previous entry's sequence is at or below the floor;
+-- - no listed sequence is below that and at or above the entry's own.
 abbrev pub is_hidden : Readable → Option Entry → Entry → Bool
 is_hidden r None e = false
 is_hidden r (Some newer) e = is_same_user newer e && nat_le (sequence_of newer.key) r.floor
     && not (list_any (is_snapshot_between newer e) r.listed)
 
--- Whether an entry is a deletion that nothing needs: its sequence is at or below the floor and each
--- listed one, so each readable sequence sees it; and no deeper file's range holds its user key.
+-- Whether an entry is a deletion that nothing needs, that is, a deletion of which both of these
+-- hold:
+-- - its sequence is at or below the floor and each listed one, so each readable sequence sees it;
+-- - no deeper file's range holds its user key.
 abbrev pub is_obsolete : KeyOrder → Readable → List FileMeta → Entry → Bool
 is_obsolete cmp r deeper e = is_deletion (kind_of e.key) && nat_le (sequence_of e.key) r.floor
     && list_all (nat_le (sequence_of e.key)) r.listed && is_in_none cmp deeper (user_of e.key)

@@ -1,5 +1,5 @@
--- Kept entries as they are stored: the keys one after the other, and of each entry its key's end,
--- the length that it shares with the key before it, and its value.
+-- Kept entries as they are stored: the keys one after the other, and of each entry three things.
+-- These are its key's end, the length that it shares with the key before it, and its value.
 use Rattle.std.specs.Prelude.{◌≡◌, ℕ, zero, suc, ◌≤◌, List, [], ◌∷◌, length, map, drop, slice_range}
 use Rattle.std.specs.List.{AllByRecursion}
 use Rattle.ikey.specs.Key.{IsInternalKey}

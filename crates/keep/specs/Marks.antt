@@ -71,7 +71,7 @@ abbrev pub changes : List Mark → List Mark
 changes [] = []
 changes (m ∷ ms) = m ∷ changes_behind m.below ms
 
--- The marks of entries: at the first of all, and at the first entry of each user key at which the
--- number of grandparents below differs from that of the user key before.
+-- The marks of entries. One is at the first of all. The others are at the first entry of each user
+-- key at which the number of grandparents below differs from that of the user key before.
 abbrev pub marks : KeyOrder → CompactionContext → List Entry → List Mark
 marks cmp b entries = changes (heads cmp b entries)

@@ -35,8 +35,8 @@ abbrev pub keeps_behind : KeyOrder → CompactionContext → Option ℕ → Entr
 keeps_behind cmp b newer e = not (is_hidden_by b.readable newer e.key)
     && not (is_obsolete cmp b.readable b.deeper e)
 
--- Whether the first entry of a user key sets a mark: it is the first of the range, or the number of
--- grandparents below it is not that of the user key before.
+-- Whether the first entry of a user key sets a mark. It does if it is the first of the range, or
+-- the number of grandparents below it is not that of the user key before.
 abbrev pub sets_mark : Option EntryVersion → ℕ → ℕ → Bool
 sets_mark last passed below = is_none last || not (nat_eq below passed)
 

@@ -37,8 +37,8 @@ abbrev pub are_distinct : List Entry → Bool
 are_distinct [] = true
 are_distinct (e ∷ es) = not (list_any (is_same_version e) es) && are_distinct es
 
--- The answer on a range of user keys: Duplicate if it holds one user key and sequence twice, else
--- the run of the entries that the sorted merge of the inputs has there.
+-- The answer on a range of user keys. It is Duplicate if the range holds one user key and sequence
+-- twice, else the run of the entries that the sorted merge of the inputs has there.
 abbrev pub range_run : KeyOrder → CompactionContext → List (List Entry) → KeyRange →
     Result Run Fault
 range_run cmp b inputs range =

@@ -1,8 +1,8 @@
 //! Which entries of the inputs a compaction keeps, in one range of user keys.
 //!
 //! 1. [`Snapshots`] says which sequences stay readable: those of a list, and all from a floor on.
-//! 2. [`cursors_from`] and [`add_cursor`] make cursors over the tables that reach into a range, and
-//!    [`seek_range`] seeks any other cursor.
+//! 2. [`cursors_from`] and [`add_cursor`] make cursors over the tables that reach into a range,
+//!    [`cursor_from`] over one table, and [`seek_range`] seeks any other cursor.
 //! 3. [`merge_range`] merges the cursors over the range and drops what no reader can see.
 //! 4. A [`RangeRun`] has the kept entries, and a [`Mark`] for each user key before which the number
 //!    of grandparents changes.
@@ -39,7 +39,7 @@ pub use drop_rule_laws::{
 };
 pub use kept_piece::KeptPiece;
 pub use mark::Mark;
-pub use range_cursors::{add_cursor, cursors_from};
+pub use range_cursors::{add_cursor, cursor_from, cursors_from};
 pub use range_merge::merge_range;
 pub use range_run::RangeRun;
 pub use range_start::seek_range;

@@ -95,7 +95,7 @@ fn is_before<C: Comparator>(key: InternalKey<'_>, bound: Option<&[u8]>, otherwis
 }
 
 /// A cursor over `table`, without the entries before `range`. The only fault is Memory.
-fn cursor_from<'t, C: Comparator + 't>(
+pub fn cursor_from<'t, C: Comparator + 't>(
     alloc: Global,
     table: &SoundTable<'t, C>,
     range: Range<'_>,

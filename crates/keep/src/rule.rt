@@ -3,9 +3,9 @@
 //! An entry of the inputs stays unless one of these holds:
 //!
 //! (1) It is hidden. The previous entry has the same user key and a sequence n at or below the
-//!     floor, and no listed sequence is below n and at or above the entry's own. Why it may go:
-//!     each reader that is left sees the newer entry. An entry above the floor hides nothing, since
-//!     a reader between the two may come.
+//!     floor. Besides, no listed sequence is below n and at or above the entry's own. Why it may
+//!     go: each reader that is left sees the newer entry. An entry above the floor hides nothing,
+//!     since a reader between the two may come.
 //! (2) It is a deletion that nothing needs: its sequence is at or below the floor and each listed
 //!     one, and its user key is at its base. Why it may go:
 //!     - every reader that is left sees the deletion;

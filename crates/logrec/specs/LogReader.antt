@@ -9,6 +9,7 @@ use Rattle.coding.specs.Answers.{fault, ◌>>=◌}
 use Rattle.coding.specs.declared.fault.Fault.{Fault}
 use Rattle.coding.specs.declared.fault.FaultName.TheVariants.{LogChecksum, LogShape}
 use Rattle.logrec.specs.Log.{zeros_due, room_at, fragment_type, checksum}
+use Rattle.logrec.specs.declared.format.TheConstants.{HEADER_LEN, MAX_CONTENT_LEN}
 
 -- a fragment that was read, and the bytes after it
 pub record FragmentReading : Type 0 where
@@ -26,13 +27,13 @@ unfoldable pub fragment_reading : ℕ → List ℕ → Result FragmentReading Fa
 fragment_reading room bytes =
     if nat_lt (length bytes) 7 then Err (fault LogShape)
     else if nat_lt room (content_len bytes) then Err (fault LogShape)
-    else if nat_lt (length (drop 7 bytes)) (content_len bytes) then Err (fault LogShape)
+    else if nat_lt (length (drop HEADER_LEN bytes)) (content_len bytes) then Err (fault LogShape)
     else if little_number 4 bytes ==
-    checksum (slice_index bytes 6) (take (content_len bytes) (drop 7 bytes))
+    checksum (slice_index bytes 6) (take (content_len bytes) (drop HEADER_LEN bytes))
     then Ok (record {
       kind = slice_index bytes 6;
-      content = take (content_len bytes) (drop 7 bytes);
-      rest = drop (content_len bytes) (drop 7 bytes);
+      content = take (content_len bytes) (drop HEADER_LEN bytes);
+      rest = drop (content_len bytes) (drop HEADER_LEN bytes);
     })
     else Err (fault LogChecksum)
 
@@ -50,7 +51,7 @@ left_at zero begins room bytes = Err (fault LogShape)
 left_at (suc n) begins room bytes = do
   first ← fragment_reading room bytes
   ends ← ends_record begins room first.kind (length first.content)
-  if ends then Ok (first.content, first.rest) else (left_at n false 32761 first.rest >>=
+  if ends then Ok (first.content, first.rest) else (left_at n false MAX_CONTENT_LEN first.rest >>=
       λ others. Ok (first.content ++ others.0, others.1))
 
 -- the bytes after the zeros that are due

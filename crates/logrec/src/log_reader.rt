@@ -25,8 +25,8 @@ struct Fragment<'a> {
 /// Other bytes are refused at the first fragment, from the front, that a writer would not have
 /// left:
 ///
-/// - LogShape: zeros that are due aren't whole or aren't zero; the header or the content isn't
-///   whole, or passes the block; or type and length aren't those that a writer would have written
+/// - LogShape: zeros that are due aren't whole or aren't zero. Or the header or the content isn't
+///   whole, or passes the block. Or type and length aren't those that a writer would have written
 ///   there. Bytes that end inside a record are refused so too.
 /// - LogChecksum: the parts are whole, but the checksum isn't that of type and content.
 ///

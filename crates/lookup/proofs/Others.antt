@@ -13,7 +13,7 @@ use Rattle.frame.specs.Trailer.{stored_reading}
 use Rattle.frame.specs.declared.handle.BlockHandle.{BlockHandle}
 use Rattle.ikey.specs.Key.{internal_key_reading, tag_of}
 use Rattle.table.specs.ReadingIndex.{block_in}
-use Rattle.lookup.specs.Gives.{index_handle, stored_len}
+use Rattle.lookup.specs.Gives.{index_handle, len_with_trailer}
 
 abbrev refusal : {Y : Type 0} → Fault → Result Y Fault
 refusal e = Err e
@@ -62,13 +62,13 @@ footer_other bytes = tested _ _ _ (named _ Magic (λ e. cc e)) (by _)
     by None = named _ Handle (λ e. cc e)
     by (Some x) = value x
 
-pub len_other : (size : ℕ) (handle : BlockHandle) (e : Fault) → stored_len size handle ≡ Err e → e.name ≢ Device
+pub len_other : (size : ℕ) (handle : BlockHandle) (e : Fault) → len_with_trailer size handle ≡ Err e → e.name ≢ Device
 len_other size handle = tested (nat_le (handle.offset + handle.size + 5 + 48) size) _ _ (value (handle.size + 5)) (named _ Range (λ e. cc e))
 
 pub index_handle_other : (size : ℕ) (footer : List ℕ) (e : Fault) → index_handle size footer ≡ Err e → e.name ≢ Device
 index_handle_other size footer =
     bound (footer_reading footer) _ (footer_other footer) (λ f.
-    bound (stored_len size f.metaindex) _ (len_other size f.metaindex) (λ a. bound (stored_len size f.index) _ (len_other size f.index) (λ b. value f.index)))
+    bound (len_with_trailer size f.metaindex) _ (len_other size f.metaindex) (λ a. bound (len_with_trailer size f.index) _ (len_other size f.index) (λ b. value f.index)))
 
 -- ---- refusals that `?` hands on
 

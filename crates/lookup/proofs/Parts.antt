@@ -19,7 +19,7 @@ use Rattle.table.specs.ReadingIndex.{block_in, one_handle, stored_at}
 use Rattle.table.specs.ReadingSteps.{test_result}
 use Rattle.table.specs.TableContents.{index_in}
 use Rattle.table.proofs.Walks.{block_named-by}
-use Rattle.lookup.specs.Gives.{IsFileOfBytes, index_handle, stored_len}
+use Rattle.lookup.specs.Gives.{IsFileOfBytes, index_handle, len_with_trailer}
 use Rattle.lookup.specs.Held.{HoldTables, HoldsTable, TellsJust}
 use Rattle.lookup.specs.declared.file_parts.TableFile.{TableFile}
 
@@ -42,7 +42,7 @@ file_later old new file bytes same h = (just_later old new _ (Some bytes) same h
 -- ---- a stored block
 
 -- the length of one that is there
-pub stored_there : (bytes : List ℕ) (handle : BlockHandle) (stored : List ℕ) → stored_at bytes handle ≡ Ok stored → stored_len (length bytes) handle ≡ Ok (handle.size + 5)
+pub stored_there : (bytes : List ℕ) (handle : BlockHandle) (stored : List ℕ) → stored_at bytes handle ≡ Ok stored → len_with_trailer (length bytes) handle ≡ Ok (handle.size + 5)
 stored_there bytes handle stored h = by_test (nat_le (handle.offset + handle.size + 5 + 48) (length bytes)) h
   where
     by_test : (b : Bool) → (if b then done (take (handle.size + 5) (drop handle.offset bytes)) else failed (fault Range)) ≡ Ok stored → (if b then done (handle.size + 5) else failed (fault Range)) ≡ Ok (handle.size + 5)
@@ -80,8 +80,8 @@ index_there bytes names h =
       long = le_of 48 (length bytes) (passed _ Short long.0 long.1);
       handle = footer.0.index;
       read =
-          ap (λ (r : Result Footer Fault). r >>= λ f. stored_len (length bytes) f.metaindex >>= λ a. stored_len (length bytes) f.index >>= λ b. done f.index) footer.1
-          ∙ ap (λ (r : Result ℕ Fault). r >>= λ a. stored_len (length bytes) footer.0.index >>= λ b. done footer.0.index) one
+          ap (λ (r : Result Footer Fault). r >>= λ f. len_with_trailer (length bytes) f.metaindex >>= λ a. len_with_trailer (length bytes) f.index >>= λ b. done f.index) footer.1
+          ∙ ap (λ (r : Result ℕ Fault). r >>= λ a. len_with_trailer (length bytes) footer.0.index >>= λ b. done footer.0.index) one
           ∙ ap (λ (r : Result ℕ Fault). r >>= λ b. done footer.0.index) two;
       stored = index.0;
       place = index.1;

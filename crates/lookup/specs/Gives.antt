@@ -27,8 +27,8 @@ IsFileOfBytes tells file bytes = TellsJust tells (string_bytes file.name) (Some 
 
 -- the length of a stored block with its trailer, in a table of this size; Range unless it is before
 -- the footer
-abbrev pub stored_len : ℕ → BlockHandle → Result ℕ Fault
-stored_len size handle =
+abbrev pub len_with_trailer : ℕ → BlockHandle → Result ℕ Fault
+len_with_trailer size handle =
     if nat_le (handle.offset + handle.size + TRAILER_LEN + FOOTER_LEN) size then Ok (handle.size
     + TRAILER_LEN) else Err (fault Range)
 
@@ -37,6 +37,6 @@ stored_len size handle =
 abbrev pub index_handle : ℕ → List ℕ → Result BlockHandle Fault
 index_handle size bytes = do
   footer ← footer_reading bytes
-  _ ← stored_len size footer.metaindex
-  _ ← stored_len size footer.index
+  _ ← len_with_trailer size footer.metaindex
+  _ ← len_with_trailer size footer.index
   Ok footer.index

@@ -5,7 +5,7 @@ ghost use Rattle.std.specs.Prelude.{string_bytes};
 ghost use Rattle.folder.specs.Reports.{OnlyReads, ReportsDevice};
 ghost use Rattle.table.specs.ReadingIndex.{stored_at};
 ghost use Rattle.lookup.specs.Held.{HoldsTable, TellsJust};
-ghost use Rattle.lookup.specs.Gives.{Gives, IsFileOfBytes, stored_len};
+ghost use Rattle.lookup.specs.Gives.{Gives, IsFileOfBytes, len_with_trailer};
 
 use coding::{Fault, FaultName};
 use folder::{Folder, old_table_name, table_name};
@@ -83,7 +83,7 @@ pub(crate) fn stored_block<F: Folder>(
 /// The length of that block with its trailer. Range unless it is before the footer of a table of
 /// `size` bytes.
 pub(crate) fn stored_len(size: u64, handle: BlockHandle) -> Result<usize, Fault>
-    ensures { result ≡ stored_len size handle }
+    ensures { result ≡ len_with_trailer size handle }
 {
     let Some(room) = size.checked_sub((FOOTER_LEN + TRAILER_LEN) as u64) else {
         return Err(Fault::of(FaultName::Range));

@@ -69,7 +69,7 @@ pub(crate) fn data_block<F: Folder>(
     stored_block(folder, file, handle)
 }
 
-/// The one handle that bytes are; Handle if they are none.
+/// The one handle that bytes are; Handle if they are invalid.
 fn handle_in(value: &[u8]) -> Result<BlockHandle, Fault>
     ensures { result ≡ one_handle (handle_reading value.now) }
 {

@@ -31,8 +31,8 @@ const LEVELS: u64 = 7;
 /// answers of them.
 ///
 /// It goes from level to level, and stops at the first one that has an entry. Of each table whose
-/// range of user keys holds the key it reads the footer, the index block, and the data block in
-/// which the entry has to be, or that one and the next.
+/// range of user keys holds the key it reads the footer, the index block and one or two data
+/// blocks. These are the one in which the entry has to be, or that one and the next.
 ///
 /// Faults: those by which `table::check` refuses what was read; Missing if such a table is missing;
 /// Short if a file is shorter than the version states; Device; Memory. No other table is looked at.

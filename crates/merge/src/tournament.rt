@@ -10,7 +10,8 @@
 //! a round; a pass over all cursors would compare each of them.
 
 ghost use Rattle.std.specs.Prelude.{◌≡◌, ◌+◌, ◌<◌, ◌≤◌, ◌⊎◌, [], map, length, slice_get, IfOk};
-ghost use Rattle.std.specs.Prelude.{Some, drop, slice_index_or, if◌then◌else◌, IsOkUnless, OnOk, OnErr};
+ghost use Rattle.std.specs.Prelude.{Some, drop, slice_index_or, if◌then◌else◌, IsOkUnless, OnOk};
+ghost use Rattle.std.specs.Prelude.{OnErr};
 ghost use Rattle.std.specs.List.{AllByRecursion};
 ghost use Rattle.coding.specs.Answers.{fault};
 ghost use Rattle.coding.specs.declared.fault.FaultName.TheVariants.{Memory};

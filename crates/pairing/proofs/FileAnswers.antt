@@ -17,7 +17,7 @@ use Rattle.merge.specs.Union.{IsUnion}
 use Rattle.board.specs.Collected.{collected_results}
 use Rattle.std.proofs.lemmas.List.{append-nil}
 use Rattle.pairing.specs.Repeats.{HasRepeat}
-use Rattle.pairing.specs.Blocks.{IsFileAnswer, IsMerged, IsUnionAnswer, IsBlocksAnswer, block_within, counted_block}
+use Rattle.pairing.specs.Blocks.{IsFileAnswer, AreBlocksMerged, IsUnionAnswer, IsBlocksAnswer, block_within, counted_block}
 use Rattle.pairing.specs.declared.tested.TestedEntry.{TestedEntry}
 use Rattle.pairing.proofs.Repeats.{no_union, repeat_in_parts, repeat_in_rests}
 use Rattle.pairing.proofs.Unions.{Cut, block_of, union_of_runs}
@@ -93,7 +93,7 @@ blocks_counted a b qa qb union r first second is given =
 
 -- the number of its entries and their block
 pub blocks_merged : (a b : List ℕ) (qa qb union : List Entry) (r : Result (ℕ × Vec ℕ) Fault) → block_reading a ≡ Ok qa → block_reading b ≡ Ok qb → IsUnion bytewise_cmp (qa ∷ qb ∷ []) union
-    → EqualOrMemory (λ v. (v.0, v.1.items)) r (counted_block union) → IfOk r (λ v. IsMerged a b v.0 v.1.items)
+    → EqualOrMemory (λ v. (v.0, v.1.items)) r (counted_block union) → IfOk r (λ v. AreBlocksMerged a b v.0 v.1.items)
 blocks_merged a b qa qb union (Err e) first second is given = tt
 blocks_merged a b qa qb union (Ok v) first second is given =
     let found = bind_ok (block_within union) (λ bytes. Ok (length union, bytes)) (v.0, v.1.items) given in

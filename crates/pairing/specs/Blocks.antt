@@ -41,7 +41,7 @@ IsBlocksAnswer a b = IsThen (IsFileAnswer a) (λ entries_a. IsThen (IsFileAnswer
 
 -- Both files read as blocks. The bytes are the block of the union of their entries, and count is
 -- the number of these.
-pub record IsMerged (a b : List ℕ) (count : ℕ) (merged : List ℕ) : Type 0 where
+pub record AreBlocksMerged (a b : List ℕ) (count : ℕ) (merged : List ℕ) : Type 0 where
   pub entries_a : List Entry
   pub entries_b : List Entry
   pub read_a : block_reading a ≡ Ok entries_a

@@ -2,7 +2,8 @@
 
 ghost use Rattle.std.specs.Prelude.{IfOk, Ok, map};
 ghost use Rattle.coding.specs.Answers.{EqualOrMemory, HoldsOrMemory};
-ghost use Rattle.pairing.specs.Blocks.{IsBlocksAnswer, IsMerged, IsUnionAnswer, block_within};
+ghost use Rattle.pairing.specs.Blocks.{AreBlocksMerged, IsBlocksAnswer, IsUnionAnswer};
+ghost use Rattle.pairing.specs.Blocks.{block_within};
 ghost use Rattle.pairing.specs.Blocks.{counted_block};
 ghost use Rattle.ikey.specs.Bytewise.{bytewise_cmp};
 ghost use Rattle.merge.specs.Merged.{entries_of_lists};
@@ -49,7 +50,7 @@ pub fn blocks<R: Threads + Sync>(
     at: &[u8],
 ) -> Result<(u64, Vec<u8>), Fault>
     ensures answer { HoldsOrMemory (λ r. (r.0, r.1.items)) result (IsBlocksAnswer a.now b.now) }
-    ensures merged { IfOk result (λ r. IsMerged a.now b.now r.0 r.1.items) }
+    ensures merged { IfOk result (λ r. AreBlocksMerged a.now b.now r.0 r.1.items) }
 {
     let entries_a = tested(alloc, a)?;
     let entries_b = tested(alloc, b)?;

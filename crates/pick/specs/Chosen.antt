@@ -32,8 +32,8 @@ pub record IsLeastClosed (cmp : KeyOrder) (files : List FileMeta) (first : FileM
   pub least : (other : FileMeta → Bool) → other first ≡ true → IsOverlapClosed cmp files other →
       AllByRecursion (λ (f : FileMeta). test f ≡ true → other f ≡ true) files
 
--- The files chosen before boundary files are added: at level 0, where ranges overlap, the least
--- closed set that holds the first file; at each other level the first file alone.
+-- The files chosen before boundary files are added. At level 0, where ranges overlap, they are the
+-- least closed set that holds the first file; at each other level the first file alone.
 abbrev pub AreChosen : KeyOrder → ℕ → List FileMeta → FileMeta → List FileMeta → Type 0
 AreChosen cmp zero files first chosen = IsLeastClosed cmp files first chosen
 AreChosen cmp (suc _) files first chosen = chosen ≡ first ∷ []

@@ -43,8 +43,8 @@ enum Call {
 /// The bytes of an answer, or a refusal and its status.
 type Wanted = Result<&'static str, (FaultName, u8)>;
 
-/// What a row shows, the call, its folder, which call on the folder fails, and the answer: its
-/// bytes, empty if there is nothing to tell, or the refusal and its status.
+/// What a row shows, the call, its folder, which call on the folder fails, and the answer. The
+/// answer is its bytes, empty if there is nothing to tell, or the refusal and its status.
 type Row = (&'static str, Call, Place, u64, Wanted);
 
 /// The deepest level.

@@ -32,8 +32,8 @@ is_from cmp range user = option_map_or (λ lower. not (is_lt (cmp user lower))) 
 abbrev pub is_before_end : KeyOrder → KeyRange → List ℕ → Bool
 is_before_end cmp range user = option_map_or (λ upper. is_lt (cmp user upper)) range.upper true
 
--- Whether the next key in a merge breaks the order after the last one: it has the same user key,
--- and comes from an earlier list or has no lower sequence.
+-- Whether the next key in a merge breaks the order after the last one. It does if it has the same
+-- user key, and comes from an earlier list or has no lower sequence.
 abbrev pub steps_back : List ℕ → ℕ → List ℕ → ℕ → Bool
 steps_back last place key next = bytes_eq (user_of key) (user_of last)
     && (nat_lt next place || nat_le (sequence_of last) (sequence_of key))
@@ -45,9 +45,10 @@ pub record IsSoundFile (cmp : KeyOrder) (tables : List NumberedContents) (next :
   pub below_next : IsBelowNextFile next f.number
   pub distinct : AllPairs AreDistinct (table_entries tables f.number)
 
--- Whether a file comes before another. It is at a shallower level; or both are at level 0, and it
--- has the higher number; or both are at one level from 1 on, and its range of internal keys is
--- below that of the other.
+-- Whether a file comes before another, that is, if one of these holds:
+-- - it is at a shallower level;
+-- - both are at level 0, and it has the higher number;
+-- - both are at one level from 1 on, and its range of internal keys is below that of the other.
 abbrev pub stands_before : KeyOrder → NewFile → NewFile → Bool
 stands_before cmp f g =
     nat_lt f.level g.level

@@ -33,9 +33,9 @@ value_by Delete value = None
 abbrev pub value_in : Entry → Option (List ℕ)
 value_in e = value_by (kind_of e.key) e.value
 
--- What a version answers of a user key at a sequence: of all its entries in all tables of the
--- version with a sequence of at most that, the value of the one of the greatest sequence. None if
--- that is a deletion, or if there is no such entry.
+-- What a version answers of a user key at a sequence. Of all its entries in all tables of the
+-- version with a sequence of at most that, it is the value of the one of the greatest sequence.
+-- None if that is a deletion, or if there is no such entry.
 abbrev pub get_of : State → List NumberedContents → List ℕ → ℕ → Option (List ℕ)
 get_of v tables user at = option_and_then value_in
     (newest_entry (filter (is_visible user at) (all_entries tables v.files)))

@@ -23,8 +23,8 @@ use table::{Cursor, TableCursor};
 /// is older than the previous one of its user key if its sequence is lower and it comes from the
 /// same cursor or a later one. The only fault is Memory.
 ///
-/// It takes the memory of two keys and of the merge, and an entry takes a time that grows with the
-/// logarithm of the number of cursors; no contract says so.
+/// It takes the memory of two keys and of the merge. An entry takes a time that grows with the
+/// logarithm of the number of cursors. No contract says either.
 pub fn falls_in<C: Comparator>(
     alloc: Global,
     cursors: Vec<TableCursor<'_, C>>,
@@ -89,7 +89,8 @@ fn is_from<C: Comparator>(key: InternalKey<'_>, range: Range<'_>) -> bool
 }
 
 /// Whether `key`, from the cursor at `next`, breaks the order after `last`, from the cursor at
-/// `place`: it has the same user key, and comes from an earlier cursor or has no lower sequence.
+/// `place`. It does if it has the same user key, and comes from an earlier cursor or has no lower
+/// sequence.
 fn steps_back(last: InternalKey<'_>, place: usize, key: InternalKey<'_>, next: usize) -> bool
     ensures { result ≡ steps_back last.entry.bytes.now place key.entry.bytes.now next }
 {

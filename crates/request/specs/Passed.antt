@@ -9,13 +9,15 @@ use Rattle.keep.specs.Readable.{listed_of}
 use Rattle.request.specs.Request.{RequestView, request_test}
 use Rattle.ikey.specs.declared.key.TheConstants.{MAX_SEQUENCE}
 use Rattle.ikey.specs.Comparator.{KeyOrder}
+use Rattle.request.specs.declared.request_conditions.TheConstants.{MAX_INPUTS}
 
--- What a request has that passes its tests: an input, at most 256, and a table for each; a level
--- from 0 to 5, and inputs of it or of the next; options in their limits. The grandparents' largest
--- keys and the listed snapshots rise strictly, and the last sequence is below MAX_SEQUENCE.
+-- What a request has that passes its tests: an input, at most 256, and a table for each. Its level
+-- is from 0 to 5, and its inputs are of that level or of the next. Its options are in their limits.
+-- The grandparents' largest keys and the listed snapshots rise strictly, and the last sequence is
+-- below MAX_SEQUENCE.
 pub record IsPassed (cmp : KeyOrder) (r : RequestView) : Type 0 where
   pub some : r.picked.files ≢ []
-  pub few : length r.picked.files ≤ 256
+  pub few : length r.picked.files ≤ MAX_INPUTS
   pub tables : length r.tables ≡ length r.picked.files
   pub level : r.picked.level ≤ 5
   pub levels : All (λ (i : InputFile). (i.level ≡ r.picked.level) ⊎ (i.level ≡ r.picked.level + 1))

@@ -20,7 +20,7 @@ use Rattle.keep.specs.declared.snapshots.Snapshots.TheVariants.{From, Listed}
 use Rattle.request.specs.declared.request.Request.{Request}
 use Rattle.ikey.specs.declared.key.TheConstants.{MAX_SEQUENCE}
 use Rattle.ikey.specs.Comparator.{KeyOrder}
-use Rattle.request.specs.declared.request_conditions.TheConstants.{MAX_SNAPSHOTS}
+use Rattle.request.specs.declared.request_conditions.TheConstants.{MAX_INPUTS, MAX_SNAPSHOTS}
 
 -- a request as contracts see it: its bytes, not where they are in memory
 pub record RequestView : Type 0 where
@@ -63,7 +63,7 @@ has_levels p = nat_le p.level 5
 -- whether the options are in their limits, there are at most 256 inputs with a table each, and the
 -- largest keys of the grandparents rise
 abbrev pub has_options : KeyOrder → RequestView → Bool
-has_options cmp r = are_in_limits r.options && nat_le (length r.picked.files) 256
+has_options cmp r = are_in_limits r.options && nat_le (length r.picked.files) MAX_INPUTS
     && nat_eq (length r.tables) (length r.picked.files) && largest_rise cmp r.picked.grandparents
 
 -- the snapshots that a request names

@@ -11,7 +11,7 @@ use Rattle.block.specs.EncodedEntry.{Entry}
 use Rattle.merge.specs.Merged.{entries_with, sorted_entries}
 use Rattle.reads.proofs.Members.{first_in, later_in}
 use Rattle.scan.specs.Counts.{counted, entry_amounts}
-use Rattle.scan.specs.HiddenEntries.{is_deletion}
+use Rattle.scan.specs.HiddenEntries.{is_deletion_entry}
 use Rattle.scan.specs.Stats.{amounts_plus}
 use Rattle.scan.specs.declared.amounts.Amounts.{Amounts}
 use Rattle.scan.proofs.AmountSums.{same_amounts}
@@ -117,7 +117,7 @@ tally test hidden es = record {
   files = 0;
   bytes = 0;
   entries = count_by test es;
-  deletions = count_by (λ e. test e && is_deletion e) es;
+  deletions = count_by (λ e. test e && is_deletion_entry e) es;
   hidden = count_by (λ e. test e && hidden e) es;
 }
 
@@ -125,13 +125,13 @@ pub counted_same : (hidden other : Entry → Bool) (es : List Entry) → ((e : E
 counted_same hidden other es same = same_amounts (counted hidden es) (counted other es) refl refl refl refl (count_same hidden other es same)
 
 pub counted_sorted : (hidden : Entry → Bool) (cmp : List ℕ → List ℕ → Ordering) (es : List Entry) → counted hidden (sorted_entries cmp es) ≡ counted hidden es
-counted_sorted hidden cmp es = same_amounts (counted hidden (sorted_entries cmp es)) (counted hidden es) refl refl (length_is (sorted_entries cmp es) ∙ count_sorted every cmp es ∙ sym (length_is es)) (count_sorted is_deletion cmp es) (count_sorted hidden cmp es)
+counted_sorted hidden cmp es = same_amounts (counted hidden (sorted_entries cmp es)) (counted hidden es) refl refl (length_is (sorted_entries cmp es) ∙ count_sorted every cmp es ∙ sym (length_is es)) (count_sorted is_deletion_entry cmp es) (count_sorted hidden cmp es)
 
 one_more : (n : ℕ) → suc n ≡ 1 + n
 one_more n = omega arith
 
 pub counted_cons : (hidden : Entry → Bool) (e : Entry) (es : List Entry) → counted hidden (e ∷ es) ≡ amounts_plus (entry_amounts (kind_of e.key) (hidden e)) (counted hidden es)
-counted_cons hidden e es = same_amounts (counted hidden (e ∷ es)) (amounts_plus (entry_amounts (kind_of e.key) (hidden e)) (counted hidden es)) refl refl (one_more (length es)) (count_cons is_deletion e es) (count_cons hidden e es)
+counted_cons hidden e es = same_amounts (counted hidden (e ∷ es)) (amounts_plus (entry_amounts (kind_of e.key) (hidden e)) (counted hidden es)) refl refl (one_more (length es)) (count_cons is_deletion_entry e es) (count_cons hidden e es)
 
 and_true : (b : Bool) → (b && true) ≡ b
 and_true true = refl
@@ -140,21 +140,21 @@ and_true false = refl
 -- the amounts of those that are kept
 pub counted_filter : (test hidden : Entry → Bool) (es : List Entry) → counted hidden (filter test es) ≡ tally test hidden es
 counted_filter test hidden es = same_amounts (counted hidden (filter test es)) (tally test hidden es) refl refl
-    (length_is (filter test es) ∙ count_filter test every es ∙ count_same (λ e. test e && every e) test es (λ e at. and_true (test e))) (count_filter test is_deletion es) (count_filter test hidden es)
+    (length_is (filter test es) ∙ count_filter test every es ∙ count_same (λ e. test e && every e) test es (λ e at. and_true (test e))) (count_filter test is_deletion_entry es) (count_filter test hidden es)
 
 -- all pass the test
 pub tally_all : (test hidden : Entry → Bool) (es : List Entry) → ((e : Entry) → test e ≡ true) → tally test hidden es ≡ counted hidden es
-tally_all test hidden es all = same_amounts (tally test hidden es) (counted hidden es) refl refl (count_all test es (λ e at. all e)) (count_same (λ e. test e && is_deletion e) is_deletion es (λ e at. ap (λ (b : Bool). b && is_deletion e) (all e)))
+tally_all test hidden es all = same_amounts (tally test hidden es) (counted hidden es) refl refl (count_all test es (λ e at. all e)) (count_same (λ e. test e && is_deletion_entry e) is_deletion_entry es (λ e at. ap (λ (b : Bool). b && is_deletion_entry e) (all e)))
     (count_same (λ e. test e && hidden e) hidden es (λ e at. ap (λ (b : Bool). b && hidden e) (all e)))
 
 -- none passes it
 pub tally_none : (test hidden : Entry → Bool) (es : List Entry) → ((e : Entry) → test e ≡ false) → tally test hidden es ≡ counted hidden []
-tally_none test hidden es none = same_amounts (tally test hidden es) (counted hidden []) refl refl (count_none test es (λ e at. none e)) (count_none (λ e. test e && is_deletion e) es (λ e at. ap (λ (b : Bool). b && is_deletion e) (none e)))
+tally_none test hidden es none = same_amounts (tally test hidden es) (counted hidden []) refl refl (count_none test es (λ e at. none e)) (count_none (λ e. test e && is_deletion_entry e) es (λ e at. ap (λ (b : Bool). b && is_deletion_entry e) (none e)))
     (count_none (λ e. test e && hidden e) es (λ e at. ap (λ (b : Bool). b && hidden e) (none e)))
 
 -- those that pass one of two tests, of which none passes both
 pub tally_either : (p q r hidden : Entry → Bool) (es : List Entry) → ((e : Entry) → one_if (p e) + one_if (q e) ≡ one_if (r e)) → amounts_plus (tally p hidden es) (tally q hidden es) ≡ tally r hidden es
-tally_either p q r hidden es either = same_amounts (amounts_plus (tally p hidden es) (tally q hidden es)) (tally r hidden es) refl refl (count_either p q r es (λ e at. either e)) (and_either is_deletion) (and_either hidden)
+tally_either p q r hidden es either = same_amounts (amounts_plus (tally p hidden es) (tally q hidden es)) (tally r hidden es) refl refl (count_either p q r es (λ e at. either e)) (and_either is_deletion_entry) (and_either hidden)
   where
     by : (a b c d : Bool) → one_if a + one_if b ≡ one_if c → one_if (a && d) + one_if (b && d) ≡ one_if (c && d)
     by true true true d sum = absurd (omega arith)

@@ -15,8 +15,8 @@ use Rattle.keep.specs.InRange.{entries_in, is_in_range}
 use Rattle.keep.proofs.Distinct.{holds_tells}
 use Rattle.reads.specs.Tables.{NumberedContents}
 use Rattle.reads.proofs.Members.{from_filter}
-use Rattle.scan.specs.Counts.{amounts_at, AreCounted, AreOnce, capped_files, counted, HasRoom, is_version, list_at}
-use Rattle.scan.specs.HiddenEntries.{is_deletion, is_hidden_among}
+use Rattle.scan.specs.Counts.{amounts_at, AreAmountsCounted, AreOnce, capped_files, counted, HasRoom, is_version, list_at}
+use Rattle.scan.specs.HiddenEntries.{is_deletion_entry, is_hidden_among}
 use Rattle.scan.specs.LevelCounts.{all_of_levels, AreLevelsIn, lists_of_levels}
 use Rattle.scan.specs.Stats.{amounts_of, amounts_plus, entries_of_files, no_amounts, told_amounts}
 use Rattle.scan.specs.declared.amounts.Amounts.{Amounts}
@@ -163,7 +163,7 @@ module _ (cmp : List ℕ → List ℕ → Ordering) (boundaries : List (List ℕ
           let more : length (list_at own i) ≡ count_by inside es = ap length (ranged_at cmp range lists i) ∙ length-filter inside es in
           let together = ap (λ (a : Amounts). a.entries) (tally_either (first n) inside (first (suc n)) hidden es step_test) in
           let most = count_by-le-length (first (suc n)) es in
-          let deletions = part_le (first n) is_deletion es in
+          let deletions = part_le (first n) is_deletion_entry es in
           let hid = part_le (first n) hidden es in
           subst (λ (a : Amounts). HasRoom a (length (list_at own i))) (sym (at.each i there)) (record {
             files = omega (arith, free.files);
@@ -181,7 +181,7 @@ module _ (cmp : List ℕ → List ℕ → Ordering) (boundaries : List (List ℕ
           ap (λ (es : List Entry). is_hidden_among last es e) (joined_ranged cmp range lists) ∙ hidden_in_range last cmp range (entries_of_lists lists) e (from_filter inside (list_at lists i) e there).1)
           ∙ counted_filter inside hidden (list_at lists i)
 
-      pub range_counted : AreCounted last own now new → AreCountedTo (n + 1) new
+      pub range_counted : AreAmountsCounted last own now new → AreCountedTo (n + 1) new
       range_counted counts =
           let have = counts own_once own_room in
           let next : suc n ≡ n + 1 = omega arith in

@@ -19,7 +19,7 @@ use Rattle.reads.specs.TableOrder.{lists_of_files}
 use Rattle.reads.specs.Tables.{NumberedContents, table_entries}
 use Rattle.checks.specs.GroupTest.{AreTablesIn}
 use Rattle.checks.specs.HeldTables.{AreFound, held_numbers}
-use Rattle.checks.specs.NeededFiles.{is_needed}
+use Rattle.checks.specs.NeededFiles.{is_file_needed}
 use Rattle.checks.proofs.FileTables.{all_found, found_lists, numbers_in}
 use Rattle.checks.proofs.NeededLemmas.{needed_entries}
 use Rattle.scan.specs.LevelCounts.{files_of_levels, lists_of_levels}
@@ -87,13 +87,13 @@ back_all P xs ys all k d lt = All-contains P (xs ++ ys) (get_or ys k d) all (Con
 
 module _ (cmp : List ℕ → List ℕ → Ordering) (total : IsTotalOrder cmp) (files : Files) (next : Option ℕ) (levels : List (List FileMeta)) (tables : List NumberedContents) (are : AreTablesIn cmp files next (files_of_levels levels) tables) (range : KeyRange) where
   abbrev needed : List (List FileMeta)
-  needed = map (filter (is_needed cmp range)) levels
+  needed = map (filter (is_file_needed cmp range)) levels
 
   stated : All (IsStatedFile cmp tables next) (files_of_levels needed)
-  stated = subst (All (IsStatedFile cmp tables next)) (sym (flat_filter (is_needed cmp range) levels)) (All-filter (is_needed cmp range) (IsStatedFile cmp tables next) (files_of_levels levels) are.stated)
+  stated = subst (All (IsStatedFile cmp tables next)) (sym (flat_filter (is_file_needed cmp range) levels)) (All-filter (is_file_needed cmp range) (IsStatedFile cmp tables next) (files_of_levels levels) are.stated)
 
   entries_of : (levels : List (List FileMeta)) → All (IsStatedFile cmp tables next) (files_of_levels levels)
-      → map (λ (lists : List (List Entry)). entries_in cmp range (entries_of_lists lists)) (map (lists_of_files tables) (map (filter (is_needed cmp range)) levels)) ≡ map (entries_in cmp range) (lists_of_levels tables levels)
+      → map (λ (lists : List (List Entry)). entries_in cmp range (entries_of_lists lists)) (map (lists_of_files tables) (map (filter (is_file_needed cmp range)) levels)) ≡ map (entries_in cmp range) (lists_of_levels tables levels)
   entries_of [] all = refl
   entries_of (fs ∷ levels) all =
       ap₂ (λ (es : List Entry) (ess : List (List Entry)). es ∷ ess) (needed_entries cmp total range next tables fs (front_all (IsStatedFile cmp tables next) fs (files_of_levels levels) all))

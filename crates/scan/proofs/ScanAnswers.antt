@@ -29,7 +29,7 @@ use Rattle.checks.specs.Checked.{tables_reading}
 use Rattle.checks.specs.GroupTest.{AreTablesIn}
 use Rattle.checks.specs.HeldTables.{AreFound}
 use Rattle.checks.specs.LawfulTables.{IsLawfulTables}
-use Rattle.checks.specs.NeededFiles.{is_needed}
+use Rattle.checks.specs.NeededFiles.{is_file_needed}
 use Rattle.checks.specs.TestedTables.{IsTested}
 use Rattle.checks.specs.declared.tested.Tested.{Tested}
 use Rattle.checks.proofs.FileTables.{all_found, found_lists, numbers_in}
@@ -61,10 +61,10 @@ entries_each tables = map (λ (t : NumberedContents). t.contents.entries) tables
 
 module _ (cmp : List ℕ → List ℕ → Ordering) (total : IsTotalOrder cmp) (files : Files) (next : Option ℕ) (standing : List FileMeta) (tables : List NumberedContents) (are : AreTablesIn cmp files next standing tables) (range : KeyRange) where
   abbrev needed : List FileMeta
-  needed = filter (is_needed cmp range) standing
+  needed = filter (is_file_needed cmp range) standing
 
   stated : All (IsStatedFile cmp tables next) needed
-  stated = some_stated (IsStatedFile cmp tables next) (is_needed cmp range) standing are.stated
+  stated = some_stated (IsStatedFile cmp tables next) (is_file_needed cmp range) standing are.stated
 
   -- tables that were found have the rows of the files
   pub found_rows : (found : List NumberedContents) → AreFound cmp files (numbers_in needed) found → (at : ℕ) → sorted_rows cmp range at (entries_each found) ≡ file_rows cmp tables standing at range

@@ -9,7 +9,7 @@ use Rattle.std.proofs.lemmas.List.Folds.{list_any-append}
 use Rattle.ikey.specs.Order.{internal_cmp}
 use Rattle.block.specs.EncodedEntry.{Entry}
 use Rattle.merge.specs.Merged.{entries_of_lists, entries_with, sorted_entries}
-use Rattle.scan.specs.Counts.{amounts_at, AreCounted, AreOnce, counted, HasRoom, is_version, list_at}
+use Rattle.scan.specs.Counts.{amounts_at, AreAmountsCounted, AreOnce, counted, HasRoom, is_version, list_at}
 use Rattle.scan.specs.HiddenEntries.{hides, is_hidden_among}
 use Rattle.scan.specs.Stats.{amounts_plus}
 use Rattle.scan.specs.declared.amounts.Amounts.{Amounts}
@@ -55,7 +55,7 @@ module _ (cmp : List ℕ → List ℕ → Ordering) where
   sorted_at (l ∷ lists) zero = refl
   sorted_at (l ∷ lists) (suc i) = sorted_at lists i
 
-  pub sorted_counted : (last : ℕ) (lists : List (List Entry)) (old new : List Amounts) → AreCounted last (sorted_lists lists) old new → AreCounted last lists old new
+  pub sorted_counted : (last : ℕ) (lists : List (List Entry)) (old new : List Amounts) → AreAmountsCounted last (sorted_lists lists) old new → AreAmountsCounted last lists old new
   sorted_counted last lists old new counts once room =
       let have = counts once_too room_too in
       record {

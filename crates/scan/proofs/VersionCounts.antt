@@ -38,7 +38,7 @@ use Rattle.checks.proofs.FolderTests.{loaded_in}
 use Rattle.checks.proofs.FoundTables.{found_tables}
 use Rattle.checks.proofs.LawfulLemmas.{sound_checked, sound_lawful}
 use Rattle.scan.specs.Counts.{AreOnce, capped_plus, is_version}
-use Rattle.scan.specs.HiddenEntries.{is_deletion, is_hidden_among}
+use Rattle.scan.specs.HiddenEntries.{is_deletion_entry, is_hidden_among}
 use Rattle.scan.specs.LevelCounts.{all_of_levels, AreLevelsIn, files_of_levels, IsFewStanding}
 use Rattle.scan.specs.LevelRows.{level_rows}
 use Rattle.scan.specs.Stats.{amounts_of, amounts_plus, amounts_sum, entries_of_files, level_stats, no_amounts, Stats, told_amounts, version_stats}
@@ -235,7 +235,7 @@ module _ (cmp : List ℕ → List ℕ → Ordering) (total : IsTotalOrder cmp) (
 
     few_of : (fs : List FileMeta) → IsOfFew (length fs) (length (entries_of_files tables fs)) (amounts fs)
     few_of fs =
-        let deletions = count_by-le-length is_deletion (entries_of_files tables fs) in
+        let deletions = count_by-le-length is_deletion_entry (entries_of_files tables fs) in
         let hidden = count_by-le-length (is_hidden_among last (all_entries tables v.files)) (entries_of_files tables fs) in
         record { files = omega arith; entries = omega arith; deletions = deletions; hidden = hidden }
 

@@ -27,9 +27,9 @@ use Rattle.keep.proofs.Bounds.{below_apart, from_bound, within}
 use Rattle.reads.proofs.EntriesInOrder.{at_most_all, left_is}
 use Rattle.reads.proofs.FallingEntries.{each_of}
 use Rattle.reads.proofs.Members.{first_in, later_in}
-use Rattle.scan.specs.Counts.{amounts_after, amounts_at, AreCounted, AreOnce, capped_plus, counted, decided_then, entry_amounts, HasRoom, IsWithin, list_at}
+use Rattle.scan.specs.Counts.{amounts_after, amounts_at, AreAmountsCounted, AreOnce, capped_plus, counted, decided_then, entry_amounts, HasRoom, IsWithin, list_at}
 use Rattle.scan.specs.EntryRows.{decided_after, is_decided}
-use Rattle.scan.specs.HiddenEntries.{is_deletion, is_hidden_among}
+use Rattle.scan.specs.HiddenEntries.{is_deletion_entry, is_hidden_among}
 use Rattle.scan.specs.Stats.{amounts_plus, no_amounts}
 use Rattle.scan.specs.declared.amounts.Amounts.{Amounts}
 use Rattle.scan.proofs.AmountSums.{front_within, plus_assoc, plus_fits, plus_none}
@@ -52,7 +52,7 @@ room_fits hidden a es room = record {
   files = omega (arith, room.files);
   bytes = omega (arith, room.bytes);
   entries = room.entries;
-  deletions = omega (arith, room.deletions, count_by-le-length is_deletion es);
+  deletions = omega (arith, room.deletions, count_by-le-length is_deletion_entry es);
   hidden = omega (arith, room.hidden, count_by-le-length hidden es);
 }
 
@@ -123,7 +123,7 @@ module _ (cmp : List ℕ → List ℕ → Ordering) (total : IsTotalOrder cmp) (
 
   -- the amounts at the end
   end_by : (lists : List (List Entry)) (decided : Option (List ℕ)) (now : List Amounts) → length now ≡ length lists → length lists ≡ length all → length all ≡ length old → ((i : ℕ) → entries_in cmp range (list_at lists i) ≡ []) → IsCountedSoFar lists decided now
-      → AreCounted last (ranged_lists cmp range all) old now
+      → AreAmountsCounted last (ranged_lists cmp range all) old now
   end_by lists decided now number same first none so_far once room =
       let at = so_far once room in
       record {
@@ -137,12 +137,12 @@ module _ (cmp : List ℕ → List ℕ → Ordering) (total : IsTotalOrder cmp) (
       }
 
   -- after the last entry
-  pub count_ends : (lists : List (List Entry)) (decided : Option (List ℕ)) (now : List Amounts) → length now ≡ length lists → length lists ≡ length all → length all ≡ length old → IsMerging cmp lists None → IsCountedSoFar lists decided now → AreCounted last (ranged_lists cmp range all) old now
+  pub count_ends : (lists : List (List Entry)) (decided : Option (List ℕ)) (now : List Amounts) → length now ≡ length lists → length lists ≡ length all → length all ≡ length old → IsMerging cmp lists None → IsCountedSoFar lists decided now → AreAmountsCounted last (ranged_lists cmp range all) old now
   count_ends lists decided now number same first m so_far = end_by lists decided now number same first (λ i. ap (entries_in cmp range) (all_empty lists m.least i)) so_far
 
   -- after the range
   pub count_stops : (lists : List (List Entry)) (decided : Option (List ℕ)) (now : List Amounts) → length now ≡ length lists → length lists ≡ length all → length all ≡ length old → first_is (is_before cmp range.upper true) (merged cmp lists) ≡ false → IsCountedSoFar lists decided now
-      → AreCounted last (ranged_lists cmp range all) old now
+      → AreAmountsCounted last (ranged_lists cmp range all) old now
   count_stops lists decided now number same first behind so_far =
       let none = from_bound cmp total range.upper true (merged cmp lists) (sorted_never_falls cmp total (entries_of_lists lists)) behind in
       end_by lists decided now number same first (λ i. none_kept (λ (e : Entry). is_in_range cmp range (user_of e.key)) (list_at lists i) (λ e at.

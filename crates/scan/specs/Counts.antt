@@ -11,7 +11,7 @@ use Rattle.edit.specs.declared.meta.FileMeta.{FileMeta}
 use Rattle.merge.specs.Merged.{entries_of_lists}
 use Rattle.keep.specs.Left.{is_before}
 use Rattle.scan.specs.EntryRows.{decided_after, is_decided}
-use Rattle.scan.specs.HiddenEntries.{is_delete, is_deletion, is_hidden_among}
+use Rattle.scan.specs.HiddenEntries.{is_delete, is_deletion_entry, is_hidden_among}
 use Rattle.scan.specs.Stats.{amounts_plus, no_amounts}
 use Rattle.scan.specs.declared.amounts.Amounts.{Amounts}
 
@@ -63,7 +63,7 @@ counted hidden es = record {
   files = 0;
   bytes = 0;
   entries = length es;
-  deletions = count_by is_deletion es;
+  deletions = count_by is_deletion_entry es;
   hidden = count_by hidden es;
 }
 
@@ -84,7 +84,7 @@ amounts_at amounts i = slice_index_or amounts i no_amounts
 abbrev pub list_at : List (List Entry) → ℕ → List Entry
 list_at lists i = slice_index_or lists i []
 
--- so many more entries can be counted, each as a deletion and as hidden too
+-- that many more entries can be counted, each as a deletion and as hidden too
 pub record HasRoom (a : Amounts) (more : ℕ) : Type 0 where
   pub files : a.files ≤ 2 ^ 64 - 1
   pub bytes : a.bytes ≤ 2 ^ 64 - 1
@@ -101,8 +101,8 @@ pub record HaveMore (hidden : Entry → Bool) (lists : List (List Entry)) (old n
 
 -- The entries of lists were counted, each list at its place, and those hidden among all of them: if
 -- no user key has one sequence twice, and the numbers fit.
-abbrev pub AreCounted : ℕ → List (List Entry) → List Amounts → List Amounts → Type 0
-AreCounted last lists old new =
+abbrev pub AreAmountsCounted : ℕ → List (List Entry) → List Amounts → List Amounts → Type 0
+AreAmountsCounted last lists old new =
     AreOnce (entries_of_lists lists) →
     ((i : ℕ) → i < length lists → HasRoom (amounts_at old i) (length (list_at lists i))) →
     HaveMore (is_hidden_among last (entries_of_lists lists)) lists old new

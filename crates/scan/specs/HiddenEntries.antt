@@ -13,8 +13,8 @@ is_delete Put = false
 is_delete Delete = true
 
 -- whether an entry is a deletion
-abbrev pub is_deletion : Entry → Bool
-is_deletion e = is_delete (kind_of e.key)
+abbrev pub is_deletion_entry : Entry → Bool
+is_deletion_entry e = is_delete (kind_of e.key)
 
 -- whether an entry hides another one: it has the same user key and a greater sequence, which is at
 -- most `last`

@@ -31,7 +31,7 @@ pub record IsRowPart {T : Type 0} (tells : T → Row → Bool → T → Type 0) 
   pub taker : AreRowsTold tells old told goes new
   pub counted : limit ≡ option_map (λ n. n + length told) left
 
--- so many were told that no more are wanted
+-- some were told, and no more are wanted
 pub record AreEnough {T : Type 0} (tells : T → Row → Bool → T → Type 0) (rows : List Row) (old : T)
     (limit : Option ℕ) (new : T) : Type 0 where
   pub untold : List Row

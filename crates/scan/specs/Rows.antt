@@ -9,8 +9,8 @@ use Rattle.reads.specs.Gets.{get_of}
 use Rattle.reads.specs.Tables.{NumberedContents}
 use Rattle.scan.specs.Row.{Row}
 
--- The rows of a version in a range of user keys, at a sequence: exactly the user keys of the range
--- whose get answers a value, each once and with that value, in the order of the keys.
+-- The rows of a version in a range of user keys, at a sequence. They are exactly the user keys of
+-- the range whose get answers a value, each once and with that value, in the order of the keys.
 pub record AreRows (cmp : KeyOrder) (v : State) (tables : List NumberedContents) (range : KeyRange)
     (at : ℕ) (rows : List Row) : Type 0 where
   pub rising : KeysRise cmp (map (λ r. r.key) rows)

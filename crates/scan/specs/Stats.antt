@@ -13,7 +13,7 @@ use Rattle.folder.specs.Levels.{all_levels}
 use Rattle.merge.specs.Merged.{entries_of_lists}
 use Rattle.reads.specs.TableOrder.{lists_of_files}
 use Rattle.reads.specs.Tables.{NumberedContents, all_entries}
-use Rattle.scan.specs.HiddenEntries.{is_deletion, is_hidden_among}
+use Rattle.scan.specs.HiddenEntries.{is_deletion_entry, is_hidden_among}
 use Rattle.scan.specs.declared.amounts.Amounts.{Amounts}
 use Rattle.scan.specs.declared.level_stats.LevelStats.{LevelStats}
 use Rattle.scan.specs.declared.level_stats.VersionStats.{VersionStats}
@@ -48,7 +48,7 @@ amounts_of last all tables files = record {
   files = length files;
   bytes = sum_by (λ f. f.size) files;
   entries = length (entries_of_files tables files);
-  deletions = count_by is_deletion (entries_of_files tables files);
+  deletions = count_by is_deletion_entry (entries_of_files tables files);
   hidden = count_by (is_hidden_among last all) (entries_of_files tables files);
 }
 

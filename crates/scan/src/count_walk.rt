@@ -7,7 +7,7 @@ ghost use Rattle.block.specs.EncodedEntry.{Entry};
 ghost use Rattle.merge.specs.Merged.{merged};
 ghost use Rattle.split.specs.Ranges.{key_range};
 ghost use Rattle.keep.specs.InRange.{entries_in};
-ghost use Rattle.scan.specs.Counts.{amounts_after, decided_then, AreCounted};
+ghost use Rattle.scan.specs.Counts.{amounts_after, decided_then, AreAmountsCounted};
 
 use crate::amounts::Amounts;
 use crate::decided_user::DecidedUser;
@@ -32,7 +32,7 @@ pub(crate) fn count_merged<'a, C: Comparator, S: Cursor<'a, C> + Drop>(
     amounts: &mut [Amounts],
 ) -> Result<(), Fault>
     requires { length amounts.old ≡ length merging.old }
-    ensures counted { OnOk result (AreCounted last
+    ensures counted { OnOk result (AreAmountsCounted last
         (map (entries_in C.cmp (key_range range.entry)) merging.old) amounts.old amounts.new) }
     ensures memory { IfErr result (λ e. e ≡ fault Memory) }
 {

@@ -33,9 +33,9 @@ use split::Split;
 use std::alloc::Global;
 use std::thread::Threads;
 
-/// Tests a `version` of this `order` with the tables in the folder, and then counts what it has: at
-/// each level its files, their bytes, the entries of their tables, and which of these are deletions
-/// and which a newer entry hides at the version's last sequence. It only reads.
+/// Tests a `version` of this `order` with the tables in the folder, and then counts what it has. At
+/// each level that is its files, their bytes, their tables' entries, and which of these are
+/// deletions and which a newer entry hides at the version's last sequence. It only reads.
 ///
 /// Refused as `checks::test_version` refuses the version; else only as Device or Memory. The test
 /// is told to `watch`, which is `&Open` if nobody watches.

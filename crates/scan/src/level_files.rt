@@ -7,7 +7,7 @@ ghost use Rattle.coding.specs.declared.fault.FaultName.TheVariants.{Memory};
 ghost use Rattle.edit.specs.VersionOrder.{level_files};
 ghost use Rattle.folder.specs.Levels.{all_levels};
 ghost use Rattle.split.specs.Ranges.{key_range};
-ghost use Rattle.checks.specs.NeededFiles.{is_needed};
+ghost use Rattle.checks.specs.NeededFiles.{is_file_needed};
 
 use checks::{needed_files, numbers_of};
 use coding::Fault;
@@ -39,7 +39,7 @@ pub(crate) fn needed_by_level<'v, C: Comparator>(
     range: Range<'_>,
 ) -> Result<Vec<Vec<&'v FileMeta>>, Fault>
     ensures needed { IfOk result (λ v. map (λ files. map (λ f. f.now) files.items) v.items
-        ≡ map (filter (is_needed C.cmp (key_range range.entry)))
+        ≡ map (filter (is_file_needed C.cmp (key_range range.entry)))
         (map (λ files. map (λ f. f.now) files.items) levels.now)) }
     ensures memory { IfErr result (λ e. e ≡ fault Memory) }
 {

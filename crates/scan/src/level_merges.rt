@@ -8,7 +8,7 @@ ghost use Rattle.merge.specs.Merged.{entries_of_lists, merged, sorted_entries};
 ghost use Rattle.split.specs.Ranges.{key_range};
 ghost use Rattle.keep.specs.InRange.{entries_in};
 ghost use Rattle.reads.specs.Tables.{NumberedContents};
-ghost use Rattle.scan.specs.Counts.{AreCounted};
+ghost use Rattle.scan.specs.Counts.{AreAmountsCounted};
 ghost use Rattle.scan.specs.Parts.{in_parts};
 
 use crate::amounts::Amounts;
@@ -37,7 +37,7 @@ pub(crate) fn count_held<C: Comparator + 'static>(
 ) -> Result<(), Fault>
     requires same { sum_by (λ files. length files.items) levels.now ≡ length held.now }
     requires number { length amounts.old ≡ length levels.now }
-    ensures counted { OnOk result (AreCounted last
+    ensures counted { OnOk result (AreAmountsCounted last
         (map (λ lists. entries_in C.cmp (key_range range.entry) (entries_of_lists lists))
         (in_parts (map (λ files. length files.items) levels.now)
         (map (λ (t : NumberedContents). t.contents.entries) held.now)))
@@ -60,7 +60,7 @@ fn count_tables<'t, C: Comparator + 't>(
 ) -> Result<(), Fault>
     requires same { sum_by (λ files. length files.items) levels.now ≡ length tables.now }
     requires number { length amounts.old ≡ length levels.now }
-    ensures counted { OnOk result (AreCounted last
+    ensures counted { OnOk result (AreAmountsCounted last
         (map (λ lists. entries_in C.cmp (key_range range.entry) (entries_of_lists lists))
         (in_parts (map (λ files. length files.items) levels.now)
         (map (λ t. t.now.entries) tables.now)))

@@ -9,7 +9,7 @@ ghost use Rattle.split.specs.Ranges.{key_range};
 ghost use Rattle.keep.specs.InRange.{entries_in};
 ghost use Rattle.reads.specs.Tables.{NumberedContents};
 ghost use Rattle.checks.specs.HeldTables.{AreHeldIn};
-ghost use Rattle.scan.specs.Counts.{AreCounted, capped_files};
+ghost use Rattle.scan.specs.Counts.{AreAmountsCounted, capped_files};
 ghost use Rattle.scan.specs.LevelCounts.{AreLevelsIn, all_of_levels, lists_of_levels};
 ghost use Rattle.scan.specs.Stats.{amounts_of, told_amounts};
 
@@ -104,7 +104,7 @@ fn count_range<C: SharedComparator + 'static, F: Folder, R: Threads + Sync>(
         Tells (F.tells folder.old) files →
         AreLevelsIn C.cmp files next (map (λ fs. map (λ f. f.now) fs.items) levels.now) tables →
         AreHeldIn C.cmp files held.old →
-        OnOk result (AreCounted last (map (entries_in C.cmp (key_range range.entry))
+        OnOk result (AreAmountsCounted last (map (entries_in C.cmp (key_range range.entry))
         (lists_of_levels tables (map (λ fs. map (λ f. f.now) fs.items) levels.now)))
         amounts.old amounts.new) }
     ensures errors { (files : Files) (next : Option ℕ) (tables : List NumberedContents) →

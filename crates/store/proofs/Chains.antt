@@ -19,7 +19,7 @@ use Rattle.coding.proofs.Binds.{ok_is}
 use Rattle.install.specs.Install.{IsBeforeOrAfter, next_version_tables}
 use Rattle.install.specs.Told.{AreTold}
 use Rattle.settings.specs.declared.settings.Settings.{Settings}
-use Rattle.store.specs.AllLevels.{AnswersAs, CompactionLink, IsAtLink, IsChain, IsLink, last_tables, last_version}
+use Rattle.store.specs.AllLevels.{AnswersAs, CompactionLink, IsAtLink, AreLinked, IsLink, last_tables, version_at_end}
 use Rattle.store.specs.FolderRequest.{last_of, manifest_of}
 
 -- ---- moments
@@ -56,7 +56,7 @@ told_more tells told now next (l ∷ all) lines h one = (h.0, h.1, told_more tel
 
 -- ---- links
 
-pub version_then : (v : State) (links : List CompactionLink) (l : CompactionLink) → last_version v (links ++ l ∷ []) ≡ l.version
+pub version_then : (v : State) (links : List CompactionLink) (l : CompactionLink) → version_at_end v (links ++ l ∷ []) ≡ l.version
 version_then v [] l = refl
 version_then v (k ∷ links) l = version_then k.version links l
 
@@ -74,11 +74,11 @@ module _ (cmp : List ℕ → List ℕ → Ordering) (order : Order) (v : State) 
   at_more links l files (inr h) = inr (h.0, Contains-append_left links (l ∷ []) h.0 h.1, h.2)
 
   -- files that read as what the links leave are at one of them
-  pub at_last : (links : List CompactionLink) (files : Files) → ReadsAs cmp order (last_version v links) (last_tables loaded links) files → IsAtLink cmp order v loaded links files
+  pub at_last : (links : List CompactionLink) (files : Files) → ReadsAs cmp order (version_at_end v links) (last_tables loaded links) files → IsAtLink cmp order v loaded links files
   at_last [] files h = inl h
   at_last (l ∷ links) files h = later (at_any l.version l.tables l links files h)
     where
-      at_any : (w : State) (ts : List (ℕ × List ℕ)) (k : CompactionLink) (ks : List CompactionLink) (files : Files) → ReadsAs cmp order (last_version w ks) (last_tables ts ks) files
+      at_any : (w : State) (ts : List (ℕ × List ℕ)) (k : CompactionLink) (ks : List CompactionLink) (files : Files) → ReadsAs cmp order (version_at_end w ks) (last_tables ts ks) files
           → ReadsAs cmp order w ts files ⊎ ((j : CompactionLink) × Contains ks j × ReadsAs cmp order j.version j.tables files)
       at_any w ts k [] files h = inl h
       at_any w ts k (j ∷ ks) files h = elim (at_any j.version j.tables k ks files h) [
@@ -91,13 +91,13 @@ module _ (cmp : List ℕ → List ℕ → Ordering) (order : Order) (v : State) 
       later (inr more) = inr (more.0, later_in l links more.0 more.1, more.2)
 
   -- before or after one more
-  pub at_next : (links : List CompactionLink) (l : CompactionLink) (files : Files) → IsBeforeOrAfter cmp order (last_version v links) (last_tables loaded links) l.version l.tables files → IsAtLink cmp order v loaded (links ++ l ∷ []) files
+  pub at_next : (links : List CompactionLink) (l : CompactionLink) (files : Files) → IsBeforeOrAfter cmp order (version_at_end v links) (last_tables loaded links) l.version l.tables files → IsAtLink cmp order v loaded (links ++ l ∷ []) files
   at_next links l files (inl h) = at_more links l files (at_last links files h)
   at_next links l files (inr h) = inr (l, link_last links l, h)
 
 module _ (order : Order) (cmp : List ℕ → List ℕ → Ordering) (short_keys : ShortKeys) (s : Settings) (bottom : ℕ) where
-  pub chain_then : (v : State) (loaded : List (ℕ × List ℕ)) (links : List CompactionLink) (l : CompactionLink) → IsChain order cmp short_keys s bottom v loaded links
-      → IsLink order cmp short_keys s bottom (last_version v links) (last_tables loaded links) l → IsChain order cmp short_keys s bottom v loaded (links ++ l ∷ [])
+  pub chain_then : (v : State) (loaded : List (ℕ × List ℕ)) (links : List CompactionLink) (l : CompactionLink) → AreLinked order cmp short_keys s bottom v loaded links
+      → IsLink order cmp short_keys s bottom (version_at_end v links) (last_tables loaded links) l → AreLinked order cmp short_keys s bottom v loaded (links ++ l ∷ [])
   chain_then v loaded [] l h one = (one, tt)
   chain_then v loaded (k ∷ links) l h one = (h.0, chain_then k.version k.tables links l h.1 one)
 
@@ -131,8 +131,8 @@ module _ (order : Order) (cmp : List ℕ → List ℕ → Ordering) (short_keys 
       }
 
   -- after a chain of compactions of a lawful version
-  pub chain_kept : (v : State) (loaded : List (ℕ × List ℕ)) (tables : List NumberedContents) (links : List CompactionLink) → IsLawfulTables cmp v loaded (Ok tables) → IsChain order cmp short_keys s bottom v loaded links
-      → IsKept v tables (last_version v links) (last_tables loaded links) (length links)
+  pub chain_kept : (v : State) (loaded : List (ℕ × List ℕ)) (tables : List NumberedContents) (links : List CompactionLink) → IsLawfulTables cmp v loaded (Ok tables) → AreLinked order cmp short_keys s bottom v loaded links
+      → IsKept v tables (version_at_end v links) (last_tables loaded links) (length links)
   chain_kept v loaded tables [] lawful h = record { answers = record { tables_next = tables; lawful = lawful; gets = λ user at read. refl }; last = refl; rises = omega arith }
   chain_kept v loaded tables (l ∷ links) lawful h =
       let first = one_kept v loaded tables l lawful h.0 in
@@ -154,12 +154,12 @@ module _ (order : Order) (cmp : List ℕ → List ℕ → Ordering) (short_keys 
   small_by : (v : State) (loaded : List (ℕ × List ℕ)) (l : CompactionLink) → IsLink order cmp short_keys s bottom v loaded l → manifest_of l.version < 2 ^ 64
   small_by v loaded l h = subst (λ (n : State). manifest_of n < 2 ^ 64) (sym h.version_is) h.compacted.edited.small
 
-  pub chain_small : (v : State) (loaded : List (ℕ × List ℕ)) (links : List CompactionLink) → manifest_of v < 2 ^ 64 → IsChain order cmp short_keys s bottom v loaded links → manifest_of (last_version v links) < 2 ^ 64
+  pub chain_small : (v : State) (loaded : List (ℕ × List ℕ)) (links : List CompactionLink) → manifest_of v < 2 ^ 64 → AreLinked order cmp short_keys s bottom v loaded links → manifest_of (version_at_end v links) < 2 ^ 64
   chain_small v loaded [] small h = small
   chain_small v loaded (l ∷ links) small h = chain_small l.version l.tables links (small_by v loaded l h.0) h.1
 
   -- after some compactions the number of the manifest is above as many, and one of 64 bits
-  pub chain_bound : (v : State) (loaded : List (ℕ × List ℕ)) (tables : List NumberedContents) (links : List CompactionLink) → IsLawfulTables cmp v loaded (Ok tables) → IsChain order cmp short_keys s bottom v loaded links → 0 < length links → length links + 1 < 2 ^ 64
+  pub chain_bound : (v : State) (loaded : List (ℕ × List ℕ)) (tables : List NumberedContents) (links : List CompactionLink) → IsLawfulTables cmp v loaded (Ok tables) → AreLinked order cmp short_keys s bottom v loaded links → 0 < length links → length links + 1 < 2 ^ 64
   chain_bound v loaded tables [] lawful h some = absurd (omega arith)
   chain_bound v loaded tables (l ∷ links) lawful h some =
       let rises = (chain_kept v loaded tables (l ∷ links) lawful h).rises in

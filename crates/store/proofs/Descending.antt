@@ -23,7 +23,7 @@ use Rattle.install.proofs.Moments.{nothing_done}
 use Rattle.install.specs.Install.{AlwaysStandsAs, next_version_tables}
 use Rattle.install.specs.Told.{AreTold}
 use Rattle.settings.specs.declared.settings.Settings.{Settings}
-use Rattle.store.specs.AllLevels.{AnswersAs, CompactionLink, IsAtLink, IsChain, IsDescended, IsEndOf, IsNextRefused, last_tables, last_version}
+use Rattle.store.specs.AllLevels.{AnswersAs, CompactionLink, IsAtLink, AreLinked, IsDescended, IsEndOf, IsNextRefused, last_tables, version_at_end}
 use Rattle.store.specs.Answers.{IsLoadedCompacted}
 use Rattle.store.specs.Descent.{IsBottom, IsNextLevel}
 use Rattle.store.specs.FolderRequest.{manifest_of}
@@ -40,15 +40,15 @@ module _ (order : Order) (cmp : List ℕ → List ℕ → Ordering) (short_keys 
   -- the compactions so far, and what they left
   pub record SoFar (now : List Step) (mid : List ℕ → Option (List ℕ) → Type 0) (told_now : W) (manifest : ℕ) (version : State) (bottom count : ℕ) : Type 0 where
     pub links : List CompactionLink
-    pub chain : IsChain order cmp short_keys s bottom v loaded links
+    pub chain : AreLinked order cmp short_keys s bottom v loaded links
     pub count_is : length links ≡ count
-    pub version_is : version ≡ last_version v links
+    pub version_is : version ≡ version_at_end v links
     pub lines : AreTold tells told (map (λ (l : CompactionLink). l.lines) links) told_now
     pub any_moment : (start : World) → AlwaysStandsAs cmp order v loaded start before → LeavesOnly start before now (IsAtLink cmp order v loaded links)
-    pub stands : (start : World) → AlwaysStandsAs cmp order v loaded start before → AlwaysStandsAs cmp order (last_version v links) (last_tables loaded links) start now
+    pub stands : (start : World) → AlwaysStandsAs cmp order v loaded start before → AlwaysStandsAs cmp order (version_at_end v links) (last_tables loaded links) start now
     pub files_now : Files
     pub holds : Tells mid files_now
-    pub reads : ReadsAs cmp order (last_version v links) (last_tables loaded links) files_now
+    pub reads : ReadsAs cmp order (version_at_end v links) (last_tables loaded links) files_now
     pub named : files_now (codes "CURRENT") ≡ Some (current_text manifest)
 
   same_moment : (start : World) (P Q : Files → Type 0) → ((f : Files) → P f → Q f) → LeavesOnly start before before P → LeavesOnly start before before Q
@@ -72,7 +72,7 @@ module _ (order : Order) (cmp : List ℕ → List ℕ → Ordering) (short_keys 
 
   module _ (now : List Step) (mid : List ℕ → Option (List ℕ) → Type 0) (told_now : W) (manifest : ℕ) (version : State) (bottom count : ℕ) (so_far : SoFar now mid told_now manifest version bottom count) where
     abbrev last : State
-    last = last_version v so_far.links
+    last = version_at_end v so_far.links
 
     abbrev held : List (ℕ × List ℕ)
     held = last_tables loaded so_far.links
@@ -106,7 +106,7 @@ module _ (order : Order) (cmp : List ℕ → List ℕ → Ordering) (short_keys 
           is_bottom = bottom_is;
           links = so_far.links;
           begun = [];
-          chain = subst (IsChain order cmp short_keys s bottom v loaded) (sym all) so_far.chain;
+          chain = subst (AreLinked order cmp short_keys s bottom v loaded) (sym all) so_far.chain;
           lines = subst (AreTold tells told (map (λ (l : CompactionLink). l.lines) so_far.links)) (sym lines) so_far.lines;
           any_moment = λ start stands.
               subst (λ (a : List Step). LeavesOnly start before a (IsAtLink cmp order v loaded (so_far.links ++ []))) (sym is)
@@ -131,7 +131,7 @@ module _ (order : Order) (cmp : List ℕ → List ℕ → Ordering) (short_keys 
         abbrev link : CompactionLink
         link = record { level = level; lines = i.lines; version = i.compacted.edited.next; tables = next_version_tables cmp i.compacted.edited.next i.answer.tables held }
 
-        more : IsChain order cmp short_keys s bottom v loaded (so_far.links ++ link ∷ [])
+        more : AreLinked order cmp short_keys s bottom v loaded (so_far.links ++ link ∷ [])
         more = chain_then order cmp short_keys s bottom v loaded so_far.links link so_far.chain (record { next_level = next_level; answer = i.answer; compacted = i.compacted; version_is = refl; tables_are = refl })
 
         moments : (start : World) → AlwaysStandsAs cmp order v loaded start before → LeavesOnly start before after (IsAtLink cmp order v loaded (so_far.links ++ link ∷ []))
@@ -140,7 +140,7 @@ module _ (order : Order) (cmp : List ℕ → List ℕ → Ordering) (short_keys 
             (at_more cmp order v loaded so_far.links link) (at_next cmp order v loaded so_far.links link) (so_far.any_moment start stands) (i.survives.any_moment start (so_far.stands start stands))
 
       -- the version that it leaves is the next one
-      next_version : (r : Result CompactionStep Fault) (i : IsStepInstalled order cmp short_keys last held level s now after mid new r) → last_version v (so_far.links ++ link r i ∷ []) ≡ i.compacted.edited.next
+      next_version : (r : Result CompactionStep Fault) (i : IsStepInstalled order cmp short_keys last held level s now after mid new r) → version_at_end v (so_far.links ++ link r i ∷ []) ≡ i.compacted.edited.next
       next_version r i = version_then v so_far.links (link r i)
 
       next_tables : (r : Result CompactionStep Fault) (i : IsStepInstalled order cmp short_keys last held level s now after mid new r) → last_tables loaded (so_far.links ++ link r i ∷ []) ≡ next_version_tables cmp i.compacted.edited.next i.answer.tables held
@@ -234,7 +234,7 @@ module _ (order : Order) (s : Settings) (v : State) (loaded : List (ℕ × List 
   keys = order_short_keys order
 
   abbrev after_all : State
-  after_all = last_version v so_far.links
+  after_all = version_at_end v so_far.links
 
   abbrev tables_held : List (ℕ × List ℕ)
   tables_held = last_tables loaded so_far.links
@@ -277,7 +277,7 @@ module _ (order : Order) (s : Settings) (v : State) (loaded : List (ℕ × List 
   ended_after bottom_is first_failed r t result end memory =
       let more = more_by r t in
       ended order cmp keys s v loaded tables lawful before tells told after new told_after (manifest_of after_all) t.installed.compacted.edited.next bottom (count + 1) more bottom_is after new first_failed now_failed told_after result
-      refl (same_tells new) refl (end (last_version v more.links)) (all_memory _ result memory)
+      refl (same_tells new) refl (end (version_at_end v more.links)) (all_memory _ result memory)
     where
       all_memory : (P : Fault → Type 0) (q : Result DescentEnd Fault) → IfErr q (λ e. e ≡ fault Memory) → IfErr q (λ e. UnlessMemory e (P e))
       all_memory P (Ok x) h = tt

@@ -49,17 +49,17 @@ pub record IsLink (order : Order) (cmp : List ℕ → List ℕ → Ordering) (sh
   pub tables_are : l.tables ≡ next_version_tables cmp compacted.edited.next answer.tables loaded
 
 -- compactions, each of the version and the tables that the one before it leaves
-abbrev pub IsChain : Order → (List ℕ → List ℕ → Ordering) → ShortKeys → Settings → ℕ → State →
+abbrev pub AreLinked : Order → (List ℕ → List ℕ → Ordering) → ShortKeys → Settings → ℕ → State →
     List (ℕ × List ℕ) → List CompactionLink → Type 0
-IsChain order cmp short_keys s bottom v loaded [] = Unit {0}
-IsChain order cmp short_keys s bottom v loaded (l ∷ links) =
+AreLinked order cmp short_keys s bottom v loaded [] = Unit {0}
+AreLinked order cmp short_keys s bottom v loaded (l ∷ links) =
     IsLink order cmp short_keys s bottom v loaded l
-    × IsChain order cmp short_keys s bottom l.version l.tables links
+    × AreLinked order cmp short_keys s bottom l.version l.tables links
 
 -- the version that they leave
-abbrev pub last_version : State → List CompactionLink → State
-last_version v [] = v
-last_version v (l ∷ links) = last_version l.version links
+abbrev pub version_at_end : State → List CompactionLink → State
+version_at_end v [] = v
+version_at_end v (l ∷ links) = version_at_end l.version links
 
 -- its tables
 abbrev pub last_tables : List (ℕ × List ℕ) → List CompactionLink → List (ℕ × List ℕ)
@@ -111,19 +111,20 @@ pub record IsDescended {W : Type 0} (tells : W → List ℕ → W → Type 0) (o
   pub is_bottom : IsBottom v bottom
   pub links : List CompactionLink
   pub begun : List CompactionLink
-  pub chain : IsChain order cmp short_keys s bottom v loaded (links ++ begun)
+  pub chain : AreLinked order cmp short_keys s bottom v loaded (links ++ begun)
   pub lines : AreTold tells told (map (λ (l : CompactionLink). l.lines) links) told_now
   pub any_moment : (start : World) → AlwaysStandsAs cmp order v loaded start before →
       LeavesOnly start before after (IsAtLink cmp order v loaded (links ++ begun))
   pub files_now : Files
   pub holds : Tells new files_now
   pub read : IsAtLink cmp order v loaded (links ++ begun) files_now
-  pub answers : AnswersAs cmp s v tables (last_version v links) (last_tables loaded links)
+  pub answers : AnswersAs cmp s v tables (version_at_end v links) (last_tables loaded links)
   pub installed : (start : World) → AlwaysStandsAs cmp order v loaded start before → OnOk result
-      (AlwaysStandsAs cmp order (last_version v links) (last_tables loaded links) start after)
-  pub ended : IfOk result (IsEndOf (last_version v links) bottom)
+      (AlwaysStandsAs cmp order (version_at_end v links) (last_tables loaded links) start after)
+  pub ended : IfOk result (IsEndOf (version_at_end v links) bottom)
   pub refused : IfErr result (λ e. UnlessMemory e (IsStopped failed now e
-      ⊎ IsNextRefused cmp short_keys s bottom (last_version v links) (last_tables loaded links) e))
+      ⊎ IsNextRefused cmp short_keys s bottom (version_at_end v links) (last_tables loaded links)
+      e))
 
 -- No file of the version is above its bottom, so nothing was changed, tested or told.
 pub record IsAtBottom {W : Type 0} (v : State) (before after : List Step)

@@ -57,8 +57,8 @@ numbered_request first v loaded p s = ok_or (first_output v first) (fault Number
     λ number. Ok (request_from number v loaded p s)
 
 -- What a compaction of these inputs answers, for outputs with the numbers after the manifest's, or
--- from a first one on that is asked for: SplitCount if the ranges are outside 1 to 4,096, then
--- Numbers if there is no such first number, then what the request for them answers.
+-- from a first one on that is asked for. It is SplitCount if the ranges are outside 1 to 4,096,
+-- then Numbers if there is no such first number, then what the request for them answers.
 abbrev pub compaction_from : Option ℕ → (List ℕ → List ℕ → Ordering) → ShortKeys →
     State → List (ℕ × List ℕ) → PickedInputs → Settings → Result Answer Fault
 compaction_from first cmp short_keys v loaded p s = do

@@ -17,8 +17,8 @@ use Rattle.settings.specs.declared.settings.Settings.{Settings}
 use Rattle.ikey.specs.Comparator.{ShortKeys}
 
 -- If inputs are picked from a lawful version, and its log numbers are below 2^64, the request for
--- them is one over the version: the bytes loaded of each input are those of its table, and the
--- numbers of its outputs are free.
+-- them is one over the version. That is: the bytes loaded of each input are those of its table, and
+-- the numbers of its outputs are free.
 abbrev pub OverLaw : (List ℕ → List ℕ → Ordering) → Type 0
 OverLaw cmp =
     (v : State) (loaded : List (ℕ × List ℕ)) (tables : List NumberedContents) (level : ℕ)
@@ -28,10 +28,10 @@ OverLaw cmp =
     (request_of v loaded p s).previous_log < 2 ^ 64 →
     IsOver v tables (request_of v loaded p s)
 
--- If moreover all files are at levels up to 6, what one thread answers to that request makes an
--- edited version, by a manifest whose number is the version's next file. The tables that its
--- installation leaves are read, the edited version is lawful with them, and each get at a readable
--- sequence answers as before.
+-- If moreover all files are at levels up to 6, that request's answer by one thread makes an edited
+-- version, by a manifest whose number is the version's next file. The tables that its installation
+-- leaves are read, the edited version is lawful with them, and each get at a readable sequence
+-- answers as before.
 abbrev pub JointLaw : (List ℕ → List ℕ → Ordering) → ShortKeys → Type 0
 JointLaw cmp short_keys =
     (order : Order) (v : State) (loaded : List (ℕ × List ℕ)) (tables : List NumberedContents)

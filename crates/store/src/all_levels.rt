@@ -49,8 +49,10 @@ pub fn compact_all<F: Folder, T: InstallWatch, W: Watch + Sync, R: Threads + Syn
     told: &mut T,
 ) -> Result<DescentEnd, Fault>
     // If the folder tells files that open as this version in this order, and CURRENT is the one
-    // that was opened: the test is refused; or no file is above the bottom; or the version is
-    // lawful, and compactions are made.
+    // that was opened, one of these holds:
+    // - the test is refused;
+    // - no file is above the bottom;
+    // - the version is lawful, and compactions are made.
     ensures left { (files : Files) → Tells (F.tells folder.old) files →
         files (codes "CURRENT") ≡ Some (current_text opened.manifest) →
         IsOpened (IsHeldIn files) (Ok (opened.order, opened.version)) →
@@ -68,7 +70,8 @@ pub fn compact_all<F: Folder, T: InstallWatch, W: Watch + Sync, R: Threads + Syn
 }
 
 /// Compacts the first level of what a folder was `opened` as that has a file, and so on with what
-/// that leaves, until all files are at the bottom: the deepest level that had one, or level 1.
+/// that leaves, until all files are at the bottom. The bottom is the deepest level that had a file,
+/// or level 1.
 ///
 /// Each compaction is told to `told` when it is installed. It tests nothing of the version but what
 /// `compact_inputs` tests: its caller knows that the version is lawful.

@@ -16,6 +16,7 @@ ghost use Rattle.folder.specs.declared.order.Order.{Order};
 ghost use Rattle.install.specs.Install.{table_bytes_of};
 ghost use Rattle.pick.specs.Picked.{picked_in};
 ghost use Rattle.request.specs.Inputs.{inputs_reading};
+ghost use Rattle.split.specs.declared.split.TheConstants.{MAX_RANGES};
 ghost use Rattle.store.specs.FolderRequest.{compaction_from};
 ghost use Rattle.store.specs.FoundInputs.{CanBeInstalled, answer_as};
 ghost use Rattle.store.specs.InputLaws.{with_inputs};
@@ -200,7 +201,7 @@ fn split_of<C: Comparator>(
     ranges: u64,
 ) -> Result<Split<C>, Fault>
     ensures { EqualOrMemory (λ split. tt) result
-        (test_result (nat_le 1 ranges && nat_le ranges 4096) SplitCount) }
+        (test_result (nat_le 1 ranges && nat_le ranges MAX_RANGES) SplitCount) }
 {
     Split::choose(alloc, tables, ranges)
 }

@@ -30,7 +30,7 @@ use std::alloc::Global;
 use std::thread::Threads;
 
 /// Compacts a `level` of what a folder was `opened` as, and installs the outcome. It reads the
-/// tables of the inputs and no other: so the caller says that the version is lawful, as after a
+/// tables of the inputs and no other. So the caller says that the version is lawful, as after a
 /// test of it, or as a compaction of a lawful version leaves it.
 ///
 /// What holds without that word: the answer, and that it writes over no file of the version.

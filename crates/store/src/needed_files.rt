@@ -22,9 +22,9 @@ use pick::{InputFile, inputs};
 use std::alloc::Global;
 
 /// The names of the files that [`outcome_of_inputs`](crate::outcome_of_inputs) needs of a folder to
-/// compact a `level` of what it was `opened` as, a line each: CURRENT, the manifest, and of each
-/// input in order the name under which its table is there, `%06d.ldb`, or else `%06d.sst`. It only
-/// reads, and no byte of a table.
+/// compact a `level` of what it was `opened` as, a line each. These are CURRENT, the manifest, and
+/// of each input in order the name under which its table is there, `%06d.ldb`, or else `%06d.sst`.
+/// It only reads, and no byte of a table.
 ///
 /// The first that applies:
 ///

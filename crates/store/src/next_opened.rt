@@ -14,11 +14,11 @@ use folder::{Opened, Order};
 use ikey::{Bytewise, Shortlex};
 use std::alloc::Global;
 
-/// What a folder is opened as after a `step`, a compaction of what it was `opened` as: its order,
-/// the version after the step's edit, and the manifest whose number was the version's next file. It
-/// reads nothing.
+/// What a folder is opened as after a `step`, a compaction of what it was `opened` as. That is its
+/// order, the version after the step's edit, and the manifest whose number was the version's next
+/// file. It reads nothing.
 ///
-/// Refused as the edit is: EditTag or EditField if its bytes are none, Comparator or Apply if it
+/// Refused as the edit is: EditTag or EditField if its bytes are invalid, Comparator or Apply if it
 /// doesn't fit. The edit of a compaction of a lawful version is never refused. The only other fault
 /// is Memory.
 pub fn opened_after(alloc: Global, opened: &Opened, step: &CompactionStep) -> Result<Opened, Fault>

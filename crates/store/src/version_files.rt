@@ -15,9 +15,9 @@ use edit::{FileMeta, Version};
 use ikey::Comparator;
 use std::alloc::Global;
 
-/// Tests what the files of a version tell of it by themselves: their numbers are below next file,
-/// and the ranges of the files of each level from 1 on rise. `Lawless` if they don't. The only
-/// other fault is Memory.
+/// Tests what the files of a version tell of it by themselves. Their numbers have to be below next
+/// file, and the ranges of the files of each level from 1 on have to rise. `Lawless` if one of
+/// these fails. The only other fault is Memory.
 pub fn test_files<C: Comparator>(alloc: Global, version: &Version) -> Result<(), Fault>
     ensures { HoldsOrMemory (λ u. u) result (IsOrderlyAnswer C.cmp version.now) }
 {

@@ -32,8 +32,8 @@ abbrev pub input_bytes_of : List NumberedContents → InputFile → Option (List
 input_bytes_of tables i =
     option_map (λ (t : Contents). t.bytes) (table_of_number tables i.meta.number)
 
--- A request is over a version with its tables: it has the bytes of the inputs' tables in order,
--- numbers its outputs from the version's next file on, and its log numbers are below 2 ^ 64.
+-- A request is over a version with its tables. It has the bytes of the inputs' tables in order, and
+-- numbers its outputs from the version's next file on. Its log numbers are below 2 ^ 64.
 pub record IsOver (v : State) (tables : List NumberedContents) (r : RequestView) : Type 0 where
   pub bytes : map (input_bytes_of tables) r.picked.files ≡ map (λ b. Some b) r.tables
   pub numbers : ForSome v.next_file (λ next. next ≤ r.first_number)

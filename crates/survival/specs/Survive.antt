@@ -60,7 +60,7 @@ pub record KeepsReads (cmp : KeyOrder) (v : State) (tables : List NumberedConten
       get_of after (tables_after cmp r.picked answer tables) user at ≡ get_of v tables user at
 
 -- What an answer leaves of each lawful version with files at levels up to 6 from which the
--- request's inputs were picked: the bytes of the edit read as an edit, and in the version that any
+-- request's inputs were picked. The bytes of the edit read as an edit, and in the version that any
 -- such edit makes reads survive.
 pub record LeavesReads (cmp : KeyOrder) (r : RequestView) (answer : Answer) : Type 0 where
   pub reads : (v : State) (tables : List NumberedContents) (level : ℕ) →

@@ -17,9 +17,9 @@ pub fn edit_applies<C: Comparator>()
     ensures { EditApplies C.cmp }
 {}
 
-/// The law of gets after a compaction. If the version after holds the entries of the files that
-/// stay, what is kept of the inputs' union, and no others, each get at a readable sequence answers
-/// as before. A call does nothing.
+/// The law of gets after a compaction. Let the version after hold the entries of the files that
+/// stay, what is kept of the inputs' union, and no others. Then each get at a readable sequence
+/// answers as before. A call does nothing.
 pub fn gets_after<C: Comparator>()
     ensures { GetsAfter C.cmp }
 {}

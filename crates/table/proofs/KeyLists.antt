@@ -1,7 +1,7 @@
 -- Keys, one after the other: one more of them, and one that is read.
 use Rattle.std.proofs.Common.{◌≡◌, ℕ, zero, suc, ◌+◌, ◌-◌, ◌<◌, ◌≤◌, List, [], ◌∷◌, ◌++◌, length, get_or, take, drop, refl, sym, ap, subst, ◌∙◌, arith}
 use Rattle.std.proofs.lemmas.List.{take-append-le, drop-append-le, length-append, length-drop, drop-drop}
-use Rattle.table.specs.KeyLists.{cut_at, AreKeyEnds, start_of}
+use Rattle.table.specs.KeyLists.{cut_at, AreKeyEnds, key_start}
 
 -- there is a key for each end
 pub counted : (from : ℕ) (ends bytes : List ℕ) → length (cut_at from ends bytes) ≡ length ends
@@ -43,7 +43,7 @@ ends_pushed from (end ∷ ends) bytes key to are is =
     (are.0, omega (arith, are.1, length-append bytes key), subst (AreKeyEnds end (ends ++ to ∷ [])) (sym (drop-append-le (end - from) bytes key within)) rest)
 
 -- it begins where the key before it ends
-pub start_is : (from : ℕ) (ends : List ℕ) (i : ℕ) → i < length ends → start_of from ends (suc i) ≡ get_or ends i 0
+pub start_is : (from : ℕ) (ends : List ℕ) (i : ℕ) → i < length ends → key_start from ends (suc i) ≡ get_or ends i 0
 start_is from [] i less = absurd (omega arith)
 start_is from (end ∷ ends) zero less = refl
 start_is from (end ∷ ends) (suc i) less = start_is end ends i (omega arith)
@@ -55,7 +55,7 @@ pub record IsCutAt (from : ℕ) (ends bytes : List ℕ) (i start : ℕ) : Type 0
   pub within : get_or ends i 0 ≤ from + length bytes
   pub key : get_or (cut_at from ends bytes) i [] ≡ take (get_or ends i 0 - start) (drop (start - from) bytes)
 
-pub cut_found : (from : ℕ) (ends bytes : List ℕ) (i : ℕ) → AreKeyEnds from ends bytes → i < length ends → IsCutAt from ends bytes i (start_of from ends i)
+pub cut_found : (from : ℕ) (ends bytes : List ℕ) (i : ℕ) → AreKeyEnds from ends bytes → i < length ends → IsCutAt from ends bytes i (key_start from ends i)
 cut_found from [] bytes i are less = absurd (omega arith)
 cut_found from (end ∷ ends) bytes zero are less =
     let here : 0 ≡ from - from = omega arith in
@@ -66,7 +66,7 @@ cut_found from (end ∷ ends) bytes zero are less =
       key = ap (λ (n : ℕ). take (end - from) (drop n bytes)) here;
     }
 cut_found from (end ∷ ends) bytes (suc i) are less =
-    let start = start_of end ends i in
+    let start = key_start end ends i in
     let rest = cut_found end ends (drop (end - from) bytes) i are.2 (omega arith) in
     let farther : end - from + (start - end) ≡ start - from = omega (arith, are.0, rest.begins) in
     record {
@@ -77,9 +77,9 @@ cut_found from (end ∷ ends) bytes (suc i) are less =
     }
 
 -- the same, of all bytes
-pub cut_is : (ends bytes : List ℕ) (i : ℕ) → AreKeyEnds 0 ends bytes → i < length ends → take (get_or ends i 0 - start_of 0 ends i) (drop (start_of 0 ends i) bytes) ≡ get_or (cut_at 0 ends bytes) i []
+pub cut_is : (ends bytes : List ℕ) (i : ℕ) → AreKeyEnds 0 ends bytes → i < length ends → take (get_or ends i 0 - key_start 0 ends i) (drop (key_start 0 ends i) bytes) ≡ get_or (cut_at 0 ends bytes) i []
 cut_is ends bytes i are less =
-    let start = start_of 0 ends i in
+    let start = key_start 0 ends i in
     let found = cut_found 0 ends bytes i are less in
     let here : start ≡ start - 0 = omega arith in
     ap (λ (n : ℕ). take (get_or ends i 0 - start) (drop n bytes)) here ∙ sym found.key

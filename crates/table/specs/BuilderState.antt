@@ -16,6 +16,7 @@ use Rattle.table.specs.Table.{IndexKeys, stored_blocks}
 use Rattle.table.specs.ReadingEntries.{first_key}
 use Rattle.table.specs.Flushed.{index_before}
 use Rattle.block.specs.declared.builder.TheConstants.{MAX_BLOCK_LEN}
+use Rattle.frame.specs.declared.trailer.TheConstants.{TRAILER_LEN}
 
 -- the entries of a block, of its bytes before the restarts
 unfoldable pub block_entries : List ℕ → List Entry
@@ -26,8 +27,8 @@ block_entries bytes =
 -- the entries of blocks of these sizes, each of which has its trailer
 abbrev pub blocks_in : List ℕ → List ℕ → List (List Entry)
 blocks_in bytes [] = []
-blocks_in bytes (size ∷ sizes) = block_entries (take size bytes) ∷ blocks_in (drop (size + 5) bytes)
-    sizes
+blocks_in bytes (size ∷ sizes) =
+    block_entries (take size bytes) ∷ blocks_in (drop (size + TRAILER_LEN) bytes) sizes
 
 -- the entries of parts, one part after the other
 abbrev pub entries_of_parts : List (List Entry) → List Entry

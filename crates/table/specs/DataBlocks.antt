@@ -5,6 +5,7 @@ use Rattle.std.specs.Prelude.{[], ◌∷◌, ◌++◌, length, take, ◌⊎◌, 
 use Rattle.std.specs.List.{sum_by}
 use Rattle.block.specs.EncodedEntry.{Entry}
 use Rattle.block.specs.BlockFormat.{block}
+use Rattle.frame.specs.declared.trailer.TheConstants.{TRAILER_LEN}
 use Rattle.table.specs.declared.options.Options.{Options}
 
 -- whether there is an entry, and the block of the entries has reached the block size
@@ -28,8 +29,8 @@ blocks_behind o latest (e ∷ es) =
 unfoldable pub data_blocks : Options → List Entry → List (List Entry)
 data_blocks o q = blocks_behind o [] q
 
--- p is a data block, with these entries after it: it has an entry, no shorter beginning of it is
--- full, and it is full itself unless nothing comes after it
+-- p is a data block, with these entries after it. It has an entry, no shorter beginning of it is
+-- full, and it is full itself unless nothing comes after it.
 pub record IsDataBlock (o : Options) (p rest : List Entry) : Type 0 where
   pub some : p ≢ []
   pub shortest : (n : ℕ) → n < length p → is_full o (take n p) ≡ false
@@ -49,7 +50,7 @@ DataBlocksLaw = (o : Options) (q : List Entry) (parts : List (List Entry)) →
 
 -- what a data block adds to the flushed size: its bytes and the 5 of its trailer, if it is full
 abbrev pub flushed_len : Options → List Entry → ℕ
-flushed_len o p = if is_full o p then length (block o.restart_interval p) + 5 else 0
+flushed_len o p = if is_full o p then length (block o.restart_interval p) + TRAILER_LEN else 0
 
 -- the flushed size of a list: of all its data blocks, an open last one not counted
 unfoldable pub flushed : Options → List Entry → ℕ

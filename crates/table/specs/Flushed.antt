@@ -3,6 +3,7 @@ use Rattle.std.specs.Prelude.{ℕ, ◌+◌, List, [], ◌∷◌, map, length}
 use Rattle.block.specs.EncodedEntry.{Entry}
 use Rattle.block.specs.BlockFormat.{block}
 use Rattle.block.specs.BuilderView.{last_key}
+use Rattle.frame.specs.declared.trailer.TheConstants.{TRAILER_LEN}
 use Rattle.table.specs.declared.flushed_block.FlushedBlock.{FlushedBlock}
 use Rattle.table.specs.Table.{IndexKeys, handle_entry}
 use Rattle.table.specs.ReadingEntries.{first_key}
@@ -28,4 +29,4 @@ index_before keys interval at [] behind = []
 index_before keys interval at (p ∷ ps) behind =
     flushed_block_at (keys.between (last_key [] p) (next_key ps behind)) at
     (length (block interval p))
-    ∷ index_before keys interval (at + length (block interval p) + 5) ps behind
+    ∷ index_before keys interval (at + length (block interval p) + TRAILER_LEN) ps behind

@@ -13,7 +13,7 @@ AreKeyEnds from (end ∷ ends) bytes = (from ≤ end) × (end ≤ from + length 
     × AreKeyEnds end ends (drop (end - from) bytes)
 
 -- where the key at a place begins
-abbrev pub start_of : ℕ → List ℕ → ℕ → ℕ
-start_of from ends zero = from
-start_of from [] (suc i) = from
-start_of from (end ∷ ends) (suc i) = start_of end ends i
+abbrev pub key_start : ℕ → List ℕ → ℕ → ℕ
+key_start from ends zero = from
+key_start from [] (suc i) = from
+key_start from (end ∷ ends) (suc i) = key_start end ends i

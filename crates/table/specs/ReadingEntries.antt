@@ -29,9 +29,10 @@ abbrev pub is_above : KeyOrder → Option (List ℕ) → List ℕ → Bool
 is_above cmp None key = true
 is_above cmp (Some before) key = is_lt (internal_cmp cmp before key)
 
--- The tests of an entry after the key `before`: its key is an internal key (Key) and within its
--- limit (TooLarge), its value is within its limit (TooLarge), and its key is above `before`
--- (Order).
+-- The tests of an entry after the key `before`:
+-- - its key is an internal key (Key) and within its limit (TooLarge);
+-- - its value is within its limit (TooLarge);
+-- - its key is above `before` (Order).
 abbrev pub entry_test : KeyOrder → Option (List ℕ) → Entry → Result (Unit {0}) Fault
 entry_test cmp before e = do
   _ ← internal_key_reading e.key

@@ -33,7 +33,7 @@ one_handle (Some found) = handle_alone found.handle found.rest
 abbrev pub stored_at : List ℕ → BlockHandle → Result (List ℕ) Fault
 stored_at bytes handle =
     if nat_le (handle.offset + handle.size + TRAILER_LEN + FOOTER_LEN) (length bytes)
-    then Ok (take (handle.size + 5) (drop handle.offset bytes)) else Err (fault Range)
+    then Ok (take (handle.size + TRAILER_LEN) (drop handle.offset bytes)) else Err (fault Range)
 
 -- the entries of a stored block, or the first test that it fails: its checksum, its type, its
 -- contents

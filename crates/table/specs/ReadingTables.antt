@@ -65,7 +65,10 @@ AreBetween cmp [] = Unit {0}
 AreBetween cmp (b ∷ bs) = (internal_cmp cmp (last_key [] b.entries) b.index_key ≢ Greater)
     × IsBelowNextBlock cmp b.index_key bs × AreBetween cmp bs
 
--- The bytes are a table of these entries. The metaindex is a block of any entries.
+-- The bytes are a table of these entries. The metaindex is a block of any entries. A cross-check of
+-- `table_reading`, which takes the parts out of the bytes: this says of which parts the bytes are
+-- joined. `reads_tables` is the law that both agree on bytes, for the order of any comparator. Both
+-- rest on `internal_key_reading` and `internal_cmp`.
 pub record IsTable (cmp : KeyOrder) (bytes : List ℕ) (entries : List Entry) : Type 0 where
   pub footer : Footer
   pub ignored : List Entry

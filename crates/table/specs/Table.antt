@@ -14,6 +14,7 @@ use Rattle.frame.specs.Handle.{handle_bytes}
 use Rattle.frame.specs.Trailer.{stored_block}
 use Rattle.frame.specs.Footer.{footer_bytes}
 use Rattle.frame.specs.declared.footer.Footer.{Footer}
+use Rattle.frame.specs.declared.trailer.TheConstants.{TRAILER_LEN}
 use Rattle.table.specs.declared.options.Options.{Options}
 use Rattle.table.specs.DataBlocks.{data_blocks}
 use Rattle.table.specs.ReadingEntries.{first_key}
@@ -47,7 +48,7 @@ abbrev pub index_from : IndexKeys → ℕ → ℕ → List (List Entry) → List
 index_from keys interval at [] = []
 index_from keys interval at (p ∷ ps) =
     handle_entry (index_key keys p ps) at (length (block interval p)) ∷ index_from keys interval
-    (at + length (block interval p) + 5) ps
+    (at + length (block interval p) + TRAILER_LEN) ps
 
 -- data blocks, each with its trailer
 abbrev pub stored_blocks : ℕ → List (List Entry) → List ℕ
@@ -61,7 +62,7 @@ metaindex = block 1 []
 abbrev pub footer_at : ℕ → ℕ → Footer
 footer_at at size = record {
   metaindex = record { offset = at; size = length metaindex };
-  index = record { offset = at + length metaindex + 5; size = size };
+  index = record { offset = at + length metaindex + TRAILER_LEN; size = size };
 }
 
 -- what comes after the data blocks: the metaindex, the index and the footer

@@ -1,6 +1,6 @@
 //! The data blocks of a table that were flushed.
 
-ghost use Rattle.std.specs.Prelude.{◌≡◌, ◌<◌, ◌^◌, ◌++◌, ◌∷◌, [], length, IfOk, IfErr};
+ghost use Rattle.std.specs.Prelude.{◌≡◌, ◌<◌, ◌++◌, ◌∷◌, [], length, IfOk, IfErr};
 ghost use Rattle.std.specs.Prelude.{OnOk, OnErr, IsOkUnless, Ok};
 ghost use Rattle.coding.specs.Answers.{EqualOrMemory, UnlessMemory, fault};
 ghost use Rattle.coding.specs.declared.fault.FaultName.TheVariants.{Memory, TooLarge};
@@ -8,6 +8,7 @@ ghost use Rattle.block.specs.BlockFormat.{block};
 ghost use Rattle.frame.specs.Trailer.{stored_block};
 ghost use Rattle.table.specs.Flushed.{flushed_block_at, index_entries};
 ghost use Rattle.table.specs.Table.{closing_bytes, within_limit};
+ghost use Rattle.table.specs.declared.table_check.TheConstants.{MAX_TABLE_LEN};
 
 use crate::flushed_block::FlushedBlock;
 use crate::layout::{push_closing, push_index_entry, push_stored};
@@ -85,7 +86,7 @@ fn index_block(alloc: Global, index: &[FlushedBlock]) -> Result<BlockBuilder, Fa
     ensures ok { IfOk result (λ b. b ≡ record { interval = 1; entries = index_entries index.now }) }
     ensures err { IfErr result
         (λ e. UnlessMemory e ((e
-        ≡ fault TooLarge) × (2 ^ 30 < length (block 1 (index_entries index.now))))) }
+        ≡ fault TooLarge) × (MAX_TABLE_LEN < length (block 1 (index_entries index.now))))) }
 {
     let mut entries = BlockBuilder::new(alloc, 1);
     let mut spelling = Vec::new(alloc);

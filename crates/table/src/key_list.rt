@@ -3,7 +3,7 @@
 ghost use Rattle.std.specs.Prelude.{◌≡◌, ◌+◌, ◌<◌, ◌↔◌, [], ◌∷◌, ◌++◌, length, slice_index_or};
 ghost use Rattle.std.specs.Prelude.{IsTrue, OnOk, OnErr, IsOkUnless};
 ghost use Rattle.coding.specs.Answers.{fault};
-ghost use Rattle.table.specs.KeyLists.{cut_at, AreKeyEnds, start_of};
+ghost use Rattle.table.specs.KeyLists.{cut_at, AreKeyEnds, key_start};
 ghost use Rattle.coding.specs.declared.fault.FaultName.TheVariants.{Memory};
 
 use coding::Fault;
@@ -90,7 +90,7 @@ fn cut<'k>(bytes: &'k [u8], ends: &[usize], place: usize) -> &'k [u8]
 /// Where the key at `place` begins.
 fn start_of(ends: &[usize], place: usize) -> usize
     requires { place < length ends.now }
-    ensures { result ≡ start_of 0 ends.now place }
+    ensures { result ≡ key_start 0 ends.now place }
 {
     if place == 0 { 0 } else { ends[place - 1] }
 }

@@ -44,14 +44,19 @@ pub const MAX_VALUE_LEN: usize = 16_777_215;
 /// 5. the metaindex, and then the index, is before the footer: `Range`;
 /// 6. the metaindex is a stored block: (1);
 /// 7. the index is a stored block: (1);
-/// 8. of each entry of the index in order: the key is an internal key: `Key`; its user key has at
-///    most 65,535 bytes: `TooLarge`; the value is one handle: `Handle`; what it points at is before
-///    the footer: `Range`;
+/// 8. of each entry of the index in order:
+///    - the key is an internal key: `Key`;
+///    - its user key has at most 65,535 bytes: `TooLarge`;
+///    - the value is one handle: `Handle`;
+///    - what it points at is before the footer: `Range`;
 /// 9. the index has an entry: `Empty`;
-/// 10. of each data block in the order of the index: it is a stored block: (1); it has an entry:
-///     `Empty`; and of each entry in order: the key is an internal key: `Key`; its user key has at
-///     most 65,535 bytes and the value at most 16,777,215: `TooLarge`; the key is above the one
-///     before it in the table: `Order`;
+/// 10. of each data block in the order of the index:
+///     - it is a stored block: (1);
+///     - it has an entry: `Empty`;
+///     - and of each entry in order:
+///       - the key is an internal key: `Key`;
+///       - its user key has at most 65,535 bytes and the value at most 16,777,215: `TooLarge`;
+///       - the key is above the one before it in the table: `Order`;
 /// 11. each key of the index is at or above its block's last key, and below the next block's first:
 ///     `Index`.
 ///
@@ -274,7 +279,7 @@ fn is_between<C: Comparator>(below: Option<&KeyBuf>, bounds: &Bounds, key: &KeyB
 }
 
 /// The first and the last key of the data blocks that the index names, and what is counted of their
-/// entries, or the first test that they or the index keys among them fail.
+/// entries. Or the first test that they or the index keys among them fail.
 fn bounds_of_all<'a, C: Comparator>(
     alloc: Global,
     index: &[IndexedBlock<'a>],

@@ -83,7 +83,7 @@ impl Spelling {
     }
 }
 
-/// The law that in either spelling the text of a key or a value is read as the same bytes, and that
+/// The law of the text of a key or a value, in either spelling. It is read as the same bytes, and
 /// it is printable ASCII, that of a key without a space. So a line is a key up to its first space,
 /// and what comes after it. A call does nothing.
 pub fn texts_law()

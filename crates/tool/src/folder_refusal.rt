@@ -230,7 +230,7 @@ fn lawless_told(alloc: Global, path: &str, detail: &Detail) -> Option<RefusalTex
 }
 
 /// What is told of a table that has a user key's older entry, and of the `other` one that has a
-/// newer or the same: the sequence in the first, and that in the second.
+/// newer or the same. That is the sequence in the first, and that in the second.
 fn misplaced_told(
     alloc: Global,
     path: &str,

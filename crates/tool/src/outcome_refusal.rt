@@ -14,8 +14,8 @@ use usage::{InstallLine, Levels};
 /// What to do about an outcome.
 const REMEDY: &str = "make the outcome again";
 
-/// The refusal of an outcome for a folder with this order, with what is told of it: the first file
-/// of the outcome that is refused, else the first one of the folder.
+/// The refusal of an outcome for a folder with this order, with what is told of it. That is the
+/// first file of the outcome that is refused, else the first one of the folder.
 pub(crate) fn outcome_explained<'a, R: SystemFiles + AllocGlobal>(
     rt: &'a R,
     line: &InstallLine<'a>,

@@ -23,7 +23,7 @@ use Rattle.usage.specs.KeyParts.{IsKeyFault, IsNoKey}
 use Rattle.usage.specs.Line.{GivesNoKey, GivesRows, HasBlocks, HasGet, HasRows, LacksAll, LacksRows, LineGives, rows_under}
 use Rattle.usage.specs.InstallLine.{HasInstall}
 use Rattle.usage.specs.LineParts.{GivesCommand, GivesTexts, IsKeyAnswer, IsRefusal, TextsGiven}
-use Rattle.usage.specs.ScanLine.{AreBounds, HasScan}
+use Rattle.usage.specs.ScanLine.{AreKeyBounds, HasScan}
 use Rattle.usage.specs.ScanLineParts.{AreOptions}
 use Rattle.usage.specs.declared.command_line.Given.{Given}
 use Rattle.usage.specs.declared.compact_texts.CompactNumbers.{CompactNumbers}
@@ -205,7 +205,7 @@ LineGives-bounds words folder from to at limit with_values spelling is_json test
 -- the rows that `scan` is asked for
 pub LineGives-scan : (words : List Text) (folder : Text) (from to : Option Text) (at limit : Option ℕ) (with_values : Bool) (spelling : Spelling) (is_json : Bool) (testing : Testing) (verbose : Bool) (options : RowOptions)
     → GivesRows words (codes "scan") (HasScan folder from to at limit with_values spelling is_json testing verbose) → AreOptions spelling from to at limit with_values options
-    → (from' to' : Option Text) × (GivesRows words (codes "scan") (HasScan folder from' to' options.at options.limit options.with_values spelling is_json testing verbose) × AreBounds spelling from' to' options)
+    → (from' to' : Option Text) × (GivesRows words (codes "scan") (HasScan folder from' to' options.at options.limit options.with_values spelling is_json testing verbose) × AreKeyBounds spelling from' to' options)
 LineGives-scan words folder from to at limit with_values spelling is_json testing verbose options given h = (
   from,
   to,

@@ -76,8 +76,10 @@ HasWork (Written level out first_number) rows = HasLevels (One level) rows
     × IsNumberOf (first_of (codes "first-number") rows) first_number
     × (is_flagged (codes "clean") rows ≡ false) × (is_flagged (codes "explain") rows ≡ false)
 
--- the levels are invalid, or `--first-number` is given a text that is no number, or is given
--- without `--out`, or `--out` is given with an option of a compaction that is installed
+-- one of these holds:
+-- - the levels are invalid;
+-- - `--first-number` is given a text that is no number, or is given without `--out`;
+-- - `--out` is given with an option of a compaction that is installed
 abbrev pub LacksWork : List Row → Type 0
 LacksWork rows = LacksLevels rows ⊎ (IsNoNumber (first_of (codes "first-number") rows)
     ⊎ (((first_of (codes "out") rows ≡ None) × (first_of (codes "first-number") rows ≢ None))

@@ -12,7 +12,7 @@ use Rattle.usage.specs.InstallLine.{HasInstall, LacksInstall}
 use Rattle.usage.specs.PlainLines.{HasClean, HasDump, HasJob, HasManifest, HasStats, HasTable}
 use Rattle.usage.specs.PlainLines.{HasVerify, LacksJob, LacksPath, LacksStats, LacksTable}
 use Rattle.usage.specs.PlainLines.{LacksVerify}
-use Rattle.usage.specs.ScanLine.{AreBounds, HasScan, LacksScan}
+use Rattle.usage.specs.ScanLine.{AreKeyBounds, HasScan, LacksScan}
 use Rattle.usage.specs.Testing.{HasTesting, LacksMemory}
 use Rattle.texts.specs.Spelling.{bytes_of}
 use Rattle.texts.specs.Text.{IsNoNumber, IsNumberOf, bytes_of_text}
@@ -65,8 +65,8 @@ abbrev pub LacksValueFlags : List Row → Type 0
 LacksValueFlags rows =
     (is_flagged (codes "raw") rows ≡ true) × (is_flagged (codes "json") rows ≡ true)
 
--- the rows give these texts of DIR and KEY, this number of `--at`, this spelling, these flags of
--- `--raw` and `--json`, these options on the test, and this flag of `--verbose`
+-- the rows give these texts of DIR and KEY, this number of `--at`, this spelling, these options on
+-- the test, and these flags of `--raw`, `--json` and `--verbose`
 abbrev pub HasGet : Text → Text → Option ℕ → Spelling → Bool → Bool → Testing → Bool → List Row →
     Type 0
 HasGet folder key at spelling is_raw is_json testing verbose rows =
@@ -156,7 +156,7 @@ GivesListText words text = GivesCompactList words text ⊎ GivesInstallList word
 
 -- What a command line asks for: the texts of its command, with those of keys or of a list read. Key
 -- comes exactly if the text of the key of `blocks` is invalid, Hexadecimal or Text exactly if one
--- of `get` or `scan` is, Snapshots exactly if a list of `compact` or `install` is no list of
+-- of `get` or `scan` is. Snapshots comes exactly if a list of `compact` or `install` is no list of
 -- numbers, and `clap`'s error if it refuses the words. Memory may come for any words.
 abbrev pub LineGives : List Text → Result Line Usage → Type 0
 LineGives words (Ok (line.Blocks blocks)) = (text : Text)
@@ -185,7 +185,7 @@ LineGives words (Ok (line.Scan scan)) =
     × (GivesRows words (codes "scan")
     (HasScan scan.folder.now from to scan.rows.at scan.rows.limit scan.rows.with_values
     scan.spelling scan.is_json scan.testing scan.verbose)
-    × AreBounds scan.spelling from to scan.rows)
+    × AreKeyBounds scan.spelling from to scan.rows)
 LineGives words (Ok (line.Job job)) =
     GivesRows words (codes "job") (HasJob job.folder.now job.level job.verbose)
 LineGives words (Ok (line.Compact compact)) =

@@ -41,7 +41,7 @@ LacksScan rows =
 
 -- the scan begins at the key of the first text and ends before that of the second, if they are
 -- given
-abbrev pub AreBounds : Spelling → Option Text → Option Text → RowOptions → Type 0
-AreBounds spelling from to options =
+abbrev pub AreKeyBounds : Spelling → Option Text → Option Text → RowOptions → Type 0
+AreKeyBounds spelling from to options =
     IsKeyOf spelling from (option_map (λ key. key.items) options.from)
     × IsKeyOf spelling to (option_map (λ key. key.items) options.to)

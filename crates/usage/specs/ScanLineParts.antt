@@ -3,14 +3,14 @@ use Rattle.std.specs.Prelude.{◌≡◌, ◌⊎◌, ℕ, Bool, Option, Result, O
 use Rattle.clap.specs.Words.{Text}
 use Rattle.texts.specs.declared.spelling.Spelling.{Spelling}
 use Rattle.usage.specs.KeyParts.{IsKeyFault, IsNoKey}
-use Rattle.usage.specs.ScanLine.{AreBounds}
+use Rattle.usage.specs.ScanLine.{AreKeyBounds}
 use Rattle.usage.specs.declared.requests.RowOptions.{RowOptions}
 use Rattle.usage.specs.declared.requests.Usage.{Usage}
 
 -- the options on rows by these texts and numbers
 abbrev pub AreOptions : Spelling → Option Text → Option Text → Option ℕ → Option ℕ → Bool
     → RowOptions → Type 0
-AreOptions spelling from to at limit with_values options = AreBounds spelling from to options
+AreOptions spelling from to at limit with_values options = AreKeyBounds spelling from to options
     × ((options.at ≡ at) × ((options.limit ≡ limit) × (options.with_values ≡ with_values)))
 
 -- these options, or the usage of a text that stands for no bytes

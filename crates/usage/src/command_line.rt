@@ -133,8 +133,9 @@ struct GetTexts<'a> {
 }
 
 impl<'a> GetTexts<'a> {
-    /// The texts of both arguments, the number of `--at` if it is given, the spelling, whether
-    /// `--raw` or `--json` is given, the options on the test, and whether `--verbose` is given.
+    /// The texts of both arguments, the number of `--at` if it is given, the spelling, and the
+    /// options on the test. And whether `--raw` or `--json` is given, and whether `--verbose` is
+    /// given.
     fn of(values: &ArgMatches<'a>) -> Option<GetTexts<'a>>
         ensures { let rows = rows_of (found_of values.now) in
             MatchOption result (LacksGet rows)

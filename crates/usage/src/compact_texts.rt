@@ -137,9 +137,12 @@ fn options_of<'a>(values: &ArgMatches<'a>) -> Option<CompactOptions<'a>>
     })
 }
 
-/// What is compacted, and where the outcome goes. None if not exactly one of `--level` and `--all`
-/// is given, if `--out` is given with an option of a compaction that is installed, if
-/// `--first-number` is given without it, or if a number is invalid.
+/// What is compacted, and where the outcome goes. None if one of these holds:
+///
+/// - not exactly one of `--level` and `--all` is given;
+/// - `--out` is given with an option of a compaction that is installed;
+/// - `--first-number` is given without `--out`;
+/// - a number is invalid.
 fn work_of<'a>(values: &ArgMatches<'a>) -> Option<CompactWork<'a>>
     ensures { let rows = rows_of (found_of values.now) in
         MatchOption result (LacksWork rows) (λ work. HasWork work rows) }

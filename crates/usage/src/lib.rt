@@ -1,6 +1,6 @@
 //! What the words of a command line ask for.
 //!
-//! [`line`] is the one call: it describes the commands to `clap`, and makes what `clap` reads a
+//! [`line`] is the one call. It describes the commands to `clap`. It makes what `clap` reads a
 //! [`Line`], the command with its values, or a [`Usage`], why the words ask for nothing. What
 //! `clap` reads is stated as far as its own contracts say.
 #![tactic(auto)]

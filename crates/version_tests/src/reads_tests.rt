@@ -285,8 +285,9 @@ fn versions_and_what_they_answer(rt: HostRuntime) -> Result<(), Fault> {
 }
 
 /// `edit: next 9, file 1 7 114 u@5 put .. u@5 put, file 1 8 114 u@5 put .. u@5 put`
-const SAME_RANGE: &[u8] =
-    b"\x03\x09\x07\x01\x07r\x09u\x01\x05\0\0\0\0\0\0\x09u\x01\x05\0\0\0\0\0\0\x07\x01\x08r\x09u\x01\x05\0\0\0\0\0\0\x09u\x01\x05\0\0\0\0\0\0";
+const SAME_RANGE: &[u8] = b"\
+    \x03\x09\x07\x01\x07r\x09u\x01\x05\0\0\0\0\0\0\x09u\x01\x05\0\0\0\0\0\0\x07\x01\x08r\x09u\x01\
+    \x05\0\0\0\0\0\0\x09u\x01\x05\0\0\0\0\0\0";
 
 /// An edit, and the numbers of its version's files as they stand, if each comes before the next.
 type Standing = (&'static [u8], Option<&'static [u64]>);

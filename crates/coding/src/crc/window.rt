@@ -10,7 +10,7 @@ ghost use Rattle.std.specs.Prelude.{◌≡◌, ℕ, ◌<◌, ◌≤◌, ◌^◌,
 ghost use Rattle.std.specs.List.{concat};
 ghost use Rattle.coding.specs.Crc.{bits_of};
 ghost use Rattle.coding.specs.CrcRegister.{register_after_bits};
-ghost use Rattle.coding.specs.CrcWindow.{StandsFor, chunk_sum, the_lags};
+ghost use Rattle.coding.specs.CrcWindow.{IsRegisterOf, chunk_sum, the_lags};
 
 use super::Lanes;
 use std::simd::prelude::*;
@@ -44,7 +44,7 @@ pub fn advanced_by_window(register: u32, chunks: &[[u8; 16]]) -> u32
 
 /// A window to which `register` has come.
 fn begun(register: u32) -> [u8; LEN]
-    ensures { StandsFor (take 266 result) register }
+    ensures { IsRegisterOf (take 266 result) register }
 {
     let mut taken = [0; LEN];
     taken[..4].copy_from_slice(&register.to_le_bytes());
@@ -54,8 +54,8 @@ fn begun(register: u32) -> [u8; LEN]
 /// Takes out the bytes of at most [`ROUND`] chunks.
 fn take_out(taken: &mut [u8; LEN], chunks: &[[u8; 16]])
     requires { length chunks.now ≤ 64 }
-    ensures { (register : ℕ) → StandsFor (take 266 taken.old) register →
-        StandsFor (take 266 taken.new)
+    ensures { (register : ℕ) → IsRegisterOf (take 266 taken.old) register →
+        IsRegisterOf (take 266 taken.new)
         (register_after_bits register (bits_of (concat chunks.now))) }
 {
     let mut place = REACH;
@@ -69,7 +69,7 @@ fn take_out(taken: &mut [u8; LEN], chunks: &[[u8; 16]])
 /// The register after the [`LEFT`] last chunks.
 fn drained(taken: &mut [u8; LEN], chunks: &[[u8; 16]]) -> u32
     requires { length chunks.now ≡ 17 }
-    ensures { (register : ℕ) → register < 2 ^ 32 → StandsFor (take 266 taken.old) register →
+    ensures { (register : ℕ) → register < 2 ^ 32 → IsRegisterOf (take 266 taken.old) register →
         result ≡ register_after_bits register (bits_of (concat chunks.now)) }
 {
     taken[REACH..REACH + 16 * LEFT].fill(0);

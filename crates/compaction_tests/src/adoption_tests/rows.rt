@@ -7,8 +7,8 @@ use adoption::Comparison;
 use coding::FaultName;
 use keep::Snapshots;
 
-/// A folder of manifest 5 and files 7 and 8, the files of a folder with an outcome, the answer of
-/// its installation, and files that the first folder has after it.
+/// A folder of manifest 5 and files 7 and 8, and the files of a folder with an outcome. Then the
+/// answer of its installation, and files that the first folder has after it.
 #[derive(Clone, Copy)]
 pub(crate) struct Row {
     pub name: &'static str,

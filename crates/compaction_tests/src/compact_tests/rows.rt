@@ -163,9 +163,9 @@ const A_C_AND_B: &[u8] = b"\
     \x07\0\x07\x7f\x09a\x01\x01\0\0\0\0\0\0\x09c\x01\x03\0\0\0\0\0\0\x07\0\x08r\x09b\x01\x02\0\0\0\
     \0\0\0\x09b\x01\x02\0\0\0\0\0\0";
 
-/// Log 3, previous log 0, next file 8, last sequence 9, the compact pointer of level 0 at `c` at
-/// 3, files 7 and 8 of level 0 deleted, and the new files 5, 6 and 7 of level 1: 114 bytes each,
-/// `a` at 1, `b` at 2 and `c` at 3.
+/// Log 3, previous log 0, next file 8, last sequence 9, and the compact pointer of level 0 at `c`
+/// at 3. Files 7 and 8 of level 0 are deleted. The new files 5, 6 and 7 of level 1 have 114 bytes
+/// each: `a` at 1, `b` at 2 and `c` at 3.
 /// `edit: log 3, previous 0, next 8, last 9, pointer 0 c@3 put, delete 0 7, delete 0 8, file 1 5
 /// 114 a@1 put .. a@1 put, file 1 6 114 b@2 put .. b@2 put, file 1 7 114 c@3 put .. c@3 put`
 const EACH_EDIT: &[u8] = b"\

@@ -1,4 +1,4 @@
-//! The outputs of plans, and the tables made of their pieces.
+//! The outputs of plans, and their tables: joined of pieces, and made one by one.
 
 ghost use Rattle.std.specs.Prelude.{◌≡◌, ◌<◌, length, map, IfOk};
 ghost use Rattle.cut.specs.Plan.{encoded_pieces};
@@ -67,6 +67,24 @@ fn are_outputs(
     plan.is_empty() == outputs.is_empty()
 }
 
+/// Whether the tables that a plan makes one by one are those of these outputs.
+fn are_whole(
+    alloc: Global,
+    plan: &Plan<'_, '_, Bytewise>,
+    outputs: &[Output],
+) -> Result<bool, Fault> {
+    for (place, output) in outputs.iter().enumerate() {
+        if place >= plan.len() {
+            return Ok(false);
+        }
+        let (number, bytes) = plan.table(alloc, place)?;
+        if number != output.0 || bytes.as_slice() != output.2 {
+            return Ok(false);
+        }
+    }
+    Ok(true)
+}
+
 /// Whether the first piece has `len` bytes, and the table of the first output begins with them.
 fn begins(pieces: &[Vec<u8>], outputs: &[Output], len: usize) -> bool {
     match (pieces.first(), outputs.first()) {
@@ -87,7 +105,8 @@ fn has_outputs(
     if pieces.len() != count || !begins(&pieces, outputs, len) {
         return Ok(false);
     }
-    Ok(are_outputs(plan, &plan.assemble(alloc, pieces)?, outputs))
+    let joined = plan.assemble(alloc, pieces)?;
+    Ok(are_outputs(plan, &joined, outputs) && are_whole(alloc, plan, outputs)?)
 }
 
 /// Whether a plan is this one.

@@ -164,7 +164,7 @@ pub(crate) const KEPT: Row = Row {
 };
 
 /// A compaction of all levels: over the first `files` files of the folder of [`KEPT`], told to stop
-/// after `most` steps; how it ends, the lines that it tells, and files that it leaves.
+/// after `most` steps. Then how it ends, the lines that it tells, and files that it leaves.
 pub(crate) struct Descent {
     pub files: usize,
     pub most: u64,

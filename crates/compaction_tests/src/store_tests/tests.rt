@@ -99,8 +99,8 @@ fn are_same(alloc: Global, one: &Opened, other: &Opened) -> Result<bool, Fault> 
     Ok(manifests && counters && numbers.as_slice() == others.as_slice())
 }
 
-/// Whether the compaction of the inputs of a row alone has its answer and leaves its files, and
-/// what the folder is opened as after it is known without reading it.
+/// Whether the compaction of the inputs of a row alone has its answer and leaves its files. And
+/// whether what the folder is opened as after it is known without reading it.
 fn is_known_after<R: AllocGlobal + Threads + Sync>(rt: &R, row: &Row) -> Result<bool, Fault> {
     let files = files_of(row);
     let alloc = rt.alloc();
@@ -213,9 +213,9 @@ const FAILURES: &[(FolderFault, bool, FaultName)] = &[
     (FolderFault::Memory, true, FaultName::Memory),
 ];
 
-/// The calls of the compaction of the deletion: two reads, five syncs, the read of the table, which
-/// the test holds for the compaction, and eight of the installation, the last but one of which
-/// renames the new CURRENT.
+/// The calls of the compaction of the deletion: two reads, five syncs, the read of the table, and
+/// eight of the installation. The test holds that table for the compaction. The last but one of the
+/// eight renames the new CURRENT.
 const CALLS: u64 = 16;
 
 /// What a second compaction answers: that no input is left if CURRENT was renamed, else the lines

@@ -6,8 +6,8 @@ use folder::{Folder, FolderFault, Shelf, ShelfCall, ShelfStep};
 /// an odd one the crash comes inside the next call, which is then among them.
 ///
 /// None if a crash leaves the same as at the moment before. A call that makes, renames or removes a
-/// file counts from inside it on; a sync of the folder after it is done; a sync of a file with the
-/// next call.
+/// file counts from inside it on. A sync of the folder counts after it is done, a sync of a file
+/// with the next call.
 pub(crate) fn made_at(steps: &[ShelfStep], moment: usize) -> Option<&[ShelfStep]> {
     let taken = moment.saturating_add(1) / 2;
     let (_later, made) = steps.split_at(steps.len().saturating_sub(taken));

@@ -3,7 +3,7 @@ use coding::{Fault, FaultName};
 use edit::{Outcome, Version};
 use folder::{Failing, Folder, FolderFault, Order, Shelf, ShelfStep, load, open};
 use ikey::Bytewise;
-use install::install;
+use install::{install, install_manifest, manifest_bytes, write_group};
 use std::alloc::Global;
 use std::process::Abort;
 use std::thread::Threads;
@@ -52,7 +52,7 @@ const VERSIONS: &[(u64, Tables)] = &[
 ];
 
 /// An outcome and its installation.
-#[derive(Drop)]
+#[derive(Clone, Copy)]
 struct Row {
     /// The number of the manifest that CURRENT names before.
     opened: u64,
@@ -60,6 +60,8 @@ struct Row {
     manifest: u64,
     edit: &'static [u8],
     tables: Tables,
+    /// How many tables the second of two groups has. If it isn't given, there is one group.
+    second: Option<usize>,
     /// How many calls are made that write.
     calls: u64,
     /// The next file of the edited version.
@@ -68,32 +70,26 @@ struct Row {
     again: u64,
 }
 
-/// The outcomes with no output, with one and with three. Their edits set log number 3, previous log
-/// number 0, next file and last sequence 4, and delete file 7 at level 1. New at level 2 are number
-/// 9 of 4 bytes for `u`, number 10 of 3 bytes for `v` and number 11 of 6 bytes for `w`.
+/// The outcomes with no output, with one, with three, and with those three in two groups. Their
+/// edits set log number 3, previous log number 0, next file and last sequence 4, and delete file 7
+/// at level 1. New at level 2 are number 9 of 4 bytes for `u`, number 10 of 3 bytes for `v` and
+/// number 11 of 6 bytes for `w`.
 const ROWS: &[&Row] = &[
     &Row {
         opened: 5,
         manifest: BEFORE,
         edit: b"\x02\x03\x09\0\x03\x09\x04\x04\x06\x01\x07",
         tables: &[],
+        second: None,
         calls: 7,
         edited: 9,
         again: 9,
     },
     ONE,
+    &THREE,
     &Row {
-        opened: 5,
-        manifest: BEFORE,
-        edit: b"\
-            \x02\x03\x09\0\x03\x0c\x04\x04\x06\x01\x07\
-            \x07\x02\x09\x04\x09u\x01\x02\0\0\0\0\0\0\x09u\x01\x02\0\0\0\0\0\0\
-            \x07\x02\x0a\x03\x09v\x01\x03\0\0\0\0\0\0\x09v\x01\x03\0\0\0\0\0\0\
-            \x07\x02\x0b\x06\x09w\x01\x04\0\0\0\0\0\0\x09w\x01\x04\0\0\0\0\0\0",
-        tables: &[(9, b"nine"), (10, b"ten"), (11, b"eleven")],
-        calls: 13,
-        edited: 12,
-        again: 12,
+        second: Some(2),
+        ..THREE
     },
 ];
 
@@ -105,12 +101,29 @@ const ONE: &Row = &Row {
         \x02\x03\x09\0\x03\x0a\x04\x04\x06\x01\x07\
         \x07\x02\x09\x04\x09u\x01\x02\0\0\0\0\0\0\x09u\x01\x02\0\0\0\0\0\0",
     tables: &[(9, b"nine")],
+    second: None,
     calls: 9,
     edited: 10,
     again: 13,
 };
 
-/// The outcome of a second run over the version of one output: next file is 13, file 9 at level 2
+/// That of three outputs.
+const THREE: Row = Row {
+    opened: 5,
+    manifest: BEFORE,
+    edit: b"\
+        \x02\x03\x09\0\x03\x0c\x04\x04\x06\x01\x07\
+        \x07\x02\x09\x04\x09u\x01\x02\0\0\0\0\0\0\x09u\x01\x02\0\0\0\0\0\0\
+        \x07\x02\x0a\x03\x09v\x01\x03\0\0\0\0\0\0\x09v\x01\x03\0\0\0\0\0\0\
+        \x07\x02\x0b\x06\x09w\x01\x04\0\0\0\0\0\0\x09w\x01\x04\0\0\0\0\0\0",
+    tables: &[(9, b"nine"), (10, b"ten"), (11, b"eleven")],
+    second: None,
+    calls: 13,
+    edited: 12,
+    again: 12,
+};
+
+/// The outcome of a second run over the version of one output. Next file is 13, file 9 at level 2
 /// is deleted, and number 12 of 6 bytes for `u` is new there.
 const SECOND: &Row = &Row {
     opened: BEFORE,
@@ -119,6 +132,7 @@ const SECOND: &Row = &Row {
         \x02\x03\x09\0\x03\x0d\x04\x04\x06\x02\x09\
         \x07\x02\x0c\x06\x09u\x01\x02\0\0\0\0\0\0\x09u\x01\x02\0\0\0\0\0\0",
     tables: &[(12, b"twelve")],
+    second: None,
     calls: 9,
     edited: 13,
     again: 13,
@@ -149,6 +163,24 @@ fn tables_of(
     load::<Bytewise, Shelf<'_>>(alloc, folder, version)
 }
 
+/// Installs an outcome over a version in two groups.
+fn install_groups<R: AllocGlobal + Threads + Sync>(
+    rt: &R,
+    shelf: &mut Shelf<'_>,
+    version: &Version,
+    row: &Row,
+    outcome: &Outcome,
+    second: usize,
+) -> Result<(), Fault> {
+    let alloc = rt.alloc();
+    let manifest = manifest_bytes::<Bytewise>(alloc, version, &outcome.edit)?;
+    let tables = outcome.tables.as_slice();
+    let (first, rest) = tables.split_at(tables.len().saturating_sub(second));
+    write_group(rt, shelf, first)?;
+    write_group(rt, shelf, rest)?;
+    install_manifest(alloc, shelf, row.opened, row.manifest, &manifest)
+}
+
 /// Installs the outcome of a row over a version.
 fn installed<R: AllocGlobal + Threads + Sync>(
     rt: &R,
@@ -158,6 +190,9 @@ fn installed<R: AllocGlobal + Threads + Sync>(
 ) -> Result<(), Fault> {
     let alloc = rt.alloc();
     let outcome = outcome_of(alloc, row)?;
+    if let Some(second) = row.second {
+        return install_groups(rt, shelf, version, row, &outcome, second);
+    }
     install::<Bytewise, Shelf<'_>, R>(
         rt,
         alloc,

@@ -8,17 +8,17 @@
 //! - **Blocks.** A block ends with the number of its restarts, and that many restarts before it. In
 //!   the worked block a number from 1 to 6 before three zeros is only at 5, 16 and 28. At 5 two
 //!   restarts would not fit, at 16 the one restart would not be 0, and 28 ends the whole block. So
-//!   none of its beginnings is a block. In the blocks of one entry such a number is at 5 and 17: at
+//!   none of its beginnings is a block. In the blocks of one entry such a number is at 5 and 17. At
 //!   5 the one restart of the first would not be 0, and the two of the second would not fit; 17
 //!   ends the whole. In that of both entries it is at 5, 18 and 30: at 5 and 18 the first restart
 //!   would not be 0. In that of no entry it ends the whole.
 //! - **Tables.** A table of fewer than 48 bytes is Short. One that does not end with the magic is
-//!   Magic; the magic's first byte is in the worked table once. So 48 and 66 of 114 beginnings; of
-//!   the table of two entries 48 and 77 of 125; of that of one deletion 48 and 65 of 113; of that
+//!   Magic; the magic's first byte is in the worked table once. So 48 and 66 of 114 beginnings. Of
+//!   the table of two entries 48 and 77 of 125; of that of one deletion 48 and 65 of 113. Of that
 //!   of three blocks 48 and 154 of 202. No byte of the magic is 0, and each eight bytes of these
-//!   tables have a 0, but for the magic, and for the last checksum with the handles after it, whose
-//!   last byte is not the magic's. A compaction over each of these tables answers the same, of
-//!   input 0.
+//!   tables have a 0, with two exceptions. These are the magic, and the last checksum with the
+//!   handles after it, whose last byte is not the magic's. A compaction over each of these tables
+//!   answers the same, of input 0.
 //! - **Logs.** A log may end after each of its records. That of one empty record has one such place
 //!   before its end. That of a record of 32,754 bytes and one of 1 byte has two, 0 and 32,761. A
 //!   manifest of records of 52 and 8 bytes has 0 and 59. Each other beginning ends inside a record.

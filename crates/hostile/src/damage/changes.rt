@@ -30,8 +30,8 @@
 //!   manifest's number: Apply. In an edit by itself a name and a next file may be anything.
 //!
 //! The manifest's first fragment has 59 bytes, its second 15. Each begins with its checksum of four
-//! bytes. After the second's there are 08 00 01 02 03 09 00 03 09 04 04: eleven bytes, three of
-//! which have one of the five values, so that there are 52 changes.
+//! bytes. After the second's there are 08 00 01 02 03 09 00 03 09 04 04. Of these eleven bytes
+//! three have one of the five values, so that there are 52 changes.
 
 use crate::damage::call::Call;
 use crate::damage::row::Expected::{Each, Only};

@@ -9,7 +9,7 @@ use Rattle.reads.specs.Tables.{NumberedContents}
 use Rattle.split.specs.Ranges.{key_range}
 use Rattle.checks.specs.GroupTest.{IsRangeAnswer}
 use Rattle.checks.specs.HeldTables.{AreFound, AreHeldIn, IsFoundAnswer}
-use Rattle.checks.specs.NeededFiles.{is_needed}
+use Rattle.checks.specs.NeededFiles.{is_file_needed}
 use Rattle.checks.proofs.FileTables.{numbers_in}
 use Rattle.checks.proofs.FolderTests.{range_answers, range_unfound}
 use Rattle.checks.proofs.FoundTables.{found_held}
@@ -37,7 +37,7 @@ returns-in_default-clause-answer g c files told are =
     let cmp = g.C.Comparator.cmp in
     let range = key_range c.args.range in
     let standing : List FileMeta = map now_of c.args.standing.now in
-    let needed : List FileMeta = filter (is_needed cmp range) standing in
+    let needed : List FileMeta = filter (is_file_needed cmp range) standing in
     let numbers : List ℕ = c.deref-2.result.now in
     let same = numbers_are c.deref.result.now c.in_ok-needed.needed.items needed numbers c.deref.ensures.value c.in_ok-needed.ensures.needed (ok_is _ _ c.in_ok-numbers.ensures ∙ sym c.deref-2.ensures.value) in
     let own : AreHeldIn cmp files c.replace-before.result = subst (AreHeldIn cmp files) (sym c.replace-before.ensures.value) are in
@@ -49,8 +49,8 @@ pub walk_range-requires-clause-few_files : goal.walk_range-requires-clause-few_f
 walk_range-requires-clause-few_files g c κs within =
     let range = key_range c.args.range in
     let needed : List (Bor FileMeta) = c.in_ok-needed.needed.items in
-    let kept = few_kept (is_needed g.C.Comparator.cmp range) (map now_of c.args.standing.now) in
-    let one : length needed ≡ length (filter (is_needed g.C.Comparator.cmp range) (map now_of c.args.standing.now)) = sym (length-map needed now_of) ∙ ap (λ (fs : List FileMeta). length fs) c.in_ok-needed.ensures.needed in
+    let kept = few_kept (is_file_needed g.C.Comparator.cmp range) (map now_of c.args.standing.now) in
+    let one : length needed ≡ length (filter (is_file_needed g.C.Comparator.cmp range) (map now_of c.args.standing.now)) = sym (length-map needed now_of) ∙ ap (λ (fs : List FileMeta). length fs) c.in_ok-needed.ensures.needed in
     let two = length-map c.args.standing.now now_of in
     let lent : length c.deref-3.result.now ≡ length needed = ap (λ (fs : List (Bor FileMeta)). length fs) c.deref-3.ensures.value in
     let few : length c.args.standing.now ≤ 2 ^ 40 = c.requires.few_files in
@@ -62,7 +62,7 @@ returns-clause-answer g c files told are =
     let failed = g.F.Folder.failed in
     let range = key_range c.args.range in
     let standing : List FileMeta = map now_of c.args.standing.now in
-    let needed : List FileMeta = filter (is_needed cmp range) standing in
+    let needed : List FileMeta = filter (is_file_needed cmp range) standing in
     let numbers : List ℕ = c.deref-2.result.now in
     let tables : List NumberedContents = c.in-Some.tables in
     let same = numbers_are c.deref.result.now c.in_ok-needed.needed.items needed numbers c.deref.ensures.value c.in_ok-needed.ensures.needed (ok_is _ _ c.in_ok-numbers.ensures ∙ sym c.deref-2.ensures.value) in

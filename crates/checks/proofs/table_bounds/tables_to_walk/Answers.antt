@@ -5,7 +5,7 @@ use Rattle.std.proofs.lemmas.List.{length-map, drop-map, take-map}
 use Rattle.block.specs.EncodedEntry.{Entry}
 use Rattle.table.specs.TableContents.{Contents}
 use Rattle.reads.proofs.Members.{none_in}
-use Rattle.checks.specs.TableBounds.{FallAlike, IsSettled}
+use Rattle.checks.specs.TableBounds.{FallAlike, IsApartFromOthers}
 use Rattle.checks.proofs.BoundsLemmas.{more_from, still_from, walk_begins, walk_ends, walk_goes_on, walk_passes}
 use Rattle.checks.proofs.table_bounds.tables_to_walk.Goals as goal
 use Rattle.checks.proofs.table_bounds.tables_to_walk.Goals.{then-not-is_settled+in_ok-push, else-not-is_settled}
@@ -48,9 +48,9 @@ loop-place-preserved g c =
           let now : map entries_in c.if-not-is_settled.walked.items ≡ map entries_in was = ap (λ v. map entries_in v.items) w.walked-is in
           let before : map entries_in c.split_at.result.0.now ≡ take k all = ap (map entries_in) c.split_at.ensures.front ∙ sym (take-map entries_in k tables) in
           let behind : map entries_in c.split_at-in-loop-place.result.1.now ≡ drop (k + 1) all = ap (map entries_in) c.split_at-in-loop-place.ensures.back ∙ sym (drop-map entries_in (k + 1) tables) in
-          let settled : IsSettled (take k all) (entries_in t) (drop (k + 1) all) =
-          subst (λ (ls : List (List Entry)). IsSettled ls (entries_in t) (drop (k + 1) all)) before
-          (subst (λ (ls : List (List Entry)). IsSettled (map entries_in c.split_at.result.0.now) (entries_in t) ls) behind (c.is_settled.ensures w.if-not-is_settled.false)) in
+          let settled : IsApartFromOthers (take k all) (entries_in t) (drop (k + 1) all) =
+          subst (λ (ls : List (List Entry)). IsApartFromOthers ls (entries_in t) (drop (k + 1) all)) before
+          (subst (λ (ls : List (List Entry)). IsApartFromOthers (map entries_in c.split_at.result.0.now) (entries_in t) ls) behind (c.is_settled.ensures w.if-not-is_settled.false)) in
           record {
             alike = subst (λ (ls : List (List Entry)). FallAlike cmp (ls ++ drop (k + 1) all) all) (sym now) (walk_passes cmp (map entries_in was) all k (entries_in t) lt is kept.from settled kept.alike);
             from = subst (λ (ls : List (List Entry)). (list : List Entry) → Contains ls list → Contains (take (k + 1) all) list) (sym now) (still_from (map entries_in was) all k (entries_in t) lt kept.from);

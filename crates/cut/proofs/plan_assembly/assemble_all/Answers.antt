@@ -7,7 +7,7 @@ use Rattle.encoding.specs.declared.planned_block.PlannedBlock.{PlannedBlock}
 use Rattle.keep.proofs.OnAnswers.{same_ok}
 use Rattle.cut.specs.declared.planned_output.PlannedOutput.{PlannedOutput}
 use Rattle.cut.specs.PlanTables.{tables_of}
-use Rattle.cut.specs.Opened.{parts_of}
+use Rattle.encoding.specs.Planned.{parts_of}
 use Rattle.cut.proofs.ReadyPieces.{ready_at, ready_bytes}
 use Rattle.cut.proofs.plan_assembly.assemble_all.Goals as goal
 

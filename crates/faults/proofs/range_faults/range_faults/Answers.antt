@@ -6,7 +6,7 @@ use Rattle.split.specs.Ranges.{key_range}
 use Rattle.edit.specs.declared.meta.FileMeta.{FileMeta}
 use Rattle.reads.specs.Tables.{NumberedContents}
 use Rattle.checks.specs.HeldTables.{AreFound, AreHeldIn, IsFoundAnswer}
-use Rattle.checks.specs.NeededFiles.{is_needed}
+use Rattle.checks.specs.NeededFiles.{is_file_needed}
 use Rattle.checks.proofs.FoundTables.{found_held}
 use Rattle.faults.specs.KeyWalk.{misplaced_in}
 use Rattle.faults.proofs.FaultAnswers.{memory_handed, memory_stopped, ok_weaker, stopped_or}
@@ -39,7 +39,7 @@ returns-in_default-clause-errors g c files told own sound =
     (let cmp = g.C.Comparator.cmp in
     let range = key_range c.args.range in
     let standing : List FileMeta = map now_of c.args.files.now in
-    let needed : List FileMeta = filter (is_needed cmp range) standing in
+    let needed : List FileMeta = filter (is_file_needed cmp range) standing in
     let numbers : List ℕ = c.deref-2.result.now in
     let same = numbers_are c.deref.result.now c.in_ok-needed.needed.items needed numbers c.deref.ensures.value c.in_ok-needed.ensures.needed (ok_is _ _ c.in_ok-numbers.ensures ∙ sym c.deref-2.ensures.value) in
     let before : AreHeldIn cmp files c.replace-before.result = subst (AreHeldIn cmp files) (sym c.replace-before.ensures.value) own in
@@ -51,7 +51,7 @@ returns-clause-faults g c files told own sound =
     let cmp = g.C.Comparator.cmp in
     let range = key_range c.args.range in
     let standing : List FileMeta = map now_of c.args.files.now in
-    let needed : List FileMeta = filter (is_needed cmp range) standing in
+    let needed : List FileMeta = filter (is_file_needed cmp range) standing in
     let numbers : List ℕ = c.deref-2.result.now in
     let held : List NumberedContents = c.in-Some.tables in
     let same = numbers_are c.deref.result.now c.in_ok-needed.needed.items needed numbers c.deref.ensures.value c.in_ok-needed.ensures.needed (ok_is _ _ c.in_ok-numbers.ensures ∙ sym c.deref-2.ensures.value) in

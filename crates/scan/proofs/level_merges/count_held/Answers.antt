@@ -7,7 +7,7 @@ use Rattle.merge.specs.Merged.{entries_of_lists}
 use Rattle.split.specs.Ranges.{key_range}
 use Rattle.keep.specs.InRange.{entries_in}
 use Rattle.reads.specs.Tables.{NumberedContents}
-use Rattle.scan.specs.Counts.{AreCounted}
+use Rattle.scan.specs.Counts.{AreAmountsCounted}
 use Rattle.scan.specs.Parts.{in_parts}
 use Rattle.scan.proofs.ScanAnswers.{entries_each}
 use Rattle.scan.proofs.level_merges.count_held.Goals as goal
@@ -24,4 +24,4 @@ returns-clause-counted g c =
     let range = key_range c.args.range in
     let tables = c.deref.ensures.value ∙ sym (ok_is _ _ c.in_ok-tables.ensures.tables) in
     let lent : map (λ t. t.now.entries) c.deref-2.result.now ≡ entries_each c.args.held.now = ap (map (λ t. t.now.entries)) c.deref-2.ensures.value ∙ c.in_ok-lent.ensures.lent ∙ ap entries_each tables in
-    subst (λ (ls : List (List Entry)). OnOk c.count_tables.result (AreCounted c.args.last (map (λ (lists : List (List Entry)). entries_in cmp range (entries_of_lists lists)) (in_parts (map (λ files. length files.items) c.args.levels.now) ls)) c.args.amounts.now c.count_tables.new.amounts)) lent c.count_tables.ensures.counted
+    subst (λ (ls : List (List Entry)). OnOk c.count_tables.result (AreAmountsCounted c.args.last (map (λ (lists : List (List Entry)). entries_in cmp range (entries_of_lists lists)) (in_parts (map (λ files. length files.items) c.args.levels.now) ls)) c.args.amounts.now c.count_tables.new.amounts)) lent c.count_tables.ensures.counted

@@ -7,7 +7,7 @@ use Rattle.folder.proofs.LoadingLemmas.{map_fused}
 use Rattle.merge.specs.Merged.{entries_of_lists, merged, sorted_entries}
 use Rattle.split.specs.Ranges.{key_range}
 use Rattle.keep.specs.InRange.{entries_in}
-use Rattle.scan.specs.Counts.{AreCounted}
+use Rattle.scan.specs.Counts.{AreAmountsCounted}
 use Rattle.scan.specs.Parts.{in_parts}
 use Rattle.scan.proofs.SortedCounts.{sorted_counted}
 use Rattle.scan.proofs.level_merges.count_tables.Goals as goal
@@ -26,7 +26,7 @@ returns-clause-counted g c =
     let are : c.in_ok-merging.merging ≡ map (merged cmp) merges = sym (ok_is _ _ c.in_ok-merging.ensures) in
     let lists : map (entries_in cmp range) c.in_ok-merging.merging ≡ map (sorted_entries cmp) (map own parts) =
     ap (map (entries_in cmp range)) are ∙ sym (map_fused (merged cmp) (entries_in cmp range) merges) ∙ c.in_ok-merges.ensures.merges ∙ map_fused own (sorted_entries cmp) parts in
-    on_ok_weaker c.count_merged.result (λ counts. sorted_counted cmp c.args.last (map own parts) c.args.amounts.now c.count_merged.new.amounts (subst (λ (ls : List (List Entry)). AreCounted c.args.last ls c.args.amounts.now c.count_merged.new.amounts) lists counts)) c.count_merged.ensures.counted
+    on_ok_weaker c.count_merged.result (λ counts. sorted_counted cmp c.args.last (map own parts) c.args.amounts.now c.count_merged.new.amounts (subst (λ (ls : List (List Entry)). AreAmountsCounted c.args.last ls c.args.amounts.now c.count_merged.new.amounts) lists counts)) c.count_merged.ensures.counted
 
 pub count_merged-requires : goal.count_merged-requires
 count_merged-requires g c =

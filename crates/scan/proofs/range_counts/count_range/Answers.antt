@@ -7,7 +7,7 @@ use Rattle.split.specs.Ranges.{key_range}
 use Rattle.reads.specs.Tables.{NumberedContents}
 use Rattle.checks.specs.HeldTables.{AreFound, AreHeldIn, held_numbers, IsFoundAnswer}
 use Rattle.checks.proofs.FoundTables.{found_held}
-use Rattle.scan.specs.Counts.{AreCounted}
+use Rattle.scan.specs.Counts.{AreAmountsCounted}
 use Rattle.scan.proofs.LevelTables.{held_entries, held_number, metas_of, never_none, numbers_of_levels}
 use Rattle.scan.proofs.ScanAnswers.{memory_handed, memory_stopped, stopped_or}
 use Rattle.scan.proofs.range_counts.count_range.Goals as goal
@@ -71,7 +71,7 @@ returns-clause-counted g c files next tables told are own =
     let needed = ap metas_of c.deref-3.ensures.value ∙ c.in_ok-needed.ensures.needed in
     let before : AreHeldIn cmp files c.replace-before.result = subst (AreHeldIn cmp files) (sym c.replace-before.ensures.value) own in
     let found : AreFound cmp files numbers held = subst (λ (o : Option (List NumberedContents)). IsFoundAnswer cmp files numbers (Ok o)) c.in-Some.is (c.in_ok-found.ensures.answer files told before) in
-    subst (λ (ls : List (List Entry)). OnOk c.count_held.result (AreCounted c.args.last ls c.args.amounts.now c.count_held.new.amounts))
+    subst (λ (ls : List (List Entry)). OnOk c.count_held.result (AreAmountsCounted c.args.last ls c.args.amounts.now c.count_held.new.amounts))
     (held_entries cmp total files next (metas_of c.args.levels.now) tables are.tables_in range c.deref-3.result.now numbers held needed told_numbers found) c.count_held.ensures.counted
 
 pub returns-clause-errors : goal.returns-clause-errors

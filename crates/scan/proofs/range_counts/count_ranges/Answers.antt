@@ -11,7 +11,7 @@ use Rattle.reads.specs.Tables.{NumberedContents}
 use Rattle.checks.specs.HeldTables.{AreHeldIn, IsTableIn}
 use Rattle.checks.proofs.FolderTests.{told_still}
 use Rattle.keep.specs.InRange.{entries_in}
-use Rattle.scan.specs.Counts.{AreCounted, capped_files}
+use Rattle.scan.specs.Counts.{AreAmountsCounted, capped_files}
 use Rattle.scan.specs.LevelCounts.{lists_of_levels}
 use Rattle.scan.specs.declared.amounts.Amounts.{Amounts}
 use Rattle.scan.proofs.LevelRanges.{AreCountedTo, levels_counted, levels_room, none_counted, range_counted}
@@ -58,7 +58,7 @@ loop-number-preserved g c =
           subst (AreCountedTo cmp c.args.split.now c.args.last (lists_of_levels tables levels) (map capped_files levels) (n + 1)) (sym written)
           (range_counted cmp c.args.split.now c.args.last (lists_of_levels tables levels) (map capped_files levels) (covers cmp total c.args.split.now c.len-number-end.ensures.split.rising) n low range c.range-range.ensures.bounds are.once (levels_room cmp files next levels tables are) before after
           (now.invariant.counted files next tables told are)
-          (subst (λ (old : List Amounts). AreCounted c.args.last (map (entries_in cmp range) (lists_of_levels tables levels)) old after) c.deref_mut.ensures.value counts));
+          (subst (λ (old : List Amounts). AreAmountsCounted c.args.last (map (entries_in cmp range) (lists_of_levels tables levels)) old after) c.deref_mut.ensures.value counts));
       held = λ files told. c.in_ok-count_range.ensures.held files (told_still (tells c.args.folder.now) (tells now.folder) files now.invariant.reads.same told) (now.invariant.held files told);
       reads = reads_then now.invariant.reads c.count_range.ensures.reads;
       failures = steady (failed c.args.folder.now) (failed now.folder) (failed c.count_range.new.folder) c.in_ok-count_range.field-0 c.count_range.result c.in_ok-count_range.was now.invariant.failures c.count_range.ensures.device.later c.count_range.ensures.device.at_once;

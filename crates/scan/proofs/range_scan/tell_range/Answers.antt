@@ -10,7 +10,7 @@ use Rattle.folder.proofs.LoadingLemmas.{map_fused}
 use Rattle.reads.specs.TableOrder.{lists_of_files}
 use Rattle.reads.specs.Tables.{NumberedContents}
 use Rattle.checks.specs.HeldTables.{AreFound, AreHeldIn, IsFoundAnswer}
-use Rattle.checks.specs.NeededFiles.{is_needed}
+use Rattle.checks.specs.NeededFiles.{is_file_needed}
 use Rattle.checks.proofs.FileTables.{numbers_in}
 use Rattle.checks.proofs.FoundTables.{found_held}
 use Rattle.scan.specs.Row.{Row}
@@ -90,7 +90,7 @@ returns-in_default-clause-told g c files next tables told are own =
     (let cmp = g.C.Comparator.cmp in
     let range = key_range c.args.range in
     let standing : List FileMeta = map now_of c.args.standing.now in
-    let needed : List FileMeta = filter (is_needed cmp range) standing in
+    let needed : List FileMeta = filter (is_file_needed cmp range) standing in
     let numbers : List ℕ = c.deref-2.result.now in
     let same = numbers_are c.deref.result.now c.in_ok-needed.needed.items needed numbers c.deref.ensures.value c.in_ok-needed.ensures.needed (ok_is _ _ c.in_ok-numbers.ensures ∙ sym c.deref-2.ensures.value) in
     let before : AreHeldIn cmp files c.replace-before.result = subst (AreHeldIn cmp files) (sym c.replace-before.ensures.value) own in
@@ -103,7 +103,7 @@ returns-in_default-clause-errors g c files next tables told are own =
     (let cmp = g.C.Comparator.cmp in
     let range = key_range c.args.range in
     let standing : List FileMeta = map now_of c.args.standing.now in
-    let needed : List FileMeta = filter (is_needed cmp range) standing in
+    let needed : List FileMeta = filter (is_file_needed cmp range) standing in
     let numbers : List ℕ = c.deref-2.result.now in
     let same = numbers_are c.deref.result.now c.in_ok-needed.needed.items needed numbers c.deref.ensures.value c.in_ok-needed.ensures.needed (ok_is _ _ c.in_ok-numbers.ensures ∙ sym c.deref-2.ensures.value) in
     let before : AreHeldIn cmp files c.replace-before.result = subst (AreHeldIn cmp files) (sym c.replace-before.ensures.value) own in
@@ -115,7 +115,7 @@ returns-clause-told g c files next tables told are own =
     let cmp = g.C.Comparator.cmp in
     let range = key_range c.args.range in
     let standing : List FileMeta = map now_of c.args.standing.now in
-    let needed : List FileMeta = filter (is_needed cmp range) standing in
+    let needed : List FileMeta = filter (is_file_needed cmp range) standing in
     let numbers : List ℕ = c.deref-2.result.now in
     let held : List NumberedContents = c.in-Some.tables in
     let same = numbers_are c.deref.result.now c.in_ok-needed.needed.items needed numbers c.deref.ensures.value c.in_ok-needed.ensures.needed (ok_is _ _ c.in_ok-numbers.ensures ∙ sym c.deref-2.ensures.value) in

@@ -8,7 +8,7 @@ use Rattle.folder.specs.Orders.{order_cmp, order_short_keys}
 use Rattle.std.proofs.lemmas.Result.{err_from_is_err_and}
 use Rattle.edit.specs.Version.{State}
 use Rattle.folder.specs.declared.current_version.Opened.{Opened}
-use Rattle.store.specs.AllLevels.{IsDescended, IsEndOf, IsNextRefused, last_tables, last_version}
+use Rattle.store.specs.AllLevels.{IsDescended, IsEndOf, IsNextRefused, last_tables, version_at_end}
 use Rattle.store.specs.Descent.{IsNextLevel}
 use Rattle.store.specs.declared.descent_end.DescentEnd.{DescentEnd}
 use Rattle.store.specs.declared.descent_end.DescentEnd.TheVariants.{AtBottom, Stopped}
@@ -57,10 +57,10 @@ returns-in_err-level-clause-left g c files loaded tables told current reads soun
     let h = c.from_residual-in_err-level.ensures.1 in
     let cmp = order_cmp o.order in
     let keys = order_short_keys o.order in
-    let why : Fault → Type 0 = λ x. IsStopped (failed c.args.folder.now) (failed l.folder) x ⊎ IsNextRefused cmp keys s c.in_ok-bottom.bottom (last_version o.version sf.links) (last_tables loaded sf.links) x in
+    let why : Fault → Type 0 = λ x. IsStopped (failed c.args.folder.now) (failed l.folder) x ⊎ IsNextRefused cmp keys s c.in_ok-bottom.bottom (version_at_end o.version sf.links) (last_tables loaded sf.links) x in
     inr (ended o.order cmp keys s o.version loaded tables sound (calls c.args.folder.now) g.T.InstallWatch.tells c.args.told.now (calls l.folder) (tells l.folder) l.told l.opened.manifest l.opened.version c.in_ok-bottom.bottom l._step sf
     l.invariant.is_bottom (calls l.folder) (tells l.folder) (failed c.args.folder.now) (failed l.folder) l.told q refl (same_tells (tells l.folder)) refl
-    (refused_ok q e (IsEndOf (last_version o.version sf.links) c.in_ok-bottom.bottom) h) (refused_err q e (λ x. UnlessMemory x (why x)) h (by_memory e why c.in_err-level.ensures.memory)))
+    (refused_ok q e (IsEndOf (version_at_end o.version sf.links) c.in_ok-bottom.bottom) h) (refused_err q e (λ x. UnlessMemory x (why x)) h (by_memory e why c.in_err-level.ensures.memory)))
 
 pub returns-in_err-level-clause-device : goal.returns-in_err-level-clause-device
 returns-in_err-level-clause-device g c =
@@ -80,7 +80,7 @@ returns-in_default-clause-left g c files loaded tables told current reads sound 
     let cmp = order_cmp o.order in
     let keys = order_short_keys o.order in
     let none = subst (λ (n : Option ℕ). IsNextLevel l.opened.version c.in_ok-bottom.bottom n) c.in_default.is c.in_ok-level.ensures.next in
-    let end : IsNextLevel (last_version o.version sf.links) c.in_ok-bottom.bottom None = subst (λ (w : State). IsNextLevel w c.in_ok-bottom.bottom None) sf.version_is none in
+    let end : IsNextLevel (version_at_end o.version sf.links) c.in_ok-bottom.bottom None = subst (λ (w : State). IsNextLevel w c.in_ok-bottom.bottom None) sf.version_is none in
     inr (ended o.order cmp keys s o.version loaded tables sound (calls c.args.folder.now) g.T.InstallWatch.tells c.args.told.now (calls l.folder) (tells l.folder) l.told l.opened.manifest l.opened.version c.in_ok-bottom.bottom l._step sf
     l.invariant.is_bottom (calls l.folder) (tells l.folder) (failed c.args.folder.now) (failed l.folder) l.told (Ok AtBottom) refl (same_tells (tells l.folder)) refl end tt)
 

@@ -2,7 +2,8 @@ use Rattle.std.proofs.Common.{◌≡◌, [], ◌∷◌, ◌++◌, ap, subst, ◌
 use Rattle.std.proofs.lemmas.Bool.{both_ways}
 use Rattle.table.specs.DataBlocks.{data_blocks}
 use Rattle.encoding.specs.declared.planned_block.PlannedBlock.{PlannedBlock}
-use Rattle.cut.specs.Opened.{OutputInProgress, parts_of}
+use Rattle.encoding.specs.Planned.{parts_of}
+use Rattle.cut.specs.Opened.{OutputInProgress}
 use Rattle.cut.proofs.Opened.{blocks_some, blocks_none}
 use Rattle.cut.proofs.open_output.OpenOutput.end.Goals as goal
 use Rattle.cut.proofs.open_output.OpenOutput.end.Goals.{then-not-is_empty, else-not-is_empty}

@@ -5,7 +5,8 @@ use Rattle.block.specs.EncodedEntry.{Entry}
 use Rattle.table.specs.declared.table_check.TheConstants.{MAX_TABLE_LEN}
 use Rattle.encoding.specs.declared.planned_block.PlannedBlock.{PlannedBlock}
 use Rattle.cut.specs.declared.planned_output.PlannedOutput.{PlannedOutput}
-use Rattle.cut.specs.Opened.{parts_of, entries_in_blocks}
+use Rattle.encoding.specs.Planned.{parts_of}
+use Rattle.cut.specs.Opened.{entries_in_blocks}
 use Rattle.cut.specs.OutputPlan.{PlanSeen}
 use Rattle.cut.specs.Plan.{OutputView, block_ends, block_ends_from}
 use Rattle.cut.specs.PlanInvariant.{planned_of}

@@ -7,7 +7,7 @@ use Rattle.encoding.specs.declared.planned_block.PlannedBlock.{PlannedBlock}
 use Rattle.cut.specs.declared.piece.Piece.{Piece}
 use Rattle.cut.specs.declared.planned_output.PlannedOutput.{PlannedOutput}
 use Rattle.cut.specs.Divided.{blocks_at, piece_blocks}
-use Rattle.cut.specs.Opened.{parts_of}
+use Rattle.encoding.specs.Planned.{parts_of}
 use Rattle.cut.specs.Plan.{jobs, encoded_pieces}
 use Rattle.cut.specs.OutputPlan.{PlanSeen, lists_in}
 use Rattle.cut.specs.PlanInvariant.{IsPlannedOutput, planned_of}

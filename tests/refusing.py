@@ -4,6 +4,7 @@ until a run in which nothing was refused. `refuser` of tests/words builds the li
 import itertools
 import os
 import re
+import select
 import shutil
 import subprocess
 
@@ -34,6 +35,20 @@ TIME = re.compile(r"\b\d+ ms$", re.MULTILINE)
 PROGRESS = re.compile(r"\r[^\r\n]*\x1b\[K")
 
 
+def told_at(terminal, work):
+    """What a program writes to a terminal until it ends. The terminal's other end has to be open:
+    if the program's is the last one, the system may lose what was written right before it ends."""
+    waiting = select.poll()
+    waiting.register(terminal, select.POLLIN)
+    told = b""
+    is_over = False
+    while not is_over:
+        is_over = work.poll() is not None
+        while waiting.poll(0 if is_over else 1):
+            told += os.read(terminal, 65536)
+    return told
+
+
 def run(words, env, is_terminal):
     """Runs the program: its status and what it wrote. With `is_terminal` its standard error is one,
     where work takes long."""
@@ -47,13 +62,9 @@ def run(words, env, is_terminal):
     if not is_terminal:
         out, told = work.communicate()
         return work.returncode, out, told
+    told = told_at(ours, work)
+    os.close(ours)
     os.close(err)
-    told = b""
-    try:
-        while True:
-            told += os.read(ours, 65536)
-    except OSError:
-        os.close(ours)
     out = work.communicate()[0]
     return work.returncode, out, told.replace(b"\r\n", b"\n")
 

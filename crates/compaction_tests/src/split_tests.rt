@@ -1,10 +1,10 @@
 use coding::{Fault, FaultName};
-use ikey::Bytewise;
+use ikey::{Bytewise, Comparator, InternalKey};
 use split::{Split, one_choice};
 use std::alloc::Global;
 use std::process::Abort;
 use std::test::*;
-use table::check;
+use table::{KeyList, MAX_VALUE_LEN, Options, SoundTable, TableBuilder, check};
 
 /// `table: a@1 put x | c@1 put x`
 const A_AND_C: &[u8] = b"\
@@ -22,13 +22,23 @@ const B_AND_D: &[u8] = b"\
     \x28\0\0\0\0\0\0\0\0\0\0\0\0\0\0\0\0\0\0\0\0\0\0\0\0\0\0\0\0\0\0\0\0\0\0\0\0W\xfb\x80\x8b\x24u\
     G\xdb";
 
-/// The boundaries that are chosen if the indexes have the user keys a, c and b, d.
-fn chosen(alloc: Global, want: u64) -> Result<Split<Bytewise>, Fault> {
+/// Which function takes boundaries from tables.
+#[derive(Clone, Copy)]
+enum Choice {
+    OfAll,
+    OfSample,
+}
+
+/// The boundaries that are taken if the indexes have the user keys a, c and b, d.
+fn chosen(alloc: Global, choice: Choice, want: u64) -> Result<Split<Bytewise>, Fault> {
     let tables = [
         check::<Bytewise>(alloc, A_AND_C)?,
         check::<Bytewise>(alloc, B_AND_D)?,
     ];
-    Split::choose(alloc, &tables, want)
+    match choice {
+        Choice::OfAll => Split::choose(alloc, &tables, want),
+        Choice::OfSample => Split::sample(alloc, &tables, want),
+    }
 }
 
 /// Whether the range of a number has these bounds.
@@ -69,7 +79,8 @@ fn is_answer(answer: Result<Split<Bytewise>, Fault>, wanted: &Wanted) -> bool {
     }
 }
 
-/// How many ranges are wanted, and the boundaries chosen.
+/// How many ranges are wanted, and the boundaries chosen. A sample would be too small, so it is all
+/// keys.
 const CHOSEN: &[(u64, Wanted)] = &[
     (0, Err(FaultName::SplitCount)),
     (1, Ok(&[])),
@@ -85,8 +96,129 @@ fn boundaries_that_are_chosen(rt: HostRuntime) {
     one_choice::<Bytewise>();
     for (want, wanted) in CHOSEN {
         assert!(rt;
-            is_answer(chosen(rt.alloc(), *want), wanted),
+            is_answer(chosen(rt.alloc(), Choice::OfAll, *want), wanted),
             "{want} ranges"
+        );
+        assert!(rt;
+            is_answer(chosen(rt.alloc(), Choice::OfSample, *want), wanted),
+            "{want} ranges of a sample"
+        );
+    }
+}
+
+/// The internal key of a number, put at 1: its two bytes, the most significant first, and the tag.
+fn internal_key(number: u16) -> [u8; 10] {
+    let [high, low] = number.to_be_bytes();
+    [high, low, 1, 1, 0, 0, 0, 0, 0, 0]
+}
+
+/// Adds the entry of a number to a table.
+fn add(table: &mut TableBuilder<Bytewise>, number: u16) -> Result<(), Fault> {
+    let bytes = internal_key(number);
+    let key = InternalKey::parse(&bytes)?;
+    let value = &bytes[..2];
+    if !table.is_above_last(&key) || value.len() > MAX_VALUE_LEN {
+        return Err(Fault::of(FaultName::Order));
+    }
+    table.add(key, value)
+}
+
+/// The table of `count` numbers from `first` on, each in a block of its own.
+fn table_of(alloc: Global, first: u16, count: u16) -> Result<Vec<u8>, Fault> {
+    let options = Options {
+        block_size: 1,
+        ..Options::default()
+    };
+    if !options.are_in_limits() {
+        return Err(Fault::of(FaultName::Options));
+    }
+    let mut table = TableBuilder::<Bytewise>::new(alloc, options);
+    for place in 0..count {
+        add(&mut table, first.wrapping_add(place))?;
+    }
+    table.finish()
+}
+
+/// Whether a key is one of a list.
+fn has_key(keys: &KeyList, key: &[u8]) -> bool {
+    for place in 0..keys.len() {
+        if keys.get(place) == key {
+            return true;
+        }
+    }
+    false
+}
+
+/// Whether the boundaries of a split rise, and each is a key of one of two lists.
+fn are_of(split: &Split<Bytewise>, one: &KeyList, other: &KeyList) -> bool {
+    let mut before: &[u8] = b"";
+    for number in 1..split.len() {
+        let Some(key) = split.range(number).lower else {
+            return false;
+        };
+        let is_later = Bytewise::compare(before, key).is_lt();
+        if !is_later || !(has_key(one, key) || has_key(other, key)) {
+            return false;
+        }
+        before = key;
+    }
+    true
+}
+
+/// Two tables of numbers: how many the first has from 0 on, and the first number of the second and
+/// how many it has. Then how many ranges are wanted, how many there are, and the number of the
+/// first boundary.
+type Sampled = (u16, (u16, u16), u64, u64, u16);
+
+/// Whether the split by a sample of tables has so many ranges and this first boundary. Each
+/// boundary is an index key, and comes once.
+fn is_sample(
+    alloc: Global,
+    tables: &[SoundTable<'_, Bytewise>; 2],
+    sampled: &Sampled,
+) -> Result<bool, Fault> {
+    let split = Split::sample(alloc, tables, sampled.2)?;
+    let one = tables[0].index_keys(alloc)?;
+    let other = tables[1].index_keys(alloc)?;
+    let key = internal_key(sampled.4);
+    let is_cut = split.len() == sampled.3 && has_bounds(&split, 0, None, Some(&key[..2]));
+    Ok(is_cut && are_of(&split, &one, &other))
+}
+
+/// The same of the tables of these bytes.
+fn is_sample_of(alloc: Global, files: &[Vec<u8>; 2], sampled: &Sampled) -> Result<bool, Fault> {
+    let tables = [
+        check::<Bytewise>(alloc, &files[0])?,
+        check::<Bytewise>(alloc, &files[1])?,
+    ];
+    is_sample(alloc, &tables, sampled)
+}
+
+/// The same, after the tables are written.
+fn is_sampled(alloc: Global, sampled: &Sampled) -> Result<bool, Fault> {
+    let one = table_of(alloc, 0, sampled.0)?;
+    let other = table_of(alloc, sampled.1.0, sampled.1.1)?;
+    is_sample_of(alloc, &[one, other], sampled)
+}
+
+/// A sample has the numbers 8, 24, 40 and so on up to 984 of a thousand: 62. That is enough for 15
+/// ranges.
+const SAMPLED: &[Sampled] = &[
+    (1_000, (2_000, 1), 2, 2, 504),
+    (1_000, (2_000, 1), 15, 15, 72),
+    (1_000, (2_000, 1), 16, 16, 62),
+    (1_000, (2_000, 1), 4_096, 1_002, 0),
+    (1_000, (1_000, 1_000), 2, 2, 1_008),
+    (1_000, (0, 1_000), 31, 31, 40),
+];
+
+#[test]
+fn boundaries_that_are_sampled(rt: HostRuntime) {
+    for sampled in SAMPLED {
+        assert!(rt;
+            is_sampled(rt.alloc(), sampled) == Ok(true),
+            "{:?}",
+            sampled
         );
     }
 }

@@ -206,7 +206,7 @@ fn counted<C: Comparator>(
     ranges: u64,
 ) -> Result<Entries, Fault> {
     let inputs = checked::<C>(alloc, taken)?;
-    let split = Split::choose(alloc, &inputs, ranges)?;
+    let split = Split::sample(alloc, &inputs, ranges)?;
     let ranges = entries_by_range(alloc, &inputs, &split)?;
     let kept = kept_of::<C>(alloc, made, &split)?;
     Ok(Entries { ranges, kept })

@@ -4,3 +4,4 @@ pub mod Sorted
 pub mod Places
 pub mod OneChoice
 pub mod Lent
+pub mod Samples

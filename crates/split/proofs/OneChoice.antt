@@ -8,17 +8,17 @@ use Rattle.split.specs.Boundaries.{KeysRise}
 use Rattle.split.proofs.RisingKeys.{not_before_itself}
 use Rattle.split.specs.SplitChoice.{IsListOf, IsAtPlaceBelow, OneChoiceLaw}
 
-first_or_later : (x : List ℕ) (xs : List (List ℕ)) (k : List ℕ) → Contains (x ∷ xs) k → (k ≡ x) ⊎ Contains xs k
+pub first_or_later : (x : List ℕ) (xs : List (List ℕ)) (k : List ℕ) → Contains (x ∷ xs) k → (k ≡ x) ⊎ Contains xs k
 first_or_later x xs k at = of_place at.0 at.1 at.2
   where
     of_place : (i : ℕ) → i < length (x ∷ xs) → get_or (x ∷ xs) i k ≡ k → (k ≡ x) ⊎ Contains xs k
     of_place zero lt e = inl (sym e)
     of_place (suc i) lt e = inr (i, omega arith, e)
 
-later_in : (x : List ℕ) (xs : List (List ℕ)) (k : List ℕ) → Contains xs k → Contains (x ∷ xs) k
+pub later_in : (x : List ℕ) (xs : List (List ℕ)) (k : List ℕ) → Contains xs k → Contains (x ∷ xs) k
 later_in x xs k at = (suc at.0, omega (arith, at.1), at.2)
 
-first_in : (x : List ℕ) (xs : List (List ℕ)) → Contains (x ∷ xs) x
+pub first_in : (x : List ℕ) (xs : List (List ℕ)) → Contains (x ∷ xs) x
 first_in x xs = (zero, omega arith, refl)
 
 module _ (cmp : List ℕ → List ℕ → Ordering) (total : IsTotalOrder cmp) where

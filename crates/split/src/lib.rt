@@ -9,9 +9,9 @@
 //! user key lies in exactly one range.
 //!
 //! - [`Split::from_keys`] takes boundaries; [`Split::choose`] takes them from the indexes of
-//!   tables.
+//!   tables, and [`Split::sample`] from a sample of these.
 //! - [`Split::len`] and [`Split::range`] answer the ranges.
-//! - [`one_choice`] is the law that `choose` has one answer.
+//! - [`one_choice`] is the law that `choose` has one answer, and so has `sample`.
 //!
 //! No contract says that the ranges of a choice have about as many bytes each.
 #![tactic(auto)]
@@ -23,4 +23,4 @@ mod split_choice;
 
 pub use choice_law::one_choice;
 pub use range::Range;
-pub use split::{MAX_BOUNDARIES, MAX_RANGES, Split};
+pub use split::{MAX_BOUNDARIES, MAX_RANGES, RANGE_SAMPLES, SAMPLE_STEP, Split};

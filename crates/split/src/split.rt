@@ -1,16 +1,16 @@
 //! Boundaries, and the ranges between them.
 
 ghost use Rattle.std.specs.Prelude.{◌≡◌, ◌+◌, ◌<◌, ◌↔◌, ◌⊎◌, true, nat_le, if◌then◌else◌, map};
-ghost use Rattle.std.specs.Prelude.{length, slice_get, IsOk, IfOk, IfErr};
+ghost use Rattle.std.specs.Prelude.{length, slice_get, Contains, All, IsOk, IfOk, IfErr};
 ghost use Rattle.std.specs.Option.{option_map};
 ghost use Rattle.coding.specs.Answers.{fault, UnlessMemory};
 ghost use Rattle.coding.specs.declared.fault.FaultName.TheVariants.{SplitCount, SplitOrder};
 ghost use Rattle.split.specs.Boundaries.{KeysRise, IsSplit};
-ghost use Rattle.split.specs.SplitChoice.{index_users_of, IsChoice};
+ghost use Rattle.split.specs.SplitChoice.{index_users_of, index_sample_of, IsChoice};
 ghost use Rattle.split.specs.Ranges.{range_at, key_range, IsCover};
 
 use crate::range::Range;
-use crate::split_choice::{at_places, each_once, index_lists, lent_keys};
+use crate::split_choice::{boundaries_from, index_lists, lent_keys, sampled_keys};
 use coding::{Fault, FaultName};
 use ikey::Comparator;
 use std::alloc::Global;
@@ -22,6 +22,12 @@ pub const MAX_BOUNDARIES: usize = 4_095;
 
 /// The most ranges of a split.
 pub const MAX_RANGES: u64 = 4_096;
+
+/// A sample has one of this many index keys of a table.
+pub const SAMPLE_STEP: usize = 16;
+
+/// The least number of keys of a sample, for each range that is wanted.
+pub const RANGE_SAMPLES: u64 = 4;
 
 /// A cut of all user keys into ranges. Contracts see its boundaries: at most 4,095 user keys that
 /// rise strictly.
@@ -85,8 +91,36 @@ impl<C: Comparator> Split<C> {
             return Err(Fault::of(FaultName::SplitCount));
         }
         let lists = index_lists(alloc, tables)?;
-        let keys = each_once::<C>(lent_keys(alloc, &lists)?)?;
-        let boundaries = at_places::<C>(alloc, &keys, want)?;
+        let keys = lent_keys(alloc, &lists, 1)?;
+        let boundaries = boundaries_from::<C>(alloc, keys, want)?;
+        Ok(Split {
+            boundaries,
+            order: PhantomData,
+        })
+    }
+
+    /// The same, with a sample of the index entries: of each table every 16th, the first at place
+    /// 8. If these are fewer than 4 for each range, all entries are taken, as `choose` does.
+    ///
+    /// Example: a table with 1,000 index entries has a sample of 62. That does for 15 ranges, which
+    /// need 60; for 16 all entries are taken.
+    ///
+    /// Faults: SplitCount exactly if `want` is outside 1 to 4,096; otherwise Memory alone.
+    pub fn sample(alloc: Global, tables: &[SoundTable<'_, C>], want: u64) -> Result<Split<C>, Fault>
+        ensures wanted { (result ≡ Err (fault SplitCount)) ↔ ((want ≡ 0) ⊎ (4096 < want)) }
+        ensures few { IfOk result (λ split. length split < want) }
+        ensures of_tables { IfOk result (λ split.
+            All (Contains (index_users_of tables.now)) split) }
+        ensures chosen { IfOk result
+            (λ split. IsChoice C.cmp (index_sample_of want tables.now) want split) }
+        ensures refused { IfErr result (λ e. UnlessMemory e (e ≡ fault SplitCount)) }
+    {
+        if want == 0 || want > MAX_RANGES {
+            return Err(Fault::of(FaultName::SplitCount));
+        }
+        let lists = index_lists(alloc, tables)?;
+        let keys = sampled_keys(alloc, &lists, want)?;
+        let boundaries = boundaries_from::<C>(alloc, keys, want)?;
         Ok(Split {
             boundaries,
             order: PhantomData,

@@ -6,8 +6,10 @@ ghost use Rattle.std.specs.List.{flat_map};
 ghost use Rattle.coding.specs.Answers.{EqualOrMemory, fault};
 ghost use Rattle.coding.specs.declared.fault.FaultName.TheVariants.{Memory};
 ghost use Rattle.split.specs.Boundaries.{KeysRise};
-ghost use Rattle.split.specs.SplitChoice.{IsListOf, IsAtPlaceBelow};
+ghost use Rattle.split.specs.SplitChoice.{IsListOf, IsAtPlaceBelow, IsChoice};
+ghost use Rattle.split.specs.SplitChoice.{every, every_of, sample_of};
 
+use crate::split::{RANGE_SAMPLES, SAMPLE_STEP};
 use coding::Fault;
 use ikey::Comparator;
 use std::alloc::Global;
@@ -28,34 +30,78 @@ pub(crate) fn index_lists<C: Comparator>(
     Ok(lists)
 }
 
-/// Appends the keys of a list, without copying them. The only fault is Memory.
-fn push_lent<'k>(keys: &mut Vec<&'k [u8]>, list: &'k KeyList) -> Result<(), Fault>
+/// Appends every `step`-th key of a list, from place `step / 2` on, without copying them. The only
+/// fault is Memory.
+fn push_lent<'k>(keys: &mut Vec<&'k [u8]>, list: &'k KeyList, step: usize) -> Result<(), Fault>
+    requires { 0 < step }
     ensures ok { OnOk result (map (λ key. key.now) keys.new.items
-        ≡ map (λ key. key.now) keys.old.items ++ list.now) }
+        ≡ map (λ key. key.now) keys.old.items ++ every step list.now) }
     ensures memory { IsOkUnless result (fault Memory) }
 {
-    for place in 0..list.len() {
+    for place in (step / 2..list.len()).step_by(step) {
         keys.push(list.get(place))?;
     }
     Ok(())
 }
 
-/// The keys of all lists, without copying them. The only fault is Memory.
-pub(crate) fn lent_keys<'k>(alloc: Global, lists: &'k [KeyList]) -> Result<Vec<&'k [u8]>, Fault>
+/// Every `step`-th key of each list, from place `step / 2` on, without copying them. So step 1
+/// gives all. The only fault is Memory.
+pub(crate) fn lent_keys<'k>(
+    alloc: Global,
+    lists: &'k [KeyList],
+    step: usize,
+) -> Result<Vec<&'k [u8]>, Fault>
+    requires { 0 < step }
     ensures { EqualOrMemory (λ keys. map (λ key. key.now) keys.items) result
-        (Ok (flat_map (λ list. list) lists.now)) }
+        (Ok (every_of step lists.now)) }
 {
     let mut keys = Vec::new(alloc);
     for list in lists {
-        push_lent(&mut keys, list)?;
+        push_lent(&mut keys, list, step)?;
     }
     Ok(keys)
+}
+
+/// A sample of the keys of all lists, for `want` ranges: every 16th, if those are at least 4 for
+/// each range, and else all. The only fault is Memory.
+pub(crate) fn sampled_keys<'k>(
+    alloc: Global,
+    lists: &'k [KeyList],
+    want: u64,
+) -> Result<Vec<&'k [u8]>, Fault>
+    requires { want ≤ 4096 }
+    ensures { EqualOrMemory (λ keys. map (λ key. key.now) keys.items) result
+        (Ok (sample_of want lists.now)) }
+{
+    let sample = lent_keys(alloc, lists, SAMPLE_STEP)?;
+    if RANGE_SAMPLES * want <= sample.len() as u64 {
+        return Ok(sample);
+    }
+    lent_keys(alloc, lists, 1)
+}
+
+/// The boundaries for `want` ranges, taken from these keys. The only fault is Memory.
+pub(crate) fn boundaries_from<C: Comparator>(
+    alloc: Global,
+    keys: Vec<&[u8]>,
+    want: u64,
+) -> Result<Vec<Vec<u8>>, Fault>
+    requires least { 0 < want }
+    requires most { want ≤ 4096 }
+    ensures few { IfOk result (λ boundaries. length boundaries.items < want) }
+    ensures chosen { IfOk result (λ boundaries.
+        IsChoice C.cmp (map (λ key. key.now) keys.entry.items) want
+        (map (λ key. key.items) boundaries.items)) }
+    ensures memory { IsOkUnless result (fault Memory) }
+{
+    let keys = each_once::<C>(keys)?;
+    at_places::<C>(alloc, &keys, want)
 }
 
 /// The keys in order, each once. The only fault is Memory.
 ///
 /// The keys of each table are in order already, so a stable sort has only to merge them.
-pub(crate) fn each_once<'k, C: Comparator>(mut keys: Vec<&'k [u8]>) -> Result<Vec<&'k [u8]>, Fault>
+fn each_once<'k, C: Comparator>(mut keys: Vec<&'k [u8]>) -> Result<Vec<&'k [u8]>, Fault>
     ensures once { IfOk result
         (λ once. IsListOf C.cmp (Contains (map (λ key. key.now) keys.entry.items))
         (map (λ key. key.now) once.items)) }
@@ -67,11 +113,7 @@ pub(crate) fn each_once<'k, C: Comparator>(mut keys: Vec<&'k [u8]>) -> Result<Ve
 }
 
 /// The keys at the places of the boundaries, each once. The only fault is Memory.
-pub(crate) fn at_places<C: Comparator>(
-    alloc: Global,
-    keys: &[&[u8]],
-    want: u64,
-) -> Result<Vec<Vec<u8>>, Fault>
+fn at_places<C: Comparator>(alloc: Global, keys: &[&[u8]], want: u64) -> Result<Vec<Vec<u8>>, Fault>
     requires least { 0 < want }
     requires most { want ≤ 4096 }
     requires rising { KeysRise C.cmp (map (λ key. key.now) keys.now) }

@@ -203,5 +203,5 @@ fn split_of<C: Comparator>(
     ensures { EqualOrMemory (λ split. tt) result
         (test_result (nat_le 1 ranges && nat_le ranges MAX_RANGES) SplitCount) }
 {
-    Split::choose(alloc, tables, ranges)
+    Split::sample(alloc, tables, ranges)
 }

@@ -145,8 +145,8 @@ fn read_input<'t, C: Comparator>(
     Ok(table)
 }
 
-/// Whether a table's length, smallest and largest key are as the version states.
-fn is_stated<C: Comparator>(file: &FileMeta, table: &SoundTable<'_, C>) -> bool
+/// Whether a table's length, smallest and largest key are as the version states. Takes no memory.
+pub fn is_stated<C: Comparator>(file: &FileMeta, table: &SoundTable<'_, C>) -> bool
     ensures { result ≡ table_matches_metadata file.now table.now }
 {
     has_bounds(file, table.bytes(), table.smallest(), table.largest())

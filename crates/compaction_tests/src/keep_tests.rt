@@ -4,8 +4,8 @@ use coding::{Fault, FaultName};
 use edit::{Version, VersionEdit};
 use ikey::{Bytewise, Kind};
 use keep::{
-    Mark, RangeRun, Snapshots, begun_law, distinct_law, holds_law, is_rising, largest_rise,
-    merge_range, one_key, ranges_compose, seek_range,
+    Mark, RangeRun, Snapshots, begun_law, cursor_from, distinct_law, holds_law, is_rising,
+    largest_rise, merge_range, one_key, ranges_compose, seek_range,
 };
 use pick::{Inputs, inputs};
 use split::Range;
@@ -370,11 +370,33 @@ fn is_kept(alloc: Global, row: &Row) -> Result<bool, Fault> {
     Ok(are_merged(alloc, &mut cursors, row, &inputs))
 }
 
+/// Whether a cursor over the table of `a` and `u`, made for the user keys from `lower` on, is at the
+/// user key `first`, or at its end if that is None.
+fn begins_at(alloc: Global, lower: Option<&[u8]>, first: Option<&[u8]>) -> Result<bool, Fault> {
+    let table = check::<Bytewise>(alloc, A_AND_U)?;
+    let cursor = cursor_from(alloc, &table, Range { lower, upper: None })?;
+    Ok(match first {
+        Some(user) => cursor.valid() && cursor.key().user() == user,
+        None => !cursor.valid(),
+    })
+}
+
 #[test]
 fn what_ranges_keep(rt: HostRuntime) -> Result<(), Fault> {
     for (place, row) in ROWS.iter().enumerate() {
         assert!(rt; is_kept(rt.alloc(), row)?, "{place}");
     }
+    Ok(())
+}
+
+#[test]
+fn cursors_begin_at_their_ranges(rt: HostRuntime) -> Result<(), Fault> {
+    let alloc = rt.alloc();
+    assert!(rt; begins_at(alloc, None, Some(b"a"))?);
+    assert!(rt; begins_at(alloc, Some(b"a"), Some(b"a"))?);
+    assert!(rt; begins_at(alloc, Some(b"b"), Some(b"u"))?);
+    assert!(rt; begins_at(alloc, Some(b"u"), Some(b"u"))?);
+    assert!(rt; begins_at(alloc, Some(b"v"), None)?);
     Ok(())
 }
 

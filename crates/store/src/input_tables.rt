@@ -7,16 +7,15 @@ ghost use Rattle.folder.specs.LoadedTables.{IsLoaded};
 ghost use Rattle.folder.specs.OpenAnswer.{FolderAnswers};
 ghost use Rattle.folder.specs.Reports.{OnlyReads, ReportsDevice};
 ghost use Rattle.install.specs.Install.{tables_in};
-ghost use Rattle.request.specs.Inputs.{table_matches_metadata};
 ghost use Rattle.store.specs.InputsCompaction.{are_stated, input_numbers, input_tables};
 
 use checks::{CHECKERS, HeldTables, Watch, check_tables};
 use coding::{Fault, FaultName};
-use edit::FileMeta;
+use compact::is_stated;
 use folder::{Folder, load_numbers};
 use ikey::{Comparator, SharedComparator};
 use pick::InputFile;
-use reads::{NumberedTable, has_bounds};
+use reads::NumberedTable;
 use std::alloc::Global;
 use std::thread::Threads;
 use table::SoundTable;
@@ -97,13 +96,6 @@ fn are_stated<C: Comparator>(inputs: &[InputFile], tables: &[NumberedTable<'_, C
         }
     }
     true
-}
-
-/// Whether a table's length, smallest and largest key are as the version states.
-fn is_stated<C: Comparator>(file: &FileMeta, table: &SoundTable<'_, C>) -> bool
-    ensures { result ≡ table_matches_metadata file.now table.now }
-{
-    has_bounds(file, table.bytes(), table.smallest(), table.largest())
 }
 
 /// The tables without their numbers. The only fault is Memory.

@@ -3,7 +3,7 @@
 use crate::cleaning::clean_installed;
 use crate::folder_locks::locked_to_change;
 use crate::folder_refusal::compaction_explained;
-use crate::folder_work::{begin_work, bytes_of, folder_to_test, open_folder, refused_at, sync};
+use crate::folder_work::{begin_work, bytes_of, folder_to_test, refused_at, sync};
 use crate::progress_line::ProgressLine;
 use crate::refusal::Refusal;
 use crate::reporter::Telling;
@@ -17,7 +17,9 @@ use settings::Settings;
 use std::alloc::Global;
 use std::thread::Threads;
 use std::time::Clock;
-use store::{CompactionStep, DescentEnd, bottom, compact_inputs, compact_opened, next_level};
+use store::{
+    CompactionStep, DescentEnd, bottom, compact_inputs, compact_opened, next_level, opened_after,
+};
 use usage::{CompactLine, Levels, Testing};
 
 /// What is asked for of a compaction.
@@ -107,7 +109,14 @@ fn compact_one<R: SystemFiles + WholeFiles + Print + Eprint + Clock + AllocGloba
         refusal,
     ))?;
     if telling.is_explaining {
-        explain_one(rt, telling.folder, opened, level, task.settings.ranges);
+        explain_one(
+            rt,
+            telling.folder,
+            opened,
+            &step,
+            level,
+            task.settings.ranges,
+        );
     }
     if task.cleans {
         clean_installed(rt, telling.folder, task.is_json)?;
@@ -115,18 +124,19 @@ fn compact_one<R: SystemFiles + WholeFiles + Print + Eprint + Clock + AllocGloba
     Ok(())
 }
 
-/// Tells the account of the compaction of a level, after which the folder is opened again.
+/// Tells the account of the compaction of a level, after which the version is that of its `step`.
 fn explain_one<R: SystemFiles + Eprint + AllocGlobal>(
     rt: &R,
     folder: &str,
     before: &Opened,
+    step: &CompactionStep,
     level: u64,
     ranges: u64,
 ) {
-    let opened = open_folder(rt, folder);
+    let opened = opened_after(rt.alloc(), before, step);
     let after = match &opened {
         Ok(opened) => Ok(&opened.version),
-        Err(refusal) => Err(refusal.fault),
+        Err(fault) => Err(*fault),
     };
     explain(
         rt,

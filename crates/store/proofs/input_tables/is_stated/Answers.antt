@@ -1,8 +1,0 @@
-use Rattle.std.proofs.Common.{◌∙◌}
-use Rattle.compact.proofs.InputAnswers.{stated_by}
-use Rattle.store.proofs.input_tables.is_stated.Goals as goal
-
-pub returns : goal.returns
-returns g c =
-    c.has_bounds.ensures
-    ∙ stated_by c.args.file.now c.args.table.now c.bytes.result.now c.smallest.result.bytes.now c.largest.result.bytes.now c.bytes.ensures.bytes c.smallest.ensures c.largest.ensures

@@ -40,7 +40,7 @@ enum Part {
     Tables(Group),
 }
 
-/// What is timed without workers, in the order of the figures.
+/// What is timed, in the order of the figures, before jobs and compactions.
 const PARTS: &[Part] = &[
     Part::Copy,
     Part::Sums,
@@ -134,18 +134,24 @@ fn number(word: Option<String>, otherwise: u64) -> u64 {
     }
 }
 
-/// Takes the figures of a run of this extent, but not those of workers.
-fn measure(rt: &HostRuntime, extent: &Extent, figures: &mut Figures) -> Result<(), Fault> {
+/// Takes the figures of all parts in a run of this extent.
+fn measure<R: Threads + Sync>(
+    rt: &HostRuntime,
+    threads: &R,
+    extent: &Extent,
+    figures: &mut Figures,
+) -> Result<(), Fault> {
     let bytes = entries::random(rt.alloc(), extent.bytes)?;
     for part in PARTS {
-        measure_part(rt, *part, &bytes, figures)?;
+        measure_part(rt, threads, *part, &bytes, figures)?;
     }
     Ok(())
 }
 
 /// Takes the figures of a part.
-fn measure_part(
+fn measure_part<R: Threads + Sync>(
     rt: &HostRuntime,
+    threads: &R,
     part: Part,
     bytes: &[u8],
     figures: &mut Figures,
@@ -154,7 +160,7 @@ fn measure_part(
         Part::Copy => sums::measure_copy(rt, bytes, figures),
         Part::Sums => figures.take_one(rt, over(bytes), Work::Crc(bytes)),
         Part::Blocks => blocks::measure(rt, values_of(bytes, VALUE_LEN + 4), figures),
-        Part::Tables(group) => tables::measure(rt, bytes, group, figures),
+        Part::Tables(group) => tables::measure(rt, threads, bytes, group, figures),
     }
 }
 
@@ -164,7 +170,7 @@ fn run_tiny<R: Threads + Sync>(
     threads: &R,
     figures: &mut Figures,
 ) -> Result<(), Fault> {
-    measure(rt, &TINY, figures)?;
+    measure(rt, threads, &TINY, figures)?;
     jobs::measure(rt, threads, TINY.jobs, figures)?;
     compaction::measure(rt, threads, SMALL, 8, figures)
 }
@@ -177,11 +183,11 @@ fn run_full<R: Threads + Sync>(
 ) -> Result<(), Fault> {
     figures.rounds = FULL.rounds;
     figures.are_printed = true;
-    measure(rt, &FULL, figures)?;
+    measure(rt, threads, &FULL, figures)?;
     end_full(rt, threads, figures)
 }
 
-/// Takes the figures of workers of that run, and prints what all rounds gave.
+/// Takes the figures of jobs of that run, and prints what all rounds gave.
 fn end_full<R: Threads + Sync>(
     rt: &HostRuntime,
     threads: &R,

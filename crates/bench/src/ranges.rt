@@ -7,6 +7,7 @@ ghost use Rattle.cut.specs.OutputPlan.{lists_in};
 use crate::figures::{Extent, Figures};
 use crate::tables::cursors;
 use crate::work::{Work, ended, now};
+use crate::workers::{self, Task};
 use coding::{Fault, FaultName};
 use cut::{Plan, plan};
 use edit::CompactPointer;
@@ -15,42 +16,46 @@ use keep::{RangeRun, largest_rise, merge_range};
 use pick::Inputs;
 use split::Range;
 use std::alloc::Global;
+use std::thread::Threads;
 use std::time::Duration;
 use table::{Options, SoundTable};
 
 /// Takes the figures of the outputs of these tables, merged in the one range of all keys. They have
 /// this many entries, and all are kept. The options are the default ones.
-pub fn take(
+pub fn take<R: Threads + Sync>(
     rt: &HostRuntime,
+    threads: &R,
     tables: &[SoundTable<'_, Bytewise>],
     entries: usize,
     figures: &mut Figures,
 ) -> Result<(), Fault> {
     let run = merged_range(rt.alloc(), tables)?;
-    take_outputs(rt, &[run], entries, figures)
+    take_outputs(rt, threads, &[run], entries, figures)
 }
 
 /// The same, if these runs keep the entries.
-fn take_outputs(
+fn take_outputs<R: Threads + Sync>(
     rt: &HostRuntime,
+    threads: &R,
     runs: &[RangeRun<'_>],
     entries: usize,
     figures: &mut Figures,
 ) -> Result<(), Fault> {
-    let plan = planned(rt.alloc(), runs)?;
+    let plan = planned(rt.alloc(), threads, runs, 1)?;
     let bytes = table_bytes(&plan);
-    take_planned(rt, Extent { bytes, entries }, runs, &plan, figures)
+    let extent = Extent { bytes, entries };
+    workers::take(rt, threads, extent, Task::Plan(runs), figures)?;
+    take_planned(rt, extent, &plan, figures)
 }
 
 /// The same, if this is their plan.
 fn take_planned<'w>(
     rt: &HostRuntime,
     extent: Extent,
-    runs: &'w [RangeRun<'w>],
     plan: &'w Plan<'w, 'w, Bytewise>,
     figures: &mut Figures,
 ) -> Result<(), Fault> {
-    let works = [Work::Plan(runs), Work::Encode(plan), Work::Assemble(plan)];
+    let works = [Work::Encode(plan), Work::Assemble(plan)];
     figures.take(rt, extent, &works)
 }
 
@@ -83,14 +88,16 @@ pub fn merged_range<'a>(
     merge_range::<Bytewise, _>(alloc, &mut cursors, all, &[], MAX_SEQUENCE, &inputs)
 }
 
-/// The plan of the outputs of runs.
-pub fn planned<'r, 'a>(
+/// The plan of the outputs of runs, made by this many workers.
+pub fn planned<'r, 'a, R: Threads + Sync>(
     alloc: Global,
+    threads: &R,
     runs: &'r [RangeRun<'a>],
+    workers: u64,
 ) -> Result<Plan<'r, 'a, Bytewise>, Fault> {
     let options = Options::default();
     if options.are_in_limits() {
-        plan::<Bytewise>(alloc, runs, &[], options, 1)
+        plan::<Bytewise, R>(threads, alloc, runs, &[], options, 1, workers)
     } else {
         Err(Fault::of(FaultName::Options))
     }

@@ -12,6 +12,7 @@ use ikey::{Bytewise, InternalKey};
 use merge::Merging;
 use std::alloc::Global;
 use std::mem;
+use std::thread::Threads;
 use table::{Cursor, SoundTable, TableBuilder, TableCursor};
 
 /// The most keys that are sought.
@@ -55,8 +56,9 @@ impl Group {
 }
 
 /// Takes the figures of a group, with entries whose values are these bytes.
-pub fn measure(
+pub fn measure<R: Threads + Sync>(
     rt: &HostRuntime,
+    threads: &R,
     bytes: &[u8],
     group: Group,
     figures: &mut Figures,
@@ -65,12 +67,13 @@ pub fn measure(
     let values = values_of(bytes, entry_len);
     let written = dealt(rt.alloc(), values, deal)?;
     let tables = sound(rt.alloc(), &written)?;
-    take(rt, group, values, &written, &tables, figures)
+    take(rt, threads, group, values, &written, &tables, figures)
 }
 
 /// Takes the figures of a group, with entries dealt out to these tables.
-fn take(
+fn take<R: Threads + Sync>(
     rt: &HostRuntime,
+    threads: &R,
     group: Group,
     values: &[[u8; VALUE_LEN]],
     written: &[Vec<u8>],
@@ -93,7 +96,7 @@ fn take(
         Group::Builder => figures.take_one(rt, whole, Work::TableBuilder(values)),
         Group::Cursors(_) => figures.take_one(rt, each, Work::Merge(tables, entries)),
         Group::Range => figures.take_one(rt, whole, Work::MergeRange(tables)),
-        Group::Outputs => ranges::take(rt, tables, entries, figures),
+        Group::Outputs => ranges::take(rt, threads, tables, entries, figures),
         Group::Lawful => versions::take(rt, each, written, tables, figures),
     }
 }

@@ -4,7 +4,7 @@ use crate::blocks::{all_sound, walk_all};
 use crate::entries::{low_bits, sound};
 use crate::jobs::added;
 use crate::made::Made;
-use crate::ranges::{merged_range, pieces_of, planned, timed_assembly};
+use crate::ranges::{merged_range, pieces_of, timed_assembly};
 use crate::sums::copied_over;
 use crate::tables::{merged, sought_first, walked_first, write_files, written};
 use crate::versions::tested;
@@ -13,7 +13,6 @@ use coding::{Fault, FaultName, crc32c};
 use cut::Plan;
 use edit::Version;
 use ikey::Bytewise;
-use keep::RangeRun;
 use reads::NumberedTable;
 use std::time::{Duration, Instant};
 use table::SoundTable;
@@ -32,7 +31,6 @@ pub enum Work<'a> {
     FileBuilder(&'a [[u8; 100]]),
     Merge(&'a [SoundTable<'a, Bytewise>], usize),
     MergeRange(&'a [SoundTable<'a, Bytewise>]),
-    Plan(&'a [RangeRun<'a>]),
     Encode(&'a Plan<'a, 'a, Bytewise>),
     Assemble(&'a Plan<'a, 'a, Bytewise>),
     Lawful(&'a Version, &'a [NumberedTable<'a, Bytewise>]),
@@ -59,7 +57,6 @@ impl Work<'_> {
                 _ => "merge of 256",
             },
             Work::MergeRange(_) => "merge_range of 9",
-            Work::Plan(_) => "plan",
             Work::Encode(_) => "encode of all jobs",
             Work::Assemble(_) => "assemble",
             Work::Lawful(..) => "lawful, 9 over 15",
@@ -72,11 +69,7 @@ impl Work<'_> {
     pub fn is_short(&self) -> bool {
         matches!(
             *self,
-            Work::TableBuilder(_)
-                | Work::MergeRange(_)
-                | Work::Plan(_)
-                | Work::Encode(_)
-                | Work::Assemble(_)
+            Work::TableBuilder(_) | Work::MergeRange(_) | Work::Encode(_) | Work::Assemble(_)
         )
     }
 }
@@ -102,7 +95,6 @@ pub fn timed(
         Work::FileBuilder(values) => ended(rt, start, write_files(alloc, values)),
         Work::Merge(tables, entries) => ended(rt, start, merged(alloc, tables, entries)),
         Work::MergeRange(tables) => ended(rt, start, merged_range(alloc, tables)),
-        Work::Plan(runs) => ended(rt, start, planned(alloc, runs)),
         Work::Encode(plan) => ended(rt, start, pieces_of(alloc, plan)),
         Work::Assemble(plan) => timed_assembly(rt, plan),
         Work::Lawful(version, tables) => ended(rt, start, tested(alloc, version, tables)),

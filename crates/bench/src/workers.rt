@@ -1,10 +1,12 @@
-//! Figures of what several workers do: jobs that do nothing, and the call `compact` alone.
+//! Figures of what several workers do: jobs that do nothing, plans, and the call `compact` alone.
 
 use crate::compaction::Compaction;
 use crate::figures::{Extent, Figures, NO_TIMES, Times, lessen, time_at};
 use crate::jobs::ran;
+use crate::ranges::planned;
 use crate::work::{ended, now};
 use coding::Fault;
+use keep::RangeRun;
 use std::thread::Threads;
 use std::time::Duration;
 
@@ -13,6 +15,8 @@ use std::time::Duration;
 pub enum Task<'a> {
     /// This many jobs that give their numbers.
     Jobs(u32),
+    /// The plan of the outputs of these runs.
+    Plan(&'a [RangeRun<'a>]),
     /// A compaction.
     Compact(&'a Compaction),
 }
@@ -22,6 +26,7 @@ impl Task<'_> {
     fn labels(self) -> [&'static str; 3] {
         match self {
             Task::Jobs(_) => ["jobs, 1 worker", "jobs, 2 workers", "jobs, 4 workers"],
+            Task::Plan(_) => ["plan, 1 worker", "plan, 2 workers", "plan, 4 workers"],
             Task::Compact(_) => [
                 "compact, 1 worker",
                 "compact, 2 workers",
@@ -75,6 +80,7 @@ fn timed<R: Threads + Sync>(
     let start = now(rt)?;
     match task {
         Task::Jobs(jobs) => ended(rt, start, ran(rt.alloc(), threads, jobs, workers)),
+        Task::Plan(runs) => ended(rt, start, planned(rt.alloc(), threads, runs, workers)),
         Task::Compact(compaction) => ended(
             rt,
             start,

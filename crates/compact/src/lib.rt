@@ -1,7 +1,8 @@
 //! Compaction of tables by workers that steal jobs, in three runs of a board:
 //!
 //! 1. [`check_inputs`] checks the inputs, a table a job.
-//! 2. [`merge_ranges`] merges them, a range of user keys a job. Then one thread plans the outputs.
+//! 2. [`merge_ranges`] merges them, a range of user keys a job. Then one thread cuts the outputs,
+//!    and the workers compute the lengths of their tables.
 //! 3. The tables of the plan are encoded, a table a job, or a piece a job if an output has several,
 //!    and joined.
 //!

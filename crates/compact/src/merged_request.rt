@@ -50,19 +50,24 @@ impl<'q, 't, C: Comparator> Model for Merged<'q, 't, C> {
     ghost invariant = { λ m. IsMerged (request_in m.request.now) m.workers };
 }
 
-impl<'q, 't, C: Comparator> Merged<'q, 't, C> {
+impl<'q, 't, C: SharedComparator> Merged<'q, 't, C> {
     /// Plans the outputs, deals them out in groups of `MOST_TABLES`, and makes the edit. No table
-    /// is encoded yet, and the runs are read until all are.
+    /// is encoded yet, and the runs are read until all are. The lengths of the tables are computed
+    /// by workers, as many as the request was merged by.
     ///
     /// `Numbers` or `TooLarge` of the outputs, as [`crate::compact_tables`] says. The only other
     /// fault is `Memory`.
-    pub fn planned<'m>(&'m self, alloc: Global) -> Result<Planned<'m, 't, C>, Fault>
+    pub fn planned<'m, R: Threads + Sync>(
+        &'m self,
+        rt: &R,
+        alloc: Global,
+    ) -> Result<Planned<'m, 't, C>, Fault>
         ensures answer { EqualOrMemory joined_answer result self.now }
         ensures groups { IfOk result (λ p.
             p.groups ≡ groups_of MOST_TABLES (joined_answer p).tables) }
     {
         let request = self.request;
-        let plan = planned_outputs::<C>(alloc, request, &self.runs)?;
+        let plan = planned_outputs::<C, R>(rt, alloc, request, &self.runs, self.workers)?;
         let edit = edit_bytes(alloc, request, &plan)?;
         let groups = plan.groups(alloc, MOST_TABLES)?;
         Ok(Planned {
@@ -86,17 +91,19 @@ impl<'q, 't, C: SharedComparator + 'static> Merged<'q, 't, C> {
         ensures { EqualOrMemory answer_in result self.now }
     {
         let request = self.request;
-        let plan = planned_outputs::<C>(alloc, request, &self.runs)?;
+        let plan = planned_outputs::<C, R>(rt, alloc, request, &self.runs, self.workers)?;
         write_plan(rt, alloc, request, &plan, self.workers, gate)
     }
 }
 
-/// The plan of the outputs of a request's runs. The only faults are `Numbers`, `TooLarge` and
-/// `Memory`.
-fn planned_outputs<'r, 'a, C: Comparator>(
+/// The plan of the outputs of a request's runs, made by workers. The only faults are `Numbers`,
+/// `TooLarge` and `Memory`.
+fn planned_outputs<'r, 'a, C: SharedComparator, R: Threads + Sync>(
+    rt: &R,
     alloc: Global,
     request: &Request<'_>,
     runs: &'r [RangeRun<'a>],
+    workers: u64,
 ) -> Result<Plan<'r, 'a, C>, Fault>
     requires { AreInLimits request.now.options }
     ensures outputs { EqualOrMemory (λ p. p.outputs) result
@@ -108,11 +115,13 @@ fn planned_outputs<'r, 'a, C: Comparator>(
     ensures fits { IfOk result (λ p. request.now.first_number + length p.outputs < 2 ^ 64) }
 {
     let grandparents = &request.picked.grandparents;
-    plan::<C>(
+    plan::<C, R>(
+        rt,
         alloc,
         runs,
         grandparents,
         request.options,
         request.first_number,
+        workers,
     )
 }

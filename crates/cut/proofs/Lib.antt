@@ -15,6 +15,7 @@ pub mod Opened
 pub mod Cuts
 pub mod TableLengths
 pub mod Planned
+pub mod FoundLengths
 pub mod BlockSums
 pub mod BlockEnds
 pub mod PiecePlaces

@@ -2,7 +2,7 @@
 //!
 //! 1. [`plan`] takes the runs of all ranges, and answers a [`Plan`]: each output, its data blocks
 //!    and the exact length of its table, before a byte is written. It doesn't depend on how the
-//!    entries were dealt out to ranges.
+//!    entries were dealt out to ranges, nor on the workers, which compute the lengths.
 //! 2. [`Plan::output`] tells of an output what its entry in the edit needs, [`Plan::block`] the
 //!    entries of its data blocks, and [`Plan::block_end`] where they end.
 //! 3. [`Plan::jobs`] says how many pieces are to be encoded, and [`Plan::encode`] encodes one. Any
@@ -25,6 +25,7 @@ mod open_block;
 mod open_output;
 mod output_cuts;
 mod output_laws;
+mod output_lengths;
 mod output_meta;
 mod output_plan;
 mod piece;

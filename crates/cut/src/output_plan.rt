@@ -19,17 +19,18 @@ ghost use Rattle.cut.specs.TableLength.{lens_of, table_size};
 ghost use Rattle.cut.specs.declared.output_plan.TheConstants.{MAX_BLOCKS};
 
 use crate::output_cuts::outputs;
+use crate::output_lengths::lengths_of;
 use crate::piece_division::{Division, pieces_of};
 use crate::planned_output::PlannedOutput;
-use crate::table_len::table_len;
 use crate::whole_plan::Plan;
 use coding::{Fault, FaultName};
 use edit::FileMeta;
 use encoding::PlannedBlock;
-use ikey::Comparator;
+use ikey::{Comparator, SharedComparator};
 use keep::RangeRun;
 use std::alloc::Global;
 use std::marker::PhantomData;
+use std::thread::Threads;
 use table::{MAX_TABLE_LEN, Options};
 
 /// The greatest number of data blocks in all outputs of a plan, 2^40.
@@ -42,20 +43,23 @@ const FEW_BLOCKS: u64 = 64;
 const PIECE_LEN: u64 = 1 << 22;
 
 /// The plan of the outputs of a compaction, of the runs of all its ranges in order. It doesn't
-/// depend on how the entries were dealt out to ranges. `grandparents` are the files that the marks
-/// of the runs count. Outputs are numbered from `first_number` on.
+/// depend on how the entries were dealt out to ranges, nor on `workers`: at most so many threads
+/// compute the lengths of the tables, and 0 is as 1. `grandparents` are the files that the marks of
+/// the runs count. Outputs are numbered from `first_number` on.
 ///
 /// Faults: the first of these, or Memory.
 ///
 /// 1. Numbers: the number after the last output's exceeds 2^64 - 1.
 /// 2. TooLarge: a table would have more than 2^30 bytes, or all outputs together more than 2^40
 ///    data blocks.
-pub fn plan<'r, 'a, C: Comparator>(
+pub fn plan<'r, 'a, C: SharedComparator, R: Threads + Sync>(
+    rt: &R,
     alloc: Global,
     runs: &'r [RangeRun<'a>],
     grandparents: &[FileMeta],
     options: Options,
     first_number: u64,
+    workers: u64,
 ) -> Result<Plan<'r, 'a, C>, Fault>
     requires { AreInLimits options }
     ensures outputs { EqualOrMemory (λ p. p.outputs) result
@@ -67,7 +71,7 @@ pub fn plan<'r, 'a, C: Comparator>(
     if ended.len() as u64 > u64::MAX - first_number {
         return Err(Fault::of(FaultName::Numbers));
     }
-    let outputs = numbered::<C>(alloc, ended, first_number)?;
+    let outputs = numbered::<C, R>(rt, alloc, ended, first_number, workers)?;
     if !are_small(&outputs) {
         return Err(Fault::of(FaultName::TooLarge));
     }
@@ -97,12 +101,15 @@ pub(crate) fn plan_with<'r, 'a, C: Comparator>(
     })
 }
 
-/// The outputs of these data blocks, numbered from `first_number` on. A length of more than 2^30
-/// bytes is given as 2^30 + 1. The only fault is Memory.
-fn numbered<'r, 'a, C: Comparator>(
+/// The outputs of these data blocks, numbered from `first_number` on. At most `workers` threads
+/// compute their lengths; 0 is as 1. A length of more than 2^30 bytes is given as 2^30 + 1. The
+/// only fault is Memory.
+fn numbered<'r, 'a, C: SharedComparator, R: Threads + Sync>(
+    rt: &R,
     alloc: Global,
     ended: Vec<Vec<PlannedBlock<'r, 'a>>>,
     first_number: u64,
+    workers: u64,
 ) -> Result<Vec<PlannedOutput<'r, 'a>>, Fault>
     requires fits { first_number + length ended.items < 2 ^ 64 }
     requires some { AllByRecursion (λ blocks. HaveEntries blocks.items) ended.items }
@@ -111,10 +118,11 @@ fn numbered<'r, 'a, C: Comparator>(
         ended.entry.items) }
     ensures memory { IfErr result (λ e. e ≡ fault Memory) }
 {
-    let mut outputs = Vec::new(alloc);
+    let lens = lengths_of::<C, R>(rt, alloc, &ended, workers)?;
+    let mut outputs = Vec::with_capacity(alloc, ended.len())?;
     let mut number = first_number;
     for blocks in ended {
-        let len = table_len::<C>(alloc, &blocks)?;
+        let len = lens[outputs.len()];
         outputs.push(PlannedOutput {
             number,
             blocks,

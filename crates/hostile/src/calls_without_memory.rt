@@ -26,6 +26,7 @@ use merge::{Merging, least_place};
 use pick::{Inputs, is_base};
 use split::Split;
 use std::alloc::Global;
+use std::thread::Threads;
 use table::{Cursor, SoundTable, TableBuilder, TableCursor, check};
 
 /// Readings of numbers: 300 in two groups, and a number that was cut off. The known checksums of
@@ -277,22 +278,24 @@ fn is_plan(plan: &Plan<'_, '_, Bytewise>) -> bool {
 
 /// Whether splits, a range's run and their plan, made before, are right while each request for
 /// memory is refused.
-fn are_planned(
-    alloc: Global,
+fn are_planned<R: AllocGlobal + Threads + Sync>(
+    rt: &R,
     split: &Split<Bytewise>,
     runs: &[RangeRun<'_>],
 ) -> Result<bool, Fault> {
-    let plan = plan::<Bytewise>(alloc, runs, &[], SMALLEST, 5)?;
+    let alloc = rt.alloc();
+    let plan = plan::<Bytewise, R>(rt, alloc, runs, &[], SMALLEST, 5, 1)?;
     refuse(alloc, &Order::Bytes(0));
     let is_right = is_kept(runs) && are_ranges(alloc, split) && is_plan(&plan);
     Ok(is_right && !was_refused(alloc))
 }
 
 /// What a range keeps, splits, and a plan.
-pub fn plans(alloc: Global) -> Result<bool, Fault> {
+pub fn plans<R: AllocGlobal + Threads + Sync>(rt: &R) -> Result<bool, Fault> {
+    let alloc = rt.alloc();
     let split = three_ranges(alloc)?;
     let runs = runs_of(alloc, TABLE)?;
-    are_planned(alloc, &split, &runs)
+    are_planned(rt, &split, &runs)
 }
 
 /// Whether the counters of a version are these, an empty version has none, and there is a compact

@@ -13,6 +13,7 @@ use keep::{RangeRun, largest_rise, merge_range};
 use pick::Inputs;
 use split::Split;
 use std::alloc::Global;
+use std::thread::Threads;
 use table::{TableCursor, check};
 
 /// The run of a split's first range over a table, with all sequences from 1 on readable.
@@ -103,16 +104,20 @@ fn are_pieces(alloc: Global, plan: &Plan<'_, '_, Bytewise>) -> Result<bool, Faul
 
 /// Whether the plan of runs of three entries, each a block and an output, is right, and its pieces
 /// have 26 bytes each.
-fn is_planned(alloc: Global, runs: &[RangeRun<'_>]) -> Result<bool, Fault> {
-    let plan = plan::<Bytewise>(alloc, runs, &[], SMALLEST, 5)?;
+fn is_planned<R: AllocGlobal + Threads + Sync>(
+    rt: &R,
+    runs: &[RangeRun<'_>],
+) -> Result<bool, Fault> {
+    let alloc = rt.alloc();
+    let plan = plan::<Bytewise, R>(rt, alloc, runs, &[], SMALLEST, 5, 1)?;
     let are_pieces = are_pieces(alloc, &plan)?;
     Ok(are_pieces && are_outputs(&plan))
 }
 
-/// Three entries, merged in one range and planned as three outputs.
-pub fn planned(alloc: Global) -> Result<bool, Fault> {
-    let runs = runs_of(alloc, TABLE_ABC)?;
-    is_planned(alloc, &runs)
+/// Three entries, merged in one range and planned as three outputs by one worker.
+pub fn planned<R: AllocGlobal + Threads + Sync>(rt: &R) -> Result<bool, Fault> {
+    let runs = runs_of(rt.alloc(), TABLE_ABC)?;
+    is_planned(rt, &runs)
 }
 
 /// Two ranges, chosen from four index keys: the boundary is the third.

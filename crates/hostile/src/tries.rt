@@ -130,13 +130,14 @@ fn is_compacted<R: AllocGlobal + Threads + Sync>(
 }
 
 /// Whether calls that take no memory have their answers.
-fn is_resting(alloc: Global, resting: &Resting) -> Result<bool, Fault> {
+fn is_resting<R: AllocGlobal + Threads + Sync>(rt: &R, resting: &Resting) -> Result<bool, Fault> {
+    let alloc = rt.alloc();
     match resting {
         Resting::Numbers => numbers(alloc),
         Resting::Blocks => blocks(alloc),
         Resting::Tables => tables(alloc),
         Resting::Rules => rules(alloc),
-        Resting::Plans => plans(alloc),
+        Resting::Plans => plans(rt),
         Resting::Versions => versions(alloc),
         Resting::Board => board(alloc),
     }
@@ -154,7 +155,7 @@ fn is_right<R: AllocGlobal + Threads + Sync>(rt: &R, row: &Row) -> Result<bool, 
         Row::Range => range_merged(alloc),
         Row::Log => logged(alloc),
         Row::Edit => edited(alloc),
-        Row::Plan => planned(alloc),
+        Row::Plan => planned(rt),
         Row::Split => chosen(alloc),
         Row::Board => seated(alloc),
         Row::Install => installed(rt),
@@ -171,7 +172,7 @@ fn is_right<R: AllocGlobal + Threads + Sync>(rt: &R, row: &Row) -> Result<bool, 
         Row::Faults => faults_told(rt),
         Row::Outcome => outcome_installed(rt),
         Row::Dump => table_dumped(alloc),
-        Row::Resting(resting) => is_resting(alloc, resting),
+        Row::Resting(resting) => is_resting(rt, resting),
     }
 }
 

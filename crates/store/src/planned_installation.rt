@@ -78,7 +78,7 @@ pub(crate) fn install_merged<
         files (codes "CURRENT") ≢ Some (current_text opened.now.manifest) → OnOk result ⊥ }
     ensures device { ReportsDevice F.Folder folder.old folder.new result }
 {
-    let planned = merged.planned(alloc)?;
+    let planned = merged.planned(rt, alloc)?;
     let version = &opened.version;
     let number = manifest_of(version);
     let step = step_of(alloc, &planned, inputs, number)?;

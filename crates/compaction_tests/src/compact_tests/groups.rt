@@ -60,7 +60,7 @@ fn groups_by<R: AllocGlobal + Threads + Sync>(
     let files = &request.picked.files;
     let tables = check_inputs::<Bytewise, Open, R>(rt, alloc, files, request.tables, 1, &Open)?;
     let merged = merge_request(rt, alloc, request, &tables, split, workers, &Open)?;
-    let planned = merged.planned(alloc)?;
+    let planned = merged.planned(rt, alloc)?;
     collected(rt, &planned)
 }
 

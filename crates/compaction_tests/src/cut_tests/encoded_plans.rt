@@ -15,6 +15,10 @@ use pick::Inputs;
 use std::alloc::Global;
 use std::process::Abort;
 use std::test::*;
+use std::thread::Threads;
+
+/// Numbers of workers: none, which is as one, and more than outputs.
+const WORKERS: &[u64] = &[0, 1, 2, u64::MAX];
 
 /// The pieces of a plan, in the order of their jobs.
 fn encoded(alloc: Global, plan: &Plan<'_, '_, Bytewise>) -> Result<Vec<Vec<u8>>, Fault>
@@ -118,25 +122,35 @@ fn is_plan(alloc: Global, plan: &Plan<'_, '_, Bytewise>, wanted: Answer) -> Resu
     }
 }
 
-/// Whether the plan of runs is the row's.
-fn is_planned(
-    alloc: Global,
+/// Whether the plan of runs by these many workers is the row's.
+fn is_planned<R: AllocGlobal + Threads + Sync>(
+    rt: &R,
     row: &Row<'_>,
     runs: &[RangeRun<'_>],
     inputs: &Inputs,
+    workers: u64,
 ) -> Result<bool, Fault> {
     let sizes = (row.block_size, row.file_size, row.first_number);
-    match plan_of(alloc, runs, inputs, sizes) {
-        Ok(plan) => is_plan(alloc, &plan, row.answer),
+    match plan_of(rt, runs, inputs, sizes, workers) {
+        Ok(plan) => is_plan(rt.alloc(), &plan, row.answer),
         Err(fault) => Ok(matches!(row.answer, Answer::Refused(name) if fault == Fault::of(name))),
     }
 }
 
-/// Whether a row has its plan.
-fn has_answer(alloc: Global, row: &Row<'_>) -> Result<bool, Fault> {
-    let inputs = picked(alloc, row.files)?;
-    let runs = runs_of(alloc, row, &inputs)?;
-    is_planned(alloc, row, &runs, &inputs)
+/// Whether a row has its plan, by each of these numbers of workers.
+fn has_answer<R: AllocGlobal + Threads + Sync>(
+    rt: &R,
+    row: &Row<'_>,
+    workers: &[u64],
+) -> Result<bool, Fault> {
+    let inputs = picked(rt.alloc(), row.files)?;
+    let runs = runs_of(rt.alloc(), row, &inputs)?;
+    for count in workers {
+        if !is_planned(rt, row, &runs, &inputs, *count)? {
+            return Ok(false);
+        }
+    }
+    Ok(true)
 }
 
 /// The table of one entry with a value of 2^20 bytes.
@@ -149,7 +163,12 @@ fn long_table(alloc: Global) -> Result<Vec<u8>, Fault> {
 }
 
 /// Whether the plan of `count` entries of 2^20 bytes each is this one.
-fn has_answer_repeated(alloc: Global, count: usize, answer: Answer) -> Result<bool, Fault> {
+fn has_answer_repeated<R: AllocGlobal + Threads + Sync>(
+    rt: &R,
+    count: usize,
+    answer: Answer,
+) -> Result<bool, Fault> {
+    let alloc = rt.alloc();
     let table = long_table(alloc)?;
     let ranges = vec![in alloc; ALL; count]?;
     let row = Row {
@@ -158,7 +177,7 @@ fn has_answer_repeated(alloc: Global, count: usize, answer: Answer) -> Result<bo
         answer,
         ..REPEATED
     };
-    has_answer(alloc, &row)
+    has_answer(rt, &row, &[1])
 }
 
 /// The bytes of an output of 1,023 entries of 2^20 bytes.
@@ -169,17 +188,17 @@ fn has_answer_repeated(alloc: Global, count: usize, answer: Answer) -> Result<bo
 const LONGEST: u64 = 1_072_745_231;
 
 /// Whether an output may have 1,023 such entries, and no more: it has at most 2^30 bytes.
-fn are_limited(alloc: Global) -> Result<bool, Fault> {
-    let longest = has_answer_repeated(alloc, 1_023, Answer::Length(LONGEST))?;
-    let longer = has_answer_repeated(alloc, 1_024, Answer::Refused(FaultName::TooLarge))?;
+fn are_limited<R: AllocGlobal + Threads + Sync>(rt: &R) -> Result<bool, Fault> {
+    let longest = has_answer_repeated(rt, 1_023, Answer::Length(LONGEST))?;
+    let longer = has_answer_repeated(rt, 1_024, Answer::Refused(FaultName::TooLarge))?;
     Ok(longest && longer)
 }
 
 #[test]
 fn plans_and_their_tables(rt: HostRuntime) -> Result<(), Fault> {
     for row in ROWS {
-        assert!(rt; has_answer(rt.alloc(), row)?, "{}", row.name);
+        assert!(rt; has_answer(&rt, row, WORKERS)?, "{}", row.name);
     }
-    assert!(rt; are_limited(rt.alloc())?);
+    assert!(rt; are_limited(&rt)?);
     Ok(())
 }

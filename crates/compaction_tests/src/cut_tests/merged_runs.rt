@@ -9,6 +9,7 @@ use keep::{RangeRun, is_rising, largest_rise, merge_range};
 use pick::{Inputs, inputs};
 use split::Range;
 use std::alloc::Global;
+use std::thread::Threads;
 use table::{Options, TableCursor, check};
 
 /// The readable sequences: 3, 4, 5 and all from 9 on.
@@ -59,12 +60,14 @@ pub(crate) fn runs_of<'a>(
     Ok(runs)
 }
 
-/// The plan of runs, with these sizes of blocks and files and this first number.
-pub(crate) fn plan_of<'r, 'a>(
-    alloc: Global,
+/// The plan of runs, with these sizes of blocks and files and this first number, by these many
+/// workers.
+pub(crate) fn plan_of<'r, 'a, R: AllocGlobal + Threads + Sync>(
+    rt: &R,
     runs: &'r [RangeRun<'a>],
     inputs: &Inputs,
     (block_size, file_size, first_number): (u64, u64, u64),
+    workers: u64,
 ) -> Result<Plan<'r, 'a, Bytewise>, Fault> {
     let options = Options {
         block_size,
@@ -74,5 +77,15 @@ pub(crate) fn plan_of<'r, 'a>(
     if !options.are_in_limits() {
         return Err(Fault::of(FaultName::Options));
     }
-    plan::<Bytewise>(alloc, runs, &inputs.grandparents, options, first_number)
+    let alloc = rt.alloc();
+    let grandparents = &inputs.grandparents;
+    plan::<Bytewise, R>(
+        rt,
+        alloc,
+        runs,
+        grandparents,
+        options,
+        first_number,
+        workers,
+    )
 }

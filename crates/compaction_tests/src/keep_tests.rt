@@ -370,8 +370,8 @@ fn is_kept(alloc: Global, row: &Row) -> Result<bool, Fault> {
     Ok(are_merged(alloc, &mut cursors, row, &inputs))
 }
 
-/// Whether a cursor over the table of `a` and `u`, made for the user keys from `lower` on, is at the
-/// user key `first`, or at its end if that is None.
+/// Whether a cursor over the table of `a` and `u`, made for the user keys from `lower` on, is at
+/// the user key `first`. If that is None, whether it is at its end.
 fn begins_at(alloc: Global, lower: Option<&[u8]>, first: Option<&[u8]>) -> Result<bool, Fault> {
     let table = check::<Bytewise>(alloc, A_AND_U)?;
     let cursor = cursor_from(alloc, &table, Range { lower, upper: None })?;

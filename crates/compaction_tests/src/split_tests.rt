@@ -170,8 +170,8 @@ fn are_of(split: &Split<Bytewise>, one: &KeyList, other: &KeyList) -> bool {
 /// first boundary.
 type Sampled = (u16, (u16, u16), u64, u64, u16);
 
-/// Whether the split by a sample of tables has so many ranges and this first boundary. Each
-/// boundary is an index key, and comes once.
+/// Whether the split by a sample of tables has as many ranges as its row says and that first
+/// boundary. Each boundary is an index key, and comes once.
 fn is_sample(
     alloc: Global,
     tables: &[SoundTable<'_, Bytewise>; 2],

@@ -43,9 +43,9 @@ const FEW_BLOCKS: u64 = 64;
 const PIECE_LEN: u64 = 1 << 22;
 
 /// The plan of the outputs of a compaction, of the runs of all its ranges in order. It doesn't
-/// depend on how the entries were dealt out to ranges, nor on `workers`: at most so many threads
-/// compute the lengths of the tables, and 0 is as 1. `grandparents` are the files that the marks of
-/// the runs count. Outputs are numbered from `first_number` on.
+/// depend on how the entries were dealt out to ranges, nor on `workers`. These threads compute the
+/// lengths of the tables; 0 is as 1. `grandparents` are the files that the marks of the runs count.
+/// Outputs are numbered from `first_number` on.
 ///
 /// Faults: the first of these, or Memory.
 ///

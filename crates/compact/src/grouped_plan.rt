@@ -1,6 +1,6 @@
-//! The outputs of a compaction in groups, whose tables are encoded when they are asked for.
+//! The outputs of a compaction in groups, none of which is encoded.
 
-ghost use Rattle.std.specs.Prelude.{◌≡◌, ◌<◌, ◌++◌, length, map, slice_get, Some, Ok, OnOk, IfOk};
+ghost use Rattle.std.specs.Prelude.{◌≡◌, ◌<◌, ◌≤◌, ◌++◌, length, slice_get, Some, Ok, OnOk};
 ghost use Rattle.std.specs.Prelude.{IfErr, flat_map};
 ghost use Rattle.coding.specs.Answers.{EqualOrMemory, fault};
 ghost use Rattle.coding.specs.declared.fault.FaultName.TheVariants.{Memory};
@@ -8,17 +8,15 @@ ghost use Rattle.table.specs.Table.{table};
 ghost use Rattle.cut.specs.Plan.{plan_tables};
 ghost use Rattle.compact.specs.Grouped.{joined_answer, table_sizes};
 
-use crate::output_writer::encode_tables;
-use board::Gate;
 use coding::Fault;
 use cut::Plan;
-use ikey::{Comparator, SharedComparator};
+use ikey::Comparator;
 use std::alloc::Global;
 use std::marker::Model;
-use std::thread::Threads;
 
-/// The most tables of a group.
-pub const MOST_TABLES: usize = 16;
+/// The most tables of a group. Why so few: a folder may keep the files of a group open until it syncs
+/// them.
+pub const MOST_TABLES: usize = 64;
 
 /// The planned outputs of a compaction in groups, and the bytes of its edit. Contracts see the
 /// tables of each group.
@@ -58,6 +56,23 @@ impl<'m, 't, C: Comparator> Planned<'m, 't, C> {
         &self.edit
     }
 
+    /// The plan of the group at `place`. Takes no memory.
+    pub fn group(&self, place: usize) -> &Plan<'m, 't, C>
+        requires { place < length self.now.groups }
+        ensures { slice_get self.now.groups place
+            ≡ Some (plan_tables (table C.cmp C.short_keys result.now.options) result.now.outputs) }
+    {
+        &self.groups[place]
+    }
+
+    /// How many workers the request was merged by, 1 to 64.
+    pub fn workers(&self) -> u64
+        ensures some { 1 ≤ result }
+        ensures limited { result ≤ 64 }
+    {
+        self.workers
+    }
+
     /// The number and the length of each table, in order. None is encoded. The only fault is
     /// `Memory`.
     pub fn sizes(&self, alloc: Global) -> Result<Vec<(u64, u64)>, Fault>
@@ -70,28 +85,6 @@ impl<'m, 't, C: Comparator> Planned<'m, 't, C> {
             push_sizes(plan, &mut sizes)?;
         }
         Ok(sizes)
-    }
-}
-
-impl<'m, 't, C: SharedComparator + 'static> Planned<'m, 't, C> {
-    /// The number and the table of each output of the group at `place`, encoded by workers, as many
-    /// as the request was merged by.
-    ///
-    /// The only fault is `Memory`.
-    pub fn tables<G: Gate + Sync, R: Threads + Sync>(
-        &self,
-        rt: &R,
-        alloc: Global,
-        place: usize,
-        gate: &G,
-    ) -> Result<Vec<(u64, Vec<u8>)>, Fault>
-        requires { place < length self.now.groups }
-        ensures tables { IfOk result (λ tables. slice_get self.now.groups place
-            ≡ Some (map (λ t. (t.0, t.1.items)) tables.items)) }
-        ensures memory { IfErr result (λ e. e ≡ fault Memory) }
-    {
-        let group = &self.groups[place];
-        encode_tables(rt, alloc, group, self.workers, gate)
     }
 }
 

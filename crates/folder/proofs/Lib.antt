@@ -14,5 +14,6 @@ pub mod WrittenLemmas
 mod AloneLemmas
 pub mod CountLemmas
 pub mod ReportLemmas
+mod MadeLemmas
 mod ShelfLemmas
 mod PartLemmas

@@ -150,7 +150,7 @@ with_files_then : (one two : List (List ℕ × List ℕ)) (old : Files) → with
 with_files_then [] two old = refl
 with_files_then (file ∷ one) two old = with_files_then one two (with_value old file.0 (Some file.1))
 
-unaltered : (files : List (List ℕ × List ℕ)) (old new : Files) → new ≡ old → AltersEach files old new
+pub unaltered : (files : List (List ℕ × List ℕ)) (old new : Files) → new ≡ old → AltersEach files old new
 unaltered [] old new is = is
 unaltered (file ∷ files) old new is = inl (unaltered files old new is)
 

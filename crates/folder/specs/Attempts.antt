@@ -2,9 +2,9 @@
 use Rattle.std.specs.Prelude.{◌≡◌, ◌⊎◌, ℕ, Bool, if◌then◌else◌, List, [], ◌∷◌, Option, Some, None}
 use Rattle.folder.specs.Calls.{Call, Created, Done, Files, FolderSynced, Removed, Renamed, Step}
 use Rattle.folder.specs.Calls.{Synced, Tried, Written, with_moved, with_value}
-use Rattle.folder.specs.TableFiles.{table_files}
+use Rattle.folder.specs.TableFiles.{named_tables, table_files}
 use Rattle.folder.specs.declared.trail.AnyWrite.{AnyWrite}
-use Rattle.folder.specs.declared.trail.AnyWrite.TheVariants.{One, Tables}
+use Rattle.folder.specs.declared.trail.AnyWrite.TheVariants.{Made, One, Tables}
 use Rattle.folder.specs.declared.trail.Attempt.{Attempt}
 use Rattle.folder.specs.declared.trail.WriteCall.{WriteCall}
 use Rattle.folder.specs.declared.trail.WriteCall.TheVariants.{Create, Remove, Rename, Sync}
@@ -20,6 +20,7 @@ call_in SyncFolder = FolderSynced
 abbrev pub any_call_in : AnyWrite → Call
 any_call_in (One call) = call_in call
 any_call_in (Tables tables) = Written (table_files tables.now)
+any_call_in (Made source) = Written (named_tables source.now.tables)
 
 abbrev pub step_in : Attempt → Step
 step_in attempt = if attempt.is_done then Done (any_call_in attempt.call) else Tried

@@ -1,23 +1,27 @@
 //! A folder of the system.
 
 ghost use Rattle.std.specs.Prelude.{◌≡◌, [], ◌∷◌, ◌++◌, IfOk, Ok};
-ghost use Rattle.folder.specs.Calls.{Written, step_of};
+ghost use Rattle.std.specs.Thread.{IsSync};
+ghost use Rattle.folder.specs.Calls.{TellsAfter, Written, step_of};
 ghost use Rattle.folder.specs.Folder.{failures_after, one_more};
 ghost use Rattle.folder.specs.Attempts.{call_in};
-ghost use Rattle.folder.specs.TableFiles.{table_files};
+ghost use Rattle.folder.specs.TableFiles.{named_tables, table_files};
 
 use crate::failure::{Failure, FolderCall};
 use crate::folder::{Folder, FolderFault};
 use crate::kept::Kept;
-use crate::making::{files_of, first_failed, make_in_turn};
+use crate::making::{DiskMaker, MadeTable, files_of, first_failed, sync_made, write_in_turn};
 use crate::order::Order;
+use crate::owned::access_in;
 use crate::reads_ahead::ReadsAhead;
 use crate::system::{done_in, part_in, read_in};
 use crate::system_files::SystemFiles;
 use crate::table_loader::{files_due, numbers_in, tables_ahead};
 use crate::table_sizes::check_sizes_in;
+use crate::table_source::SourceTables;
 use crate::trail::{AnyWrite, Attempt, Trail, WriteCall};
 use crate::whole_files::{Ahead, WholeFiles, read_all, sync_all, take};
+use crate::writes_tables::WritesTables;
 use coding::Fault;
 use edit::Version;
 use std::io;
@@ -188,6 +192,34 @@ impl<'r, R: SystemFiles + AllocGlobal> Folder for Disk<'r, R> {
     }
 }
 
+impl<'r, R: SystemFiles + WholeFiles + AllocGlobal> WritesTables for Disk<'r, R> {
+    type Maker = DiskMaker<'r, R>;
+
+    fn maker(&mut self) -> DiskMaker<'r, R> {
+        self.ahead.clear();
+        self.kept.forget_ahead("");
+        DiskMaker::new(self.rt, self.path)
+    }
+
+    fn sync_tables<T: Threads + Sync>(
+        &mut self,
+        rt: &T,
+        tables: &SourceTables,
+        made: Option<Vec<MadeTable>>,
+    ) -> Result<(), FolderFault>
+        requires { IsSync T.row }
+        ensures calls { ⟦<Disk<'r, R> as Folder>⟧.calls self.new
+            ≡ ⟦<Disk<'r, R> as Folder>⟧.calls self.old
+            ++ step_of (Written (named_tables tables.now.tables)) result ∷ [] }
+        ensures change { TellsAfter (step_of (Written (named_tables tables.now.tables)) result)
+            (⟦<Disk<'r, R> as Folder>⟧.tells self.old) (⟦<Disk<'r, R> as Folder>⟧.tells self.new) }
+        ensures failures { ⟦<Disk<'r, R> as Folder>⟧.failed self.new
+            ≡ failures_after (⟦<Disk<'r, R> as Folder>⟧.failed self.old) result }
+    {
+        self.write_made(rt, tables, made)
+    }
+}
+
 impl<'r, R: SystemFiles + AllocGlobal> ReadsAhead for Disk<'r, R> {
     fn path(&self) -> Option<&str> {
         Some(self.path)
@@ -262,16 +294,62 @@ impl<'r, R: SystemFiles + AllocGlobal> Disk<'r, R> {
         ensures failures { self.new.failures ≡ failures_after self.old.failures result }
         ensures trail { self.new.trail ≡ self.old.trail }
     {
-        let Ok(mut files) = files_of(self.rt, self.rt.alloc(), self.path, tables) else {
+        let Ok(mut files) = files_of(self.rt.alloc(), self.path, tables) else {
             return Err(FolderFault::Memory);
         };
         self.kept.forget_all(&files);
+        let access = access_in(self.rt, self.rt.alloc(), self.path);
         if are_rising(tables) {
-            self.rt.make_all(rt, &mut files);
+            self.rt.write_all(rt, access, tables, &mut files);
         } else {
-            make_in_turn(self.rt, &mut files);
+            write_in_turn(self.rt, access, tables, &mut files);
         }
-        match first_failed(&files) {
+        self.counted_all(&files)
+    }
+
+    /// Syncs tables that were made, and adds their writing to the trail.
+    fn write_made<T: Threads + Sync>(
+        &mut self,
+        rt: &T,
+        tables: &SourceTables,
+        made: Option<Vec<MadeTable>>,
+    ) -> Result<(), FolderFault>
+        ensures trail { self.new.trail ≡ self.old.trail
+            ++ step_of (Written (named_tables tables.now.tables)) result ∷ [] }
+        ensures failures { self.new.failures ≡ failures_after self.old.failures result }
+    {
+        let answer = self.synced(rt, made);
+        self.trail = self.trail.then(&Attempt {
+            call: AnyWrite::Made(tables),
+            is_done: answer.is_ok(),
+        });
+        answer
+    }
+
+    /// Syncs tables that were made, by several threads. None if memory ran out before all were.
+    fn synced<T: Threads + Sync>(
+        &mut self,
+        rt: &T,
+        made: Option<Vec<MadeTable>>,
+    ) -> Result<(), FolderFault>
+        ensures failures { self.new.failures ≡ failures_after self.old.failures result }
+        ensures trail { self.new.trail ≡ self.old.trail }
+    {
+        let Some(mut files) = made else {
+            return Err(FolderFault::Memory);
+        };
+        self.kept.forget_all(&files);
+        sync_made(rt, &mut files);
+        self.counted_all(&files)
+    }
+
+    /// What the calls on these files answered together: what the first one did that the device
+    /// failed, or else the first that failed.
+    fn counted_all(&mut self, files: &[MadeTable]) -> Result<(), FolderFault>
+        ensures failures { self.new.failures ≡ failures_after self.old.failures result }
+        ensures trail { self.new.trail ≡ self.old.trail }
+    {
+        match first_failed(files) {
             Some(place) => {
                 let file = &files[place];
                 self.counted(file.answer, file.call, file.name.as_str())

@@ -2,7 +2,7 @@
 
 ghost use Rattle.std.specs.Prelude.{◌<◌, length, IfSome};
 
-use crate::making::Making;
+use crate::making::MadeTable;
 use std::alloc::{AllocError, Global};
 use std::fs::File;
 use std::io;
@@ -71,7 +71,7 @@ impl Kept {
     }
 
     /// Forgets these files, which are made anew.
-    pub fn forget_all(&mut self, files: &[Making<'_>]) {
+    pub fn forget_all(&mut self, files: &[MadeTable]) {
         for file in files {
             let name = file.name.as_str();
             self.forget_ahead(name);

@@ -6,7 +6,9 @@
 //! 2. [`open`] gives the order and the version: CURRENT, then the manifest that it names.
 //! 3. [`load`] gives the tables of a version, [`load_numbers`] those of some files.
 //!    [`read_numbers_ahead`] reads these before, if the folder [`ReadsAhead`].
-//! 4. [`table_name`] and its neighbours give the names of files.
+//! 4. [`write_source`] writes the tables of a [`TableSource`], each made by one of several workers,
+//!    if the folder [`WritesTables`].
+//! 5. [`table_name`] and its neighbours give the names of files.
 //!
 //! What a `Disk` does. It tells contracts nothing of what it holds.
 //!
@@ -17,6 +19,8 @@
 //!   and group if the program may set them. If it can't be written whole, it is removed again.
 //! - write_tables: each is made as `create` makes it, and synced by the same handle; by up to 16
 //!   threads if their numbers rise. All of them are tried, also after one failed.
+//! - write_source: each is made so by a worker, and after all were made, each is synced by its own
+//!   handle; by up to 16 threads.
 //! - sync: `sync_all`, through the handle that made the file, or else under its name. If it was
 //!   synced ahead, the answer is what that came to.
 //! - rename is `fs::rename`, remove is `fs::remove_file`, sync_folder is `sync_all` of the folder.
@@ -43,6 +47,7 @@ mod folder;
 mod folder_answer_laws;
 mod folder_lock;
 mod kept;
+mod made_tables;
 mod making;
 mod names;
 mod order;
@@ -54,8 +59,10 @@ mod system;
 mod system_files;
 mod table_loader;
 mod table_sizes;
+mod table_source;
 mod trail;
 mod whole_files;
+mod writes_tables;
 
 pub use current_version::{Opened, open};
 pub use disk::Disk;
@@ -63,15 +70,18 @@ pub use failure::{Failure, FolderCall};
 pub use folder::{Folder, FolderFault};
 pub use folder_answer_laws::{crash_laws, folder_laws, reading_laws};
 pub use folder_lock::{FolderLock, lock_to_change, lock_to_read};
-pub use making::Making;
+pub use made_tables::write_source;
+pub use making::{DiskMaker, MadeTable};
 pub use names::{
     CURRENT, current_text, manifest_name, number_in_current, old_table_name, table_name,
     temporary_name,
 };
 pub use order::Order;
 pub use reads_ahead::{ReadsAhead, read_numbers_ahead};
-pub use shelf::{Failing, Shelf};
+pub use shelf::{Failing, Shelf, ShelfMaker};
 pub use shelf_step::{ShelfCall, ShelfStep};
 pub use system_files::{OwnedFiles, SystemFiles};
 pub use table_loader::{file_numbers, load, load_numbers};
+pub use table_source::{SourceTables, TableSource};
 pub use whole_files::{Ahead, WholeFiles};
+pub use writes_tables::{TableMaker, WritesTables};

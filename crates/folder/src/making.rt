@@ -1,83 +1,161 @@
-//! Files of the system that are made and synced, each by one of several threads.
+//! Tables that are made files of the system and synced, each by one of several threads.
 
-ghost use Rattle.std.specs.Prelude.{◌<◌, length, IfSome};
+ghost use Rattle.std.specs.Prelude.{◌≡◌, ◌<◌, length, IfOk, IfErr, IfSome};
+ghost use Rattle.coding.specs.Answers.{fault};
+ghost use Rattle.coding.specs.declared.fault.FaultName.TheVariants.{Memory};
 
 use crate::failure::FolderCall;
 use crate::names::table_name;
 use crate::owned::{Access, access_in, new_file};
 use crate::system_files::OwnedFiles;
-use crate::whole_files::path_in;
+use crate::whole_files::{THREADS, path_in};
+use crate::writes_tables::TableMaker;
 use coding::Fault;
 use std::alloc::Global;
 use std::fs::File;
 use std::io::{ErrorKind, Write};
 use std::rt::Files;
-use std::{fs, io};
+use std::thread::Threads;
+use std::{fs, io, thread};
 
-/// A file that is to be made and synced.
+/// A table that is to be made a file and synced, or that was.
 #[derive(Drop)]
-pub struct Making<'b> {
+pub struct MadeTable {
     pub(crate) name: String,
     path: String,
-    /// Who may use it, or why that isn't known.
-    access: io::Result<Option<Access>>,
-    bytes: &'b [u8],
+    /// The file, from when it was made until it is synced.
+    file: Option<File>,
     /// The last call on it, and what that answered.
     pub(crate) call: FolderCall,
     pub(crate) answer: io::Result<()>,
 }
 
-/// The files that these tables are to be in a folder, each under the name of its number. The only
-/// fault is Memory.
-pub(crate) fn files_of<'b, R: Files>(
-    rt: &R,
-    alloc: Global,
-    folder: &str,
-    tables: &'b [(u64, Vec<u8>)],
-) -> Result<Vec<Making<'b>>, Fault> {
-    let access = access_in(rt, alloc, folder);
-    let mut files = Vec::with_capacity(alloc, tables.len())?;
-    for (number, bytes) in tables {
-        let name = table_name(alloc, *number)?;
+impl MadeTable {
+    /// The table of a `number` that is to be made a file of a folder. The only fault is Memory.
+    fn of_number(alloc: Global, folder: &str, number: u64) -> Result<MadeTable, Fault>
+        ensures { IfErr result (λ e. e ≡ fault Memory) }
+    {
+        let name = table_name(alloc, number)?;
         let path = path_in(alloc, folder, name.as_str())?;
-        files.push(Making {
+        Ok(MadeTable {
             name,
             path,
-            access,
-            bytes,
+            file: None,
             call: FolderCall::Create,
             answer: Ok(()),
-        })?;
+        })
+    }
+
+    /// Makes the file.
+    fn make<R: OwnedFiles>(&mut self, rt: &R, access: io::Result<Option<Access>>, bytes: &[u8]) {
+        match file_at(rt, self.path.as_str(), access, bytes) {
+            Ok(file) => self.file = Some(file),
+            Err(error) => self.answer = Err(error),
+        }
+    }
+
+    /// Syncs the file, if it was made, by the same handle.
+    fn sync(&mut self) {
+        if let Some(file) = self.file.take() {
+            self.call = FolderCall::Sync;
+            self.answer = file.sync_all();
+        }
+    }
+
+    /// Makes the file and syncs it.
+    pub(crate) fn write<R: OwnedFiles>(
+        &mut self,
+        rt: &R,
+        access: io::Result<Option<Access>>,
+        bytes: &[u8],
+    ) {
+        self.make(rt, access, bytes);
+        self.sync();
+    }
+}
+
+/// What makes tables files of a folder of the system, in any thread.
+#[derive(Drop)]
+pub struct DiskMaker<'r, R> {
+    rt: &'r R,
+    alloc: Global,
+    folder: &'r str,
+    /// Who may use the files, or why that isn't known.
+    access: io::Result<Option<Access>>,
+}
+
+impl<'r, R: OwnedFiles + AllocGlobal> DiskMaker<'r, R> {
+    /// What makes files of this `folder`.
+    pub(crate) fn new(rt: &'r R, folder: &'r str) -> DiskMaker<'r, R> {
+        let alloc = rt.alloc();
+        DiskMaker {
+            rt,
+            alloc,
+            folder,
+            access: access_in(rt, alloc, folder),
+        }
+    }
+}
+
+impl<'r, R: OwnedFiles> DiskMaker<'r, R> {
+    /// Makes the table of a `number` a file. The only fault is Memory.
+    fn made(&self, number: u64, bytes: &[u8]) -> Result<MadeTable, Fault>
+        ensures { IfErr result (λ e. e ≡ fault Memory) }
+    {
+        let mut table = MadeTable::of_number(self.alloc, self.folder, number)?;
+        table.make(self.rt, self.access, bytes);
+        Ok(table)
+    }
+}
+
+impl<'r, R: OwnedFiles + Send + Sync> TableMaker for DiskMaker<'r, R> {
+    type Made = MadeTable;
+
+    ghost is_of = { λ _ _. Unit {0} };
+
+    fn make(&self, number: u64, bytes: Vec<u8>) -> Result<MadeTable, Fault> {
+        self.made(number, &bytes)
+    }
+}
+
+/// The files that these tables are to be in a folder, each under the name of its number. The only
+/// fault is Memory.
+pub(crate) fn files_of(
+    alloc: Global,
+    folder: &str,
+    tables: &[(u64, Vec<u8>)],
+) -> Result<Vec<MadeTable>, Fault>
+    ensures { IfOk result (λ files. length files.items ≡ length tables.now) }
+{
+    let mut files = Vec::with_capacity(alloc, tables.len())?;
+    for (number, _) in tables {
+        files.push(MadeTable::of_number(alloc, folder, *number)?)?;
     }
     Ok(files)
 }
 
-/// Makes a file and syncs it, by the same handle.
-pub(crate) fn make<R: OwnedFiles>(rt: &R, file: &mut Making<'_>) {
-    match made(rt, file) {
-        Ok(made) => {
-            file.call = FolderCall::Sync;
-            file.answer = made.sync_all();
-        }
-        Err(error) => file.answer = Err(error),
+/// Makes each of these tables its file and syncs it, one after the other.
+pub(crate) fn write_in_turn<R: OwnedFiles>(
+    rt: &R,
+    access: io::Result<Option<Access>>,
+    tables: &[(u64, Vec<u8>)],
+    files: &mut [MadeTable],
+)
+    requires { length files.old ≡ length tables.now }
+{
+    for (place, file) in files.iter_mut().enumerate() {
+        file.write(rt, access, &tables[place].1);
     }
 }
 
-/// Makes a file.
-fn made<R: OwnedFiles>(rt: &R, file: &Making<'_>) -> io::Result<File> {
-    made_at(rt, file.path.as_str(), file.access?, file.bytes)
-}
-
-/// Makes files and syncs them, one after the other.
-pub(crate) fn make_in_turn<R: OwnedFiles>(rt: &R, files: &mut [Making<'_>]) {
-    for file in files {
-        make(rt, file);
-    }
+/// Syncs the files that were made, by several threads.
+pub(crate) fn sync_made<T: Threads + Sync>(rt: &T, files: &mut [MadeTable]) {
+    thread::for_each_mut(rt, files, THREADS, &|_, file| file.sync());
 }
 
 /// The place of the first file that the device failed; if it failed none, that of the first one for
 /// which memory ran out. None if all were made and synced.
-pub(crate) fn first_failed(files: &[Making<'_>]) -> Option<usize>
+pub(crate) fn first_failed(files: &[MadeTable]) -> Option<usize>
     ensures { IfSome result (λ place. place < length files.now) }
 {
     match place_of_failed(files, true) {
@@ -87,7 +165,7 @@ pub(crate) fn first_failed(files: &[Making<'_>]) -> Option<usize>
 }
 
 /// The place of the first file that failed: by the device, or for any reason.
-fn place_of_failed(files: &[Making<'_>], is_by_device: bool) -> Option<usize>
+fn place_of_failed(files: &[MadeTable], is_by_device: bool) -> Option<usize>
     ensures { IfSome result (λ place. place < length files.now) }
 {
     for (place, file) in files.iter().enumerate() {
@@ -104,6 +182,16 @@ fn has_failed(answer: &io::Result<()>, is_by_device: bool) -> bool {
         Ok(()) => false,
         Err(error) => !is_by_device || error.kind() != ErrorKind::OutOfMemory,
     }
+}
+
+/// Makes a file anew as [`made_at`] does, if who may use it is known.
+fn file_at<R: OwnedFiles>(
+    rt: &R,
+    path: &str,
+    access: io::Result<Option<Access>>,
+    bytes: &[u8],
+) -> io::Result<File> {
+    made_at(rt, path, access?, bytes)
 }
 
 /// Makes a file anew at `path`, of these bytes. What was there before keeps its bytes, if it has

@@ -24,7 +24,7 @@ const OWNER_READS_AND_WRITES: u32 = 0o600;
 
 /// Who may use a file, and whose it is.
 #[derive(Clone, Copy, Drop)]
-pub(crate) struct Access {
+pub struct Access {
     mode: u32,
     owner: u32,
     group: u32,

@@ -1,21 +1,25 @@
 //! A folder in memory, for tests.
 
-ghost use Rattle.std.specs.Prelude.{◌≡◌, [], ◌∷◌, ◌++◌, map, Err, IfOk};
+ghost use Rattle.std.specs.Prelude.{◌≡◌, ℕ, List, [], ◌∷◌, ◌++◌, map, Err, IfOk, IfSome};
 ghost use Rattle.std.specs.Option.{option_map};
 ghost use Rattle.folder.specs.Attempts.{Alters, call_in, tried_if};
-ghost use Rattle.folder.specs.Calls.{Files, Tells, Written, step_of};
+ghost use Rattle.folder.specs.Calls.{Files, Tells, TellsAfter, Written, step_of};
+ghost use Rattle.folder.specs.MadeTables.{AreMade};
 ghost use Rattle.folder.specs.Folder.{failures_after, part_of};
 ghost use Rattle.folder.specs.Names.{table_name};
 ghost use Rattle.folder.specs.Shelf.{files_after_steps, files_in, held_by, made_by};
-ghost use Rattle.folder.specs.TableFiles.{table_files};
+ghost use Rattle.folder.specs.TableFiles.{named_tables, table_files};
 ghost use Rattle.folder.specs.declared.folder.FolderFault.TheVariants.{Memory};
 
 use crate::folder::{Folder, FolderFault};
 use crate::names::table_name;
 use crate::reads_ahead::ReadsAhead;
 use crate::shelf_step::{ShelfCall, ShelfStep, Source};
+use crate::table_source::SourceTables;
 use crate::trail::{AnyWrite, Attempt, Trail, WriteCall};
 use crate::whole_files::Ahead;
+use crate::writes_tables::{TableMaker, WritesTables};
+use coding::Fault;
 use std::alloc::{AllocError, Global};
 use std::marker::Model;
 use std::thread::Threads;
@@ -47,6 +51,10 @@ pub struct Shelf<'a> {
     failures: u64,
     trail: Trail,
 }
+
+/// What keeps tables until they are put on a shelf.
+#[derive(Clone, Copy, Drop)]
+pub struct ShelfMaker;
 
 impl<'a> Model for Shelf<'a> {
     ghost use Rattle.std.specs.Prelude.{map};
@@ -198,6 +206,45 @@ impl<'a> Folder for Shelf<'a> {
     }
 }
 
+impl<'a> WritesTables for Shelf<'a> {
+    type Maker = ShelfMaker;
+
+    fn maker(&mut self) -> ShelfMaker {
+        ShelfMaker
+    }
+
+    fn sync_tables<T: Threads + Sync>(
+        &mut self,
+        _rt: &T,
+        tables: &SourceTables,
+        made: Option<Vec<(u64, Vec<u8>)>>,
+    ) -> Result<(), FolderFault>
+        requires { IfSome made (λ made.
+            AreMade ⟦<ShelfMaker as TableMaker>⟧.is_of made.items tables.now.tables) }
+        ensures calls { ⟦<Shelf<'a> as Folder>⟧.calls self.new
+            ≡ ⟦<Shelf<'a> as Folder>⟧.calls self.old
+            ++ step_of (Written (named_tables tables.now.tables)) result ∷ [] }
+        ensures change { TellsAfter (step_of (Written (named_tables tables.now.tables)) result)
+            (⟦<Shelf<'a> as Folder>⟧.tells self.old) (⟦<Shelf<'a> as Folder>⟧.tells self.new) }
+        ensures failures { ⟦<Shelf<'a> as Folder>⟧.failed self.new
+            ≡ failures_after (⟦<Shelf<'a> as Folder>⟧.failed self.old) result }
+    {
+        self.write_made(tables, made)
+    }
+}
+
+impl TableMaker for ShelfMaker {
+    type Made = (u64, Vec<u8>);
+
+    ghost use Rattle.std.specs.Prelude.{◌≡◌};
+
+    ghost is_of = { λ made table. (made.0, made.1.items) ≡ table };
+
+    fn make(&self, number: u64, bytes: Vec<u8>) -> Result<(u64, Vec<u8>), Fault> {
+        Ok((number, bytes))
+    }
+}
+
 impl<'a> ReadsAhead for Shelf<'a> {
     fn path(&self) -> Option<&str> {
         None
@@ -240,6 +287,47 @@ impl<'a> Shelf<'a> {
             is_done: answer.is_ok(),
         });
         answer
+    }
+
+    /// Makes and syncs the tables of a source, and adds that to the trail.
+    fn write_made(
+        &mut self,
+        tables: &SourceTables,
+        made: Option<Vec<(u64, Vec<u8>)>>,
+    ) -> Result<(), FolderFault>
+        requires { IfSome made (λ made. map (λ t. (t.0, t.1.items)) made.items
+            ≡ tables.now.tables) }
+        ensures calls { self.new.trail ≡ self.old.trail
+            ++ step_of (Written (named_tables tables.now.tables)) result ∷ [] }
+        ensures change { (files : Files) →
+            Alters (step_of (Written (named_tables tables.now.tables)) result)
+            (files_after_steps self.old.steps files) (files_after_steps self.new.steps files) }
+        ensures start { self.new.start ≡ self.old.start }
+        ensures failures { self.new.failures ≡ failures_after self.old.failures result }
+    {
+        let answer = self.record_made(made);
+        self.trail = self.trail.then(&Attempt {
+            call: AnyWrite::Made(tables),
+            is_done: answer.is_ok(),
+        });
+        answer
+    }
+
+    /// Makes and syncs the tables of a source, one after the other. None if memory ran out before
+    /// all were made.
+    fn record_made(&mut self, made: Option<Vec<(u64, Vec<u8>)>>) -> Result<(), FolderFault>
+        ensures change { (tables : List (ℕ × List ℕ)) →
+            IfSome made (λ made. map (λ t. (t.0, t.1.items)) made.items ≡ tables) →
+            (files : Files) → Alters (step_of (Written (named_tables tables)) result)
+            (files_after_steps self.old.steps files) (files_after_steps self.new.steps files) }
+        ensures start { self.new.start ≡ self.old.start }
+        ensures failures { self.new.failures ≡ failures_after self.old.failures result }
+        ensures trail { self.new.trail ≡ self.old.trail }
+    {
+        match made {
+            Some(tables) => self.record_tables(&tables),
+            None => Err(FolderFault::Memory),
+        }
     }
 
     /// Makes and syncs tables, one after the other, up to a call that fails.

@@ -1,6 +1,7 @@
 //! Files of the system, opened under descriptors of their own.
 
-use crate::making::{Making, make};
+use crate::making::MadeTable;
+use crate::owned::Access;
 use crate::whole_files::THREADS;
 use sqlite_disk::Unknown;
 use sqlite_std_file::OpenError;
@@ -29,6 +30,7 @@ pub trait OwnedFiles: Files {
 
 /// The same, with locks, and made by several threads.
 pub trait SystemFiles: OwnedFiles {
+    ghost use Rattle.std.specs.Prelude.{◌≡◌, length};
     ghost use Rattle.std.specs.Thread.{IsSync};
 
     /// Takes a lock on bytes of the file at `path` that nobody shares. It does not wait. A lock
@@ -39,10 +41,17 @@ pub trait SystemFiles: OwnedFiles {
     /// `-wal` after it is made beside it, and can be removed. WouldBlock if another is in the way.
     fn lock_bytes(&self, path: &str) -> io::Result<ByteLock>;
 
-    /// Makes and syncs each of these files, by threads of `rt`.
-    fn make_all<T: Threads + Sync>(&self, rt: &T, files: &mut [Making<'_>])
+    /// Makes each of these tables its file and syncs it, by threads of `rt`.
+    fn write_all<T: Threads + Sync>(
+        &self,
+        rt: &T,
+        access: io::Result<Option<Access>>,
+        tables: &[(u64, Vec<u8>)],
+        files: &mut [MadeTable],
+    )
         // The bound `T: Sync`, as at [`Folder::write_tables`](crate::Folder::write_tables).
-        requires { IsSync T.row };
+        requires threads { IsSync T.row }
+        requires each { length files.old ≡ length tables.now };
 }
 
 impl OwnedFiles for HostRuntime {
@@ -62,8 +71,19 @@ impl SystemFiles for HostRuntime {
         }
     }
 
-    fn make_all<T: Threads + Sync>(&self, rt: &T, files: &mut [Making<'_>]) {
-        thread::for_each_mut(rt, files, THREADS, &|_, file| make(self, file));
+    fn write_all<T: Threads + Sync>(
+        &self,
+        rt: &T,
+        access: io::Result<Option<Access>>,
+        tables: &[(u64, Vec<u8>)],
+        files: &mut [MadeTable],
+    ) {
+        thread::for_each_mut(
+            rt,
+            files,
+            THREADS,
+            &|place, file| file.write(self, access, &tables[place].1),
+        );
     }
 }
 

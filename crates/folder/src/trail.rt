@@ -5,6 +5,7 @@ ghost use Rattle.std.specs.Borrow.{ftrue};
 ghost use Rattle.folder.specs.Calls.{Step};
 
 use crate::failure::FolderCall;
+use crate::table_source::SourceTables;
 use std::marker::Model;
 
 /// The calls so far. A proof's value: it takes no memory, and nothing is done with it at run time.
@@ -27,11 +28,13 @@ pub enum WriteCall<'a> {
     SyncFolder,
 }
 
-/// A call that writes: of one file or of the folder, or of tables by their numbers.
+/// A call that writes: of one file or of the folder, of tables by their numbers, or of those of a
+/// source.
 #[derive(Clone, Copy, Drop)]
 pub enum AnyWrite<'a> {
     One(WriteCall<'a>),
     Tables(&'a [(u64, Vec<u8>)]),
+    Made(&'a SourceTables),
 }
 
 /// A call, and whether it was done.

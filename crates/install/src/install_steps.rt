@@ -21,8 +21,12 @@ ghost use Rattle.install.specs.Install.{table_calls, tables_in, temporary_calls,
 ghost use Rattle.install.specs.InstallRun.{IsInstallRun};
 ghost use Rattle.folder.specs.Names.{current_text, temporary_name};
 
+use board::Gate;
 use coding::{Fault, FaultName};
-use folder::{CURRENT, Folder, FolderFault, current_text, manifest_name, temporary_name};
+use folder::{
+    CURRENT, Folder, FolderFault, TableSource, WritesTables, current_text, manifest_name,
+    temporary_name, write_source,
+};
 use std::alloc::Global;
 use std::thread::Threads;
 
@@ -44,6 +48,26 @@ pub fn write_group<F: Folder, R: Threads + Sync>(
     ensures later { F.failed folder.old ≤ F.failed folder.new }
 {
     Ok(folder.write_tables(rt, tables)?)
+}
+
+/// The same for the tables of a `source`, each of which is made and written by one of `workers`, 1 to
+/// 64: so no more tables than workers are in memory.
+pub fn write_source_group<F: WritesTables, S: TableSource, G: Gate + Sync, R: Threads + Sync>(
+    rt: &R,
+    alloc: Global,
+    folder: &mut F,
+    source: &S,
+    workers: u64,
+    gate: &G,
+) -> Result<(), Fault>
+    ensures runs { MakesCalls (table_calls (S.tables source.now ∷ []))
+        (F.calls folder.old) (F.calls folder.new) (F.tells folder.old) (F.tells folder.new) result }
+    ensures refused { IfErr result
+        (λ e. UnlessMemory e (IsStopped (F.failed folder.old) (F.failed folder.new) e)) }
+    ensures at_once { StopsAtDevice (F.failed folder.old) (F.failed folder.new) result }
+    ensures later { F.failed folder.old ≤ F.failed folder.new }
+{
+    Ok(write_source(rt, alloc, folder, source, workers, gate)?)
 }
 
 /// What an installation does after its tables are written. It writes the `manifest`, which has this

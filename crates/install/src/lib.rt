@@ -32,6 +32,6 @@ mod install_steps;
 mod installation;
 mod manifest;
 
-pub use install_steps::{install_manifest, write_group};
+pub use install_steps::{install_manifest, write_group, write_source_group};
 pub use installation::install;
 pub use manifest::manifest_bytes;

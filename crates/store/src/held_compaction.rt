@@ -31,7 +31,7 @@ use checks::{HeldTables, Watch, Work};
 use coding::Fault;
 use compact::{compact_tables, merge_request};
 use edit::{Outcome, Version};
-use folder::{Folder, Opened};
+use folder::{Opened, WritesTables};
 use ikey::{Comparator, SharedComparator};
 use pick::Inputs;
 use settings::Settings;
@@ -105,7 +105,7 @@ fn compact_checked<C: SharedComparator + 'static, W: Watch + Sync, R: Threads + 
 /// refused as; what an installation is.
 pub(crate) fn install_held<
     C: SharedComparator + 'static,
-    F: Folder,
+    F: WritesTables,
     W: Watch + Sync,
     R: Threads + Sync,
 >(
@@ -144,7 +144,7 @@ pub(crate) fn install_held<
 }
 
 /// Compacts `picked` inputs, whose `tables` are checked, and installs the outcome.
-fn install_checked<C: SharedComparator + 'static, F: Folder, W: Watch + Sync, R: Threads + Sync>(
+fn install_checked<C: SharedComparator + 'static, F: WritesTables, W: Watch + Sync, R: Threads + Sync>(
     rt: &R,
     alloc: Global,
     folder: &mut F,

@@ -42,6 +42,7 @@ mod descent_end;
 mod folder_compaction;
 mod folder_outcome;
 mod folder_request;
+mod group_tables;
 mod held_compaction;
 mod input_compaction;
 mod input_laws;

@@ -28,14 +28,15 @@ ghost use Rattle.store.specs.StepLeft.{IsStepLeft};
 
 use crate::compaction_step::CompactionStep;
 use crate::folder_request::manifest_of;
+use crate::group_tables::GroupTables;
 use crate::lines::installed_lines;
 use checks::Watch;
 use coding::Fault;
 use compact::{Merged, Planned};
 use edit::Version;
-use folder::{Folder, Opened};
+use folder::{Opened, WritesTables};
 use ikey::{Comparator, SharedComparator};
-use install::{install_manifest, manifest_bytes, write_group};
+use install::{install_manifest, manifest_bytes, write_source_group};
 use pick::InputFile;
 use std::alloc::Global;
 use std::thread::Threads;
@@ -46,7 +47,7 @@ use std::thread::Threads;
 /// The first that applies: what the compaction is refused as; what an installation is.
 pub(crate) fn install_merged<
     C: SharedComparator + 'static,
-    F: Folder,
+    F: WritesTables,
     W: Watch + Sync,
     R: Threads + Sync,
 >(
@@ -116,7 +117,7 @@ fn step_of<C: Comparator>(
 
 /// Installs `planned` outputs of a compaction of a `version`, as [`install`](install::install) does
 /// an outcome. Their tables are encoded and written a group after the other.
-fn install_planned<C: SharedComparator + 'static, F: Folder, W: Watch + Sync, R: Threads + Sync>(
+fn install_planned<C: SharedComparator + 'static, F: WritesTables, W: Watch + Sync, R: Threads + Sync>(
     rt: &R,
     alloc: Global,
     folder: &mut F,
@@ -136,7 +137,7 @@ fn install_planned<C: SharedComparator + 'static, F: Folder, W: Watch + Sync, R:
 }
 
 /// Encodes and writes the tables of planned outputs, a group after the other.
-fn write_groups<C: SharedComparator + 'static, F: Folder, W: Watch + Sync, R: Threads + Sync>(
+fn write_groups<C: SharedComparator + 'static, F: WritesTables, W: Watch + Sync, R: Threads + Sync>(
     rt: &R,
     alloc: Global,
     folder: &mut F,
@@ -152,7 +153,7 @@ fn write_groups<C: SharedComparator + 'static, F: Folder, W: Watch + Sync, R: Th
 }
 
 /// Encodes and writes the tables of the group at `place`.
-fn write_encoded<C: SharedComparator + 'static, F: Folder, W: Watch + Sync, R: Threads + Sync>(
+fn write_encoded<C: SharedComparator + 'static, F: WritesTables, W: Watch + Sync, R: Threads + Sync>(
     rt: &R,
     alloc: Global,
     folder: &mut F,
@@ -164,6 +165,8 @@ fn write_encoded<C: SharedComparator + 'static, F: Folder, W: Watch + Sync, R: T
     ensures { (group : List (ℕ × List ℕ)) → slice_get planned.now.groups place ≡ Some group →
         IsRunOf F.Folder (table_calls (group ∷ [])) folder.old folder.new result }
 {
-    let tables = planned.tables(rt, alloc, place, watch)?;
-    write_group(rt, folder, &tables)
+    let source = GroupTables {
+        plan: planned.group(place),
+    };
+    write_source_group(rt, alloc, folder, &source, planned.workers(), watch)
 }

@@ -1,15 +1,17 @@
 //! The same compactions, whose tables are made a group after the other.
 
 use crate::compact_tests::gates::{Held, Wait};
-use crate::compact_tests::rows::{EIGHTEEN, Row, Run, WHOLE, WRITTEN};
+use crate::compact_tests::rows::{Row, Run, SIXTY_SIX, WHOLE, WRITTEN};
 use crate::compact_tests::tests::{answer_of, asked, is_answer, picked, split_of};
 use board::Open;
 use coding::Fault;
 use compact::{MOST_TABLES, Planned, check_inputs, merge_request};
+use cut::Plan;
 use edit::Outcome;
 use ikey::Bytewise;
 use request::{Request, passed_law};
 use split::Split;
+use std::alloc::Global;
 use std::test::*;
 use std::thread::Threads;
 
@@ -35,9 +37,9 @@ fn collected<R: AllocGlobal + Threads + Sync>(
     let mut tables = Vec::new(alloc);
     let mut groups = Vec::new(alloc);
     for place in 0..planned.len() {
-        let mut group = planned.tables(rt, alloc, place, &Open)?;
+        let group = planned.group(place);
         groups.push(group.len())?;
-        tables.append(&mut group)?;
+        push_tables(alloc, group, &mut tables)?;
     }
     let outcome = Outcome { tables, edit };
     Ok(Grouped {
@@ -45,6 +47,18 @@ fn collected<R: AllocGlobal + Threads + Sync>(
         groups,
         sizes,
     })
+}
+
+/// Appends the tables of a group.
+fn push_tables(
+    alloc: Global,
+    group: &Plan<'_, '_, Bytewise>,
+    tables: &mut Vec<(u64, Vec<u8>)>,
+) -> Result<(), Fault> {
+    for place in 0..group.len() {
+        tables.push(group.table(alloc, place)?)?;
+    }
+    Ok(())
 }
 
 /// The groups of a request. One worker checks its tables, and these many merge and encode.
@@ -125,7 +139,7 @@ fn tables_made_in_groups(rt: HostRuntime) -> Result<(), Fault> {
     for row in WRITTEN {
         assert!(rt; has_groups(&rt, row)?, "{}", row.name);
     }
-    assert!(rt; has_groups(&rt, EIGHTEEN)?, "{}", EIGHTEEN.name);
-    assert_eq!(rt; MOST_TABLES, 16);
+    assert!(rt; has_groups(&rt, SIXTY_SIX)?, "{}", SIXTY_SIX.name);
+    assert_eq!(rt; MOST_TABLES, 64);
     Ok(())
 }

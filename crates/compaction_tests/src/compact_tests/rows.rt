@@ -206,10 +206,10 @@ const A_U_AND_U: &[u8] = b"\
     \x07\0\x07\x7f\x09a\x01\x01\0\0\0\0\0\0\x09u\x01\x05\0\0\0\0\0\0\x07\0\x08r\x09u\x01\x09\0\0\0\
     \0\0\0\x09u\x01\x09\0\0\0\0\0\0";
 
-/// File 7 of level 0: `a` to `r` at 1, 18 user keys.
-/// `edit: file 0 7 340 a@1 put .. r@1 put`
-const A_TO_R_FILE: &[u8] = b"\
-    \x07\0\x07\xd4\x02\x09a\x01\x01\0\0\0\0\0\0\x09r\x01\x01\0\0\0\0\0\0";
+/// File 7 of level 0: `aa` to `cn` at 1, 66 user keys.
+/// `edit: file 0 7 983 aa@1 put .. cn@1 put`
+const AA_TO_CN_FILE: &[u8] =
+    b"\x07\0\x07\xd7\x07\x0aaa\x01\x01\0\0\0\0\0\0\x0acn\x01\x01\0\0\0\0\0\0";
 
 /// Rows that have tables and an edit.
 pub(crate) const WRITTEN: &[Row] = &[
@@ -353,13 +353,13 @@ pub(crate) const WRITTEN: &[Row] = &[
     },
 ];
 
-/// A row of 18 outputs.
-pub(crate) const EIGHTEEN: &Row = &Row {
-    name: "18 outputs",
-    files: A_TO_R_FILE,
-    tables: &[A_TO_R],
+/// A row of 66 outputs.
+pub(crate) const SIXTY_SIX: &Row = &Row {
+    name: "66 outputs",
+    files: AA_TO_CN_FILE,
+    tables: &[AA_TO_CN],
     runs: &[(WHOLE, 1), (AT_C_AND_F, 4)],
-    groups: &[16, 2],
+    groups: &[64, 2],
     ..SMALLEST
 };
 

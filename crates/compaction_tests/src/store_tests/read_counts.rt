@@ -1,12 +1,17 @@
 //! How often a compaction reads the files of its folder.
 
-ghost use Rattle.std.specs.Prelude.{◌≡◌};
+ghost use Rattle.std.specs.Prelude.{◌≡◌, ◌∷◌, ◌++◌, [], IfSome};
+ghost use Rattle.std.specs.Thread.{IsSync};
+ghost use Rattle.folder.specs.Calls.{TellsAfter, Written, step_of};
+ghost use Rattle.folder.specs.Folder.{failures_after};
+ghost use Rattle.folder.specs.MadeTables.{AreMade};
+ghost use Rattle.folder.specs.TableFiles.{named_tables};
 
 use crate::bounds_tests::{BEHIND, OLDER};
 use crate::range_checks_tests::{B_AT_TWO, U_AT_NINE, U_AT_ONE};
 use crate::store_tests::rows::{CURRENT, DEFAULTS, Files};
 use crate::store_tests::tests::MEMORY;
-use folder::{Folder, FolderFault, Shelf};
+use folder::{Folder, FolderFault, Shelf, SourceTables, TableMaker, WritesTables};
 use std::alloc::{AllocError, Global};
 use std::process::Abort;
 use std::test::*;
@@ -137,8 +142,34 @@ impl<F: Folder> Folder for Noting<F> {
     }
 }
 
+impl<F: WritesTables> WritesTables for Noting<F> {
+    type Maker = F::Maker;
+
+    fn maker(&mut self) -> F::Maker {
+        self.folder.maker()
+    }
+
+    fn sync_tables<T: Threads + Sync>(
+        &mut self,
+        rt: &T,
+        tables: &SourceTables,
+        made: Option<Vec<<F::Maker as TableMaker>::Made>>,
+    ) -> Result<(), FolderFault>
+        requires threads { IsSync T.row }
+        requires made { IfSome made (λ made. AreMade F.Maker.is_of made.items tables.now.tables) }
+        ensures calls { F.calls self.new.folder ≡ F.calls self.old.folder
+            ++ step_of (Written (named_tables tables.now.tables)) result ∷ [] }
+        ensures change { TellsAfter (step_of (Written (named_tables tables.now.tables)) result)
+            (F.tells self.old.folder) (F.tells self.new.folder) }
+        ensures failures { F.failed self.new.folder
+            ≡ failures_after (F.failed self.old.folder) result }
+    {
+        self.folder.sync_tables(rt, tables, made)
+    }
+}
+
 /// Whether the compaction of level 0 of a folder answers its lines.
-fn is_compacted<R: AllocGlobal + Threads + Sync>(rt: &R, folder: &mut impl Folder) -> bool {
+fn is_compacted<R: AllocGlobal + Threads + Sync>(rt: &R, folder: &mut impl WritesTables) -> bool {
     match compact_dir(rt, rt.alloc(), folder, 0, &DEFAULTS, MEMORY, &Open) {
         Ok(step) => step.lines.as_slice() == LINES.as_bytes(),
         Err(_) => false,

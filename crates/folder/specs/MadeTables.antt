@@ -1,0 +1,8 @@
+-- What came of tables that were made files.
+use Rattle.std.specs.Prelude.{ℕ, List, [], ◌∷◌}
+
+-- each of these came of the table at its place, and there are no others
+abbrev pub AreMade : {M : Type 0} → (M → ℕ × List ℕ → Type 0) → List M → List (ℕ × List ℕ) → Type 0
+AreMade is_of [] [] = Unit {0}
+AreMade is_of (one ∷ made) (table ∷ tables) = is_of one table × AreMade is_of made tables
+AreMade is_of made tables = ⊥

@@ -3,5 +3,6 @@
 mod gates;
 mod groups;
 mod rows;
+mod stated;
 mod tables;
 mod tests;

@@ -10,7 +10,7 @@ ghost use Rattle.folder.specs.TableFiles.{named_tables, table_files};
 use crate::failure::{Failure, FolderCall};
 use crate::folder::{Folder, FolderFault};
 use crate::kept::Kept;
-use crate::making::{DiskMaker, MadeTable, files_of, first_failed, sync_made, write_in_turn};
+use crate::made_table::{DiskMaker, MadeTable, files_of, first_failed, sync_made, write_in_turn};
 use crate::order::Order;
 use crate::owned::access_in;
 use crate::reads_ahead::ReadsAhead;

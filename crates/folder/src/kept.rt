@@ -2,7 +2,7 @@
 
 ghost use Rattle.std.specs.Prelude.{◌<◌, length, IfSome};
 
-use crate::making::MadeTable;
+use crate::made_table::MadeTable;
 use std::alloc::{AllocError, Global};
 use std::fs::File;
 use std::io;

@@ -47,14 +47,14 @@ mod folder;
 mod folder_answer_laws;
 mod folder_lock;
 mod kept;
-mod made_tables;
-mod making;
+mod made_table;
 mod names;
 mod order;
 mod owned;
 mod reads_ahead;
 mod shelf;
 mod shelf_step;
+mod source_writer;
 mod system;
 mod system_files;
 mod table_loader;
@@ -70,8 +70,7 @@ pub use failure::{Failure, FolderCall};
 pub use folder::{Folder, FolderFault};
 pub use folder_answer_laws::{crash_laws, folder_laws, reading_laws};
 pub use folder_lock::{FolderLock, lock_to_change, lock_to_read};
-pub use made_tables::write_source;
-pub use making::{DiskMaker, MadeTable};
+pub use made_table::{DiskMaker, MadeTable};
 pub use names::{
     CURRENT, current_text, manifest_name, number_in_current, old_table_name, table_name,
     temporary_name,
@@ -80,6 +79,7 @@ pub use order::Order;
 pub use reads_ahead::{ReadsAhead, read_numbers_ahead};
 pub use shelf::{Failing, Shelf, ShelfMaker};
 pub use shelf_step::{ShelfCall, ShelfStep};
+pub use source_writer::write_source;
 pub use system_files::{OwnedFiles, SystemFiles};
 pub use table_loader::{file_numbers, load, load_numbers};
 pub use table_source::{SourceTables, TableSource};

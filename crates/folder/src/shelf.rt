@@ -4,7 +4,7 @@ ghost use Rattle.std.specs.Prelude.{◌≡◌, ℕ, List, [], ◌∷◌, ◌++�
 ghost use Rattle.std.specs.Option.{option_map};
 ghost use Rattle.folder.specs.Attempts.{Alters, call_in, tried_if};
 ghost use Rattle.folder.specs.Calls.{Files, Tells, TellsAfter, Written, step_of};
-ghost use Rattle.folder.specs.MadeTables.{AreMade};
+ghost use Rattle.folder.specs.MadeTables.{AreMadeOf};
 ghost use Rattle.folder.specs.Folder.{failures_after, part_of};
 ghost use Rattle.folder.specs.Names.{table_name};
 ghost use Rattle.folder.specs.Shelf.{files_after_steps, files_in, held_by, made_by};
@@ -220,7 +220,7 @@ impl<'a> WritesTables for Shelf<'a> {
         made: Option<Vec<(u64, Vec<u8>)>>,
     ) -> Result<(), FolderFault>
         requires { IfSome made (λ made.
-            AreMade ⟦<ShelfMaker as TableMaker>⟧.is_of made.items tables.now.tables) }
+            AreMadeOf ⟦<ShelfMaker as TableMaker>⟧.is_of made.items tables.now.tables) }
         ensures calls { ⟦<Shelf<'a> as Folder>⟧.calls self.new
             ≡ ⟦<Shelf<'a> as Folder>⟧.calls self.old
             ++ step_of (Written (named_tables tables.now.tables)) result ∷ [] }

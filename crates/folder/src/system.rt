@@ -3,7 +3,7 @@
 ghost use Rattle.std.specs.Prelude.{◌≤◌, length, IfOk, IfSome};
 
 use crate::kept::Kept;
-use crate::making::{made_at, remove_at};
+use crate::made_table::{made_at, remove_at};
 use crate::owned::access_in;
 use crate::system_files::{SystemFiles, regular};
 use crate::trail::WriteCall;

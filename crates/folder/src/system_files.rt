@@ -1,6 +1,6 @@
 //! Files of the system, opened under descriptors of their own.
 
-use crate::making::MadeTable;
+use crate::made_table::MadeTable;
 use crate::owned::Access;
 use crate::whole_files::THREADS;
 use sqlite_disk::Unknown;

@@ -1,5 +1,5 @@
 -- The calls of an installation, of which CURRENT is read again in the middle.
-use Rattle.std.proofs.Common.{◌≡◌, ◌≢◌, ◌⊎◌, ◌≤◌, ℕ, List, ◌++◌, append_assoc, codes, map, Option, Some, Result, Ok, Err, IsErrAnd, IfErr, refl, sym, ap, subst, ◌∙◌, inl, inr, arith}
+use Rattle.std.proofs.Common.{◌≡◌, ◌≢◌, ◌⊎◌, ◌≤◌, ℕ, List, ◌++◌, append_assoc, codes, map, Some, Result, Ok, Err, IsErrAnd, IfErr, refl, sym, ap, subst, ◌∙◌, inl, inr, arith}
 use Rattle.std.proofs.lemmas.List.{map-append}
 use Rattle.coding.proofs.Refusals.{unless_from}
 use Rattle.coding.specs.Answers.{UnlessMemory, fault}

@@ -4,7 +4,7 @@ use Rattle.std.specs.Prelude.{slice_get}
 use Rattle.std.proofs.Math.ListN.{get_or}
 use Rattle.std.proofs.lemmas.List.{map-append, take-append-drop}
 use Rattle.std.proofs.lemmas.Option.{same_Some, slice_get-get_or}
-use Rattle.folder.specs.Calls.{Call, Written}
+use Rattle.folder.specs.Calls.{Written}
 use Rattle.folder.specs.TableFiles.{named_tables}
 use Rattle.install.specs.Install.{table_calls}
 use Rattle.merge.proofs.Leasts.{take_next}

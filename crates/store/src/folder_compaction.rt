@@ -133,7 +133,12 @@ pub fn compact_opened<F: WritesTables, W: Watch + Sync, R: Threads + Sync>(
 
 /// Tests the version that a folder was `opened` as, compacts a `level` of it, and installs the
 /// outcome. The comparator's name has fewer than 2^32 bytes.
-fn compact_version<C: SharedComparator + 'static, F: WritesTables, W: Watch + Sync, R: Threads + Sync>(
+fn compact_version<
+    C: SharedComparator + 'static,
+    F: WritesTables,
+    W: Watch + Sync,
+    R: Threads + Sync,
+>(
     rt: &R,
     alloc: Global,
     folder: &mut F,

@@ -144,7 +144,12 @@ pub(crate) fn install_held<
 }
 
 /// Compacts `picked` inputs, whose `tables` are checked, and installs the outcome.
-fn install_checked<C: SharedComparator + 'static, F: WritesTables, W: Watch + Sync, R: Threads + Sync>(
+fn install_checked<
+    C: SharedComparator + 'static,
+    F: WritesTables,
+    W: Watch + Sync,
+    R: Threads + Sync,
+>(
     rt: &R,
     alloc: Global,
     folder: &mut F,

@@ -117,7 +117,12 @@ fn step_of<C: Comparator>(
 
 /// Installs `planned` outputs of a compaction of a `version`, as [`install`](install::install) does
 /// an outcome. Their tables are encoded and written a group after the other.
-fn install_planned<C: SharedComparator + 'static, F: WritesTables, W: Watch + Sync, R: Threads + Sync>(
+fn install_planned<
+    C: SharedComparator + 'static,
+    F: WritesTables,
+    W: Watch + Sync,
+    R: Threads + Sync,
+>(
     rt: &R,
     alloc: Global,
     folder: &mut F,
@@ -153,7 +158,12 @@ fn write_groups<C: SharedComparator + 'static, F: WritesTables, W: Watch + Sync,
 }
 
 /// Encodes and writes the tables of the group at `place`.
-fn write_encoded<C: SharedComparator + 'static, F: WritesTables, W: Watch + Sync, R: Threads + Sync>(
+fn write_encoded<
+    C: SharedComparator + 'static,
+    F: WritesTables,
+    W: Watch + Sync,
+    R: Threads + Sync,
+>(
     rt: &R,
     alloc: Global,
     folder: &mut F,

@@ -4,7 +4,7 @@ ghost use Rattle.std.specs.Prelude.{◌≡◌, ◌∷◌, ◌++◌, [], IfSome};
 ghost use Rattle.std.specs.Thread.{IsSync};
 ghost use Rattle.folder.specs.Calls.{TellsAfter, Written, step_of};
 ghost use Rattle.folder.specs.Folder.{failures_after};
-ghost use Rattle.folder.specs.MadeTables.{AreMade};
+ghost use Rattle.folder.specs.MadeTables.{AreMadeOf};
 ghost use Rattle.folder.specs.TableFiles.{named_tables};
 
 use crate::bounds_tests::{BEHIND, OLDER};
@@ -156,7 +156,7 @@ impl<F: WritesTables> WritesTables for Noting<F> {
         made: Option<Vec<<F::Maker as TableMaker>::Made>>,
     ) -> Result<(), FolderFault>
         requires threads { IsSync T.row }
-        requires made { IfSome made (λ made. AreMade F.Maker.is_of made.items tables.now.tables) }
+        requires made { IfSome made (λ made. AreMadeOf F.Maker.is_of made.items tables.now.tables) }
         ensures calls { F.calls self.new.folder ≡ F.calls self.old.folder
             ++ step_of (Written (named_tables tables.now.tables)) result ∷ [] }
         ensures change { TellsAfter (step_of (Written (named_tables tables.now.tables)) result)

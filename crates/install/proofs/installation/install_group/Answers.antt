@@ -1,7 +1,5 @@
-use Rattle.std.proofs.Common.{◌≡◌, ◌<◌, ◌^◌, ℕ, ◌∷◌, [], List, ap, subst, ◌∙◌, arith}
-use Rattle.folder.specs.CallSequence.{MakesCalls}
-use Rattle.install.specs.Install.{current_calls, manifest_bytes, manifest_calls, table_calls, tables_in}
-use Rattle.install.specs.InstallRun.{IsInstallRun}
+use Rattle.std.proofs.Common.{◌≡◌, ◌<◌, ◌^◌, ◌∷◌, [], ap, ◌∙◌, arith}
+use Rattle.install.specs.Install.{manifest_bytes, table_calls, tables_in}
 use Rattle.install.proofs.Grouped.{groups_installed, groups_stopped, none_installed}
 use Rattle.install.proofs.Parts.{runs_same}
 use Rattle.install.proofs.installation.install_group.Goals as goal

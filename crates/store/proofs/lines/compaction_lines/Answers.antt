@@ -1,4 +1,4 @@
-use Rattle.std.proofs.Common.{List, ℕ, sym, ap, subst, ◌∙◌}
+use Rattle.std.proofs.Common.{List, ℕ, sym, ap, ◌∙◌}
 use Rattle.std.specs.Global.{Vec}
 use Rattle.coding.proofs.Binds.{ok_is}
 use Rattle.install.specs.Install.{tables_in}

@@ -1,4 +1,4 @@
-use Rattle.std.proofs.Common.{◌≡◌, ℕ, List, Some, Result, Ok, codes, refl, sym, ap, subst, ◌∙◌, arith, inl}
+use Rattle.std.proofs.Common.{◌≡◌, ℕ, List, Some, Result, Ok, codes, refl, ap, subst, ◌∙◌, arith, inl}
 use Rattle.coding.specs.declared.fault.Fault.{Fault}
 use Rattle.compact.specs.Grouped.{joined_answer}
 use Rattle.folder.proofs.ReportLemmas.{reports_after, reports_handed, reports_steady}

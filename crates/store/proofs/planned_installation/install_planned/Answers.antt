@@ -1,4 +1,4 @@
-use Rattle.std.proofs.Common.{◌≡◌, ◌<◌, ◌^◌, ℕ, [], ap, ◌∙◌, arith}
+use Rattle.std.proofs.Common.{◌≡◌, ◌<◌, ◌^◌, [], ap, ◌∙◌, arith}
 use Rattle.install.specs.Install.{manifest_bytes}
 use Rattle.install.proofs.Grouped.{groups_installed, groups_stopped, none_installed}
 use Rattle.store.proofs.planned_installation.install_planned.Goals as goal

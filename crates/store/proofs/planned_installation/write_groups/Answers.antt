@@ -1,5 +1,4 @@
-use Rattle.std.proofs.Common.{◌≡◌, ◌<◌, ◌+◌, ◌++◌, List, ℕ, [], ◌∷◌, Some, drop, length, arith, refl, sym, ap, subst, ◌∙◌, take}
-use Rattle.std.specs.Prelude.{slice_get}
+use Rattle.std.proofs.Common.{◌<◌, ◌+◌, ◌++◌, List, ℕ, [], ◌∷◌, drop, length, arith, refl, sym, ap, subst, ◌∙◌, take}
 use Rattle.folder.specs.Calls.{Call}
 use Rattle.install.specs.Install.{table_calls}
 use Rattle.store.proofs.GroupRuns.{calls_from, calls_next, calls_split, group_at}

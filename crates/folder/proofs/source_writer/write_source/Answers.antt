@@ -2,7 +2,7 @@ use Rattle.std.proofs.Common.{ℕ, List, subst}
 use Rattle.folder.specs.Calls.{TellsAfter, Written, step_of}
 use Rattle.folder.specs.TableFiles.{named_tables}
 use Rattle.folder.proofs.MadeLemmas.{tells_from}
-use Rattle.folder.proofs.made_tables.write_source.Goals as goal
+use Rattle.folder.proofs.source_writer.write_source.Goals as goal
 
 pub returns-clause-change : goal.returns-clause-change
 returns-clause-change g c =

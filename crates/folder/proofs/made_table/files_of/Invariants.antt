@@ -1,5 +1,5 @@
 use Rattle.std.proofs.Common.{◌≡◌, length}
-use Rattle.folder.proofs.making.files_of.Given as goal
+use Rattle.folder.proofs.made_table.files_of.Given as goal
 
 -- a file for each table so far
 abbrev pub invariant-loop-number : goal.invariant-loop-number

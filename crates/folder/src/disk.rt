@@ -15,7 +15,7 @@ use crate::order::Order;
 use crate::owned::access_in;
 use crate::reads_ahead::ReadsAhead;
 use crate::system::{done_in, part_in, read_in};
-use crate::system_files::SystemFiles;
+use crate::system_files::{MakesFiles, SystemFiles};
 use crate::table_loader::{files_due, numbers_in, tables_ahead};
 use crate::table_sizes::check_sizes_in;
 use crate::table_source::SourceTables;
@@ -192,7 +192,7 @@ impl<'r, R: SystemFiles + AllocGlobal> Folder for Disk<'r, R> {
     }
 }
 
-impl<'r, R: SystemFiles + WholeFiles + AllocGlobal> WritesTables for Disk<'r, R> {
+impl<'r, R: SystemFiles + MakesFiles + AllocGlobal> WritesTables for Disk<'r, R> {
     type Maker = DiskMaker<'r, R>;
 
     fn maker(&mut self) -> DiskMaker<'r, R> {

@@ -80,7 +80,7 @@ pub use reads_ahead::{ReadsAhead, read_numbers_ahead};
 pub use shelf::{Failing, Shelf, ShelfMaker};
 pub use shelf_step::{ShelfCall, ShelfStep};
 pub use source_writer::write_source;
-pub use system_files::{OwnedFiles, SystemFiles};
+pub use system_files::{MakesFiles, OwnedFiles, SystemFiles};
 pub use table_loader::{file_numbers, load, load_numbers};
 pub use table_source::{SourceTables, TableSource};
 pub use whole_files::{Ahead, WholeFiles};

@@ -5,8 +5,7 @@ use Rattle.std.specs.declared.cmp.Ordering.{Ordering}
 use Rattle.coding.specs.Answers.{IsThen}
 use Rattle.coding.specs.declared.fault.Fault.{Fault}
 use Rattle.table.specs.TableContents.{Contents, contents_reading}
-use Rattle.folder.specs.Calls.{Files, ToldFiles}
-use Rattle.folder.specs.Names.{table_name}
+use Rattle.folder.specs.Calls.{Files}
 use Rattle.folder.specs.LoadedTables.{IsLoaded, IsTableAnswer}
 use Rattle.folder.specs.ReadsAs.{IsHeldIn}
 use Rattle.reads.specs.Tables.{NumberedContents}
@@ -17,13 +16,6 @@ pub record IsTableIn (cmp : List ℕ → List ℕ → Ordering) (files : Files) 
     : Type 0 where
   pub there : IsTableAnswer (IsHeldIn files) number (Ok x.bytes)
   pub read : contents_reading cmp x.bytes ≡ Ok x
-
--- the table of a number as a folder tells it, and what it holds
-pub record IsToldTable (cmp : List ℕ → List ℕ → Ordering) (tells : ToldFiles) (number : ℕ)
-    (t : NumberedContents) : Type 0 where
-  pub of_number : t.number ≡ number
-  pub told : tells (table_name number) (Some t.contents.bytes)
-  pub reading : contents_reading cmp t.contents.bytes ≡ Ok t.contents
 
 -- the numbers of tables
 abbrev pub held_numbers : List NumberedContents → List ℕ

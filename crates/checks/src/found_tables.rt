@@ -1,39 +1,34 @@
 //! Tables of a folder, read and checked.
 
-ghost use Rattle.std.specs.Prelude.{◌≡◌, ◌<◌, ◌≤◌, length, map, slice_get, Ok, Some, IfOk, IfErr, IfSome};
+ghost use Rattle.std.specs.Prelude.{◌≡◌, ◌<◌, ◌≤◌, length, map, IfOk, IfErr, IfSome};
 ghost use Rattle.std.specs.List.{AllZip};
 ghost use Rattle.std.specs.Option.{MatchOption, option_map};
 ghost use Rattle.coding.specs.Answers.{fault};
 ghost use Rattle.coding.specs.declared.fault.FaultName.TheVariants.{Memory};
 ghost use Rattle.table.specs.SoundTables.{IsCheckedTable};
-ghost use Rattle.table.specs.TableContents.{contents_reading};
 ghost use Rattle.folder.specs.Calls.{Files, Tells};
 ghost use Rattle.folder.specs.OpenAnswer.{FolderAnswers};
 ghost use Rattle.folder.specs.Reports.{OnlyReads, ReportsDevice};
 ghost use Rattle.checks.specs.Checked.{IsInvalid, IsRead};
-ghost use Rattle.checks.specs.HeldTables.{IsFoundAnswer, IsToldTable, held_numbers};
+ghost use Rattle.checks.specs.HeldTables.{IsFoundAnswer, held_numbers};
 ghost use Rattle.checks.specs.TablePlaces.{AreBounds, IsLoadedIfThere};
 
 use crate::held_table::HeldTable;
 use crate::rounds::check_tables;
-use board::{Gate, Labour, run};
+use board::Gate;
 use coding::{Fault, FaultName};
-use folder::{Folder, ReadsTables, TableReader, load_numbers};
+use folder::{Folder, load_numbers};
 use ikey::{Comparator, SharedComparator};
 use reads::NumberedTable;
 use std::alloc::Global;
-use std::marker::PhantomData;
 use std::thread::Threads;
 use table::{Bounds, OwnedTable};
-
-/// The most jobs of a run, 2^40.
-const MOST_JOBS: u64 = 1 << 40;
 
 /// The tables of a folder with these numbers, in order. None if one of them is missing or invalid.
 /// It only reads.
 ///
 /// 1 to 64 workers check them, a table a job that `gate` sees.
-pub(crate) fn read_tables<C: SharedComparator, F: ReadsTables, G: Gate + Sync, R: Threads + Sync>(
+pub(crate) fn read_tables<C: SharedComparator, F: Folder, G: Gate + Sync, R: Threads + Sync>(
     rt: &R,
     alloc: Global,
     folder: &mut F,
@@ -51,99 +46,10 @@ pub(crate) fn read_tables<C: SharedComparator, F: ReadsTables, G: Gate + Sync, R
     ensures device { ReportsDevice F.Folder folder.old folder.new result }
     ensures reads { OnlyReads F.Folder folder.old folder.new }
 {
-    if let Some(tables) = read_and_checked::<C, F, G, R>(
-        rt, alloc, folder, numbers, workers, gate,
-    ) {
-        return Ok(Some(tables));
-    }
     let Some(loaded) = load_if_there(alloc, folder, numbers)? else {
         return Ok(None);
     };
     owned_tables::<C, G, R>(rt, alloc, loaded, workers, gate)
-}
-
-/// Tables that are read and checked, each a job.
-#[derive(Drop)]
-struct ReadChecks<'p, C, D> {
-    alloc: Global,
-    reader: &'p D,
-    numbers: &'p [u64],
-    order: PhantomData<C>,
-}
-
-impl<'p, C: Comparator, D: TableReader> Labour for ReadChecks<'p, C, D> {
-    type Out = Option<HeldTable<C>>;
-
-    ghost use Rattle.std.specs.Prelude.{length, slice_get, None, IfSome};
-    ghost use Rattle.checks.specs.HeldTables.{IsToldTable};
-
-    ghost jobs = { λ s. length s.numbers.now };
-
-    ghost refusal = { λ _ _. None };
-
-    ghost gives = { λ s job out. IfSome out (λ t. IfSome (slice_get s.numbers.now job)
-        (λ n. IsToldTable C.cmp (D.tells s.reader.now) n t)) };
-
-    fn work(&self, job: u64) -> Result<Option<HeldTable<C>>, Fault> {
-        let number = self.numbers[job as usize];
-        match self.reader.table(self.alloc, number) {
-            Some(bytes) => Ok(valid_table(self.alloc, number, bytes)),
-            None => Ok(None),
-        }
-    }
-}
-
-/// The table of a `number` and these bytes. None if it is invalid, or if memory ran out.
-fn valid_table<C: Comparator>(alloc: Global, number: u64, bytes: Vec<u8>) -> Option<HeldTable<C>>
-    ensures { IfSome result (λ t. (t.number ≡ number) × (t.contents.bytes ≡ bytes.items)
-        × (contents_reading C.cmp bytes.items ≡ Ok t.contents)) }
-{
-    let table = OwnedTable::check(alloc, bytes).ok()?;
-    Some(HeldTable::of(number, table))
-}
-
-/// Tables of these numbers, each read and checked in one job. None if one can't be had, is invalid,
-/// or memory ran out: then they are read one after the other.
-
-fn read_and_checked<C: SharedComparator, F: ReadsTables, G: Gate + Sync, R: Threads + Sync>(
-    rt: &R,
-    alloc: Global,
-    folder: &F,
-    numbers: &[u64],
-    workers: u64,
-    gate: &G,
-) -> Option<Vec<HeldTable<C>>>
-    requires some { 0 < workers }
-    requires few { workers ≤ 64 }
-    ensures { IfSome result
-        (λ v. AllZip (IsToldTable C.cmp (F.tells folder.now)) numbers.now v.items) }
-{
-    let jobs = numbers.len() as u64;
-    if jobs > MOST_JOBS {
-        return None;
-    }
-    let reader = folder.reader();
-    let checks = ReadChecks {
-        alloc,
-        reader: &reader,
-        numbers,
-        order: PhantomData,
-    };
-    all_of(alloc, run(rt, alloc, &checks, jobs, workers, gate).ok()?)
-}
-
-/// All of these, if each is there and there is memory for them.
-fn all_of<C: Comparator>(
-    alloc: Global,
-    found: Vec<Option<HeldTable<C>>>,
-) -> Option<Vec<HeldTable<C>>>
-    ensures { IfSome result (λ v. map Some v.items ≡ found.items) }
-{
-    let mut tables = Vec::with_capacity(alloc, found.len()).ok()?;
-    for table in found {
-        tables.push(table?).ok()?;
-    }
-    Some(tables)
 }
 
 /// The bytes of the tables with these numbers. None if one of them is missing. It only reads.

@@ -3,7 +3,7 @@
 ghost use Rattle.std.specs.Prelude.{◌≡◌, [], ◌∷◌, ◌++◌, IfOk, Ok};
 ghost use Rattle.std.specs.Thread.{IsSync};
 ghost use Rattle.folder.specs.Calls.{TellsAfter, Written, step_of};
-ghost use Rattle.folder.specs.Folder.{IsToldBy, failures_after, one_more};
+ghost use Rattle.folder.specs.Folder.{failures_after, one_more};
 ghost use Rattle.folder.specs.Attempts.{call_in};
 ghost use Rattle.folder.specs.TableFiles.{named_tables, table_files};
 
@@ -15,10 +15,9 @@ use crate::order::Order;
 use crate::owned::access_in;
 use crate::reads_ahead::ReadsAhead;
 use crate::system::{done_in, part_in, read_in};
-use crate::system_files::SystemFiles;
+use crate::system_files::{MakesFiles, SystemFiles};
 use crate::table_loader::{files_due, numbers_in, tables_ahead};
 use crate::table_sizes::check_sizes_in;
-use crate::table_reader::{DiskReader, ReadsTables, TableReader};
 use crate::table_source::SourceTables;
 use crate::trail::{AnyWrite, Attempt, Trail, WriteCall};
 use crate::whole_files::{Ahead, WholeFiles, read_all, sync_all, take};
@@ -193,21 +192,7 @@ impl<'r, R: SystemFiles + AllocGlobal> Folder for Disk<'r, R> {
     }
 }
 
-impl<'r, R: SystemFiles + WholeFiles + AllocGlobal> ReadsTables for Disk<'r, R> {
-    type Reader = DiskReader<'r, R>;
-
-    fn reader(&self) -> DiskReader<'r, R>
-        ensures { IsToldBy (⟦<DiskReader<'r, R> as TableReader>⟧.tells result)
-            (⟦<Disk<'r, R> as Folder>⟧.tells self.now) }
-    {
-        DiskReader {
-            rt: self.rt,
-            folder: self.path,
-        }
-    }
-}
-
-impl<'r, R: SystemFiles + WholeFiles + AllocGlobal> WritesTables for Disk<'r, R> {
+impl<'r, R: SystemFiles + MakesFiles + AllocGlobal> WritesTables for Disk<'r, R> {
     type Maker = DiskMaker<'r, R>;
 
     fn maker(&mut self) -> DiskMaker<'r, R> {

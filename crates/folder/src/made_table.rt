@@ -7,7 +7,7 @@ ghost use Rattle.coding.specs.declared.fault.FaultName.TheVariants.{Memory};
 use crate::failure::FolderCall;
 use crate::names::table_name;
 use crate::owned::{Access, access_in, new_file};
-use crate::system_files::OwnedFiles;
+use crate::system_files::{MakesFiles, OwnedFiles};
 use crate::whole_files::{THREADS, path_in};
 use crate::writes_tables::TableMaker;
 use coding::Fault;
@@ -46,9 +46,9 @@ impl MadeTable {
         })
     }
 
-    /// Makes the file.
-    fn make<R: OwnedFiles>(&mut self, rt: &R, access: io::Result<Option<Access>>, bytes: &[u8]) {
-        match file_at(rt, self.path.as_str(), access, bytes) {
+    /// Keeps the file that was made, or why it wasn't.
+    fn keep(&mut self, made: io::Result<File>) {
+        match made {
             Ok(file) => self.file = Some(file),
             Err(error) => self.answer = Err(error),
         }
@@ -69,7 +69,8 @@ impl MadeTable {
         access: io::Result<Option<Access>>,
         bytes: &[u8],
     ) {
-        self.make(rt, access, bytes);
+        let made = file_at(rt, self.path.as_str(), access, bytes);
+        self.keep(made);
         self.sync();
     }
 }
@@ -97,24 +98,19 @@ impl<'r, R: OwnedFiles + AllocGlobal> DiskMaker<'r, R> {
     }
 }
 
-impl<'r, R: OwnedFiles> DiskMaker<'r, R> {
-    /// Makes the table of a `number` a file. The only fault is Memory.
-    fn made(&self, number: u64, bytes: &[u8]) -> Result<MadeTable, Fault>
-        ensures { IfErr result (λ e. e ≡ fault Memory) }
-    {
-        let mut table = MadeTable::of_number(self.alloc, self.folder, number)?;
-        table.make(self.rt, self.access, bytes);
-        Ok(table)
-    }
-}
-
-impl<'r, R: OwnedFiles + Send + Sync> TableMaker for DiskMaker<'r, R> {
+impl<'r, R: MakesFiles> TableMaker for DiskMaker<'r, R> {
     type Made = MadeTable;
 
     ghost is_of = { λ _ _. Unit {0} };
 
     fn make(&self, number: u64, bytes: Vec<u8>) -> Result<MadeTable, Fault> {
-        self.made(number, &bytes)
+        let mut table = MadeTable::of_number(self.alloc, self.folder, number)?;
+        let made = match self.access {
+            Ok(access) => self.rt.made(table.path.as_str(), access, &bytes),
+            Err(error) => Err(error),
+        };
+        table.keep(made);
+        Ok(table)
     }
 }
 

@@ -5,7 +5,7 @@ ghost use Rattle.std.specs.Option.{option_map};
 ghost use Rattle.folder.specs.Attempts.{Alters, call_in, tried_if};
 ghost use Rattle.folder.specs.Calls.{Files, Tells, TellsAfter, Written, step_of};
 ghost use Rattle.folder.specs.MadeTables.{AreMadeOf};
-ghost use Rattle.folder.specs.Folder.{IsToldBy, failures_after, part_of};
+ghost use Rattle.folder.specs.Folder.{failures_after, part_of};
 ghost use Rattle.folder.specs.Names.{table_name};
 ghost use Rattle.folder.specs.Shelf.{files_after_steps, files_in, held_by, made_by};
 ghost use Rattle.folder.specs.TableFiles.{named_tables, table_files};
@@ -15,7 +15,6 @@ use crate::folder::{Folder, FolderFault};
 use crate::names::table_name;
 use crate::reads_ahead::ReadsAhead;
 use crate::shelf_step::{ShelfCall, ShelfStep, Source};
-use crate::table_reader::{NoReader, ReadsTables, TableReader};
 use crate::table_source::SourceTables;
 use crate::trail::{AnyWrite, Attempt, Trail, WriteCall};
 use crate::whole_files::Ahead;
@@ -204,17 +203,6 @@ impl<'a> Folder for Shelf<'a> {
 
     fn failures(&self) -> u64 {
         self.failures
-    }
-}
-
-impl<'a> ReadsTables for Shelf<'a> {
-    type Reader = NoReader;
-
-    fn reader(&self) -> NoReader
-        ensures { IsToldBy (⟦<NoReader as TableReader>⟧.tells result)
-            (⟦<Shelf<'a> as Folder>⟧.tells self.now) }
-    {
-        NoReader
     }
 }
 

@@ -1,6 +1,6 @@
 //! Files of the system, opened under descriptors of their own.
 
-use crate::made_table::MadeTable;
+use crate::made_table::{MadeTable, made_at};
 use crate::owned::Access;
 use crate::whole_files::THREADS;
 use sqlite_disk::Unknown;
@@ -54,9 +54,22 @@ pub trait SystemFiles: OwnedFiles {
         requires each { length files.old ≡ length tables.now };
 }
 
+/// Files of the system, which are made through a handle that threads share.
+pub trait MakesFiles: Send + Sync {
+    /// Makes a file anew at `path`, of these bytes, and answers it open. What was there before keeps
+    /// its bytes, if it has another name or is open elsewhere.
+    fn made(&self, path: &str, access: Option<Access>, bytes: &[u8]) -> io::Result<File>;
+}
+
 impl OwnedFiles for HostRuntime {
     fn open_own(&self, how: &OpenOptions, path: &str) -> io::Result<File> {
         self.open_file(how, path)
+    }
+}
+
+impl MakesFiles for HostRuntime {
+    fn made(&self, path: &str, access: Option<Access>, bytes: &[u8]) -> io::Result<File> {
+        made_at(self, path, access, bytes)
     }
 }
 

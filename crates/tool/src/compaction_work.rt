@@ -11,7 +11,7 @@ use crate::step_printer::{StepPrinter, explain, print_step, tell_step, unprinted
 use crate::table_sizes::sizes_tested;
 use coding::Fault;
 use edit::Version;
-use folder::{Disk, Opened, SystemFiles, WholeFiles};
+use folder::{Disk, MakesFiles, Opened, SystemFiles, WholeFiles};
 use ikey::Bytewise;
 use settings::Settings;
 use std::alloc::Global;
@@ -37,7 +37,15 @@ pub(crate) struct CompactionTask<'t> {
 /// Compacts a level of a folder, or all of them one after the other. The folder is locked before
 /// anything is read of it. What it was opened as is synced once, so that it outlives a crash.
 pub(crate) fn compact_folder<
-    R: SystemFiles + WholeFiles + Print + Eprint + Clock + AllocGlobal + Threads + Sync,
+    R: SystemFiles
+        + MakesFiles
+        + WholeFiles
+        + Print
+        + Eprint
+        + Clock
+        + AllocGlobal
+        + Threads
+        + Sync,
 >(rt: &R, telling: Telling<'_>, line: &CompactLine<'_>, levels: Levels) -> Result<(), Refusal> {
     let task = CompactionTask {
         levels,
@@ -53,7 +61,15 @@ pub(crate) fn compact_folder<
 }
 
 fn compact_levels<
-    R: SystemFiles + WholeFiles + Print + Eprint + Clock + AllocGlobal + Threads + Sync,
+    R: SystemFiles
+        + MakesFiles
+        + WholeFiles
+        + Print
+        + Eprint
+        + Clock
+        + AllocGlobal
+        + Threads
+        + Sync,
 >(rt: &R, telling: Telling<'_>, task: CompactionTask<'_>) -> Result<(), Refusal> {
     let opened = begin_work(rt, telling)?;
     if !task.testing.is_skipped {
@@ -87,7 +103,17 @@ fn is_due(alloc: Global, version: &Version, levels: Levels) -> Result<bool, Faul
 }
 
 /// Compacts a level of a folder, and prints what was made.
-fn compact_one<R: SystemFiles + WholeFiles + Print + Eprint + Clock + AllocGlobal + Threads + Sync>(
+fn compact_one<
+    R: SystemFiles
+        + MakesFiles
+        + WholeFiles
+        + Print
+        + Eprint
+        + Clock
+        + AllocGlobal
+        + Threads
+        + Sync,
+>(
     rt: &R,
     telling: Telling<'_>,
     opened: &Opened,
@@ -150,7 +176,9 @@ fn explain_one<R: SystemFiles + Eprint + AllocGlobal>(
 }
 
 /// Tests what a folder was opened as, and compacts a level of it.
-fn tested_compacted<R: SystemFiles + WholeFiles + Eprint + Clock + AllocGlobal + Threads + Sync>(
+fn tested_compacted<
+    R: SystemFiles + MakesFiles + WholeFiles + Eprint + Clock + AllocGlobal + Threads + Sync,
+>(
     rt: &R,
     telling: Telling<'_>,
     opened: &Opened,
@@ -175,7 +203,9 @@ fn tested_compacted<R: SystemFiles + WholeFiles + Eprint + Clock + AllocGlobal +
 }
 
 /// Compacts a level of a folder, and reads nothing but its inputs.
-fn inputs_compacted<R: SystemFiles + WholeFiles + Eprint + Clock + AllocGlobal + Threads + Sync>(
+fn inputs_compacted<
+    R: SystemFiles + MakesFiles + WholeFiles + Eprint + Clock + AllocGlobal + Threads + Sync,
+>(
     rt: &R,
     telling: Telling<'_>,
     opened: &Opened,
@@ -199,12 +229,17 @@ fn inputs_compacted<R: SystemFiles + WholeFiles + Eprint + Clock + AllocGlobal +
 
 /// Compacts the first level that has a file, again and again, until all files are at the bottom.
 /// Each step is printed when it is installed.
-fn compact_all<R: SystemFiles + WholeFiles + Print + Eprint + Clock + AllocGlobal + Threads + Sync>(
-    rt: &R,
-    telling: Telling<'_>,
-    opened: Opened,
-    task: CompactionTask<'_>,
-) -> Result<(), Refusal> {
+fn compact_all<
+    R: SystemFiles
+        + MakesFiles
+        + WholeFiles
+        + Print
+        + Eprint
+        + Clock
+        + AllocGlobal
+        + Threads
+        + Sync,
+>(rt: &R, telling: Telling<'_>, opened: Opened, task: CompactionTask<'_>) -> Result<(), Refusal> {
     let progress = ProgressLine::new(rt, telling.is_watched);
     let mut steps = StepPrinter::new(rt, telling, &progress, &opened, task)?;
     let mut folder = if task.testing.is_skipped {
@@ -221,7 +256,17 @@ fn compact_all<R: SystemFiles + WholeFiles + Print + Eprint + Clock + AllocGloba
 }
 
 /// Compacts all levels of what a folder was opened as, and tests it before, if that is asked for.
-fn descended<R: SystemFiles + WholeFiles + Print + Eprint + Clock + AllocGlobal + Threads + Sync>(
+fn descended<
+    R: SystemFiles
+        + MakesFiles
+        + WholeFiles
+        + Print
+        + Eprint
+        + Clock
+        + AllocGlobal
+        + Threads
+        + Sync,
+>(
     rt: &R,
     folder: &mut Disk<'_, R>,
     opened: Opened,

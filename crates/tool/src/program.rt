@@ -16,7 +16,7 @@ use crate::stats_printer::print_stats;
 use crate::table_files::{print_table, print_table_verdict};
 use coding::{Fault, FaultName};
 use commands::status;
-use folder::{SystemFiles, WholeFiles};
+use folder::{MakesFiles, SystemFiles, WholeFiles};
 use json_lines::{Told, refusal_json};
 use std::env::Env;
 use std::io::ErrorKind;
@@ -49,7 +49,16 @@ const COMMAND_LINE: &str = "the command line";
 /// - The work on a folder is told on the standard error as `-v` asks. If `is_watched`, as a
 ///   terminal is, long work shows a line of progress there.
 pub fn run<
-    R: Env + SystemFiles + WholeFiles + Print + Eprint + Clock + AllocGlobal + Threads + Sync,
+    R: Env
+        + SystemFiles
+        + MakesFiles
+        + WholeFiles
+        + Print
+        + Eprint
+        + Clock
+        + AllocGlobal
+        + Threads
+        + Sync,
 >(rt: &R, is_watched: bool) -> u8 {
     let words = match words_given(rt) {
         Ok(words) => words,
@@ -69,11 +78,17 @@ pub fn run<
 }
 
 /// Does what a command line asks for, tells why not if it is refused, and answers the status.
-fn answer<R: SystemFiles + WholeFiles + Print + Eprint + Clock + AllocGlobal + Threads + Sync>(
-    rt: &R,
-    line: &Line<'_>,
-    is_watched: bool,
-) -> u8 {
+fn answer<
+    R: SystemFiles
+        + MakesFiles
+        + WholeFiles
+        + Print
+        + Eprint
+        + Clock
+        + AllocGlobal
+        + Threads
+        + Sync,
+>(rt: &R, line: &Line<'_>, is_watched: bool) -> u8 {
     let done = match taken_folder(rt, line) {
         Ok(Some(out)) => return report_taken(rt, out),
         Ok(None) => carry_out(rt, line, is_watched),
@@ -110,11 +125,17 @@ fn words_given<R: Env + AllocGlobal>(rt: &R) -> io::Result<Vec<String>> {
 }
 
 /// Does what a command line asks for.
-fn carry_out<R: SystemFiles + WholeFiles + Print + Eprint + Clock + AllocGlobal + Threads + Sync>(
-    rt: &R,
-    line: &Line<'_>,
-    is_watched: bool,
-) -> Result<(), Refusal> {
+fn carry_out<
+    R: SystemFiles
+        + MakesFiles
+        + WholeFiles
+        + Print
+        + Eprint
+        + Clock
+        + AllocGlobal
+        + Threads
+        + Sync,
+>(rt: &R, line: &Line<'_>, is_watched: bool) -> Result<(), Refusal> {
     let telling = telling_of(line, is_watched);
     match line {
         Line::Blocks(line) => merge(rt, line),

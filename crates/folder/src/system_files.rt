@@ -56,8 +56,8 @@ pub trait SystemFiles: OwnedFiles {
 
 /// Files of the system, which are made through a handle that threads share.
 pub trait MakesFiles: Send + Sync {
-    /// Makes a file anew at `path`, of these bytes, and answers it open. What was there before keeps
-    /// its bytes, if it has another name or is open elsewhere.
+    /// Makes a file anew at `path`, of these bytes, and answers it open. What was there before
+    /// keeps its bytes, if it has another name or is open elsewhere.
     fn made(&self, path: &str, access: Option<Access>, bytes: &[u8]) -> io::Result<File>;
 }
 

@@ -54,7 +54,8 @@ pub trait WritesTables: Folder {
     ) -> Result<(), FolderFault>
         // The bound `T: Sync`, which proofs of a trait's call know by a clause alone.
         requires threads { IsSync T.row }
-        requires made { IfSome made (λ made. AreMadeOf Self.Maker.is_of made.items tables.now.tables) }
+        requires made { IfSome made
+            (λ made. AreMadeOf Self.Maker.is_of made.items tables.now.tables) }
         ensures calls { Self.calls self.new ≡ Self.calls self.old
             ++ step_of (Written (named_tables tables.now.tables)) result ∷ [] }
         ensures change { TellsAfter (step_of (Written (named_tables tables.now.tables)) result)

@@ -33,7 +33,7 @@ const TWICE: Tables = &[(5, b"five"), (5, b"another")];
 enum Form {
     /// All of them are held.
     Held,
-    /// Each is made by one of so many workers.
+    /// Each is made by one of n workers.
     Made(u64),
 }
 
@@ -187,7 +187,7 @@ fn each_table_that_is_not_made(rt: HostRuntime) -> Result<(), Fail> {
     Ok(())
 }
 
-/// Whether a folder answers Memory, if there is none for the table at `place`.
+/// Whether a folder answers Memory, if memory runs out for the table at `place`.
 fn runs_out<F: WritesTables, R: AllocGlobal + Threads + Sync>(
     rt: &R,
     folder: &mut F,

@@ -48,9 +48,11 @@ impl<'p, S: TableSource, M: TableMaker> Labour for TablesToMake<'p, S, M> {
 /// Makes each table of a `source` a file under the name of its number, and writes it through to the
 /// device. It replaces files of these names.
 ///
-/// Each is made by one of `workers`, 1 to 64, and in the same job as its bytes: so no more tables
-/// than workers are in memory. If their numbers don't rise, there is one worker. If that fails or a
-/// crash comes meanwhile, each of them may be there, in part or whole.
+/// Each is made by one of `workers`, 1 to 64; 0 is as 1, and more are as 64. It is made in the same
+/// job as its bytes, and a folder of the system drops these then. So no more tables than workers
+/// are in memory, which no contract says. If their numbers don't rise, there is one worker.
+///
+/// If that fails or a crash comes meanwhile, each of them may be there, in part or whole.
 pub fn write_source<F: WritesTables, S: TableSource, G: Gate + Sync, R: Threads + Sync>(
     rt: &R,
     alloc: Global,

@@ -50,8 +50,8 @@ pub fn write_group<F: Folder, R: Threads + Sync>(
     Ok(folder.write_tables(rt, tables)?)
 }
 
-/// The same for the tables of a `source`. Each is made and written by one of `workers`, 1 to 64: so
-/// no more tables than workers are in memory.
+/// The same for the tables of a `source`, which `workers` make and write as
+/// [`write_source`](folder::write_source) says.
 pub fn write_source_group<F: WritesTables, S: TableSource, G: Gate + Sync, R: Threads + Sync>(
     rt: &R,
     alloc: Global,

@@ -5,7 +5,7 @@ ghost use Rattle.std.specs.Option.{option_map};
 ghost use Rattle.std.specs.Str.{bytes_eq};
 ghost use Rattle.coding.specs.Answers.{EqualOrMemory};
 ghost use Rattle.folder.specs.Calls.{Tried};
-ghost use Rattle.folder.specs.Folder.{part_of};
+ghost use Rattle.folder.specs.Folder.{IsToldBy, part_of};
 ghost use Rattle.folder.specs.Names.{table_name};
 ghost use Rattle.folder.specs.declared.folder.FolderFault.TheVariants.{Memory};
 ghost use Rattle.install.specs.Install.{tables_in};
@@ -14,7 +14,7 @@ ghost use Rattle.adoption.specs.Overlay.{names_of, refused_call};
 
 use crate::refusals::{Refusals, RefusedCall};
 use coding::Fault;
-use folder::{Folder, FolderFault, table_name};
+use folder::{Folder, FolderFault, NoReader, ReadsTables, TableReader, table_name};
 use std::alloc::Global;
 use std::thread::Threads;
 
@@ -114,6 +114,17 @@ impl<'o, F: Folder> Folder for Overlay<'o, F> {
 
     fn failures(&self) -> u64 {
         self.folder.failures()
+    }
+}
+
+impl<'o, F: Folder> ReadsTables for Overlay<'o, F> {
+    type Reader = NoReader;
+
+    fn reader(&self) -> NoReader
+        ensures { IsToldBy (⟦<NoReader as TableReader>⟧.tells result)
+            (⟦<Overlay<'o, F> as Folder>⟧.tells self.now) }
+    {
+        NoReader
     }
 }
 

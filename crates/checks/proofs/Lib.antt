@@ -5,6 +5,7 @@ pub mod FallingRanges
 pub mod CommonRanges
 pub mod NeededLemmas
 pub mod FoundTables
+mod ToldTables
 pub mod FileTables
 mod KeptTables
 mod ReadTables

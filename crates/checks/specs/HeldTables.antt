@@ -5,7 +5,7 @@ use Rattle.std.specs.declared.cmp.Ordering.{Ordering}
 use Rattle.coding.specs.Answers.{IsThen}
 use Rattle.coding.specs.declared.fault.Fault.{Fault}
 use Rattle.table.specs.TableContents.{Contents, contents_reading}
-use Rattle.folder.specs.Calls.{Files}
+use Rattle.folder.specs.Calls.{Files, ToldFiles}
 use Rattle.folder.specs.LoadedTables.{IsLoaded, IsTableAnswer}
 use Rattle.folder.specs.ReadsAs.{IsHeldIn}
 use Rattle.reads.specs.Tables.{NumberedContents}
@@ -16,6 +16,13 @@ pub record IsTableIn (cmp : List ℕ → List ℕ → Ordering) (files : Files) 
     : Type 0 where
   pub there : IsTableAnswer (IsHeldIn files) number (Ok x.bytes)
   pub read : contents_reading cmp x.bytes ≡ Ok x
+
+-- what the table of a number holds, as a folder tells it
+pub record IsToldTable (cmp : List ℕ → List ℕ → Ordering) (tells : ToldFiles) (t : NumberedContents)
+    (number : ℕ) : Type 0 where
+  pub numbered : t.number ≡ number
+  pub there : IsTableAnswer tells number (Ok t.contents.bytes)
+  pub read : contents_reading cmp t.contents.bytes ≡ Ok t.contents
 
 -- the numbers of tables
 abbrev pub held_numbers : List NumberedContents → List ℕ

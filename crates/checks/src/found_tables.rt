@@ -15,9 +15,10 @@ ghost use Rattle.checks.specs.TablePlaces.{AreBounds, IsLoadedIfThere};
 
 use crate::held_table::HeldTable;
 use crate::rounds::check_tables;
+use crate::told_tables::told_tables;
 use board::Gate;
 use coding::{Fault, FaultName};
-use folder::{Folder, load_numbers};
+use folder::{Folder, ReadsTables, load_numbers};
 use ikey::{Comparator, SharedComparator};
 use reads::NumberedTable;
 use std::alloc::Global;
@@ -27,8 +28,9 @@ use table::{Bounds, OwnedTable};
 /// The tables of a folder with these numbers, in order. None if one of them is missing or invalid.
 /// It only reads.
 ///
-/// 1 to 64 workers check them, a table a job that `gate` sees.
-pub(crate) fn read_tables<C: SharedComparator, F: Folder, G: Gate + Sync, R: Threads + Sync>(
+/// 1 to 64 workers read and check them, a table a job that `gate` sees. If one can't be had so, all
+/// are read in order, and then checked.
+pub(crate) fn read_tables<C: SharedComparator, F: ReadsTables, G: Gate + Sync, R: Threads + Sync>(
     rt: &R,
     alloc: Global,
     folder: &mut F,
@@ -46,6 +48,9 @@ pub(crate) fn read_tables<C: SharedComparator, F: Folder, G: Gate + Sync, R: Thr
     ensures device { ReportsDevice F.Folder folder.old folder.new result }
     ensures reads { OnlyReads F.Folder folder.old folder.new }
 {
+    if let Some(tables) = told_tables(rt, alloc, folder, numbers, workers, gate) {
+        return Ok(Some(tables));
+    }
     let Some(loaded) = load_if_there(alloc, folder, numbers)? else {
         return Ok(None);
     };

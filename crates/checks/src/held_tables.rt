@@ -12,7 +12,7 @@ use crate::held_table::HeldTable;
 use crate::table_places::{kept_places, placed_tables, wanted_numbers};
 use board::Gate;
 use coding::Fault;
-use folder::Folder;
+use folder::ReadsTables;
 use ikey::{Comparator, SharedComparator};
 use reads::NumberedTable;
 use std::alloc::Global;
@@ -76,7 +76,7 @@ impl<C: Comparator> HeldTables<C> {
 /// out, it is Memory.
 ///
 /// No contract says which tables are read.
-pub fn hold_tables<C: SharedComparator, F: Folder, G: Gate + Sync, R: Threads + Sync>(
+pub fn hold_tables<C: SharedComparator, F: ReadsTables, G: Gate + Sync, R: Threads + Sync>(
     rt: &R,
     alloc: Global,
     folder: &mut F,

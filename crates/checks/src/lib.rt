@@ -35,6 +35,7 @@ mod table_check;
 mod table_places;
 mod tested;
 mod tested_version;
+mod told_tables;
 mod version_check;
 mod version_test;
 mod wanted_tables;

@@ -14,7 +14,7 @@ use crate::range_walk::walk_range;
 use board::Gate;
 use coding::Fault;
 use edit::FileMeta;
-use folder::Folder;
+use folder::ReadsTables;
 use ikey::SharedComparator;
 use split::{Range, Split};
 use std::alloc::Global;
@@ -29,7 +29,7 @@ use std::thread::Threads;
 /// of the last range stay in `held`. It only reads.
 pub(crate) fn test_ranges<
     C: SharedComparator + 'static,
-    F: Folder,
+    F: ReadsTables,
     G: Gate + Sync,
     R: Threads + Sync,
 >(
@@ -72,7 +72,7 @@ pub(crate) fn test_ranges<
 
 /// The same in one range, of the tables that begin in it. `held` are tables of the folder; those
 /// that the range needs replace them.
-fn test_range<C: SharedComparator + 'static, F: Folder, G: Gate + Sync, R: Threads + Sync>(
+fn test_range<C: SharedComparator + 'static, F: ReadsTables, G: Gate + Sync, R: Threads + Sync>(
     rt: &R,
     alloc: Global,
     folder: &mut F,

@@ -19,7 +19,7 @@ use crate::watch::{Watch, Work};
 use board::Gate;
 use coding::{Fault, FaultName};
 use edit::Version;
-use folder::{Folder, file_numbers};
+use folder::{ReadsTables, file_numbers};
 use ikey::SharedComparator;
 use reads::standing_files;
 use std::alloc::Global;
@@ -46,7 +46,12 @@ const MOST_FILES: usize = 1_099_511_627_776;
 /// If something is wrong, all tables are read again, in order, for the first refusal.
 ///
 /// The work is told to `watch`, which is `&Open` if nobody watches.
-pub fn test_version<C: SharedComparator + 'static, F: Folder, W: Watch + Sync, R: Threads + Sync>(
+pub fn test_version<
+    C: SharedComparator + 'static,
+    F: ReadsTables,
+    W: Watch + Sync,
+    R: Threads + Sync,
+>(
     rt: &R,
     alloc: Global,
     folder: &mut F,
@@ -70,7 +75,12 @@ pub fn test_version<C: SharedComparator + 'static, F: Folder, W: Watch + Sync, R
 /// Tests a version as [`test_version`] does, and hands on the tables that it still holds. They are
 /// the tables of the last range of user keys: all, if they fit into `memory` together. It only
 /// reads.
-pub fn test_and_hold<C: SharedComparator + 'static, F: Folder, W: Watch + Sync, R: Threads + Sync>(
+pub fn test_and_hold<
+    C: SharedComparator + 'static,
+    F: ReadsTables,
+    W: Watch + Sync,
+    R: Threads + Sync,
+>(
     rt: &R,
     alloc: Global,
     folder: &mut F,
@@ -114,7 +124,7 @@ pub fn test_and_hold<C: SharedComparator + 'static, F: Folder, W: Watch + Sync, 
 
 /// How many entries the tables of a version have, if it is lawful with them. Else None. It only
 /// reads. `held` are tables of the folder; those of the last range replace them.
-fn tested_entries<C: SharedComparator + 'static, F: Folder, G: Gate + Sync, R: Threads + Sync>(
+fn tested_entries<C: SharedComparator + 'static, F: ReadsTables, G: Gate + Sync, R: Threads + Sync>(
     rt: &R,
     alloc: Global,
     folder: &mut F,

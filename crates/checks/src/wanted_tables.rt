@@ -10,7 +10,7 @@ use crate::first_refusal::check_in_order;
 use crate::held_tables::{HeldTables, hold_tables};
 use board::Gate;
 use coding::{Fault, FaultName};
-use folder::Folder;
+use folder::ReadsTables;
 use ikey::SharedComparator;
 use std::alloc::Global;
 use std::thread::Threads;
@@ -25,7 +25,7 @@ use std::thread::Threads;
 ///
 /// `held` are tables of this folder; those with one of the numbers are neither read nor checked
 /// again, as [`hold_tables`] has it. 1 to 64 workers check the others.
-pub fn checked_tables<C: SharedComparator, F: Folder, G: Gate + Sync, R: Threads + Sync>(
+pub fn checked_tables<C: SharedComparator, F: ReadsTables, G: Gate + Sync, R: Threads + Sync>(
     rt: &R,
     alloc: Global,
     folder: &mut F,

@@ -20,7 +20,7 @@ use crate::version_verdict::{lawful_answer, lawful_line, test_opened};
 use checks::Watch;
 use coding::Fault;
 use edit::Version;
-use folder::{Folder, Order, open};
+use folder::{Folder, Order, ReadsTables, open};
 use ikey::{Bytewise, Shortlex};
 use std::alloc::Global;
 use std::thread::Threads;
@@ -80,7 +80,7 @@ pub fn manifest_lines(
 /// At most `memory` bytes of tables are in memory at once, if no single user key needs more.
 ///
 /// The work is told to `watch`, which is `&Open` if nobody watches.
-pub fn verify<F: Folder, W: Watch + Sync, R: Threads + Sync>(
+pub fn verify<F: ReadsTables, W: Watch + Sync, R: Threads + Sync>(
     rt: &R,
     alloc: Global,
     folder: &mut F,
@@ -114,7 +114,7 @@ pub fn verify<F: Folder, W: Watch + Sync, R: Threads + Sync>(
 ///
 /// The sequence `at` may be any number. If it isn't given, it is the version's last sequence.
 /// Refused as `verify` is, and told to `watch` in the same way.
-pub fn get_dir<F: Folder, W: Watch + Sync, R: Threads + Sync>(
+pub fn get_dir<F: ReadsTables, W: Watch + Sync, R: Threads + Sync>(
     rt: &R,
     alloc: Global,
     folder: &mut F,
@@ -147,7 +147,7 @@ pub fn get_dir<F: Folder, W: Watch + Sync, R: Threads + Sync>(
 /// [`verify`] and [`get_dir`] answer of a folder that is opened already. It only reads.
 ///
 /// None only if a key has no value, and the question is of the form `Raw`.
-pub fn answer_opened<F: Folder, W: Watch + Sync, R: Threads + Sync>(
+pub fn answer_opened<F: ReadsTables, W: Watch + Sync, R: Threads + Sync>(
     rt: &R,
     alloc: Global,
     folder: &mut F,

@@ -15,14 +15,14 @@ ghost use Rattle.commands.specs.FolderLines.{lawful_line};
 use checks::{CHECKERS, Tested, Watch, test_version};
 use coding::Fault;
 use edit::Version;
-use folder::{Folder, Order};
+use folder::{Order, ReadsTables};
 use ikey::{Bytewise, Shortlex};
 use std::alloc::Global;
 use std::thread::Threads;
 
 /// Tests a `version` of this `order` with the tables in a folder, as [`verify`](crate::verify) does
 /// after opening it: how many files it has, and how many entries all their tables. It only reads.
-pub fn test_opened<F: Folder, W: Watch + Sync, R: Threads + Sync>(
+pub fn test_opened<F: ReadsTables, W: Watch + Sync, R: Threads + Sync>(
     rt: &R,
     alloc: Global,
     folder: &mut F,

@@ -24,7 +24,7 @@ use board::Gate;
 use checks::{CHECKERS, HeldTables, hold_tables, needed_files, numbers_of};
 use coding::{Fault, FaultName};
 use edit::FileMeta;
-use folder::Folder;
+use folder::ReadsTables;
 use ikey::{Comparator, SharedComparator};
 use reads::NumberedTable;
 use split::{Range, Split};
@@ -39,7 +39,7 @@ use std::thread::Threads;
 /// it. They are held until no later range needs them. It only reads.
 pub(crate) fn tell_ranges<
     C: SharedComparator + 'static,
-    F: Folder,
+    F: ReadsTables,
     T: FaultTaker,
     G: Gate + Sync,
     R: Threads + Sync,
@@ -84,7 +84,7 @@ pub(crate) fn tell_ranges<
 /// those that the range needs replace them. It only reads.
 ///
 /// Changed: a table isn't there any more, or isn't valid.
-fn range_faults<C: SharedComparator + 'static, F: Folder, G: Gate + Sync, R: Threads + Sync>(
+fn range_faults<C: SharedComparator + 'static, F: ReadsTables, G: Gate + Sync, R: Threads + Sync>(
     rt: &R,
     alloc: Global,
     folder: &mut F,

@@ -16,7 +16,7 @@ use crate::told::Told;
 use checks::{Watch, Work, group_split};
 use coding::Fault;
 use edit::Version;
-use folder::{Folder, Order};
+use folder::{Order, ReadsTables};
 use ikey::{Bytewise, SharedComparator, Shortlex};
 use std::alloc::Global;
 use std::thread::Threads;
@@ -47,7 +47,7 @@ const COMPARED_BYTES: u64 = 33_554_432;
 /// keys after the other, and checked by four workers, which is told to `watch`. At most `memory`
 /// bytes of them are in memory together, and at most 32 MiB, if no single user key needs more. No
 /// contract says so.
-pub fn all_faults<F: Folder, T: FaultTaker, W: Watch + Sync, R: Threads + Sync>(
+pub fn all_faults<F: ReadsTables, T: FaultTaker, W: Watch + Sync, R: Threads + Sync>(
     rt: &R,
     alloc: Global,
     folder: &mut F,
@@ -76,7 +76,7 @@ pub fn all_faults<F: Folder, T: FaultTaker, W: Watch + Sync, R: Threads + Sync>(
 /// The same by this comparator.
 pub fn all_faults_by<
     C: SharedComparator + 'static,
-    F: Folder,
+    F: ReadsTables,
     T: FaultTaker,
     W: Watch + Sync,
     R: Threads + Sync,

@@ -31,6 +31,10 @@ DeviceFailed before now = (before < now) ⊎ (before ≡ 2 ^ 64 - 1)
 abbrev pub TellsSame : ToldFiles → ToldFiles → Type 0
 TellsSame old new = (name : List ℕ) (held : Option (List ℕ)) → old name held ↔ new name held
 
+-- whatever the first tells, the second tells too
+abbrev pub IsToldBy : ToldFiles → ToldFiles → Type 0
+IsToldBy one other = (name : List ℕ) (held : Option (List ℕ)) → one name held → other name held
+
 -- at most this many bytes, from an offset on
 abbrev pub part_of : ℕ → ℕ → List ℕ → List ℕ
 part_of offset len bytes = take len (drop offset bytes)

@@ -12,7 +12,6 @@ pub mod Crash
 pub mod ReadsAs
 pub mod CallSequence
 pub mod TableFiles
-pub mod MadeTables
 pub mod Shelf
 -- serves proofs alone
 pub mod Attempts

@@ -3,7 +3,7 @@
 ghost use Rattle.std.specs.Prelude.{◌≡◌, [], ◌∷◌, ◌++◌, IfOk, Ok};
 ghost use Rattle.std.specs.Thread.{IsSync};
 ghost use Rattle.folder.specs.Calls.{TellsAfter, Written, step_of};
-ghost use Rattle.folder.specs.Folder.{failures_after, one_more};
+ghost use Rattle.folder.specs.Folder.{IsToldBy, failures_after, one_more};
 ghost use Rattle.folder.specs.Attempts.{call_in};
 ghost use Rattle.folder.specs.TableFiles.{named_tables, table_files};
 
@@ -13,14 +13,14 @@ use crate::kept::Kept;
 use crate::made_table::{DiskMaker, MadeTable, files_of, first_failed, sync_made, write_in_turn};
 use crate::order::Order;
 use crate::owned::access_in;
-use crate::reads_ahead::ReadsAhead;
 use crate::system::{done_in, part_in, read_in};
 use crate::system_files::{MakesFiles, SystemFiles};
-use crate::table_loader::{files_due, numbers_in, tables_ahead};
+use crate::table_loader::{files_due, numbers_in};
+use crate::table_reader::{DiskReader, ReadsTables, TableReader};
 use crate::table_sizes::check_sizes_in;
 use crate::table_source::SourceTables;
 use crate::trail::{AnyWrite, Attempt, Trail, WriteCall};
-use crate::whole_files::{Ahead, WholeFiles, read_all, sync_all, take};
+use crate::whole_files::{WholeFiles, sync_all};
 use crate::writes_tables::WritesTables;
 use coding::Fault;
 use edit::Version;
@@ -38,8 +38,6 @@ pub struct Disk<'r, R> {
     path: &'r str,
     failures: u64,
     trail: Trail,
-    /// Tables that were read before they are asked for. The next one asked for is last.
-    ahead: Vec<Ahead>,
     kept: Kept,
     last_failure: Option<Failure>,
 }
@@ -63,7 +61,6 @@ impl<'r, R: SystemFiles + AllocGlobal> Disk<'r, R> {
             path,
             failures: 0,
             trail: Trail::new(),
-            ahead: Vec::new(rt.alloc()),
             kept: Kept::new(rt.alloc()),
             last_failure: None,
         }
@@ -90,24 +87,6 @@ impl<'r, R: SystemFiles + AllocGlobal> Disk<'r, R> {
 }
 
 impl<'r, R: SystemFiles + WholeFiles + AllocGlobal + Threads> Disk<'r, R> {
-    /// Reads the tables of `version` by several threads, before [`load`](crate::load) asks for them
-    /// in `order`.
-    ///
-    /// A table that can't be read now, for whatever reason, is read when it is asked for. After a
-    /// file was made, renamed or removed, all of them are.
-    pub fn read_ahead(&mut self, order: Order, version: &Version)
-        ensures failed { ⟦<Disk<'r, R> as Folder>⟧.failed self.new
-            ≡ ⟦<Disk<'r, R> as Folder>⟧.failed self.old }
-        ensures calls { ⟦<Disk<'r, R> as Folder>⟧.calls self.new
-            ≡ ⟦<Disk<'r, R> as Folder>⟧.calls self.old }
-    {
-        let alloc = self.rt.alloc();
-        if let Ok(mut files) = tables_ahead(alloc, order, version) {
-            read_all(self.rt, alloc, self.path, &mut files);
-            self.ahead = files;
-        }
-    }
-
     /// Syncs the files of `version` by several threads, before [`Folder::sync`] of them is asked
     /// for. These are CURRENT, the manifest of the number `manifest`, and each table, under its
     /// older name if it has only that.
@@ -138,9 +117,6 @@ impl<'r, R: SystemFiles + AllocGlobal> Folder for Disk<'r, R> {
     ghost failed = { λ disk. disk.failures };
 
     fn read(&mut self, name: &str) -> Result<Option<Vec<u8>>, FolderFault> {
-        if let Some(bytes) = self.taken_ahead(name) {
-            return Ok(Some(bytes));
-        }
         let answer = read_in(self.rt, self.rt.alloc(), self.path, name);
         self.counted(answer, FolderCall::Read, name)
     }
@@ -156,7 +132,6 @@ impl<'r, R: SystemFiles + AllocGlobal> Folder for Disk<'r, R> {
     }
 
     fn create(&mut self, name: &str, bytes: &[u8]) -> Result<(), FolderFault> {
-        self.ahead.clear();
         self.write(WriteCall::Create(name, bytes))
     }
 
@@ -165,7 +140,6 @@ impl<'r, R: SystemFiles + AllocGlobal> Folder for Disk<'r, R> {
         rt: &T,
         tables: &[(u64, Vec<u8>)],
     ) -> Result<(), FolderFault> {
-        self.ahead.clear();
         self.write_all(rt, tables)
     }
 
@@ -174,12 +148,10 @@ impl<'r, R: SystemFiles + AllocGlobal> Folder for Disk<'r, R> {
     }
 
     fn rename(&mut self, from: &str, to: &str) -> Result<(), FolderFault> {
-        self.ahead.clear();
         self.write(WriteCall::Rename(from, to))
     }
 
     fn remove(&mut self, name: &str) -> Result<(), FolderFault> {
-        self.ahead.clear();
         self.write(WriteCall::Remove(name))
     }
 
@@ -192,11 +164,24 @@ impl<'r, R: SystemFiles + AllocGlobal> Folder for Disk<'r, R> {
     }
 }
 
+impl<'r, R: SystemFiles + WholeFiles + AllocGlobal> ReadsTables for Disk<'r, R> {
+    type Reader = DiskReader<'r, R>;
+
+    fn reader(&self) -> DiskReader<'r, R>
+        ensures { IsToldBy (⟦<DiskReader<'r, R> as TableReader>⟧.tells result)
+            (⟦<Disk<'r, R> as Folder>⟧.tells self.now) }
+    {
+        DiskReader {
+            rt: self.rt,
+            folder: self.path,
+        }
+    }
+}
+
 impl<'r, R: SystemFiles + MakesFiles + AllocGlobal> WritesTables for Disk<'r, R> {
     type Maker = DiskMaker<'r, R>;
 
     fn maker(&mut self) -> DiskMaker<'r, R> {
-        self.ahead.clear();
         self.kept.forget_ahead("");
         DiskMaker::new(self.rt, self.path)
     }
@@ -220,29 +205,7 @@ impl<'r, R: SystemFiles + MakesFiles + AllocGlobal> WritesTables for Disk<'r, R>
     }
 }
 
-impl<'r, R: SystemFiles + AllocGlobal> ReadsAhead for Disk<'r, R> {
-    fn path(&self) -> Option<&str> {
-        Some(self.path)
-    }
-
-    fn keep_ahead(&mut self, tables: Vec<Ahead>) {
-        self.ahead = tables;
-    }
-}
-
 impl<'r, R: SystemFiles + AllocGlobal> Disk<'r, R> {
-    /// The bytes of a table that were read ahead. None of any other file.
-    fn taken_ahead(&mut self, name: &str) -> Option<Vec<u8>>
-        ensures failures { self.new.failures ≡ self.old.failures }
-        ensures trail { self.new.trail ≡ self.old.trail }
-    {
-        if name.ends_with(".ldb") {
-            take(&mut self.ahead, name)
-        } else {
-            None
-        }
-    }
-
     /// What a call of the system answered, on the file of this `name`. A failure other than out of
     /// memory is `Device`, is counted, and is the last one from then on.
     fn counted<T>(

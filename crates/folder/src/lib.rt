@@ -4,8 +4,8 @@
 //! 1. [`Disk`] is a folder of the system, [`Shelf`] one in memory, for tests. Both are a
 //!    [`Folder`].
 //! 2. [`open`] gives the order and the version: CURRENT, then the manifest that it names.
-//! 3. [`load`] gives the tables of a version, [`load_numbers`] those of some files.
-//!    [`read_numbers_ahead`] reads these before, if the folder [`ReadsAhead`].
+//! 3. [`load`] gives the tables of a version, [`load_numbers`] those of some files. A
+//!    [`TableReader`] gives them in any thread, if the folder [`ReadsTables`].
 //! 4. [`write_source`] writes the tables of a [`TableSource`], each made by one of several workers,
 //!    if the folder [`WritesTables`].
 //! 5. [`table_name`] and its neighbours give the names of files.
@@ -14,6 +14,7 @@
 //!
 //! - read, read_part: what is no regular file, or has more than 2^30 bytes, is Device, and isn't
 //!   read.
+//! - reader: reads a table so in any thread, but tells of no failure.
 //! - create: the name is removed, and a new file is made of the bytes. So no file that is there is
 //!   written to, be it through a link. The new one gets the permissions of CURRENT, and its owner
 //!   and group if the program may set them. If it can't be written whole, it is removed again.
@@ -51,13 +52,13 @@ mod made_table;
 mod names;
 mod order;
 mod owned;
-mod reads_ahead;
 mod shelf;
 mod shelf_step;
 mod source_writer;
 mod system;
 mod system_files;
 mod table_loader;
+mod table_reader;
 mod table_sizes;
 mod table_source;
 mod trail;
@@ -76,12 +77,12 @@ pub use names::{
     temporary_name,
 };
 pub use order::Order;
-pub use reads_ahead::{ReadsAhead, read_numbers_ahead};
 pub use shelf::{Failing, Shelf, ShelfMaker};
 pub use shelf_step::{ShelfCall, ShelfStep};
 pub use source_writer::write_source;
 pub use system_files::{MakesFiles, OwnedFiles, SystemFiles};
 pub use table_loader::{file_numbers, load, load_numbers};
+pub use table_reader::{DiskReader, NoReader, ReadsTables, TableReader};
 pub use table_source::{SourceTables, TableSource};
-pub use whole_files::{Ahead, WholeFiles};
+pub use whole_files::WholeFiles;
 pub use writes_tables::{TableMaker, WritesTables};

@@ -1,11 +1,11 @@
 //! A folder in memory, for tests.
 
 ghost use Rattle.std.specs.Prelude.{◌≡◌, ℕ, List, [], ◌∷◌, ◌++◌, map, Err, IfOk, IfSome};
+ghost use Rattle.std.specs.List.{AllZip};
 ghost use Rattle.std.specs.Option.{option_map};
 ghost use Rattle.folder.specs.Attempts.{Alters, call_in, tried_if};
 ghost use Rattle.folder.specs.Calls.{Files, Tells, TellsAfter, Written, step_of};
-ghost use Rattle.folder.specs.MadeTables.{AreMadeOf};
-ghost use Rattle.folder.specs.Folder.{failures_after, part_of};
+ghost use Rattle.folder.specs.Folder.{IsToldBy, failures_after, part_of};
 ghost use Rattle.folder.specs.Names.{table_name};
 ghost use Rattle.folder.specs.Shelf.{files_after_steps, files_in, held_by, made_by};
 ghost use Rattle.folder.specs.TableFiles.{named_tables, table_files};
@@ -13,11 +13,10 @@ ghost use Rattle.folder.specs.declared.folder.FolderFault.TheVariants.{Memory};
 
 use crate::folder::{Folder, FolderFault};
 use crate::names::table_name;
-use crate::reads_ahead::ReadsAhead;
 use crate::shelf_step::{ShelfCall, ShelfStep, Source};
+use crate::table_reader::{NoReader, ReadsTables, TableReader};
 use crate::table_source::SourceTables;
 use crate::trail::{AnyWrite, Attempt, Trail, WriteCall};
-use crate::whole_files::Ahead;
 use crate::writes_tables::{TableMaker, WritesTables};
 use coding::Fault;
 use std::alloc::{AllocError, Global};
@@ -206,6 +205,17 @@ impl<'a> Folder for Shelf<'a> {
     }
 }
 
+impl<'a> ReadsTables for Shelf<'a> {
+    type Reader = NoReader;
+
+    fn reader(&self) -> NoReader
+        ensures { IsToldBy (⟦<NoReader as TableReader>⟧.tells result)
+            (⟦<Shelf<'a> as Folder>⟧.tells self.now) }
+    {
+        NoReader
+    }
+}
+
 impl<'a> WritesTables for Shelf<'a> {
     type Maker = ShelfMaker;
 
@@ -220,7 +230,7 @@ impl<'a> WritesTables for Shelf<'a> {
         made: Option<Vec<(u64, Vec<u8>)>>,
     ) -> Result<(), FolderFault>
         requires { IfSome made (λ made.
-            AreMadeOf ⟦<ShelfMaker as TableMaker>⟧.is_of made.items tables.now.tables) }
+            AllZip ⟦<ShelfMaker as TableMaker>⟧.is_of made.items tables.now.tables) }
         ensures calls { ⟦<Shelf<'a> as Folder>⟧.calls self.new
             ≡ ⟦<Shelf<'a> as Folder>⟧.calls self.old
             ++ step_of (Written (named_tables tables.now.tables)) result ∷ [] }
@@ -243,14 +253,6 @@ impl TableMaker for ShelfMaker {
     fn make(&self, number: u64, bytes: Vec<u8>) -> Result<(u64, Vec<u8>), Fault> {
         Ok((number, bytes))
     }
-}
-
-impl<'a> ReadsAhead for Shelf<'a> {
-    fn path(&self) -> Option<&str> {
-        None
-    }
-
-    fn keep_ahead(&mut self, _tables: Vec<Ahead>) {}
 }
 
 impl<'a> Shelf<'a> {

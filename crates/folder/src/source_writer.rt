@@ -1,9 +1,9 @@
 //! Tables of a source, made files of a folder by several workers.
 
 ghost use Rattle.std.specs.Prelude.{◌≡◌, ◌∷◌, ◌++◌, [], IfSome};
+ghost use Rattle.std.specs.List.{AllZip};
 ghost use Rattle.folder.specs.Calls.{TellsAfter, Written, step_of};
 ghost use Rattle.folder.specs.Folder.{failures_after};
-ghost use Rattle.folder.specs.MadeTables.{AreMadeOf};
 ghost use Rattle.folder.specs.TableFiles.{named_tables};
 
 use crate::folder::FolderFault;
@@ -82,7 +82,7 @@ fn made_by<M: TableMaker, S: TableSource, G: Gate + Sync, R: Threads + Sync>(
     workers: u64,
     gate: &G,
 ) -> Option<Vec<M::Made>>
-    ensures { IfSome result (λ made. AreMadeOf M.is_of made.items (S.tables source.now)) }
+    ensures { IfSome result (λ made. AllZip M.is_of made.items (S.tables source.now)) }
 {
     let jobs = source.len() as u64;
     if jobs > MOST_JOBS {

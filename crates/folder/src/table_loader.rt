@@ -13,7 +13,6 @@ use crate::folder::Folder;
 use crate::kept::Due;
 use crate::names::{CURRENT, manifest_name, old_table_name, table_name};
 use crate::order::Order;
-use crate::whole_files::Ahead;
 use coding::{Fault, FaultName};
 use edit::{FileMeta, Version};
 use ikey::{Bytewise, Comparator, Shortlex};
@@ -40,27 +39,6 @@ pub fn load<C: Comparator, F: Folder>(
 {
     let numbers = file_numbers::<C>(alloc, version)?;
     load_numbers(alloc, folder, &numbers)
-}
-
-/// The tables of a version's files by their first names, in the reverse of the order in which
-/// [`load`] asks for them. None is read yet.
-pub(crate) fn tables_ahead(
-    alloc: Global,
-    order: Order,
-    version: &Version,
-) -> Result<Vec<Ahead>, Fault> {
-    numbers_ahead(alloc, &numbers_in(alloc, order, version)?)
-}
-
-/// The tables of these `numbers` by their first names, in the reverse of their order. None is read
-/// yet.
-pub(crate) fn numbers_ahead(alloc: Global, numbers: &[u64]) -> Result<Vec<Ahead>, Fault> {
-    let mut files = Vec::with_capacity(alloc, numbers.len())?;
-    for number in numbers.iter().rev() {
-        let name = table_name(alloc, *number)?;
-        files.push(Ahead { name, bytes: None })?;
-    }
-    Ok(files)
 }
 
 /// The files on which a version rests: CURRENT, the `manifest` of that number, and each table under

@@ -10,7 +10,7 @@ use std::rt::Files;
 use std::thread::Threads;
 use std::{io, thread};
 
-/// The most threads that read, or sync. Why more than processors: they mostly wait for the system.
+/// The most threads that make files or sync them. Why more than processors: they mostly wait for the system.
 pub(crate) const THREADS: usize = 16;
 
 /// Files that are read or synced whole, through a handle that threads share.
@@ -24,14 +24,6 @@ pub trait WholeFiles: Send + Sync {
     /// The system's error if there is no such file, or if it can't be opened. Other if it is no
     /// regular file.
     fn synced(&self, path: &str) -> io::Result<io::Result<()>>;
-}
-
-/// A file that is read ahead.
-#[derive(Drop)]
-pub struct Ahead {
-    pub(crate) name: String,
-    /// Its bytes, after it was read.
-    pub(crate) bytes: Option<Vec<u8>>,
 }
 
 impl WholeFiles for HostRuntime {
@@ -69,52 +61,6 @@ pub(crate) fn synced<R: Files>(rt: &R, path: &str) -> io::Result<io::Result<()>>
     Ok(File::open(rt, path)?.sync_all())
 }
 
-/// Reads these files of a folder by several threads. One that can't be read stays without bytes.
-///
-/// Each thread takes every 16th file. Why: large files are neighbours, and go to different threads.
-pub(crate) fn read_all<R: WholeFiles + Threads>(
-    rt: &R,
-    alloc: Global,
-    folder: &str,
-    files: &mut [Ahead],
-) {
-    let shared: &[Ahead] = files;
-    let read = thread::map_indices(
-        rt,
-        alloc,
-        shared.len().min(THREADS),
-        &|first| read_from(rt, alloc, folder, shared, first),
-    );
-    let Ok(mut hands) = read else {
-        return;
-    };
-    for (place, file) in files.iter_mut().enumerate() {
-        let hand = place % THREADS;
-        let turn = place / THREADS;
-        if hand < hands.len() && turn < hands[hand].len() {
-            file.bytes = hands[hand][turn].take();
-        }
-    }
-}
-
-/// The bytes of every 16th file from place `first` on. It ends early if memory runs out.
-fn read_from<R: WholeFiles>(
-    rt: &R,
-    alloc: Global,
-    folder: &str,
-    files: &[Ahead],
-    first: usize,
-) -> Vec<Option<Vec<u8>>> {
-    let mut hand = Vec::new(alloc);
-    for file in files.iter().skip(first).step_by(THREADS) {
-        let bytes = bytes_in(rt, alloc, folder, file.name.as_str()).ok();
-        if hand.push(bytes).is_err() {
-            return hand;
-        }
-    }
-    hand
-}
-
 /// Syncs these files of a folder, each by one of several threads. One that can't be opened stays
 /// without an answer.
 pub(crate) fn sync_all<R: WholeFiles + Threads>(
@@ -145,28 +91,12 @@ fn sync_due<R: WholeFiles>(rt: &R, alloc: Global, folder: &str, due: &mut Due) {
     }
 }
 
-/// The bytes of the file of this name, if it was read ahead. It is searched from the last one on.
-pub(crate) fn take(files: &mut Vec<Ahead>, name: &str) -> Option<Vec<u8>> {
-    for place in (0..files.len()).rev() {
-        if files[place].name.as_str() == name {
-            return files.remove(place).bytes;
-        }
-    }
-    None
-}
-
 /// The path of a file in a folder. If the folder's path is empty, so is the file's.
 pub(crate) fn path_in(alloc: Global, folder: &str, name: &str) -> Result<String, AllocError> {
     if folder.is_empty() {
         return Ok(String::new(alloc));
     }
     Ok(format!(in alloc; "{folder}/{name}")?)
-}
-
-/// The bytes of the file of this `name` in a folder.
-fn bytes_in<R: WholeFiles>(rt: &R, alloc: Global, folder: &str, name: &str) -> io::Result<Vec<u8>> {
-    let path = path_in(alloc, folder, name)?;
-    rt.whole(alloc, path.as_str())
 }
 
 /// Syncs the file of this `name` in a folder. Fails as [`WholeFiles::synced`] does.

@@ -30,7 +30,7 @@ pub trait WritesTables: Folder {
     ghost use Rattle.std.specs.Thread.{IsSync};
     ghost use Rattle.folder.specs.Calls.{TellsAfter, Written, step_of};
     ghost use Rattle.folder.specs.Folder.{TellsSame, failures_after};
-    ghost use Rattle.folder.specs.MadeTables.{AreMadeOf};
+    ghost use Rattle.std.specs.List.{AllZip};
     ghost use Rattle.folder.specs.TableFiles.{named_tables};
 
     /// What makes its tables.
@@ -55,7 +55,7 @@ pub trait WritesTables: Folder {
         // The bound `T: Sync`, which proofs of a trait's call know by a clause alone.
         requires threads { IsSync T.row }
         requires made { IfSome made
-            (λ made. AreMadeOf Self.Maker.is_of made.items tables.now.tables) }
+            (λ made. AllZip Self.Maker.is_of made.items tables.now.tables) }
         ensures calls { Self.calls self.new ≡ Self.calls self.old
             ++ step_of (Written (named_tables tables.now.tables)) result ∷ [] }
         ensures change { TellsAfter (step_of (Written (named_tables tables.now.tables)) result)

@@ -187,17 +187,14 @@ fn files_are_synced_ahead(rt: HostRuntime) -> Result<(), Fail> {
     Ok(())
 }
 
-/// Whether a file is removed with what was kept and read ahead of it, and a missing one is no
-/// failure.
+/// Whether a file is removed with what was kept of it, and a missing one is no failure.
 #[test]
 fn files_are_removed(rt: HostRuntime) -> Result<(), Fail> {
     let path = new_path(&rt, "removed")?;
     let five = path_of(&rt, path.as_str(), "000005.ldb")?;
-    let version = version_of(rt.alloc(), THREE_FILES)?;
     fs::create_dir(&rt, path.as_str())?;
     let mut disk = Disk::new(&rt, path.as_str());
     assert!(rt; makes(&mut disk, TABLES));
-    disk.read_ahead(Order::Bytewise, &version);
     assert!(rt; disk.remove("000005.ldb").is_ok() && disk.remove("000005.ldb").is_ok());
     assert!(rt; has(&mut disk, "000005.ldb", None));
     assert!(rt; has(&mut disk, "000008.ldb", Some(b"eight")) && disk.failures() == 0);

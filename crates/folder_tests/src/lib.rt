@@ -8,7 +8,7 @@ mod clean_tests;
 #[cfg(test)]
 mod compaction_crash_tests;
 #[cfg(test)]
-mod folder_ahead_tests;
+mod folder_reader_tests;
 #[cfg(test)]
 mod folder_disk_tests;
 #[cfg(test)]

@@ -26,7 +26,7 @@ use crate::version_scan::sequence_of;
 use checks::{CHECKERS, Watch, group_split, test_version};
 use coding::{Fault, FaultName};
 use edit::Version;
-use folder::{Folder, Order};
+use folder::{Order, ReadsTables};
 use ikey::{Bytewise, SharedComparator, Shortlex};
 use reads::standing_files;
 use split::Split;
@@ -43,7 +43,7 @@ use std::thread::Threads;
 /// After the test all tables are read once more, a range of user keys after the other, and each is
 /// checked by four workers. At most `memory` bytes of them are in memory at once, if no single user
 /// key needs more. No contract says so.
-pub fn version_stats<F: Folder, W: Watch + Sync, R: Threads + Sync>(
+pub fn version_stats<F: ReadsTables, W: Watch + Sync, R: Threads + Sync>(
     rt: &R,
     alloc: Global,
     folder: &mut F,
@@ -71,7 +71,7 @@ pub fn version_stats<F: Folder, W: Watch + Sync, R: Threads + Sync>(
 /// The same by this comparator.
 pub fn version_stats_by<
     C: SharedComparator + 'static,
-    F: Folder,
+    F: ReadsTables,
     W: Watch + Sync,
     R: Threads + Sync,
 >(
@@ -94,7 +94,7 @@ pub fn version_stats_by<
 
 /// The same of a version that is lawful with the tables in the folder, which isn't tested. The
 /// number of their entries fits.
-fn unverified_stats<C: SharedComparator + 'static, F: Folder, R: Threads + Sync>(
+fn unverified_stats<C: SharedComparator + 'static, F: ReadsTables, R: Threads + Sync>(
     rt: &R,
     alloc: Global,
     folder: &mut F,

@@ -21,7 +21,7 @@ use board::Open;
 use checks::{CHECKERS, HeldTables, hold_tables};
 use coding::Fault;
 use edit::FileMeta;
-use folder::Folder;
+use folder::ReadsTables;
 use ikey::SharedComparator;
 use split::{Range, Split};
 use std::alloc::Global;
@@ -33,7 +33,7 @@ use std::thread::Threads;
 ///
 /// It goes from range to range of the split, and reads the tables that one needs when it comes to
 /// it. They are held until no later range needs them. It only reads.
-pub(crate) fn count_ranges<C: SharedComparator + 'static, F: Folder, R: Threads + Sync>(
+pub(crate) fn count_ranges<C: SharedComparator + 'static, F: ReadsTables, R: Threads + Sync>(
     rt: &R,
     alloc: Global,
     folder: &mut F,
@@ -89,7 +89,7 @@ fn amounts_by_level(alloc: Global, levels: &[Vec<&FileMeta>]) -> Result<Vec<Amou
 
 /// Counts the entries in one range. `held` are tables of the folder; those that the range needs
 /// replace them.
-fn count_range<C: SharedComparator + 'static, F: Folder, R: Threads + Sync>(
+fn count_range<C: SharedComparator + 'static, F: ReadsTables, R: Threads + Sync>(
     rt: &R,
     alloc: Global,
     folder: &mut F,

@@ -23,7 +23,7 @@ use checks::{
 };
 use coding::{Fault, FaultName};
 use edit::FileMeta;
-use folder::{Folder, load_numbers};
+use folder::{ReadsTables, load_numbers};
 use ikey::{Comparator, SharedComparator};
 use split::{Range, Split};
 use std::alloc::Global;
@@ -35,7 +35,7 @@ use std::thread::Threads;
 ///
 /// It goes from range to range of the split, and reads the tables that one needs when it comes to
 /// it. They are held until no later range needs them. It only reads.
-pub(crate) fn tell_ranges<C: SharedComparator + 'static, F: Folder, T: RowTaker, R: Threads + Sync>(
+pub(crate) fn tell_ranges<C: SharedComparator + 'static, F: ReadsTables, T: RowTaker, R: Threads + Sync>(
     rt: &R,
     alloc: Global,
     folder: &mut F,
@@ -78,7 +78,7 @@ pub(crate) fn tell_ranges<C: SharedComparator + 'static, F: Folder, T: RowTaker,
 }
 
 /// The same in one range. `held` are tables of the folder; those that the range needs replace them.
-fn tell_range<C: SharedComparator + 'static, F: Folder, T: RowTaker, R: Threads + Sync>(
+fn tell_range<C: SharedComparator + 'static, F: ReadsTables, T: RowTaker, R: Threads + Sync>(
     rt: &R,
     alloc: Global,
     folder: &mut F,
@@ -131,7 +131,7 @@ fn tell_range<C: SharedComparator + 'static, F: Folder, T: RowTaker, R: Threads 
 /// - Missing: at the first missing table.
 /// - The refusal of the first invalid table, as of `table::check`, if none is missing.
 /// - Lawless: all are there and valid, since the folder was changed meanwhile.
-pub(crate) fn refused_tables<C: SharedComparator, F: Folder, X, R: Threads + Sync>(
+pub(crate) fn refused_tables<C: SharedComparator, F: ReadsTables, X, R: Threads + Sync>(
     rt: &R,
     alloc: Global,
     folder: &mut F,

@@ -13,7 +13,7 @@ use crate::version_scan::scan_unverified_by;
 use checks::{CHECKERS, Watch, test_version};
 use coding::Fault;
 use edit::Version;
-use folder::{Folder, Order};
+use folder::{Order, ReadsTables};
 use ikey::{Bytewise, SharedComparator, Shortlex};
 use std::alloc::Global;
 use std::thread::Threads;
@@ -23,7 +23,7 @@ use std::thread::Threads;
 ///
 /// Refused as `checks::test_version` refuses the version, before any row is told; else only as
 /// Device or Memory. The test is told to `watch`, which is `&Open` if nobody watches.
-pub fn scan_version<F: Folder, T: RowTaker, W: Watch + Sync, R: Threads + Sync>(
+pub fn scan_version<F: ReadsTables, T: RowTaker, W: Watch + Sync, R: Threads + Sync>(
     rt: &R,
     alloc: Global,
     folder: &mut F,
@@ -53,7 +53,7 @@ pub fn scan_version<F: Folder, T: RowTaker, W: Watch + Sync, R: Threads + Sync>(
 /// The same by this comparator.
 pub fn scan_version_by<
     C: SharedComparator + 'static,
-    F: Folder,
+    F: ReadsTables,
     T: RowTaker,
     W: Watch + Sync,
     R: Threads + Sync,

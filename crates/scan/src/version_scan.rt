@@ -17,7 +17,7 @@ use crate::row_taker::RowTaker;
 use checks::group_split;
 use coding::{Fault, FaultName};
 use edit::Version;
-use folder::{Folder, Order};
+use folder::{Order, ReadsTables};
 use ikey::{Bytewise, SharedComparator, Shortlex};
 use reads::standing_files;
 use std::alloc::Global;
@@ -37,7 +37,7 @@ const SCANNED_BYTES: u64 = 33_554_432;
 /// Tables are read a range of user keys after the other, and each is checked by four workers. At
 /// most `memory` bytes of them are in memory at once, and at most 32 MiB, if no single user key
 /// needs more. Those of ranges after the last wanted row aren't read. No contract says so.
-pub fn scan_unverified<F: Folder, T: RowTaker, R: Threads + Sync>(
+pub fn scan_unverified<F: ReadsTables, T: RowTaker, R: Threads + Sync>(
     rt: &R,
     alloc: Global,
     folder: &mut F,
@@ -67,7 +67,7 @@ pub fn scan_unverified<F: Folder, T: RowTaker, R: Threads + Sync>(
 }
 
 /// The same by this comparator.
-pub fn scan_unverified_by<C: SharedComparator + 'static, F: Folder, T: RowTaker, R: Threads + Sync>(
+pub fn scan_unverified_by<C: SharedComparator + 'static, F: ReadsTables, T: RowTaker, R: Threads + Sync>(
     rt: &R,
     alloc: Global,
     folder: &mut F,

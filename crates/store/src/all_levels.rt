@@ -29,7 +29,7 @@ use crate::next_opened::opened_after;
 use checks::{CHECKERS, Tested, Watch, test_version};
 use coding::{Fault, FaultName};
 use edit::Version;
-use folder::{Folder, Opened, Order, WritesTables};
+use folder::{Opened, Order, ReadsTables, WritesTables};
 use ikey::{Bytewise, Shortlex};
 use settings::Settings;
 use std::alloc::Global;
@@ -38,7 +38,7 @@ use std::thread::Threads;
 /// Tests what a folder was `opened` as, once, and then compacts all its levels, as
 /// [`compact_levels`] does. Nothing is told before the test has passed. If no file is above the
 /// bottom, nothing is tested.
-pub fn compact_all<F: WritesTables, T: InstallWatch, W: Watch + Sync, R: Threads + Sync>(
+pub fn compact_all<F: ReadsTables + WritesTables, T: InstallWatch, W: Watch + Sync, R: Threads + Sync>(
     rt: &R,
     alloc: Global,
     folder: &mut F,
@@ -75,7 +75,7 @@ pub fn compact_all<F: WritesTables, T: InstallWatch, W: Watch + Sync, R: Threads
 ///
 /// Each compaction is told to `told` when it is installed. It tests nothing of the version but what
 /// `compact_inputs` tests: its caller knows that the version is lawful.
-pub fn compact_levels<F: WritesTables, T: InstallWatch, W: Watch + Sync, R: Threads + Sync>(
+pub fn compact_levels<F: ReadsTables + WritesTables, T: InstallWatch, W: Watch + Sync, R: Threads + Sync>(
     rt: &R,
     alloc: Global,
     folder: &mut F,
@@ -115,7 +115,7 @@ pub fn compact_levels<F: WritesTables, T: InstallWatch, W: Watch + Sync, R: Thre
 
 /// Compacts a `level` of what a folder was `opened` as, and tells of it. What the folder is opened
 /// as after it, if it is to go on.
-fn take_step<F: WritesTables, T: InstallWatch, W: Watch + Sync, R: Threads + Sync>(
+fn take_step<F: ReadsTables + WritesTables, T: InstallWatch, W: Watch + Sync, R: Threads + Sync>(
     rt: &R,
     alloc: Global,
     folder: &mut F,
@@ -186,7 +186,7 @@ fn is_at_bottom(alloc: Global, version: &Version) -> Result<bool, Fault>
 }
 
 /// Tests the version that a folder was `opened` as. It only reads.
-fn test_opened<F: Folder, W: Watch + Sync, R: Threads + Sync>(
+fn test_opened<F: ReadsTables, W: Watch + Sync, R: Threads + Sync>(
     rt: &R,
     alloc: Global,
     folder: &mut F,

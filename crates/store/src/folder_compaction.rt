@@ -18,7 +18,7 @@ use crate::install_laws::inputs_suffice;
 use crate::version_sync::sync_version;
 use checks::{CHECKERS, Watch, test_and_hold};
 use coding::Fault;
-use folder::{Opened, Order, WritesTables, open};
+use folder::{Opened, Order, ReadsTables, WritesTables, open};
 use ikey::{Bytewise, SharedComparator, Shortlex};
 use settings::Settings;
 use std::alloc::Global;
@@ -58,7 +58,7 @@ use std::thread::Threads;
 /// manifest that were written stay too. After any other refusal the folder holds what it held.
 ///
 /// The work is told to `watch`, which is `&Open` if nobody watches. It doesn't change the answer.
-pub fn compact_dir<F: WritesTables, W: Watch + Sync, R: Threads + Sync>(
+pub fn compact_dir<F: ReadsTables + WritesTables, W: Watch + Sync, R: Threads + Sync>(
     rt: &R,
     alloc: Global,
     folder: &mut F,
@@ -89,7 +89,7 @@ pub fn compact_dir<F: WritesTables, W: Watch + Sync, R: Threads + Sync>(
 ///
 /// All tables are tested first. Then it does what [`compact_inputs`](crate::compact_inputs) does;
 /// the tables of inputs that the test still holds are not read again.
-pub fn compact_opened<F: WritesTables, W: Watch + Sync, R: Threads + Sync>(
+pub fn compact_opened<F: ReadsTables + WritesTables, W: Watch + Sync, R: Threads + Sync>(
     rt: &R,
     alloc: Global,
     folder: &mut F,
@@ -135,7 +135,7 @@ pub fn compact_opened<F: WritesTables, W: Watch + Sync, R: Threads + Sync>(
 /// outcome. The comparator's name has fewer than 2^32 bytes.
 fn compact_version<
     C: SharedComparator + 'static,
-    F: WritesTables,
+    F: ReadsTables + WritesTables,
     W: Watch + Sync,
     R: Threads + Sync,
 >(

@@ -23,7 +23,7 @@ use crate::lines::outcome_lines;
 use checks::{CHECKERS, HeldTables, Watch, test_and_hold};
 use coding::Fault;
 use edit::Version;
-use folder::{Folder, Opened, Order};
+use folder::{Opened, Order, ReadsTables};
 use ikey::{Bytewise, SharedComparator, Shortlex};
 use settings::Settings;
 use std::alloc::Global;
@@ -41,7 +41,7 @@ use std::thread::Threads;
 ///
 /// With an outcome of these numbers the version is lawful, and its edited version too, as after an
 /// installation.
-pub fn outcome_of_opened<F: Folder, W: Watch + Sync, R: Threads + Sync>(
+pub fn outcome_of_opened<F: ReadsTables, W: Watch + Sync, R: Threads + Sync>(
     rt: &R,
     alloc: Global,
     folder: &mut F,
@@ -97,7 +97,7 @@ pub fn outcome_of_opened<F: Folder, W: Watch + Sync, R: Threads + Sync>(
 /// - what [`compact_inputs`](crate::compact_inputs) is refused as, up to SplitCount;
 /// - Numbers: `first` isn't above the version's next file; or without it next file is 2^64 - 1;
 /// - what `compact::compact` is refused as, Workers first.
-pub fn outcome_of_inputs<F: Folder, W: Watch + Sync, R: Threads + Sync>(
+pub fn outcome_of_inputs<F: ReadsTables, W: Watch + Sync, R: Threads + Sync>(
     rt: &R,
     alloc: Global,
     folder: &mut F,
@@ -143,7 +143,7 @@ pub fn outcome_of_inputs<F: Folder, W: Watch + Sync, R: Threads + Sync>(
 }
 
 /// The outcome of the compaction of a `level` of a version, after a test of the version.
-fn outcome_tested<C: SharedComparator + 'static, F: Folder, W: Watch + Sync, R: Threads + Sync>(
+fn outcome_tested<C: SharedComparator + 'static, F: ReadsTables, W: Watch + Sync, R: Threads + Sync>(
     rt: &R,
     alloc: Global,
     folder: &mut F,
@@ -183,7 +183,7 @@ fn outcome_tested<C: SharedComparator + 'static, F: Folder, W: Watch + Sync, R: 
 
 /// The outcome of the compaction of a `level` of a version by its inputs alone, and its lines.
 /// `held` are tables of the folder.
-fn outcome_untested<C: SharedComparator + 'static, F: Folder, W: Watch + Sync, R: Threads + Sync>(
+fn outcome_untested<C: SharedComparator + 'static, F: ReadsTables, W: Watch + Sync, R: Threads + Sync>(
     rt: &R,
     alloc: Global,
     folder: &mut F,

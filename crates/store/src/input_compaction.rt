@@ -23,7 +23,7 @@ use crate::install_laws::numbered_is_installed;
 use crate::level_inputs::level_inputs;
 use checks::{HeldTables, Watch};
 use coding::Fault;
-use folder::{Opened, Order, WritesTables};
+use folder::{Opened, Order, ReadsTables, WritesTables};
 use ikey::{Bytewise, SharedComparator, Shortlex};
 use settings::Settings;
 use std::alloc::Global;
@@ -43,7 +43,7 @@ use std::thread::Threads;
 /// - the first invalid one, as `table::check` refuses it;
 /// - Bounds: one isn't as its file states;
 /// - what [`compact_opened`](crate::compact_opened) is refused as after these.
-pub fn compact_inputs<F: WritesTables, W: Watch + Sync, R: Threads + Sync>(
+pub fn compact_inputs<F: ReadsTables + WritesTables, W: Watch + Sync, R: Threads + Sync>(
     rt: &R,
     alloc: Global,
     folder: &mut F,
@@ -95,7 +95,7 @@ pub fn compact_inputs<F: WritesTables, W: Watch + Sync, R: Threads + Sync>(
 /// bytes.
 pub(crate) fn compact_step<
     C: SharedComparator + 'static,
-    F: WritesTables,
+    F: ReadsTables + WritesTables,
     W: Watch + Sync,
     R: Threads + Sync,
 >(

@@ -24,7 +24,7 @@ use crate::level_inputs::level_inputs;
 use checks::{HeldTables, Watch};
 use coding::Fault;
 use edit::{Outcome, Version};
-use folder::Folder;
+use folder::ReadsTables;
 use ikey::SharedComparator;
 use pick::Inputs;
 use settings::Settings;
@@ -43,7 +43,7 @@ pub(crate) struct LevelOutcome {
 /// those of the inputs that aren't among `held`, which are tables of the folder.
 pub(crate) fn level_outcome<
     C: SharedComparator + 'static,
-    F: Folder,
+    F: ReadsTables,
     W: Watch + Sync,
     R: Threads + Sync,
 >(

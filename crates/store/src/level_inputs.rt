@@ -16,7 +16,7 @@ use crate::version_files::test_files;
 use checks::{CHECKERS, HeldTables, Watch, Work, checked_tables};
 use coding::Fault;
 use edit::Version;
-use folder::Folder;
+use folder::ReadsTables;
 use ikey::{Comparator, SharedComparator};
 use pick::{Inputs, inputs};
 use std::alloc::Global;
@@ -33,7 +33,7 @@ pub(crate) struct LevelInputs<C: Comparator> {
 /// table but those of the inputs that aren't among `held`, which are tables of the folder.
 pub(crate) fn level_inputs<
     C: SharedComparator + 'static,
-    F: Folder,
+    F: ReadsTables,
     W: Watch + Sync,
     R: Threads + Sync,
 >(

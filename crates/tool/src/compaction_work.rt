@@ -3,7 +3,7 @@
 use crate::cleaning::clean_installed;
 use crate::folder_locks::locked_to_change;
 use crate::folder_refusal::compaction_explained;
-use crate::folder_work::{begin_work, bytes_of, folder_to_test, refused_at, sync};
+use crate::folder_work::{begin_work, bytes_of, refused_at, sync};
 use crate::progress_line::ProgressLine;
 use crate::refusal::Refusal;
 use crate::reporter::Telling;
@@ -187,7 +187,7 @@ fn tested_compacted<
     memory: u64,
 ) -> Result<CompactionStep, Refusal> {
     let progress = ProgressLine::new(rt, telling.is_watched);
-    let mut folder = folder_to_test(rt, telling.folder, opened, memory);
+    let mut folder = Disk::new(rt, telling.folder);
     let answer = compact_opened(
         rt,
         rt.alloc(),
@@ -242,11 +242,7 @@ fn compact_all<
 >(rt: &R, telling: Telling<'_>, opened: Opened, task: CompactionTask<'_>) -> Result<(), Refusal> {
     let progress = ProgressLine::new(rt, telling.is_watched);
     let mut steps = StepPrinter::new(rt, telling, &progress, &opened, task)?;
-    let mut folder = if task.testing.is_skipped {
-        Disk::new(rt, telling.folder)
-    } else {
-        folder_to_test(rt, telling.folder, &opened, bytes_of(task.testing.memory))
-    };
+    let mut folder = Disk::new(rt, telling.folder);
     let end = descended(rt, &mut folder, opened, task, &mut steps);
     progress.erase();
     match end {

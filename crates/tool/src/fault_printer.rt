@@ -1,13 +1,13 @@
 //! All faults of a folder's version, from its path to what is printed.
 
-use crate::folder_work::{begin_work, folder_to_test, print_lines, refused_at};
+use crate::folder_work::{begin_work, print_lines, refused_at};
 use crate::progress_line::ProgressLine;
 use crate::refusal::Refusal;
 use crate::reporter::{Telling, tell_time};
 use coding::{Fault, FaultName};
 use commands::{fault_count_line, file_fault_line, key_fault_line};
 use faults::{FaultTaker, FileFault, all_faults};
-use folder::{SystemFiles, WholeFiles};
+use folder::{Disk, SystemFiles, WholeFiles};
 use std::thread::Threads;
 use std::time::Clock;
 use texts::Spelling;
@@ -20,7 +20,7 @@ pub(crate) fn faults_printed<
     let begun = telling.begin(rt);
     let opened = begin_work(rt, telling)?;
     let progress = ProgressLine::new(rt, telling.is_watched);
-    let mut folder = folder_to_test(rt, telling.folder, &opened, memory);
+    let mut folder = Disk::new(rt, telling.folder);
     let mut printer = FaultPrinter {
         rt,
         progress: &progress,

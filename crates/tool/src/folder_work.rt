@@ -6,7 +6,7 @@ use crate::folder_refusal::{explained, table_explained};
 use crate::progress_line::ProgressLine;
 use crate::refusal::{Refusal, RefusalText};
 use crate::reporter::{Telling, tell_time};
-use crate::table_sizes::{are_within, is_too_large, sizes_tested, too_large};
+use crate::table_sizes::{is_too_large, sizes_tested, too_large};
 use coding::{Fault, FaultName};
 use commands::{Question, ValueForm, answer_opened, manifest_lines, test_opened, unverified_value};
 use folder::{Disk, Opened, SystemFiles, WholeFiles, open};
@@ -119,7 +119,7 @@ fn json_verdict<R: SystemFiles + WholeFiles + Eprint + Clock + AllocGlobal + Thr
     memory: u64,
 ) -> Result<String, Refusal> {
     let progress = ProgressLine::new(rt, telling.is_watched);
-    let mut folder = folder_to_test(rt, telling.folder, opened, memory);
+    let mut folder = Disk::new(rt, telling.folder);
     let tested = test_opened(
         rt,
         rt.alloc(),
@@ -256,7 +256,7 @@ fn answered<R: SystemFiles + WholeFiles + Eprint + Clock + AllocGlobal + Threads
     memory: u64,
 ) -> Result<Option<Vec<u8>>, Refusal> {
     let progress = ProgressLine::new(rt, telling.is_watched);
-    let mut folder = folder_to_test(rt, telling.folder, opened, memory);
+    let mut folder = Disk::new(rt, telling.folder);
     let answer = answer_opened(
         rt,
         rt.alloc(),
@@ -312,22 +312,6 @@ pub(crate) fn refused_at<R: SystemFiles + AllocGlobal>(
     }
     let told = RefusalText::alone(rt.alloc(), path, format!(in rt.alloc(); "{failure}"));
     Refusal::new(fault, told)
-}
-
-/// The folder at a path, for a test of what it was opened as. If the tables have at most `memory`
-/// bytes together, several threads read them ahead. One that can't be read ahead is read when it is
-/// asked for.
-pub(crate) fn folder_to_test<'r, R: SystemFiles + WholeFiles + AllocGlobal + Threads>(
-    rt: &'r R,
-    path: &'r str,
-    opened: &Opened,
-    memory: u64,
-) -> Disk<'r, R> {
-    let mut folder = Disk::new(rt, path);
-    if are_within(rt, opened, memory) {
-        folder.read_ahead(opened.order, &opened.version);
-    }
-    folder
 }
 
 /// Writes lines to the standard output.

@@ -3,7 +3,7 @@
 use crate::cleaning::clean_installed;
 use crate::folder_locks::locked_to_change;
 use crate::folder_refusal::explained;
-use crate::folder_work::{begin_work, bytes_of, folder_to_test, print_lines, refused_at, sync};
+use crate::folder_work::{begin_work, bytes_of, print_lines, refused_at, sync};
 use crate::outcome_refusal::outcome_explained;
 use crate::progress_line::ProgressLine;
 use crate::refusal::Refusal;
@@ -68,7 +68,7 @@ fn outcome_installed<R: SystemFiles + WholeFiles + Eprint + Clock + AllocGlobal 
     let AdoptionEnd { folder, answer } = install_outcome(
         rt,
         rt.alloc(),
-        folder_to_test(rt, telling.folder, opened, memory),
+        Disk::new(rt, telling.folder),
         &mut out,
         opened,
         comparison,

@@ -2,7 +2,7 @@
 
 use crate::explanations::{Words, in_words};
 use crate::folder_refusal::compaction_explained;
-use crate::folder_work::{begin_work, bytes_of, folder_to_test, print_lines, refused_at};
+use crate::folder_work::{begin_work, bytes_of, print_lines, refused_at};
 use crate::out_folder::fill;
 use crate::progress_line::ProgressLine;
 use crate::refusal::{Refusal, RefusalText, told};
@@ -103,7 +103,7 @@ fn outcome_made<R: SystemFiles + WholeFiles + Eprint + Clock + AllocGlobal + Thr
     sizes_tested(rt, telling.folder, opened)?;
     let memory = bytes_of(line.options.testing.memory);
     let progress = ProgressLine::new(rt, telling.is_watched);
-    let mut folder = folder_to_test(rt, telling.folder, opened, memory);
+    let mut folder = Disk::new(rt, telling.folder);
     let made = outcome_of_opened(
         rt,
         rt.alloc(),

@@ -2,7 +2,7 @@
 
 use crate::folder_locks::locked_to_read;
 use crate::folder_refusal::{explained, table_explained};
-use crate::folder_work::{begin_work, bytes_of, folder_to_test, print_lines, refused_at};
+use crate::folder_work::{begin_work, bytes_of, print_lines, refused_at};
 use crate::progress_line::ProgressLine;
 use crate::refusal::Refusal;
 use crate::reporter::{Telling, tell_time};
@@ -59,11 +59,7 @@ fn rows_printed<
 >(rt: &R, telling: Telling<'_>, opened: &Opened, line: &ScanLine<'_>) -> Result<(), Refusal> {
     let testing = &line.testing;
     let progress = ProgressLine::new(rt, telling.is_watched);
-    let mut folder = if testing.is_skipped {
-        Disk::new(rt, telling.folder)
-    } else {
-        folder_to_test(rt, telling.folder, opened, bytes_of(testing.memory))
-    };
+    let mut folder = Disk::new(rt, telling.folder);
     let mut printer = RowPrinter {
         rt,
         progress: &progress,

@@ -3,14 +3,14 @@
 use crate::cleaning::unneeded_files;
 use crate::folder_locks::locked_to_read;
 use crate::folder_refusal::explained;
-use crate::folder_work::{begin_work, bytes_of, folder_to_test, print_lines, refused_at};
+use crate::folder_work::{begin_work, bytes_of, print_lines, refused_at};
 use crate::logs::logs_with_writes;
 use crate::progress_line::ProgressLine;
 use crate::refusal::Refusal;
 use crate::reporter::{Telling, tell_time};
 use crate::table_sizes::sizes_tested;
 use commands::stats_text;
-use folder::{Opened, SystemFiles, WholeFiles};
+use folder::{Disk, Opened, SystemFiles, WholeFiles};
 use json_lines::stats_json;
 use scan::{FileTotal, VersionStats, version_stats};
 use std::rt::Files;
@@ -53,7 +53,7 @@ fn version_counted<R: SystemFiles + WholeFiles + Eprint + Clock + AllocGlobal + 
     memory: u64,
 ) -> Result<VersionStats, Refusal> {
     let progress = ProgressLine::new(rt, telling.is_watched);
-    let mut folder = folder_to_test(rt, telling.folder, opened, memory);
+    let mut folder = Disk::new(rt, telling.folder);
     let counted = version_stats(
         rt,
         rt.alloc(),

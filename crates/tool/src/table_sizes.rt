@@ -33,18 +33,6 @@ pub(crate) fn sizes_tested<R: SystemFiles + AllocGlobal>(
     })
 }
 
-/// Whether the tables of a version have at most `memory` bytes together, as it states their sizes.
-pub(crate) fn are_within<R: AllocGlobal>(rt: &R, opened: &Opened, memory: u64) -> bool {
-    let mut bytes = 0u64;
-    for level in 0..7 {
-        let Ok(files) = opened.version.files::<Bytewise>(rt.alloc(), level) else {
-            return false;
-        };
-        bytes = bytes.saturating_add(bytes_of(&files));
-    }
-    bytes <= memory
-}
-
 /// How many bytes the tables of these files have together, 2^64 - 1 if they have more.
 pub(crate) fn bytes_of(files: &[&FileMeta]) -> u64 {
     let mut bytes = 0u64;

@@ -1,17 +1,20 @@
 //! How often a compaction reads the files of its folder.
 
 ghost use Rattle.std.specs.Prelude.{◌≡◌, ◌∷◌, ◌++◌, [], IfSome};
+ghost use Rattle.std.specs.List.{AllZip};
 ghost use Rattle.std.specs.Thread.{IsSync};
 ghost use Rattle.folder.specs.Calls.{TellsAfter, Written, step_of};
-ghost use Rattle.folder.specs.Folder.{failures_after};
-ghost use Rattle.folder.specs.MadeTables.{AreMadeOf};
+ghost use Rattle.folder.specs.Folder.{IsToldBy, failures_after};
 ghost use Rattle.folder.specs.TableFiles.{named_tables};
 
 use crate::bounds_tests::{BEHIND, OLDER};
 use crate::range_checks_tests::{B_AT_TWO, U_AT_NINE, U_AT_ONE};
 use crate::store_tests::rows::{CURRENT, DEFAULTS, Files};
 use crate::store_tests::tests::MEMORY;
-use folder::{Folder, FolderFault, Shelf, SourceTables, TableMaker, WritesTables};
+use folder::{
+    Folder, FolderFault, NoReader, ReadsTables, Shelf, SourceTables, TableMaker, TableReader,
+    WritesTables,
+};
 use std::alloc::{AllocError, Global};
 use std::process::Abort;
 use std::test::*;
@@ -142,6 +145,17 @@ impl<F: Folder> Folder for Noting<F> {
     }
 }
 
+impl<F: Folder> ReadsTables for Noting<F> {
+    type Reader = NoReader;
+
+    fn reader(&self) -> NoReader
+        ensures { IsToldBy (⟦<NoReader as TableReader>⟧.tells result)
+            (⟦<Noting<F> as Folder>⟧.tells self.now) }
+    {
+        NoReader
+    }
+}
+
 impl<F: WritesTables> WritesTables for Noting<F> {
     type Maker = F::Maker;
 
@@ -156,7 +170,7 @@ impl<F: WritesTables> WritesTables for Noting<F> {
         made: Option<Vec<<F::Maker as TableMaker>::Made>>,
     ) -> Result<(), FolderFault>
         requires threads { IsSync T.row }
-        requires made { IfSome made (λ made. AreMadeOf F.Maker.is_of made.items tables.now.tables) }
+        requires made { IfSome made (λ made. AllZip F.Maker.is_of made.items tables.now.tables) }
         ensures calls { F.calls self.new.folder ≡ F.calls self.old.folder
             ++ step_of (Written (named_tables tables.now.tables)) result ∷ [] }
         ensures change { TellsAfter (step_of (Written (named_tables tables.now.tables)) result)
@@ -169,7 +183,10 @@ impl<F: WritesTables> WritesTables for Noting<F> {
 }
 
 /// Whether the compaction of level 0 of a folder answers its lines.
-fn is_compacted<R: AllocGlobal + Threads + Sync>(rt: &R, folder: &mut impl WritesTables) -> bool {
+fn is_compacted<F: ReadsTables + WritesTables, R: AllocGlobal + Threads + Sync>(
+    rt: &R,
+    folder: &mut F,
+) -> bool {
     match compact_dir(rt, rt.alloc(), folder, 0, &DEFAULTS, MEMORY, &Open) {
         Ok(step) => step.lines.as_slice() == LINES.as_bytes(),
         Err(_) => false,

@@ -8,31 +8,40 @@ use Rattle.checks.proofs.FolderTests.{loaded_in}
 use Rattle.checks.proofs.FoundTables.{none_missing}
 use Rattle.checks.proofs.Lent.{lent_table}
 use Rattle.checks.proofs.ReadTables.{read_answers, read_numbered}
+use Rattle.checks.proofs.ToldTables.{told_found, told_numbers}
 use Rattle.checks.proofs.found_tables.read_tables.Goals as goal
 
-pub returns-in_default-clause-answer : goal.returns-in_default-clause-answer
-returns-in_default-clause-answer g c files told =
+pub returns-in_default-2-clause-answer : goal.returns-in_default-2-clause-answer
+returns-in_default-2-clause-answer g c files told =
     let tells = g.F.Folder.tells c.args.folder.now in
     let numbers : List ℕ = c.args.numbers.now in
     none_missing g.C.Comparator.cmp files numbers (fault Missing) (loaded_in tells files numbers (Err (fault Missing)) told
-    (subst (λ (o : Option (Vec (ℕ × Vec ℕ Global) Global)). IsLoadedIfThere tells numbers (Ok (option_map (λ v. map lent_table v.items) o))) c.in_default.is c.in_ok-loaded.ensures.answer))
+    (subst (λ (o : Option (Vec (ℕ × Vec ℕ Global) Global)). IsLoadedIfThere tells numbers (Ok (option_map (λ v. map lent_table v.items) o))) c.in_default-2.is c.in_ok-loaded.ensures.answer))
 
 pub returns-clause-answer : goal.returns-clause-answer
 returns-clause-answer g c files told =
     let tells = g.F.Folder.tells c.args.folder.now in
     let failed = g.F.Folder.failed in
     let numbers : List ℕ = c.args.numbers.now in
-    let loaded : List (ℕ × List ℕ) = map lent_table c.in-Some.loaded.items in
+    let loaded : List (ℕ × List ℕ) = map lent_table c.in-Some-2.loaded.items in
     let items : Vec NumberedContents Global → List NumberedContents = λ v. v.items in
     let there = loaded_in tells files numbers (Ok loaded) told
-    (subst (λ (o : Option (Vec (ℕ × Vec ℕ Global) Global)). IsLoadedIfThere tells numbers (Ok (option_map (λ v. map lent_table v.items) o))) c.in-Some.is c.in_ok-loaded.ensures.answer) in
+    (subst (λ (o : Option (Vec (ℕ × Vec ℕ Global) Global)). IsLoadedIfThere tells numbers (Ok (option_map (λ v. map lent_table v.items) o))) c.in-Some-2.is c.in_ok-loaded.ensures.answer) in
     read_answers g.C.Comparator.cmp files numbers loaded there items (failed c.args.folder.now) (failed c.load_if_there.new.folder) c.owned_tables.result c.owned_tables.ensures.memory c.owned_tables.ensures.checked
 
 pub returns-clause-numbers : goal.returns-clause-numbers
 returns-clause-numbers g c =
     let tells = g.F.Folder.tells c.args.folder.now in
     let numbers : List ℕ = c.args.numbers.now in
-    let loaded : List (ℕ × List ℕ) = map lent_table c.in-Some.loaded.items in
+    let loaded : List (ℕ × List ℕ) = map lent_table c.in-Some-2.loaded.items in
     let items : Vec NumberedContents Global → List NumberedContents = λ v. v.items in
-    let there = subst (λ (o : Option (Vec (ℕ × Vec ℕ Global) Global)). IsLoadedIfThere tells numbers (Ok (option_map (λ v. map lent_table v.items) o))) c.in-Some.is c.in_ok-loaded.ensures.answer in
+    let there = subst (λ (o : Option (Vec (ℕ × Vec ℕ Global) Global)). IsLoadedIfThere tells numbers (Ok (option_map (λ v. map lent_table v.items) o))) c.in-Some-2.is c.in_ok-loaded.ensures.answer in
     read_numbered g.C.Comparator.cmp items tells numbers loaded there c.owned_tables.result c.owned_tables.ensures.checked
+
+pub returns-in-Some-clause-answer : goal.returns-in-Some-clause-answer
+returns-in-Some-clause-answer g c files told =
+    told_found g.C.Comparator.cmp (g.F.Folder.tells c.args.folder.now) files told c.in-Some.tables.items c.args.numbers.now c.in-Some.ensures
+
+pub returns-in-Some-clause-numbers : goal.returns-in-Some-clause-numbers
+returns-in-Some-clause-numbers g c =
+    told_numbers g.C.Comparator.cmp (g.F.Folder.tells c.args.folder.now) c.in-Some.tables.items c.args.numbers.now c.in-Some.ensures

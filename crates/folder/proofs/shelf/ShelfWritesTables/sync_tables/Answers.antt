@@ -1,14 +1,14 @@
 use Rattle.std.proofs.Common.{◌≡◌, ℕ, List, Option, Some, None, IfSome, map}
 use Rattle.std.specs.Global.{Vec}
 use Rattle.folder.specs.Calls.{Written, step_of}
-use Rattle.folder.specs.MadeTables.{AreMadeOf}
+use Rattle.std.specs.List.{AllZip}
 use Rattle.folder.specs.TableFiles.{named_tables}
 use Rattle.folder.proofs.MadeLemmas.{made_is}
 use Rattle.folder.proofs.ShelfLemmas.{wrote}
 use Rattle.folder.proofs.shelf.ShelfWritesTables.sync_tables.Goals as goal
 
 -- what was made, if all were, is the tables
-all_are : (made : Option (Vec (ℕ × Vec ℕ))) (tables : List (ℕ × List ℕ)) → IfSome made (λ m. AreMadeOf (λ (m : ℕ × Vec ℕ) (t : ℕ × List ℕ). (m.0, m.1.items) ≡ t) m.items tables)
+all_are : (made : Option (Vec (ℕ × Vec ℕ))) (tables : List (ℕ × List ℕ)) → IfSome made (λ m. AllZip (λ (m : ℕ × Vec ℕ) (t : ℕ × List ℕ). (m.0, m.1.items) ≡ t) m.items tables)
     → IfSome made (λ m. map (λ (t : ℕ × Vec ℕ). (t.0, t.1.items)) m.items ≡ tables)
 all_are None tables are = tt
 all_are (Some made) tables are = made_is made.items tables are

@@ -35,26 +35,56 @@ const TRIALS: &[Trial] = &[
             ("000009.ldb", b""),
         ],
         reads: &[
-            Read { number: 8, bytes: Some(b"eight") },
-            Read { number: 5, bytes: Some(b"five") },
-            Read { number: 3, bytes: Some(b"three") },
-            Read { number: 1_234_567, bytes: Some(b"a longer name") },
-            Read { number: 9, bytes: Some(b"") },
-            Read { number: 4, bytes: None },
-            Read { number: 8, bytes: Some(b"eight") },
+            Read {
+                number: 8,
+                bytes: Some(b"eight"),
+            },
+            Read {
+                number: 5,
+                bytes: Some(b"five"),
+            },
+            Read {
+                number: 3,
+                bytes: Some(b"three"),
+            },
+            Read {
+                number: 1_234_567,
+                bytes: Some(b"a longer name"),
+            },
+            Read {
+                number: 9,
+                bytes: Some(b""),
+            },
+            Read {
+                number: 4,
+                bytes: None,
+            },
+            Read {
+                number: 8,
+                bytes: Some(b"eight"),
+            },
         ],
     },
     // A folder has the newer name: the older one isn't asked for.
     Trial {
         files: &[("000006.sst", b"six, older"), ("000007.ldb", b"seven")],
         reads: &[
-            Read { number: 6, bytes: None },
-            Read { number: 7, bytes: Some(b"seven") },
+            Read {
+                number: 6,
+                bytes: None,
+            },
+            Read {
+                number: 7,
+                bytes: Some(b"seven"),
+            },
         ],
     },
     Trial {
         files: &[],
-        reads: &[Read { number: 0, bytes: None }],
+        reads: &[Read {
+            number: 0,
+            bytes: None,
+        }],
     },
 ];
 

@@ -8,13 +8,13 @@ mod clean_tests;
 #[cfg(test)]
 mod compaction_crash_tests;
 #[cfg(test)]
-mod folder_reader_tests;
-#[cfg(test)]
 mod folder_disk_tests;
 #[cfg(test)]
 mod folder_lock_tests;
 #[cfg(test)]
 mod folder_opening_tests;
+#[cfg(test)]
+mod folder_reader_tests;
 #[cfg(test)]
 mod folder_removal_tests;
 #[cfg(test)]

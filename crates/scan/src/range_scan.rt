@@ -35,7 +35,12 @@ use std::thread::Threads;
 ///
 /// It goes from range to range of the split, and reads the tables that one needs when it comes to
 /// it. They are held until no later range needs them. It only reads.
-pub(crate) fn tell_ranges<C: SharedComparator + 'static, F: ReadsTables, T: RowTaker, R: Threads + Sync>(
+pub(crate) fn tell_ranges<
+    C: SharedComparator + 'static,
+    F: ReadsTables,
+    T: RowTaker,
+    R: Threads + Sync,
+>(
     rt: &R,
     alloc: Global,
     folder: &mut F,

@@ -67,7 +67,12 @@ pub fn scan_unverified<F: ReadsTables, T: RowTaker, R: Threads + Sync>(
 }
 
 /// The same by this comparator.
-pub fn scan_unverified_by<C: SharedComparator + 'static, F: ReadsTables, T: RowTaker, R: Threads + Sync>(
+pub fn scan_unverified_by<
+    C: SharedComparator + 'static,
+    F: ReadsTables,
+    T: RowTaker,
+    R: Threads + Sync,
+>(
     rt: &R,
     alloc: Global,
     folder: &mut F,

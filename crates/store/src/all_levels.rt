@@ -38,7 +38,12 @@ use std::thread::Threads;
 /// Tests what a folder was `opened` as, once, and then compacts all its levels, as
 /// [`compact_levels`] does. Nothing is told before the test has passed. If no file is above the
 /// bottom, nothing is tested.
-pub fn compact_all<F: ReadsTables + WritesTables, T: InstallWatch, W: Watch + Sync, R: Threads + Sync>(
+pub fn compact_all<
+    F: ReadsTables + WritesTables,
+    T: InstallWatch,
+    W: Watch + Sync,
+    R: Threads + Sync,
+>(
     rt: &R,
     alloc: Global,
     folder: &mut F,
@@ -75,7 +80,12 @@ pub fn compact_all<F: ReadsTables + WritesTables, T: InstallWatch, W: Watch + Sy
 ///
 /// Each compaction is told to `told` when it is installed. It tests nothing of the version but what
 /// `compact_inputs` tests: its caller knows that the version is lawful.
-pub fn compact_levels<F: ReadsTables + WritesTables, T: InstallWatch, W: Watch + Sync, R: Threads + Sync>(
+pub fn compact_levels<
+    F: ReadsTables + WritesTables,
+    T: InstallWatch,
+    W: Watch + Sync,
+    R: Threads + Sync,
+>(
     rt: &R,
     alloc: Global,
     folder: &mut F,

@@ -143,7 +143,12 @@ pub fn outcome_of_inputs<F: ReadsTables, W: Watch + Sync, R: Threads + Sync>(
 }
 
 /// The outcome of the compaction of a `level` of a version, after a test of the version.
-fn outcome_tested<C: SharedComparator + 'static, F: ReadsTables, W: Watch + Sync, R: Threads + Sync>(
+fn outcome_tested<
+    C: SharedComparator + 'static,
+    F: ReadsTables,
+    W: Watch + Sync,
+    R: Threads + Sync,
+>(
     rt: &R,
     alloc: Global,
     folder: &mut F,
@@ -183,7 +188,12 @@ fn outcome_tested<C: SharedComparator + 'static, F: ReadsTables, W: Watch + Sync
 
 /// The outcome of the compaction of a `level` of a version by its inputs alone, and its lines.
 /// `held` are tables of the folder.
-fn outcome_untested<C: SharedComparator + 'static, F: ReadsTables, W: Watch + Sync, R: Threads + Sync>(
+fn outcome_untested<
+    C: SharedComparator + 'static,
+    F: ReadsTables,
+    W: Watch + Sync,
+    R: Threads + Sync,
+>(
     rt: &R,
     alloc: Global,
     folder: &mut F,

@@ -3,24 +3,22 @@
 use crate::folder_locks::{locked_to_change, locked_to_read};
 use crate::folder_refusal::{explained, path_in};
 use crate::folder_work::{begin_work, open_folder, print_lines, refused_at, sync};
+use crate::host::Host;
 use crate::refusal::{Refusal, RefusalText};
 use crate::reporter::{Telling, tell_time};
 use crate::table_sizes::sizes_tested;
 use clean::{RemovalWatch, obsolete_names, remove_obsolete};
 use coding::{Fault, FaultName};
-use folder::{Disk, Opened, SystemFiles, WholeFiles};
+use folder::{Disk, Opened, SystemFiles};
 use json_lines::removed_json;
 use std::alloc::Global;
 use std::io::ErrorKind;
 use std::rt::Files;
-use std::thread::Threads;
 use std::time::Clock;
 use std::{fs, io};
 
 /// Removes the files of a folder that its version doesn't need, and prints each when it is removed.
-pub(crate) fn clean_folder<
-    R: SystemFiles + WholeFiles + Print + Eprint + Clock + AllocGlobal + Threads + Sync,
->(rt: &R, telling: Telling<'_>) -> Result<(), Refusal> {
+pub(crate) fn clean_folder<R: Host>(rt: &R, telling: Telling<'_>) -> Result<(), Refusal> {
     let _lock = locked_to_change(rt, telling.folder)?;
     let begun = telling.begin(rt);
     folder_cleaned(rt, telling).map_err(|refusal| explained(rt, telling.folder, refusal))?;
@@ -28,9 +26,7 @@ pub(crate) fn clean_folder<
     Ok(())
 }
 
-fn folder_cleaned<
-    R: SystemFiles + WholeFiles + Print + Eprint + Clock + AllocGlobal + Threads + Sync,
->(rt: &R, telling: Telling<'_>) -> Result<(), Refusal> {
+fn folder_cleaned<R: Host>(rt: &R, telling: Telling<'_>) -> Result<(), Refusal> {
     let opened = begin_work(rt, telling)?;
     let files = files_to_clean(rt, telling, &opened)?;
     if files.names.is_empty() {
@@ -41,10 +37,7 @@ fn folder_cleaned<
 }
 
 /// Prints the files of a folder that its version doesn't need. Nothing is written.
-pub(crate) fn print_removable<R: SystemFiles + Print + Eprint + Clock + AllocGlobal>(
-    rt: &R,
-    telling: Telling<'_>,
-) -> Result<(), Refusal> {
+pub(crate) fn print_removable<R: Host>(rt: &R, telling: Telling<'_>) -> Result<(), Refusal> {
     let _lock = locked_to_read(rt, telling.folder)?;
     let begun = telling.begin(rt);
     removable_printed(rt, telling).map_err(|refusal| explained(rt, telling.folder, refusal))?;
@@ -52,10 +45,7 @@ pub(crate) fn print_removable<R: SystemFiles + Print + Eprint + Clock + AllocGlo
     Ok(())
 }
 
-fn removable_printed<R: SystemFiles + Print + Eprint + Clock + AllocGlobal>(
-    rt: &R,
-    telling: Telling<'_>,
-) -> Result<(), Refusal> {
+fn removable_printed<R: Host>(rt: &R, telling: Telling<'_>) -> Result<(), Refusal> {
     let opened = begin_work(rt, telling)?;
     let files = files_to_clean(rt, telling, &opened)?;
     for (name, bytes) in files.names.iter().zip(&files.lengths) {

@@ -4,6 +4,7 @@ use crate::cleaning::clean_installed;
 use crate::folder_locks::locked_to_change;
 use crate::folder_refusal::compaction_explained;
 use crate::folder_work::{begin_work, bytes_of, refused_at, sync};
+use crate::host::Host;
 use crate::progress_line::ProgressLine;
 use crate::refusal::Refusal;
 use crate::reporter::Telling;
@@ -11,12 +12,10 @@ use crate::step_printer::{StepPrinter, explain, print_step, tell_step, unprinted
 use crate::table_sizes::sizes_tested;
 use coding::Fault;
 use edit::Version;
-use folder::{Disk, MakesFiles, Opened, SystemFiles, WholeFiles};
+use folder::{Disk, Opened, SystemFiles};
 use ikey::Bytewise;
 use settings::Settings;
 use std::alloc::Global;
-use std::thread::Threads;
-use std::time::Clock;
 use store::{
     CompactionStep, DescentEnd, bottom, compact_inputs, compact_opened, next_level, opened_after,
 };
@@ -36,17 +35,12 @@ pub(crate) struct CompactionTask<'t> {
 
 /// Compacts a level of a folder, or all of them one after the other. The folder is locked before
 /// anything is read of it. What it was opened as is synced once, so that it outlives a crash.
-pub(crate) fn compact_folder<
-    R: SystemFiles
-        + MakesFiles
-        + WholeFiles
-        + Print
-        + Eprint
-        + Clock
-        + AllocGlobal
-        + Threads
-        + Sync,
->(rt: &R, telling: Telling<'_>, line: &CompactLine<'_>, levels: Levels) -> Result<(), Refusal> {
+pub(crate) fn compact_folder<R: Host>(
+    rt: &R,
+    telling: Telling<'_>,
+    line: &CompactLine<'_>,
+    levels: Levels,
+) -> Result<(), Refusal> {
     let task = CompactionTask {
         levels,
         settings: &line.settings,
@@ -60,17 +54,11 @@ pub(crate) fn compact_folder<
     })
 }
 
-fn compact_levels<
-    R: SystemFiles
-        + MakesFiles
-        + WholeFiles
-        + Print
-        + Eprint
-        + Clock
-        + AllocGlobal
-        + Threads
-        + Sync,
->(rt: &R, telling: Telling<'_>, task: CompactionTask<'_>) -> Result<(), Refusal> {
+fn compact_levels<R: Host>(
+    rt: &R,
+    telling: Telling<'_>,
+    task: CompactionTask<'_>,
+) -> Result<(), Refusal> {
     let opened = begin_work(rt, telling)?;
     if !task.testing.is_skipped {
         sizes_tested(rt, telling.folder, &opened)?;
@@ -103,17 +91,7 @@ fn is_due(alloc: Global, version: &Version, levels: Levels) -> Result<bool, Faul
 }
 
 /// Compacts a level of a folder, and prints what was made.
-fn compact_one<
-    R: SystemFiles
-        + MakesFiles
-        + WholeFiles
-        + Print
-        + Eprint
-        + Clock
-        + AllocGlobal
-        + Threads
-        + Sync,
->(
+fn compact_one<R: Host>(
     rt: &R,
     telling: Telling<'_>,
     opened: &Opened,
@@ -176,9 +154,7 @@ fn explain_one<R: SystemFiles + Eprint + AllocGlobal>(
 }
 
 /// Tests what a folder was opened as, and compacts a level of it.
-fn tested_compacted<
-    R: SystemFiles + MakesFiles + WholeFiles + Eprint + Clock + AllocGlobal + Threads + Sync,
->(
+fn tested_compacted<R: Host>(
     rt: &R,
     telling: Telling<'_>,
     opened: &Opened,
@@ -203,9 +179,7 @@ fn tested_compacted<
 }
 
 /// Compacts a level of a folder, and reads nothing but its inputs.
-fn inputs_compacted<
-    R: SystemFiles + MakesFiles + WholeFiles + Eprint + Clock + AllocGlobal + Threads + Sync,
->(
+fn inputs_compacted<R: Host>(
     rt: &R,
     telling: Telling<'_>,
     opened: &Opened,
@@ -229,17 +203,12 @@ fn inputs_compacted<
 
 /// Compacts the first level that has a file, again and again, until all files are at the bottom.
 /// Each step is printed when it is installed.
-fn compact_all<
-    R: SystemFiles
-        + MakesFiles
-        + WholeFiles
-        + Print
-        + Eprint
-        + Clock
-        + AllocGlobal
-        + Threads
-        + Sync,
->(rt: &R, telling: Telling<'_>, opened: Opened, task: CompactionTask<'_>) -> Result<(), Refusal> {
+fn compact_all<R: Host>(
+    rt: &R,
+    telling: Telling<'_>,
+    opened: Opened,
+    task: CompactionTask<'_>,
+) -> Result<(), Refusal> {
     let progress = ProgressLine::new(rt, telling.is_watched);
     let mut steps = StepPrinter::new(rt, telling, &progress, &opened, task)?;
     let mut folder = Disk::new(rt, telling.folder);
@@ -252,17 +221,7 @@ fn compact_all<
 }
 
 /// Compacts all levels of what a folder was opened as, and tests it before, if that is asked for.
-fn descended<
-    R: SystemFiles
-        + MakesFiles
-        + WholeFiles
-        + Print
-        + Eprint
-        + Clock
-        + AllocGlobal
-        + Threads
-        + Sync,
->(
+fn descended<R: Host>(
     rt: &R,
     folder: &mut Disk<'_, R>,
     opened: Opened,

@@ -1,22 +1,24 @@
 //! All faults of a folder's version, from its path to what is printed.
 
 use crate::folder_work::{begin_work, print_lines, refused_at};
+use crate::host::Host;
 use crate::progress_line::ProgressLine;
 use crate::refusal::Refusal;
 use crate::reporter::{Telling, tell_time};
 use coding::{Fault, FaultName};
 use commands::{fault_count_line, file_fault_line, key_fault_line};
 use faults::{FaultTaker, FileFault, all_faults};
-use folder::{Disk, SystemFiles, WholeFiles};
-use std::thread::Threads;
+use folder::Disk;
 use std::time::Clock;
 use texts::Spelling;
 
 /// Prints all faults of a folder, and how many there are. If there is one, it is refused, and
 /// nothing else is told. The test may hold this many bytes of tables.
-pub(crate) fn faults_printed<
-    R: SystemFiles + WholeFiles + Print + Eprint + Clock + AllocGlobal + Threads + Sync,
->(rt: &R, telling: Telling<'_>, memory: u64) -> Result<(), Refusal> {
+pub(crate) fn faults_printed<R: Host>(
+    rt: &R,
+    telling: Telling<'_>,
+    memory: u64,
+) -> Result<(), Refusal> {
     let begun = telling.begin(rt);
     let opened = begin_work(rt, telling)?;
     let progress = ProgressLine::new(rt, telling.is_watched);

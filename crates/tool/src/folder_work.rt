@@ -3,6 +3,7 @@
 use crate::fault_printer::faults_printed;
 use crate::folder_locks::locked_to_read;
 use crate::folder_refusal::{explained, table_explained};
+use crate::host::Host;
 use crate::progress_line::ProgressLine;
 use crate::refusal::{Refusal, RefusalText};
 use crate::reporter::{Telling, tell_time};
@@ -55,7 +56,7 @@ impl ValueOutput {
 }
 
 /// Prints the version of a folder, as JSON if that is asked for.
-pub(crate) fn print_version<R: SystemFiles + Print + Eprint + Clock + AllocGlobal>(
+pub(crate) fn print_version<R: Host>(
     rt: &R,
     telling: Telling<'_>,
     line: &ManifestLine<'_>,
@@ -64,7 +65,7 @@ pub(crate) fn print_version<R: SystemFiles + Print + Eprint + Clock + AllocGloba
     version_printed(rt, telling, line).map_err(|refusal| explained(rt, telling.folder, refusal))
 }
 
-fn version_printed<R: SystemFiles + Print + Eprint + Clock + AllocGlobal>(
+fn version_printed<R: Host>(
     rt: &R,
     telling: Telling<'_>,
     line: &ManifestLine<'_>,
@@ -82,9 +83,11 @@ fn version_printed<R: SystemFiles + Print + Eprint + Clock + AllocGlobal>(
 
 /// Checks the version of a folder, and prints the line of a lawful one, as JSON if that is asked
 /// for; or all faults of its files.
-pub(crate) fn print_verdict<
-    R: SystemFiles + WholeFiles + Print + Eprint + Clock + AllocGlobal + Threads + Sync,
->(rt: &R, telling: Telling<'_>, line: &VerifyLine<'_>) -> Result<(), Refusal> {
+pub(crate) fn print_verdict<R: Host>(
+    rt: &R,
+    telling: Telling<'_>,
+    line: &VerifyLine<'_>,
+) -> Result<(), Refusal> {
     let _lock = locked_to_read(rt, telling.folder)?;
     let memory = bytes_of(line.memory);
     let printed = match line.form {
@@ -95,9 +98,12 @@ pub(crate) fn print_verdict<
     printed.map_err(|refusal| explained(rt, telling.folder, refusal))
 }
 
-fn verdict_printed<
-    R: SystemFiles + WholeFiles + Print + Eprint + Clock + AllocGlobal + Threads + Sync,
->(rt: &R, telling: Telling<'_>, is_json: bool, memory: u64) -> Result<(), Refusal> {
+fn verdict_printed<R: Host>(
+    rt: &R,
+    telling: Telling<'_>,
+    is_json: bool,
+    memory: u64,
+) -> Result<(), Refusal> {
     let begun = telling.begin(rt);
     let opened = begin_work(rt, telling)?;
     sizes_tested(rt, telling.folder, &opened)?;
@@ -112,7 +118,7 @@ fn verdict_printed<
 }
 
 /// The JSON line of the version of a folder, if it is lawful.
-fn json_verdict<R: SystemFiles + WholeFiles + Eprint + Clock + AllocGlobal + Threads + Sync>(
+fn json_verdict<R: Host>(
     rt: &R,
     telling: Telling<'_>,
     opened: &Opened,
@@ -135,9 +141,11 @@ fn json_verdict<R: SystemFiles + WholeFiles + Eprint + Clock + AllocGlobal + Thr
 }
 
 /// Prints the value of a key in a folder. The version is tested before, if that is asked for.
-pub(crate) fn print_value<
-    R: SystemFiles + WholeFiles + Print + Eprint + Clock + AllocGlobal + Threads + Sync,
->(rt: &R, telling: Telling<'_>, line: &GetLine<'_>) -> Result<(), Refusal> {
+pub(crate) fn print_value<R: Host>(
+    rt: &R,
+    telling: Telling<'_>,
+    line: &GetLine<'_>,
+) -> Result<(), Refusal> {
     let _lock = locked_to_read(rt, telling.folder)?;
     if line.testing.is_skipped {
         return print_unverified_value(rt, telling, line);
@@ -147,7 +155,7 @@ pub(crate) fn print_value<
 
 /// Prints the value of a key in a folder. The version was verified before. If a table is refused,
 /// the folder isn't read again to tell of which one.
-fn print_unverified_value<R: SystemFiles + Print + Eprint + Clock + AllocGlobal>(
+fn print_unverified_value<R: Host>(
     rt: &R,
     telling: Telling<'_>,
     line: &GetLine<'_>,
@@ -174,9 +182,7 @@ fn print_unverified_value<R: SystemFiles + Print + Eprint + Clock + AllocGlobal>
     print_value_answer(rt, telling.folder, &line.key, output, answer)
 }
 
-fn value_printed<
-    R: SystemFiles + WholeFiles + Print + Eprint + Clock + AllocGlobal + Threads + Sync,
->(rt: &R, telling: Telling<'_>, line: &GetLine<'_>) -> Result<(), Refusal> {
+fn value_printed<R: Host>(rt: &R, telling: Telling<'_>, line: &GetLine<'_>) -> Result<(), Refusal> {
     let begun = telling.begin(rt);
     let opened = begin_work(rt, telling)?;
     sizes_tested(rt, telling.folder, &opened)?;
@@ -248,7 +254,7 @@ pub(crate) fn begin_work<R: SystemFiles + Eprint + Clock + AllocGlobal>(
 }
 
 /// What the version of a folder answers to a question.
-fn answered<R: SystemFiles + WholeFiles + Eprint + Clock + AllocGlobal + Threads + Sync>(
+fn answered<R: Host>(
     rt: &R,
     telling: Telling<'_>,
     opened: &Opened,

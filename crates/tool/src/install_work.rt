@@ -4,6 +4,7 @@ use crate::cleaning::clean_installed;
 use crate::folder_locks::locked_to_change;
 use crate::folder_refusal::explained;
 use crate::folder_work::{begin_work, bytes_of, print_lines, refused_at, sync};
+use crate::host::Host;
 use crate::outcome_refusal::outcome_explained;
 use crate::progress_line::ProgressLine;
 use crate::refusal::Refusal;
@@ -11,16 +12,16 @@ use crate::reporter::{Telling, tell_time};
 use crate::step_printer::unprinted;
 use crate::table_sizes::sizes_tested;
 use adoption::{AdoptionEnd, Comparison, install_outcome};
-use folder::{Disk, Opened, SystemFiles, WholeFiles};
-use std::thread::Threads;
-use std::time::Clock;
+use folder::{Disk, Opened};
 use usage::{InstallLine, Levels};
 
 /// Installs in a folder the outcome that another one has. The folder is locked before anything is
 /// read of it, and what it was opened as is synced, so that it outlives a crash.
-pub(crate) fn install_compaction<
-    R: SystemFiles + WholeFiles + Print + Eprint + Clock + AllocGlobal + Threads + Sync,
->(rt: &R, telling: Telling<'_>, line: &InstallLine<'_>) -> Result<(), Refusal> {
+pub(crate) fn install_compaction<R: Host>(
+    rt: &R,
+    telling: Telling<'_>,
+    line: &InstallLine<'_>,
+) -> Result<(), Refusal> {
     let folder = telling.folder;
     let _lock = locked_to_change(rt, folder)?;
     let begun = telling.begin(rt);
@@ -39,10 +40,7 @@ pub(crate) fn install_compaction<
 }
 
 /// What a folder is opened as, synced.
-fn opened_to_install<R: SystemFiles + WholeFiles + Eprint + Clock + AllocGlobal + Threads>(
-    rt: &R,
-    telling: Telling<'_>,
-) -> Result<Opened, Refusal> {
+fn opened_to_install<R: Host>(rt: &R, telling: Telling<'_>) -> Result<Opened, Refusal> {
     let opened = begin_work(rt, telling)?;
     sizes_tested(rt, telling.folder, &opened)?;
     telling.tell_replaceable(rt, &opened.version, &[]);
@@ -51,7 +49,7 @@ fn opened_to_install<R: SystemFiles + WholeFiles + Eprint + Clock + AllocGlobal 
 }
 
 /// Installs an outcome in what a folder was opened as. The answer is the lines.
-fn outcome_installed<R: SystemFiles + WholeFiles + Eprint + Clock + AllocGlobal + Threads + Sync>(
+fn outcome_installed<R: Host>(
     rt: &R,
     telling: Telling<'_>,
     line: &InstallLine<'_>,

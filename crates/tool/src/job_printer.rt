@@ -2,17 +2,17 @@
 
 use crate::folder_refusal::compaction_explained;
 use crate::folder_work::{begin_work, print_lines, refused_at};
+use crate::host::Host;
 use crate::refusal::Refusal;
 use crate::reporter::{Telling, tell_time};
-use folder::{Disk, SystemFiles};
+use folder::Disk;
 use settings::Settings;
-use std::time::Clock;
 use store::files_to_compact;
 use usage::{JobLine, Levels};
 
 /// Prints the names of the files that a compaction of a level would read. No table is read, and no
 /// lock is taken.
-pub(crate) fn print_job<R: SystemFiles + Print + Eprint + Clock + AllocGlobal>(
+pub(crate) fn print_job<R: Host>(
     rt: &R,
     telling: Telling<'_>,
     line: &JobLine<'_>,
@@ -23,11 +23,7 @@ pub(crate) fn print_job<R: SystemFiles + Print + Eprint + Clock + AllocGlobal>(
     })
 }
 
-fn job_printed<R: SystemFiles + Print + Eprint + Clock + AllocGlobal>(
-    rt: &R,
-    telling: Telling<'_>,
-    level: u64,
-) -> Result<(), Refusal> {
+fn job_printed<R: Host>(rt: &R, telling: Telling<'_>, level: u64) -> Result<(), Refusal> {
     let begun = telling.begin(rt);
     let opened = begin_work(rt, telling)?;
     let mut folder = Disk::new(rt, telling.folder);

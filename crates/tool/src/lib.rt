@@ -15,6 +15,7 @@ mod files;
 mod folder_locks;
 mod folder_refusal;
 mod folder_work;
+mod host;
 mod install_work;
 mod job_printer;
 mod logs;
@@ -35,6 +36,7 @@ mod work_left;
 
 pub use commands::{Spelling, ValueForm, dump, get_dir, manifest, progress_text, status, verify};
 pub use folder::{Disk, Folder, FolderFault, Order, load, open};
+pub use host::Host;
 pub use pairing::blocks;
 pub use program::run;
 pub use settings::Settings;

@@ -3,6 +3,7 @@
 use crate::explanations::{Words, in_words};
 use crate::folder_refusal::compaction_explained;
 use crate::folder_work::{begin_work, bytes_of, print_lines, refused_at};
+use crate::host::Host;
 use crate::out_folder::fill;
 use crate::progress_line::ProgressLine;
 use crate::refusal::{Refusal, RefusalText, told};
@@ -11,11 +12,9 @@ use crate::step_printer::tell_step;
 use crate::table_sizes::sizes_tested;
 use coding::FaultName;
 use edit::VersionEdit;
-use folder::{Disk, Opened, SystemFiles, WholeFiles};
+use folder::{Disk, Opened};
 use json_lines::{CompactionEnd, compaction_json};
 use std::alloc::Global;
-use std::thread::Threads;
-use std::time::Clock;
 use store::{CompactionOutcome, EDIT, outcome_of_inputs, outcome_of_opened};
 use usage::{CompactLine, Levels};
 
@@ -31,9 +30,7 @@ pub(crate) struct OutcomeTask<'t> {
 
 /// Compacts a level of a folder, which is only read, and writes the outcome into another one. No
 /// lock is taken.
-pub(crate) fn write_compaction<
-    R: SystemFiles + WholeFiles + Print + Eprint + Clock + AllocGlobal + Threads + Sync,
->(
+pub(crate) fn write_compaction<R: Host>(
     rt: &R,
     telling: Telling<'_>,
     line: &CompactLine<'_>,
@@ -45,9 +42,7 @@ pub(crate) fn write_compaction<
     })
 }
 
-fn compaction_written<
-    R: SystemFiles + WholeFiles + Print + Eprint + Clock + AllocGlobal + Threads + Sync,
->(
+fn compaction_written<R: Host>(
     rt: &R,
     telling: Telling<'_>,
     line: &CompactLine<'_>,
@@ -90,7 +85,7 @@ fn unprinted(alloc: Global, out: &str, refusal: Refusal) -> Refusal {
 }
 
 /// The outcome of the compaction. The version is tested before, if that is asked for.
-fn outcome_made<R: SystemFiles + WholeFiles + Eprint + Clock + AllocGlobal + Threads + Sync>(
+fn outcome_made<R: Host>(
     rt: &R,
     telling: Telling<'_>,
     line: &CompactLine<'_>,
@@ -120,7 +115,7 @@ fn outcome_made<R: SystemFiles + WholeFiles + Eprint + Clock + AllocGlobal + Thr
 }
 
 /// The same without a test: nothing but the inputs is read.
-fn inputs_compacted<R: SystemFiles + WholeFiles + Eprint + Clock + AllocGlobal + Threads + Sync>(
+fn inputs_compacted<R: Host>(
     rt: &R,
     telling: Telling<'_>,
     line: &CompactLine<'_>,

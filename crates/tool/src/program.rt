@@ -5,6 +5,7 @@ use crate::cleaning::{clean_folder, print_removable};
 use crate::compaction_work::compact_folder;
 use crate::explanations::in_words;
 use crate::folder_work::{print_value, print_verdict, print_version};
+use crate::host::Host;
 use crate::install_work::install_compaction;
 use crate::job_printer::print_job;
 use crate::out_folder::{OutState, state_of};
@@ -16,13 +17,10 @@ use crate::stats_printer::print_stats;
 use crate::table_files::{print_table, print_table_verdict};
 use coding::{Fault, FaultName};
 use commands::status;
-use folder::{MakesFiles, SystemFiles, WholeFiles};
 use json_lines::{Told, refusal_json};
 use std::env::Env;
 use std::io::ErrorKind;
 use std::rt::Files;
-use std::thread::Threads;
-use std::time::Clock;
 use std::{env, io};
 use usage::{CompactWork, Line, Usage, VerdictForm, line};
 
@@ -48,18 +46,7 @@ const COMMAND_LINE: &str = "the command line";
 /// - If nothing can be written to the standard error, the status is the same.
 /// - The work on a folder is told on the standard error as `-v` asks. If `is_watched`, as a
 ///   terminal is, long work shows a line of progress there.
-pub fn run<
-    R: Env
-        + SystemFiles
-        + MakesFiles
-        + WholeFiles
-        + Print
-        + Eprint
-        + Clock
-        + AllocGlobal
-        + Threads
-        + Sync,
->(rt: &R, is_watched: bool) -> u8 {
+pub fn run<R: Env + Host>(rt: &R, is_watched: bool) -> u8 {
     let words = match words_given(rt) {
         Ok(words) => words,
         Err(error) if error.kind() == ErrorKind::InvalidData => {
@@ -78,17 +65,7 @@ pub fn run<
 }
 
 /// Does what a command line asks for, tells why not if it is refused, and answers the status.
-fn answer<
-    R: SystemFiles
-        + MakesFiles
-        + WholeFiles
-        + Print
-        + Eprint
-        + Clock
-        + AllocGlobal
-        + Threads
-        + Sync,
->(rt: &R, line: &Line<'_>, is_watched: bool) -> u8 {
+fn answer<R: Host>(rt: &R, line: &Line<'_>, is_watched: bool) -> u8 {
     let done = match taken_folder(rt, line) {
         Ok(Some(out)) => return report_taken(rt, out),
         Ok(None) => carry_out(rt, line, is_watched),
@@ -125,17 +102,7 @@ fn words_given<R: Env + AllocGlobal>(rt: &R) -> io::Result<Vec<String>> {
 }
 
 /// Does what a command line asks for.
-fn carry_out<
-    R: SystemFiles
-        + MakesFiles
-        + WholeFiles
-        + Print
-        + Eprint
-        + Clock
-        + AllocGlobal
-        + Threads
-        + Sync,
->(rt: &R, line: &Line<'_>, is_watched: bool) -> Result<(), Refusal> {
+fn carry_out<R: Host>(rt: &R, line: &Line<'_>, is_watched: bool) -> Result<(), Refusal> {
     let telling = telling_of(line, is_watched);
     match line {
         Line::Blocks(line) => merge(rt, line),

@@ -3,16 +3,16 @@
 use crate::folder_locks::locked_to_read;
 use crate::folder_refusal::{explained, table_explained};
 use crate::folder_work::{begin_work, bytes_of, print_lines, refused_at};
+use crate::host::Host;
 use crate::progress_line::ProgressLine;
 use crate::refusal::Refusal;
 use crate::reporter::{Telling, tell_time};
 use crate::table_sizes::sizes_tested;
 use coding::Fault;
 use commands::push_row;
-use folder::{Disk, Opened, SystemFiles, WholeFiles};
+use folder::{Disk, Opened};
 use json_lines::push_row_json;
 use scan::{RowChoice, RowTaker, scan_unverified, scan_version};
-use std::thread::Threads;
 use std::time::Clock;
 use texts::Spelling;
 use usage::{RowOptions, ScanLine, Testing};
@@ -30,9 +30,11 @@ struct RowForm {
 
 /// Prints the rows of a folder that are asked for. Its version is tested before, if that is asked
 /// for. If it isn't, and a table is refused, the folder isn't read again to tell of which one.
-pub(crate) fn print_rows<
-    R: SystemFiles + WholeFiles + Print + Eprint + Clock + AllocGlobal + Threads + Sync,
->(rt: &R, telling: Telling<'_>, line: &ScanLine<'_>) -> Result<(), Refusal> {
+pub(crate) fn print_rows<R: Host>(
+    rt: &R,
+    telling: Telling<'_>,
+    line: &ScanLine<'_>,
+) -> Result<(), Refusal> {
     let folder = telling.folder;
     let _lock = locked_to_read(rt, folder)?;
     let begun = telling.begin(rt);
@@ -54,9 +56,12 @@ pub(crate) fn print_rows<
 
 /// Prints the rows of what a folder was opened as. Those that were told before a refusal are
 /// printed.
-fn rows_printed<
-    R: SystemFiles + WholeFiles + Print + Eprint + Clock + AllocGlobal + Threads + Sync,
->(rt: &R, telling: Telling<'_>, opened: &Opened, line: &ScanLine<'_>) -> Result<(), Refusal> {
+fn rows_printed<R: Host>(
+    rt: &R,
+    telling: Telling<'_>,
+    opened: &Opened,
+    line: &ScanLine<'_>,
+) -> Result<(), Refusal> {
     let testing = &line.testing;
     let progress = ProgressLine::new(rt, telling.is_watched);
     let mut folder = Disk::new(rt, telling.folder);
@@ -86,7 +91,7 @@ fn rows_printed<
 }
 
 /// Tells the rows of what a folder was opened as, and tests it before, if that is asked for.
-fn scanned<R: SystemFiles + WholeFiles + Print + Eprint + Clock + AllocGlobal + Threads + Sync>(
+fn scanned<R: Host>(
     rt: &R,
     folder: &mut Disk<'_, R>,
     opened: &Opened,

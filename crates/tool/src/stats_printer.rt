@@ -4,32 +4,35 @@ use crate::cleaning::unneeded_files;
 use crate::folder_locks::locked_to_read;
 use crate::folder_refusal::explained;
 use crate::folder_work::{begin_work, bytes_of, print_lines, refused_at};
+use crate::host::Host;
 use crate::logs::logs_with_writes;
 use crate::progress_line::ProgressLine;
 use crate::refusal::Refusal;
 use crate::reporter::{Telling, tell_time};
 use crate::table_sizes::sizes_tested;
 use commands::stats_text;
-use folder::{Disk, Opened, SystemFiles, WholeFiles};
+use folder::{Disk, Opened};
 use json_lines::stats_json;
 use scan::{FileTotal, VersionStats, version_stats};
 use std::rt::Files;
-use std::thread::Threads;
-use std::time::Clock;
 use usage::StatsLine;
 
 /// Prints how many files, bytes and entries each level of a folder has, and what else there is. Its
 /// version is tested before.
-pub(crate) fn print_stats<
-    R: SystemFiles + WholeFiles + Print + Eprint + Clock + AllocGlobal + Threads + Sync,
->(rt: &R, telling: Telling<'_>, line: &StatsLine<'_>) -> Result<(), Refusal> {
+pub(crate) fn print_stats<R: Host>(
+    rt: &R,
+    telling: Telling<'_>,
+    line: &StatsLine<'_>,
+) -> Result<(), Refusal> {
     let _lock = locked_to_read(rt, telling.folder)?;
     stats_printed(rt, telling, line).map_err(|refusal| explained(rt, telling.folder, refusal))
 }
 
-fn stats_printed<
-    R: SystemFiles + WholeFiles + Print + Eprint + Clock + AllocGlobal + Threads + Sync,
->(rt: &R, telling: Telling<'_>, line: &StatsLine<'_>) -> Result<(), Refusal> {
+fn stats_printed<R: Host>(
+    rt: &R,
+    telling: Telling<'_>,
+    line: &StatsLine<'_>,
+) -> Result<(), Refusal> {
     let begun = telling.begin(rt);
     let opened = begin_work(rt, telling)?;
     sizes_tested(rt, telling.folder, &opened)?;
@@ -46,7 +49,7 @@ fn stats_printed<
 }
 
 /// The statistics of what a folder was opened as, which is tested before.
-fn version_counted<R: SystemFiles + WholeFiles + Eprint + Clock + AllocGlobal + Threads + Sync>(
+fn version_counted<R: Host>(
     rt: &R,
     telling: Telling<'_>,
     opened: &Opened,

@@ -4,6 +4,7 @@ use crate::cleaning::clean_installed;
 use crate::compaction_work::CompactionTask;
 use crate::explanations::{Words, in_words};
 use crate::folder_work::print_lines;
+use crate::host::Host;
 use crate::progress_line::ProgressLine;
 use crate::refusal::{Refusal, told};
 use crate::reporter::{Telling, tell_time};
@@ -96,8 +97,7 @@ impl<'t, R: Eprint + Clock + AllocGlobal> StepPrinter<'t, R> {
     }
 }
 
-impl<'t, R: SystemFiles + Print + Eprint + Clock + AllocGlobal> InstallWatch
-    for StepPrinter<'t, R> {
+impl<'t, R: Host> InstallWatch for StepPrinter<'t, R> {
     fn installed(
         &mut self,
         level: u64,

@@ -1,6 +1,6 @@
 //! The compaction of a folder, from its path to what is printed.
 
-use crate::cleaning::clean_installed;
+use crate::clean_work::clean_installed;
 use crate::folder_locks::locked_to_change;
 use crate::folder_refusal::compaction_explained;
 use crate::folder_work::{begin_work, bytes_of, refused_at, sync};

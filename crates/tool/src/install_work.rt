@@ -1,6 +1,6 @@
 //! The installation of an outcome, from the paths to what is printed.
 
-use crate::cleaning::clean_installed;
+use crate::clean_work::clean_installed;
 use crate::folder_locks::locked_to_change;
 use crate::folder_refusal::explained;
 use crate::folder_work::{begin_work, bytes_of, print_lines, refused_at, sync};

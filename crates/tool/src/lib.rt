@@ -7,7 +7,7 @@
 #![tactic(auto)]
 
 mod block_files;
-mod cleaning;
+mod clean_work;
 mod compaction_work;
 mod explanations;
 mod fault_printer;

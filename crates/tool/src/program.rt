@@ -1,7 +1,7 @@
 //! The program, from its words to its status.
 
 use crate::block_files::merge;
-use crate::cleaning::{clean_folder, print_removable};
+use crate::clean_work::{clean_folder, print_removable};
 use crate::compaction_work::compact_folder;
 use crate::explanations::in_words;
 use crate::folder_work::{print_value, print_verdict, print_version};

@@ -1,6 +1,6 @@
 //! The statistics of a folder, from its path to what is printed.
 
-use crate::cleaning::unneeded_files;
+use crate::clean_work::unneeded_files;
 use crate::folder_locks::locked_to_read;
 use crate::folder_refusal::explained;
 use crate::folder_work::{begin_work, bytes_of, print_lines, refused_at};

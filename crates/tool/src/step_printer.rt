@@ -1,6 +1,6 @@
 //! What is printed and told of the steps of a compaction.
 
-use crate::cleaning::clean_installed;
+use crate::clean_work::clean_installed;
 use crate::compaction_work::CompactionTask;
 use crate::explanations::{Words, in_words};
 use crate::folder_work::print_lines;

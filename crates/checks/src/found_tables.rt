@@ -15,7 +15,7 @@ ghost use Rattle.checks.specs.TablePlaces.{AreBounds, IsLoadedIfThere};
 
 use crate::held_table::HeldTable;
 use crate::rounds::check_tables;
-use crate::told_tables::told_tables;
+use crate::worker_tables::worker_tables;
 use board::Gate;
 use coding::{Fault, FaultName};
 use folder::{Folder, ReadsTables, load_numbers};
@@ -48,7 +48,7 @@ pub(crate) fn read_tables<C: SharedComparator, F: ReadsTables, G: Gate + Sync, R
     ensures device { ReportsDevice F.Folder folder.old folder.new result }
     ensures reads { OnlyReads F.Folder folder.old folder.new }
 {
-    if let Some(tables) = told_tables(rt, alloc, folder, numbers, workers, gate) {
+    if let Some(tables) = worker_tables(rt, alloc, folder, numbers, workers, gate) {
         return Ok(Some(tables));
     }
     let Some(loaded) = load_if_there(alloc, folder, numbers)? else {

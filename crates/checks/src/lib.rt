@@ -35,11 +35,11 @@ mod table_check;
 mod table_places;
 mod tested;
 mod tested_version;
-mod told_tables;
 mod version_check;
 mod version_test;
 mod wanted_tables;
 mod watch;
+mod worker_tables;
 
 pub use file_groups::group_split;
 pub use held_tables::{HeldTables, hold_tables};

@@ -13,7 +13,7 @@ use std::alloc::Global;
 use std::thread::Threads;
 
 /// The most jobs of a board, 2^40.
-const MOST_JOBS: usize = 1_099_511_627_776;
+pub(crate) const MOST_JOBS: usize = 1_099_511_627_776;
 
 /// Checks the tables of these numbers and bytes by 1 to 64 workers, a table a job, and answers them
 /// in order.

@@ -23,7 +23,7 @@
 //!
 //! CURRENT, LOCK, LOG, newer manifests and all other files stay, there as here.
 //!
-//! [`remove_obsolete`] removes, of the names that it is given, those that [`is_obsolete`] tells;
+//! [`remove_obsolete`] removes, of the names that it is given, those that [`is_obsolete_file`] tells;
 //! [`obsolete_names`] answers these.
 //!
 //! Premises of what is said of a crash:
@@ -49,6 +49,6 @@ mod removal;
 mod removal_watch;
 
 pub use file_kind::FileKind;
-pub use obsolete_files::{is_obsolete, obsolete_names};
+pub use obsolete_files::{is_obsolete_file, obsolete_names};
 pub use removal::remove_obsolete;
 pub use removal_watch::RemovalWatch;

@@ -21,7 +21,7 @@ use std::collections::BTreeSet;
 /// head of this crate says. The name may be any text.
 ///
 /// It goes through the numbers of all files of the version. The only fault is Memory.
-pub fn is_obsolete(alloc: Global, opened: &Opened, name: &str) -> Result<bool, Fault>
+pub fn is_obsolete_file(alloc: Global, opened: &Opened, name: &str) -> Result<bool, Fault>
     ensures exact { IfOk result (λ b. IsTrue b ↔ IsObsoleteFile (order_cmp opened.now.order)
         opened.now.version opened.now.manifest name.now) }
     ensures memory { IfErr result (λ e. e ≡ fault Memory) }
@@ -30,7 +30,7 @@ pub fn is_obsolete(alloc: Global, opened: &Opened, name: &str) -> Result<bool, F
     test_name(alloc, opened, opened.manifest, &numbers, name)
 }
 
-/// Those of these `names` that [`is_obsolete`] tells, in their order. The only fault is Memory.
+/// Those of these `names` that [`is_obsolete_file`] tells, in their order. The only fault is Memory.
 pub fn obsolete_names<'a>(
     alloc: Global,
     opened: &Opened,

@@ -139,14 +139,14 @@ fn read_input<'t, C: Comparator>(
     ensures { EqualOrMemory (λ t. t.entries) result (input_reading C.cmp file.now bytes.now) }
 {
     let table = check::<C>(alloc, bytes)?;
-    if !is_stated(file, &table) {
+    if !matches_metadata(file, &table) {
         return Err(Fault::of(FaultName::Bounds));
     }
     Ok(table)
 }
 
 /// Whether a table's length, smallest and largest key are as the version states. Takes no memory.
-pub fn is_stated<C: Comparator>(file: &FileMeta, table: &SoundTable<'_, C>) -> bool
+pub fn matches_metadata<C: Comparator>(file: &FileMeta, table: &SoundTable<'_, C>) -> bool
     ensures { result ≡ table_matches_metadata file.now table.now }
 {
     has_bounds(file, table.bytes(), table.smallest(), table.largest())

@@ -7,7 +7,7 @@ ghost use Rattle.table.specs.ReadingSteps.{test_result};
 use coding::{Fault, FaultName};
 
 /// The most workers of a compaction.
-const MAX_WORKERS: u64 = 64;
+pub const MAX_WORKERS: u64 = 64;
 
 /// `Workers` if `workers` is outside 1 to 64. It takes no memory.
 pub(crate) fn check_workers(workers: u64) -> Result<(), Fault>

@@ -10,7 +10,7 @@ use table::{Cursor, TableCursor};
 
 /// A table's place, and the sequence of an entry in it.
 #[derive(Clone, Copy)]
-struct Held {
+struct SeenEntry {
     place: usize,
     sequence: u64,
 }
@@ -39,7 +39,7 @@ pub(crate) fn misplaced_entry<'t, C: Comparator>(
 fn step_back<'c, C: Comparator, S: Cursor<'c, C> + Drop>(
     merging: &mut Merging<C, S>,
     last: &mut KeyBuf,
-) -> Result<Option<(Held, Held)>, Fault> {
+) -> Result<Option<(SeenEntry, SeenEntry)>, Fault> {
     while merging.valid() {
         let place = merging.place().unwrap_or(0);
         last.set(merging.key())?;
@@ -51,11 +51,11 @@ fn step_back<'c, C: Comparator, S: Cursor<'c, C> + Drop>(
         let newer = last.as_key();
         let older = merging.key();
         if is_step_back(newer, place, older, next) {
-            let newer = Held {
+            let newer = SeenEntry {
                 place,
                 sequence: newer.sequence(),
             };
-            let older = Held {
+            let older = SeenEntry {
                 place: next,
                 sequence: older.sequence(),
             };
@@ -81,8 +81,8 @@ fn detail_of<'t, C: Comparator>(
     alloc: Global,
     tables: &[CheckedTable<'t, C>],
     user: &[u8],
-    first: Held,
-    second: Held,
+    first: SeenEntry,
+    second: SeenEntry,
 ) -> Result<Option<(&'t str, Detail)>, Fault> {
     let (Some(table), Some(other)) = (tables.get(first.place), tables.get(second.place)) else {
         return Ok(None);

@@ -2,7 +2,7 @@
 
 use crate::install_tests::crashes::{made_at, make_left};
 use crate::install_tests::tests::{BEFORE, MANIFEST, read_as};
-use clean::{RemovalWatch, is_obsolete, remove_obsolete};
+use clean::{RemovalWatch, is_obsolete_file, remove_obsolete};
 use coding::Fault;
 use folder::{Failing, FolderFault, Opened, Shelf, ShelfStep, open};
 use std::alloc::Global;
@@ -87,7 +87,7 @@ const NAMES: &[(&str, bool)] = &[
 
 /// Whether a name is told to be obsolete or not.
 fn is_told(alloc: Global, opened: &Opened, name: &str, wanted: bool) -> bool {
-    is_obsolete(alloc, opened, name) == Ok(wanted)
+    is_obsolete_file(alloc, opened, name) == Ok(wanted)
 }
 
 #[test]

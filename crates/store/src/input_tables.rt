@@ -11,7 +11,7 @@ ghost use Rattle.store.specs.InputsCompaction.{are_stated, input_numbers, input_
 
 use checks::{CHECKERS, HeldTables, Watch, check_tables};
 use coding::{Fault, FaultName};
-use compact::is_stated;
+use compact::matches_metadata;
 use folder::{Folder, load_numbers};
 use ikey::{Comparator, SharedComparator};
 use pick::InputFile;
@@ -91,7 +91,7 @@ fn are_stated<C: Comparator>(inputs: &[InputFile], tables: &[NumberedTable<'_, C
     ensures { result ≡ are_stated inputs.now tables.now }
 {
     for place in 0..inputs.len() {
-        if !is_stated(&inputs[place].meta, tables[place].table()) {
+        if !matches_metadata(&inputs[place].meta, tables[place].table()) {
             return false;
         }
     }

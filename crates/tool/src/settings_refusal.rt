@@ -2,14 +2,15 @@
 
 use crate::refusal::RefusalText;
 use coding::FaultName;
+use compact::MAX_WORKERS;
 use ikey::MAX_SEQUENCE;
 use keep::Snapshots;
+use request::MAX_SNAPSHOTS;
 use settings::Settings;
+use split::MAX_RANGES;
 use std::alloc::Global;
+use table::{MAX_BLOCK_SIZE, MAX_TABLE_LEN};
 use usage::Levels;
-
-/// The most snapshots in a list.
-const MAX_LISTED: usize = 4_096;
 
 /// What to do about a list of more.
 const LIST_FEWER: &str = "give at most 4096";
@@ -25,8 +26,8 @@ pub(crate) fn settings_told(
 ) -> Option<RefusalText> {
     match name {
         FaultName::Level | FaultName::NoInput => level_told(alloc, folder, levels, name),
-        FaultName::Workers => outside(alloc, folder, "--workers", settings.workers, 64),
-        FaultName::SplitCount => outside(alloc, folder, "--ranges", settings.ranges, 4_096),
+        FaultName::Workers => outside(alloc, folder, "--workers", settings.workers, MAX_WORKERS),
+        FaultName::SplitCount => outside(alloc, folder, "--ranges", settings.ranges, MAX_RANGES),
         FaultName::Options => options_told(alloc, folder, settings),
         FaultName::Snapshot => snapshot_told(alloc, folder, settings.snapshots),
         FaultName::SnapshotList => list_told(alloc, folder, settings.snapshots),
@@ -70,7 +71,13 @@ fn outside(
 /// What is told of the option of the outputs that is outside its limits. None if none is.
 fn options_told(alloc: Global, folder: &str, settings: &Settings<'_>) -> Option<RefusalText> {
     let options = &settings.options;
-    let block_size = outside(alloc, folder, "--block-size", options.block_size, 4_194_304);
+    let block_size = outside(
+        alloc,
+        folder,
+        "--block-size",
+        options.block_size,
+        MAX_BLOCK_SIZE,
+    );
     if block_size.is_some() {
         return block_size;
     }
@@ -79,7 +86,7 @@ fn options_told(alloc: Global, folder: &str, settings: &Settings<'_>) -> Option<
         folder,
         "--file-size",
         options.file_size,
-        1_073_741_824,
+        MAX_TABLE_LEN as u64,
     )
 }
 
@@ -122,7 +129,7 @@ fn list_told(alloc: Global, folder: &str, snapshots: Snapshots<'_>) -> Option<Re
         return None;
     };
     let count = list.len();
-    if count > MAX_LISTED {
+    if count > MAX_SNAPSHOTS {
         let wrong = format!(in alloc; "--snapshots has {count} sequences");
         return RefusalText::new(alloc, folder, wrong, LIST_FEWER);
     }

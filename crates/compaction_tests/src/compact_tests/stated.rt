@@ -2,7 +2,7 @@
 
 use crate::compact_tests::tables::U4_DELETED_U2;
 use coding::Fault;
-use compact::is_stated;
+use compact::matches_metadata;
 use edit::FileMeta;
 use ikey::{Bytewise, InternalKey, KeyBuf};
 use std::alloc::Global;
@@ -52,7 +52,7 @@ fn tables_that_are_as_stated(rt: HostRuntime) -> Result<(), Fault> {
     let table = check::<Bytewise>(rt.alloc(), U4_DELETED_U2)?;
     for stated in STATED {
         let file = file_of(rt.alloc(), *stated)?;
-        assert!(rt; is_stated(&file, &table) == stated.3, "{}", stated.0);
+        assert!(rt; matches_metadata(&file, &table) == stated.3, "{}", stated.0);
     }
     Ok(())
 }

@@ -1,5 +1,5 @@
 use Rattle.checks.proofs.ToldTables.{found_by}
-use Rattle.checks.proofs.told_tables.told_tables.Goals as goal
+use Rattle.checks.proofs.worker_tables.worker_tables.Goals as goal
 
 pub returns : goal.returns
 returns g c =

@@ -10,6 +10,7 @@ ghost use Rattle.table.specs.TableContents.{contents_reading};
 ghost use Rattle.checks.specs.HeldTables.{IsToldTable};
 
 use crate::held_table::HeldTable;
+use crate::rounds::MOST_JOBS;
 use board::{Gate, Labour, run};
 use coding::{Fault, FaultName};
 use folder::{ReadsTables, TableReader};
@@ -18,9 +19,6 @@ use std::alloc::Global;
 use std::marker::PhantomData;
 use std::thread::Threads;
 use table::OwnedTable;
-
-/// The most jobs of a run, 2^40.
-const MOST_JOBS: u64 = 1 << 40;
 
 /// Tables that are to be read and checked, each a job.
 #[derive(Drop)]
@@ -72,7 +70,7 @@ fn valid_table<C: Comparator>(
 
 /// The tables of a folder with these numbers, in order, each read and checked by one of 1 to 64
 /// workers. None if one can't be had or is invalid, or if memory ran out.
-pub(crate) fn told_tables<C: SharedComparator, F: ReadsTables, G: Gate + Sync, R: Threads + Sync>(
+pub(crate) fn worker_tables<C: SharedComparator, F: ReadsTables, G: Gate + Sync, R: Threads + Sync>(
     rt: &R,
     alloc: Global,
     folder: &F,
@@ -103,10 +101,10 @@ fn tables_of<C: SharedComparator, D: TableReader, G: Gate + Sync, R: Threads + S
     ensures { IfSome result
         (λ v. AllZip (IsToldTable C.cmp (D.tells reader.now)) v.items numbers.now) }
 {
-    let jobs = numbers.len() as u64;
-    if jobs > MOST_JOBS {
+    if numbers.len() > MOST_JOBS {
         return None;
     }
+    let jobs = numbers.len() as u64;
     let checks = TablesToCheck {
         alloc,
         reader,

@@ -1,6 +1,6 @@
 use Rattle.std.proofs.Common.{◌∙◌}
 use Rattle.compact.proofs.InputAnswers.{stated_by}
-use Rattle.compact.proofs.inputs.is_stated.Goals as goal
+use Rattle.compact.proofs.inputs.matches_metadata.Goals as goal
 
 pub returns : goal.returns
 returns g c =

@@ -4,7 +4,7 @@ use Rattle.std.specs.List.{AllZip}
 use Rattle.board.proofs.RunResults.{run_zipped}
 use Rattle.reads.specs.Tables.{NumberedContents}
 use Rattle.checks.specs.HeldTables.{IsToldTable}
-use Rattle.checks.proofs.told_tables.tables_of.Goals as goal
+use Rattle.checks.proofs.worker_tables.tables_of.Goals as goal
 
 pub returns : goal.returns
 returns g c =

@@ -13,6 +13,7 @@ use crate::file_groups::group_split;
 use crate::first_refusal::check_in_order;
 use crate::held_tables::HeldTables;
 use crate::range_test::test_ranges;
+use crate::rounds::MOST_JOBS;
 use crate::tested::Tested;
 use crate::tested_version::TestedVersion;
 use crate::watch::{Watch, Work};
@@ -24,9 +25,6 @@ use ikey::SharedComparator;
 use reads::standing_files;
 use std::alloc::Global;
 use std::thread::Threads;
-
-/// The most files of a version that is tested.
-const MOST_FILES: usize = 1_099_511_627_776;
 
 /// Tests whether a version is lawful with the tables that a folder holds. It only reads.
 ///
@@ -148,7 +146,7 @@ fn tested_entries<C: SharedComparator + 'static, F: ReadsTables, G: Gate + Sync,
     let Some(standing) = standing_files::<C>(alloc, version)? else {
         return Ok(None);
     };
-    if standing.len() > MOST_FILES {
+    if standing.len() > MOST_JOBS {
         return Err(Fault::of(FaultName::Memory));
     }
     let split = group_split::<C>(alloc, &standing, memory)?;

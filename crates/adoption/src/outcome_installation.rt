@@ -1,11 +1,10 @@
 //! Installing the outcome of a compaction that was carried out elsewhere.
 
-ghost use Rattle.std.specs.Prelude.{◌≡◌, ◌≢◌, ◌⊎◌, ◌<◌, ◌^◌, ℕ, List, length, codes, Some, Ok};
-ghost use Rattle.std.specs.Prelude.{OnOk};
+ghost use Rattle.std.specs.Prelude.{◌≡◌, ◌⊎◌, ◌<◌, ◌^◌, ℕ, List, length, codes, Some, Ok};
 ghost use Rattle.folder.specs.Calls.{Files, Tells};
 ghost use Rattle.folder.specs.Manifest.{order_name};
 ghost use Rattle.folder.specs.Names.{current_text};
-ghost use Rattle.folder.specs.OpenAnswer.{FolderAnswers};
+ghost use Rattle.folder.specs.OpenAnswer.{FolderAnswers, IfCurrent, IsOkOnlyIfCurrent};
 ghost use Rattle.folder.specs.Orders.{order_cmp};
 ghost use Rattle.folder.specs.ReadsAs.{ReadsAs};
 ghost use Rattle.folder.specs.Reports.{OnlyReads, ReportsDevice};
@@ -108,9 +107,7 @@ pub fn install_outcome<F: Folder + Drop, G: Folder, W: Watch + Sync, R: Threads 
         given comparison.entry (F.calls folder) (F.calls result.folder)
         (F.tells folder) (F.tells result.folder) result.answer }
     // If CURRENT is another one, the answer is never Ok.
-    ensures other { (files : Files) → Tells (F.tells folder) files →
-        files (codes "CURRENT") ≢ Some (current_text opened.now.manifest) →
-        OnOk result.answer ⊥ }
+    ensures other { IsOkOnlyIfCurrent (F.tells folder) opened.now.manifest result.answer }
     ensures device { ReportsEither F.Folder G.Folder folder result.folder source.old
         source.new result.answer }
     ensures reads { OnlyReads G.Folder source.old source.new }
@@ -156,9 +153,7 @@ fn install_from<
         IsAdoptionLeft order C.cmp opened.now.version loaded given comparison.entry
         (F.calls folder) (F.calls result.folder) (F.tells folder)
         (F.tells result.folder) result.answer }
-    ensures other { (files : Files) → Tells (F.tells folder) files →
-        files (codes "CURRENT") ≢ Some (current_text opened.now.manifest) →
-        OnOk result.answer ⊥ }
+    ensures other { IsOkOnlyIfCurrent (F.tells folder) opened.now.manifest result.answer }
     ensures device { ReportsEither F.Folder G.Folder folder result.folder source.old
         source.new result.answer }
     ensures reads { OnlyReads G.Folder source.old source.new }
@@ -193,10 +188,9 @@ fn install_given<
 ) -> AdoptionEnd<F>
     requires name { length C.name_bytes < 2 ^ 32 }
     requires adopted { IsAdopted C.cmp opened.now.version (given_in given.now) }
-    ensures answer { (files : Files) → Tells (F.tells folder) files →
-        files (codes "CURRENT") ≡ Some (current_text opened.now.manifest) →
+    ensures answer { IfCurrent (F.tells folder) opened.now.manifest (λ files.
         FolderAnswers (λ v. v.items) (F.failed folder) (F.failed result.folder) result.answer
-        (IsGivenInstalled C.cmp files opened.now.version (given_in given.now) comparison.entry) }
+        (IsGivenInstalled C.cmp files opened.now.version (given_in given.now) comparison.entry)) }
     ensures left { (files : Files) (order : Order) (loaded : List (ℕ × List ℕ)) →
         Tells (F.tells folder) files →
         files (codes "CURRENT") ≡ Some (current_text opened.now.manifest) →
@@ -204,9 +198,7 @@ fn install_given<
         IsOutcomeLeft order C.cmp opened.now.version loaded (given_in given.now) comparison.entry
         (F.calls folder) (F.calls result.folder) (F.tells folder)
         (F.tells result.folder) result.answer }
-    ensures other { (files : Files) → Tells (F.tells folder) files →
-        files (codes "CURRENT") ≢ Some (current_text opened.now.manifest) →
-        OnOk result.answer ⊥ }
+    ensures other { IsOkOnlyIfCurrent (F.tells folder) opened.now.manifest result.answer }
     ensures device { ReportsDevice F.Folder folder result.folder result.answer }
 {
     gets_after::<C>();
@@ -237,10 +229,9 @@ fn install_tested<
 ) -> AdoptionEnd<F>
     requires name { length C.name_bytes < 2 ^ 32 }
     requires adopted { IsAdopted C.cmp opened.now.version (given_in given.now) }
-    ensures answer { (files : Files) → Tells (F.tells folder) files →
-        files (codes "CURRENT") ≡ Some (current_text opened.now.manifest) →
+    ensures answer { IfCurrent (F.tells folder) opened.now.manifest (λ files.
         FolderAnswers (λ v. v.items) (F.failed folder) (F.failed result.folder) result.answer
-        (IsEditedInstalled C.cmp files opened.now.version (given_in given.now)) }
+        (IsEditedInstalled C.cmp files opened.now.version (given_in given.now))) }
     ensures left { (files : Files) (order : Order) (loaded : List (ℕ × List ℕ)) →
         Tells (F.tells folder) files →
         files (codes "CURRENT") ≡ Some (current_text opened.now.manifest) →
@@ -248,9 +239,7 @@ fn install_tested<
         IsTestedLeft order C.cmp opened.now.version loaded (given_in given.now)
         (F.calls folder) (F.calls result.folder) (F.tells folder)
         (F.tells result.folder) result.answer }
-    ensures other { (files : Files) → Tells (F.tells folder) files →
-        files (codes "CURRENT") ≢ Some (current_text opened.now.manifest) →
-        OnOk result.answer ⊥ }
+    ensures other { IsOkOnlyIfCurrent (F.tells folder) opened.now.manifest result.answer }
     ensures device { ReportsDevice F.Folder folder result.folder result.answer }
 {
     let next = &given.next;
@@ -278,11 +267,10 @@ fn install_lines<C: Comparator, F: Folder, R: Threads + Sync>(
     given: &GivenOutcome,
 ) -> Result<Vec<u8>, Fault>
     requires { length C.name_bytes < 2 ^ 32 }
-    ensures answer { (files : Files) → Tells (F.tells folder.old) files →
-        files (codes "CURRENT") ≡ Some (current_text opened.now.manifest) →
+    ensures answer { IfCurrent (F.tells folder.old) opened.now.manifest (λ files.
         FolderAnswers (λ v. v.items) (F.failed folder.old) (F.failed folder.new) result
         (λ answer. answer ≡ Ok (compaction_lines (given_in given.now).1
-        given.now.picked.files.items (manifest_of opened.now.version))) }
+        given.now.picked.files.items (manifest_of opened.now.version)))) }
     ensures left { (files : Files) (order : Order) (loaded : List (ℕ × List ℕ)) →
         Tells (F.tells folder.old) files →
         files (codes "CURRENT") ≡ Some (current_text opened.now.manifest) →
@@ -292,8 +280,7 @@ fn install_lines<C: Comparator, F: Folder, R: Threads + Sync>(
         (F.tells folder.new) result
         ⊎ IsInstallation C.cmp order opened.now.version loaded (given_in given.now)
         (F.calls folder.old) (F.calls folder.new) (F.tells folder.old) (F.tells folder.new) result }
-    ensures other { (files : Files) → Tells (F.tells folder.old) files →
-        files (codes "CURRENT") ≢ Some (current_text opened.now.manifest) → OnOk result ⊥ }
+    ensures other { IsOkOnlyIfCurrent (F.tells folder.old) opened.now.manifest result }
     ensures device { ReportsDevice F.Folder folder.old folder.new result }
 {
     let version = &opened.version;

@@ -64,7 +64,7 @@ pub fn compact<'a, C: SharedComparator + 'static, G: Gate + Sync, R: Threads + S
 ) -> Result<Outcome, Fault>
     ensures same { EqualOrMemory answer_in result
         (compaction_result C.cmp C.short_keys workers (request_in request.now)) }
-    ensures reads { IfOk result
+    ensures leaves_reads { IfOk result
         (λ outcome. LeavesReads C.cmp (request_in request.now) (answer_in outcome)) }
 {
     passed_law::<C>();
@@ -102,7 +102,7 @@ pub fn compact_tables<'t, C: SharedComparator + 'static, G: Gate + Sync, R: Thre
         ≡ Ok (map (λ t. t.entries) tables.now) }
     ensures same { EqualOrMemory answer_in result
         (compaction_result C.cmp C.short_keys workers (request_in request.now)) }
-    ensures reads { IfOk result
+    ensures leaves_reads { IfOk result
         (λ outcome. LeavesReads C.cmp (request_in request.now) (answer_in outcome)) }
 {
     let merged = merge_request(rt, alloc, request, tables, split, workers, gate)?;
@@ -136,7 +136,7 @@ pub fn merge_request<'q, 't, C: SharedComparator + 'static, G: Gate + Sync, R: T
         ≡ compaction_result C.cmp C.short_keys workers (request_in request.now)) }
     ensures refused { IfErr result (λ e. FailsOrMemory e
         (compaction_result C.cmp C.short_keys workers (request_in request.now))) }
-    ensures reads { IfOk result (λ merged. (answer : Answer) → merged ≡ Ok answer →
+    ensures leaves_reads { IfOk result (λ merged. (answer : Answer) → merged ≡ Ok answer →
         LeavesReads C.cmp (request_in request.now) answer) }
 {
     reads_survive::<C>();

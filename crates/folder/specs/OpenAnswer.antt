@@ -1,6 +1,6 @@
 -- Opening a folder: what is read in which order, and how failures of the device are answered.
-use Rattle.std.specs.Prelude.{◌≡◌, ◌⊎◌, ℕ, ◌<◌, List, codes, Some, None, Result, Ok, Err}
-use Rattle.std.specs.Prelude.{IsErrOf}
+use Rattle.std.specs.Prelude.{◌≡◌, ◌≢◌, ◌⊎◌, ℕ, ◌<◌, List, codes, Some, None, Result, Ok, Err}
+use Rattle.std.specs.Prelude.{IsErrOf, OnOk}
 use Rattle.coding.specs.Answers.{UnlessMemory, fault, IsThen}
 use Rattle.coding.specs.declared.fault.Fault.{Fault}
 use Rattle.coding.specs.declared.fault.FaultName.{FaultName}
@@ -10,9 +10,9 @@ use Rattle.coding.specs.declared.fault.FaultName.TheVariants.{Missing}
 use Rattle.edit.specs.Version.{State}
 use Rattle.folder.specs.Folder.{DeviceFailed}
 use Rattle.folder.specs.Manifest.{IsManifestAnswer}
-use Rattle.folder.specs.Names.{IsNumberAnswer, manifest_name}
+use Rattle.folder.specs.Names.{IsNumberAnswer, current_text, manifest_name}
 use Rattle.folder.specs.declared.order.Order.{Order}
-use Rattle.folder.specs.Calls.{ToldFiles}
+use Rattle.folder.specs.Calls.{Files, Tells, ToldFiles}
 
 -- the device failed during the call, and Device is the answer
 abbrev pub IsStopped : ℕ → ℕ → Fault → Type 0
@@ -56,3 +56,13 @@ IsOfContents EditField = Unit {0}
 IsOfContents Comparator = Unit {0}
 IsOfContents Apply = Unit {0}
 IsOfContents _ = ⊥
+
+-- It is so if the folder tells files, of which CURRENT names the manifest of this number.
+abbrev pub IfCurrent : ToldFiles → ℕ → (Files → Type 0) → Type 0
+IfCurrent tells manifest IsSo = (files : Files) → Tells tells files →
+    files (codes "CURRENT") ≡ Some (current_text manifest) → IsSo files
+
+-- The answer is never Ok if the folder tells files, of which CURRENT names no such manifest.
+abbrev pub IsOkOnlyIfCurrent : {X : Type 0} → ToldFiles → ℕ → Result X Fault → Type 0
+IsOkOnlyIfCurrent tells manifest result = (files : Files) → Tells tells files →
+    files (codes "CURRENT") ≢ Some (current_text manifest) → OnOk result ⊥

@@ -1,10 +1,10 @@
 //! The compaction of a database folder.
 
-ghost use Rattle.std.specs.Prelude.{◌≡◌, ◌≢◌, ◌<◌, ◌^◌, length, codes, Some, Ok, OnOk};
+ghost use Rattle.std.specs.Prelude.{◌≡◌, ◌<◌, ◌^◌, length, codes, Some, Ok};
 ghost use Rattle.folder.specs.Calls.{Files, Tells};
 ghost use Rattle.folder.specs.Manifest.{order_name};
 ghost use Rattle.folder.specs.Names.{current_text};
-ghost use Rattle.folder.specs.OpenAnswer.{FolderAnswers, IsOpened};
+ghost use Rattle.folder.specs.OpenAnswer.{FolderAnswers, IsOpened, IfCurrent, IsOkOnlyIfCurrent};
 ghost use Rattle.folder.specs.Orders.{order_cmp, order_short_keys};
 ghost use Rattle.folder.specs.ReadsAs.{IsHeldIn};
 ghost use Rattle.folder.specs.Reports.{ReportsDevice};
@@ -100,21 +100,19 @@ pub fn compact_opened<F: ReadsTables + WritesTables, W: Watch + Sync, R: Threads
     watch: &W,
 ) -> Result<CompactionStep, Fault>
     // If the folder tells files, and CURRENT is the one that was opened.
-    ensures answer { (files : Files) → Tells (F.tells folder.old) files →
-        files (codes "CURRENT") ≡ Some (current_text opened.now.manifest) →
+    ensures answer { IfCurrent (F.tells folder.old) opened.now.manifest (λ files.
         FolderAnswers (λ step. step.lines.items) (F.failed folder.old) (F.failed folder.new) result
         (IsVersionCompacted (order_cmp opened.now.order) (order_short_keys opened.now.order)
-        files opened.now.version level settings.now) }
+        files opened.now.version level settings.now)) }
     // If moreover they open as this version in this order.
-    ensures left { (files : Files) → Tells (F.tells folder.old) files →
-        files (codes "CURRENT") ≡ Some (current_text opened.now.manifest) →
+    ensures left { IfCurrent (F.tells folder.old) opened.now.manifest (λ files.
         IsOpened (IsHeldIn files) (Ok (opened.now.order, opened.now.version)) →
         IsVersionLeft opened.now.order (order_cmp opened.now.order)
         (order_short_keys opened.now.order) opened.now.version files level settings.now
-        (F.calls folder.old) (F.calls folder.new) (F.tells folder.old) (F.tells folder.new) result }
+        (F.calls folder.old) (F.calls folder.new) (F.tells folder.old) (F.tells folder.new)
+        result) }
     // If CURRENT is another one, the answer is never Ok.
-    ensures other { (files : Files) → Tells (F.tells folder.old) files →
-        files (codes "CURRENT") ≢ Some (current_text opened.now.manifest) → OnOk result ⊥ }
+    ensures other { IsOkOnlyIfCurrent (F.tells folder.old) opened.now.manifest result }
     ensures device { ReportsDevice F.Folder folder.old folder.new result }
 {
     match opened.order {
@@ -149,19 +147,17 @@ fn compact_version<
     watch: &W,
 ) -> Result<CompactionStep, Fault>
     requires { length C.name_bytes < 2 ^ 32 }
-    ensures answer { (files : Files) → Tells (F.tells folder.old) files →
-        files (codes "CURRENT") ≡ Some (current_text opened.now.manifest) →
+    ensures answer { IfCurrent (F.tells folder.old) opened.now.manifest (λ files.
         FolderAnswers (λ step. step.lines.items) (F.failed folder.old) (F.failed folder.new) result
         (IsVersionCompacted C.cmp C.short_keys
-        files opened.now.version level settings.now) }
+        files opened.now.version level settings.now)) }
     ensures left { (files : Files) (order : Order) → Tells (F.tells folder.old) files →
         files (codes "CURRENT") ≡ Some (current_text opened.now.manifest) →
         order_name order ≡ C.name_bytes →
         IsOpened (IsHeldIn files) (Ok (order, opened.now.version)) →
         IsVersionLeft order C.cmp C.short_keys opened.now.version files level settings.now
         (F.calls folder.old) (F.calls folder.new) (F.tells folder.old) (F.tells folder.new) result }
-    ensures other { (files : Files) → Tells (F.tells folder.old) files →
-        files (codes "CURRENT") ≢ Some (current_text opened.now.manifest) → OnOk result ⊥ }
+    ensures other { IsOkOnlyIfCurrent (F.tells folder.old) opened.now.manifest result }
     ensures device { ReportsDevice F.Folder folder.old folder.new result }
 {
     inputs_suffice::<C>();

@@ -1,7 +1,7 @@
 //! The compaction of inputs whose tables are held.
 
 ghost use Rattle.std.specs.Prelude.{◌≡◌, ◌&&◌, ◌<◌, ◌^◌, nat_le, ℕ, List, map, IfOk, Ok};
-ghost use Rattle.std.specs.Prelude.{◌≢◌, None, OnOk, Some, codes, length, unwrap_or};
+ghost use Rattle.std.specs.Prelude.{None, Some, codes, length, unwrap_or};
 ghost use Rattle.coding.specs.Answers.{EqualOrMemory, HoldsOrMemory};
 ghost use Rattle.coding.specs.declared.fault.FaultName.TheVariants.{SplitCount};
 ghost use Rattle.table.specs.ReadingSteps.{test_result};
@@ -10,7 +10,7 @@ ghost use Rattle.checks.specs.HeldTables.{held_bytes};
 ghost use Rattle.folder.specs.Calls.{Files, Tells};
 ghost use Rattle.folder.specs.Manifest.{order_name};
 ghost use Rattle.folder.specs.Names.{current_text};
-ghost use Rattle.folder.specs.OpenAnswer.{FolderAnswers};
+ghost use Rattle.folder.specs.OpenAnswer.{FolderAnswers, IfCurrent, IsOkOnlyIfCurrent};
 ghost use Rattle.folder.specs.Reports.{ReportsDevice};
 ghost use Rattle.folder.specs.declared.order.Order.{Order};
 ghost use Rattle.install.specs.Install.{table_bytes_of};
@@ -121,11 +121,10 @@ pub(crate) fn install_held<
     requires name { length C.name_bytes < 2 ^ 32 }
     requires bytes { map (λ t. t.1) (held_bytes held.now)
         ≡ map (λ i. table_bytes_of (held_bytes held.now) i.meta.number) picked.now.files.items }
-    ensures answer { (files : Files) → Tells (F.tells folder.old) files →
-        files (codes "CURRENT") ≡ Some (current_text opened.now.manifest) →
+    ensures answer { IfCurrent (F.tells folder.old) opened.now.manifest (λ files.
         FolderAnswers (λ step. step.lines.items) (F.failed folder.old) (F.failed folder.new) result
         (IsReadTold (installed_lines opened.now.version) None C.cmp C.short_keys opened.now.version
-        (picked_in picked.now) settings.now (held_bytes held.now)) }
+        (picked_in picked.now) settings.now (held_bytes held.now))) }
     ensures left { (files : Files) (order : Order) (loaded : List (ℕ × List ℕ)) (level : ℕ) →
         Tells (F.tells folder.old) files →
         files (codes "CURRENT") ≡ Some (current_text opened.now.manifest) →
@@ -135,8 +134,7 @@ pub(crate) fn install_held<
         (held_bytes held.now) (picked_in picked.now) settings.now) →
         IsStepLeft order C.cmp C.short_keys opened.now.version loaded level settings.now
         (F.calls folder.old) (F.calls folder.new) (F.tells folder.old) (F.tells folder.new) result }
-    ensures other { (files : Files) → Tells (F.tells folder.old) files →
-        files (codes "CURRENT") ≢ Some (current_text opened.now.manifest) → OnOk result ⊥ }
+    ensures other { IsOkOnlyIfCurrent (F.tells folder.old) opened.now.manifest result }
     ensures device { ReportsDevice F.Folder folder.old folder.new result }
 {
     let tables = stated_tables(alloc, &picked.files, held)?;
@@ -185,8 +183,7 @@ fn install_checked<
         own (picked_in picked.now) settings.now) →
         IsStepLeft order C.cmp C.short_keys opened.now.version loaded level settings.now
         (F.calls folder.old) (F.calls folder.new) (F.tells folder.old) (F.tells folder.new) result }
-    ensures other { (files : Files) → Tells (F.tells folder.old) files →
-        files (codes "CURRENT") ≢ Some (current_text opened.now.manifest) → OnOk result ⊥ }
+    ensures other { IsOkOnlyIfCurrent (F.tells folder.old) opened.now.manifest result }
     ensures device { ReportsDevice F.Folder folder.old folder.new result }
 {
     let split = split_of(alloc, tables, settings.ranges)?;

@@ -1,13 +1,12 @@
 //! The compaction of a folder that reads its inputs and no other table.
 
-ghost use Rattle.std.specs.Prelude.{◌≡◌, ◌≢◌, ◌<◌, ◌^◌, ℕ, List, length, codes, Some, Ok};
-ghost use Rattle.std.specs.Prelude.{OnOk};
+ghost use Rattle.std.specs.Prelude.{◌≡◌, ◌<◌, ◌^◌, ℕ, List, length, codes, Some, Ok};
 ghost use Rattle.checks.specs.HeldTables.{AreHeldIn};
 ghost use Rattle.checks.specs.LawfulTables.{IsLawfulTables};
 ghost use Rattle.folder.specs.Calls.{Files, Tells};
 ghost use Rattle.folder.specs.Manifest.{order_name};
 ghost use Rattle.folder.specs.Names.{current_text};
-ghost use Rattle.folder.specs.OpenAnswer.{FolderAnswers};
+ghost use Rattle.folder.specs.OpenAnswer.{FolderAnswers, IfCurrent, IsOkOnlyIfCurrent};
 ghost use Rattle.folder.specs.Orders.{order_cmp, order_short_keys};
 ghost use Rattle.folder.specs.ReadsAs.{ReadsAs};
 ghost use Rattle.folder.specs.Reports.{ReportsDevice};
@@ -54,11 +53,10 @@ pub fn compact_inputs<F: ReadsTables + WritesTables, W: Watch + Sync, R: Threads
 ) -> Result<CompactionStep, Fault>
     // If the folder tells files, and CURRENT is the one that was opened. Whether the version is
     // lawful makes no difference.
-    ensures answer { (files : Files) → Tells (F.tells folder.old) files →
-        files (codes "CURRENT") ≡ Some (current_text opened.now.manifest) →
+    ensures answer { IfCurrent (F.tells folder.old) opened.now.manifest (λ files.
         FolderAnswers (λ step. step.lines.items) (F.failed folder.old) (F.failed folder.new) result
         (IsInputsCompacted (order_cmp opened.now.order) (order_short_keys opened.now.order)
-        files opened.now.version level settings.now) }
+        files opened.now.version level settings.now)) }
     // If moreover the files read as this version with tables with which it is lawful. Then the
     // edited version is lawful too, so what is left here is what is supposed of the next call.
     ensures left { (files : Files) (loaded : List (ℕ × List ℕ)) (tables : List NumberedContents) →
@@ -70,8 +68,7 @@ pub fn compact_inputs<F: ReadsTables + WritesTables, W: Watch + Sync, R: Threads
         (order_short_keys opened.now.order) opened.now.version loaded level settings.now
         (F.calls folder.old) (F.calls folder.new) (F.tells folder.old) (F.tells folder.new) result }
     // If CURRENT is another one, the answer is never Ok.
-    ensures other { (files : Files) → Tells (F.tells folder.old) files →
-        files (codes "CURRENT") ≢ Some (current_text opened.now.manifest) → OnOk result ⊥ }
+    ensures other { IsOkOnlyIfCurrent (F.tells folder.old) opened.now.manifest result }
     ensures device { ReportsDevice F.Folder folder.old folder.new result }
 {
     match opened.order {
@@ -109,11 +106,10 @@ pub(crate) fn compact_step<
     watch: &W,
 ) -> Result<CompactionStep, Fault>
     requires { length C.name_bytes < 2 ^ 32 }
-    ensures answer { (files : Files) → Tells (F.tells folder.old) files →
-        files (codes "CURRENT") ≡ Some (current_text opened.now.manifest) →
+    ensures answer { IfCurrent (F.tells folder.old) opened.now.manifest (λ files.
         AreHeldIn C.cmp files held →
         FolderAnswers (λ step. step.lines.items) (F.failed folder.old) (F.failed folder.new) result
-        (IsInputsCompacted C.cmp C.short_keys files opened.now.version level settings.now) }
+        (IsInputsCompacted C.cmp C.short_keys files opened.now.version level settings.now)) }
     ensures left { (files : Files) (order : Order) (loaded : List (ℕ × List ℕ))
         (tables : List NumberedContents) →
         Tells (F.tells folder.old) files →
@@ -124,8 +120,7 @@ pub(crate) fn compact_step<
         IsLawfulTables C.cmp opened.now.version loaded (Ok tables) →
         IsStepLeft order C.cmp C.short_keys opened.now.version loaded level settings.now
         (F.calls folder.old) (F.calls folder.new) (F.tells folder.old) (F.tells folder.new) result }
-    ensures other { (files : Files) → Tells (F.tells folder.old) files →
-        files (codes "CURRENT") ≢ Some (current_text opened.now.manifest) → OnOk result ⊥ }
+    ensures other { IsOkOnlyIfCurrent (F.tells folder.old) opened.now.manifest result }
     ensures device { ReportsDevice F.Folder folder.old folder.new result }
 {
     numbered_is_installed::<C>();

@@ -4,15 +4,15 @@
 //! tables are encoded and written a group after the other, so no more than a group is in memory. If
 //! that fails midway, the tables that were written stay: the version doesn't name them.
 
-ghost use Rattle.std.specs.Prelude.{◌≡◌, ◌≢◌, ◌∷◌, [], ◌<◌, ◌^◌, ℕ, List, length, codes, Some, Ok};
-ghost use Rattle.std.specs.Prelude.{IfErr, IfOk, OnOk, slice_get};
+ghost use Rattle.std.specs.Prelude.{◌≡◌, ◌∷◌, [], ◌<◌, ◌^◌, ℕ, List, length, codes, Some, Ok};
+ghost use Rattle.std.specs.Prelude.{IfErr, IfOk, slice_get};
 ghost use Rattle.coding.specs.Answers.{fault};
 ghost use Rattle.coding.specs.declared.fault.FaultName.TheVariants.{Memory};
 ghost use Rattle.compact.specs.Grouped.{joined_answer};
 ghost use Rattle.folder.specs.Calls.{Files, Tells};
 ghost use Rattle.folder.specs.Manifest.{order_name};
 ghost use Rattle.folder.specs.Names.{current_text};
-ghost use Rattle.folder.specs.OpenAnswer.{FolderAnswers};
+ghost use Rattle.folder.specs.OpenAnswer.{FolderAnswers, IfCurrent, IsOkOnlyIfCurrent};
 ghost use Rattle.folder.specs.Reports.{ReportsDevice};
 ghost use Rattle.folder.specs.declared.order.Order.{Order};
 ghost use Rattle.install.specs.Install.{table_calls};
@@ -61,11 +61,10 @@ pub(crate) fn install_merged<
 ) -> Result<CompactionStep, Fault>
     requires name { length C.name_bytes < 2 ^ 32 }
     requires other { NeverDevice merged.now }
-    ensures answer { (files : Files) → Tells (F.tells folder.old) files →
-        files (codes "CURRENT") ≡ Some (current_text opened.now.manifest) →
+    ensures answer { IfCurrent (F.tells folder.old) opened.now.manifest (λ files.
         FolderAnswers (λ step. step.lines.items) (F.failed folder.old) (F.failed folder.new) result
         (λ lines. lines ≡ answer_as (λ a. compaction_lines a.tables inputs.now
-        (manifest_of opened.now.version)) merged.now) }
+        (manifest_of opened.now.version)) merged.now)) }
     ensures left { (files : Files) (order : Order) (loaded : List (ℕ × List ℕ)) (level : ℕ)
         (s : Settings) → Tells (F.tells folder.old) files →
         files (codes "CURRENT") ≡ Some (current_text opened.now.manifest) →
@@ -75,8 +74,7 @@ pub(crate) fn install_merged<
         (compaction_lines a.tables inputs.now (manifest_of opened.now.version))) →
         IsStepLeft order C.cmp C.short_keys opened.now.version loaded level s
         (F.calls folder.old) (F.calls folder.new) (F.tells folder.old) (F.tells folder.new) result }
-    ensures other { (files : Files) → Tells (F.tells folder.old) files →
-        files (codes "CURRENT") ≢ Some (current_text opened.now.manifest) → OnOk result ⊥ }
+    ensures other { IsOkOnlyIfCurrent (F.tells folder.old) opened.now.manifest result }
     ensures device { ReportsDevice F.Folder folder.old folder.new result }
 {
     let planned = merged.planned(rt, alloc)?;

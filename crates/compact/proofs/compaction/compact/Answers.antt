@@ -25,7 +25,7 @@ returns-in_err-check_workers g c =
       same = rw (p.1, p.2)
           (FailsOrMemory-from c.in_err-check_workers.field-0.0 _
           (ap (λ (t : Result (Unit {0}) Fault). t >>= λ _. thread) (sym c.in_err-check_workers.ensures)));
-      reads = rw (p.1) tt;
+      leaves_reads = rw (p.1) tt;
     }
 
 pub returns-in_err-check : goal.returns-in_err-check
@@ -38,7 +38,7 @@ returns-in_err-check g c =
           (FailsOrMemory-from c.in_err-check.field-0.0 _
           (answer_is c.args.workers (sym c.in_ok-check_workers.ensures) (one_thread cmp g.C.Comparator.short_keys r)
           ∙ refused_test cmp g.C.Comparator.short_keys r c.in_err-check.field-0.0 (sym c.in_err-check.ensures)));
-      reads = rw (p.1) tt;
+      leaves_reads = rw (p.1) tt;
     }
 
 pub check_inputs-requires-clause-few : goal.check_inputs-requires-clause-few
@@ -59,7 +59,7 @@ returns-in_err-tables g c =
           (refused_input cmp g.C.Comparator.short_keys r e (sym c.in_ok-check.ensures)
           (subst (FailsOrMemory e) (inputs_are c.args.workers passes (inputs_reading cmp 0 r.picked.files r.tables))
           (subst (λ (files : List InputFile). FailsOrMemory e (by_workers c.args.workers (inputs_reading cmp 0 files r.tables))) c.deref.ensures.value c.in_err-tables.ensures))));
-      reads = rw (p.1) tt;
+      leaves_reads = rw (p.1) tt;
     }
 
 pub compact_tables-requires-clause-read : goal.compact_tables-requires-clause-read

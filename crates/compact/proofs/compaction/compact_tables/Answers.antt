@@ -14,5 +14,5 @@ returns g c =
     let r : RequestView = request_in c.args.request.now in
     record {
       same = subst (λ (a : Result Answer Fault). EqualOrMemory answer_in c.written.result a) c.in_ok-merged.ensures.merged c.written.ensures;
-      reads = if_answered answer_in (LeavesReads cmp r) c.written.result c.in_ok-merged.merged c.written.ensures c.in_ok-merged.ensures.reads;
+      leaves_reads = if_answered answer_in (LeavesReads cmp r) c.written.result c.in_ok-merged.merged c.written.ensures c.in_ok-merged.ensures.leaves_reads;
     }

@@ -45,7 +45,7 @@ use Rattle.survival.proofs.AppliedEdit.{edit_applies}
 use Rattle.survival.proofs.Inputs.{input_file}
 use Rattle.checks.proofs.FoundTables.{checked_parts}
 use Rattle.checks.proofs.LawfulLemmas.{sound_checked, sound_lawful}
-use Rattle.checks.specs.Checked.{tables_reading}
+use Rattle.checks.specs.TableReadings.{tables_reading}
 use Rattle.checks.specs.LawfulTables.{IsLawfulTables}
 use Rattle.keep.specs.declared.snapshots.Snapshots.TheVariants.{From}
 use Rattle.store.proofs.Compactions.{picked_of}

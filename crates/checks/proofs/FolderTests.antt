@@ -22,7 +22,7 @@ use Rattle.folder.specs.ReadsAs.{IsHeldIn}
 use Rattle.split.specs.Ranges.{IsCover, KeyRange}
 use Rattle.reads.specs.Tables.{NumberedContents}
 use Rattle.reads.specs.TableOrder.{AreAllAdded, AreStandingFiles, IsNeverLawful}
-use Rattle.checks.specs.Checked.{tables_reading}
+use Rattle.checks.specs.TableReadings.{tables_reading}
 use Rattle.checks.specs.GroupTest.{IsLawfulIn, IsLawlessIn, IsRangeAnswer, IsRangesAnswer, IsSweepAnswer, IsWalkAnswer}
 use Rattle.checks.specs.HeldTables.{AreFound, IsFoundAnswer}
 use Rattle.checks.specs.InOrder.{AreChecked}

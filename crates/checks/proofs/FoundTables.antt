@@ -16,7 +16,7 @@ use Rattle.folder.specs.LoadedTables.{IsFirstMissing, IsTableAnswer, IsTableOf}
 use Rattle.folder.specs.ReadsAs.{IsHeldIn}
 use Rattle.reads.specs.Tables.{NumberedContents, table_of_number}
 use Rattle.reads.proofs.Members.{first_in, first_or_later, later_in, none_in}
-use Rattle.checks.specs.Checked.{numbered_reading, tables_reading}
+use Rattle.checks.specs.TableReadings.{numbered_reading, tables_reading}
 use Rattle.checks.specs.HeldTables.{AreFound, AreHeldIn, IsTableIn, held_numbers}
 
 -- ---- tables that were checked, one after the other

@@ -10,7 +10,7 @@ use Rattle.coding.specs.declared.fault.FaultName.TheVariants.{Device, Lawless, M
 use Rattle.edit.specs.Version.{State}
 use Rattle.reads.specs.Lawful.{IsLawful}
 use Rattle.reads.specs.Tables.{NumberedContents, table_of_number}
-use Rattle.checks.specs.Checked.{tables_reading}
+use Rattle.checks.specs.TableReadings.{tables_reading}
 use Rattle.checks.specs.LawfulTables.{IsLawfulAnswer, IsLawfulTables}
 use Rattle.checks.proofs.TableRefusals.{no_device}
 

@@ -13,7 +13,7 @@ use Rattle.folder.specs.Calls.{Files}
 use Rattle.folder.specs.LoadedTables.{IsLoaded, IsTableOf}
 use Rattle.folder.specs.ReadsAs.{IsHeldIn}
 use Rattle.reads.specs.Tables.{NumberedContents}
-use Rattle.checks.specs.Checked.{tables_reading}
+use Rattle.checks.specs.TableReadings.{tables_reading}
 use Rattle.checks.specs.InOrder.{AreChecked, AreCheckedSoFar, IsFirstRefusal}
 use Rattle.checks.proofs.TableRounds.{reading_append, tables_after}
 

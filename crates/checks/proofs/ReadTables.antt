@@ -17,7 +17,7 @@ use Rattle.folder.specs.LoadedTables.{IsTableOf}
 use Rattle.folder.specs.OpenAnswer.{FolderAnswers, IsStopped}
 use Rattle.folder.specs.ReadsAs.{IsHeldIn}
 use Rattle.reads.specs.Tables.{NumberedContents}
-use Rattle.checks.specs.Checked.{IsInvalid, IsRead, tables_reading}
+use Rattle.checks.specs.TableReadings.{IsInvalid, IsRead, tables_reading}
 use Rattle.checks.specs.HeldTables.{IsFoundAnswer, held_numbers}
 use Rattle.checks.specs.TablePlaces.{AreBounds}
 use Rattle.checks.proofs.FoundTables.{checked_parts, found_read, found_tables, loaded_numbers, own_bytes, read_numbers}

@@ -34,7 +34,7 @@ use Rattle.reads.specs.Tables.{NumberedContents, table_entries, table_of_number,
 use Rattle.reads.proofs.Answers.{entries_are}
 use Rattle.reads.proofs.Levels.{all_of}
 use Rattle.reads.proofs.Members.{first_in, first_or_later, in_map, later_in, none_in}
-use Rattle.checks.specs.Checked.{tables_reading}
+use Rattle.checks.specs.TableReadings.{tables_reading}
 use Rattle.checks.specs.NeededFiles.{starts_in}
 use Rattle.checks.specs.TestedTables.{entry_count}
 use Rattle.checks.specs.GroupTest.{AreRangesSound, AreTablesIn, IsLawfulIn, IsLawlessIn, IsStatedIn, NoTablesFall, count_below, count_in}

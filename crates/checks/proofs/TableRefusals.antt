@@ -18,7 +18,7 @@ use Rattle.table.specs.TableContents.{blocks_of, blocks_reading, contents_readin
 use Rattle.table.specs.ReadingEntries.{data_test, entries_test, entry_test, is_above, is_some_list}
 use Rattle.table.specs.ReadingIndex.{IndexEntry, block_in, handle_alone, index_entry, index_reading, one_handle, stored_at}
 use Rattle.table.specs.ReadingSteps.{test_result}
-use Rattle.checks.specs.Checked.{numbered_reading, tables_reading}
+use Rattle.checks.specs.TableReadings.{numbered_reading, tables_reading}
 
 -- each name but Device
 IsOther : FaultName → Type 0

@@ -10,7 +10,7 @@ use Rattle.coding.specs.declared.fault.Fault.{Fault}
 use Rattle.coding.proofs.Refusals.{unless_from}
 use Rattle.board.specs.Collected.{collected_results}
 use Rattle.reads.specs.Tables.{NumberedContents}
-use Rattle.checks.specs.Checked.{numbered_reading, table_answers, tables_reading}
+use Rattle.checks.specs.TableReadings.{numbered_reading, table_answers, tables_reading}
 use Rattle.checks.proofs.Lent.{lent_table}
 
 pub same_tables : (tables : List NumberedContents) → map (λ t. t) tables ≡ tables

@@ -26,7 +26,7 @@ use Rattle.table.specs.TableContents.{Contents, DataBlock, blocks_of, blocks_rea
 use Rattle.table.specs.ReadingEntries.{data_test, is_some_list, key_behind}
 use Rattle.table.specs.ReadingIndex.{IndexEntry, block_in, index_entry, index_reading, one_handle, stored_at}
 use Rattle.table.specs.ReadingSteps.{test_result}
-use Rattle.checks.specs.Checked.{numbered_reading, tables_reading}
+use Rattle.checks.specs.TableReadings.{numbered_reading, tables_reading}
 
 -- ---- a block
 

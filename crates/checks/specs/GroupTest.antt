@@ -18,7 +18,7 @@ use Rattle.reads.specs.Lawful.{IsLawful}
 use Rattle.reads.specs.StatedFiles.{IsStatedFile}
 use Rattle.reads.specs.TableOrder.{AreAllAdded, AreFalling, AreFallingIn, lists_of_files}
 use Rattle.reads.specs.Tables.{NumberedContents, table_of_number, table_entries}
-use Rattle.checks.specs.Checked.{tables_reading}
+use Rattle.checks.specs.TableReadings.{tables_reading}
 use Rattle.checks.specs.HeldTables.{IsTableIn}
 use Rattle.checks.specs.NeededFiles.{is_file_needed, starts_in}
 use Rattle.checks.specs.TestedTables.{entry_count}

@@ -8,7 +8,7 @@ use Rattle.folder.specs.Calls.{Files}
 use Rattle.folder.specs.LoadedTables.{IsLoaded, IsTableOf}
 use Rattle.folder.specs.ReadsAs.{IsHeldIn}
 use Rattle.reads.specs.Tables.{NumberedContents}
-use Rattle.checks.specs.Checked.{tables_reading}
+use Rattle.checks.specs.TableReadings.{tables_reading}
 
 -- all tables are read, and then each is checked
 abbrev pub AreChecked : (List ℕ → List ℕ → Ordering) → Files → List ℕ → Result (Unit {0}) Fault →

@@ -6,7 +6,7 @@ use Rattle.coding.specs.declared.fault.Fault.{Fault}
 use Rattle.edit.specs.Version.{State}
 use Rattle.reads.specs.Lawful.{IsLawful, IsUnlawful}
 use Rattle.reads.specs.Tables.{NumberedContents}
-use Rattle.checks.specs.Checked.{tables_reading}
+use Rattle.checks.specs.TableReadings.{tables_reading}
 
 -- what the test of a version answers for tables: these, if the version is lawful with them
 abbrev pub IsLawfulAnswer : (List ℕ → List ℕ → Ordering) → State → List NumberedContents →

@@ -1,5 +1,5 @@
 -- what contracts rest on
-pub mod Checked
+pub mod TableReadings
 pub mod LawfulTables
 pub mod TestedTables
 pub mod NeededFiles

@@ -2,7 +2,7 @@
 
 ghost use Rattle.std.specs.Prelude.{◌<◌, ◌≤◌, map};
 ghost use Rattle.coding.specs.Answers.{EqualOrMemory};
-ghost use Rattle.checks.specs.Checked.{tables_reading};
+ghost use Rattle.checks.specs.TableReadings.{tables_reading};
 
 use crate::table_check::check_round;
 use board::Gate;

@@ -3,7 +3,7 @@
 ghost use Rattle.std.specs.Prelude.{◌≡◌, ◌<◌, ◌≤◌, ◌^◌, length, map, slice_get, Some, Result};
 ghost use Rattle.coding.specs.Answers.{EqualOrMemory};
 ghost use Rattle.reads.specs.Tables.{NumberedContents};
-ghost use Rattle.checks.specs.Checked.{numbered_reading, table_answers, tables_reading};
+ghost use Rattle.checks.specs.TableReadings.{numbered_reading, table_answers, tables_reading};
 
 use board::{Gate, Labour, run};
 use coding::Fault;
@@ -27,7 +27,7 @@ impl<'t, C: Comparator> Labour for Checks<'t, C> {
 
     ghost use Rattle.std.specs.Prelude.{length, map};
     ghost use Rattle.board.specs.Collected.{refusal_at, HasValue};
-    ghost use Rattle.checks.specs.Checked.{table_answers};
+    ghost use Rattle.checks.specs.TableReadings.{table_answers};
 
     ghost jobs = { λ s. length s.loaded.now };
 

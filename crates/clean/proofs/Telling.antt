@@ -5,7 +5,7 @@ use Rattle.folder.specs.Calls.{Call, Created, Done, FolderSynced, Removed, Renam
 use Rattle.folder.specs.CallSequence.{AreMadeBy}
 use Rattle.folder.specs.declared.folder.FolderFault.{FolderFault}
 use Rattle.folder.proofs.RunLemmas.{changes_then, made_behind, made_front}
-use Rattle.install.specs.Told.{AreTold}
+use Rattle.install.specs.ToldNames.{AreTold}
 use Rattle.clean.specs.Removal.{IsToldRun, removal_calls, removed_by}
 
 told_then : {W : Type 0} (tells : W → List ℕ → W → Type 0) (a b : List (List ℕ)) (x y z : W) → AreTold tells x a y → AreTold tells y b z → AreTold tells x (a ++ b) z

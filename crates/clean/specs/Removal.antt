@@ -12,7 +12,7 @@ use Rattle.folder.specs.Folder.{TellsSame}
 use Rattle.folder.specs.ReadsAs.{ReadsBy}
 use Rattle.folder.specs.declared.order.Order.{Order}
 use Rattle.install.specs.Install.{AlwaysStandsBy}
-use Rattle.install.specs.Told.{AreTold}
+use Rattle.install.specs.ToldNames.{AreTold}
 use Rattle.clean.specs.ObsoleteFile.{AreObsolete}
 
 -- each file is removed, and then the folder is synced; no call is made if there is no file

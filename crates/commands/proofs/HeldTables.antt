@@ -8,7 +8,7 @@ use Rattle.std.proofs.lemmas.Bool.{eqb-true}
 use Rattle.std.proofs.lemmas.Option.{none-some, same_Some}
 use Rattle.coding.proofs.Binds.{bind_ok, ok_is}
 use Rattle.coding.specs.Answers.{◌>>=◌}
-use Rattle.checks.specs.Checked.{numbered_reading, tables_reading}
+use Rattle.checks.specs.TableReadings.{numbered_reading, tables_reading}
 use Rattle.folder.specs.Calls.{Files, Tells}
 use Rattle.folder.specs.LoadedTables.{IsTableAnswer, IsTableOf}
 use Rattle.folder.specs.Names.{old_table_name, table_name}

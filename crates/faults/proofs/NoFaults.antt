@@ -35,7 +35,7 @@ use Rattle.reads.proofs.Members.{first_in, first_or_later, from_flat_map, from_m
 use Rattle.reads.proofs.OrderedFiles.{Before}
 use Rattle.reads.proofs.Pairs.{Pairs, pairs_from, pairs_to}
 use Rattle.reads.proofs.SoundFiles.{stated_tests}
-use Rattle.checks.specs.Checked.{tables_reading}
+use Rattle.checks.specs.TableReadings.{tables_reading}
 use Rattle.checks.specs.HeldTables.{AreFound, IsTableIn}
 use Rattle.checks.specs.TestedTables.{IsTested, entry_count}
 use Rattle.checks.specs.declared.tested.Tested.{Tested}

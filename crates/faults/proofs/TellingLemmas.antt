@@ -3,8 +3,8 @@ use Rattle.std.proofs.Common.{◌≡◌, ℕ, zero, suc, ◌+◌, ◌-◌, ◌<�
 use Rattle.coding.specs.declared.fault.Fault.{Fault}
 use Rattle.faults.specs.VersionFault.{VersionFault}
 use Rattle.faults.specs.AllFaults.{IsToldThese}
-use Rattle.faults.specs.Telling.{IsBegun, IsPart, IsTelling, IsTold, count_after, next_count}
-use Rattle.faults.specs.declared.told.Told.{Told}
+use Rattle.faults.specs.ToldFaults.{IsBegun, IsPart, IsTelling, IsTold, count_after, next_count}
+use Rattle.faults.specs.declared.fault_count.FaultCount.{FaultCount}
 
 -- the first of what is left of a list
 pub next_of : {A B : Type 0} (f : A → B) (xs : List A) (i : ℕ) (x : A) → i < length xs → x ≡ get_or xs i x → map f (drop i xs) ≡ f x ∷ map f (drop (i + 1) xs)
@@ -58,11 +58,11 @@ module _ {T : Type 0} (tells : T → VersionFault → Bool → T → Type 0) whe
   told_append (x ∷ xs) ys old mid new goes (inr h) k = inr (h.0, h.1, told_append xs ys h.0 mid new goes h.2 k)
 
   -- nothing is told yet
-  pub none_told : (faults : List VersionFault) (old : T) (after : Told) → after.goes ≡ true → IsPart tells faults old after.count faults old after
+  pub none_told : (faults : List VersionFault) (old : T) (after : FaultCount) → after.goes ≡ true → IsPart tells faults old after.count faults old after
   none_told faults old after goes = record { told = []; parts = refl; taker = (goes, refl); counted = refl }
 
   -- a part, after some of the faults
-  module _ (faults front behind : List VersionFault) (old mid new : T) (before : ℕ) (m n : Told) (goes : m.goes ≡ true) (p : IsPart tells faults old before (front ++ behind) mid m) where
+  module _ (faults front behind : List VersionFault) (old mid new : T) (before : ℕ) (m n : FaultCount) (goes : m.goes ≡ true) (p : IsPart tells faults old before (front ++ behind) mid m) where
     pub part_then : (untold : List VersionFault) → IsPart tells front mid m.count untold new n → IsPart tells faults old before (untold ++ behind) new n
     part_then untold q = record {
       told = p.told ++ q.told;
@@ -95,23 +95,23 @@ module _ {T : Type 0} (tells : T → VersionFault → Bool → T → Type 0) whe
         }
 
   -- one fault more
-  pub one_told : (f : VersionFault) (behind faults : List VersionFault) (old now new : T) (before : ℕ) (m n : Told) → m.goes ≡ true → IsPart tells faults old before (f ∷ behind) now m → tells now f n.goes new → n.count ≡ next_count m.count → IsPart tells faults old before behind new n
+  pub one_told : (f : VersionFault) (behind faults : List VersionFault) (old now new : T) (before : ℕ) (m n : FaultCount) → m.goes ≡ true → IsPart tells faults old before (f ∷ behind) now m → tells now f n.goes new → n.count ≡ next_count m.count → IsPart tells faults old before behind new n
   one_told f behind faults old now new before m n goes p h counted =
       part_then faults (f ∷ []) behind old now new before m n goes p [] (record { told = f ∷ []; parts = refl; taker = inl (refl, h); counted = counted })
 
   -- at the end
-  pub told_end : (faults : List VersionFault) (old new : T) (before : ℕ) (after : Told) → IsPart tells faults old before [] new after → IsTold tells faults old before new after
+  pub told_end : (faults : List VersionFault) (old new : T) (before : ℕ) (after : FaultCount) → IsPart tells faults old before [] new after → IsTold tells faults old before new after
   told_end faults old new before after p = record { untold = []; part = p; ended = inl refl }
 
   -- the taker said to stop after one
-  pub stopped_at : (faults untold : List VersionFault) (old new : T) (before : ℕ) (after : Told) → IsPart tells faults old before untold new after → after.goes ≡ false → IsTold tells faults old before new after
+  pub stopped_at : (faults untold : List VersionFault) (old new : T) (before : ℕ) (after : FaultCount) → IsPart tells faults old before untold new after → after.goes ≡ false → IsTold tells faults old before new after
   stopped_at faults untold old new before after p stops = record { untold = untold; part = p; ended = inr stops }
 
-  pub begun_at : (faults untold : List VersionFault) (old new : T) (before : ℕ) (after : Told) → IsPart tells faults old before untold new after → after.goes ≡ true → IsBegun tells faults old before new
+  pub begun_at : (faults untold : List VersionFault) (old new : T) (before : ℕ) (after : FaultCount) → IsPart tells faults old before untold new after → after.goes ≡ true → IsBegun tells faults old before new
   begun_at faults untold old new before after p goes = record { untold = untold; after = after; part = p; goes = goes }
 
   -- a refusal that `?` hands on
-  pub handed_begun : (faults : List VersionFault) (old new : T) (before : ℕ) (r : Result Told Fault) (e : Fault) → IsErrAnd r (λ f. f ≡ e) → IsBegun tells faults old before new → IsTelling tells faults old before new r
+  pub handed_begun : (faults : List VersionFault) (old new : T) (before : ℕ) (r : Result FaultCount Fault) (e : Fault) → IsErrAnd r (λ f. f ≡ e) → IsBegun tells faults old before new → IsTelling tells faults old before new r
   handed_begun faults old new before (Ok t) e h begun = absurd h
   handed_begun faults old new before (Err f) e h begun = begun
 
@@ -131,14 +131,14 @@ none_behind (x ∷ xs) (suc i) le = none_behind xs i (omega arith)
 pub all_left : {A B : Type 0} (f : A → B) (xs : List A) (i : ℕ) → length xs ≤ i → map f (drop i xs) ≡ []
 all_left f xs i le = ap (map f) (none_behind xs i le)
 
-module _ {T : Type 0} (tells : T → VersionFault → Bool → T → Type 0) {A : Type 0} (f : A → VersionFault) (xs : List A) (i : ℕ) (old now new : T) (before : ℕ) (m : Told) (goes : m.goes ≡ true) (p : IsPart tells (map f xs) old before (map f (drop i xs)) now m) where
+module _ {T : Type 0} (tells : T → VersionFault → Bool → T → Type 0) {A : Type 0} (f : A → VersionFault) (xs : List A) (i : ℕ) (old now new : T) (before : ℕ) (m : FaultCount) (goes : m.goes ≡ true) (p : IsPart tells (map f xs) old before (map f (drop i xs)) now m) where
   -- one more of the list
-  pub next_told : (x : A) (n : Told) (more : Bool) → i < length xs → x ≡ get_or xs i x → tells now (f x) more new → n ≡ record { count = next_count m.count; goes = more } → IsPart tells (map f xs) old before (map f (drop (i + 1) xs)) new n
+  pub next_told : (x : A) (n : FaultCount) (more : Bool) → i < length xs → x ≡ get_or xs i x → tells now (f x) more new → n ≡ record { count = next_count m.count; goes = more } → IsPart tells (map f xs) old before (map f (drop (i + 1) xs)) new n
   next_told x n more lt is h told =
       one_told tells (f x) (map f (drop (i + 1) xs)) (map f xs) old now new before m n goes
       (subst (λ (fs : List VersionFault). IsPart tells (map f xs) old before fs now m) (next_of f xs i x lt is) p)
-      (subst (λ (b : Bool). tells now (f x) b new) (sym (ap (λ (t : Told). t.goes) told)) h)
-      (ap (λ (t : Told). t.count) told)
+      (subst (λ (b : Bool). tells now (f x) b new) (sym (ap (λ (t : FaultCount). t.goes) told)) h)
+      (ap (λ (t : FaultCount). t.count) told)
 
   -- the end of the list
   pub list_told : length xs ≤ i → IsTold tells (map f xs) old before now m

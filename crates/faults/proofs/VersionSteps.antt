@@ -23,8 +23,8 @@ use Rattle.faults.specs.FileFaults.{faults_of_files}
 use Rattle.faults.specs.Findings.{FoundFile, faults_of_found, found_file, searched_found}
 use Rattle.faults.specs.KeyFaults.{falling_cmp, is_deep, is_sound, is_top, metas_where, misplaced_keys, read_file, searched_entries, searched_files, searched_of}
 use Rattle.faults.specs.RangeKeys.{AreSoundIn, keys_from}
-use Rattle.faults.specs.Telling.{IsBegun, IsPart, IsTold}
-use Rattle.faults.specs.declared.told.Told.{Told}
+use Rattle.faults.specs.ToldFaults.{IsBegun, IsPart, IsTold}
+use Rattle.faults.specs.declared.fault_count.FaultCount.{FaultCount}
 use Rattle.faults.proofs.FaultAnswers.{stopped_answer}
 use Rattle.faults.proofs.FindingLemmas.{faults_same, searched_same}
 use Rattle.faults.proofs.MisplacedLemmas.{ranges_are}
@@ -71,7 +71,7 @@ none_more : (n : ℕ) → 0 + n ≡ n
 none_more n = omega arith
 
 module _ {T : Type 0} (tells : T → VersionFault → Bool → T → Type 0) (faults : List VersionFault) (old new : T) (before now : ℕ) where
-  pub faults_told : (r : Result ℕ Fault) (after : Told) → r ≡ Ok after.count → IsTold tells faults old 0 new after → AreFaultsTold tells faults old new before now r
+  pub faults_told : (r : Result ℕ Fault) (after : FaultCount) → r ≡ Ok after.count → IsTold tells faults old 0 new after → AreFaultsTold tells faults old new before now r
   faults_told r after is h = record {
     told = h.part.told;
     untold = h.untold;
@@ -94,14 +94,14 @@ module _ {T : Type 0} (tells : T → VersionFault → Bool → T → Type 0) (fa
 
 -- ---- of the files, and then of the keys
 
-module _ {T : Type 0} (tells : T → VersionFault → Bool → T → Type 0) (front keys : List VersionFault) (old : T) (none : Told) (is_none : none.count ≡ 0) (goes : none.goes ≡ true) where
+module _ {T : Type 0} (tells : T → VersionFault → Bool → T → Type 0) (front keys : List VersionFault) (old : T) (none : FaultCount) (is_none : none.count ≡ 0) (goes : none.goes ≡ true) where
   abbrev whole : List VersionFault
   whole = front ++ keys
 
   start : IsPart tells whole old 0 whole old none
   start = subst (λ (n : ℕ). IsPart tells whole old n whole old none) is_none (none_told tells whole old none goes)
 
-  at_start : (new : T) (after : Told) → IsTold tells front old 0 new after → IsTold tells front old none.count new after
+  at_start : (new : T) (after : FaultCount) → IsTold tells front old 0 new after → IsTold tells front old none.count new after
   at_start new after h = subst (λ (n : ℕ). IsTold tells front old n new after) (sym is_none) h
 
   -- nothing yet
@@ -113,25 +113,25 @@ module _ {T : Type 0} (tells : T → VersionFault → Bool → T → Type 0) (fr
   files_begun new h = told_begun tells whole front keys old old new 0 none none goes start (subst (λ (n : ℕ). IsBegun tells front old n new) (sym is_none) h)
 
   -- the taker said to stop there
-  pub files_stop : (new : T) (after : Told) → IsTold tells front old 0 new after → after.goes ≡ false → IsTold tells whole old 0 new after
+  pub files_stop : (new : T) (after : FaultCount) → IsTold tells front old 0 new after → after.goes ≡ false → IsTold tells whole old 0 new after
   files_stop new after h stops = told_stops tells whole front keys old old new 0 none after goes start (at_start new after h) stops
 
   -- all of the files
-  files_done : (mid : T) (m : Told) → IsTold tells front old 0 mid m → m.goes ≡ true → IsPart tells whole old 0 keys mid m
+  files_done : (mid : T) (m : FaultCount) → IsTold tells front old 0 mid m → m.goes ≡ true → IsPart tells whole old 0 keys mid m
   files_done mid m h more = told_more tells whole front keys old old mid 0 none m goes start (at_start mid m h) more
 
-  pub keys_untold : (mid : T) (m : Told) → IsTold tells front old 0 mid m → m.goes ≡ true → IsBegun tells whole old 0 mid
+  pub keys_untold : (mid : T) (m : FaultCount) → IsTold tells front old 0 mid m → m.goes ≡ true → IsBegun tells whole old 0 mid
   keys_untold mid m h more = begun_at tells whole keys old mid 0 m (files_done mid m h more) more
 
-  last_part : (mid : T) (m : Told) → IsTold tells front old 0 mid m → m.goes ≡ true → IsPart tells whole old 0 (keys ++ []) mid m
+  last_part : (mid : T) (m : FaultCount) → IsTold tells front old 0 mid m → m.goes ≡ true → IsPart tells whole old 0 (keys ++ []) mid m
   last_part mid m h more = subst (λ (fs : List VersionFault). IsPart tells whole old 0 fs mid m) (sym (append-nil keys)) (files_done mid m h more)
 
   -- a refusal among the keys
-  pub keys_begun : (mid new : T) (m : Told) → IsTold tells front old 0 mid m → m.goes ≡ true → IsBegun tells keys mid m.count new → IsBegun tells whole old 0 new
+  pub keys_begun : (mid new : T) (m : FaultCount) → IsTold tells front old 0 mid m → m.goes ≡ true → IsBegun tells keys mid m.count new → IsBegun tells whole old 0 new
   keys_begun mid new m h more k = told_begun tells whole keys [] old mid new 0 m m more (last_part mid m h more) k
 
   -- all of the keys, or the taker said to stop
-  pub keys_told : (mid new : T) (m after : Told) → IsTold tells front old 0 mid m → m.goes ≡ true → IsTold tells keys mid m.count new after → IsTold tells whole old 0 new after
+  pub keys_told : (mid new : T) (m after : FaultCount) → IsTold tells front old 0 mid m → m.goes ≡ true → IsTold tells keys mid m.count new after → IsTold tells whole old 0 new after
   keys_told mid new m after h more k = record {
     untold = k.untold ++ [];
     part = part_then tells whole keys [] old mid new 0 m after more (last_part mid m h more) k.untold k.part;

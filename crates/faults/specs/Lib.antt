@@ -6,6 +6,6 @@ pub mod AllFaults
 pub mod FaultLaws
 -- serves proofs alone
 pub mod Findings
-pub mod Telling
+pub mod ToldFaults
 pub mod KeyWalk
 pub mod RangeKeys

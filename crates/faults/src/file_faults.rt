@@ -10,14 +10,14 @@ ghost use Rattle.faults.specs.FileFaults.{unless};
 ghost use Rattle.faults.specs.Findings.{faults_of_found, finding_faults, found_faults};
 ghost use Rattle.faults.specs.Findings.{new_file_listed};
 ghost use Rattle.faults.specs.Findings.{found_in};
-ghost use Rattle.faults.specs.Telling.{IsTelling};
+ghost use Rattle.faults.specs.ToldFaults.{IsTelling};
 
+use crate::fault_count::{FaultCount, tell_file};
 use crate::fault_taker::FaultTaker;
 use crate::file_fault::FileFault;
 use crate::listed_file::ListedFile;
 use crate::table_finding::TableFinding;
 use crate::tested_file::TestedFile;
-use crate::told::{Told, tell_file};
 use coding::Fault;
 use edit::FileMeta;
 use ikey::Comparator;
@@ -30,8 +30,8 @@ pub(crate) fn tell_files<C: Comparator, T: FaultTaker>(
     tested: &[TestedFile<'_>],
     next: Option<u64>,
     taker: &mut T,
-    told: Told,
-) -> Result<Told, Fault>
+    told: FaultCount,
+) -> Result<FaultCount, Fault>
     requires { told.goes ≡ true }
     ensures told { IsTelling T.tells (faults_of_found C.cmp next (map found_in tested.now))
         taker.old told.count taker.new result }

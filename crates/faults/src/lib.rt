@@ -12,6 +12,7 @@
 #![tactic(auto)]
 
 mod entry_order;
+mod fault_count;
 mod fault_laws;
 mod fault_taker;
 mod file_cursor;
@@ -27,7 +28,6 @@ mod table_finding;
 mod table_length;
 mod table_test;
 mod tested_file;
-mod told;
 mod version_faults;
 
 pub use fault_laws::{misplaced_law, no_fault_law};

@@ -13,13 +13,13 @@ ghost use Rattle.faults.specs.VersionFault.{OfKey};
 ghost use Rattle.faults.specs.KeyFaults.{misplaced_keys, read_file, searched_of};
 ghost use Rattle.faults.specs.KeyWalk.{AreMisplacedIn, misplaced_in};
 ghost use Rattle.faults.specs.RangeKeys.{AreSoundIn, IsCursorOf, keys_from};
-ghost use Rattle.faults.specs.Telling.{IsTelling};
+ghost use Rattle.faults.specs.ToldFaults.{IsTelling};
 
+use crate::fault_count::{FaultCount, tell_keys};
 use crate::fault_taker::FaultTaker;
 use crate::file_cursor::FileCursor;
 use crate::key_fault::KeyFault;
 use crate::key_walk::key_faults;
-use crate::told::{Told, tell_keys};
 use board::Gate;
 use checks::{CHECKERS, HeldTables, hold_tables, needed_files, numbers_of};
 use coding::{Fault, FaultName};
@@ -50,9 +50,9 @@ pub(crate) fn tell_ranges<
     files: &[&FileMeta],
     split: &Split<C>,
     taker: &mut T,
-    told: Told,
+    told: FaultCount,
     gate: &G,
-) -> Result<Told, Fault>
+) -> Result<FaultCount, Fault>
     requires { told.goes ≡ true }
     // If the folder tells files that hold these tables, each as the version states it.
     ensures told { (held : Files) → Tells (F.tells folder.old) held →

@@ -6,13 +6,13 @@ ghost use Rattle.folder.specs.Orders.{order_cmp};
 ghost use Rattle.folder.specs.Reports.{OnlyReads, ReportsDevice};
 ghost use Rattle.faults.specs.AllFaults.{AreFaultsTold, version_faults};
 
+use crate::fault_count::FaultCount;
 use crate::fault_taker::FaultTaker;
 use crate::file_faults::tell_files;
 use crate::file_list::listed_files;
 use crate::range_faults::tell_ranges;
 use crate::search_order::searched_files;
 use crate::table_test::tested_files;
-use crate::told::Told;
 use checks::{Watch, Work, group_split};
 use coding::Fault;
 use edit::Version;
@@ -97,7 +97,13 @@ pub fn all_faults_by<
 {
     let files = listed_files::<C>(alloc, version)?;
     let tested = tested_files::<C, F>(alloc, folder, &files)?;
-    let begun = tell_files::<C, T>(alloc, &tested, version.next_file(), taker, Told::none())?;
+    let begun = tell_files::<C, T>(
+        alloc,
+        &tested,
+        version.next_file(),
+        taker,
+        FaultCount::none(),
+    )?;
     if !begun.goes {
         return Ok(begun.count);
     }

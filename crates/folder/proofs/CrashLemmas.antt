@@ -11,7 +11,7 @@ use Rattle.logrec.specs.LogReader.{records_of}
 use Rattle.folder.specs.Calls.{AreTorn, Created, Done, Files, FolderSynced, Removed, Renamed, FolderView, Shows, Step, Synced, Tried, Written, with_value, with_contents, with_synced, with_written}
 use Rattle.folder.specs.CallSequence.{ShowsAll}
 use Rattle.folder.specs.Crash.{Happens, IsDurable, Leads, Leaves, MayHold, World, open_world}
-use Rattle.folder.specs.Free.{IsFree}
+use Rattle.folder.specs.FreeNames.{IsFree}
 use Rattle.folder.specs.Manifest.{AreEdits, IsEditsAnswer, IsManifestAnswer, is_complete, order_name, order_of, version_after_edits, version_from}
 use Rattle.folder.specs.Names.{manifest_name}
 use Rattle.folder.specs.ReadsAs.{Current, IsSettled, Manifest, OldTable, ReadsAs, RestsOn, StandsAs, Table}

@@ -5,9 +5,9 @@ use Rattle.edit.specs.Version.{State}
 use Rattle.folder.specs.Calls.{Call, Created, Done, FolderView, Step, Synced, Tried, with_value, with_contents, with_synced}
 use Rattle.folder.specs.CallSequence.{AreMade}
 use Rattle.folder.specs.Crash.{Leads, World}
-use Rattle.folder.specs.Free.{IsFree}
+use Rattle.folder.specs.FreeNames.{IsFree}
 use Rattle.folder.specs.ReadsAs.{StandsAs}
-use Rattle.folder.specs.Written.{IsWritten}
+use Rattle.folder.specs.WrittenFiles.{IsWritten}
 use Rattle.folder.specs.declared.order.Order.{Order}
 use Rattle.folder.proofs.CrashLemmas.{stands_made, stands_still, stands_synced}
 use Rattle.folder.proofs.PutLemmas.{put_other, put_same, same_name}

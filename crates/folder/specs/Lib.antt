@@ -15,6 +15,6 @@ pub mod TableFiles
 pub mod Shelf
 -- serves proofs alone
 pub mod Attempts
-pub mod Written
-pub mod Free
+pub mod WrittenFiles
+pub mod FreeNames
 pub mod Source

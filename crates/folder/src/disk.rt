@@ -8,11 +8,11 @@ ghost use Rattle.folder.specs.Attempts.{call_in};
 ghost use Rattle.folder.specs.TableFiles.{named_tables, table_files};
 
 use crate::failure::{Failure, FolderCall};
+use crate::file_access::access_in;
 use crate::folder::{Folder, FolderFault};
-use crate::kept::Kept;
 use crate::made_table::{DiskMaker, MadeTable, files_of, first_failed, sync_made, write_in_turn};
 use crate::order::Order;
-use crate::owned::access_in;
+use crate::pending_files::PendingFiles;
 use crate::system::{done_in, part_in, read_in};
 use crate::system_files::{MakesFiles, SystemFiles};
 use crate::table_loader::{files_due, numbers_in};
@@ -38,7 +38,7 @@ pub struct Disk<'r, R> {
     path: &'r str,
     failures: u64,
     trail: Trail,
-    kept: Kept,
+    kept: PendingFiles,
     last_failure: Option<Failure>,
 }
 
@@ -61,7 +61,7 @@ impl<'r, R: SystemFiles + AllocGlobal> Disk<'r, R> {
             path,
             failures: 0,
             trail: Trail::new(),
-            kept: Kept::new(rt.alloc()),
+            kept: PendingFiles::new(rt.alloc()),
             last_failure: None,
         }
     }

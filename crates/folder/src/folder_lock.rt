@@ -9,7 +9,7 @@
 //!
 //! Why the first: if the second is held, it tells whether that is by this program.
 
-use crate::owned::{access_in, new_file};
+use crate::file_access::{access_in, new_file};
 use crate::system_files::{ByteLock, SystemFiles, opened, regular};
 use crate::whole_files::path_in;
 use coding::{Fault, FaultName};

@@ -5,8 +5,8 @@ ghost use Rattle.coding.specs.Answers.{fault};
 ghost use Rattle.coding.specs.declared.fault.FaultName.TheVariants.{Memory};
 
 use crate::failure::FolderCall;
+use crate::file_access::{Access, access_in, new_file};
 use crate::names::table_name;
-use crate::owned::{Access, access_in, new_file};
 use crate::system_files::{MakesFiles, OwnedFiles};
 use crate::whole_files::{THREADS, path_in};
 use crate::writes_tables::TableMaker;

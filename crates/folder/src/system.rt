@@ -2,9 +2,9 @@
 
 ghost use Rattle.std.specs.Prelude.{◌≤◌, length, IfOk, IfSome};
 
-use crate::kept::Kept;
+use crate::file_access::access_in;
 use crate::made_table::{made_at, remove_at};
-use crate::owned::access_in;
+use crate::pending_files::PendingFiles;
 use crate::system_files::{SystemFiles, regular};
 use crate::trail::WriteCall;
 use crate::whole_files::{path_in, synced, whole};
@@ -92,7 +92,7 @@ pub(crate) fn done_in<R: SystemFiles>(
     rt: &R,
     alloc: Global,
     folder: &str,
-    kept: &mut Kept,
+    kept: &mut PendingFiles,
     call: WriteCall<'_>,
 ) -> io::Result<()> {
     match call {
@@ -109,7 +109,7 @@ fn create_in<R: SystemFiles>(
     rt: &R,
     alloc: Global,
     folder: &str,
-    kept: &mut Kept,
+    kept: &mut PendingFiles,
     name: &str,
     bytes: &[u8],
 ) -> io::Result<()> {
@@ -130,7 +130,7 @@ fn remove_in<R: Files>(
     rt: &R,
     alloc: Global,
     folder: &str,
-    kept: &mut Kept,
+    kept: &mut PendingFiles,
     name: &str,
 ) -> io::Result<()> {
     kept.forget_ahead(name);
@@ -144,7 +144,7 @@ fn sync_in<R: Files>(
     rt: &R,
     alloc: Global,
     folder: &str,
-    kept: &mut Kept,
+    kept: &mut PendingFiles,
     name: &str,
 ) -> io::Result<()> {
     if let Some(file) = kept.taken(name) {
@@ -165,7 +165,7 @@ fn rename_in<R: Files>(
     rt: &R,
     alloc: Global,
     folder: &str,
-    kept: &mut Kept,
+    kept: &mut PendingFiles,
     from: &str,
     to: &str,
 ) -> io::Result<()> {

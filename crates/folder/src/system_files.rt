@@ -1,7 +1,7 @@
 //! Files of the system, opened under descriptors of their own.
 
+use crate::file_access::Access;
 use crate::made_table::{MadeTable, made_at};
-use crate::owned::Access;
 use crate::whole_files::THREADS;
 use sqlite_disk::Unknown;
 use sqlite_std_file::OpenError;

@@ -10,9 +10,9 @@ ghost use Rattle.folder.specs.Reports.{OnlyReads, ReportsDevice};
 
 use crate::current_version::held;
 use crate::folder::Folder;
-use crate::kept::Due;
 use crate::names::{CURRENT, manifest_name, old_table_name, table_name};
 use crate::order::Order;
+use crate::pending_files::Due;
 use coding::{Fault, FaultName};
 use edit::{FileMeta, Version};
 use ikey::{Bytewise, Comparator, Shortlex};

@@ -1,6 +1,6 @@
 //! Files of the system, read whole or synced by several threads.
 
-use crate::kept::Due;
+use crate::pending_files::Due;
 use crate::system::MOST_BYTES;
 use crate::system_files::regular;
 use std::alloc::{AllocError, Global};

@@ -15,7 +15,7 @@ use Rattle.edit.specs.Edit.{Edit, IsEdit, edit_bytes}
 use Rattle.edit.specs.Version.{State, IsState, applied, applied_by, are_apart, are_new, empty_state, files_after, has_number, has_place, undeleted_files, names_another}
 use Rattle.edit.specs.VersionOrder.{snapshot_of, unnumbered_version}
 use Rattle.edit.specs.declared.meta.NewFile.{NewFile}
-use Rattle.folder.specs.Free.{IsFree}
+use Rattle.folder.specs.FreeNames.{IsFree}
 use Rattle.folder.specs.Levels.{file_numbers}
 use Rattle.folder.specs.Manifest.{IsManifestAnswer, is_complete, order_name, order_of, version_after_edits, version_from}
 use Rattle.folder.specs.Names.{manifest_name, old_table_name, table_name, temporary_name}

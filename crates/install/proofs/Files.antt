@@ -5,9 +5,9 @@ use Rattle.edit.specs.Version.{State}
 use Rattle.folder.specs.Calls.{Call, Done, FolderSynced, FolderView, Step}
 use Rattle.folder.specs.CallSequence.{AreMade, MakesCalls}
 use Rattle.folder.specs.Crash.{Leads, LeavesOnly, World}
-use Rattle.folder.specs.Free.{IsFree}
+use Rattle.folder.specs.FreeNames.{IsFree}
 use Rattle.folder.specs.ReadsAs.{IsSettled, ReadsAs, StandsAs}
-use Rattle.folder.specs.Written.{IsWritten}
+use Rattle.folder.specs.WrittenFiles.{IsWritten}
 use Rattle.folder.specs.declared.order.Order.{Order}
 use Rattle.folder.proofs.CrashLemmas.{left_reads, stands_folder_synced, stands_still}
 use Rattle.folder.proofs.WrittenLemmas.{file_passed, leads_first, leads_none, short_none, short_tried, written_still}

@@ -6,7 +6,7 @@ use Rattle.edit.specs.Version.{State}
 use Rattle.folder.specs.Calls.{Call, Created, Done, Files, FolderView, Step, Synced, Tells}
 use Rattle.folder.specs.CallSequence.{AreMade, AreMadeBy, MakesCalls}
 use Rattle.folder.specs.Crash.{IsMoment, Leads, LeavesOnly, World, open_world}
-use Rattle.folder.specs.Free.{IsFree}
+use Rattle.folder.specs.FreeNames.{IsFree}
 use Rattle.folder.specs.Names.{current_text, manifest_name, temporary_name}
 use Rattle.folder.specs.ReadsAs.{ReadsAs, StandsAs}
 use Rattle.folder.specs.declared.order.Order.{Order}

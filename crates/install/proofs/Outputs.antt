@@ -8,7 +8,7 @@ use Rattle.edit.specs.Version.{State}
 use Rattle.folder.specs.Calls.{AreTorn, Call, Done, Files, Step, Written, with_contents, with_synced, with_value, with_written}
 use Rattle.folder.specs.CallSequence.{AreMade}
 use Rattle.folder.specs.Crash.{Leads, MayHold, World}
-use Rattle.folder.specs.Free.{IsFree}
+use Rattle.folder.specs.FreeNames.{IsFree}
 use Rattle.folder.specs.LoadedTables.{IsTableAnswer, IsTableOf}
 use Rattle.folder.specs.Names.{table_name}
 use Rattle.folder.specs.ReadsAs.{IsOneOf, StandsAs}

@@ -6,7 +6,7 @@ use Rattle.edit.specs.Version.{State}
 use Rattle.folder.specs.Calls.{Call, Done, Files, FolderSynced, Renamed, FolderView, Step, with_moved, with_renamed}
 use Rattle.folder.specs.CallSequence.{AreMade}
 use Rattle.folder.specs.Crash.{Happens, IsDurable, Leads, World}
-use Rattle.folder.specs.Free.{IsFree}
+use Rattle.folder.specs.FreeNames.{IsFree}
 use Rattle.folder.specs.Levels.{file_numbers}
 use Rattle.folder.specs.LoadedTables.{IsTableAnswer}
 use Rattle.folder.specs.Manifest.{IsManifestAnswer}

@@ -5,7 +5,7 @@ use Rattle.coding.specs.Answers.{UnlessMemory}
 use Rattle.coding.specs.declared.fault.Fault.{Fault}
 use Rattle.coding.specs.declared.fault.FaultName.TheVariants as name
 use Rattle.folder.specs.OpenAnswer.{FolderAnswers, HasDeviceFailed, IsStopped}
-use Rattle.lookup.specs.Gives.{Gives, IsExcuse}
+use Rattle.lookup.specs.SearchAnswers.{Gives, IsExcuse}
 
 abbrev done : {A : Type 0} → A → Result A Fault
 done x = Ok x

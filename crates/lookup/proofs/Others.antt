@@ -13,7 +13,7 @@ use Rattle.frame.specs.Trailer.{stored_reading}
 use Rattle.frame.specs.declared.handle.BlockHandle.{BlockHandle}
 use Rattle.ikey.specs.Key.{internal_key_reading, tag_of}
 use Rattle.table.specs.ReadingIndex.{block_in}
-use Rattle.lookup.specs.Gives.{index_handle, len_with_trailer}
+use Rattle.lookup.specs.SearchAnswers.{index_handle, len_with_trailer}
 
 abbrev refusal : {Y : Type 0} → Fault → Result Y Fault
 refusal e = Err e

@@ -19,7 +19,7 @@ use Rattle.table.specs.ReadingIndex.{block_in, one_handle, stored_at}
 use Rattle.table.specs.ReadingSteps.{test_result}
 use Rattle.table.specs.TableContents.{index_in}
 use Rattle.table.proofs.Walks.{block_named-by}
-use Rattle.lookup.specs.Gives.{IsFileOfBytes, index_handle, len_with_trailer}
+use Rattle.lookup.specs.SearchAnswers.{IsFileOfBytes, index_handle, len_with_trailer}
 use Rattle.lookup.specs.Held.{HoldTables, HoldsTable, TellsJust}
 use Rattle.lookup.specs.declared.file_parts.TableFile.{TableFile}
 

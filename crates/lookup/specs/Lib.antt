@@ -1,4 +1,4 @@
 -- what contracts rest on
 pub mod Held
 -- serves proofs alone
-pub mod Gives
+pub mod SearchAnswers

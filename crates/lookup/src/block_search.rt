@@ -9,7 +9,7 @@ ghost use Rattle.table.specs.ReadingCursors.{entries_from};
 ghost use Rattle.table.specs.ReadingEntries.{HaveKeys};
 ghost use Rattle.table.specs.ReadingIndex.{block_in};
 ghost use Rattle.table.specs.RestartSearch.{first_is_below};
-ghost use Rattle.lookup.specs.Gives.{Gives};
+ghost use Rattle.lookup.specs.SearchAnswers.{Gives};
 
 use crate::owned_entry::OwnedEntry;
 use block::{BlockCursor, SoundBlock};

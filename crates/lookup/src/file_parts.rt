@@ -5,7 +5,7 @@ ghost use Rattle.std.specs.Prelude.{string_bytes};
 ghost use Rattle.folder.specs.Reports.{OnlyReads, ReportsDevice};
 ghost use Rattle.table.specs.ReadingIndex.{stored_at};
 ghost use Rattle.lookup.specs.Held.{HoldsTable, TellsJust};
-ghost use Rattle.lookup.specs.Gives.{Gives, IsFileOfBytes, len_with_trailer};
+ghost use Rattle.lookup.specs.SearchAnswers.{Gives, IsFileOfBytes, len_with_trailer};
 
 use coding::{Fault, FaultName};
 use folder::{Folder, old_table_name, table_name};

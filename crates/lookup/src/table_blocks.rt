@@ -10,7 +10,7 @@ ghost use Rattle.frame.specs.declared.footer.TheConstants.{FOOTER_LEN};
 ghost use Rattle.table.specs.IndexWalk.{block_named};
 ghost use Rattle.table.specs.ReadingIndex.{block_in, one_handle};
 ghost use Rattle.table.specs.TableContents.{index_in};
-ghost use Rattle.lookup.specs.Gives.{Gives, IsFileOfBytes, index_handle};
+ghost use Rattle.lookup.specs.SearchAnswers.{Gives, IsFileOfBytes, index_handle};
 
 use crate::file_parts::{TableFile, part, stored_block, stored_len};
 use coding::{Fault, FaultName};

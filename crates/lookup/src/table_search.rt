@@ -12,7 +12,7 @@ ghost use Rattle.table.specs.IndexWalk.{Indexes, NamesBlock, all_named};
 ghost use Rattle.table.specs.ReadingCursors.{EntriesRise, entries_from};
 ghost use Rattle.table.specs.TableContents.{Contents, contents_reading, index_in};
 ghost use Rattle.lookup.specs.Held.{HoldsTable};
-ghost use Rattle.lookup.specs.Gives.{Gives, IsFileOfBytes};
+ghost use Rattle.lookup.specs.SearchAnswers.{Gives, IsFileOfBytes};
 
 use crate::block_search::{entries_ahead, first_in_block};
 use crate::file_parts::{TableFile, name_of};

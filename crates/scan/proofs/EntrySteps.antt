@@ -6,7 +6,7 @@ use Rattle.block.specs.EncodedEntry.{Entry}
 use Rattle.scan.specs.Row.{Row}
 use Rattle.scan.specs.EntryRows.{decided_after, entry_rows, is_passed_over, rows_by}
 use Rattle.scan.specs.RowParts.{AreTelling, AreWanted, IsRowPart}
-use Rattle.scan.specs.declared.wanted.Wanted.TheVariants.{More}
+use Rattle.scan.specs.declared.row_limit.RowLimit.TheVariants.{More}
 use Rattle.scan.proofs.Told.{none_told}
 
 module _ (at : ℕ) (decided : Option (List ℕ)) (e : Entry) where

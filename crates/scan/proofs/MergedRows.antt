@@ -16,7 +16,7 @@ use Rattle.keep.proofs.Bounds.{below_apart, from_bound, none_in, one_in}
 use Rattle.scan.specs.Row.{Row}
 use Rattle.scan.specs.EntryRows.{decided_after, entry_rows, rows_behind, sorted_rows}
 use Rattle.scan.specs.RowParts.{AreBegun, AreEnough, AreTelling, AreWanted, IsRowPart}
-use Rattle.scan.specs.declared.wanted.Wanted.TheVariants.{More}
+use Rattle.scan.specs.declared.row_limit.RowLimit.TheVariants.{More}
 use Rattle.scan.proofs.Told.{begun_then, enough_then, more_then}
 
 -- none of the entries is before the range

@@ -8,7 +8,7 @@ use Rattle.checks.specs.RangeOrder.{common_of}
 use Rattle.scan.specs.Row.{Row}
 use Rattle.scan.specs.EntryRows.{file_rows, rows_from}
 use Rattle.scan.specs.RowParts.{AreBegun, AreEnough, AreTelling, IsRowPart}
-use Rattle.scan.specs.declared.wanted.Wanted.TheVariants.{More}
+use Rattle.scan.specs.declared.row_limit.RowLimit.TheVariants.{More}
 use Rattle.scan.proofs.Told.{begun_then, enough_then, more_then}
 
 module _ (cmp : List ℕ → List ℕ → Ordering) (tables : List NumberedContents) (files : List FileMeta) (at : ℕ) (range : KeyRange) (boundaries : List (List ℕ)) (all : ℕ) where

@@ -25,7 +25,7 @@ use Rattle.reads.specs.StatedFiles.{IsStatedFile}
 use Rattle.reads.specs.TableOrder.{AreStandingFiles}
 use Rattle.reads.specs.Tables.{NumberedContents}
 use Rattle.reads.proofs.Members.{from_filter}
-use Rattle.checks.specs.Checked.{tables_reading}
+use Rattle.checks.specs.TableReadings.{tables_reading}
 use Rattle.checks.specs.GroupTest.{AreTablesIn}
 use Rattle.checks.specs.HeldTables.{AreFound}
 use Rattle.checks.specs.LawfulTables.{IsLawfulTables}

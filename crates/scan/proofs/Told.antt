@@ -8,8 +8,8 @@ use Rattle.scan.specs.Row.{Row}
 use Rattle.scan.specs.ChosenRows.{rows_within}
 use Rattle.scan.specs.RowParts.{AreBegun, AreEnough, AreScanned, AreTelling, AreWanted, IsAfterOne, IsRowPart}
 use Rattle.scan.specs.ToldRows.{AreRowsTold}
-use Rattle.scan.specs.declared.wanted.Wanted.{Wanted}
-use Rattle.scan.specs.declared.wanted.Wanted.TheVariants.{More, Enough}
+use Rattle.scan.specs.declared.row_limit.RowLimit.{RowLimit}
+use Rattle.scan.specs.declared.row_limit.RowLimit.TheVariants.{More, Enough}
 
 regroup : (a b c d : List Row) → a ++ ((b ++ c) ++ d) ≡ (a ++ b) ++ (c ++ d)
 regroup a b c d = simp append_assoc
@@ -60,7 +60,7 @@ module _ {T : Type 0} (tells : T → Row → Bool → T → Type 0) where
     begun_then h = record { untold = h.untold ++ behind; left = h.left; part = part_then rows front behind h.untold old mid new limit left h.left true p h.part }
 
   -- a refusal that `?` hands on
-  pub handed_begun : (rows : List Row) (old new : T) (limit : Option ℕ) (r : Result Wanted Fault) (e : Fault) → IsErrAnd r (λ f. f ≡ e) → AreBegun tells rows old limit new → AreTelling tells rows old limit new r
+  pub handed_begun : (rows : List Row) (old new : T) (limit : Option ℕ) (r : Result RowLimit Fault) (e : Fault) → IsErrAnd r (λ f. f ≡ e) → AreBegun tells rows old limit new → AreTelling tells rows old limit new r
   handed_begun rows old new limit (Ok w) e h begun = absurd h
   handed_begun rows old new limit (Err f) e h begun = begun
 
@@ -85,10 +85,10 @@ module _ {T : Type 0} (tells : T → Row → Bool → T → Type 0) (r : Row) (o
   stopped_by h = let less = less_one left wanted in record { untold = []; left = less.0; goes = false; part = one_told tells r old new left less.0 false h less.1; ended = inl refl }
 
   -- it says to go on
-  pub goes_on : (w : Wanted) → tells old r true new → IsAfterOne left w → AreTelling tells (r ∷ []) old left new (Ok w)
+  pub goes_on : (w : RowLimit) → tells old r true new → IsAfterOne left w → AreTelling tells (r ∷ []) old left new (Ok w)
   goes_on w h = by left w
     where
-      by : (o : Option ℕ) (w : Wanted) → IsAfterOne o w → AreTelling tells (r ∷ []) old o new (Ok w)
+      by : (o : Option ℕ) (w : RowLimit) → IsAfterOne o w → AreTelling tells (r ∷ []) old o new (Ok w)
       by None (More None) k = (tt, one_told tells r old new None None true h refl)
       by None (More (Some less)) k = absurd k
       by None Enough k = absurd k

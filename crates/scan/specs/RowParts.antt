@@ -5,8 +5,8 @@ use Rattle.std.specs.Option.{option_map}
 use Rattle.coding.specs.declared.fault.Fault.{Fault}
 use Rattle.scan.specs.Row.{Row}
 use Rattle.scan.specs.ToldRows.{AreRowsTold}
-use Rattle.scan.specs.declared.wanted.Wanted.{Wanted}
-use Rattle.scan.specs.declared.wanted.Wanted.TheVariants.{More, Enough}
+use Rattle.scan.specs.declared.row_limit.RowLimit.{RowLimit}
+use Rattle.scan.specs.declared.row_limit.RowLimit.TheVariants.{More, Enough}
 
 -- at least one more row is wanted
 abbrev pub AreWanted : Option ℕ → Type 0
@@ -14,7 +14,7 @@ AreWanted None = Unit {0}
 AreWanted (Some left) = 0 < left
 
 -- what is wanted after one more row
-abbrev pub IsAfterOne : Option ℕ → Wanted → Type 0
+abbrev pub IsAfterOne : Option ℕ → RowLimit → Type 0
 IsAfterOne None (More None) = Unit {0}
 IsAfterOne None (More (Some less)) = ⊥
 IsAfterOne None Enough = ⊥
@@ -49,7 +49,7 @@ pub record AreBegun {T : Type 0} (tells : T → Row → Bool → T → Type 0) (
 
 -- what a call leaves that tells these rows: all were told, or enough, or it was refused before
 abbrev pub AreTelling : {T : Type 0} → (T → Row → Bool → T → Type 0) → List Row → T → Option ℕ →
-    T → Result Wanted Fault → Type 0
+    T → Result RowLimit Fault → Type 0
 AreTelling tells rows old limit new (Ok (More left)) =
     AreWanted left × IsRowPart tells rows old limit [] new left true
 AreTelling tells rows old limit new (Ok Enough) = AreEnough tells rows old limit new

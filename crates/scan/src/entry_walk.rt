@@ -7,8 +7,8 @@ ghost use Rattle.scan.specs.EntryRows.{decided_after, entry_rows, is_passed_over
 ghost use Rattle.scan.specs.RowParts.{AreTelling, AreWanted};
 
 use crate::decided_user::DecidedUser;
+use crate::row_limit::RowLimit;
 use crate::row_taker::RowTaker;
-use crate::wanted::Wanted;
 use coding::Fault;
 use ikey::{InternalKey, Kind};
 
@@ -23,7 +23,7 @@ pub(crate) fn walk_entry<T: RowTaker>(
     at: u64,
     left: Option<u64>,
     taker: &mut T,
-) -> Result<Wanted, Fault>
+) -> Result<RowLimit, Fault>
     requires { AreWanted left }
     ensures told { AreTelling T.tells
         (entry_rows at decided.old (record { key = key.entry.bytes.now; value = value.now }))
@@ -34,13 +34,13 @@ pub(crate) fn walk_entry<T: RowTaker>(
 {
     let is_over = is_passed_over(decided, &key, at);
     if is_over {
-        return Ok(Wanted::More(left));
+        return Ok(RowLimit::More(left));
     }
     let user = key.user();
     decided.set(user)?;
     match key.kind() {
         Kind::Put => Ok(tell(taker, user, value, left)),
-        Kind::Delete => Ok(Wanted::More(left)),
+        Kind::Delete => Ok(RowLimit::More(left)),
     }
 }
 
@@ -54,15 +54,15 @@ fn is_passed_over(decided: &DecidedUser, key: &InternalKey<'_>, at: u64) -> bool
 }
 
 /// Tells a row, if at most `left` may be told.
-fn tell<T: RowTaker>(taker: &mut T, key: &[u8], value: &[u8], left: Option<u64>) -> Wanted
+fn tell<T: RowTaker>(taker: &mut T, key: &[u8], value: &[u8], left: Option<u64>) -> RowLimit
     requires { AreWanted left }
     ensures { AreTelling T.tells (record { key = key.now; value = value.now } ∷ [])
         taker.old left taker.new (Ok result) }
 {
     let goes_on = taker.row(key, value);
     if goes_on {
-        Wanted::after(left)
+        RowLimit::after(left)
     } else {
-        Wanted::Enough
+        RowLimit::Enough
     }
 }

@@ -31,11 +31,11 @@ mod range_counts;
 mod range_scan;
 mod row_choice;
 mod row_laws;
+mod row_limit;
 mod row_taker;
 mod table_rows;
 mod tested_scan;
 mod version_scan;
-mod wanted;
 
 pub use amounts::Amounts;
 pub use counted_version::{version_stats, version_stats_by};

@@ -14,8 +14,8 @@ ghost use Rattle.scan.specs.RowParts.{AreTelling, AreWanted};
 
 use crate::decided_user::DecidedUser;
 use crate::entry_walk::walk_entry;
+use crate::row_limit::RowLimit;
 use crate::row_taker::RowTaker;
-use crate::wanted::Wanted;
 use coding::Fault;
 use ikey::Comparator;
 use merge::Merging;
@@ -32,7 +32,7 @@ pub(crate) fn tell_merged<'a, C: Comparator, S: Cursor<'a, C> + Drop, T: RowTake
     at: u64,
     limit: Option<u64>,
     taker: &mut T,
-) -> Result<Wanted, Fault>
+) -> Result<RowLimit, Fault>
     requires { AreWanted limit }
     ensures told { AreTelling T.tells (sorted_rows C.cmp (key_range range.entry) at merging.old)
         taker.old limit taker.new result }
@@ -44,13 +44,13 @@ pub(crate) fn tell_merged<'a, C: Comparator, S: Cursor<'a, C> + Drop, T: RowTake
     while starts_before::<C, S>(merging, range.upper, true) {
         let (key, value) = (merging.key(), merging.value());
         let wanted = walk_entry(&mut decided, key, value, at, left, taker)?;
-        let Wanted::More(less) = wanted else {
-            return Ok(Wanted::Enough);
+        let RowLimit::More(less) = wanted else {
+            return Ok(RowLimit::Enough);
         };
         left = less;
         merging.advance()?;
     }
-    Ok(Wanted::More(left))
+    Ok(RowLimit::More(left))
 }
 
 /// Takes off the entries before `range`. The only fault is Memory.

@@ -14,9 +14,9 @@ ghost use Rattle.checks.specs.HeldTables.{AreHeldIn};
 ghost use Rattle.scan.specs.EntryRows.{file_rows, rows_from};
 ghost use Rattle.scan.specs.RowParts.{AreScanned, AreTelling};
 
+use crate::row_limit::{RowLimit, is_done};
 use crate::row_taker::RowTaker;
 use crate::table_rows::tell_held;
-use crate::wanted::{Wanted, is_done};
 use board::Open;
 use checks::{
     CHECKERS, HeldTables, check_tables, common_range, hold_tables, needed_files, numbers_of,
@@ -74,7 +74,7 @@ pub(crate) fn tell_ranges<
         let wanted = tell_range::<C, F, T, R>(
             rt, alloc, folder, standing, &mut held, part, at, left, taker,
         )?;
-        let Wanted::More(less) = wanted else {
+        let RowLimit::More(less) = wanted else {
             return Ok(());
         };
         left = less;
@@ -93,7 +93,7 @@ fn tell_range<C: SharedComparator + 'static, F: ReadsTables, T: RowTaker, R: Thr
     at: u64,
     limit: Option<u64>,
     taker: &mut T,
-) -> Result<Wanted, Fault>
+) -> Result<RowLimit, Fault>
     ensures told { (files : Files) (next : Option ℕ) (tables : List NumberedContents) →
         Tells (F.tells folder.old) files →
         AreTablesIn C.cmp files next (map (λ f. f.now) standing.now) tables →
@@ -114,18 +114,18 @@ fn tell_range<C: SharedComparator + 'static, F: ReadsTables, T: RowTaker, R: Thr
 {
     let is_over = is_done(limit);
     if is_over {
-        return Ok(Wanted::Enough);
+        return Ok(RowLimit::Enough);
     }
     let is_none = is_empty::<C>(range);
     if is_none {
-        return Ok(Wanted::More(limit));
+        return Ok(RowLimit::More(limit));
     }
     let needed = needed_files::<C>(alloc, standing, range)?;
     let numbers = numbers_of(alloc, &needed)?;
     let before = mem::replace(held, HeldTables::none(alloc));
     let found = hold_tables::<C, F, Open, R>(rt, alloc, folder, before, &numbers, CHECKERS, &Open)?;
     let Some(tables) = found else {
-        return refused_tables::<C, F, Wanted, R>(rt, alloc, folder, &numbers);
+        return refused_tables::<C, F, RowLimit, R>(rt, alloc, folder, &numbers);
     };
     *held = tables;
     tell_held(alloc, held, range, at, limit, taker)

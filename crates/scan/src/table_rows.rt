@@ -9,8 +9,8 @@ ghost use Rattle.scan.specs.EntryRows.{sorted_rows};
 ghost use Rattle.scan.specs.RowParts.{AreTelling, AreWanted};
 
 use crate::merge_walk::tell_merged;
+use crate::row_limit::RowLimit;
 use crate::row_taker::RowTaker;
-use crate::wanted::Wanted;
 use checks::HeldTables;
 use coding::Fault;
 use ikey::Comparator;
@@ -30,7 +30,7 @@ pub(crate) fn tell_held<C: Comparator + 'static, T: RowTaker>(
     at: u64,
     limit: Option<u64>,
     taker: &mut T,
-) -> Result<Wanted, Fault>
+) -> Result<RowLimit, Fault>
     requires { AreWanted limit }
     ensures told { AreTelling T.tells (sorted_rows C.cmp (key_range range.entry) at
         (map (λ (t : NumberedContents). t.contents.entries) held.now))
@@ -50,7 +50,7 @@ fn tell_tables<'t, C: Comparator + 't, T: RowTaker>(
     at: u64,
     limit: Option<u64>,
     taker: &mut T,
-) -> Result<Wanted, Fault>
+) -> Result<RowLimit, Fault>
     requires { AreWanted limit }
     ensures told { AreTelling T.tells (sorted_rows C.cmp (key_range range.entry) at
         (map (λ (t : NumberedContents). t.contents.entries) tables.now))

@@ -15,7 +15,7 @@ use Rattle.table.specs.ReadingSteps.{test_result}
 use Rattle.table.specs.TableContents.{Contents, contents_reading}
 use Rattle.pick.specs.declared.picked.InputFile.{InputFile}
 use Rattle.reads.specs.Tables.{NumberedContents}
-use Rattle.checks.specs.Checked.{tables_reading}
+use Rattle.checks.specs.TableReadings.{tables_reading}
 use Rattle.checks.specs.HeldTables.{AreReadAs, held_bytes}
 use Rattle.compact.specs.Sound.{AreInputs}
 use Rattle.compact.proofs.ReadInputs.{read_inputs}

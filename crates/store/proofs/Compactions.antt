@@ -22,7 +22,7 @@ use Rattle.request.specs.OneThread.{Answer, compaction_result, one_thread}
 use Rattle.request.specs.Request.{RequestView}
 use Rattle.store.specs.FolderRequest.{compaction_from, first_output, manifest_of, numbered_request, request_from}
 use Rattle.store.specs.Compaction.{VersionCompaction}
-use Rattle.store.specs.Joint.{NumberedJointLaw}
+use Rattle.store.specs.JointLaws.{NumberedJointLaw}
 use Rattle.store.specs.Lines.{compaction_lines}
 use Rattle.store.specs.Outcome.{LevelCompaction}
 use Rattle.settings.specs.declared.settings.Settings.{Settings}

@@ -31,7 +31,7 @@ use Rattle.survival.specs.GetsAfter.{staying_files}
 use Rattle.survival.specs.Over.{HoldOutputs, IsOver}
 use Rattle.survival.proofs.Inputs.{input_file}
 use Rattle.survival.proofs.SurvivingReads.{is_edit}
-use Rattle.checks.specs.Checked.{tables_reading}
+use Rattle.checks.specs.TableReadings.{tables_reading}
 use Rattle.store.specs.FolderRequest.{manifest_of, request_from}
 use Rattle.settings.specs.declared.settings.Settings.{Settings}
 use Rattle.store.proofs.Over.{has_next}

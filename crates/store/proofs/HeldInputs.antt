@@ -14,7 +14,7 @@ use Rattle.folder.specs.LoadedTables.{IsLoaded}
 use Rattle.folder.specs.ReadsAs.{IsHeldIn}
 use Rattle.pick.specs.Picked.{PickedInputs}
 use Rattle.reads.specs.Tables.{NumberedContents}
-use Rattle.checks.specs.Checked.{tables_reading}
+use Rattle.checks.specs.TableReadings.{tables_reading}
 use Rattle.checks.specs.HeldTables.{IsCheckedAnswer, held_bytes, held_numbers}
 use Rattle.checks.proofs.FoundTables.{checked_parts}
 use Rattle.request.specs.OneThread.{Answer}

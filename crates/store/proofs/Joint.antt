@@ -16,7 +16,7 @@ use Rattle.survival.specs.GetsAfter.{GetsAfter}
 use Rattle.survival.specs.Over.{HoldOutputs, IsOver, OutputsHold}
 use Rattle.survival.specs.Survive.{VersionAfterLaw, tables_after}
 use Rattle.store.specs.FolderRequest.{last_of, request_from}
-use Rattle.store.specs.Joint.{NumberedJointLaw}
+use Rattle.store.specs.JointLaws.{NumberedJointLaw}
 use Rattle.store.proofs.EditedBy.{edited_by, low_next, next_positive}
 use Rattle.store.proofs.Over.{is_over}
 use Rattle.store.proofs.SameTables.{same_get, same_lawful}

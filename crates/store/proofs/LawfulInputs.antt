@@ -27,7 +27,7 @@ use Rattle.reads.proofs.Members.{first_in, first_or_later, from_map, later_in, n
 use Rattle.reads.specs.Lawful.{IsLawful}
 use Rattle.reads.specs.Tables.{NumberedContents}
 use Rattle.checks.proofs.LawfulLemmas.{sound_checked, sound_lawful}
-use Rattle.checks.specs.Checked.{numbered_reading, tables_reading}
+use Rattle.checks.specs.TableReadings.{numbered_reading, tables_reading}
 use Rattle.checks.specs.LawfulTables.{IsLawfulTables}
 use Rattle.compact.proofs.ReadInputs.{stated_lawful}
 use Rattle.request.specs.Inputs.{table_matches_metadata}

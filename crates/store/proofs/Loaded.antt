@@ -11,7 +11,7 @@ use Rattle.coding.proofs.Binds.{bind_ok, ok_is}
 use Rattle.table.specs.Checked.{contents_in}
 use Rattle.table.specs.TableContents.{Contents, blocks_of, contents_of, contents_reading}
 use Rattle.reads.specs.Tables.{NumberedContents, table_of_number}
-use Rattle.checks.specs.Checked.{tables_reading}
+use Rattle.checks.specs.TableReadings.{tables_reading}
 use Rattle.checks.proofs.FoundTables.{CheckedParts, checked_parts}
 use Rattle.install.specs.Install.{table_bytes_of}
 

@@ -13,7 +13,7 @@ use Rattle.pick.specs.declared.picked.InputFile.{InputFile}
 use Rattle.reads.specs.Lawful.{IsBelowNextFile, IsFileOf, IsLawful}
 use Rattle.reads.specs.Tables.{NumberedContents}
 use Rattle.reads.proofs.Members.{first_in, later_in}
-use Rattle.checks.specs.Checked.{tables_reading}
+use Rattle.checks.specs.TableReadings.{tables_reading}
 use Rattle.install.specs.Install as install
 use Rattle.survival.specs.Over.{IsOver, input_bytes_of}
 use Rattle.survival.proofs.Inputs.{input_file}

@@ -19,7 +19,7 @@ use Rattle.survival.specs.Closed.{is_input}
 use Rattle.reads.specs.Lawful.{IsFileOf, IsLawful}
 use Rattle.reads.specs.Tables.{NumberedContents, table_of_number}
 use Rattle.reads.proofs.Members.{first_in, later_in, first_or_later, none_in}
-use Rattle.checks.specs.Checked.{numbered_reading, tables_reading}
+use Rattle.checks.specs.TableReadings.{numbered_reading, tables_reading}
 use Rattle.request.specs.OneThread.{Answer}
 use Rattle.install.specs.Install as install
 use Rattle.install.proofs.Numbers.{in_files, in_version, numbers_in}

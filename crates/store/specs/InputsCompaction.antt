@@ -22,7 +22,7 @@ use Rattle.pick.specs.Picked.{IsInputsAnswer, PickedInputs}
 use Rattle.pick.specs.declared.picked.InputFile.{InputFile}
 use Rattle.reads.specs.Lawful.{IsBelowNextFile}
 use Rattle.reads.specs.Tables.{NumberedContents}
-use Rattle.checks.specs.Checked.{tables_reading}
+use Rattle.checks.specs.TableReadings.{tables_reading}
 use Rattle.checks.specs.LawfulTables.{IsLawfulTables}
 use Rattle.request.specs.Inputs.{table_matches_metadata}
 use Rattle.request.specs.OneThread.{Answer}

@@ -7,7 +7,7 @@ pub mod VersionSync
 pub mod Compaction
 pub mod StepLeft
 pub mod OpenedAfter
-pub mod Joint
+pub mod JointLaws
 pub mod Descent
 pub mod StepTaken
 pub mod AllLevels

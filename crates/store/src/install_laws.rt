@@ -2,7 +2,7 @@
 
 ghost use Rattle.store.specs.Compaction.{SyncLaw};
 ghost use Rattle.store.specs.InputsCompaction.{InputsSufficeLaw};
-ghost use Rattle.store.specs.Joint.{JointLaw, NumberedJointLaw, OverLaw};
+ghost use Rattle.store.specs.JointLaws.{JointLaw, NumberedJointLaw, OverLaw};
 
 use ikey::Comparator;
 use request::passed_law;

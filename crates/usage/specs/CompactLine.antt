@@ -5,7 +5,7 @@ use Rattle.std.specs.List.{All, slice_split}
 use Rattle.std.specs.Str.Parse.{digits_value}
 use Rattle.clap.specs.Words.{Row, Text, first_of}
 use Rattle.usage.specs.Flags.{is_flagged}
-use Rattle.usage.specs.Testing.{HasTesting, LacksMemory}
+use Rattle.usage.specs.TestOptions.{HasTesting, LacksMemory}
 use Rattle.texts.specs.Text.{IsNoNumber, IsNumberOf, IsNumberText}
 use Rattle.usage.specs.declared.requests.Levels.{Levels}
 use Rattle.usage.specs.declared.requests.Levels.TheVariants.{One, All as AllLevels}

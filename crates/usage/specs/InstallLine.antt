@@ -3,7 +3,7 @@ use Rattle.std.specs.Prelude.{◌≡◌, ◌≢◌, ◌⊎◌, ℕ, Bool, true, 
 use Rattle.clap.specs.Words.{Row, Text, first_of}
 use Rattle.usage.specs.CompactLine.{HasReadable, LacksReadable}
 use Rattle.usage.specs.Flags.{is_flagged}
-use Rattle.usage.specs.Testing.{HasTesting, LacksMemory}
+use Rattle.usage.specs.TestOptions.{HasTesting, LacksMemory}
 use Rattle.usage.specs.declared.requests.Testing.{Testing}
 
 -- the rows give these snapshots and these options on the test, and no snapshot if the test is

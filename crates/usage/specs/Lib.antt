@@ -1,7 +1,7 @@
 -- what contracts rest on
 pub mod Usage
 pub mod Flags
-pub mod Testing
+pub mod TestOptions
 pub mod Keys
 pub mod ScanLine
 pub mod CompactLine

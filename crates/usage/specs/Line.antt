@@ -13,7 +13,7 @@ use Rattle.usage.specs.PlainLines.{HasClean, HasDump, HasJob, HasManifest, HasSt
 use Rattle.usage.specs.PlainLines.{HasVerify, LacksJob, LacksPath, LacksStats, LacksTable}
 use Rattle.usage.specs.PlainLines.{LacksVerify}
 use Rattle.usage.specs.ScanLine.{AreKeyBounds, HasScan, LacksScan}
-use Rattle.usage.specs.Testing.{HasTesting, LacksMemory}
+use Rattle.usage.specs.TestOptions.{HasTesting, LacksMemory}
 use Rattle.texts.specs.Spelling.{bytes_of}
 use Rattle.texts.specs.Text.{IsNoNumber, IsNumberOf, bytes_of_text}
 use Rattle.texts.specs.declared.spelling.Spelling.{Spelling}

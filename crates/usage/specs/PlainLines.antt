@@ -4,7 +4,7 @@ use Rattle.clap.specs.Words.{Row, Text, first_of}
 use Rattle.texts.specs.Text.{IsNoNumber, IsNumberOf}
 use Rattle.texts.specs.declared.spelling.Spelling.{Spelling}
 use Rattle.usage.specs.Flags.{is_flagged, spelling_of}
-use Rattle.usage.specs.Testing.{IsMemoryOf, LacksMemory}
+use Rattle.usage.specs.TestOptions.{IsMemoryOf, LacksMemory}
 use Rattle.usage.specs.declared.requests.VerdictForm.{VerdictForm}
 use Rattle.usage.specs.declared.requests.VerdictForm.TheVariants.{Line, Json, AllFaults}
 

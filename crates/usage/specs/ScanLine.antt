@@ -6,7 +6,7 @@ use Rattle.texts.specs.Text.{IsNoNumber, IsNumberOf}
 use Rattle.texts.specs.declared.spelling.Spelling.{Spelling}
 use Rattle.usage.specs.Flags.{is_flagged, spelling_of}
 use Rattle.usage.specs.Keys.{IsKeyOf}
-use Rattle.usage.specs.Testing.{HasTesting, LacksMemory}
+use Rattle.usage.specs.TestOptions.{HasTesting, LacksMemory}
 use Rattle.usage.specs.declared.requests.RowOptions.{RowOptions}
 use Rattle.usage.specs.declared.requests.Testing.{Testing}
 

@@ -3,7 +3,7 @@
 ghost use Rattle.std.specs.Prelude.{MatchResult, codes};
 ghost use Rattle.clap.specs.Words.{first_of, found_of, rows_of};
 ghost use Rattle.texts.specs.Text.{IsNoNumber};
-ghost use Rattle.usage.specs.Testing.{HasTesting, IsMemoryOf, LacksMemory};
+ghost use Rattle.usage.specs.TestOptions.{HasTesting, IsMemoryOf, LacksMemory};
 
 use crate::arguments::{NotDigits, first_number, is_flagged};
 use crate::requests::Testing;

@@ -1,6 +1,6 @@
 use Rattle.std.proofs.Common.{◌≡◌, map, Ok}
 use Rattle.std.specs.Vec.Iter.{into_iter_items}
-use Rattle.checks.specs.Checked.{tables_reading}
+use Rattle.checks.specs.TableReadings.{tables_reading}
 use Rattle.checks.specs.TablePlaces.{AreBounds}
 use Rattle.checks.proofs.Lent.{lent_table}
 use Rattle.checks.proofs.found_tables.with_bounds.Given as goal

@@ -1,6 +1,6 @@
 use Rattle.std.proofs.Common.{map}
 use Rattle.std.proofs.lemmas.Result.{err_from_is_err_and}
-use Rattle.checks.specs.Checked.{tables_reading}
+use Rattle.checks.specs.TableReadings.{tables_reading}
 use Rattle.checks.proofs.Lent.{lent_table}
 use Rattle.checks.proofs.TableRounds.{round_more, round_refused}
 use Rattle.checks.proofs.rounds.check_tables.Goals as goal

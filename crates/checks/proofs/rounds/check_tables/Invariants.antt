@@ -1,5 +1,5 @@
 use Rattle.std.proofs.Common.{map, ◌≡◌, length}
-use Rattle.checks.specs.Checked.{tables_reading}
+use Rattle.checks.specs.TableReadings.{tables_reading}
 use Rattle.checks.proofs.Lent.{lent_table}
 use Rattle.checks.proofs.TableRounds.{tables_after}
 use Rattle.checks.proofs.rounds.check_tables.Given as goal

@@ -2,7 +2,7 @@ use Rattle.std.proofs.Common.{ℕ, List, Result, ap, subst, ◌∙◌}
 use Rattle.coding.specs.Answers.{EqualOrMemory}
 use Rattle.coding.specs.declared.fault.Fault.{Fault}
 use Rattle.reads.specs.Tables.{NumberedContents}
-use Rattle.checks.specs.Checked.{numbered_reading}
+use Rattle.checks.specs.TableReadings.{numbered_reading}
 use Rattle.checks.proofs.TableRounds.{answer_is}
 use Rattle.checks.proofs.table_check.check_at.Goals as goal
 

@@ -2,7 +2,7 @@ use Rattle.std.proofs.Common.{◌≡◌, List, Err, map, subst}
 use Rattle.coding.specs.Answers.{UnlessMemory}
 use Rattle.reads.specs.Lawful.{IsLawful}
 use Rattle.reads.specs.Tables.{NumberedContents}
-use Rattle.checks.specs.Checked.{tables_reading}
+use Rattle.checks.specs.TableReadings.{tables_reading}
 use Rattle.checks.specs.LawfulTables.{IsLawfulAnswer, IsLawfulTables}
 use Rattle.checks.proofs.Lent.{lent_table}
 use Rattle.checks.proofs.LawfulLemmas.{handed_on, not_checked, not_lawful, sound}

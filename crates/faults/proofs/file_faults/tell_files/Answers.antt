@@ -2,7 +2,7 @@ use Rattle.std.proofs.Common.{◌+◌, List, map, drop, sym, subst, ◌∙◌}
 use Rattle.coding.proofs.Binds.{ok_is}
 use Rattle.faults.specs.VersionFault.{VersionFault, OfFile}
 use Rattle.faults.specs.Findings.{faults_of_found, found_in}
-use Rattle.faults.specs.Telling.{IsPart}
+use Rattle.faults.specs.ToldFaults.{IsPart}
 use Rattle.faults.proofs.FindingLemmas.{next_file}
 use Rattle.faults.proofs.TellingLemmas.{not_false, not_true, told_more, told_stops}
 use Rattle.faults.proofs.file_faults.tell_files.Goals as goal

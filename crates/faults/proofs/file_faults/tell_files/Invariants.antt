@@ -1,6 +1,6 @@
 use Rattle.std.proofs.Common.{◌≡◌, true, map, drop}
 use Rattle.faults.specs.Findings.{faults_of_found, found_in}
-use Rattle.faults.specs.Telling.{IsPart}
+use Rattle.faults.specs.ToldFaults.{IsPart}
 use Rattle.faults.proofs.file_faults.tell_files.Given as goal
 
 -- the faults of the files so far were told

@@ -12,7 +12,7 @@ use Rattle.faults.specs.VersionFault.{MisplacedKey, VersionFault, OfKey}
 use Rattle.faults.specs.KeyFaults.{misplaced_keys, read_file, searched_of}
 use Rattle.faults.specs.KeyWalk.{misplaced_in}
 use Rattle.faults.specs.RangeKeys.{keys_from, keys_in}
-use Rattle.faults.specs.Telling.{IsPart}
+use Rattle.faults.specs.ToldFaults.{IsPart}
 use Rattle.faults.specs.declared.key_fault.KeyFault.{KeyFault}
 use Rattle.faults.proofs.FaultAnswers.{stopped_handed}
 use Rattle.faults.proofs.MisplacedLemmas.{part_is}

@@ -5,7 +5,7 @@ use Rattle.checks.specs.HeldTables.{AreHeldIn}
 use Rattle.faults.specs.VersionFault.{OfKey}
 use Rattle.faults.specs.KeyFaults.{misplaced_keys, read_file, searched_of}
 use Rattle.faults.specs.RangeKeys.{AreSoundIn, keys_from}
-use Rattle.faults.specs.Telling.{IsPart}
+use Rattle.faults.specs.ToldFaults.{IsPart}
 use Rattle.faults.proofs.range_faults.tell_ranges.Given as goal
 
 -- the keys of the ranges so far were told

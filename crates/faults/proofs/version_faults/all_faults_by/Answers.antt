@@ -6,8 +6,8 @@ use Rattle.checks.proofs.FolderTests.{told_still}
 use Rattle.faults.specs.VersionFault.{VersionFault}
 use Rattle.faults.specs.AllFaults.{all_files}
 use Rattle.faults.specs.Findings.{faults_of_found, new_file_listed, found_file, found_in, searched_found}
-use Rattle.faults.specs.Telling.{IsBegun, IsTold}
-use Rattle.faults.specs.declared.told.Told.{Told}
+use Rattle.faults.specs.ToldFaults.{IsBegun, IsTold}
+use Rattle.faults.specs.declared.fault_count.FaultCount.{FaultCount}
 use Rattle.faults.proofs.FaultAnswers.{memory_of, stopped_only, stopped_since}
 use Rattle.faults.proofs.TellingLemmas.{not_false, not_true}
 use Rattle.faults.proofs.VersionSteps.{faults_begun, faults_told, files_begun, files_stop, front_is, front_of, keys_are, keys_begun, keys_of, keys_told, keys_untold, metas_sound, whole_untold}
@@ -16,7 +16,7 @@ use Rattle.faults.proofs.version_faults.all_faults_by.Goals as goal
 abbrev now_of : Bor FileMeta → FileMeta
 now_of f = f.now
 
-abbrev begins : Told
+abbrev begins : FaultCount
 begins = record { count = 0; goes = true }
 
 pub returns-in_err-files-clause-told : goal.returns-in_err-files-clause-told
@@ -62,8 +62,8 @@ returns-in_err-begun-clause-told g c files told =
     let is : map found_in c.in_ok-tested.tested.items ≡ map (found_file cmp files) lent = c.in_ok-tested.ensures.answer files told in
     let is_2 : map found_in c.deref-2.result.now ≡ map (found_file cmp files) lent = ap (map found_in) c.deref-2.ensures.value ∙ is in
     let front_same : faults_of_found cmp c.next_file.result (map found_in c.deref-2.result.now) ≡ front = front_is cmp met.total met.exact files v lent (map found_in c.deref-2.result.now) same is_2 c.next_file.result c.next_file.ensures in
-    let zero : c.none.result.count ≡ 0 = ap (λ (t : Told). t.count) c.none.ensures in
-    let goes : c.none.result.goes ≡ true = ap (λ (t : Told). t.goes) c.none.ensures in
+    let zero : c.none.result.count ≡ 0 = ap (λ (t : FaultCount). t.count) c.none.ensures in
+    let goes : c.none.result.goes ≡ true = ap (λ (t : FaultCount). t.goes) c.none.ensures in
     let e = c.in_err-begun.field-0.0 in
     let new = c.tell_files.new.taker in
     let h : IsBegun tells front taker 0 new =
@@ -86,8 +86,8 @@ returns-then-not-begun-clause-told g c files told =
     let is : map found_in c.in_ok-tested.tested.items ≡ map (found_file cmp files) lent = c.in_ok-tested.ensures.answer files told in
     let is_2 : map found_in c.deref-2.result.now ≡ map (found_file cmp files) lent = ap (map found_in) c.deref-2.ensures.value ∙ is in
     let front_same : faults_of_found cmp c.next_file.result (map found_in c.deref-2.result.now) ≡ front = front_is cmp met.total met.exact files v lent (map found_in c.deref-2.result.now) same is_2 c.next_file.result c.next_file.ensures in
-    let zero : c.none.result.count ≡ 0 = ap (λ (t : Told). t.count) c.none.ensures in
-    let goes : c.none.result.goes ≡ true = ap (λ (t : Told). t.goes) c.none.ensures in
+    let zero : c.none.result.count ≡ 0 = ap (λ (t : FaultCount). t.count) c.none.ensures in
+    let goes : c.none.result.goes ≡ true = ap (λ (t : FaultCount). t.goes) c.none.ensures in
     let mid = c.tell_files.new.taker in
     let m = c.in_ok-begun.begun in
     let h : IsTold tells front taker 0 mid m =
@@ -110,8 +110,8 @@ returns-in_err-searched-clause-told g c files told =
     let is : map found_in c.in_ok-tested.tested.items ≡ map (found_file cmp files) lent = c.in_ok-tested.ensures.answer files told in
     let is_2 : map found_in c.deref-2.result.now ≡ map (found_file cmp files) lent = ap (map found_in) c.deref-2.ensures.value ∙ is in
     let front_same : faults_of_found cmp c.next_file.result (map found_in c.deref-2.result.now) ≡ front = front_is cmp met.total met.exact files v lent (map found_in c.deref-2.result.now) same is_2 c.next_file.result c.next_file.ensures in
-    let zero : c.none.result.count ≡ 0 = ap (λ (t : Told). t.count) c.none.ensures in
-    let goes : c.none.result.goes ≡ true = ap (λ (t : Told). t.goes) c.none.ensures in
+    let zero : c.none.result.count ≡ 0 = ap (λ (t : FaultCount). t.count) c.none.ensures in
+    let goes : c.none.result.goes ≡ true = ap (λ (t : FaultCount). t.goes) c.none.ensures in
     let mid = c.tell_files.new.taker in
     let m = c.in_ok-begun.begun in
     let h : IsTold tells front taker 0 mid m =
@@ -136,8 +136,8 @@ returns-in_err-split-clause-told g c files told =
     let is : map found_in c.in_ok-tested.tested.items ≡ map (found_file cmp files) lent = c.in_ok-tested.ensures.answer files told in
     let is_2 : map found_in c.deref-2.result.now ≡ map (found_file cmp files) lent = ap (map found_in) c.deref-2.ensures.value ∙ is in
     let front_same : faults_of_found cmp c.next_file.result (map found_in c.deref-2.result.now) ≡ front = front_is cmp met.total met.exact files v lent (map found_in c.deref-2.result.now) same is_2 c.next_file.result c.next_file.ensures in
-    let zero : c.none.result.count ≡ 0 = ap (λ (t : Told). t.count) c.none.ensures in
-    let goes : c.none.result.goes ≡ true = ap (λ (t : Told). t.goes) c.none.ensures in
+    let zero : c.none.result.count ≡ 0 = ap (λ (t : FaultCount). t.count) c.none.ensures in
+    let goes : c.none.result.goes ≡ true = ap (λ (t : FaultCount). t.goes) c.none.ensures in
     let mid = c.tell_files.new.taker in
     let m = c.in_ok-begun.begun in
     let h : IsTold tells front taker 0 mid m =
@@ -162,8 +162,8 @@ returns-in_err-told-clause-told g c files told =
     let is : map found_in c.in_ok-tested.tested.items ≡ map (found_file cmp files) lent = c.in_ok-tested.ensures.answer files told in
     let is_2 : map found_in c.deref-2.result.now ≡ map (found_file cmp files) lent = ap (map found_in) c.deref-2.ensures.value ∙ is in
     let front_same : faults_of_found cmp c.next_file.result (map found_in c.deref-2.result.now) ≡ front = front_is cmp met.total met.exact files v lent (map found_in c.deref-2.result.now) same is_2 c.next_file.result c.next_file.ensures in
-    let zero : c.none.result.count ≡ 0 = ap (λ (t : Told). t.count) c.none.ensures in
-    let goes : c.none.result.goes ≡ true = ap (λ (t : Told). t.goes) c.none.ensures in
+    let zero : c.none.result.count ≡ 0 = ap (λ (t : FaultCount). t.count) c.none.ensures in
+    let goes : c.none.result.goes ≡ true = ap (λ (t : FaultCount). t.goes) c.none.ensures in
     let mid = c.tell_files.new.taker in
     let m = c.in_ok-begun.begun in
     let h : IsTold tells front taker 0 mid m =
@@ -203,8 +203,8 @@ returns-clause-told g c files told =
     let is : map found_in c.in_ok-tested.tested.items ≡ map (found_file cmp files) lent = c.in_ok-tested.ensures.answer files told in
     let is_2 : map found_in c.deref-2.result.now ≡ map (found_file cmp files) lent = ap (map found_in) c.deref-2.ensures.value ∙ is in
     let front_same : faults_of_found cmp c.next_file.result (map found_in c.deref-2.result.now) ≡ front = front_is cmp met.total met.exact files v lent (map found_in c.deref-2.result.now) same is_2 c.next_file.result c.next_file.ensures in
-    let zero : c.none.result.count ≡ 0 = ap (λ (t : Told). t.count) c.none.ensures in
-    let goes : c.none.result.goes ≡ true = ap (λ (t : Told). t.goes) c.none.ensures in
+    let zero : c.none.result.count ≡ 0 = ap (λ (t : FaultCount). t.count) c.none.ensures in
+    let goes : c.none.result.goes ≡ true = ap (λ (t : FaultCount). t.goes) c.none.ensures in
     let mid = c.tell_files.new.taker in
     let m = c.in_ok-begun.begun in
     let h : IsTold tells front taker 0 mid m =

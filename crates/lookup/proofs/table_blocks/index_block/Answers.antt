@@ -1,7 +1,7 @@
 use Rattle.std.proofs.Common.{◌≡◌, ◌-◌, List, ℕ, Ok, Some, length, take, drop, ap, sym, subst, ◌∙◌, arith}
 use Rattle.folder.proofs.ReportLemmas.{reports_after}
 use Rattle.table.specs.ReadingIndex.{block_in, stored_at}
-use Rattle.lookup.specs.Gives.{index_handle}
+use Rattle.lookup.specs.SearchAnswers.{index_handle}
 use Rattle.lookup.specs.Held.{TellsJust}
 use Rattle.lookup.proofs.Giving.{gives_from}
 use Rattle.lookup.proofs.Others.{index_handle_other, never_device, other_handed}

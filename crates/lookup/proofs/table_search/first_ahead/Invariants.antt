@@ -2,7 +2,7 @@ use Rattle.std.proofs.Common.{◌≡◌, ℕ, List, length}
 use Rattle.std.specs.List.{AllByRecursion}
 use Rattle.folder.specs.Reports.{OnlyReads}
 use Rattle.table.specs.IndexWalk.{NamesBlock}
-use Rattle.lookup.specs.Gives.{IsFileOfBytes}
+use Rattle.lookup.specs.SearchAnswers.{IsFileOfBytes}
 use Rattle.lookup.proofs.IndexAhead.{Ahead}
 use Rattle.lookup.proofs.table_search.first_ahead.Given as goal
 

@@ -8,7 +8,7 @@ use Rattle.keep.proofs.RangeWalks.{fewer, first_some, head_is}
 use Rattle.scan.specs.Row.{Row}
 use Rattle.scan.specs.EntryRows.{entry_rows, rows_behind, sorted_rows}
 use Rattle.scan.specs.RowParts.{AreTelling, IsRowPart}
-use Rattle.scan.specs.declared.wanted.Wanted.{Wanted}
+use Rattle.scan.specs.declared.row_limit.RowLimit.{RowLimit}
 use Rattle.scan.proofs.MergedRows.{at_end, begun_after, merged_rows, walked_begun, walked_enough, walked_left, walked_more}
 use Rattle.scan.proofs.Told.{handed_begun, none_told, refused_first}
 use Rattle.scan.proofs.merge_walk.tell_merged.Goals as goal
@@ -62,7 +62,7 @@ loop-merging-preserved g c =
     let now = c.loop-merging in
     let e : Entry = record { key = c.key-key.result.bytes.now; value = c.value-value.result.now } in
     let head : merged cmp now.merging ≡ e ∷ drop 1 (merged cmp now.merging) = head_is (merged cmp now.merging) c.key-key.result.bytes.now c.value-value.result.now c.key-key.ensures c.value-value.ensures in
-    let told = subst (λ (w : Wanted). AreTelling tells (entry_rows at now.decided e) now.taker now.left c.walk_entry.new.taker (Ok w)) c.in-More.is c.in_ok-wanted.ensures.told in
+    let told = subst (λ (w : RowLimit). AreTelling tells (entry_rows at now.decided e) now.taker now.left c.walk_entry.new.taker (Ok w)) c.in-More.is c.in_ok-wanted.ensures.told in
     walked_more cmp g.met.C.Comparator.total range tells at (sorted_rows cmp range at c.args.merging.now) c.args.taker.now now.taker c.walk_entry.new.taker c.args.limit now.left (merged cmp now.merging) now.decided e now.invariant (sym c.starts_before.ensures ∙ c.loop-merging-test.true) head
     c.in-More.less c.walk_entry.new.decided (merged cmp c.advance.new.self) told c.in_ok-wanted.ensures.decided c.in_ok-advance.ensures.ok
 
@@ -88,7 +88,7 @@ returns-in_default-clause-told g c =
     let now = c.loop-merging in
     let e : Entry = record { key = c.key-key.result.bytes.now; value = c.value-value.result.now } in
     let head : merged cmp now.merging ≡ e ∷ drop 1 (merged cmp now.merging) = head_is (merged cmp now.merging) c.key-key.result.bytes.now c.value-value.result.now c.key-key.ensures c.value-value.ensures in
-    let told = subst (λ (w : Wanted). AreTelling tells (entry_rows at now.decided e) now.taker now.left c.walk_entry.new.taker (Ok w)) c.in_default.is c.in_ok-wanted.ensures.told in
+    let told = subst (λ (w : RowLimit). AreTelling tells (entry_rows at now.decided e) now.taker now.left c.walk_entry.new.taker (Ok w)) c.in_default.is c.in_ok-wanted.ensures.told in
     walked_enough cmp g.met.C.Comparator.total range tells at (sorted_rows cmp range at c.args.merging.now) c.args.taker.now now.taker c.walk_entry.new.taker c.args.limit now.left (merged cmp now.merging) now.decided e now.invariant (sym c.starts_before.ensures ∙ c.loop-merging-test.true) head told
 
 pub returns-in_err-advance-clause-told : goal.returns-in_err-advance-clause-told
@@ -101,7 +101,7 @@ returns-in_err-advance-clause-told g c =
     let rows = sorted_rows cmp range at c.args.merging.now in
     let e : Entry = record { key = c.key-key.result.bytes.now; value = c.value-value.result.now } in
     let head : merged cmp now.merging ≡ e ∷ drop 1 (merged cmp now.merging) = head_is (merged cmp now.merging) c.key-key.result.bytes.now c.value-value.result.now c.key-key.ensures c.value-value.ensures in
-    let told = subst (λ (w : Wanted). AreTelling tells (entry_rows at now.decided e) now.taker now.left c.walk_entry.new.taker (Ok w)) c.in-More.is c.in_ok-wanted.ensures.told in
+    let told = subst (λ (w : RowLimit). AreTelling tells (entry_rows at now.decided e) now.taker now.left c.walk_entry.new.taker (Ok w)) c.in-More.is c.in_ok-wanted.ensures.told in
     handed_begun tells rows c.args.taker.now c.walk_entry.new.taker c.args.limit c.from_residual-in_err-advance.result c.in_err-advance.field-0.0 c.from_residual-in_err-advance.ensures.1
     (walked_left cmp g.met.C.Comparator.total range tells at rows c.args.taker.now now.taker c.walk_entry.new.taker c.args.limit now.left (merged cmp now.merging) now.decided e now.invariant (sym c.starts_before.ensures ∙ c.loop-merging-test.true) head c.in-More.less told)
 

@@ -11,7 +11,7 @@ use Rattle.checks.specs.RangeOrder.{common_of}
 use Rattle.checks.proofs.FolderTests.{told_still}
 use Rattle.scan.specs.EntryRows.{file_rows, rows_from}
 use Rattle.scan.specs.RowParts.{AreTelling, IsRowPart}
-use Rattle.scan.specs.declared.wanted.Wanted.{Wanted}
+use Rattle.scan.specs.declared.row_limit.RowLimit.{RowLimit}
 use Rattle.scan.proofs.RangeSteps.{ranges_begun, ranges_end, ranges_enough, ranges_more}
 use Rattle.scan.proofs.ScanAnswers.{stopped_handed}
 use Rattle.scan.proofs.Told.{handed_scanned, none_told}
@@ -50,7 +50,7 @@ loop-number-preserved g c =
     record {
       told = λ files next tables told are.
           ranges_more cmp tables standing c.args.at range boundaries all telling (rows_from cmp tables standing c.args.at range boundaries 0 all) c.args.taker.now now.taker c.tell_range.new.taker c.args.limit now.left n (now.invariant.told files next tables told are) part (omega (arith, c.len-number-end.ensures.number)) is c.in-More.less
-          (subst (λ (w : Wanted). AreTelling telling (file_rows cmp tables standing c.args.at part) now.taker now.left c.tell_range.new.taker (Ok w)) c.in-More.is
+          (subst (λ (w : RowLimit). AreTelling telling (file_rows cmp tables standing c.args.at part) now.taker now.left c.tell_range.new.taker (Ok w)) c.in-More.is
           (c.in_ok-wanted.ensures.told files next tables (told_still (tells c.args.folder.now) (tells now.folder) files now.invariant.reads.same told) are (now.invariant.held files told)));
       held = λ files told. c.in_ok-wanted.ensures.held files (told_still (tells c.args.folder.now) (tells now.folder) files now.invariant.reads.same told) (now.invariant.held files told);
       reads = reads_then now.invariant.reads c.tell_range.ensures.reads;
@@ -96,7 +96,7 @@ returns-in_default-clause-told g c files next tables told are =
     let is = c.common_range-part.ensures ∙ ap (common_of cmp range) c.range.ensures.bounds in
     inl
     (ranges_enough cmp tables standing c.args.at range boundaries all telling (rows_from cmp tables standing c.args.at range boundaries 0 all) c.args.taker.now now.taker c.tell_range.new.taker c.args.limit now.left now.number (now.invariant.told files next tables told are) part (omega (arith, c.len-number-end.ensures.number)) is
-    (subst (λ (w : Wanted). AreTelling telling (file_rows cmp tables standing c.args.at part) now.taker now.left c.tell_range.new.taker (Ok w)) c.in_default.is
+    (subst (λ (w : RowLimit). AreTelling telling (file_rows cmp tables standing c.args.at part) now.taker now.left c.tell_range.new.taker (Ok w)) c.in_default.is
     (c.in_ok-wanted.ensures.told files next tables (told_still (tells c.args.folder.now) (tells now.folder) files now.invariant.reads.same told) are (now.invariant.held files told))))
 
 pub returns-clause-told : goal.returns-clause-told

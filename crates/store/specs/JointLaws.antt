@@ -8,7 +8,7 @@ use Rattle.folder.specs.declared.order.Order.{Order}
 use Rattle.pick.specs.Picked.{IsPicked, PickedInputs}
 use Rattle.reads.specs.Lawful.{IsLawful}
 use Rattle.reads.specs.Tables.{NumberedContents}
-use Rattle.checks.specs.Checked.{tables_reading}
+use Rattle.checks.specs.TableReadings.{tables_reading}
 use Rattle.request.specs.OneThread.{Answer, one_thread}
 use Rattle.survival.specs.Over.{IsOver}
 use Rattle.store.specs.FolderRequest.{manifest_of, request_from, request_of}

@@ -3,7 +3,7 @@
 ghost use Rattle.std.specs.Prelude.{◌≡◌, true, map};
 ghost use Rattle.faults.specs.VersionFault.{OfFile, OfKey};
 ghost use Rattle.faults.specs.KeyWalk.{misplaced_in};
-ghost use Rattle.faults.specs.Telling.{IsTold, next_count};
+ghost use Rattle.faults.specs.ToldFaults.{IsTold, next_count};
 
 use crate::fault_taker::FaultTaker;
 use crate::file_fault::FileFault;
@@ -11,29 +11,29 @@ use crate::key_fault::KeyFault;
 
 /// How many faults were told, and whether the taker wants more.
 #[derive(Clone, Copy)]
-pub(crate) struct Told {
+pub(crate) struct FaultCount {
     /// 2^64 - 1 if there were more.
     pub count: u64,
     /// Whether the taker said to go on.
     pub goes: bool,
 }
 
-impl Told {
+impl FaultCount {
     /// None yet.
-    pub fn none() -> Told
+    pub fn none() -> FaultCount
         ensures { result ≡ record { count = 0; goes = true } }
     {
-        Told {
+        FaultCount {
             count: 0,
             goes: true,
         }
     }
 
     /// One more, after which the taker said whether to go on.
-    pub fn one_more(self, goes: bool) -> Told
+    pub fn one_more(self, goes: bool) -> FaultCount
         ensures { result ≡ record { count = next_count self.count; goes = goes } }
     {
-        Told {
+        FaultCount {
             count: self.count.saturating_add(1),
             goes,
         }
@@ -45,8 +45,8 @@ pub(crate) fn tell_file<T: FaultTaker>(
     taker: &mut T,
     number: u64,
     faults: &[FileFault],
-    told: Told,
-) -> Told
+    told: FaultCount,
+) -> FaultCount
     requires { told.goes ≡ true }
     ensures { IsTold T.tells (map (OfFile number) faults.now) taker.old told.count
         taker.new result }
@@ -63,7 +63,11 @@ pub(crate) fn tell_file<T: FaultTaker>(
 }
 
 /// Tells faults of user keys, until the taker says to stop.
-pub(crate) fn tell_keys<T: FaultTaker>(taker: &mut T, faults: &[KeyFault], told: Told) -> Told
+pub(crate) fn tell_keys<T: FaultTaker>(
+    taker: &mut T,
+    faults: &[KeyFault],
+    told: FaultCount,
+) -> FaultCount
     requires { told.goes ≡ true }
     ensures { IsTold T.tells (map (λ k. OfKey (misplaced_in k)) faults.now) taker.old
         told.count taker.new result }

@@ -1,8 +1,8 @@
 use Rattle.std.proofs.Common.{◌≡◌, true, map, drop}
 use Rattle.faults.specs.VersionFault.{OfKey}
 use Rattle.faults.specs.KeyWalk.{misplaced_in}
-use Rattle.faults.specs.Telling.{IsPart}
-use Rattle.faults.proofs.told.tell_keys.Given as goal
+use Rattle.faults.specs.ToldFaults.{IsPart}
+use Rattle.faults.proofs.fault_count.tell_keys.Given as goal
 
 -- those so far were told
 abbrev pub invariant-loop-fault : goal.invariant-loop-fault

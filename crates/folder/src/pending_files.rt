@@ -26,17 +26,17 @@ pub(crate) struct Due {
 
 /// The files that were made and not synced since, and those that were synced ahead.
 #[derive(Drop)]
-pub(crate) struct Kept {
+pub(crate) struct PendingFiles {
     alloc: Global,
     made: Vec<Made>,
     /// By name, since each of thousands of tables is looked for.
     ahead: Vec<Due>,
 }
 
-impl Kept {
+impl PendingFiles {
     /// No file.
-    pub fn new(alloc: Global) -> Kept {
-        Kept {
+    pub fn new(alloc: Global) -> PendingFiles {
+        PendingFiles {
             alloc,
             made: Vec::new(alloc),
             ahead: Vec::new(alloc),

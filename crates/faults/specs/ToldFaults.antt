@@ -4,7 +4,7 @@ use Rattle.std.specs.Prelude.{List, [], ◌∷◌, ◌++◌, Result, Ok, Err}
 use Rattle.coding.specs.declared.fault.Fault.{Fault}
 use Rattle.faults.specs.VersionFault.{VersionFault}
 use Rattle.faults.specs.AllFaults.{IsToldThese}
-use Rattle.faults.specs.declared.told.Told.{Told}
+use Rattle.faults.specs.declared.fault_count.FaultCount.{FaultCount}
 
 -- one more, 2^64 - 1 at most
 abbrev pub next_count : ℕ → ℕ
@@ -18,7 +18,7 @@ count_after n (f ∷ faults) = count_after (next_count n) faults
 -- Of these faults a first part was told, and `untold` are left. Before it `before` were told.
 pub record IsPart {T : Type 0} (tells : T → VersionFault → Bool → T → Type 0)
     (faults : List VersionFault) (old : T) (before : ℕ) (untold : List VersionFault) (new : T)
-    (after : Told) : Type 0 where
+    (after : FaultCount) : Type 0 where
   pub told : List VersionFault
   pub parts : faults ≡ told ++ untold
   pub taker : IsToldThese tells old told after.goes new
@@ -26,7 +26,7 @@ pub record IsPart {T : Type 0} (tells : T → VersionFault → Bool → T → Ty
 
 -- all were told, or the taker said to stop
 pub record IsTold {T : Type 0} (tells : T → VersionFault → Bool → T → Type 0)
-    (faults : List VersionFault) (old : T) (before : ℕ) (new : T) (after : Told) : Type 0 where
+    (faults : List VersionFault) (old : T) (before : ℕ) (new : T) (after : FaultCount) : Type 0 where
   pub untold : List VersionFault
   pub part : IsPart tells faults old before untold new after
   pub ended : (untold ≡ []) ⊎ (after.goes ≡ false)
@@ -35,12 +35,12 @@ pub record IsTold {T : Type 0} (tells : T → VersionFault → Bool → T → Ty
 pub record IsBegun {T : Type 0} (tells : T → VersionFault → Bool → T → Type 0)
     (faults : List VersionFault) (old : T) (before : ℕ) (new : T) : Type 0 where
   pub untold : List VersionFault
-  pub after : Told
+  pub after : FaultCount
   pub part : IsPart tells faults old before untold new after
   pub goes : after.goes ≡ true
 
 -- what a call leaves that tells these faults
 abbrev pub IsTelling : {T : Type 0} → (T → VersionFault → Bool → T → Type 0) →
-    List VersionFault → T → ℕ → T → Result Told Fault → Type 0
+    List VersionFault → T → ℕ → T → Result FaultCount Fault → Type 0
 IsTelling tells faults old before new (Ok after) = IsTold tells faults old before new after
 IsTelling tells faults old before new (Err e) = IsBegun tells faults old before new

@@ -5,23 +5,23 @@ ghost use Rattle.scan.specs.RowParts.{AreWanted, IsAfterOne};
 
 /// How many rows are wanted still.
 #[derive(Clone, Copy)]
-pub(crate) enum Wanted {
+pub(crate) enum RowLimit {
     /// More rows: at most this many, which isn't 0. None is no limit.
     More(Option<u64>),
     /// No more rows.
     Enough,
 }
 
-impl Wanted {
+impl RowLimit {
     /// What is wanted after one more row, if at most `left` were, which isn't 0.
-    pub fn after(left: Option<u64>) -> Wanted
+    pub fn after(left: Option<u64>) -> RowLimit
         requires { AreWanted left }
         ensures { IsAfterOne left result }
     {
         match left {
-            None => Wanted::More(None),
-            Some(1) => Wanted::Enough,
-            Some(most) => Wanted::More(Some(most - 1)),
+            None => RowLimit::More(None),
+            Some(1) => RowLimit::Enough,
+            Some(most) => RowLimit::More(Some(most - 1)),
         }
     }
 }

@@ -1,7 +1,7 @@
 use Rattle.std.proofs.Common.{◌≡◌, true, map, drop}
 use Rattle.faults.specs.VersionFault.{OfFile}
-use Rattle.faults.specs.Telling.{IsPart}
-use Rattle.faults.proofs.told.tell_file.Given as goal
+use Rattle.faults.specs.ToldFaults.{IsPart}
+use Rattle.faults.proofs.fault_count.tell_file.Given as goal
 
 -- those so far were told
 abbrev pub invariant-loop-fault : goal.invariant-loop-fault

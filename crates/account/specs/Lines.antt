@@ -1,7 +1,7 @@
 -- The lines of an account.
 use Rattle.std.specs.Prelude.{ℕ, List, ◌++◌, map, max, codes, decimal}
 use Rattle.std.specs.List.{flat_map}
-use Rattle.account.specs.Bars.{bar, largest_number}
+use Rattle.account.specs.Bars.{largest_number, spaced_bar}
 use Rattle.account.specs.declared.numbers.Account.{Account}
 use Rattle.account.specs.declared.numbers.LevelInputs.{LevelInputs}
 use Rattle.account.specs.declared.numbers.Output.{Output}
@@ -14,7 +14,7 @@ files_text l = codes " level " ++ decimal l.level ++ codes ": " ++ decimal l.fil
 
 -- the line of a level's inputs; `most` is the largest number of bytes of a level
 abbrev pub level_line : ℕ → LevelInputs → List ℕ
-level_line most l = bar l.bytes most ++ files_text l
+level_line most l = spaced_bar l.bytes most ++ files_text l
 
 -- a line for each level
 abbrev pub level_lines : List LevelInputs → List ℕ
@@ -22,7 +22,7 @@ level_lines inputs = flat_map (level_line (largest_number (map (λ l. l.bytes) i
 
 -- the line of a range; `most` is the largest number of entries of a range
 abbrev pub range_line : ℕ → RangeEntries → List ℕ
-range_line most r = bar r.entries most ++ codes " range " ++ decimal r.number ++ codes ": "
+range_line most r = spaced_bar r.entries most ++ codes " range " ++ decimal r.number ++ codes ": "
     ++ decimal r.entries ++ codes " entries\n"
 
 -- a line for each range
@@ -31,11 +31,11 @@ range_lines ranges = flat_map (range_line (largest_number (map (λ r. r.entries)
 
 -- the line of the kept entries
 abbrev pub kept_line : ℕ → ℕ → List ℕ
-kept_line most kept = bar kept most ++ codes " kept: " ++ decimal kept ++ codes " entries\n"
+kept_line most kept = spaced_bar kept most ++ codes " kept: " ++ decimal kept ++ codes " entries\n"
 
 -- the line of the dropped entries
 abbrev pub dropped_line : ℕ → ℕ → List ℕ
-dropped_line most dropped = bar dropped most ++ codes " dropped: " ++ decimal dropped
+dropped_line most dropped = spaced_bar dropped most ++ codes " dropped: " ++ decimal dropped
     ++ codes " entries\n"
 
 -- both lines, measured by the larger number
@@ -45,8 +45,8 @@ entry_lines kept dropped = kept_line (max kept dropped) kept
 
 -- the line of an output; `most` is the largest number of bytes of an output
 abbrev pub output_bar_line : ℕ → Output → List ℕ
-output_bar_line most o = bar o.bytes most ++ codes " output " ++ decimal o.number ++ codes ": "
-    ++ decimal o.bytes ++ codes " bytes\n"
+output_bar_line most o = spaced_bar o.bytes most ++ codes " output " ++ decimal o.number
+    ++ codes ": " ++ decimal o.bytes ++ codes " bytes\n"
 
 -- a line for each output
 abbrev pub output_lines : List Output → List ℕ

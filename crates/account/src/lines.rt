@@ -60,7 +60,7 @@ fn push_level(alloc: Global, text: &mut String, level: LevelInputs, most: u64) -
         ++ level_line most level) }
     ensures memory { IfErr result (λ e. e ≡ fault Memory) }
 {
-    let bar = bar(alloc, level.bytes, most)?;
+    let bar = bar(alloc, level.bytes, most, " ")?;
     text.push_str(bar.as_str())?;
     push_files(text, level)
 }
@@ -110,7 +110,7 @@ fn push_range(alloc: Global, text: &mut String, range: RangeEntries, most: u64) 
     ensures memory { IfErr result (λ e. e ≡ fault Memory) }
 {
     let RangeEntries { number, entries } = range;
-    let bar = bar(alloc, entries, most)?;
+    let bar = bar(alloc, entries, most, " ")?;
     writeln!(text, "{bar} range {number}: {entries} entries")?;
     Ok(())
 }
@@ -132,7 +132,7 @@ fn push_kept(alloc: Global, text: &mut String, kept: u64, most: u64) -> Result<(
         ++ kept_line most kept) }
     ensures memory { IfErr result (λ e. e ≡ fault Memory) }
 {
-    let bar = bar(alloc, kept, most)?;
+    let bar = bar(alloc, kept, most, " ")?;
     writeln!(text, "{bar} kept: {kept} entries")?;
     Ok(())
 }
@@ -143,7 +143,7 @@ fn push_dropped(alloc: Global, text: &mut String, dropped: u64, most: u64) -> Re
         ++ dropped_line most dropped) }
     ensures memory { IfErr result (λ e. e ≡ fault Memory) }
 {
-    let bar = bar(alloc, dropped, most)?;
+    let bar = bar(alloc, dropped, most, " ")?;
     writeln!(text, "{bar} dropped: {dropped} entries")?;
     Ok(())
 }
@@ -179,7 +179,7 @@ fn push_output(alloc: Global, text: &mut String, output: Output, most: u64) -> R
     ensures memory { IfErr result (λ e. e ≡ fault Memory) }
 {
     let Output { number, bytes } = output;
-    let bar = bar(alloc, bytes, most)?;
+    let bar = bar(alloc, bytes, most, " ")?;
     writeln!(text, "{bar} output {number}: {bytes} bytes")?;
     Ok(())
 }

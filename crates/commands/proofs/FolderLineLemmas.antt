@@ -1,12 +1,11 @@
 -- The answers of a folder's tables, step by step.
-use Rattle.std.proofs.Common.{◌≡◌, ◌⊎◌, ℕ, ◌≤◌, List, Option, Result, Ok, Err, codes, refl, ap, inl, inr}
+use Rattle.std.proofs.Common.{◌≡◌, ◌⊎◌, ℕ, ◌≤◌, List, Option, Result, Ok, Err, refl, ap, inl, inr}
 use Rattle.std.specs.declared.cmp.Ordering.{Ordering}
 use Rattle.coding.proofs.Refusals.{unless_from}
 use Rattle.coding.specs.declared.fault.Fault.{Fault}
 use Rattle.edit.specs.Version.{State}
-use Rattle.folder.proofs.OpeningLemmas.{failed_since, held_before}
-use Rattle.folder.specs.Calls.{Files, Tells}
-use Rattle.folder.specs.Folder.{TellsSame}
+use Rattle.folder.proofs.OpeningLemmas.{failed_since}
+use Rattle.folder.specs.Calls.{Files}
 use Rattle.folder.specs.Levels.{file_numbers}
 use Rattle.folder.specs.LoadedTables.{IsLoaded}
 use Rattle.folder.specs.OpenAnswer.{FolderAnswers, IsOpened, IsStopped}
@@ -48,23 +47,6 @@ pub opened_as : {Y : Type 0} (tells : List ℕ → Option (List ℕ) → Type 0)
 opened_as tells answer_of order v opened a h = (Ok (order, v), (opened, h))
 
 -- ---- of files that the folder tells
-
--- a folder that tells files tells them still where what may be read stays the same
-pub told_still : (old new : List ℕ → Option (List ℕ) → Type 0) (files : Files) → TellsSame old new → Tells old files → Tells new files
-told_still old new files same tells name held = (λ h. (tells name held).0 ((same name held).1 h), λ h. (same name held).0 ((tells name held).1 h))
-
-turned : (tells : List ℕ → Option (List ℕ) → Type 0) (files : Files) → Tells tells files → TellsSame (IsHeldIn files) tells
-turned tells files h name held = ((h name held).1, (h name held).0)
-
-opened_before : (old new : List ℕ → Option (List ℕ) → Type 0) (r : Result (Order × State) Fault) → TellsSame old new → IsOpened new r → IsOpened old r
-opened_before old new r same (Err e, h) = (Err e, (held_before old new (codes "CURRENT") (codes "CURRENT") (Err e) same refl h.0, h.1))
-opened_before old new r same (Ok current, (h, (Err e, k))) = (Ok current, (held_before old new (codes "CURRENT") (codes "CURRENT") (Ok current) same refl h, (Err e, k)))
-opened_before old new r same (Ok current, (h, (Ok number, (n, (m, (k, f)))))) =
-    (Ok current, (held_before old new (codes "CURRENT") (codes "CURRENT") (Ok current) same refl h, (Ok number, (n, (m, (held_before old new _ _ m same refl k, f))))))
-
--- what a folder that tells files opens as is what they open as
-pub opened_in : (tells : List ℕ → Option (List ℕ) → Type 0) (files : Files) (r : Result (Order × State) Fault) → Tells tells files → IsOpened tells r → IsOpened (IsHeldIn files) r
-opened_in tells files r h opened = opened_before (IsHeldIn files) tells r (turned tells files h) opened
 
 module _ {X Y : Type 0} (view : X → Y) (before middle now : ℕ) (r : Result X Fault) (files : Files) (one : before ≤ middle) (two : middle ≤ now) where
   -- an answer that comes later

@@ -4,5 +4,4 @@ mod UnverifiedLemmas
 mod FolderLineLemmas
 mod ValueLineLemmas
 mod TableLemmas
-mod MarkPlaces
 mod StatsLines

@@ -1,5 +1,5 @@
 -- The answers of the commands that read the tables of a folder.
-use Rattle.std.specs.Prelude.{◌≡◌, ℕ, List, ◌++◌, codes, decimal, length, Option, unwrap_or}
+use Rattle.std.specs.Prelude.{◌≡◌, ℕ, List, ◌++◌, codes, decimal, length, Option}
 use Rattle.std.specs.Prelude.{Result, Ok}
 use Rattle.coding.specs.Answers.{IsThen}
 use Rattle.coding.specs.declared.fault.Fault.{Fault}
@@ -12,6 +12,7 @@ use Rattle.reads.specs.Gets.{get_of}
 use Rattle.reads.specs.Tables.{NumberedContents}
 use Rattle.checks.specs.LawfulTables.{IsLawfulTables}
 use Rattle.checks.specs.TestedTables.{entry_count}
+use Rattle.scan.specs.ChosenRows.{chosen_sequence}
 use Rattle.folder.specs.Orders.{order_cmp}
 use Rattle.folder.specs.Calls.{ToldFiles}
 use Rattle.commands.specs.ValueForms.{value_answer}
@@ -44,11 +45,7 @@ lawful_line files entries = codes "lawful: " ++ decimal files ++ codes " files, 
 abbrev pub verified_line : List NumberedContents → List ℕ
 verified_line tables = lawful_line (length tables) (entry_count tables)
 
--- this sequence, or the version's last one if none is given
-abbrev pub sequence_at : State → Option ℕ → ℕ
-sequence_at v at = unwrap_or at (unwrap_or v.last_sequence 0)
-
--- what is printed of the value of a user key at a sequence
+-- what is printed of the value of a user key at a sequence, or at the version's last one
 abbrev pub got_answer : ValueForm → List ℕ → Option ℕ → State → List NumberedContents →
     Option (List ℕ)
-got_answer form key at v tables = value_answer form (get_of v tables key (sequence_at v at))
+got_answer form key at v tables = value_answer form (get_of v tables key (chosen_sequence v at))

@@ -1,7 +1,8 @@
 -- The table of how much a version has at its levels.
-use Rattle.std.specs.Prelude.{ℕ, ◌*◌, ◌/◌, ◌-◌, nat_eq, nat_lt, max, fold, if◌then◌else◌}
+use Rattle.std.specs.Prelude.{ℕ, ◌*◌, ◌/◌, ◌-◌, nat_eq, max, fold, if◌then◌else◌}
 use Rattle.std.specs.Prelude.{List, [], ◌∷◌, ◌++◌, length, map, replicate, codes, decimal}
-use Rattle.std.specs.List.{flat_map, range_with_len}
+use Rattle.std.specs.List.{flat_map}
+use Rattle.account.specs.Bars.{bar}
 use Rattle.scan.specs.declared.amounts.Amounts.{Amounts}
 use Rattle.scan.specs.declared.level_stats.LevelStats.{LevelStats}
 use Rattle.commands.specs.declared.stats_columns.Column.{Column}
@@ -69,16 +70,9 @@ gap _ = codes "  "
 abbrev pub aligned : SizedColumn → List ℕ → List ℕ
 aligned sized text = gap sized.column ++ (replicate (sized.width - length text) 32 ++ text)
 
--- a bar of 40 places without its blanks: a place is marked if it is below `amount * 40 / most`
-abbrev pub bar_mark : ℕ → ℕ → ℕ → List ℕ
-bar_mark amount most place = if nat_lt (place * most) (amount * 40) then codes "#" else []
-
-abbrev pub bar_marks : ℕ → ℕ → List ℕ
-bar_marks amount most = flat_map (bar_mark amount most) (range_with_len 0 40)
-
--- the bar of a level's bytes after two spaces, if it has any
+-- the bar of a level's bytes after two spaces, without its blanks, if the level has any bytes
 abbrev pub level_bar : ℕ → ℕ → List ℕ
-level_bar most bytes = if nat_eq bytes 0 then [] else (codes "  " ++ bar_marks bytes most)
+level_bar most bytes = if nat_eq bytes 0 then [] else (codes "  " ++ bar [] bytes most)
 
 -- all levels together have none
 abbrev pub bar_by : ℕ → ℕ → Subject → List ℕ

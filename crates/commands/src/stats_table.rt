@@ -5,18 +5,16 @@ ghost use Rattle.std.specs.Prelude.{string_bytes};
 ghost use Rattle.std.specs.List.{flat_map};
 ghost use Rattle.coding.specs.Answers.{EqualOrMemory, fault};
 ghost use Rattle.coding.specs.declared.fault.FaultName.TheVariants.{Memory};
-ghost use Rattle.commands.specs.StatsTable.{aligned, bar_mark, bar_marks, bar_text, cell};
+ghost use Rattle.commands.specs.StatsTable.{aligned, bar_text, cell};
 ghost use Rattle.commands.specs.StatsTable.{cells_line, gap, heading, headings_text, level_bar};
 ghost use Rattle.commands.specs.StatsTable.{line_of_level, most_bytes, sized_column, sized_columns};
 ghost use Rattle.commands.specs.StatsTable.{table_lines, table_text, text_of_lines, width};
 
 use crate::stats_columns::{COLUMNS, Column, SizedColumn, Subject, TableLine};
+use account::bar;
 use coding::Fault;
 use scan::{Amounts, LevelStats};
 use std::alloc::Global;
-
-/// The places of a bar.
-const PLACES: u64 = 40;
 
 /// Appends the table: a heading, a line for each level and one for all. Cells are at the right of
 /// their columns, and a line of a level has a bar of its bytes. The only fault is Memory.
@@ -208,7 +206,7 @@ fn push_line(
     ensures memory { IfErr result (λ e. e ≡ fault Memory) }
 {
     push_cells(alloc, text, all, columns, line)?;
-    push_bar(text, most, line)?;
+    push_bar(alloc, text, most, line)?;
     text.push_str("\n")?;
     Ok(())
 }
@@ -282,18 +280,18 @@ fn push_spaces(text: &mut String, number: usize) -> Result<(), Fault>
 }
 
 /// Appends the bar of a line, if it has one. The only fault is Memory.
-fn push_bar(text: &mut String, most: u64, line: TableLine) -> Result<(), Fault>
+fn push_bar(alloc: Global, text: &mut String, most: u64, line: TableLine) -> Result<(), Fault>
     ensures ok { OnOk result (string_bytes text.new ≡ string_bytes text.old ++ bar_text most line) }
     ensures memory { IfErr result (λ e. e ≡ fault Memory) }
 {
     match line.subject {
-        Subject::OneLevel(_) => push_level_bar(text, most, line.amounts.bytes),
+        Subject::OneLevel(_) => push_level_bar(alloc, text, most, line.amounts.bytes),
         Subject::AllLevels => Ok(()),
     }
 }
 
-/// Appends the bar of a level's bytes, if it has any. The only fault is Memory.
-fn push_level_bar(text: &mut String, most: u64, bytes: u64) -> Result<(), Fault>
+/// Appends the bar of a level's bytes, if it has any, without its blanks. The only fault is Memory.
+fn push_level_bar(alloc: Global, text: &mut String, most: u64, bytes: u64) -> Result<(), Fault>
     ensures ok { OnOk result (string_bytes text.new ≡ string_bytes text.old
         ++ level_bar most bytes) }
     ensures memory { IfErr result (λ e. e ≡ fault Memory) }
@@ -301,29 +299,7 @@ fn push_level_bar(text: &mut String, most: u64, bytes: u64) -> Result<(), Fault>
     if bytes == 0 {
         return Ok(());
     }
-    text.push_str("  ")?;
-    push_marks(text, bytes, most)
-}
-
-/// Appends the marks of a bar. The only fault is Memory.
-fn push_marks(text: &mut String, amount: u64, most: u64) -> Result<(), Fault>
-    ensures ok { OnOk result (string_bytes text.new ≡ string_bytes text.old
-        ++ bar_marks amount most) }
-    ensures memory { IfErr result (λ e. e ≡ fault Memory) }
-{
-    for place in 0..PLACES {
-        text.push_str(bar_mark(place, amount, most))?;
-    }
+    let bar = bar(alloc, bytes, most, "")?;
+    write!(text, "  {bar}")?;
     Ok(())
-}
-
-/// The mark at a place of a bar, or nothing.
-fn bar_mark(place: u64, amount: u64, most: u64) -> &'static str
-    ensures { result.now ≡ bar_mark amount most place }
-{
-    if u128::from(place) * u128::from(most) < u128::from(amount) * u128::from(PLACES) {
-        "#"
-    } else {
-        ""
-    }
 }

@@ -3,7 +3,7 @@
 ghost use Rattle.std.specs.Prelude.{◌≡◌, ℕ, List, Ok};
 ghost use Rattle.std.specs.Option.{option_map};
 ghost use Rattle.checks.specs.LawfulTables.{IsLawfulTables};
-ghost use Rattle.commands.specs.FolderLines.{got_answer, sequence_at};
+ghost use Rattle.commands.specs.FolderLines.{got_answer};
 ghost use Rattle.folder.specs.Calls.{Files, Tells};
 ghost use Rattle.folder.specs.Levels.{file_numbers};
 ghost use Rattle.folder.specs.LoadedTables.{IsLoaded};
@@ -19,6 +19,7 @@ use edit::Version;
 use folder::{Folder, Order};
 use ikey::{Bytewise, Comparator, Shortlex};
 use lookup::get_unverified;
+use scan::sequence_of;
 use std::alloc::Global;
 
 /// What [`answer_opened`](crate::answer_opened) answers to the question of a value, if the version
@@ -71,15 +72,7 @@ fn value_by<C: Comparator, F: Folder>(
     ensures device { ReportsDevice F.Folder folder.old folder.new result }
     ensures reads { OnlyReads F.Folder folder.old folder.new }
 {
-    let sequence = sequence_at(version, at);
+    let sequence = sequence_of(version, at);
     let value = get_unverified::<C, F>(alloc, folder, version, key, sequence)?;
     value_answer(alloc, form, value)
-}
-
-/// The sequence `at`, or the version's last one if it isn't given.
-fn sequence_at(version: &Version, at: Option<u64>) -> u64
-    ensures { result ≡ sequence_at version.now at }
-{
-    let last = version.last_sequence().unwrap_or(0);
-    at.unwrap_or(last)
 }

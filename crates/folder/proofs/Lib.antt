@@ -2,6 +2,7 @@ pub mod NameLemmas
 mod ManifestLemmas
 pub mod OpeningLemmas
 pub mod LoadingLemmas
+pub mod ToldLemmas
 mod RefusalLemmas
 mod TableLemmas
 pub mod TellsLemmas

@@ -11,7 +11,8 @@
 //!    [`LevelStats`], as [`Amounts`]. A [`FileTotal`] is for files that no version names.
 //!
 //! [`scan_unverified_by`], [`scan_version_by`] and [`version_stats_by`] are the same by one
-//! comparator. [`rows_law`] is the law that a lawful version has just one list of rows.
+//! comparator. [`sequence_of`] is the sequence at which a version is read. [`rows_law`] is the law
+//! that a lawful version has just one list of rows.
 //!
 //! No contract says how many tables are read, or how much memory a walk takes.
 #![tactic(auto)]
@@ -45,4 +46,4 @@ pub use row_choice::RowChoice;
 pub use row_laws::rows_law;
 pub use row_taker::RowTaker;
 pub use tested_scan::{scan_version, scan_version_by};
-pub use version_scan::{scan_unverified, scan_unverified_by};
+pub use version_scan::{scan_unverified, scan_unverified_by, sequence_of};

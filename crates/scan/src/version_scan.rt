@@ -110,7 +110,7 @@ pub fn scan_unverified_by<
 }
 
 /// The sequence `at`, or the version's last one if it isn't given.
-pub(crate) fn sequence_of(version: &Version, at: Option<u64>) -> u64
+pub fn sequence_of(version: &Version, at: Option<u64>) -> u64
     ensures { result ≡ chosen_sequence version.now at }
 {
     let last = version.last_sequence().unwrap_or(0);

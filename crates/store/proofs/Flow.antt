@@ -1,18 +1,14 @@
 -- The compaction of a folder, step by step.
-use Rattle.std.proofs.Common.{◌≡◌, ◌≢◌, ◌⊎◌, ℕ, ◌≤◌, List, Option, Result, Ok, Err, IsErrAnd, OnOk, refl, inl, inr, codes}
+use Rattle.std.proofs.Common.{◌≡◌, ◌≢◌, ◌⊎◌, ℕ, ◌≤◌, Result, Ok, Err, IsErrAnd, OnOk, refl, inl, inr}
 use Rattle.coding.proofs.Refusals.{unless_from, unless_device}
 use Rattle.coding.specs.Answers.{IsThen, UnlessMemory}
 use Rattle.coding.specs.declared.fault.Fault.{Fault}
 use Rattle.coding.specs.declared.fault.FaultName.TheVariants.{Device}
-use Rattle.edit.specs.Version.{State}
-use Rattle.folder.proofs.LoadingLemmas.{loaded_before}
-use Rattle.folder.proofs.OpeningLemmas.{failed_since, hands_on, held_before}
+use Rattle.folder.proofs.OpeningLemmas.{failed_since, hands_on}
+pub use Rattle.folder.proofs.ToldLemmas.{loaded_in, opened_in, told_still}
 use Rattle.folder.specs.Calls.{Files, Tells}
-use Rattle.folder.specs.Folder.{TellsSame}
-use Rattle.folder.specs.LoadedTables.{IsLoaded}
-use Rattle.folder.specs.OpenAnswer.{FolderAnswers, HasDeviceFailed, IsOpened, IsStopped}
+use Rattle.folder.specs.OpenAnswer.{FolderAnswers, HasDeviceFailed, IsStopped}
 use Rattle.folder.specs.ReadsAs.{IsHeldIn}
-use Rattle.folder.specs.declared.order.Order.{Order}
 
 abbrev refusal : {Y : Type 0} → Fault → Result Y Fault
 refusal e = Err e
@@ -20,30 +16,9 @@ refusal e = Err e
 pub no_refusal : {Y : Type 0} (y : Y) (e : Fault) → Ok y ≡ refusal e → ⊥
 no_refusal y e h = cc
 
--- a folder that tells files tells them still where what may be read stays the same
-pub told_still : (old new : List ℕ → Option (List ℕ) → Type 0) (files : Files) → TellsSame old new → Tells old files → Tells new files
-told_still old new files same tells name held = (λ h. (tells name held).0 ((same name held).1 h), λ h. (same name held).0 ((tells name held).1 h))
-
-turned : (tells : List ℕ → Option (List ℕ) → Type 0) (files : Files) → Tells tells files → TellsSame (IsHeldIn files) tells
-turned tells files h name held = ((h name held).1, (h name held).0)
-
 -- files tell themselves
 pub told_themselves : (files : Files) → Tells (IsHeldIn files) files
 told_themselves files name held = ((λ h. h), (λ h. h))
-
-opened_before : (old new : List ℕ → Option (List ℕ) → Type 0) (r : Result (Order × State) Fault) → TellsSame old new → IsOpened new r → IsOpened old r
-opened_before old new r same (Err e, h) = (Err e, (held_before old new (codes "CURRENT") (codes "CURRENT") (Err e) same refl h.0, h.1))
-opened_before old new r same (Ok current, (h, (Err e, k))) = (Ok current, (held_before old new (codes "CURRENT") (codes "CURRENT") (Ok current) same refl h, (Err e, k)))
-opened_before old new r same (Ok current, (h, (Ok number, (n, (m, (k, f)))))) =
-    (Ok current, (held_before old new (codes "CURRENT") (codes "CURRENT") (Ok current) same refl h, (Ok number, (n, (m, (held_before old new _ _ m same refl k, f))))))
-
--- what a folder that tells files opens as is what they open as
-pub opened_in : (tells : List ℕ → Option (List ℕ) → Type 0) (files : Files) (r : Result (Order × State) Fault) → Tells tells files → IsOpened tells r → IsOpened (IsHeldIn files) r
-opened_in tells files r h opened = opened_before (IsHeldIn files) tells r (turned tells files h) opened
-
--- and the tables that it loads are theirs
-pub loaded_in : (tells : List ℕ → Option (List ℕ) → Type 0) (files : Files) (numbers : List ℕ) (r : Result (List (ℕ × List ℕ)) Fault) → Tells tells files → IsLoaded tells numbers r → IsLoaded (IsHeldIn files) numbers r
-loaded_in tells files numbers r h loaded = loaded_before (IsHeldIn files) tells numbers r (turned tells files h) loaded
 
 -- ---- answers
 

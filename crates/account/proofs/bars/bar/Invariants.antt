@@ -4,4 +4,4 @@ use Rattle.account.specs.Bars.{mark}
 use Rattle.account.proofs.bars.bar.Given as goal
 
 abbrev pub invariant-loop-place : goal.invariant-loop-place
-invariant-loop-place l = string_bytes l.text ≡ flat_map (mark l.amount l.most) (range_with_len 0 l.place)
+invariant-loop-place l = string_bytes l.text ≡ flat_map (mark l.blank l.amount l.most) (range_with_len 0 l.place)

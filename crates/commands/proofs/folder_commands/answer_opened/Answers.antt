@@ -4,12 +4,13 @@ use Rattle.checks.specs.declared.tested.Tested.{Tested}
 use Rattle.folder.proofs.LoadingLemmas.{loaded_before}
 use Rattle.folder.proofs.OpeningLemmas.{answers_alone, hands_on}
 use Rattle.folder.proofs.ReportLemmas.{reads_then, reports_after, reports_handed, reports_then}
+use Rattle.folder.proofs.ToldLemmas.{told_still}
 use Rattle.folder.specs.Levels.{file_numbers}
 use Rattle.folder.specs.OpenAnswer.{FolderAnswers}
 use Rattle.folder.specs.Orders.{order_cmp}
 use Rattle.folder.specs.ReadsAs.{IsHeldIn}
 use Rattle.reads.specs.Tables.{NumberedContents}
-use Rattle.commands.proofs.FolderLineLemmas.{answer_of_tested, refused_answer, tested_answer, told_still}
+use Rattle.commands.proofs.FolderLineLemmas.{answer_of_tested, refused_answer, tested_answer}
 use Rattle.commands.proofs.ShowingLemmas.{answer_device, answer_holds}
 use Rattle.commands.specs.FolderLines.{IsAnswerOfVersion, got_answer, lawful_line, verified_line}
 use Rattle.commands.specs.Questions.{answer_to}

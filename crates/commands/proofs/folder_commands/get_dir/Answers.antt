@@ -1,9 +1,10 @@
 use Rattle.std.proofs.Common.{Ok, Err, option_map, arith}
 use Rattle.folder.proofs.OpeningLemmas.{hands_on}
 use Rattle.folder.proofs.ReportLemmas.{reads_then, reports_handed, reports_then}
+use Rattle.folder.proofs.ToldLemmas.{opened_in, told_still}
 use Rattle.folder.specs.OpenAnswer.{IsOpened}
 use Rattle.folder.specs.ReadsAs.{IsHeldIn}
-use Rattle.commands.proofs.FolderLineLemmas.{not_opened, opened_answer, opened_in, told_still}
+use Rattle.commands.proofs.FolderLineLemmas.{not_opened, opened_answer}
 use Rattle.commands.specs.FolderLines.{IsAnswerOfFolder, got_answer}
 use Rattle.commands.proofs.folder_commands.get_dir.Goals as goal
 

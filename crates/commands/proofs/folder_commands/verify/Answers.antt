@@ -3,10 +3,11 @@ use Rattle.checks.specs.TestedTables.{IsTested}
 use Rattle.checks.specs.declared.tested.Tested.{Tested}
 use Rattle.folder.proofs.OpeningLemmas.{answers_alone, hands_on}
 use Rattle.folder.proofs.ReportLemmas.{reads_then, reports_after, reports_handed, reports_then}
+use Rattle.folder.proofs.ToldLemmas.{opened_in, told_still}
 use Rattle.folder.specs.OpenAnswer.{IsOpened}
 use Rattle.folder.specs.Orders.{order_cmp}
 use Rattle.folder.specs.ReadsAs.{IsHeldIn}
-use Rattle.commands.proofs.FolderLineLemmas.{answer_of_tested, not_opened, opened_as, opened_in, refused_answer, told_still}
+use Rattle.commands.proofs.FolderLineLemmas.{answer_of_tested, not_opened, opened_as, refused_answer}
 use Rattle.commands.proofs.ShowingLemmas.{answer_device, answer_holds}
 use Rattle.commands.specs.FolderLines.{IsAnswerOfFolder, IsAnswerOfVersion, lawful_line, verified_line}
 use Rattle.commands.proofs.folder_commands.verify.Goals as goal

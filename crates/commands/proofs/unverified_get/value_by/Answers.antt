@@ -20,7 +20,7 @@ returns-in_err-value-clause-lawful g c files loaded tables all there sound =
     let failed = g.F.Folder.failed in
     let key = c.args.key.now in
     let held = hold_tables tells files all cmp (file_numbers cmp v) loaded tables there (sound_checked cmp v loaded tables sound) in
-    value_refused (option_map (λ v. v.items)) (failed c.args.folder.now) (failed c.get_unverified.new.folder) c.from_residual.result c.in_err-value.field-0.0 (get_of v tables key c.sequence_at-sequence.result) (got_answer c.args.form key c.args.at v tables)
+    value_refused (option_map (λ v. v.items)) (failed c.args.folder.now) (failed c.get_unverified.new.folder) c.from_residual.result c.in_err-value.field-0.0 (get_of v tables key c.sequence_of-sequence.result) (got_answer c.args.form key c.args.at v tables)
     c.from_residual.ensures.1 c.get_unverified.ensures.device.later (c.in_err-value.ensures.lawful tables held (sound_lawful cmp v loaded tables sound))
 
 pub returns-clause-lawful : goal.returns-clause-lawful
@@ -32,8 +32,8 @@ returns-clause-lawful g c files loaded tables all there sound =
     let key = c.args.key.now in
     let held = hold_tables tells files all cmp (file_numbers cmp v) loaded tables there (sound_checked cmp v loaded tables sound) in
     let got = c.in_ok-value.ensures.lawful tables held (sound_lawful cmp v loaded tables sound) in
-    let value : option_map (λ b. b.items) c.in_ok-value.value ≡ get_of v tables key c.sequence_at-sequence.result = cc in
-    let told = value ∙ ap (get_of v tables key) c.sequence_at-sequence.ensures in
+    let value : option_map (λ b. b.items) c.in_ok-value.value ≡ get_of v tables key c.sequence_of-sequence.result = cc in
+    let told = value ∙ ap (get_of v tables key) c.sequence_of-sequence.ensures in
     value_told (option_map (λ v. v.items)) (failed c.args.folder.now) (failed c.get_unverified.new.folder) c.value_answer.result (got_answer c.args.form key c.args.at v tables)
     (subst (λ (x : Option (List ℕ)). EqualOrMemory (option_map (λ v. v.items)) c.value_answer.result (Ok (value_answer c.args.form x))) told c.value_answer.ensures)
 

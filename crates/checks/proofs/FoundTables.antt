@@ -1,5 +1,5 @@
 -- Tables that are read from the files of a folder, and what a version states of them.
-use Rattle.std.proofs.Common.{◌≡◌, ℕ, Bool, true, false, eqb, List, [], ◌∷◌, ◌++◌, map, Some, Result, Ok, Err, refl, sym, ap, ap₂, subst, ◌∙◌, if◌then◌else◌, inl, inr}
+use Rattle.std.proofs.Common.{◌≡◌, ℕ, Bool, true, false, eqb, List, [], ◌∷◌, ◌++◌, map, Some, None, Result, Ok, Err, refl, sym, ap, ap₂, subst, ◌∙◌, if◌then◌else◌, inl, inr}
 use Rattle.std.specs.Prelude.{Contains}
 use Rattle.std.specs.List.{AllZip, find}
 use Rattle.std.specs.Option.{option_map}
@@ -17,7 +17,7 @@ use Rattle.folder.specs.ReadsAs.{IsHeldIn}
 use Rattle.reads.specs.Tables.{NumberedContents, table_of_number}
 use Rattle.reads.proofs.Members.{first_in, first_or_later, later_in, none_in}
 use Rattle.checks.specs.TableReadings.{numbered_reading, tables_reading}
-use Rattle.checks.specs.HeldTables.{AreFound, AreHeldIn, IsTableIn, held_numbers}
+use Rattle.checks.specs.HeldTables.{AreFound, AreHeldIn, IsFoundAnswer, IsTableIn, held_if, held_numbers}
 
 -- ---- tables that were checked, one after the other
 
@@ -111,6 +111,13 @@ module _ (cmp : List ℕ → List ℕ → Ordering) (files : Files) where
   found_held (n ∷ numbers) [] h = absurd h
   found_held (n ∷ numbers) (t ∷ tables) h =
       All-cons (λ (t : NumberedContents). IsTableIn cmp files t.number t.contents) t tables (subst (λ (k : ℕ). IsTableIn cmp files k t.contents) (sym h.0.0) h.0.1) (found_held numbers tables h.1)
+
+  -- the tables that are held in place of others, and that some are not found
+  pub held_found : (numbers : List ℕ) (is_held : Bool) (tables : List NumberedContents) → is_held ≡ true → IsFoundAnswer cmp files numbers (Ok (held_if is_held tables)) → AreFound cmp files numbers tables
+  held_found numbers is_held tables held h = subst (λ (b : Bool). IsFoundAnswer cmp files numbers (Ok (held_if b tables))) held h
+
+  pub held_unfound : (numbers : List ℕ) (is_held : Bool) (tables : List NumberedContents) → is_held ≡ false → IsFoundAnswer cmp files numbers (Ok (held_if is_held tables)) → IsFoundAnswer cmp files numbers (Ok None)
+  held_unfound numbers is_held tables held h = subst (λ (b : Bool). IsFoundAnswer cmp files numbers (Ok (held_if b tables))) held h
 
   -- tables that were loaded read as those that are found
   pub found_read : (numbers : List ℕ) (loaded : List (ℕ × List ℕ)) (tables : List NumberedContents) → AllZip (IsTableOf (IsHeldIn files)) numbers loaded → AreFound cmp files numbers tables → tables_reading cmp loaded ≡ Ok tables

@@ -1,5 +1,6 @@
 -- Tables of a folder that are held from one range of user keys to the next.
-use Rattle.std.specs.Prelude.{◌≡◌, ℕ, List, map, Option, Some, None, Result, Ok, Err}
+use Rattle.std.specs.Prelude.{◌≡◌, ℕ, Bool, true, false, List, map, Option, Some, None}
+use Rattle.std.specs.Prelude.{Result, Ok, Err}
 use Rattle.std.specs.List.{All, AllZip}
 use Rattle.std.specs.declared.cmp.Ordering.{Ordering}
 use Rattle.coding.specs.Answers.{IsThen}
@@ -62,3 +63,8 @@ IsFoundAnswer cmp files numbers (Ok (Some tables)) = AreFound cmp files numbers 
 IsFoundAnswer cmp files numbers (Ok None) =
     (tables : List NumberedContents) → AreFound cmp files numbers tables → ⊥
 IsFoundAnswer cmp files numbers (Err e) = ⊥
+
+-- these tables, if they are held
+abbrev pub held_if : Bool → List NumberedContents → Option (List NumberedContents)
+held_if true tables = Some tables
+held_if false tables = None

@@ -1,11 +1,12 @@
 //! Tables of a folder that were checked, held from one range of user keys to the next.
 
-ghost use Rattle.std.specs.Prelude.{◌≡◌, ◌<◌, ◌≤◌, [], Ok, IfOk, IfSome, OnOk};
+ghost use Rattle.std.specs.Prelude.{◌≡◌, ◌<◌, ◌≤◌, true, [], Ok, IfOk, IfSome, OnOk};
 ghost use Rattle.coding.specs.Answers.{EqualOrMemory};
 ghost use Rattle.folder.specs.Calls.{Files, Tells};
 ghost use Rattle.folder.specs.OpenAnswer.{FolderAnswers};
 ghost use Rattle.folder.specs.Reports.{OnlyReads, ReportsDevice};
-ghost use Rattle.checks.specs.HeldTables.{AreHeldIn, AreReadAs, IsFoundAnswer, held_numbers};
+ghost use Rattle.checks.specs.HeldTables.{AreHeldIn, AreReadAs, IsFoundAnswer, held_if};
+ghost use Rattle.checks.specs.HeldTables.{held_numbers};
 
 use crate::found_tables::read_tables;
 use crate::held_table::HeldTable;
@@ -17,13 +18,14 @@ use ikey::{Comparator, SharedComparator};
 use reads::NumberedTable;
 use std::alloc::Global;
 use std::marker::Model;
+use std::mem;
 use std::thread::Threads;
 
 /// Tables of a folder that were checked, with their bytes and the numbers of their files. Contracts
 /// see the numbers and what the tables hold, in order.
 ///
 /// Work that goes over a version by ranges of user keys holds the tables that a range needs, and
-/// has [`hold_tables`] make them those of the next range.
+/// has [`hold_next`] make them those of the next range.
 #[derive(Drop)]
 pub struct HeldTables<C: Comparator> {
     tables: Vec<HeldTable<C>>,
@@ -104,4 +106,39 @@ pub fn hold_tables<C: SharedComparator, F: ReadsTables, G: Gate + Sync, R: Threa
     };
     let tables = placed_tables(alloc, places, fresh)?;
     Ok(Some(HeldTables { tables }))
+}
+
+/// Makes `held` the tables of a folder with these `numbers`, in order. False if one of them is
+/// missing or invalid: then no table is held any more, nor after a refusal. It only reads.
+///
+/// All else is as [`hold_tables`] has it.
+pub fn hold_next<C: SharedComparator, F: ReadsTables, G: Gate + Sync, R: Threads + Sync>(
+    rt: &R,
+    alloc: Global,
+    folder: &mut F,
+    held: &mut HeldTables<C>,
+    numbers: &[u64],
+    workers: u64,
+    gate: &G,
+) -> Result<bool, Fault>
+    requires some { 0 < workers }
+    requires few { workers ≤ 64 }
+    ensures answer { (files : Files) → Tells (F.tells folder.old) files →
+        AreHeldIn C.cmp files held.old →
+        FolderAnswers (λ is_held. held_if is_held held.new) (F.failed folder.old)
+        (F.failed folder.new) result (IsFoundAnswer C.cmp files numbers.now) }
+    ensures numbers { IfOk result
+        (λ is_held. is_held ≡ true → held_numbers held.new ≡ numbers.now) }
+    ensures held { (files : Files) → Tells (F.tells folder.old) files →
+        AreHeldIn C.cmp files held.old → AreHeldIn C.cmp files held.new }
+    ensures device { ReportsDevice F.Folder folder.old folder.new result }
+    ensures reads { OnlyReads F.Folder folder.old folder.new }
+{
+    let before = mem::replace(held, HeldTables::none(alloc));
+    let found = hold_tables::<C, F, G, R>(rt, alloc, folder, before, numbers, workers, gate)?;
+    let Some(tables) = found else {
+        return Ok(false);
+    };
+    *held = tables;
+    Ok(true)
 }

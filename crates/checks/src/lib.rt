@@ -7,10 +7,10 @@
 //!
 //! For work on a version in bounded memory, [`group_split`] splits the user keys into ranges whose
 //! tables fit into memory together, and [`needed_files`] tells which files a range needs.
-//! [`HeldTables`] are their tables, held from range to range. [`test_and_hold`] hands on those that
-//! the test still holds, and [`checked_tables`] reads what is wanted beside them.
-//! [`common_range`] is what two ranges have in common. [`bounds_tell`] is the law why some
-//! tables need no walk.
+//! [`HeldTables`] are their tables, held from range to range: [`hold_next`] makes them those of the
+//! next range, and [`lent_tables`] hands them to a walk. [`test_and_hold`] hands on those that the
+//! test still holds, and [`checked_tables`] reads what is wanted beside them. [`common_range`] is
+//! what two ranges have in common. [`bounds_tell`] is the law why some tables need no walk.
 //!
 //! The answer doesn't depend on the workers, nor on the order in which they do their jobs.
 //! [`CHECKERS`] is how many a command takes. A [`Watch`] is a gate that is told to which long work
@@ -42,9 +42,10 @@ mod watch;
 mod worker_tables;
 
 pub use file_groups::group_split;
-pub use held_tables::{HeldTables, hold_tables};
+pub use held_tables::{HeldTables, hold_next, hold_tables};
 pub use range_files::{needed_files, numbers_of};
 pub use range_intersection::common_range;
+pub use range_walk::lent_tables;
 pub use rounds::check_tables;
 pub use table_bounds::bounds_tell;
 pub use tested::Tested;

@@ -8,7 +8,7 @@ ghost use Rattle.split.specs.Ranges.{IsCover, key_range};
 ghost use Rattle.checks.specs.GroupTest.{IsRangeAnswer, IsRangesAnswer};
 ghost use Rattle.checks.specs.HeldTables.{AreHeldIn};
 
-use crate::held_tables::{HeldTables, hold_tables};
+use crate::held_tables::{HeldTables, hold_next};
 use crate::range_files::{needed_files, numbers_of};
 use crate::range_walk::walk_range;
 use board::Gate;
@@ -18,7 +18,6 @@ use folder::ReadsTables;
 use ikey::SharedComparator;
 use split::{Range, Split};
 use std::alloc::Global;
-use std::mem;
 use std::thread::Threads;
 
 /// How many entries the tables of the `standing` files have. None unless, in each range of the
@@ -98,11 +97,9 @@ fn test_range<C: SharedComparator + 'static, F: ReadsTables, G: Gate + Sync, R: 
 {
     let needed = needed_files::<C>(alloc, standing, range)?;
     let numbers = numbers_of(alloc, &needed)?;
-    let before = mem::replace(held, HeldTables::none(alloc));
-    let found = hold_tables::<C, F, G, R>(rt, alloc, folder, before, &numbers, workers, gate)?;
-    let Some(tables) = found else {
+    let is_held = hold_next::<C, F, G, R>(rt, alloc, folder, held, &numbers, workers, gate)?;
+    if !is_held {
         return Ok(None);
-    };
-    *held = tables;
+    }
     walk_range::<C, R>(rt, alloc, &needed, next, held, range, workers)
 }

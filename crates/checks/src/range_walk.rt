@@ -74,7 +74,7 @@ fn tables_fall<'t, C: SharedComparator + 'static, R: Threads + Sync>(
 }
 
 /// The tables without their numbers. The only fault is Memory.
-fn lent_tables<'l, 't, C: Comparator>(
+pub fn lent_tables<'l, 't, C: Comparator>(
     alloc: Global,
     tables: &'l [NumberedTable<'t, C>],
 ) -> Result<Vec<&'l SoundTable<'t, C>>, Fault>

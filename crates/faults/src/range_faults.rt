@@ -21,7 +21,7 @@ use crate::file_cursor::FileCursor;
 use crate::key_fault::KeyFault;
 use crate::key_walk::key_faults;
 use board::Gate;
-use checks::{CHECKERS, HeldTables, hold_tables, needed_files, numbers_of};
+use checks::{CHECKERS, HeldTables, hold_next, needed_files, numbers_of};
 use coding::{Fault, FaultName};
 use edit::FileMeta;
 use folder::ReadsTables;
@@ -29,7 +29,6 @@ use ikey::{Comparator, SharedComparator};
 use reads::NumberedTable;
 use split::{Range, Split};
 use std::alloc::Global;
-use std::mem;
 use std::thread::Threads;
 
 /// Tells the user keys whose entries in the tables of these files are not in their order, until the
@@ -109,12 +108,10 @@ fn range_faults<C: SharedComparator + 'static, F: ReadsTables, G: Gate + Sync, R
 {
     let needed = needed_files::<C>(alloc, files, range)?;
     let numbers = numbers_of(alloc, &needed)?;
-    let before = mem::replace(held, HeldTables::none(alloc));
-    let found = hold_tables::<C, F, G, R>(rt, alloc, folder, before, &numbers, CHECKERS, gate)?;
-    let Some(tables) = found else {
+    let is_held = hold_next::<C, F, G, R>(rt, alloc, folder, held, &numbers, CHECKERS, gate)?;
+    if !is_held {
         return Err(Fault::of(FaultName::Changed));
-    };
-    *held = tables;
+    }
     held_faults(alloc, held, range)
 }
 

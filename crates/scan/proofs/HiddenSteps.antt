@@ -1,5 +1,5 @@
 -- Which entries are hidden, as sorted entries are taken off one by one.
-use Rattle.std.proofs.Common.{◌≡◌, ◌<◌, ◌≤◌, ◌+◌, ℕ, Bool, true, false, cond, not, List, [], ◌∷◌, ◌++◌, Option, Some, None, refl, sym, ap, subst, ◌∙◌, inl, inr, arith, eq-or-lt_of_le}
+use Rattle.std.proofs.Common.{◌≡◌, ◌<◌, ◌≤◌, ℕ, Bool, true, false, cond, not, List, [], ◌∷◌, ◌++◌, Option, Some, None, refl, sym, ap, subst, ◌∙◌, inl, inr, arith, eq-or-lt_of_le}
 use Rattle.std.specs.Prelude.{◌⊎◌, ◌&&◌, ◌||◌, Contains, nat_le, nat_lt}
 use Rattle.std.specs.List.{count_by}
 use Rattle.std.specs.Cmp.{IsTotalOrder}

@@ -13,8 +13,7 @@ ghost use Rattle.scan.specs.Parts.{in_parts};
 
 use crate::amounts::Amounts;
 use crate::count_walk::count_merged;
-use crate::table_rows::lent_tables;
-use checks::HeldTables;
+use checks::{HeldTables, lent_tables};
 use coding::Fault;
 use edit::FileMeta;
 use ikey::Comparator;

@@ -18,14 +18,13 @@ use crate::level_files::{needed_by_level, numbers_by_level};
 use crate::level_merges::count_held;
 use crate::range_scan::refused_tables;
 use board::Open;
-use checks::{CHECKERS, HeldTables, hold_tables};
+use checks::{CHECKERS, HeldTables, hold_next};
 use coding::Fault;
 use edit::FileMeta;
 use folder::ReadsTables;
 use ikey::SharedComparator;
 use split::{Range, Split};
 use std::alloc::Global;
-use std::mem;
 use std::thread::Threads;
 
 /// How much the files of each level and their tables have. Newer entries hide older ones at the
@@ -120,11 +119,9 @@ fn count_range<C: SharedComparator + 'static, F: ReadsTables, R: Threads + Sync>
 {
     let needed = needed_by_level::<C>(alloc, levels, range)?;
     let numbers = numbers_by_level(alloc, &needed)?;
-    let before = mem::replace(held, HeldTables::none(alloc));
-    let found = hold_tables::<C, F, Open, R>(rt, alloc, folder, before, &numbers, CHECKERS, &Open)?;
-    let Some(tables) = found else {
+    let is_held = hold_next::<C, F, Open, R>(rt, alloc, folder, held, &numbers, CHECKERS, &Open)?;
+    if !is_held {
         return refused_tables::<C, F, (), R>(rt, alloc, folder, &numbers);
-    };
-    *held = tables;
+    }
     count_held(alloc, held, &needed, range, last, amounts)
 }

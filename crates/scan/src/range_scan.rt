@@ -19,7 +19,7 @@ use crate::row_taker::RowTaker;
 use crate::table_rows::tell_held;
 use board::Open;
 use checks::{
-    CHECKERS, HeldTables, check_tables, common_range, hold_tables, needed_files, numbers_of,
+    CHECKERS, HeldTables, check_tables, common_range, hold_next, needed_files, numbers_of,
 };
 use coding::{Fault, FaultName};
 use edit::FileMeta;
@@ -27,7 +27,6 @@ use folder::{ReadsTables, load_numbers};
 use ikey::{Comparator, SharedComparator};
 use split::{Range, Split};
 use std::alloc::Global;
-use std::mem;
 use std::thread::Threads;
 
 /// Tells the rows that the tables of the `standing` files have in `range`, by the sequence `at`: at
@@ -122,12 +121,10 @@ fn tell_range<C: SharedComparator + 'static, F: ReadsTables, T: RowTaker, R: Thr
     }
     let needed = needed_files::<C>(alloc, standing, range)?;
     let numbers = numbers_of(alloc, &needed)?;
-    let before = mem::replace(held, HeldTables::none(alloc));
-    let found = hold_tables::<C, F, Open, R>(rt, alloc, folder, before, &numbers, CHECKERS, &Open)?;
-    let Some(tables) = found else {
+    let is_held = hold_next::<C, F, Open, R>(rt, alloc, folder, held, &numbers, CHECKERS, &Open)?;
+    if !is_held {
         return refused_tables::<C, F, RowLimit, R>(rt, alloc, folder, &numbers);
-    };
-    *held = tables;
+    }
     tell_held(alloc, held, range, at, limit, taker)
 }
 

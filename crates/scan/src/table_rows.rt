@@ -1,6 +1,6 @@
 //! The rows of held tables, in a range.
 
-ghost use Rattle.std.specs.Prelude.{◌≡◌, map, IfOk, IfErr};
+ghost use Rattle.std.specs.Prelude.{◌≡◌, map, IfErr};
 ghost use Rattle.coding.specs.Answers.{fault};
 ghost use Rattle.coding.specs.declared.fault.FaultName.TheVariants.{Memory};
 ghost use Rattle.split.specs.Ranges.{key_range};
@@ -11,7 +11,7 @@ ghost use Rattle.scan.specs.RowParts.{AreTelling, AreWanted};
 use crate::merge_walk::tell_merged;
 use crate::row_limit::RowLimit;
 use crate::row_taker::RowTaker;
-use checks::HeldTables;
+use checks::{HeldTables, lent_tables};
 use coding::Fault;
 use ikey::Comparator;
 use keep::cursors_from;
@@ -19,7 +19,7 @@ use merge::Merging;
 use reads::NumberedTable;
 use split::Range;
 use std::alloc::Global;
-use table::{SoundTable, TableCursor};
+use table::TableCursor;
 
 /// Tells the rows of held tables in `range`, by the sequence `at`: at most `limit`. The only fault
 /// is Memory.
@@ -61,20 +61,4 @@ fn tell_tables<'t, C: Comparator + 't, T: RowTaker>(
     let cursors = cursors_from(alloc, &lent, range)?;
     let mut merging = Merging::<C, TableCursor<'t, C>>::new(alloc, cursors)?;
     tell_merged::<C, TableCursor<'t, C>, T>(alloc, &mut merging, range, at, limit, taker)
-}
-
-/// The tables without their numbers. The only fault is Memory.
-pub(crate) fn lent_tables<'l, 't, C: Comparator>(
-    alloc: Global,
-    tables: &'l [NumberedTable<'t, C>],
-) -> Result<Vec<&'l SoundTable<'t, C>>, Fault>
-    ensures lent { IfOk result (λ v. map (λ t. t.now.entries) v.items
-        ≡ map (λ (t : NumberedContents). t.contents.entries) tables.now) }
-    ensures memory { IfErr result (λ e. e ≡ fault Memory) }
-{
-    let mut lent = Vec::with_capacity(alloc, tables.len())?;
-    for table in tables {
-        lent.push(table.table())?;
-    }
-    Ok(lent)
 }

@@ -1,4 +1,4 @@
-use Rattle.std.proofs.Common.{Bor, ◌≡◌, ℕ, ◌≤◌, ◌^◌, List, Option, None, Ok, length, map, sym, ap, subst, ◌∙◌, arith}
+use Rattle.std.proofs.Common.{Bor, ◌≡◌, ℕ, ◌≤◌, ◌^◌, List, None, Ok, length, map, sym, ap, subst, ◌∙◌, arith}
 use Rattle.std.specs.Prelude.{filter}
 use Rattle.std.proofs.lemmas.List.{length-map}
 use Rattle.coding.proofs.Binds.{ok_is}
@@ -8,11 +8,11 @@ use Rattle.folder.proofs.OpeningLemmas.{hands_on}
 use Rattle.reads.specs.Tables.{NumberedContents}
 use Rattle.split.specs.Ranges.{key_range}
 use Rattle.checks.specs.GroupTest.{IsRangeAnswer}
-use Rattle.checks.specs.HeldTables.{AreFound, AreHeldIn, IsFoundAnswer}
+use Rattle.checks.specs.HeldTables.{AreFound, IsFoundAnswer}
 use Rattle.checks.specs.NeededFiles.{is_file_needed}
 use Rattle.checks.proofs.FileTables.{numbers_in}
 use Rattle.checks.proofs.FolderTests.{range_answers, range_unfound}
-use Rattle.checks.proofs.FoundTables.{found_held}
+use Rattle.checks.proofs.FoundTables.{held_found, held_unfound}
 use Rattle.checks.proofs.WalkLemmas.{few_kept}
 use Rattle.checks.proofs.range_test.test_range.Goals as goal
 
@@ -23,27 +23,25 @@ numbers_are : (lent needed : List (Bor FileMeta)) (metas : List FileMeta) (numbe
 numbers_are lent needed metas numbers is are told =
     sym told ∙ ap (map (λ (f : Bor FileMeta). f.now.number)) is ∙ map_fused now_of (λ (f : FileMeta). f.number) needed ∙ ap numbers_in are
 
-pub returns-in_err-found-clause-answer : goal.returns-in_err-found-clause-answer
-returns-in_err-found-clause-answer g c files told are =
+pub returns-in_err-is_held-clause-answer : goal.returns-in_err-is_held-clause-answer
+returns-in_err-is_held-clause-answer g c files told are =
     let cmp = g.C.Comparator.cmp in
     let failed = g.F.Folder.failed in
-    let own : AreHeldIn cmp files c.replace-before.result = subst (AreHeldIn cmp files) (sym c.replace-before.ensures.value) are in
-    hands_on (λ found. found) (failed c.args.folder.now) (failed c.args.folder.now) (failed c.hold_tables.new.folder) c.from_residual-in_err-found.result c.in_err-found.field-0.0
+    hands_on (λ found. found) (failed c.args.folder.now) (failed c.args.folder.now) (failed c.hold_next.new.folder) c.from_residual-in_err-is_held.result c.in_err-is_held.field-0.0
     (IsFoundAnswer cmp files c.deref-2.result.now) (IsRangeAnswer cmp files c.args.next (map now_of c.args.standing.now) (key_range c.args.range))
-    c.from_residual-in_err-found.ensures.1 (omega arith) c.hold_tables.ensures.device.later (c.in_err-found.ensures.answer files told own) (λ h. absurd h)
+    c.from_residual-in_err-is_held.ensures.1 (omega arith) c.hold_next.ensures.device.later (c.in_err-is_held.ensures.answer files told are) (λ h. absurd h)
 
-pub returns-in_default-clause-answer : goal.returns-in_default-clause-answer
-returns-in_default-clause-answer g c files told are =
+pub returns-then-not-is_held-clause-answer : goal.returns-then-not-is_held-clause-answer
+returns-then-not-is_held-clause-answer g c files told are =
     let cmp = g.C.Comparator.cmp in
     let range = key_range c.args.range in
     let standing : List FileMeta = map now_of c.args.standing.now in
     let needed : List FileMeta = filter (is_file_needed cmp range) standing in
     let numbers : List ℕ = c.deref-2.result.now in
     let same = numbers_are c.deref.result.now c.in_ok-needed.needed.items needed numbers c.deref.ensures.value c.in_ok-needed.ensures.needed (ok_is _ _ c.in_ok-numbers.ensures ∙ sym c.deref-2.ensures.value) in
-    let own : AreHeldIn cmp files c.replace-before.result = subst (AreHeldIn cmp files) (sym c.replace-before.ensures.value) are in
     range_unfound cmp (g.met.C.Comparator g.world.𝓛 g.world.𝓜 g.world.𝓡 ((λ s x. x), (λ x. x), (λ x. x), λ x. x)).total files c.args.next standing range
     (subst (λ (ns : List ℕ). IsFoundAnswer cmp files ns (Ok None)) same
-    (subst (λ (o : Option (List NumberedContents)). IsFoundAnswer cmp files numbers (Ok o)) c.in_default.is (c.in_ok-found.ensures.answer files told own)))
+    (held_unfound cmp files numbers c.in_ok-is_held.is_held c.hold_next.new.held c.if-not-is_held.true (c.in_ok-is_held.ensures.answer files told are)))
 
 pub walk_range-requires-clause-few_files : goal.walk_range-requires-clause-few_files
 walk_range-requires-clause-few_files g c κs within =
@@ -64,18 +62,9 @@ returns-clause-answer g c files told are =
     let standing : List FileMeta = map now_of c.args.standing.now in
     let needed : List FileMeta = filter (is_file_needed cmp range) standing in
     let numbers : List ℕ = c.deref-2.result.now in
-    let tables : List NumberedContents = c.in-Some.tables in
+    let tables : List NumberedContents = c.hold_next.new.held in
     let same = numbers_are c.deref.result.now c.in_ok-needed.needed.items needed numbers c.deref.ensures.value c.in_ok-needed.ensures.needed (ok_is _ _ c.in_ok-numbers.ensures ∙ sym c.deref-2.ensures.value) in
-    let own : AreHeldIn cmp files c.replace-before.result = subst (AreHeldIn cmp files) (sym c.replace-before.ensures.value) are in
-    let found : AreFound cmp files numbers tables = subst (λ (o : Option (List NumberedContents)). IsFoundAnswer cmp files numbers (Ok o)) c.in-Some.is (c.in_ok-found.ensures.answer files told own) in
+    let found : AreFound cmp files numbers tables = held_found cmp files numbers c.in_ok-is_held.is_held tables c.if-not-is_held.false (c.in_ok-is_held.ensures.answer files told are) in
     let metas : map now_of c.deref-3.result.now ≡ needed = ap (map now_of) c.deref-3.ensures.value ∙ c.in_ok-needed.ensures.needed in
-    range_answers cmp (g.met.C.Comparator g.world.𝓛 g.world.𝓜 g.world.𝓡 ((λ s x. x), (λ x. x), (λ x. x), λ x. x)).total files c.args.next standing range (failed c.args.folder.now) (failed c.hold_tables.new.folder) c.walk_range.result (map now_of c.deref-3.result.now) tables metas
+    range_answers cmp (g.met.C.Comparator g.world.𝓛 g.world.𝓜 g.world.𝓡 ((λ s x. x), (λ x. x), (λ x. x), λ x. x)).total files c.args.next standing range (failed c.args.folder.now) (failed c.hold_next.new.folder) c.walk_range.result (map now_of c.deref-3.result.now) tables metas
     (subst (λ (ns : List ℕ). AreFound cmp files ns tables) same found) c.walk_range.ensures.memory c.walk_range.ensures.walked
-
-pub returns-clause-held : goal.returns-clause-held
-returns-clause-held g c files told are =
-    let cmp = g.C.Comparator.cmp in
-    let numbers : List ℕ = c.deref-2.result.now in
-    let tables : List NumberedContents = c.in-Some.tables in
-    let own : AreHeldIn cmp files c.replace-before.result = subst (AreHeldIn cmp files) (sym c.replace-before.ensures.value) are in
-    found_held cmp files numbers tables (subst (λ (o : Option (List NumberedContents)). IsFoundAnswer cmp files numbers (Ok o)) c.in-Some.is (c.in_ok-found.ensures.answer files told own))

@@ -7,7 +7,7 @@ use Rattle.edit.specs.declared.meta.FileMeta.{FileMeta}
 use Rattle.reads.specs.Tables.{NumberedContents}
 use Rattle.checks.specs.HeldTables.{AreFound, AreHeldIn, IsFoundAnswer}
 use Rattle.checks.specs.NeededFiles.{is_file_needed}
-use Rattle.checks.proofs.FoundTables.{found_held}
+use Rattle.checks.proofs.FoundTables.{held_found, held_unfound}
 use Rattle.faults.specs.KeyWalk.{misplaced_in}
 use Rattle.faults.proofs.FaultAnswers.{memory_handed, memory_stopped, ok_weaker, stopped_or}
 use Rattle.faults.proofs.RangeSteps.{never_unfound, numbers_are, range_keys}
@@ -26,15 +26,14 @@ returns-in_err-numbers-clause-errors g c files told own sound =
     let failed = g.F.Folder.failed in
     memory_handed (failed c.args.folder.now) (failed c.args.folder.now) c.from_residual-in_err-numbers.result c.in_err-numbers.field-0.0 c.from_residual-in_err-numbers.ensures.1 (only_memory c.in_err-numbers.field-0.0 _ (λ no. absurd (cc no)) c.in_err-numbers.ensures)
 
-pub returns-in_err-found-clause-errors : goal.returns-in_err-found-clause-errors
-returns-in_err-found-clause-errors g c files told own sound =
+pub returns-in_err-is_held-clause-errors : goal.returns-in_err-is_held-clause-errors
+returns-in_err-is_held-clause-errors g c files told own sound =
     let cmp = g.C.Comparator.cmp in
     let failed = g.F.Folder.failed in
-    let before : AreHeldIn cmp files c.replace-before.result = subst (AreHeldIn cmp files) (sym c.replace-before.ensures.value) own in
-    stopped_or (failed c.args.folder.now) (failed c.args.folder.now) (failed c.hold_tables.new.folder) c.from_residual-in_err-found.result c.in_err-found.field-0.0 c.from_residual-in_err-found.ensures.1 (omega arith) c.hold_tables.ensures.device.later (c.in_err-found.ensures.answer files told before)
+    stopped_or (failed c.args.folder.now) (failed c.args.folder.now) (failed c.hold_next.new.folder) c.from_residual-in_err-is_held.result c.in_err-is_held.field-0.0 c.from_residual-in_err-is_held.ensures.1 (omega arith) c.hold_next.ensures.device.later (c.in_err-is_held.ensures.answer files told own)
 
-pub returns-in_default-clause-errors : goal.returns-in_default-clause-errors
-returns-in_default-clause-errors g c files told own sound =
+pub returns-then-not-is_held-clause-errors : goal.returns-then-not-is_held-clause-errors
+returns-then-not-is_held-clause-errors g c files told own sound =
     absurd
     (let cmp = g.C.Comparator.cmp in
     let range = key_range c.args.range in
@@ -42,8 +41,7 @@ returns-in_default-clause-errors g c files told own sound =
     let needed : List FileMeta = filter (is_file_needed cmp range) standing in
     let numbers : List ℕ = c.deref-2.result.now in
     let same = numbers_are c.deref.result.now c.in_ok-needed.needed.items needed numbers c.deref.ensures.value c.in_ok-needed.ensures.needed (ok_is _ _ c.in_ok-numbers.ensures ∙ sym c.deref-2.ensures.value) in
-    let before : AreHeldIn cmp files c.replace-before.result = subst (AreHeldIn cmp files) (sym c.replace-before.ensures.value) own in
-    let none : IsFoundAnswer cmp files numbers (Ok None) = subst (λ (o : Option (List NumberedContents)). IsFoundAnswer cmp files numbers (Ok o)) c.in_default.is (c.in_ok-found.ensures.answer files told before) in
+    let none : IsFoundAnswer cmp files numbers (Ok None) = held_unfound cmp files numbers c.in_ok-is_held.is_held c.hold_next.new.held c.if-not-is_held.true (c.in_ok-is_held.ensures.answer files told own) in
     never_unfound cmp (g.met.C.Comparator g.world.𝓛 g.world.𝓜 g.world.𝓡 ((λ s x. x), (λ x. x), (λ x. x), λ x. x)).total range files standing sound (subst (λ (ns : List ℕ). IsFoundAnswer cmp files ns (Ok None)) same none))
 
 pub returns-clause-faults : goal.returns-clause-faults
@@ -53,10 +51,9 @@ returns-clause-faults g c files told own sound =
     let standing : List FileMeta = map now_of c.args.files.now in
     let needed : List FileMeta = filter (is_file_needed cmp range) standing in
     let numbers : List ℕ = c.deref-2.result.now in
-    let held : List NumberedContents = c.in-Some.tables in
+    let held : List NumberedContents = c.hold_next.new.held in
     let same = numbers_are c.deref.result.now c.in_ok-needed.needed.items needed numbers c.deref.ensures.value c.in_ok-needed.ensures.needed (ok_is _ _ c.in_ok-numbers.ensures ∙ sym c.deref-2.ensures.value) in
-    let before : AreHeldIn cmp files c.replace-before.result = subst (AreHeldIn cmp files) (sym c.replace-before.ensures.value) own in
-    let found : AreFound cmp files numbers held = subst (λ (o : Option (List NumberedContents)). IsFoundAnswer cmp files numbers (Ok o)) c.in-Some.is (c.in_ok-found.ensures.answer files told before) in
+    let found : AreFound cmp files numbers held = held_found cmp files numbers c.in_ok-is_held.is_held held c.if-not-is_held.false (c.in_ok-is_held.ensures.answer files told own) in
     ok_weaker c.held_faults.result _ _
     (λ v are. range_keys cmp (g.met.C.Comparator g.world.𝓛 g.world.𝓜 g.world.𝓡 ((λ s x. x), (λ x. x), (λ x. x), λ x. x)).total range files standing sound held (map misplaced_in v.items) (subst (λ (ns : List ℕ). AreFound cmp files ns held) same found) are)
     c.held_faults.ensures.faults
@@ -64,12 +61,4 @@ returns-clause-faults g c files told own sound =
 pub returns-clause-errors : goal.returns-clause-errors
 returns-clause-errors g c files told own sound =
     let failed = g.F.Folder.failed in
-    memory_stopped (failed c.args.folder.now) (failed c.hold_tables.new.folder) c.held_faults.result c.held_faults.ensures.memory
-
-pub returns-clause-held : goal.returns-clause-held
-returns-clause-held g c files told own =
-    let cmp = g.C.Comparator.cmp in
-    let numbers : List ℕ = c.deref-2.result.now in
-    let held : List NumberedContents = c.in-Some.tables in
-    let before : AreHeldIn cmp files c.replace-before.result = subst (AreHeldIn cmp files) (sym c.replace-before.ensures.value) own in
-    found_held cmp files numbers held (subst (λ (o : Option (List NumberedContents)). IsFoundAnswer cmp files numbers (Ok o)) c.in-Some.is (c.in_ok-found.ensures.answer files told before))
+    memory_stopped (failed c.args.folder.now) (failed c.hold_next.new.folder) c.held_faults.result c.held_faults.ensures.memory

@@ -1,4 +1,4 @@
-use Rattle.std.proofs.Common.{◌≡◌, ◌<◌, ℕ, true, false, List, [], ◌∷◌, drop, length, Some, refl, sym, ap, ◌∙◌, arith}
+use Rattle.std.proofs.Common.{◌≡◌, ◌<◌, ℕ, true, List, [], ◌∷◌, drop, length, Some, refl, sym, ap, ◌∙◌, arith}
 use Rattle.block.specs.EncodedEntry.{Entry}
 use Rattle.merge.specs.Least.{IsMerging}
 use Rattle.merge.specs.Merged.{merged}

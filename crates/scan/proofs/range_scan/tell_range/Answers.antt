@@ -1,4 +1,4 @@
-use Rattle.std.proofs.Common.{Bor, ◌≡◌, ℕ, true, List, [], map, Option, None, Ok, refl, sym, ap, subst, ◌∙◌, inr, arith}
+use Rattle.std.proofs.Common.{Bor, ◌≡◌, ℕ, true, List, [], map, None, Ok, refl, sym, ap, subst, ◌∙◌, inr, arith}
 use Rattle.std.specs.Prelude.{filter}
 use Rattle.coding.proofs.Binds.{ok_is}
 use Rattle.coding.proofs.Refusals.{only_memory}
@@ -9,10 +9,10 @@ use Rattle.edit.specs.declared.meta.FileMeta.{FileMeta}
 use Rattle.folder.proofs.LoadingLemmas.{map_fused}
 use Rattle.reads.specs.TableOrder.{lists_of_files}
 use Rattle.reads.specs.Tables.{NumberedContents}
-use Rattle.checks.specs.HeldTables.{AreFound, AreHeldIn, IsFoundAnswer}
+use Rattle.checks.specs.HeldTables.{AreFound, IsFoundAnswer}
 use Rattle.checks.specs.NeededFiles.{is_file_needed}
 use Rattle.checks.proofs.FileTables.{numbers_in}
-use Rattle.checks.proofs.FoundTables.{found_held}
+use Rattle.checks.proofs.FoundTables.{held_found, held_unfound}
 use Rattle.scan.specs.Row.{Row}
 use Rattle.scan.specs.EntryRows.{file_rows, rows_behind}
 use Rattle.scan.specs.RowParts.{AreTelling, IsRowPart}
@@ -67,25 +67,24 @@ returns-in_err-numbers-clause-errors g c files next tables told are own =
     let failed = g.F.Folder.failed in
     memory_handed (failed c.args.folder.now) (failed c.args.folder.now) c.from_residual-in_err-numbers.result c.in_err-numbers.field-0.0 c.from_residual-in_err-numbers.ensures.1 (only_memory c.in_err-numbers.field-0.0 _ (λ no. absurd (cc no)) c.in_err-numbers.ensures)
 
-pub returns-in_err-found-clause-told : goal.returns-in_err-found-clause-told
-returns-in_err-found-clause-told g c files next tables told are own =
+pub returns-in_err-is_held-clause-told : goal.returns-in_err-is_held-clause-told
+returns-in_err-is_held-clause-told g c files next tables told are own =
     let tells = g.T.RowTaker.tells in
     let rows = file_rows g.C.Comparator.cmp tables (map now_of c.args.standing.now) c.args.at (key_range c.args.range) in
-    handed_begun tells rows c.args.taker.now c.args.taker.now c.args.limit c.from_residual-in_err-found.result c.in_err-found.field-0.0 c.from_residual-in_err-found.ensures.1 (refused_first tells rows c.args.taker.now c.args.taker.now c.args.limit refl)
+    handed_begun tells rows c.args.taker.now c.args.taker.now c.args.limit c.from_residual-in_err-is_held.result c.in_err-is_held.field-0.0 c.from_residual-in_err-is_held.ensures.1 (refused_first tells rows c.args.taker.now c.args.taker.now c.args.limit refl)
 
 numbers_are : (lent needed : List (Bor FileMeta)) (metas : List FileMeta) (numbers : List ℕ) → lent ≡ needed → map now_of needed ≡ metas → map (λ f. f.now.number) lent ≡ numbers → numbers ≡ numbers_in metas
 numbers_are lent needed metas numbers is are told =
     sym told ∙ ap (map (λ (f : Bor FileMeta). f.now.number)) is ∙ map_fused now_of (λ (f : FileMeta). f.number) needed ∙ ap numbers_in are
 
-pub returns-in_err-found-clause-errors : goal.returns-in_err-found-clause-errors
-returns-in_err-found-clause-errors g c files next tables told are own =
+pub returns-in_err-is_held-clause-errors : goal.returns-in_err-is_held-clause-errors
+returns-in_err-is_held-clause-errors g c files next tables told are own =
     let cmp = g.C.Comparator.cmp in
     let failed = g.F.Folder.failed in
-    let before : AreHeldIn cmp files c.replace-before.result = subst (AreHeldIn cmp files) (sym c.replace-before.ensures.value) own in
-    stopped_or (failed c.args.folder.now) (failed c.args.folder.now) (failed c.hold_tables.new.folder) c.from_residual-in_err-found.result c.in_err-found.field-0.0 c.from_residual-in_err-found.ensures.1 (omega arith) c.hold_tables.ensures.device.later (c.in_err-found.ensures.answer files told before)
+    stopped_or (failed c.args.folder.now) (failed c.args.folder.now) (failed c.hold_next.new.folder) c.from_residual-in_err-is_held.result c.in_err-is_held.field-0.0 c.from_residual-in_err-is_held.ensures.1 (omega arith) c.hold_next.ensures.device.later (c.in_err-is_held.ensures.answer files told own)
 
-pub returns-in_default-clause-told : goal.returns-in_default-clause-told
-returns-in_default-clause-told g c files next tables told are own =
+pub returns-then-not-is_held-clause-told : goal.returns-then-not-is_held-clause-told
+returns-then-not-is_held-clause-told g c files next tables told are own =
     absurd
     (let cmp = g.C.Comparator.cmp in
     let range = key_range c.args.range in
@@ -93,12 +92,11 @@ returns-in_default-clause-told g c files next tables told are own =
     let needed : List FileMeta = filter (is_file_needed cmp range) standing in
     let numbers : List ℕ = c.deref-2.result.now in
     let same = numbers_are c.deref.result.now c.in_ok-needed.needed.items needed numbers c.deref.ensures.value c.in_ok-needed.ensures.needed (ok_is _ _ c.in_ok-numbers.ensures ∙ sym c.deref-2.ensures.value) in
-    let before : AreHeldIn cmp files c.replace-before.result = subst (AreHeldIn cmp files) (sym c.replace-before.ensures.value) own in
-    let none : IsFoundAnswer cmp files numbers (Ok None) = subst (λ (o : Option (List NumberedContents)). IsFoundAnswer cmp files numbers (Ok o)) c.in_default.is (c.in_ok-found.ensures.answer files told before) in
+    let none : IsFoundAnswer cmp files numbers (Ok None) = held_unfound cmp files numbers c.in_ok-is_held.is_held c.hold_next.new.held c.if-not-is_held.true (c.in_ok-is_held.ensures.answer files told own) in
     never_unfound cmp (g.met.C.Comparator g.world.𝓛 g.world.𝓜 g.world.𝓡 ((λ s x. x), (λ x. x), (λ x. x), λ x. x)).total files next standing tables are range (subst (λ (ns : List ℕ). IsFoundAnswer cmp files ns (Ok None)) same none))
 
-pub returns-in_default-clause-errors : goal.returns-in_default-clause-errors
-returns-in_default-clause-errors g c files next tables told are own =
+pub returns-then-not-is_held-clause-errors : goal.returns-then-not-is_held-clause-errors
+returns-then-not-is_held-clause-errors g c files next tables told are own =
     absurd
     (let cmp = g.C.Comparator.cmp in
     let range = key_range c.args.range in
@@ -106,8 +104,7 @@ returns-in_default-clause-errors g c files next tables told are own =
     let needed : List FileMeta = filter (is_file_needed cmp range) standing in
     let numbers : List ℕ = c.deref-2.result.now in
     let same = numbers_are c.deref.result.now c.in_ok-needed.needed.items needed numbers c.deref.ensures.value c.in_ok-needed.ensures.needed (ok_is _ _ c.in_ok-numbers.ensures ∙ sym c.deref-2.ensures.value) in
-    let before : AreHeldIn cmp files c.replace-before.result = subst (AreHeldIn cmp files) (sym c.replace-before.ensures.value) own in
-    let none : IsFoundAnswer cmp files numbers (Ok None) = subst (λ (o : Option (List NumberedContents)). IsFoundAnswer cmp files numbers (Ok o)) c.in_default.is (c.in_ok-found.ensures.answer files told before) in
+    let none : IsFoundAnswer cmp files numbers (Ok None) = held_unfound cmp files numbers c.in_ok-is_held.is_held c.hold_next.new.held c.if-not-is_held.true (c.in_ok-is_held.ensures.answer files told own) in
     never_unfound cmp (g.met.C.Comparator g.world.𝓛 g.world.𝓜 g.world.𝓡 ((λ s x. x), (λ x. x), (λ x. x), λ x. x)).total files next standing tables are range (subst (λ (ns : List ℕ). IsFoundAnswer cmp files ns (Ok None)) same none))
 
 pub returns-clause-told : goal.returns-clause-told
@@ -117,22 +114,13 @@ returns-clause-told g c files next tables told are own =
     let standing : List FileMeta = map now_of c.args.standing.now in
     let needed : List FileMeta = filter (is_file_needed cmp range) standing in
     let numbers : List ℕ = c.deref-2.result.now in
-    let held : List NumberedContents = c.in-Some.tables in
+    let held : List NumberedContents = c.hold_next.new.held in
     let same = numbers_are c.deref.result.now c.in_ok-needed.needed.items needed numbers c.deref.ensures.value c.in_ok-needed.ensures.needed (ok_is _ _ c.in_ok-numbers.ensures ∙ sym c.deref-2.ensures.value) in
-    let before : AreHeldIn cmp files c.replace-before.result = subst (AreHeldIn cmp files) (sym c.replace-before.ensures.value) own in
-    let found : AreFound cmp files numbers held = subst (λ (o : Option (List NumberedContents)). IsFoundAnswer cmp files numbers (Ok o)) c.in-Some.is (c.in_ok-found.ensures.answer files told before) in
+    let found : AreFound cmp files numbers held = held_found cmp files numbers c.in_ok-is_held.is_held held c.if-not-is_held.false (c.in_ok-is_held.ensures.answer files told own) in
     subst (λ (rs : List Row). AreTelling g.T.RowTaker.tells rs c.args.taker.now c.args.limit c.tell_held.new.taker c.tell_held.result)
     (found_rows cmp (g.met.C.Comparator g.world.𝓛 g.world.𝓜 g.world.𝓡 ((λ s x. x), (λ x. x), (λ x. x), λ x. x)).total files next standing tables are range held (subst (λ (ns : List ℕ). AreFound cmp files ns held) same found) c.args.at) c.tell_held.ensures.told
 
 pub returns-clause-errors : goal.returns-clause-errors
 returns-clause-errors g c files next tables told are own =
     let failed = g.F.Folder.failed in
-    memory_stopped (failed c.args.folder.now) (failed c.hold_tables.new.folder) c.tell_held.result c.tell_held.ensures.memory
-
-pub returns-clause-held : goal.returns-clause-held
-returns-clause-held g c files told own =
-    let cmp = g.C.Comparator.cmp in
-    let numbers : List ℕ = c.deref-2.result.now in
-    let held : List NumberedContents = c.in-Some.tables in
-    let before : AreHeldIn cmp files c.replace-before.result = subst (AreHeldIn cmp files) (sym c.replace-before.ensures.value) own in
-    found_held cmp files numbers held (subst (λ (o : Option (List NumberedContents)). IsFoundAnswer cmp files numbers (Ok o)) c.in-Some.is (c.in_ok-found.ensures.answer files told before))
+    memory_stopped (failed c.args.folder.now) (failed c.hold_next.new.folder) c.tell_held.result c.tell_held.ensures.memory

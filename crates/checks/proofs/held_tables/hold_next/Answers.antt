@@ -1,0 +1,22 @@
+use Rattle.std.proofs.Common.{List, Option, Ok, sym, subst, arith}
+use Rattle.folder.proofs.OpeningLemmas.{hands_on}
+use Rattle.reads.specs.Tables.{NumberedContents}
+use Rattle.checks.specs.HeldTables.{AreHeldIn, IsFoundAnswer}
+use Rattle.checks.proofs.FoundTables.{found_held}
+use Rattle.checks.proofs.held_tables.hold_next.Goals as goal
+
+pub returns-in_err-found-clause-answer : goal.returns-in_err-found-clause-answer
+returns-in_err-found-clause-answer g c files told are =
+    let cmp = g.C.Comparator.cmp in
+    let failed = g.F.Folder.failed in
+    let own : AreHeldIn cmp files c.replace-before.result = subst (AreHeldIn cmp files) (sym c.replace-before.ensures.value) are in
+    hands_on _ (failed c.args.folder.now) (failed c.args.folder.now) (failed c.hold_tables.new.folder) c.from_residual.result c.in_err-found.field-0.0
+    (IsFoundAnswer cmp files c.args.numbers.now) (IsFoundAnswer cmp files c.args.numbers.now)
+    c.from_residual.ensures.1 (omega arith) c.hold_tables.ensures.device.later (c.in_err-found.ensures.answer files told own) (λ h. absurd h)
+
+pub returns-clause-held : goal.returns-clause-held
+returns-clause-held g c files told are =
+    let cmp = g.C.Comparator.cmp in
+    let own : AreHeldIn cmp files c.replace-before.result = subst (AreHeldIn cmp files) (sym c.replace-before.ensures.value) are in
+    found_held cmp files c.args.numbers.now c.in-Some.tables
+    (subst (λ (o : Option (List NumberedContents)). IsFoundAnswer cmp files c.args.numbers.now (Ok o)) c.in-Some.is (c.in_ok-found.ensures.answer files told own))

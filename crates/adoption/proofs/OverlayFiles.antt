@@ -133,7 +133,7 @@ module _ (tables : List (ℕ × List ℕ)) (files : Files) where
 
 -- ---- calls
 
--- where nothing is hidden, the same is told over it
+-- if two tell the same, then so do they with tables laid over them
 told_alike : (before laid : Option (List ℕ)) (one two : ToldFiles) (name : List ℕ) (held : Option (List ℕ)) → TellsSame one two
     → MatchOption before (MatchOption laid (one name held) (λ bytes. held ≡ Some bytes)) (λ b. one b held) ↔ MatchOption before (MatchOption laid (two name held) (λ bytes. held ≡ Some bytes)) (λ b. two b held)
 told_alike None None one two name held h = h name held

@@ -47,6 +47,6 @@ length-block-append r q (e ∷ es) =
     let rest : length (block r (q ++ e ∷ [])) ≤ length (block r (q ++ e ∷ es)) = rw (← append_assoc q (e ∷ []) es) (length-block-append r (q ++ e ∷ []) es) in
     omega (arith, one.at_least, rest)
 
--- There is room for one more entry where the block so far leaves room for its bytes and 34 more.
+-- There is room for one more entry if the block so far leaves room for its bytes and 34 more.
 pub fits_with_entry : (b : BlockBuilding) (key value : List ℕ) → length (block b.interval b.entries) + 34 + length key + length value ≤ 2 ^ 31 → length (block b.interval (with_entry b.entries key value)) ≤ 2 ^ 31
 fits_with_entry b key value room = omega (arith, (block-grows b.interval b.entries (record { key = key; value = value })).at_most)

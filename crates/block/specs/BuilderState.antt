@@ -1,4 +1,4 @@
--- What is kept of a block: of one that was checked, and of one that is being written.
+-- The state of a block: of one that was checked, and of one that is being written.
 use Rattle.std.specs.Prelude.{◌≡◌, ℕ, ◌%◌, ◌≤◌, List, [], map, length, take}
 use Rattle.std.specs.List.{flat_map}
 use Rattle.byteorder.specs.Endian.{little_bytes}
@@ -27,9 +27,9 @@ sound_in area restarts = record {
   restarts = map (entries_before area) (numbers_in restarts);
 }
 
--- What is kept of these entries: their encoded entries, the offsets of the restarts, the last key,
--- and the number of entries after the last whole interval. Their block has at most MAX_BLOCK_LEN
--- bytes.
+-- The state of a block builder with these entries: their encoded entries, the offsets of the
+-- restarts, the last key, and the number of entries after the last whole interval. Their block has
+-- at most MAX_BLOCK_LEN bytes.
 pub record IsBlockBuilder (interval : ℕ) (entries : List Entry) (pieces restarts last : List ℕ)
     (since : ℕ) : Type 0 where
   pub interval_pos : 1 ≤ interval

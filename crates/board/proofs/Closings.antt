@@ -138,7 +138,7 @@ counts_exact b g ps h once small =
     let s : n ≤ 1099511627776 = small in
     ((let c = h.counts.0 in omega arith), (let c = h.counts.1 in omega arith), (let c = h.counts.2 in omega arith))
 
--- where each seat has spent what it drew
+-- if each seat has spent what it drew
 spent_all : (ps : List Progress) → All HasSpentAll ps → (x : ℕ) → times x (all_drawn ps) ≤ times_spent x ps
 spent_all [] each x = omega arith
 spent_all (p ∷ ps) each x =

@@ -1,4 +1,5 @@
-// The board that threads share.
+//! The board that threads share.
+
 ghost use Rattle.std.specs.Prelude.{◌≡◌, ◌≢◌, ℕ, ◌+◌, ◌≤◌, ◌<◌, ◌^◌, ◌⊎◌, ◌↔◌, [], Err, IfOk};
 ghost use Rattle.std.specs.Prelude.{IfErr, IfSome, IfNone, All, List, ◌∷◌, length, vec_len};
 ghost use Rattle.coding.specs.Answers.{fault};

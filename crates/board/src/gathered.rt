@@ -1,4 +1,5 @@
-// The seats of a closed board, taken in one after the other.
+//! The seats of a closed board, taken in one after the other.
+
 ghost use Rattle.std.specs.Prelude.{◌∷◌, []};
 ghost use Rattle.board.specs.GatheredSeats.{Gathers};
 

@@ -1,4 +1,5 @@
-// A job that a seat draws.
+//! A job that a seat draws.
+
 use std::marker::Model;
 
 /// A job that was drawn. It has to be spent at the seat that drew it, by `done`, `fail` or `skip`.

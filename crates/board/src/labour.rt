@@ -1,4 +1,5 @@
-// What the jobs are, and who is told of them.
+//! What the jobs are, and who is told of them.
+
 ghost use Rattle.std.specs.Prelude.{◌<◌, ℕ, Option, IfOk, IfErr};
 ghost use Rattle.coding.specs.declared.fault.Fault.{Fault};
 ghost use Rattle.board.specs.RunAnswer.{IsResult, IsFaultOf};

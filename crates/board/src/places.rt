@@ -1,4 +1,5 @@
-// The results of all workers, each at the number of its job.
+//! The results of all workers, each at the number of its job.
+
 ghost use Rattle.std.specs.Prelude.{◌≡◌, ◌<◌, ◌≤◌, ℕ, [], map, All, length, vec_capacity};
 ghost use Rattle.board.specs.Shares.{times};
 ghost use Rattle.board.specs.RunAnswer.{AreResults, IsResult};

@@ -1,4 +1,5 @@
-// All jobs of a labour, done by several workers.
+//! All jobs of a labour, done by several workers.
+
 ghost use Rattle.std.specs.Prelude.{◌≡◌, ◌⊎◌, ◌↔◌, ◌<◌, ◌≤◌, ◌^◌, ℕ, [], None, Err, IfOk, IfErr};
 ghost use Rattle.std.specs.Prelude.{All, replicate, vec_len, vec_capacity};
 ghost use Rattle.coding.specs.declared.fault.Fault.{Fault};

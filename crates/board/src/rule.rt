@@ -1,16 +1,17 @@
-// What the seats share, in 65 words:
-//
-//     words 0 to 63    claim words: word k * (64 / w) counts the claims of share k of w
-//     word 64          the fault word: the least job that failed, 2^64 - 1 while none has
-//
-// 1. A claim adds 1 to a share's word, and draws the job at the place that it found there. No two
-//    claims find the same number, so no job is drawn twice.
-// 2. A claim that finds the share's length, or more, sees the share empty. A word never falls, so
-//    the share stays empty.
-// 3. A settle makes the fault word the lesser of itself and the job. It never rises, so a job above
-//    it stays above one that failed.
-//
-// What a seat has done is its view.
+//! What the seats share, in 65 words:
+//!
+//!     words 0 to 63    claim words: word k * (64 / w) counts the claims of share k of w
+//!     word 64          the fault word: the least job that failed, 2^64 - 1 while none has
+//!
+//! 1. A claim adds 1 to a share's word, and draws the job at the place that it found there. No two
+//!    claims find the same number, so no job is drawn twice.
+//! 2. A claim that finds the share's length, or more, sees the share empty. A word never falls, so
+//!    the share stays empty.
+//! 3. A settle makes the fault word the lesser of itself and the job. It never rises, so a job
+//!    above it stays above one that failed.
+//!
+//! What a seat has done is its view.
+
 ghost use Rattle.std.specs.Prelude.{ℕ};
 
 use atomic_table::{Join, Play, Split, TableRule};

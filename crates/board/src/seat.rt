@@ -1,4 +1,5 @@
-// A seat at a board.
+//! A seat at a board.
+
 ghost use Rattle.std.specs.Prelude.{◌≡◌, ◌<◌, ◌≤◌, ◌^◌, []};
 ghost use Rattle.board.specs.Rule.{fresh_view};
 

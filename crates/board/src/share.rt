@@ -1,4 +1,5 @@
-// A share of a board's jobs, as a seat claims from it.
+//! A share of a board's jobs, as a seat claims from it.
+
 ghost use Rattle.std.specs.Prelude.{◌≡◌, ◌<◌, ◌≤◌, ◌^◌};
 ghost use Rattle.board.specs.Shares.{start};
 ghost use Rattle.board.specs.Words.{word_of};

@@ -1,4 +1,5 @@
-// What a worker leaves.
+//! What a worker leaves.
+
 use crate::seat::Seat;
 use coding::Fault;
 

@@ -1,12 +1,13 @@
-// The jobs that were done at a seat, for contracts alone.
+//! The jobs that were done at a seat, for contracts alone.
+
 ghost use Rattle.std.specs.Prelude.{◌≡◌, ℕ, List, [], ◌∷◌, ◌++◌};
 ghost use Rattle.std.specs.Borrow.{ftrue};
 
 use crate::job::Job;
 use std::marker::Model;
 
-// It takes no memory and does nothing at run time. The invariant of a seat says what it tells of
-// the seat.
+// A ghost list of the numbers of the jobs done at a seat. It takes no memory, and does nothing at
+// run time. By the invariant of `Seat`, each was drawn there and is listed once.
 #[derive(Drop)]
 pub struct Trail {
     pub ghost items: { List ℕ },

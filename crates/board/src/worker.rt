@@ -1,4 +1,5 @@
-// What a worker does.
+//! What a worker does.
+
 ghost use Rattle.std.specs.Prelude.{◌≤◌, ℕ, List, ◌++◌, Option};
 ghost use Rattle.coding.specs.declared.fault.Fault.{Fault};
 ghost use Rattle.board.specs.RunAnswer.{IsFaultOf};

@@ -323,7 +323,7 @@ module _ (cmp : List ℕ → List ℕ → Ordering) where
   pub walk_begins : (walked all : List (List Entry)) → walked ≡ [] → FallAlike cmp (walked ++ drop 0 all) all
   walk_begins walked all none = same_alike (walked ++ drop 0 all) all (ap (λ (ls : List (List Entry)). ls ++ all) none)
 
-  -- the table at a place, and those behind it
+  -- the table at a place, and those after it
   here : (all : List (List Entry)) (place : ℕ) (own : List Entry) → place < length all → own ≡ get_or all place own → drop place all ≡ own ∷ drop (place + 1) all
   here all place own lt is = drop_more all place own lt ∙ ap (λ (x : List Entry). x ∷ drop (place + 1) all) (sym is)
 

@@ -113,7 +113,7 @@ module _ (cmp : List ℕ → List ℕ → Ordering) (within : KeyRange) (boundar
         absurd (no_both (get_or outs found.0 true) told found.2),
   )
 
--- a labour that states no refusal fails for want of memory alone
+-- a labour that states no refusal fails only if out of memory
 pub only_memory_left : {O V : Type 0} (gives : ℕ → O → Type 0) (jobs workers : ℕ) (result : Result V RunFault) (e : RunFault) → result ≡ Err e
     → ((job : ℕ) (f : Fault) → result ≡ Err (RunFault.Job job f) → IsRefused (λ j. None) gives jobs job f)
     → (result ≡ Err RunFault.Workers → (workers ≡ 0) ⊎ (64 < workers)) → 0 < workers → workers ≤ 64 → fault_of_run e ≡ fault Memory

@@ -35,7 +35,7 @@ use Rattle.checks.proofs.LawfulLemmas.{not_checked, sound}
 use Rattle.checks.proofs.RangeLemmas.{unfound_wrong, walked_sound, walked_wrong}
 use Rattle.checks.proofs.SweepLemmas.{all_sound, all_there, lawless}
 
--- a folder that tells files tells them still where what may be read stays the same
+-- a folder that tells files tells them still if what may be read stays the same
 pub told_still : (old new : List ℕ → Option (List ℕ) → Type 0) (files : Files) → TellsSame old new → Tells old files → Tells new files
 told_still old new files same tells name held = (λ h. (tells name held).0 ((same name held).1 h), λ h. (same name held).0 ((tells name held).1 h))
 

@@ -74,7 +74,8 @@ contents_of_all tables = map (λ (t : NumberedContents). t.contents) tables
 abbrev pub entries_of_all : List NumberedContents → List Entry
 entries_of_all tables = entries_of_lists (map (λ (t : NumberedContents). t.contents.entries) tables)
 
--- tables are what the version states of these files, and their entries fall in a range
+-- Tables are what the version states of these files. In a range, the sequences of each user key
+-- decrease through them. `count` is the number of entries of those whose files begin in the range.
 pub record IsWalked (cmp : List ℕ → List ℕ → Ordering) (next : Option ℕ) (range : KeyRange)
     (metas : List FileMeta) (tables : List NumberedContents) (count : ℕ) : Type 0 where
   pub stated : AreStatedBy cmp next metas (contents_of_all tables)

@@ -32,7 +32,7 @@ wanted_number (number, Some t) = None
 abbrev pub wanted_numbers : List (ℕ × Option NumberedContents) → List ℕ
 wanted_numbers places = filter_map wanted_number places
 
--- the tables of all places, where each place without a table takes the next of those that were read
+-- the tables of all places; each place without a table takes the next of those that were read
 abbrev pub placed_tables : List (ℕ × Option NumberedContents) → List NumberedContents →
     List NumberedContents
 placed_tables [] fresh = []

@@ -4,7 +4,7 @@
 pub trait RemovalWatch {
     ghost use Rattle.std.specs.Prelude.{ℕ, List};
 
-    /// What a call changes that tells this name. If it says nothing, it allows every change.
+    /// The change that a call of `removed` with this name makes. By default any change is allowed.
     ghost tells: { Self → List ℕ → Self → Type 0 } = { λ _ _ _. Unit {0} };
 
     /// Tells the name of a file that was removed.

@@ -19,7 +19,7 @@ common xs ys = common_prefix_len eqb xs ys
 
 -- ---- beginnings that are the same
 
--- a shorter beginning is the same where a longer one is
+-- a shorter beginning is the same if a longer one is
 pub take_fewer : (m n : ℕ) (xs ys : List ℕ) → m ≤ n → take n xs ≡ take n ys → take m xs ≡ take m ys
 take_fewer zero n xs ys le same = refl
 take_fewer (suc m) zero xs ys le same = absurd (omega arith)

@@ -39,7 +39,7 @@ steps_none : (c : ℕ) → register_after_steps 0 c ≡ c
 unfolding register_after_steps
 steps_none c = refl
 
--- m steps and then n, as so many
+-- m steps and then n are k steps
 steps_are : (m n k c : ℕ) → m + n ≡ k → register_after_steps n (register_after_steps m c) ≡ register_after_steps k c
 steps_are m n k c h = sym (after_steps-add m n c) ∙ ap (λ t. register_after_steps t c) h
 
@@ -445,7 +445,7 @@ chunks_apart r k chunks =
     sym (fed_bytes-append r (concat (take k chunks)) (concat (drop k chunks)))
     ∙ ap (fed r) (sym (concat-append (take k chunks) (drop k chunks)) ∙ ap concat (take-append-drop k chunks))
 
--- a chunk is stored behind the others
+-- a chunk is stored after the others
 stored : (place n : ℕ) (taken sum : List ℕ) → length taken ≡ n → length sum ≡ 16 → place + 16 ≤ n
     → take (place + 16) (put_mid place (n - place) taken (put_chunk 0 (mid_of place (n - place) taken) sum)) ≡ take place taken ++ sum
 stored place n taken sum h s room =

@@ -1,4 +1,4 @@
--- What is kept of a merged request, and what it answers.
+-- The state of a merged request, and what it answers.
 use Rattle.std.specs.Prelude.{◌≡◌, ℕ, ◌≤◌, true, List, map, Result}
 use Rattle.coding.specs.declared.fault.Fault.{Fault}
 use Rattle.table.specs.Options.{AreInLimits}

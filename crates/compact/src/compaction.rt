@@ -31,10 +31,14 @@ use table::SoundTable;
 /// Compacts by 1 to 64 workers, and answers the tables and the edit. They are what one thread
 /// answers, whatever the ranges of the split, the number of workers and the order of their jobs.
 ///
-/// It checks the tables of the inputs itself, and then calls [`compact_tables`]. The program has
-/// checked all tables of its folder before. `compact DIR` calls [`merge_request`],
-/// [`Merged::planned`] and [`crate::Planned::tables`], and `compact --out` calls
-/// [`compact_tables`].
+/// It checks the tables of the inputs itself, and then calls [`compact_tables`]. The program calls
+/// parts of it instead, after it has checked the inputs, and all tables of the folder unless
+/// `--no-verify` is given:
+///
+/// - `compact DIR` calls [`merge_request`] and [`Merged::planned`]. Then it writes each
+///   [`crate::Planned::group`] by `install::write_source_group`, whose workers encode the tables by
+///   [`cut::Plan::table`].
+/// - `compact --out` calls [`compact_tables`].
 ///
 /// Reads survive (`LeavesReads`). Premises (`IsOver`):
 ///

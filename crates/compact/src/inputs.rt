@@ -1,4 +1,4 @@
-//! The first run: the inputs are checked.
+//! The first phase: the inputs are checked.
 
 ghost use Rattle.std.specs.Prelude.{◌≡◌, ◌<◌, ◌≤◌, List, length, map, slice_get, Some, Result};
 ghost use Rattle.coding.specs.Answers.{EqualOrMemory, FailsOrMemory};

@@ -1,4 +1,4 @@
-//! Compaction of tables by workers that steal jobs, in three runs of a board:
+//! Compaction of tables by workers that steal jobs of a board, in three phases:
 //!
 //! 1. [`check_inputs`] checks the inputs, a table a job.
 //! 2. [`merge_ranges`] merges them, a range of user keys a job. Then one thread cuts the outputs,
@@ -6,10 +6,10 @@
 //! 3. The tables of the plan are encoded, a table a job, or a piece a job if an output has several,
 //!    and joined.
 //!
-//! [`compact`] does all of it; [`compact_tables`] the last two runs, over tables that are checked
-//! already. [`merge_request`] is the second run alone; [`Planned`] then encodes the tables group by
-//! group, so that they needn't all be in memory. The answer doesn't depend on the workers, nor on
-//! the order in which they do their jobs.
+//! [`compact`] does all of it; [`compact_tables`] the last two phases, over tables that are checked
+//! already. [`merge_request`] only merges, and [`Merged::planned`] plans the outputs. The tables of
+//! [`Planned`] are then encoded group by group, so that they needn't all be in memory. The answer
+//! doesn't depend on the workers, nor on the order in which they do their jobs.
 #![tactic(auto)]
 
 mod compaction;

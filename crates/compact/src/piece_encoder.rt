@@ -1,4 +1,4 @@
-//! The third run: the pieces of a plan are encoded.
+//! The third phase: the pieces of a plan are encoded.
 
 ghost use Rattle.std.specs.Prelude.{length, map, Ok};
 ghost use Rattle.coding.specs.Answers.{EqualOrMemory};

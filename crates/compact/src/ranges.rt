@@ -1,4 +1,4 @@
-//! The second run: the ranges are merged.
+//! The second phase: the ranges are merged.
 
 ghost use Rattle.std.specs.Prelude.{◌≡◌, map, IfOk, IfErr};
 ghost use Rattle.std.specs.List.Sorted.{IsStrictlyIncreasing};

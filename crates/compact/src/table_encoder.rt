@@ -1,4 +1,4 @@
-//! The third run, if each output is one piece: its tables are encoded whole.
+//! The third phase, if each output is one piece: its tables are encoded whole.
 //!
 //! Why: the index of a table is then made by the worker that encoded its data blocks, and not after
 //! all of them are done.

@@ -30,7 +30,7 @@ length-piece p =
       length-append p.unshared p.value,
     )
 
--- by whether a restart points at it, where an entry stands before it
+-- by whether a restart points at it, if an entry stands before it
 added_by : (restart : Bool) (before : List ℕ) (e : Entry) → length (encoded_entry_bytes (piece_at_restart restart before e)) + cond restart 4 0
     ≡ encoded_entry_size (cond restart 0 (common before e.key)) (length e.key - cond restart 0 (common before e.key)) (length e.value) + cond (restart && true) 4 0
 added_by true before e =

@@ -62,7 +62,7 @@ to_the_further gs first middle last le = elim (cases_lt last middle) [
 
 -- ---- marks
 
--- where room is left there is no stop
+-- if room is left, there is no stop
 pub no_stop : (gs : List FileMeta) (size : ℕ) (o : Overlap) (m : Mark) (left : ℕ) → HasOverlapRoom gs size o → room_left o.room (size_between gs o.counted m.below) ≡ Some left → is_stop gs size o.since m ≡ false
 no_stop gs size o m left h e =
     le-ltb (10 * size) (size_between gs o.since m.below)
@@ -99,7 +99,7 @@ stops_at_mark gs size since m rest s = rw s refl
 counted_at : (gs : List FileMeta) (size : ℕ) (s : Stopping) (o : Overlap) → AreCounted gs size s → s.overlap ≡ Some o → HasOverlapRoom gs size o
 counted_at gs size s o h is = subst (λ (x : Option Overlap). IfSome x (HasOverlapRoom gs size)) is h
 
--- what is passed at a number, where so much room is left
+-- what is passed at a number, if `left` bytes of room are left
 abbrev pub overlap_at : Overlap → ℕ → ℕ → Overlap
 overlap_at o below left = record { since = o.since; counted = max o.counted below; room = left }
 

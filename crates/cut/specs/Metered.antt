@@ -24,7 +24,7 @@ block_after_entries n m = record {
   behind = drop n m.behind;
 }
 
--- What is kept of the block of these entries: its length, and the number of entries after the last
+-- The state of the block of these entries: its length, and the number of entries after the last
 -- whole interval. There are at most 2 ^ 64 - 1 entries.
 pub record IsMetered (interval : ℕ) (entries : List Entry) (len since : ℕ) : Type 0 where
   pub positive : 1 ≤ interval

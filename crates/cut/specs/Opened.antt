@@ -41,8 +41,8 @@ abbrev pub ends_by : Options → List Entry → List Entry → Bool
 ends_by o q [] = false
 ends_by o q (e ∷ es) = ends_before o q e
 
--- What is kept of an open output: its full data blocks, their bytes, its last key and the open
--- block. Whatever entries are still to come, its data blocks begin with the full ones.
+-- The state of an open output: its full data blocks, their bytes, its last key and the open block.
+-- Whatever entries are still to come, its data blocks begin with the full ones.
 pub record IsOpen (o : Options) (blocks : List PlannedBlock) (flushed : ℕ) (last : Option (List ℕ))
     (open_one : BlockInProgress) : Type 0 where
   pub limits : AreInLimits o

@@ -54,8 +54,8 @@ abbrev pub outputs : KeyOrder → CompactionContext → Options → List Entry �
 outputs cmp b o union = outputs_of b.grandparents o
     (record { kept = kept cmp b.readable b.deeper union; marks = heads cmp b union })
 
--- An output of entries q may end before the rest: its flushed blocks have reached the maximal file
--- size, and no entry of the rest has the user key of its last one.
+-- An output of entries q may end before the rest. Its flushed blocks have reached the maximal file
+-- size. No entry of the rest has the user key of its last one.
 pub record MayEnd (o : Options) (q rest : List Entry) : Type 0 where
   pub reached : o.file_size ≤ flushed o q
   pub whole : AllByRecursion (λ e. user_of e.key ≢ user_of (last_key [] q)) rest

@@ -3,12 +3,12 @@
 --
 -- An output that overlaps many of the grandparents, the files two levels below the compaction,
 -- makes its next compaction costly. So the union is cut into segments, and no output has entries of
--- two. The first segment begins with the first entry, and each later one with the first entry after
--- that
--- (1) whose user key is not that of the entry before it, so that all entries of a user key go to
---     one output, and
--- (2) below which the grandparents that were passed since the segment before began have more than
---     MAX_OVERLAP times the maximal file size together.
+-- two. The first segment begins with the first entry. After the start of a segment, the next one
+-- begins with the first entry of which both hold:
+-- (1) Its user key is not that of the entry before it. So all entries of a user key go to one
+--     output.
+-- (2) The grandparents that were passed since that start have more than MAX_OVERLAP times the
+--     maximal file size together. A grandparent is passed if it lies below the entry.
 -- All entries of the union count, dropped ones too. What is kept of a segment is then cut by size.
 use Rattle.std.specs.Prelude.{◌≡◌, ◌≢◌, ℕ, ◌*◌, ◌<◌, List, [], ◌∷◌, flat_map}
 use Rattle.std.specs.List.{AllByRecursion}

@@ -27,8 +27,8 @@ fn count_entries(blocks: &[PlannedBlock<'_, '_>]) -> u64
     count
 }
 
-/// The place after the last entry of the data block of number `block`; None if there are not so
-/// many.
+/// The place after the last entry of the data block of number `block`; None if there is no such
+/// block.
 pub(crate) fn end_of(blocks: &[PlannedBlock<'_, '_>], block: usize) -> Option<u64>
     requires { length (entries_in_blocks blocks.now) ≤ MAX_TABLE_LEN }
     ensures { result ≡ slice_get (block_ends_from 0 (parts_of blocks.now)) block }

@@ -9,10 +9,10 @@
 //!     passed          [ 1 ]  [  2  ]       [   3    ]    [ 4 ]
 //!                     sizes of 1, 2 and 3 > 10 * file_size
 //!
-//! There is a stop before an entry of the union
+//! There is a stop before an entry of the union if both hold:
 //!
-//! (1) that is the first of its user key, so all entries of a user key go to one output, and
-//! (2) before which more than 10 times the maximal file size of grandparents is passed.
+//! (1) It is the first of its user key. So all entries of a user key go to one output.
+//! (2) More than 10 times the maximal file size of grandparents is passed before it.
 //!
 //! What is passed counts from the last stop, or from the first entry of all if there was none yet.
 //! A grandparent is passed when its largest key is below the entry's. Dropped entries count as kept

@@ -271,7 +271,7 @@ new_on files f rest free =
     ∙ new_by (has_number rest f.meta.number) (are_apart rest) (list_any (λ (g : NewFile). has_number rest g.meta.number) files) (has_number files f.meta.number) free
     ∙ ap (λ (b : Bool). are_apart rest && not b) (sym (any_with (λ (g : NewFile). has_number rest g.meta.number) files f free))
 
--- no files with the first one are new where its number is taken
+-- no files with the first one are new if its number is taken
 pub taken_is : (files : List NewFile) (f : NewFile) (rest : List NewFile) → has_number files f.meta.number ≡ true → are_new files (f ∷ rest) ≡ false
 taken_is files f rest there =
     ap (λ (b : Bool). (not (has_number rest f.meta.number) && are_apart rest) && not b) (clash_is f rest files ∙ ap (λ (b : Bool). b || list_any (λ (g : NewFile). has_number rest g.meta.number) files) there)

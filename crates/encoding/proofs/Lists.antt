@@ -43,7 +43,7 @@ next_entry (e ∷ q) behind zero key value lt k v =
     ∙ ap (λ (x : List ℕ). record { key = e.key; value = x } ∷ []) (sym (same_Some e.value value v))
 next_entry (e ∷ q) behind (suc i) key value lt k v = ap (λ (es : List Entry). e ∷ es) (next_entry q behind i key value (omega arith) k v)
 
--- a front of entries fits where all fit
+-- a front of entries fits if all fit
 pub front_fits : (r : ℕ) (q : List Entry) (n : ℕ) → length (block r q) ≤ 2 ^ 31 → length (block r (take n q)) ≤ 2 ^ 31
 front_fits r q n h =
     let parts : take n q ++ drop n q ≡ q = take-append-drop n q in

@@ -103,7 +103,7 @@ last_counted o xs (suc n) some h =
     let place : n ≡ suc n - 1 = omega arith in
     last_taken o xs n (omega (arith, h)) ∙ ap (slice_get xs) place
 
--- how far the second place is from the first, with so many entries more
+-- how far the second place is from the first, with `count` entries more
 wide : (from to : List Entry) (count : ℕ) → count ≤ length to → drop (length from - length to) from ≡ to → length from - length (drop count to) ≡ (length from - length to) + count
 wide from to count le d =
     let n : length from - (length from - length to) ≡ length to = sym (length-drop (length from - length to) from) ∙ ap length d in

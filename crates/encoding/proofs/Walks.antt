@@ -115,7 +115,7 @@ shared_is start piece passed shared before h some lt kept =
 
 -- ---- what an entry leaves out
 
--- none where a restart points at it
+-- none if a restart points at it
 pub at_restart : (since : ℕ) (before : Option (List ℕ)) (es : List Entry) → since ≡ 0 → 0 < length es → option_map (λ (e : Entry). left_out_len since before e.key) (slice_get es 0) ≡ Some 0
 at_restart since before [] none some = absurd (omega arith)
 at_restart since before (e ∷ es) none some = ap (λ (t : Bool). Some (cond t 0 (shared_behind before e.key))) (eq-eqb since 0 none)

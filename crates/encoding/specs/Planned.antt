@@ -8,8 +8,8 @@ use Rattle.encoding.specs.declared.planned_block.PlannedBlock.{PlannedBlock}
 abbrev pub parts_of : List PlannedBlock → List (List Entry)
 parts_of blocks = map (λ b. b.entries.entries) blocks
 
--- A data block is planned: it has an entry, and its length is that of its bytes at this restart
--- interval, or 2 ^ 64 - 1 if it is more.
+-- A data block is planned. It has an entry. Its length is that of its bytes at this restart
+-- interval; it saturates at 2 ^ 64 - 1.
 pub record IsPlanned (interval : ℕ) (b : PlannedBlock) : Type 0 where
   pub some : b.entries.entries ≢ []
   pub len_is : b.len ≡ min (length (block interval b.entries.entries)) (2 ^ 64 - 1)

@@ -31,7 +31,7 @@ pub long_found : (cmp : KeyOrder) (f : FileMeta) (held : Option (List ℕ)) → 
 long_found cmp f None h = absurd cc
 long_found cmp f (Some bytes) h = ap (finding_of f) (sym (refused cmp bytes h))
 
--- ---- a byte behind the most that a table may have
+-- ---- a byte after the most that a table may have
 
 none_below : (n : ℕ) → false ≡ nat_lt n 0
 none_below n = sym (false_of (nat_lt n 0) (λ h. absurd (omega (arith, ltb-true n 0 h))))

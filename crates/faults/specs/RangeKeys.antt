@@ -14,7 +14,8 @@ use Rattle.faults.specs.KeyFaults.{FileEntries, is_sound}
 abbrev pub AreSoundIn : KeyOrder → Files → List FileMeta → Type 0
 AreSoundIn cmp files metas = All (λ f. is_sound cmp files f ≡ true) metas
 
--- what is to come of a table's file has in a range what the table has
+-- A cursor over a table: `f` has its number and the entries still to come. In the range these are
+-- all entries of the table.
 pub record IsCursorOf (cmp : KeyOrder) (range : KeyRange) (t : NumberedContents) (f : FileEntries)
     : Type 0 where
   pub number : f.number ≡ t.number

@@ -7,8 +7,8 @@ pub trait FaultTaker {
     ghost use Rattle.std.specs.Prelude.{Bool};
     ghost use Rattle.faults.specs.VersionFault.{VersionFault, OfFile, OfKey};
 
-    /// What a call changes that tells this fault and has this answer. If it says nothing, it allows
-    /// every change.
+    /// The change that a call with this fault and this answer makes. By default any change is
+    /// allowed.
     ghost tells: { Self → VersionFault → Bool → Self → Type 0 } = { λ _ _ _ _. Unit {0} };
 
     /// Takes a fault of the file of a number. The answer is whether to go on.

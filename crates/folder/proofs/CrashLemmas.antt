@@ -79,7 +79,7 @@ rests_on_none cmp order v tables files free name h f (Manifest number small is) 
 rests_on_none cmp order v tables files free name h f (Table number m) is = f.table number m (sym is)
 rests_on_none cmp order v tables files free name h f (OldTable number m none) is = f.old_table number m (sym is)
 
--- a world in which all that is rested on is as before, and settled where it was
+-- a world in which all that is rested on is as before, and is settled
 stands_on : (cmp : List ℕ → List ℕ → Ordering) (order : Order) (v : State) (tables : List (ℕ × List ℕ)) (w next : World) → StandsAs cmp order v tables w
     → ((name : List ℕ) → RestsOn cmp v w.shown.files name → (next.shown.files name ≡ w.shown.files name) × IsSettled next name) → StandsAs cmp order v tables next
 stands_on cmp order v tables w next h same = record {

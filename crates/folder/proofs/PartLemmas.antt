@@ -21,7 +21,7 @@ pub any_part : (name : List ℕ) (offset len : ℕ) (part : Option (Vec ℕ)) �
 any_part name offset len None fits = (None, (tt, refl))
 any_part name offset len (Some bytes) fits = (Some (replicate offset 0 ++ bytes.items), (tt, ap (λ (b : List ℕ). Some b) (stands offset len bytes.items fits)))
 
--- an offset behind the end is as good as the end
+-- an offset after the end is as good as the end
 pub from_end : (offset : ℕ) (bytes : List ℕ) → drop (min offset (length bytes)) bytes ≡ drop offset bytes
 from_end offset bytes = by_place (cases_lt offset (length bytes))
   where

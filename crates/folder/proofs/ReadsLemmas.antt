@@ -46,7 +46,7 @@ opened_parts files order v h =
 pub opens : (files : Files) (order : Order) (v : State) → Opened files order v → IsOpened (IsHeldIn files) (Ok (order, v))
 opens files order v h = manifest_answers (IsHeldIn files) (current_text h.number) h.number h.bytes h.current (h.small, refl) h.manifest (Ok (order, v)) h.answer
 
--- a table is the same where its names hold the same
+-- a table is the same if its names hold the same
 pub table_same : (files now : Files) (number : ℕ) (bytes : List ℕ) → now (table_name number) ≡ files (table_name number)
     → (files (table_name number) ≡ None → now (old_table_name number) ≡ files (old_table_name number)) → IsTableAnswer (IsHeldIn files) number (Ok bytes) → IsTableAnswer (IsHeldIn now) number (Ok bytes)
 table_same files now number bytes one two (inl h) = inl (one ∙ h)
@@ -63,7 +63,7 @@ tables_same files now (n ∷ numbers) (t ∷ tables) same h =
     let here = same n (inl refl) in
     ((h.0.0, table_same files now n t.1 here.0 here.1 h.0.1), tables_same files now numbers tables (λ number m. same number (inr m)) h.1)
 
--- what is read is the same where all that it rests on is
+-- what is read is the same if all that it rests on is
 pub reads_same : (cmp : List ℕ → List ℕ → Ordering) (order : Order) (v : State) (tables : List (ℕ × List ℕ)) (files now : Files) → ReadsAs cmp order v tables files
     → ((name : List ℕ) → RestsOn cmp v files name → now name ≡ files name) → ReadsAs cmp order v tables now
 reads_same cmp order v tables files now h same =

@@ -37,7 +37,7 @@ pub stopped_device : {X : Type 0} (before now : ℕ) (r : Result X Fault) → If
 stopped_device before now (Ok x) h = tt
 stopped_device before now (Err e) h = λ same. (unless_device e (IsStopped before now e) same h).1
 
--- a folder's fault is named Device where it is Device
+-- a folder's fault is named Device only if it is Device
 device_named : (e : FolderFault) → fault_name e ≡ name.Device → e ≡ Device
 device_named Device h = refl
 device_named Memory h = absurd (cc h)

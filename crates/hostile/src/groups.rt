@@ -1,5 +1,5 @@
 //! A version that is tested, asked and counted, and whose rows are told, a range of user keys after
-//! the other, with one table in memory where that is possible.
+//! the other, with one table in memory if possible.
 
 use crate::builders::version_of;
 use crate::fault::{is_memory, wanted};

@@ -1,5 +1,5 @@
 //! A version of which all is told that is wrong, a range of user keys after the other, with one
-//! table in memory where that is possible.
+//! table in memory if possible.
 
 use crate::builders::version_of;
 use crate::fault::{is_memory, wanted};

@@ -35,7 +35,7 @@ zeros_lead (suc n) (z ∷ zs) h =
     let none : z * 256 ^ n ≡ 0 * 256 ^ n = ap (λ (b : ℕ). b * 256 ^ n) (h 0) in
     omega (arith, none, zeros_lead n zs (λ i. h (suc i)))
 
--- zeros behind a list change nothing
+-- zeros after a list change nothing
 pub padded : (n : ℕ) (xs zs : List ℕ) → IsZeros zs → leading_number n (xs ++ zs) ≡ leading_number n xs
 padded zero xs zs h = refl
 padded (suc n) [] zs h = zeros_lead (suc n) zs h

@@ -34,7 +34,7 @@ pub internal_cmp-tags : (cmp : List ℕ → List ℕ → Ordering) (a b : List �
 unfolding internal_cmp
 internal_cmp-tags cmp a b la lb = ap (ordering_then (cmp (user_of a) (user_of b))) (tags_order a b la.typed lb.typed)
 
--- internal keys are totally ordered where user keys are
+-- internal keys are totally ordered if user keys are
 pub internal_cmp-total : {cmp : List ℕ → List ℕ → Ordering} → IsTotalOrder cmp → IsTotalOrder (internal_cmp cmp)
 unfolding internal_cmp
 internal_cmp-total total =

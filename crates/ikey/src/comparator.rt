@@ -29,7 +29,7 @@ pub trait Comparator {
     fn compare(a: &[u8], b: &[u8]) -> Ordering
         ensures { result ≡ cmp a.now b.now };
 
-    /// A number that never falls if keys rise. Where the heads of two keys differ, they decide;
+    /// A number that never falls if keys rise. If the heads of two keys differ, they decide;
     /// equal heads say nothing.
     fn head(key: &[u8]) -> u128
         ensures { result ≡ head_of key.now };

@@ -183,7 +183,7 @@ loaded_at tells (k ∷ numbers) (t ∷ tables) n h m =
           subst (λ (b : List ℕ). IsTableAnswer tells n (Ok b)) (sym bytes) (loaded_at tells numbers tables n h.1 m')
     ]
 
--- tables with their numbers are loaded where each is the table of its number
+-- tables with their numbers are loaded if each is the table of its number
 pub loads : (tells : List ℕ → Option (List ℕ) → Type 0) (numbers : List ℕ) (of : ℕ → List ℕ) → ((n : ℕ) → IsOneOf numbers n → IsTableAnswer tells n (Ok (of n))) → AllZip (IsTableOf tells) numbers (map (λ (n : ℕ). (n, of n)) numbers)
 loads tells [] of h = tt
 loads tells (n ∷ numbers) of h = ((refl, h n (inl refl)), loads tells numbers of (λ k m. h k (inr m)))

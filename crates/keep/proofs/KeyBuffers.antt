@@ -23,7 +23,7 @@ drop_front zero xs ys h = refl
 drop_front (suc n) [] ys h = absurd (omega arith)
 drop_front (suc n) (x ∷ xs) ys h = drop_front n xs ys (omega arith)
 
--- a part of the bytes, where others follow
+-- a part of the bytes, if others follow
 same_part : (keys more : List ℕ) (at end : ℕ) → at ≤ end → end ≤ length keys → slice_range (keys ++ more) at end ≡ slice_range keys at end
 same_part keys more at end h k =
     ap (take (end - at)) (drop_front at keys more (omega arith))

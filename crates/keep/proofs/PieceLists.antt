@@ -57,7 +57,7 @@ pub record StandsIn (ps : List (List Entry)) (last : List Entry) (number at plac
   pub within : (p : List Entry) → slice_get (ps ++ last ∷ []) number ≡ Some p → at < length p
   pub front : (p : List Entry) → slice_get (ps ++ last ∷ []) number ≡ Some p → take (length (drop at p)) (drop place (all_kept ps last)) ≡ drop at p
 
--- the front of a list with more behind it
+-- the front of a list with more after it
 front_of : (xs ys : List Entry) (i : ℕ) → i < length xs → take (length (drop i xs)) (drop i (xs ++ ys)) ≡ drop i xs
 front_of xs ys i h = ap (take (length (drop i xs))) (drop-append-le i xs ys (omega (arith, h))) ∙ take-append_seam (drop i xs) ys
 

@@ -41,7 +41,7 @@ unfolding Rises
 first_rises n least [] h at = absurd (none-some least at)
 first_rises n least (x ∷ xs) h at = ap (nat_le n) (sym (same_Some x least at)) ∙ first_by n x xs (nat_le n x) refl h.0
 
--- a number is at or below all where it is at or below the first
+-- a number is at or below all exactly if it is at or below the first
 pub first_of_all : (n least : ℕ) (xs : List ℕ) → IsStrictlyIncreasing xs → slice_get xs 0 ≡ Some least → nat_le n least ≡ list_all (nat_le n) xs
 first_of_all n least xs h at = first_rises n least xs (rises_of xs h) at
 

@@ -26,12 +26,13 @@ use table::Cursor;
 
 /// The kept entries and the marks of `range`, of all entries that `cursors` have still to come.
 ///
-/// Entries come in the order of their internal keys. One stays unless
+/// Entries come in the order of their internal keys. An entry is dropped if (1) or (2) holds, and
+/// else kept:
 ///
-/// (1) the previous entry has its user key and a sequence at or below `floor`, and no listed
-///     sequence is below that one's and at or above its own; or
-/// (2) it is a deletion, at or below `floor` and each listed sequence, and no deeper file's range
-///     holds its user key.
+/// (1) The previous entry has its user key and a sequence at or below `floor`. No listed sequence
+///     is below the previous entry's and at or above its own.
+/// (2) It is a deletion, at or below `floor` and each listed sequence. No deeper file's range holds
+///     its user key.
 ///
 /// "Previous" means previous in the merge, kept or not. `listed` and `floor` say which sequences
 /// stay readable: each listed one, and all from `floor` on. The marks count the grandparents of

@@ -157,7 +157,7 @@ is_found bytes (Err e) fits given = tt
 
 -- ---- zeros, as the code has them
 
--- so many zeros
+-- k zeros
 abbrev pub zeros_of : ℕ → List ℕ
 zeros_of k = replicate k 0
 

@@ -54,7 +54,7 @@ set_same [] place x h = refl
 set_same (y ∷ xs) zero x h = ap (λ z. z ∷ xs) (sym (same_Some y x h))
 set_same (y ∷ xs) (suc place) x h = ap (λ zs. y ∷ zs) (set_same xs place x h)
 
--- what is written at a place changes nothing where it is seen as what was there
+-- what is written at a place changes nothing if it is seen as what was there
 pub map_set_same : {X : Type 0} (f : X → List Entry) (xs : List X) (place : ℕ) (x y : X) → slice_get (map f xs) place ≡ Some (f x) → f y ≡ f x → map f (set xs place y) ≡ map f xs
 map_set_same f xs place x y h e = map-set f xs place y ∙ ap (set (map f xs) place) e ∙ set_same (map f xs) place (f x) h
 
@@ -193,7 +193,7 @@ keeps_least cmp total lists place other list old key old_key h k falls m first o
 pub starts : (cmp : List ℕ → List ℕ → Ordering) → IsMerging cmp [] None
 starts cmp = record { ordered = tt; least = tt }
 
--- some list has an entry where one comes next, and else none
+-- some list has an entry if one comes next, and else none
 pub some_where_least : (cmp : List ℕ → List ℕ → Ordering) → IsTotalOrder cmp → (lists : List (List Entry)) (place : ℕ) → IsMerging cmp lists (Some place) → 0 < length (merged cmp lists)
 some_where_least cmp total lists place m = subst (λ (es : List Entry). 0 < length es) (sym (merged_first cmp total lists place m.ordered m.least)) (omega arith)
 
@@ -216,14 +216,14 @@ first_same cmp total lists place list m h =
 pub least_some : (cmp : List ℕ → List ℕ → Ordering) (lists : List (List Entry)) (place : ℕ) (list : List Entry) → IsMerging cmp lists (Some place) → slice_get lists place ≡ Some list → 0 < length list
 least_some cmp lists place list m h = subst (λ (l : List Entry). 0 < length l) (sym (same_Some list (m.least.first ∷ m.least.others) (sym h ∙ m.least.here))) (omega arith)
 
--- the merge where the first entry of the list that is next is taken off
+-- the merge after the first entry of the list that is next is taken off
 pub merged_behind : (cmp : List ℕ → List ℕ → Ordering) → IsTotalOrder cmp → (lists : List (List Entry)) (place : ℕ) (list other : List Entry) → IsMerging cmp lists (Some place) → slice_get lists place ≡ Some list → other ≡ drop 1 list → merged cmp (set lists place other) ≡ drop 1 (merged cmp lists)
 merged_behind cmp total lists place list other m h e =
     let same : list ≡ m.least.first ∷ m.least.others = same_Some list (m.least.first ∷ m.least.others) (sym h ∙ m.least.here) in
     ap (λ (l : List Entry). merged cmp (set lists place l)) (e ∙ ap (drop 1) same)
     ∙ sym (ap (drop 1) (merged_first cmp total lists place m.ordered m.least))
 
--- what is left where the first entry of the list that is next is taken off
+-- what is left after the first entry of the list that is next is taken off
 pub advanced : (cmp : List ℕ → List ℕ → Ordering) (lists : List (List Entry)) (place : ℕ) (list other : List Entry) → IsMerging cmp lists (Some place) → slice_get lists place ≡ Some list → other ≡ drop 1 list → IsAdvanced cmp lists (set lists place other)
 advanced cmp lists place list other m h e =
     let same : list ≡ m.least.first ∷ m.least.others = same_Some list (m.least.first ∷ m.least.others) (sym h ∙ m.least.here) in

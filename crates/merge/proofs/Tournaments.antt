@@ -170,7 +170,7 @@ none_above_root (suc steps) k leaf (inl is) low some = omega arith
 none_above_root (suc steps) k leaf (inr above) low some = none_above_root steps k (leaf / 2) above (omega arith) some
 
 module _ (cmp : List ℕ → List ℕ → Ordering) (lists : List (List Entry)) where
-  -- what is left where the match at a node is played
+  -- what is left after the match at a node is played
   pub played_next : (number : ℕ) (old new : List ℕ) (node : ℕ) (IsLeft IsNext : ℕ → Type 0) → length lists ≡ number → IsBracket number old → IsPlayed cmp lists old IsLeft → 0 < node → node < number → IsMatch cmp lists old node new
       → ((k : ℕ) → 0 < k → IsLeft k → (k ≡ node) ⊎ IsNext k) → ((k child : ℕ) → 0 < k → (child ≡ 2 * k) ⊎ (child ≡ 2 * k + 1) → child ≡ node → IsNext k) → IsPlayed cmp lists new IsNext
   played_next number old new node IsLeft IsNext count bracket before some inner match goes up = record { played = λ k low high. at k low high (cases_eq k node) }
@@ -209,7 +209,7 @@ module _ (cmp : List ℕ → List ℕ → Ordering) (lists : List (List Entry)) 
       (λ k low above. above_next above.0 k node above.1)
       (λ k child low is same. above_child k child (node / 2) is (inl same))
 
-  -- the match at a node, where those below it are played
+  -- the match at a node, if those below it are played
   pub played_down : (number : ℕ) (old new : List ℕ) (top node : ℕ) → top ≡ node + 1 → length lists ≡ number → IsBracket number old → IsPlayed cmp lists old (λ k. k < top) → 0 < node → node < number → IsMatch cmp lists old node new
       → IsPlayed cmp lists new (λ k. k < node)
   played_down number old new top node next count bracket before some inner match =
@@ -449,7 +449,7 @@ begun_all number place winners b all = record { size = b.size ∙ ap (λ n. numb
 
 -- ---- the loops
 
--- where only what is above a node is left to be played
+-- only what is above a node is left to be played
 pub record IsOnPath (cmp : List ℕ → List ℕ → Ordering) (lists : List (List Entry)) (number : ℕ) (winners : List ℕ) (node : ℕ) : Type 0 where
   pub bracket : IsBracket number winners
   pub others : IsPlayed cmp lists winners (λ k. IsAbove k node)
@@ -487,7 +487,7 @@ path_next cmp lists number winners node beside best other winner count before ab
       low = omega (arith, before.low);
     }
 
--- where all from a node on is played
+-- all from a node on is played
 pub record IsPlayedFrom (cmp : List ℕ → List ℕ → Ordering) (lists : List (List Entry)) (number : ℕ) (winners : List ℕ) (node : ℕ) : Type 0 where
   pub bracket : IsBracket number winners
   pub others : IsPlayed cmp lists winners (λ k. k < node)

@@ -87,7 +87,7 @@ versions_rising cmp [] h = tt
 versions_rising cmp (e ∷ es) h =
     (all_weaker (λ f. key_version_cmp cmp e.key f.key ≡ Less) (Above cmp e.key) (λ f less. version_less cmp e.key f.key less) es h.0, versions_rising cmp es h.1)
 
--- a key stands at most once where keys rise
+-- a key stands at most once if keys rise
 key_once : (cmp : List ℕ → List ℕ → Ordering) → IsTotalOrder cmp → (key : List ℕ) (es : List Entry) → EntriesRise cmp es → length (filter (has_key cmp key) es) ≤ 1
 key_once cmp total key [] h = omega arith
 key_once cmp total key (e ∷ es) h = by_test (is_eq (internal_cmp cmp e.key key)) refl (key_once cmp total key es h.1)

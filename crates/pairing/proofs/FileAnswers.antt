@@ -35,7 +35,7 @@ file_answer bytes q (Err e) block given = unless_from e (tested_after None q ≡
 cut_twice : (a1 a2 b1 b2 qa qb : List Entry) → qa ≡ a1 ++ a2 → qb ≡ b1 ++ b2 → HasRepeat ((a1 ++ a2) ++ (b1 ++ b2)) → HasRepeat (qa ++ qb)
 cut_twice a1 a2 b1 b2 qa qb a b h = subst HasRepeat (ap (λ (t : List Entry). t ++ (b1 ++ b2)) (sym a) ∙ ap (λ (t : List Entry). qa ++ t) (sym b)) h
 
--- the runs of two ranges, one after the other, are the union, and where one is refused there is none
+-- the runs of two ranges, one after the other, are the union; if one is refused, there is none
 union_answer : (at : List ℕ) (qa qb a1 a2 b1 b2 : List Entry) → Cut at qa a1 a2 → Cut at qb b1 b2 → IsUnionAnswer qa qb (collected_results (union_of (a1 ∷ b1 ∷ []) ∷ union_of (a2 ∷ b2 ∷ []) ∷ []) >>= λ runs. Ok (entries_of_lists runs))
 union_answer at qa qb a1 a2 b1 b2 a b = by_runs (union_of (a1 ∷ b1 ∷ [])) (union_of (a2 ∷ b2 ∷ [])) refl refl
   where

@@ -51,7 +51,7 @@ rising_once key (e ∷ es) rising = by_order (version e.key key) refl (rising_on
     by_order Greater q rest = let one : version_count key (e ∷ es) ≡ 0 + version_count key es = rw (times-cons key e es, q) refl in omega (arith, one, rest)
     by_order Equal q rest = let one : version_count key (e ∷ es) ≡ 1 + version_count key es = rw (times-cons key e es, q) refl in omega (arith, one, none_behind e key es q rising.0)
 
--- where a version stands twice there is no union
+-- if a version stands twice, there is no union
 pub no_union : (a b u : List Entry) → HasRepeat (a ++ b) → IsUnion bytewise_cmp (a ∷ b ∷ []) u → ⊥
 no_union a b u repeat union =
     let whole : flat_map (λ (input : List Entry). input) (a ∷ b ∷ []) ≡ a ++ b = ap (λ (t : List Entry). a ++ t) (append-nil b) in
@@ -71,6 +71,6 @@ repeat_in_rests a1 a2 b1 b2 repeat = (
   omega (arith, repeat.1, times-append repeat.0 a2 b2, times-append repeat.0 (a1 ++ a2) (b1 ++ b2), times-append repeat.0 a1 a2, times-append repeat.0 b1 b2),
 )
 
--- a repeat stays where entries are moved
+-- a repeat stays if entries are moved
 pub repeat_moved : (es fs : List Entry) → IsPermutation es fs → HasRepeat fs → HasRepeat es
 repeat_moved es fs same h = (h.0, omega (arith, h.1, times-moved h.0 es fs same))

@@ -165,7 +165,8 @@ module _ (cmp : List ℕ → List ℕ → Ordering) (total : IsTotalOrder cmp) w
       these : boundary_pass cmp p (largest_key cmp chosen) left ≡ filter (is_among (chosen ++ added)) left
       of_left : (q : FileMeta) → IsIn added q → IsIn left q
 
-    -- if the pass is: no file after it is a next one, and those ahead are chosen where they pass the test
+    -- if the pass is: no file that is passed is a next one, and those ahead are chosen exactly if
+    -- they pass the test
     record At (passed chosen left : List FileMeta) : Type 0 where
       parts : files ≡ passed ++ left
       done : (q : FileMeta) → IsIn passed q → is_next chosen q ≡ false

@@ -101,7 +101,7 @@ module _ (cmp : List ℕ → List ℕ → Ordering) (v : State) (level : ℕ) wh
   refused upper short true h P Q q = absurd (omega (arith, h.1))
   refused upper short false h P Q q = q
 
-  -- where the level has no input it has no file
+  -- if the level has no input, it has no file
   pub is_no_input : (upper : List FileMeta) → level ≤ 5 → IsUpperAnswer cmp v level (Ok upper) → length upper ≡ 0 → IsInputsAnswer cmp v level (Err (fault NoInput))
   is_no_input upper fits answer short =
       within (nat_lt 5 level) (low level fits) _ _ (refused upper short (nat_lt 0 (length (level_files cmp v level))) answer (IsOkAnd {T = PickedInputs} (Err (fault NoInput)) (IsPicked cmp v level)) _ refl)

@@ -164,7 +164,7 @@ files_step {X = X} F xs i x user at o p r lt here made front own =
 
 -- ---- one table more
 
--- what is held of one element more, where it is what the list has there
+-- what is held of one element more, if it is what the list has there
 pub list_more : {Y Z : Type 0} (F : Y → Z) (done new : List Z) (x : Z) (ys : List Y) (i : ℕ) (y : Y) → i < length ys → y ≡ get_or ys i y → new ≡ done ++ x ∷ [] → done ≡ map F (take i ys) → x ≡ F y → new ≡ map F (take (i + 1) ys)
 list_more {Y} {Z} F done new x ys i y lt here pushed front own =
     let front_is : take (i + 1) ys ≡ take i ys ++ y ∷ [] = take_more ys i y lt ∙ ap (λ (z : Y). take i ys ++ z ∷ []) (sym here) in

@@ -69,8 +69,9 @@ module _ (cmp : List ℕ → List ℕ → Ordering) (total : IsTotalOrder cmp) (
       refuted : cmp (user_of k) (user_of m) ≡ Less → ⊥
       refuted less = not_before_itself cmp total (user_of k) (subst (λ (u : List ℕ). cmp (user_of k) u ≡ Less) same (before less))
 
-  -- Of the user keys of a kind: an entry that all others are at or after, and the first of the others. Where that is of another user key,
-  -- or stands after it in the list and is older, then so is each other.
+  -- Of the user keys of a kind: an entry that all others are at or after, and the first of the
+  -- others. If that is of another user key, or stands after it in the list and is older, then so is
+  -- each other.
   module _ (P : List ℕ → Type 0) where
     pub passes : (front behind : List Entry) (a b : Entry) → AtMost a.key b.key → ((c : Entry) → Contains (front ++ behind) c → AtMost b.key c.key)
         → (P (user_of a.key) → user_of b.key ≡ user_of a.key → Contains behind b × (sequence_of b.key < sequence_of a.key)) → Pairs (IsNewerIn P) (front ++ behind) → Pairs (IsNewerIn P) (front ++ a ∷ behind)
@@ -101,7 +102,8 @@ module _ (cmp : List ℕ → List ℕ → Ordering) (total : IsTotalOrder cmp) (
           | inr later ↦ pairs_across (IsNewerIn P) front behind pairs x y i later
         ]
 
-    -- where it is of the same user key, and stands before it in the list or isn't older, they don't fall
+    -- if it is of the same user key, and stands before it in the list or isn't older, they don't
+    -- fall
     pub fails : (front behind : List Entry) (a b : Entry) → P (user_of a.key) → AtMost a.key b.key → user_of b.key ≡ user_of a.key → Contains front b ⊎ (Contains behind b × (sequence_of a.key ≤ sequence_of b.key))
         → Pairs (IsNewerIn P) (front ++ a ∷ behind) → ⊥
     fails front behind a b of_kind ab same (inl at) pairs =
@@ -412,7 +414,7 @@ module _ (cmp : List ℕ → List ℕ → Ordering) (total : IsTotalOrder cmp) (
       let none = joined_none lists m.least in
       left.up (record { keys = λ c at of_kind. absurd (none_in c (subst (λ (es : List Entry). Contains es c) none at)); newer = subst (Pairs (IsNewerIn P)) (sym none) tt })
 
-  -- where the next key and all after it are of no user key of the kind
+  -- if the next key and all after it are of no user key of the kind
   pub none_of_kind : (P : List ℕ → Type 0) (lists all : List (List Entry)) → ((c : Entry) → Contains (entries_of_lists lists) c → P (user_of c.key) → ⊥) → IsLeft P lists all → Fall P all
   none_of_kind P lists all none left = left.up (record { keys = λ c at of_kind. absurd (none c at of_kind); newer = no_pairs cmp total exact P (entries_of_lists lists) none })
 

@@ -60,7 +60,7 @@ module _ (cmp : List ℕ → List ℕ → Ordering) (total : IsTotalOrder cmp) (
     newer_pairs fs (pairs_right IsNewer (held f) (all_entries tables fs) pairs),
   )
 
-  -- ---- what is lawful where all that is asked holds
+  -- ---- what is lawful if all that is asked holds
 
   module _ (listed : List NewFile) (all : AreAll v.files listed) (stated : (f : NewFile) → Contains listed f → IsStatedFile cmp tables v.next_file f.meta) (before : Pairs (Before cmp) listed) (falling : AreFalling (all_entries tables listed)) where
     newer : Pairs IsNewer (all_entries tables listed)
@@ -127,7 +127,7 @@ module _ (cmp : List ℕ → List ℕ → Ordering) (total : IsTotalOrder cmp) (
       newer_above = λ f g i j above. above_by f g above (order_at f g i j (other_file f g i j above));
     }
 
-  -- ---- what holds where the version is lawful
+  -- ---- what holds if the version is lawful
 
   module _ (lawful : IsLawful cmp v tables) where
     file_at : (f : NewFile) → Contains v.files f → IsFileOf cmp tables f.meta

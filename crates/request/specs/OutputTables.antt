@@ -28,9 +28,10 @@ outputs_from table_of number (q ∷ qs) =
 abbrev pub data_block_count : Options → List Output → ℕ
 data_block_count o outputs = sum_by (λ (w : Output). length (data_blocks o w.entries)) outputs
 
--- The tests of outputs that are numbered from the first number on. Numbers if the number after the
--- last exceeds 2 ^ 64 - 1; else TooLarge if a table exceeds MAX_TABLE_LEN bytes, or if the outputs
--- have more than MAX_BLOCKS data blocks together.
+-- The tests of outputs that are numbered from the first number on. The first that applies:
+-- - Numbers, if the number after the last exceeds 2 ^ 64 - 1.
+-- - TooLarge, if a table exceeds MAX_TABLE_LEN bytes, or if the outputs have more than MAX_BLOCKS
+--   data blocks together.
 abbrev pub outputs_test : Options → ℕ → List Output → Result (Unit {0}) Fault
 outputs_test o first outputs = do
   _ ← test_result (nat_lt (first + length outputs) (2 ^ 64)) Numbers

@@ -97,7 +97,7 @@ sum_told all small =
     ∙ sum_from no_amounts all (subst IsSmall (sym (none_plus (amounts_sum all))) small)
     ∙ ap told_amounts (none_plus (amounts_sum all))
 
--- ---- so many files and entries
+-- ---- at most n files and e entries
 
 -- no more than n files and e entries
 pub record IsOfFew (n e : ℕ) (a : Amounts) : Type 0 where

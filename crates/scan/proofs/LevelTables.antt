@@ -51,7 +51,7 @@ pub sizes_are : (levels : List (Vec (Bor FileMeta) Global)) → sizes_of levels 
 sizes_are [] = refl
 sizes_are (fs ∷ levels) = ap₂ (λ (n : ℕ) (ns : List ℕ). n ∷ ns) (sym (length-map fs.items now_of)) (sizes_are levels)
 
--- so many files, so many tables
+-- there are as many numbers of tables as files
 pub number_of : (levels : List (Vec (Bor FileMeta) Global)) → length (numbers_of_levels levels) ≡ sum_by (λ (fs : Vec (Bor FileMeta) Global). length fs.items) levels
 number_of [] = refl
 number_of (fs ∷ levels) =

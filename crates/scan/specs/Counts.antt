@@ -17,7 +17,8 @@ use Rattle.scan.specs.declared.amounts.Amounts.{Amounts}
 
 -- ---- numbers that fit
 
--- the sums of two amounts, each no more than fits
+-- The sums of two amounts. Those of files and bytes saturate at 2 ^ 64 - 1, those of entries at
+-- 2 ^ 128 - 1.
 abbrev pub capped_plus : Amounts → Amounts → Amounts
 capped_plus a b = record {
   files = min (a.files + b.files) (2 ^ 64 - 1);
@@ -47,7 +48,7 @@ entry_amounts kind hidden = record {
   hidden = if hidden then 1 else 0;
 }
 
--- files without their entries, with no more bytes than fit
+-- files without their entries; the bytes saturate at 2 ^ 64 - 1
 abbrev pub capped_files : List FileMeta → Amounts
 capped_files files = record {
   files = length files;

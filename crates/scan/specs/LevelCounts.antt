@@ -34,7 +34,7 @@ pub record AreLevelsIn (cmp : KeyOrder) (files : Files) (next : Option ℕ)
   pub few : length (files_of_levels levels) ≤ 2 ^ 64 - 1
   pub room : length (all_of_levels tables levels) ≤ 2 ^ 128 - 1
 
--- a version has no more files than fit, of which it has each
+-- All files of a version, those with newer entries first. They are at most 2 ^ 64 - 1.
 pub record IsFewStanding (cmp : KeyOrder) (v : State) : Type 0 where
   pub standing : List FileMeta
   pub stand : AreStandingFiles cmp v standing

@@ -57,7 +57,7 @@ abbrev pub level_amounts : KeyOrder → State → List NumberedContents → ℕ 
 level_amounts cmp v tables level = amounts_of (unwrap_or v.last_sequence 0)
     (all_entries tables v.files) tables (level_files cmp v level)
 
--- what is told of amounts: bytes that don't fit in 64 bits are as many as do
+-- what is told of amounts: the bytes saturate at 2 ^ 64 - 1
 abbrev pub told_amounts : Amounts → Amounts
 told_amounts a = record {
   files = a.files;

@@ -1,4 +1,4 @@
--- How much a version has that is tested first.
+-- How much a version has, after it is tested.
 use Rattle.std.specs.Prelude.{◌≡◌, Result, Ok}
 use Rattle.coding.specs.Answers.{IsThen}
 use Rattle.coding.specs.declared.fault.Fault.{Fault}

@@ -38,7 +38,7 @@ impl Amounts {
         }
     }
 
-    /// How much these files have, without an entry. Bytes that don't fit are as many as do.
+    /// How much these files have, without an entry. The bytes saturate at 2^64 - 1.
     pub(crate) fn of_files(files: &[&FileMeta]) -> Amounts
         ensures { result ≡ capped_files (map (λ f. f.now) files.now) }
     {
@@ -64,7 +64,7 @@ impl Amounts {
         }
     }
 
-    /// Both together. A number that doesn't fit is the greatest that does.
+    /// Both together. Sums saturate: of files and bytes at 2^64 - 1, of entries at 2^128 - 1.
     pub(crate) fn plus(self, other: Amounts) -> Amounts
         ensures { result ≡ capped_plus self other }
     {
@@ -77,7 +77,7 @@ impl Amounts {
         }
     }
 
-    /// All of them together. A number that doesn't fit is the greatest that does.
+    /// All of them together. Sums saturate as in `plus`.
     pub(crate) fn sum(all: &[Amounts]) -> Amounts
         ensures { result ≡ fold capped_plus no_amounts all.now }
     {

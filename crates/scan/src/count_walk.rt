@@ -23,7 +23,7 @@ use table::Cursor;
 /// its cursor's place. Newer entries hide older ones at the sequence `last`. The only fault is
 /// Memory.
 ///
-/// A number that doesn't fit would be the greatest that does.
+/// The numbers of entries saturate at 2^128 - 1.
 pub(crate) fn count_merged<'a, C: Comparator, S: Cursor<'a, C> + Drop>(
     alloc: Global,
     merging: &mut Merging<C, S>,

@@ -19,8 +19,7 @@ impl FileTotal {
         FileTotal { files: 0, bytes: 0 }
     }
 
-    /// The same with one more file of this many bytes. A number that doesn't fit is the greatest
-    /// that does.
+    /// The same with one more file of this many bytes. Both sums saturate at 2^64 - 1.
     pub fn with(self, bytes: u64) -> FileTotal
         ensures { result ≡ record {
           files = min (self.files + 1) (2 ^ 64 - 1);

@@ -5,8 +5,8 @@ pub trait RowTaker {
     ghost use Rattle.std.specs.Prelude.{Bool};
     ghost use Rattle.scan.specs.Row.{Row};
 
-    /// What a call changes that tells this row and has this answer. If it says nothing, it allows
-    /// every change.
+    /// The change that a call of `row` with this row and this answer makes. By default any change
+    /// is allowed.
     ghost tells: { Self → Row → Bool → Self → Type 0 } = { λ _ _ _ _. Unit {0} };
 
     /// Takes a row: a user key and its value. The answer is whether to go on.

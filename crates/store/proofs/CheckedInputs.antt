@@ -58,7 +58,7 @@ tables_refused cmp files loaded e given =
     unless_from e (tables_reading cmp loaded ≡ Err e) (input_tables cmp files loaded ≡ Err e)
     (λ is. ap (λ (r : Result (List NumberedContents) Fault). r >>= λ ts. test_result (are_stated files ts) Bounds >>= λ _. Ok (map (λ (t : NumberedContents). t.contents) ts)) is) given
 
--- what was lent is refused for want of memory alone
+-- what was lent is refused only if out of memory
 pub lent_refused : (cmp : List ℕ → List ℕ → Ordering) (files : List InputFile) (held : List NumberedContents) (e : Fault) → FailsOrMemory e (read_ok held) → FailsOrMemory e (input_tables cmp files (held_bytes held))
 lent_refused cmp files held e given = unless_from e (read_ok held ≡ Err e) (input_tables cmp files (held_bytes held) ≡ Err e) (λ is. absurd (no_error held e is)) given
   where

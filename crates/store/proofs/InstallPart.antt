@@ -25,7 +25,7 @@ use Rattle.store.specs.declared.compaction_step.CompactionStep.{CompactionStep}
 use Rattle.store.proofs.Synced.{version_stands}
 use Rattle.store.proofs.SyncsTold.{syncs_tell}
 
--- what survives of one answer does of another one that is a value where the first is
+-- what survives of one answer does of another one that is a value only if the first is
 pub survives_on : {T E U G : Type 0} (cmp : List ℕ → List ℕ → Ordering) (order : Order) (v next : State) (tables tables' : List (ℕ × List ℕ)) (before after : List Step) (old middle new : List ℕ → Option (List ℕ) → Type 0) (r : Result T E) (q : Result U G)
     → ((P : Type 0) → OnOk r P → OnOk q P) → ((files : Files) → Tells old files → Tells middle files)
     → SurvivesCrash cmp order v tables next tables' before after middle new r → SurvivesCrash cmp order v tables next tables' before after old new q

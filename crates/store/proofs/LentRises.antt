@@ -1,4 +1,4 @@
--- Files as the code lends them rise where they do.
+-- Files as the code lends them rise if they do.
 use Rattle.std.proofs.Common.{Bor, ◌≡◌, ℕ, zero, suc, ◌+◌, ◌<◌, true, List, [], ◌∷◌, length, map, get_or, refl, ap, subst, arith}
 use Rattle.std.specs.List.{All}
 use Rattle.std.specs.Ordering.{is_lt}

@@ -42,7 +42,7 @@ module _ (v : State) (one two : List NumberedContents) (same : (f : NewFile) →
     largest = h.largest;
   }
 
-  -- and the version is lawful with the one where it is with the other
+  -- and the version is lawful with the one if it is with the other
   pub same_lawful : (cmp : List ℕ → List ℕ → Ordering) → IsLawful cmp v two → IsLawful cmp v one
   same_lawful cmp h = record {
     files = λ k d lt. let at = Contains-get_or v.files k d lt in file_same cmp (get_or v.files k d) at (All-contains (λ (f : NewFile). IsFileOf cmp two f.meta) v.files (get_or v.files k d) h.files at);

@@ -7,7 +7,8 @@ use edit::Version;
 pub trait InstallWatch {
     ghost use Rattle.std.specs.Prelude.{ℕ, List};
 
-    /// What a call changes that tells these lines. If it says nothing, it allows every change.
+    /// The change that a call of `installed` makes for a step with these lines. By default any
+    /// change is allowed.
     ghost tells: { Self → List ℕ → Self → Type 0 } = { λ _ _ _. Unit {0} };
 
     /// Tells of a `step`, the compaction of a `level`, with the version `before` it and the one

@@ -94,7 +94,7 @@ kept_falls_by : (b : Bool) (e : Entry) (rest : List Entry) → ((x : Entry) → 
 kept_falls_by true e rest lower falling = (of_each (λ (x : Entry). sequence_of x.key < sequence_of e.key) rest lower, falling)
 kept_falls_by false e rest lower falling = falling
 
--- sequences still fall where a part of them in the middle is left out
+-- sequences still fall if a part of them in the middle is left out
 kept_falls : (cmp : List ℕ → List ℕ → Ordering) (r : Readable) (deeper : List FileMeta) (below : List Entry) (before : Option Entry) (es : List Entry) → SequencesFall (es ++ below) → SequencesFall (kept_behind cmp r deeper before es ++ below)
 kept_falls cmp r deeper below before [] falling = falling
 kept_falls cmp r deeper below before (e ∷ es) falling = around (keeps cmp r deeper before e) (kept_falls cmp r deeper below (Some e) es falling.1)

@@ -130,7 +130,7 @@ above_some : (cmp : List ℕ → List ℕ → Ordering) (q entries : List Entry)
 above_some cmp q [] key some = absurd (omega arith)
 above_some cmp q (e ∷ es) key some = above_by cmp q e es key
 
--- a key is above the last of what is kept where it is above the last key of the open block
+-- a key is above the last of what is kept exactly if it is above the last key of the open block
 pub above_kept : (cmp : List ℕ → List ℕ → Ordering) (keys : IndexKeys) (o : Options) (bytes : List ℕ) (index : List FlushedBlock) (interval : ℕ) (entries : List Entry) (key : List ℕ) (parts : List (List Entry)) → IsTableBuilder keys o parts bytes index interval entries → 0 < length entries
     → IsAboveLast cmp (entries_so_far bytes index entries) key ↔ (internal_cmp cmp (last_key [] entries) key ≡ Less)
 above_kept cmp keys o bytes index interval entries key parts h some =

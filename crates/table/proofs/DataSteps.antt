@@ -47,12 +47,12 @@ all_bounds cmp index = result_map_both bounds_of (λ e. e) (data_reading cmp ind
 abbrev finished : Bool → Bounds → Result Bounds Fault
 finished fits x = test_result fits Index >>= λ _. Ok x
 
--- the bounds of entries and of those behind them
+-- the bounds of entries and of those after them
 abbrev pub bounds_behind : Bounds → List Entry → Bounds
 bounds_behind x es = record { smallest = x.smallest; largest = last_key x.largest es; tally = tally_behind x.tally (Some x.largest) es }
 
--- those of all data blocks where these are of the blocks so far, this is their last index key, and all index keys before
--- fit or don't
+-- those of all data blocks, if these are of the blocks so far, this is their last index key, and
+-- all index keys before fit or don't
 abbrev pub rest_bounds : (List ℕ → List ℕ → Ordering) → Bounds → List ℕ → Bool → List IndexEntry → Result Bounds Fault
 rest_bounds cmp x below fits index =
     blocks_reading cmp (Some x.largest) index >>= λ bs. finished (fits && index_fits cmp (Some below) bs) (bounds_behind x (entries_of bs))

@@ -12,11 +12,11 @@ use Rattle.table.specs.Table.{within_limit}
 abbrev pub fine : {X : Type 0} → X → Result X Fault
 fine x = Ok x
 
--- where the definition answers a value
+-- if the definition answers a value, the only fault is Memory
 pub memory_alone : {X : Type 0} (e : Fault) (x : X) (answer : Result X Fault) → answer ≡ Ok x → FailsOrMemory e answer → e ≡ fault Memory
 memory_alone e x answer ok h = only_memory e (answer ≡ Err e) (λ no. absurd cc) h
 
--- a fact that follows where a call succeeds
+-- a fact that follows if a call succeeds
 pub OnOk-map : {X E : Type 0} (r : Result X E) (P Q : Type 0) → (P → Q) → OnOk r P → OnOk r Q
 OnOk-map (Ok x) P Q f h = f h
 OnOk-map (Err e) P Q f h = h

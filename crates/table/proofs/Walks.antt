@@ -422,13 +422,13 @@ left_behind cmp bytes names (e ∷ es) index k some ended = record {
   ended = ended;
 }
 
--- and none where that is refused
+-- and none if that is refused
 pub left_advanced : {T E : Type 0} (cmp : List ℕ → List ℕ → Ordering) (bytes : List ℕ) (names block index new : List Entry) (r : Result T E) → IsWalkLeft cmp bytes names block index → 0 < length block → (drop 1 block ≡ [] → index ≡ [])
     → OnOk r (new ≡ drop 1 block) → OnErr r (new ≡ block) → IsWalkLeft cmp bytes names new index
 left_advanced cmp bytes names block index new (Ok x) k some ended ok err = subst (λ (b : List Entry). IsWalkLeft cmp bytes names b index) (sym ok) (left_behind cmp bytes names block index k some ended)
 left_advanced cmp bytes names block index new (Err e) k some ended ok err = subst (λ (b : List Entry). IsWalkLeft cmp bytes names b index) (sym err) k
 
--- something is left of a block where something is left at all
+-- something is left of a block if something is left at all
 pub some_left : (cmp : List ℕ → List ℕ → Ordering) (bytes : List ℕ) (names block index total : List Entry) → IsWalkLeft cmp bytes names block index → block ++ all_named bytes index ≡ total → 0 < length total → 0 < length block
 some_left cmp bytes names [] index total k same some =
     let none : all_named bytes index ≡ [] = ap (all_named bytes) (k.ended refl) in

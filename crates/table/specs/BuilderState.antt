@@ -1,4 +1,4 @@
--- What is kept of a table that is being written: flushed blocks, and the open one.
+-- The state of a table that is being written: flushed blocks, and the open one.
 use Rattle.std.specs.Prelude.{◌≡◌, ℕ, ◌+◌, ◌-◌, ◌*◌, ◌<◌, ◌≤◌, List, [], ◌∷◌, ◌++◌, map}
 use Rattle.std.specs.Prelude.{length, take, drop}
 use Rattle.std.specs.List.{flat_map, sum_by, AllByRecursion}
@@ -39,7 +39,7 @@ unfoldable pub entries_so_far : List ℕ → List FlushedBlock → List Entry �
 entries_so_far bytes index entries =
     entries_of_parts (blocks_in bytes (map (λ (i : FlushedBlock). i.handle.size) index)) ++ entries
 
--- What is kept of a list: the bytes of its flushed data blocks, their index entries, and the
+-- The state of a table builder: the bytes of its flushed data blocks, their index entries, and the
 -- entries of the open block after them. The open block isn't flushed, though it may be full.
 pub record IsTableBuilder (keys : IndexKeys) (o : Options) (parts : List (List Entry))
     (bytes : List ℕ) (index : List FlushedBlock) (interval : ℕ) (entries : List Entry) : Type 0
@@ -56,7 +56,7 @@ pub record IsTableBuilder (keys : IndexKeys) (o : Options) (parts : List (List E
     pub entries_fit : length (block o.restart_interval entries) ≤ MAX_BLOCK_LEN
     pub last_lawful : 0 < length entries → IsInternalKey (last_key [] entries)
 
--- what is kept, of some flushed data blocks
+-- the same, of some flushed data blocks
 abbrev pub IsAnyTableBuilder : IndexKeys → Options → List ℕ → List FlushedBlock → BlockBuilding →
     Type 0
 IsAnyTableBuilder keys o bytes index latest = (parts : List (List Entry))

@@ -1,4 +1,4 @@
--- What is kept of a table that was checked.
+-- The state of a table that was checked.
 use Rattle.std.specs.Prelude.{◌≡◌, ℕ, List, [], Ok}
 use Rattle.ikey.specs.Comparator.{KeyOrder}
 use Rattle.block.specs.EncodedEntry.{Entry}

@@ -19,8 +19,8 @@ const U_AT_2: &[u8] = b"u\x01\x02\0\0\0\0\0\0";
 
 const V_AT_2: &[u8] = b"v\x01\x02\0\0\0\0\0\0";
 
-/// What a file states: its length, its smallest and its largest key; and whether the table is so
-/// that has the deletion of `u` at 4 and `u` at 2, 125 bytes.
+/// What a file states: its length, its smallest and its largest key. Then whether the table is as
+/// stated. The table has the deletion of `u` at 4 and `u` at 2, and 125 bytes.
 type Stated = (u64, &'static [u8], &'static [u8], bool);
 
 const STATED: &[Stated] = &[

@@ -12,7 +12,7 @@ tested_by : (ts us : List TestedEntry) (last : Option (List ℕ)) (key : List �
 tested_by ts us last key answer wanted l same is w =
     ap (λ (x : Option (List ℕ)). is_behind x key) (sym (l ∙ ap (λ (x : List TestedEntry). last_key_or None (tested_entries x)) same)) ∙ sym is ∙ w
 
--- what holds, holds where a call succeeds
+-- what holds, holds if a call succeeds
 on_any : {X E : Type 0} (r : Result X E) (P : Type 0) → P → OnOk r P
 on_any (Ok x) P h = h
 on_any (Err e) P h = tt

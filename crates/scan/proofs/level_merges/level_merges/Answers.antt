@@ -29,7 +29,7 @@ parts levels i files number lt is counted =
 size_at : (levels : List (Vec (Bor FileMeta) Global)) (i : ℕ) (files : Vec (Bor FileMeta) Global) (number : ℕ) → i < length levels → files ≡ get_or levels i files → number ≡ length files.items → get_or (sizes_of levels) i 0 ≡ number
 size_at levels i files number lt is counted = get_or-map size levels i files 0 lt ∙ ap size (sym is) ∙ sym counted
 
--- none are left behind the last level
+-- none are left after the last level
 ended : (ns : List ℕ) (i : ℕ) → length ns ≤ i → drop i ns ≡ []
 ended [] zero le = refl
 ended [] (suc i) le = refl

@@ -23,8 +23,8 @@
 //!
 //! CURRENT, LOCK, LOG, newer manifests and all other files stay, there as here.
 //!
-//! [`remove_obsolete`] removes, of the names that it is given, those that [`is_obsolete_file`] tells;
-//! [`obsolete_names`] answers these.
+//! [`remove_obsolete`] removes, of the names that it is given, those that [`is_obsolete_file`]
+//! tells; [`obsolete_names`] answers these.
 //!
 //! Premises of what is said of a crash:
 //!

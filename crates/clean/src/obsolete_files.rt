@@ -30,7 +30,8 @@ pub fn is_obsolete_file(alloc: Global, opened: &Opened, name: &str) -> Result<bo
     test_name(alloc, opened, opened.manifest, &numbers, name)
 }
 
-/// Those of these `names` that [`is_obsolete_file`] tells, in their order. The only fault is Memory.
+/// Those of these `names` that [`is_obsolete_file`] tells, in their order. The only fault is
+/// Memory.
 pub fn obsolete_names<'a>(
     alloc: Global,
     opened: &Opened,

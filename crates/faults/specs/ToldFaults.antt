@@ -26,7 +26,8 @@ pub record IsPart {T : Type 0} (tells : T → VersionFault → Bool → T → Ty
 
 -- all were told, or the taker said to stop
 pub record IsTold {T : Type 0} (tells : T → VersionFault → Bool → T → Type 0)
-    (faults : List VersionFault) (old : T) (before : ℕ) (new : T) (after : FaultCount) : Type 0 where
+    (faults : List VersionFault) (old : T) (before : ℕ) (new : T) (after : FaultCount)
+    : Type 0 where
   pub untold : List VersionFault
   pub part : IsPart tells faults old before untold new after
   pub ended : (untold ≡ []) ⊎ (after.goes ≡ false)

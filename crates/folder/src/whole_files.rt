@@ -10,7 +10,8 @@ use std::rt::Files;
 use std::thread::Threads;
 use std::{io, thread};
 
-/// The most threads that make files or sync them. Why more than processors: they mostly wait for the system.
+/// The most threads that make files or sync them. Why more than processors: they mostly wait for
+/// the system.
 pub(crate) const THREADS: usize = 16;
 
 /// Files that are read or synced whole, through a handle that threads share.

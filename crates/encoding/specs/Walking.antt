@@ -20,8 +20,8 @@ shared_behind (Some before) key = common_prefix_len nat_eq before key
 abbrev pub left_out_len : ℕ → Option (List ℕ) → List ℕ → ℕ
 left_out_len since before key = if since == 0 then 0 else shared_behind before key
 
--- A piece is the first of the entries from `start` on. The first `passed` of it are passed: all only
--- if no entry comes after it. And `before` is the key of the last passed one.
+-- A piece is the first of the entries from `start` on. The first `passed` of it are passed: all
+-- only if no entry comes after it. And `before` is the key of the last passed one.
 pub record IsInPiece (start piece : List Entry) (passed : ℕ) (before : Option (List ℕ)) : Type 0
   where
     pub front : take (length piece) start ≡ piece

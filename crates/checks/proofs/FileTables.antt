@@ -1,5 +1,5 @@
 -- The tables of a version's files, found in a folder and by themselves.
-use Rattle.std.proofs.Common.{◌≡◌, ℕ, ◌+◌, Bool, eqb, List, [], ◌∷◌, length, map, Option, Some, refl, sym, ap, ap₂, subst, ◌∙◌, if◌then◌else◌, inl, inr}
+use Rattle.std.proofs.Common.{Bor, ◌≡◌, ℕ, ◌+◌, Bool, eqb, List, [], ◌∷◌, length, map, Option, Some, refl, sym, ap, ap₂, subst, ◌∙◌, if◌then◌else◌, inl, inr}
 use Rattle.std.specs.Prelude.{Contains}
 use Rattle.std.specs.List.{All, find}
 use Rattle.std.specs.Option.{option_map}
@@ -11,6 +11,7 @@ use Rattle.block.specs.EncodedEntry.{Entry}
 use Rattle.table.specs.TableContents.{Contents}
 use Rattle.split.specs.Ranges.{KeyRange}
 use Rattle.edit.specs.declared.meta.FileMeta.{FileMeta}
+use Rattle.folder.proofs.LoadingLemmas.{map_fused}
 use Rattle.folder.specs.Calls.{Files}
 use Rattle.reads.specs.StatedFiles.{IsStatedFile}
 use Rattle.reads.specs.TableOrder.{lists_of_files}
@@ -56,6 +57,11 @@ stated_among cmp next tables f x s there =
 -- the numbers of files
 abbrev pub numbers_in : List FileMeta → List ℕ
 numbers_in metas = map (λ (f : FileMeta). f.number) metas
+
+-- the numbers of files that are lent
+pub lent_numbers : (lent needed : List (Bor FileMeta)) (metas : List FileMeta) (numbers : List ℕ) → lent ≡ needed → map (λ (f : Bor FileMeta). f.now) needed ≡ metas → map (λ (f : Bor FileMeta). f.now.number) lent ≡ numbers → numbers ≡ numbers_in metas
+lent_numbers lent needed metas numbers is are told =
+    sym told ∙ ap (map (λ (f : Bor FileMeta). f.now.number)) is ∙ map_fused (λ (f : Bor FileMeta). f.now) (λ (f : FileMeta). f.number) needed ∙ ap numbers_in are
 
 module _ (cmp : List ℕ → List ℕ → Ordering) (files : Files) (next : Option ℕ) where
   -- a stated file's table that was found is what the version states

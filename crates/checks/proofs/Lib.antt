@@ -20,3 +20,4 @@ mod TableSizes
 pub mod TableRefusals
 pub mod LawfulLemmas
 mod CheckedTables
+pub mod TakerLemmas

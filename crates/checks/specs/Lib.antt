@@ -6,6 +6,7 @@ pub mod NeededFiles
 pub mod HeldTables
 pub mod RangeOrder
 pub mod TableBounds
+pub mod Takers
 -- serves proofs alone
 pub mod TablePlaces
 pub mod GroupTest

@@ -66,52 +66,18 @@ impl<C: Comparator> HeldTables<C> {
     }
 }
 
-/// The tables of a folder with these `numbers`, in order. None if one of them is missing or
-/// invalid. It only reads.
+/// Makes `held` the tables of a folder with these `numbers`, in order. False if one of them is
+/// missing or invalid. It only reads.
 ///
 /// `held` are tables of this folder, whose files are as they were when they were read. Those with
 /// one of the numbers are kept: they are neither read nor checked again. The others are dropped
-/// before a table is read. 1 to 64 workers check the tables that are read, each a job that `gate`
-/// sees.
+/// before a table is read. If the answer isn't true, none is held any more. 1 to 64 workers check
+/// the tables that are read, each a job that `gate` sees.
 ///
 /// If the device fails a call, the answer is Device and no further call is made. If memory runs
 /// out, it is Memory.
 ///
 /// No contract says which tables are read.
-pub fn hold_tables<C: SharedComparator, F: ReadsTables, G: Gate + Sync, R: Threads + Sync>(
-    rt: &R,
-    alloc: Global,
-    folder: &mut F,
-    held: HeldTables<C>,
-    numbers: &[u64],
-    workers: u64,
-    gate: &G,
-) -> Result<Option<HeldTables<C>>, Fault>
-    requires some { 0 < workers }
-    requires few { workers ≤ 64 }
-    ensures answer { (files : Files) → Tells (F.tells folder.old) files →
-        AreHeldIn C.cmp files held →
-        FolderAnswers (λ found. found) (F.failed folder.old) (F.failed folder.new) result
-        (IsFoundAnswer C.cmp files numbers.now) }
-    ensures numbers { IfOk result
-        (λ found. IfSome found (λ tables. held_numbers tables ≡ numbers.now)) }
-    ensures device { ReportsDevice F.Folder folder.old folder.new result }
-    ensures reads { OnlyReads F.Folder folder.old folder.new }
-{
-    let places = kept_places(alloc, held.tables, numbers)?;
-    let wanted = wanted_numbers(alloc, &places)?;
-    let found = read_tables::<C, F, G, R>(rt, alloc, folder, &wanted, workers, gate)?;
-    let Some(fresh) = found else {
-        return Ok(None);
-    };
-    let tables = placed_tables(alloc, places, fresh)?;
-    Ok(Some(HeldTables { tables }))
-}
-
-/// Makes `held` the tables of a folder with these `numbers`, in order. False if one of them is
-/// missing or invalid: then no table is held any more, nor after a refusal. It only reads.
-///
-/// All else is as [`hold_tables`] has it.
 pub fn hold_next<C: SharedComparator, F: ReadsTables, G: Gate + Sync, R: Threads + Sync>(
     rt: &R,
     alloc: Global,
@@ -141,4 +107,36 @@ pub fn hold_next<C: SharedComparator, F: ReadsTables, G: Gate + Sync, R: Threads
     };
     *held = tables;
     Ok(true)
+}
+
+/// The tables of a folder with these `numbers`, in order. None if one of them is missing or
+/// invalid. All else is as [`hold_next`] has it.
+pub(crate) fn hold_tables<C: SharedComparator, F: ReadsTables, G: Gate + Sync, R: Threads + Sync>(
+    rt: &R,
+    alloc: Global,
+    folder: &mut F,
+    held: HeldTables<C>,
+    numbers: &[u64],
+    workers: u64,
+    gate: &G,
+) -> Result<Option<HeldTables<C>>, Fault>
+    requires some { 0 < workers }
+    requires few { workers ≤ 64 }
+    ensures answer { (files : Files) → Tells (F.tells folder.old) files →
+        AreHeldIn C.cmp files held →
+        FolderAnswers (λ found. found) (F.failed folder.old) (F.failed folder.new) result
+        (IsFoundAnswer C.cmp files numbers.now) }
+    ensures numbers { IfOk result
+        (λ found. IfSome found (λ tables. held_numbers tables ≡ numbers.now)) }
+    ensures device { ReportsDevice F.Folder folder.old folder.new result }
+    ensures reads { OnlyReads F.Folder folder.old folder.new }
+{
+    let places = kept_places(alloc, held.tables, numbers)?;
+    let wanted = wanted_numbers(alloc, &places)?;
+    let found = read_tables::<C, F, G, R>(rt, alloc, folder, &wanted, workers, gate)?;
+    let Some(fresh) = found else {
+        return Ok(None);
+    };
+    let tables = placed_tables(alloc, places, fresh)?;
+    Ok(Some(HeldTables { tables }))
 }

@@ -42,7 +42,7 @@ mod watch;
 mod worker_tables;
 
 pub use file_groups::group_split;
-pub use held_tables::{HeldTables, hold_next, hold_tables};
+pub use held_tables::{HeldTables, hold_next};
 pub use range_files::{needed_files, numbers_of};
 pub use range_intersection::common_range;
 pub use range_walk::lent_tables;

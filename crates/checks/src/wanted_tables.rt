@@ -24,7 +24,7 @@ use std::thread::Threads;
 /// out, it is Memory. Lawless, if the folder was changed meanwhile.
 ///
 /// `held` are tables of this folder; those with one of the numbers are neither read nor checked
-/// again, as [`hold_tables`] has it. 1 to 64 workers check the others.
+/// again, as [`hold_next`] has it. 1 to 64 workers check the others.
 pub fn checked_tables<C: SharedComparator, F: ReadsTables, G: Gate + Sync, R: Threads + Sync>(
     rt: &R,
     alloc: Global,

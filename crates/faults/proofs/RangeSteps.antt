@@ -1,5 +1,5 @@
 -- One range of user keys, and the keys that are told of it.
-use Rattle.std.proofs.Common.{Bor, ◌≡◌, ℕ, suc, ◌+◌, ◌-◌, ◌<◌, true, List, [], ◌++◌, map, get_or, sym, ap, ◌∙◌, arith, add-one}
+use Rattle.std.proofs.Common.{◌≡◌, ℕ, suc, ◌+◌, ◌-◌, ◌<◌, true, List, [], ◌++◌, map, get_or, sym, ap, ◌∙◌, arith, add-one}
 use Rattle.std.specs.Prelude.{filter}
 use Rattle.std.specs.Cmp.{IsTotalOrder}
 use Rattle.std.proofs.lemmas.List.{map-append}
@@ -22,10 +22,6 @@ use Rattle.faults.specs.declared.key_fault.KeyFault.{KeyFault}
 use Rattle.faults.proofs.RangeEntries.{all_found, found_files, misplaced_same, needed_same, table_file}
 
 -- ---- the tables of a range
-
-pub numbers_are : (lent needed : List (Bor FileMeta)) (metas : List FileMeta) (numbers : List ℕ) → lent ≡ needed → map (λ (f : Bor FileMeta). f.now) needed ≡ metas → map (λ f. f.now.number) lent ≡ numbers → numbers ≡ numbers_in metas
-numbers_are lent needed metas numbers is are told =
-    sym told ∙ ap (map (λ (f : Bor FileMeta). f.now.number)) is ∙ map_fused (λ (f : Bor FileMeta). f.now) (λ (f : FileMeta). f.number) needed ∙ ap numbers_in are
 
 module _ (cmp : KeyOrder) (total : IsTotalOrder cmp) (range : KeyRange) (files : Files) (standing : List FileMeta) (sound : AreSoundIn cmp files standing) where
   abbrev needed : List FileMeta

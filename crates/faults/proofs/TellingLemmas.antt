@@ -1,8 +1,9 @@
 -- Faults that are told, one part after the other.
 use Rattle.std.proofs.Common.{◌≡◌, ℕ, zero, suc, ◌+◌, ◌-◌, ◌<◌, ◌≤◌, ◌^◌, min, Bool, true, false, not, List, [], ◌∷◌, ◌++◌, length, map, drop, get_or, Result, Ok, Err, IsErrAnd, refl, sym, ap, subst, ◌∙◌, inl, inr, arith, append_assoc, drop-cons, add-one}
 use Rattle.coding.specs.declared.fault.Fault.{Fault}
+use Rattle.checks.proofs.TakerLemmas.{told_append}
+use Rattle.checks.specs.Takers.{AreToldInTurn}
 use Rattle.faults.specs.VersionFault.{VersionFault}
-use Rattle.faults.specs.AllFaults.{IsToldThese}
 use Rattle.faults.specs.ToldFaults.{IsBegun, IsPart, IsTelling, IsTold, count_after, next_count}
 use Rattle.faults.specs.declared.fault_count.FaultCount.{FaultCount}
 
@@ -52,11 +53,6 @@ both : (b : Bool) → b ≡ true → b ≡ false → ⊥
 both b t f = let one : true ≡ false = sym t ∙ f in absurd cc
 
 module _ {T : Type 0} (tells : T → VersionFault → Bool → T → Type 0) where
-  told_append : (xs ys : List VersionFault) (old mid new : T) (goes : Bool) → IsToldThese tells old xs true mid → IsToldThese tells mid ys goes new → IsToldThese tells old (xs ++ ys) goes new
-  told_append [] ys old mid new goes h k = subst (λ (x : T). IsToldThese tells x ys goes new) h.1 k
-  told_append (x ∷ xs) ys old mid new goes (inl h) k = inr (mid, h.1, subst (λ (fs : List VersionFault). IsToldThese tells mid (fs ++ ys) goes new) (sym h.0) k)
-  told_append (x ∷ xs) ys old mid new goes (inr h) k = inr (h.0, h.1, told_append xs ys h.0 mid new goes h.2 k)
-
   -- nothing is told yet
   pub none_told : (faults : List VersionFault) (old : T) (after : FaultCount) → after.goes ≡ true → IsPart tells faults old after.count faults old after
   none_told faults old after goes = record { told = []; parts = refl; taker = (goes, refl); counted = refl }
@@ -67,7 +63,7 @@ module _ {T : Type 0} (tells : T → VersionFault → Bool → T → Type 0) whe
     part_then untold q = record {
       told = p.told ++ q.told;
       parts = p.parts ∙ ap (λ (fs : List VersionFault). p.told ++ (fs ++ behind)) q.parts ∙ regroup p.told q.told untold behind;
-      taker = told_append p.told q.told old mid new n.goes (subst (λ (b : Bool). IsToldThese tells old p.told b mid) goes p.taker) q.taker;
+      taker = told_append tells p.told q.told old mid new n.goes (subst (λ (b : Bool). AreToldInTurn tells old p.told b mid) goes p.taker) q.taker;
       counted = q.counted ∙ ap (λ (k : ℕ). count_after k q.told) p.counted ∙ sym (count_append before p.told q.told);
     }
 
@@ -90,7 +86,7 @@ module _ {T : Type 0} (tells : T → VersionFault → Bool → T → Type 0) whe
         begun_part = record {
           told = p.told ++ q.part.told;
           parts = p.parts ∙ ap (λ (fs : List VersionFault). p.told ++ (fs ++ behind)) q.part.parts ∙ regroup p.told q.part.told q.untold behind;
-          taker = told_append p.told q.part.told old mid new q.after.goes (subst (λ (b : Bool). IsToldThese tells old p.told b mid) goes p.taker) q.part.taker;
+          taker = told_append tells p.told q.part.told old mid new q.after.goes (subst (λ (b : Bool). AreToldInTurn tells old p.told b mid) goes p.taker) q.part.taker;
           counted = q.part.counted ∙ ap (λ (k : ℕ). count_after k q.part.told) p.counted ∙ sym (count_append before p.told q.part.told);
         }
 

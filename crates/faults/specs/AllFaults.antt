@@ -1,6 +1,6 @@
 -- All that is wrong with a version, and how it is told.
-use Rattle.std.specs.Prelude.{◌≡◌, ◌⊎◌, ℕ, ◌-◌, ◌^◌, min, Bool, true, false}
-use Rattle.std.specs.Prelude.{List, [], ◌∷◌, ◌++◌, length, map, Result, Ok}
+use Rattle.std.specs.Prelude.{◌≡◌, ◌⊎◌, ℕ, ◌-◌, ◌^◌, min, Bool, false}
+use Rattle.std.specs.Prelude.{List, [], ◌++◌, length, map, Result, Ok}
 use Rattle.coding.specs.declared.fault.Fault.{Fault}
 use Rattle.ikey.specs.Comparator.{KeyOrder}
 use Rattle.edit.specs.Version.{State}
@@ -8,6 +8,7 @@ use Rattle.edit.specs.VersionOrder.{added_from}
 use Rattle.edit.specs.declared.meta.NewFile.{NewFile}
 use Rattle.folder.specs.Calls.{Files}
 use Rattle.folder.specs.OpenAnswer.{FolderAnswers}
+use Rattle.checks.specs.Takers.{AreToldInTurn}
 use Rattle.faults.specs.VersionFault.{VersionFault, OfKey}
 use Rattle.faults.specs.FileFaults.{faults_of_files}
 use Rattle.faults.specs.KeyFaults.{misplaced_keys, searched_entries}
@@ -21,15 +22,6 @@ all_files cmp v = added_from cmp v.files 0 7
 abbrev pub version_faults : KeyOrder → Files → State → List VersionFault
 version_faults cmp files v = faults_of_files cmp files v.next_file (all_files cmp v)
     ++ map OfKey (misplaced_keys cmp (searched_entries cmp files (all_files cmp v)))
-
--- A taker was told these faults, one after the other. After each but the last one it said to go on;
--- `goes` is what it said after the last, and true if there was none.
-abbrev pub IsToldThese : {T : Type 0} → (T → VersionFault → Bool → T → Type 0) → T →
-    List VersionFault → Bool → T → Type 0
-IsToldThese tells old [] goes new = (goes ≡ true) × (new ≡ old)
-IsToldThese {T} tells old (f ∷ faults) goes new =
-    ((faults ≡ []) × tells old f goes new)
-    ⊎ ((next : T) × tells old f true next × IsToldThese tells next faults goes new)
 
 -- how many these are, 2^64 - 1 if there are more
 abbrev pub told_count : List VersionFault → ℕ
@@ -45,6 +37,6 @@ pub record AreFaultsTold {T : Type 0} (tells : T → VersionFault → Bool → T
   pub untold : List VersionFault
   pub parts : faults ≡ told ++ untold
   pub goes : Bool
-  pub taker : IsToldThese tells old told goes new
+  pub taker : AreToldInTurn tells old told goes new
   pub answer : FolderAnswers (λ count. count) before now result
       (λ answer. (answer ≡ Ok (told_count told)) × ((untold ≡ []) ⊎ (goes ≡ false)))

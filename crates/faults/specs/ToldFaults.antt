@@ -2,8 +2,8 @@
 use Rattle.std.specs.Prelude.{◌≡◌, ◌⊎◌, ℕ, ◌+◌, ◌-◌, ◌^◌, min, Bool, true, false}
 use Rattle.std.specs.Prelude.{List, [], ◌∷◌, ◌++◌, Result, Ok, Err}
 use Rattle.coding.specs.declared.fault.Fault.{Fault}
+use Rattle.checks.specs.Takers.{AreToldInTurn}
 use Rattle.faults.specs.VersionFault.{VersionFault}
-use Rattle.faults.specs.AllFaults.{IsToldThese}
 use Rattle.faults.specs.declared.fault_count.FaultCount.{FaultCount}
 
 -- one more, 2^64 - 1 at most
@@ -21,7 +21,7 @@ pub record IsPart {T : Type 0} (tells : T → VersionFault → Bool → T → Ty
     (after : FaultCount) : Type 0 where
   pub told : List VersionFault
   pub parts : faults ≡ told ++ untold
-  pub taker : IsToldThese tells old told after.goes new
+  pub taker : AreToldInTurn tells old told after.goes new
   pub counted : after.count ≡ count_after before told
 
 -- all were told, or the taker said to stop

@@ -1,13 +1,13 @@
 -- Rows that are told, one part after the other.
-use Rattle.std.proofs.Common.{◌≡◌, ℕ, ◌+◌, ◌-◌, Bool, true, false, List, [], ◌∷◌, ◌++◌, length, take, Option, Some, None, Result, Ok, Err, IsErrAnd, refl, sym, ap, subst, ◌∙◌, inl, inr, arith, append_assoc}
+use Rattle.std.proofs.Common.{◌≡◌, ℕ, ◌+◌, ◌-◌, Bool, true, false, List, [], ◌∷◌, ◌++◌, length, take, Option, Some, None, Result, Ok, Err, IsErrAnd, refl, ap, ◌∙◌, inl, inr, arith, append_assoc}
 use Rattle.std.specs.Option.{option_map}
 use Rattle.std.proofs.Math.Seq.{take-append-add, take-nil}
 use Rattle.std.proofs.lemmas.List.{length-append}
 use Rattle.coding.specs.declared.fault.Fault.{Fault}
+use Rattle.checks.proofs.TakerLemmas.{told_append}
 use Rattle.scan.specs.Row.{Row}
 use Rattle.scan.specs.ChosenRows.{rows_within}
 use Rattle.scan.specs.RowParts.{AreBegun, AreEnough, AreScanned, AreTelling, AreWanted, IsAfterOne, IsRowPart}
-use Rattle.scan.specs.ToldRows.{AreRowsTold}
 use Rattle.scan.specs.declared.row_limit.RowLimit.{RowLimit}
 use Rattle.scan.specs.declared.row_limit.RowLimit.TheVariants.{More, Enough}
 
@@ -26,11 +26,6 @@ count_on left less a b c sum h = ap (option_map (λ n. n + a)) h ∙ by less
     by (Some n) = let e : (n + b) + a ≡ n + c = omega (arith, sum) in ap (λ (m : ℕ). Some m) e
 
 module _ {T : Type 0} (tells : T → Row → Bool → T → Type 0) where
-  told_append : (xs ys : List Row) (old mid new : T) (goes : Bool) → AreRowsTold tells old xs true mid → AreRowsTold tells mid ys goes new → AreRowsTold tells old (xs ++ ys) goes new
-  told_append [] ys old mid new goes h k = subst (λ (x : T). AreRowsTold tells x ys goes new) h.1 k
-  told_append (x ∷ xs) ys old mid new goes (inl h) k = inr (mid, h.1, subst (λ (rs : List Row). AreRowsTold tells mid (rs ++ ys) goes new) (sym h.0) k)
-  told_append (x ∷ xs) ys old mid new goes (inr h) k = inr (h.0, h.1, told_append xs ys h.0 mid new goes h.2 k)
-
   -- nothing is told yet
   pub none_told : (rows : List Row) (old new : T) (left : Option ℕ) → new ≡ old → IsRowPart tells rows old left rows new left true
   none_told rows old new left same = record { told = []; parts = refl; taker = (refl, same); counted = count_none left }
@@ -44,7 +39,7 @@ module _ {T : Type 0} (tells : T → Row → Bool → T → Type 0) where
   part_then rows front behind untold old mid new limit left less goes p q = record {
     told = p.told ++ q.told;
     parts = p.parts ∙ ap (λ (rs : List Row). p.told ++ (rs ++ behind)) q.parts ∙ regroup p.told q.told untold behind;
-    taker = told_append p.told q.told old mid new goes p.taker q.taker;
+    taker = told_append tells p.told q.told old mid new goes p.taker q.taker;
     counted = p.counted ∙ count_on left less (length p.told) (length q.told) (length (p.told ++ q.told)) (length-append p.told q.told) q.counted;
   }
 

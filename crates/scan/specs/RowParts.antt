@@ -3,8 +3,8 @@ use Rattle.std.specs.Prelude.{◌≡◌, ◌⊎◌, ℕ, ◌+◌, ◌<◌, Bool,
 use Rattle.std.specs.Prelude.{List, [], ◌++◌, length, Option, Some, None, Result, Ok, Err}
 use Rattle.std.specs.Option.{option_map}
 use Rattle.coding.specs.declared.fault.Fault.{Fault}
+use Rattle.checks.specs.Takers.{AreToldInTurn}
 use Rattle.scan.specs.Row.{Row}
-use Rattle.scan.specs.ToldRows.{AreRowsTold}
 use Rattle.scan.specs.declared.row_limit.RowLimit.{RowLimit}
 use Rattle.scan.specs.declared.row_limit.RowLimit.TheVariants.{More, Enough}
 
@@ -28,7 +28,7 @@ pub record IsRowPart {T : Type 0} (tells : T → Row → Bool → T → Type 0) 
     (limit : Option ℕ) (untold : List Row) (new : T) (left : Option ℕ) (goes : Bool) : Type 0 where
   pub told : List Row
   pub parts : rows ≡ told ++ untold
-  pub taker : AreRowsTold tells old told goes new
+  pub taker : AreToldInTurn tells old told goes new
   pub counted : limit ≡ option_map (λ n. n + length told) left
 
 -- some were told, and no more are wanted

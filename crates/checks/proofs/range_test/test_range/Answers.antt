@@ -3,14 +3,13 @@ use Rattle.std.specs.Prelude.{filter}
 use Rattle.std.proofs.lemmas.List.{length-map}
 use Rattle.coding.proofs.Binds.{ok_is}
 use Rattle.edit.specs.declared.meta.FileMeta.{FileMeta}
-use Rattle.folder.proofs.LoadingLemmas.{map_fused}
 use Rattle.folder.proofs.OpeningLemmas.{hands_on}
 use Rattle.reads.specs.Tables.{NumberedContents}
 use Rattle.split.specs.Ranges.{key_range}
 use Rattle.checks.specs.GroupTest.{IsRangeAnswer}
 use Rattle.checks.specs.HeldTables.{AreFound, IsFoundAnswer}
 use Rattle.checks.specs.NeededFiles.{is_file_needed}
-use Rattle.checks.proofs.FileTables.{numbers_in}
+use Rattle.checks.proofs.FileTables.{lent_numbers}
 use Rattle.checks.proofs.FolderTests.{range_answers, range_unfound}
 use Rattle.checks.proofs.FoundTables.{held_found, held_unfound}
 use Rattle.checks.proofs.WalkLemmas.{few_kept}
@@ -18,10 +17,6 @@ use Rattle.checks.proofs.range_test.test_range.Goals as goal
 
 abbrev now_of : Bor FileMeta → FileMeta
 now_of f = f.now
-
-numbers_are : (lent needed : List (Bor FileMeta)) (metas : List FileMeta) (numbers : List ℕ) → lent ≡ needed → map now_of needed ≡ metas → map (λ f. f.now.number) lent ≡ numbers → numbers ≡ numbers_in metas
-numbers_are lent needed metas numbers is are told =
-    sym told ∙ ap (map (λ (f : Bor FileMeta). f.now.number)) is ∙ map_fused now_of (λ (f : FileMeta). f.number) needed ∙ ap numbers_in are
 
 pub returns-in_err-is_held-clause-answer : goal.returns-in_err-is_held-clause-answer
 returns-in_err-is_held-clause-answer g c files told are =
@@ -38,7 +33,7 @@ returns-then-not-is_held-clause-answer g c files told are =
     let standing : List FileMeta = map now_of c.args.standing.now in
     let needed : List FileMeta = filter (is_file_needed cmp range) standing in
     let numbers : List ℕ = c.deref-2.result.now in
-    let same = numbers_are c.deref.result.now c.in_ok-needed.needed.items needed numbers c.deref.ensures.value c.in_ok-needed.ensures.needed (ok_is _ _ c.in_ok-numbers.ensures ∙ sym c.deref-2.ensures.value) in
+    let same = lent_numbers c.deref.result.now c.in_ok-needed.needed.items needed numbers c.deref.ensures.value c.in_ok-needed.ensures.needed (ok_is _ _ c.in_ok-numbers.ensures ∙ sym c.deref-2.ensures.value) in
     range_unfound cmp (g.met.C.Comparator g.world.𝓛 g.world.𝓜 g.world.𝓡 ((λ s x. x), (λ x. x), (λ x. x), λ x. x)).total files c.args.next standing range
     (subst (λ (ns : List ℕ). IsFoundAnswer cmp files ns (Ok None)) same
     (held_unfound cmp files numbers c.in_ok-is_held.is_held c.hold_next.new.held c.if-not-is_held.true (c.in_ok-is_held.ensures.answer files told are)))
@@ -63,7 +58,7 @@ returns-clause-answer g c files told are =
     let needed : List FileMeta = filter (is_file_needed cmp range) standing in
     let numbers : List ℕ = c.deref-2.result.now in
     let tables : List NumberedContents = c.hold_next.new.held in
-    let same = numbers_are c.deref.result.now c.in_ok-needed.needed.items needed numbers c.deref.ensures.value c.in_ok-needed.ensures.needed (ok_is _ _ c.in_ok-numbers.ensures ∙ sym c.deref-2.ensures.value) in
+    let same = lent_numbers c.deref.result.now c.in_ok-needed.needed.items needed numbers c.deref.ensures.value c.in_ok-needed.ensures.needed (ok_is _ _ c.in_ok-numbers.ensures ∙ sym c.deref-2.ensures.value) in
     let found : AreFound cmp files numbers tables = held_found cmp files numbers c.in_ok-is_held.is_held tables c.if-not-is_held.false (c.in_ok-is_held.ensures.answer files told are) in
     let metas : map now_of c.deref-3.result.now ≡ needed = ap (map now_of) c.deref-3.ensures.value ∙ c.in_ok-needed.ensures.needed in
     range_answers cmp (g.met.C.Comparator g.world.𝓛 g.world.𝓜 g.world.𝓡 ((λ s x. x), (λ x. x), (λ x. x), λ x. x)).total files c.args.next standing range (failed c.args.folder.now) (failed c.hold_next.new.folder) c.walk_range.result (map now_of c.deref-3.result.now) tables metas

@@ -1,16 +1,17 @@
-use Rattle.std.proofs.Common.{Bor, ℕ, List, map, Option, None, Ok, sym, subst, ◌∙◌, arith}
+use Rattle.std.proofs.Common.{Bor, ℕ, List, map, None, Ok, sym, subst, ◌∙◌, arith}
 use Rattle.std.specs.Prelude.{filter}
 use Rattle.coding.proofs.Binds.{ok_is}
 use Rattle.coding.proofs.Refusals.{only_memory}
 use Rattle.split.specs.Ranges.{key_range}
 use Rattle.edit.specs.declared.meta.FileMeta.{FileMeta}
 use Rattle.reads.specs.Tables.{NumberedContents}
-use Rattle.checks.specs.HeldTables.{AreFound, AreHeldIn, IsFoundAnswer}
+use Rattle.checks.specs.HeldTables.{AreFound, IsFoundAnswer}
 use Rattle.checks.specs.NeededFiles.{is_file_needed}
+use Rattle.checks.proofs.FileTables.{lent_numbers}
 use Rattle.checks.proofs.FoundTables.{held_found, held_unfound}
 use Rattle.faults.specs.KeyWalk.{misplaced_in}
 use Rattle.faults.proofs.FaultAnswers.{memory_handed, memory_stopped, ok_weaker, stopped_or}
-use Rattle.faults.proofs.RangeSteps.{never_unfound, numbers_are, range_keys}
+use Rattle.faults.proofs.RangeSteps.{never_unfound, range_keys}
 use Rattle.faults.proofs.range_faults.range_faults.Goals as goal
 
 abbrev now_of : Bor FileMeta → FileMeta
@@ -40,7 +41,7 @@ returns-then-not-is_held-clause-errors g c files told own sound =
     let standing : List FileMeta = map now_of c.args.files.now in
     let needed : List FileMeta = filter (is_file_needed cmp range) standing in
     let numbers : List ℕ = c.deref-2.result.now in
-    let same = numbers_are c.deref.result.now c.in_ok-needed.needed.items needed numbers c.deref.ensures.value c.in_ok-needed.ensures.needed (ok_is _ _ c.in_ok-numbers.ensures ∙ sym c.deref-2.ensures.value) in
+    let same = lent_numbers c.deref.result.now c.in_ok-needed.needed.items needed numbers c.deref.ensures.value c.in_ok-needed.ensures.needed (ok_is _ _ c.in_ok-numbers.ensures ∙ sym c.deref-2.ensures.value) in
     let none : IsFoundAnswer cmp files numbers (Ok None) = held_unfound cmp files numbers c.in_ok-is_held.is_held c.hold_next.new.held c.if-not-is_held.true (c.in_ok-is_held.ensures.answer files told own) in
     never_unfound cmp (g.met.C.Comparator g.world.𝓛 g.world.𝓜 g.world.𝓡 ((λ s x. x), (λ x. x), (λ x. x), λ x. x)).total range files standing sound (subst (λ (ns : List ℕ). IsFoundAnswer cmp files ns (Ok None)) same none))
 
@@ -52,7 +53,7 @@ returns-clause-faults g c files told own sound =
     let needed : List FileMeta = filter (is_file_needed cmp range) standing in
     let numbers : List ℕ = c.deref-2.result.now in
     let held : List NumberedContents = c.hold_next.new.held in
-    let same = numbers_are c.deref.result.now c.in_ok-needed.needed.items needed numbers c.deref.ensures.value c.in_ok-needed.ensures.needed (ok_is _ _ c.in_ok-numbers.ensures ∙ sym c.deref-2.ensures.value) in
+    let same = lent_numbers c.deref.result.now c.in_ok-needed.needed.items needed numbers c.deref.ensures.value c.in_ok-needed.ensures.needed (ok_is _ _ c.in_ok-numbers.ensures ∙ sym c.deref-2.ensures.value) in
     let found : AreFound cmp files numbers held = held_found cmp files numbers c.in_ok-is_held.is_held held c.if-not-is_held.false (c.in_ok-is_held.ensures.answer files told own) in
     ok_weaker c.held_faults.result _ _
     (λ v are. range_keys cmp (g.met.C.Comparator g.world.𝓛 g.world.𝓜 g.world.𝓡 ((λ s x. x), (λ x. x), (λ x. x), λ x. x)).total range files standing sound held (map misplaced_in v.items) (subst (λ (ns : List ℕ). AreFound cmp files ns held) same found) are)

@@ -1,4 +1,4 @@
-use Rattle.std.proofs.Common.{Bor, ◌≡◌, ℕ, true, List, [], map, None, Ok, refl, sym, ap, subst, ◌∙◌, inr, arith}
+use Rattle.std.proofs.Common.{Bor, ℕ, true, List, [], map, None, Ok, refl, sym, ap, subst, ◌∙◌, inr, arith}
 use Rattle.std.specs.Prelude.{filter}
 use Rattle.coding.proofs.Binds.{ok_is}
 use Rattle.coding.proofs.Refusals.{only_memory}
@@ -6,12 +6,11 @@ use Rattle.block.specs.EncodedEntry.{Entry}
 use Rattle.merge.specs.Merged.{entries_of_lists, sorted_entries}
 use Rattle.split.specs.Ranges.{key_range}
 use Rattle.edit.specs.declared.meta.FileMeta.{FileMeta}
-use Rattle.folder.proofs.LoadingLemmas.{map_fused}
 use Rattle.reads.specs.TableOrder.{lists_of_files}
 use Rattle.reads.specs.Tables.{NumberedContents}
 use Rattle.checks.specs.HeldTables.{AreFound, IsFoundAnswer}
 use Rattle.checks.specs.NeededFiles.{is_file_needed}
-use Rattle.checks.proofs.FileTables.{numbers_in}
+use Rattle.checks.proofs.FileTables.{lent_numbers}
 use Rattle.checks.proofs.FoundTables.{held_found, held_unfound}
 use Rattle.scan.specs.Row.{Row}
 use Rattle.scan.specs.EntryRows.{file_rows, rows_behind}
@@ -73,10 +72,6 @@ returns-in_err-is_held-clause-told g c files next tables told are own =
     let rows = file_rows g.C.Comparator.cmp tables (map now_of c.args.standing.now) c.args.at (key_range c.args.range) in
     handed_begun tells rows c.args.taker.now c.args.taker.now c.args.limit c.from_residual-in_err-is_held.result c.in_err-is_held.field-0.0 c.from_residual-in_err-is_held.ensures.1 (refused_first tells rows c.args.taker.now c.args.taker.now c.args.limit refl)
 
-numbers_are : (lent needed : List (Bor FileMeta)) (metas : List FileMeta) (numbers : List ℕ) → lent ≡ needed → map now_of needed ≡ metas → map (λ f. f.now.number) lent ≡ numbers → numbers ≡ numbers_in metas
-numbers_are lent needed metas numbers is are told =
-    sym told ∙ ap (map (λ (f : Bor FileMeta). f.now.number)) is ∙ map_fused now_of (λ (f : FileMeta). f.number) needed ∙ ap numbers_in are
-
 pub returns-in_err-is_held-clause-errors : goal.returns-in_err-is_held-clause-errors
 returns-in_err-is_held-clause-errors g c files next tables told are own =
     let cmp = g.C.Comparator.cmp in
@@ -91,7 +86,7 @@ returns-then-not-is_held-clause-told g c files next tables told are own =
     let standing : List FileMeta = map now_of c.args.standing.now in
     let needed : List FileMeta = filter (is_file_needed cmp range) standing in
     let numbers : List ℕ = c.deref-2.result.now in
-    let same = numbers_are c.deref.result.now c.in_ok-needed.needed.items needed numbers c.deref.ensures.value c.in_ok-needed.ensures.needed (ok_is _ _ c.in_ok-numbers.ensures ∙ sym c.deref-2.ensures.value) in
+    let same = lent_numbers c.deref.result.now c.in_ok-needed.needed.items needed numbers c.deref.ensures.value c.in_ok-needed.ensures.needed (ok_is _ _ c.in_ok-numbers.ensures ∙ sym c.deref-2.ensures.value) in
     let none : IsFoundAnswer cmp files numbers (Ok None) = held_unfound cmp files numbers c.in_ok-is_held.is_held c.hold_next.new.held c.if-not-is_held.true (c.in_ok-is_held.ensures.answer files told own) in
     never_unfound cmp (g.met.C.Comparator g.world.𝓛 g.world.𝓜 g.world.𝓡 ((λ s x. x), (λ x. x), (λ x. x), λ x. x)).total files next standing tables are range (subst (λ (ns : List ℕ). IsFoundAnswer cmp files ns (Ok None)) same none))
 
@@ -103,7 +98,7 @@ returns-then-not-is_held-clause-errors g c files next tables told are own =
     let standing : List FileMeta = map now_of c.args.standing.now in
     let needed : List FileMeta = filter (is_file_needed cmp range) standing in
     let numbers : List ℕ = c.deref-2.result.now in
-    let same = numbers_are c.deref.result.now c.in_ok-needed.needed.items needed numbers c.deref.ensures.value c.in_ok-needed.ensures.needed (ok_is _ _ c.in_ok-numbers.ensures ∙ sym c.deref-2.ensures.value) in
+    let same = lent_numbers c.deref.result.now c.in_ok-needed.needed.items needed numbers c.deref.ensures.value c.in_ok-needed.ensures.needed (ok_is _ _ c.in_ok-numbers.ensures ∙ sym c.deref-2.ensures.value) in
     let none : IsFoundAnswer cmp files numbers (Ok None) = held_unfound cmp files numbers c.in_ok-is_held.is_held c.hold_next.new.held c.if-not-is_held.true (c.in_ok-is_held.ensures.answer files told own) in
     never_unfound cmp (g.met.C.Comparator g.world.𝓛 g.world.𝓜 g.world.𝓡 ((λ s x. x), (λ x. x), (λ x. x), λ x. x)).total files next standing tables are range (subst (λ (ns : List ℕ). IsFoundAnswer cmp files ns (Ok None)) same none))
 
@@ -115,7 +110,7 @@ returns-clause-told g c files next tables told are own =
     let needed : List FileMeta = filter (is_file_needed cmp range) standing in
     let numbers : List ℕ = c.deref-2.result.now in
     let held : List NumberedContents = c.hold_next.new.held in
-    let same = numbers_are c.deref.result.now c.in_ok-needed.needed.items needed numbers c.deref.ensures.value c.in_ok-needed.ensures.needed (ok_is _ _ c.in_ok-numbers.ensures ∙ sym c.deref-2.ensures.value) in
+    let same = lent_numbers c.deref.result.now c.in_ok-needed.needed.items needed numbers c.deref.ensures.value c.in_ok-needed.ensures.needed (ok_is _ _ c.in_ok-numbers.ensures ∙ sym c.deref-2.ensures.value) in
     let found : AreFound cmp files numbers held = held_found cmp files numbers c.in_ok-is_held.is_held held c.if-not-is_held.false (c.in_ok-is_held.ensures.answer files told own) in
     subst (λ (rs : List Row). AreTelling g.T.RowTaker.tells rs c.args.taker.now c.args.limit c.tell_held.new.taker c.tell_held.result)
     (found_rows cmp (g.met.C.Comparator g.world.𝓛 g.world.𝓜 g.world.𝓡 ((λ s x. x), (λ x. x), (λ x. x), λ x. x)).total files next standing tables are range held (subst (λ (ns : List ℕ). AreFound cmp files ns held) same found) c.args.at) c.tell_held.ensures.told

@@ -1,6 +1,6 @@
 //! Tables of a folder, read and checked.
 
-ghost use Rattle.std.specs.Prelude.{◌≡◌, ◌<◌, ◌≤◌, length, map, IfOk, IfErr, IfSome};
+ghost use Rattle.std.specs.Prelude.{◌≡◌, ◌<◌, ◌≤◌, map, IfOk, IfErr, IfSome};
 ghost use Rattle.std.specs.List.{AllZip};
 ghost use Rattle.std.specs.Option.{MatchOption, option_map};
 ghost use Rattle.coding.specs.Answers.{fault};

@@ -13,7 +13,7 @@ use crate::folder::Folder;
 use crate::names::{CURRENT, manifest_name, old_table_name, table_name};
 use crate::order::Order;
 use crate::pending_files::Due;
-use coding::{Fault, FaultName};
+use coding::Fault;
 use edit::{FileMeta, Version};
 use ikey::{Bytewise, Comparator, Shortlex};
 use std::alloc::Global;

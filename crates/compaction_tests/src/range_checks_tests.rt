@@ -2,11 +2,14 @@
 
 use crate::checks_tests::are_tables;
 use board::Open;
-use checks::{HeldTables, Tested, checked_tables, test_and_hold, test_version};
+use checks::{
+    HeldTables, Tested, checked_tables, hold_next, lent_tables, test_and_hold, test_version,
+};
 use coding::{Fault, FaultName};
 use edit::{Version, VersionEdit};
 use folder::Shelf;
 use ikey::Bytewise;
+use reads::NumberedTable;
 use std::alloc::Global;
 use std::test::*;
 use std::thread::Threads;
@@ -356,5 +359,86 @@ fn tables_that_are_held_and_wanted(rt: HostRuntime) {
             row.memory,
             row.wanted
         );
+    }
+}
+
+/// Numbers of tables that are to be held next, after those of the test of the version of several
+/// ranges with one byte of memory (9, 12 and 13). Whether they are held, which ones are, and how
+/// many calls of the folder that makes: one for each table that isn't held yet.
+struct NextRow {
+    numbers: &'static [u64],
+    is_held: bool,
+    held: Firsts,
+    calls: u64,
+}
+
+const NEXT: &[NextRow] = &[
+    NextRow {
+        numbers: &[13, 9],
+        is_held: true,
+        held: &[(13, 9), (9, 1)],
+        calls: 0,
+    },
+    NextRow {
+        numbers: &[10, 12, 11],
+        is_held: true,
+        held: &[(10, 3), (12, 7), (11, 2)],
+        calls: 2,
+    },
+    NextRow {
+        numbers: &[],
+        is_held: true,
+        held: &[],
+        calls: 0,
+    },
+    // Table 8 is invalid.
+    NextRow {
+        numbers: &[12, 8],
+        is_held: false,
+        held: &[],
+        calls: 1,
+    },
+    // There is no table 14. It is looked for under both names.
+    NextRow {
+        numbers: &[12, 14],
+        is_held: false,
+        held: &[],
+        calls: 2,
+    },
+];
+
+/// Whether the tables of a row are held next, and are lent in this order.
+fn are_next(rt: &(impl Threads + Sync + AllocGlobal), row: &NextRow) -> Result<bool, Fault> {
+    let alloc = rt.alloc();
+    let version = version_after(alloc, SEVERAL_RANGES)?;
+    let mut shelf = Shelf::new(alloc, OF_SEVERAL);
+    let found = test_and_hold::<Bytewise, _, _, _>(rt, alloc, &mut shelf, &version, 1, 4, &Open)?;
+    let mut held = found.tables;
+    let before = shelf.calls();
+    let is_held = hold_next(rt, alloc, &mut shelf, &mut held, row.numbers, 4, &Open)?;
+    let lent = held.lend(alloc)?;
+    Ok(
+        is_held == row.is_held
+            && are_tables(&lent, row.held)
+            && are_lent(alloc, &lent)?
+            && shelf.calls() == before + row.calls,
+    )
+}
+
+/// Whether tables are handed to a walk in their order.
+fn are_lent(alloc: Global, tables: &[NumberedTable<'_, Bytewise>]) -> Result<bool, Fault> {
+    let lent = lent_tables(alloc, tables)?;
+    for (table, other) in lent.iter().zip(tables) {
+        if table.smallest().sequence() != other.table().smallest().sequence() {
+            return Ok(false);
+        }
+    }
+    Ok(lent.len() == tables.len())
+}
+
+#[test]
+fn tables_that_are_held_next(rt: HostRuntime) {
+    for row in NEXT {
+        assert!(rt; are_next(&rt, row) == Ok(true), "{:?}", row.numbers);
     }
 }

@@ -6,8 +6,9 @@ use crate::range_checks_tests::{
 use crate::store_tests::rows::U4_DELETED;
 use board::Open;
 use coding::{Fault, FaultName};
+use edit::Version;
 use folder::{Order, Shelf};
-use scan::{RowChoice, RowTaker, scan_unverified, scan_version};
+use scan::{RowChoice, RowTaker, scan_unverified, scan_version, sequence_of};
 use std::alloc::AllocError;
 use std::test::*;
 use std::thread::Threads;
@@ -301,4 +302,19 @@ fn no_rows_after_a_refused_test(rt: HostRuntime) {
         ..PLAIN
     };
     assert!(rt; tell_tested(&rt, &refused) == Ok(true));
+}
+
+/// A sequence that is asked for, and that at which [`DELETION_ABOVE`] is read: its last is 10.
+const SEQUENCES: &[(Option<u64>, u64)] = &[(None, 10), (Some(0), 0), (Some(4), 4), (Some(11), 11)];
+
+#[test]
+fn sequences_at_which_versions_are_read(rt: HostRuntime) -> Result<(), Fault> {
+    let version = version_after(rt.alloc(), DELETION_ABOVE)?;
+    for (asked, at) in SEQUENCES {
+        assert!(rt; sequence_of(&version, *asked) == *at, "{asked:?}");
+    }
+    let empty = Version::empty(rt.alloc());
+    assert!(rt; sequence_of(&empty, None) == 0);
+    assert!(rt; sequence_of(&empty, Some(7)) == 7);
+    Ok(())
 }

@@ -123,3 +123,31 @@ fn accounts_as_lines(rt: HostRuntime) {
         assert!(rt; is_told(rt.alloc(), row) == Ok(true), "{}", row.lines);
     }
 }
+
+/// An amount, the largest of its group, what is at a place that isn't marked, and the bar.
+///
+/// Of 40 places, 401 of 1600 take 10.025, and 2^64 - 2 of 2^64 - 1 almost all.
+const BARS: &[(u64, u64, &str, &str)] = &[
+    (0, 4, "-", "----------------------------------------"),
+    (1, 4, "-", "##########------------------------------"),
+    (4, 4, "-", "########################################"),
+    (401, 1600, ".", "###########............................."),
+    (1, 400, " ", "#                                       "),
+    (0, 0, " ", "                                        "),
+    (
+        u64::MAX - 1,
+        u64::MAX,
+        "",
+        "########################################",
+    ),
+    (1, 40, "", "#"),
+];
+
+#[test]
+fn bars_of_forty_places(rt: HostRuntime) -> Result<(), Fault> {
+    for (amount, most, blank, wanted) in BARS {
+        let text = bar(rt.alloc(), *amount, *most, blank)?;
+        assert!(rt; text.as_str() == *wanted, "{amount} of {most}");
+    }
+    Ok(())
+}

@@ -24,6 +24,8 @@ struct Grouped {
     groups: Vec<usize>,
     /// The number and the length that was told of each table.
     sizes: Vec<(u64, u64)>,
+    /// How many workers are told.
+    workers: u64,
 }
 
 /// All groups.
@@ -46,6 +48,7 @@ fn collected<R: AllocGlobal + Threads + Sync>(
         outcome,
         groups,
         sizes,
+        workers: planned.workers(),
     })
 }
 
@@ -127,7 +130,8 @@ fn has_groups<R: AllocGlobal + Threads + Sync>(rt: &R, row: &Row) -> Result<bool
     }
     let whole = answer?;
     for run in row.runs {
-        if !is_made(&groups_of(rt, row, *run)?, &whole, row.groups) {
+        let grouped = groups_of(rt, row, *run)?;
+        if !is_made(&grouped, &whole, row.groups) || grouped.workers != run.1 {
             return Ok(false);
         }
     }

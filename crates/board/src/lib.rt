@@ -11,9 +11,19 @@
 //! Each step on what seats share is one atomic claim, settle or look. A rule over all of them holds
 //! between any two steps. So what contracts say holds over every schedule.
 //!
+//! Words of this crate:
+//!
+//! - A *seat* is a worker's place, a *share* the jobs that it draws first. When its share is empty,
+//!   it draws from the next one in turn, round all of them.
+//! - A *claim* draws a job of a share. A *settle* notes that a job failed, and a *look* reads the
+//!   least that did.
+//! - A *view* is what contracts see of what was done at a seat, and its *trail* lists the jobs.
+//! - A *shift* is what a worker leaves: its seat, its results, and the least job that it failed. A
+//!   *tally* counts what was done at all seats of a closed board.
+//!
 //! Not stated: which seat draws what, that a thread runs or how many do, and what the gate is told.
 //! Nor which fault comes if one job fails by `Memory` and another by name. That a run answers
-//! `collected` of its answers is proved by its callers.
+//! `collected_results` of its answers is proved by its callers.
 #![tactic(auto)]
 
 mod gathered;

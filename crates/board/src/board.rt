@@ -18,6 +18,7 @@ ghost use Rattle.board.specs.GatheredSeats.{Gathers};
 
 use crate::gathered::Gathered;
 use crate::job::Job;
+use crate::limits::MAX_WORKERS;
 use crate::rule::{
     ByShares, Claim, Extent, Gathering, Look, SeatView, Seating, Settle, Skip, Skipping,
 };
@@ -30,8 +31,8 @@ use coding::{Fault, FaultName};
 use std::alloc::{AllocError, Global};
 use std::marker::{Brand, Model};
 
-// The place of the fault word: after the 64 claim words.
-const FAULT: usize = 64;
+// The place of the fault word: after the claim words, one for each seat that there may be.
+const FAULT: usize = MAX_WORKERS as usize;
 
 // What the fault word holds while no job has failed.
 const NO_FAULT: u64 = u64::MAX;
@@ -74,7 +75,7 @@ impl Board {
         ensures unused { IfOk result (λ made. made.1.items ≡ unused_seats made.0 seats) }
         ensures boards { IfOk result (λ made. All (λ p. p.board ≡ made.0) made.1.items) }
     {
-        if seats == 0 || seats > 64 {
+        if seats == 0 || seats > MAX_WORKERS {
             return Err(Fault::of(FaultName::Workers));
         }
         match Board::of(alloc, Extent { jobs, seats }) {

@@ -29,6 +29,7 @@
 mod gathered;
 mod job;
 mod labour;
+mod limits;
 mod places;
 mod pool;
 mod rule;
@@ -41,6 +42,7 @@ mod worker;
 
 pub use job::Job;
 pub use labour::{Gate, Labour, Open};
+pub use limits::{MAX_JOBS, MAX_WORKERS};
 pub use pool::{RunFault, run};
 pub use seat::Seat;
 pub use tally::Tally;

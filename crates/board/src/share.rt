@@ -5,6 +5,8 @@ ghost use Rattle.board.specs.Shares.{start};
 ghost use Rattle.board.specs.Words.{word_of};
 ghost use Rattle.board.specs.Seats.{IsShare};
 
+use crate::limits::MAX_WORKERS;
+
 // What a claim needs. It is computed once for each share that a seat comes to.
 #[derive(Clone, Copy)]
 pub struct Share {
@@ -37,7 +39,7 @@ fn word_of(seats: u64, share: u64) -> u64
     ensures value { result ≡ word_of seats share }
     ensures within { result < 64 }
 {
-    share * (64 / seats)
+    share * (MAX_WORKERS / seats)
 }
 
 // The first job of a share. For `share` = `seats`, after the last one, it is `jobs`.

@@ -5,15 +5,15 @@ ghost use Rattle.coding.specs.Answers.{EqualOrMemory};
 ghost use Rattle.checks.specs.TableReadings.{tables_reading};
 
 use crate::table_check::check_round;
-use board::Gate;
+use board::{Gate, MAX_JOBS};
 use coding::Fault;
 use ikey::SharedComparator;
 use reads::NumberedTable;
 use std::alloc::Global;
 use std::thread::Threads;
 
-/// The most jobs of a board, 2^40.
-pub(crate) const MOST_JOBS: usize = 1_099_511_627_776;
+/// The most tables of a round: a board's jobs.
+pub(crate) const MAX_TABLES: usize = MAX_JOBS as usize;
 
 /// Checks the tables of these numbers and bytes by 1 to 64 workers, a table a job, and answers them
 /// in order.
@@ -35,7 +35,7 @@ pub fn check_tables<'t, C: SharedComparator, G: Gate + Sync, R: Threads + Sync>(
     let mut tables = Vec::new(alloc);
     let mut rest = loaded;
     while !rest.is_empty() {
-        let (round, behind) = rest.split_at(rest.len().min(MOST_JOBS));
+        let (round, behind) = rest.split_at(rest.len().min(MAX_TABLES));
         let mut checked = check_round::<C, G, R>(rt, alloc, round, workers, gate)?;
         tables.append(&mut checked)?;
         rest = behind;

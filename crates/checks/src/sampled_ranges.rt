@@ -15,7 +15,7 @@ use table::SoundTable;
 const BOUNDARIES: usize = 64;
 
 /// The most tables of which boundaries are taken.
-const MOST_TABLES: usize = 1024;
+const MAX_SAMPLED: usize = 1024;
 
 /// A split of the tables' user keys into ranges of about one size. The only fault is Memory.
 pub(crate) fn sampled_split<C: Comparator>(
@@ -40,7 +40,7 @@ fn sampled_keys<C: Comparator>(
     ensures memory { IfErr result (λ e. e ≡ fault Memory) }
 {
     let wanted = (BOUNDARIES / tables.len().max(1)).max(1);
-    let stride = tables.len() / MOST_TABLES + 1;
+    let stride = tables.len() / MAX_SAMPLED + 1;
     let mut keys = Vec::new(alloc);
     for (place, table) in tables.iter().enumerate() {
         if place % stride == 0 {

@@ -14,7 +14,7 @@ use std::alloc::Global;
 use table::{SoundTable, Tally};
 
 /// The most tables that are compared with one. If there are more, that one is walked.
-const MOST_COMPARED: usize = 2048;
+const MAX_COMPARED: usize = 2048;
 
 /// The law of bounds: why a table that they tell apart from all others needs no walk. A call does
 /// nothing.
@@ -80,7 +80,7 @@ fn are_newer<C: Comparator>(others: &[&SoundTable<'_, C>], table: &SoundTable<'_
         Contains (map (λ t. t.now.entries) others.now) entries →
         AreNewer entries table.now.entries }
 {
-    if others.len() > MOST_COMPARED {
+    if others.len() > MAX_COMPARED {
         return false;
     }
     for other in others {
@@ -97,7 +97,7 @@ fn is_newer<C: Comparator>(table: &SoundTable<'_, C>, others: &[&SoundTable<'_, 
         Contains (map (λ t. t.now.entries) others.now) entries →
         AreNewer table.now.entries entries }
 {
-    if others.len() > MOST_COMPARED {
+    if others.len() > MAX_COMPARED {
         return false;
     }
     for other in others {

@@ -13,7 +13,7 @@ use crate::file_groups::group_split;
 use crate::first_refusal::check_in_order;
 use crate::held_tables::HeldTables;
 use crate::range_test::test_ranges;
-use crate::rounds::MOST_JOBS;
+use crate::rounds::MAX_TABLES;
 use crate::tested::Tested;
 use crate::tested_version::TestedVersion;
 use crate::watch::{Watch, Work};
@@ -146,7 +146,7 @@ fn tested_entries<C: SharedComparator + 'static, F: ReadsTables, G: Gate + Sync,
     let Some(standing) = standing_files::<C>(alloc, version)? else {
         return Ok(None);
     };
-    if standing.len() > MOST_JOBS {
+    if standing.len() > MAX_TABLES {
         return Err(Fault::of(FaultName::Memory));
     }
     let split = group_split::<C>(alloc, &standing, memory)?;

@@ -10,7 +10,7 @@ ghost use Rattle.table.specs.TableContents.{contents_reading};
 ghost use Rattle.checks.specs.HeldTables.{IsToldTable};
 
 use crate::held_table::HeldTable;
-use crate::rounds::MOST_JOBS;
+use crate::rounds::MAX_TABLES;
 use board::{Gate, Labour, run};
 use coding::{Fault, FaultName};
 use folder::{ReadsTables, TableReader};
@@ -101,7 +101,7 @@ fn tables_of<C: SharedComparator, D: TableReader, G: Gate + Sync, R: Threads + S
     ensures { IfSome result
         (λ v. AllZip (IsToldTable C.cmp (D.tells reader.now)) v.items numbers.now) }
 {
-    if numbers.len() > MOST_JOBS {
+    if numbers.len() > MAX_TABLES {
         return None;
     }
     let jobs = numbers.len() as u64;

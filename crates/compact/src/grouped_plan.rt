@@ -16,7 +16,7 @@ use std::marker::Model;
 
 /// The most tables of a group. Why so few: a folder may keep the files of a group open until it
 /// syncs them.
-pub const MOST_TABLES: usize = 64;
+pub const MAX_TABLES: usize = 64;
 
 /// The planned outputs of a compaction in groups, and the bytes of its edit. Contracts see the
 /// tables of each group.

@@ -24,8 +24,7 @@ mod table_encoder;
 mod workers;
 
 pub use compaction::{compact, compact_tables, merge_request};
-pub use grouped_plan::{MOST_TABLES, Planned};
+pub use grouped_plan::{MAX_TABLES, Planned};
 pub use inputs::{check_inputs, matches_metadata};
 pub use merged_request::Merged;
 pub use ranges::merge_ranges;
-pub use workers::MAX_WORKERS;

@@ -10,10 +10,10 @@ ghost use Rattle.cut.specs.Outputs.{outputs_of};
 ghost use Rattle.cut.specs.Plan.{plan_of};
 ghost use Rattle.compact.specs.Answered.{answer_in};
 ghost use Rattle.compact.specs.Grouped.{joined_answer};
-ghost use Rattle.compact.specs.declared.grouped_plan.TheConstants.{MOST_TABLES};
+ghost use Rattle.compact.specs.declared.grouped_plan.TheConstants.{MAX_TABLES};
 
 use crate::edit_bytes::edit_bytes;
-use crate::grouped_plan::{MOST_TABLES, Planned};
+use crate::grouped_plan::{MAX_TABLES, Planned};
 use crate::output_writer::write_plan;
 use board::Gate;
 use coding::Fault;
@@ -51,7 +51,7 @@ impl<'q, 't, C: Comparator> Model for Merged<'q, 't, C> {
 }
 
 impl<'q, 't, C: SharedComparator> Merged<'q, 't, C> {
-    /// Plans the outputs, deals them out in groups of `MOST_TABLES`, and makes the edit. No table
+    /// Plans the outputs, deals them out in groups of `MAX_TABLES`, and makes the edit. No table
     /// is encoded yet, and the runs are read until all are. The lengths of the tables are computed
     /// by workers, as many as the request was merged by.
     ///
@@ -64,12 +64,12 @@ impl<'q, 't, C: SharedComparator> Merged<'q, 't, C> {
     ) -> Result<Planned<'m, 't, C>, Fault>
         ensures answer { EqualOrMemory joined_answer result self.now }
         ensures groups { IfOk result (λ p.
-            p.groups ≡ groups_of MOST_TABLES (joined_answer p).tables) }
+            p.groups ≡ groups_of MAX_TABLES (joined_answer p).tables) }
     {
         let request = self.request;
         let plan = planned_outputs::<C, R>(rt, alloc, request, &self.runs, self.workers)?;
         let edit = edit_bytes(alloc, request, &plan)?;
-        let groups = plan.groups(alloc, MOST_TABLES)?;
+        let groups = plan.groups(alloc, MAX_TABLES)?;
         Ok(Planned {
             groups,
             edit,

@@ -4,10 +4,8 @@ ghost use Rattle.std.specs.Prelude.{◌≡◌, nat_le, ◌&&◌};
 ghost use Rattle.coding.specs.declared.fault.FaultName.TheVariants.{Workers};
 ghost use Rattle.table.specs.ReadingSteps.{test_result};
 
+use board::MAX_WORKERS;
 use coding::{Fault, FaultName};
-
-/// The most workers of a compaction.
-pub const MAX_WORKERS: u64 = 64;
 
 /// `Workers` if `workers` is outside 1 to 64. It takes no memory.
 pub(crate) fn check_workers(workers: u64) -> Result<(), Fault>

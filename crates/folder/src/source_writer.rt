@@ -9,16 +9,10 @@ ghost use Rattle.folder.specs.TableFiles.{named_tables};
 use crate::folder::FolderFault;
 use crate::table_source::{SourceTables, TableSource};
 use crate::writes_tables::{TableMaker, WritesTables};
-use board::{Gate, Labour, run};
+use board::{Gate, Labour, MAX_JOBS, MAX_WORKERS, run};
 use coding::Fault;
 use std::alloc::Global;
 use std::thread::Threads;
-
-/// The most workers of a run.
-const MOST_WORKERS: u64 = 64;
-
-/// The most jobs of a run, 2^40.
-const MOST_JOBS: u64 = 1 << 40;
 
 /// The tables of a source, each a job.
 #[derive(Drop)]
@@ -85,7 +79,7 @@ fn made_by<M: TableMaker, S: TableSource, G: Gate + Sync, R: Threads + Sync>(
     ensures { IfSome result (λ made. AllZip M.is_of made.items (S.tables source.now)) }
 {
     let jobs = source.len() as u64;
-    if jobs > MOST_JOBS {
+    if jobs > MAX_JOBS {
         return None;
     }
     let making = TablesToMake {
@@ -99,7 +93,7 @@ fn made_by<M: TableMaker, S: TableSource, G: Gate + Sync, R: Threads + Sync>(
         alloc,
         &making,
         jobs,
-        workers.clamp(1, MOST_WORKERS),
+        workers.clamp(1, MAX_WORKERS),
         gate,
     )
     .ok()

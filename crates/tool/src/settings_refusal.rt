@@ -1,8 +1,8 @@
 //! What is told if a compaction is refused for what was asked for.
 
 use crate::refusal::RefusalText;
+use board::MAX_WORKERS;
 use coding::FaultName;
-use compact::MAX_WORKERS;
 use ikey::MAX_SEQUENCE;
 use keep::Snapshots;
 use request::MAX_SNAPSHOTS;

@@ -5,7 +5,7 @@ use crate::compact_tests::rows::{Row, Run, SIXTY_SIX, WHOLE, WRITTEN};
 use crate::compact_tests::tests::{answer_of, asked, is_answer, picked, split_of};
 use board::Open;
 use coding::Fault;
-use compact::{MOST_TABLES, Planned, check_inputs, merge_request};
+use compact::{MAX_TABLES, Planned, check_inputs, merge_request};
 use cut::Plan;
 use edit::Outcome;
 use ikey::Bytewise;
@@ -144,6 +144,6 @@ fn tables_made_in_groups(rt: HostRuntime) -> Result<(), Fault> {
         assert!(rt; has_groups(&rt, row)?, "{}", row.name);
     }
     assert!(rt; has_groups(&rt, SIXTY_SIX)?, "{}", SIXTY_SIX.name);
-    assert_eq!(rt; MOST_TABLES, 64);
+    assert_eq!(rt; MAX_TABLES, 64);
     Ok(())
 }

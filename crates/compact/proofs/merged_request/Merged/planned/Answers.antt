@@ -6,7 +6,7 @@ use Rattle.cut.specs.OutputPlan.{PlanSeen}
 use Rattle.cut.specs.Outputs.{outputs_of}
 use Rattle.cut.specs.Plan.{plan_of}
 use Rattle.request.specs.Request.{RequestView, request_in}
-use Rattle.compact.specs.declared.grouped_plan.TheConstants.{MOST_TABLES}
+use Rattle.compact.specs.declared.grouped_plan.TheConstants.{MAX_TABLES}
 use Rattle.compact.proofs.GroupedAnswers.{groups_dealt, groups_joined}
 use Rattle.compact.proofs.merged_request.Merged.planned.Goals as goal
 
@@ -20,7 +20,7 @@ returns-clause-answer g c =
     let is : plan_of (table cmp short_keys r.options) r.options r.first_number (outputs_of r.picked.grandparents r.options (joined_run runs)) ≡ Ok p.outputs =
     subst (λ (rs : List Run). plan_of (table cmp short_keys r.options) r.options r.first_number (outputs_of r.picked.grandparents r.options (joined_run rs)) ≡ Ok p.outputs) c.deref.ensures.value c.in_ok-plan.ensures.outputs in
     sym c.self.view_is
-    ∙ groups_joined cmp short_keys r runs p c.in_ok-plan.ensures.options is MOST_TABLES c.in_ok-groups.groups.items c.in_ok-edit.edit.items (same_ok _ _ c.in_ok-groups.ensures) (same_ok _ _ c.in_ok-edit.ensures)
+    ∙ groups_joined cmp short_keys r runs p c.in_ok-plan.ensures.options is MAX_TABLES c.in_ok-groups.groups.items c.in_ok-edit.edit.items (same_ok _ _ c.in_ok-groups.ensures) (same_ok _ _ c.in_ok-edit.ensures)
 
 pub returns-clause-groups : goal.returns-clause-groups
 returns-clause-groups g c =
@@ -31,4 +31,4 @@ returns-clause-groups g c =
     let p : PlanSeen = c.in_ok-plan.plan in
     let is : plan_of (table cmp short_keys r.options) r.options r.first_number (outputs_of r.picked.grandparents r.options (joined_run runs)) ≡ Ok p.outputs =
     subst (λ (rs : List Run). plan_of (table cmp short_keys r.options) r.options r.first_number (outputs_of r.picked.grandparents r.options (joined_run rs)) ≡ Ok p.outputs) c.deref.ensures.value c.in_ok-plan.ensures.outputs in
-    groups_dealt cmp short_keys r runs p c.in_ok-plan.ensures.options is MOST_TABLES c.in_ok-groups.groups.items c.in_ok-edit.edit.items (same_ok _ _ c.in_ok-groups.ensures) (same_ok _ _ c.in_ok-edit.ensures)
+    groups_dealt cmp short_keys r runs p c.in_ok-plan.ensures.options is MAX_TABLES c.in_ok-groups.groups.items c.in_ok-edit.edit.items (same_ok _ _ c.in_ok-groups.ensures) (same_ok _ _ c.in_ok-edit.ensures)

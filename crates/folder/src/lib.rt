@@ -80,6 +80,7 @@ pub use order::Order;
 pub use shelf::{Failing, Shelf, ShelfMaker};
 pub use shelf_step::{ShelfCall, ShelfStep};
 pub use source_writer::write_source;
+pub use system::MAX_FILE_LEN;
 pub use system_files::{MakesFiles, OwnedFiles, SystemFiles};
 pub use table_loader::{file_numbers, load, load_numbers};
 pub use table_reader::{DiskReader, NoReader, ReadsTables, TableReader};

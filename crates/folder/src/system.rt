@@ -14,8 +14,8 @@ use std::io::{ErrorKind, Read, Seek, SeekFrom};
 use std::rt::Files;
 use std::{fs, io};
 
-/// The most bytes that a file may have to be read: 2^30.
-pub(crate) const MOST_BYTES: u64 = 1 << 30;
+/// The most bytes of a file that is read: 2^30.
+pub const MAX_FILE_LEN: u64 = 1 << 30;
 
 /// The bytes of a file. None if no file has this `name`.
 pub(crate) fn read_in<R: Files>(
@@ -61,7 +61,7 @@ fn part<R: Files>(rt: &R, alloc: Global, path: &str, offset: u64, len: usize) ->
     regular(rt, path)?;
     let mut file = File::open(rt, path)?;
     let length = file.metadata()?.len();
-    if length > MOST_BYTES {
+    if length > MAX_FILE_LEN {
         return Err(ErrorKind::FileTooLarge.into());
     }
     let start = offset.min(length);

@@ -1,7 +1,7 @@
 //! The sizes of a version's tables, before they are read.
 
 use crate::names::{old_table_name, table_name};
-use crate::system::{MOST_BYTES, length_in};
+use crate::system::{MAX_FILE_LEN, length_in};
 use coding::{Fault, FaultName};
 use std::alloc::Global;
 use std::rt::Files;
@@ -53,7 +53,7 @@ fn size_in<R: Files>(rt: &R, alloc: Global, folder: &str, number: u64) -> Result
 fn size_of<R: Files>(rt: &R, alloc: Global, folder: &str, name: &str) -> Size {
     match length_in(rt, alloc, folder, name) {
         Ok(None) => Size::Missing,
-        Ok(Some(length)) if length > MOST_BYTES => Size::TooLarge,
+        Ok(Some(length)) if length > MAX_FILE_LEN => Size::TooLarge,
         Ok(Some(_)) => Size::Readable,
         Err(_) => Size::Unknown,
     }

@@ -1,7 +1,7 @@
 //! Files of the system, read whole or synced by several threads.
 
 use crate::pending_files::Due;
-use crate::system::MOST_BYTES;
+use crate::system::MAX_FILE_LEN;
 use crate::system_files::regular;
 use std::alloc::{AllocError, Global};
 use std::fs::{File, OpenFile};
@@ -43,13 +43,13 @@ pub(crate) fn whole<R: Files>(rt: &R, alloc: Global, path: &str) -> io::Result<V
     regular(rt, path)?;
     let file = File::open(rt, path)?;
     let length = file.metadata()?.len();
-    if length > MOST_BYTES {
+    if length > MAX_FILE_LEN {
         return Err(ErrorKind::FileTooLarge.into());
     }
     let mut bytes = Vec::with_capacity(alloc, (length as usize).saturating_add(1))?;
     // A file that grows meanwhile is read no further.
-    file.take(MOST_BYTES + 1).read_to_end(&mut bytes)?;
-    if bytes.len() as u64 > MOST_BYTES {
+    file.take(MAX_FILE_LEN + 1).read_to_end(&mut bytes)?;
+    if bytes.len() as u64 > MAX_FILE_LEN {
         return Err(ErrorKind::FileTooLarge.into());
     }
     Ok(bytes)

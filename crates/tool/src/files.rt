@@ -1,8 +1,8 @@
 //! Whole files, read and replaced.
 
 use crate::refusal::Refusal;
-use crate::table_sizes::MOST_BYTES;
 use coding::{Fault, FaultName};
+use folder::MAX_FILE_LEN;
 use std::fs::{File, OpenFile, OpenOptions, Permissions};
 use std::io::{ErrorKind, Read, Write};
 use std::rt::Files;
@@ -26,13 +26,13 @@ fn bytes_at<R: Files + AllocGlobal>(rt: &R, path: &str) -> io::Result<Vec<u8>> {
     let found = file.metadata()?;
     let mut bytes = Vec::new(rt.alloc());
     if found.is_file() {
-        if found.len() > MOST_BYTES {
+        if found.len() > MAX_FILE_LEN {
             return Err(ErrorKind::FileTooLarge.into());
         }
         bytes = Vec::with_capacity(rt.alloc(), (found.len() as usize).saturating_add(1))?;
     }
-    file.take(MOST_BYTES + 1).read_to_end(&mut bytes)?;
-    if bytes.len() as u64 > MOST_BYTES {
+    file.take(MAX_FILE_LEN + 1).read_to_end(&mut bytes)?;
+    if bytes.len() as u64 > MAX_FILE_LEN {
         return Err(ErrorKind::FileTooLarge.into());
     }
     Ok(bytes)

@@ -5,15 +5,15 @@ use crate::explanations::{Words, of_file};
 use crate::folder_refusal::path_in;
 use crate::refusal::{Refusal, RefusalText, told};
 use coding::{Fault, FaultName};
-use edit::FileMeta;
-use folder::{CURRENT, Disk, Failure, FolderCall, Opened, SystemFiles, old_table_name, table_name};
+use edit::{FileMeta, LEVELS};
+use folder::{
+    CURRENT, Disk, Failure, FolderCall, MAX_FILE_LEN, Opened, SystemFiles, old_table_name,
+    table_name,
+};
 use ikey::Bytewise;
 use std::alloc::Global;
 use std::fs;
 use std::io::ErrorKind;
-
-/// The most bytes of a file that is read: 2^30.
-pub(crate) const MOST_BYTES: u64 = 1 << 30;
 
 /// Tests whether each table of a version is there and has at most 2^30 bytes. Missing if one is
 /// missing; else TooLarge if one is too large. None is read.
@@ -48,7 +48,7 @@ fn large_told<R: SystemFiles + AllocGlobal>(
     path: &str,
     opened: &Opened,
 ) -> Option<RefusalText> {
-    for level in 0..7 {
+    for level in 0..LEVELS {
         let files = opened.version.files::<Bytewise>(rt.alloc(), level).ok()?;
         let told = large_among(rt, path, &files);
         if told.is_some() {
@@ -92,7 +92,7 @@ fn told_if_large<R: SystemFiles + AllocGlobal>(
 ) -> Option<RefusalText> {
     let path = path_in(rt.alloc(), folder, name)?;
     match fs::metadata(rt, path.as_str()) {
-        Ok(metadata) if metadata.len() > MOST_BYTES => {
+        Ok(metadata) if metadata.len() > MAX_FILE_LEN => {
             told(rt.alloc(), path.as_str(), of_file(FaultName::Size))
         }
         _ => None,

@@ -11,6 +11,8 @@ use Rattle.coding.specs.declared.fault.FaultName.TheVariants.{Apply, Numbers}
 use Rattle.ikey.specs.Comparator.{KeyOrder}
 use Rattle.table.specs.ReadingSteps.{test_result}
 use Rattle.table.specs.TableContents.{Contents}
+use Rattle.table.specs.declared.options.TheConstants.{DEFAULT_BLOCK_SIZE, DEFAULT_FILE_SIZE}
+use Rattle.table.specs.declared.options.TheConstants.{DEFAULT_RESTART_INTERVAL}
 use Rattle.edit.specs.Edit.{Edit, IsEdit, edit_bytes}
 use Rattle.edit.specs.Version.{IsState, State, applied}
 use Rattle.edit.specs.declared.meta.NewFile.{NewFile}
@@ -128,7 +130,11 @@ compared_request p snapshots last inputs = record {
   log_number = 0;
   previous_log = 0;
   last_sequence = last;
-  options = record { block_size = 4096; restart_interval = 16; file_size = 2097152 };
+  options = record {
+    block_size = DEFAULT_BLOCK_SIZE;
+    restart_interval = DEFAULT_RESTART_INTERVAL;
+    file_size = DEFAULT_FILE_SIZE;
+  };
 }
 
 -- The answer of a comparison with the inputs' tables. The first refusal counts: of what is asked;

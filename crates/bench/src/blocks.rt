@@ -10,11 +10,10 @@ use block::{BlockBuilder, BlockCursor, SoundBlock, check};
 use coding::Fault;
 use std::alloc::Global;
 use std::mem;
+use table::{DEFAULT_BLOCK_SIZE, DEFAULT_RESTART_INTERVAL};
 
 /// The length from which a block gets no further entry.
-const BLOCK_LEN: usize = 4096;
-/// The restart interval.
-const INTERVAL: u64 = 16;
+const BLOCK_LEN: usize = DEFAULT_BLOCK_SIZE as usize;
 
 /// Takes the figures of blocks whose entries have these values.
 pub fn measure(
@@ -46,7 +45,7 @@ fn take(
 /// Blocks of entries with rising keys and these values.
 fn written(alloc: Global, values: &[[u8; VALUE_LEN]]) -> Result<Vec<Vec<u8>>, Fault> {
     let mut blocks = Vec::new(alloc);
-    let mut builder = BlockBuilder::new(alloc, INTERVAL);
+    let mut builder = BlockBuilder::new(alloc, DEFAULT_RESTART_INTERVAL);
     for (i, value) in values.iter().enumerate() {
         put(alloc, &mut blocks, &mut builder, i, value)?;
     }
@@ -72,7 +71,7 @@ fn put(
 fn taken(alloc: Global, builder: &mut BlockBuilder) -> Result<Vec<u8>, Fault>
     ensures { length (block builder.new.interval builder.new.entries) ≡ 8 }
 {
-    mem::replace(builder, BlockBuilder::new(alloc, INTERVAL)).finish()
+    mem::replace(builder, BlockBuilder::new(alloc, DEFAULT_RESTART_INTERVAL)).finish()
 }
 
 /// Appends the entry of this `number` to a block that is not full.

@@ -13,13 +13,10 @@ use merge::Merging;
 use std::alloc::Global;
 use std::mem;
 use std::thread::Threads;
-use table::{Cursor, SoundTable, TableBuilder, TableCursor};
+use table::{Cursor, DEFAULT_FILE_SIZE, SoundTable, TableBuilder, TableCursor};
 
 /// The most keys that are sought.
 const SEEKS: usize = 10_000;
-
-/// The size at which a file ends: 2 MiB.
-const FILE_LEN: u64 = 2 << 20;
 
 /// What is timed over checked tables, to which entries are dealt out.
 #[derive(Clone, Copy)]
@@ -131,7 +128,7 @@ pub fn written(alloc: Global, values: &[[u8; VALUE_LEN]]) -> Result<Vec<u8>, Fau
 /// bytes, modulo 2^32.
 pub fn write_files(alloc: Global, values: &[[u8; VALUE_LEN]]) -> Result<u32, Fault> {
     let mut folded = 0u32;
-    let mut builder = begun(alloc, FILE_LEN)?;
+    let mut builder = begun(alloc, DEFAULT_FILE_SIZE)?;
     for (i, value) in values.iter().enumerate() {
         folded = folded.wrapping_add(put(alloc, &mut builder, i, value)?);
     }
@@ -147,8 +144,8 @@ fn put(
     value: &[u8; VALUE_LEN],
 ) -> Result<u32, Fault> {
     let mut folded = 0;
-    if builder.flushed() >= FILE_LEN {
-        let next = begun(alloc, FILE_LEN)?;
+    if builder.flushed() >= DEFAULT_FILE_SIZE {
+        let next = begun(alloc, DEFAULT_FILE_SIZE)?;
         folded = last_of(&mem::replace(builder, next).finish()?);
     }
     add(builder, number, value)?;

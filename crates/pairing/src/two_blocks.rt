@@ -20,10 +20,10 @@ use board::{Open, run};
 use coding::{Fault, FaultName};
 use std::alloc::Global;
 use std::thread::Threads;
-use table::MAX_TABLE_LEN;
+use table::{DEFAULT_RESTART_INTERVAL, MAX_TABLE_LEN};
 
 /// The restart interval of the block that is written.
-pub const INTERVAL: u64 = 16;
+pub const INTERVAL: u64 = DEFAULT_RESTART_INTERVAL;
 
 /// The number of ranges of user keys, and of workers.
 const RANGES: u64 = 2;

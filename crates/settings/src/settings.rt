@@ -19,10 +19,16 @@ pub struct Settings<'s> {
 
 impl<'s> Default for Settings<'s> {
     ghost use Rattle.std.specs.Prelude.{◌≡◌};
+    ghost use Rattle.table.specs.declared.options.TheConstants.{DEFAULT_BLOCK_SIZE};
+    ghost use Rattle.table.specs.declared.options.TheConstants.{DEFAULT_FILE_SIZE};
+    ghost use Rattle.table.specs.declared.options.TheConstants.{DEFAULT_RESTART_INTERVAL};
 
     ghost is_default = { λ s. (s.workers ≡ 4) × (s.ranges ≡ 8)
-        × (s.options
-        ≡ record { block_size = 4096; restart_interval = 16; file_size = 2097152 }) };
+        × (s.options ≡ record {
+          block_size = DEFAULT_BLOCK_SIZE;
+          restart_interval = DEFAULT_RESTART_INTERVAL;
+          file_size = DEFAULT_FILE_SIZE;
+        }) };
 
     /// Four workers, eight ranges, an empty list of snapshots, and the defaults of the options.
     fn default() -> Self {

@@ -36,7 +36,9 @@ pub use builder::TableBuilder;
 pub use cursor::{Cursor, Entries};
 pub use key_list::KeyList;
 pub use layout::{push_closing, push_index_entry, push_stored};
-pub use options::{MAX_BLOCK_SIZE, Options};
+pub use options::{
+    DEFAULT_BLOCK_SIZE, DEFAULT_FILE_SIZE, DEFAULT_RESTART_INTERVAL, MAX_BLOCK_SIZE, Options,
+};
 pub use owned_table::OwnedTable;
 pub use sound_table::SoundTable;
 pub use table_check::{MAX_TABLE_LEN, MAX_VALUE_LEN, check, reads_tables};

@@ -8,6 +8,15 @@ use block::MAX_RESTART_INTERVAL;
 /// The greatest block size, in bytes.
 pub const MAX_BLOCK_SIZE: u64 = 4_194_304;
 
+/// The default block size, in bytes.
+pub const DEFAULT_BLOCK_SIZE: u64 = 4_096;
+
+/// The default restart interval, in entries.
+pub const DEFAULT_RESTART_INTERVAL: u64 = 16;
+
+/// The default file size, in bytes.
+pub const DEFAULT_FILE_SIZE: u64 = 2_097_152;
+
 /// The options of a writer of tables. Each has its limits.
 #[derive(Clone, Copy, Debug, PartialEq, Eq)]
 pub struct Options {
@@ -36,15 +45,22 @@ impl Options {
 }
 
 impl Default for Options {
-    ghost is_default = { λ o. o
-        ≡ record { block_size = 4096; restart_interval = 16; file_size = 2097152 } };
+    ghost use Rattle.table.specs.declared.options.TheConstants.{DEFAULT_BLOCK_SIZE};
+    ghost use Rattle.table.specs.declared.options.TheConstants.{DEFAULT_FILE_SIZE};
+    ghost use Rattle.table.specs.declared.options.TheConstants.{DEFAULT_RESTART_INTERVAL};
+
+    ghost is_default = { λ o. o ≡ record {
+      block_size = DEFAULT_BLOCK_SIZE;
+      restart_interval = DEFAULT_RESTART_INTERVAL;
+      file_size = DEFAULT_FILE_SIZE;
+    } };
 
     /// Blocks of 4,096 bytes, a restart for each 16 entries, and files of 2,097,152 bytes.
     fn default() -> Self {
         Options {
-            block_size: 4_096,
-            restart_interval: 16,
-            file_size: 2_097_152,
+            block_size: DEFAULT_BLOCK_SIZE,
+            restart_interval: DEFAULT_RESTART_INTERVAL,
+            file_size: DEFAULT_FILE_SIZE,
         }
     }
 }

@@ -11,6 +11,8 @@ use Rattle.usage.specs.declared.requests.Levels.{Levels}
 use Rattle.usage.specs.declared.requests.Levels.TheVariants.{One, All as AllLevels}
 use Rattle.keep.specs.declared.snapshots.Snapshots.{Snapshots}
 use Rattle.keep.specs.declared.snapshots.Snapshots.TheVariants.{From, Listed}
+use Rattle.table.specs.declared.options.TheConstants.{DEFAULT_BLOCK_SIZE, DEFAULT_FILE_SIZE}
+use Rattle.table.specs.declared.options.TheConstants.{DEFAULT_RESTART_INTERVAL}
 use Rattle.settings.specs.declared.settings.Settings.{Settings}
 use Rattle.usage.specs.declared.requests.CompactOptions.{CompactOptions}
 use Rattle.usage.specs.declared.requests.CompactWork.{CompactWork}
@@ -138,9 +140,8 @@ AreSettings numbers since listed settings = (settings.workers ≡ unwrap_or numb
     × (settings.ranges ≡ unwrap_or numbers.ranges 8)
     × (settings.options
     ≡ record {
-      block_size = unwrap_or numbers.block_size 4096;
-      restart_interval =
-          16;
-      file_size = unwrap_or numbers.file_size 2097152;
+      block_size = unwrap_or numbers.block_size DEFAULT_BLOCK_SIZE;
+      restart_interval = DEFAULT_RESTART_INTERVAL;
+      file_size = unwrap_or numbers.file_size DEFAULT_FILE_SIZE;
     })
     × IsReadable since listed settings.snapshots

@@ -10,6 +10,7 @@ ghost use Rattle.block.specs.BuilderView.{with_entry, last_key};
 ghost use Rattle.block.specs.declared.builder.TheConstants.{MAX_BLOCK_LEN, MAX_RESTART_INTERVAL};
 
 use crate::layout::{next_since, push_fields, push_restarts, shared_len};
+use crate::sound_block::RESTART_LEN;
 use coding::Fault;
 use std::alloc::Global;
 use std::marker::Model;
@@ -19,6 +20,9 @@ pub const MAX_RESTART_INTERVAL: u64 = 1_024;
 
 /// The most bytes of a block that is written, 2^31.
 pub const MAX_BLOCK_LEN: usize = 1 << 31;
+
+/// The bytes of a block without entries: one restart, and the count of restarts.
+pub const EMPTY_BLOCK_LEN: usize = 2 * RESTART_LEN;
 
 /// A block that is being written: its restart interval and its entries so far.
 ///

@@ -28,11 +28,11 @@ mod layout;
 mod read_ahead;
 mod sound_block;
 
-pub use builder::{BlockBuilder, MAX_BLOCK_LEN, MAX_RESTART_INTERVAL};
+pub use builder::{BlockBuilder, EMPTY_BLOCK_LEN, MAX_BLOCK_LEN, MAX_RESTART_INTERVAL};
 pub use checking_cursor::CheckingCursor;
 pub use cursor::BlockCursor;
 pub use layout::{next_since, push_fields, push_restarts, shared_len};
-pub use sound_block::{SoundBlock, check, reopen};
+pub use sound_block::{RESTART_LEN, SoundBlock, check, reopen};
 
 /// The law that the block of a list, at any restart interval and of at most 2^31 bytes, reads as
 /// that list. A call does nothing.

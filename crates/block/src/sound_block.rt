@@ -22,8 +22,8 @@ use byteorder::{ByteOrder, LittleEndian};
 use coding::{Fault, FaultName};
 use std::marker::Model;
 
-/// The length of a restart, and of the count of restarts.
-const RESTART_LEN: usize = 4;
+/// The bytes of a restart, and of the count of restarts.
+pub const RESTART_LEN: usize = 4;
 
 /// A block that was checked: its entries, and the places among them at which its restarts point.
 ///

@@ -4,8 +4,13 @@ ghost use Rattle.std.specs.Prelude.{◌≡◌, ◌≤◌, length};
 ghost use Rattle.coding.specs.Varint.{varint};
 ghost use Rattle.cut.specs.Sizes.{saturated_length, encoded_entry_size};
 
-/// The length of a restart, and of the count of restarts.
-pub(crate) const RESTART_LEN: u64 = 4;
+use block::EMPTY_BLOCK_LEN;
+
+/// The bytes of a restart, and of the count of restarts.
+pub(crate) const RESTART_LEN: u64 = block::RESTART_LEN as u64;
+
+/// The bytes of a block without entries.
+pub(crate) const EMPTY_LEN: u64 = EMPTY_BLOCK_LEN as u64;
 
 /// The length of a number as a varint: 1 to 10 bytes.
 pub(crate) fn varint_len(number: u64) -> u64

@@ -10,16 +10,13 @@ ghost use Rattle.cut.specs.Sizes.{saturated_length};
 ghost use Rattle.cut.specs.Metered.{block_after_entries, last_entry_key, added_size};
 ghost use Rattle.block.specs.declared.builder.TheConstants.{MAX_RESTART_INTERVAL};
 
-use crate::lengths::{RESTART_LEN, encoded_entry_len};
+use crate::lengths::{EMPTY_LEN, RESTART_LEN, encoded_entry_len};
 use block::next_since;
 use encoding::{EntryCursor, EntrySpan, EntryWalk, PlannedBlock};
 use ikey::InternalKey;
 use std::marker::Model;
 use std::mem;
 use table::Options;
-
-/// The length of a block without entries: one restart, and the count.
-const EMPTY_LEN: u64 = 8;
 
 /// An open data block: its restart interval, its entries, and the entries still to come.
 #[derive(Drop)]

@@ -37,10 +37,10 @@ use table::{MAX_TABLE_LEN, Options};
 pub const MAX_BLOCKS: u64 = 1 << 40;
 
 /// If all outputs together have fewer data blocks than this, each block is a piece.
-const FEW_BLOCKS: u64 = 64;
+pub const FEW_BLOCKS: u64 = 64;
 
 /// Else a piece ends with the block at which its bytes reach this many.
-const PIECE_LEN: u64 = 1 << 22;
+pub const PIECE_LEN: u64 = 1 << 22;
 
 /// The plan of the outputs of a compaction, of the runs of all its ranges in order. It doesn't
 /// depend on how the entries were dealt out to ranges, nor on `workers`. These threads compute the

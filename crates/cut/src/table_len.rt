@@ -17,17 +17,17 @@ ghost use Rattle.cut.specs.Sizes.{saturated_length};
 ghost use Rattle.cut.specs.TableLength.{planned_index_entries, planned_index_key, lens_of};
 ghost use Rattle.cut.specs.TableLength.{table_size};
 
-use crate::lengths::{RESTART_LEN, encoded_entry_len, varint_len};
+use crate::lengths::{EMPTY_LEN, RESTART_LEN, encoded_entry_len, varint_len};
 use coding::Fault;
 use encoding::PlannedBlock;
-use frame::TRAILER_LEN;
+use frame::{FOOTER_LEN, TRAILER_LEN};
 use ikey::{Comparator, KeyBuf, internal_separator, internal_successor};
 use std::alloc::Global;
 use table::MAX_TABLE_LEN;
 
 /// What a table has beside its data blocks and the contents of its index: the metaindex, its
 /// trailer, the trailer of the index, and the footer.
-const CLOSING_LEN: u64 = 66;
+pub const CLOSING_LEN: u64 = EMPTY_LEN + 2 * TRAILER_LEN as u64 + FOOTER_LEN as u64;
 
 /// The length of data blocks with their trailers; 2^64 - 1 if it is more.
 pub(crate) fn stored_len(blocks: &[PlannedBlock<'_, '_>]) -> u64

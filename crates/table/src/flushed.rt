@@ -13,7 +13,7 @@ ghost use Rattle.table.specs.declared.table_check.TheConstants.{MAX_TABLE_LEN};
 use crate::flushed_block::FlushedBlock;
 use crate::layout::{push_closing, push_index_entry, push_stored};
 use crate::table_check::MAX_TABLE_LEN;
-use block::BlockBuilder;
+use block::{BlockBuilder, EMPTY_BLOCK_LEN};
 use coding::{Fault, FaultName};
 use frame::{FOOTER_LEN, TRAILER_LEN};
 use ikey::KeyBuf;
@@ -21,9 +21,6 @@ use std::alloc::Global;
 
 /// The greatest number of bytes that are asked for before they are written, 64 MiB.
 const MAX_ROOM: u64 = 1 << 26;
-
-/// The length of the block without entries, as the metaindex is.
-const EMPTY_BLOCK_LEN: usize = 8;
 
 /// Data blocks with their trailers, as they are at the beginning of a table, and what the index has
 /// of them.
@@ -72,6 +69,7 @@ impl Flushed {
     {
         let Flushed { mut bytes, index } = self;
         let index = index_block(alloc, &index)?;
+        // The metaindex has no entries.
         let closing_len = EMPTY_BLOCK_LEN + index.estimate() + 2 * TRAILER_LEN + FOOTER_LEN;
         if bytes.len() + closing_len > MAX_TABLE_LEN {
             return Err(Fault::of(FaultName::TooLarge));

@@ -5,6 +5,7 @@ ghost use Rattle.std.specs.Result.{result_map_both};
 ghost use Rattle.ikey.specs.Key.{IsInternalKey, internal_key_reading, user_of, tag_of, sequence_of};
 ghost use Rattle.ikey.specs.Key.{kind_of};
 ghost use Rattle.ikey.specs.Order.{internal_cmp};
+ghost use Rattle.ikey.specs.declared.key.TheConstants.{TAG_LEN};
 ghost use Rattle.std.specs.Cmp.{IsTotalOrder};
 ghost use Rattle.std.specs.declared.cmp.Ordering.TheVariants.{Equal};
 
@@ -19,6 +20,9 @@ pub const MAX_USER_KEY: usize = 65_535;
 
 /// The greatest sequence, 2^56 - 1.
 pub const MAX_SEQUENCE: u64 = 0xff_ffff_ffff_ffff;
+
+/// The bytes of a tag, which comes after the user key: `sequence * 256 + type`.
+pub const TAG_LEN: usize = 8;
 
 /// The bytes of an internal key: a user key, and then 8 bytes of `sequence * 256 + type`.
 #[derive(Clone, Copy)]
@@ -39,10 +43,10 @@ impl<'a> InternalKey<'a> {
             ≡ internal_key_reading bytes.now }
         ensures accepted { IsOk result ↔ IsInternalKey bytes.now }
     {
-        if bytes.len() < 8 || tag(bytes) % 256 > 1 {
+        if bytes.len() < TAG_LEN || tag(bytes) % 256 > 1 {
             return Err(Fault::of(FaultName::Key));
         }
-        if bytes.len() - 8 > MAX_USER_KEY {
+        if bytes.len() - TAG_LEN > MAX_USER_KEY {
             return Err(Fault::of(FaultName::TooLarge));
         }
         Ok(InternalKey { bytes })
@@ -59,7 +63,7 @@ impl<'a> InternalKey<'a> {
     pub fn user(&self) -> &'a [u8]
         ensures { result.now ≡ user_of self.now.bytes.now }
     {
-        &self.bytes[..self.bytes.len() - 8]
+        &self.bytes[..self.bytes.len() - TAG_LEN]
     }
 
     /// The sequence, below 2^56.
@@ -98,8 +102,8 @@ pub fn order_is_total<C: Comparator>()
 /// The number in the last 8 bytes.
 #[tactic(auto, unfolding(crate::specs::Key::tag_of))]
 fn tag(bytes: &[u8]) -> u64
-    requires { 8 ≤ length bytes.now }
+    requires { TAG_LEN ≤ length bytes.now }
     ensures { result ≡ tag_of bytes.now }
 {
-    LittleEndian::read_u64(&bytes[bytes.len() - 8..])
+    LittleEndian::read_u64(&bytes[bytes.len() - TAG_LEN..])
 }

@@ -6,7 +6,7 @@ ghost use Rattle.coding.specs.Answers.{EqualOrMemory, fault};
 ghost use Rattle.coding.specs.declared.fault.FaultName.TheVariants.{Memory};
 ghost use Rattle.ikey.specs.Key.{internal_key};
 
-use crate::key::InternalKey;
+use crate::key::{InternalKey, TAG_LEN};
 use crate::kind::Kind;
 use coding::Fault;
 use std::alloc::Global;
@@ -49,7 +49,7 @@ impl KeyBuf {
         ensures { EqualOrMemory (λ own. own) result (Ok (internal_key user.now sequence kind)) }
     {
         let tag = sequence * 256 + u64::from(kind.number());
-        let mut bytes = Vec::with_capacity(alloc, user.len() + 8)?;
+        let mut bytes = Vec::with_capacity(alloc, user.len() + TAG_LEN)?;
         bytes.extend_from_slice(user)?;
         bytes.extend_from_slice(&tag.to_le_bytes())?;
         Ok(KeyBuf { bytes })

@@ -26,7 +26,7 @@ mod shortlex;
 
 pub use bytewise::Bytewise;
 pub use comparator::{Comparator, SharedComparator};
-pub use key::{InternalKey, MAX_SEQUENCE, MAX_USER_KEY, order_is_total};
+pub use key::{InternalKey, MAX_SEQUENCE, MAX_USER_KEY, TAG_LEN, order_is_total};
 pub use key_buf::KeyBuf;
 pub use kind::Kind;
 pub use short::{internal_separator, internal_successor};

@@ -8,10 +8,11 @@ ghost use Rattle.std.specs.Str.{bytes_eq};
 ghost use Rattle.coding.specs.Answers.{fault};
 ghost use Rattle.coding.specs.declared.fault.FaultName.TheVariants.{Memory};
 ghost use Rattle.ikey.specs.Key.{user_of, sequence_of};
+ghost use Rattle.ikey.specs.declared.key.TheConstants.{TAG_LEN};
 ghost use Rattle.keep.specs.Versions.{last_version, newer_of};
 
 use coding::Fault;
-use ikey::InternalKey;
+use ikey::{InternalKey, TAG_LEN};
 use std::alloc::Global;
 use std::marker::Model;
 
@@ -63,7 +64,7 @@ impl LastVersion {
     /// last kept key, with which `key` shares `shared` bytes.
     pub fn newer_of(&self, key: InternalKey<'_>, kept: &[u8], shared: usize) -> Option<u64>
         requires shared { shared ≡ common_prefix_len nat_eq kept.now key.bytes.now }
-        requires tagged { self.now.is_kept ≡ true → 8 ≤ length kept.now }
+        requires tagged { self.now.is_kept ≡ true → TAG_LEN ≤ length kept.now }
         ensures { result
             ≡ newer_of (last_version kept.now self.now) (user_of key.entry.bytes.now) }
     {
@@ -123,9 +124,9 @@ impl LastVersion {
 /// Whether two internal keys have one user key, if they share `shared` bytes.
 fn is_same_user(key: InternalKey<'_>, kept: &[u8], shared: usize) -> bool
     requires shared { shared ≡ common_prefix_len nat_eq kept.now key.bytes.now }
-    requires tagged { 8 ≤ length kept.now }
+    requires tagged { TAG_LEN ≤ length kept.now }
     ensures { result ≡ bytes_eq (user_of kept.now) (user_of key.entry.bytes.now) }
 {
     let len = key.bytes().len();
-    kept.len() == len && shared >= len - 8
+    kept.len() == len && shared >= len - TAG_LEN
 }

@@ -8,6 +8,7 @@ ghost use Rattle.std.specs.Option.{option_map};
 ghost use Rattle.coding.specs.Answers.{fault};
 ghost use Rattle.coding.specs.declared.fault.FaultName.TheVariants.{Memory};
 ghost use Rattle.ikey.specs.Key.{IsInternalKey};
+ghost use Rattle.ikey.specs.declared.key.TheConstants.{TAG_LEN};
 ghost use Rattle.keep.specs.Runs.{Run};
 
 use crate::entry_chunks::EntryChunks;
@@ -71,7 +72,7 @@ impl<'a> RangeRun<'a> {
     /// The bytes of the last kept key, an internal key; none if there is no entry. Takes no memory.
     pub(crate) fn last_key(&self) -> &[u8]
         ensures value { result.now ≡ last_key [] self.now.kept }
-        ensures tagged { 0 < length self.now.kept → 8 ≤ length result.now }
+        ensures tagged { 0 < length self.now.kept → TAG_LEN ≤ length result.now }
     {
         let len = self.kept.len();
         if len == 0 {

@@ -25,7 +25,7 @@ content_len bytes = little_number 2 (drop 4 bytes)
 -- and the bytes; its checksum is right.
 unfoldable pub fragment_reading : ℕ → List ℕ → Result FragmentReading Fault
 fragment_reading room bytes =
-    if nat_lt (length bytes) 7 then Err (fault LogShape)
+    if nat_lt (length bytes) HEADER_LEN then Err (fault LogShape)
     else if nat_lt room (content_len bytes) then Err (fault LogShape)
     else if nat_lt (length (drop HEADER_LEN bytes)) (content_len bytes) then Err (fault LogShape)
     else if little_number 4 bytes ==

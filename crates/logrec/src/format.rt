@@ -2,6 +2,7 @@
 
 ghost use Rattle.std.specs.Prelude.{◌≡◌, ◌<◌, length};
 ghost use Rattle.logrec.specs.Log.{block_left, zeros_due, room_at, fragment_type, checksum};
+ghost use Rattle.logrec.specs.declared.format.TheConstants.{HEADER_LEN};
 
 use coding::{crc32c_pair, mask};
 
@@ -12,7 +13,7 @@ pub const BLOCK_LEN: usize = 32_768;
 pub const HEADER_LEN: usize = 7;
 
 /// The most content of a fragment: a block without the header.
-pub const MAX_CONTENT_LEN: usize = 32_761;
+pub const MAX_CONTENT_LEN: usize = BLOCK_LEN - HEADER_LEN;
 
 /// The most zeros that a block can end with: one byte less than a header.
 pub const ZEROS: [u8; 6] = [0; 6];
@@ -20,7 +21,7 @@ pub const ZEROS: [u8; 6] = [0; 6];
 /// How many zeros are due at `offset`, before the next header: 0 to 6.
 pub fn zeros_len(offset: usize) -> usize
     ensures len { result ≡ length (zeros_due offset) }
-    ensures short { result < 7 }
+    ensures short { result < HEADER_LEN }
 {
     let left = block_left(offset);
     if left < HEADER_LEN { left } else { 0 }

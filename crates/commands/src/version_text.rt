@@ -9,7 +9,7 @@ ghost use Rattle.commands.specs.Lines.{comparator_line, file_line, file_lines, h
 ghost use Rattle.commands.specs.Lines.{number_line, lines_by, pointer_line, pointer_lines};
 
 use coding::Fault;
-use edit::{FileMeta, Version};
+use edit::{FileMeta, LEVELS, Version};
 use folder::Order;
 use ikey::{Comparator, KeyBuf};
 use std::alloc::Global;
@@ -82,7 +82,7 @@ fn push_pointers(
         ++ all_levels (pointer_lines spelling version.now)) }
     ensures memory { IfErr result (λ e. e ≡ fault Memory) }
 {
-    for level in 0..7 {
+    for level in 0..LEVELS {
         push_pointer_of(alloc, text, spelling, version, level)?;
     }
     Ok(())
@@ -137,7 +137,7 @@ fn push_files<C: Comparator>(
         ++ all_levels (file_lines C.cmp version.now)) }
     ensures memory { IfErr result (λ e. e ≡ fault Memory) }
 {
-    for level in 0..7 {
+    for level in 0..LEVELS {
         push_files_of(text, level, &version.files::<C>(alloc, level)?)?;
     }
     Ok(())

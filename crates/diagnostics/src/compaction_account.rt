@@ -3,10 +3,10 @@
 
 ghost use Rattle.folder.specs.Reports.{OnlyReads};
 
-use crate::diagnosis::{LEVELS, table_file};
+use crate::diagnosis::table_file;
 use account::{Account, LevelInputs, Output, RangeEntries};
 use coding::{Fault, FaultName};
-use edit::{FileMeta, Version};
+use edit::{FileMeta, LEVELS, Version};
 use folder::{Folder, Order};
 use ikey::{Bytewise, Comparator, Shortlex};
 use pick::{InputFile, inputs};

@@ -6,13 +6,10 @@ use crate::checked_tables::refused_among;
 use crate::detail::Detail;
 use crate::manifest_diagnosis::manifest_detail;
 use coding::{Fault, FaultName};
-use edit::{FileMeta, Version};
+use edit::{FileMeta, LEVELS, Version};
 use folder::{CURRENT, Folder, Order, manifest_name, number_in_current, open, table_name};
 use ikey::{Bytewise, Comparator, Shortlex};
 use std::alloc::Global;
-
-/// The number of a version's levels.
-pub(crate) const LEVELS: u64 = 7;
 
 /// A file of a folder, and why it is refused.
 #[derive(Drop)]

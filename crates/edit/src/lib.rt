@@ -41,7 +41,7 @@ mod version;
 mod version_edit;
 
 pub use format_laws::{edit_laws, snapshot_law};
-pub use meta::{CompactPointer, DeletedFile, FileMeta, NewFile};
+pub use meta::{CompactPointer, DeletedFile, FileMeta, LAST_LEVEL, LEVELS, NewFile};
 pub use outcome::Outcome;
 pub use version::Version;
 pub use version_edit::VersionEdit;

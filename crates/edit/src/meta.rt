@@ -7,8 +7,11 @@ use coding::Fault;
 use ikey::KeyBuf;
 use std::alloc::Global;
 
-/// How many levels there are: 0 to 6.
-pub(crate) const LEVELS: u64 = 7;
+/// How many levels a version has: 0 to 6.
+pub const LEVELS: u64 = 7;
+
+/// The deepest level of a version.
+pub const LAST_LEVEL: u64 = LEVELS - 1;
 
 /// A table file: its number, its length, and its smallest and largest key.
 #[derive(Drop)]

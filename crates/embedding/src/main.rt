@@ -12,7 +12,7 @@ use anyhow::{Result, ensure};
 use board::Open;
 use coding::Fault;
 use compact::compact;
-use edit::{Outcome, Version, VersionEdit};
+use edit::{LEVELS, Outcome, Version, VersionEdit};
 use ikey::Bytewise;
 use keep::Snapshots;
 use pick::inputs;
@@ -108,7 +108,7 @@ fn print_outcome<R: Print>(rt: &R, outcome: &Outcome) -> Result<()> {
 
 /// Prints the files of a version.
 fn print_files<R: AllocGlobal + Print>(rt: &R, version: &Version) -> Result<()> {
-    for level in 0..7 {
+    for level in 0..LEVELS {
         for file in version.files::<Bytewise>(rt.alloc(), level)? {
             println!(rt; "file {} at level {level}", file.number)?;
         }

@@ -11,12 +11,9 @@ ghost use Rattle.faults.specs.Findings.{new_file_listed};
 
 use crate::listed_file::ListedFile;
 use coding::Fault;
-use edit::{FileMeta, Version};
+use edit::{FileMeta, LEVELS, Version};
 use ikey::Comparator;
 use std::alloc::Global;
-
-/// The number of levels: 0 to 6.
-const LEVELS: u64 = 7;
 
 /// All files of a version, by level and in version order. The only fault is Memory.
 pub(crate) fn listed_files<'v, C: Comparator>(

@@ -14,7 +14,7 @@ use crate::names::{CURRENT, manifest_name, old_table_name, table_name};
 use crate::order::Order;
 use crate::pending_files::Due;
 use coding::Fault;
-use edit::{FileMeta, Version};
+use edit::{FileMeta, LEVELS, Version};
 use ikey::{Bytewise, Comparator, Shortlex};
 use std::alloc::Global;
 
@@ -124,7 +124,7 @@ pub fn file_numbers<C: Comparator>(alloc: Global, version: &Version) -> Result<V
     ensures { EqualOrMemory (λ v. v.items) result (Ok (file_numbers C.cmp version.now)) }
 {
     let mut numbers = Vec::new(alloc);
-    for level in 0..7 {
+    for level in 0..LEVELS {
         push_numbers(&mut numbers, &version.files::<C>(alloc, level)?)?;
     }
     Ok(numbers)

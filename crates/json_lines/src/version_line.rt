@@ -16,7 +16,7 @@ ghost use Rattle.json_lines.specs.VersionObject.{version_object};
 use crate::items::push_items;
 use crate::quoted::{quoted, quoted_key};
 use coding::Fault;
-use edit::{FileMeta, Version};
+use edit::{FileMeta, LEVELS, Version};
 use folder::Order;
 use ikey::{Bytewise, Comparator, KeyBuf, Shortlex};
 use std::alloc::Global;
@@ -126,7 +126,7 @@ fn push_pointers(
         ++ all_levels (pointer_items spelling version.now)) }
     ensures memory { IfErr result (λ e. e ≡ fault Memory) }
 {
-    for level in 0..7 {
+    for level in 0..LEVELS {
         push_pointer_of(alloc, text, spelling, version, level)?;
     }
     Ok(())
@@ -185,7 +185,7 @@ fn push_files<C: Comparator>(
         ++ all_levels (file_items spelling C.cmp version.now)) }
     ensures memory { IfErr result (λ e. e ≡ fault Memory) }
 {
-    for level in 0..7 {
+    for level in 0..LEVELS {
         push_files_of(
             alloc,
             text,

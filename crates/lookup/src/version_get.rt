@@ -18,13 +18,10 @@ ghost use Rattle.lookup.specs.SearchAnswers.{Gives};
 use crate::owned_entry::{OwnedEntry, newer, value_of};
 use crate::table_search::newest_in_file;
 use coding::Fault;
-use edit::{FileMeta, Version};
+use edit::{FileMeta, LEVELS, Version};
 use folder::Folder;
 use ikey::{Comparator, InternalKey, KeyBuf, Kind, MAX_SEQUENCE, MAX_USER_KEY};
 use std::alloc::Global;
-
-/// The number of levels: 0 to 6.
-const LEVELS: u64 = 7;
 
 /// The value of a user `key` at the sequence `at`, in a version whose tables are in a folder. It
 /// only reads. If the folder tells tables with which the version is lawful, it is what `reads::get`

@@ -11,12 +11,9 @@ ghost use Rattle.pick.specs.Picked.{files_from, input_at};
 use crate::picked::InputFile;
 use crate::range::UserRange;
 use coding::Fault;
-use edit::{FileMeta, Version};
+use edit::{FileMeta, LAST_LEVEL, LEVELS, Version};
 use ikey::Comparator;
 use std::alloc::Global;
-
-/// The greatest level.
-const LAST_LEVEL: u64 = 6;
 
 /// Appends copies of `files` as inputs of `level`. The only fault is Memory.
 pub(crate) fn push_inputs(
@@ -80,7 +77,7 @@ pub(crate) fn deeper_files<C: Comparator>(
         (Ok (files_from C.cmp version.now from (7 - from))) }
 {
     let mut deeper = Vec::new(alloc);
-    for level in from..LAST_LEVEL + 1 {
+    for level in from..LEVELS {
         let files = version.files::<C>(alloc, level)?;
         push_copies(alloc, &mut deeper, &files)?;
     }

@@ -14,12 +14,12 @@ use crate::picked::{InputFile, Inputs};
 use crate::range::UserRange;
 use crate::taken::{lower_files, upper_files};
 use coding::{Fault, FaultName};
-use edit::{CompactPointer, FileMeta, Version};
+use edit::{CompactPointer, FileMeta, LAST_LEVEL, Version};
 use ikey::{Comparator, KeyBuf};
 use std::alloc::Global;
 
-/// The greatest level of a compaction.
-const LAST_INPUT_LEVEL: u64 = 5;
+/// The deepest level that is compacted. Its outputs go to the deepest of all.
+pub const LAST_INPUT_LEVEL: u64 = LAST_LEVEL - 1;
 
 /// The inputs of a compaction of `level`.
 ///

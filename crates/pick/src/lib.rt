@@ -25,5 +25,5 @@ mod range;
 mod taken;
 
 pub use choice_law::one_choice;
-pub use input_choice::inputs;
+pub use input_choice::{LAST_INPUT_LEVEL, inputs};
 pub use picked::{InputFile, Inputs, is_base};

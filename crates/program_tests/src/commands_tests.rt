@@ -7,6 +7,7 @@ use commands::{
     verify,
 };
 use diagnostics::{RefusedFile, account_of, refused_file, replaceable_file, replayed_log};
+use edit::LAST_LEVEL;
 use folder::{Failing, FolderFault, Shelf, open};
 use std::alloc::Global;
 use std::test::*;
@@ -46,9 +47,6 @@ type Wanted = Result<&'static str, (FaultName, u8)>;
 /// What a row shows, the call, its folder, which call on the folder fails, and the answer. The
 /// answer is its bytes, empty if there is nothing to tell, or the refusal and its status.
 type Row = (&'static str, Call, Place, u64, Wanted);
-
-/// The deepest level.
-const DEEPEST: u64 = 6;
 
 /// The form of the line of a value, if nothing else is asked for.
 const DIGITS: ValueForm = ValueForm::Line(Spelling::Hexadecimal);
@@ -518,7 +516,7 @@ fn replaceable_files(alloc: Global, folder: &mut Shelf<'_>) -> Result<Vec<u8>, F
 fn levels_of(alloc: Global, folder: &mut Shelf<'_>) -> Result<Vec<u8>, Fault> {
     let version = open(alloc, folder)?.version;
     let bottom = bottom(alloc, &version)?;
-    match next_level(alloc, &version, DEEPEST)? {
+    match next_level(alloc, &version, LAST_LEVEL)? {
         Some(level) => Ok(format!(in alloc; "{level} of {bottom}")?.into_bytes()),
         None => Ok(Vec::new(alloc)),
     }

@@ -15,13 +15,10 @@ ghost use Rattle.reads.specs.Visible.{visible_in, IsAnswer};
 use crate::found::Found;
 use crate::table_places::TablePlaces;
 use coding::{Fault, FaultName};
-use edit::{FileMeta, Version};
+use edit::{FileMeta, LEVELS, Version};
 use ikey::{Comparator, InternalKey};
 use std::alloc::Global;
 use table::{Cursor, SoundTable, TableCursor};
-
-/// The number of levels: 0 to 6.
-pub(crate) const LEVELS: u64 = 7;
 
 /// Whether each of the files has a table.
 fn have_tables<C: Comparator>(files: &[&FileMeta], tables: &TablePlaces<'_, '_, C>) -> bool

@@ -21,9 +21,9 @@ ghost use Rattle.reads.specs.Lawful.{IsFileOf, IsLawful};
 use crate::found::Found;
 use crate::numbered_table::NumberedTable;
 use crate::table_places::TablePlaces;
-use crate::table_search::{LEVELS, newest_in_table, tables_test};
+use crate::table_search::{newest_in_table, tables_test};
 use coding::Fault;
-use edit::{FileMeta, Version};
+use edit::{FileMeta, LEVELS, Version};
 use ikey::{Comparator, InternalKey, KeyBuf, Kind, MAX_SEQUENCE, MAX_USER_KEY};
 use std::alloc::Global;
 

@@ -10,7 +10,7 @@ ghost use Rattle.request.specs.Request.{is_snapshot_list, request_in};
 use crate::request::Request;
 use ikey::{Comparator, MAX_SEQUENCE};
 use keep::{Snapshots, is_rising, largest_rise};
-use pick::{InputFile, Inputs};
+use pick::{InputFile, Inputs, LAST_INPUT_LEVEL};
 
 /// The greatest number of inputs.
 pub const MAX_INPUTS: usize = 256;
@@ -18,14 +18,11 @@ pub const MAX_INPUTS: usize = 256;
 /// The greatest number of listed snapshots.
 pub const MAX_SNAPSHOTS: usize = 4_096;
 
-/// The greatest level that is compacted. Its outputs go to level 6.
-const LAST_LEVEL: u64 = 5;
-
 /// Whether the level is from 0 to 5, and each input is of it or of the next.
 pub(crate) fn has_levels(picked: &Inputs) -> bool
     ensures { result ≡ has_levels (picked_in picked.now) }
 {
-    picked.level <= LAST_LEVEL && are_of(&picked.files, picked.level, picked.level + 1)
+    picked.level <= LAST_INPUT_LEVEL && are_of(&picked.files, picked.level, picked.level + 1)
 }
 
 /// Whether the options are in their limits, there are at most 256 inputs with a table each, and the

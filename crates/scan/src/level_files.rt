@@ -11,7 +11,7 @@ ghost use Rattle.checks.specs.NeededFiles.{is_file_needed};
 
 use checks::{needed_files, numbers_of};
 use coding::Fault;
-use edit::{FileMeta, Version};
+use edit::{FileMeta, LEVELS, Version};
 use ikey::Comparator;
 use split::Range;
 use std::alloc::Global;
@@ -26,7 +26,7 @@ pub(crate) fn files_by_level<'v, C: Comparator>(
     ensures memory { IfErr result (λ e. e ≡ fault Memory) }
 {
     let mut levels = Vec::new(alloc);
-    for level in 0..7 {
+    for level in 0..LEVELS {
         levels.push(version.files::<C>(alloc, level)?)?;
     }
     Ok(levels)

@@ -6,7 +6,7 @@ ghost use Rattle.coding.specs.declared.fault.FaultName.TheVariants.{Memory};
 ghost use Rattle.store.specs.Descent.{IsBottom, IsNextLevel, file_count};
 
 use coding::Fault;
-use edit::Version;
+use edit::{LEVELS, Version};
 use ikey::Bytewise;
 use std::alloc::Global;
 
@@ -17,7 +17,7 @@ pub fn bottom(alloc: Global, version: &Version) -> Result<u64, Fault>
     ensures memory { IfErr result (λ e. e ≡ fault Memory) }
 {
     let mut bottom = 1;
-    for level in 2..7 {
+    for level in 2..LEVELS {
         if file_count(alloc, version, level)? > 0 {
             bottom = level;
         }

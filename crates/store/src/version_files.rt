@@ -11,7 +11,7 @@ ghost use Rattle.store.specs.InputsCompaction.{IsOrderlyAnswer, IsOrderlyLevel};
 ghost use Rattle.store.specs.LentFiles.{LentRangesRise};
 
 use coding::{Fault, FaultName};
-use edit::{FileMeta, Version};
+use edit::{FileMeta, LEVELS, Version};
 use ikey::Comparator;
 use std::alloc::Global;
 
@@ -21,7 +21,7 @@ use std::alloc::Global;
 pub fn test_files<C: Comparator>(alloc: Global, version: &Version) -> Result<(), Fault>
     ensures { HoldsOrMemory (λ u. u) result (IsOrderlyAnswer C.cmp version.now) }
 {
-    for level in 0..7 {
+    for level in 0..LEVELS {
         if !is_orderly_level::<C>(alloc, version, level)? {
             return Err(Fault::of(FaultName::Lawless));
         }

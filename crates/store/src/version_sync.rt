@@ -15,7 +15,7 @@ ghost use Rattle.store.specs.CallRun.{IsRunOf};
 ghost use Rattle.store.specs.VersionSync.{AlwaysReadsBy, sync_calls, table_syncs};
 
 use coding::Fault;
-use edit::{FileMeta, Version};
+use edit::{FileMeta, LEVELS, Version};
 use folder::{
     CURRENT, Folder, FolderFault, Opened, Order, manifest_name, old_table_name, table_name,
 };
@@ -90,7 +90,7 @@ fn sync_levels<C: Comparator, F: Folder>(
     ensures { IsRunOf F.Folder (table_syncs (file_numbers C.cmp version.now))
         folder.old folder.new result }
 {
-    for level in 0..7 {
+    for level in 0..LEVELS {
         sync_files(alloc, folder, &version.files::<C>(alloc, level)?)?;
     }
     Ok(())

@@ -11,7 +11,7 @@ use crate::reporter::Telling;
 use crate::step_printer::{StepPrinter, explain, print_step, tell_step, unprinted};
 use crate::table_sizes::sizes_tested;
 use coding::Fault;
-use edit::Version;
+use edit::{LAST_LEVEL, Version};
 use folder::{Disk, Opened, SystemFiles};
 use ikey::Bytewise;
 use settings::Settings;
@@ -78,7 +78,7 @@ fn compact_levels<R: Host>(
 fn is_due(alloc: Global, version: &Version, levels: Levels) -> Result<bool, Fault> {
     match levels {
         Levels::One(level) => {
-            if level > 5 {
+            if level >= LAST_LEVEL {
                 return Ok(false);
             }
             Ok(!version.files::<Bytewise>(alloc, level)?.is_empty())

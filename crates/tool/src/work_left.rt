@@ -2,13 +2,10 @@
 
 use crate::table_sizes::bytes_of;
 use coding::Fault;
-use edit::Version;
+use edit::{LAST_LEVEL, Version};
 use ikey::Bytewise;
 use std::alloc::Global;
 use store::next_level;
-
-/// The deepest level.
-const DEEPEST: u64 = 6;
 
 /// What a compaction of all levels has left to do.
 #[derive(Clone, Copy)]
@@ -33,7 +30,7 @@ impl WorkLeft {
         bottom: u64,
         file_size: u64,
     ) -> Result<Option<WorkLeft>, Fault> {
-        let bottom = bottom.min(DEEPEST);
+        let bottom = bottom.min(LAST_LEVEL);
         let Some(next) = next_level(alloc, version, bottom)? else {
             return Ok(None);
         };

@@ -1,5 +1,5 @@
 -- The rule of a board: how the words and the views of all seats hang together.
-use Rattle.std.specs.Prelude.{◌≡◌, ◌⊎◌, ℕ, ◌+◌, ◌^◌, ◌<◌, ◌≤◌, List, [], ◌∷◌, ◌++◌, length}
+use Rattle.std.specs.Prelude.{◌≡◌, ◌⊎◌, ℕ, ◌+◌, ◌<◌, ◌≤◌, List, [], ◌∷◌, ◌++◌, length}
 use Rattle.std.specs.Prelude.{slice_index, slice_set, replicate, cond, ltb}
 use mathlib.Core.Option.{some}
 use lib.ListN.{get_elem?}
@@ -9,6 +9,7 @@ use Rattle.board.specs.declared.rule.Extent.{Extent}
 use Rattle.board.specs.Shares.{times, start}
 use Rattle.board.specs.Progress.{no_fault}
 use Rattle.board.specs.Words.{total, once_below, share_len, word_of, claims_of, claim_count}
+use Rattle.board.specs.declared.limits.TheConstants.{MAX_JOBS, MAX_WORKERS}
 
 -- `parts` seats at which nothing was done
 abbrev pub fresh_view : ℕ → ℕ → ℕ → SeatView
@@ -82,8 +83,8 @@ times_skipped x views = total (λ v. times x v.skipped) views
 -- The numbers drawn are the first ones of each share, as many as its word says, each once. A word
 -- is at most its share's length, plus one for each time that a seat saw the share empty.
 pub record KeepsDrawn (n w : ℕ) (words : List ℕ) (views : List SeatView) : Type 0 where
-  pub seats : (0 < w) × (w ≤ 64)
-  pub jobs : n ≤ 2 ^ 40
+  pub seats : (0 < w) × (w ≤ MAX_WORKERS)
+  pub jobs : n ≤ MAX_JOBS
   pub wide : length words ≡ 65
   pub parts : total (λ v. v.parts) views ≡ w
   pub each : (i : ℕ) (v : SeatView) → get_elem? views i ≡ some v → Fits n w v

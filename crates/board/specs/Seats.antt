@@ -1,5 +1,5 @@
 -- A seat as contracts see it, and what its fields say of its view.
-use Rattle.std.specs.Prelude.{◌≡◌, ℕ, ◌+◌, ◌^◌, ◌<◌, ◌≤◌, List, [], length}
+use Rattle.std.specs.Prelude.{◌≡◌, ℕ, ◌+◌, ◌<◌, ◌≤◌, List, [], length}
 use Rattle.atomic_table.specs.Table.{Me}
 use Rattle.atomic_table.specs.Seated.{TableId}
 use Rattle.board.specs.declared.rule.SeatView.{SeatView}
@@ -7,6 +7,7 @@ use Rattle.board.specs.declared.share.Share.{Share}
 use Rattle.board.specs.Shares.{times, start}
 use Rattle.board.specs.Words.{share_len, word_of}
 use Rattle.board.specs.Progress.{Layout, Progress, shares_in_turn, unused_seat}
+use Rattle.board.specs.declared.limits.TheConstants.{MAX_JOBS, MAX_WORKERS}
 
 -- the board with this table, jobs and seats
 abbrev pub layout : TableId → ℕ → ℕ → Layout
@@ -38,7 +39,7 @@ pub record IsSeated (number passed jobs seats : ℕ) (me : Me (Unit {0}) SeatVie
   pub one : me.0.parts ≡ 1
   pub extent : (me.0.jobs ≡ jobs) × (me.0.seats ≡ seats)
   pub within : number < seats
-  pub few : (seats ≤ 64) × (jobs ≤ 2 ^ 40)
+  pub few : (seats ≤ MAX_WORKERS) × (jobs ≤ MAX_JOBS)
   pub passes : passed ≤ seats
   pub empty : me.0.empty ≡ shares_in_turn seats number passed
 

@@ -1,6 +1,6 @@
 //! The board that threads share.
 
-ghost use Rattle.std.specs.Prelude.{◌≡◌, ◌≢◌, ℕ, ◌+◌, ◌≤◌, ◌<◌, ◌^◌, ◌⊎◌, ◌↔◌, [], Err, IfOk};
+ghost use Rattle.std.specs.Prelude.{◌≡◌, ◌≢◌, ℕ, ◌+◌, ◌≤◌, ◌<◌, ◌⊎◌, ◌↔◌, [], Err, IfOk};
 ghost use Rattle.std.specs.Prelude.{IfErr, IfSome, IfNone, All, List, ◌∷◌, length, vec_len};
 ghost use Rattle.coding.specs.Answers.{fault};
 ghost use Rattle.coding.specs.declared.fault.FaultName.TheVariants.{Workers as NamedWorkers};
@@ -15,6 +15,7 @@ ghost use Rattle.board.specs.Rule.{fresh_view, view_after_draw, saw_empty, openi
 ghost use Rattle.board.specs.Rule.{has_looked, IsLeastFound, IsWhole, has_looked_for};
 ghost use Rattle.board.specs.Seats.{layout, IsShare};
 ghost use Rattle.board.specs.GatheredSeats.{Gathers};
+ghost use Rattle.board.specs.declared.limits.TheConstants.{MAX_JOBS, MAX_WORKERS};
 
 use crate::gathered::Gathered;
 use crate::job::Job;
@@ -68,8 +69,9 @@ impl Board {
     ///
     /// `Workers` exactly if `seats` is outside 1 to 64. The only other fault is `Memory`.
     pub fn new(alloc: Global, jobs: u64, seats: u64) -> Result<(Board, Vec<Seat>), Fault>
-        requires { jobs ≤ 2 ^ 40 }
-        ensures workers { (result ≡ Err (fault NamedWorkers)) ↔ ((seats ≡ 0) ⊎ (64 < seats)) }
+        requires { jobs ≤ MAX_JOBS }
+        ensures workers { (result ≡ Err (fault NamedWorkers))
+            ↔ ((seats ≡ 0) ⊎ (MAX_WORKERS < seats)) }
         ensures err { IfErr result (λ e. (e ≡ fault NamedWorkers) ⊎ (e ≡ fault NamedMemory)) }
         ensures ok { IfOk result (λ made. (made.0.jobs ≡ jobs) × (made.0.seats ≡ seats)) }
         ensures unused { IfOk result (λ made. made.1.items ≡ unused_seats made.0 seats) }
@@ -86,7 +88,8 @@ impl Board {
 
     // The first token is of all seats; each other seat's is split from it.
     fn of(alloc: Global, extent: Extent) -> Result<(Board, Vec<Seat>), AllocError>
-        requires few { (0 < extent.seats) × (extent.seats ≤ 64) × (extent.jobs ≤ 2 ^ 40) }
+        requires few { (0 < extent.seats) × (extent.seats ≤ MAX_WORKERS)
+            × (extent.jobs ≤ MAX_JOBS) }
         ensures { IfOk result (λ made.
             (made.0 ≡ layout made.0.table extent.jobs extent.seats)
             × (made.1.items ≡ unused_seats made.0 extent.seats)) }
@@ -256,7 +259,7 @@ impl Board {
         requires board { layout token.table_id token.me.0.jobs token.me.0.seats ≡ self }
         requires seats { 0 < token.me.0.parts }
         ensures once { (x : ℕ) → times x token.me.0.drawn ≤ once_below x token.me.0.jobs }
-        ensures few { token.me.0.jobs ≤ 2 ^ 40 }
+        ensures few { token.me.0.jobs ≤ MAX_JOBS }
         ensures whole { token.me.0.parts ≡ token.me.0.seats → IsWhole token.me.0 result }
     {
         let Board { table } = self;
@@ -294,7 +297,7 @@ impl Board {
     // Claims the next job of a share that this seat has not seen empty; None if it is empty now.
     fn claim(&self, token: &mut Token<(), SeatView>, share: Share) -> Option<u64>
         requires board { token.old.table_id ≡ self.now.table }
-        requires few { (token.old.me.0.seats ≤ 64) × (token.old.me.0.jobs ≤ 2 ^ 40) }
+        requires few { (token.old.me.0.seats ≤ MAX_WORKERS) × (token.old.me.0.jobs ≤ MAX_JOBS) }
         requires share { IsShare token.old.me.0.jobs token.old.me.0.seats share.number share }
         requires left { (share.number < token.old.me.0.seats)
             × (times share.number token.old.me.0.empty < token.old.me.0.parts) }
@@ -338,7 +341,7 @@ fn make_table(
     ),
     AllocError,
 >
-    requires few { (0 < extent.seats) × (extent.seats ≤ 64) × (extent.jobs ≤ 2 ^ 40) }
+    requires few { (0 < extent.seats) × (extent.seats ≤ MAX_WORKERS) × (extent.jobs ≤ MAX_JOBS) }
     ensures { IfOk result (λ t.
         (t.0.shared.table_id.words ≡ 65) × (t.0.shared.table_id.slots ≡ 0)
         × (t.0.shared.key ≡ extent)

@@ -1,12 +1,13 @@
 //! All jobs of a labour, done by several workers.
 
-ghost use Rattle.std.specs.Prelude.{◌≡◌, ◌⊎◌, ◌↔◌, ◌<◌, ◌≤◌, ◌^◌, ℕ, [], None, Err, IfOk, IfErr};
+ghost use Rattle.std.specs.Prelude.{◌≡◌, ◌⊎◌, ◌↔◌, ◌<◌, ◌≤◌, ℕ, [], None, Err, IfOk, IfErr};
 ghost use Rattle.std.specs.Prelude.{All, replicate, vec_len, vec_capacity};
 ghost use Rattle.coding.specs.declared.fault.Fault.{Fault};
 ghost use Rattle.board.specs.declared.pool.RunFault.{RunFault};
 ghost use Rattle.board.specs.RunAnswer.{AreResults, IsRefused};
 ghost use Rattle.board.specs.Seats.{IsUnused};
 ghost use Rattle.board.specs.WorkerResult.{IsShift, IsFiled};
+ghost use Rattle.board.specs.declared.limits.TheConstants.{MAX_JOBS, MAX_WORKERS};
 
 use crate::board::Board;
 use crate::labour::{Gate, Labour};
@@ -55,11 +56,11 @@ pub fn run<L: Labour + Sync, G: Gate + Sync, R: Threads + Sync>(
 ) -> Result<Vec<L::Out>, RunFault>
 where
     L::Out: Drop + Send,
-    requires few { jobs ≤ 2 ^ 40 }
+    requires few { jobs ≤ MAX_JOBS }
     requires within { jobs ≤ L.jobs labour.now }
     ensures ok { IfOk result
         (λ v. AreResults (L.refusal labour.now) (L.gives labour.now) jobs v.items) }
-    ensures workers { (result ≡ Err RunFault.Workers) ↔ ((workers ≡ 0) ⊎ (64 < workers)) }
+    ensures workers { (result ≡ Err RunFault.Workers) ↔ ((workers ≡ 0) ⊎ (MAX_WORKERS < workers)) }
     ensures refused { (job : ℕ) (fault : Fault) → result ≡ Err (RunFault.Job job fault)
         → IsRefused (L.refusal labour.now) (L.gives labour.now) jobs job fault }
 {
@@ -102,7 +103,7 @@ fn run_board<L: Labour + Sync, G: Gate + Sync, R: Threads + Sync>(
 ) -> Result<Result<Vec<L::Out>, (u64, Fault)>, AllocError>
 where
     L::Out: Drop + Send,
-    requires jobs { (board.jobs ≡ jobs) × (jobs ≤ 2 ^ 40) }
+    requires jobs { (board.jobs ≡ jobs) × (jobs ≤ MAX_JOBS) }
     requires within { jobs ≤ L.jobs labour.now }
     requires seats { All (IsUnused board) seats.items × (vec_len seats ≡ board.seats)
         × (0 < board.seats) }

@@ -1,7 +1,8 @@
 //! A seat at a board.
 
-ghost use Rattle.std.specs.Prelude.{◌≡◌, ◌<◌, ◌≤◌, ◌^◌, []};
+ghost use Rattle.std.specs.Prelude.{◌≡◌, ◌<◌, ◌≤◌, []};
 ghost use Rattle.board.specs.Rule.{fresh_view};
+ghost use Rattle.board.specs.declared.limits.TheConstants.{MAX_JOBS, MAX_WORKERS};
 
 use crate::rule::SeatView;
 use crate::share::Share;
@@ -48,7 +49,7 @@ impl Seat {
     pub(crate) fn new(number: u64, jobs: u64, seats: u64, token: Token<(), SeatView>) -> Seat
         requires view { token.me ≡ (fresh_view 1 jobs seats, []) }
         requires number { number < seats }
-        requires few { (seats ≤ 64) × (jobs ≤ 2 ^ 40) }
+        requires few { (seats ≤ MAX_WORKERS) × (jobs ≤ MAX_JOBS) }
         ensures { result ≡ unused_seat (layout token.table_id jobs seats) number }
     {
         Seat {

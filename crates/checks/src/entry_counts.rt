@@ -3,6 +3,7 @@
 ghost use Rattle.std.specs.Prelude.{◌≡◌, ◌≤◌, ◌^◌, length, map, IfSome};
 ghost use Rattle.split.specs.Ranges.{key_range};
 ghost use Rattle.checks.specs.GroupTest.{IsFileCount, IsFileCounts, contents_of_all};
+ghost use Rattle.board.specs.declared.limits.TheConstants.{MAX_JOBS};
 
 use crate::range_files::starts_in;
 use edit::FileMeta;
@@ -20,7 +21,7 @@ pub(crate) fn counted_files<C: Comparator>(
     range: Range<'_>,
 ) -> Option<u128>
     requires same { length tables.now ≡ length files.now }
-    requires few { length files.now ≤ 2 ^ 40 }
+    requires few { length files.now ≤ MAX_JOBS }
     ensures counted { IsFileCounts C.cmp next (key_range range.entry) (map (λ f. f.now) files.now)
         (contents_of_all tables.now) result }
     ensures small { IfSome result (λ count. count ≤ 2 ^ 100) }

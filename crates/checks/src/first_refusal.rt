@@ -7,6 +7,7 @@ ghost use Rattle.folder.specs.Calls.{Files, Tells};
 ghost use Rattle.folder.specs.OpenAnswer.{FolderAnswers};
 ghost use Rattle.folder.specs.Reports.{OnlyReads, ReportsDevice};
 ghost use Rattle.checks.specs.InOrder.{AreChecked, IsFirstRefusal};
+ghost use Rattle.board.specs.declared.limits.TheConstants.{MAX_WORKERS};
 
 use crate::rounds::check_tables;
 use board::Open;
@@ -31,7 +32,7 @@ pub(crate) fn check_in_order<C: SharedComparator, F: Folder, R: Threads + Sync>(
     workers: u64,
 ) -> Result<(), Fault>
     requires some { 0 < workers }
-    requires few { workers ≤ 64 }
+    requires few { workers ≤ MAX_WORKERS }
     ensures answer { (files : Files) → Tells (F.tells folder.old) files →
         FolderAnswers (λ none. none) (F.failed folder.old) (F.failed folder.new) result
         (AreChecked C.cmp files numbers.now) }
@@ -62,7 +63,7 @@ fn first_refusal<C: SharedComparator, R: Threads + Sync>(
     workers: u64,
 ) -> Result<Option<Fault>, Fault>
     requires some { 0 < workers }
-    requires few { workers ≤ 64 }
+    requires few { workers ≤ MAX_WORKERS }
     ensures refusal { IfOk result (λ found. (before : List (ℕ × List ℕ)) →
         IsFirstRefusal C.cmp before first →
         IsFirstRefusal C.cmp (before ++ map (λ t. (t.0, t.1.items)) loaded.now) found) }

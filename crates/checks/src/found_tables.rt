@@ -12,6 +12,7 @@ ghost use Rattle.folder.specs.Reports.{OnlyReads, ReportsDevice};
 ghost use Rattle.checks.specs.TableReadings.{IsInvalid, IsRead};
 ghost use Rattle.checks.specs.HeldTables.{IsFoundAnswer, held_numbers};
 ghost use Rattle.checks.specs.TablePlaces.{AreBounds, IsLoadedIfThere};
+ghost use Rattle.board.specs.declared.limits.TheConstants.{MAX_WORKERS};
 
 use crate::held_table::HeldTable;
 use crate::rounds::check_tables;
@@ -39,7 +40,7 @@ pub(crate) fn read_tables<C: SharedComparator, F: ReadsTables, G: Gate + Sync, R
     gate: &G,
 ) -> Result<Option<Vec<HeldTable<C>>>, Fault>
     requires some { 0 < workers }
-    requires few { workers ≤ 64 }
+    requires few { workers ≤ MAX_WORKERS }
     ensures answer { (files : Files) → Tells (F.tells folder.old) files →
         FolderAnswers (λ found. option_map (λ v. v.items) found) (F.failed folder.old)
         (F.failed folder.new) result (IsFoundAnswer C.cmp files numbers.now) }
@@ -89,7 +90,7 @@ fn owned_tables<C: SharedComparator, G: Gate + Sync, R: Threads + Sync>(
     gate: &G,
 ) -> Result<Option<Vec<HeldTable<C>>>, Fault>
     requires some { 0 < workers }
-    requires few { workers ≤ 64 }
+    requires few { workers ≤ MAX_WORKERS }
     ensures checked { IfOk result (λ found. MatchOption found
         (IsInvalid C.cmp (map (λ t. (t.0, t.1.items)) loaded.items))
         (λ v. IsRead C.cmp (map (λ t. (t.0, t.1.items)) loaded.items) v.items)) }
@@ -112,7 +113,7 @@ fn found_bounds<C: SharedComparator, G: Gate + Sync, R: Threads + Sync>(
     gate: &G,
 ) -> Result<Option<Vec<Bounds>>, Fault>
     requires some { 0 < workers }
-    requires few { workers ≤ 64 }
+    requires few { workers ≤ MAX_WORKERS }
     ensures checked { IfOk result (λ found. MatchOption found
         (IsInvalid C.cmp (map (λ t. (t.0, t.1.items)) loaded.now))
         (λ v. AreBounds C.cmp (map (λ t. (t.0, t.1.items)) loaded.now) v.items)) }

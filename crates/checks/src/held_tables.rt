@@ -7,6 +7,7 @@ ghost use Rattle.folder.specs.OpenAnswer.{FolderAnswers};
 ghost use Rattle.folder.specs.Reports.{OnlyReads, ReportsDevice};
 ghost use Rattle.checks.specs.HeldTables.{AreHeldIn, AreReadAs, IsFoundAnswer, held_if};
 ghost use Rattle.checks.specs.HeldTables.{held_numbers};
+ghost use Rattle.board.specs.declared.limits.TheConstants.{MAX_WORKERS};
 
 use crate::found_tables::read_tables;
 use crate::held_table::HeldTable;
@@ -88,7 +89,7 @@ pub fn hold_next<C: SharedComparator, F: ReadsTables, G: Gate + Sync, R: Threads
     gate: &G,
 ) -> Result<bool, Fault>
     requires some { 0 < workers }
-    requires few { workers ≤ 64 }
+    requires few { workers ≤ MAX_WORKERS }
     ensures answer { (files : Files) → Tells (F.tells folder.old) files →
         AreHeldIn C.cmp files held.old →
         FolderAnswers (λ is_held. held_if is_held held.new) (F.failed folder.old)
@@ -121,7 +122,7 @@ pub(crate) fn hold_tables<C: SharedComparator, F: ReadsTables, G: Gate + Sync, R
     gate: &G,
 ) -> Result<Option<HeldTables<C>>, Fault>
     requires some { 0 < workers }
-    requires few { workers ≤ 64 }
+    requires few { workers ≤ MAX_WORKERS }
     ensures answer { (files : Files) → Tells (F.tells folder.old) files →
         AreHeldIn C.cmp files held →
         FolderAnswers (λ found. found) (F.failed folder.old) (F.failed folder.new) result

@@ -7,6 +7,7 @@ ghost use Rattle.folder.specs.Reports.{OnlyReads, ReportsDevice};
 ghost use Rattle.split.specs.Ranges.{IsCover, key_range};
 ghost use Rattle.checks.specs.GroupTest.{IsRangeAnswer, IsRangesAnswer};
 ghost use Rattle.checks.specs.HeldTables.{AreHeldIn};
+ghost use Rattle.board.specs.declared.limits.TheConstants.{MAX_JOBS, MAX_WORKERS};
 
 use crate::held_tables::{HeldTables, hold_next};
 use crate::range_files::{needed_files, numbers_of};
@@ -43,8 +44,8 @@ pub(crate) fn test_ranges<
     gate: &G,
 ) -> Result<Option<u128>, Fault>
     requires some { 0 < workers }
-    requires few { workers ≤ 64 }
-    requires few_files { length standing.now ≤ 2 ^ 40 }
+    requires few { workers ≤ MAX_WORKERS }
+    requires few_files { length standing.now ≤ MAX_JOBS }
     ensures answer { (files : Files) → Tells (F.tells folder.old) files →
         AreHeldIn C.cmp files held.old →
         FolderAnswers (λ found. found) (F.failed folder.old) (F.failed folder.new) result
@@ -83,8 +84,8 @@ fn test_range<C: SharedComparator + 'static, F: ReadsTables, G: Gate + Sync, R: 
     gate: &G,
 ) -> Result<Option<u128>, Fault>
     requires some { 0 < workers }
-    requires few { workers ≤ 64 }
-    requires few_files { length standing.now ≤ 2 ^ 40 }
+    requires few { workers ≤ MAX_WORKERS }
+    requires few_files { length standing.now ≤ MAX_JOBS }
     ensures answer { (files : Files) → Tells (F.tells folder.old) files →
         AreHeldIn C.cmp files held.old →
         FolderAnswers (λ found. found) (F.failed folder.old) (F.failed folder.new) result

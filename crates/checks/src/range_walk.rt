@@ -7,6 +7,7 @@ ghost use Rattle.coding.specs.declared.fault.FaultName.TheVariants.{Memory};
 ghost use Rattle.split.specs.Ranges.{IsIn, key_range};
 ghost use Rattle.reads.specs.TableOrder.{AreFallingIn};
 ghost use Rattle.checks.specs.GroupTest.{IsWalkAnswer, entries_of_all};
+ghost use Rattle.board.specs.declared.limits.TheConstants.{MAX_JOBS, MAX_WORKERS};
 
 use crate::entry_counts::counted_files;
 use crate::held_tables::HeldTables;
@@ -36,9 +37,9 @@ pub(crate) fn walk_range<C: SharedComparator + 'static, R: Threads + Sync>(
     workers: u64,
 ) -> Result<Option<u128>, Fault>
     requires some { 0 < workers }
-    requires few { workers ≤ 64 }
+    requires few { workers ≤ MAX_WORKERS }
     requires same { length held.now ≡ length files.now }
-    requires few_files { length files.now ≤ 2 ^ 40 }
+    requires few_files { length files.now ≤ MAX_JOBS }
     ensures walked { IfOk result (IsWalkAnswer C.cmp next (key_range range.entry)
         (map (λ f. f.now) files.now) held.now) }
     ensures small { IfOk result (λ found. IfSome found (λ count. count ≤ 2 ^ 100)) }
@@ -64,7 +65,7 @@ fn tables_fall<'t, C: SharedComparator + 'static, R: Threads + Sync>(
     workers: u64,
 ) -> Result<bool, Fault>
     requires some { 0 < workers }
-    requires few { workers ≤ 64 }
+    requires few { workers ≤ MAX_WORKERS }
     ensures falls { IfOk result (λ falls. (falls ≡ true)
         ↔ AreFallingIn (IsIn C.cmp (key_range range.entry)) (entries_of_all tables.now)) }
     ensures memory { IfErr result (λ e. e ≡ fault Memory) }

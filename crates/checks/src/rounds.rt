@@ -3,6 +3,7 @@
 ghost use Rattle.std.specs.Prelude.{◌<◌, ◌≤◌, map};
 ghost use Rattle.coding.specs.Answers.{EqualOrMemory};
 ghost use Rattle.checks.specs.TableReadings.{tables_reading};
+ghost use Rattle.board.specs.declared.limits.TheConstants.{MAX_WORKERS};
 
 use crate::table_check::check_round;
 use board::{Gate, MAX_JOBS};
@@ -28,7 +29,7 @@ pub fn check_tables<'t, C: SharedComparator, G: Gate + Sync, R: Threads + Sync>(
     gate: &G,
 ) -> Result<Vec<NumberedTable<'t, C>>, Fault>
     requires some { 0 < workers }
-    requires few { workers ≤ 64 }
+    requires few { workers ≤ MAX_WORKERS }
     ensures { EqualOrMemory (λ v. v.items) result
         (tables_reading C.cmp (map (λ t. (t.0, t.1.items)) loaded.now)) }
 {

@@ -8,6 +8,7 @@ ghost use Rattle.merge.specs.Merged.{entries_of_lists};
 ghost use Rattle.split.specs.Ranges.{IsCover, IsIn, key_range};
 ghost use Rattle.reads.specs.TableOrder.{AreFalling, AreFallingIn};
 ghost use Rattle.checks.specs.RangeOrder.{TellsRange};
+ghost use Rattle.board.specs.declared.limits.TheConstants.{MAX_WORKERS};
 
 use crate::range_intersection::common_range;
 use crate::sampled_ranges::sampled_split;
@@ -65,7 +66,7 @@ pub(crate) fn entries_fall<'t, C: SharedComparator + 'static, G: Gate + Sync, R:
     gate: &G,
 ) -> Result<bool, Fault>
     requires some { 0 < workers }
-    requires few { workers ≤ 64 }
+    requires few { workers ≤ MAX_WORKERS }
     ensures falls { IfOk result (λ falls. (falls ≡ true)
         ↔ AreFallingIn (IsIn C.cmp (key_range within.entry))
         (entries_of_lists (map (λ t. t.now.entries) tables.now))) }
@@ -90,7 +91,7 @@ fn walk_falls<'t, C: SharedComparator + 'static, G: Gate + Sync, R: Threads + Sy
     gate: &G,
 ) -> Result<bool, Fault>
     requires some { 0 < workers }
-    requires few { workers ≤ 64 }
+    requires few { workers ≤ MAX_WORKERS }
     ensures falls { IfOk result (λ falls. (falls ≡ true)
         ↔ AreFallingIn (IsIn C.cmp (key_range within.entry))
         (entries_of_lists (map (λ t. t.now.entries) tables.now))) }
@@ -120,7 +121,7 @@ pub(crate) fn all_entries_fall<
     gate: &G,
 ) -> Result<bool, Fault>
     requires some { 0 < workers }
-    requires few { workers ≤ 64 }
+    requires few { workers ≤ MAX_WORKERS }
     ensures falls { IfOk result (λ falls. (falls ≡ true)
         ↔ AreFalling (entries_of_lists (map (λ t. t.now.entries) tables.now))) }
     ensures memory { IfErr result (λ e. e ≡ fault Memory) }

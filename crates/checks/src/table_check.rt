@@ -1,9 +1,10 @@
 //! The check of a table, as a job.
 
-ghost use Rattle.std.specs.Prelude.{◌≡◌, ◌<◌, ◌≤◌, ◌^◌, length, map, slice_get, Some, Result};
+ghost use Rattle.std.specs.Prelude.{◌≡◌, ◌<◌, ◌≤◌, length, map, slice_get, Some, Result};
 ghost use Rattle.coding.specs.Answers.{EqualOrMemory};
 ghost use Rattle.reads.specs.Tables.{NumberedContents};
 ghost use Rattle.checks.specs.TableReadings.{numbered_reading, table_answers, tables_reading};
+ghost use Rattle.board.specs.declared.limits.TheConstants.{MAX_JOBS, MAX_WORKERS};
 
 use board::{Gate, Labour, run};
 use coding::Fault;
@@ -53,9 +54,9 @@ pub(crate) fn check_round<'t, C: SharedComparator, G: Gate + Sync, R: Threads + 
     workers: u64,
     gate: &G,
 ) -> Result<Vec<NumberedTable<'t, C>>, Fault>
-    requires jobs { length loaded.now ≤ 2 ^ 40 }
+    requires jobs { length loaded.now ≤ MAX_JOBS }
     requires some { 0 < workers }
-    requires few { workers ≤ 64 }
+    requires few { workers ≤ MAX_WORKERS }
     ensures { EqualOrMemory (λ v. v.items) result
         (tables_reading C.cmp (map (λ t. (t.0, t.1.items)) loaded.now)) }
 {

@@ -5,6 +5,7 @@ ghost use Rattle.std.specs.Result.{MatchResult};
 ghost use Rattle.coding.specs.Answers.{HoldsOrMemory, UnlessMemory};
 ghost use Rattle.reads.specs.Lawful.{IsLawful, IsUnlawful};
 ghost use Rattle.checks.specs.LawfulTables.{IsLawfulTables};
+ghost use Rattle.board.specs.declared.limits.TheConstants.{MAX_WORKERS};
 
 use crate::rounds::check_tables;
 use crate::sequence_order::all_entries_fall;
@@ -33,7 +34,7 @@ pub fn lawful_tables<'t, C: SharedComparator + 'static, G: Gate + Sync, R: Threa
     gate: &G,
 ) -> Result<Vec<NumberedTable<'t, C>>, Fault>
     requires some { 0 < workers }
-    requires few { workers ≤ 64 }
+    requires few { workers ≤ MAX_WORKERS }
     ensures { HoldsOrMemory (λ v. v.items) result
         (IsLawfulTables C.cmp version.now (map (λ t. (t.0, t.1.items)) loaded.now)) }
 {
@@ -53,7 +54,7 @@ fn lawful<'t, C: SharedComparator + 'static, G: Gate + Sync, R: Threads + Sync>(
     gate: &G,
 ) -> Result<(), Fault>
     requires some { 0 < workers }
-    requires few { workers ≤ 64 }
+    requires few { workers ≤ MAX_WORKERS }
     ensures { MatchResult result (λ none. IsLawful C.cmp version.now tables.now)
         (λ e. UnlessMemory e (IsUnlawful C.cmp version.now tables.now e)) }
 {

@@ -8,6 +8,7 @@ ghost use Rattle.folder.specs.Reports.{OnlyReads, ReportsDevice};
 ghost use Rattle.checks.specs.GroupTest.{IsSweepAnswer};
 ghost use Rattle.checks.specs.HeldTables.{AreHeldIn};
 ghost use Rattle.checks.specs.TestedTables.{IsTested};
+ghost use Rattle.board.specs.declared.limits.TheConstants.{MAX_WORKERS};
 
 use crate::file_groups::group_split;
 use crate::first_refusal::check_in_order;
@@ -59,7 +60,7 @@ pub fn test_version<
     watch: &W,
 ) -> Result<Tested, Fault>
     requires some { 0 < workers }
-    requires few { workers ≤ 64 }
+    requires few { workers ≤ MAX_WORKERS }
     ensures answer { (files : Files) → Tells (F.tells folder.old) files →
         FolderAnswers (λ tested. tested) (F.failed folder.old) (F.failed folder.new) result
         (IsTested (IsHeldIn files) C.cmp version.now) }
@@ -88,7 +89,7 @@ pub fn test_and_hold<
     watch: &W,
 ) -> Result<TestedVersion<C>, Fault>
     requires some { 0 < workers }
-    requires few { workers ≤ 64 }
+    requires few { workers ≤ MAX_WORKERS }
     ensures answer { (files : Files) → Tells (F.tells folder.old) files →
         FolderAnswers (λ found. found.tested) (F.failed folder.old) (F.failed folder.new) result
         (IsTested (IsHeldIn files) C.cmp version.now) }
@@ -133,7 +134,7 @@ fn tested_entries<C: SharedComparator + 'static, F: ReadsTables, G: Gate + Sync,
     gate: &G,
 ) -> Result<Option<u128>, Fault>
     requires some { 0 < workers }
-    requires few { workers ≤ 64 }
+    requires few { workers ≤ MAX_WORKERS }
     ensures answer { (files : Files) → Tells (F.tells folder.old) files →
         AreHeldIn C.cmp files held.old →
         FolderAnswers (λ found. found) (F.failed folder.old) (F.failed folder.new) result

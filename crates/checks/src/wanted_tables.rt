@@ -5,6 +5,7 @@ ghost use Rattle.folder.specs.Calls.{Files, Tells};
 ghost use Rattle.folder.specs.OpenAnswer.{FolderAnswers};
 ghost use Rattle.folder.specs.Reports.{OnlyReads, ReportsDevice};
 ghost use Rattle.checks.specs.HeldTables.{AreHeldIn, IsCheckedAnswer, held_numbers};
+ghost use Rattle.board.specs.declared.limits.TheConstants.{MAX_WORKERS};
 
 use crate::first_refusal::check_in_order;
 use crate::held_tables::{HeldTables, hold_tables};
@@ -35,7 +36,7 @@ pub fn checked_tables<C: SharedComparator, F: ReadsTables, G: Gate + Sync, R: Th
     gate: &G,
 ) -> Result<HeldTables<C>, Fault>
     requires some { 0 < workers }
-    requires few { workers ≤ 64 }
+    requires few { workers ≤ MAX_WORKERS }
     ensures answer { (files : Files) → Tells (F.tells folder.old) files →
         AreHeldIn C.cmp files held →
         FolderAnswers (λ tables. tables) (F.failed folder.old) (F.failed folder.new) result

@@ -8,6 +8,7 @@ ghost use Rattle.coding.specs.Answers.{fault};
 ghost use Rattle.coding.specs.declared.fault.FaultName.TheVariants.{Memory};
 ghost use Rattle.table.specs.TableContents.{contents_reading};
 ghost use Rattle.checks.specs.HeldTables.{IsToldTable};
+ghost use Rattle.board.specs.declared.limits.TheConstants.{MAX_WORKERS};
 
 use crate::held_table::HeldTable;
 use crate::rounds::MAX_TABLES;
@@ -79,7 +80,7 @@ pub(crate) fn worker_tables<C: SharedComparator, F: ReadsTables, G: Gate + Sync,
     gate: &G,
 ) -> Option<Vec<HeldTable<C>>>
     requires some { 0 < workers }
-    requires few { workers ≤ 64 }
+    requires few { workers ≤ MAX_WORKERS }
     ensures { IfSome result
         (λ v. AllZip (IsToldTable C.cmp (F.tells folder.now)) v.items numbers.now) }
 {
@@ -97,7 +98,7 @@ fn tables_of<C: SharedComparator, D: TableReader, G: Gate + Sync, R: Threads + S
     gate: &G,
 ) -> Option<Vec<HeldTable<C>>>
     requires some { 0 < workers }
-    requires few { workers ≤ 64 }
+    requires few { workers ≤ MAX_WORKERS }
     ensures { IfSome result
         (λ v. AllZip (IsToldTable C.cmp (D.tells reader.now)) v.items numbers.now) }
 {

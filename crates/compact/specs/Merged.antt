@@ -11,6 +11,7 @@ use Rattle.cut.specs.Plan.{plan_tables}
 use Rattle.request.specs.Request.{RequestView, has_levels}
 use Rattle.request.specs.OneThread.{Answer}
 use Rattle.compact.specs.Written.{written_of}
+use Rattle.board.specs.declared.limits.TheConstants.{MAX_WORKERS}
 
 -- what a request whose runs are these answers
 abbrev pub runs_answer : KeyOrder → ShortKeys → RequestView → List Run → Result Answer Fault
@@ -22,7 +23,7 @@ pub record IsMerged (r : RequestView) (workers : ℕ) : Type 0 where
   pub limits : AreInLimits r.options
   pub levels : has_levels r.picked ≡ true
   pub some : 1 ≤ workers
-  pub limited : workers ≤ 64
+  pub limited : workers ≤ MAX_WORKERS
 
 -- the tables of plans, those of each plan a group
 abbrev pub group_tables : KeyOrder → ShortKeys → List PlanSeen → List (List (ℕ × List ℕ))
@@ -32,4 +33,4 @@ group_tables cmp short_keys plans =
 -- a number of workers from 1 to 64
 pub record AreWorkers (workers : ℕ) : Type 0 where
   pub some : 1 ≤ workers
-  pub limited : workers ≤ 64
+  pub limited : workers ≤ MAX_WORKERS

@@ -9,6 +9,7 @@ ghost use Rattle.request.specs.Request.{request_in, request_test};
 ghost use Rattle.survival.specs.Survive.{LeavesReads};
 ghost use Rattle.compact.specs.Answered.{answer_in};
 ghost use Rattle.compact.specs.Merged.{runs_answer};
+ghost use Rattle.board.specs.declared.limits.TheConstants.{MAX_WORKERS};
 
 use crate::inputs::check_inputs;
 use crate::merged_request::Merged;
@@ -167,7 +168,7 @@ fn merge_tested<'t, C: SharedComparator + 'static, G: Gate + Sync, R: Threads + 
     gate: &G,
 ) -> Result<Vec<RangeRun<'t>>, Fault>
     requires some { 1 ≤ workers }
-    requires limited { workers ≤ 64 }
+    requires limited { workers ≤ MAX_WORKERS }
     requires tested { request_test C.cmp (request_in request.now) ≡ Ok tt }
     requires read { inputs_reading C.cmp 0 request.now.picked.now.files.items
         (map (λ t. t.now) request.now.tables.now)

@@ -7,6 +7,7 @@ ghost use Rattle.coding.specs.declared.fault.FaultName.TheVariants.{Memory};
 ghost use Rattle.table.specs.Table.{table};
 ghost use Rattle.cut.specs.Plan.{plan_tables};
 ghost use Rattle.compact.specs.Grouped.{joined_answer, table_sizes};
+ghost use Rattle.board.specs.declared.limits.TheConstants.{MAX_WORKERS};
 
 use coding::Fault;
 use cut::Plan;
@@ -68,7 +69,7 @@ impl<'m, 't, C: Comparator> Planned<'m, 't, C> {
     /// How many workers the request was merged by, 1 to 64.
     pub fn workers(&self) -> u64
         ensures some { 1 ≤ result }
-        ensures limited { result ≤ 64 }
+        ensures limited { result ≤ MAX_WORKERS }
     {
         self.workers
     }

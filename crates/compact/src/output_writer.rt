@@ -8,6 +8,7 @@ ghost use Rattle.pick.specs.Picked.{picked_in};
 ghost use Rattle.request.specs.Request.{has_levels, request_in};
 ghost use Rattle.compact.specs.Answered.{answer_in};
 ghost use Rattle.compact.specs.Written.{answer_of};
+ghost use Rattle.board.specs.declared.limits.TheConstants.{MAX_WORKERS};
 
 use crate::edit_bytes::edit_bytes;
 use crate::piece_encoder::encode_pieces;
@@ -33,7 +34,7 @@ pub(crate) fn encode_tables<'p, C: SharedComparator + 'static, G: Gate + Sync, R
     gate: &G,
 ) -> Result<Vec<(u64, Vec<u8>)>, Fault>
     requires some { 1 ≤ workers }
-    requires limited { workers ≤ 64 }
+    requires limited { workers ≤ MAX_WORKERS }
     ensures { EqualOrMemory (λ tables. map (λ t. (t.0, t.1.items)) tables.items) result
         (Ok (plan_tables (table C.cmp C.short_keys plan.now.options) plan.now.outputs)) }
 {
@@ -56,7 +57,7 @@ pub(crate) fn write_plan<'p, C: SharedComparator + 'static, G: Gate + Sync, R: T
     gate: &G,
 ) -> Result<Outcome, Fault>
     requires some { 1 ≤ workers }
-    requires limited { workers ≤ 64 }
+    requires limited { workers ≤ MAX_WORKERS }
     requires fits { request.now.first_number + length plan.now.outputs < 2 ^ 64 }
     requires levels { has_levels (picked_in request.now.picked.now) ≡ true }
     ensures { EqualOrMemory answer_in result

@@ -10,6 +10,7 @@ ghost use Rattle.table.specs.ReadingEntries.{HaveKeys};
 ghost use Rattle.table.specs.ReadingIndex.{block_in};
 ghost use Rattle.table.specs.RestartSearch.{first_is_below};
 ghost use Rattle.lookup.specs.SearchAnswers.{Gives};
+ghost use Rattle.frame.specs.declared.trailer.TheConstants.{TRAILER_LEN};
 
 use crate::owned_entry::OwnedEntry;
 use block::{BlockCursor, SoundBlock};
@@ -28,7 +29,7 @@ pub(crate) fn first_in_block<C: Comparator>(
     stored: &[u8],
     target: InternalKey<'_>,
 ) -> Result<Option<OwnedEntry>, Fault>
-    requires { 5 ≤ length stored.now }
+    requires { TRAILER_LEN ≤ length stored.now }
     ensures given { (entries : List Entry) → block_in stored.now ≡ Ok entries → HaveKeys entries →
         Gives result
         (λ found. found ≡ slice_get (entries_from C.cmp target.entry.bytes.now entries) 0) }
@@ -45,7 +46,7 @@ pub(crate) fn entries_ahead<'a, C: Comparator>(
     stored: &'a [u8],
     target: InternalKey<'_>,
 ) -> Result<BlockCursor<'a>, Fault>
-    requires { 5 ≤ length stored.now }
+    requires { TRAILER_LEN ≤ length stored.now }
     ensures given { (entries : List Entry) → block_in stored.now ≡ Ok entries → HaveKeys entries →
         Gives result (λ cursor. cursor ≡ entries_from C.cmp target.entry.bytes.now entries) }
     ensures other { IfErr result (λ e. e.name ≢ Device) }
@@ -58,7 +59,7 @@ pub(crate) fn entries_ahead<'a, C: Comparator>(
 
 /// The block in stored bytes, or the first test that they fail.
 fn block_in(stored: &[u8]) -> Result<SoundBlock<'_>, Fault>
-    requires { 5 ≤ length stored.now }
+    requires { TRAILER_LEN ≤ length stored.now }
     ensures { EqualOrMemory (λ block. block.entries) result (block_in stored.now) }
 {
     block::check(contents(stored)?)

@@ -6,6 +6,7 @@ ghost use Rattle.folder.specs.Reports.{OnlyReads, ReportsDevice};
 ghost use Rattle.table.specs.ReadingIndex.{stored_at};
 ghost use Rattle.lookup.specs.Held.{HoldsTable, TellsJust};
 ghost use Rattle.lookup.specs.SearchAnswers.{Gives, IsFileOfBytes, len_with_trailer};
+ghost use Rattle.frame.specs.declared.trailer.TheConstants.{TRAILER_LEN};
 
 use coding::{Fault, FaultName};
 use folder::{Folder, old_table_name, table_name};
@@ -72,7 +73,7 @@ pub(crate) fn stored_block<F: Folder>(
 ) -> Result<Vec<u8>, Fault>
     ensures given { (bytes stored : List ℕ) → IsFileOfBytes (F.tells folder.old) file.now bytes →
         stored_at bytes handle ≡ Ok stored → Gives result (λ part. part.items ≡ stored) }
-    ensures long { IfOk result (λ part. 5 ≤ length part.items) }
+    ensures long { IfOk result (λ part. TRAILER_LEN ≤ length part.items) }
     ensures device { ReportsDevice F.Folder folder.old folder.new result }
     ensures reads { OnlyReads F.Folder folder.old folder.new }
 {

@@ -7,6 +7,7 @@ ghost use Rattle.folder.specs.Reports.{OnlyReads, ReportsDevice};
 ghost use Rattle.frame.specs.Handle.{handle_reading};
 ghost use Rattle.frame.specs.Footer.{footer_reading};
 ghost use Rattle.frame.specs.declared.footer.TheConstants.{FOOTER_LEN};
+ghost use Rattle.frame.specs.declared.trailer.TheConstants.{TRAILER_LEN};
 ghost use Rattle.table.specs.IndexWalk.{block_named};
 ghost use Rattle.table.specs.ReadingIndex.{block_in, one_handle};
 ghost use Rattle.table.specs.TableContents.{index_in};
@@ -24,7 +25,7 @@ pub(crate) fn index_block<F: Folder>(folder: &mut F, file: &TableFile) -> Result
     ensures given { (bytes : List ℕ) (names : List Entry) →
         IsFileOfBytes (F.tells folder.old) file.now bytes → index_in bytes ≡ Ok names →
         Gives result (λ stored. block_in stored.items ≡ Ok names) }
-    ensures long { IfOk result (λ stored. 5 ≤ length stored.items) }
+    ensures long { IfOk result (λ stored. TRAILER_LEN ≤ length stored.items) }
     ensures device { ReportsDevice F.Folder folder.old folder.new result }
     ensures reads { OnlyReads F.Folder folder.old folder.new }
 {
@@ -61,7 +62,7 @@ pub(crate) fn data_block<F: Folder>(
         IsFileOfBytes (F.tells folder.old) file.now bytes →
         block_named bytes value.now ≡ Ok entries →
         Gives result (λ stored. block_in stored.items ≡ Ok entries) }
-    ensures long { IfOk result (λ stored. 5 ≤ length stored.items) }
+    ensures long { IfOk result (λ stored. TRAILER_LEN ≤ length stored.items) }
     ensures device { ReportsDevice F.Folder folder.old folder.new result }
     ensures reads { OnlyReads F.Folder folder.old folder.new }
 {

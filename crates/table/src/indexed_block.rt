@@ -1,6 +1,7 @@
 //! A data block that an index names.
 
 ghost use Rattle.std.specs.Prelude.{◌≤◌, length};
+ghost use Rattle.frame.specs.declared.trailer.TheConstants.{TRAILER_LEN};
 
 use ikey::KeyBuf;
 
@@ -11,5 +12,5 @@ pub(crate) struct IndexedBlock<'a> {
     pub key: KeyBuf,
     /// The block's contents, and the 5 bytes of their trailer.
     pub stored: &'a [u8],
-    ghost long: { 5 ≤ length stored.now },
+    ghost long: { TRAILER_LEN ≤ length stored.now },
 }

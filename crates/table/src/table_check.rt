@@ -14,6 +14,7 @@ ghost use Rattle.table.specs.ReadingIndex.{stored_at, block_in, index_entry, ind
 ghost use Rattle.table.specs.TableContents.{data_reading, index_in, contents_reading};
 ghost use Rattle.table.specs.BoundsReading.{bounds_of, bounds_reading, stored_bounds};
 ghost use Rattle.table.specs.Indexed.{index_entry_of, index_entries_of};
+ghost use Rattle.frame.specs.declared.trailer.TheConstants.{TRAILER_LEN};
 
 use crate::bounds::Bounds;
 use crate::indexed_block::IndexedBlock;
@@ -97,7 +98,7 @@ fn read<C: Comparator>(alloc: Global, bytes: &[u8]) -> Result<SoundTable<'_, C>,
 pub(crate) fn stored_at(bytes: &[u8], handle: BlockHandle) -> Result<&[u8], Fault>
     ensures reading { result_map_both (λ stored. stored.now) (λ e. e) result
         ≡ stored_at bytes.now handle }
-    ensures long { IfOk result (λ stored. 5 ≤ length stored.now) }
+    ensures long { IfOk result (λ stored. TRAILER_LEN ≤ length stored.now) }
 {
     let Some(room) = bytes.len().checked_sub(FOOTER_LEN + TRAILER_LEN) else {
         return Err(Fault::of(FaultName::Range));
@@ -113,7 +114,7 @@ pub(crate) fn stored_at(bytes: &[u8], handle: BlockHandle) -> Result<&[u8], Faul
 
 /// The block in stored bytes, or the first test that they fail.
 fn block_in(stored: &[u8]) -> Result<SoundBlock<'_>, Fault>
-    requires { 5 ≤ length stored.now }
+    requires { TRAILER_LEN ≤ length stored.now }
     ensures { EqualOrMemory (λ block. block.entries) result (block_in stored.now) }
 {
     block::check(contents(stored)?)
@@ -248,7 +249,7 @@ fn bounds_of<'a, C: Comparator>(
     before: Option<InternalKey<'_>>,
     so_far: Tally,
 ) -> Result<Bounds, Fault>
-    requires { 5 ≤ length stored.now }
+    requires { TRAILER_LEN ≤ length stored.now }
     ensures { EqualOrMemory (λ bounds. bounds) result
         (stored_bounds C.cmp (option_map (λ key. key.bytes.now) before.entry) so_far stored.now) }
 {

@@ -1,9 +1,11 @@
 -- The places of pieces among the data blocks of outputs.
-use Rattle.std.specs.Prelude.{ℕ, zero, suc, ◌+◌, ◌^◌, nat_lt, nat_le, if◌then◌else◌, List, [], ◌∷◌}
+use Rattle.std.specs.Prelude.{ℕ, zero, suc, ◌+◌, nat_lt, nat_le, if◌then◌else◌, List, [], ◌∷◌}
 use Rattle.std.specs.Prelude.{◌++◌, length, slice_range}
 use Rattle.encoding.specs.declared.planned_block.PlannedBlock.{PlannedBlock}
 use Rattle.cut.specs.declared.piece.Piece.{Piece}
 use Rattle.cut.specs.declared.planned_output.PlannedOutput.{PlannedOutput}
+use Rattle.cut.specs.declared.output_plan.TheConstants.{FEW_BLOCKS, PIECE_LEN}
+use Rattle.frame.specs.declared.trailer.TheConstants.{TRAILER_LEN}
 
 -- the blocks of the output at a place
 abbrev pub blocks_at : List PlannedOutput → ℕ → List PlannedBlock
@@ -21,10 +23,10 @@ abbrev pub piece_places_from : ℕ → ℕ → ℕ → ℕ → ℕ → List Plan
 piece_places_from output limit from at size [] =
     if nat_lt from at then record { output = output; from = from; to = at } ∷ [] else []
 piece_places_from output limit from at size (b ∷ bs) =
-    if nat_le limit (size + (b.len + 5))
+    if nat_le limit (size + (b.len + TRAILER_LEN))
     then record { output = output; from = from; to = at + 1 } ∷ piece_places_from output limit
     (at + 1) (at + 1) 0 bs
-    else piece_places_from output limit from (at + 1) (size + (b.len + 5)) bs
+    else piece_places_from output limit from (at + 1) (size + (b.len + TRAILER_LEN)) bs
 
 -- the pieces of outputs, the first of which is at place `output`
 abbrev pub places_all : ℕ → ℕ → List PlannedOutput → List Piece
@@ -41,4 +43,4 @@ counts_all limit output (p ∷ ps) = length (piece_places_from output limit 0 0 
 -- The bytes at which a piece ends, if there are `blocks` data blocks in all: with fewer than 64,
 -- each block is a piece.
 abbrev pub piece_limit : ℕ → ℕ
-piece_limit blocks = if nat_lt blocks 64 then 0 else 2 ^ 22
+piece_limit blocks = if nat_lt blocks FEW_BLOCKS then 0 else PIECE_LEN

@@ -6,6 +6,7 @@ use Rattle.block.specs.BlockFormat.{block, encoded_entry_of}
 use Rattle.block.specs.BuilderView.{last_key}
 use Rattle.frame.specs.declared.trailer.TheConstants.{TRAILER_LEN}
 use Rattle.table.specs.Table.{closing_bytes, stored_blocks}
+use Rattle.cut.specs.declared.table_len.TheConstants.{CLOSING_LEN}
 
 -- the bytes of the restart of the entry at a place, if it has one; the first entry's is counted in
 -- the empty block
@@ -30,4 +31,4 @@ pub record LengthsLaw : Type 0 where
       length (stored_blocks interval (parts ++ p ∷ []))
       ≡ length (stored_blocks interval parts) + (length (block interval p) + TRAILER_LEN)
   pub closed : (at : ℕ) (index : List Entry) → length (closing_bytes at index)
-      ≡ length (block 1 index) + 66
+      ≡ length (block 1 index) + CLOSING_LEN

@@ -13,7 +13,7 @@ use Rattle.table.specs.Table.{closing_bytes, index_from, index_keys, stored_bloc
 use Rattle.table.specs.ReadingSteps.{test_result}
 use Rattle.ikey.specs.Comparator.{KeyOrder, ShortKeys}
 use Rattle.table.specs.declared.table_check.TheConstants.{MAX_TABLE_LEN}
-use Rattle.cut.specs.declared.output_plan.TheConstants.{MAX_BLOCKS}
+use Rattle.cut.specs.declared.output_plan.TheConstants.{FEW_BLOCKS, MAX_BLOCKS, PIECE_LEN}
 
 -- an output: the number of its file, its entries, the place after the last entry of each data
 -- block, and the length of its table
@@ -87,8 +87,8 @@ pieces_behind size interval latest (p ∷ ps) =
 -- piece; else a piece ends with the block at which its bytes reach 2 ^ 22.
 abbrev pub pieces_in : Options → ℕ → List Entry → List (List (List Entry))
 pieces_in o blocks q =
-    if nat_lt blocks 64 then map (λ p. p ∷ []) (data_blocks o q) else pieces_behind (2 ^ 22)
-    o.restart_interval [] (data_blocks o q)
+    if nat_lt blocks FEW_BLOCKS then map (λ p. p ∷ []) (data_blocks o q) else
+    pieces_behind PIECE_LEN o.restart_interval [] (data_blocks o q)
 
 -- the pieces of all outputs, in order
 abbrev pub pieces : Options → List (List Entry) → List (List (List Entry))

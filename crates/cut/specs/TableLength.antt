@@ -9,6 +9,7 @@ use Rattle.table.specs.Table.{IndexKeys, index_key, handle_entry}
 use Rattle.encoding.specs.declared.planned_block.PlannedBlock.{PlannedBlock}
 use Rattle.encoding.specs.Planned.{parts_of}
 use Rattle.cut.specs.Sizes.{encoded_entry_size}
+use Rattle.cut.specs.declared.table_len.TheConstants.{CLOSING_LEN}
 use Rattle.table.specs.declared.table_check.TheConstants.{MAX_TABLE_LEN}
 
 -- a length, or one more than MAX_TABLE_LEN if it is longer
@@ -34,7 +35,7 @@ planned_index_entries keys at (b ∷ bs) = handle_entry (planned_index_key keys 
 abbrev pub table_size : IndexKeys → List PlannedBlock → ℕ
 table_size keys blocks =
     if nat_lt MAX_TABLE_LEN (lens_of blocks) then MAX_TABLE_LEN + 1 else capped_length
-    (lens_of blocks + 66 + length (block 1 (planned_index_entries keys 0 blocks)))
+    (lens_of blocks + CLOSING_LEN + length (block 1 (planned_index_entries keys 0 blocks)))
 
 -- the lengths of the tables of several such lists
 abbrev pub sizes_of : IndexKeys → List (Vec PlannedBlock) → List ℕ

@@ -18,6 +18,7 @@ use Rattle.edit.specs.declared.meta.NewFile.{NewFile}
 use Rattle.edit.specs.declared.meta.CompactPointer.{CompactPointer}
 use Rattle.edit.specs.declared.meta.DeletedFile.{DeletedFile}
 use Rattle.edit.specs.declared.version_edit.VersionEdit.{VersionEdit}
+use Rattle.edit.specs.declared.meta.TheConstants.{LAST_LEVEL}
 
 -- an edit as contracts see it
 pub record Edit : Type 0 where
@@ -128,9 +129,9 @@ edit_in e = record {
 
 -- each level is from 0 to 6
 pub record HasValidLevels (e : Edit) : Type 0 where
-  pub pointers : All (λ (pointer : CompactPointer). pointer.level ≤ 6) e.pointers
-  pub deleted : All (λ (file : DeletedFile). file.level ≤ 6) e.deleted
-  pub added : All (λ (file : NewFile). file.level ≤ 6) e.added
+  pub pointers : All (λ (pointer : CompactPointer). pointer.level ≤ LAST_LEVEL) e.pointers
+  pub deleted : All (λ (file : DeletedFile). file.level ≤ LAST_LEVEL) e.deleted
+  pub added : All (λ (file : NewFile). file.level ≤ LAST_LEVEL) e.added
 
 -- the comparator's name, if there is one, has fewer than 2 ^ 32 bytes
 abbrev pub HasShortName : Edit → Type 0

@@ -9,6 +9,7 @@ use Rattle.edit.specs.declared.meta.DeletedFile.{DeletedFile}
 use Rattle.edit.specs.declared.tag.Tag.{Tag}
 use Rattle.edit.specs.declared.tag.Tag.TheVariants.{Comparator, LogNumber, NextFile, LastSequence}
 use Rattle.edit.specs.declared.tag.Tag.TheVariants.{Pointer, Deleted, Added, PreviousLog}
+use Rattle.edit.specs.declared.meta.TheConstants.{LAST_LEVEL}
 
 -- a field, by what it changes in an edit
 pub data Field : Type 0 where
@@ -58,8 +59,8 @@ IsField (SetLogNumber number) = number < 2 ^ 64
 IsField (SetPreviousLog number) = number < 2 ^ 64
 IsField (SetNextFile number) = number < 2 ^ 64
 IsField (SetLastSequence number) = number < 2 ^ 64
-IsField (SetPointer pointer) = (pointer.level ≤ 6) × IsInternalKey pointer.key
-IsField (DeleteFile file) = (file.level ≤ 6) × (file.number < 2 ^ 64)
+IsField (SetPointer pointer) = (pointer.level ≤ LAST_LEVEL) × IsInternalKey pointer.key
+IsField (DeleteFile file) = (file.level ≤ LAST_LEVEL) × (file.number < 2 ^ 64)
 IsField (AddFile file) =
-    (file.level ≤ 6) × (file.meta.number < 2 ^ 64) × (file.meta.size < 2 ^ 64)
+    (file.level ≤ LAST_LEVEL) × (file.meta.number < 2 ^ 64) × (file.meta.size < 2 ^ 64)
     × IsInternalKey file.meta.smallest × IsInternalKey file.meta.largest

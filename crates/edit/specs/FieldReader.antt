@@ -15,6 +15,7 @@ use Rattle.edit.specs.Tag.{listed_tag}
 use Rattle.edit.specs.declared.tag.Tag.{Tag}
 use Rattle.edit.specs.declared.tag.Tag.TheVariants.{Comparator, LogNumber, NextFile, LastSequence}
 use Rattle.edit.specs.declared.tag.Tag.TheVariants.{Pointer, Deleted, Added, PreviousLog}
+use Rattle.edit.specs.declared.meta.TheConstants.{LAST_LEVEL}
 
 infixl 10 ◌>>=◌
 -- the ? of the logic
@@ -36,7 +37,7 @@ slice_at bytes = do
 unfoldable pub level_at : List ℕ → Option (ℕ × List ℕ)
 level_at bytes = do
   level ← varint_at (2 ^ 32) bytes
-  if nat_lt 6 level.0 then None else Some level
+  if nat_lt LAST_LEVEL level.0 then None else Some level
 
 -- a length-prefixed text
 unfoldable pub text_at : List ℕ → Option (List ℕ × List ℕ)

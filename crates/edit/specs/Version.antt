@@ -18,6 +18,7 @@ use Rattle.edit.specs.Edit.{Edit}
 use Rattle.edit.specs.declared.meta.NewFile.{NewFile}
 use Rattle.edit.specs.declared.meta.CompactPointer.{CompactPointer}
 use Rattle.edit.specs.declared.meta.DeletedFile.{DeletedFile}
+use Rattle.edit.specs.declared.meta.TheConstants.{LAST_LEVEL}
 
 -- a version as contracts see it
 pub record State : Type 0 where
@@ -123,8 +124,8 @@ applied_by name v e = if names_another name e then Err (fault Comparator) else o
 
 -- the levels of files and pointers are from 0 to 6
 pub record AreLevelled (pointers : List (ℕ × List ℕ)) (files : List NewFile) : Type 0 where
-  pub file_levels : All (λ (f : NewFile). f.level ≤ 6) files
-  pub pointer_levels : All (λ (level : ℕ). level ≤ 6) (keys_of pointers)
+  pub file_levels : All (λ (f : NewFile). f.level ≤ LAST_LEVEL) files
+  pub pointer_levels : All (λ (level : ℕ). level ≤ LAST_LEVEL) (keys_of pointers)
 
 -- What holds of each version. Files rise by number, so no two have one number. Pointers rise by
 -- level, so a level has at most one. Levels are from 0 to 6.

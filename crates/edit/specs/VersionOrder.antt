@@ -11,6 +11,7 @@ use Rattle.edit.specs.Version.{State}
 use Rattle.edit.specs.declared.meta.FileMeta.{FileMeta}
 use Rattle.edit.specs.declared.meta.NewFile.{NewFile}
 use Rattle.edit.specs.declared.meta.CompactPointer.{CompactPointer}
+use Rattle.edit.specs.declared.meta.TheConstants.{LEVELS}
 
 -- version order: by smallest internal key, then number
 abbrev pub file_cmp : KeyOrder → FileMeta → FileMeta → Ordering
@@ -56,7 +57,7 @@ snapshot_of name cmp v = record {
   last_sequence = None;
   pointers = map pointer_entry v.pointers;
   deleted = [];
-  added = added_from cmp v.files 0 7;
+  added = added_from cmp v.files 0 LEVELS;
 }
 
 -- a version without its numbers

@@ -13,6 +13,7 @@ ghost use Rattle.edit.specs.Edit.{deleted_cmp, optional_field};
 ghost use Rattle.edit.specs.Field.{IsField, SetComparator, SetPointer, DeleteFile, AddFile};
 ghost use Rattle.edit.specs.Field.{spelling};
 ghost use Rattle.edit.specs.Tag.{tag_number};
+ghost use Rattle.edit.specs.declared.meta.TheConstants.{LAST_LEVEL};
 
 use crate::meta::{CompactPointer, DeletedFile, NewFile};
 use crate::tag::Tag;
@@ -53,7 +54,7 @@ pub(crate) fn push_optional(out: &mut Vec<u8>, tag: Tag, number: Option<u64>) ->
 
 /// Appends each compact pointer.
 pub(crate) fn push_pointers(out: &mut Vec<u8>, pointers: &[CompactPointer]) -> Result<(), Fault>
-    requires { All (λ pointer. pointer.level ≤ 6) pointers.now }
+    requires { All (λ pointer. pointer.level ≤ LAST_LEVEL) pointers.now }
     ensures ok { OnOk result
         (out.new.items ≡ out.old.items ++ flat_map spelling (map SetPointer pointers.now)) }
     ensures lawful { OnOk result (AllByRecursion IsField (map SetPointer pointers.now)) }
@@ -67,7 +68,7 @@ pub(crate) fn push_pointers(out: &mut Vec<u8>, pointers: &[CompactPointer]) -> R
 
 /// Appends a compact pointer.
 fn push_pointer(out: &mut Vec<u8>, pointer: &CompactPointer) -> Result<(), Fault>
-    requires { pointer.now.level ≤ 6 }
+    requires { pointer.now.level ≤ LAST_LEVEL }
     ensures ok { OnOk result (out.new.items ≡ out.old.items ++ spelling (SetPointer pointer.now)) }
     ensures lawful { OnOk result (IsField (SetPointer pointer.now)) }
     ensures memory { IsOkUnless result (fault Memory) }
@@ -80,7 +81,7 @@ fn push_pointer(out: &mut Vec<u8>, pointer: &CompactPointer) -> Result<(), Fault
 
 /// Appends each deleted file, by level and number.
 pub(crate) fn push_deleted(out: &mut Vec<u8>, deleted: &BTreeSet<DeletedFile>) -> Result<(), Fault>
-    requires { All (λ file. file.level ≤ 6) deleted.now.keys }
+    requires { All (λ file. file.level ≤ LAST_LEVEL) deleted.now.keys }
     ensures ok { OnOk result
         (out.new.items ≡ out.old.items ++ flat_map spelling (map DeleteFile deleted.now.keys)) }
     ensures lawful { OnOk result (AllByRecursion IsField (map DeleteFile deleted.now.keys)) }
@@ -95,7 +96,7 @@ pub(crate) fn push_deleted(out: &mut Vec<u8>, deleted: &BTreeSet<DeletedFile>) -
 
 /// Appends a deleted file.
 fn push_deletion(out: &mut Vec<u8>, file: DeletedFile) -> Result<(), Fault>
-    requires { file.level ≤ 6 }
+    requires { file.level ≤ LAST_LEVEL }
     ensures ok { OnOk result (out.new.items ≡ out.old.items ++ spelling (DeleteFile file)) }
     ensures lawful { OnOk result (IsField (DeleteFile file)) }
     ensures memory { IsOkUnless result (fault Memory) }
@@ -107,7 +108,7 @@ fn push_deletion(out: &mut Vec<u8>, file: DeletedFile) -> Result<(), Fault>
 
 /// Appends each new file.
 pub(crate) fn push_added(out: &mut Vec<u8>, added: &[NewFile]) -> Result<(), Fault>
-    requires { All (λ file. file.level ≤ 6) added.now }
+    requires { All (λ file. file.level ≤ LAST_LEVEL) added.now }
     ensures ok { OnOk result
         (out.new.items ≡ out.old.items ++ flat_map spelling (map AddFile added.now)) }
     ensures lawful { OnOk result (AllByRecursion IsField (map AddFile added.now)) }
@@ -121,7 +122,7 @@ pub(crate) fn push_added(out: &mut Vec<u8>, added: &[NewFile]) -> Result<(), Fau
 
 /// Appends a new file.
 fn push_file(out: &mut Vec<u8>, file: &NewFile) -> Result<(), Fault>
-    requires { file.now.level ≤ 6 }
+    requires { file.now.level ≤ LAST_LEVEL }
     ensures ok { OnOk result (out.new.items ≡ out.old.items ++ spelling (AddFile file.now)) }
     ensures lawful { OnOk result (IsField (AddFile file.now)) }
     ensures memory { IsOkUnless result (fault Memory) }

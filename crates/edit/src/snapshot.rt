@@ -5,6 +5,7 @@ ghost use Rattle.coding.specs.Answers.{fault};
 ghost use Rattle.coding.specs.declared.fault.FaultName.TheVariants.{Memory};
 ghost use Rattle.edit.specs.VersionOrder.{in_version_order, files_at, pointer_entry, at_level};
 ghost use Rattle.edit.specs.VersionOrder.{added_from};
+ghost use Rattle.edit.specs.declared.meta.TheConstants.{LEVELS};
 
 use crate::files::Files;
 use crate::meta::{CompactPointer, FileMeta, LEVELS, NewFile};
@@ -16,7 +17,7 @@ use std::collections::BTreeMap;
 
 /// All files as new files, by level and in version order. The only fault is Memory.
 pub(crate) fn all_added<C: Comparator>(alloc: Global, files: &Files) -> Result<Vec<NewFile>, Fault>
-    ensures ok { IfOk result (λ v. v.items ≡ added_from C.cmp files.now 0 7) }
+    ensures ok { IfOk result (λ v. v.items ≡ added_from C.cmp files.now 0 LEVELS) }
     ensures memory { IfErr result (λ e. e ≡ fault Memory) }
 {
     let mut added = Vec::with_capacity(alloc, files.len())?;

@@ -7,6 +7,7 @@ ghost use Rattle.coding.specs.Answers.{EqualOrMemory, fault};
 ghost use Rattle.edit.specs.Edit.{HasValidLevels, HasShortName};
 ghost use Rattle.edit.specs.Version.{IsState, empty_state, pointer_of, applied, applied_by};
 ghost use Rattle.edit.specs.VersionOrder.{level_files, snapshot_of};
+ghost use Rattle.edit.specs.declared.meta.TheConstants.{LAST_LEVEL};
 
 use crate::copies::copied_by_level;
 use crate::edit_effect::{files_after, pointers_after};
@@ -99,7 +100,7 @@ impl Version {
 
     /// The compact pointer of `level`, 0 to 6; None if none was set.
     pub fn pointer(&self, level: u64) -> Option<&KeyBuf>
-        requires { level ≤ 6 }
+        requires { level ≤ LAST_LEVEL }
         ensures { option_copied result ≡ pointer_of self.now level }
     {
         self.pointers.get(&level)
@@ -146,7 +147,7 @@ impl Version {
     /// The files of `level`, 0 to 6, in version order: by smallest internal key, then number. The
     /// only fault is Memory.
     pub fn files<C: Comparator>(&self, alloc: Global, level: u64) -> Result<Vec<&FileMeta>, Fault>
-        requires { level ≤ 6 }
+        requires { level ≤ LAST_LEVEL }
         ensures ordered { EqualOrMemory (λ files. map (λ file. file.now) files.items) result
             (Ok (level_files C.cmp self.now level)) }
         // Files rise by number, pointers by level, and levels are from 0 to 6.

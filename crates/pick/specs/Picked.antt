@@ -9,11 +9,13 @@ use Rattle.edit.specs.Version.{State, pointer_of}
 use Rattle.edit.specs.VersionOrder.{level_files}
 use Rattle.edit.specs.declared.meta.FileMeta.{FileMeta}
 use Rattle.edit.specs.declared.meta.CompactPointer.{CompactPointer}
+use Rattle.edit.specs.declared.meta.TheConstants.{LAST_LEVEL}
 use Rattle.pick.specs.Ranges.{overlaps}
 use Rattle.pick.specs.Chosen.{first_file, AreChosen}
 use Rattle.pick.specs.Boundaries.{largest_key, AreWithBoundaries}
 use Rattle.pick.specs.declared.picked.InputFile.{InputFile}
 use Rattle.pick.specs.declared.picked.Inputs.{Inputs}
+use Rattle.pick.specs.declared.input_choice.TheConstants.{LAST_INPUT_LEVEL}
 
 -- inputs as contracts see them
 pub record PickedInputs : Type 0 where
@@ -46,7 +48,8 @@ files_from cmp v level (suc n) = level_files cmp v level ++ files_from cmp v (le
 -- if level + 2 exceeds 6.
 abbrev pub grandparents_of : KeyOrder → State → ℕ → List FileMeta → List FileMeta
 grandparents_of cmp v level all =
-    if nat_lt 6 (level + 2) then [] else filter (overlaps cmp all) (level_files cmp v (level + 2))
+    if nat_lt LAST_LEVEL (level + 2) then [] else filter (overlaps cmp all)
+    (level_files cmp v (level + 2))
 
 -- The inputs of the level itself: the first file, what is chosen with it, and the boundary files.
 pub record AreUpper (cmp : KeyOrder) (v : State) (level : ℕ) (upper : List FileMeta) : Type 0 where
@@ -80,7 +83,8 @@ pub record IsPicked (cmp : KeyOrder) (v : State) (level : ℕ) (p : PickedInputs
 
 -- The answer for a level: Level if it is above 5; else NoInput if it has no file; else its inputs.
 abbrev pub IsInputsAnswer : KeyOrder → State → ℕ → Result PickedInputs Fault → Type 0
-IsInputsAnswer cmp v level answer = MatchBool (nat_lt 5 level) (answer ≡ Err (fault Level))
+IsInputsAnswer cmp v level answer =
+    MatchBool (nat_lt LAST_INPUT_LEVEL level) (answer ≡ Err (fault Level))
     (MatchBool (nat_lt 0 (length (level_files cmp v level)))
     (IsOkAnd answer (IsPicked cmp v level)) (answer ≡ Err (fault NoInput)))
 

@@ -5,6 +5,7 @@ ghost use Rattle.std.specs.Prelude.{filter, OnOk, IfErr};
 ghost use Rattle.coding.specs.Answers.{EqualOrMemory, fault};
 ghost use Rattle.coding.specs.declared.fault.FaultName.TheVariants.{Memory};
 ghost use Rattle.edit.specs.VersionOrder.{level_files};
+ghost use Rattle.edit.specs.declared.meta.TheConstants.{LAST_LEVEL, LEVELS};
 ghost use Rattle.pick.specs.Choices.{is_in};
 ghost use Rattle.pick.specs.Picked.{files_from, input_at};
 
@@ -52,7 +53,7 @@ fn overlapping<C: Comparator>(
     level: u64,
     range: UserRange<'_>,
 ) -> Result<Vec<FileMeta>, Fault>
-    requires { level ≤ 6 }
+    requires { level ≤ LAST_LEVEL }
     ensures { EqualOrMemory (λ v. v.items) result
         (Ok (filter (is_in C.cmp range.entry) (level_files C.cmp version.now level))) }
 {
@@ -74,7 +75,7 @@ pub(crate) fn deeper_files<C: Comparator>(
     from: u64,
 ) -> Result<Vec<FileMeta>, Fault>
     ensures { EqualOrMemory (λ v. v.items) result
-        (Ok (files_from C.cmp version.now from (7 - from))) }
+        (Ok (files_from C.cmp version.now from (LEVELS - from))) }
 {
     let mut deeper = Vec::new(alloc);
     for level in from..LEVELS {
@@ -94,7 +95,7 @@ pub(crate) fn grandparents<C: Comparator>(
     range: UserRange<'_>,
 ) -> Result<Vec<FileMeta>, Fault>
     ensures { EqualOrMemory (λ v. v.items) result
-        (Ok (if nat_lt 6 level then [] else filter (is_in C.cmp range.entry)
+        (Ok (if nat_lt LAST_LEVEL level then [] else filter (is_in C.cmp range.entry)
         (level_files C.cmp version.now level))) }
 {
     if level > LAST_LEVEL {

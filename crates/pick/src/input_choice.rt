@@ -5,8 +5,10 @@ ghost use Rattle.std.specs.Prelude.{filter, OnOk};
 ghost use Rattle.coding.specs.Answers.{EqualOrMemory, HoldsOrMemory};
 ghost use Rattle.edit.specs.Version.{IsState};
 ghost use Rattle.edit.specs.VersionOrder.{level_files};
+ghost use Rattle.edit.specs.declared.meta.TheConstants.{LAST_LEVEL, LEVELS};
 ghost use Rattle.pick.specs.Choices.{is_in};
 ghost use Rattle.pick.specs.Picked.{picked_in, input_at, files_from, IsInputsAnswer};
+ghost use Rattle.pick.specs.declared.input_choice.TheConstants.{LAST_INPUT_LEVEL};
 
 use crate::boundaries::largest_of;
 use crate::deeper::{deeper_files, grandparents, push_inputs};
@@ -66,7 +68,7 @@ fn files_of(
     upper: &[&FileMeta],
     lower: &[&FileMeta],
 ) -> Result<Vec<InputFile>, Fault>
-    requires { level ≤ 5 }
+    requires { level ≤ LAST_INPUT_LEVEL }
     ensures { EqualOrMemory (λ v. v.items) result
         (Ok (map (λ f. input_at level f.now) upper.now
         ++ map (λ f. input_at (level + 1) f.now) lower.now)) }
@@ -87,13 +89,13 @@ fn picked<C: Comparator>(
     range: UserRange<'_>,
     largest: &KeyBuf,
 ) -> Result<Inputs, Fault>
-    requires { level ≤ 5 }
+    requires { level ≤ LAST_INPUT_LEVEL }
     ensures { EqualOrMemory picked_in result (Ok (record {
       level = level;
       files = files.items;
-      grandparents = if nat_lt 6 (level + 2) then [] else filter (is_in C.cmp range.entry)
+      grandparents = if nat_lt LAST_LEVEL (level + 2) then [] else filter (is_in C.cmp range.entry)
           (level_files C.cmp version.now (level + 2));
-      deeper = files_from C.cmp version.now (level + 2) (7 - (level + 2));
+      deeper = files_from C.cmp version.now (level + 2) (LEVELS - (level + 2));
       pointer = record { level = level; key = largest.now };
     })) }
 {

@@ -4,6 +4,7 @@ ghost use Rattle.std.specs.Prelude.{◌≤◌, map, filter, IsOkAnd};
 ghost use Rattle.coding.specs.Answers.{HoldsOrMemory};
 ghost use Rattle.edit.specs.Version.{IsState};
 ghost use Rattle.edit.specs.VersionOrder.{level_files};
+ghost use Rattle.edit.specs.declared.meta.TheConstants.{LAST_LEVEL};
 ghost use Rattle.pick.specs.Boundaries.{AreWithBoundaries};
 ghost use Rattle.pick.specs.Choices.{is_in, IsUpperAnswer};
 
@@ -22,7 +23,7 @@ pub(crate) fn upper_files<C: Comparator>(
     version: &Version,
     level: u64,
 ) -> Result<Vec<&FileMeta>, Fault>
-    requires { level ≤ 6 }
+    requires { level ≤ LAST_LEVEL }
     ensures { HoldsOrMemory (λ v. map (λ f. f.now) v.items) result
         (IsUpperAnswer C.cmp version.now level) }
 {
@@ -45,7 +46,7 @@ pub(crate) fn lower_files<'a, C: Comparator>(
     level: u64,
     range: UserRange<'_>,
 ) -> Result<Vec<&'a FileMeta>, Fault>
-    requires { level ≤ 6 }
+    requires { level ≤ LAST_LEVEL }
     ensures lower { HoldsOrMemory (λ v. map (λ f. f.now) v.items) result
         (λ answer. IsOkAnd answer (AreWithBoundaries C.cmp (level_files C.cmp version.now level)
         (filter (is_in C.cmp range.entry) (level_files C.cmp version.now level)))) }

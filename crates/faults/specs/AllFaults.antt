@@ -6,6 +6,7 @@ use Rattle.ikey.specs.Comparator.{KeyOrder}
 use Rattle.edit.specs.Version.{State}
 use Rattle.edit.specs.VersionOrder.{added_from}
 use Rattle.edit.specs.declared.meta.NewFile.{NewFile}
+use Rattle.edit.specs.declared.meta.TheConstants.{LEVELS}
 use Rattle.folder.specs.Calls.{Files}
 use Rattle.folder.specs.OpenAnswer.{FolderAnswers}
 use Rattle.checks.specs.Takers.{AreToldInTurn}
@@ -15,7 +16,7 @@ use Rattle.faults.specs.KeyFaults.{misplaced_keys, searched_entries}
 
 -- the files of a version, by level and in version order
 abbrev pub all_files : KeyOrder → State → List NewFile
-all_files cmp v = added_from cmp v.files 0 7
+all_files cmp v = added_from cmp v.files 0 LEVELS
 
 -- All that is wrong with a version, with the tables that files hold. First what is wrong with each
 -- file, by level and in version order, and then with each user key, in the order of the keys.

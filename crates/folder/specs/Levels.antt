@@ -4,6 +4,7 @@ use Rattle.ikey.specs.Comparator.{KeyOrder}
 use Rattle.edit.specs.Version.{State}
 use Rattle.edit.specs.VersionOrder.{level_files}
 use Rattle.edit.specs.declared.meta.FileMeta.{FileMeta}
+use Rattle.edit.specs.declared.meta.TheConstants.{LEVELS}
 
 -- the lists of n levels from this one on, one after the other
 abbrev pub by_level : {A : Type 0} → (ℕ → List A) → ℕ → ℕ → List A
@@ -12,7 +13,7 @@ by_level of level (suc n) = of level ++ by_level of (level + 1) n
 
 -- the lists of levels 0 to 6, one after the other
 abbrev pub all_levels : {A : Type 0} → (ℕ → List A) → List A
-all_levels of = by_level of 0 7
+all_levels of = by_level of 0 LEVELS
 
 -- the numbers of a level's files, in version order
 abbrev pub numbers_at : KeyOrder → State → ℕ → List ℕ

@@ -10,6 +10,7 @@ use Rattle.edit.specs.Version.{State}
 use Rattle.edit.specs.VersionOrder.{added_from}
 use Rattle.edit.specs.declared.meta.FileMeta.{FileMeta}
 use Rattle.edit.specs.declared.meta.NewFile.{NewFile}
+use Rattle.edit.specs.declared.meta.TheConstants.{LEVELS}
 use Rattle.reads.specs.Tables.{NumberedContents, table_entries, tables_test}
 use Rattle.reads.specs.Lawful.{IsLawful}
 use Rattle.reads.specs.StatedFiles.{IsStatedFile}
@@ -51,11 +52,13 @@ lists_of_files tables files = map (λ (f : FileMeta). table_entries tables f.num
 -- exactly if each file's table is what the version states and of each user key the sequences fall.
 pub record AreStandingFiles (cmp : KeyOrder) (v : State) (files : List FileMeta)
     : Type 0 where
-  pub permutation : IsPermutation (map (λ (f : NewFile). f.meta) (added_from cmp v.files 0 7)) files
+  pub permutation : IsPermutation
+      (map (λ (f : NewFile). f.meta) (added_from cmp v.files 0 LEVELS)) files
   pub lawful : (tables : List NumberedContents) → IsLawful cmp v tables
       ↔ (All (IsStatedFile cmp tables v.next_file) files
       × AreFalling (entries_of_lists (lists_of_files tables files)))
 
 -- the files of all levels, in order, are all files of the version
 abbrev pub AreAllAdded : KeyOrder → State → Type 0
-AreAllAdded cmp v = (f : NewFile) → Contains v.files f → Contains (added_from cmp v.files 0 7) f
+AreAllAdded cmp v =
+    (f : NewFile) → Contains v.files f → Contains (added_from cmp v.files 0 LEVELS) f

@@ -14,6 +14,7 @@ ghost use Rattle.std.specs.List.Sorted.{IsPermutation};
 ghost use Rattle.coding.specs.Answers.{fault, UnlessMemory};
 ghost use Rattle.coding.specs.declared.fault.FaultName.TheVariants.{Memory};
 ghost use Rattle.edit.specs.VersionOrder.{added_from, at_level};
+ghost use Rattle.edit.specs.declared.meta.TheConstants.{LEVELS};
 ghost use Rattle.reads.specs.Tables.{table_of_number, table_entries, tables_test};
 ghost use Rattle.reads.specs.Lawful.{IsLawful, IsUnlawful};
 ghost use Rattle.reads.specs.StatedFiles.{is_below, matches_metadata, IsStatedFile};
@@ -169,7 +170,7 @@ fn all_files<'v, C: Comparator>(
 ) -> Result<Vec<LevelFile<'v>>, Fault>
     ensures all { IfOk result (λ files. AreAll version.now.files (map level_file_in files.items)) }
     ensures order { IfOk result (λ files. map level_file_in files.items
-        ≡ added_from C.cmp version.now.files 0 7) }
+        ≡ added_from C.cmp version.now.files 0 LEVELS) }
     ensures memory { IfErr result (λ e. e ≡ fault Memory) }
 {
     let mut all = Vec::new(alloc);
@@ -205,7 +206,8 @@ fn listed_files<'v, C: Comparator>(
 ) -> Result<Vec<LevelFile<'v>>, Fault>
     ensures listed { IfOk result (λ files. AreListed C.cmp version.now.files files.items) }
     ensures permutation { IfOk result (λ files.
-        IsPermutation (added_from C.cmp version.now.files 0 7) (map level_file_in files.items)) }
+        IsPermutation (added_from C.cmp version.now.files 0 LEVELS)
+        (map level_file_in files.items)) }
     ensures memory { IfErr result (λ e. e ≡ fault Memory) }
 {
     let mut files = all_files::<C>(alloc, version)?;

@@ -8,6 +8,7 @@ ghost use Rattle.coding.specs.declared.fault.FaultName.TheVariants.{Memory};
 ghost use Rattle.edit.specs.Edit.{edit_in};
 ghost use Rattle.edit.specs.Version.{IsState};
 ghost use Rattle.pick.specs.Picked.{picked_in};
+ghost use Rattle.pick.specs.declared.input_choice.TheConstants.{LAST_INPUT_LEVEL};
 ghost use Rattle.request.specs.EditOf.{deletions_of};
 ghost use Rattle.adoption.specs.EditFit.{IsChoiceOf, IsEditFor, IsFitting, are_counted};
 ghost use Rattle.adoption.specs.EditFit.{is_reached, only_level, rise_between, rise_within};
@@ -75,7 +76,7 @@ fn is_edit_for(
     picked: &Inputs,
     edit: &VersionEdit,
 ) -> Result<bool, Fault>
-    requires { picked.now.level ≤ 5 }
+    requires { picked.now.level ≤ LAST_INPUT_LEVEL }
     ensures exact { IfOk result (λ b. IsTrue b
         ↔ IsEditFor version.now (picked_in picked.now) (edit_in edit.now)) }
     ensures memory { IfErr result (λ e. e ≡ fault Memory) }

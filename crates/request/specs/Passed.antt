@@ -4,6 +4,7 @@ use Rattle.std.specs.List.{All}
 use Rattle.std.specs.List.Sorted.{IsStrictlyIncreasing}
 use Rattle.table.specs.Options.{AreInLimits}
 use Rattle.pick.specs.declared.picked.InputFile.{InputFile}
+use Rattle.pick.specs.declared.input_choice.TheConstants.{LAST_INPUT_LEVEL}
 use Rattle.keep.specs.Marks.{LargestRise}
 use Rattle.keep.specs.Readable.{listed_of}
 use Rattle.request.specs.Request.{RequestView, request_test}
@@ -19,7 +20,7 @@ pub record IsPassed (cmp : KeyOrder) (r : RequestView) : Type 0 where
   pub some : r.picked.files ≢ []
   pub few : length r.picked.files ≤ MAX_INPUTS
   pub tables : length r.tables ≡ length r.picked.files
-  pub level : r.picked.level ≤ 5
+  pub level : r.picked.level ≤ LAST_INPUT_LEVEL
   pub levels : All (λ (i : InputFile). (i.level ≡ r.picked.level) ⊎ (i.level ≡ r.picked.level + 1))
       r.picked.files
   pub limits : AreInLimits r.options

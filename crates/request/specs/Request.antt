@@ -12,6 +12,7 @@ use Rattle.table.specs.ReadingSteps.{test_result}
 use Rattle.table.specs.ReadingEntries.{is_some_list}
 use Rattle.pick.specs.Picked.{PickedInputs, picked_in}
 use Rattle.pick.specs.declared.picked.InputFile.{InputFile}
+use Rattle.pick.specs.declared.input_choice.TheConstants.{LAST_INPUT_LEVEL}
 use Rattle.keep.specs.Readable.{readable_of}
 use Rattle.keep.specs.Marks.{CompactionContext, largest_rise}
 use Rattle.keep.specs.Rising.{rises_by}
@@ -57,7 +58,7 @@ below_request r = record {
 
 -- whether the level is from 0 to 5, and each input is of it or of the next
 abbrev pub has_levels : PickedInputs → Bool
-has_levels p = nat_le p.level 5
+has_levels p = nat_le p.level LAST_INPUT_LEVEL
     && list_all (λ (i : InputFile). nat_eq i.level p.level || nat_eq i.level (p.level + 1)) p.files
 
 -- whether the options are in their limits, there are at most 256 inputs with a table each, and the

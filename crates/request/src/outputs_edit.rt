@@ -5,6 +5,7 @@ ghost use Rattle.std.specs.List.{All};
 ghost use Rattle.coding.specs.Answers.{EqualOrMemory};
 ghost use Rattle.edit.specs.Edit.{HasValidLevels, HasShortName, edit_in};
 ghost use Rattle.edit.specs.declared.meta.NewFile.{NewFile};
+ghost use Rattle.edit.specs.declared.meta.TheConstants.{LAST_LEVEL};
 ghost use Rattle.pick.specs.Picked.{picked_in};
 ghost use Rattle.request.specs.Request.{has_levels, request_in};
 ghost use Rattle.request.specs.EditOf.{deletions_of, edit_of};
@@ -36,7 +37,7 @@ impl<'a> Request<'a> {
         ensures edit { EqualOrMemory edit_in result
             (Ok (edit_of (request_in self.now) outputs.items)) }
         ensures levels { has_levels (picked_in self.now.picked.now) ≡ true →
-            All (λ (f : NewFile). f.level ≤ 6) outputs.items →
+            All (λ (f : NewFile). f.level ≤ LAST_LEVEL) outputs.items →
             IfOk result (λ e. HasValidLevels (edit_in e)) }
         ensures name { IfOk result (λ e. HasShortName (edit_in e)) }
     {

@@ -3,6 +3,7 @@ use Rattle.std.specs.Prelude.{◌≡◌, ◌⊎◌, ◌<◌, ◌≤◌, ℕ, len
 use Rattle.ikey.specs.Bytewise.{bytewise_cmp}
 use Rattle.edit.specs.Version.{State}
 use Rattle.edit.specs.VersionOrder.{level_files}
+use Rattle.edit.specs.declared.meta.TheConstants.{LAST_LEVEL}
 
 -- the number of a level's files, whatever their order is
 abbrev pub file_count : State → ℕ → ℕ
@@ -14,8 +15,9 @@ IsEmptyLevel v level = file_count v level ≡ 0
 
 -- the deepest level that has a file, and at least level 1
 abbrev pub IsBottom : State → ℕ → Type 0
-IsBottom v bottom = (1 ≤ bottom) × (bottom ≤ 6) × ((bottom ≡ 1) ⊎ (IsEmptyLevel v bottom → ⊥))
-    × ((level : ℕ) → bottom < level → level ≤ 6 → IsEmptyLevel v level)
+IsBottom v bottom = (1 ≤ bottom) × (bottom ≤ LAST_LEVEL)
+    × ((bottom ≡ 1) ⊎ (IsEmptyLevel v bottom → ⊥))
+    × ((level : ℕ) → bottom < level → level ≤ LAST_LEVEL → IsEmptyLevel v level)
 
 -- the first level above the bottom that has a file, if there is one
 abbrev pub IsNextLevel : State → ℕ → Option ℕ → Type 0

@@ -14,6 +14,7 @@ use Rattle.table.specs.TableContents.{Contents}
 use Rattle.edit.specs.Version.{State}
 use Rattle.edit.specs.VersionOrder.{level_files}
 use Rattle.edit.specs.declared.meta.FileMeta.{FileMeta}
+use Rattle.edit.specs.declared.meta.TheConstants.{LAST_LEVEL}
 use Rattle.folder.specs.Calls.{Files}
 use Rattle.folder.specs.Levels.{file_numbers}
 use Rattle.folder.specs.LoadedTables.{IsLoaded}
@@ -46,7 +47,7 @@ pub record IsOrderlyLevel (cmp : List ℕ → List ℕ → Ordering) (v : State)
 
 -- each level is so; each version has each number once
 abbrev pub IsOrderly : (List ℕ → List ℕ → Ordering) → State → Type 0
-IsOrderly cmp v = (level : ℕ) → level ≤ 6 → IsOrderlyLevel cmp v level
+IsOrderly cmp v = (level : ℕ) → level ≤ LAST_LEVEL → IsOrderlyLevel cmp v level
 
 -- what the test of a version's files answers that reads no table
 abbrev pub IsOrderlyAnswer : (List ℕ → List ℕ → Ordering) → State → Result (Unit {0}) Fault → Type 0

@@ -4,6 +4,7 @@ use Rattle.std.specs.List.{All}
 use Rattle.std.specs.declared.cmp.Ordering.{Ordering}
 use Rattle.edit.specs.Version.{State}
 use Rattle.edit.specs.declared.meta.NewFile.{NewFile}
+use Rattle.edit.specs.declared.meta.TheConstants.{LAST_LEVEL}
 use Rattle.folder.specs.declared.order.Order.{Order}
 use Rattle.pick.specs.Picked.{IsPicked, PickedInputs}
 use Rattle.reads.specs.Lawful.{IsLawful}
@@ -37,7 +38,7 @@ JointLaw cmp short_keys =
     (order : Order) (v : State) (loaded : List (ℕ × List ℕ)) (tables : List NumberedContents)
     (level : ℕ) (p : PickedInputs) (s : Settings) (answer : Answer) →
     tables_reading cmp loaded ≡ Ok tables → IsLawful cmp v tables →
-    All (λ (f : NewFile). f.level ≤ 6) v.files → IsPicked cmp v level p →
+    All (λ (f : NewFile). f.level ≤ LAST_LEVEL) v.files → IsPicked cmp v level p →
     (request_of v loaded p s).log_number < 2 ^ 64 →
     (request_of v loaded p s).previous_log < 2 ^ 64 →
     one_thread cmp short_keys (request_of v loaded p s) ≡ Ok answer →
@@ -51,7 +52,7 @@ NumberedJointLaw cmp short_keys =
     (tables : List NumberedContents) (level : ℕ) (p : PickedInputs) (s : Settings)
     (answer : Answer) → manifest_of v < number →
     tables_reading cmp loaded ≡ Ok tables → IsLawful cmp v tables →
-    All (λ (f : NewFile). f.level ≤ 6) v.files → IsPicked cmp v level p →
+    All (λ (f : NewFile). f.level ≤ LAST_LEVEL) v.files → IsPicked cmp v level p →
     (request_from number v loaded p s).log_number < 2 ^ 64 →
     (request_from number v loaded p s).previous_log < 2 ^ 64 →
     one_thread cmp short_keys (request_from number v loaded p s) ≡ Ok answer →

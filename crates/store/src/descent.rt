@@ -4,6 +4,7 @@ ghost use Rattle.std.specs.Prelude.{◌≡◌, ◌≤◌, IfOk, IfErr, Ok};
 ghost use Rattle.coding.specs.Answers.{EqualOrMemory, fault};
 ghost use Rattle.coding.specs.declared.fault.FaultName.TheVariants.{Memory};
 ghost use Rattle.store.specs.Descent.{IsBottom, IsNextLevel, file_count};
+ghost use Rattle.edit.specs.declared.meta.TheConstants.{LAST_LEVEL};
 
 use coding::Fault;
 use edit::{LEVELS, Version};
@@ -28,7 +29,7 @@ pub fn bottom(alloc: Global, version: &Version) -> Result<u64, Fault>
 /// The first level above `bottom` that has a file; None if no such level has one. `bottom` is at
 /// most 6, as [`bottom`] answers it. The only fault is Memory.
 pub fn next_level(alloc: Global, version: &Version, bottom: u64) -> Result<Option<u64>, Fault>
-    requires { bottom ≤ 6 }
+    requires { bottom ≤ LAST_LEVEL }
     ensures next { IfOk result (IsNextLevel version.now bottom) }
     ensures memory { IfErr result (λ e. e ≡ fault Memory) }
 {
@@ -42,7 +43,7 @@ pub fn next_level(alloc: Global, version: &Version, bottom: u64) -> Result<Optio
 
 /// How many files a level has. The order of files makes no difference.
 fn file_count(alloc: Global, version: &Version, level: u64) -> Result<usize, Fault>
-    requires { level ≤ 6 }
+    requires { level ≤ LAST_LEVEL }
     ensures { EqualOrMemory (λ count. count) result (Ok (file_count version.now level)) }
 {
     let files = version.files::<Bytewise>(alloc, level)?;

@@ -9,6 +9,7 @@ ghost use Rattle.ikey.specs.Order.{internal_cmp};
 ghost use Rattle.reads.specs.Lawful.{IsBelowNextFile};
 ghost use Rattle.store.specs.InputsCompaction.{IsOrderlyAnswer, IsOrderlyLevel};
 ghost use Rattle.store.specs.LentFiles.{LentRangesRise};
+ghost use Rattle.edit.specs.declared.meta.TheConstants.{LAST_LEVEL};
 
 use coding::{Fault, FaultName};
 use edit::{FileMeta, LEVELS, Version};
@@ -35,7 +36,7 @@ fn is_orderly_level<C: Comparator>(
     version: &Version,
     level: u64,
 ) -> Result<bool, Fault>
-    requires { level ≤ 6 }
+    requires { level ≤ LAST_LEVEL }
     ensures orderly { IfOk result (λ b. IsTrue b ↔ IsOrderlyLevel C.cmp version.now level) }
     ensures memory { IfErr result (λ e. e ≡ fault Memory) }
 {

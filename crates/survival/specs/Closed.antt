@@ -9,6 +9,7 @@ use Rattle.block.specs.EncodedEntry.{Entry}
 use Rattle.edit.specs.Version.{State}
 use Rattle.edit.specs.declared.meta.FileMeta.{FileMeta}
 use Rattle.edit.specs.declared.meta.NewFile.{NewFile}
+use Rattle.edit.specs.declared.meta.TheConstants.{LAST_LEVEL}
 use Rattle.pick.specs.declared.picked.InputFile.{InputFile}
 use Rattle.pick.specs.Ranges.{begins_by, ends_at_or_after, is_in_none}
 use Rattle.pick.specs.Picked.{PickedInputs, IsPicked}
@@ -71,5 +72,6 @@ pub record AreClosed (cmp : KeyOrder) (v : State) (tables : List NumberedContent
 abbrev pub ClosedInputs : KeyOrder → Type 0
 ClosedInputs cmp =
     (v : State) (tables : List NumberedContents) (level : ℕ) (p : PickedInputs) →
-    IsLawful cmp v tables → All (λ (f : NewFile). f.level ≤ 6) v.files → IsPicked cmp v level p →
+    IsLawful cmp v tables → All (λ (f : NewFile). f.level ≤ LAST_LEVEL) v.files →
+    IsPicked cmp v level p →
     AreClosed cmp v tables p

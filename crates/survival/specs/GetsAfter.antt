@@ -6,6 +6,7 @@ use Rattle.ikey.specs.Comparator.{KeyOrder}
 use Rattle.block.specs.EncodedEntry.{Entry}
 use Rattle.edit.specs.Version.{State}
 use Rattle.edit.specs.declared.meta.NewFile.{NewFile}
+use Rattle.edit.specs.declared.meta.TheConstants.{LAST_LEVEL}
 use Rattle.merge.specs.Union.{IsUnion}
 use Rattle.pick.specs.Picked.{PickedInputs, IsPicked}
 use Rattle.pick.specs.declared.picked.InputFile.{InputFile}
@@ -42,7 +43,8 @@ abbrev pub GetsAfter : KeyOrder → Type 0
 GetsAfter cmp =
     (v : State) (tables : List NumberedContents) (level : ℕ) (p : PickedInputs) (r : Readable)
     (union : List Entry) (after : State) (tables_after : List NumberedContents) →
-    IsLawful cmp v tables → All (λ (f : NewFile). f.level ≤ 6) v.files → IsPicked cmp v level p →
+    IsLawful cmp v tables → All (λ (f : NewFile). f.level ≤ LAST_LEVEL) v.files →
+    IsPicked cmp v level p →
     IsUnion cmp (entries_of_inputs tables p) union →
     HoldKept cmp v tables p r union after tables_after →
     (user : List ℕ) (at : ℕ) → is_read r at ≡ true → get_of after tables_after user at

@@ -6,6 +6,7 @@ use Rattle.table.specs.Checked.{contents_in}
 use Rattle.edit.specs.Edit.{Edit, IsEdit}
 use Rattle.edit.specs.Version.{State, applied}
 use Rattle.edit.specs.declared.meta.NewFile.{NewFile}
+use Rattle.edit.specs.declared.meta.TheConstants.{LAST_LEVEL}
 use Rattle.pick.specs.Picked.{PickedInputs, IsPicked}
 use Rattle.reads.specs.Gets.{get_of}
 use Rattle.reads.specs.Lawful.{IsLawful}
@@ -36,13 +37,13 @@ tables_after cmp p answer tables =
 pub record VersionAfterLaw (cmp : KeyOrder) (short_keys : ShortKeys) : Type 0 where
   pub lawful : (v : State) (tables : List NumberedContents) (level : ℕ) (r : RequestView)
       (answer : Answer) →
-      IsLawful cmp v tables → All (λ (f : NewFile). f.level ≤ 6) v.files →
+      IsLawful cmp v tables → All (λ (f : NewFile). f.level ≤ LAST_LEVEL) v.files →
       IsPicked cmp v level r.picked → IsOver v tables r →
       (held : HoldOutputs cmp short_keys tables r answer) →
       IsLawful cmp (version_after v r held.outputs) (tables_after cmp r.picked answer tables)
   pub holds : (v : State) (tables : List NumberedContents) (level : ℕ) (r : RequestView)
       (answer : Answer) →
-      IsLawful cmp v tables → All (λ (f : NewFile). f.level ≤ 6) v.files →
+      IsLawful cmp v tables → All (λ (f : NewFile). f.level ≤ LAST_LEVEL) v.files →
       IsPicked cmp v level r.picked → IsOver v tables r →
       (held : HoldOutputs cmp short_keys tables r answer) →
       HoldKept cmp v tables r.picked (readable_of r.snapshots r.last_sequence) held.union
@@ -64,11 +65,11 @@ pub record KeepsReads (cmp : KeyOrder) (v : State) (tables : List NumberedConten
 -- such edit makes reads survive.
 pub record LeavesReads (cmp : KeyOrder) (r : RequestView) (answer : Answer) : Type 0 where
   pub reads : (v : State) (tables : List NumberedContents) (level : ℕ) →
-      IsLawful cmp v tables → All (λ (f : NewFile). f.level ≤ 6) v.files →
+      IsLawful cmp v tables → All (λ (f : NewFile). f.level ≤ LAST_LEVEL) v.files →
       IsPicked cmp v level r.picked → IsOver v tables r →
       (e : Edit) × IsEdit answer.edit e
   pub survives : (v : State) (tables : List NumberedContents) (level : ℕ) (e : Edit) →
-      IsLawful cmp v tables → All (λ (f : NewFile). f.level ≤ 6) v.files →
+      IsLawful cmp v tables → All (λ (f : NewFile). f.level ≤ LAST_LEVEL) v.files →
       IsPicked cmp v level r.picked → IsOver v tables r →
       IsEdit answer.edit e → KeepsReads cmp v tables r answer e
 

@@ -14,6 +14,7 @@ use Rattle.edit.specs.Version.{State}
 use Rattle.edit.specs.VersionOrder.{files_at, level_files}
 use Rattle.edit.specs.declared.meta.FileMeta.{FileMeta}
 use Rattle.edit.specs.declared.meta.NewFile.{NewFile}
+use Rattle.edit.specs.declared.meta.TheConstants.{LAST_LEVEL, LEVELS}
 use Rattle.pick.specs.declared.picked.InputFile.{InputFile}
 use Rattle.pick.specs.Ranges.{is_in_none}
 use Rattle.pick.specs.Picked.{PickedInputs, IsPicked}
@@ -60,7 +61,7 @@ files_below cmp v p = files_read cmp v (p.level + 2) (5 - p.level)
 pub record StandTogether (cmp : KeyOrder) (v : State) (tables : List NumberedContents)
     (p : PickedInputs) (user : List ℕ) (above inputs below : List Entry) : Type 0 where
   -- as they are read they are those above the inputs, those of the inputs, and those below;
-  pub read : entries_read tables user (files_read cmp v 0 7) ≡ above ++ (inputs ++ below)
+  pub read : entries_read tables user (files_read cmp v 0 LEVELS) ≡ above ++ (inputs ++ below)
   -- their sequences fall;
   pub falls : SequencesFall (above ++ (inputs ++ below))
   -- those of the inputs are all that the inputs have of the user key, and the others all that the
@@ -79,7 +80,8 @@ pub record StandTogether (cmp : KeyOrder) (v : State) (tables : List NumberedCon
 abbrev pub InputsStandTogether : KeyOrder → Type 0
 InputsStandTogether cmp =
     (v : State) (tables : List NumberedContents) (level : ℕ) (p : PickedInputs) (user : List ℕ) →
-    IsLawful cmp v tables → All (λ (f : NewFile). f.level ≤ 6) v.files → IsPicked cmp v level p →
+    IsLawful cmp v tables → All (λ (f : NewFile). f.level ≤ LAST_LEVEL) v.files →
+    IsPicked cmp v level p →
     StandTogether cmp v tables p user (entries_read tables user (files_above cmp v p))
     (entries_read tables user (files_taken cmp v p))
     (entries_read tables user (files_below cmp v p))

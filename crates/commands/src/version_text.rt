@@ -7,6 +7,7 @@ ghost use Rattle.coding.specs.declared.fault.FaultName.TheVariants.{Memory};
 ghost use Rattle.folder.specs.Levels.{all_levels};
 ghost use Rattle.commands.specs.Lines.{comparator_line, file_line, file_lines, head_lines};
 ghost use Rattle.commands.specs.Lines.{number_line, lines_by, pointer_line, pointer_lines};
+ghost use Rattle.edit.specs.declared.meta.TheConstants.{LAST_LEVEL};
 
 use coding::Fault;
 use edit::{FileMeta, LEVELS, Version};
@@ -96,7 +97,7 @@ fn push_pointer_of(
     version: &Version,
     level: u64,
 ) -> Result<(), Fault>
-    requires { level ≤ 6 }
+    requires { level ≤ LAST_LEVEL }
     ensures ok { OnOk result (string_bytes text.new ≡ string_bytes text.old
         ++ pointer_lines spelling version.now level) }
     ensures memory { IfErr result (λ e. e ≡ fault Memory) }

@@ -12,6 +12,7 @@ ghost use Rattle.json_lines.specs.Pieces.{file_items, head_text, listed_item, na
 ghost use Rattle.json_lines.specs.Pieces.{pointer_items};
 ghost use Rattle.json_lines.specs.VersionObject.{file_object, object_by, pointer_object};
 ghost use Rattle.json_lines.specs.VersionObject.{version_object};
+ghost use Rattle.edit.specs.declared.meta.TheConstants.{LAST_LEVEL};
 
 use crate::items::push_items;
 use crate::quoted::{quoted, quoted_key};
@@ -140,7 +141,7 @@ fn push_pointer_of(
     version: &Version,
     level: u64,
 ) -> Result<(), Fault>
-    requires { level ≤ 6 }
+    requires { level ≤ LAST_LEVEL }
     ensures ok { OnOk result (string_bytes text.new ≡ string_bytes text.old
         ++ pointer_items spelling version.now level) }
     ensures memory { IfErr result (λ e. e ≡ fault Memory) }

@@ -18,9 +18,10 @@ struct Numbers;
 impl Labour for Numbers {
     type Out = u64;
 
-    ghost use Rattle.std.specs.Prelude.{◌≡◌, ◌^◌, None};
+    ghost use Rattle.std.specs.Prelude.{◌≡◌, None};
+    ghost use Rattle.board.specs.declared.limits.TheConstants.{MAX_JOBS};
 
-    ghost jobs = { λ _. 2 ^ 40 };
+    ghost jobs = { λ _. MAX_JOBS };
 
     ghost refusal = { λ _ _. None };
 

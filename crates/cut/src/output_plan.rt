@@ -33,7 +33,7 @@ use std::marker::PhantomData;
 use std::thread::Threads;
 use table::{MAX_TABLE_LEN, Options};
 
-/// The greatest number of data blocks in all outputs of a plan, 2^40.
+/// The most data blocks in all outputs of a plan: 2^40, as many as a board has jobs.
 pub const MAX_BLOCKS: u64 = 1 << 40;
 
 /// If all outputs together have fewer data blocks than this, each block is a piece.

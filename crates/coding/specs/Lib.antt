@@ -1,5 +1,6 @@
 -- what contracts rest on
 pub mod Answers
+pub mod Saturated
 pub mod Varint
 pub mod Crc
 -- serves proofs alone

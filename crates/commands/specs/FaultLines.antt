@@ -1,6 +1,7 @@
 -- The lines of what is wrong with a version, and of a valid table.
-use Rattle.std.specs.Prelude.{ℕ, ◌-◌, ◌^◌, min, List, ◌++◌, codes, decimal, length, Result, Ok}
+use Rattle.std.specs.Prelude.{ℕ, List, ◌++◌, codes, decimal, length, Result, Ok}
 use Rattle.coding.specs.Answers.{◌>>=◌}
+use Rattle.coding.specs.Saturated.{saturated}
 use Rattle.coding.specs.declared.fault.Fault.{Fault}
 use Rattle.coding.specs.declared.fault.FaultName.{FaultName}
 use Rattle.coding.specs.declared.fault.FaultName.TheVariants.{NoInput, Level, Options, SplitOrder}
@@ -92,7 +93,7 @@ valid_line entries = codes "valid: " ++ decimal entries ++ codes " entries\n"
 
 -- how many entries these are, 2^64 - 1 if there are more
 abbrev pub counted_entries : List Entry → ℕ
-counted_entries entries = min (length entries) (2 ^ 64 - 1)
+counted_entries entries = saturated (length entries)
 
 -- the count of a table in bytewise order, or the first test that its bytes fail
 abbrev pub table_count : List ℕ → Result ℕ Fault

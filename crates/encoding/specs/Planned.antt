@@ -1,5 +1,6 @@
 -- Data blocks that are planned.
-use Rattle.std.specs.Prelude.{◌≡◌, ◌≢◌, ℕ, ◌-◌, ◌^◌, List, [], length, map, min}
+use Rattle.std.specs.Prelude.{◌≡◌, ◌≢◌, ℕ, List, [], length, map}
+use Rattle.coding.specs.Saturated.{saturated}
 use Rattle.block.specs.EncodedEntry.{Entry}
 use Rattle.block.specs.BlockFormat.{block}
 use Rattle.encoding.specs.declared.planned_block.PlannedBlock.{PlannedBlock}
@@ -12,4 +13,4 @@ parts_of blocks = map (λ b. b.entries.entries) blocks
 -- interval; it saturates at 2 ^ 64 - 1.
 pub record IsPlanned (interval : ℕ) (b : PlannedBlock) : Type 0 where
   pub some : b.entries.entries ≢ []
-  pub len_is : b.len ≡ min (length (block interval b.entries.entries)) (2 ^ 64 - 1)
+  pub len_is : b.len ≡ saturated (length (block interval b.entries.entries))

@@ -1,7 +1,8 @@
 -- Consecutive entries by their two places.
-use Rattle.std.specs.Prelude.{◌≡◌, ℕ, ◌-◌, ◌^◌, List, length, take, drop, min, Option, None}
+use Rattle.std.specs.Prelude.{◌≡◌, ℕ, ◌-◌, List, length, take, drop, Option, None}
 use Rattle.std.specs.List.{last_or}
 use Rattle.std.specs.Option.{option_map}
+use Rattle.coding.specs.Saturated.{saturated}
 use Rattle.block.specs.EncodedEntry.{Entry}
 use Rattle.encoding.specs.Slices.{Slice}
 
@@ -13,5 +14,5 @@ slice_between from to = record { entries = take (length from - length to) from; 
 -- more), and the last of these has this key.
 pub record IsSliced (from to : List Entry) (n : ℕ) (last : Option (List ℕ)) : Type 0 where
   pub later : drop (length from - length to) from ≡ to
-  pub count : n ≡ min (length from - length to) (2 ^ 64 - 1)
+  pub count : n ≡ saturated (length from - length to)
   pub ended : last ≡ option_map (λ e. e.key) (last_or None (take (length from - length to) from))

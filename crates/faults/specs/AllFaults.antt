@@ -1,6 +1,7 @@
 -- All that is wrong with a version, and how it is told.
-use Rattle.std.specs.Prelude.{◌≡◌, ◌⊎◌, ℕ, ◌-◌, ◌^◌, min, Bool, false}
+use Rattle.std.specs.Prelude.{◌≡◌, ◌⊎◌, ℕ, Bool, false}
 use Rattle.std.specs.Prelude.{List, [], ◌++◌, length, map, Result, Ok}
+use Rattle.coding.specs.Saturated.{saturated}
 use Rattle.coding.specs.declared.fault.Fault.{Fault}
 use Rattle.ikey.specs.Comparator.{KeyOrder}
 use Rattle.edit.specs.Version.{State}
@@ -26,7 +27,7 @@ version_faults cmp files v = faults_of_files cmp files v.next_file (all_files cm
 
 -- how many these are, 2^64 - 1 if there are more
 abbrev pub told_count : List VersionFault → ℕ
-told_count faults = min (length faults) (2 ^ 64 - 1)
+told_count faults = saturated (length faults)
 
 -- What is told of these faults. The taker is told a first part of them, whatever the call answers.
 -- At Ok these are all, unless the taker said to stop, and Ok is how many. Else the device failed,

@@ -1,6 +1,7 @@
 -- How far faults were told.
-use Rattle.std.specs.Prelude.{◌≡◌, ◌⊎◌, ℕ, ◌+◌, ◌-◌, ◌^◌, min, Bool, true, false}
+use Rattle.std.specs.Prelude.{◌≡◌, ◌⊎◌, ℕ, ◌+◌, Bool, true, false}
 use Rattle.std.specs.Prelude.{List, [], ◌∷◌, ◌++◌, Result, Ok, Err}
+use Rattle.coding.specs.Saturated.{saturated}
 use Rattle.coding.specs.declared.fault.Fault.{Fault}
 use Rattle.checks.specs.Takers.{AreToldInTurn}
 use Rattle.faults.specs.VersionFault.{VersionFault}
@@ -8,7 +9,7 @@ use Rattle.faults.specs.declared.fault_count.FaultCount.{FaultCount}
 
 -- one more, 2^64 - 1 at most
 abbrev pub next_count : ℕ → ℕ
-next_count n = min (n + 1) (2 ^ 64 - 1)
+next_count n = saturated (n + 1)
 
 -- the count after these, if it was n before
 abbrev pub count_after : ℕ → List VersionFault → ℕ

@@ -3,6 +3,7 @@ use Rattle.std.specs.Prelude.{◌≡◌, ℕ, ◌+◌, ◌-◌, ◌^◌, ◌<◌
 use Rattle.std.specs.Prelude.{if◌then◌else◌, List, [], length, slice_index_or, slice_set, Option}
 use Rattle.std.specs.List.{count_by, sum_by}
 use Rattle.std.specs.Str.{bytes_eq}
+use Rattle.coding.specs.Saturated.{saturated}
 use Rattle.ikey.specs.Comparator.{KeyOrder}
 use Rattle.ikey.specs.declared.kind.Kind.{Kind}
 use Rattle.ikey.specs.Key.{user_of, sequence_of, kind_of}
@@ -21,8 +22,8 @@ use Rattle.scan.specs.declared.amounts.Amounts.{Amounts}
 -- 2 ^ 128 - 1.
 abbrev pub capped_plus : Amounts → Amounts → Amounts
 capped_plus a b = record {
-  files = min (a.files + b.files) (2 ^ 64 - 1);
-  bytes = min (a.bytes + b.bytes) (2 ^ 64 - 1);
+  files = saturated (a.files + b.files);
+  bytes = saturated (a.bytes + b.bytes);
   entries = min (a.entries + b.entries) (2 ^ 128 - 1);
   deletions = min (a.deletions + b.deletions) (2 ^ 128 - 1);
   hidden = min (a.hidden + b.hidden) (2 ^ 128 - 1);
@@ -52,7 +53,7 @@ entry_amounts kind hidden = record {
 abbrev pub capped_files : List FileMeta → Amounts
 capped_files files = record {
   files = length files;
-  bytes = min (sum_by (λ f. f.size) files) (2 ^ 64 - 1);
+  bytes = saturated (sum_by (λ f. f.size) files);
   entries = 0;
   deletions = 0;
   hidden = 0;

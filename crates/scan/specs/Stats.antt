@@ -1,8 +1,9 @@
 -- How much a version has at its levels.
-use Rattle.std.specs.Prelude.{ℕ, ◌+◌, ◌-◌, ◌^◌, min, List, [], ◌∷◌, length, fold, if◌then◌else◌}
+use Rattle.std.specs.Prelude.{ℕ, ◌+◌, List, [], ◌∷◌, length, fold, if◌then◌else◌}
 use Rattle.std.specs.Prelude.{unwrap_or}
 use Rattle.std.specs.List.{count_by, sum_by}
 use Rattle.std.specs.Ordering.{is_lt}
+use Rattle.coding.specs.Saturated.{saturated}
 use Rattle.ikey.specs.Comparator.{KeyOrder}
 use Rattle.ikey.specs.Order.{internal_cmp}
 use Rattle.block.specs.EncodedEntry.{Entry}
@@ -61,7 +62,7 @@ level_amounts cmp v tables level = amounts_of (unwrap_or v.last_sequence 0)
 abbrev pub told_amounts : Amounts → Amounts
 told_amounts a = record {
   files = a.files;
-  bytes = min a.bytes (2 ^ 64 - 1);
+  bytes = saturated a.bytes;
   entries = a.entries;
   deletions = a.deletions;
   hidden = a.hidden;

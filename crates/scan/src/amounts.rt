@@ -1,7 +1,8 @@
 //! How much files and their tables have.
 
-ghost use Rattle.std.specs.Prelude.{◌≡◌, ◌-◌, ◌^◌, min, if◌then◌else◌, fold, map};
+ghost use Rattle.std.specs.Prelude.{◌≡◌, if◌then◌else◌, fold, map};
 ghost use Rattle.std.specs.List.{sum_by};
+ghost use Rattle.coding.specs.Saturated.{saturated};
 ghost use Rattle.scan.specs.Counts.{capped_files, capped_plus, entry_amounts};
 ghost use Rattle.scan.specs.HiddenEntries.{is_delete};
 ghost use Rattle.scan.specs.Stats.{no_amounts};
@@ -91,7 +92,7 @@ impl Amounts {
 
 /// How many bytes these files have, or 2^64 - 1 if they have more.
 fn bytes_of(files: &[&FileMeta]) -> u64
-    ensures { result ≡ min (sum_by (λ f. f.size) (map (λ f. f.now) files.now)) (2 ^ 64 - 1) }
+    ensures { result ≡ saturated (sum_by (λ f. f.size) (map (λ f. f.now) files.now)) }
 {
     let mut bytes: u64 = 0;
     for file in files {

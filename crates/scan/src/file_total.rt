@@ -1,6 +1,7 @@
 //! Files that are counted.
 
-ghost use Rattle.std.specs.Prelude.{◌≡◌, ◌+◌, ◌-◌, ◌^◌, min};
+ghost use Rattle.std.specs.Prelude.{◌≡◌, ◌+◌};
+ghost use Rattle.coding.specs.Saturated.{saturated};
 
 /// Files of a folder: how many, and their bytes.
 #[derive(Clone, Copy, Debug, PartialEq, Eq)]
@@ -22,8 +23,8 @@ impl FileTotal {
     /// The same with one more file of this many bytes. Both sums saturate at 2^64 - 1.
     pub fn with(self, bytes: u64) -> FileTotal
         ensures { result ≡ record {
-          files = min (self.files + 1) (2 ^ 64 - 1);
-          bytes = min (self.bytes + bytes) (2 ^ 64 - 1);
+          files = saturated (self.files + 1);
+          bytes = saturated (self.bytes + bytes);
         } }
     {
         FileTotal {

@@ -1,18 +1,16 @@
 -- The test of a version with the tables of a folder, step by step.
-use Rattle.std.proofs.Common.{◌≡◌, ◌⊎◌, ℕ, suc, ◌≤◌, List, [], ◌∷◌, Option, Some, None, Result, Ok, Err, IfOk, IfErr, length, refl, sym, ap, ap₂, subst, ◌∙◌, inl, inr}
+use Rattle.std.proofs.Common.{◌≡◌, ◌⊎◌, ℕ, suc, List, [], ◌∷◌, Option, Some, None, Result, Ok, Err, IfOk, IfErr, length, refl, sym, ap, ap₂, subst, ◌∙◌, inr}
 use Rattle.std.specs.Prelude.{filter}
 use Rattle.std.specs.List.{AllZip}
 use Rattle.std.specs.Cmp.{IsTotalOrder}
 use Rattle.std.specs.declared.cmp.Ordering.{Ordering}
 use Rattle.coding.proofs.Binds.{done, failed, ok_is}
-use Rattle.coding.proofs.Refusals.{unless_from}
 use Rattle.coding.specs.Answers.{UnlessMemory, fault}
 use Rattle.coding.specs.declared.fault.Fault.{Fault}
 use Rattle.coding.specs.declared.fault.FaultName.TheVariants.{Lawless, Memory}
 use Rattle.edit.specs.Version.{State}
 use Rattle.edit.specs.declared.meta.FileMeta.{FileMeta}
 use Rattle.folder.proofs.LoadingLemmas.{loaded_before}
-use Rattle.folder.proofs.OpeningLemmas.{failed_since}
 use Rattle.folder.specs.Calls.{Files, Tells}
 use Rattle.folder.specs.Folder.{TellsSame}
 use Rattle.folder.specs.Levels.{file_numbers}
@@ -45,15 +43,6 @@ turned tells files h name held = ((h name held).1, (h name held).0)
 -- the tables that a folder loads are those of the files that it tells
 pub loaded_in : (tells : List ℕ → Option (List ℕ) → Type 0) (files : Files) (numbers : List ℕ) (r : Result (List (ℕ × List ℕ)) Fault) → Tells tells files → IsLoaded tells numbers r → IsLoaded (IsHeldIn files) numbers r
 loaded_in tells files numbers r h loaded = loaded_before (IsHeldIn files) tells numbers r (turned tells files h) loaded
-
--- an answer that came later
-pub answers_since : {X Y : Type 0} (view : X → Y) (before middle now : ℕ) (r : Result X Fault) (IsFirst IsAnswer : Result Y Fault → Type 0) → ((a : Result Y Fault) → IsFirst a → IsAnswer a) → before ≤ middle → middle ≤ now → FolderAnswers view middle now r IsFirst → FolderAnswers view before now r IsAnswer
-answers_since view before middle now (Ok x) IsFirst IsAnswer f one two given = f (Ok (view x)) given
-answers_since view before middle now (Err e) IsFirst IsAnswer f one two given =
-    unless_from e (IsStopped middle now e ⊎ IsFirst (Err e)) (IsStopped before now e ⊎ IsAnswer (Err e)) (λ g. elim g [
-      | inl stopped ↦ inl (stopped.0, failed_since before middle now one two stopped.1)
-      | inr found ↦ inr (f (Err e) found)
-    ]) given
 
 -- ---- a range
 

@@ -11,3 +11,4 @@ pub mod CrcWindows
 pub mod Bytes
 pub mod Binds
 pub mod Beginnings
+pub mod Texts

@@ -1,14 +1,13 @@
 -- The answers of a folder's tables, step by step.
-use Rattle.std.proofs.Common.{◌≡◌, ◌⊎◌, ℕ, ◌≤◌, List, Option, Result, Ok, Err, refl, ap, inl, inr}
+use Rattle.std.proofs.Common.{◌≡◌, ℕ, ◌≤◌, List, Option, Result, Ok, Err, refl, ap}
 use Rattle.std.specs.declared.cmp.Ordering.{Ordering}
-use Rattle.coding.proofs.Refusals.{unless_from}
 use Rattle.coding.specs.declared.fault.Fault.{Fault}
 use Rattle.edit.specs.Version.{State}
-use Rattle.folder.proofs.OpeningLemmas.{failed_since}
+use Rattle.folder.proofs.OpeningLemmas.{answers_since}
 use Rattle.folder.specs.Calls.{Files}
 use Rattle.folder.specs.Levels.{file_numbers}
 use Rattle.folder.specs.LoadedTables.{IsLoaded}
-use Rattle.folder.specs.OpenAnswer.{FolderAnswers, IsOpened, IsStopped}
+use Rattle.folder.specs.OpenAnswer.{FolderAnswers, IsOpened}
 use Rattle.folder.specs.ReadsAs.{IsHeldIn}
 use Rattle.folder.specs.declared.order.Order.{Order}
 use Rattle.reads.specs.Tables.{NumberedContents}
@@ -49,23 +48,11 @@ opened_as tells answer_of order v opened a h = (Ok (order, v), (opened, h))
 -- ---- of files that the folder tells
 
 module _ {X Y : Type 0} (view : X → Y) (before middle now : ℕ) (r : Result X Fault) (files : Files) (one : before ≤ middle) (two : middle ≤ now) where
-  -- an answer that comes later
-  answers_by : (IsFirst IsAnswer : Result Y Fault → Type 0) → ((a : Result Y Fault) → IsFirst a → IsAnswer a) → FolderAnswers view middle now r IsFirst → FolderAnswers view before now r IsAnswer
-  answers_by IsFirst IsAnswer f given = by r given
-    where
-      by : (r : Result X Fault) → FolderAnswers view middle now r IsFirst → FolderAnswers view before now r IsAnswer
-      by (Ok x) h = f (Ok (view x)) h
-      by (Err e) h =
-          unless_from e (IsStopped middle now e ⊎ IsFirst (Err e)) (IsStopped before now e ⊎ IsAnswer (Err e)) (λ g. elim g [
-            | inl stopped ↦ inl (stopped.0, failed_since before middle now one two stopped.1)
-            | inr found ↦ inr (f (Err e) found)
-          ]) h
-
   -- the folder is opened, and then the version answers
   pub opened_answer : (order : Order) (v : State) (answer_of : State → List NumberedContents → Y) → IsOpened (IsHeldIn files) (Ok (order, v))
       → FolderAnswers view middle now r (IsAnswerOfVersion (IsHeldIn files) (order_cmp order) v (answer_of v)) → FolderAnswers view before now r (IsAnswerOfFolder (IsHeldIn files) answer_of)
   opened_answer order v answer_of opened given =
-      answers_by (IsAnswerOfVersion (IsHeldIn files) (order_cmp order) v (answer_of v)) (IsAnswerOfFolder (IsHeldIn files) answer_of) (opened_as (IsHeldIn files) answer_of order v opened) given
+      answers_since view before middle now r (IsAnswerOfVersion (IsHeldIn files) (order_cmp order) v (answer_of v)) (IsAnswerOfFolder (IsHeldIn files) answer_of) (opened_as (IsHeldIn files) answer_of order v opened) one two given
 
   -- the version is tested, and then the answer of its tables is given
   pub tested_answer : (cmp : List ℕ → List ℕ → Ordering) (v : State) (answer_of : List NumberedContents → Y) (tested : Tested) → IsTested (IsHeldIn files) cmp v (Ok tested)
@@ -74,7 +61,7 @@ module _ {X Y : Type 0} (view : X → Y) (before middle now : ℕ) (r : Result X
   tested_answer cmp v answer_of tested (Err e, (l, is)) f = absurd (no_refusal tested e is)
   tested_answer cmp v answer_of tested (Ok loaded, (l, (Err e, (k, is)))) f = absurd (no_refusal tested e is)
   tested_answer cmp v answer_of tested (Ok loaded, (l, (Ok tables, (k, is)))) f =
-      answers_by (λ a. a ≡ Ok (answer_of tables)) (IsAnswerOfVersion (IsHeldIn files) cmp v answer_of) (λ a same. (Ok loaded, (l, (Ok tables, (k, same))))) (f loaded tables l k)
+      answers_since view before middle now r (λ a. a ≡ Ok (answer_of tables)) (IsAnswerOfVersion (IsHeldIn files) cmp v answer_of) (λ a same. (Ok loaded, (l, (Ok tables, (k, same))))) one two (f loaded tables l k)
 
 -- ---- a version that was tested
 

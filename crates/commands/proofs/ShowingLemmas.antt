@@ -1,19 +1,9 @@
 -- What is answered of a version, step by step.
-use Rattle.std.proofs.Common.{◌≡◌, ℕ, List, [], ◌∷◌, ◌++◌, map, Result, Ok, Err, IfErr, refl, sym, ap, ◌∙◌, append_assoc}
-use Rattle.std.specs.List.{flat_map}
+use Rattle.std.proofs.Common.{◌≡◌, ℕ, Result, Ok, Err, IfErr, sym, ap, ◌∙◌}
 use Rattle.coding.proofs.Refusals.{unless_from, only_memory}
 use Rattle.coding.specs.Answers.{EqualOrMemory, HoldsOrMemory}
 use Rattle.coding.specs.declared.fault.Fault.{Fault}
 use Rattle.folder.specs.OpenAnswer.{HasDeviceFailed}
-
--- the lines of what references point to
-pub flat_map_fused : {A B C : Type 0} (f : A → B) (h : B → List C) (xs : List A) → flat_map (λ x. h (f x)) xs ≡ flat_map h (map f xs)
-flat_map_fused f h [] = refl
-flat_map_fused f h (x ∷ xs) = ap (λ t. h (f x) ++ t) (flat_map_fused f h xs)
-
--- a piece more
-pub joined : (old first second : List ℕ) (one two : List ℕ) → first ≡ old ++ one → second ≡ first ++ two → second ≡ old ++ (one ++ two)
-joined old first second one two a b = b ∙ ap (λ (t : List ℕ). t ++ two) a ∙ append_assoc old one two
 
 abbrev refusal : {Y : Type 0} → Fault → Result Y Fault
 refusal e = Err e

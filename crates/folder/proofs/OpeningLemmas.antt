@@ -18,6 +18,15 @@ failed_since before middle now one two h =
       | inr full ↦ grind (arith)
     ]
 
+-- an answer that came later
+pub answers_since : {X Y : Type 0} (view : X → Y) (before middle now : ℕ) (r : Result X Fault) (IsFirst IsAnswer : Result Y Fault → Type 0) → ((a : Result Y Fault) → IsFirst a → IsAnswer a) → before ≤ middle → middle ≤ now → FolderAnswers view middle now r IsFirst → FolderAnswers view before now r IsAnswer
+answers_since view before middle now (Ok x) IsFirst IsAnswer f one two given = f (Ok (view x)) given
+answers_since view before middle now (Err e) IsFirst IsAnswer f one two given =
+    unless_from e (IsStopped middle now e ⊎ IsFirst (Err e)) (IsStopped before now e ⊎ IsAnswer (Err e)) (λ g. elim g [
+      | inl stopped ↦ inl (stopped.0, failed_since before middle now one two stopped.1)
+      | inr found ↦ inr (f (Err e) found)
+    ]) given
+
 -- a call's refusal that `?` hands on, if more calls came before it
 pub hands_on : {X Y Z : Type 0} (view : X → Y) (before middle now : ℕ) (r : Result X Fault) (e : Fault) (IsFirst : Result Z Fault → Type 0) (IsAnswer : Result Y Fault → Type 0)
     → IsErrAnd r (λ f. f ≡ e) → before ≤ middle → middle ≤ now → UnlessMemory e (IsStopped middle now e ⊎ IsFirst (Err e)) → (IsFirst (Err e) → IsAnswer (Err e)) → FolderAnswers view before now r IsAnswer

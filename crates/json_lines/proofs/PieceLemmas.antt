@@ -2,6 +2,7 @@
 use Rattle.std.proofs.Common.{◌≡◌, ℕ, zero, suc, ◌+◌, List, [], ◌∷◌, ◌++◌, true, false, codes, decimal, drop, map, unwrap_or, Option, Some, None, refl, sym, ap, ap₂, ◌∙◌, append_assoc}
 use Rattle.std.specs.List.{flat_map}
 use Rattle.std.proofs.lemmas.Grind.{flat_map-append}
+use Rattle.std.proofs.lemmas.List.Folds.{flat_map-map}
 use Rattle.json.specs.Print.{escape_byte, quoted}
 use Rattle.serde_json.specs.Data.{Data, Members, no_members}
 use Rattle.serde_json.specs.View.{items_of}
@@ -124,15 +125,6 @@ listed_levels : (of : ℕ → List Data) (level n : ℕ) → listed_items (by_le
 listed_levels of level zero = refl
 listed_levels of level (suc n) = flat_map-append listed_item (of level) (by_level of (level + 1) n) ∙ ap (λ (t : List ℕ). listed_items (of level) ++ t) (listed_levels of (level + 1) n)
 
--- a piece more
-pub joined : (old first second : List ℕ) (one two : List ℕ) → first ≡ old ++ one → second ≡ first ++ two → second ≡ old ++ (one ++ two)
-joined old first second one two a b = b ∙ ap (λ (t : List ℕ). t ++ two) a ∙ append_assoc old one two
-
--- the items of what references point to
-pub flat_map_fused : {A B C : Type 0} (f : A → B) (h : B → List C) (xs : List A) → flat_map (λ x. h (f x)) xs ≡ flat_map h (map f xs)
-flat_map_fused f h [] = refl
-flat_map_fused f h (x ∷ xs) = ap (λ t. h (f x) ++ t) (flat_map_fused f h xs)
-
 -- ---- versions
 
 pub pointer_pieces : (spelling : Spelling) (level : ℕ) (key : List ℕ) (user : List ℕ) (sequence kind : ℕ) → user ≡ quoted (key_text spelling (user_of key)) → sequence ≡ sequence_of key → kind ≡ kind_number (kind_of key)
@@ -202,7 +194,7 @@ compaction_pieces level e end outputs deleted last is_outputs is_deleted is_last
     let first = drop 1 (listed_items os) in
     let second = drop 1 (listed_items ds) in
     ap₂ (λ (x y : List ℕ). level_text level ++ drop 1 x ++ codes "],\"deleted\":[" ++ drop 1 y ++ codes "]" ++ last ++ codes "}\n")
-    (is_outputs ∙ flat_map_fused output_object listed_item e.added) (is_deleted ∙ flat_map_fused deleted_object listed_item e.deleted)
+    (is_outputs ∙ sym (flat_map-map listed_item output_object e.added)) (is_deleted ∙ sym (flat_map-map listed_item deleted_object e.deleted))
     ∙ ap (λ (z : List ℕ). level_text level ++ first ++ codes "],\"deleted\":[" ++ second ++ codes "]" ++ z ++ codes "}\n") is_last
     ∙ line_of_two_lists (codes "{\"level\":") (decimal level) (codes ",\"outputs\":[") first (codes "]") (codes ",\"deleted\":[") second (end_text end) (codes "}") (codes "\n")
     ∙ ap₂ (λ (x y : List ℕ). (codes "{\"level\":" ++ (decimal level ++ (codes ",\"outputs\":[" ++ (x ++ (codes ",\"deleted\":[" ++ (y ++ (end_text end ++ codes "}"))))))) ++ codes "\n")

@@ -1,6 +1,7 @@
 -- The pieces of the line of how much a version has are its text.
 use Rattle.std.proofs.Common.{◌≡◌, ℕ, List, ◌++◌, codes, decimal, drop, map, sym, ap, ap₂, ◌∙◌, append_assoc}
 use Rattle.std.specs.List.{flat_map}
+use Rattle.std.proofs.lemmas.List.Folds.{flat_map-map}
 use Rattle.json.specs.Print.{escape_byte, quoted}
 use Rattle.ikey.specs.Key.{user_of}
 use Rattle.scan.specs.declared.file_total.FileTotal.{FileTotal}
@@ -11,7 +12,7 @@ use Rattle.json_lines.specs.Objects.{json_line}
 use Rattle.json_lines.specs.Pieces.{listed_item, listed_items}
 use Rattle.json_lines.specs.StatsObject.{level_object, stats_object}
 use Rattle.json_lines.specs.StatsPieces.{amounts_text, totals_text}
-use Rattle.json_lines.proofs.PieceLemmas.{flat_map_fused, items_all}
+use Rattle.json_lines.proofs.PieceLemmas.{items_all}
 
 -- twelve pieces before another
 line_of_twelve : (a b c d e f g h i j k l n : List ℕ)
@@ -51,5 +52,5 @@ whole_line spelling levels logs unnamed =
 pub stats_pieces : (spelling : Spelling) (stats : List LevelStats) (logs unnamed : FileTotal) (levels totals : List ℕ) → levels ≡ flat_map (λ (s : LevelStats). listed_item (level_object spelling s)) stats → totals ≡ totals_text logs unnamed
     → codes "{\"levels\":[" ++ drop 1 levels ++ totals ≡ json_line (stats_object spelling stats logs unnamed)
 stats_pieces spelling stats logs unnamed levels totals is_levels is_totals =
-    ap₂ (λ (x y : List ℕ). codes "{\"levels\":[" ++ drop 1 x ++ y) (is_levels ∙ flat_map_fused (level_object spelling) listed_item stats) is_totals
+    ap₂ (λ (x y : List ℕ). codes "{\"levels\":[" ++ drop 1 x ++ y) (is_levels ∙ sym (flat_map-map listed_item (level_object spelling) stats)) is_totals
     ∙ whole_line spelling stats logs unnamed

@@ -1,10 +1,10 @@
 -- The compaction of a folder, step by step.
-use Rattle.std.proofs.Common.{◌≡◌, ◌≢◌, ◌⊎◌, ℕ, ◌≤◌, Result, Ok, Err, IsErrAnd, OnOk, refl, inl, inr}
+use Rattle.std.proofs.Common.{◌≡◌, ◌≢◌, ◌⊎◌, ℕ, ◌≤◌, Result, Ok, Err, IsErrAnd, OnOk, refl, inl}
 use Rattle.coding.proofs.Refusals.{unless_from, unless_device}
 use Rattle.coding.specs.Answers.{IsThen, UnlessMemory}
 use Rattle.coding.specs.declared.fault.Fault.{Fault}
 use Rattle.coding.specs.declared.fault.FaultName.TheVariants.{Device}
-use Rattle.folder.proofs.OpeningLemmas.{failed_since, hands_on}
+use Rattle.folder.proofs.OpeningLemmas.{answers_since, hands_on}
 pub use Rattle.folder.proofs.ToldLemmas.{loaded_in, opened_in, told_still}
 use Rattle.folder.specs.Calls.{Files, Tells}
 use Rattle.folder.specs.OpenAnswer.{FolderAnswers, HasDeviceFailed, IsStopped}
@@ -33,12 +33,8 @@ first_passed IsFirst IsNext a answer h next = (Ok a, (h, next))
 -- the answer of a step after one that was answered
 pub answers_behind : {A B X : Type 0} (view : X → B) (before middle now : ℕ) (r : Result X Fault) (IsFirst : Result A Fault → Type 0) (IsNext IsLater : A → Result B Fault → Type 0) (a : A)
     → before ≤ middle → middle ≤ now → IsFirst (Ok a) → ((answer : Result B Fault) → IsLater a answer → IsNext a answer) → FolderAnswers view middle now r (IsLater a) → FolderAnswers view before now r (IsThen IsFirst IsNext)
-answers_behind view before middle now (Ok x) IsFirst IsNext IsLater a one two h f given = (Ok a, (h, f (Ok (view x)) given))
-answers_behind view before middle now (Err e) IsFirst IsNext IsLater a one two h f given =
-    unless_from e (IsStopped middle now e ⊎ IsLater a (Err e)) (IsStopped before now e ⊎ IsThen IsFirst IsNext (Err e)) (λ g. elim g [
-      | inl stopped ↦ inl (stopped.0, failed_since before middle now one two stopped.1)
-      | inr found ↦ inr (Ok a, (h, f (Err e) found))
-    ]) given
+answers_behind view before middle now r IsFirst IsNext IsLater a one two h f given =
+    answers_since view before middle now r (IsLater a) (IsThen IsFirst IsNext) (λ answer later. (Ok a, (h, f answer later))) one two given
 
 -- a failure of the device, or Memory, is handed on
 pub stopped_on : {X Y : Type 0} (view : X → Y) (before middle now : ℕ) (r : Result X Fault) (e : Fault) (IsAnswer : Result Y Fault → Type 0)
@@ -56,12 +52,3 @@ never_device before now e P f given = λ same. absurd (f (unless_device e P same
 pub no_value : {T : Type 0} (r : Result T Fault) (P : Fault → Type 0) → IsErrAnd r P → OnOk r ⊥
 no_value (Ok x) P h = absurd h
 no_value (Err e) P h = tt
-
--- an answer that came later
-pub answers_since : {X Y : Type 0} (view : X → Y) (before middle now : ℕ) (r : Result X Fault) (IsAnswer : Result Y Fault → Type 0) → before ≤ middle → middle ≤ now → FolderAnswers view middle now r IsAnswer → FolderAnswers view before now r IsAnswer
-answers_since view before middle now (Ok x) IsAnswer one two given = given
-answers_since view before middle now (Err e) IsAnswer one two given =
-    unless_from e (IsStopped middle now e ⊎ IsAnswer (Err e)) (IsStopped before now e ⊎ IsAnswer (Err e)) (λ g. elim g [
-      | inl stopped ↦ inl (stopped.0, failed_since before middle now one two stopped.1)
-      | inr found ↦ inr found
-    ]) given

@@ -17,7 +17,6 @@ mod CheckedInputs
 mod HeldInputs
 mod FoundInputs
 mod OrderlyFiles
-mod LineLemmas
 mod Tellings
 pub mod Compactions
 mod LawfulInputs

@@ -1,9 +1,9 @@
 use Rattle.std.proofs.Common.{List, ℕ, [], Ok, string_bytes, sym, ap, ◌∙◌, ◌++◌}
+use Rattle.coding.proofs.Texts.{joined}
 use Rattle.account.specs.Lines.{entry_lines, level_lines, output_lines, range_lines}
 use Rattle.account.specs.declared.numbers.LevelInputs.{LevelInputs}
 use Rattle.account.specs.declared.numbers.Output.{Output}
 use Rattle.account.specs.declared.numbers.RangeEntries.{RangeEntries}
-use Rattle.account.proofs.Texts.{joined}
 use Rattle.account.proofs.lines.text.Goals as goal
 
 pub returns : goal.returns

@@ -3,8 +3,9 @@ use Rattle.std.specs.Option.{MatchOption}
 use Rattle.coding.specs.declared.fault.Fault.{Fault}
 use Rattle.edit.specs.declared.meta.FileMeta.{FileMeta}
 use Rattle.reads.specs.TableOrder.{AreStandingFiles, IsNeverLawful}
+use Rattle.folder.proofs.OpeningLemmas.{answers_since}
 use Rattle.checks.specs.GroupTest.{IsRangesAnswer, IsSweepAnswer}
-use Rattle.checks.proofs.FolderTests.{answers_since, never_answer, sweep_answer}
+use Rattle.checks.proofs.FolderTests.{never_answer, sweep_answer}
 use Rattle.checks.proofs.version_test.tested_entries.Goals as goal
 
 pub returns-in_default-clause-answer : goal.returns-in_default-clause-answer

@@ -1,10 +1,10 @@
 use Rattle.std.proofs.Common.{◌≡◌, List, ℕ, [], Ok, codes, string_bytes, sym, ap, ◌∙◌, ◌++◌}
 use Rattle.std.specs.Global.{Vec}
 use Rattle.std.specs.List.{flat_map}
+use Rattle.coding.proofs.Texts.{joined}
 use Rattle.scan.specs.declared.level_stats.LevelStats.{LevelStats}
 use Rattle.commands.specs.StatsTable.{table_text}
 use Rattle.commands.specs.StatsText.{bounds_line, total_line}
-use Rattle.commands.proofs.ShowingLemmas.{joined}
 use Rattle.commands.proofs.stats_lines.stats_text.Goals as goal
 
 pub returns : goal.returns

@@ -1,9 +1,9 @@
 use Rattle.std.proofs.Common.{◌≡◌, ℕ, List, ◌++◌, string_bytes, ap, ◌∙◌}
 use Rattle.std.specs.List.{flat_map}
 use Rattle.std.proofs.lemmas.Result.{on_ok_weaker}
+use Rattle.coding.proofs.Texts.{joined}
 use Rattle.commands.specs.StatsTable.{cells_line, headings_text, sized_columns}
 use Rattle.commands.specs.declared.stats_columns.SizedColumn.{SizedColumn}
-use Rattle.commands.proofs.ShowingLemmas.{joined}
 use Rattle.commands.proofs.stats_table.push_lines.Goals as goal
 
 pub returns-clause-ok : goal.returns-clause-ok

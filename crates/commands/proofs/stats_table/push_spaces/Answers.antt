@@ -1,6 +1,6 @@
 use Rattle.std.proofs.Common.{List, ℕ, ◌++◌, codes, replicate, string_bytes, ap, ◌∙◌}
 use Rattle.std.proofs.lemmas.List.{replicate-append-replicate}
-use Rattle.commands.proofs.ShowingLemmas.{joined}
+use Rattle.coding.proofs.Texts.{joined}
 use Rattle.commands.proofs.stats_table.push_spaces.Goals as goal
 
 pub loop-place-preserved : goal.loop-place-preserved

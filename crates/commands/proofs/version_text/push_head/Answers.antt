@@ -1,6 +1,6 @@
 use Rattle.std.proofs.Common.{Option, ℕ, codes, string_bytes, ap, ◌∙◌, ◌++◌}
+use Rattle.coding.proofs.Texts.{joined}
 use Rattle.commands.specs.Lines.{comparator_line, number_line}
-use Rattle.commands.proofs.ShowingLemmas.{joined}
 use Rattle.commands.proofs.version_text.push_head.Goals as goal
 
 pub returns-clause-ok : goal.returns-clause-ok

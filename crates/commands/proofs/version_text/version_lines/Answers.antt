@@ -1,8 +1,8 @@
 use Rattle.std.proofs.Common.{List, ℕ, [], Ok, string_bytes, sym, ap, ◌∙◌, ◌++◌}
 use Rattle.std.specs.Global.{Vec}
+use Rattle.coding.proofs.Texts.{joined}
 use Rattle.folder.specs.Levels.{all_levels}
 use Rattle.commands.specs.Lines.{file_lines, head_lines, pointer_lines}
-use Rattle.commands.proofs.ShowingLemmas.{joined}
 use Rattle.commands.proofs.version_text.version_lines.Goals as goal
 
 pub returns : goal.returns

@@ -1,10 +1,10 @@
 use Rattle.std.proofs.Common.{◌≡◌, List, ℕ, string_bytes, sym, ap, ◌∙◌, ◌++◌}
 use Rattle.coding.proofs.Binds.{ok_is}
+use Rattle.coding.proofs.Texts.{joined}
 use Rattle.json.specs.Print.{quoted}
 use Rattle.ikey.specs.Key.{user_of}
 use Rattle.texts.specs.Spelling.{key_text}
 use Rattle.json_lines.specs.StatsPieces.{amounts_text}
-use Rattle.json_lines.proofs.PieceLemmas.{joined}
 use Rattle.json_lines.proofs.StatsLemmas.{level_pieces}
 use Rattle.json_lines.proofs.stats_line.push_level.Goals as goal
 

@@ -4,7 +4,8 @@ use Rattle.folder.specs.Levels.{file_numbers}
 use Rattle.folder.specs.OpenAnswer.{IsStopped}
 use Rattle.folder.specs.ReadsAs.{IsHeldIn}
 use Rattle.checks.specs.TestedTables.{IsTested}
-use Rattle.checks.proofs.FolderTests.{answers_since, told_still}
+use Rattle.checks.proofs.FolderTests.{told_still}
+use Rattle.folder.proofs.OpeningLemmas.{answers_since}
 use Rattle.scan.specs.Stats.{seen_stats, version_stats}
 use Rattle.scan.specs.TestedStats.{IsTestedStats}
 use Rattle.scan.proofs.ScanAnswers.{loaded_told}

@@ -1,12 +1,12 @@
 use Rattle.std.proofs.Common.{None, sym, ◌∙◌, arith, inl}
-use Rattle.folder.proofs.OpeningLemmas.{hands_on}
+use Rattle.folder.proofs.OpeningLemmas.{hands_on, answers_since}
 use Rattle.folder.proofs.ReportLemmas.{reports_handed, reports_then}
 use Rattle.pick.specs.Picked.{picked_in}
 use Rattle.checks.specs.HeldTables.{held_bytes}
 use Rattle.store.specs.FoundInputs.{IsInputsFound}
 use Rattle.store.specs.InputsCompaction.{IsInputsCompacted, IsReadTold, installed_lines}
 use Rattle.store.proofs.Compactions.{is_compacted, picked_of}
-use Rattle.store.proofs.Flow.{answers_since, no_value, told_still}
+use Rattle.store.proofs.Flow.{no_value, told_still}
 use Rattle.store.proofs.FoundInputs.{inputs_found, inputs_refused, level_told}
 use Rattle.store.proofs.PlannedPart.{answers_as, step_since}
 use Rattle.store.proofs.input_compaction.compact_step.Goals as goal
@@ -46,7 +46,7 @@ returns-clause-answer g c files told current are =
     let held = c.in_ok-inputs.inputs.tables in
     let given = inputs_found cmp files v c.args.level p held (c.in_ok-inputs.ensures.answer files told are) in
     let now = told_still (tells c.args.folder.now) (tells c.level_inputs.new.folder) files c.level_inputs.ensures.reads.same told in
-    answers_since (λ step. step.lines.items) (failed c.args.folder.now) (failed c.level_inputs.new.folder) (failed c.install_held.new.folder) c.install_held.result (IsInputsCompacted cmp keys files v c.args.level s)
+    answers_since (λ step. step.lines.items) (failed c.args.folder.now) (failed c.level_inputs.new.folder) (failed c.install_held.new.folder) c.install_held.result (IsInputsCompacted cmp keys files v c.args.level s) (IsInputsCompacted cmp keys files v c.args.level s) (λ a h. h)
     c.level_inputs.ensures.device.later c.install_held.ensures.device.later
     (answers_as (λ step. step.lines.items) (failed c.level_inputs.new.folder) (failed c.install_held.new.folder) c.install_held.result (IsReadTold (installed_lines v) None cmp keys v p s (held_bytes held)) (IsInputsCompacted cmp keys files v c.args.level s)
     (λ x h. level_told cmp files v c.args.level (installed_lines v) None keys s p held x given h)

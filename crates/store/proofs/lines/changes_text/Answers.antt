@@ -1,10 +1,10 @@
 use Rattle.std.proofs.Common.{◌≡◌, List, ℕ, [], Ok, string_bytes, sym, ap, ◌∙◌, ◌++◌}
 use Rattle.std.specs.List.{flat_map}
+use Rattle.coding.proofs.Texts.{joined}
 use Rattle.edit.specs.declared.meta.DeletedFile.{DeletedFile}
 use Rattle.coding.proofs.Binds.{ok_is}
 use Rattle.request.specs.EditOf.{deletions_of}
 use Rattle.store.specs.Lines.{deleted_line, size_line}
-use Rattle.store.proofs.LineLemmas.{joined}
 use Rattle.store.proofs.lines.changes_text.Goals as goal
 
 pub returns : goal.returns

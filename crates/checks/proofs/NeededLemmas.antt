@@ -19,7 +19,8 @@ use Rattle.reads.specs.StatedFiles.{IsStatedFile}
 use Rattle.reads.specs.TableOrder.{lists_of_files}
 use Rattle.reads.specs.Tables.{NumberedContents, table_entries}
 use Rattle.reads.proofs.Answers.{entries_are}
-use Rattle.checks.specs.NeededFiles.{is_file_needed, is_user_before, starts_in}
+use Rattle.split.specs.Bounds.{is_user_before}
+use Rattle.checks.specs.NeededFiles.{is_file_needed, starts_in}
 use Rattle.checks.specs.GroupTest.{count_in}
 
 needed_by : (begins earlier ends : Bool) → (begins && not earlier) ≡ true → (begins && (not earlier || not ends)) ≡ true

@@ -1,16 +1,10 @@
 -- Which files the test of a range of user keys needs.
-use Rattle.std.specs.Prelude.{ℕ, Bool, true, false, not, ◌&&◌, ◌||◌, List, Option}
-use Rattle.std.specs.Option.{option_map_or}
-use Rattle.std.specs.Ordering.{is_lt}
+use Rattle.std.specs.Prelude.{ℕ, Bool, true, false, not, ◌&&◌, ◌||◌, List}
 use Rattle.std.specs.declared.cmp.Ordering.{Ordering}
 use Rattle.ikey.specs.Key.{user_of}
+use Rattle.split.specs.Bounds.{is_user_before}
 use Rattle.split.specs.Ranges.{KeyRange}
 use Rattle.edit.specs.declared.meta.FileMeta.{FileMeta}
-
--- whether a user key is before a bound; `otherwise` if there is no bound
-abbrev pub is_user_before : (List ℕ → List ℕ → Ordering) → Option (List ℕ) → Bool → List ℕ → Bool
-is_user_before cmp bound otherwise user =
-    option_map_or (λ limit. is_lt (cmp user limit)) bound otherwise
 
 -- whether a file begins in a range
 abbrev pub starts_in : (List ℕ → List ℕ → Ordering) → KeyRange → FileMeta → Bool

@@ -1,17 +1,15 @@
 //! Which files a walk over a range of user keys needs.
 
 ghost use Rattle.std.specs.Prelude.{◌≡◌, filter, map, Ok, IfOk, IfErr};
-ghost use Rattle.std.specs.Option.{option_map};
 ghost use Rattle.coding.specs.Answers.{EqualOrMemory, fault};
 ghost use Rattle.coding.specs.declared.fault.FaultName.TheVariants.{Memory};
-ghost use Rattle.ikey.specs.Key.{user_of};
 ghost use Rattle.split.specs.Ranges.{key_range};
-ghost use Rattle.checks.specs.NeededFiles.{is_file_needed, is_user_before, starts_in};
+ghost use Rattle.checks.specs.NeededFiles.{is_file_needed, starts_in};
 
 use coding::Fault;
 use edit::FileMeta;
-use ikey::{Comparator, InternalKey};
-use split::Range;
+use ikey::Comparator;
+use split::{Range, is_before};
 use std::alloc::Global;
 
 /// Those of the files that begin in `range`, or begin before it and don't end before it, in the
@@ -65,15 +63,4 @@ fn is_needed<C: Comparator>(file: &FileMeta, range: Range<'_>) -> bool
     let is_earlier = is_before::<C>(file.smallest.as_key(), range.lower, false);
     let ends = is_before::<C>(file.largest.as_key(), range.lower, false);
     begins && (!is_earlier || !ends)
-}
-
-/// Whether the user key of `key` is before `bound`; `otherwise` if there is no bound.
-fn is_before<C: Comparator>(key: InternalKey<'_>, bound: Option<&[u8]>, otherwise: bool) -> bool
-    ensures { result ≡ is_user_before C.cmp (option_map (λ limit. limit.now) bound.entry) otherwise
-        (user_of key.entry.bytes.now) }
-{
-    match bound {
-        Some(limit) => C::compare(key.user(), limit).is_lt(),
-        None => otherwise,
-    }
 }

@@ -18,7 +18,8 @@ use Rattle.keep.proofs.Reaching.{begins_behind, ends_before, table_never_falls}
 use Rattle.split.specs.Ranges.{IsIn, KeyRange}
 use Rattle.reads.specs.Tables.{NumberedContents}
 use Rattle.checks.specs.HeldTables.{AreFound}
-use Rattle.checks.specs.NeededFiles.{is_file_needed, is_user_before}
+use Rattle.checks.specs.NeededFiles.{is_file_needed}
+use Rattle.split.specs.Bounds.{is_user_before}
 use Rattle.checks.proofs.FileTables.{numbers_in}
 use Rattle.faults.specs.VersionFault.{MisplacedKey}
 use Rattle.faults.specs.FileFaults.{file_reading}

@@ -2,17 +2,15 @@
 use Rattle.std.specs.Prelude.{◌≡◌, ◌⊎◌, ℕ, Bool, true, false, not, ◌||◌}
 use Rattle.std.specs.Prelude.{List, [], ◌∷◌, ◌++◌, map, filter, Option}
 use Rattle.std.specs.List.{AllByRecursion}
-use Rattle.std.specs.Option.{option_map_or}
-use Rattle.std.specs.Ordering.{is_lt}
 use Rattle.ikey.specs.Key.{user_of}
 use Rattle.ikey.specs.Comparator.{KeyOrder}
 use Rattle.block.specs.EncodedEntry.{Entry}
+use Rattle.split.specs.Bounds.{is_user_before}
 use Rattle.split.specs.Ranges.{KeyRange}
 
 -- whether an entry's user key is before a bound; `otherwise` if there is no bound
 abbrev pub is_before : KeyOrder → Option (List ℕ) → Bool → Entry → Bool
-is_before cmp bound otherwise e = option_map_or (λ limit. is_lt (cmp (user_of e.key) limit)) bound
-    otherwise
+is_before cmp bound otherwise e = is_user_before cmp bound otherwise (user_of e.key)
 
 -- whether a walk of a range passes an entry: its user key is before the lower bound or before the
 -- upper one; without an upper bound all are passed

@@ -40,7 +40,7 @@ pub use drop_rule_laws::{
 pub use kept_piece::KeptPiece;
 pub use mark::Mark;
 pub use range_cursors::{add_cursor, cursor_from, cursors_from};
-pub use range_merge::merge_range;
+pub use range_merge::{merge_range, starts_before};
 pub use range_run::RangeRun;
 pub use range_start::seek_range;
 pub use snapshots::Snapshots;

@@ -2,11 +2,8 @@
 
 ghost use Rattle.std.specs.Prelude.{◌≡◌, ◌++◌, [], true, map, Ok};
 ghost use Rattle.std.specs.Prelude.{IfOk, IfErr, OnOk, OnErr, IsOkUnless};
-ghost use Rattle.std.specs.Option.{option_map, option_map_or};
-ghost use Rattle.std.specs.Ordering.{is_lt};
 ghost use Rattle.coding.specs.Answers.{fault};
 ghost use Rattle.coding.specs.declared.fault.FaultName.TheVariants.{Memory};
-ghost use Rattle.ikey.specs.Key.{user_of};
 ghost use Rattle.table.specs.TableContents.{table_reading};
 ghost use Rattle.merge.specs.Merged.{entries_of_lists};
 ghost use Rattle.split.specs.Ranges.{key_range};
@@ -14,8 +11,8 @@ ghost use Rattle.keep.specs.InRange.{entries_in};
 
 use crate::range_start::seek_range;
 use coding::Fault;
-use ikey::{Comparator, InternalKey};
-use split::Range;
+use ikey::Comparator;
+use split::{Range, is_before};
 use std::alloc::Global;
 use table::{SoundTable, TableCursor};
 
@@ -80,18 +77,6 @@ fn misses<C: Comparator>(table: &SoundTable<'_, C>, range: Range<'_>) -> bool
         return true;
     }
     !begins
-}
-
-/// Whether the user key of `key` is before `bound`; `otherwise` if there is no bound. Takes no
-/// memory.
-fn is_before<C: Comparator>(key: InternalKey<'_>, bound: Option<&[u8]>, otherwise: bool) -> bool
-    ensures { result ≡ option_map_or (λ limit. is_lt (C.cmp (user_of key.entry.bytes.now) limit))
-        (option_map (λ limit. limit.now) bound.entry) otherwise }
-{
-    match bound {
-        Some(limit) => C::compare(key.user(), limit).is_lt(),
-        None => otherwise,
-    }
 }
 
 /// A cursor over `table`, without the entries before `range`. The only fault is Memory.

@@ -20,7 +20,7 @@ use coding::Fault;
 use ikey::Comparator;
 use merge::Merging;
 use pick::Inputs;
-use split::Range;
+use split::{Range, is_before};
 use std::alloc::Global;
 use table::Cursor;
 
@@ -140,9 +140,9 @@ fn walk_range<'a, C: Comparator, S: Cursor<'a, C> + Drop>(
 }
 
 /// Whether there is an entry to come whose user key is before `bound`. If there is no bound,
-/// `otherwise` says whether the first entry counts as before it.
+/// `otherwise` says whether the first entry counts as before it. Takes no memory.
 #[inline(always)]
-pub(crate) fn starts_before<'a, C: Comparator, M: Cursor<'a, C>>(
+pub fn starts_before<'a, C: Comparator, M: Cursor<'a, C>>(
     merging: &M,
     bound: Option<&[u8]>,
     otherwise: bool,
@@ -154,8 +154,5 @@ pub(crate) fn starts_before<'a, C: Comparator, M: Cursor<'a, C>>(
     if !merging.valid() {
         return false;
     }
-    match bound {
-        Some(limit) => C::compare(merging.key().user(), limit).is_lt(),
-        None => otherwise,
-    }
+    is_before::<C>(merging.key(), bound, otherwise)
 }

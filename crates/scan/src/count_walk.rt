@@ -11,9 +11,9 @@ ghost use Rattle.scan.specs.Counts.{amounts_after, decided_then, AreAmountsCount
 
 use crate::amounts::Amounts;
 use crate::decided_user::DecidedUser;
-use crate::merge_walk::starts_before;
 use coding::Fault;
 use ikey::Comparator;
+use keep::starts_before;
 use merge::Merging;
 use split::Range;
 use std::alloc::Global;
@@ -38,7 +38,7 @@ pub(crate) fn count_merged<'a, C: Comparator, S: Cursor<'a, C> + Drop>(
 {
     let mut decided = DecidedUser::none(alloc);
     while let Some(place) = merging.place() {
-        let is_within = starts_before::<C, S>(merging, range.upper, true);
+        let is_within = starts_before::<C, Merging<C, S>>(merging, range.upper, true);
         if !is_within {
             return Ok(());
         }
@@ -68,7 +68,7 @@ fn count_next<'a, C: Comparator, S: Cursor<'a, C> + Drop>(
         ≡ decided_then C.cmp (key_range range.entry).lower last decided.old e) }
     ensures memory { IfErr result (λ e. e ≡ fault Memory) }
 {
-    let is_earlier = starts_before::<C, S>(merging, range.lower, false);
+    let is_earlier = starts_before::<C, Merging<C, S>>(merging, range.lower, false);
     if is_earlier {
         return Ok(());
     }

@@ -1,7 +1,6 @@
 //! The rows of merged entries in a range.
 
 ghost use Rattle.std.specs.Prelude.{◌≡◌, false, OnOk, IsOkUnless, IfErr};
-ghost use Rattle.std.specs.Option.{option_map};
 ghost use Rattle.coding.specs.Answers.{fault};
 ghost use Rattle.coding.specs.declared.fault.FaultName.TheVariants.{Memory};
 ghost use Rattle.merge.specs.Merged.{merged};
@@ -18,6 +17,7 @@ use crate::row_limit::RowLimit;
 use crate::row_taker::RowTaker;
 use coding::Fault;
 use ikey::Comparator;
+use keep::starts_before;
 use merge::Merging;
 use split::Range;
 use std::alloc::Global;
@@ -41,7 +41,7 @@ pub(crate) fn tell_merged<'a, C: Comparator, S: Cursor<'a, C> + Drop, T: RowTake
     skip_before::<C, S>(merging, range)?;
     let mut decided = DecidedUser::none(alloc);
     let mut left = limit;
-    while starts_before::<C, S>(merging, range.upper, true) {
+    while starts_before::<C, Merging<C, S>>(merging, range.upper, true) {
         let (key, value) = (merging.key(), merging.value());
         let wanted = walk_entry(&mut decided, key, value, at, left, taker)?;
         let RowLimit::More(less) = wanted else {
@@ -65,28 +65,8 @@ fn skip_before<'a, C: Comparator, S: Cursor<'a, C> + Drop>(
         ≡ false) }
     ensures memory { IsOkUnless result (fault Memory) }
 {
-    while starts_before::<C, S>(merging, range.lower, false) {
+    while starts_before::<C, Merging<C, S>>(merging, range.lower, false) {
         merging.advance()?;
     }
     Ok(())
-}
-
-/// Whether there is an entry to come whose user key is before `bound`. If there is no bound,
-/// `otherwise` says whether the first entry counts as before it.
-pub(crate) fn starts_before<'a, C: Comparator, S: Cursor<'a, C> + Drop>(
-    merging: &Merging<C, S>,
-    bound: Option<&[u8]>,
-    otherwise: bool,
-) -> bool
-    ensures { result
-        ≡ first_is (is_before C.cmp (option_map (λ limit. limit.now) bound.entry) otherwise)
-        (merged C.cmp merging.now) }
-{
-    if !merging.valid() {
-        return false;
-    }
-    match bound {
-        Some(limit) => C::compare(merging.key().user(), limit).is_lt(),
-        None => otherwise,
-    }
 }

@@ -10,17 +10,19 @@
 //!
 //! - [`Split::from_keys`] takes boundaries; [`Split::choose`] takes them from the indexes of
 //!   tables, and [`Split::sample`] from a sample of these.
-//! - [`Split::len`] and [`Split::range`] answer the ranges.
+//! - [`Split::len`] and [`Split::range`] answer the ranges, [`is_before`] tests a key by a bound.
 //! - [`one_choice`] is the law that `choose` has one answer, and so has `sample`.
 //!
 //! No contract says that the ranges of a choice have about as many bytes each.
 #![tactic(auto)]
 
+mod bound;
 mod choice_law;
 mod range;
 mod split;
 mod split_choice;
 
+pub use bound::is_before;
 pub use choice_law::one_choice;
 pub use range::Range;
 pub use split::{MAX_BOUNDARIES, MAX_RANGES, RANGE_SAMPLES, SAMPLE_STEP, Split};

@@ -22,8 +22,9 @@ use Rattle.edit.specs.declared.meta.FileMeta.{FileMeta}
 use Rattle.keep.specs.declared.mark.Mark.{Mark}
 use Rattle.keep.specs.DropRule.{is_same_user, keeps, kept, kept_behind}
 use Rattle.keep.specs.Marks.{CompactionContext, grandparents_below, heads, heads_behind, is_first}
+use Rattle.merge.specs.Merged.{entries_of_lists}
 use Rattle.cut.specs.Stops.{is_stop, stops, stops_behind}
-use Rattle.cut.specs.Outputs.{AreBelow, UsersRise, WholeLaw, all_of, ends_before, outputs, outputs_behind, outputs_in, segments}
+use Rattle.cut.specs.Outputs.{AreBelow, UsersRise, WholeLaw, ends_before, outputs, outputs_behind, outputs_in, segments}
 use Rattle.cut.proofs.Elements.{each, both, front, behind}
 use Rattle.cut.proofs.Whole.{all_behind, all_segments, all_two, some_segments}
 
@@ -139,11 +140,11 @@ module _ (cmp : List ℕ → List ℕ → Ordering) (total : IsTotalOrder cmp) (
 
     -- ---- the outputs of all segments
 
-    apart_two : (ps qs : List (List Entry)) → UsersRise cmp ps → UsersRise cmp qs → AreBelow cmp (all_of ps) (all_of qs) → UsersRise cmp (ps ++ qs)
+    apart_two : (ps qs : List (List Entry)) → UsersRise cmp ps → UsersRise cmp qs → AreBelow cmp (entries_of_lists ps) (entries_of_lists qs) → UsersRise cmp (ps ++ qs)
     apart_two [] qs h k b = k
     apart_two (p ∷ ps) qs h k b =
-        let later = λ (x : Entry). AllByRecursion (λ y. cmp (user_of x.key) (user_of y.key) ≡ Less) (all_of qs) in
-        (subst (AreBelow cmp p) (sym (all_two o ps qs)) (below_two p (all_of ps) (all_of qs) h.0 (front later p (all_of ps) b)), apart_two ps qs h.1 k (behind later p (all_of ps) b))
+        let later = λ (x : Entry). AllByRecursion (λ y. cmp (user_of x.key) (user_of y.key) ≡ Less) (entries_of_lists qs) in
+        (subst (AreBelow cmp p) (sym (all_two o ps qs)) (below_two p (entries_of_lists ps) (entries_of_lists qs) h.0 (front later p (entries_of_lists ps) b)), apart_two ps qs h.1 k (behind later p (entries_of_lists ps) b))
 
     -- entries are cut between user keys at places; `first` entries came before these
     abbrev IsCut : ℕ → List ℕ → List Entry → Type 0
@@ -157,11 +158,11 @@ module _ (cmp : List ℕ → List ℕ → Ordering) (total : IsTotalOrder cmp) (
     rises_drop n es h = rises_behind (take n es) (drop n es) (subst Rises (sym (whole n es)) h)
 
     apart_segments : (first : ℕ) (places : List ℕ) (es : List Entry) → Rises es → IsCut first places es → UsersRise cmp (flat_map (outputs_in o) (segments first places es))
-    apart_segments first [] es h cut = apart_two (outputs_in o es) [] (apart_behind [] es h) tt (below_none (all_of (outputs_in o es)))
+    apart_segments first [] es h cut = apart_two (outputs_in o es) [] (apart_behind [] es h) tt (below_none (entries_of_lists (outputs_in o es)))
     apart_segments first (place ∷ places) es h cut =
         let n = place - first in
         apart_two (outputs_in o (take n es)) (flat_map (outputs_in o) (segments place places (drop n es))) (apart_behind [] (take n es) (rises_take n es h)) (apart_segments place places (drop n es) (rises_drop n es h) cut.1)
-        (subst (λ (xs : List Entry). AreBelow cmp xs (all_of (flat_map (outputs_in o) (segments place places (drop n es))))) (sym (all_behind o [] (take n es)))
+        (subst (λ (xs : List Entry). AreBelow cmp xs (entries_of_lists (flat_map (outputs_in o) (segments place places (drop n es))))) (sym (all_behind o [] (take n es)))
         (subst (AreBelow cmp (take n es)) (sym (all_segments o place places (drop n es))) cut.0))
 
     -- ---- stops stand between user keys

@@ -10,34 +10,35 @@ use Rattle.block.specs.EncodedEntry.{Entry}
 use Rattle.table.specs.declared.options.Options.{Options}
 use Rattle.table.specs.DataBlocks.{is_full, open_block, blocks_behind, data_blocks}
 use Rattle.encoding.specs.declared.planned_block.PlannedBlock.{PlannedBlock}
+use Rattle.merge.specs.Merged.{entries_of_lists}
 use Rattle.cut.specs.OutputCuts.{OutputsInProgress, outputs_left}
 use Rattle.encoding.specs.Planned.{parts_of}
 use Rattle.cut.specs.Opened.{entries_in_blocks, HasLen, ArePlanned, ends_by}
-use Rattle.cut.specs.Outputs.{all_of, ends_before, outputs_behind, outputs_in, segments}
+use Rattle.cut.specs.Outputs.{ends_before, outputs_behind, outputs_in, segments}
 
 module _ (o : Options) where
   -- ---- the entries of data blocks
 
-  open_all : (latest : List Entry) → all_of (open_block latest) ≡ latest
+  open_all : (latest : List Entry) → entries_of_lists (open_block latest) ≡ latest
   open_all [] = refl
   open_all (e ∷ es) = append-nil (e ∷ es)
 
-  behind_by : (full : Bool) (latest : List Entry) (e : Entry) (es : List Entry) → all_of (blocks_behind o (e ∷ []) es) ≡ e ∷ es → all_of (blocks_behind o (latest ++ e ∷ []) es) ≡ (latest ++ e ∷ []) ++ es
-      → all_of (if full then latest ∷ blocks_behind o (e ∷ []) es else blocks_behind o (latest ++ e ∷ []) es) ≡ latest ++ e ∷ es
+  behind_by : (full : Bool) (latest : List Entry) (e : Entry) (es : List Entry) → entries_of_lists (blocks_behind o (e ∷ []) es) ≡ e ∷ es → entries_of_lists (blocks_behind o (latest ++ e ∷ []) es) ≡ (latest ++ e ∷ []) ++ es
+      → entries_of_lists (if full then latest ∷ blocks_behind o (e ∷ []) es else blocks_behind o (latest ++ e ∷ []) es) ≡ latest ++ e ∷ es
   behind_by true latest e es flushed grown = ap (λ (xs : List Entry). latest ++ xs) flushed
   behind_by false latest e es flushed grown = grown ∙ append_assoc latest (e ∷ []) es
 
-  behind_all : (latest es : List Entry) → all_of (blocks_behind o latest es) ≡ latest ++ es
+  behind_all : (latest es : List Entry) → entries_of_lists (blocks_behind o latest es) ≡ latest ++ es
   behind_all latest [] = open_all latest ∙ sym (append-nil latest)
   behind_all latest (e ∷ es) = behind_by (is_full o latest) latest e es (behind_all (e ∷ []) es) (behind_all (latest ++ e ∷ []) es)
 
-  pub data_blocks_all : (q : List Entry) → all_of (data_blocks o q) ≡ q
+  pub data_blocks_all : (q : List Entry) → entries_of_lists (data_blocks o q) ≡ q
   unfolding data_blocks
   data_blocks_all q = behind_all [] q
 
   -- planned blocks have the entries of which they are the data blocks
   pub entries_are : (q : List Entry) (blocks : List PlannedBlock) → parts_of blocks ≡ data_blocks o q → entries_in_blocks blocks ≡ q
-  entries_are q blocks are = ap all_of are ∙ data_blocks_all q
+  entries_are q blocks are = ap entries_of_lists are ∙ data_blocks_all q
 
   pub planned_are : (q : List Entry) (blocks : List PlannedBlock) → parts_of blocks ≡ data_blocks o q → AllByRecursion (HasLen o) blocks → ArePlanned o blocks
   planned_are q blocks are lens = record { cut = are ∙ ap (data_blocks o) (sym (entries_are q blocks are)); lens = lens }

@@ -6,6 +6,7 @@ use Rattle.std.specs.Option.{option_map}
 use Rattle.std.proofs.lemmas.Bool.{cases_lt, leb-false, lt-leb}
 use Rattle.std.proofs.lemmas.List.{length-append, length-drop, length-take}
 use Rattle.std.proofs.Math.Seq.{take-add}
+use Rattle.coding.specs.Saturated.{saturated}
 use Rattle.block.specs.EncodedEntry.{Entry}
 use Rattle.block.specs.BlockFormat.{block}
 use Rattle.table.specs.declared.options.Options.{Options}
@@ -13,7 +14,6 @@ use Rattle.table.specs.DataBlocks.{is_full}
 use Rattle.encoding.proofs.Lists.{length_le_block}
 use Rattle.encoding.proofs.Places.{drop_next, last_joined, last_counted}
 use Rattle.cut.specs.Metered.{BlockInProgress, IsMetered, block_after_entries, last_entry_key, next_since, added_size}
-use Rattle.cut.specs.Sizes.{saturated_length}
 use Rattle.cut.proofs.Metered.{metered_push}
 
 -- `taken` of the entries after are taken in, and the block was full before none of them; `rest` is what is left, and `before` the key
@@ -39,7 +39,7 @@ filling_first o m rest before len since rest_is before_is is =
 not_full : (o : Options) (r : ℕ) (q : List Entry) (len since : ℕ) → IsMetered r q len since → r ≡ o.restart_interval → (q ≡ [] → ⊥) → len < o.block_size → o.block_size ≤ 4194304 → is_full o q ≡ false
 not_full o r [] len since h interval some lt le = absurd (some refl)
 not_full o r (e ∷ es) len since h interval some lt le =
-    let len_is : len ≡ saturated_length (length (block o.restart_interval (e ∷ es))) = h.len_is ∙ ap (λ (i : ℕ). saturated_length (length (block i (e ∷ es)))) interval in
+    let len_is : len ≡ saturated (length (block o.restart_interval (e ∷ es))) = h.len_is ∙ ap (λ (i : ℕ). saturated (length (block i (e ∷ es)))) interval in
     lt-leb o.block_size (length (block o.restart_interval (e ∷ es))) (omega (arith, len_is, lt, le))
 
 -- a block that is not full has room for the count of one more
@@ -61,7 +61,7 @@ first_at (suc n) (x ∷ xs) = first_at n xs
 
 pub filling_more : (o : Options) (m : BlockInProgress) (taken : ℕ) (rest : List Entry) (before : Option (List ℕ)) (len since added : ℕ) → IsFilling o m taken rest before len since
     → o.block_size ≤ 4194304 → m.interval ≡ o.restart_interval → is_full o (m.entries ++ take taken m.behind) ≡ false → 0 < length rest
-    → option_map (λ (e : Entry). saturated_length (added_size since before e.key (length e.value))) (slice_get rest 0) ≡ Some added
+    → option_map (λ (e : Entry). saturated (added_size since before e.key (length e.value))) (slice_get rest 0) ≡ Some added
     → IsFilling o m (taken + 1) (drop 1 rest) (option_map (λ (e : Entry). e.key) (slice_get rest 0)) (min (len + added) (2 ^ 64 - 1)) (next_since m.interval since)
 filling_more o m taken rest before len since added h le interval part some added_is =
     let q : List Entry = m.entries ++ take taken m.behind in

@@ -9,12 +9,13 @@ use Rattle.std.proofs.lemmas.List.{length-append, length-drop, length_push}
 use Rattle.std.proofs.lemmas.Nat.{mod_below}
 use Rattle.std.proofs.Math.Nat.{zero-mod, mod-add-mod, mod_self, mod-eq_of_lt}
 use Rattle.coding.specs.Varint.{varint}
+use Rattle.coding.specs.Saturated.{saturated}
 use Rattle.block.specs.EncodedEntry.{Entry, EncodedEntry, encoded_entry_bytes}
 use Rattle.block.specs.BlockFormat.{block}
 use Rattle.block.specs.BuilderView.{last_key}
 use Rattle.block.proofs.Written.{common, piece_at_restart}
 use Rattle.cut.specs.Lengths.{added_len}
-use Rattle.cut.specs.Sizes.{saturated_length, encoded_entry_size}
+use Rattle.cut.specs.Sizes.{encoded_entry_size}
 use Rattle.cut.specs.Metered.{IsMetered, last_entry_key, next_since, added_size}
 use Rattle.cut.proofs.MeteredLengths.{lengths_law}
 
@@ -76,11 +77,11 @@ metered_first interval pos le = record {
 }
 
 -- both sums stop at the largest number
-sum_saturated : (whole before added : ℕ) → whole ≡ before + added → min (saturated_length before + saturated_length added) (2 ^ 64 - 1) ≡ saturated_length whole
+sum_saturated : (whole before added : ℕ) → whole ≡ before + added → min (saturated before + saturated added) (2 ^ 64 - 1) ≡ saturated whole
 sum_saturated whole before added is = omega arith
 
 pushed : (interval : ℕ) (q : List Entry) (e : Entry) (len since : ℕ) → IsMetered interval q len since → length q < 2 ^ 64 - 1
-    → IsMetered interval (q ++ e ∷ []) (min (len + saturated_length (added_size since (last_entry_key q) e.key (length e.value))) (2 ^ 64 - 1)) (next_since interval since)
+    → IsMetered interval (q ++ e ∷ []) (min (len + saturated (added_size since (last_entry_key q) e.key (length e.value))) (2 ^ 64 - 1)) (next_since interval since)
 pushed interval q e len since h few =
     let added : added_size since (last_entry_key q) e.key (length e.value) ≡ added_len interval q e =
     ap (λ (n : ℕ). added_size n (last_entry_key q) e.key (length e.value)) h.since_is ∙ sym (added_is interval q e) in
@@ -88,7 +89,7 @@ pushed interval q e len since h few =
       positive = h.positive;
       limited = h.limited;
       len_is =
-          ap (λ (n : ℕ). min (n + saturated_length (added_size since (last_entry_key q) e.key (length e.value))) (2 ^ 64 - 1)) h.len_is
+          ap (λ (n : ℕ). min (n + saturated (added_size since (last_entry_key q) e.key (length e.value))) (2 ^ 64 - 1)) h.len_is
           ∙ sum_saturated (length (block interval (q ++ e ∷ []))) (length (block interval q)) (added_size since (last_entry_key q) e.key (length e.value)) (lengths_law.more interval q e ∙ ap (λ (n : ℕ). length (block interval q) + n) (sym added));
       since_is = ap (next_since interval) h.since_is ∙ next_since-mod interval (length q) h.positive ∙ ap (λ (n : ℕ). n % interval) (sym (length_push q e));
       counted = omega (arith, few, length_push q e);
@@ -96,12 +97,12 @@ pushed interval q e len since h few =
 
 -- the first of the entries after is taken in, which adds so much
 pub metered_push : (interval : ℕ) (q behind : List Entry) (len since added : ℕ) (before : Option (List ℕ)) → IsMetered interval q len since → length q < 2 ^ 64 - 1
-    → option_map (λ (e : Entry). saturated_length (added_size since before e.key (length e.value))) (slice_get behind 0) ≡ Some added → before ≡ last_entry_key q
+    → option_map (λ (e : Entry). saturated (added_size since before e.key (length e.value))) (slice_get behind 0) ≡ Some added → before ≡ last_entry_key q
     → IsMetered interval (q ++ take 1 behind) (min (len + added) (2 ^ 64 - 1)) (next_since interval since)
 metered_push interval q [] len since added before h few added_is before_is = absurd (none-some added added_is)
 metered_push interval q (e ∷ es) len since added before h few added_is before_is =
-    let is : saturated_length (added_size since (last_entry_key q) e.key (length e.value)) ≡ added =
-    ap (λ (b : Option (List ℕ)). saturated_length (added_size since b e.key (length e.value))) (sym before_is) ∙ same_Some _ added added_is in
+    let is : saturated (added_size since (last_entry_key q) e.key (length e.value)) ≡ added =
+    ap (λ (b : Option (List ℕ)). saturated (added_size since b e.key (length e.value))) (sym before_is) ∙ same_Some _ added added_is in
     subst (λ (n : ℕ). IsMetered interval (q ++ e ∷ []) (min (len + n) (2 ^ 64 - 1)) (next_since interval since)) is (pushed interval q e len since h few)
 
 pub since_below : (interval : ℕ) (q : List Entry) (len since : ℕ) → IsMetered interval q len since → since < interval

@@ -8,6 +8,7 @@ use Rattle.std.proofs.lemmas.Bool.{false≢true, cases_lt, le-leb, lt-leb}
 use Rattle.std.proofs.lemmas.List.{length-append}
 use Rattle.std.proofs.lemmas.List.Concat.{flat_map-append}
 use Rattle.std.proofs.lemmas.List.Sums.{sum_by-append, sum_by-cons}
+use Rattle.coding.specs.Saturated.{saturated}
 use Rattle.ikey.specs.Key.{user_of}
 use Rattle.block.specs.EncodedEntry.{Entry}
 use Rattle.block.specs.BlockFormat.{block}
@@ -19,10 +20,10 @@ use Rattle.table.specs.Options.{AreInLimits}
 use Rattle.table.specs.DataBlocks.{is_full, open_block, blocks_behind, data_blocks, flushed, flushed_len}
 use Rattle.table.specs.Table.{stored_blocks}
 use Rattle.encoding.specs.declared.planned_block.PlannedBlock.{PlannedBlock}
+use Rattle.merge.specs.Merged.{entries_of_lists}
 use Rattle.cut.specs.Metered.{BlockInProgress, block_after_entries, last_entry_key}
-use Rattle.cut.specs.Outputs.{all_of, ends_before, outputs_behind}
+use Rattle.cut.specs.Outputs.{ends_before, outputs_behind}
 use Rattle.cut.specs.Plan.{stored_len}
-use Rattle.cut.specs.Sizes.{saturated_length}
 use Rattle.encoding.specs.Planned.{parts_of}
 use Rattle.cut.specs.Opened.{entries_in_blocks, HasLen, IsFlushed, ends_by, IsOpen}
 use Rattle.cut.proofs.MeteredLengths.{lengths_law}
@@ -52,7 +53,7 @@ parts_push (x ∷ xs) b = ap (λ (ps : List (List Entry)). x.entries.entries ∷
 
 pub entries_push : (blocks : List PlannedBlock) (b : PlannedBlock) → entries_in_blocks (blocks ++ b ∷ []) ≡ entries_in_blocks blocks ++ b.entries.entries
 entries_push blocks b =
-    ap all_of (parts_push blocks b)
+    ap entries_of_lists (parts_push blocks b)
     ∙ flat_map-append (λ (q : List Entry). q) (parts_of blocks) (b.entries.entries ∷ [])
     ∙ ap (λ (q : List Entry). entries_in_blocks blocks ++ q) (append-nil b.entries.entries)
 
@@ -142,26 +143,26 @@ module _ (o : Options) where
       }
 
   -- both sums stop at the largest number
-  sum_saturated : (whole before len : ℕ) → whole ≡ before + (len + 5) → min (min (saturated_length before + saturated_length len) (2 ^ 64 - 1) + 5) (2 ^ 64 - 1) ≡ saturated_length whole
+  sum_saturated : (whole before len : ℕ) → whole ≡ before + (len + 5) → min (min (saturated before + saturated len) (2 ^ 64 - 1) + 5) (2 ^ 64 - 1) ≡ saturated whole
   sum_saturated whole before len is = omega arith
 
-  stored_push : (blocks : List PlannedBlock) (size : ℕ) (b : PlannedBlock) → size ≡ saturated_length (stored_len o.restart_interval (parts_of blocks)) → HasLen o b
-      → min (min (size + b.len) (2 ^ 64 - 1) + 5) (2 ^ 64 - 1) ≡ saturated_length (stored_len o.restart_interval (parts_of (blocks ++ b ∷ [])))
+  stored_push : (blocks : List PlannedBlock) (size : ℕ) (b : PlannedBlock) → size ≡ saturated (stored_len o.restart_interval (parts_of blocks)) → HasLen o b
+      → min (min (size + b.len) (2 ^ 64 - 1) + 5) (2 ^ 64 - 1) ≡ saturated (stored_len o.restart_interval (parts_of (blocks ++ b ∷ [])))
   stored_push blocks size b size_is len_is =
       ap (λ (n : ℕ). min (min (n + b.len) (2 ^ 64 - 1) + 5) (2 ^ 64 - 1)) size_is
-      ∙ ap (λ (n : ℕ). min (min (saturated_length (stored_len o.restart_interval (parts_of blocks)) + n) (2 ^ 64 - 1) + 5) (2 ^ 64 - 1)) len_is
+      ∙ ap (λ (n : ℕ). min (min (saturated (stored_len o.restart_interval (parts_of blocks)) + n) (2 ^ 64 - 1) + 5) (2 ^ 64 - 1)) len_is
       ∙ sum_saturated (stored_len o.restart_interval (parts_of (blocks ++ b ∷ []))) (stored_len o.restart_interval (parts_of blocks)) (length (block o.restart_interval b.entries.entries))
       (ap (stored_len o.restart_interval) (parts_push blocks b) ∙ lengths_law.stored o.restart_interval (parts_of blocks) b.entries.entries)
 
   pub open_flushed : (blocks : List PlannedBlock) (size : ℕ) (last key : Option (List ℕ)) (before full after : BlockInProgress) (n : ℕ) (b : PlannedBlock) → IsOpen o blocks size last before → full ≡ block_after_entries n before
-      → ((m : ℕ) → m < n → is_full o (block_after_entries m before).entries ≡ false) → is_full o full.entries ≡ true → b.entries.entries ≡ full.entries → b.len ≡ saturated_length (length (block full.interval full.entries))
+      → ((m : ℕ) → m < n → is_full o (block_after_entries m before).entries ≡ false) → is_full o full.entries ≡ true → b.entries.entries ≡ full.entries → b.len ≡ saturated (length (block full.interval full.entries))
       → after ≡ record { interval = full.interval; entries = []; behind = full.behind } → key ≡ last_entry_key (entries_in_blocks blocks ++ full.entries)
       → IsOpen o (blocks ++ b ∷ []) (min (min (size + b.len) (2 ^ 64 - 1) + 5) (2 ^ 64 - 1)) key after
   open_flushed blocks size last key before full after n b h is parts reaches entries_are len after_is key_is =
       let q : List Entry = b.entries.entries in
       let none : after.entries ≡ [] = ap (λ (m : BlockInProgress). m.entries) after_is in
       let interval : full.interval ≡ o.restart_interval = ap (λ (m : BlockInProgress). m.interval) is ∙ h.interval in
-      let has_len : HasLen o b = len ∙ ap (λ (r : ℕ). saturated_length (length (block r full.entries))) interval ∙ ap (λ (es : List Entry). saturated_length (length (block o.restart_interval es))) (sym entries_are) in
+      let has_len : HasLen o b = len ∙ ap (λ (r : ℕ). saturated (length (block r full.entries))) interval ∙ ap (λ (es : List Entry). saturated (length (block o.restart_interval es))) (sym entries_are) in
       let grew : Cut_by blocks q = subst (Cut_by blocks) (sym (entries_are ∙ ap (λ (m : BlockInProgress). m.entries) is)) (more_by blocks n before.entries before.behind parts h.cuts) in
       let entries : entries_in_blocks (blocks ++ b ∷ []) ++ after.entries ≡ entries_in_blocks blocks ++ q =
       ap (λ (xs : List Entry). entries_in_blocks (blocks ++ b ∷ []) ++ xs) none ∙ append-nil (entries_in_blocks (blocks ++ b ∷ [])) ∙ entries_push blocks b in
@@ -230,14 +231,14 @@ module _ (o : Options) where
   -- ---- where the output ends
 
   -- a limit of at most 2 ^ 30 is reached by a length exactly if the saturated length reaches it
-  reached : (limit n : ℕ) → limit ≤ 2 ^ 30 → nat_le limit (saturated_length n) ≡ nat_le limit n
+  reached : (limit n : ℕ) → limit ≤ 2 ^ 30 → nat_le limit (saturated n) ≡ nat_le limit n
   reached limit n le =
       elim (cases_lt n limit) [
-        | inl below ↦ lt-leb limit (saturated_length n) (omega arith) ∙ sym (lt-leb limit n below)
-        | inr above ↦ le-leb limit (saturated_length n) (omega arith) ∙ sym (le-leb limit n above)
+        | inl below ↦ lt-leb limit (saturated n) (omega arith) ∙ sym (lt-leb limit n below)
+        | inr above ↦ le-leb limit (saturated n) (omega arith) ∙ sym (le-leb limit n above)
       ]
 
-  ends_some : (x : Entry) (xs : List Entry) (n : ℕ) (last : List ℕ) (e : Entry) → o.file_size ≤ 2 ^ 30 → n ≡ saturated_length (flushed o (x ∷ xs)) → Some last ≡ last_entry_key (x ∷ xs)
+  ends_some : (x : Entry) (xs : List Entry) (n : ℕ) (last : List ℕ) (e : Entry) → o.file_size ≤ 2 ^ 30 → n ≡ saturated (flushed o (x ∷ xs)) → Some last ≡ last_entry_key (x ∷ xs)
       → ends_before o (x ∷ xs) e ≡ (nat_le o.file_size n && not (bytes_eq (user_of last) (user_of e.key)))
   ends_some x xs n last e le n_is last_is =
       let key : last ≡ last_key x.key xs = (let both : Some last ≡ Some (last_key x.key xs) = last_is ∙ ended_is x xs in cc) in
@@ -248,7 +249,7 @@ module _ (o : Options) where
   ends_none [] e h = refl
   ends_none (x ∷ xs) e h = absurd (let no : None ≡ Some (last_key x.key xs) = h ∙ ended_is x xs in cc)
 
-  ends_by_last : (q : List Entry) (n : ℕ) (last : List ℕ) (e : Entry) → o.file_size ≤ 2 ^ 30 → n ≡ saturated_length (flushed o q) → Some last ≡ last_entry_key q
+  ends_by_last : (q : List Entry) (n : ℕ) (last : List ℕ) (e : Entry) → o.file_size ≤ 2 ^ 30 → n ≡ saturated (flushed o q) → Some last ≡ last_entry_key q
       → ends_before o q e ≡ (nat_le o.file_size n && not (bytes_eq (user_of last) (user_of e.key)))
   ends_by_last [] n last e le n_is last_is = absurd (let no : Some last ≡ None = last_is in cc)
   ends_by_last (x ∷ xs) n last e le n_is last_is = ends_some x xs n last e le n_is last_is
@@ -268,7 +269,7 @@ module _ (o : Options) where
       by_behind : (behind : List Entry) → ends_by o (entries_in_blocks blocks ++ open_one.entries) behind ≡ false
       by_behind [] = refl
       by_behind (e ∷ es) =
-          ends_by_last (entries_in_blocks blocks ++ open_one.entries) size last e h.limits.file_size_le (h.flushed_is ∙ ap saturated_length (sym (flushed_open blocks size (Some last) open_one h))) h.last_is
+          ends_by_last (entries_in_blocks blocks ++ open_one.entries) size last e h.limits.file_size_le (h.flushed_is ∙ ap saturated (sym (flushed_open blocks size (Some last) open_one h))) h.last_is
           ∙ rw below refl
 
   pub ends_last : (blocks : List PlannedBlock) (size : ℕ) (last next : List ℕ) (open_one : BlockInProgress) → IsOpen o blocks size (Some last) open_one → 0 < length open_one.behind
@@ -281,7 +282,7 @@ module _ (o : Options) where
       by_behind [] some next_is = absurd (omega arith)
       by_behind (e ∷ es) some next_is =
           let key : e.key ≡ next = cc in
-          ends_by_last (entries_in_blocks blocks ++ open_one.entries) size last e h.limits.file_size_le (h.flushed_is ∙ ap saturated_length (sym (flushed_open blocks size (Some last) open_one h))) h.last_is
+          ends_by_last (entries_in_blocks blocks ++ open_one.entries) size last e h.limits.file_size_le (h.flushed_is ∙ ap saturated (sym (flushed_open blocks size (Some last) open_one h))) h.last_is
           ∙ ap (λ (k : List ℕ). nat_le o.file_size size && not (bytes_eq (user_of last) (user_of k))) key
 
   -- ---- where the output goes on

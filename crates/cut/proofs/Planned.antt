@@ -9,6 +9,7 @@ use Rattle.std.proofs.lemmas.List.{length-append, length-map}
 use Rattle.std.proofs.lemmas.List.Sums.{sum_by-cons}
 use Rattle.coding.specs.Answers.{fault}
 use Rattle.coding.specs.declared.fault.FaultName.TheVariants.{Numbers, TooLarge}
+use Rattle.coding.specs.Saturated.{saturated}
 use Rattle.block.specs.EncodedEntry.{Entry}
 use Rattle.table.specs.declared.options.Options.{Options}
 use Rattle.table.specs.DataBlocks.{data_blocks, AreDataBlocks}
@@ -20,7 +21,6 @@ use Rattle.encoding.specs.Planned.{parts_of}
 use Rattle.cut.specs.Opened.{entries_in_blocks, ArePlanned}
 use Rattle.cut.specs.Plan.{OutputView, block_ends_from, planned_from, parts, plan_of}
 use Rattle.cut.specs.PlanInvariant.{planned_of, HaveEntries, numbered_from, block_count, IsPlannedOutput}
-use Rattle.cut.specs.Sizes.{saturated_length}
 use Rattle.cut.specs.TableLength.{capped_length, table_size}
 use Rattle.cut.proofs.TableLengths.{size_is}
 use Rattle.ikey.specs.Comparator.{ShortKeys}
@@ -54,11 +54,11 @@ pub record IsMade (o : Options) (ended : List (Vec PlannedBlock)) (outputs : Lis
 abbrev pub are_small : List PlannedOutput → Bool
 are_small outputs = list_all (λ (p : PlannedOutput). nat_le p.len (2 ^ 30)) outputs && nat_le (block_count outputs) (2 ^ 40)
 
-pub count_le : (n : ℕ) → nat_le (saturated_length n) (2 ^ 40) ≡ nat_le n (2 ^ 40)
+pub count_le : (n : ℕ) → nat_le (saturated n) (2 ^ 40) ≡ nat_le n (2 ^ 40)
 count_le n =
     elim (cases_lt (2 ^ 40) n) [
-      | inl over ↦ lt-leb (saturated_length n) (2 ^ 40) (omega arith) ∙ sym (lt-leb n (2 ^ 40) over)
-      | inr within ↦ le-leb (saturated_length n) (2 ^ 40) (omega arith) ∙ sym (le-leb n (2 ^ 40) within)
+      | inl over ↦ lt-leb (saturated n) (2 ^ 40) (omega arith) ∙ sym (lt-leb n (2 ^ 40) over)
+      | inr within ↦ le-leb (saturated n) (2 ^ 40) (omega arith) ∙ sym (le-leb n (2 ^ 40) within)
     ]
 
 -- ---- one output more

@@ -16,7 +16,8 @@ use Rattle.edit.specs.declared.meta.FileMeta.{FileMeta}
 use Rattle.keep.specs.DropRule.{is_same_user, keeps, kept, kept_behind}
 use Rattle.keep.specs.Marks.{CompactionContext, grandparents_below, heads, heads_behind}
 use Rattle.merge.specs.Union.{key_version_cmp, VersionsRise}
-use Rattle.cut.specs.Outputs.{all_of, outputs, outputs_in, segments, AreOutputs}
+use Rattle.merge.specs.Merged.{entries_of_lists}
+use Rattle.cut.specs.Outputs.{outputs, outputs_in, segments, AreOutputs}
 use Rattle.cut.specs.Segments.{AreSegments, BeginsSegment, EachReachesNext, ReachesNext, SegmentsLaw}
 use Rattle.cut.specs.Stops.{size_between, stops, stops_behind}
 use Rattle.cut.proofs.SegmentOutputs.{outputs_law}
@@ -78,8 +79,8 @@ module _ (cmp : List ℕ → List ℕ → Ordering) (gs : List FileMeta) (size :
   record Cut (first before : Entry) (es : List Entry) : Type 0 where
     front : List Entry
     others : List (List Entry)
-    all : front ++ all_of others ≡ es
-    reaches : ReachesNext cmp gs size first before front (all_of others)
+    all : front ++ entries_of_lists others ≡ es
+    reaches : ReachesNext cmp gs size first before front (entries_of_lists others)
     each : EachReachesNext cmp gs size others
 
   cut_of : (first before : Entry) (es : List Entry) → Cut first before es
@@ -151,10 +152,10 @@ module _ (cmp : List ℕ → List ℕ → Ordering) (b : CompactionContext) (siz
       ap (λ (xs : List Entry). (if is_kept None first then first ∷ [] else []) ++ xs) (kept_apart first first es rest h)
       ∙ sym (append_assoc (if is_kept None first then first ∷ [] else []) (keep (Some first) es) (keep None rest))
 
-  kept_each : (ss : List (List Entry)) → EachReachesNext cmp gs size ss → keep None (all_of ss) ≡ flat_map (λ s. keep None s) ss
+  kept_each : (ss : List (List Entry)) → EachReachesNext cmp gs size ss → keep None (entries_of_lists ss) ≡ flat_map (λ s. keep None s) ss
   kept_each [] h = refl
   kept_each ([] ∷ ss) h = absurd h
-  kept_each ((first ∷ es) ∷ ss) h = kept_whole first es (all_of ss) h.0 ∙ ap (λ (xs : List Entry). keep None (first ∷ es) ++ xs) (kept_each ss h.1)
+  kept_each ((first ∷ es) ∷ ss) h = kept_whole first es (entries_of_lists ss) h.0 ∙ ap (λ (xs : List Entry). keep None (first ∷ es) ++ xs) (kept_each ss h.1)
 
   kept_all : (P : Entry → Type 0) (before : Option Entry) (es : List Entry) → AllByRecursion P es → AllByRecursion P (keep before es)
   kept_all P before [] h = tt
@@ -231,30 +232,30 @@ module _ (cmp : List ℕ → List ℕ → Ordering) (b : CompactionContext) (siz
       ∙ ap (λ (xs : List Entry). segments n (stops_at (n + length (keep None (first ∷ es))) rest) xs) (kept_whole first es rest h)
 
   cut_each : (n : ℕ) (first : Entry) (es : List Entry) (ss : List (List Entry)) → EachReachesNext cmp gs size ((first ∷ es) ∷ ss)
-      → segments n (stops_in n (all_of ((first ∷ es) ∷ ss))) (keep None (all_of ((first ∷ es) ∷ ss))) ≡ map (λ s. keep None s) ((first ∷ es) ∷ ss)
+      → segments n (stops_in n (entries_of_lists ((first ∷ es) ∷ ss))) (keep None (entries_of_lists ((first ∷ es) ∷ ss))) ≡ map (λ s. keep None s) ((first ∷ es) ∷ ss)
   cut_each n first es [] h = reached n first es [] h.0 ∙ ap (λ (xs : List Entry). xs ∷ []) (append-nil (keep None (first ∷ es)))
   cut_each n first es ([] ∷ ss) h = absurd h.1
   cut_each n first es ((f ∷ fs) ∷ ss) h =
       let len : ℕ = n + length (keep None (first ∷ es)) in
-      reached n first es (all_of ((f ∷ fs) ∷ ss)) h.0
-      ∙ cut_first n (keep None (first ∷ es)) (keep None (all_of ((f ∷ fs) ∷ ss))) (stops_in len (all_of ((f ∷ fs) ∷ ss)))
+      reached n first es (entries_of_lists ((f ∷ fs) ∷ ss)) h.0
+      ∙ cut_first n (keep None (first ∷ es)) (keep None (entries_of_lists ((f ∷ fs) ∷ ss))) (stops_in len (entries_of_lists ((f ∷ fs) ∷ ss)))
       ∙ ap (λ (rest : List (List Entry)). keep None (first ∷ es) ∷ rest) (cut_each len f fs ss h.1)
 
-  outputs_each : (o : Options) (ss : List (List Entry)) → o.file_size ≡ size → EachReachesNext cmp gs size ss → outputs cmp b o (all_of ss) ≡ flat_map (λ s. outputs_in o (keep None s)) ss
+  outputs_each : (o : Options) (ss : List (List Entry)) → o.file_size ≡ size → EachReachesNext cmp gs size ss → outputs cmp b o (entries_of_lists ss) ≡ flat_map (λ s. outputs_in o (keep None s)) ss
   outputs_each o [] e h = refl
   outputs_each o ([] ∷ ss) e h = absurd h
   outputs_each o ((first ∷ es) ∷ ss) e h =
-      let all : List Entry = all_of ((first ∷ es) ∷ ss) in
+      let all : List Entry = entries_of_lists ((first ∷ es) ∷ ss) in
       ap (λ (n : ℕ). flat_map (outputs_in o) (segments 0 (stops gs n (heads cmp b all)) (keep None all))) e
       ∙ ap (flat_map (outputs_in o)) (cut_each 0 first es ss h)
       ∙ flat_mapped (outputs_in o) (λ s. keep None s) ((first ∷ es) ∷ ss)
 
-  each_output : IsTotalOrder cmp → IsExact cmp → (o : Options) (ss : List (List Entry)) → VersionsRise cmp (all_of ss)
+  each_output : IsTotalOrder cmp → IsExact cmp → (o : Options) (ss : List (List Entry)) → VersionsRise cmp (entries_of_lists ss)
       → AllByRecursion (λ s. AreOutputs o (keep None s) (outputs_in o (keep None s))) ss
   each_output total exact o [] rises = tt
   each_output total exact o (s ∷ ss) rises = (
-    (outputs_law cmp total exact o (keep None s) (outputs_in o (keep None s)) (kept_rises None s (rises_front cmp s (all_of ss) rises))).1 refl,
-    each_output total exact o ss (rises_behind cmp s (all_of ss) rises),
+    (outputs_law cmp total exact o (keep None s) (outputs_in o (keep None s)) (kept_rises None s (rises_front cmp s (entries_of_lists ss) rises))).1 refl,
+    each_output total exact o ss (rises_behind cmp s (entries_of_lists ss) rises),
   )
 
 -- ---- there is one such list
@@ -276,7 +277,7 @@ module _ (cmp : List ℕ → List ℕ → Ordering) (gs : List FileMeta) (size :
       let more = same_front first x xs ys us vs (later_same x y (xs ++ us) (ys ++ vs) e) h.1 (subst (λ (z : Entry). ReachesNext cmp gs size first z ys vs) (sym head) k.1) in
       record { fronts = ap (λ (z : Entry). z ∷ xs) head ∙ ap (λ (zs : List Entry). y ∷ zs) more.fronts; rests = more.rests }
 
-  only : (ss ts : List (List Entry)) → all_of ss ≡ all_of ts → EachReachesNext cmp gs size ss → EachReachesNext cmp gs size ts → ss ≡ ts
+  only : (ss ts : List (List Entry)) → entries_of_lists ss ≡ entries_of_lists ts → EachReachesNext cmp gs size ss → EachReachesNext cmp gs size ts → ss ≡ ts
   only [] [] e h k = refl
   only [] ([] ∷ ts) e h k = absurd k
   only [] ((y ∷ ys) ∷ ts) e h k = absurd (cc)
@@ -284,8 +285,8 @@ module _ (cmp : List ℕ → List ℕ → Ordering) (gs : List FileMeta) (size :
   only ((x ∷ xs) ∷ ss) [] e h k = absurd (cc)
   only ((x ∷ xs) ∷ ss) ([] ∷ ts) e h k = absurd k
   only ((x ∷ xs) ∷ ss) ((y ∷ ys) ∷ ts) e h k =
-      let head : x ≡ y = first_same x y (xs ++ all_of ss) (ys ++ all_of ts) e in
-      let more = same_front x x xs ys (all_of ss) (all_of ts) (later_same x y (xs ++ all_of ss) (ys ++ all_of ts) e) h.0 (subst (λ (z : Entry). ReachesNext cmp gs size z z ys (all_of ts)) (sym head) k.0) in
+      let head : x ≡ y = first_same x y (xs ++ entries_of_lists ss) (ys ++ entries_of_lists ts) e in
+      let more = same_front x x xs ys (entries_of_lists ss) (entries_of_lists ts) (later_same x y (xs ++ entries_of_lists ss) (ys ++ entries_of_lists ts) e) h.0 (subst (λ (z : Entry). ReachesNext cmp gs size z z ys (entries_of_lists ts)) (sym head) k.0) in
       ap (λ (z : Entry). (z ∷ xs) ∷ ss) head ∙ ap (λ (zs : List Entry). (y ∷ zs) ∷ ss) more.fronts ∙ ap (λ (rest : List (List Entry)). (y ∷ ys) ∷ rest) (only ss ts more.rests h.1 k.1)
 
 pub segments_law : (cmp : List ℕ → List ℕ → Ordering) → IsTotalOrder cmp → IsExact cmp → SegmentsLaw cmp

@@ -10,6 +10,7 @@ use Rattle.std.proofs.lemmas.List.Sums.{sum_by-cons, sum_by-drop_more}
 use Rattle.std.proofs.Math.ListN.{drop_of_length-le}
 use Rattle.std.proofs.Math.Nat.{mod-one}
 use Rattle.coding.specs.Varint.{varint}
+use Rattle.coding.specs.Saturated.{saturated}
 use Rattle.ikey.specs.Short.{internal_separator_of, internal_successor_of}
 use Rattle.block.specs.EncodedEntry.{Entry, encoded_entry_bytes}
 use Rattle.block.specs.BlockFormat.{block}
@@ -27,7 +28,7 @@ use Rattle.cut.specs.Metered.{last_entry_key}
 use Rattle.encoding.specs.Planned.{parts_of}
 use Rattle.cut.specs.Opened.{entries_in_blocks, HasLen, ArePlanned}
 use Rattle.cut.specs.Plan.{stored_len}
-use Rattle.cut.specs.Sizes.{saturated_length, encoded_entry_size}
+use Rattle.cut.specs.Sizes.{encoded_entry_size}
 use Rattle.cut.specs.TableLength.{capped_length, lens_of, planned_index_key, planned_index_entries, index_sizes, table_size}
 use Rattle.cut.proofs.Metered.{length-piece}
 use Rattle.cut.proofs.MeteredLengths.{lengths_law}
@@ -75,16 +76,16 @@ length-handle offset size = length-append (varint offset) (varint size)
 
 -- what is added up, and what is left of an index
 pub record IsIndexLen (keys : IndexKeys) (blocks : List PlannedBlock) (i offset len : ℕ) : Type 0 where
-  pub sizes : saturated_length (len + index_sizes (planned_index_entries keys offset (drop i blocks))) ≡ saturated_length (4 + index_sizes (planned_index_entries keys 0 blocks))
+  pub sizes : saturated (len + index_sizes (planned_index_entries keys offset (drop i blocks))) ≡ saturated (4 + index_sizes (planned_index_entries keys 0 blocks))
   pub offset_is : offset + lens_of (drop i blocks) ≡ lens_of blocks
   pub fits : len ≤ 2 ^ 64 - 1
 
-more_saturated : (len piece rest all : ℕ) → saturated_length (len + (piece + 4 + rest)) ≡ all → saturated_length (min (min (len + saturated_length piece) (2 ^ 64 - 1) + 4) (2 ^ 64 - 1) + rest) ≡ all
+more_saturated : (len piece rest all : ℕ) → saturated (len + (piece + 4 + rest)) ≡ all → saturated (min (min (len + saturated piece) (2 ^ 64 - 1) + 4) (2 ^ 64 - 1) + rest) ≡ all
 more_saturated len piece rest all h = omega arith
 
 pub index_len_more : (keys : IndexKeys) (blocks : List PlannedBlock) (i offset len : ℕ) (b : PlannedBlock) (key : List ℕ) (handle : ℕ) → i < length blocks → get_or blocks i b ≡ b → key ≡ planned_index_key keys (drop i blocks)
     → handle ≡ length (varint offset) + length (varint b.len) → IsIndexLen keys blocks i offset len
-    → IsIndexLen keys blocks (i + 1) (offset + (b.len + 5)) (min (min (len + saturated_length (encoded_entry_size 0 (length key) handle)) (2 ^ 64 - 1) + 4) (2 ^ 64 - 1))
+    → IsIndexLen keys blocks (i + 1) (offset + (b.len + 5)) (min (min (len + saturated (encoded_entry_size 0 (length key) handle)) (2 ^ 64 - 1) + 4) (2 ^ 64 - 1))
 index_len_more keys blocks i offset len b key handle lt is key_is handle_is h =
     let rest = planned_index_entries keys (offset + b.len + 5) (drop (i + 1) blocks) in
     let place : offset + b.len + 5 ≡ offset + (b.len + 5) = omega arith in
@@ -95,8 +96,8 @@ index_len_more keys blocks i offset len b key handle lt is key_is handle_is h =
     ap index_sizes (index_step keys offset blocks i b lt is) ∙ ap (λ (n : ℕ). n + 4 + index_sizes rest) piece in
     record {
       sizes =
-          ap (λ (at : ℕ). saturated_length (min (min (len + saturated_length (encoded_entry_size 0 (length key) handle)) (2 ^ 64 - 1) + 4) (2 ^ 64 - 1) + index_sizes (planned_index_entries keys at (drop (i + 1) blocks)))) (sym place)
-          ∙ more_saturated len (encoded_entry_size 0 (length key) handle) (index_sizes rest) (saturated_length (4 + index_sizes (planned_index_entries keys 0 blocks))) (sym (ap (λ (n : ℕ). saturated_length (len + n)) step) ∙ h.sizes);
+          ap (λ (at : ℕ). saturated (min (min (len + saturated (encoded_entry_size 0 (length key) handle)) (2 ^ 64 - 1) + 4) (2 ^ 64 - 1) + index_sizes (planned_index_entries keys at (drop (i + 1) blocks)))) (sym place)
+          ∙ more_saturated len (encoded_entry_size 0 (length key) handle) (index_sizes rest) (saturated (4 + index_sizes (planned_index_entries keys 0 blocks))) (sym (ap (λ (n : ℕ). saturated (len + n)) step) ∙ h.sizes);
       offset_is = omega (arith, h.offset_is, lens_more blocks i b lt is);
       fits = omega arith;
     }
@@ -108,7 +109,7 @@ index_some : (keys : IndexKeys) (at : ℕ) (blocks : List PlannedBlock) → bloc
 index_some keys at [] some = λ _. some refl
 index_some keys at (b ∷ bs) some = λ none. absurd (cc)
 
-pub index_len_all : (keys : IndexKeys) (blocks : List PlannedBlock) (i offset len : ℕ) → blocks ≢ [] → length blocks ≤ i → IsIndexLen keys blocks i offset len → saturated_length (length (block 1 (planned_index_entries keys 0 blocks))) ≡ len
+pub index_len_all : (keys : IndexKeys) (blocks : List PlannedBlock) (i offset len : ℕ) → blocks ≢ [] → length blocks ≤ i → IsIndexLen keys blocks i offset len → saturated (length (block 1 (planned_index_entries keys 0 blocks))) ≡ len
 index_len_all keys blocks i offset len some le h =
     let none : drop i blocks ≡ [] = drop_of_length-le blocks le in
     let left : index_sizes (planned_index_entries keys offset (drop i blocks)) ≡ 0 = ap (λ (bs : List PlannedBlock). index_sizes (planned_index_entries keys offset bs)) none in
@@ -227,9 +228,9 @@ size_is cmp short_keys o blocks h =
           rw (le-ltb (2 ^ 30) (lens_of blocks) within) (omega (arith, whole, stored_exact o blocks h.lens within, exact))
     ]
 
-pub size_over : (keys : IndexKeys) (blocks : List PlannedBlock) (size : ℕ) → size ≡ saturated_length (lens_of blocks) → 2 ^ 30 < size → table_size keys blocks ≡ 2 ^ 30 + 1
+pub size_over : (keys : IndexKeys) (blocks : List PlannedBlock) (size : ℕ) → size ≡ saturated (lens_of blocks) → 2 ^ 30 < size → table_size keys blocks ≡ 2 ^ 30 + 1
 size_over keys blocks size is over = rw (lt-ltb (2 ^ 30) (lens_of blocks) (omega arith)) refl
 
-pub size_within : (keys : IndexKeys) (blocks : List PlannedBlock) (size index : ℕ) → size ≡ saturated_length (lens_of blocks) → size ≤ 2 ^ 30 → saturated_length (length (block 1 (planned_index_entries keys 0 blocks))) ≡ index
+pub size_within : (keys : IndexKeys) (blocks : List PlannedBlock) (size index : ℕ) → size ≡ saturated (lens_of blocks) → size ≤ 2 ^ 30 → saturated (length (block 1 (planned_index_entries keys 0 blocks))) ≡ index
     → table_size keys blocks ≡ min (min (size + 66 + index) (2 ^ 64 - 1)) (2 ^ 30 + 1)
 size_within keys blocks size index is within index_is = rw (le-ltb (2 ^ 30) (lens_of blocks) (omega arith)) (omega arith)

@@ -8,21 +8,22 @@ use Rattle.std.proofs.lemmas.List.{take-append-drop}
 use Rattle.block.specs.EncodedEntry.{Entry}
 use Rattle.table.specs.declared.options.Options.{Options}
 use Rattle.table.specs.DataBlocks.{open_block}
-use Rattle.cut.specs.Outputs.{all_of, ends_before, outputs_behind, outputs_in, segments}
+use Rattle.merge.specs.Merged.{entries_of_lists}
+use Rattle.cut.specs.Outputs.{ends_before, outputs_behind, outputs_in, segments}
 
 module _ (o : Options) where
   -- ---- the entries of a segment
 
-  all_open : (latest : List Entry) → all_of (open_block latest) ≡ latest
+  all_open : (latest : List Entry) → entries_of_lists (open_block latest) ≡ latest
   all_open [] = refl
   all_open (e ∷ es) = append-nil (e ∷ es)
 
-  all_by : (b : Bool) (latest : List Entry) (e : Entry) (es : List Entry) → all_of (outputs_behind o (e ∷ []) es) ≡ e ∷ es → all_of (outputs_behind o (latest ++ e ∷ []) es) ≡ (latest ++ e ∷ []) ++ es
-      → all_of (if b then latest ∷ outputs_behind o (e ∷ []) es else outputs_behind o (latest ++ e ∷ []) es) ≡ latest ++ e ∷ es
+  all_by : (b : Bool) (latest : List Entry) (e : Entry) (es : List Entry) → entries_of_lists (outputs_behind o (e ∷ []) es) ≡ e ∷ es → entries_of_lists (outputs_behind o (latest ++ e ∷ []) es) ≡ (latest ++ e ∷ []) ++ es
+      → entries_of_lists (if b then latest ∷ outputs_behind o (e ∷ []) es else outputs_behind o (latest ++ e ∷ []) es) ≡ latest ++ e ∷ es
   all_by true latest e es ended grown = ap (λ (xs : List Entry). latest ++ xs) ended
   all_by false latest e es ended grown = grown ∙ append_assoc latest (e ∷ []) es
 
-  pub all_behind : (latest es : List Entry) → all_of (outputs_behind o latest es) ≡ latest ++ es
+  pub all_behind : (latest es : List Entry) → entries_of_lists (outputs_behind o latest es) ≡ latest ++ es
   all_behind latest [] = all_open latest ∙ sym (append-nil latest)
   all_behind latest (e ∷ es) = all_by (ends_before o latest e) latest e es (all_behind (e ∷ []) es) (all_behind (latest ++ e ∷ []) es)
 
@@ -48,16 +49,16 @@ module _ (o : Options) where
 
   -- ---- the entries of all segments
 
-  pub all_two : (ps qs : List (List Entry)) → all_of (ps ++ qs) ≡ all_of ps ++ all_of qs
+  pub all_two : (ps qs : List (List Entry)) → entries_of_lists (ps ++ qs) ≡ entries_of_lists ps ++ entries_of_lists qs
   all_two ps qs = flat_map-append (λ q. q) ps qs
 
-  pub all_segments : (first : ℕ) (places : List ℕ) (es : List Entry) → all_of (flat_map (outputs_in o) (segments first places es)) ≡ es
-  all_segments first [] es = all_two (outputs_in o es) [] ∙ append-nil (all_of (outputs_in o es)) ∙ all_behind [] es
+  pub all_segments : (first : ℕ) (places : List ℕ) (es : List Entry) → entries_of_lists (flat_map (outputs_in o) (segments first places es)) ≡ es
+  all_segments first [] es = all_two (outputs_in o es) [] ∙ append-nil (entries_of_lists (outputs_in o es)) ∙ all_behind [] es
   all_segments first (place ∷ places) es =
       let front = take (place - first) es in
       let behind = drop (place - first) es in
       all_two (outputs_in o front) (flat_map (outputs_in o) (segments place places behind))
-      ∙ ap (λ (xs : List Entry). xs ++ all_of (flat_map (outputs_in o) (segments place places behind))) (all_behind [] front)
+      ∙ ap (λ (xs : List Entry). xs ++ entries_of_lists (flat_map (outputs_in o) (segments place places behind))) (all_behind [] front)
       ∙ ap (λ (xs : List Entry). front ++ xs) (all_segments place places behind)
       ∙ take-append-drop (place - first) es
 

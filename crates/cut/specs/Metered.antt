@@ -3,10 +3,11 @@ use Rattle.std.specs.Prelude.{◌≡◌, ℕ, ◌+◌, ◌-◌, ◌%◌, ◌^◌
 use Rattle.std.specs.Prelude.{List, ◌++◌, length, take, drop, Option, None}
 use Rattle.std.specs.List.{last_or}
 use Rattle.std.specs.Option.{is_some, option_map}
+use Rattle.coding.specs.Saturated.{saturated}
 use Rattle.block.specs.EncodedEntry.{Entry}
 use Rattle.block.specs.BlockFormat.{block}
 use Rattle.encoding.specs.Walking.{left_out_len}
-use Rattle.cut.specs.Sizes.{saturated_length, encoded_entry_size}
+use Rattle.cut.specs.Sizes.{encoded_entry_size}
 use Rattle.block.specs.declared.builder.TheConstants.{MAX_RESTART_INTERVAL}
 
 -- an open data block: its restart interval, its entries, and the entries still to come
@@ -29,7 +30,7 @@ block_after_entries n m = record {
 pub record IsMetered (interval : ℕ) (entries : List Entry) (len since : ℕ) : Type 0 where
   pub positive : 1 ≤ interval
   pub limited : interval ≤ MAX_RESTART_INTERVAL
-  pub len_is : len ≡ saturated_length (length (block interval entries))
+  pub len_is : len ≡ saturated (length (block interval entries))
   pub since_is : since ≡ length entries % interval
   pub counted : length entries ≤ 2 ^ 64 - 1
 

@@ -1,6 +1,7 @@
 -- An open output of a plan.
 use Rattle.std.specs.Prelude.{◌≡◌, ℕ, Bool, false, true, List, [], ◌∷◌, ◌++◌, length, Option}
 use Rattle.std.specs.List.{AllByRecursion}
+use Rattle.coding.specs.Saturated.{saturated}
 use Rattle.block.specs.EncodedEntry.{Entry}
 use Rattle.block.specs.BlockFormat.{block}
 use Rattle.table.specs.declared.options.Options.{Options}
@@ -8,10 +9,10 @@ use Rattle.table.specs.Options.{AreInLimits}
 use Rattle.table.specs.DataBlocks.{is_full, blocks_behind, data_blocks}
 use Rattle.encoding.specs.declared.planned_block.PlannedBlock.{PlannedBlock}
 use Rattle.encoding.specs.Planned.{parts_of}
+use Rattle.merge.specs.Merged.{entries_of_lists}
 use Rattle.cut.specs.Metered.{BlockInProgress, last_entry_key}
-use Rattle.cut.specs.Outputs.{all_of, ends_before}
+use Rattle.cut.specs.Outputs.{ends_before}
 use Rattle.cut.specs.Plan.{stored_len}
-use Rattle.cut.specs.Sizes.{saturated_length}
 
 -- the options of an output, its entries so far, and the entries still to come
 pub record OutputInProgress : Type 0 where
@@ -21,11 +22,11 @@ pub record OutputInProgress : Type 0 where
 
 -- the entries of planned data blocks, one block after the other
 abbrev pub entries_in_blocks : List PlannedBlock → List Entry
-entries_in_blocks blocks = all_of (parts_of blocks)
+entries_in_blocks blocks = entries_of_lists (parts_of blocks)
 
 -- the length of a planned block is that of the block of its entries
 abbrev pub HasLen : Options → PlannedBlock → Type 0
-HasLen o b = b.len ≡ saturated_length (length (block o.restart_interval b.entries.entries))
+HasLen o b = b.len ≡ saturated (length (block o.restart_interval b.entries.entries))
 
 -- a planned block is full
 abbrev pub IsFlushed : Options → PlannedBlock → Type 0
@@ -53,5 +54,5 @@ pub record IsOpen (o : Options) (blocks : List PlannedBlock) (flushed : ℕ) (la
   pub cuts : (rest : List Entry) →
       blocks_behind o [] ((entries_in_blocks blocks ++ open_one.entries) ++ rest) ≡ parts_of blocks
       ++ blocks_behind o open_one.entries rest
-  pub flushed_is : flushed ≡ saturated_length (stored_len o.restart_interval (parts_of blocks))
+  pub flushed_is : flushed ≡ saturated (stored_len o.restart_interval (parts_of blocks))
   pub last_is : last ≡ last_entry_key (entries_in_blocks blocks ++ open_one.entries)

@@ -11,6 +11,7 @@ use Rattle.block.specs.EncodedEntry.{Entry}
 use Rattle.block.specs.BuilderView.{last_key}
 use Rattle.table.specs.declared.options.Options.{Options}
 use Rattle.table.specs.DataBlocks.{open_block, flushed}
+use Rattle.merge.specs.Merged.{entries_of_lists}
 use Rattle.merge.specs.Union.{VersionsRise}
 use Rattle.edit.specs.declared.meta.FileMeta.{FileMeta}
 use Rattle.split.specs.Boundaries.{IsSplit}
@@ -73,10 +74,6 @@ AreOutputs o segment [] = segment ≡ []
 AreOutputs o segment (q ∷ qs) = (rest : List Entry) × (segment ≡ q ++ rest) × IsOutput o q rest
     × AreOutputs o rest qs
 
--- the entries of parts, one part after the other
-abbrev pub all_of : List (List Entry) → List Entry
-all_of parts = flat_map (λ q. q) parts
-
 -- the user keys of the first entries are below those of the second
 abbrev pub AreBelow : KeyOrder → List Entry → List Entry → Type 0
 AreBelow cmp xs ys =
@@ -85,13 +82,13 @@ AreBelow cmp xs ys =
 -- the user keys of each part are below those of all later parts, so no user key is in two
 abbrev pub UsersRise : KeyOrder → List (List Entry) → Type 0
 UsersRise cmp [] = Unit {0}
-UsersRise cmp (q ∷ qs) = AreBelow cmp q (all_of qs) × UsersRise cmp qs
+UsersRise cmp (q ∷ qs) = AreBelow cmp q (entries_of_lists qs) × UsersRise cmp qs
 
 -- Whole: the outputs are the kept entries, cut into parts of which none is empty, and all kept
 -- entries of a user key go to one.
 pub record WholeLaw (cmp : KeyOrder) : Type 0 where
   pub all : (grandparents : List FileMeta) (o : Options) (run : Run) →
-      all_of (outputs_of grandparents o run) ≡ run.kept
+      entries_of_lists (outputs_of grandparents o run) ≡ run.kept
   pub some : (grandparents : List FileMeta) (o : Options) (run : Run) →
       AllByRecursion (λ q. q ≢ []) (outputs_of grandparents o run)
   pub users : (b : CompactionContext) (o : Options) (union : List Entry) → VersionsRise cmp union →

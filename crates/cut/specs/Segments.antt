@@ -20,7 +20,8 @@ use Rattle.edit.specs.declared.meta.FileMeta.{FileMeta}
 use Rattle.keep.specs.DropRule.{kept}
 use Rattle.keep.specs.Marks.{CompactionContext, grandparents_below}
 use Rattle.merge.specs.Union.{VersionsRise}
-use Rattle.cut.specs.Outputs.{all_of, outputs, outputs_in, AreOutputs}
+use Rattle.merge.specs.Merged.{entries_of_lists}
+use Rattle.cut.specs.Outputs.{outputs, outputs_in, AreOutputs}
 use Rattle.cut.specs.Stops.{size_between}
 use Rattle.cut.specs.declared.stops.TheConstants.{MAX_OVERLAP}
 
@@ -48,13 +49,13 @@ abbrev pub EachReachesNext : KeyOrder → List FileMeta → ℕ → List (List E
 EachReachesNext cmp grandparents file_size [] = Unit {0}
 EachReachesNext cmp grandparents file_size ([] ∷ segments) = ⊥
 EachReachesNext cmp grandparents file_size ((first ∷ es) ∷ segments) =
-    ReachesNext cmp grandparents file_size first first es (all_of segments)
+    ReachesNext cmp grandparents file_size first first es (entries_of_lists segments)
     × EachReachesNext cmp grandparents file_size segments
 
 -- the lists are the segments of a union
 pub record AreSegments (cmp : KeyOrder) (grandparents : List FileMeta) (file_size : ℕ)
     (union : List Entry) (segments : List (List Entry)) : Type 0 where
-  pub all : all_of segments ≡ union
+  pub all : entries_of_lists segments ≡ union
   pub each : EachReachesNext cmp grandparents file_size segments
 
 -- A union has segments, and only these. What is kept of the union is what is kept of each of them.

@@ -2,7 +2,8 @@
 
 ghost use Rattle.std.specs.Prelude.{◌≡◌, ◌≤◌, length};
 ghost use Rattle.coding.specs.Varint.{varint};
-ghost use Rattle.cut.specs.Sizes.{saturated_length, encoded_entry_size};
+ghost use Rattle.coding.specs.Saturated.{saturated};
+ghost use Rattle.cut.specs.Sizes.{encoded_entry_size};
 
 use block::EMPTY_BLOCK_LEN;
 
@@ -30,7 +31,7 @@ pub(crate) fn varint_len(number: u64) -> u64
 /// `shared`, `unshared` and `value` are in bytes. A sum of 2^64 or more is answered as 2^64 - 1.
 #[inline(always)]
 pub(crate) fn encoded_entry_len(shared: usize, unshared: usize, value: usize) -> u64
-    ensures { result ≡ saturated_length (encoded_entry_size shared unshared value) }
+    ensures { result ≡ saturated (encoded_entry_size shared unshared value) }
 {
     if shared < 128 && unshared < 128 && value < 128 {
         // Each of the three varints takes one byte.

@@ -3,10 +3,10 @@
 ghost use Rattle.std.specs.Prelude.{◌≡◌, ℕ, ◌↔◌, ◌≤◌, ◌<◌, false, [], length, slice_get};
 ghost use Rattle.std.specs.Prelude.{IsTrue, Some};
 ghost use Rattle.std.specs.Option.{option_map};
+ghost use Rattle.coding.specs.Saturated.{saturated};
 ghost use Rattle.block.specs.BlockFormat.{block};
 ghost use Rattle.table.specs.DataBlocks.{is_full};
 ghost use Rattle.table.specs.Options.{AreInLimits};
-ghost use Rattle.cut.specs.Sizes.{saturated_length};
 ghost use Rattle.cut.specs.Metered.{block_after_entries, last_entry_key, added_size};
 ghost use Rattle.block.specs.declared.builder.TheConstants.{MAX_RESTART_INTERVAL};
 
@@ -50,7 +50,7 @@ impl<'r, 'a> Model for OpenBlock<'r, 'a> {
 fn added_len(since: u64, walk: &EntryWalk<'_, '_>) -> u64
     requires { 0 < length walk.now.rest }
     ensures { option_map
-        (λ e. saturated_length (added_size since walk.now.before e.key (length e.value)))
+        (λ e. saturated (added_size since walk.now.before e.key (length e.value)))
         (slice_get walk.now.rest 0)
         ≡ Some result }
 {
@@ -150,7 +150,7 @@ impl<'r, 'a> OpenBlock<'r, 'a> {
     pub fn end(&mut self) -> PlannedBlock<'r, 'a>
         ensures entries { result.entries.entries ≡ self.old.entries }
         ensures len { result.len
-            ≡ saturated_length (length (block self.old.interval self.old.entries)) }
+            ≡ saturated (length (block self.old.interval self.old.entries)) }
         ensures new { self.new
             ≡ record { interval = self.old.interval; entries = []; behind = self.old.behind } }
     {

@@ -5,6 +5,7 @@ ghost use Rattle.std.specs.Prelude.{IfErr, map, Ok};
 ghost use Rattle.std.specs.List.{AllByRecursion, list_all};
 ghost use Rattle.coding.specs.Answers.{EqualOrMemory, fault};
 ghost use Rattle.coding.specs.declared.fault.FaultName.TheVariants.{Memory};
+ghost use Rattle.coding.specs.Saturated.{saturated};
 ghost use Rattle.table.specs.Options.{AreInLimits};
 ghost use Rattle.table.specs.Table.{index_keys, table};
 ghost use Rattle.table.specs.declared.table_check.TheConstants.{MAX_TABLE_LEN};
@@ -14,7 +15,6 @@ ghost use Rattle.cut.specs.Outputs.{outputs_of};
 ghost use Rattle.cut.specs.Plan.{plan_of};
 ghost use Rattle.cut.specs.PlanInvariant.{HaveEntries, IsPlannedOutput, block_count};
 ghost use Rattle.cut.specs.PlanInvariant.{numbered_from, planned_of};
-ghost use Rattle.cut.specs.Sizes.{saturated_length};
 ghost use Rattle.cut.specs.TableLength.{lens_of, table_size};
 ghost use Rattle.cut.specs.declared.output_plan.TheConstants.{MAX_BLOCKS};
 
@@ -152,7 +152,7 @@ fn are_short(outputs: &[PlannedOutput<'_, '_>]) -> bool
 
 /// The number of data blocks of all outputs; 2^64 - 1 if there are more.
 fn count_blocks(outputs: &[PlannedOutput<'_, '_>]) -> u64
-    ensures { result ≡ saturated_length (block_count outputs.now) }
+    ensures { result ≡ saturated (block_count outputs.now) }
 {
     let mut count: u64 = 0;
     for output in outputs {

@@ -10,10 +10,10 @@
 ghost use Rattle.std.specs.Prelude.{◌≡◌, ◌≢◌, ◌≤◌, ◌<◌, [], length, drop, Ok};
 ghost use Rattle.std.specs.List.{AllByRecursion};
 ghost use Rattle.coding.specs.Answers.{EqualOrMemory};
+ghost use Rattle.coding.specs.Saturated.{saturated};
 ghost use Rattle.block.specs.BlockFormat.{block};
 ghost use Rattle.table.specs.Table.{index_keys};
 ghost use Rattle.table.specs.declared.table_check.TheConstants.{MAX_TABLE_LEN};
-ghost use Rattle.cut.specs.Sizes.{saturated_length};
 ghost use Rattle.cut.specs.TableLength.{planned_index_entries, planned_index_key, lens_of};
 ghost use Rattle.cut.specs.TableLength.{table_size};
 
@@ -31,7 +31,7 @@ pub const CLOSING_LEN: u64 = EMPTY_LEN + 2 * TRAILER_LEN as u64 + FOOTER_LEN as 
 
 /// The length of data blocks with their trailers; 2^64 - 1 if it is more.
 pub(crate) fn stored_len(blocks: &[PlannedBlock<'_, '_>]) -> u64
-    ensures { result ≡ saturated_length (lens_of blocks.now) }
+    ensures { result ≡ saturated (lens_of blocks.now) }
 {
     let mut len: u64 = 0;
     for block in blocks {
@@ -70,7 +70,7 @@ fn index_len<C: Comparator>(alloc: Global, blocks: &[PlannedBlock<'_, '_>]) -> R
     requires some { AllByRecursion (λ b. b.entries.entries ≢ []) blocks.now }
     requires short { lens_of blocks.now ≤ MAX_TABLE_LEN }
     ensures { EqualOrMemory (λ len. len) result
-        (Ok (saturated_length
+        (Ok (saturated
         (length (block 1
         (planned_index_entries (index_keys C.cmp C.short_keys) 0
         blocks.now))))) }

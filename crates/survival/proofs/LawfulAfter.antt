@@ -44,7 +44,6 @@ use Rattle.survival.proofs.FallingOrder.{IsLower}
 use Rattle.survival.proofs.FileKeys.{below_upto, from_smallest, keys_total, to_largest, upto_below}
 use Rattle.keep.specs.DropRule.{keeps, kept_behind, kept}
 use Rattle.keep.specs.Readable.{Readable, readable_of}
-use Rattle.cut.specs.Outputs.{all_of}
 use Rattle.request.specs.OutputTables.{Output, numbered_tables}
 use Rattle.request.specs.Request.{RequestView}
 use Rattle.request.specs.EditOf.{new_file, new_files}
@@ -194,7 +193,7 @@ module _ (cmp : List ℕ → List ℕ → Ordering) (total : IsTotalOrder cmp) (
       let of = from_map (λ (x : InputFile). table_entries tables x.meta.number) r.picked.files from.source from.there in
       record { input = of.source; there_in = of.there; held_by = subst (λ (l : List Entry). Contains l e) (sym of.is) from.held }
 
-  in_all : (q : Output) → Contains outputs q → (e : Entry) → Contains q.entries e → Contains (all_of (output_entries held.outputs)) e
+  in_all : (q : Output) → Contains outputs q → (e : Entry) → Contains q.entries e → Contains (entries_of_lists (output_entries held.outputs)) e
   in_all q at e i = in_flat_map (λ (l : List Entry). l) (output_entries held.outputs) q.entries e (in_map (λ (x : Output). x.entries) held.outputs q at) i
 
   from_output : (q : Output) → Contains outputs q → (e : Entry) → Contains q.entries e → IsFromInput e

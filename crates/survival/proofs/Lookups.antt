@@ -14,8 +14,9 @@ use Rattle.pick.proofs.Lists.{false_true}
 use Rattle.reads.specs.Tables.{NumberedContents, table_of_number}
 use Rattle.reads.proofs.FallingEntries.{each_of}
 use Rattle.reads.proofs.Members.{first_or_later, later_in, first_in, none_in, from_map, in_flat_map, in_map}
+use Rattle.merge.specs.Merged.{entries_of_lists}
 use Rattle.survival.specs.Closed.{is_input}
-use Rattle.cut.specs.Outputs.{all_of, UsersRise}
+use Rattle.cut.specs.Outputs.{UsersRise}
 use Rattle.request.specs.OutputTables.{Output, numbered_tables}
 use Rattle.survival.specs.EditAfter.{AreNumberedFrom}
 use Rattle.survival.specs.Over.{output_entries}
@@ -103,7 +104,7 @@ module _ (cmp : List ℕ → List ℕ → Ordering) where
       below : (w : Output) → Contains outputs w → (x y : Entry) → Contains z.entries x → Contains w.entries y → cmp (user_of x.key) (user_of y.key) ≡ Less
       below w at x y own other =
           let all = in_flat_map (λ (l : List Entry). l) (output_entries outputs) w.entries y (in_map (λ (u : Output). u.entries) outputs w at) other in
-          each_of (λ (f : Entry). cmp (user_of x.key) (user_of f.key) ≡ Less) (all_of (output_entries outputs)) (each_of (λ (e : Entry). AllByRecursion (λ f. cmp (user_of e.key) (user_of f.key) ≡ Less) (all_of (output_entries outputs))) z.entries rise.0 x own) y all
+          each_of (λ (f : Entry). cmp (user_of x.key) (user_of f.key) ≡ Less) (entries_of_lists (output_entries outputs)) (each_of (λ (e : Entry). AllByRecursion (λ f. cmp (user_of e.key) (user_of f.key) ≡ Less) (entries_of_lists (output_entries outputs))) z.entries rise.0 x own) y all
 
       by_places : (p ≡ z) ⊎ Contains outputs p → (q ≡ z) ⊎ Contains outputs q → (Contains outputs p → Contains outputs q → (p ≡ q) ⊎ (LiesBelow p q ⊎ LiesBelow q p)) → (p ≡ q) ⊎ (LiesBelow p q ⊎ LiesBelow q p)
       by_places (inl e) (inl k) rest = inl (e ∙ sym k)

@@ -47,7 +47,7 @@ use Rattle.keep.specs.Readable.{Readable, readable_of}
 use Rattle.keep.specs.Marks.{heads}
 use Rattle.keep.specs.Runs.{are_distinct}
 use Rattle.keep.proofs.Distinct.{distinct_holds}
-use Rattle.cut.specs.Outputs.{all_of, outputs, UsersRise}
+use Rattle.cut.specs.Outputs.{outputs, UsersRise}
 use Rattle.request.specs.OutputTables.{Output, data_block_count, numbered_tables, outputs_from, outputs_test}
 use Rattle.cut.proofs.Apart.{whole_law}
 use Rattle.request.specs.Request.{RequestView, below_request, request_test}
@@ -206,12 +206,12 @@ module _ (cmp : List ℕ → List ℕ → Ordering) where
   rises_behind [] ys h = h
   rises_behind (x ∷ xs) ys h = rises_behind xs ys h.1
 
-  pub part_rises : (qs : List (List Entry)) → EntriesRise cmp (all_of qs) → (q : List Entry) → Contains qs q → EntriesRise cmp q
+  pub part_rises : (qs : List (List Entry)) → EntriesRise cmp (entries_of_lists qs) → (q : List Entry) → Contains qs q → EntriesRise cmp q
   part_rises [] h q at = absurd (none_in q at)
   part_rises (x ∷ xs) h q at =
       elim (first_or_later x xs q at) [
-        | inl same ↦ subst (EntriesRise cmp) (sym same) (rises_front x (all_of xs) h)
-        | inr later ↦ part_rises xs (rises_behind x (all_of xs) h) q later
+        | inl same ↦ subst (EntriesRise cmp) (sym same) (rises_front x (entries_of_lists xs) h)
+        | inr later ↦ part_rises xs (rises_behind x (entries_of_lists xs) h) q later
       ]
 
   -- ---- what is read of a table
@@ -337,7 +337,7 @@ module _ (cmp : List ℕ → List ℕ → Ordering) (total : IsTotalOrder cmp) (
   abbrev readable : Readable
   readable = readable_of r.snapshots r.last_sequence
 
-  cut_all : all_of (cut union) ≡ kept cmp readable r.picked.deeper union
+  cut_all : entries_of_lists (cut union) ≡ kept cmp readable r.picked.deeper union
   cut_all = (whole_law cmp total exact).all r.picked.grandparents r.options (record { kept = kept cmp readable r.picked.deeper union; marks = heads cmp (below_request r) union })
 
   cut_some : AllByRecursion (λ (q : List Entry). q ≢ []) (cut union)
@@ -379,7 +379,7 @@ module _ (cmp : List ℕ → List ℕ → Ordering) (total : IsTotalOrder cmp) (
     is_union = is_union;
     numbered = outputs_numbered written_by r.first_number (cut union);
     few = of_outputs.few;
-    holds_kept = ap all_of cut_entries ∙ cut_all;
+    holds_kept = ap entries_of_lists cut_entries ∙ cut_all;
     users = subst (UsersRise cmp) (sym cut_entries) ((whole_law cmp total exact).users (below_request r) r.options union is_union.rising);
     bytes = bytes;
     written = All-from_recursion (λ (w : Output). AreWritten cmp w.bytes w.entries) ws (of_each (λ (w : Output). AreWritten cmp w.bytes w.entries) ws written);

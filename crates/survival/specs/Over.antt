@@ -17,7 +17,8 @@ use Rattle.reads.specs.Lawful.{IsLawful}
 use Rattle.reads.specs.Tables.{NumberedContents, table_of_number}
 use Rattle.keep.specs.DropRule.{kept}
 use Rattle.keep.specs.Readable.{readable_of}
-use Rattle.cut.specs.Outputs.{all_of, UsersRise}
+use Rattle.cut.specs.Outputs.{UsersRise}
+use Rattle.merge.specs.Merged.{entries_of_lists}
 use Rattle.request.specs.Request.{RequestView, request_test}
 use Rattle.request.specs.OutputTables.{Output, numbered_tables}
 use Rattle.request.specs.EditOf.{edit_of, new_files}
@@ -66,7 +67,7 @@ pub record HoldOutputs (cmp : KeyOrder) (short_keys : ShortKeys) (tables : List 
   pub is_union : IsUnion cmp (entries_of_inputs tables r.picked) union
   pub numbered : AreNumberedFrom r.first_number outputs
   pub few : r.first_number + length outputs < 2 ^ 64
-  pub holds_kept : all_of (output_entries outputs)
+  pub holds_kept : entries_of_lists (output_entries outputs)
       ≡ kept cmp (readable_of r.snapshots r.last_sequence) r.picked.deeper union
   pub users : UsersRise cmp (output_entries outputs)
   pub bytes : All (λ (w : Output). w.bytes ≡ table_for cmp short_keys r w.entries)

@@ -1,9 +1,10 @@
 use Rattle.std.proofs.Common.{◌≡◌, ◌+◌, ◌-◌, ◌^◌, List, ℕ, length, drop, min, Ok, sym, ap, subst, ◌∙◌, arith}
 use Rattle.coding.specs.Varint.{varint}
+use Rattle.coding.specs.Saturated.{saturated}
 use Rattle.table.specs.Table.{IndexKeys, index_keys}
 use Rattle.keep.proofs.OnAnswers.{same_ok}
 use Rattle.encoding.specs.declared.planned_block.PlannedBlock.{PlannedBlock}
-use Rattle.cut.specs.Sizes.{saturated_length, encoded_entry_size}
+use Rattle.cut.specs.Sizes.{encoded_entry_size}
 use Rattle.cut.specs.TableLength.{planned_index_key}
 use Rattle.cut.proofs.TableLengths.{IsIndexLen, index_len_more, index_len_all}
 use Rattle.cut.proofs.table_len.index_len.Goals as goal
@@ -19,7 +20,7 @@ loop-place-preserved g c =
     let handle_is : handle ≡ length (varint c.loop-place.offset) + length (varint b.len) =
     ap (λ (n : ℕ). n + c.varint_len-in-loop-place.result) c.varint_len.ensures.value
     ∙ ap (λ (n : ℕ). length (varint c.loop-place.offset) + n) (subst (λ (x : PlannedBlock). c.varint_len-in-loop-place.result ≡ length (varint x.len)) is c.varint_len-in-loop-place.ensures.value) in
-    let len : c.saturating_add-len.result ≡ min (min (c.loop-place.len + saturated_length (encoded_entry_size 0 (length key) handle)) (2 ^ 64 - 1) + 4) (2 ^ 64 - 1) =
+    let len : c.saturating_add-len.result ≡ min (min (c.loop-place.len + saturated (encoded_entry_size 0 (length key) handle)) (2 ^ 64 - 1) + 4) (2 ^ 64 - 1) =
     c.saturating_add-len.ensures
     ∙ ap (λ (n : ℕ). min (n + 4) (2 ^ 64 - 1)) (c.saturating_add.ensures ∙ ap (λ (n : ℕ). min (c.loop-place.len + n) (2 ^ 64 - 1)) c.encoded_entry_len-piece.ensures) in
     let next : IsIndexLen keys c.args.blocks.now (c.loop-place.place + 1) (c.loop-place.offset + (b.len + 5)) c.saturating_add-len.result =

@@ -1,11 +1,11 @@
 use Rattle.std.proofs.Common.{◌≡◌, ◌<◌, ◌-◌, ◌++◌, List, ℕ, length, take, drop, false, sym, ap, subst, ◌∙◌, append-nil, arith}
 use Rattle.std.specs.Prelude.{Some, Option, slice_get}
 use Rattle.std.specs.Option.{option_map}
+use Rattle.coding.specs.Saturated.{saturated}
 use Rattle.block.specs.EncodedEntry.{Entry}
 use Rattle.table.specs.DataBlocks.{is_full}
 use Rattle.encoding.specs.Walking.{Walking}
 use Rattle.cut.specs.Metered.{BlockInProgress, IsMetered, added_size, next_since, last_entry_key}
-use Rattle.cut.specs.Sizes.{saturated_length}
 use Rattle.cut.proofs.Filled.{IsFilling, filling_first, filling_more, filling_part, last_in}
 use Rattle.cut.proofs.Metered.{since_below}
 use Rattle.cut.proofs.open_block.OpenBlock.take_in.Goals as goal
@@ -29,7 +29,7 @@ loop-taken-init c =
     let rest : List Entry = c.behind.result in
     let before : Option (List ℕ) = option_map (λ key. key.bytes.now) c.last_key.result in
     let some : 0 < length rest = subst (λ (es : List Entry). 0 < length es) (sym c.behind.ensures) (subst (λ (x : BlockInProgress). 0 < length x.behind) (sym c.self.view_is) c.requires.any) in
-    let added_is = subst (λ (w : Walking). option_map (λ (e : Entry). saturated_length (added_size was.since w.before e.key (length e.value))) (slice_get w.rest 0) ≡ Some c.added_len.result) c.new-walk.ensures c.added_len.ensures in
+    let added_is = subst (λ (w : Walking). option_map (λ (e : Entry). saturated (added_size was.since w.before e.key (length e.value))) (slice_get w.rest 0) ≡ Some c.added_len.result) c.new-walk.ensures c.added_len.ensures in
     let first : IsFilling c.args.options m 0 rest before was.len was.since =
     filling_first c.args.options m rest before was.len was.since
     (c.behind.ensures ∙ ap (λ (x : BlockInProgress). x.behind) c.self.view_is)

@@ -14,7 +14,7 @@ ghost use Rattle.adoption.specs.Overlay.{names_of, refused_call};
 
 use crate::refusals::{Refusals, RefusedCall};
 use coding::Fault;
-use folder::{Folder, FolderFault, NoReader, ReadsTables, TableReader, table_name};
+use folder::{Folder, FolderFault, NoReader, ReadsTables, TableReader, part_of, table_name};
 use std::alloc::Global;
 use std::thread::Threads;
 
@@ -146,16 +146,6 @@ fn is_named(text: &String, name: &str) -> bool
     ensures { result ≡ bytes_eq (string_bytes text.now) name.now }
 {
     text.as_str() == name
-}
-
-/// The `len` bytes from `offset` on, or as many as there are.
-fn part_of(bytes: &[u8], offset: u64, len: usize) -> &[u8]
-    ensures { result.now ≡ part_of offset len bytes.now }
-{
-    let start = offset.min(bytes.len() as u64) as usize;
-    let (_, rest) = bytes.split_at(start);
-    let (part, _) = rest.split_at(len.min(rest.len()));
-    part
 }
 
 /// The names of tables, in their order. The only fault is Memory.

@@ -77,7 +77,7 @@ pub use names::{
     temporary_name,
 };
 pub use order::Order;
-pub use shelf::{Failing, Shelf, ShelfMaker};
+pub use shelf::{Failing, Shelf, ShelfMaker, part_of};
 pub use shelf_step::{ShelfCall, ShelfStep};
 pub use source_writer::write_source;
 pub use system::MAX_FILE_LEN;

@@ -427,8 +427,8 @@ impl<'a> Shelf<'a> {
     }
 }
 
-/// The `len` bytes from `offset` on, or as many as there are.
-fn part_of(bytes: &[u8], offset: u64, len: usize) -> &[u8]
+/// The `len` bytes from `offset` on, or as many as there are. Takes no memory.
+pub fn part_of(bytes: &[u8], offset: u64, len: usize) -> &[u8]
     ensures { result.now ≡ part_of offset len bytes.now }
 {
     let start = offset.min(bytes.len() as u64) as usize;

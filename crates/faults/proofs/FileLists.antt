@@ -16,7 +16,7 @@ use Rattle.edit.specs.declared.meta.NewFile.{NewFile}
 use Rattle.edit.proofs.Inserted.{sorted_all}
 use Rattle.edit.proofs.Snapshots.{added_from-suc, added_from-zero, one_level}
 use Rattle.edit.proofs.SortedFiles.{version_cmp-total}
-use Rattle.reads.specs.FileChecks.{AreAll}
+use Rattle.reads.specs.FileList.{AreAll}
 use Rattle.reads.proofs.FallingEntries.{each_of}
 use Rattle.reads.proofs.GatheredFiles.{AreGathered, all_gathered, more_gathered, none_gathered}
 use Rattle.reads.proofs.Members.{from_map, none_in}

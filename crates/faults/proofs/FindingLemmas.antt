@@ -13,12 +13,12 @@ use Rattle.edit.specs.declared.meta.FileMeta.{FileMeta}
 use Rattle.edit.specs.declared.meta.NewFile.{NewFile}
 use Rattle.edit.proofs.SortedFiles.{same_number}
 use Rattle.folder.specs.Calls.{Files}
-use Rattle.reads.specs.FileChecks.{same_file}
+use Rattle.reads.specs.FileList.{same_file, newer_number, level_file_in}
 use Rattle.reads.specs.StatedFiles.{is_below}
 use Rattle.faults.specs.VersionFault.{VersionFault, OfFile}
 use Rattle.faults.specs.FileFaults.{faults_of_files, file_faults, file_reading, overlap_faults, table_faults, unless}
-use Rattle.faults.specs.KeyFaults.{falling_cmp, is_as_stated, is_deep, is_top, metas_where, searched_files}
-use Rattle.faults.specs.Findings.{FoundFile, faults_of_found, new_file_listed, finding_faults, finding_of, found_faults, found_file, found_in, is_deep_found, is_sound_finding, is_top_found, metas_found, searched_found}
+use Rattle.faults.specs.KeyFaults.{is_as_stated, is_deep, is_top, metas_where, searched_files}
+use Rattle.faults.specs.Findings.{FoundFile, faults_of_found, finding_faults, finding_of, found_faults, found_file, found_in, is_deep_found, is_sound_finding, is_top_found, metas_found, searched_found}
 use Rattle.faults.specs.declared.file_fault.FileFault.{FileFault}
 use Rattle.faults.specs.declared.file_fault.FileFault.TheVariants.{NotBelow}
 use Rattle.faults.specs.declared.tested_file.TestedFile.{TestedFile}
@@ -87,18 +87,18 @@ module _ (cmp : KeyOrder) (files : Files) where
 
   pub searched_same : (fs : List NewFile) → searched_found (map found fs) ≡ searched_files cmp files fs
   searched_same fs =
-      ap (λ (ms : List FileMeta). fold (insert_key falling_cmp) [] ms ++ metas_found is_deep_found (map found fs)) (metas_same is_top_found (is_top cmp files) top_same fs)
-      ∙ ap (λ (ms : List FileMeta). fold (insert_key falling_cmp) [] (metas_where (is_top cmp files) fs) ++ ms) (metas_same is_deep_found (is_deep cmp files) deep_same fs)
+      ap (λ (ms : List FileMeta). fold (insert_key newer_number) [] ms ++ metas_found is_deep_found (map found fs)) (metas_same is_top_found (is_top cmp files) top_same fs)
+      ∙ ap (λ (ms : List FileMeta). fold (insert_key newer_number) [] (metas_where (is_top cmp files) fs) ++ ms) (metas_same is_deep_found (is_deep cmp files) deep_same fs)
 
 -- ---- files that were tested
 
-pub files_found : (ts : List TestedFile) → map (λ (t : TestedFile). new_file_listed t.file) ts ≡ map (λ (f : FoundFile). f.file) (map found_in ts)
+pub files_found : (ts : List TestedFile) → map (λ (t : TestedFile). level_file_in t.file) ts ≡ map (λ (f : FoundFile). f.file) (map found_in ts)
 files_found [] = refl
-files_found (t ∷ ts) = ap (λ (fs : List NewFile). new_file_listed t.file ∷ fs) (files_found ts)
+files_found (t ∷ ts) = ap (λ (fs : List NewFile). level_file_in t.file ∷ fs) (files_found ts)
 
 -- the faults of the next file, and of those after it
 pub next_file : (cmp : KeyOrder) (next : Option ℕ) (tested : List TestedFile) (i : ℕ) (t : TestedFile) (faults : List FileFault) → i < length tested → t ≡ get_or tested i t
-    → found_faults cmp next (found_in t) (map (λ (t : TestedFile). new_file_listed t.file) (take (length tested - (i + 1)) (drop (i + 1) tested))) ≡ faults
+    → found_faults cmp next (found_in t) (map (λ (t : TestedFile). level_file_in t.file) (take (length tested - (i + 1)) (drop (i + 1) tested))) ≡ faults
     → faults_of_found cmp next (map found_in (drop i tested)) ≡ map (OfFile t.file.meta.now.number) faults ++ faults_of_found cmp next (map found_in (drop (i + 1) tested))
 next_file cmp next tested i t faults lt is own =
     let behind : List TestedFile = drop (i + 1) tested in
@@ -106,7 +106,7 @@ next_file cmp next tested i t faults lt is own =
     let whole : take (length tested - (i + 1)) behind ≡ behind = take_all (length tested - (i + 1)) behind (omega (arith, length-drop (i + 1) tested)) in
     ap (faults_of_found cmp next) (next_of found_in tested i t lt is)
     ∙ ap (λ (fs : List NewFile). map (OfFile t.file.meta.now.number) (found_faults cmp next (found_in t) fs) ++ rest) (sym (files_found behind))
-    ∙ ap (λ (ts : List TestedFile). map (OfFile t.file.meta.now.number) (found_faults cmp next (found_in t) (map (λ (t : TestedFile). new_file_listed t.file) ts)) ++ rest) (sym whole)
+    ∙ ap (λ (ts : List TestedFile). map (OfFile t.file.meta.now.number) (found_faults cmp next (found_in t) (map (λ (t : TestedFile). level_file_in t.file) ts)) ++ rest) (sym whole)
     ∙ ap (λ (xs : List FileFault). map (OfFile t.file.meta.now.number) xs ++ rest) own
 
 -- ---- their numbers

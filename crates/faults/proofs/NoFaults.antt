@@ -22,7 +22,7 @@ use Rattle.folder.specs.Levels.{file_numbers}
 use Rattle.folder.specs.LoadedTables.{IsTableAnswer, IsTableOf}
 use Rattle.folder.specs.Names.{old_table_name, table_name}
 use Rattle.folder.specs.ReadsAs.{IsHeldIn}
-use Rattle.reads.specs.FileChecks.{AreAll, level_file_in}
+use Rattle.reads.specs.FileList.{AreAll, level_file_in}
 use Rattle.reads.specs.Lawful.{AreDisjoint, IsBelowNextFile, IsFileOf, IsLawful}
 use Rattle.reads.specs.StatedFiles.{IsStatedFile, is_below, matches_metadata}
 use Rattle.reads.specs.TableOrder.{AreFalling, IsNewer}

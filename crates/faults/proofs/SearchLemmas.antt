@@ -11,17 +11,17 @@ use Rattle.edit.specs.declared.meta.FileMeta.{FileMeta}
 use Rattle.edit.proofs.Inserted.{sorted_is}
 use Rattle.edit.proofs.SortedFiles.{same_number}
 use Rattle.edit.proofs.Tested.{eqb-sym, is_eq-nat_cmp}
-use Rattle.faults.specs.KeyFaults.{falling_cmp}
+use Rattle.reads.specs.FileList.{newer_number}
 
-pub falling_total : IsTotalOrder falling_cmp
+pub falling_total : IsTotalOrder newer_number
 falling_total = back_total (on_total (λ (f : FileMeta). f.number) nat_cmp_total)
 
-pub tie_same : (f g : FileMeta) → falling_cmp f g ≡ Equal → same_number f g ≡ true
+pub tie_same : (f g : FileMeta) → newer_number f g ≡ Equal → same_number f g ≡ true
 tie_same f g e = eqb-sym f.number g.number ∙ sym (is_eq-nat_cmp g.number f.number) ∙ ap is_eq e
 
 pub flips : (f g : FileMeta) → same_number f g ≡ same_number g f
 flips f g = eqb-sym f.number g.number
 
 -- files that are sorted are the files put in one by one at their places
-pub falling_is : (files sorted : List FileMeta) → IsPermutation files sorted → IsSortedBy (λ (x y : FileMeta). is_lt (falling_cmp x y)) sorted → IsDistinct same_number files → fold (insert_key falling_cmp) [] files ≡ sorted
-falling_is files sorted p up apart = sorted_is falling_cmp falling_total same_number flips tie_same files sorted p up apart
+pub falling_is : (files sorted : List FileMeta) → IsPermutation files sorted → IsSortedBy (λ (x y : FileMeta). is_lt (newer_number x y)) sorted → IsDistinct same_number files → fold (insert_key newer_number) [] files ≡ sorted
+falling_is files sorted p up apart = sorted_is newer_number falling_total same_number flips tie_same files sorted p up apart

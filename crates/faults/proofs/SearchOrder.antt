@@ -22,14 +22,15 @@ use Rattle.edit.specs.declared.meta.NewFile.{NewFile}
 use Rattle.edit.proofs.Inserted.{all_permute}
 use Rattle.edit.proofs.SortedFiles.{same_number}
 use Rattle.edit.proofs.Tested.{eqb-sym}
-use Rattle.reads.specs.FileChecks.{AreAll, same_file, standing_cmp}
+use Rattle.reads.specs.FileChecks.{standing_cmp}
+use Rattle.reads.specs.FileList.{AreAll, same_file, newer_number}
 use Rattle.reads.proofs.FileOrder.{IsRange, comes_before, standing_cmp-total}
 use Rattle.reads.proofs.Members.{first_in, from_filter, from_map, in_map, later_in}
 use Rattle.reads.proofs.OrderedFiles.{Before, depth_at, top_at}
 use Rattle.reads.proofs.Orders.{less_is}
 use Rattle.reads.proofs.Pairs.{Pairs, pairs_append, pairs_both, pairs_map, pairs_to, pairs_unmap, pairs_weaker, pairs_within}
 use Rattle.faults.specs.FileFaults.{are_disjoint, lies_before, overlap}
-use Rattle.faults.specs.KeyFaults.{falling_cmp, is_deep, is_sound, is_top, metas_where, searched_files}
+use Rattle.faults.specs.KeyFaults.{is_deep, is_sound, is_top, metas_where, searched_files}
 use Rattle.faults.proofs.FileLists.{Follows, put_pairs}
 use Rattle.faults.proofs.FindingLemmas.{distinct_kept}
 use Rattle.faults.proofs.MisplacedLemmas.{pairs_filter}
@@ -95,14 +96,14 @@ again (f ∷ fs) = by (nat_eq f.level 0) refl (again fs)
 
 -- the files in the order of search
 abbrev pub search_list : List NewFile → List NewFile
-search_list all = map (at_level 0) (fold (insert_key falling_cmp) [] (metas_where is_top_file all)) ++ filter is_deep_file all
+search_list all = map (at_level 0) (fold (insert_key newer_number) [] (metas_where is_top_file all)) ++ filter is_deep_file all
 
 module _ (all : List NewFile) where
   abbrev tops : List FileMeta
   tops = metas_where is_top_file all
 
   abbrev sorted : List FileMeta
-  sorted = fold (insert_key falling_cmp) [] tops
+  sorted = fold (insert_key newer_number) [] tops
 
   abbrev deep : List NewFile
   deep = filter is_deep_file all
@@ -116,7 +117,7 @@ module _ (all : List NewFile) where
       (IsPermutation-filter_both is_top_file is_deep_file (λ f. refl) all)
       (subst (λ (fs : List NewFile). IsPermutation (fs ++ deep) (search_list all)) (again all)
       (IsPermutation-append_left deep (map (at_level 0) tops) (map (at_level 0) sorted)
-      (IsPermutation-map (at_level 0) tops sorted (all_permute falling_cmp falling_total same_number flips tie_same [] tops (tops_distinct apart)))))
+      (IsPermutation-map (at_level 0) tops sorted (all_permute newer_number falling_total same_number flips tie_same [] tops (tops_distinct apart)))))
 
 module _ (cmp : KeyOrder) (total : IsTotalOrder cmp) (all : List NewFile) (follows : Pairs (Follows cmp) all) (ranges : (f : NewFile) → Contains all f → IsRange cmp total f) (apart : Pairs (λ f g. overlap cmp f g ≡ false) all) where
   abbrev T : List ℕ → List ℕ → Ordering
@@ -153,8 +154,8 @@ module _ (cmp : KeyOrder) (total : IsTotalOrder cmp) (all : List NewFile) (follo
   top_before : Pairs (Before cmp) (map (at_level 0) (sorted all))
   top_before =
       pairs_map (Before cmp) (at_level 0) (sorted all)
-      (pairs_weaker (λ f g. falling_cmp f g ≡ Less) (λ f g. Before cmp (at_level 0 f) (at_level 0 g)) (λ f g h. inr (refl, top_at cmp (at_level 0 f) (at_level 0 g) refl (less_is g.number f.number h))) (sorted all)
-      (put_pairs falling_cmp falling_total (tops all)))
+      (pairs_weaker (λ f g. newer_number f g ≡ Less) (λ f g. Before cmp (at_level 0 f) (at_level 0 g)) (λ f g h. inr (refl, top_at cmp (at_level 0 f) (at_level 0 g) refl (less_is g.number f.number h))) (sorted all)
+      (put_pairs newer_number falling_total (tops all)))
 
   top_level : (f : NewFile) → Contains (map (at_level 0) (sorted all)) f → f.level ≡ 0
   top_level f at = let m = from_map (at_level 0) (sorted all) f at in sym (ap (λ (x : NewFile). x.level) m.is)
@@ -227,8 +228,8 @@ both_of false s h = refl
 
 pub searched_is : (cmp : KeyOrder) (files : Files) (all : List NewFile) → ((f : NewFile) → Contains all f → is_sound cmp files f.meta ≡ true) → searched_files cmp files all ≡ map (λ (f : NewFile). f.meta) (search_list all)
 searched_is cmp files all sound =
-    ap₂ (λ (ts ds : List NewFile). fold (insert_key falling_cmp) [] (map (λ (f : NewFile). f.meta) ts) ++ map (λ (f : NewFile). f.meta) ds)
+    ap₂ (λ (ts ds : List NewFile). fold (insert_key newer_number) [] (map (λ (f : NewFile). f.meta) ts) ++ map (λ (f : NewFile). f.meta) ds)
     (kept_same (is_top cmp files) is_top_file all (λ f at. both_of (is_top_file f) (is_sound cmp files f.meta) (sound f at)))
     (kept_same (is_deep cmp files) is_deep_file all (λ f at. both_of (is_deep_file f) (is_sound cmp files f.meta) (sound f at)))
-    ∙ ap (λ (ms : List FileMeta). ms ++ map (λ (f : NewFile). f.meta) (filter is_deep_file all)) (sym (tops_again (fold (insert_key falling_cmp) [] (metas_where is_top_file all))))
-    ∙ sym (map-append (λ (f : NewFile). f.meta) (map (at_level 0) (fold (insert_key falling_cmp) [] (metas_where is_top_file all))) (filter is_deep_file all))
+    ∙ ap (λ (ms : List FileMeta). ms ++ map (λ (f : NewFile). f.meta) (filter is_deep_file all)) (sym (tops_again (fold (insert_key newer_number) [] (metas_where is_top_file all))))
+    ∙ sym (map-append (λ (f : NewFile). f.meta) (map (at_level 0) (fold (insert_key newer_number) [] (metas_where is_top_file all))) (filter is_deep_file all))

@@ -17,11 +17,12 @@ use Rattle.folder.specs.Calls.{Files}
 use Rattle.folder.specs.OpenAnswer.{FolderAnswers, IsStopped}
 use Rattle.reads.proofs.Levels.{contains_in, is_in}
 use Rattle.reads.proofs.Members.{from_filter, from_map}
+use Rattle.reads.specs.FileList.{newer_number}
 use Rattle.faults.specs.VersionFault.{VersionFault, OfKey}
 use Rattle.faults.specs.AllFaults.{AreFaultsTold, all_files, told_count}
 use Rattle.faults.specs.FileFaults.{faults_of_files}
 use Rattle.faults.specs.Findings.{FoundFile, faults_of_found, found_file, searched_found}
-use Rattle.faults.specs.KeyFaults.{falling_cmp, is_deep, is_sound, is_top, metas_where, misplaced_keys, read_file, searched_entries, searched_files, searched_of}
+use Rattle.faults.specs.KeyFaults.{is_deep, is_sound, is_top, metas_where, misplaced_keys, read_file, searched_entries, searched_files, searched_of}
 use Rattle.faults.specs.RangeKeys.{AreSoundIn, keys_from}
 use Rattle.faults.specs.ToldFaults.{IsBegun, IsPart, IsTold}
 use Rattle.faults.specs.declared.fault_count.FaultCount.{FaultCount}
@@ -49,8 +50,8 @@ module _ (cmp : KeyOrder) (files : Files) (all : List NewFile) where
   deep_sound : (m : FileMeta) → Contains (metas_where (is_deep cmp files) all) m → Sound m
   deep_sound = sound_where (is_deep cmp files) (λ f h. (and_parts _ (is_sound cmp files f.meta) h).1)
 
-  sorted_from : (tops : List FileMeta) (m : FileMeta) → Contains (fold (insert_key falling_cmp) [] tops) m → Contains tops m
-  sorted_from tops m at = elim (from_all falling_cmp falling_total [] tops m (is_in (fold (insert_key falling_cmp) [] tops) m at)) [
+  sorted_from : (tops : List FileMeta) (m : FileMeta) → Contains (fold (insert_key newer_number) [] tops) m → Contains tops m
+  sorted_from tops m at = elim (from_all newer_number falling_total [] tops m (is_in (fold (insert_key newer_number) [] tops) m at)) [
     | inl none ↦ absurd none
     | inr there ↦ contains_in tops m there
   ]
@@ -60,7 +61,7 @@ module _ (cmp : KeyOrder) (files : Files) (all : List NewFile) where
       let tops = metas_where (is_top cmp files) all in
       let deep = metas_where (is_deep cmp files) all in
       let m : FileMeta = get_or (searched_files cmp files all) k d in
-      elim (Contains-append_cases (fold (insert_key falling_cmp) [] tops) deep m (Contains-get_or (searched_files cmp files all) k d lt)) [
+      elim (Contains-append_cases (fold (insert_key newer_number) [] tops) deep m (Contains-get_or (searched_files cmp files all) k d lt)) [
         | inl top ↦ top_sound m (sorted_from tops m top)
         | inr other ↦ deep_sound m other
       ]

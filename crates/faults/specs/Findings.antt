@@ -12,20 +12,15 @@ use Rattle.edit.specs.declared.meta.FileMeta.{FileMeta}
 use Rattle.edit.specs.declared.meta.NewFile.{NewFile}
 use Rattle.folder.specs.Calls.{Files}
 use Rattle.reads.specs.StatedFiles.{is_below}
+use Rattle.reads.specs.FileList.{level_file_in, newer_number}
 use Rattle.faults.specs.VersionFault.{VersionFault, OfFile}
 use Rattle.faults.specs.FileFaults.{file_reading, largest_of, overlap_faults, smallest_of, unless}
-use Rattle.faults.specs.KeyFaults.{falling_cmp}
 use Rattle.faults.specs.declared.file_fault.FileFault.{FileFault}
 use Rattle.faults.specs.declared.file_fault.FileFault.TheVariants.{NotBelow, Refused, Length}
 use Rattle.faults.specs.declared.file_fault.FileFault.TheVariants.{Smallest, Largest}
-use Rattle.faults.specs.declared.listed_file.ListedFile.{ListedFile}
 use Rattle.faults.specs.declared.table_finding.TableFinding.{TableFinding}
 use Rattle.faults.specs.declared.table_finding.TableFinding.TheVariants.{Readable, Unreadable}
 use Rattle.faults.specs.declared.tested_file.TestedFile.{TestedFile}
-
--- a file and its level
-abbrev pub new_file_listed : ListedFile → NewFile
-new_file_listed f = record { level = f.level; meta = f.meta.now }
 
 -- whether these are more bytes than a table may have
 abbrev pub is_long : List ℕ → Bool
@@ -48,7 +43,7 @@ pub record FoundFile : Type 0 where
   pub finding : TableFinding
 
 abbrev pub found_in : TestedFile → FoundFile
-found_in t = record { file = new_file_listed t.file; finding = t.finding }
+found_in t = record { file = level_file_in t.file; finding = t.finding }
 
 -- what is found of a file whose table these files hold
 abbrev pub found_file : KeyOrder → Files → NewFile → FoundFile
@@ -102,4 +97,4 @@ metas_found test fs = map (λ (f : FoundFile). f.file.meta) (filter test fs)
 -- the sound files in the order of search
 abbrev pub searched_found : List FoundFile → List FileMeta
 searched_found fs =
-    fold (insert_key falling_cmp) [] (metas_found is_top_found fs) ++ metas_found is_deep_found fs
+    fold (insert_key newer_number) [] (metas_found is_top_found fs) ++ metas_found is_deep_found fs

@@ -5,9 +5,7 @@ use Rattle.std.specs.Prelude.{Option, Some, None, Result, Ok, Err}
 use Rattle.std.specs.BTreeSet.{insert_key}
 use Rattle.std.specs.List.{filter_map, flat_map}
 use Rattle.std.specs.Option.{option_map}
-use Rattle.std.specs.Ordering.{nat_cmp}
 use Rattle.std.specs.Str.{bytes_eq}
-use Rattle.std.specs.declared.cmp.Ordering.{Ordering}
 use Rattle.coding.specs.declared.fault.Fault.{Fault}
 use Rattle.ikey.specs.Comparator.{KeyOrder}
 use Rattle.ikey.specs.Key.{user_of, sequence_of}
@@ -17,6 +15,7 @@ use Rattle.edit.specs.declared.meta.FileMeta.{FileMeta}
 use Rattle.edit.specs.declared.meta.NewFile.{NewFile}
 use Rattle.folder.specs.Calls.{Files}
 use Rattle.reads.specs.Bounds.{has_bounds}
+use Rattle.reads.specs.FileList.{newer_number}
 use Rattle.faults.specs.VersionFault.{MisplacedKey}
 use Rattle.faults.specs.FileFaults.{file_reading, largest_of, smallest_of}
 
@@ -43,14 +42,11 @@ is_deep cmp files f = not (nat_eq f.level 0) && is_sound cmp files f.meta
 abbrev pub metas_where : (NewFile → Bool) → List NewFile → List FileMeta
 metas_where test files = map (λ (f : NewFile). f.meta) (filter test files)
 
--- of two files the one of the higher number first
-abbrev pub falling_cmp : FileMeta → FileMeta → Ordering
-falling_cmp f g = nat_cmp g.number f.number
-
 -- The sound files in the order in which a get searches them, of files by level and in version
 -- order: those of level 0 by falling number, then the others.
 abbrev pub searched_files : KeyOrder → Files → List NewFile → List FileMeta
-searched_files cmp files all = fold (insert_key falling_cmp) [] (metas_where (is_top cmp files) all)
+searched_files cmp files all =
+    fold (insert_key newer_number) [] (metas_where (is_top cmp files) all)
     ++ metas_where (is_deep cmp files) all
 
 -- ---- their entries

@@ -5,22 +5,22 @@ ghost use Rattle.std.specs.Prelude.{unwrap_or};
 ghost use Rattle.coding.specs.Answers.{EqualOrMemory, fault};
 ghost use Rattle.coding.specs.declared.fault.FaultName.TheVariants.{Memory};
 ghost use Rattle.reads.specs.StatedFiles.{is_below};
+ghost use Rattle.reads.specs.FileList.{level_file_in};
 ghost use Rattle.faults.specs.FileFaults.{are_disjoint, lies_before, overlap, overlap_faults};
 ghost use Rattle.faults.specs.FileFaults.{unless};
 ghost use Rattle.faults.specs.Findings.{faults_of_found, finding_faults, found_faults};
-ghost use Rattle.faults.specs.Findings.{new_file_listed};
 ghost use Rattle.faults.specs.Findings.{found_in};
 ghost use Rattle.faults.specs.ToldFaults.{IsTelling};
 
 use crate::fault_count::{FaultCount, tell_file};
 use crate::fault_taker::FaultTaker;
 use crate::file_fault::FileFault;
-use crate::listed_file::ListedFile;
 use crate::table_finding::TableFinding;
 use crate::tested_file::TestedFile;
 use coding::Fault;
 use edit::FileMeta;
 use ikey::Comparator;
+use reads::{LevelFile, is_below};
 use std::alloc::Global;
 
 /// Tells what is wrong with files of which this was found, one after the other, until the taker
@@ -59,7 +59,7 @@ fn file_faults<C: Comparator>(
 ) -> Result<Vec<FileFault>, Fault>
     ensures { EqualOrMemory (λ v. v.items) result
         (Ok (found_faults C.cmp next (found_in tested.now)
-        (map (λ t. new_file_listed t.file) behind.now))) }
+        (map (λ t. level_file_in t.file) behind.now))) }
 {
     let mut faults = Vec::new(alloc);
     let meta = tested.file.meta;
@@ -69,16 +69,6 @@ fn file_faults<C: Comparator>(
     push_finding(&mut faults, meta, tested.finding)?;
     push_overlaps::<C>(&mut faults, tested.file, behind)?;
     Ok(faults)
-}
-
-/// Whether `number` is below `next`; false if there is no `next`.
-fn is_below(next: Option<u64>, number: u64) -> bool
-    ensures { result ≡ is_below next number }
-{
-    match next {
-        Some(next) => number < next,
-        None => false,
-    }
 }
 
 /// Appends what is wrong with a file's table. The only fault is Memory.
@@ -124,12 +114,12 @@ fn push_unless(faults: &mut Vec<FileFault>, holds: bool, wrong: FileFault) -> Re
 /// Appends that a file overlaps some of those that come after it. The only fault is Memory.
 fn push_overlaps<C: Comparator>(
     faults: &mut Vec<FileFault>,
-    file: ListedFile<'_>,
+    file: LevelFile<'_>,
     behind: &[TestedFile<'_>],
 ) -> Result<(), Fault>
     ensures ok { OnOk result (faults.new.items ≡ faults.old.items
-        ++ overlap_faults C.cmp (new_file_listed file.entry)
-        (map (λ t. new_file_listed t.file) behind.now)) }
+        ++ overlap_faults C.cmp (level_file_in file.entry)
+        (map (λ t. level_file_in t.file) behind.now)) }
     ensures memory { IsOkUnless result (fault Memory) }
 {
     for tested in behind {
@@ -142,8 +132,8 @@ fn push_overlaps<C: Comparator>(
 
 /// Whether two files are at one level from 1 on, and their ranges of internal keys are not
 /// disjoint.
-fn overlap<C: Comparator>(file: &ListedFile<'_>, other: &ListedFile<'_>) -> bool
-    ensures { result ≡ overlap C.cmp (new_file_listed file.now) (new_file_listed other.now) }
+fn overlap<C: Comparator>(file: &LevelFile<'_>, other: &LevelFile<'_>) -> bool
+    ensures { result ≡ overlap C.cmp (level_file_in file.now) (level_file_in other.now) }
 {
     file.level > 0 && file.level == other.level && !are_disjoint::<C>(file.meta, other.meta)
 }

@@ -5,9 +5,8 @@ ghost use Rattle.std.specs.List.{IsDistinct};
 ghost use Rattle.std.specs.Ordering.{nat_cmp};
 ghost use Rattle.coding.specs.Answers.{fault};
 ghost use Rattle.coding.specs.declared.fault.FaultName.TheVariants.{Memory};
-ghost use Rattle.reads.specs.FileChecks.{same_file};
-ghost use Rattle.faults.specs.KeyFaults.{falling_cmp};
-ghost use Rattle.faults.specs.Findings.{new_file_listed, found_in, is_deep_found, is_sound_finding};
+ghost use Rattle.reads.specs.FileList.{same_file, newer_number, level_file_in};
+ghost use Rattle.faults.specs.Findings.{found_in, is_deep_found, is_sound_finding};
 ghost use Rattle.faults.specs.Findings.{is_top_found, metas_found, searched_found};
 
 use crate::table_finding::TableFinding;
@@ -23,7 +22,7 @@ pub(crate) fn searched_files<'v>(
     alloc: Global,
     tested: &[TestedFile<'v>],
 ) -> Result<Vec<&'v FileMeta>, Fault>
-    requires { IsDistinct same_file (map (λ t. new_file_listed t.file) tested.now) }
+    requires { IsDistinct same_file (map (λ t. level_file_in t.file) tested.now) }
     ensures searched { IfOk result (λ v. map (λ f. f.now) v.items
         ≡ searched_found (map found_in tested.now)) }
     ensures memory { IfErr result (λ e. e ≡ fault Memory) }
@@ -84,7 +83,7 @@ fn is_sound(tested: &TestedFile<'_>) -> bool
 
 /// The order of files by falling number.
 fn falling_order(file: &FileMeta, other: &FileMeta) -> Ordering
-    ensures { result ≡ falling_cmp file.now other.now }
+    ensures { result ≡ newer_number file.now other.now }
 {
     other.number.cmp(&file.number)
 }

@@ -7,10 +7,10 @@ ghost use Rattle.folder.specs.Calls.{Files, Tells};
 ghost use Rattle.folder.specs.OpenAnswer.{FolderAnswers};
 ghost use Rattle.folder.specs.Reports.{OnlyReads, ReportsDevice};
 ghost use Rattle.table.specs.TableContents.{contents_reading};
+ghost use Rattle.reads.specs.FileList.{level_file_in};
 ghost use Rattle.faults.specs.FileFaults.{file_reading, table_held};
-ghost use Rattle.faults.specs.Findings.{IsTestAnswer, new_file_listed, finding_of, found_in};
+ghost use Rattle.faults.specs.Findings.{IsTestAnswer, finding_of, found_in};
 
-use crate::listed_file::ListedFile;
 use crate::table_finding::TableFinding;
 use crate::table_length::is_too_long;
 use crate::tested_file::TestedFile;
@@ -18,6 +18,7 @@ use coding::{Fault, FaultName};
 use edit::FileMeta;
 use folder::{Folder, old_table_name, table_name};
 use ikey::Comparator;
+use reads::LevelFile;
 use std::alloc::Global;
 use table::{SoundTable, check};
 
@@ -28,13 +29,13 @@ use table::{SoundTable, check};
 pub(crate) fn tested_files<'v, C: Comparator, F: Folder>(
     alloc: Global,
     folder: &mut F,
-    files: &[ListedFile<'v>],
+    files: &[LevelFile<'v>],
 ) -> Result<Vec<TestedFile<'v>>, Fault>
     ensures answer { (held : Files) → Tells (F.tells folder.old) held →
         FolderAnswers (λ v. map found_in v.items) (F.failed folder.old) (F.failed folder.new) result
-        (IsTestAnswer C.cmp held (map new_file_listed files.now)) }
+        (IsTestAnswer C.cmp held (map level_file_in files.now)) }
     ensures files { IfOk result
-        (λ v. map (λ t. new_file_listed t.file) v.items ≡ map new_file_listed files.now) }
+        (λ v. map (λ t. level_file_in t.file) v.items ≡ map level_file_in files.now) }
     ensures device { ReportsDevice F.Folder folder.old folder.new result }
     ensures reads { OnlyReads F.Folder folder.old folder.new }
 {

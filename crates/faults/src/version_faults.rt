@@ -9,7 +9,6 @@ ghost use Rattle.faults.specs.AllFaults.{AreFaultsTold, version_faults};
 use crate::fault_count::FaultCount;
 use crate::fault_taker::FaultTaker;
 use crate::file_faults::tell_files;
-use crate::file_list::listed_files;
 use crate::range_faults::tell_ranges;
 use crate::search_order::searched_files;
 use crate::table_test::tested_files;
@@ -18,6 +17,7 @@ use coding::Fault;
 use edit::Version;
 use folder::{Order, ReadsTables};
 use ikey::{Bytewise, SharedComparator, Shortlex};
+use reads::all_files;
 use std::alloc::Global;
 use std::thread::Threads;
 
@@ -95,7 +95,7 @@ pub fn all_faults_by<
     ensures device { ReportsDevice F.Folder folder.old folder.new result }
     ensures reads { OnlyReads F.Folder folder.old folder.new }
 {
-    let files = listed_files::<C>(alloc, version)?;
+    let files = all_files::<C>(alloc, version)?;
     let tested = tested_files::<C, F>(alloc, folder, &files)?;
     let begun = tell_files::<C, T>(
         alloc,

@@ -1,9 +1,8 @@
 //! What a version answers of a user key, level by level.
 
-ghost use Rattle.std.specs.Prelude.{◌≡◌, ◌&&◌, List, Ok, IfErr};
+ghost use Rattle.std.specs.Prelude.{◌≡◌, List, Ok, IfErr};
 ghost use Rattle.std.specs.List.{All, flat_map};
 ghost use Rattle.std.specs.Option.{option_map};
-ghost use Rattle.std.specs.Ordering.{is_le};
 ghost use Rattle.folder.specs.OpenAnswer.{FolderAnswers};
 ghost use Rattle.folder.specs.Reports.{OnlyReads, ReportsDevice};
 ghost use Rattle.ikey.specs.Key.{kind_of, sequence_of, user_of};
@@ -21,6 +20,7 @@ use coding::Fault;
 use edit::{FileMeta, LEVELS, Version};
 use folder::Folder;
 use ikey::{Comparator, InternalKey, KeyBuf, Kind, MAX_SEQUENCE, MAX_USER_KEY};
+use reads::may_hold;
 use std::alloc::Global;
 
 /// The value of a user `key` at the sequence `at`, in a version whose tables are in a folder. It
@@ -110,13 +110,4 @@ fn newest_at_level<C: Comparator, F: Folder>(
         newest = newer(newest, found);
     }
     Ok(newest)
-}
-
-/// Whether the file's range of user keys holds `user`.
-fn may_hold<C: Comparator>(file: &FileMeta, user: &[u8]) -> bool
-    ensures { result ≡ (is_le (C.cmp (user_of file.now.smallest) user.now)
-        && is_le (C.cmp user.now (user_of file.now.largest))) }
-{
-    C::compare(file.smallest.as_key().user(), user).is_le()
-        && C::compare(user, file.largest.as_key().user()).is_le()
 }

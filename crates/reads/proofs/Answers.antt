@@ -18,6 +18,7 @@ use Rattle.block.specs.EncodedEntry.{Entry}
 use Rattle.table.specs.TableContents.{Contents}
 use Rattle.table.specs.ReadingCursors.{EntriesRise}
 use Rattle.edit.specs.declared.meta.FileMeta.{FileMeta}
+use Rattle.reads.specs.Bounds.{may_hold}
 use Rattle.reads.specs.Tables.{NumberedContents, table_of_number, table_entries}
 use Rattle.reads.specs.Visible.{VisibleEntry, IsVisible, IsNewest, IsAnswer, newer_visible}
 use Rattle.reads.specs.Lawful.{IsFileOf}
@@ -71,9 +72,6 @@ pub entries_are : (tables : List NumberedContents) (number : ℕ) (t : Contents)
 entries_are tables number t e = ap (λ (o : Option Contents). option_map_or (λ t. t.entries) o []) e
 
 -- ---- a file whose range doesn't hold the user key
-
-abbrev pub may_hold : (List ℕ → List ℕ → Ordering) → FileMeta → List ℕ → Bool
-may_hold cmp f user = is_le (cmp (user_of f.smallest) user) && is_le (cmp user (user_of f.largest))
 
 le_parts : (o p : Ordering) → (is_le o && is_le p) ≡ false → (o ≡ Greater) ⊎ (p ≡ Greater)
 le_parts Greater p e = inl refl

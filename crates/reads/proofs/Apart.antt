@@ -13,7 +13,7 @@ use Rattle.edit.specs.declared.meta.NewFile.{NewFile}
 use Rattle.edit.proofs.SortedFiles.{same_number}
 use Rattle.edit.proofs.Tested.{both_true, both_false, not_is_true, eqb-sym}
 use Rattle.reads.specs.declared.level_file.LevelFile.{LevelFile}
-use Rattle.reads.specs.FileChecks.{level_file_in, same_file, AreAll}
+use Rattle.reads.specs.FileList.{level_file_in, same_file, AreAll}
 use Rattle.reads.proofs.Members.{first_or_later, none_in}
 use Rattle.reads.proofs.FallingEntries.{each_of, of_each}
 use Rattle.reads.proofs.Pairs.{Pairs}

@@ -16,7 +16,8 @@ use Rattle.table.specs.ReadingCursors.{EntriesRise}
 use Rattle.edit.specs.declared.meta.NewFile.{NewFile}
 use Rattle.reads.specs.declared.level_file.LevelFile.{LevelFile}
 use Rattle.reads.specs.Tables.{NumberedContents}
-use Rattle.reads.specs.FileChecks.{level_file_in, IsStatedFile, stands_before, rank_of, standing_cmp, AreInTurn}
+use Rattle.reads.specs.FileChecks.{IsStatedFile, stands_before, rank_of, standing_cmp, AreInTurn}
+use Rattle.reads.specs.FileList.{level_file_in}
 use Rattle.reads.proofs.Members.{first_or_later, first_in, later_in, none_in}
 use Rattle.reads.proofs.Answers.{first_or_above, last_place}
 use Rattle.reads.proofs.OrderedFiles.{Before, before_decides, at_top, at_depth, top_at, depth_at}

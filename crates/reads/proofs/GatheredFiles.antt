@@ -12,7 +12,7 @@ use Rattle.edit.specs.declared.meta.FileMeta.{FileMeta}
 use Rattle.edit.specs.declared.meta.NewFile.{NewFile}
 use Rattle.edit.proofs.SortedFiles.{same_number, order_permutes, distinct_at}
 use Rattle.edit.proofs.Tested.{eqb-sym}
-use Rattle.reads.specs.FileChecks.{AreAll}
+use Rattle.reads.specs.FileList.{AreAll}
 use Rattle.reads.proofs.Apart.{one_number, AreTwo, AreTwoMetas, metas_apart, pairs_distinct}
 use Rattle.reads.proofs.Pairs.{Pairs, pairs_append, pairs_map, pairs_unmap}
 use Rattle.reads.proofs.Members.{none_in, in_map, from_map}

@@ -17,7 +17,8 @@ use Rattle.edit.specs.declared.meta.NewFile.{NewFile}
 use Rattle.reads.specs.declared.level_file.LevelFile.{LevelFile}
 use Rattle.reads.specs.Tables.{NumberedContents, table_entries, all_entries}
 use Rattle.reads.specs.Lawful.{IsLawful, IsFileOf, IsBelowNextFile, AreDisjoint, AreDistinct, AreNewer, StandsAbove}
-use Rattle.reads.specs.FileChecks.{level_file_in, IsStatedFile, IsSoundFile, AreAll, AreListed, AreInTurn}
+use Rattle.reads.specs.FileChecks.{IsStatedFile, IsSoundFile, AreListed, AreInTurn}
+use Rattle.reads.specs.FileList.{level_file_in, AreAll}
 use Rattle.reads.specs.TableOrder.{IsNewer, AreFalling}
 use Rattle.reads.proofs.Members.{in_flat_map, from_flat_map, in_map}
 use Rattle.reads.proofs.Orders.{later_older}

@@ -16,7 +16,8 @@ use Rattle.edit.specs.declared.meta.NewFile.{NewFile}
 use Rattle.reads.specs.declared.level_file.LevelFile.{LevelFile}
 use Rattle.reads.specs.Tables.{NumberedContents, table_of_number, table_entries, all_entries, tables_test}
 use Rattle.reads.specs.Lawful.{IsLawful, IsUnlawful}
-use Rattle.reads.specs.FileChecks.{level_file_in, IsStatedFile, AreListed, AreInTurn}
+use Rattle.reads.specs.FileChecks.{IsStatedFile, AreListed, AreInTurn}
+use Rattle.reads.specs.FileList.{level_file_in}
 use Rattle.reads.specs.TableOrder.{AreFalling}
 use Rattle.reads.proofs.Members.{in_map, from_map}
 use Rattle.reads.proofs.Levels.{all_at, done_is}

@@ -7,7 +7,8 @@ use Rattle.std.specs.declared.cmp.Ordering.{Ordering}
 use Rattle.std.specs.declared.cmp.Ordering.TheVariants.{Less, Equal, Greater}
 use Rattle.block.specs.EncodedEntry.{Entry}
 use Rattle.split.specs.Ranges.{KeyRange, IsIn}
-use Rattle.reads.specs.FileChecks.{is_from, is_before_end}
+use Rattle.split.specs.Bounds.{is_user_before}
+use Rattle.reads.specs.FileChecks.{is_from}
 use Rattle.reads.specs.TableOrder.{AreFalling, AreFallingIn}
 
 less_of : (o : Ordering) → is_lt o ≡ true → o ≡ Less
@@ -49,7 +50,7 @@ module _ (cmp : List ℕ → List ℕ → Ordering) (user : List ℕ) where
   bound_of (Some u) f = (u, refl, λ less. no_both (is_lt (cmp user u)) (ap is_lt less) f)
 
 -- a user key that passes both tests is in the range
-pub within : (cmp : List ℕ → List ℕ → Ordering) (range : KeyRange) (user : List ℕ) → is_before_end cmp range user ≡ true → is_from cmp range user ≡ true → IsIn cmp range user
+pub within : (cmp : List ℕ → List ℕ → Ordering) (range : KeyRange) (user : List ℕ) → is_user_before cmp range.upper true user ≡ true → is_from cmp range user ≡ true → IsIn cmp range user
 within cmp range user before from = record { from = from_of cmp user range.lower from; before = before_of cmp user range.upper before }
 
 -- one that fails the first isn't

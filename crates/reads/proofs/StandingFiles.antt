@@ -13,7 +13,8 @@ use Rattle.edit.specs.declared.meta.NewFile.{NewFile}
 use Rattle.edit.proofs.Snapshots.{one_level}
 use Rattle.reads.specs.declared.level_file.LevelFile.{LevelFile}
 use Rattle.reads.specs.Tables.{NumberedContents, table_entries}
-use Rattle.reads.specs.FileChecks.{level_file_in, IsStatedFile, AreListed, AreInTurn}
+use Rattle.reads.specs.FileChecks.{IsStatedFile, AreListed, AreInTurn}
+use Rattle.reads.specs.FileList.{level_file_in}
 use Rattle.reads.specs.TableOrder.{AreAllAdded, AreStandingFiles, lists_of_files}
 use Rattle.reads.proofs.Members.{in_map, from_map}
 use Rattle.reads.proofs.Listed.{listed_lawful, listed_stated, listed_fall}

@@ -1,8 +1,7 @@
 -- What is tested of a version's files, one by one and in order.
 use Rattle.std.specs.Prelude.{◌≡◌, ℕ, ◌+◌, ◌<◌, nat_lt, nat_le, nat_eq, Bool, true, not}
 use Rattle.std.specs.Prelude.{◌&&◌, ◌||◌, if◌then◌else◌, List, length, map}
-use Rattle.std.specs.Prelude.{slice_index_or, Option, AllPairs, Contains}
-use Rattle.std.specs.List.{IsDistinct}
+use Rattle.std.specs.Prelude.{slice_index_or, Option, AllPairs}
 use Rattle.std.specs.Option.{option_map_or}
 use Rattle.std.specs.List.Sorted.{IsSortedBy}
 use Rattle.std.specs.Ordering.{nat_cmp, ordering_then, is_lt}
@@ -12,25 +11,17 @@ use Rattle.ikey.specs.Key.{user_of, sequence_of}
 use Rattle.ikey.specs.Order.{internal_cmp}
 use Rattle.ikey.specs.Comparator.{KeyOrder}
 use Rattle.split.specs.Ranges.{KeyRange}
-use Rattle.edit.specs.Version.{are_apart}
 use Rattle.edit.specs.declared.meta.FileMeta.{FileMeta}
 use Rattle.edit.specs.declared.meta.NewFile.{NewFile}
 use Rattle.reads.specs.declared.level_file.LevelFile.{LevelFile}
+use Rattle.reads.specs.FileList.{level_file_in, AreAll}
 pub use Rattle.reads.specs.StatedFiles.{is_below, matches_metadata, IsStatedFile}
 use Rattle.reads.specs.Tables.{NumberedContents, table_entries}
 use Rattle.reads.specs.Lawful.{IsFileOf, IsBelowNextFile, AreDistinct}
 
--- a file and its level
-abbrev pub level_file_in : LevelFile → NewFile
-level_file_in f = record { level = f.level; meta = f.meta.now }
-
 -- whether a user key is at or after a range's lower bound, if it has one
 abbrev pub is_from : KeyOrder → KeyRange → List ℕ → Bool
 is_from cmp range user = option_map_or (λ lower. not (is_lt (cmp user lower))) range.lower true
-
--- whether a user key is before a range's upper bound, if it has one
-abbrev pub is_before_end : KeyOrder → KeyRange → List ℕ → Bool
-is_before_end cmp range user = option_map_or (λ upper. is_lt (cmp user upper)) range.upper true
 
 -- Whether the next key in a merge breaks the order after the last one. It does if it has the same
 -- user key, and comes from an earlier list or has no lower sequence.
@@ -55,17 +46,6 @@ stands_before cmp f g =
     || (nat_eq f.level g.level
     && (if nat_eq f.level 0 then nat_lt g.meta.number f.meta.number else is_lt
     (internal_cmp cmp f.meta.largest g.meta.smallest)))
-
--- whether two files have one number
-abbrev pub same_file : NewFile → NewFile → Bool
-same_file f g = nat_eq f.meta.number g.meta.number
-
--- the listed files are all files of a version, each once, and no two have one number
-pub record AreAll (files listed : List NewFile) : Type 0 where
-  pub apart : are_apart files ≡ true
-  pub distinct : IsDistinct same_file listed
-  pub all : (f : NewFile) → Contains files f → Contains listed f
-  pub only : (f : NewFile) → Contains listed f → Contains files f
 
 -- the number of a file of level 0; 0 for the others
 abbrev pub rank_of : NewFile → ℕ

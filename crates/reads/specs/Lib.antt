@@ -6,6 +6,7 @@ pub mod NewestFirst
 pub mod Bounds
 pub mod StatedFiles
 pub mod TableOrder
+pub mod FileList
 -- serves proofs alone
 pub mod Visible
 pub mod FileChecks

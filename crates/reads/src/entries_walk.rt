@@ -6,13 +6,13 @@ ghost use Rattle.coding.specs.declared.fault.FaultName.TheVariants.{Memory};
 ghost use Rattle.ikey.specs.Key.{user_of};
 ghost use Rattle.merge.specs.Merged.{entries_of_lists};
 ghost use Rattle.split.specs.Ranges.{key_range, IsIn};
-ghost use Rattle.reads.specs.FileChecks.{is_from, is_before_end, steps_back};
+ghost use Rattle.reads.specs.FileChecks.{is_from, steps_back};
 ghost use Rattle.reads.specs.TableOrder.{AreFallingIn};
 
 use coding::Fault;
 use ikey::{Comparator, InternalKey, KeyBuf, Kind};
 use merge::Merging;
-use split::Range;
+use split::{Range, is_before};
 use std::alloc::Global;
 use table::{Cursor, TableCursor};
 
@@ -52,7 +52,7 @@ fn is_falling<'c, C: Comparator, S: Cursor<'c, C> + Drop>(
 {
     while let Some(place) = merging.place() {
         let begun = merging.key();
-        if !is_before_end::<C>(begun, range) {
+        if !is_before::<C>(begun, range.upper, true) {
             return Ok(true);
         }
         last.set(begun)?;
@@ -66,16 +66,6 @@ fn is_falling<'c, C: Comparator, S: Cursor<'c, C> + Drop>(
         }
     }
     Ok(true)
-}
-
-/// Whether the user key of `key` is before the range's upper bound, if it has one.
-fn is_before_end<C: Comparator>(key: InternalKey<'_>, range: Range<'_>) -> bool
-    ensures { result ≡ is_before_end C.cmp (key_range range.entry) (user_of key.entry.bytes.now) }
-{
-    match range.upper {
-        Some(upper) => C::compare(key.user(), upper).is_lt(),
-        None => true,
-    }
 }
 
 /// Whether the user key of `key` is at or after the range's lower bound, if it has one.

@@ -5,31 +5,32 @@
 //! what the version states, each comes before the next one, and of each user key the sequences fall
 //! through all tables.
 
-ghost use Rattle.std.specs.Prelude.{◌≡◌, ◌↔◌, true, map, Ok, IsTrue, IfOk, IfErr, OnOk, ◌++◌};
-ghost use Rattle.std.specs.Prelude.{length};
+ghost use Rattle.std.specs.Prelude.{◌≡◌, ◌↔◌, true, map, Ok, IsTrue, IfOk, IfErr, length};
 ghost use Rattle.std.specs.List.{All};
 ghost use Rattle.std.specs.Result.{MatchResult};
 ghost use Rattle.std.specs.Option.{MatchOption, is_some};
 ghost use Rattle.std.specs.List.Sorted.{IsPermutation};
 ghost use Rattle.coding.specs.Answers.{fault, UnlessMemory};
 ghost use Rattle.coding.specs.declared.fault.FaultName.TheVariants.{Memory};
-ghost use Rattle.edit.specs.VersionOrder.{added_from, at_level};
+ghost use Rattle.edit.specs.VersionOrder.{added_from};
 ghost use Rattle.edit.specs.declared.meta.TheConstants.{LEVELS};
 ghost use Rattle.reads.specs.Tables.{table_of_number, table_entries, tables_test};
-ghost use Rattle.reads.specs.Lawful.{IsLawful, IsUnlawful};
+ghost use Rattle.reads.specs.Lawful.{IsBelowNextFile, IsLawful, IsUnlawful};
 ghost use Rattle.reads.specs.StatedFiles.{is_below, matches_metadata, IsStatedFile};
-ghost use Rattle.reads.specs.FileChecks.{level_file_in, stands_before, AreAll, rank_of};
+ghost use Rattle.reads.specs.FileChecks.{stands_before, rank_of};
+ghost use Rattle.reads.specs.FileList.{level_file_in};
 ghost use Rattle.reads.specs.FileChecks.{standing_cmp, AreListed, AreInTurn};
 ghost use Rattle.reads.specs.TableOrder.{AreAllAdded, AreStanding, AreStandingFiles, IsNeverLawful};
 
 use crate::bounds::has_bounds;
 use crate::entries_walk::falls_in;
+use crate::file_list::all_files;
 use crate::level_file::LevelFile;
 use crate::numbered_table::NumberedTable;
 use crate::table_places::TablePlaces;
 use crate::table_search::tables_test;
 use coding::{Fault, FaultName};
-use edit::{FileMeta, LEVELS, Version};
+use edit::{FileMeta, Version};
 use ikey::{Comparator, InternalKey};
 use split::Range;
 use std::alloc::Global;
@@ -147,39 +148,6 @@ fn metas_of<'v>(alloc: Global, files: &[LevelFile<'v>]) -> Result<Vec<&'v FileMe
     Ok(metas)
 }
 
-/// Appends the files of a level. The only fault is Memory.
-fn push_level<'v>(
-    all: &mut Vec<LevelFile<'v>>,
-    level: u64,
-    files: &[&'v FileMeta],
-) -> Result<(), Fault>
-    ensures ok { OnOk result (map level_file_in all.new.items
-        ≡ map level_file_in all.old.items ++ map (λ f. at_level level f.now) files.now) }
-    ensures memory { IfErr result (λ e. e ≡ fault Memory) }
-{
-    for file in files {
-        all.push(LevelFile { level, meta: file })?;
-    }
-    Ok(())
-}
-
-/// All files of a version, level by level. The only fault is Memory.
-fn all_files<'v, C: Comparator>(
-    alloc: Global,
-    version: &'v Version,
-) -> Result<Vec<LevelFile<'v>>, Fault>
-    ensures all { IfOk result (λ files. AreAll version.now.files (map level_file_in files.items)) }
-    ensures order { IfOk result (λ files. map level_file_in files.items
-        ≡ added_from C.cmp version.now.files 0 LEVELS) }
-    ensures memory { IfErr result (λ e. e ≡ fault Memory) }
-{
-    let mut all = Vec::new(alloc);
-    for level in 0..LEVELS {
-        push_level(&mut all, level, &version.files::<C>(alloc, level)?)?;
-    }
-    Ok(all)
-}
-
 /// The number of a file of level 0; 0 for the others.
 fn rank_of(file: &LevelFile<'_>) -> u64
     ensures { result ≡ rank_of (level_file_in file.now) }
@@ -215,9 +183,10 @@ fn listed_files<'v, C: Comparator>(
     Ok(files)
 }
 
-/// Whether `number` is below `next`; false if there is no `next`.
-fn is_below(next: Option<u64>, number: u64) -> bool
-    ensures { result ≡ is_below next number }
+/// Whether `number` is below `next`; false if there is no `next`. Takes no memory.
+pub fn is_below(next: Option<u64>, number: u64) -> bool
+    ensures test { result ≡ is_below next number }
+    ensures below { IsTrue result ↔ IsBelowNextFile next number }
 {
     match next {
         Some(next) => number < next,

@@ -4,7 +4,7 @@ use edit::FileMeta;
 
 /// A file and its level.
 #[derive(Clone, Copy)]
-pub(crate) struct LevelFile<'v> {
+pub struct LevelFile<'v> {
     /// From 0 to 6.
     pub level: u64,
     /// What the version states of the file.

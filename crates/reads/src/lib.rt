@@ -7,8 +7,9 @@
 //!    it. [`standing_files`] and [`is_stated`] make the tests of the files, a table at a time.
 //! 4. [`get`] answers the value of a user key at a sequence.
 //!
-//! [`has_bounds`] tests what a version states of a file. [`answers_newest_first`] is the law that
-//! the entries of a user key answer a get, the newest first.
+//! [`has_bounds`], [`is_below`] and [`may_hold`] test what a version states of a file.
+//! [`all_files`] lists a version's files, each as a [`LevelFile`]. [`answers_newest_first`] is the
+//! law that the entries of a user key answer a get, the newest first.
 //!
 //! No contract says how long these calls take. Of a version that isn't lawful, no contract says
 //! which value `get` answers.
@@ -16,6 +17,7 @@
 
 mod bounds;
 mod entries_walk;
+mod file_list;
 mod found;
 mod lawfulness;
 mod level_file;
@@ -27,7 +29,9 @@ mod version_get;
 
 pub use bounds::has_bounds;
 pub use entries_walk::falls_in;
-pub use lawfulness::{is_stated, lawful, standing_files, standing_tables};
+pub use file_list::all_files;
+pub use lawfulness::{is_below, is_stated, lawful, standing_files, standing_tables};
+pub use level_file::LevelFile;
 pub use newest_first_law::answers_newest_first;
 pub use numbered_table::NumberedTable;
-pub use version_get::get;
+pub use version_get::{get, may_hold};

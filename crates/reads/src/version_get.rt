@@ -13,6 +13,7 @@ ghost use Rattle.coding.specs.Answers.{EqualOrMemory, fault};
 ghost use Rattle.coding.specs.declared.fault.FaultName.TheVariants.{Memory};
 ghost use Rattle.ikey.specs.Key.{user_of, sequence_of, kind_of};
 ghost use Rattle.ikey.specs.declared.kind.Kind.TheVariants.{Put};
+ghost use Rattle.reads.specs.Bounds.{may_hold};
 ghost use Rattle.reads.specs.Tables.{table_of_number, table_entries, all_entries, tables_test};
 ghost use Rattle.reads.specs.Visible.{visible_in, newer_visible, IsAnswer};
 ghost use Rattle.reads.specs.Gets.{get_of};
@@ -147,10 +148,9 @@ fn newer<'a>(one: Option<Found<'a>>, other: Option<Found<'a>>) -> Option<Found<'
     }
 }
 
-/// Whether the file's range of user keys holds `user`.
-fn may_hold<C: Comparator>(file: &FileMeta, user: &[u8]) -> bool
-    ensures { result ≡ (is_le (C.cmp (user_of file.now.smallest) user.now)
-        && is_le (C.cmp user.now (user_of file.now.largest))) }
+/// Whether the file's range of user keys holds `user`. Takes no memory.
+pub fn may_hold<C: Comparator>(file: &FileMeta, user: &[u8]) -> bool
+    ensures { result ≡ may_hold C.cmp file.now user.now }
 {
     C::compare(file.smallest.as_key().user(), user).is_le()
         && C::compare(user, file.largest.as_key().user()).is_le()

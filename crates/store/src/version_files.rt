@@ -14,6 +14,7 @@ ghost use Rattle.edit.specs.declared.meta.TheConstants.{LAST_LEVEL};
 use coding::{Fault, FaultName};
 use edit::{FileMeta, LEVELS, Version};
 use ikey::Comparator;
+use reads::is_below;
 use std::alloc::Global;
 
 /// Tests what the files of a version tell of it by themselves. Their numbers have to be below next
@@ -60,16 +61,6 @@ fn are_below(next: Option<u64>, files: &[&FileMeta]) -> bool
         }
     }
     true
-}
-
-/// Whether a number is below `next`.
-fn is_below(next: Option<u64>, number: u64) -> bool
-    ensures { IsTrue result ↔ IsBelowNextFile next number }
-{
-    match next {
-        Some(next) => number < next,
-        None => false,
-    }
 }
 
 /// Whether the largest key of each file is below the smallest of the next one.

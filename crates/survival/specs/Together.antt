@@ -3,10 +3,8 @@
 use Rattle.std.specs.Prelude.{◌≡◌, ℕ, zero, suc, ◌+◌, ◌-◌, ◌≤◌, true, not, List, [], ◌++◌, filter}
 use Rattle.std.specs.Prelude.{fold}
 use Rattle.std.specs.List.{All, flat_map}
-use Rattle.std.specs.Ordering.{nat_cmp}
 use Rattle.std.specs.Str.{bytes_eq}
 use Rattle.std.specs.BTreeSet.{insert_key}
-use Rattle.std.specs.declared.cmp.Ordering.{Ordering}
 use Rattle.ikey.specs.Key.{user_of}
 use Rattle.ikey.specs.Comparator.{KeyOrder}
 use Rattle.block.specs.EncodedEntry.{Entry}
@@ -18,15 +16,12 @@ use Rattle.edit.specs.declared.meta.TheConstants.{LAST_LEVEL, LEVELS}
 use Rattle.pick.specs.declared.picked.InputFile.{InputFile}
 use Rattle.pick.specs.Ranges.{is_in_none}
 use Rattle.pick.specs.Picked.{PickedInputs, IsPicked}
+use Rattle.reads.specs.FileList.{newer_number}
 use Rattle.reads.specs.Gets.{get_of}
 use Rattle.reads.specs.Lawful.{IsLawful}
 use Rattle.reads.specs.NewestFirst.{SequencesFall, AreOf, AreThoseOf, answer_at}
 use Rattle.reads.specs.Tables.{NumberedContents, table_entries, all_entries}
 use Rattle.survival.specs.Closed.{is_input}
-
--- files by falling number
-abbrev pub newer_number : FileMeta → FileMeta → Ordering
-newer_number a b = nat_cmp b.number a.number
 
 -- the files of a level in the order of reading: those of level 0 by falling number, those of each
 -- other level in version order

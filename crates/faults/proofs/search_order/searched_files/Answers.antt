@@ -7,9 +7,8 @@ use Rattle.std.proofs.lemmas.List.{map-append}
 use Rattle.std.proofs.lemmas.List.Sorted.{answers_always, ranks_by, IsPermutation-map}
 use Rattle.edit.specs.declared.meta.FileMeta.{FileMeta}
 use Rattle.edit.proofs.SortedFiles.{lent, lent_sorted, same_number}
-use Rattle.reads.specs.FileChecks.{same_file}
+use Rattle.reads.specs.FileList.{same_file, newer_number}
 use Rattle.faults.specs.Findings.{FoundFile, found_in, is_top_found, metas_found}
-use Rattle.faults.specs.KeyFaults.{falling_cmp}
 use Rattle.faults.proofs.FindingLemmas.{distinct_kept, files_found}
 use Rattle.faults.proofs.SearchLemmas.{falling_is, falling_total}
 use Rattle.faults.proofs.search_order.searched_files.Goals as goal
@@ -19,11 +18,11 @@ returns-clause-searched c =
     let found = map found_in c.args.tested.now in
     let tops = metas_found is_top_found found in
     let sorted = c.sort_unstable_by.new.self.items in
-    let up = c.sort_unstable_by.ensures.sorted (λ (x y : Bor FileMeta). is_lt (falling_cmp x.now y.now)) (ranks_by falling_total (λ (f : Bor FileMeta). f.now)) (answers_always _ _ _ (λ f a r k h. search rules)) in
+    let up = c.sort_unstable_by.ensures.sorted (λ (x y : Bor FileMeta). is_lt (newer_number x.now y.now)) (ranks_by falling_total (λ (f : Bor FileMeta). f.now)) (answers_always _ _ _ (λ f a r k h. search rules)) in
     let p : IsPermutation tops (lent sorted) =
     subst (λ (fs : List FileMeta). IsPermutation fs (lent sorted)) c.in_ok-files.ensures.files (IsPermutation-map (λ (f : Bor FileMeta). f.now) c.in_ok-files.files.items sorted c.sort_unstable_by.ensures.permutation) in
     let apart : IsDistinct same_number tops = distinct_kept (λ (f : FoundFile). f.file) is_top_found found (subst (IsDistinct same_file) (files_found c.args.tested.now) c.requires) in
-    let front : fold (insert_key falling_cmp) [] tops ≡ lent sorted = falling_is tops (lent sorted) p (lent_sorted falling_cmp sorted up) apart in
+    let front : fold (insert_key newer_number) [] tops ≡ lent sorted = falling_is tops (lent sorted) p (lent_sorted newer_number sorted up) apart in
     ap lent c.in_ok-append.ensures.items
     ∙ map-append (λ (f : Bor FileMeta). f.now) sorted c.in_ok-deep.deep.items
     ∙ ap₂ (λ (xs ys : List FileMeta). xs ++ ys) (sym front) c.in_ok-deep.ensures.files

@@ -1,8 +1,9 @@
 use Rattle.std.proofs.Common.{◌≡◌, Result, Ok, Err, map, arith}
 use Rattle.coding.specs.declared.fault.Fault.{Fault}
 use Rattle.checks.proofs.FolderTests.{told_still}
+use Rattle.reads.specs.FileList.{level_file_in}
 use Rattle.faults.specs.FileFaults.{file_reading}
-use Rattle.faults.specs.Findings.{IsTestAnswer, new_file_listed, finding_of, found_in}
+use Rattle.faults.specs.Findings.{IsTestAnswer, finding_of, found_in}
 use Rattle.faults.specs.declared.table_finding.TableFinding.{TableFinding}
 use Rattle.faults.proofs.FaultAnswers.{handed_answer, no_value}
 use Rattle.faults.proofs.table_test.tested_files.Goals as goal
@@ -16,6 +17,6 @@ returns-in_err-finding-clause-answer g c held told =
     let f = c.file-item.result in
     let own : Result TableFinding Fault = Ok (finding_of f.meta.now (file_reading cmp held f.meta.now.number)) in
     let e = c.in_err-finding.field-0.0 in
-    handed_answer (λ v. map found_in v.items) (failed c.args.folder.now) (failed now.folder) (failed c.table_finding.new.folder) c.from_residual-in_err-finding.result (IsTestAnswer cmp held (map new_file_listed c.args.files.now)) e (let r : Result TableFinding Fault = Err e in r ≡ own) c.from_residual-in_err-finding.ensures.1 (omega (arith, now.invariant.failures)) c.table_finding.ensures.device.later
+    handed_answer (λ v. map found_in v.items) (failed c.args.folder.now) (failed now.folder) (failed c.table_finding.new.folder) c.from_residual-in_err-finding.result (IsTestAnswer cmp held (map level_file_in c.args.files.now)) e (let r : Result TableFinding Fault = Err e in r ≡ own) c.from_residual-in_err-finding.ensures.1 (omega (arith, now.invariant.failures)) c.table_finding.ensures.device.later
     (λ h. no_value e (finding_of f.meta.now (file_reading cmp held f.meta.now.number)) h)
     (c.in_err-finding.ensures.answer held (told_still (tells c.args.folder.now) (tells now.folder) held now.invariant.reads.same told))

@@ -3,9 +3,10 @@ use Rattle.edit.specs.declared.meta.FileMeta.{FileMeta}
 use Rattle.edit.specs.declared.meta.NewFile.{NewFile}
 use Rattle.folder.proofs.ReportLemmas.{reports_handed, reports_then}
 use Rattle.checks.proofs.FolderTests.{told_still}
+use Rattle.reads.specs.FileList.{level_file_in}
 use Rattle.faults.specs.VersionFault.{VersionFault}
 use Rattle.faults.specs.AllFaults.{all_files}
-use Rattle.faults.specs.Findings.{faults_of_found, new_file_listed, found_file, found_in, searched_found}
+use Rattle.faults.specs.Findings.{faults_of_found, found_file, found_in, searched_found}
 use Rattle.faults.specs.ToldFaults.{IsBegun, IsTold}
 use Rattle.faults.specs.declared.fault_count.FaultCount.{FaultCount}
 use Rattle.faults.proofs.FaultAnswers.{memory_of, stopped_only, stopped_since}
@@ -57,8 +58,8 @@ returns-in_err-begun-clause-told g c files told =
     let taker = c.args.taker.now in
     let front : List VersionFault = front_of cmp met.total met.exact files v in
     let keys : List VersionFault = keys_of cmp met.total met.exact files v in
-    let lent : List NewFile = map new_file_listed c.deref.result.now in
-    let same : lent ≡ all_files cmp v = ap (map new_file_listed) c.deref.ensures.value ∙ c.in_ok-files.ensures.order in
+    let lent : List NewFile = map level_file_in c.deref.result.now in
+    let same : lent ≡ all_files cmp v = ap (map level_file_in) c.deref.ensures.value ∙ c.in_ok-files.ensures.order in
     let is : map found_in c.in_ok-tested.tested.items ≡ map (found_file cmp files) lent = c.in_ok-tested.ensures.answer files told in
     let is_2 : map found_in c.deref-2.result.now ≡ map (found_file cmp files) lent = ap (map found_in) c.deref-2.ensures.value ∙ is in
     let front_same : faults_of_found cmp c.next_file.result (map found_in c.deref-2.result.now) ≡ front = front_is cmp met.total met.exact files v lent (map found_in c.deref-2.result.now) same is_2 c.next_file.result c.next_file.ensures in
@@ -81,8 +82,8 @@ returns-then-not-begun-clause-told g c files told =
     let taker = c.args.taker.now in
     let front : List VersionFault = front_of cmp met.total met.exact files v in
     let keys : List VersionFault = keys_of cmp met.total met.exact files v in
-    let lent : List NewFile = map new_file_listed c.deref.result.now in
-    let same : lent ≡ all_files cmp v = ap (map new_file_listed) c.deref.ensures.value ∙ c.in_ok-files.ensures.order in
+    let lent : List NewFile = map level_file_in c.deref.result.now in
+    let same : lent ≡ all_files cmp v = ap (map level_file_in) c.deref.ensures.value ∙ c.in_ok-files.ensures.order in
     let is : map found_in c.in_ok-tested.tested.items ≡ map (found_file cmp files) lent = c.in_ok-tested.ensures.answer files told in
     let is_2 : map found_in c.deref-2.result.now ≡ map (found_file cmp files) lent = ap (map found_in) c.deref-2.ensures.value ∙ is in
     let front_same : faults_of_found cmp c.next_file.result (map found_in c.deref-2.result.now) ≡ front = front_is cmp met.total met.exact files v lent (map found_in c.deref-2.result.now) same is_2 c.next_file.result c.next_file.ensures in
@@ -105,8 +106,8 @@ returns-in_err-searched-clause-told g c files told =
     let taker = c.args.taker.now in
     let front : List VersionFault = front_of cmp met.total met.exact files v in
     let keys : List VersionFault = keys_of cmp met.total met.exact files v in
-    let lent : List NewFile = map new_file_listed c.deref.result.now in
-    let same : lent ≡ all_files cmp v = ap (map new_file_listed) c.deref.ensures.value ∙ c.in_ok-files.ensures.order in
+    let lent : List NewFile = map level_file_in c.deref.result.now in
+    let same : lent ≡ all_files cmp v = ap (map level_file_in) c.deref.ensures.value ∙ c.in_ok-files.ensures.order in
     let is : map found_in c.in_ok-tested.tested.items ≡ map (found_file cmp files) lent = c.in_ok-tested.ensures.answer files told in
     let is_2 : map found_in c.deref-2.result.now ≡ map (found_file cmp files) lent = ap (map found_in) c.deref-2.ensures.value ∙ is in
     let front_same : faults_of_found cmp c.next_file.result (map found_in c.deref-2.result.now) ≡ front = front_is cmp met.total met.exact files v lent (map found_in c.deref-2.result.now) same is_2 c.next_file.result c.next_file.ensures in
@@ -131,8 +132,8 @@ returns-in_err-split-clause-told g c files told =
     let taker = c.args.taker.now in
     let front : List VersionFault = front_of cmp met.total met.exact files v in
     let keys : List VersionFault = keys_of cmp met.total met.exact files v in
-    let lent : List NewFile = map new_file_listed c.deref.result.now in
-    let same : lent ≡ all_files cmp v = ap (map new_file_listed) c.deref.ensures.value ∙ c.in_ok-files.ensures.order in
+    let lent : List NewFile = map level_file_in c.deref.result.now in
+    let same : lent ≡ all_files cmp v = ap (map level_file_in) c.deref.ensures.value ∙ c.in_ok-files.ensures.order in
     let is : map found_in c.in_ok-tested.tested.items ≡ map (found_file cmp files) lent = c.in_ok-tested.ensures.answer files told in
     let is_2 : map found_in c.deref-2.result.now ≡ map (found_file cmp files) lent = ap (map found_in) c.deref-2.ensures.value ∙ is in
     let front_same : faults_of_found cmp c.next_file.result (map found_in c.deref-2.result.now) ≡ front = front_is cmp met.total met.exact files v lent (map found_in c.deref-2.result.now) same is_2 c.next_file.result c.next_file.ensures in
@@ -157,8 +158,8 @@ returns-in_err-told-clause-told g c files told =
     let taker = c.args.taker.now in
     let front : List VersionFault = front_of cmp met.total met.exact files v in
     let keys : List VersionFault = keys_of cmp met.total met.exact files v in
-    let lent : List NewFile = map new_file_listed c.deref.result.now in
-    let same : lent ≡ all_files cmp v = ap (map new_file_listed) c.deref.ensures.value ∙ c.in_ok-files.ensures.order in
+    let lent : List NewFile = map level_file_in c.deref.result.now in
+    let same : lent ≡ all_files cmp v = ap (map level_file_in) c.deref.ensures.value ∙ c.in_ok-files.ensures.order in
     let is : map found_in c.in_ok-tested.tested.items ≡ map (found_file cmp files) lent = c.in_ok-tested.ensures.answer files told in
     let is_2 : map found_in c.deref-2.result.now ≡ map (found_file cmp files) lent = ap (map found_in) c.deref-2.ensures.value ∙ is in
     let front_same : faults_of_found cmp c.next_file.result (map found_in c.deref-2.result.now) ≡ front = front_is cmp met.total met.exact files v lent (map found_in c.deref-2.result.now) same is_2 c.next_file.result c.next_file.ensures in
@@ -198,8 +199,8 @@ returns-clause-told g c files told =
     let taker = c.args.taker.now in
     let front : List VersionFault = front_of cmp met.total met.exact files v in
     let keys : List VersionFault = keys_of cmp met.total met.exact files v in
-    let lent : List NewFile = map new_file_listed c.deref.result.now in
-    let same : lent ≡ all_files cmp v = ap (map new_file_listed) c.deref.ensures.value ∙ c.in_ok-files.ensures.order in
+    let lent : List NewFile = map level_file_in c.deref.result.now in
+    let same : lent ≡ all_files cmp v = ap (map level_file_in) c.deref.ensures.value ∙ c.in_ok-files.ensures.order in
     let is : map found_in c.in_ok-tested.tested.items ≡ map (found_file cmp files) lent = c.in_ok-tested.ensures.answer files told in
     let is_2 : map found_in c.deref-2.result.now ≡ map (found_file cmp files) lent = ap (map found_in) c.deref-2.ensures.value ∙ is in
     let front_same : faults_of_found cmp c.next_file.result (map found_in c.deref-2.result.now) ≡ front = front_is cmp met.total met.exact files v lent (map found_in c.deref-2.result.now) same is_2 c.next_file.result c.next_file.ensures in

@@ -10,7 +10,8 @@ use Rattle.ikey.specs.Key.{user_of, sequence_of}
 use Rattle.reads.specs.Lawful.{IsFileOf}
 use Rattle.reads.specs.Tables.{table_entries}
 use Rattle.reads.specs.Visible.{visible_of, IsAnswer}
-use Rattle.reads.proofs.Answers.{files_step, may_hold, not_held, newer_none, entries_are}
+use Rattle.reads.proofs.Answers.{files_step, not_held, newer_none, entries_are}
+use Rattle.reads.specs.Bounds.{may_hold}
 use Rattle.lookup.proofs.Giving.{handed}
 use Rattle.lookup.proofs.Parts.{table_later}
 use Rattle.lookup.proofs.version_get.newest_at_level.Goals as goal

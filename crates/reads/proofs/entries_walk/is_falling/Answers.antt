@@ -5,7 +5,8 @@ use Rattle.split.specs.Ranges.{KeyRange, key_range, IsIn}
 use Rattle.merge.specs.Least.{IsMerging}
 use Rattle.merge.specs.Merged.{merged}
 use Rattle.merge.proofs.Leasts.{some_where_least}
-use Rattle.reads.specs.FileChecks.{is_from, is_before_end}
+use Rattle.split.specs.Bounds.{is_user_before}
+use Rattle.reads.specs.FileChecks.{is_from}
 use Rattle.reads.proofs.EntriesInOrder.{all_left, key_is, came_to_end, goes_on, went_back, none_there, none_of_kind, behind_bound, are_falling, fall}
 use Rattle.reads.proofs.Ranged.{within, before_it, bound_of}
 use Rattle.reads.proofs.entries_walk.is_falling.Goals.{else-within-via-then-within+else-steps_back, else-within-via-else-within}
@@ -28,8 +29,8 @@ advance-requires g c κs = ((refl, tt), some_where_least g.C.Comparator.cmp g.me
 pub key-begun-requires : goal.key-begun-requires
 key-begun-requires g c κs = ((refl, tt), some_where_least g.C.Comparator.cmp g.met.C.Comparator.total c.loop-place.merging c.in-Some.place c.in-Some.ensures)
 
-pub returns-then-not-is_before_end-clause-falls : goal.returns-then-not-is_before_end-clause-falls
-returns-then-not-is_before_end-clause-falls g c =
+pub returns-then-not-is_before-clause-falls : goal.returns-then-not-is_before-clause-falls
+returns-then-not-is_before-clause-falls g c =
     let cmp = g.C.Comparator.cmp in
     let total = g.met.C.Comparator.total in
     let exact = g.met.C.Comparator.exact in
@@ -38,8 +39,8 @@ returns-then-not-is_before_end-clause-falls g c =
     let all : List (List Entry) = c.args.merging.now in
     let m : IsMerging cmp lists (Some c.in-Some.place) = c.in-Some.ensures in
     let first = key_is cmp total exact lists c.in-Some.place m c.key-begun.result.bytes.now c.key-begun.ensures in
-    let test : is_before_end cmp range (user_of c.key-begun.result.bytes.now) ≡ false = sym c.is_before_end.ensures ∙ c.if-not-is_before_end.true in
-    let bound = bound_of cmp (user_of m.least.first.key) range.upper (ap (λ (k : List _). is_before_end cmp range (user_of k)) first ∙ test) in (
+    let test : is_user_before cmp range.upper true (user_of c.key-begun.result.bytes.now) ≡ false = sym c.is_before.ensures ∙ c.if-not-is_before.true in
+    let bound = bound_of cmp (user_of m.least.first.key) range.upper (ap (λ (k : List _). is_user_before cmp range.upper true (user_of k)) first ∙ test) in (
       λ e. are_falling cmp total exact (IsIn cmp range) all (none_of_kind cmp total exact (IsIn cmp range) lists all
           (λ x at is. behind_bound cmp total exact lists c.in-Some.place m bound.0 bound.2 x at (is.before bound.0 bound.1)) c.loop-place.invariant),
       λ h. refl,
@@ -77,7 +78,7 @@ returns-then-steps_back-clause-falls g c =
     let lawful = subst IsInternalKey (sym first) c.key-begun.result.lawful in
     let again : c.as_key.result.bytes.now ≡ c.key-begun.result.bytes.now = c.as_key.ensures ∙ c.in_ok-set.ensures.ok in
     let last : c.as_key-then-within.result.bytes.now ≡ c.key-begun.result.bytes.now = c.as_key-then-within.ensures ∙ c.in_ok-set.ensures.ok in
-    let before : is_before_end cmp range (user_of m.least.first.key) ≡ true = ap (λ (k : List _). is_before_end cmp range (user_of k)) first ∙ sym c.is_before_end.ensures ∙ c.if-not-is_before_end.false in
+    let before : is_user_before cmp range.upper true (user_of m.least.first.key) ≡ true = ap (λ (k : List _). is_user_before cmp range.upper true (user_of k)) first ∙ sym c.is_before.ensures ∙ c.if-not-is_before.false in
     let from : is_from cmp range (user_of m.least.first.key) ≡ true = ap (λ (k : List _). is_from cmp range (user_of k)) (first ∙ sym again) ∙ sym c.is_from-within.ensures ∙ c.if-within.true in (
       λ e. absurd cc,
       λ h. absurd (went_back cmp total exact (IsIn cmp range) c.loop-place.merging c.advance.new.self all c.in-Some.place m lawful c.in_ok-advance.ensures.advanced c.loop-place.invariant c.in-Some-place.next n c.as_key-then-within.result.bytes.now c.key.result.bytes.now (first ∙ sym last) next

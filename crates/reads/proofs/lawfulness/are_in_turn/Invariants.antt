@@ -1,7 +1,8 @@
 use Rattle.std.proofs.Common.{◌≡◌, ℕ, ◌+◌, ◌<◌, true}
 use Rattle.std.specs.Prelude.{slice_index_or}
 use Rattle.reads.specs.declared.level_file.LevelFile.{LevelFile}
-use Rattle.reads.specs.FileChecks.{level_file_in, stands_before}
+use Rattle.reads.specs.FileChecks.{stands_before}
+use Rattle.reads.specs.FileList.{level_file_in}
 use Rattle.reads.proofs.lawfulness.are_in_turn.Given as goal
 
 -- each file so far stands before the one after it

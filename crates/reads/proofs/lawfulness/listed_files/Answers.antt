@@ -4,7 +4,8 @@ use Rattle.std.specs.Ordering.{is_lt}
 use Rattle.std.proofs.lemmas.List.Sorted.{IsPermutation-map, answers_always, ranks_by}
 use Rattle.edit.specs.declared.meta.NewFile.{NewFile}
 use Rattle.reads.specs.declared.level_file.LevelFile.{LevelFile}
-use Rattle.reads.specs.FileChecks.{level_file_in, standing_cmp}
+use Rattle.reads.specs.FileChecks.{standing_cmp}
+use Rattle.reads.specs.FileList.{level_file_in}
 use Rattle.reads.proofs.Apart.{listed_again}
 use Rattle.reads.proofs.FileOrder.{standing_cmp-total}
 use Rattle.reads.proofs.lawfulness.listed_files.Goals as goal

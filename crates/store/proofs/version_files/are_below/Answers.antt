@@ -9,7 +9,7 @@ use Rattle.store.proofs.version_files.are_below.Goals as goal
 pub loop-file-preserved : goal.loop-file-preserved
 loop-file-preserved c =
     let P : Bor FileMeta → Type 0 = λ f. IsBelowNextFile c.args.next f.now.number in
-    let own : P c.file-item.result = c.is_below.ensures.0 c.if-not-is_below.false in
+    let own : P c.file-item.result = c.is_below.ensures.below.0 c.if-not-is_below.false in
     All-more P c.args.files.now c.loop-file.file-index c.file-item.result c.loop-file-test.true c.loop-file.invariant (subst P c.file-item.is own)
 
 pub returns : goal.returns

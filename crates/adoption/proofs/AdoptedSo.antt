@@ -10,13 +10,13 @@ use Rattle.coding.specs.declared.fault.Fault.{Fault}
 use Rattle.coding.specs.declared.fault.FaultName.TheVariants.{Apply, Numbers}
 use Rattle.ikey.specs.Comparator.{KeyOrder}
 use Rattle.table.proofs.EntryTests.{passed}
-use Rattle.table.specs.ReadingSteps.{test_result}
+use Rattle.table.specs.TestResult.{test_result}
 use Rattle.edit.specs.Edit.{Edit, edit_bytes}
 use Rattle.edit.specs.Version.{State, applied, are_new, has_place, undeleted_files, with_file, with_pointer}
 use Rattle.edit.specs.declared.meta.NewFile.{NewFile}
 use Rattle.folder.specs.ReadsAs.{IsOneOf}
 use Rattle.install.proofs.Numbers.{numbers_in}
-use Rattle.pick.specs.Picked.{IsInputsAnswer, PickedInputs}
+use Rattle.pick.specs.PickedInputs.{IsInputsAnswer, PickedInputs}
 use Rattle.store.proofs.Flow.{no_refusal}
 use Rattle.store.specs.FolderRequest.{manifest_of}
 use Rattle.store.specs.InputsCompaction.{IsOrderly, input_numbers}

@@ -14,21 +14,22 @@ use Rattle.folder.proofs.OpeningLemmas.{held_before}
 use Rattle.folder.specs.Calls.{Files, Step, Tells, ToldFiles}
 use Rattle.folder.specs.Folder.{TellsSame}
 use Rattle.folder.specs.OpenAnswer.{FolderAnswers, IsStopped}
-use Rattle.folder.specs.ReadsAs.{IsHeldIn}
+use Rattle.folder.specs.ReadsAs.{IsFileIn}
 use Rattle.folder.specs.declared.folder.Folder.{Ghosts}
 use Rattle.folder.specs.declared.order.Order.{Order}
 use Rattle.install.specs.Install.{SurvivesCrash, next_version_tables, tables_in}
 use Rattle.checks.specs.TestedTables.{IsTested}
-use Rattle.checks.specs.declared.tested.Tested.{Tested}
+use Rattle.checks.specs.declared.version_totals.VersionTotals.{VersionTotals}
 use Rattle.store.proofs.Flow.{loaded_in, no_refusal}
 use Rattle.store.proofs.InstallPart.{still, survives_on}
 use Rattle.store.specs.Compaction.{IsUnchanged}
 use Rattle.store.specs.Lines.{compaction_lines}
-use Rattle.pick.specs.declared.picked.InputFile.{InputFile}
+use Rattle.pick.specs.declared.picked_inputs.InputFile.{InputFile}
 use Rattle.store.specs.InputsCompaction.{input_numbers}
 use Rattle.adoption.specs.Adoption.{Adoption, IsEditGiven, IsGiven, with_tables}
-use Rattle.adoption.specs.AdoptionLeft.{AdoptedVersion, IsInstallation, IsOutcomeLeft, IsTestedLeft, AdoptionKeepsReads}
-use Rattle.adoption.specs.Both.{AnswersFrom, HasEitherFailed}
+use Rattle.adoption.specs.AdoptionLeft.{AdoptedVersion, IsInstallation, AdoptionKeepsReads}
+use Rattle.adoption.specs.OutcomeLeft.{IsOutcomeLeft, IsTestedLeft}
+use Rattle.adoption.specs.BothFolders.{AnswersFrom, HasEitherFailed}
 use Rattle.adoption.specs.declared.comparison.Comparison.{Comparison}
 
 pub tells_itself : (tells : ToldFiles) → TellsSame tells tells
@@ -53,9 +54,9 @@ pub err_answers : {X Y : Type 0} (view : X → Y) (before now : ℕ) (r : Result
 err_answers {X = X} view before now r e IsAnswer is given = subst (λ (q : Result X Fault). FolderAnswers view before now q IsAnswer) is given
 
 -- a test with these tables
-pub tested_with : (before now : ℕ) (r : Result Tested Fault) (slice tables : List (ℕ × Vec ℕ)) (cmp : KeyOrder) (v : State) (files : Files) → slice ≡ tables → FolderAnswers (λ tested. tested) before now r (IsTested (IsHeldIn (with_tables (tables_in slice) files)) cmp v)
-    → FolderAnswers (λ tested. tested) before now r (IsTested (IsHeldIn (with_tables (tables_in tables) files)) cmp v)
-tested_with before now r slice tables cmp v files is given = subst (λ (ts : List (ℕ × Vec ℕ)). FolderAnswers (λ tested. tested) before now r (IsTested (IsHeldIn (with_tables (tables_in ts) files)) cmp v)) is given
+pub tested_with : (before now : ℕ) (r : Result VersionTotals Fault) (slice tables : List (ℕ × Vec ℕ)) (cmp : KeyOrder) (v : State) (files : Files) → slice ≡ tables → FolderAnswers (λ tested. tested) before now r (IsTested (IsFileIn (with_tables (tables_in slice) files)) cmp v)
+    → FolderAnswers (λ tested. tested) before now r (IsTested (IsFileIn (with_tables (tables_in tables) files)) cmp v)
+tested_with before now r slice tables cmp v files is given = subst (λ (ts : List (ℕ × Vec ℕ)). FolderAnswers (λ tested. tested) before now r (IsTested (IsFileIn (with_tables (tables_in ts) files)) cmp v)) is given
 
 -- the answer of a step after one that had this value
 pub holds_behind : {X Y B : Type 0} (view : X → B) (r : Result X Fault) (IsFirst : Result Y Fault → Type 0) (IsNext : Y → Result B Fault → Type 0) (a : Y) → IsFirst (Ok a) → HoldsOrMemory view r (IsNext a) → HoldsOrMemory view r (IsThen IsFirst IsNext)
@@ -128,14 +129,14 @@ module _ {F G X Y B : Type 0} (view : X → B) (f : Ghosts F) (g : Ghosts G) (on
       (λ s. elim s [ inl stopped ↦ inl (stopped.0, inr stopped.1) | inr found ↦ inr (Err e, (held found, refl)) ]) given
 
 -- what a folder that tells files gives is what they hold
-told_in : (tells : ToldFiles) (files : Files) → Tells tells files → TellsSame (IsHeldIn files) tells
+told_in : (tells : ToldFiles) (files : Files) → Tells tells files → TellsSame (IsFileIn files) tells
 told_in tells files h name held = ((h name held).1, (h name held).0)
 
-edit_held : (tells : ToldFiles) (files : Files) (r : Result Edit Fault) → Tells tells files → IsEditGiven tells r → IsEditGiven (IsHeldIn files) r
-edit_held tells files r h (Err e, (held, is)) = (Err e, (held_before (IsHeldIn files) tells (codes "EDIT") (codes "EDIT") (Err e) (told_in tells files h) refl held, is))
-edit_held tells files r h (Ok bytes, (held, is)) = (Ok bytes, (held_before (IsHeldIn files) tells (codes "EDIT") (codes "EDIT") (Ok bytes) (told_in tells files h) refl held, is))
+edit_held : (tells : ToldFiles) (files : Files) (r : Result Edit Fault) → Tells tells files → IsEditGiven tells r → IsEditGiven (IsFileIn files) r
+edit_held tells files r h (Err e, (held, is)) = (Err e, (held_before (IsFileIn files) tells (codes "EDIT") (codes "EDIT") (Err e) (told_in tells files h) refl held, is))
+edit_held tells files r h (Ok bytes, (held, is)) = (Ok bytes, (held_before (IsFileIn files) tells (codes "EDIT") (codes "EDIT") (Ok bytes) (told_in tells files h) refl held, is))
 
-pub given_held : (cmp : KeyOrder) (v : State) (tells : ToldFiles) (files : Files) (r : Result (Adoption × List (ℕ × List ℕ)) Fault) → Tells tells files → IsGiven cmp tells v r → IsGiven cmp (IsHeldIn files) v r
+pub given_held : (cmp : KeyOrder) (v : State) (tells : ToldFiles) (files : Files) (r : Result (Adoption × List (ℕ × List ℕ)) Fault) → Tells tells files → IsGiven cmp tells v r → IsGiven cmp (IsFileIn files) v r
 given_held cmp v tells files r h (Err e, (edit, is)) = (Err e, (edit_held tells files (Err e) h edit, is))
 given_held cmp v tells files r h (Ok e, (edit, (Err f, (adoption, is)))) = (Ok e, (edit_held tells files (Ok e) h edit, (Err f, (adoption, is))))
 given_held cmp v tells files r h (Ok e, (edit, (Ok a, (adoption, (Err f, (loaded, is)))))) =

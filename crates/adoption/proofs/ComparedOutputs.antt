@@ -7,8 +7,8 @@ use Rattle.coding.specs.declared.fault.FaultName.TheVariants.{Device, Lawless}
 use Rattle.ikey.specs.Comparator.{KeyOrder}
 use Rattle.table.specs.TableContents.{Contents}
 use Rattle.install.specs.Install.{tables_in}
-use Rattle.pick.specs.Picked.{PickedInputs}
-use Rattle.pick.specs.declared.picked.InputFile.{InputFile}
+use Rattle.pick.specs.PickedInputs.{PickedInputs}
+use Rattle.pick.specs.declared.picked_inputs.InputFile.{InputFile}
 use Rattle.keep.specs.declared.snapshots.Snapshots.{Snapshots}
 use Rattle.store.specs.InputsCompaction.{input_numbers, input_tables}
 use Rattle.store.proofs.NoDevice.{tables_other, test_other}

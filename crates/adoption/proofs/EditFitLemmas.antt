@@ -12,7 +12,7 @@ use Rattle.ikey.specs.Comparator.{KeyOrder}
 use Rattle.edit.specs.Edit.{Edit}
 use Rattle.edit.specs.Version.{State}
 use Rattle.edit.specs.VersionOrder.{level_files}
-use Rattle.pick.specs.Picked.{IsInputsAnswer, IsPicked, PickedInputs}
+use Rattle.pick.specs.PickedInputs.{IsInputsAnswer, IsPicked, PickedInputs}
 use Rattle.edit.specs.declared.meta.NewFile.{NewFile}
 use Rattle.adoption.specs.EditFit.{IsChoiceOf, IsEditFor, IsFitting, only_level, rise_between}
 

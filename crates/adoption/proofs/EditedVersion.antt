@@ -13,7 +13,7 @@ use Rattle.folder.specs.Calls.{Files}
 use Rattle.folder.specs.Levels.{by_level, file_numbers, numbers_at}
 use Rattle.folder.specs.LoadedTables.{IsTableAnswer, IsTableOf}
 use Rattle.folder.specs.Manifest.{order_name}
-use Rattle.folder.specs.ReadsAs.{IsHeldIn, IsOneOf}
+use Rattle.folder.specs.ReadsAs.{IsFileIn, IsOneOf}
 use Rattle.folder.specs.declared.order.Order.{Order}
 use Rattle.install.specs.Install.{IsEditedBy, next_version_tables, numbers_of, table_bytes_of}
 use Rattle.install.proofs.Numbers.{after_edit, among_append, in_files, in_version, numbers_in, small_added}
@@ -21,12 +21,13 @@ use Rattle.reads.proofs.Members.{first_in, later_in}
 use Rattle.reads.specs.Lawful.{IsBelowNextFile}
 use Rattle.checks.specs.LawfulTables.{IsLawfulTables}
 use Rattle.checks.specs.TestedTables.{IsTested}
-use Rattle.checks.specs.declared.tested.Tested.{Tested}
+use Rattle.checks.specs.declared.version_totals.VersionTotals.{VersionTotals}
 use Rattle.store.proofs.Flow.{no_refusal}
 use Rattle.store.proofs.InputNumbers.{loaded_at}
 use Rattle.store.specs.FolderRequest.{last_of, manifest_of}
 use Rattle.store.specs.InputsCompaction.{IsOrderly}
-use Rattle.adoption.specs.Adoption.{Adoption, IsAdopted, adopted, adopted_next, with_tables}
+use Rattle.adoption.specs.Adoption.{Adoption, adopted, adopted_next, with_tables}
+use Rattle.adoption.specs.AdoptedOutcome.{IsAdopted}
 use Rattle.adoption.specs.AdoptionLeft.{AdoptedVersion}
 use Rattle.adoption.proofs.AdoptedSo.{IsAdoptedSo, IsCounted, adopted_so, counted_so, edited_so, numbers_same, rising_all}
 use Rattle.adoption.proofs.LaidTables.{AreSmall, all_loaded, one_loaded, table_over}
@@ -126,20 +127,20 @@ module _ (order : Order) (cmp : KeyOrder) (v : State) (a : Adoption) (tables : L
       let low = output_small k at in
       (low, omega (arith, lt, above, low))
 
-  module _ (files : Files) (loaded : List (ℕ × List ℕ)) (read : AllZip (IsTableOf (IsHeldIn files)) (file_numbers cmp v) loaded) where
+  module _ (files : Files) (loaded : List (ℕ × List ℕ)) (read : AllZip (IsTableOf (IsFileIn files)) (file_numbers cmp v) loaded) where
     abbrev over : Files
     over = with_tables tables files
 
-    table_next : (n : ℕ) → IsOneOf (file_numbers cmp a.next) n → IsTableAnswer (IsHeldIn over) n (Ok (table_bytes_of (tables ++ loaded) n))
+    table_next : (n : ℕ) → IsOneOf (file_numbers cmp a.next) n → IsTableAnswer (IsFileIn over) n (Ok (table_bytes_of (tables ++ loaded) n))
     table_next n m =
         let own = there n m in
-        table_over tables loaded files n (small n own) (elim own [ inl k ↦ inl k | inr before ↦ inr (loaded_at (IsHeldIn files) (file_numbers cmp v) loaded n read before) ])
+        table_over tables loaded files n (small n own) (elim own [ inl k ↦ inl k | inr before ↦ inr (loaded_at (IsFileIn files) (file_numbers cmp v) loaded n read before) ])
 
-    pub tables_are : (found : List (ℕ × List ℕ)) → AllZip (IsTableOf (IsHeldIn over)) (file_numbers cmp a.next) found → found ≡ next_version_tables cmp a.next tables loaded
-    tables_are found h = one_loaded over (file_numbers cmp a.next) found (next_version_tables cmp a.next tables loaded) h (all_loaded (IsHeldIn over) (file_numbers cmp a.next) (table_bytes_of (tables ++ loaded)) table_next)
+    pub tables_are : (found : List (ℕ × List ℕ)) → AllZip (IsTableOf (IsFileIn over)) (file_numbers cmp a.next) found → found ≡ next_version_tables cmp a.next tables loaded
+    tables_are found h = one_loaded over (file_numbers cmp a.next) found (next_version_tables cmp a.next tables loaded) h (all_loaded (IsFileIn over) (file_numbers cmp a.next) (table_bytes_of (tables ++ loaded)) table_next)
 
     -- if the test of the edited version passed, it is what it should be
-    pub adopted_version : (t : Tested) → IsTested (IsHeldIn over) cmp a.next (Ok t) → AdoptedVersion order cmp v loaded (a, tables)
+    pub adopted_version : (t : VersionTotals) → IsTested (IsFileIn over) cmp a.next (Ok t) → AdoptedVersion order cmp v loaded (a, tables)
     adopted_version t (Err f, h) = absurd (no_refusal t f h.1)
     adopted_version t (Ok found, (h, (Err f, k))) = absurd (no_refusal t f k.1)
     adopted_version t (Ok found, (h, (Ok ts, k))) = record {

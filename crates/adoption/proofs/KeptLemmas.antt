@@ -13,13 +13,14 @@ use Rattle.coding.specs.declared.fault.FaultName.{FaultName}
 use Rattle.coding.specs.declared.fault.FaultName.TheVariants.{Duplicate}
 use Rattle.ikey.specs.Comparator.{KeyOrder}
 use Rattle.block.specs.EncodedEntry.{Entry}
-use Rattle.merge.specs.Merged.{merged}
+use Rattle.merge.specs.MergedLists.{merged}
 use Rattle.split.specs.Ranges.{KeyRange}
 use Rattle.keep.specs.DropRule.{kept}
 use Rattle.keep.specs.InRange.{entries_in}
 use Rattle.keep.specs.Marks.{CompactionContext}
 use Rattle.keep.specs.Runs.{DistinctLaw, Run, are_distinct, range_run, run_of}
-use Rattle.adoption.specs.KeptEntries.{HoldsKept, begins_with}
+use Rattle.adoption.specs.KeptEntries.{HoldsKept}
+use Rattle.adoption.specs.Beginnings.{begins_with}
 
 -- ---- entries
 

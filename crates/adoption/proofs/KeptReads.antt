@@ -13,7 +13,7 @@ use Rattle.coding.specs.Answers.{◌>>=◌}
 use Rattle.coding.specs.declared.fault.FaultName.TheVariants.{Bounds}
 use Rattle.ikey.specs.Comparator.{KeyOrder}
 use Rattle.block.specs.EncodedEntry.{Entry}
-use Rattle.table.specs.ReadingSteps.{test_result}
+use Rattle.table.specs.TestResult.{test_result}
 use Rattle.table.specs.TableContents.{Contents, contents_reading}
 use Rattle.edit.specs.Edit.{Edit}
 use Rattle.edit.specs.Version.{State, undeleted_files, with_file}
@@ -22,14 +22,14 @@ use Rattle.edit.specs.declared.meta.NewFile.{NewFile}
 use Rattle.folder.specs.Calls.{Files}
 use Rattle.folder.specs.Levels.{file_numbers}
 use Rattle.folder.specs.LoadedTables.{IsTableAnswer, IsTableOf}
-use Rattle.folder.specs.ReadsAs.{IsHeldIn, IsOneOf}
+use Rattle.folder.specs.ReadsAs.{IsFileIn, IsOneOf}
 use Rattle.folder.specs.declared.order.Order.{Order}
 use Rattle.install.specs.Install.{next_version_tables, numbers_of, table_bytes_of}
 use Rattle.install.proofs.Numbers.{in_version, numbers_in}
-use Rattle.merge.specs.Merged.{entries_of_lists}
+use Rattle.merge.specs.MergedLists.{entries_of_lists}
 use Rattle.merge.specs.Union.{IsUnion}
-use Rattle.pick.specs.Picked.{IsPicked}
-use Rattle.pick.specs.declared.picked.InputFile.{InputFile}
+use Rattle.pick.specs.PickedInputs.{IsPicked}
+use Rattle.pick.specs.declared.picked_inputs.InputFile.{InputFile}
 use Rattle.keep.specs.Readable.{Readable, is_read, readable_of}
 use Rattle.keep.specs.declared.snapshots.Snapshots.{Snapshots}
 use Rattle.reads.proofs.Members.{first_in, from_filter, from_flat_map, in_flat_map, later_in, none_in}
@@ -38,7 +38,7 @@ use Rattle.reads.specs.Lawful.{IsFileOf, IsLawful}
 use Rattle.reads.specs.Tables.{NumberedContents, table_entries, table_of_number}
 use Rattle.request.specs.EditOf.{deletions_of, edit_of}
 use Rattle.request.specs.Request.{RequestView}
-use Rattle.survival.specs.Closed.{is_input}
+use Rattle.survival.specs.ClosedInputs.{is_input}
 use Rattle.survival.specs.EditAfter.{version_after}
 use Rattle.survival.specs.GetsAfter.{GetsAfter, HoldKept, entries_of_inputs, staying_files}
 use Rattle.survival.proofs.AppliedEdit.{edit_applies}
@@ -56,7 +56,8 @@ use Rattle.store.proofs.Loaded.{bytes_found, found_loaded}
 use Rattle.store.proofs.TablesAfter.{number_of, one_number}
 use Rattle.store.specs.FolderRequest.{manifest_of}
 use Rattle.store.specs.InputsCompaction.{are_stated, input_numbers, input_tables}
-use Rattle.adoption.specs.Adoption.{Adoption, IsAdopted, IsGivenTested, IsOutputsCompared, adopted}
+use Rattle.adoption.specs.Adoption.{Adoption, IsGivenTested, IsOutputsCompared, adopted}
+use Rattle.adoption.specs.AdoptedOutcome.{IsAdopted}
 use Rattle.adoption.specs.AdoptionLeft.{AdoptedVersion, AdoptionKeepsReads}
 use Rattle.adoption.specs.declared.comparison.Comparison.{Comparison}
 use Rattle.adoption.specs.declared.comparison.Comparison.TheVariants.{LeftOut, With}
@@ -174,7 +175,7 @@ module _ (cmp : KeyOrder) (next_tables : List NumberedContents) (loaded : List (
 -- ---- the theorem
 
 module _ (cmp : KeyOrder) (total : IsTotalOrder cmp) (order : Order) (v : State) (a : Adoption) (outputs : List (ℕ × List ℕ)) (ad : IsAdopted cmp v (a, outputs)) (files : Files) (loaded : List (ℕ × List ℕ)) (tables : List NumberedContents)
-    (read : AllZip (IsTableOf (IsHeldIn files)) (file_numbers cmp v) loaded) (sound : IsLawfulTables cmp v loaded (Ok tables)) (version : AdoptedVersion order cmp v loaded (a, outputs)) where
+    (read : AllZip (IsTableOf (IsFileIn files)) (file_numbers cmp v) loaded) (sound : IsLawfulTables cmp v loaded (Ok tables)) (version : AdoptedVersion order cmp v loaded (a, outputs)) where
   abbrev e : Edit
   e = ad.edit
 
@@ -299,7 +300,7 @@ module _ (cmp : KeyOrder) (total : IsTotalOrder cmp) (order : Order) (v : State)
 
   -- ---- the inputs
 
-  input_entries : (is : List InputFile) (own : List (ℕ × List ℕ)) (found : List NumberedContents) → ((i : InputFile) → Contains is i → Contains a.picked.files i) → AllZip (IsTableOf (IsHeldIn files)) (input_numbers is) own → tables_reading cmp own ≡ Ok found
+  input_entries : (is : List InputFile) (own : List (ℕ × List ℕ)) (found : List NumberedContents) → ((i : InputFile) → Contains is i → Contains a.picked.files i) → AllZip (IsTableOf (IsFileIn files)) (input_numbers is) own → tables_reading cmp own ≡ Ok found
       → map (λ (i : InputFile). table_entries tables i.meta.number) is ≡ map (λ (t : Contents). t.entries) (map (λ (t : NumberedContents). t.contents) found)
   input_entries [] [] found inside h reading = ap (λ (ts : List NumberedContents). map (λ (t : Contents). t.entries) (map (λ (t : NumberedContents). t.contents) ts)) (ok_is [] found reading)
   input_entries [] (t ∷ own) found inside h reading = absurd h
@@ -309,9 +310,9 @@ module _ (cmp : KeyOrder) (total : IsTotalOrder cmp) (order : Order) (v : State)
       let f = input_file cmp total v tables lawful so.level a.picked picked i (inside i (first_in i is)) in
       let number : f.file.meta.number ≡ i.meta.number = ap (λ (m : FileMeta). m.number) f.is in
       let o = old_file f.file f.there in
-      let held : IsTableAnswer (IsHeldIn files) f.file.meta.number (Ok (table_bytes_of loaded f.file.meta.number)) =
-      loaded_at (IsHeldIn files) (file_numbers cmp v) loaded f.file.meta.number read (in_version cmp v f.file.meta.number low (one_number v.files f.file f.there)) in
-      let own_table : IsTableAnswer (IsHeldIn files) f.file.meta.number (Ok t.1) = subst (λ (k : ℕ). IsTableAnswer (IsHeldIn files) k (Ok t.1)) (sym number) h.0.1 in
+      let held : IsTableAnswer (IsFileIn files) f.file.meta.number (Ok (table_bytes_of loaded f.file.meta.number)) =
+      loaded_at (IsFileIn files) (file_numbers cmp v) loaded f.file.meta.number read (in_version cmp v f.file.meta.number low (one_number v.files f.file f.there)) in
+      let own_table : IsTableAnswer (IsFileIn files) f.file.meta.number (Ok t.1) = subst (λ (k : ℕ). IsTableAnswer (IsFileIn files) k (Ok t.1)) (sym number) h.0.1 in
       let bytes : t.1 ≡ o.table.bytes = one_table files f.file.meta.number (table_bytes_of loaded f.file.meta.number) t.1 held own_table ∙ old_bytes f.file f.there in
       let same : o.table ≡ c.contents = sym (same_contents cmp t.1 o.table.bytes c.contents o.table bytes c.read o.accepted) in
       let first : table_entries tables i.meta.number ≡ c.contents.entries = ap (table_entries tables) (sym number) ∙ (entries_at tables f.file.meta.number o.table o.there ∙ ap (λ (x : Contents). x.entries) same) in
@@ -321,7 +322,7 @@ module _ (cmp : KeyOrder) (total : IsTotalOrder cmp) (order : Order) (v : State)
 
   -- ---- gets
 
-  module _ (own : List (ℕ × List ℕ)) (inputs outs : List Contents) (r : Readable) (own_read : AllZip (IsTableOf (IsHeldIn files)) (input_numbers a.picked.files) own)
+  module _ (own : List (ℕ × List ℕ)) (inputs outs : List Contents) (r : Readable) (own_read : AllZip (IsTableOf (IsFileIn files)) (input_numbers a.picked.files) own)
       (inputs_are : input_tables cmp a.picked.files own ≡ Ok inputs) (outs_are : input_tables cmp a.outputs outputs ≡ Ok outs)
       (held : HoldsKept cmp r a.picked.deeper (map (λ (t : Contents). t.entries) inputs) (map (λ (t : Contents). t.entries) outs)) where
     inputs_read : AreRead cmp a.picked.files own inputs
@@ -372,7 +373,7 @@ module _ (cmp : KeyOrder) (total : IsTotalOrder cmp) (order : Order) (v : State)
 -- ---- from the comparison
 
 module _ (cmp : KeyOrder) (total : IsTotalOrder cmp) (order : Order) (v : State) (a : Adoption) (outputs : List (ℕ × List ℕ)) (ad : IsAdopted cmp v (a, outputs)) (files : Files) (loaded : List (ℕ × List ℕ))
-    (read : AllZip (IsTableOf (IsHeldIn files)) (file_numbers cmp v) loaded) (law : GetsAfter cmp) where
+    (read : AllZip (IsTableOf (IsFileIn files)) (file_numbers cmp v) loaded) (law : GetsAfter cmp) where
   keeps_compared : (snapshots : Snapshots) (outs : List Contents) (version : AdoptedVersion order cmp v loaded (a, outputs)) → input_tables cmp a.outputs outputs ≡ Ok outs → IsOutputsCompared cmp files a snapshots outs (Ok tt) → AdoptionKeepsReads cmp v loaded a (With snapshots) version.tables_next
   keeps_compared snapshots outs version outs_are (Err e, (h, is)) = absurd (no_refusal tt e is)
   keeps_compared snapshots outs version outs_are (Ok own, (own_read, (Err e, (h, is)))) = absurd (no_refusal tt e is)

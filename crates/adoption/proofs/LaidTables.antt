@@ -10,7 +10,7 @@ use Rattle.std.proofs.lemmas.Slice.Eq.{bytes_eq-Decides}
 use Rattle.folder.specs.Calls.{Files}
 use Rattle.folder.specs.LoadedTables.{IsTableAnswer, IsTableOf}
 use Rattle.folder.specs.Names.{old_table_name, table_name}
-use Rattle.folder.specs.ReadsAs.{IsHeldIn, IsOneOf}
+use Rattle.folder.specs.ReadsAs.{IsFileIn, IsOneOf}
 use Rattle.folder.proofs.NameEnds.{ends_apart, old_table_end, table_end}
 use Rattle.folder.proofs.NameLemmas.{table_alike}
 use Rattle.folder.proofs.ReadsLemmas.{table_same}
@@ -107,23 +107,23 @@ among_tables tables loaded n = elim (found_or_not tables n) [
 ]
 
 -- the table of a number is the one that was laid over, or the one that was there
-pub table_over : (tables loaded : List (ℕ × List ℕ)) (files : Files) (n : ℕ) → AreSmall tables n → IsOneOf (numbers_of tables) n ⊎ IsTableAnswer (IsHeldIn files) n (Ok (table_bytes_of loaded n)) → IsTableAnswer (IsHeldIn (with_tables tables files)) n (Ok (table_bytes_of (tables ++ loaded) n))
+pub table_over : (tables loaded : List (ℕ × List ℕ)) (files : Files) (n : ℕ) → AreSmall tables n → IsOneOf (numbers_of tables) n ⊎ IsTableAnswer (IsFileIn files) n (Ok (table_bytes_of loaded n)) → IsTableAnswer (IsFileIn (with_tables tables files)) n (Ok (table_bytes_of (tables ++ loaded) n))
 table_over tables loaded files n small there = by (lookup (nat_eq n) tables) refl there
   where
     bytes : (o : Option (List ℕ)) → lookup (nat_eq n) tables ≡ o → table_bytes_of (tables ++ loaded) n ≡ unwrap_or (option_or o (lookup (nat_eq n) loaded)) []
     bytes o found = ap (λ (x : Option (List ℕ)). unwrap_or x []) (found_both n tables loaded) ∙ ap (λ (x : Option (List ℕ)). unwrap_or (option_or x (lookup (nat_eq n) loaded)) []) found
 
-    by : (o : Option (List ℕ)) → lookup (nat_eq n) tables ≡ o → IsOneOf (numbers_of tables) n ⊎ IsTableAnswer (IsHeldIn files) n (Ok (table_bytes_of loaded n)) → IsTableAnswer (IsHeldIn (with_tables tables files)) n (Ok (table_bytes_of (tables ++ loaded) n))
+    by : (o : Option (List ℕ)) → lookup (nat_eq n) tables ≡ o → IsOneOf (numbers_of tables) n ⊎ IsTableAnswer (IsFileIn files) n (Ok (table_bytes_of loaded n)) → IsTableAnswer (IsFileIn (with_tables tables files)) n (Ok (table_bytes_of (tables ++ loaded) n))
     by (Some b) found m = inl (ap (λ (x : Option (List ℕ)). option_or x (files (table_name n))) (laid_found tables n small ∙ found) ∙ ap (λ (x : List ℕ). Some x) (sym (bytes (Some b) found)))
     by None found (inl m) = absurd (found_one tables n m found)
     by None found (inr held) =
-        subst (λ (b : List ℕ). IsTableAnswer (IsHeldIn (with_tables tables files)) n (Ok b)) (sym (bytes None found))
+        subst (λ (b : List ℕ). IsTableAnswer (IsFileIn (with_tables tables files)) n (Ok b)) (sym (bytes None found))
         (table_same files (with_tables tables files) n (table_bytes_of loaded n) (still_under tables files (table_name n) (laid_found tables n small ∙ found)) (λ none. still_under tables files (old_table_name n) (laid_old tables n)) held)
 
 -- ---- what is loaded
 
 -- files hold one list of tables of some numbers
-pub one_loaded : (files : Files) (numbers : List ℕ) (one two : List (ℕ × List ℕ)) → AllZip (IsTableOf (IsHeldIn files)) numbers one → AllZip (IsTableOf (IsHeldIn files)) numbers two → one ≡ two
+pub one_loaded : (files : Files) (numbers : List ℕ) (one two : List (ℕ × List ℕ)) → AllZip (IsTableOf (IsFileIn files)) numbers one → AllZip (IsTableOf (IsFileIn files)) numbers two → one ≡ two
 one_loaded files [] [] [] h k = refl
 one_loaded files [] [] (t ∷ two) h k = absurd k
 one_loaded files [] (t ∷ one) two h k = absurd h

@@ -12,11 +12,11 @@ use Rattle.folder.specs.Calls.{AreTorn, Call, Created, Files, FolderSynced, Fold
 use Rattle.folder.specs.Folder.{TellsSame}
 use Rattle.folder.specs.LoadedTables.{IsLoaded, IsTableAnswer, IsTableOf}
 use Rattle.folder.specs.Names.{old_table_name, six_digits, table_name}
-use Rattle.folder.specs.ReadsAs.{IsHeldIn}
+use Rattle.folder.specs.ReadsAs.{IsFileIn}
 use Rattle.folder.specs.declared.folder.FolderFault.{FolderFault}
 use Rattle.folder.specs.declared.folder.FolderFault.TheVariants.{Memory}
 use Rattle.checks.specs.TestedTables.{IsTested}
-use Rattle.checks.specs.declared.tested.Tested.{Tested}
+use Rattle.checks.specs.declared.version_totals.VersionTotals.{VersionTotals}
 use Rattle.adoption.specs.Adoption.{laid_table, with_tables}
 use Rattle.adoption.specs.Overlay.{name_before, overlay_tells}
 
@@ -104,18 +104,18 @@ unfolding overlay_files files_by
 at_table tables files name h = ap (λ (o : Option (List ℕ)). files_by o (with_tables tables files name) files) h
 
 module _ (tables : List (ℕ × List ℕ)) (files : Files) where
-  table_answer : (n : ℕ) (r : Result (List ℕ) Fault) → IsTableAnswer (IsHeldIn (overlay_files tables files)) n r → IsTableAnswer (IsHeldIn (with_tables tables files)) n r
+  table_answer : (n : ℕ) (r : Result (List ℕ) Fault) → IsTableAnswer (IsFileIn (overlay_files tables files)) n r → IsTableAnswer (IsFileIn (with_tables tables files)) n r
   table_answer n (Ok bytes) (inl h) = inl (sym (at_table tables files (table_name n) (table_ends n)) ∙ h)
   table_answer n (Ok bytes) (inr h) = inr (sym (at_table tables files (table_name n) (table_ends n)) ∙ h.0, sym (at_table tables files (old_table_name n) (old_table_ends n)) ∙ h.1)
   table_answer n (Err e) h = (sym (at_table tables files (table_name n) (table_ends n)) ∙ h.0, sym (at_table tables files (old_table_name n) (old_table_ends n)) ∙ h.1, h.2)
 
-  tables_read : (numbers : List ℕ) (loaded : List (ℕ × List ℕ)) → AllZip (IsTableOf (IsHeldIn (overlay_files tables files))) numbers loaded → AllZip (IsTableOf (IsHeldIn (with_tables tables files))) numbers loaded
+  tables_read : (numbers : List ℕ) (loaded : List (ℕ × List ℕ)) → AllZip (IsTableOf (IsFileIn (overlay_files tables files))) numbers loaded → AllZip (IsTableOf (IsFileIn (with_tables tables files))) numbers loaded
   tables_read [] [] h = tt
   tables_read [] (t ∷ loaded) h = absurd h
   tables_read (n ∷ numbers) [] h = absurd h
   tables_read (n ∷ numbers) (t ∷ loaded) h = ((h.0.0, table_answer n (Ok t.1) h.0.1), tables_read numbers loaded h.1)
 
-  loaded_plainly : (numbers : List ℕ) (r : Result (List (ℕ × List ℕ)) Fault) → IsLoaded (IsHeldIn (overlay_files tables files)) numbers r → IsLoaded (IsHeldIn (with_tables tables files)) numbers r
+  loaded_plainly : (numbers : List ℕ) (r : Result (List (ℕ × List ℕ)) Fault) → IsLoaded (IsFileIn (overlay_files tables files)) numbers r → IsLoaded (IsFileIn (with_tables tables files)) numbers r
   loaded_plainly numbers (Ok loaded) h = tables_read numbers loaded h
   loaded_plainly numbers (Err e) h = record {
     before = h.before;
@@ -128,7 +128,7 @@ module _ (tables : List (ℕ × List ℕ)) (files : Files) where
   }
 
   -- so a version is tested with them
-  pub tested_plainly : (cmp : KeyOrder) (v : State) (r : Result Tested Fault) → IsTested (IsHeldIn (overlay_files tables files)) cmp v r → IsTested (IsHeldIn (with_tables tables files)) cmp v r
+  pub tested_plainly : (cmp : KeyOrder) (v : State) (r : Result VersionTotals Fault) → IsTested (IsFileIn (overlay_files tables files)) cmp v r → IsTested (IsFileIn (with_tables tables files)) cmp v r
   tested_plainly cmp v r h = (h.0, (loaded_plainly _ h.0 h.1.0, h.1.1))
 
 -- ---- calls

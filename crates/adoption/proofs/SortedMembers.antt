@@ -10,7 +10,7 @@ use Rattle.ikey.specs.Order.{internal_cmp}
 use Rattle.block.specs.EncodedEntry.{Entry}
 use Rattle.edit.specs.Version.{number_cmp, with_file}
 use Rattle.edit.specs.declared.meta.NewFile.{NewFile}
-use Rattle.merge.specs.Merged.{entries_of_lists, entries_with, merged, sorted_entries}
+use Rattle.merge.specs.MergedLists.{entries_of_lists, entries_with, merged, sorted_entries}
 use Rattle.reads.proofs.Members.{first_in, first_or_later, later_in, none_in}
 use Rattle.reads.proofs.Orders.{equal_is}
 

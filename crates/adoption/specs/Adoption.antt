@@ -9,20 +9,20 @@ use Rattle.coding.specs.Answers.{IsThen, fault, ◌>>=◌}
 use Rattle.coding.specs.declared.fault.Fault.{Fault}
 use Rattle.coding.specs.declared.fault.FaultName.TheVariants.{Apply, Numbers}
 use Rattle.ikey.specs.Comparator.{KeyOrder}
-use Rattle.table.specs.ReadingSteps.{test_result}
+use Rattle.table.specs.TestResult.{test_result}
 use Rattle.table.specs.TableContents.{Contents}
 use Rattle.table.specs.declared.options.TheConstants.{DEFAULT_BLOCK_SIZE, DEFAULT_FILE_SIZE}
 use Rattle.table.specs.declared.options.TheConstants.{DEFAULT_RESTART_INTERVAL}
-use Rattle.edit.specs.Edit.{Edit, IsEdit, edit_bytes}
-use Rattle.edit.specs.Version.{IsState, State, applied}
+use Rattle.edit.specs.Edit.{Edit, edit_bytes}
+use Rattle.edit.specs.Version.{State, applied}
 use Rattle.edit.specs.declared.meta.NewFile.{NewFile}
 use Rattle.folder.specs.Calls.{Files, ToldFiles}
 use Rattle.folder.specs.LoadedTables.{IsLoaded}
 use Rattle.folder.specs.Names.{table_name}
-use Rattle.folder.specs.OpenAnswer.{IsHeld}
-use Rattle.folder.specs.ReadsAs.{IsHeldIn}
-use Rattle.pick.specs.Picked.{PickedInputs}
-use Rattle.pick.specs.declared.picked.InputFile.{InputFile}
+use Rattle.folder.specs.OpenAnswer.{IsFileReading}
+use Rattle.folder.specs.ReadsAs.{IsFileIn}
+use Rattle.pick.specs.PickedInputs.{PickedInputs}
+use Rattle.pick.specs.declared.picked_inputs.InputFile.{InputFile}
 use Rattle.keep.specs.Readable.{readable_of}
 use Rattle.keep.specs.declared.snapshots.Snapshots.{Snapshots}
 use Rattle.checks.specs.TestedTables.{IsTested}
@@ -97,7 +97,7 @@ IsAdoption cmp v e = IsThen (IsOrderlyAnswer cmp v) (λ passed.
 
 -- the edit that a folder holds, or why there is none
 abbrev pub IsEditGiven : ToldFiles → Result Edit Fault → Type 0
-IsEditGiven tells = IsThen (IsHeld tells (codes "EDIT")) IsEditAnswer
+IsEditGiven tells = IsThen (IsFileReading tells (codes "EDIT")) IsEditAnswer
 
 -- the outcome that a folder holds: its edit, adopted for this version, and the outputs' tables; or
 -- the first refusal
@@ -106,16 +106,6 @@ abbrev pub IsGiven : KeyOrder → ToldFiles → State →
 IsGiven cmp tells v = IsThen (IsEditGiven tells) (λ e.
     IsThen (IsAdoption cmp v e) (λ a.
     IsThen (IsLoaded tells (input_numbers a.outputs)) (λ tables answer. answer ≡ Ok (a, tables))))
-
--- An outcome was adopted: its edit is adopted for this version, its bytes read as that edit, and it
--- has a table for each output. The version's levels are from 0 to 6.
-pub record IsAdopted (cmp : KeyOrder) (v : State) (given : Adoption × List (ℕ × List ℕ))
-    : Type 0 where
-  pub edit : Edit
-  pub adoption : IsAdoption cmp v edit (Ok given.0)
-  pub read : IsEdit given.0.edit (adopted v edit)
-  pub numbers : map (λ (t : ℕ × List ℕ). t.0) given.1 ≡ input_numbers given.0.outputs
-  pub state : IsState v.pointers v.files
 
 -- ---- the outputs
 
@@ -157,7 +147,7 @@ IsInputsCompared cmp p snapshots last outputs loaded =
 abbrev pub IsOutputsCompared : KeyOrder → Files → Adoption → Snapshots → List Contents →
     Result (Unit {0}) Fault → Type 0
 IsOutputsCompared cmp files a snapshots outputs =
-    IsThen (IsLoaded (IsHeldIn files) (input_numbers a.picked.files))
+    IsThen (IsLoaded (IsFileIn files) (input_numbers a.picked.files))
     (IsInputsCompared cmp a.picked snapshots a.last outputs)
 
 -- outputs are compared, or not
@@ -189,7 +179,7 @@ with_tables tables files name = option_or (laid_table tables name) (files name)
 abbrev pub IsEditedInstalled : KeyOrder → Files → State → Adoption × List (ℕ × List ℕ) →
     Result (List ℕ) Fault → Type 0
 IsEditedInstalled cmp files v given =
-    IsThen (IsTested (IsHeldIn (with_tables given.1 files)) cmp given.0.next)
+    IsThen (IsTested (IsFileIn (with_tables given.1 files)) cmp given.0.next)
     (λ tested answer. answer
     ≡ Ok (compaction_lines given.1 given.0.picked.files (manifest_of v)))
 
@@ -205,5 +195,5 @@ IsGivenInstalled cmp files v given comparison =
 abbrev pub IsInstalledFrom : KeyOrder → Files → Files → State → Comparison →
     Result (List ℕ) Fault → Type 0
 IsInstalledFrom cmp files source v comparison =
-    IsThen (IsGiven cmp (IsHeldIn source) v) (λ given.
+    IsThen (IsGiven cmp (IsFileIn source) v) (λ given.
     IsGivenInstalled cmp files v given comparison)

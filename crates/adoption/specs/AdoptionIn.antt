@@ -1,7 +1,7 @@
 -- Adopted edits and outcomes of the code, as contracts see them.
 use Rattle.std.specs.Prelude.{ℕ, List}
 use Rattle.install.specs.Install.{tables_in}
-use Rattle.pick.specs.Picked.{picked_in}
+use Rattle.pick.specs.PickedInputs.{picked_in}
 use Rattle.adoption.specs.Adoption.{Adoption}
 use Rattle.adoption.specs.declared.adopted_edit.AdoptedEdit.{AdoptedEdit}
 use Rattle.adoption.specs.declared.given_outcome.GivenOutcome.{GivenOutcome}

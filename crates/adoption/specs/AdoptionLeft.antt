@@ -8,7 +8,7 @@ use Rattle.ikey.specs.Comparator.{KeyOrder}
 use Rattle.edit.specs.Version.{State}
 use Rattle.folder.specs.Calls.{Files, Step, ToldFiles}
 use Rattle.folder.specs.Manifest.{order_name}
-use Rattle.folder.specs.ReadsAs.{IsHeldIn}
+use Rattle.folder.specs.ReadsAs.{IsFileIn}
 use Rattle.folder.specs.declared.order.Order.{Order}
 use Rattle.install.specs.Install.{IsEditedBy, SurvivesCrash, next_version_tables}
 use Rattle.keep.specs.Readable.{is_read, readable_of}
@@ -56,16 +56,6 @@ pub record IsInstallation (cmp : KeyOrder) (order : Order) (v : State) (loaded :
       ≡ compaction_lines given.1 given.0.picked.files (manifest_of v))
   pub refused : IfErr result (λ e. UnlessMemory e (e ≡ fault Device))
 
--- what is left after the test of outputs: the folder is unchanged, or the outcome was installed,
--- and the edited version is what it should be
-abbrev pub IsTestedLeft : Order → KeyOrder → State → List (ℕ × List ℕ) →
-    Adoption × List (ℕ × List ℕ) → List Step → List Step → ToldFiles → ToldFiles →
-    Result (Vec ℕ) Fault → Type 0
-IsTestedLeft order cmp v loaded given before after old new result =
-    IsUnchanged before after old new result
-    ⊎ (AdoptedVersion order cmp v loaded given
-    × IsInstallation cmp order v loaded given before after old new result)
-
 -- It was, and gets answer as they should.
 pub record IsOutcomeInstalled (order : Order) (cmp : KeyOrder) (v : State)
     (loaded : List (ℕ × List ℕ)) (given : Adoption × List (ℕ × List ℕ)) (comparison : Comparison)
@@ -75,19 +65,10 @@ pub record IsOutcomeInstalled (order : Order) (cmp : KeyOrder) (v : State)
   pub gets : AdoptionKeepsReads cmp v loaded given.0 comparison version.tables_next
   pub installation : IsInstallation cmp order v loaded given before after old new result
 
--- what is left of a folder that reads as this version with these tables, by an outcome that was
--- given: it is unchanged, or the outcome was installed
-abbrev pub IsOutcomeLeft : Order → KeyOrder → State → List (ℕ × List ℕ) →
-    Adoption × List (ℕ × List ℕ) → Comparison → List Step → List Step → ToldFiles → ToldFiles →
-    Result (Vec ℕ) Fault → Type 0
-IsOutcomeLeft order cmp v loaded given comparison before after old new result =
-    IsUnchanged before after old new result
-    ⊎ IsOutcomeInstalled order cmp v loaded given comparison before after old new result
-
 -- the same by the outcome that another folder holds
 abbrev pub IsAdoptionLeft : Order → KeyOrder → State → List (ℕ × List ℕ) → Files → Comparison →
     List Step → List Step → ToldFiles → ToldFiles → Result (Vec ℕ) Fault → Type 0
 IsAdoptionLeft order cmp v loaded source comparison before after old new result =
     IsUnchanged before after old new result
-    ⊎ ((given : Adoption × List (ℕ × List ℕ)) × IsGiven cmp (IsHeldIn source) v (Ok given)
+    ⊎ ((given : Adoption × List (ℕ × List ℕ)) × IsGiven cmp (IsFileIn source) v (Ok given)
     × IsOutcomeInstalled order cmp v loaded given comparison before after old new result)

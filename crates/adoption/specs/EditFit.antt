@@ -13,7 +13,7 @@ use Rattle.edit.specs.Edit.{Edit}
 use Rattle.edit.specs.Version.{State}
 use Rattle.edit.specs.declared.meta.CompactPointer.{CompactPointer}
 use Rattle.edit.specs.declared.meta.NewFile.{NewFile}
-use Rattle.pick.specs.Picked.{IsInputsAnswer, PickedInputs}
+use Rattle.pick.specs.PickedInputs.{IsInputsAnswer, PickedInputs}
 use Rattle.request.specs.EditOf.{deletions_of}
 
 -- the level of a compact pointer, if it is the only one

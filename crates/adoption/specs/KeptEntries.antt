@@ -1,13 +1,12 @@
 -- What the outputs of a compaction hold.
-use Rattle.std.specs.Prelude.{◌≡◌, Bool, false, ◌&&◌, List, [], ◌∷◌, Result, Ok, Err}
-use Rattle.std.specs.Str.{bytes_eq}
+use Rattle.std.specs.Prelude.{◌≡◌, List, Result, Ok, Err}
 use Rattle.coding.specs.Answers.{fault}
 use Rattle.coding.specs.declared.fault.Fault.{Fault}
 use Rattle.coding.specs.declared.fault.FaultName.TheVariants.{Lawless}
 use Rattle.ikey.specs.Comparator.{KeyOrder}
 use Rattle.block.specs.EncodedEntry.{Entry}
 use Rattle.edit.specs.declared.meta.FileMeta.{FileMeta}
-use Rattle.merge.specs.Merged.{merged}
+use Rattle.merge.specs.MergedLists.{merged}
 use Rattle.merge.specs.Union.{IsUnion}
 use Rattle.keep.specs.DropRule.{kept}
 use Rattle.keep.specs.Readable.{Readable}
@@ -26,8 +25,3 @@ abbrev pub IsKeptAnswer : KeyOrder → Readable → List FileMeta → List (List
 IsKeptAnswer cmp r deeper inputs outputs (Ok u) = HoldsKept cmp r deeper inputs outputs
 IsKeptAnswer cmp r deeper inputs outputs (Err e) = (e ≡ fault Lawless)
     × (HoldsKept cmp r deeper inputs outputs → ⊥)
-
--- whether the first of the entries is this one
-abbrev pub begins_with : Entry → List Entry → Bool
-begins_with e [] = false
-begins_with e (f ∷ fs) = bytes_eq f.key e.key && bytes_eq f.value e.value

@@ -3,7 +3,10 @@ pub mod EditFit
 pub mod KeptEntries
 pub mod Adoption
 pub mod AdoptionLeft
-pub mod Both
+pub mod BothFolders
 -- serves proofs alone
 pub mod AdoptionIn
 pub mod Overlay
+pub mod OutcomeLeft
+pub mod AdoptedOutcome
+pub mod Beginnings

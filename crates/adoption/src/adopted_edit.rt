@@ -5,7 +5,7 @@ ghost use Rattle.coding.specs.Answers.{EqualOrMemory, HoldsOrMemory, fault};
 ghost use Rattle.coding.specs.declared.fault.FaultName.TheVariants.{Memory};
 ghost use Rattle.edit.specs.Edit.{HasValidLevels, IsEdit, edit_in};
 ghost use Rattle.edit.specs.Version.{IsState};
-ghost use Rattle.pick.specs.Picked.{picked_in};
+ghost use Rattle.pick.specs.PickedInputs.{picked_in};
 ghost use Rattle.adoption.specs.Adoption.{IsAdoption, adopted, adoption_by};
 ghost use Rattle.adoption.specs.Adoption.{counted_edit, outputs_in_edit};
 ghost use Rattle.adoption.specs.AdoptionIn.{adoption_in};

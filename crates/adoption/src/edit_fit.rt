@@ -7,7 +7,7 @@ ghost use Rattle.coding.specs.Answers.{HoldsOrMemory, fault};
 ghost use Rattle.coding.specs.declared.fault.FaultName.TheVariants.{Memory};
 ghost use Rattle.edit.specs.Edit.{edit_in};
 ghost use Rattle.edit.specs.Version.{IsState};
-ghost use Rattle.pick.specs.Picked.{picked_in};
+ghost use Rattle.pick.specs.PickedInputs.{picked_in};
 ghost use Rattle.pick.specs.declared.input_choice.TheConstants.{LAST_INPUT_LEVEL};
 ghost use Rattle.request.specs.EditOf.{deletions_of};
 ghost use Rattle.adoption.specs.EditFit.{IsChoiceOf, IsEditFor, IsFitting, are_counted};

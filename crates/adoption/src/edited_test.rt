@@ -3,7 +3,7 @@
 ghost use Rattle.std.specs.Prelude.{◌≡◌, map, string_bytes};
 ghost use Rattle.folder.specs.Calls.{Files, Tells};
 ghost use Rattle.folder.specs.OpenAnswer.{FolderAnswers};
-ghost use Rattle.folder.specs.ReadsAs.{IsHeldIn};
+ghost use Rattle.folder.specs.ReadsAs.{IsFileIn};
 ghost use Rattle.folder.specs.Reports.{OnlyReads, ReportsDevice};
 ghost use Rattle.install.specs.Install.{tables_in};
 ghost use Rattle.checks.specs.TestedTables.{IsTested};
@@ -12,7 +12,7 @@ ghost use Rattle.adoption.specs.Overlay.{names_of};
 
 use crate::overlay::{Overlay, names_of};
 use crate::refusals::Refusals;
-use checks::{CHECKERS, Tested, Watch, test_version};
+use checks::{CHECKERS, VersionTotals, Watch, test_version};
 use coding::Fault;
 use edit::Version;
 use folder::Folder;
@@ -24,7 +24,7 @@ use std::thread::Threads;
 #[derive(Drop)]
 pub(crate) struct TestEnd<F> {
     pub folder: F,
-    pub answer: Result<Tested, Fault>,
+    pub answer: Result<VersionTotals, Fault>,
 }
 
 /// Tests whether the edited version `next` is lawful with `tables` and, of its other files, the
@@ -46,7 +46,7 @@ pub(crate) fn test_edited<
     ensures answer { (files : Files) → Tells (F.tells folder) files →
         FolderAnswers (λ tested. tested) (F.failed folder) (F.failed result.folder)
         result.answer
-        (IsTested (IsHeldIn (with_tables (tables_in tables.now) files)) C.cmp next.now) }
+        (IsTested (IsFileIn (with_tables (tables_in tables.now) files)) C.cmp next.now) }
     ensures device { ReportsDevice F.Folder folder result.folder result.answer }
     ensures reads { OnlyReads F.Folder folder result.folder }
 {
@@ -76,7 +76,7 @@ fn test_named<C: SharedComparator + 'static, F: Folder + Drop, W: Watch + Sync, 
     ensures answer { (files : Files) → Tells (F.tells folder) files →
         FolderAnswers (λ tested. tested) (F.failed folder) (F.failed result.folder)
         result.answer
-        (IsTested (IsHeldIn (with_tables (tables_in tables.now) files)) C.cmp next.now) }
+        (IsTested (IsFileIn (with_tables (tables_in tables.now) files)) C.cmp next.now) }
     ensures device { ReportsDevice F.Folder folder result.folder result.answer }
     ensures reads { OnlyReads F.Folder folder result.folder }
 {

@@ -2,9 +2,10 @@
 
 ghost use Rattle.std.specs.Prelude.{IfOk, codes};
 ghost use Rattle.edit.specs.Edit.{HasValidLevels, edit_in};
-ghost use Rattle.folder.specs.OpenAnswer.{FolderAnswers, IsHeld};
+ghost use Rattle.folder.specs.OpenAnswer.{FolderAnswers, IsFileReading};
 ghost use Rattle.folder.specs.Reports.{OnlyReads, ReportsDevice};
-ghost use Rattle.adoption.specs.Adoption.{IsAdopted, IsEditGiven, IsGiven};
+ghost use Rattle.adoption.specs.Adoption.{IsEditGiven, IsGiven};
+ghost use Rattle.adoption.specs.AdoptedOutcome.{IsAdopted};
 ghost use Rattle.adoption.specs.AdoptionIn.{given_in};
 
 use crate::adopted_edit::adopted_edit;
@@ -84,7 +85,7 @@ fn given_edit<G: Folder>(alloc: Global, source: &mut G) -> Result<VersionEdit, F
 /// The bytes of EDIT. Missing if there is no such file. It only reads.
 fn held_edit<G: Folder>(source: &mut G) -> Result<Vec<u8>, Fault>
     ensures answer { FolderAnswers (λ v. v.items) (G.failed source.old) (G.failed source.new) result
-        (IsHeld (G.tells source.old) (codes "EDIT")) }
+        (IsFileReading (G.tells source.old) (codes "EDIT")) }
     ensures device { ReportsDevice G.Folder source.old source.new result }
     ensures reads { OnlyReads G.Folder source.old source.new }
 {

@@ -6,7 +6,7 @@ ghost use Rattle.folder.specs.Calls.{Files, Tells};
 ghost use Rattle.folder.specs.OpenAnswer.{FolderAnswers};
 ghost use Rattle.folder.specs.Reports.{OnlyReads, ReportsDevice};
 ghost use Rattle.install.specs.Install.{tables_in};
-ghost use Rattle.pick.specs.Picked.{picked_in};
+ghost use Rattle.pick.specs.PickedInputs.{picked_in};
 ghost use Rattle.adoption.specs.Adoption.{IsGivenTested, IsInputsCompared, IsTablesCompared};
 ghost use Rattle.request.specs.Request.{request_test};
 ghost use Rattle.adoption.specs.Adoption.{IsOutputsCompared, compared_request};

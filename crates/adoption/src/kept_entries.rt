@@ -4,9 +4,10 @@ ghost use Rattle.std.specs.Prelude.{◌≡◌, ◌↔◌, map, IfOk, IfErr, IsTr
 ghost use Rattle.std.specs.List.Sorted.{IsStrictlyIncreasing};
 ghost use Rattle.coding.specs.Answers.{fault};
 ghost use Rattle.coding.specs.declared.fault.FaultName.TheVariants.{Memory};
-ghost use Rattle.merge.specs.Merged.{merged};
+ghost use Rattle.merge.specs.MergedLists.{merged};
 ghost use Rattle.keep.specs.Marks.{LargestRise};
-ghost use Rattle.adoption.specs.KeptEntries.{HoldsKept, begins_with};
+ghost use Rattle.adoption.specs.KeptEntries.{HoldsKept};
+ghost use Rattle.adoption.specs.Beginnings.{begins_with};
 
 use coding::{Fault, FaultName};
 use ikey::{Comparator, InternalKey};

@@ -13,12 +13,14 @@ ghost use Rattle.install.specs.Install.{IsEditedBy};
 ghost use Rattle.store.specs.Compaction.{IsUnchanged};
 ghost use Rattle.store.specs.FolderRequest.{manifest_of};
 ghost use Rattle.store.specs.Lines.{compaction_lines};
-ghost use Rattle.adoption.specs.Adoption.{IsAdopted, IsEditedInstalled, IsGivenInstalled};
+ghost use Rattle.adoption.specs.Adoption.{IsEditedInstalled, IsGivenInstalled};
+ghost use Rattle.adoption.specs.AdoptedOutcome.{IsAdopted};
 ghost use Rattle.adoption.specs.Adoption.{IsInstalledFrom};
 ghost use Rattle.adoption.specs.AdoptionIn.{given_in};
-ghost use Rattle.adoption.specs.AdoptionLeft.{IsAdoptionLeft, IsInstallation, IsOutcomeLeft};
-ghost use Rattle.adoption.specs.AdoptionLeft.{IsTestedLeft};
-ghost use Rattle.adoption.specs.Both.{AnswersFrom, ReportsEither};
+ghost use Rattle.adoption.specs.AdoptionLeft.{IsAdoptionLeft, IsInstallation};
+ghost use Rattle.adoption.specs.OutcomeLeft.{IsOutcomeLeft};
+ghost use Rattle.adoption.specs.OutcomeLeft.{IsTestedLeft};
+ghost use Rattle.adoption.specs.BothFolders.{AnswersFrom, ReportsEither};
 
 use crate::adoption_end::AdoptionEnd;
 use crate::comparison::Comparison;

@@ -7,7 +7,7 @@ use Rattle.std.proofs.lemmas.Option.{same_Some, none-some}
 use Rattle.byteorder.specs.Endian.{little_bytes}
 use Rattle.block.specs.EncodedEntry.{EncodedEntry, encoded_entry_bytes, restarts_from, restarts_of, IsEncodedEntryAfter, AreEncodedEntries, BeginsWithRestart, AreOfBlock}
 use Rattle.block.specs.BuilderState.{IsArea}
-use Rattle.block.specs.Parts.{BeginsWith}
+use Rattle.block.specs.BlockParts.{BeginsWith}
 use Rattle.block.specs.BlockPass.{key_len_after, AreBelowLimit, PassRead, PassAhead, PassState, IsNextEncodedEntry}
 use Rattle.block.specs.EntryFormat.{FieldReading, encoded_entry_at}
 use Rattle.block.proofs.Pieces.{plain, Widths, Widths-of, reads_piece, piece_at_front, front_entry_at-nil, length-piece_bytes_pos}

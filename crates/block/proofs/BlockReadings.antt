@@ -10,13 +10,13 @@ use Rattle.coding.specs.Answers.{fault}
 use Rattle.coding.specs.declared.fault.Fault.{Fault}
 use Rattle.coding.specs.declared.fault.FaultName.TheVariants.{Block}
 use Rattle.block.specs.EncodedEntry.{Entry, EncodedEntry, encoded_entry_bytes, entries_after, restarts_from, restarts_of, block_bytes, IsEncodedEntryAfter, AreEncodedEntries, BeginsWithRestart, AreOfBlock, IsBlock}
-use Rattle.block.specs.Parts.{HasBlockParts}
-use Rattle.block.specs.Sound.{numbers_in}
+use Rattle.block.specs.BlockParts.{HasBlockParts}
+use Rattle.block.specs.BlockView.{numbers_in}
 use Rattle.block.proofs.Pieces.{Widths-of, piece_at_front, front_entry_at-nil, length-piece_bytes_pos, length-pieces}
 use Rattle.block.proofs.Restarts.{words, length-words, front_word}
 use Rattle.block.proofs.Areas.{AllByRecursion-append, AllByRecursion-weaker, marks}
 use Rattle.block.proofs.Splits.{split_count}
-use Rattle.block.specs.ReadingBlocks.{restart_count, area_len, restarts_in, is_next, restarts_behind, encoded_entries_in, encoded_entries_of, is_encoded_entry_after, are_encoded_entries, begins_with_restart, are_of_block, block_reading, ReadsBlocks}
+use Rattle.block.specs.BlockReading.{restart_count, area_len, restarts_in, is_next, restarts_from_place, encoded_entries_in, encoded_entries_of, is_encoded_entry_after, are_encoded_entries, begins_with_restart, are_of_block, block_reading, ReadsBlocks}
 
 -- ---- the tests are those of a block
 
@@ -114,7 +114,7 @@ past at from [] lt h = refl
 past at from (r ∷ rs) lt h = ne_eqb r at (λ e. omega (arith, e, h.0))
 
 -- whether the next restart is this offset, and the restarts after it
-next_mark : (b : Bool) (at from : ℕ) (rs : List ℕ) → at < from → AllByRecursion (λ r. from ≤ r) rs → (is_next (cond b (at ∷ []) [] ++ rs) at ≡ b) × (restarts_behind (cond b (at ∷ []) [] ++ rs) at ≡ rs)
+next_mark : (b : Bool) (at from : ℕ) (rs : List ℕ) → at < from → AllByRecursion (λ r. from ≤ r) rs → (is_next (cond b (at ∷ []) [] ++ rs) at ≡ b) × (restarts_from_place (cond b (at ∷ []) [] ++ rs) at ≡ rs)
 next_mark true at from rs lt h = (eq-eqb at at refl, ap (λ (b : Bool). cond b rs (at ∷ rs)) (eq-eqb at at refl))
 next_mark false at from rs lt h = (past at from rs lt h, ap (λ (b : Bool). cond b (drop 1 rs) rs) (past at from rs lt h))
 

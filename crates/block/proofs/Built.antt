@@ -7,18 +7,18 @@ use Rattle.std.proofs.lemmas.List.Concat.{flat_map-append}
 use Rattle.std.proofs.lemmas.Nat.{mod_below}
 use Rattle.std.proofs.Math.Nat.{zero-mod, mod-add-mod, mod_self, mod-eq_of_lt}
 use Rattle.block.specs.EncodedEntry.{Entry, EncodedEntry, encoded_entry_bytes, restarts_from, restarts_of, restart_bytes}
-use Rattle.block.specs.Behind.{entries_behind}
+use Rattle.block.specs.EntriesOfBytes.{entries_of_encoded}
 use Rattle.block.specs.BlockFormat.{encoded_entry_of, encoded_entries_from, block}
 use Rattle.block.specs.BuilderView.{last_key, with_entry}
 use Rattle.block.specs.BuilderState.{IsBlockBuilder}
-use Rattle.block.proofs.Pieces.{AreWide-of, entries_behind-pieces}
+use Rattle.block.proofs.Pieces.{AreWide-of, entries_of_encoded-pieces}
 use Rattle.block.proofs.Written.{common, take-common, piece_at_restart, entries_after-pieces_from, AreOfBlock-pieces_from, restarts_from-push, length-block}
 
 -- what is kept gives the entries back
-pub entries_behind-built : {r : ℕ} {q : List Entry} {pieces restarts last : List ℕ} {since : ℕ} → IsBlockBuilder r q pieces restarts last since → entries_behind [] pieces ≡ q
-entries_behind-built {r = r} {q = q} h =
-    ap (entries_behind []) h.pieces_are
-    ∙ entries_behind-pieces [] (encoded_entries_from r 0 [] q) (AreWide-of 0 (encoded_entries_from r 0 [] q) (AreOfBlock-pieces_from r q h.fits).pieces)
+pub entries_of_encoded-built : {r : ℕ} {q : List Entry} {pieces restarts last : List ℕ} {since : ℕ} → IsBlockBuilder r q pieces restarts last since → entries_of_encoded [] pieces ≡ q
+entries_of_encoded-built {r = r} {q = q} h =
+    ap (entries_of_encoded []) h.pieces_are
+    ∙ entries_of_encoded-pieces [] (encoded_entries_from r 0 [] q) (AreWide-of 0 (encoded_entries_from r 0 [] q) (AreOfBlock-pieces_from r q h.fits).pieces)
     ∙ entries_after-pieces_from r 0 [] q
 
 pub IsBuilt-nil : (r : ℕ) → 1 ≤ r → r ≤ 1024 → IsBlockBuilder r [] [] [] [] 0
@@ -141,12 +141,12 @@ next_last since last key unshared shared shared_is unshared_is = rw (unshared_is
 
 -- what a builder keeps, by the entries that its pieces give
 pub record IsKept (r : ℕ) (q : List Entry) (pieces restarts last : List ℕ) (since : ℕ) : Type 0 where
-  pub built : IsBlockBuilder r (entries_behind [] pieces) pieces restarts last since
-  pub entries : entries_behind [] pieces ≡ q
+  pub built : IsBlockBuilder r (entries_of_encoded [] pieces) pieces restarts last since
+  pub entries : entries_of_encoded [] pieces ≡ q
 
 IsKept-built : (r : ℕ) (q : List Entry) (pieces restarts last : List ℕ) (since : ℕ) → IsBlockBuilder r q pieces restarts last since → IsKept r q pieces restarts last since
 IsKept-built r q pieces restarts last since h =
-    let same = entries_behind-built h in
+    let same = entries_of_encoded-built h in
     record { built = subst (λ (x : List Entry). IsBlockBuilder r x pieces restarts last since) (sym same) h; entries = same }
 
 pub IsKept-next : {r : ℕ} {q : List Entry} {pieces restarts last : List ℕ} {since : ℕ} (key value pieces' restarts' last' : List ℕ) (since' : ℕ) → IsBlockBuilder r q pieces restarts last since → length (block r (with_entry q key value)) ≤ 2 ^ 31
@@ -155,9 +155,9 @@ pub IsKept-next : {r : ℕ} {q : List Entry} {pieces restarts last : List ℕ} {
 IsKept-next {r = r} {q = q} {pieces = pieces} {restarts = restarts} {last = last} {since = since} key value pieces' restarts' last' since' h fits pieces_are restarts_are last_is since_is =
     rw (pieces_are, restarts_are, last_is, since_is) (IsKept-built r (with_entry q key value) _ _ _ _ (IsBuilt-push key value h fits))
 
-pub entries_behind-next : {r : ℕ} {q : List Entry} {pieces restarts last : List ℕ} {since : ℕ} (key value pieces' : List ℕ) → IsBlockBuilder r q pieces restarts last since → length (block r (with_entry q key value)) ≤ 2 ^ 31
-    → pieces' ≡ pieces ++ encoded_entry_bytes (next_piece since last key value) → entries_behind [] pieces' ≡ with_entry q key value
-entries_behind-next key value pieces' h fits pieces_are = ap (entries_behind []) pieces_are ∙ entries_behind-built (IsBuilt-push key value h fits)
+pub entries_of_encoded-next : {r : ℕ} {q : List Entry} {pieces restarts last : List ℕ} {since : ℕ} (key value pieces' : List ℕ) → IsBlockBuilder r q pieces restarts last since → length (block r (with_entry q key value)) ≤ 2 ^ 31
+    → pieces' ≡ pieces ++ encoded_entry_bytes (next_piece since last key value) → entries_of_encoded [] pieces' ≡ with_entry q key value
+entries_of_encoded-next key value pieces' h fits pieces_are = ap (entries_of_encoded []) pieces_are ∙ entries_of_encoded-built (IsBuilt-push key value h fits)
 
 -- ---- finishing
 

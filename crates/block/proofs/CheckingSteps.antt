@@ -7,11 +7,11 @@ use Rattle.coding.specs.declared.fault.FaultName.TheVariants.{Block}
 use Rattle.coding.proofs.Binds.{failed}
 use Rattle.block.specs.EncodedEntry.{Entry, EncodedEntry, key_after, IsBlock}
 use Rattle.block.specs.EntryFormat.{FieldReading, encoded_entry_at}
-use Rattle.block.specs.Behind.{entries_of_bytes, entries_behind}
+use Rattle.block.specs.EntriesOfBytes.{entries_of_bytes, entries_of_encoded}
 use Rattle.block.specs.BuilderState.{IsArea}
-use Rattle.block.specs.Parts.{BeginsWith, HasBlockParts}
+use Rattle.block.specs.BlockParts.{BeginsWith, HasBlockParts}
 use Rattle.block.specs.BlockPass.{PassState, IsNextEncodedEntry}
-use Rattle.block.specs.ReadingBlocks.{block_reading}
+use Rattle.block.specs.BlockReading.{block_reading}
 use Rattle.block.specs.CheckedBytes.{BlockChecking}
 use Rattle.block.specs.CheckingWalk.{Passes}
 use Rattle.block.proofs.Areas.{shorter, kept_none, kept_all, is_area, is_area_nil}
@@ -43,7 +43,7 @@ enough n m before bytes le more = by n m before bytes (encoded_entry_at bytes) r
         ∙ sym (one_in m before bytes x e)
 
 -- the entry of the piece at the front, and those after it
-pub one_behind : (before rest : List ℕ) (x : FieldReading EncodedEntry) → encoded_entry_at rest ≡ Some x → entries_behind before rest ≡ record { key = key_after before x.field; value = x.field.value } ∷ entries_behind (key_after before x.field) x.rest
+pub one_behind : (before rest : List ℕ) (x : FieldReading EncodedEntry) → encoded_entry_at rest ≡ Some x → entries_of_encoded before rest ≡ record { key = key_after before x.field; value = x.field.value } ∷ entries_of_encoded (key_after before x.field) x.rest
 one_behind before rest x e =
     let less = shorter rest x e in
     let n : length rest ≡ suc (length rest - 1) = omega (arith, less) in
@@ -70,15 +70,15 @@ not_area bytes area restarts s none = no_block bytes (λ q h. none (parts_sound 
 -- ---- the entries of a block
 
 -- if the bytes are a block, its entries stand before the restarts
-pub same_entries : (bytes area restarts : List ℕ) → HasBlockParts bytes area restarts → IfOk (block_reading bytes) (λ q. entries_behind [] area ≡ q)
+pub same_entries : (bytes area restarts : List ℕ) → HasBlockParts bytes area restarts → IfOk (block_reading bytes) (λ q. entries_of_encoded [] area ≡ q)
 same_entries bytes area restarts s = by (block_reading bytes) refl
   where
-    by : (a : Result (List Entry) Fault) → block_reading bytes ≡ a → IfOk a (λ q. entries_behind [] area ≡ q)
+    by : (a : Result (List Entry) Fault) → block_reading bytes ≡ a → IfOk a (λ q. entries_of_encoded [] area ≡ q)
     by (Ok q) h = (parts_sound bytes area restarts q (reads_blocks.found bytes q h) s).1
     by (Err e) h = tt
 
-pub reads_area : (bytes area restarts : List ℕ) → HasBlockParts bytes area restarts → IsArea area restarts → block_reading bytes ≡ Ok (entries_behind [] area)
-reads_area bytes area restarts s h = reads_blocks.only bytes (entries_behind [] area) (is_block bytes area restarts s h)
+pub reads_area : (bytes area restarts : List ℕ) → HasBlockParts bytes area restarts → IsArea area restarts → block_reading bytes ≡ Ok (entries_of_encoded [] area)
+reads_area bytes area restarts s h = reads_blocks.only bytes (entries_of_encoded [] area) (is_block bytes area restarts s h)
 
 -- ---- the walk
 
@@ -149,7 +149,7 @@ pub not_next : (bytes area rest pending key : List ℕ) → Passes bytes area re
 not_next bytes area rest pending key p none some = not_area bytes area p.restarts p.split (none p.restarts some (p.walks refl))
 
 -- a walk that is over has read a block
-pub read_all : (bytes area rest pending key : List ℕ) (valid : Bool) → Passes bytes area rest pending key valid → valid ≡ false → block_reading bytes ≡ Ok (entries_behind [] area)
+pub read_all : (bytes area rest pending key : List ℕ) (valid : Bool) → Passes bytes area rest pending key valid → valid ≡ false → block_reading bytes ≡ Ok (entries_of_encoded [] area)
 read_all bytes area rest pending key valid p over = reads_area bytes area p.restarts p.split (p.ended over)
 
 -- ---- the view
@@ -166,8 +166,8 @@ with_ahead v ahead = record { bytes = v.bytes; all = v.all; ahead = ahead }
 pub one_less : (was now : BlockChecking) (ahead : List Entry) → was ≡ now → ahead ≡ drop 1 was.ahead → with_ahead was ahead ≡ with_ahead now (drop 1 now.ahead)
 one_less was now ahead view same = ap (with_ahead was) same ∙ ap (λ (v : BlockChecking). with_ahead v (drop 1 v.ahead)) view
 
-pub none_less : (valid : Bool) (e : Entry) (key rest : List ℕ) → rest ≡ [] → [] ≡ drop 1 (cond valid (e ∷ entries_behind key rest) [])
-none_less true e key rest none = sym (ap (entries_behind key) none)
+pub none_less : (valid : Bool) (e : Entry) (key rest : List ℕ) → rest ≡ [] → [] ≡ drop 1 (cond valid (e ∷ entries_of_encoded key rest) [])
+none_less true e key rest none = sym (ap (entries_of_encoded key) none)
 none_less false e key rest none = refl
 
 -- the next entry is the first of those after

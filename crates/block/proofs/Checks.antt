@@ -4,13 +4,13 @@ use Rattle.std.specs.List.{flat_map}
 use Rattle.byteorder.specs.Endian.{little_bytes}
 use Rattle.block.specs.EncodedEntry.{Entry, EncodedEntry, encoded_entry_bytes, restarts_from, restarts_of, block_bytes, BeginsWithRestart, IsBlock}
 use Rattle.block.specs.BuilderState.{IsArea, sound_in}
-use Rattle.block.specs.Parts.{HasBlockParts}
-use Rattle.block.specs.Behind.{entries_behind}
+use Rattle.block.specs.BlockParts.{HasBlockParts}
+use Rattle.block.specs.EntriesOfBytes.{entries_of_encoded}
 use Rattle.block.proofs.Restarts.{words, length-words}
 use Rattle.block.proofs.Splits.{one_split}
 use Rattle.block.proofs.Walks.{entries_of_area}
 use Rattle.block.proofs.Places.{places_of_area}
-use Rattle.block.specs.Sound.{PointsAt}
+use Rattle.block.specs.BlockView.{PointsAt}
 
 -- there is a restart
 some_restart : (ps : List EncodedEntry) → BeginsWithRestart ps → 0 < length (restarts_of ps)
@@ -23,7 +23,7 @@ record Parted (bytes : List ℕ) (entries : List Entry) : Type 0 where
   restarts : List ℕ
   split : HasBlockParts bytes area restarts
   sound : IsArea area restarts
-  same : entries_behind [] area ≡ entries
+  same : entries_of_encoded [] area ≡ entries
 
 parted : (bytes : List ℕ) (entries : List Entry) → IsBlock bytes entries → Parted bytes entries
 parted bytes entries h =
@@ -41,7 +41,7 @@ whole_of bytes area restarts s h =
     let count : s.count ≡ length (restarts_of h.0) = omega (arith, s.len, ap length h.3, length-words (restarts_of h.0)) in
     s.whole ∙ ap (λ (t : List ℕ). t ++ (restarts ++ little_bytes 4 s.count)) h.2 ∙ ap (λ (t : List ℕ). flat_map encoded_entry_bytes h.0 ++ (t ++ little_bytes 4 s.count)) h.3 ∙ ap (λ (n : ℕ). flat_map encoded_entry_bytes h.0 ++ (words (restarts_of h.0) ++ little_bytes 4 n)) count
 
-pub is_block : (bytes area restarts : List ℕ) → HasBlockParts bytes area restarts → IsArea area restarts → IsBlock bytes (entries_behind [] area)
+pub is_block : (bytes area restarts : List ℕ) → HasBlockParts bytes area restarts → IsArea area restarts → IsBlock bytes (entries_of_encoded [] area)
 is_block bytes area restarts s h = (h.0, h.1, whole_of bytes area restarts s h, sym (entries_of_area area restarts h))
 
 pub points_at : (bytes area restarts : List ℕ) → HasBlockParts bytes area restarts → IsArea area restarts → PointsAt bytes (sound_in area restarts).restarts
@@ -52,8 +52,8 @@ pub no_parts : (bytes : List ℕ) (entries : List Entry) → IsBlock bytes entri
 no_parts bytes entries h none = let p = parted bytes entries h in none p.area p.restarts p.split
 
 -- the parts of a block are sound, and have its entries
-pub parts_sound : (bytes area restarts : List ℕ) (entries : List Entry) → IsBlock bytes entries → HasBlockParts bytes area restarts → IsArea area restarts × (entries_behind [] area ≡ entries)
+pub parts_sound : (bytes area restarts : List ℕ) (entries : List Entry) → IsBlock bytes entries → HasBlockParts bytes area restarts → IsArea area restarts × (entries_of_encoded [] area ≡ entries)
 parts_sound bytes area restarts entries h s =
     let p = parted bytes entries h in
     let one = one_split bytes p.area p.restarts area restarts p.split s in
-    (subst (λ (t : List ℕ). IsArea area t) one.1 (subst (λ (t : List ℕ). IsArea t p.restarts) one.0 p.sound), ap (entries_behind []) (sym one.0) ∙ p.same)
+    (subst (λ (t : List ℕ). IsArea area t) one.1 (subst (λ (t : List ℕ). IsArea t p.restarts) one.0 p.sound), ap (entries_of_encoded []) (sym one.0) ∙ p.same)

@@ -8,7 +8,7 @@ use Rattle.coding.specs.Varint.{groups, varint, varint_reading}
 use Rattle.block.specs.EncodedEntry.{Entry, EncodedEntry, encoded_entry_bytes, key_after, entries_after, IsEncodedEntryAfter, AreEncodedEntries}
 use Rattle.coding.specs.Answers.{and_then}
 use Rattle.block.specs.EntryFormat.{FieldReading, length_at, entry_of_lengths, encoded_entry_at}
-use Rattle.block.specs.Behind.{entries_of_bytes, entries_behind}
+use Rattle.block.specs.EntriesOfBytes.{entries_of_bytes, entries_of_encoded}
 use Rattle.coding.proofs.Varints.{varint_reading-varint, varint_reading-small, reads_varint, length-varint_pos}
 
 -- a piece at which no restart points
@@ -182,5 +182,5 @@ pub length-pieces : (ps : List EncodedEntry) → length ps ≤ length (flat_map 
 length-pieces [] = omega arith
 length-pieces (p ∷ ps) = omega (arith, length-append (encoded_entry_bytes p) (flat_map encoded_entry_bytes ps), length-piece_bytes_pos p, length-pieces ps)
 
-pub entries_behind-pieces : (before : List ℕ) (ps : List EncodedEntry) → AreWide ps → entries_behind before (flat_map encoded_entry_bytes ps) ≡ entries_after before ps
-entries_behind-pieces before ps h = entries_in-pieces (length (flat_map encoded_entry_bytes ps)) before ps h (length-pieces ps)
+pub entries_of_encoded-pieces : (before : List ℕ) (ps : List EncodedEntry) → AreWide ps → entries_of_encoded before (flat_map encoded_entry_bytes ps) ≡ entries_after before ps
+entries_of_encoded-pieces before ps h = entries_in-pieces (length (flat_map encoded_entry_bytes ps)) before ps h (length-pieces ps)

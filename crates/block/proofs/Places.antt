@@ -8,9 +8,9 @@ use Rattle.std.proofs.lemmas.Option.{none-some}
 use Rattle.byteorder.specs.Endian.{little_number}
 use Rattle.block.specs.EncodedEntry.{Entry, EncodedEntry, encoded_entry_bytes, key_after, entries_after, restarts_from, restarts_of, AreEncodedEntries, BeginsWithRestart, AreOfBlock}
 use Rattle.block.specs.BuilderState.{IsArea, entries_before, sound_in}
-use Rattle.block.specs.Behind.{entries_behind, AreEncodedEntriesAfter}
-use Rattle.block.specs.Sound.{restart_places_from, places_of, numbers_in}
-use Rattle.block.proofs.Pieces.{Widths, AreWide, AreWide-of, entries_behind-pieces}
+use Rattle.block.specs.EntriesOfBytes.{entries_of_encoded, AreEncodedEntriesAfter}
+use Rattle.block.specs.BlockView.{restart_places_from, places_of, numbers_in}
+use Rattle.block.proofs.Pieces.{Widths, AreWide, AreWide-of, entries_of_encoded-pieces}
 use Rattle.block.proofs.Restarts.{words, length-words, front_word}
 use Rattle.block.proofs.Areas.{AllByRecursion-append, AllByRecursion-weaker, marks}
 use Rattle.block.proofs.Walks.{length-key_after, entries_of_area}
@@ -42,8 +42,8 @@ AreWide-push (x ∷ ps) p h w = (h.0, AreWide-push ps p h.1 w)
 -- at the end of some pieces, that many entries stand before
 entries_before-pieces : (done : List EncodedEntry) (rest : List ℕ) → AreWide done → entries_before (flat_map encoded_entry_bytes done ++ rest) (length (flat_map encoded_entry_bytes done)) ≡ length done
 entries_before-pieces done rest h =
-    ap (λ (t : List ℕ). length (entries_behind [] t)) (take_at (flat_map encoded_entry_bytes done) rest (length (flat_map encoded_entry_bytes done)) refl)
-    ∙ ap length (entries_behind-pieces [] done h)
+    ap (λ (t : List ℕ). length (entries_of_encoded [] t)) (take_at (flat_map encoded_entry_bytes done) rest (length (flat_map encoded_entry_bytes done)) refl)
+    ∙ ap length (entries_of_encoded-pieces [] done h)
     ∙ length-entries_after [] done
 
 map-mark : (f : ℕ → ℕ) (b : Bool) (at place : ℕ) (xs ys : List ℕ) → f at ≡ place → map f xs ≡ ys → map f (cond b (at ∷ []) [] ++ xs) ≡ cond b (place ∷ []) [] ++ ys
@@ -135,7 +135,7 @@ some_place entries (p ∷ ps) h = omega arith
 
 pub places_of_sound : (area restarts : List ℕ) → IsArea area restarts → ArePlaces (sound_in area restarts).entries (sound_in area restarts).restarts
 places_of_sound area restarts h =
-    subst (ArePlaces (entries_behind [] area)) (sym (places_of_area area restarts h))
+    subst (ArePlaces (entries_of_encoded [] area)) (sym (places_of_area area restarts h))
     (subst (λ (es : List Entry). ArePlaces es (places_of h.0)) (sym (entries_of_area area restarts h)) (ArePlaces-of h.0 h.1.first))
 
 -- each restart has four bytes
@@ -213,7 +213,7 @@ points before at place (p ∷ ps) r h lt =
 pub record StandsAt (area restarts : List ℕ) (r : ℕ) : Type 0 where
   pub within : little_number 4 (drop (r * 4) restarts) ≤ length area
   pub pieces : AreEncodedEntriesAfter [] (drop (little_number 4 (drop (r * 4) restarts)) area)
-  pub entries : entries_behind [] (drop (little_number 4 (drop (r * 4) restarts)) area) ≡ drop (get_or (sound_in area restarts).restarts r 0) (sound_in area restarts).entries
+  pub entries : entries_of_encoded [] (drop (little_number 4 (drop (r * 4) restarts)) area) ≡ drop (get_or (sound_in area restarts).restarts r 0) (sound_in area restarts).entries
 
 stands_at-nil : (restarts : List ℕ) (r : ℕ) → little_number 4 (drop (r * 4) restarts) ≡ 0 → map (entries_before []) (numbers_in restarts) ≡ 0 ∷ [] → r < 1 → StandsAt [] restarts r
 stands_at-nil restarts r none places lt =
@@ -222,13 +222,13 @@ stands_at-nil restarts r none places lt =
     record {
       within = omega (arith, none);
       pieces = subst (λ (n : ℕ). AreEncodedEntriesAfter [] (drop n [])) (sym none) ([], tt, refl);
-      entries = ap (λ (n : ℕ). entries_behind [] (drop n [])) none ∙ sym (ap (λ (n : ℕ). drop n (entries_behind [] [])) here);
+      entries = ap (λ (n : ℕ). entries_of_encoded [] (drop n [])) none ∙ sym (ap (λ (n : ℕ). drop n (entries_of_encoded [] [])) here);
     }
 
 pub stands_at : (area restarts : List ℕ) (r : ℕ) → IsArea area restarts → r < length (sound_in area restarts).restarts → StandsAt area restarts r
 stands_at area restarts r h lt = of_pieces h.0 h.1 h.2 h.3 (places_of_area area restarts h) (entries_of_area area restarts h)
   where
-    of_pieces : (ps : List EncodedEntry) → AreOfBlock ps → area ≡ flat_map encoded_entry_bytes ps → restarts ≡ words (restarts_of ps) → map (entries_before area) (numbers_in restarts) ≡ places_of ps → entries_behind [] area ≡ entries_after [] ps → StandsAt area restarts r
+    of_pieces : (ps : List EncodedEntry) → AreOfBlock ps → area ≡ flat_map encoded_entry_bytes ps → restarts ≡ words (restarts_of ps) → map (entries_before area) (numbers_in restarts) ≡ places_of ps → entries_of_encoded [] area ≡ entries_after [] ps → StandsAt area restarts r
     of_pieces [] a e f places entries =
         let below : r < 1 = subst (λ (t : List ℕ). r < length t) places lt in
         let none : little_number 4 (drop (r * 4) restarts) ≡ 0 = ap (λ (t : List ℕ). little_number 4 (drop (r * 4) t)) f ∙ number_at (0 ∷ []) r a.restarts.1 below ∙ (let zero-r : r ≡ 0 = omega arith in ap (λ (n : ℕ). get_or (0 ∷ []) n 0) zero-r) in
@@ -242,5 +242,5 @@ stands_at area restarts r h lt = of_pieces h.0 h.1 h.2 h.3 (places_of_area area 
         record {
           within = omega (arith, offset, q.within, ap length e);
           pieces = (q.more, q.pieces, behind);
-          entries = ap (entries_behind []) behind ∙ entries_behind-pieces [] q.more (AreWide-of 0 q.more q.pieces) ∙ q.same ∙ ap (drop q.entries) (sym entries) ∙ ap (λ (n : ℕ). drop n (entries_behind [] area)) (sym here);
+          entries = ap (entries_of_encoded []) behind ∙ entries_of_encoded-pieces [] q.more (AreWide-of 0 q.more q.pieces) ∙ q.same ∙ ap (drop q.entries) (sym entries) ∙ ap (λ (n : ℕ). drop n (entries_of_encoded [] area)) (sym here);
         }

@@ -4,7 +4,7 @@ use Rattle.std.specs.List.{flat_map}
 use Rattle.std.proofs.lemmas.List.{length-append}
 use Rattle.byteorder.specs.Endian.{little_bytes, little_number}
 use Rattle.coding.proofs.Bytes.{IsBytes, word_parts, word_fits}
-use Rattle.block.specs.Parts.{BeginsWith}
+use Rattle.block.specs.BlockParts.{BeginsWith}
 use Rattle.byteorder.specs.Numbers.{little_number-reads_back}
 
 -- the numbers, four bytes each

@@ -3,7 +3,7 @@ use Rattle.std.proofs.Common.{◌≡◌, ℕ, ◌+◌, ◌-◌, ◌*◌, ◌<◌
 use Rattle.std.proofs.lemmas.List.{append-nil, length-append, drop_at, take_at, append_cancel_right, nil_from_length, length-drop}
 use Rattle.byteorder.specs.Endian.{little_bytes, little_number}
 use Rattle.coding.proofs.Bytes.{IsBytes, word_parts, word_fits}
-use Rattle.block.specs.Parts.{HasBlockParts}
+use Rattle.block.specs.BlockParts.{HasBlockParts}
 use Rattle.block.proofs.Restarts.{front_word}
 
 -- four bytes are those of their number

@@ -7,8 +7,8 @@ use Rattle.std.proofs.lemmas.Option.{same_Some, none-some}
 use Rattle.block.specs.EncodedEntry.{Entry, EncodedEntry, encoded_entry_bytes, key_after, entries_after, AreEncodedEntries}
 use Rattle.block.specs.BuilderState.{IsArea}
 use Rattle.block.specs.EntryFormat.{FieldReading, encoded_entry_at}
-use Rattle.block.specs.Behind.{entries_behind, AreEncodedEntriesAfter}
-use Rattle.block.proofs.Pieces.{plain, Widths-of, piece_at_front, front_entry_at-nil, entries_behind-pieces, AreWide-of}
+use Rattle.block.specs.EntriesOfBytes.{entries_of_encoded, AreEncodedEntriesAfter}
+use Rattle.block.proofs.Pieces.{plain, Widths-of, piece_at_front, front_entry_at-nil, entries_of_encoded-pieces, AreWide-of}
 
 pub length-key_after : (before : List ℕ) (p : EncodedEntry) → p.shared ≤ length before → length (key_after before p) ≡ p.shared + length p.unshared
 length-key_after before p le = omega (arith, length-append (take p.shared before) p.unshared, length-take-le p.shared before le)
@@ -16,14 +16,14 @@ length-key_after before p le = omega (arith, length-append (take p.shared before
 -- the entry of the piece at the front, and those after it
 pub record Steps (before rest : List ℕ) (x : FieldReading EncodedEntry) : Type 0 where
   pub within : x.field.shared ≤ length before
-  pub entries : entries_behind before rest ≡ record { key = key_after before x.field; value = x.field.value } ∷ entries_behind (key_after before x.field) x.rest
+  pub entries : entries_of_encoded before rest ≡ record { key = key_after before x.field; value = x.field.value } ∷ entries_of_encoded (key_after before x.field) x.rest
   pub behind : AreEncodedEntriesAfter (key_after before x.field) x.rest
 
 front_read : (before rest : List ℕ) (p : EncodedEntry) (ps : List EncodedEntry) → AreEncodedEntries (length before) (p ∷ ps) → rest ≡ flat_map encoded_entry_bytes (p ∷ ps) → encoded_entry_at rest ≡ Some (record { field = plain p; rest = flat_map encoded_entry_bytes ps })
 front_read before rest p ps h e = piece_at_front rest p (flat_map encoded_entry_bytes ps) (Widths-of (length before) p h.0) e
 
-behind_of : (before rest : List ℕ) (ps : List EncodedEntry) → AreEncodedEntries (length before) ps → rest ≡ flat_map encoded_entry_bytes ps → entries_behind before rest ≡ entries_after before ps
-behind_of before rest ps h e = ap (entries_behind before) e ∙ entries_behind-pieces before ps (AreWide-of (length before) ps h)
+behind_of : (before rest : List ℕ) (ps : List EncodedEntry) → AreEncodedEntries (length before) ps → rest ≡ flat_map encoded_entry_bytes ps → entries_of_encoded before rest ≡ entries_after before ps
+behind_of before rest ps h e = ap (entries_of_encoded before) e ∙ entries_of_encoded-pieces before ps (AreWide-of (length before) ps h)
 
 steps_of : (before rest : List ℕ) (x : FieldReading EncodedEntry) (ps : List EncodedEntry) → AreEncodedEntries (length before) ps → rest ≡ flat_map encoded_entry_bytes ps → encoded_entry_at rest ≡ Some x → Steps before rest x
 steps_of before rest x [] h e f = absurd (none-some x (sym front_entry_at-nil ∙ ap encoded_entry_at (sym e) ∙ f))
@@ -40,15 +40,15 @@ pub steps : (before rest : List ℕ) (x : FieldReading EncodedEntry) → AreEnco
 steps before rest x b f = steps_of before rest x b.0 b.1 b.2 f
 
 -- no piece stands at the front of no pieces alone
-pub ends : (before rest : List ℕ) → AreEncodedEntriesAfter before rest → encoded_entry_at rest ≡ None → entries_behind before rest ≡ []
+pub ends : (before rest : List ℕ) → AreEncodedEntriesAfter before rest → encoded_entry_at rest ≡ None → entries_of_encoded before rest ≡ []
 ends before rest b f = ends_of b.0 b.1 b.2
   where
-    ends_of : (ps : List EncodedEntry) → AreEncodedEntries (length before) ps → rest ≡ flat_map encoded_entry_bytes ps → entries_behind before rest ≡ []
+    ends_of : (ps : List EncodedEntry) → AreEncodedEntries (length before) ps → rest ≡ flat_map encoded_entry_bytes ps → entries_of_encoded before rest ≡ []
     ends_of [] h e = behind_of before rest [] h e
     ends_of (p ∷ ps) h e = absurd (none-some _ (sym f ∙ front_read before rest p ps h e))
 
 -- no bytes are left if no entry stands after
-pub none_behind : (before rest : List ℕ) → AreEncodedEntriesAfter before rest → entries_behind before rest ≡ [] → rest ≡ []
+pub none_behind : (before rest : List ℕ) → AreEncodedEntriesAfter before rest → entries_of_encoded before rest ≡ [] → rest ≡ []
 none_behind before rest b h = of_pieces b.0 b.1 b.2
   where
     of_pieces : (ps : List EncodedEntry) → AreEncodedEntries (length before) ps → rest ≡ flat_map encoded_entry_bytes ps → rest ≡ []
@@ -61,7 +61,7 @@ none_behind before rest b h = of_pieces b.0 b.1 b.2
 pub behind_area : (area restarts : List ℕ) → IsArea area restarts → AreEncodedEntriesAfter [] area
 behind_area area restarts h = (h.0, h.1.pieces, h.2)
 
-pub entries_of_area : (area restarts : List ℕ) (h : IsArea area restarts) → entries_behind [] area ≡ entries_after [] h.0
+pub entries_of_area : (area restarts : List ℕ) (h : IsArea area restarts) → entries_of_encoded [] area ≡ entries_after [] h.0
 entries_of_area area restarts h = behind_of [] area h.0 h.1.pieces h.2
 
 -- the place moves on by one entry
@@ -93,7 +93,7 @@ pub first_key_whole : (p : EncodedEntry) → key_after [] p ≡ p.unshared
 first_key_whole p = none_shared p.shared p.unshared
 
 -- the key of the entry at a place where a piece stands
-pub first_key : (es : List Entry) (place : ℕ) (rest : List ℕ) (x : FieldReading EncodedEntry) → AreEncodedEntriesAfter [] rest → encoded_entry_at rest ≡ Some x → drop place es ≡ entries_behind [] rest
+pub first_key : (es : List Entry) (place : ℕ) (rest : List ℕ) (x : FieldReading EncodedEntry) → AreEncodedEntriesAfter [] rest → encoded_entry_at rest ≡ Some x → drop place es ≡ entries_of_encoded [] rest
     → option_map (λ e. e.key) (slice_get es place) ≡ Some x.field.unshared
 first_key es place rest x b f same =
     ap (option_map (λ e. e.key)) (sym (slice_get-drop es place) ∙ ap (λ (t : List Entry). slice_get t 0) (same ∙ (steps [] rest x b f).entries))

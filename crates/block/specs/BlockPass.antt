@@ -6,7 +6,7 @@ use Rattle.block.specs.EncodedEntry.{EncodedEntry, encoded_entry_bytes, restarts
 use Rattle.block.specs.EncodedEntry.{AreEncodedEntries, BeginsWithRestart}
 use Rattle.block.specs.EntryFormat.{FieldReading, encoded_entry_at}
 use Rattle.block.specs.BuilderState.{IsArea}
-use Rattle.block.specs.Parts.{BeginsWith}
+use Rattle.block.specs.BlockParts.{BeginsWith}
 
 -- the length of the last key, if the key before these encoded entries has the length `before`
 abbrev pub key_len_after : ℕ → List EncodedEntry → ℕ

@@ -6,8 +6,8 @@ use Rattle.block.specs.EncodedEntry.{Entry, EncodedEntry, AreOfBlock, encoded_en
 use Rattle.block.specs.EncodedEntry.{restarts_from, restarts_of}
 use Rattle.block.specs.BlockFormat.{encoded_entries_from, block}
 use Rattle.block.specs.BuilderView.{last_key}
-use Rattle.block.specs.Sound.{BlockView, numbers_in}
-use Rattle.block.specs.Behind.{entries_behind}
+use Rattle.block.specs.BlockView.{BlockView, numbers_in}
+use Rattle.block.specs.EntriesOfBytes.{entries_of_encoded}
 use Rattle.block.specs.declared.builder.TheConstants.{MAX_BLOCK_LEN, MAX_RESTART_INTERVAL}
 
 -- the bytes before the restarts, and those of the restarts, are of a block
@@ -18,12 +18,12 @@ IsArea area restarts = (ps : List EncodedEntry) × AreOfBlock ps
 
 -- how many entries come before this offset
 abbrev pub entries_before : List ℕ → ℕ → ℕ
-entries_before area offset = length (entries_behind [] (take offset area))
+entries_before area offset = length (entries_of_encoded [] (take offset area))
 
 -- the block that these bytes before the restarts and these restarts are
 abbrev pub sound_in : List ℕ → List ℕ → BlockView
 sound_in area restarts = record {
-  entries = entries_behind [] area;
+  entries = entries_of_encoded [] area;
   restarts = map (entries_before area) (numbers_in restarts);
 }
 

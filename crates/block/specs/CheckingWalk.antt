@@ -1,8 +1,8 @@
 -- A place in bytes that may be a block: the entry there, and what is known of the bytes before it.
 use Rattle.std.specs.Prelude.{◌≡◌, ◌≢◌, ℕ, Bool, true, false, if◌then◌else◌, List, [], ◌∷◌, length}
-use Rattle.block.specs.Behind.{entries_behind}
+use Rattle.block.specs.EntriesOfBytes.{entries_of_encoded}
 use Rattle.block.specs.BuilderState.{IsArea}
-use Rattle.block.specs.Parts.{BeginsWith, HasBlockParts}
+use Rattle.block.specs.BlockParts.{BeginsWith, HasBlockParts}
 use Rattle.block.specs.BlockPass.{PassState}
 use Rattle.block.specs.CheckedBytes.{BlockChecking}
 use Rattle.block.specs.declared.checking_cursor.CheckingCursor.TheInside.{Inside}
@@ -11,8 +11,8 @@ use Rattle.block.specs.declared.checking_cursor.CheckingCursor.TheInside.{Inside
 abbrev pub checking_of : Inside → BlockChecking
 checking_of c = record {
   bytes = c.bytes.now;
-  all = entries_behind [] c.area.now;
-  ahead = if c.valid then record { key = c.key; value = c.value.now } ∷ entries_behind
+  all = entries_of_encoded [] c.area.now;
+  ahead = if c.valid then record { key = c.key; value = c.value.now } ∷ entries_of_encoded
       c.key c.rest.now else [];
 }
 

@@ -3,15 +3,15 @@ pub mod EncodedEntry
 pub mod BlockFormat
 pub mod BuilderView
 pub mod EntryFormat
-pub mod Sound
-pub mod ReadingBlocks
+pub mod BlockView
+pub mod BlockReading
 pub mod CheckedBytes
 -- serves proofs alone
-pub mod Behind
+pub mod EntriesOfBytes
 pub mod BuilderState
-pub mod Parts
-pub mod Front
+pub mod BlockParts
+pub mod FrontField
 pub mod CursorPlace
-pub mod ReadingAhead
+pub mod FoldedLines
 pub mod BlockPass
 pub mod CheckingWalk

@@ -47,17 +47,17 @@ pub struct BlockBuilder {
 
 impl Model for BlockBuilder {
     ghost use Rattle.std.specs.Prelude.{[]};
-    ghost use Rattle.block.specs.Behind.{entries_behind};
+    ghost use Rattle.block.specs.EntriesOfBytes.{entries_of_encoded};
     ghost use Rattle.block.specs.BuilderView.{BlockBuilding};
     ghost use Rattle.block.specs.BuilderState.{IsBlockBuilder};
 
     ghost Value = { BlockBuilding };
 
     ghost view = { λ b.
-        record { interval = b.interval; entries = entries_behind [] b.bytes.items } };
+        record { interval = b.interval; entries = entries_of_encoded [] b.bytes.items } };
 
     ghost invariant = { λ b.
-        IsBlockBuilder b.interval (entries_behind [] b.bytes.items) b.bytes.items
+        IsBlockBuilder b.interval (entries_of_encoded [] b.bytes.items) b.bytes.items
         b.restarts.items b.last.items b.since };
 }
 

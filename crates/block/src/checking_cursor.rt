@@ -4,7 +4,7 @@ ghost use Rattle.std.specs.Prelude.{◌≡◌, ◌<◌, ◌↔◌, [], false, le
 ghost use Rattle.std.specs.Prelude.{IfOk, IfErr, OnOk, OnErr, Some, Ok};
 ghost use Rattle.std.specs.Option.{option_map};
 ghost use Rattle.coding.specs.Answers.{FailsOrMemory};
-ghost use Rattle.block.specs.ReadingBlocks.{block_reading};
+ghost use Rattle.block.specs.BlockReading.{block_reading};
 
 use crate::key_room::KeyRoom;
 use crate::sound_block::{are_begun, next_entry, split};
@@ -86,13 +86,13 @@ impl<'a> CheckingCursor<'a> {
         let Some(first) = next_entry(parts.area, parts.area, parts.restarts, 0) else {
             return Err(Fault::of(FaultName::Block));
         };
-        self.key.replace_end(0, first.piece)?;
+        self.key.replace_end(0, first.front)?;
         self.bytes = bytes;
         self.area = parts.area;
         self.pending = first.pending;
-        self.rest = first.piece.rest;
+        self.rest = first.front.rest;
         self.valid = true;
-        self.value = first.piece.value;
+        self.value = first.front.value;
         Ok(())
     }
 
@@ -149,10 +149,10 @@ impl<'a> CheckingCursor<'a> {
         let Some(next) = next_entry(self.area, self.rest, self.pending, key_len) else {
             return Err(Fault::of(FaultName::Block));
         };
-        self.key.replace_end(next.piece.shared, next.piece)?;
+        self.key.replace_end(next.front.shared, next.front)?;
         self.pending = next.pending;
-        self.rest = next.piece.rest;
-        self.value = next.piece.value;
+        self.rest = next.front.rest;
+        self.value = next.front.value;
         Ok(())
     }
 }

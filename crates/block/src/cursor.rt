@@ -3,7 +3,7 @@
 ghost use Rattle.std.specs.Prelude.{◌≡◌, ◌<◌, ◌↔◌, [], length, IsTrue, IfOk, OnOk, OnErr};
 ghost use Rattle.std.specs.Prelude.{IsOkUnless, IfErr, slice_get, slice_index, Some, drop};
 ghost use Rattle.std.specs.Option.{option_map};
-ghost use Rattle.block.specs.Behind.{entries_behind, AreEncodedEntriesAfter};
+ghost use Rattle.block.specs.EntriesOfBytes.{entries_of_encoded, AreEncodedEntriesAfter};
 ghost use Rattle.coding.specs.Answers.{fault};
 ghost use Rattle.coding.specs.declared.fault.FaultName.TheVariants.{Memory};
 
@@ -116,14 +116,14 @@ impl<'a> BlockCursor<'a> {
         ensures err { OnErr result (self.new ≡ self.old) }
         ensures memory { IsOkUnless result (fault Memory) }
     {
-        let Some(piece) = front_entry_at(self.rest) else {
+        let Some(front) = front_entry_at(self.rest) else {
             self.valid = false;
             return Ok(());
         };
-        self.key.replace_end(piece.shared, piece)?;
-        self.value = piece.value;
-        self.rest = piece.rest;
-        self.ahead.reach(piece.rest);
+        self.key.replace_end(front.shared, front)?;
+        self.value = front.value;
+        self.rest = front.rest;
+        self.ahead.reach(front.rest);
         Ok(())
     }
 
@@ -146,22 +146,22 @@ impl<'a> BlockCursor<'a> {
         Ok(())
     }
 
-    /// The entries in `pieces`, the first of which has its whole key. The only fault is Memory.
-    fn over(alloc: Global, pieces: &'a [u8]) -> Result<BlockCursor<'a>, Fault>
-        requires { AreEncodedEntriesAfter [] pieces.now }
-        ensures all { IfOk result (λ cursor. cursor ≡ entries_behind [] pieces.now) }
+    /// The entries in `encoded`, the first of which has its whole key. The only fault is Memory.
+    fn over(alloc: Global, encoded: &'a [u8]) -> Result<BlockCursor<'a>, Fault>
+        requires { AreEncodedEntriesAfter [] encoded.now }
+        ensures all { IfOk result (λ cursor. cursor ≡ entries_of_encoded [] encoded.now) }
         ensures memory { IfErr result (λ e. e ≡ fault Memory) }
     {
-        let Some(piece) = front_entry_at(pieces) else {
+        let Some(front) = front_entry_at(encoded) else {
             return Ok(BlockCursor::none(alloc));
         };
         let mut key = KeyRoom::new(alloc);
-        key.replace_end(piece.shared, piece)?;
+        key.replace_end(front.shared, front)?;
         Ok(BlockCursor {
             valid: true,
             key,
-            value: piece.value,
-            rest: piece.rest,
+            value: front.value,
+            rest: front.rest,
             ahead: ReadAhead::nothing(),
         })
     }

@@ -3,7 +3,7 @@
 ghost use Rattle.std.specs.Prelude.{◌≡◌, ◌<◌, ◌^◌};
 ghost use Rattle.std.specs.Option.{option_map};
 ghost use Rattle.block.specs.EntryFormat.{length_at, entry_of_lengths, encoded_entry_at};
-ghost use Rattle.block.specs.Front.{front_field};
+ghost use Rattle.block.specs.FrontField.{front_field};
 
 use crate::front::{FrontEntry, FrontLength};
 use coding::read_u32_varint;

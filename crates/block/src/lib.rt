@@ -14,7 +14,7 @@
 
 ghost use Rattle.std.specs.Prelude.{◌^◌, ◌≤◌, length, List, ℕ};
 ghost use Rattle.block.specs.EncodedEntry.{Entry, IsBlock};
-ghost use Rattle.block.specs.ReadingBlocks.{ReadsBlocks};
+ghost use Rattle.block.specs.BlockReading.{ReadsBlocks};
 ghost use Rattle.block.specs.BlockFormat.{block};
 ghost use Rattle.block.specs.declared.builder.TheConstants.{MAX_BLOCK_LEN};
 

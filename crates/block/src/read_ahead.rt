@@ -5,7 +5,7 @@
 //! turns. A window's lines are read together, and waited for together.
 
 ghost use Rattle.std.specs.Prelude.{◌≡◌, ◌<◌, ◌≤◌, ◌-◌, ◌*◌, ◌/◌, length, min};
-ghost use Rattle.block.specs.ReadingAhead.{folded_lines};
+ghost use Rattle.block.specs.FoldedLines.{folded_lines};
 
 /// The bytes of a line of memory, as a processor reads it.
 const LINE_LEN: usize = 64;

@@ -8,10 +8,10 @@ ghost use Rattle.std.specs.Option.{option_map};
 ghost use Rattle.std.specs.List.Sorted.{IsStrictlyIncreasing};
 ghost use Rattle.block.specs.EncodedEntry.{Entry, IsBlock};
 ghost use Rattle.block.specs.BuilderState.{IsArea};
-ghost use Rattle.block.specs.Behind.{entries_behind, AreEncodedEntriesAfter};
-ghost use Rattle.block.specs.Sound.{PointsAt};
-ghost use Rattle.block.specs.Front.{front_field};
-ghost use Rattle.block.specs.Parts.{BeginsWith, HasBlockParts};
+ghost use Rattle.block.specs.EntriesOfBytes.{entries_of_encoded, AreEncodedEntriesAfter};
+ghost use Rattle.block.specs.BlockView.{PointsAt};
+ghost use Rattle.block.specs.FrontField.{front_field};
+ghost use Rattle.block.specs.BlockParts.{BeginsWith, HasBlockParts};
 ghost use Rattle.block.specs.BlockPass.{IsNextEncodedEntry, PassState};
 ghost use Rattle.coding.specs.Answers.{fault};
 ghost use Rattle.coding.specs.declared.fault.FaultName.TheVariants.{Block};
@@ -37,7 +37,7 @@ pub struct SoundBlock<'a> {
 
 impl<'a> Model for SoundBlock<'a> {
     ghost use Rattle.block.specs.BuilderState.{IsArea, sound_in};
-    ghost use Rattle.block.specs.Sound.{BlockView};
+    ghost use Rattle.block.specs.BlockView.{BlockView};
 
     ghost Value = { BlockView };
 
@@ -69,8 +69,8 @@ impl<'a> SoundBlock<'a> {
             ≡ option_map (λ e. e.key)
             (slice_get self.now.entries (slice_index self.now.restarts restart)) }
     {
-        let piece = front_entry_at(self.area_from(restart))?;
-        Some(piece.unshared)
+        let front = front_entry_at(self.area_from(restart))?;
+        Some(front.unshared)
     }
 
     /// The same block, over the same bytes. Takes no memory.
@@ -85,8 +85,8 @@ impl<'a> SoundBlock<'a> {
 
     /// The bytes before the restarts.
     pub(crate) fn area(&self) -> &'a [u8]
-        ensures entries { entries_behind [] result.now ≡ self.now.entries }
-        ensures pieces { AreEncodedEntriesAfter [] result.now }
+        ensures entries { entries_of_encoded [] result.now ≡ self.now.entries }
+        ensures encoded { AreEncodedEntriesAfter [] result.now }
     {
         self.area
     }
@@ -94,9 +94,9 @@ impl<'a> SoundBlock<'a> {
     /// The bytes from the entry at a restart up to the restarts.
     pub(crate) fn area_from(&self, restart: u64) -> &'a [u8]
         requires { restart < length self.now.restarts }
-        ensures entries { entries_behind [] result.now
+        ensures entries { entries_of_encoded [] result.now
             ≡ drop (slice_index self.now.restarts restart) self.now.entries }
-        ensures pieces { AreEncodedEntriesAfter [] result.now }
+        ensures encoded { AreEncodedEntriesAfter [] result.now }
     {
         let (_, numbers) = self.restarts.split_at(restart as usize * RESTART_LEN);
         let offset = LittleEndian::read_u32(numbers) as usize;
@@ -213,7 +213,7 @@ pub(crate) fn are_begun(area: &[u8], restarts: &[u8]) -> bool
 /// The next entry as it is stored, and the restarts after it.
 #[derive(Clone, Copy)]
 pub(crate) struct NextEntry<'a> {
-    pub piece: FrontEntry<'a>,
+    pub front: FrontEntry<'a>,
     pub pending: &'a [u8],
 }
 
@@ -228,27 +228,27 @@ pub(crate) fn next_entry<'a>(
 ) -> Option<NextEntry<'a>>
     requires { length rest.now ≤ length area.now }
     ensures next { IfSome result (λ next.
-        IsNextEncodedEntry area.now rest.now pending.now key_len (front_field next.piece)
+        IsNextEncodedEntry area.now rest.now pending.now key_len (front_field next.front)
         next.pending.now) }
     ensures none { IfNone result ((restarts : List ℕ) → rest.now ≢ [] →
         PassState area.now restarts rest.now pending.now key_len
         → IsArea area.now restarts → ⊥) }
 {
     let at = area.len() - rest.len();
-    let Some(piece) = front_entry_at(rest) else {
+    let Some(front) = front_entry_at(rest) else {
         return None;
     };
-    if piece.shared > key_len {
+    if front.shared > key_len {
         return None;
     }
     if !is_next(pending, at) {
-        return Some(NextEntry { piece, pending });
+        return Some(NextEntry { front, pending });
     }
-    if piece.shared != 0 {
+    if front.shared != 0 {
         return None;
     }
     let (_, pending) = pending.split_at(RESTART_LEN);
-    Some(NextEntry { piece, pending })
+    Some(NextEntry { front, pending })
 }
 
 /// Whether the bytes before the restarts are entries, and each restart is the offset of an entry
@@ -270,9 +270,9 @@ fn are_entries(area: &[u8], restarts: &[u8]) -> bool
         let Some(next) = next_entry(area, rest, pending, key_len) else {
             return false;
         };
-        let piece = next.piece;
-        key_len = piece.shared + piece.unshared.len();
-        rest = piece.rest;
+        let front = next.front;
+        key_len = front.shared + front.unshared.len();
+        rest = front.rest;
         pending = next.pending;
     }
     pending.is_empty()

@@ -11,7 +11,7 @@ use Rattle.board.specs.declared.rule.Extent.{Extent}
 use Rattle.board.specs.declared.gathered.Gathered.{Gathered}
 use Rattle.board.specs.Shares.{times}
 use Rattle.board.specs.Progress.{no_fault, Layout, Progress, fault_word}
-use Rattle.board.specs.Finished.{all_drawn, all_failed, all_skipped, all_done, times_spent, HasSpentAll, IsLeastOf, IsFinished}
+use Rattle.board.specs.FinishedSeats.{all_drawn, all_failed, all_skipped, all_done, times_spent, HasSpentAll, IsLeastOf, IsFinished}
 use Rattle.board.specs.Words.{once_below}
 use Rattle.board.specs.Rule.{TableKeepsRule, gathered_views, IsWhole}
 use Rattle.board.specs.Seats.{layout, progress_of, IsSeated, IsCounted}
@@ -53,7 +53,7 @@ gathers b g g' ps p t number passed jobs seats me trail d f s inv is et ev ed ef
     let one = inv.0.one in let c = inv.1.counts in
     let pd = ap (λ (q : Progress). q.done) is in let pf = ap (λ (q : Progress). q.failed) is in let ps' = ap (λ (q : Progress). q.skipped) is in let pw = ap (λ (q : Progress). q.drawn) is in record {
       board = (λ i. layout (et i) ((ev i).jobs) ((ev i).seats)) ∙ h.board;
-      parts = (let a = ap (λ (v : SeatView). v.parts) ev in let q = h.parts in omega arith);
+      members = (let a = ap (λ (v : SeatView). v.members) ev in let q = h.members in omega arith);
       some = omega arith;
       drawn = λ x. now (λ v. v.drawn) x ∙ more_times (λ q. q.drawn) p ps x g.token.me.0.drawn me.0.drawn (h.drawn x) (ap (λ (q : Progress). q.drawn) is);
       empty = λ x. now (λ v. v.empty) x ∙ more_times (λ q. q.empty) p ps x g.token.me.0.empty me.0.empty (h.empty x) (ap (λ (q : Progress). q.empty) is);
@@ -73,7 +73,7 @@ gathers b g g' ps p t number passed jobs seats me trail d f s inv is et ev ed ef
     }
 
 -- the last state of the table
-pub ends_part : (e : Extent) (id : ℕ) (v : SeatView) (ws : List ℕ) (xs : List (Unit {0})) → Final (Seen (TableKeepsRule e) id v) ws xs → 0 < v.parts → (x : ℕ) → times x v.drawn ≤ once_below x v.jobs
+pub ends_part : (e : Extent) (id : ℕ) (v : SeatView) (ws : List ℕ) (xs : List (Unit {0})) → Final (Seen (TableKeepsRule e) id v) ws xs → 0 < v.members → (x : ℕ) → times x v.drawn ≤ once_below x v.jobs
 ends_part e id v ws xs last sits = learns_part e id v last.0 last.1 sits
 
 found_at : (l : List ℕ) (i a : ℕ) → get_elem? l i ≡ some a → get_or l i 0 ≡ a
@@ -81,7 +81,7 @@ found_at [] i a e = absurd (some-ne-none a (sym e))
 found_at (x ∷ xs) zero a e = some-injective x a e
 found_at (x ∷ xs) (suc i) a e = found_at xs i a e
 
-pub ends_whole : (e : Extent) (id : ℕ) (v : SeatView) (ws : List ℕ) (xs : List (Unit {0})) (fault : ℕ) → Final (Seen (TableKeepsRule e) id v) ws xs → get_elem? ws 64 ≡ some fault → 0 < v.parts → v.parts ≡ v.seats → IsWhole v fault
+pub ends_whole : (e : Extent) (id : ℕ) (v : SeatView) (ws : List ℕ) (xs : List (Unit {0})) (fault : ℕ) → Final (Seen (TableKeepsRule e) id v) ws xs → get_elem? ws 64 ≡ some fault → 0 < v.members → v.members ≡ v.seats → IsWhole v fault
 ends_whole e id v ws xs fault last at sits whole =
     subst (IsWhole v) (ap (λ (l : List ℕ). get_or l 64 0) last.2 ∙ found_at ws 64 fault at) (learns e id v last.0 last.1 sits whole)
 
@@ -153,7 +153,7 @@ nothing_left all [] ps is none = is
 nothing_left all (x ∷ items) ps is none = absurd (omega arith)
 
 -- all seats were gathered, and the fault word is that of the table
-pub closes_all : (b : Layout) (g : Gathered) (ps : List Progress) (fault : ℕ) (found : Option ℕ) → Gathers b g ps → (g.token.me.0.parts ≡ g.token.me.0.seats → IsWhole g.token.me.0 fault) → length ps ≡ b.seats
+pub closes_all : (b : Layout) (g : Gathered) (ps : List Progress) (fault : ℕ) (found : Option ℕ) → Gathers b g ps → (g.token.me.0.members ≡ g.token.me.0.seats → IsWhole g.token.me.0 fault) → length ps ≡ b.seats
     → g.token.me.0.jobs ≤ 2 ^ 40 → fault_word found ≡ fault → IfSome found (λ y. y ≢ no_fault) → IsFinished b ps found
 closes_all b g ps fault found h whole count small is real =
-    closes b g ps fault found h (whole (h.parts ∙ count ∙ sym (ap (λ (l : Layout). l.seats) h.board))) small is real
+    closes b g ps fault found h (whole (h.members ∙ count ∙ sym (ap (λ (l : Layout). l.seats) h.board))) small is real

@@ -5,7 +5,7 @@ use Rattle.coding.specs.Answers.{◌>>=◌, EqualOrMemory, FailsOrMemory}
 use Rattle.coding.proofs.Refusals.{unless_from}
 use Rattle.board.specs.declared.pool.RunFault.{RunFault}
 use Rattle.board.specs.RunAnswer.{IsFaultOf, IsResult, AreResults, IsRefused, fault_of_run}
-use Rattle.board.specs.Collected.{collected_results, fault_in, refusal_at, HasValue}
+use Rattle.board.specs.CollectedResults.{collected_results, fault_in, refusal_at, HasValue}
 
 some_is : {A : Type 0} (a b : A) → Some a ≡ Some b → a ≡ b
 some_is a b e = cc

@@ -134,10 +134,10 @@ module _ (v : SeatView) (done : List ℕ) (d f s : ℕ) (h : IsCounted v done d 
 
 -- the seat stays where it is
 pub still_seated : (number passed jobs seats : ℕ) (me me' : Me (Unit {0}) SeatView) → IsSeated number passed jobs seats me
-    → me'.1 ≡ me.1 → me'.0.parts ≡ me.0.parts → me'.0.jobs ≡ me.0.jobs → me'.0.seats ≡ me.0.seats → me'.0.empty ≡ me.0.empty → IsSeated number passed jobs seats me'
-still_seated number passed jobs seats me me' h slots parts j w empty = record {
+    → me'.1 ≡ me.1 → me'.0.members ≡ me.0.members → me'.0.jobs ≡ me.0.jobs → me'.0.seats ≡ me.0.seats → me'.0.empty ≡ me.0.empty → IsSeated number passed jobs seats me'
+still_seated number passed jobs seats me me' h slots members j w empty = record {
   slots = slots ∙ h.slots;
-  one = parts ∙ h.one;
+  one = members ∙ h.one;
   extent = (j ∙ h.extent.0, w ∙ h.extent.1);
   within = h.within;
   few = h.few;
@@ -171,9 +171,9 @@ counts_small number passed jobs seats me done d f s h =
 
 -- what a step leaves that changes neither the numbers of jobs and seats nor the shares seen empty
 pub seated_as : (number passed jobs seats : ℕ) (me me' : Me (Unit {0}) SeatView) → IsSeated number passed jobs seats me → me'.1 ≡ me.1
-    → (u : SeatView) → me'.0 ≡ u → u.parts ≡ me.0.parts → u.jobs ≡ me.0.jobs → u.seats ≡ me.0.seats → u.empty ≡ me.0.empty → IsSeated number passed jobs seats me'
-seated_as number passed jobs seats me me' h slots u is parts j w empty =
-    still_seated number passed jobs seats me me' h slots (ap (λ (v : SeatView). v.parts) is ∙ parts) (ap (λ (v : SeatView). v.jobs) is ∙ j) (ap (λ (v : SeatView). v.seats) is ∙ w) (ap (λ (v : SeatView). v.empty) is ∙ empty)
+    → (u : SeatView) → me'.0 ≡ u → u.members ≡ me.0.members → u.jobs ≡ me.0.jobs → u.seats ≡ me.0.seats → u.empty ≡ me.0.empty → IsSeated number passed jobs seats me'
+seated_as number passed jobs seats me me' h slots u is members j w empty =
+    still_seated number passed jobs seats me me' h slots (ap (λ (v : SeatView). v.members) is ∙ members) (ap (λ (v : SeatView). v.jobs) is ∙ j) (ap (λ (v : SeatView). v.seats) is ∙ w) (ap (λ (v : SeatView). v.empty) is ∙ empty)
 
 pub none_looked : (v : SeatView) (found : ℕ) → IsLeastFound v found → found ≡ no_fault → v.jobs ≤ 2 ^ 40 → (x : ℕ) → 0 < times x v.looked → x ≡ no_fault
 none_looked v found h is small x any = let l = h.looked x any in elim l.1 [

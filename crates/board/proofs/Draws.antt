@@ -30,7 +30,7 @@ module _ (w : ℕ) (words : List ℕ) (k c : ℕ) (any : 0 < w) (few : w ≤ 64)
 
 -- a number is claimed, and drawn
 pub draws : (n w : ℕ) (words : List ℕ) (views : List SeatView) (id : ℕ) (v : SeatView) (k c : ℕ)
-    → KeepsDrawn n w words views → get_elem? views id ≡ some v → 0 < v.parts → k < w → claims_of w words k ≡ c → c < share_len n w k
+    → KeepsDrawn n w words views → get_elem? views id ≡ some v → 0 < v.members → k < w → claims_of w words k ≡ c → c < share_len n w k
     → KeepsDrawn n w (set words (word_of w k) (suc c)) (set views id (view_after_draw v (start n w k + c)))
 draws n w words views id v k c h at sits lt is room =
     let x : ℕ = start n w k + c in
@@ -42,7 +42,7 @@ draws n w words views id v k c h at sits lt is room =
       seats = h.seats;
       jobs = h.jobs;
       wide = length-set words (word_of w k) (suc c) ∙ h.wide;
-      parts = let e = total_set (λ (z : SeatView). z.parts) views id v u at in let p = h.parts in omega arith;
+      members = let e = total_set (λ (z : SeatView). z.members) views id v u at in let p = h.members in omega arith;
       each = each_set (Fits n w) views id u h.each record { same = mine.same; spent = λ none. absurd (omega arith); once = mine.once };
       drawn = λ y.
           let e = total_set (λ (z : SeatView). times y z.drawn) views id v u at in
@@ -64,7 +64,7 @@ draws n w words views id v k c h at sits lt is room =
 
 -- a share is claimed from that is used up, and seen empty
 pub sees : (n w : ℕ) (words : List ℕ) (views : List SeatView) (id : ℕ) (v : SeatView) (k c : ℕ)
-    → KeepsDrawn n w words views → get_elem? views id ≡ some v → times k v.empty < v.parts → k < w → claims_of w words k ≡ c → share_len n w k ≤ c
+    → KeepsDrawn n w words views → get_elem? views id ≡ some v → times k v.empty < v.members → k < w → claims_of w words k ≡ c → share_len n w k ≤ c
     → KeepsDrawn n w (set words (word_of w k) (suc c)) (set views id (saw_empty v k))
 sees n w words views id v k c h at sits lt is full =
     let u : SeatView = saw_empty v k in
@@ -75,7 +75,7 @@ sees n w words views id v k c h at sits lt is full =
       seats = h.seats;
       jobs = h.jobs;
       wide = length-set words (word_of w k) (suc c) ∙ h.wide;
-      parts = let e = total_set (λ (z : SeatView). z.parts) views id v u at in let p = h.parts in omega arith;
+      members = let e = total_set (λ (z : SeatView). z.members) views id v u at in let p = h.members in omega arith;
       each = each_set (Fits n w) views id u h.each record {
         same = mine.same;
         spent = λ none. absurd (omega arith);
@@ -111,14 +111,14 @@ sees n w words views id v k c h at sits lt is full =
 -- a change that touches neither the claim words nor the lists of numbers drawn and shares seen empty
 pub still_drawn : (n w : ℕ) (words words' : List ℕ) (views views' : List SeatView)
     → KeepsDrawn n w words views → length words' ≡ length words → ((k : ℕ) → k < w → claims_of w words' k ≡ claims_of w words k)
-    → total (λ (v : SeatView). v.parts) views' ≡ total (λ (v : SeatView). v.parts) views → ((i : ℕ) (v : SeatView) → get_elem? views' i ≡ some v → Fits n w v)
+    → total (λ (v : SeatView). v.members) views' ≡ total (λ (v : SeatView). v.members) views → ((i : ℕ) (v : SeatView) → get_elem? views' i ≡ some v → Fits n w v)
     → ((x : ℕ) → times_drawn x views' ≡ times_drawn x views) → ((k : ℕ) → times_empty k views' ≡ times_empty k views)
     → KeepsDrawn n w words' views'
-still_drawn n w words words' views views' h long claims parts each drawn empty = record {
+still_drawn n w words words' views views' h long claims members each drawn empty = record {
   seats = h.seats;
   jobs = h.jobs;
   wide = long ∙ h.wide;
-  parts = parts ∙ h.parts;
+  members = members ∙ h.members;
   each = each;
   drawn = λ x. drawn x ∙ h.drawn x ∙ sym (claimed_same (start n w) (claims_of w words) (claims_of w words') x w claims);
   empty = λ k any. let f = h.empty k (let e = empty k in omega arith) in let lt = f.0 in let c = claims k lt in (lt, (let l = f.1 in omega arith));
@@ -131,7 +131,7 @@ opens n w words any few small long zeros = record {
   seats = (any, few);
   jobs = small;
   wide = long;
-  parts = omega arith;
+  members = omega arith;
   each = each_snoc (Fits n w) [] (fresh_view w n w) (λ i v at. absurd (some-ne-none v (sym at))) record { same = λ _. (refl, refl); spent = λ _. (refl, refl, refl, refl, refl); once = λ k. omega arith };
   drawn = λ x. sym (claimed_none (start n w) (claims_of w words) x w (λ k lt. zeros (word_of w k) (word_below w k few lt)));
   empty = λ k seen. absurd (omega arith);

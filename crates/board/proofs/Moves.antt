@@ -22,8 +22,8 @@ use Rattle.board.proofs.Faults.{still_failed, still_skipped, settles, looks, ski
 -- no claim word wraps
 all_empty_few : (n w : ℕ) (words : List ℕ) (views : List SeatView) (k : ℕ) → KeepsDrawn n w words views → times_empty k views ≤ 64
 all_empty_few n w words views k h =
-    let t = total_le (λ (v : SeatView). times k v.empty) (λ (v : SeatView). v.parts) views (λ i v at. (h.each i v at).once k) in
-    let p = h.parts in let few = h.seats.1 in omega arith
+    let t = total_le (λ (v : SeatView). times k v.empty) (λ (v : SeatView). v.members) views (λ i v at. (h.each i v at).once k) in
+    let p = h.members in let few = h.seats.1 in omega arith
 
 claims_few : (n w : ℕ) (words : List ℕ) (views : List SeatView) (k : ℕ) → KeepsDrawn n w words views → k < w → claims_of w words k < 2 ^ 41
 claims_few n w words views k h lt =
@@ -43,7 +43,7 @@ wrapless : (c : ℕ) → c < 2 ^ 41 → suc c ≡ (c + 1) % 2 ^ 64
 wrapless c small = let s : c < 2199023255552 = small in omega arith
 
 -- what one claim leaves, if the seat has not seen the share empty
-pub claim_step : (v : SeatView) (words : List ℕ) (views : List SeatView) (id k : ℕ) → BoardRule v.jobs v.seats words views → get_elem? views id ≡ some v → k < v.seats → times k v.empty < v.parts
+pub claim_step : (v : SeatView) (words : List ℕ) (views : List SeatView) (id k : ℕ) → BoardRule v.jobs v.seats words views → get_elem? views id ≡ some v → k < v.seats → times k v.empty < v.members
     → (u : SeatView) × BoardRule v.jobs v.seats (set words (word_of v.seats k) ((claims_of v.seats words k + 1) % 2 ^ 64)) (set views id u) × Claims v k (claims_of v.seats words k) u
 claim_step v words views id k h at lt once =
     let n = v.jobs in let w = v.seats in let c : ℕ = claims_of v.seats words k in let i : ℕ = word_of v.seats k in
@@ -87,10 +87,10 @@ claim_step v words views id k h at lt once =
     ]
 
 -- a seat's view has the numbers of jobs and seats of the board
-extent_of : (n w : ℕ) (words : List ℕ) (views : List SeatView) (id : ℕ) (v : SeatView) → KeepsDrawn n w words views → get_elem? views id ≡ some v → 0 < v.parts → (v.jobs ≡ n) × (v.seats ≡ w)
+extent_of : (n w : ℕ) (words : List ℕ) (views : List SeatView) (id : ℕ) (v : SeatView) → KeepsDrawn n w words views → get_elem? views id ≡ some v → 0 < v.members → (v.jobs ≡ n) × (v.seats ≡ w)
 extent_of n w words views id v h at sits = (h.each id v at).same sits
 
-pub claims : (e : Extent) (slots id : ℕ) (me : Me (Unit {0}) SeatView) (k : ℕ) → k < me.0.seats → times k me.0.empty < me.0.parts
+pub claims : (e : Extent) (slots id : ℕ) (me : Me (Unit {0}) SeatView) (k : ℕ) → k < me.0.seats → times k me.0.empty < me.0.members
     → Allows (TableKeepsRule e) slots id me (word_of me.0.seats k) (λ x. (x + 1) % 2 ^ 64) (StepClaims (step slots (word_of me.0.seats k) 1 0 none) me)
 claims e slots id me k lt once s h len at small =
     let v = me.0 in
@@ -102,18 +102,18 @@ claims e slots id me k lt once s h len at small =
     (r.0, keeps, tt, subst (λ (z : ℕ × ℕ). BoardRule z.0 z.1 (set s.words (word_of v.seats k) ((claims_of v.seats s.words k + 1) % 2 ^ 64)) (set s.views id r.0)) (λ i. (is.0 i, is.1 i)) r.1, (claimed_of, refl))
 
 -- the same at the word's number
-pub claims_at : (e : Extent) (slots id : ℕ) (me : Me (Unit {0}) SeatView) (k word : ℕ) → word ≡ word_of me.0.seats k → k < me.0.seats → times k me.0.empty < me.0.parts
+pub claims_at : (e : Extent) (slots id : ℕ) (me : Me (Unit {0}) SeatView) (k word : ℕ) → word ≡ word_of me.0.seats k → k < me.0.seats → times k me.0.empty < me.0.members
     → Allows (TableKeepsRule e) slots id me word (λ x. (x + 1) % 2 ^ 64) (StepClaims (step slots word 1 0 none) me)
 claims_at e slots id me k word is lt once = subst (λ (i : ℕ). Allows (TableKeepsRule e) slots id me i (λ x. (x + 1) % 2 ^ 64) (StepClaims (step slots i 1 0 none) me)) (sym is) (claims e slots id me k lt once)
 
 -- the seats' lists are put together or apart, and the words stay
 rearranged : (n w : ℕ) (words : List ℕ) (views views' : List SeatView) → BoardRule n w words views
-    → total (λ (v : SeatView). v.parts) views' ≡ total (λ (v : SeatView). v.parts) views → ((i : ℕ) (v : SeatView) → get_elem? views' i ≡ some v → Fits n w v)
+    → total (λ (v : SeatView). v.members) views' ≡ total (λ (v : SeatView). v.members) views → ((i : ℕ) (v : SeatView) → get_elem? views' i ≡ some v → Fits n w v)
     → ((x : ℕ) → times_drawn x views' ≡ times_drawn x views) → ((k : ℕ) → times_empty k views' ≡ times_empty k views)
     → ((x : ℕ) → times_failed x views' ≡ times_failed x views) → ((x : ℕ) → times_looked x views' ≡ times_looked x views) → ((x : ℕ) → times_skipped x views' ≡ times_skipped x views)
     → BoardRule n w words views'
-rearranged n w words views views' h parts each drawn empty failed looked skipped = record {
-  drawn = still_drawn n w words words views views' h.drawn refl (λ k lt. refl) parts each drawn empty;
+rearranged n w words views views' h members each drawn empty failed looked skipped = record {
+  drawn = still_drawn n w words words views views' h.drawn refl (λ k lt. refl) members each drawn empty;
   failed = still_failed n words words views views' h.failed refl failed looked;
   skipped = still_skipped words words views views' h.skipped (omega arith) skipped;
 }
@@ -126,12 +126,12 @@ splits e id p q n w any more s h at =
     (λ f sum. let a = total_set f s.views id v left at in let b = total-snoc f (set s.views id left) right in omega arith) in
     let fits : (r : ℕ) → Fits e.jobs e.seats (fresh_view r n w) = (λ r. record { same = λ _. is; spent = λ none. (refl, refl, refl, refl, refl); once = λ k. omega arith }) in
     rearranged e.jobs e.seats s.words s.views (set s.views id left ++ right ∷ []) h
-    (moved (λ z. z.parts) (omega arith))
+    (moved (λ z. z.members) (omega arith))
     (each_snoc (Fits e.jobs e.seats) (set s.views id left) right (each_set (Fits e.jobs e.seats) s.views id left h.drawn.each (fits p)) (fits 1))
     (λ x. moved (λ z. times x z.drawn) refl) (λ x. moved (λ z. times x z.empty) refl)
     (λ x. moved (λ z. times x z.failed) refl) (λ x. moved (λ z. times x z.looked) refl) (λ x. moved (λ z. times x z.skipped) refl)
 
-pub joins : (e : Extent) (id : ℕ) (v : SeatView) (other : ℕ) (u : SeatView) → 0 < v.parts → Joins (TableKeepsRule e) id v other u (gathered_views v u) (fresh_view 0 0 0)
+pub joins : (e : Extent) (id : ℕ) (v : SeatView) (other : ℕ) (u : SeatView) → 0 < v.members → Joins (TableKeepsRule e) id v other u (gathered_views v u) (fresh_view 0 0 0)
 joins e id v other u sits s h at apart there =
     let both : SeatView = gathered_views v u in let spent : SeatView = fresh_view 0 0 0 in
     let old : get_elem? s.views other ≡ some u = elim (at_set s.views id other both u there) [ inl t ↦ absurd (apart t.0) | inr t ↦ t.1 ] in
@@ -139,7 +139,7 @@ joins e id v other u sits s h at apart there =
     let moved : (f : SeatView → ℕ) → f both ≡ f v + f u → f spent ≡ 0 → total f (set (set s.views id both) other spent) ≡ total f s.views =
     (λ f sum zero. let a = total_set f s.views id v both at in let b = total_set f (set s.views id both) other u spent there in omega arith) in
     rearranged e.jobs e.seats s.words s.views (set (set s.views id both) other spent) h
-    (moved (λ z. z.parts) refl refl)
+    (moved (λ z. z.members) refl refl)
     (each_set (Fits e.jobs e.seats) (set s.views id both) other spent
     (each_set (Fits e.jobs e.seats) s.views id both h.drawn.each record {
       same = λ _. mine.same sits;
@@ -151,7 +151,7 @@ joins e id v other u sits s h at apart there =
     (λ x. moved (λ z. times x z.failed) (times-append x v.failed u.failed) refl) (λ x. moved (λ z. times x z.looked) (times-append x v.looked u.looked) refl)
     (λ x. moved (λ z. times x z.skipped) (times-append x v.skipped u.skipped) refl)
 
-pub settle_step : (e : Extent) (slots id : ℕ) (me : Me (Unit {0}) SeatView) (j : ℕ) → 0 < me.0.parts → j < me.0.jobs
+pub settle_step : (e : Extent) (slots id : ℕ) (me : Me (Unit {0}) SeatView) (j : ℕ) → 0 < me.0.members → j < me.0.jobs
     → Allows (TableKeepsRule e) slots id me 64 (λ x. min x j) (StepSettles (step slots 64 j 0 none) me)
 settle_step e slots id me j sits small s h len at range =
     let v = me.0 in let u : SeatView = has_failed v j in
@@ -167,7 +167,7 @@ settle_step e slots id me j sits small s h len at range =
       record {
         drawn = still_drawn e.jobs e.seats s.words words s.views (set s.views id u) h.drawn (length-set s.words 64 (min (fault_of s.words) j))
             (λ k lt. get_or-set_other s.words 64 (word_of e.seats k) (min (fault_of s.words) j) 0 (let below = word_below e.seats k h.drawn.seats.1 lt in omega arith))
-            (same (λ z. z.parts) refl)
+            (same (λ z. z.members) refl)
             (each_set (Fits e.jobs e.seats) s.views id u h.drawn.each record { same = mine.same; spent = λ none. absurd (omega arith); once = mine.once })
             (λ x. same (λ z. times x z.drawn) refl) (λ x. same (λ z. times x z.empty) refl);
         failed = settles e.jobs s.words s.views id v j h.failed wide at (let q = is.0 in omega arith);
@@ -177,15 +177,15 @@ settle_step e slots id me j sits small s h len at range =
     )
 
 -- the view after a look, with which a job may be skipped
-look_kept : (e : Extent) (s : State (Unit {0}) SeatView) (id : ℕ) (v u : SeatView) → TableKeepsRule e s → get_elem? s.views id ≡ some v → 0 < v.parts
-    → u.parts ≡ v.parts → u.jobs ≡ v.jobs → u.seats ≡ v.seats → u.drawn ≡ v.drawn → u.empty ≡ v.empty → u.failed ≡ v.failed → u.looked ≡ v.looked ++ fault_of s.words ∷ []
+look_kept : (e : Extent) (s : State (Unit {0}) SeatView) (id : ℕ) (v u : SeatView) → TableKeepsRule e s → get_elem? s.views id ≡ some v → 0 < v.members
+    → u.members ≡ v.members → u.jobs ≡ v.jobs → u.seats ≡ v.seats → u.drawn ≡ v.drawn → u.empty ≡ v.empty → u.failed ≡ v.failed → u.looked ≡ v.looked ++ fault_of s.words ∷ []
     → KeepsSkipped s.words (set s.views id u) → BoardRule e.jobs e.seats s.words (set s.views id u)
-look_kept e s id v u h at sits parts jobs seats drawn empty failed looked skipped =
+look_kept e s id v u h at sits members jobs seats drawn empty failed looked skipped =
     let mine = h.drawn.each id v at in
     let is = mine.same sits in
     let same : (f : SeatView → ℕ) → f u ≡ f v → total f (set s.views id u) ≡ total f s.views = (λ f e. let t = total_set f s.views id v u at in omega arith) in record {
       drawn = still_drawn e.jobs e.seats s.words s.words s.views (set s.views id u) h.drawn refl (λ k lt. refl)
-          (same (λ z. z.parts) parts)
+          (same (λ z. z.members) members)
           (each_set (Fits e.jobs e.seats) s.views id u h.drawn.each record {
             same = λ _. (jobs ∙ is.0, seats ∙ is.1);
             spent = λ none. absurd (omega arith);
@@ -197,7 +197,7 @@ look_kept e s id v u h at sits parts jobs seats drawn empty failed looked skippe
     }
 
 -- what a look finds
-least_found : (e : Extent) (s : State (Unit {0}) SeatView) (id : ℕ) (v : SeatView) → TableKeepsRule e s → get_elem? s.views id ≡ some v → 0 < v.parts → IsLeastFound v (fault_of s.words)
+least_found : (e : Extent) (s : State (Unit {0}) SeatView) (id : ℕ) (v : SeatView) → TableKeepsRule e s → get_elem? s.views id ≡ some v → 0 < v.members → IsLeastFound v (fault_of s.words)
 least_found e s id v h at sits =
     let is = (h.drawn.each id v at).same sits in record {
       failed = λ x any. let t = le-total (λ (z : SeatView). times x z.failed) s.views id v at in let l = h.failed.least x (omega arith) in ((let a = l.0 in let b = is.0 in omega arith), l.1);
@@ -207,7 +207,7 @@ least_found e s id v h at sits =
           (l.0, elim l.1 [ inl free ↦ inl free | inr there ↦ inr (let a = (h.failed.least x there).0 in let b = is.0 in omega arith) ]);
     }
 
-pub look_step : (e : Extent) (slots id : ℕ) (me : Me (Unit {0}) SeatView) → 0 < me.0.parts
+pub look_step : (e : Extent) (slots id : ℕ) (me : Me (Unit {0}) SeatView) → 0 < me.0.members
     → Allows (TableKeepsRule e) slots id me 64 (λ x. x) (StepLooks (step slots 64 0 0 none) me)
 look_step e slots id me sits s h len at range =
     let v = me.0 in let r = fault_of s.words in let u : SeatView = has_looked v r in
@@ -221,7 +221,7 @@ look_step e slots id me sits s h len at range =
       (refl, least_found e s id v h at sits, refl),
     )
 
-pub skip_step : (e : Extent) (slots id : ℕ) (me : Me (Unit {0}) SeatView) (x : ℕ) → 0 < me.0.parts
+pub skip_step : (e : Extent) (slots id : ℕ) (me : Me (Unit {0}) SeatView) (x : ℕ) → 0 < me.0.members
     → Allows (TableKeepsRule e) slots id me 64 (λ n. n) (StepSkips x (step slots 64 0 0 none) me)
 skip_step e slots id me x sits s h len at range =
     let v = me.0 in let r = fault_of s.words in let u : SeatView = has_looked_for v x r in
@@ -245,14 +245,14 @@ begins e words any few small long zeros fault =
     let f = no_faults e.jobs e.seats words fault in
     record { drawn = opens e.jobs e.seats words any few small long zeros; failed = f.0; skipped = f.1 }
 
--- who has all parts knows all lists
-pub learns : (e : Extent) (id : ℕ) (v : SeatView) (s : State (Unit {0}) SeatView) → Seen (TableKeepsRule e) id v s → 0 < v.parts → v.parts ≡ v.seats → IsWhole v (fault_of s.words)
+-- who has all members knows all lists
+pub learns : (e : Extent) (id : ℕ) (v : SeatView) (s : State (Unit {0}) SeatView) → Seen (TableKeepsRule e) id v s → 0 < v.members → v.members ≡ v.seats → IsWhole v (fault_of s.words)
 learns e id v s seen sits whole =
     let h = seen.0 in let at = seen.1 in
     let is = (h.drawn.each id v at).same sits in
-    let all_parts : total (λ (z : SeatView). z.parts) s.views ≡ v.parts = (let p = h.drawn.parts in let q = is.1 in omega arith) in
+    let all_parts : total (λ (z : SeatView). z.members) s.views ≡ v.members = (let p = h.drawn.members in let q = is.1 in omega arith) in
     let mine : (f : SeatView → ℕ) → ((z : SeatView) → HasNoLists z → f z ≡ 0) → total f s.views ≡ f v =
-    (λ f zero. total_only (λ (z : SeatView). z.parts) f s.views id v (λ j b there none. zero b ((h.drawn.each j b there).spent none)) at all_parts) in
+    (λ f zero. total_only (λ (z : SeatView). z.members) f s.views id v (λ j b there none. zero b ((h.drawn.each j b there).spent none)) at all_parts) in
     let drawn : (x : ℕ) → times_drawn x s.views ≡ times x v.drawn = (λ x. mine (λ z. times x z.drawn) (λ z n. ap (times x) n.0)) in
     let empty : (x : ℕ) → times_empty x s.views ≡ times x v.empty = (λ x. mine (λ z. times x z.empty) (λ z n. ap (times x) n.1)) in
     let failed : (x : ℕ) → times_failed x s.views ≡ times x v.failed = (λ x. mine (λ z. times x z.failed) (λ z n. ap (times x) n.2)) in
@@ -279,11 +279,11 @@ pub begins_so : (e : Extent) (words : List ℕ) → words ≡ opening_words → 
 begins_so e words is any few small = subst (λ (ws : List ℕ). TableKeepsRule e (opening ws [] (fresh_view e.seats e.jobs e.seats))) (sym is) (begins e opening_words any few small refl opening_zero refl)
 
 -- one seat is cut off from several
-pub splits_as : (e : Extent) (id q n w : ℕ) (v : SeatView) → v ≡ fresh_view q n w → 1 < q → Splits (TableKeepsRule e) id v (fresh_view (v.parts - 1) v.jobs v.seats) (fresh_view 1 v.jobs v.seats)
-splits_as e id q n w v is more = subst (λ (u : SeatView). Splits (TableKeepsRule e) id u (fresh_view (u.parts - 1) u.jobs u.seats) (fresh_view 1 u.jobs u.seats)) (sym is) (splits e id (q - 1) q n w (omega arith) (omega arith))
+pub splits_as : (e : Extent) (id q n w : ℕ) (v : SeatView) → v ≡ fresh_view q n w → 1 < q → Splits (TableKeepsRule e) id v (fresh_view (v.members - 1) v.jobs v.seats) (fresh_view 1 v.jobs v.seats)
+splits_as e id q n w v is more = subst (λ (u : SeatView). Splits (TableKeepsRule e) id u (fresh_view (u.members - 1) u.jobs u.seats) (fresh_view 1 u.jobs u.seats)) (sym is) (splits e id (q - 1) q n w (omega arith) (omega arith))
 
 -- what any seat knows at the end
-pub learns_part : (e : Extent) (id : ℕ) (v : SeatView) (s : State (Unit {0}) SeatView) → Seen (TableKeepsRule e) id v s → 0 < v.parts → (x : ℕ) → times x v.drawn ≤ once_below x v.jobs
+pub learns_part : (e : Extent) (id : ℕ) (v : SeatView) (s : State (Unit {0}) SeatView) → Seen (TableKeepsRule e) id v s → 0 < v.members → (x : ℕ) → times x v.drawn ≤ once_below x v.jobs
 learns_part e id v s seen sits x =
     let h = seen.0 in let at = seen.1 in
     let is = (h.drawn.each id v at).same sits in

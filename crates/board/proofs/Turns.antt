@@ -54,7 +54,7 @@ pub passes : (number passed jobs seats : ℕ) (me me' : Me (Unit {0}) SeatView) 
     → IsSeated number (passed + 1) jobs seats me'
 passes number passed jobs seats me me' h lt is slots = record {
   slots = slots ∙ h.slots;
-  one = ap (λ (v : SeatView). v.parts) is ∙ h.one;
+  one = ap (λ (v : SeatView). v.members) is ∙ h.one;
   extent = (ap (λ (v : SeatView). v.jobs) is ∙ h.extent.0, ap (λ (v : SeatView). v.seats) is ∙ h.extent.1);
   within = h.within;
   few = h.few;
@@ -90,7 +90,7 @@ draws_job p x k number passed jobs seats t t' me v' ds h next lt so more before 
 
 -- a seat that has passed some shares may claim from the next one
 pub may_claim : (number passed jobs seats : ℕ) (me : Me (Unit {0}) SeatView) (s : Share) → IsSeated number passed jobs seats me → IsShare jobs seats (share_in_turn seats number passed) s → passed < seats
-    → (s.number < me.0.seats) × (times s.number me.0.empty < me.0.parts)
+    → (s.number < me.0.seats) × (times s.number me.0.empty < me.0.members)
 may_claim number passed jobs seats me s h is lt =
     let k : ℕ = share_in_turn seats number passed in
     let t = turn_new seats number passed lt in let e : times k me.0.empty ≡ times k (shares_in_turn seats number passed) = ap (times k) h.empty in

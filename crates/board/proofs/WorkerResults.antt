@@ -7,7 +7,7 @@ use Rattle.coding.specs.declared.fault.Fault.{Fault}
 use Rattle.board.specs.declared.shift.Shift.{Shift}
 use Rattle.board.specs.Shares.{times}
 use Rattle.board.specs.Progress.{Layout, Progress, HasEachShare, unused_seat, unused_seats}
-use Rattle.board.specs.Finished.{HasSpentAll, IsLeastOf, IsFinished, all_drawn, all_empty, all_done, all_failed, all_skipped, times_spent}
+use Rattle.board.specs.FinishedSeats.{HasSpentAll, IsLeastOf, IsFinished, all_drawn, all_empty, all_done, all_failed, all_skipped, times_spent}
 use Rattle.board.specs.RunAnswer.{IsRefused}
 use Rattle.board.specs.Seats.{IsUnused}
 use Rattle.board.specs.WorkerResult.{IsLeastFailed, IsShift, IsFiled, IsPlaced, HasPlace}

@@ -3,8 +3,8 @@ use Rattle.std.specs.Prelude.{◌≡◌, ℕ, ◌<◌, ◌≤◌, List, length, 
 use Rattle.board.specs.declared.gathered.Gathered.{Gathered}
 use Rattle.board.specs.Shares.{times}
 use Rattle.board.specs.Progress.{Layout, Progress}
-use Rattle.board.specs.Finished.{all_drawn, all_empty, all_failed, all_looked, all_skipped}
-use Rattle.board.specs.Finished.{all_done, times_spent}
+use Rattle.board.specs.FinishedSeats.{all_drawn, all_empty, all_failed, all_looked, all_skipped}
+use Rattle.board.specs.FinishedSeats.{all_done, times_spent}
 use Rattle.board.specs.Seats.{layout}
 
 -- the greatest count
@@ -14,7 +14,7 @@ greatest_count = 18446744073709551615
 -- the seats ps were taken in so far
 pub record Gathers (of : Layout) (g : Gathered) (ps : List Progress) : Type 0 where
   pub board : layout g.token.table_id g.token.me.0.jobs g.token.me.0.seats ≡ of
-  pub parts : g.token.me.0.parts ≡ length ps
+  pub members : g.token.me.0.members ≡ length ps
   pub some : 0 < length ps
   pub drawn : (x : ℕ) → times x g.token.me.0.drawn ≡ times x (all_drawn ps)
   pub empty : (x : ℕ) → times x g.token.me.0.empty ≡ times x (all_empty ps)

@@ -11,11 +11,11 @@ use Rattle.board.specs.Progress.{no_fault}
 use Rattle.board.specs.Words.{total, once_below, share_len, word_of, claims_of, claim_count}
 use Rattle.board.specs.declared.limits.TheConstants.{MAX_JOBS, MAX_WORKERS}
 
--- `parts` seats at which nothing was done
+-- `members` seats at which nothing was done
 abbrev pub fresh_view : ℕ → ℕ → ℕ → SeatView
-fresh_view parts jobs seats =
+fresh_view members jobs seats =
     record {
-      parts = parts;
+      members = members;
       jobs = jobs;
       seats = seats;
       drawn = [];
@@ -44,7 +44,7 @@ has_skipped v x = record v { skipped = v.skipped ++ x ∷ [] }
 -- two views as one
 abbrev pub gathered_views : SeatView → SeatView → SeatView
 gathered_views v w = record {
-  parts = v.parts + w.parts;
+  members = v.members + w.members;
   jobs = v.jobs;
   seats = v.seats;
   drawn = v.drawn ++ w.drawn;
@@ -60,9 +60,9 @@ HasNoLists v = (v.drawn ≡ []) × (v.empty ≡ []) × (v.failed ≡ []) × (v.l
 
 -- What holds of one view. A view of no seat was joined into another one, and has no lists.
 pub record Fits (n w : ℕ) (v : SeatView) : Type 0 where
-  pub same : 0 < v.parts → (v.jobs ≡ n) × (v.seats ≡ w)
-  pub spent : v.parts ≡ 0 → HasNoLists v
-  pub once : (k : ℕ) → times k v.empty ≤ v.parts
+  pub same : 0 < v.members → (v.jobs ≡ n) × (v.seats ≡ w)
+  pub spent : v.members ≡ 0 → HasNoLists v
+  pub once : (k : ℕ) → times k v.empty ≤ v.members
 
 -- how often x is in these lists of all views together
 abbrev pub times_drawn : ℕ → List SeatView → ℕ
@@ -86,7 +86,7 @@ pub record KeepsDrawn (n w : ℕ) (words : List ℕ) (views : List SeatView) : T
   pub seats : (0 < w) × (w ≤ MAX_WORKERS)
   pub jobs : n ≤ MAX_JOBS
   pub wide : length words ≡ 65
-  pub parts : total (λ v. v.parts) views ≡ w
+  pub members : total (λ v. v.members) views ≡ w
   pub each : (i : ℕ) (v : SeatView) → get_elem? views i ≡ some v → Fits n w v
   pub drawn : (x : ℕ) → times_drawn x views ≡ claim_count (start n w) (claims_of w words) x w
   pub empty : (k : ℕ) → 0 < times_empty k views → (k < w) × (share_len n w k ≤ claims_of w words k)

@@ -36,7 +36,7 @@ pub record IsUnused (of : Layout) (p : Progress) : Type 0 where
 -- what the fields of a seat say of its view
 pub record IsSeated (number passed jobs seats : ℕ) (me : Me (Unit {0}) SeatView) : Type 0 where
   pub slots : me.1 ≡ []
-  pub one : me.0.parts ≡ 1
+  pub one : me.0.members ≡ 1
   pub extent : (me.0.jobs ≡ jobs) × (me.0.seats ≡ seats)
   pub within : number < seats
   pub few : (seats ≤ MAX_WORKERS) × (jobs ≤ MAX_JOBS)

@@ -5,7 +5,7 @@ use Rattle.coding.specs.declared.fault.Fault.{Fault}
 use Rattle.board.specs.declared.shift.Shift.{Shift}
 use Rattle.board.specs.Shares.{times}
 use Rattle.board.specs.Progress.{Layout, Progress, HasEachShare, IsUnspent}
-use Rattle.board.specs.Finished.{HasSpentAll, all_empty, all_done, all_failed}
+use Rattle.board.specs.FinishedSeats.{HasSpentAll, all_empty, all_done, all_failed}
 use Rattle.board.specs.RunAnswer.{IsFaultOf, IsResult}
 
 -- the least of the numbers that failed, with a fault of that job; None if none failed

@@ -9,7 +9,8 @@ ghost use Rattle.board.specs.Shares.{IsInShare, times};
 ghost use Rattle.board.specs.Progress.{no_fault, Progress, unused_seats, DrawsJob, DrawsNone};
 ghost use Rattle.board.specs.Progress.{IsUnspent, after_done, after_fail, after_look, after_skip};
 ghost use Rattle.board.specs.Progress.{IsAtMostSeen, fault_word};
-ghost use Rattle.board.specs.Finished.{CountsOf, HasSpentAll, IsFinished, times_spent, all_drawn};
+ghost use Rattle.board.specs.FinishedSeats.{CountsOf, HasSpentAll, IsFinished, times_spent};
+ghost use Rattle.board.specs.FinishedSeats.{all_drawn};
 ghost use Rattle.board.specs.Words.{once_below};
 ghost use Rattle.board.specs.Rule.{fresh_view, view_after_draw, saw_empty, opening_words};
 ghost use Rattle.board.specs.Rule.{has_looked, IsLeastFound, IsWhole, has_looked_for};
@@ -230,7 +231,7 @@ impl Board {
             gathered.old.token.me.0.jobs gathered.old.token.me.0.seats
             ≡ self.now }
         requires seat { seat.board ≡ self.now }
-        requires seats { 0 < gathered.old.token.me.0.parts }
+        requires seats { 0 < gathered.old.token.me.0.members }
         ensures { (ps : List Progress)
             → Gathers self.now gathered.old ps → Gathers self.now gathered.new (seat ∷ ps) }
     {
@@ -257,10 +258,10 @@ impl Board {
     // The fault word after the board was closed.
     fn last_fault(self, token: Token<(), SeatView>) -> u64
         requires board { layout token.table_id token.me.0.jobs token.me.0.seats ≡ self }
-        requires seats { 0 < token.me.0.parts }
+        requires seats { 0 < token.me.0.members }
         ensures once { (x : ℕ) → times x token.me.0.drawn ≤ once_below x token.me.0.jobs }
         ensures few { token.me.0.jobs ≤ MAX_JOBS }
-        ensures whole { token.me.0.parts ≡ token.me.0.seats → IsWhole token.me.0 result }
+        ensures whole { token.me.0.members ≡ token.me.0.seats → IsWhole token.me.0 result }
     {
         let Board { table } = self;
         let closed = table.close_with(token);
@@ -272,7 +273,7 @@ impl Board {
     // The fault word, looked at.
     fn look(&self, token: &mut Token<(), SeatView>) -> u64
         requires board { token.old.table_id ≡ self.now.table }
-        requires seats { 0 < token.old.me.0.parts }
+        requires seats { 0 < token.old.me.0.members }
         ensures token { (token.new.table_id ≡ token.old.table_id)
             × (token.new.me.1 ≡ token.old.me.1) }
         ensures looks { token.new.me.0 ≡ has_looked token.old.me.0 result }
@@ -284,7 +285,7 @@ impl Board {
     // The fault word, looked at for a job. The job counts as skipped if it is above that.
     fn look_for<J: Skipping>(&self, token: &mut Token<(), SeatView>, number: u64) -> u64
         requires board { token.old.table_id ≡ self.now.table }
-        requires seats { 0 < token.old.me.0.parts }
+        requires seats { 0 < token.old.me.0.members }
         requires job { number ≡ J.job }
         ensures token { (token.new.table_id ≡ token.old.table_id)
             × (token.new.me.1 ≡ token.old.me.1) }
@@ -300,7 +301,7 @@ impl Board {
         requires few { (token.old.me.0.seats ≤ MAX_WORKERS) × (token.old.me.0.jobs ≤ MAX_JOBS) }
         requires share { IsShare token.old.me.0.jobs token.old.me.0.seats share.number share }
         requires left { (share.number < token.old.me.0.seats)
-            × (times share.number token.old.me.0.empty < token.old.me.0.parts) }
+            × (times share.number token.old.me.0.empty < token.old.me.0.members) }
         ensures token { (token.new.table_id ≡ token.old.table_id)
             × (token.new.me.1 ≡ token.old.me.1) }
         ensures number { IfSome result (λ x.

@@ -18,9 +18,9 @@ use atomic_table::{Join, Play, Split, TableRule};
 use std::collections::LinkedList;
 use std::marker::{Brand, PhantomData};
 
-// What a seat has done, or `parts` seats together. No value of it is made.
+// What a seat has done, or `members` seats together. No value of it is made.
 pub struct SeatView {
-    pub parts: u64,
+    pub members: u64,
     pub jobs: u64,
     pub seats: u64,
     pub drawn: LinkedList<u64>,
@@ -102,7 +102,7 @@ impl Split<SeatView> for Seating {
     ghost use Rattle.std.specs.Prelude.{◌-◌};
     ghost use Rattle.board.specs.Rule.{fresh_view};
 
-    ghost left = { λ v. fresh_view (v.parts - 1) v.jobs v.seats };
+    ghost left = { λ v. fresh_view (v.members - 1) v.jobs v.seats };
 
     ghost right = { λ v. fresh_view 1 v.jobs v.seats };
 }

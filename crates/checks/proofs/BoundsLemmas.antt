@@ -19,10 +19,10 @@ use Rattle.ikey.specs.Order.{internal_cmp}
 use Rattle.ikey.proofs.Ordered.{internal_cmp-total}
 use Rattle.block.specs.EncodedEntry.{Entry}
 use Rattle.block.specs.BuilderView.{last_key}
-use Rattle.merge.specs.Merged.{entries_of_lists}
+use Rattle.merge.specs.MergedLists.{entries_of_lists}
 use Rattle.split.specs.Ranges.{KeyRange, IsIn}
-use Rattle.table.specs.ReadingCursors.{EntriesRise}
-use Rattle.table.specs.ReadingEntries.{HaveInternalKeys, first_key}
+use Rattle.table.specs.EntriesFrom.{EntriesRise}
+use Rattle.table.specs.EntryTests.{HaveInternalKeys, first_key}
 use Rattle.table.specs.Tallies.{is_twin, has_twins, least_sequence, greatest_sequence, tally_of}
 use Rattle.table.specs.declared.tally.Tally.{Tally}
 use Rattle.table.proofs.CheckedTables.{last_is as table_last}

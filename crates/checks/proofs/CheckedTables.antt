@@ -8,10 +8,11 @@ use Rattle.coding.proofs.Binds.{done, failed}
 use Rattle.coding.specs.declared.fault.Fault.{Fault}
 use Rattle.folder.specs.Calls.{Files}
 use Rattle.folder.specs.LoadedTables.{IsTableOf}
-use Rattle.folder.specs.ReadsAs.{IsHeldIn}
+use Rattle.folder.specs.ReadsAs.{IsFileIn}
 use Rattle.table.specs.TableContents.{contents_reading}
 use Rattle.reads.specs.Tables.{NumberedContents}
-use Rattle.checks.specs.HeldTables.{AreFound, AreReadAs, IsCheckedAnswer, IsFoundAnswer, held_bytes}
+use Rattle.checks.specs.HeldTables.{AreFound, AreReadAs, IsCheckedAnswer, IsFoundAnswer}
+use Rattle.checks.specs.HeldBytes.{held_bytes}
 use Rattle.checks.specs.InOrder.{AreChecked}
 use Rattle.checks.proofs.FoundTables.{found_read, found_tables}
 
@@ -30,7 +31,7 @@ read_more cmp tables i t lt is before one =
 -- ---- the tables that are found are those that are loaded
 
 module _ (cmp : List ℕ → List ℕ → Ordering) (files : Files) where
-  pub found_loaded : (numbers : List ℕ) (tables : List NumberedContents) → AreFound cmp files numbers tables → AllZip (IsTableOf (IsHeldIn files)) numbers (held_bytes tables)
+  pub found_loaded : (numbers : List ℕ) (tables : List NumberedContents) → AreFound cmp files numbers tables → AllZip (IsTableOf (IsFileIn files)) numbers (held_bytes tables)
   found_loaded [] [] h = tt
   found_loaded [] (t ∷ tables) h = absurd h
   found_loaded (n ∷ numbers) [] h = absurd h

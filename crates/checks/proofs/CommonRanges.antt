@@ -8,7 +8,8 @@ use Rattle.std.specs.declared.cmp.Ordering.{Ordering}
 use Rattle.std.specs.declared.cmp.Ordering.TheVariants.{Less, Equal, Greater}
 use Rattle.std.proofs.lemmas.Option.{none-some, same_Some}
 use Rattle.split.specs.Ranges.{KeyRange, IsIn}
-use Rattle.checks.specs.RangeOrder.{IsInBoth, common_of, earlier_bound, later_bound}
+use Rattle.checks.specs.RangeOrder.{common_of, earlier_bound, later_bound}
+use Rattle.checks.specs.CommonRange.{IsInBoth}
 
 pub less_is : (o : Ordering) → is_lt o ≡ true → o ≡ Less
 less_is Less h = refl

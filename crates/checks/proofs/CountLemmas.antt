@@ -6,7 +6,7 @@ use Rattle.std.proofs.lemmas.List.{take_more, take_all}
 use Rattle.table.specs.TableContents.{Contents}
 use Rattle.split.specs.Ranges.{KeyRange}
 use Rattle.edit.specs.declared.meta.FileMeta.{FileMeta}
-use Rattle.checks.specs.NeededFiles.{starts_in}
+use Rattle.checks.specs.FileStarts.{starts_in}
 use Rattle.checks.specs.GroupTest.{AreStatedBy, IsStatedBy, count_of, counts_of}
 
 zip_push : {A B : Type 0} (R : A → B → Type 0) (xs : List A) (ys : List B) (x : A) (y : B) → AllZip R xs ys → R x y → AllZip R (xs ++ x ∷ []) (ys ++ y ∷ [])

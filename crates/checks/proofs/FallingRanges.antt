@@ -12,14 +12,14 @@ use Rattle.board.specs.RunAnswer.{IsRefused, fault_of_run}
 use Rattle.board.specs.declared.pool.RunFault.{RunFault}
 use Rattle.ikey.specs.Key.{IsInternalKey, user_of}
 use Rattle.block.specs.EncodedEntry.{Entry}
-use Rattle.merge.specs.Merged.{entries_of_lists}
+use Rattle.merge.specs.MergedLists.{entries_of_lists}
 use Rattle.split.specs.Ranges.{KeyRange, range_at, IsIn, IsCover}
 use Rattle.keep.specs.InRange.{is_in_range, entries_in, HoldsLaw}
 use Rattle.reads.specs.TableOrder.{IsNewer, IsNewerIn, AreFalling, AreFallingIn}
 use Rattle.reads.proofs.Members.{in_filter, from_filter}
 use Rattle.reads.proofs.Pairs.{Pairs, pairs_from, pairs_to}
 use Rattle.reads.proofs.Ranged.{all_fall, fall_in}
-use Rattle.checks.specs.RangeOrder.{IsInBoth, TellsRange}
+use Rattle.checks.specs.CommonRange.{IsInBoth, TellsRange}
 
 no_both : (b : Bool) → b ≡ true → b ≡ false → ⊥
 no_both b t f = let both : true ≡ false = sym t ∙ f in absurd cc

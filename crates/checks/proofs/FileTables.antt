@@ -18,7 +18,7 @@ use Rattle.reads.specs.TableOrder.{lists_of_files}
 use Rattle.reads.specs.Tables.{NumberedContents, table_entries, table_of_number}
 use Rattle.reads.proofs.Answers.{entries_are}
 use Rattle.reads.proofs.Members.{first_or_later, none_in}
-use Rattle.checks.specs.NeededFiles.{starts_in}
+use Rattle.checks.specs.FileStarts.{starts_in}
 use Rattle.checks.specs.GroupTest.{AreStatedBy, IsStatedBy, IsStatedIn, alone, contents_of_all, count_in, counts_of}
 use Rattle.checks.specs.HeldTables.{AreFound, IsTableIn}
 use Rattle.checks.proofs.FoundTables.{one_table}

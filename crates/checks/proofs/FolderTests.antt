@@ -16,7 +16,7 @@ use Rattle.folder.specs.Folder.{TellsSame}
 use Rattle.folder.specs.Levels.{file_numbers}
 use Rattle.folder.specs.LoadedTables.{IsLoaded, IsTableOf}
 use Rattle.folder.specs.OpenAnswer.{FolderAnswers, IsStopped}
-use Rattle.folder.specs.ReadsAs.{IsHeldIn}
+use Rattle.folder.specs.ReadsAs.{IsFileIn}
 use Rattle.split.specs.Ranges.{IsCover, KeyRange}
 use Rattle.reads.specs.Tables.{NumberedContents}
 use Rattle.reads.specs.TableOrder.{AreAllAdded, AreStandingFiles, IsNeverLawful}
@@ -25,8 +25,8 @@ use Rattle.checks.specs.GroupTest.{IsLawfulIn, IsLawlessIn, IsRangeAnswer, IsRan
 use Rattle.checks.specs.HeldTables.{AreFound, IsFoundAnswer}
 use Rattle.checks.specs.InOrder.{AreChecked}
 use Rattle.checks.specs.NeededFiles.{is_file_needed}
-use Rattle.checks.specs.TestedTables.{IsTested, tested_of}
-use Rattle.checks.specs.declared.tested.Tested.{Tested}
+use Rattle.checks.specs.TestedTables.{IsTested, totals_of}
+use Rattle.checks.specs.declared.version_totals.VersionTotals.{VersionTotals}
 use Rattle.checks.proofs.FileTables.{numbers_in}
 use Rattle.checks.proofs.FoundTables.{checked_parts}
 use Rattle.checks.proofs.LawfulLemmas.{not_checked, sound}
@@ -37,12 +37,12 @@ use Rattle.checks.proofs.SweepLemmas.{all_sound, all_there, lawless}
 pub told_still : (old new : List ℕ → Option (List ℕ) → Type 0) (files : Files) → TellsSame old new → Tells old files → Tells new files
 told_still old new files same tells name held = (λ h. (tells name held).0 ((same name held).1 h), λ h. (same name held).0 ((tells name held).1 h))
 
-turned : (tells : List ℕ → Option (List ℕ) → Type 0) (files : Files) → Tells tells files → TellsSame (IsHeldIn files) tells
+turned : (tells : List ℕ → Option (List ℕ) → Type 0) (files : Files) → Tells tells files → TellsSame (IsFileIn files) tells
 turned tells files h name held = ((h name held).1, (h name held).0)
 
 -- the tables that a folder loads are those of the files that it tells
-pub loaded_in : (tells : List ℕ → Option (List ℕ) → Type 0) (files : Files) (numbers : List ℕ) (r : Result (List (ℕ × List ℕ)) Fault) → Tells tells files → IsLoaded tells numbers r → IsLoaded (IsHeldIn files) numbers r
-loaded_in tells files numbers r h loaded = loaded_before (IsHeldIn files) tells numbers r (turned tells files h) loaded
+pub loaded_in : (tells : List ℕ → Option (List ℕ) → Type 0) (files : Files) (numbers : List ℕ) (r : Result (List (ℕ × List ℕ)) Fault) → Tells tells files → IsLoaded tells numbers r → IsLoaded (IsFileIn files) numbers r
+loaded_in tells files numbers r h loaded = loaded_before (IsFileIn files) tells numbers r (turned tells files h) loaded
 
 -- ---- a range
 
@@ -89,29 +89,29 @@ read_length cmp (t ∷ loaded) tables h =
 
 module _ (cmp : List ℕ → List ℕ → Ordering) (files : Files) (v : State) where
   -- the version is lawful
-  pub tested_ok : (n count : ℕ) → n ≡ length (file_numbers cmp v) → IsLawfulIn cmp files v count → IsTested (IsHeldIn files) cmp v (Ok (record { files = n; entries = count }))
+  pub tested_ok : (n count : ℕ) → n ≡ length (file_numbers cmp v) → IsLawfulIn cmp files v count → IsTested (IsFileIn files) cmp v (Ok (record { files = n; entries = count }))
   tested_ok n count is h =
-      let files_too : n ≡ length h.tables = is ∙ zip_length (IsTableOf (IsHeldIn files)) (file_numbers cmp v) h.loaded h.there ∙ sym (read_length cmp h.loaded h.tables h.read) in
-      let whole : record { files = n; entries = count } ≡ tested_of h.tables = ap₂ (λ (a b : ℕ). let t : Tested = record { files = a; entries = b } in t) files_too h.is in
-      (Ok h.loaded, (h.there, (Ok h.tables, (sound cmp v h.loaded h.tables h.read h.lawful, ap (λ (t : Tested). let r : Result Tested Fault = Ok t in r) whole))))
+      let files_too : n ≡ length h.tables = is ∙ zip_length (IsTableOf (IsFileIn files)) (file_numbers cmp v) h.loaded h.there ∙ sym (read_length cmp h.loaded h.tables h.read) in
+      let whole : record { files = n; entries = count } ≡ totals_of h.tables = ap₂ (λ (a b : ℕ). let t : VersionTotals = record { files = a; entries = b } in t) files_too h.is in
+      (Ok h.loaded, (h.there, (Ok h.tables, (sound cmp v h.loaded h.tables h.read h.lawful, ap (λ (t : VersionTotals). let r : Result VersionTotals Fault = Ok t in r) whole))))
 
   -- its tables aren't all there, or one is invalid
-  pub not_tested : (e : Fault) → AreChecked cmp files (file_numbers cmp v) (Err e) → IsTested (IsHeldIn files) cmp v (Err e)
+  pub not_tested : (e : Fault) → AreChecked cmp files (file_numbers cmp v) (Err e) → IsTested (IsFileIn files) cmp v (Err e)
   not_tested e (Err d, h) = (Err d, (h.0, same_error d e h.1))
     where
-      same_error : (d e : Fault) → failed {A = Unit {0}} e ≡ failed d → failed {A = Tested} e ≡ failed d
-      same_error d e h = let one : e ≡ d = cc h in ap (λ (f : Fault). failed {A = Tested} f) one
+      same_error : (d e : Fault) → failed {A = Unit {0}} e ≡ failed d → failed {A = VersionTotals} e ≡ failed d
+      same_error d e h = let one : e ≡ d = cc h in ap (λ (f : Fault). failed {A = VersionTotals} f) one
   not_tested e (Ok loaded, (there, (Err d, h))) = (Ok loaded, (there, (Err d, (not_checked cmp v loaded d h.0, same_error d e h.1))))
     where
-      same_error : (d e : Fault) → failed {A = Unit {0}} e ≡ failed d → failed {A = Tested} e ≡ failed d
-      same_error d e h = let one : e ≡ d = cc h in ap (λ (f : Fault). failed {A = Tested} f) one
+      same_error : (d e : Fault) → failed {A = Unit {0}} e ≡ failed d → failed {A = VersionTotals} e ≡ failed d
+      same_error d e h = let one : e ≡ d = cc h in ap (λ (f : Fault). failed {A = VersionTotals} f) one
   not_tested e (Ok loaded, (there, (Ok tables, h))) = absurd (no_value e h.1)
     where
       no_value : (e : Fault) → failed {A = Unit {0}} e ≡ done tt → ⊥
       no_value e h = cc
 
   -- it isn't lawful
-  pub not_lawful_tested : IsLawlessIn cmp files v → AreAllAdded cmp v → AreChecked cmp files (file_numbers cmp v) (Ok tt) → IsTested (IsHeldIn files) cmp v (Err (fault Lawless))
+  pub not_lawful_tested : IsLawlessIn cmp files v → AreAllAdded cmp v → AreChecked cmp files (file_numbers cmp v) (Ok tt) → IsTested (IsFileIn files) cmp v (Err (fault Lawless))
   not_lawful_tested never added (Ok loaded, (there, (Ok tables, h))) =
       (Ok loaded, (there, (Err (fault Lawless), ((Ok tables, (h.0, inr (all_there cmp files v loaded tables added there h.0, refl, never loaded tables there h.0))), refl))))
   not_lawful_tested never added (Ok loaded, (there, (Err d, h))) = absurd (no_error d h.1)

@@ -13,7 +13,7 @@ use Rattle.coding.specs.declared.fault.Fault.{Fault}
 use Rattle.table.specs.TableContents.{Contents, blocks_of, contents_of, contents_reading}
 use Rattle.folder.specs.Calls.{Files, ToldFiles}
 use Rattle.folder.specs.LoadedTables.{IsFirstMissing, IsTableAnswer, IsTableOf}
-use Rattle.folder.specs.ReadsAs.{IsHeldIn}
+use Rattle.folder.specs.ReadsAs.{IsFileIn}
 use Rattle.reads.specs.Tables.{NumberedContents, table_of_number}
 use Rattle.reads.proofs.Members.{first_in, first_or_later, later_in, none_in}
 use Rattle.checks.specs.TableReadings.{numbered_reading, tables_reading}
@@ -59,13 +59,13 @@ in_middle : (before : List ℕ) (n : ℕ) (behind : List ℕ) → Contains (befo
 in_middle [] n behind = first_in n behind
 in_middle (m ∷ before) n behind = later_in m (before ++ n ∷ behind) n (in_middle before n behind)
 
-pub same_held : (files : Files) (n : ℕ) (a b : List ℕ) → IsTableAnswer (IsHeldIn files) n (Ok a) → IsTableAnswer (IsHeldIn files) n (Ok b) → a ≡ b
+pub same_held : (files : Files) (n : ℕ) (a b : List ℕ) → IsTableAnswer (IsFileIn files) n (Ok a) → IsTableAnswer (IsFileIn files) n (Ok b) → a ≡ b
 same_held files n a b (inl h) (inl k) = same_Some a b (sym h ∙ k)
 same_held files n a b (inl h) (inr k) = absurd (none-some a (sym k.0 ∙ h))
 same_held files n a b (inr h) (inl k) = absurd (none-some b (sym h.0 ∙ k))
 same_held files n a b (inr h) (inr k) = same_Some a b (sym h.1 ∙ k.1)
 
-pub not_missing : (files : Files) (n : ℕ) (bytes : List ℕ) (e : Fault) → IsTableAnswer (IsHeldIn files) n (Ok bytes) → IsTableAnswer (IsHeldIn files) n (Err e) → ⊥
+pub not_missing : (files : Files) (n : ℕ) (bytes : List ℕ) (e : Fault) → IsTableAnswer (IsFileIn files) n (Ok bytes) → IsTableAnswer (IsFileIn files) n (Err e) → ⊥
 not_missing files n bytes e (inl h) k = none-some bytes (sym k.0 ∙ h)
 not_missing files n bytes e (inr h) k = none-some bytes (sym k.1 ∙ h.1)
 
@@ -76,13 +76,13 @@ module _ (cmp : List ℕ → List ℕ → Ordering) (files : Files) where
       ok_is x y (sym h.read ∙ ap (contents_reading cmp) same ∙ k.read)
 
   -- a table that was loaded and checked
-  table_in : (n : ℕ) (t : ℕ × List ℕ) (x : Contents) → IsTableOf (IsHeldIn files) n t → contents_reading cmp t.1 ≡ Ok x → IsTableIn cmp files n x
+  table_in : (n : ℕ) (t : ℕ × List ℕ) (x : Contents) → IsTableOf (IsFileIn files) n t → contents_reading cmp t.1 ≡ Ok x → IsTableIn cmp files n x
   table_in n t x loaded read = record {
-    there = subst (λ (b : List ℕ). IsTableAnswer (IsHeldIn files) n (Ok b)) (own_bytes cmp t.1 x read) loaded.1;
+    there = subst (λ (b : List ℕ). IsTableAnswer (IsFileIn files) n (Ok b)) (own_bytes cmp t.1 x read) loaded.1;
     read = again cmp t.1 x read;
   }
 
-  pub found_tables : (numbers : List ℕ) (loaded : List (ℕ × List ℕ)) (tables : List NumberedContents) → AllZip (IsTableOf (IsHeldIn files)) numbers loaded → tables_reading cmp loaded ≡ Ok tables → AreFound cmp files numbers tables
+  pub found_tables : (numbers : List ℕ) (loaded : List (ℕ × List ℕ)) (tables : List NumberedContents) → AllZip (IsTableOf (IsFileIn files)) numbers loaded → tables_reading cmp loaded ≡ Ok tables → AreFound cmp files numbers tables
   found_tables [] [] tables h read = subst (λ (ts : List NumberedContents). AreFound cmp files [] ts) (ok_is [] tables read) tt
   found_tables [] (t ∷ loaded) tables h read = absurd h
   found_tables (n ∷ numbers) [] tables h read = absurd h
@@ -120,7 +120,7 @@ module _ (cmp : List ℕ → List ℕ → Ordering) (files : Files) where
   held_unfound numbers is_held tables held h = subst (λ (b : Bool). IsFoundAnswer cmp files numbers (Ok (held_if b tables))) held h
 
   -- tables that were loaded read as those that are found
-  pub found_read : (numbers : List ℕ) (loaded : List (ℕ × List ℕ)) (tables : List NumberedContents) → AllZip (IsTableOf (IsHeldIn files)) numbers loaded → AreFound cmp files numbers tables → tables_reading cmp loaded ≡ Ok tables
+  pub found_read : (numbers : List ℕ) (loaded : List (ℕ × List ℕ)) (tables : List NumberedContents) → AllZip (IsTableOf (IsFileIn files)) numbers loaded → AreFound cmp files numbers tables → tables_reading cmp loaded ≡ Ok tables
   found_read [] [] [] there h = refl
   found_read [] [] (t ∷ tables) there h = absurd h
   found_read [] (b ∷ loaded) tables there h = absurd there
@@ -144,7 +144,7 @@ module _ (cmp : List ℕ → List ℕ → Ordering) (files : Files) where
     | inr later ↦ number_found numbers tables h.1 n later
   ]
 
-  pub none_missing : (numbers : List ℕ) (e : Fault) → IsFirstMissing (IsHeldIn files) numbers e → (tables : List NumberedContents) → AreFound cmp files numbers tables → ⊥
+  pub none_missing : (numbers : List ℕ) (e : Fault) → IsFirstMissing (IsFileIn files) numbers e → (tables : List NumberedContents) → AreFound cmp files numbers tables → ⊥
   none_missing numbers e m tables h =
       let at : Contains numbers m.number = subst (λ (ns : List ℕ). Contains ns m.number) (sym m.parts) (in_middle m.before m.number m.behind) in
       let there = number_found numbers tables h m.number at in

@@ -9,7 +9,7 @@ use Rattle.std.specs.declared.cmp.Ordering.{Ordering}
 use Rattle.std.proofs.lemmas.List.Elements.{All-head, All-tail, filter-append}
 use Rattle.ikey.specs.Key.{user_of}
 use Rattle.block.specs.EncodedEntry.{Entry}
-use Rattle.merge.specs.Merged.{entries_of_lists}
+use Rattle.merge.specs.MergedLists.{entries_of_lists}
 use Rattle.split.specs.Ranges.{KeyRange, IsIn}
 use Rattle.edit.specs.declared.meta.FileMeta.{FileMeta}
 use Rattle.keep.specs.InRange.{entries_in, is_in_range}
@@ -20,7 +20,8 @@ use Rattle.reads.specs.TableOrder.{lists_of_files}
 use Rattle.reads.specs.Tables.{NumberedContents, table_entries}
 use Rattle.reads.proofs.Answers.{entries_are}
 use Rattle.split.specs.Bounds.{is_user_before}
-use Rattle.checks.specs.NeededFiles.{is_file_needed, starts_in}
+use Rattle.checks.specs.NeededFiles.{is_file_needed}
+use Rattle.checks.specs.FileStarts.{starts_in}
 use Rattle.checks.specs.GroupTest.{count_in}
 
 needed_by : (begins earlier ends : Bool) → (begins && not earlier) ≡ true → (begins && (not earlier || not ends)) ≡ true

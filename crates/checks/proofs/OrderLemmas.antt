@@ -11,7 +11,7 @@ use Rattle.coding.specs.declared.fault.FaultName.TheVariants.{Memory}
 use Rattle.coding.specs.declared.fault.Fault.{Fault}
 use Rattle.folder.specs.Calls.{Files}
 use Rattle.folder.specs.LoadedTables.{IsLoaded, IsTableOf}
-use Rattle.folder.specs.ReadsAs.{IsHeldIn}
+use Rattle.folder.specs.ReadsAs.{IsFileIn}
 use Rattle.reads.specs.Tables.{NumberedContents}
 use Rattle.checks.specs.TableReadings.{tables_reading}
 use Rattle.checks.specs.InOrder.{AreChecked, AreCheckedSoFar, IsFirstRefusal}
@@ -43,18 +43,18 @@ module _ (cmp : List ℕ → List ℕ → Ordering) (files : Files) (numbers : L
   none_so_far = record { before = []; loaded = []; parts = refl; read = tt; refusal = ([], refl) }
 
   -- a round more
-  pub round_so_far : (rest round behind : List ℕ) (first found : Option Fault) (loaded : List (ℕ × List ℕ)) → rest ≡ round ++ behind → AreCheckedSoFar cmp files numbers rest first → AllZip (IsTableOf (IsHeldIn files)) round loaded
+  pub round_so_far : (rest round behind : List ℕ) (first found : Option Fault) (loaded : List (ℕ × List ℕ)) → rest ≡ round ++ behind → AreCheckedSoFar cmp files numbers rest first → AllZip (IsTableOf (IsFileIn files)) round loaded
       → ((before : List (ℕ × List ℕ)) → IsFirstRefusal cmp before first → IsFirstRefusal cmp (before ++ loaded) found) → AreCheckedSoFar cmp files numbers behind found
   round_so_far rest round behind first found loaded is h read more = record {
     before = h.before ++ round;
     loaded = h.loaded ++ loaded;
     parts = append_assoc h.before round behind ∙ ap (λ (ns : List ℕ). h.before ++ ns) (sym is) ∙ h.parts;
-    read = zip_append (IsTableOf (IsHeldIn files)) h.before h.loaded round loaded h.read read;
+    read = zip_append (IsTableOf (IsFileIn files)) h.before h.loaded round loaded h.read read;
     refusal = more h.loaded h.refusal;
   }
 
   -- a table of the round is missing
-  pub missing_so_far : (rest round behind : List ℕ) (first : Option Fault) (e : Fault) → rest ≡ round ++ behind → AreCheckedSoFar cmp files numbers rest first → IsLoaded (IsHeldIn files) round (Err e) → AreChecked cmp files numbers (Err e)
+  pub missing_so_far : (rest round behind : List ℕ) (first : Option Fault) (e : Fault) → rest ≡ round ++ behind → AreCheckedSoFar cmp files numbers rest first → IsLoaded (IsFileIn files) round (Err e) → AreChecked cmp files numbers (Err e)
   missing_so_far rest round behind first e is h m = (
     Err e,
     (
@@ -64,7 +64,7 @@ module _ (cmp : List ℕ → List ℕ → Ordering) (files : Files) (numbers : L
         number = m.number;
         behind = m.behind ++ behind;
         parts = sym h.parts ∙ ap (λ (ns : List ℕ). h.before ++ ns) (is ∙ ap (λ (ns : List ℕ). ns ++ behind) m.parts ∙ append_assoc m.before (m.number ∷ m.behind) behind) ∙ sym (append_assoc h.before m.before (m.number ∷ (m.behind ++ behind)));
-        read = zip_append (IsTableOf (IsHeldIn files)) h.before h.loaded m.before m.tables h.read m.read;
+        read = zip_append (IsTableOf (IsFileIn files)) h.before h.loaded m.before m.tables h.read m.read;
         missing = m.missing;
       },
       refl,
@@ -76,10 +76,10 @@ module _ (cmp : List ℕ → List ℕ → Ordering) (files : Files) (numbers : L
 
   -- all of them
   pub refused_at_last : (rest : List ℕ) (e : Fault) → rest ≡ [] → AreCheckedSoFar cmp files numbers rest (Some e) → AreChecked cmp files numbers (Err e)
-  refused_at_last rest e none h = (Ok h.loaded, (subst (λ (ns : List ℕ). AllZip (IsTableOf (IsHeldIn files)) ns h.loaded) (all_before h.before rest h.parts none) h.read, (Err e, (h.refusal, refl))))
+  refused_at_last rest e none h = (Ok h.loaded, (subst (λ (ns : List ℕ). AllZip (IsTableOf (IsFileIn files)) ns h.loaded) (all_before h.before rest h.parts none) h.read, (Err e, (h.refusal, refl))))
 
   pub read_at_last : (rest : List ℕ) → rest ≡ [] → AreCheckedSoFar cmp files numbers rest None → AreChecked cmp files numbers (Ok tt)
-  read_at_last rest none h = (Ok h.loaded, (subst (λ (ns : List ℕ). AllZip (IsTableOf (IsHeldIn files)) ns h.loaded) (all_before h.before rest h.parts none) h.read, (Ok h.refusal.0, (h.refusal.1, refl))))
+  read_at_last rest none h = (Ok h.loaded, (subst (λ (ns : List ℕ). AllZip (IsTableOf (IsFileIn files)) ns h.loaded) (all_before h.before rest h.parts none) h.read, (Ok h.refusal.0, (h.refusal.1, refl))))
 
 -- ---- the first refusal
 

@@ -15,9 +15,10 @@ use Rattle.table.specs.declared.bounds.Bounds.{Bounds}
 use Rattle.folder.specs.Calls.{Files, ToldFiles}
 use Rattle.folder.specs.LoadedTables.{IsTableOf}
 use Rattle.folder.specs.OpenAnswer.{FolderAnswers, IsStopped}
-use Rattle.folder.specs.ReadsAs.{IsHeldIn}
+use Rattle.folder.specs.ReadsAs.{IsFileIn}
 use Rattle.reads.specs.Tables.{NumberedContents}
-use Rattle.checks.specs.TableReadings.{IsInvalid, IsRead, tables_reading}
+use Rattle.checks.specs.TableReadings.{tables_reading}
+use Rattle.checks.specs.TableAnswers.{IsInvalid, IsRead}
 use Rattle.checks.specs.HeldTables.{IsFoundAnswer, held_numbers}
 use Rattle.checks.specs.TablePlaces.{AreBounds}
 use Rattle.checks.proofs.FoundTables.{checked_parts, found_read, found_tables, loaded_numbers, own_bytes, read_numbers}
@@ -51,7 +52,7 @@ module _ (cmp : List ℕ → List ℕ → Ordering) where
 
   -- ---- what is answered of the tables that were loaded
 
-  module _ (files : Files) (numbers : List ℕ) (loaded : List (ℕ × List ℕ)) (there : AllZip (IsTableOf (IsHeldIn files)) numbers loaded) where
+  module _ (files : Files) (numbers : List ℕ) (loaded : List (ℕ × List ℕ)) (there : AllZip (IsTableOf (IsFileIn files)) numbers loaded) where
     pub read_answer : {V : Type 0} (view : V → List NumberedContents) (found : Option V) → MatchOption found (IsInvalid cmp loaded) (λ v. IsRead cmp loaded (view v)) → IsFoundAnswer cmp files numbers (Ok (option_map view found))
     read_answer view None invalid = λ tables h. invalid tables (found_read cmp files numbers loaded tables there h)
     read_answer view (Some v) read = found_tables cmp files numbers loaded (view v) there read

@@ -17,7 +17,7 @@ use Rattle.coding.specs.declared.fault.FaultName.TheVariants.{Missing}
 use Rattle.ikey.specs.Key.{user_of}
 use Rattle.block.specs.EncodedEntry.{Entry}
 use Rattle.table.specs.TableContents.{Contents}
-use Rattle.merge.specs.Merged.{entries_of_lists}
+use Rattle.merge.specs.MergedLists.{entries_of_lists}
 use Rattle.split.specs.Ranges.{IsCover, range_at}
 use Rattle.edit.specs.Version.{State}
 use Rattle.edit.specs.VersionOrder.{added_from, at_level, files_at, in_version_order}
@@ -27,7 +27,7 @@ use Rattle.edit.proofs.Snapshots.{added_from-suc, added_from-zero, one_level}
 use Rattle.folder.specs.Calls.{Files}
 use Rattle.folder.specs.Levels.{by_level, file_numbers, numbers_at}
 use Rattle.folder.specs.LoadedTables.{IsLoaded, IsTableOf}
-use Rattle.folder.specs.ReadsAs.{IsHeldIn}
+use Rattle.folder.specs.ReadsAs.{IsFileIn}
 use Rattle.reads.specs.StatedFiles.{IsStatedFile}
 use Rattle.reads.specs.TableOrder.{AreAllAdded, AreStandingFiles, lists_of_files}
 use Rattle.reads.specs.Tables.{NumberedContents, table_entries, table_of_number, tables_test}
@@ -35,7 +35,7 @@ use Rattle.reads.proofs.Answers.{entries_are}
 use Rattle.reads.proofs.Levels.{all_of}
 use Rattle.reads.proofs.Members.{first_in, first_or_later, in_map, later_in, none_in}
 use Rattle.checks.specs.TableReadings.{tables_reading}
-use Rattle.checks.specs.NeededFiles.{starts_in}
+use Rattle.checks.specs.FileStarts.{starts_in}
 use Rattle.checks.specs.TestedTables.{entry_count}
 use Rattle.checks.specs.GroupTest.{AreRangesSound, AreTablesIn, IsLawfulIn, IsLawlessIn, IsStatedIn, NoTablesFall, count_below, count_in}
 use Rattle.checks.specs.HeldTables.{AreFound, IsTableIn}
@@ -176,7 +176,7 @@ module _ (cmp : List ℕ → List ℕ → Ordering) (files : Files) where
     pub record Built (metas : List FileMeta) : Type 0 where
       pub loaded : List (ℕ × List ℕ)
       pub tables : List NumberedContents
-      pub there : AllZip (IsTableOf (IsHeldIn files)) (numbers_in metas) loaded
+      pub there : AllZip (IsTableOf (IsFileIn files)) (numbers_in metas) loaded
       pub read : tables_reading cmp loaded ≡ Ok tables
 
     built : (metas : List FileMeta) → ((f : FileMeta) → Contains metas f → IsStatedIn cmp files next f) → Built metas
@@ -220,7 +220,7 @@ module _ (cmp : List ℕ → List ℕ → Ordering) (total : IsTotalOrder cmp) (
       record {
         loaded = made.loaded;
         tables = made.tables;
-        there = subst (λ (ns : List ℕ). AllZip (IsTableOf (IsHeldIn files)) ns made.loaded) (sym (all_numbers cmp v)) made.there;
+        there = subst (λ (ns : List ℕ). AllZip (IsTableOf (IsFileIn files)) ns made.loaded) (sym (all_numbers cmp v)) made.there;
         read = made.read;
         lawful = (stand.lawful made.tables).1 (each_stated, fall_in_each cmp boundaries cover (entries_of_lists (lists_of_files made.tables standing)) (λ i le. sound.falls i (below i le) made.tables are));
         is = sound.is made.tables are ∙ counted_all cmp total boundaries made.tables cover standing ∙ sizes_moved made.tables (all_metas cmp v) standing stand.permutation
@@ -258,7 +258,7 @@ module _ (cmp : List ℕ → List ℕ → Ordering) (total : IsTotalOrder cmp) (
 
 -- each file of a version has a table among those that were read
 pub all_there : (cmp : List ℕ → List ℕ → Ordering) (files : Files) (v : State) (loaded : List (ℕ × List ℕ)) (tables : List NumberedContents) → AreAllAdded cmp v
-    → IsLoaded (IsHeldIn files) (file_numbers cmp v) (Ok loaded) → tables_reading cmp loaded ≡ Ok tables → tables_test tables v.files ≡ Ok tt
+    → IsLoaded (IsFileIn files) (file_numbers cmp v) (Ok loaded) → tables_reading cmp loaded ≡ Ok tables → tables_test tables v.files ≡ Ok tt
 all_there cmp files v loaded tables added there read =
     ap (λ (b : Bool). if b then Ok tt else Err (fault Missing)) (all_of (λ (f : NewFile). is_some (table_of_number tables f.meta.number)) v.files each)
   where

@@ -8,16 +8,16 @@ use Rattle.coding.specs.declared.fault.Fault.{Fault}
 use Rattle.coding.specs.declared.fault.FaultName.{FaultName}
 use Rattle.coding.specs.declared.fault.FaultName.TheVariants.{Block, BlockType, Compressed, Device, Empty, Handle, Index, Key, Magic, Order, Range, Short, Size, TooLarge, Trailer}
 use Rattle.block.specs.EncodedEntry.{Entry}
-use Rattle.block.specs.ReadingBlocks.{block_reading}
+use Rattle.block.specs.BlockReading.{block_reading}
 use Rattle.frame.specs.Footer.{footer_reading}
 use Rattle.frame.specs.Handle.{HandleBehind, handle_reading}
 use Rattle.frame.specs.Trailer.{stored_reading}
 use Rattle.frame.specs.declared.handle.BlockHandle.{BlockHandle}
 use Rattle.ikey.specs.Key.{internal_key_reading, tag_of}
 use Rattle.table.specs.TableContents.{blocks_of, blocks_reading, contents_reading, data_reading, index_fits, index_in}
-use Rattle.table.specs.ReadingEntries.{data_test, entries_test, entry_test, is_above, is_some_list}
-use Rattle.table.specs.ReadingIndex.{IndexEntry, block_in, handle_alone, index_entry, index_reading, one_handle, stored_at}
-use Rattle.table.specs.ReadingSteps.{test_result}
+use Rattle.table.specs.EntryTests.{data_test, entries_test, entry_test, is_above, is_some_list}
+use Rattle.table.specs.IndexReading.{IndexEntry, block_in, handle_alone, index_entry, index_reading, one_handle, stored_at}
+use Rattle.table.specs.TestResult.{test_result}
 use Rattle.checks.specs.TableReadings.{numbered_reading, tables_reading}
 
 -- each name but Device

@@ -8,9 +8,10 @@ use Rattle.std.proofs.lemmas.Option.{same_Some, slice_get-get_or, slice_get-map,
 use Rattle.coding.specs.Answers.{◌>>=◌, FailsOrMemory}
 use Rattle.coding.specs.declared.fault.Fault.{Fault}
 use Rattle.coding.proofs.Refusals.{unless_from}
-use Rattle.board.specs.Collected.{collected_results}
+use Rattle.board.specs.CollectedResults.{collected_results}
 use Rattle.reads.specs.Tables.{NumberedContents}
-use Rattle.checks.specs.TableReadings.{numbered_reading, table_answers, tables_reading}
+use Rattle.checks.specs.TableReadings.{numbered_reading, tables_reading}
+use Rattle.checks.specs.TableAnswers.{table_answers}
 use Rattle.checks.proofs.Lent.{lent_table}
 
 pub same_tables : (tables : List NumberedContents) → map (λ t. t) tables ≡ tables

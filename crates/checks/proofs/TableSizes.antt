@@ -15,7 +15,7 @@ use Rattle.coding.specs.declared.fault.FaultName.TheVariants.{BlockType, Compres
 use Rattle.coding.specs.declared.fault.Fault.{Fault}
 use Rattle.block.specs.EncodedEntry.{Entry, EncodedEntry, entries_after, encoded_entry_bytes}
 use Rattle.block.specs.EntryFormat.{FieldReading, encoded_entry_at}
-use Rattle.block.specs.ReadingBlocks.{area_len, block_reading, is_next, encoded_entries_in, encoded_entries_of, restarts_behind, restarts_in, with_mark}
+use Rattle.block.specs.BlockReading.{area_len, block_reading, is_next, encoded_entries_in, encoded_entries_of, restarts_from_place, restarts_in, with_mark}
 use Rattle.frame.specs.Trailer.{stored_reading}
 use Rattle.frame.specs.declared.handle.BlockHandle.{BlockHandle}
 use Rattle.frame.specs.Footer.{footer_reading}
@@ -23,19 +23,19 @@ use Rattle.frame.specs.Handle.{handle_reading}
 use Rattle.ikey.specs.Key.{internal_key_reading}
 use Rattle.reads.specs.Tables.{NumberedContents}
 use Rattle.table.specs.TableContents.{Contents, DataBlock, blocks_of, blocks_reading, contents_of, contents_reading, data_reading, entries_of, index_fits, index_in}
-use Rattle.table.specs.ReadingEntries.{data_test, is_some_list, key_behind}
-use Rattle.table.specs.ReadingIndex.{IndexEntry, block_in, index_entry, index_reading, one_handle, stored_at}
-use Rattle.table.specs.ReadingSteps.{test_result}
+use Rattle.table.specs.EntryTests.{data_test, is_some_list, last_key_after}
+use Rattle.table.specs.IndexReading.{IndexEntry, block_in, index_entry, index_reading, one_handle, stored_at}
+use Rattle.table.specs.TestResult.{test_result}
 use Rattle.checks.specs.TableReadings.{numbered_reading, tables_reading}
 
 -- ---- a block
 
 few_pieces : (n at : ℕ) (restarts bytes : List ℕ) → length (encoded_entries_in n at restarts bytes) ≤ n
 few_pieces zero at restarts bytes = omega arith
-few_pieces (suc n) at restarts bytes = by (encoded_entry_at bytes) (λ p. few_pieces n (at + length (encoded_entry_bytes p.field)) (restarts_behind restarts at) p.rest)
+few_pieces (suc n) at restarts bytes = by (encoded_entry_at bytes) (λ p. few_pieces n (at + length (encoded_entry_bytes p.field)) (restarts_from_place restarts at) p.rest)
   where
-    by : (p : Option (FieldReading EncodedEntry)) → ((p : FieldReading EncodedEntry) → length (encoded_entries_in n (at + length (encoded_entry_bytes p.field)) (restarts_behind restarts at) p.rest) ≤ n)
-        → length (option_map_or (λ p. with_mark (is_next restarts at) p.field ∷ encoded_entries_in n (at + length (encoded_entry_bytes p.field)) (restarts_behind restarts at) p.rest) p []) ≤ suc n
+    by : (p : Option (FieldReading EncodedEntry)) → ((p : FieldReading EncodedEntry) → length (encoded_entries_in n (at + length (encoded_entry_bytes p.field)) (restarts_from_place restarts at) p.rest) ≤ n)
+        → length (option_map_or (λ p. with_mark (is_next restarts at) p.field ∷ encoded_entries_in n (at + length (encoded_entry_bytes p.field)) (restarts_from_place restarts at) p.rest) p []) ≤ suc n
     by None later = omega arith
     by (Some p) later = let few = later p in omega (arith, few)
 
@@ -149,10 +149,10 @@ few_of_blocks cmp n small before [] blocks within h = subst (λ (bs : List DataB
 few_of_blocks cmp n small before (i ∷ is) blocks within h =
     let a = bind_ok (block_in i.stored) _ blocks h in
     let b = bind_ok (data_test cmp before a.0) _ blocks a.2 in
-    let c = bind_ok (blocks_reading cmp (key_behind before a.0) is) _ blocks b.2 in
+    let c = bind_ok (blocks_reading cmp (last_key_after before a.0) is) _ blocks b.2 in
     let first = few_in i.stored a.0 a.1 in
     let fits = within.0 in
-    let later = few_of_blocks cmp n small (key_behind before a.0) is c.0 within.1 c.1 in
+    let later = few_of_blocks cmp n small (last_key_after before a.0) is c.0 within.1 c.1 in
     let both = length-append a.0 (entries_of c.0) in
     subst (λ (bs : List DataBlock). length (entries_of bs) ≤ length (i ∷ is) * 1073741824) (ok_is (record { index_key = i.key; entries = a.0 } ∷ c.0) blocks c.2)
     (omega (arith, first, fits, later, both, small))

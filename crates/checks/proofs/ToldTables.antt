@@ -7,9 +7,10 @@ use Rattle.folder.specs.Calls.{Files, Tells, ToldFiles}
 use Rattle.folder.specs.Folder.{IsToldBy}
 use Rattle.folder.specs.LoadedTables.{IsTableAnswer}
 use Rattle.folder.specs.Names.{old_table_name, table_name}
-use Rattle.folder.specs.ReadsAs.{IsHeldIn}
+use Rattle.folder.specs.ReadsAs.{IsFileIn}
 use Rattle.reads.specs.Tables.{NumberedContents}
-use Rattle.checks.specs.HeldTables.{AreFound, IsToldTable, held_numbers}
+use Rattle.checks.specs.HeldTables.{AreFound, held_numbers}
+use Rattle.checks.specs.HeldBytes.{IsToldTable}
 
 -- the table of a number, as whatever tells more tells it
 answered_by : (one other : ToldFiles) → IsToldBy one other → (n : ℕ) (bytes : List ℕ) → IsTableAnswer one n (Ok bytes) → IsTableAnswer other n (Ok bytes)
@@ -34,7 +35,7 @@ module _ (cmp : List ℕ → List ℕ → Ordering) where
   told_found tells files told [] (n ∷ numbers) h = absurd h
   told_found tells files told (t ∷ tables) [] h = absurd h
   told_found tells files told (t ∷ tables) (n ∷ numbers) h =
-      ((h.0.numbered, record { there = answered_by tells (IsHeldIn files) (λ name held. (told name held).0) n t.contents.bytes h.0.there; read = h.0.read }), told_found tells files told tables numbers h.1)
+      ((h.0.numbered, record { there = answered_by tells (IsFileIn files) (λ name held. (told name held).0) n t.contents.bytes h.0.there; read = h.0.read }), told_found tells files told tables numbers h.1)
 
   pub told_numbers : (tells : ToldFiles) (tables : List NumberedContents) (numbers : List ℕ) → AllZip (IsToldTable cmp tells) tables numbers → held_numbers tables ≡ numbers
   told_numbers tells [] [] h = refl

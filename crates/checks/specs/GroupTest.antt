@@ -6,21 +6,22 @@ use Rattle.std.specs.declared.cmp.Ordering.{Ordering}
 use Rattle.coding.specs.declared.fault.Fault.{Fault}
 use Rattle.block.specs.EncodedEntry.{Entry}
 use Rattle.table.specs.TableContents.{Contents}
-use Rattle.merge.specs.Merged.{entries_of_lists}
+use Rattle.merge.specs.MergedLists.{entries_of_lists}
 use Rattle.split.specs.Ranges.{KeyRange, IsIn, range_at}
 use Rattle.edit.specs.Version.{State}
 use Rattle.edit.specs.declared.meta.FileMeta.{FileMeta}
 use Rattle.folder.specs.Calls.{Files}
 use Rattle.folder.specs.Levels.{file_numbers}
 use Rattle.folder.specs.LoadedTables.{IsLoaded}
-use Rattle.folder.specs.ReadsAs.{IsHeldIn}
+use Rattle.folder.specs.ReadsAs.{IsFileIn}
 use Rattle.reads.specs.Lawful.{IsLawful}
 use Rattle.reads.specs.StatedFiles.{IsStatedFile}
 use Rattle.reads.specs.TableOrder.{AreAllAdded, AreFalling, AreFallingIn, lists_of_files}
 use Rattle.reads.specs.Tables.{NumberedContents, table_of_number, table_entries}
 use Rattle.checks.specs.TableReadings.{tables_reading}
 use Rattle.checks.specs.HeldTables.{IsTableIn}
-use Rattle.checks.specs.NeededFiles.{is_file_needed, starts_in}
+use Rattle.checks.specs.NeededFiles.{is_file_needed}
+use Rattle.checks.specs.FileStarts.{starts_in}
 use Rattle.checks.specs.TestedTables.{entry_count}
 
 -- ---- tables by themselves
@@ -175,7 +176,7 @@ pub record IsLawfulIn (cmp : List ℕ → List ℕ → Ordering) (files : Files)
     : Type 0 where
   pub loaded : List (ℕ × List ℕ)
   pub tables : List NumberedContents
-  pub there : IsLoaded (IsHeldIn files) (file_numbers cmp v) (Ok loaded)
+  pub there : IsLoaded (IsFileIn files) (file_numbers cmp v) (Ok loaded)
   pub read : tables_reading cmp loaded ≡ Ok tables
   pub lawful : IsLawful cmp v tables
   pub is : count ≡ entry_count tables
@@ -184,7 +185,7 @@ pub record IsLawfulIn (cmp : List ℕ → List ℕ → Ordering) (files : Files)
 abbrev pub IsLawlessIn : (List ℕ → List ℕ → Ordering) → Files → State → Type 0
 IsLawlessIn cmp files v =
     (loaded : List (ℕ × List ℕ)) (tables : List NumberedContents) →
-    IsLoaded (IsHeldIn files) (file_numbers cmp v) (Ok loaded) →
+    IsLoaded (IsFileIn files) (file_numbers cmp v) (Ok loaded) →
     tables_reading cmp loaded ≡ Ok tables → IsLawful cmp v tables → ⊥
 
 -- what the test of all ranges answers

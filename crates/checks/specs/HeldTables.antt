@@ -6,24 +6,17 @@ use Rattle.std.specs.declared.cmp.Ordering.{Ordering}
 use Rattle.coding.specs.Answers.{IsThen}
 use Rattle.coding.specs.declared.fault.Fault.{Fault}
 use Rattle.table.specs.TableContents.{Contents, contents_reading}
-use Rattle.folder.specs.Calls.{Files, ToldFiles}
+use Rattle.folder.specs.Calls.{Files}
 use Rattle.folder.specs.LoadedTables.{IsLoaded, IsTableAnswer}
-use Rattle.folder.specs.ReadsAs.{IsHeldIn}
+use Rattle.folder.specs.ReadsAs.{IsFileIn}
 use Rattle.reads.specs.Tables.{NumberedContents}
 use Rattle.checks.specs.TableReadings.{tables_reading}
 
 -- the table of a number among these files, and what it holds
 pub record IsTableIn (cmp : List ℕ → List ℕ → Ordering) (files : Files) (number : ℕ) (x : Contents)
     : Type 0 where
-  pub there : IsTableAnswer (IsHeldIn files) number (Ok x.bytes)
+  pub there : IsTableAnswer (IsFileIn files) number (Ok x.bytes)
   pub read : contents_reading cmp x.bytes ≡ Ok x
-
--- what the table of a number holds, as a folder tells it
-pub record IsToldTable (cmp : List ℕ → List ℕ → Ordering) (tells : ToldFiles) (t : NumberedContents)
-    (number : ℕ) : Type 0 where
-  pub numbered : t.number ≡ number
-  pub there : IsTableAnswer tells number (Ok t.contents.bytes)
-  pub read : contents_reading cmp t.contents.bytes ≡ Ok t.contents
 
 -- the numbers of tables
 abbrev pub held_numbers : List NumberedContents → List ℕ
@@ -40,10 +33,6 @@ AreFound cmp files numbers tables =
     AllZip (λ (n : ℕ) (t : NumberedContents). (t.number ≡ n) × IsTableIn cmp files n t.contents)
     numbers tables
 
--- the numbers and the bytes of tables
-abbrev pub held_bytes : List NumberedContents → List (ℕ × List ℕ)
-held_bytes tables = map (λ (t : NumberedContents). (t.number, t.contents.bytes)) tables
-
 -- the bytes of each table read as what it holds
 abbrev pub AreReadAs : (List ℕ → List ℕ → Ordering) → List NumberedContents → Type 0
 AreReadAs cmp tables =
@@ -54,7 +43,7 @@ AreReadAs cmp tables =
 abbrev pub IsCheckedAnswer : (List ℕ → List ℕ → Ordering) → Files → List ℕ →
     Result (List NumberedContents) Fault → Type 0
 IsCheckedAnswer cmp files numbers =
-    IsThen (IsLoaded (IsHeldIn files) numbers) (λ loaded answer. tables_reading cmp loaded ≡ answer)
+    IsThen (IsLoaded (IsFileIn files) numbers) (λ loaded answer. tables_reading cmp loaded ≡ answer)
 
 -- the tables of the numbers; None if one of them is missing or invalid
 abbrev pub IsFoundAnswer : (List ℕ → List ℕ → Ordering) → Files → List ℕ →

@@ -6,7 +6,7 @@ use Rattle.coding.specs.Answers.{IsThen}
 use Rattle.coding.specs.declared.fault.Fault.{Fault}
 use Rattle.folder.specs.Calls.{Files}
 use Rattle.folder.specs.LoadedTables.{IsLoaded, IsTableOf}
-use Rattle.folder.specs.ReadsAs.{IsHeldIn}
+use Rattle.folder.specs.ReadsAs.{IsFileIn}
 use Rattle.reads.specs.Tables.{NumberedContents}
 use Rattle.checks.specs.TableReadings.{tables_reading}
 
@@ -14,7 +14,7 @@ use Rattle.checks.specs.TableReadings.{tables_reading}
 abbrev pub AreChecked : (List ℕ → List ℕ → Ordering) → Files → List ℕ → Result (Unit {0}) Fault →
     Type 0
 AreChecked cmp files numbers =
-    IsThen (IsLoaded (IsHeldIn files) numbers) (λ loaded.
+    IsThen (IsLoaded (IsFileIn files) numbers) (λ loaded.
     IsThen (λ checked. tables_reading cmp loaded ≡ checked) (λ tables answer. answer ≡ Ok tt))
 
 -- the refusal of the first invalid table, if one is
@@ -30,5 +30,5 @@ pub record AreCheckedSoFar (cmp : List ℕ → List ℕ → Ordering) (files : F
   pub before : List ℕ
   pub loaded : List (ℕ × List ℕ)
   pub parts : before ++ rest ≡ numbers
-  pub read : AllZip (IsTableOf (IsHeldIn files)) before loaded
+  pub read : AllZip (IsTableOf (IsFileIn files)) before loaded
   pub refusal : IsFirstRefusal cmp loaded first

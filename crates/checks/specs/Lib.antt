@@ -11,3 +11,7 @@ pub mod Takers
 pub mod TablePlaces
 pub mod GroupTest
 pub mod InOrder
+pub mod TableAnswers
+pub mod FileStarts
+pub mod HeldBytes
+pub mod CommonRange

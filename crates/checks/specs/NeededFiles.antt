@@ -6,11 +6,6 @@ use Rattle.split.specs.Bounds.{is_user_before}
 use Rattle.split.specs.Ranges.{KeyRange}
 use Rattle.edit.specs.declared.meta.FileMeta.{FileMeta}
 
--- whether a file begins in a range
-abbrev pub starts_in : (List ℕ → List ℕ → Ordering) → KeyRange → FileMeta → Bool
-starts_in cmp range f = is_user_before cmp range.upper true (user_of f.smallest)
-    && not (is_user_before cmp range.lower false (user_of f.smallest))
-
 -- whether a file begins in a range, or begins before it and doesn't end before it
 abbrev pub is_file_needed : (List ℕ → List ℕ → Ordering) → KeyRange → FileMeta → Bool
 is_file_needed cmp range f = is_user_before cmp range.upper true (user_of f.smallest)

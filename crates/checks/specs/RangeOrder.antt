@@ -1,23 +1,9 @@
 -- What a walk over one range of user keys finds.
-use Rattle.std.specs.Prelude.{◌≡◌, ◌↔◌, ℕ, Bool, true, List, Option, Some, None}
+use Rattle.std.specs.Prelude.{ℕ, List, Option, Some, None}
 use Rattle.std.specs.Prelude.{if◌then◌else◌}
 use Rattle.std.specs.Ordering.{is_lt}
 use Rattle.std.specs.declared.cmp.Ordering.{Ordering}
-use Rattle.block.specs.EncodedEntry.{Entry}
-use Rattle.merge.specs.Merged.{entries_of_lists}
-use Rattle.split.specs.Ranges.{KeyRange, range_at, IsIn}
-use Rattle.reads.specs.TableOrder.{AreFallingIn}
-
--- the user key is in both ranges
-abbrev pub IsInBoth : (List ℕ → List ℕ → Ordering) → KeyRange → KeyRange → List ℕ → Type 0
-IsInBoth cmp one two key = IsIn cmp one key × IsIn cmp two key
-
--- whether the entries of the lists, read one after the other, fall in what `within` has of the
--- range of this number
-abbrev pub TellsRange : (List ℕ → List ℕ → Ordering) → KeyRange → List (List ℕ) →
-    List (List Entry) → ℕ → Bool → Type 0
-TellsRange cmp within boundaries lists number falls = (falls ≡ true)
-    ↔ AreFallingIn (IsInBoth cmp within (range_at boundaries number)) (entries_of_lists lists)
+use Rattle.split.specs.Ranges.{KeyRange}
 
 -- the later of two lower bounds
 abbrev pub later_bound : (List ℕ → List ℕ → Ordering) → Option (List ℕ) → Option (List ℕ) →

@@ -6,10 +6,10 @@ use Rattle.block.specs.EncodedEntry.{Entry}
 use Rattle.block.specs.BuilderView.{last_key}
 use Rattle.ikey.specs.Comparator.{KeyOrder}
 use Rattle.ikey.specs.Key.{user_of}
-use Rattle.merge.specs.Merged.{entries_of_lists}
+use Rattle.merge.specs.MergedLists.{entries_of_lists}
 use Rattle.split.specs.Ranges.{KeyRange, IsIn}
-use Rattle.table.specs.ReadingCursors.{EntriesRise}
-use Rattle.table.specs.ReadingEntries.{HaveInternalKeys, first_key}
+use Rattle.table.specs.EntriesFrom.{EntriesRise}
+use Rattle.table.specs.EntryTests.{HaveInternalKeys, first_key}
 use Rattle.table.specs.Tallies.{has_twins, least_sequence, greatest_sequence}
 use Rattle.reads.specs.Lawful.{AreNewer}
 use Rattle.reads.specs.TableOrder.{AreFalling, AreFallingIn}

@@ -1,5 +1,5 @@
 -- The tables of a version, each checked.
-use Rattle.std.specs.Prelude.{◌≡◌, ℕ, List, [], ◌∷◌, map, Result, Ok}
+use Rattle.std.specs.Prelude.{ℕ, List, [], ◌∷◌, Result, Ok}
 use Rattle.std.specs.declared.cmp.Ordering.{Ordering}
 use Rattle.coding.specs.Answers.{◌>>=◌}
 use Rattle.coding.specs.declared.fault.Fault.{Fault}
@@ -20,17 +20,3 @@ tables_reading cmp (t ∷ ts) = do
   first ← numbered_reading cmp t
   others ← tables_reading cmp ts
   Ok (first ∷ others)
-
--- the answer for each table by itself
-abbrev pub table_answers : (List ℕ → List ℕ → Ordering) → List (ℕ × List ℕ) →
-    List (Result NumberedContents Fault)
-table_answers cmp tables = map (numbered_reading cmp) tables
-
--- these tables are read, each is valid
-abbrev pub IsRead : (List ℕ → List ℕ → Ordering) → List (ℕ × List ℕ) → List NumberedContents →
-    Type 0
-IsRead cmp loaded tables = tables_reading cmp loaded ≡ Ok tables
-
--- one of the tables is invalid
-abbrev pub IsInvalid : (List ℕ → List ℕ → Ordering) → List (ℕ × List ℕ) → Type 0
-IsInvalid cmp loaded = (tables : List NumberedContents) → IsRead cmp loaded tables → ⊥

@@ -9,20 +9,20 @@ use Rattle.folder.specs.Levels.{file_numbers}
 use Rattle.folder.specs.LoadedTables.{IsLoaded}
 use Rattle.reads.specs.Tables.{NumberedContents}
 use Rattle.checks.specs.LawfulTables.{IsLawfulTables}
-use Rattle.checks.specs.declared.tested.Tested.{Tested}
+use Rattle.checks.specs.declared.version_totals.VersionTotals.{VersionTotals}
 
 -- the number of entries in all these tables
 abbrev pub entry_count : List NumberedContents → ℕ
 entry_count tables = length (flat_map (λ t. t.contents.entries) tables)
 
 -- how many tables these are, and how many entries they have
-abbrev pub tested_of : List NumberedContents → Tested
-tested_of tables = record { files = length tables; entries = entry_count tables }
+abbrev pub totals_of : List NumberedContents → VersionTotals
+totals_of tables = record { files = length tables; entries = entry_count tables }
 
 -- What the test of a version answers, with the tables that a folder tells. All of them are read, by
 -- level and in version order; then each is checked; then the version is lawful with them.
 abbrev pub IsTested : (List ℕ → Option (List ℕ) → Type 0) → (List ℕ → List ℕ → Ordering) → State →
-    Result Tested Fault → Type 0
+    Result VersionTotals Fault → Type 0
 IsTested tells cmp v =
     IsThen (IsLoaded tells (file_numbers cmp v)) (λ loaded.
-    IsThen (IsLawfulTables cmp v loaded) (λ tables answer. answer ≡ Ok (tested_of tables)))
+    IsThen (IsLawfulTables cmp v loaded) (λ tables answer. answer ≡ Ok (totals_of tables)))

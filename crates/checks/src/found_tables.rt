@@ -9,7 +9,7 @@ ghost use Rattle.table.specs.SoundTables.{IsCheckedTable};
 ghost use Rattle.folder.specs.Calls.{Files, Tells};
 ghost use Rattle.folder.specs.OpenAnswer.{FolderAnswers};
 ghost use Rattle.folder.specs.Reports.{OnlyReads, ReportsDevice};
-ghost use Rattle.checks.specs.TableReadings.{IsInvalid, IsRead};
+ghost use Rattle.checks.specs.TableAnswers.{IsInvalid, IsRead};
 ghost use Rattle.checks.specs.HeldTables.{IsFoundAnswer, held_numbers};
 ghost use Rattle.checks.specs.TablePlaces.{AreBounds, IsLoadedIfThere};
 ghost use Rattle.board.specs.declared.limits.TheConstants.{MAX_WORKERS};

@@ -11,7 +11,7 @@ ghost use Rattle.board.specs.declared.limits.TheConstants.{MAX_WORKERS};
 
 use crate::found_tables::read_tables;
 use crate::held_table::HeldTable;
-use crate::table_places::{kept_places, placed_tables, wanted_numbers};
+use crate::table_places::{placed_tables, reused_places, wanted_numbers};
 use board::Gate;
 use coding::Fault;
 use folder::ReadsTables;
@@ -132,7 +132,7 @@ pub(crate) fn hold_tables<C: SharedComparator, F: ReadsTables, G: Gate + Sync, R
     ensures device { ReportsDevice F.Folder folder.old folder.new result }
     ensures reads { OnlyReads F.Folder folder.old folder.new }
 {
-    let places = kept_places(alloc, held.tables, numbers)?;
+    let places = reused_places(alloc, held.tables, numbers)?;
     let wanted = wanted_numbers(alloc, &places)?;
     let found = read_tables::<C, F, G, R>(rt, alloc, folder, &wanted, workers, gate)?;
     let Some(fresh) = found else {

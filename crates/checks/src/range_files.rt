@@ -4,7 +4,8 @@ ghost use Rattle.std.specs.Prelude.{◌≡◌, filter, map, Ok, IfOk, IfErr};
 ghost use Rattle.coding.specs.Answers.{EqualOrMemory, fault};
 ghost use Rattle.coding.specs.declared.fault.FaultName.TheVariants.{Memory};
 ghost use Rattle.split.specs.Ranges.{key_range};
-ghost use Rattle.checks.specs.NeededFiles.{is_file_needed, starts_in};
+ghost use Rattle.checks.specs.NeededFiles.{is_file_needed};
+ghost use Rattle.checks.specs.FileStarts.{starts_in};
 
 use coding::Fault;
 use edit::FileMeta;

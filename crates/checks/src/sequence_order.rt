@@ -4,10 +4,10 @@ ghost use Rattle.std.specs.Prelude.{◌≡◌, ◌↔◌, ◌+◌, ◌<◌, ◌�
 ghost use Rattle.std.specs.List.{list_all};
 ghost use Rattle.coding.specs.Answers.{fault};
 ghost use Rattle.coding.specs.declared.fault.FaultName.TheVariants.{Memory};
-ghost use Rattle.merge.specs.Merged.{entries_of_lists};
+ghost use Rattle.merge.specs.MergedLists.{entries_of_lists};
 ghost use Rattle.split.specs.Ranges.{IsCover, IsIn, key_range};
 ghost use Rattle.reads.specs.TableOrder.{AreFalling, AreFallingIn};
-ghost use Rattle.checks.specs.RangeOrder.{TellsRange};
+ghost use Rattle.checks.specs.CommonRange.{TellsRange};
 ghost use Rattle.board.specs.declared.limits.TheConstants.{MAX_WORKERS};
 
 use crate::range_intersection::common_range;
@@ -37,7 +37,7 @@ impl<'r, 't, C: Comparator + 't + 'static> Labour for Falls<'r, 't, C> {
 
     ghost use Rattle.std.specs.Prelude.{◌+◌, None, length, map};
     ghost use Rattle.split.specs.Ranges.{key_range};
-    ghost use Rattle.checks.specs.RangeOrder.{TellsRange};
+    ghost use Rattle.checks.specs.CommonRange.{TellsRange};
 
     ghost jobs = { λ s. length s.split.now + 1 };
 

@@ -3,7 +3,8 @@
 ghost use Rattle.std.specs.Prelude.{◌≡◌, ◌<◌, ◌≤◌, length, map, slice_get, Some, Result};
 ghost use Rattle.coding.specs.Answers.{EqualOrMemory};
 ghost use Rattle.reads.specs.Tables.{NumberedContents};
-ghost use Rattle.checks.specs.TableReadings.{numbered_reading, table_answers, tables_reading};
+ghost use Rattle.checks.specs.TableReadings.{numbered_reading, tables_reading};
+ghost use Rattle.checks.specs.TableAnswers.{table_answers};
 ghost use Rattle.board.specs.declared.limits.TheConstants.{MAX_JOBS, MAX_WORKERS};
 
 use board::{Gate, Labour, run};
@@ -27,8 +28,8 @@ impl<'t, C: Comparator> Labour for Checks<'t, C> {
     type Out = NumberedTable<'t, C>;
 
     ghost use Rattle.std.specs.Prelude.{length, map};
-    ghost use Rattle.board.specs.Collected.{refusal_at, HasValue};
-    ghost use Rattle.checks.specs.TableReadings.{table_answers};
+    ghost use Rattle.board.specs.CollectedResults.{refusal_at, HasValue};
+    ghost use Rattle.checks.specs.TableAnswers.{table_answers};
 
     ghost jobs = { λ s. length s.loaded.now };
 

@@ -61,7 +61,7 @@ impl<C: Comparator> TablePlace<C> {
 
 /// The places of the tables with these numbers, in order. Each has the held table of its number, if
 /// there is one. The other held tables are dropped. The only fault is Memory.
-pub(crate) fn kept_places<C: Comparator>(
+pub(crate) fn reused_places<C: Comparator>(
     alloc: Global,
     held: Vec<HeldTable<C>>,
     numbers: &[u64],

@@ -13,7 +13,7 @@ use board::Gate;
 use coding::{Fault, FaultName};
 use edit::Version;
 use ikey::SharedComparator;
-use reads::{NumberedTable, standing_tables};
+use reads::{NumberedTable, tables_newest_first};
 use std::alloc::Global;
 use std::thread::Threads;
 
@@ -58,7 +58,7 @@ fn lawful<'t, C: SharedComparator + 'static, G: Gate + Sync, R: Threads + Sync>(
     ensures { MatchResult result (λ none. IsLawful C.cmp version.now tables.now)
         (λ e. UnlessMemory e (IsUnlawful C.cmp version.now tables.now e)) }
 {
-    let standing = standing_tables(alloc, version, tables)?;
+    let standing = tables_newest_first(alloc, version, tables)?;
     if !all_entries_fall(rt, alloc, &standing, workers, gate)? {
         return Err(Fault::of(FaultName::Lawless));
     }

@@ -3,7 +3,7 @@
 ghost use Rattle.std.specs.Prelude.{◌<◌, ◌≤◌, IfOk};
 ghost use Rattle.folder.specs.Calls.{Files, Tells};
 ghost use Rattle.folder.specs.OpenAnswer.{FolderAnswers};
-ghost use Rattle.folder.specs.ReadsAs.{IsHeldIn};
+ghost use Rattle.folder.specs.ReadsAs.{IsFileIn};
 ghost use Rattle.folder.specs.Reports.{OnlyReads, ReportsDevice};
 ghost use Rattle.checks.specs.GroupTest.{IsSweepAnswer};
 ghost use Rattle.checks.specs.HeldTables.{AreHeldIn};
@@ -15,15 +15,15 @@ use crate::first_refusal::check_in_order;
 use crate::held_tables::HeldTables;
 use crate::range_test::test_ranges;
 use crate::rounds::MAX_TABLES;
-use crate::tested::Tested;
 use crate::tested_version::TestedVersion;
+use crate::version_totals::VersionTotals;
 use crate::watch::{Watch, Work};
 use board::Gate;
 use coding::{Fault, FaultName};
 use edit::Version;
 use folder::{ReadsTables, file_numbers};
 use ikey::SharedComparator;
-use reads::standing_files;
+use reads::files_newest_first;
 use std::alloc::Global;
 use std::thread::Threads;
 
@@ -58,12 +58,12 @@ pub fn test_version<
     memory: u64,
     workers: u64,
     watch: &W,
-) -> Result<Tested, Fault>
+) -> Result<VersionTotals, Fault>
     requires some { 0 < workers }
     requires few { workers ≤ MAX_WORKERS }
     ensures answer { (files : Files) → Tells (F.tells folder.old) files →
         FolderAnswers (λ tested. tested) (F.failed folder.old) (F.failed folder.new) result
-        (IsTested (IsHeldIn files) C.cmp version.now) }
+        (IsTested (IsFileIn files) C.cmp version.now) }
     ensures device { ReportsDevice F.Folder folder.old folder.new result }
     ensures reads { OnlyReads F.Folder folder.old folder.new }
 {
@@ -92,7 +92,7 @@ pub fn test_and_hold<
     requires few { workers ≤ MAX_WORKERS }
     ensures answer { (files : Files) → Tells (F.tells folder.old) files →
         FolderAnswers (λ found. found.tested) (F.failed folder.old) (F.failed folder.new) result
-        (IsTested (IsHeldIn files) C.cmp version.now) }
+        (IsTested (IsFileIn files) C.cmp version.now) }
     ensures held { (files : Files) → Tells (F.tells folder.old) files →
         IfOk result (λ found. AreHeldIn C.cmp files found.tables) }
     ensures device { ReportsDevice F.Folder folder.old folder.new result }
@@ -113,7 +113,7 @@ pub fn test_and_hold<
     )?;
     if let Some(entries) = found {
         let files = numbers.len();
-        let tested = Tested { files, entries };
+        let tested = VersionTotals { files, entries };
         return Ok(TestedVersion { tested, tables });
     }
     drop(tables);
@@ -144,7 +144,7 @@ fn tested_entries<C: SharedComparator + 'static, F: ReadsTables, G: Gate + Sync,
     ensures device { ReportsDevice F.Folder folder.old folder.new result }
     ensures reads { OnlyReads F.Folder folder.old folder.new }
 {
-    let Some(standing) = standing_files::<C>(alloc, version)? else {
+    let Some(standing) = files_newest_first::<C>(alloc, version)? else {
         return Ok(None);
     };
     if standing.len() > MAX_TABLES {

@@ -7,7 +7,7 @@ ghost use Rattle.std.specs.List.{AllZip};
 ghost use Rattle.coding.specs.Answers.{fault};
 ghost use Rattle.coding.specs.declared.fault.FaultName.TheVariants.{Memory};
 ghost use Rattle.table.specs.TableContents.{contents_reading};
-ghost use Rattle.checks.specs.HeldTables.{IsToldTable};
+ghost use Rattle.checks.specs.HeldBytes.{IsToldTable};
 ghost use Rattle.board.specs.declared.limits.TheConstants.{MAX_WORKERS};
 
 use crate::held_table::HeldTable;
@@ -34,7 +34,7 @@ impl<'p, C: Comparator, D: TableReader> Labour for TablesToCheck<'p, C, D> {
     type Out = HeldTable<C>;
 
     ghost use Rattle.std.specs.Prelude.{length, slice_get, None, IfSome};
-    ghost use Rattle.checks.specs.HeldTables.{IsToldTable};
+    ghost use Rattle.checks.specs.HeldBytes.{IsToldTable};
 
     ghost jobs = { λ s. length s.numbers.now };
 

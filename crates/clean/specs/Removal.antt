@@ -27,7 +27,7 @@ removed_by (Done (Removed name) ∷ steps) = name ∷ removed_by steps
 removed_by (step ∷ steps) = removed_by steps
 
 -- The calls were made in their order, up to one that failed. Each file that they removed was told.
-pub record IsToldRun {W T E : Type 0} (tells : W → List ℕ → W → Type 0) (calls : List Call)
+pub record IsToldRemoval {W T E : Type 0} (tells : W → List ℕ → W → Type 0) (calls : List Call)
     (before after : List Step) (old new : ToldFiles) (told told_now : W) (result : Result T E)
     : Type 0 where
   pub runs : MakesCalls calls before after old new result
@@ -48,7 +48,7 @@ pub record AreRemoved {W T : Type 0} (tells : W → List ℕ → W → Type 0) (
     (told told_now : W) (result : Result T Fault) : Type 0 where
   pub removed : List (List ℕ)
   pub obsolete : AreObsolete cmp v manifest names removed
-  pub run : IsToldRun tells (removal_calls removed) before after old new told told_now result
+  pub run : IsToldRemoval tells (removal_calls removed) before after old new told told_now result
 
 -- What calls that remove files leave of a version with these tables, by the manifest that CURRENT
 -- names.

@@ -7,7 +7,7 @@ ghost use Rattle.folder.specs.Folder.{failures_after};
 ghost use Rattle.folder.specs.OpenAnswer.{IsStopped};
 ghost use Rattle.folder.specs.Orders.{order_cmp};
 ghost use Rattle.folder.specs.Reports.{ReportsDevice};
-ghost use Rattle.clean.specs.Removal.{AreRemoved, IsNothingRemoved, IsToldRun, StaysAs};
+ghost use Rattle.clean.specs.Removal.{AreRemoved, IsNothingRemoved, IsToldRemoval, StaysAs};
 ghost use Rattle.clean.specs.Removal.{removal_calls};
 
 use crate::obsolete_files::obsolete_names;
@@ -60,7 +60,7 @@ fn remove_all<F: Folder, W: RemovalWatch>(
     names: &[&str],
     watch: &mut W,
 ) -> Result<(), FolderFault>
-    ensures run { IsToldRun W.tells (removal_calls (map (λ name. name.now) names.now))
+    ensures run { IsToldRemoval W.tells (removal_calls (map (λ name. name.now) names.now))
         (F.calls folder.old) (F.calls folder.new) (F.tells folder.old) (F.tells folder.new)
         (watch.old) (watch.new) result }
     ensures failures { F.failed folder.new ≡ failures_after (F.failed folder.old) result }
@@ -78,7 +78,7 @@ fn remove_each<F: Folder, W: RemovalWatch>(
     names: &[&str],
     watch: &mut W,
 ) -> Result<(), FolderFault>
-    ensures run { IsToldRun W.tells (map Removed (map (λ name. name.now) names.now))
+    ensures run { IsToldRemoval W.tells (map Removed (map (λ name. name.now) names.now))
         (F.calls folder.old) (F.calls folder.new) (F.tells folder.old) (F.tells folder.new)
         (watch.old) (watch.new) result }
     ensures failures { F.failed folder.new ≡ failures_after (F.failed folder.old) result }
@@ -95,7 +95,7 @@ fn remove_one<F: Folder, W: RemovalWatch>(
     name: &str,
     watch: &mut W,
 ) -> Result<(), FolderFault>
-    ensures run { IsToldRun W.tells (Removed name.now ∷ [])
+    ensures run { IsToldRemoval W.tells (Removed name.now ∷ [])
         (F.calls folder.old) (F.calls folder.new) (F.tells folder.old) (F.tells folder.new)
         (watch.old) (watch.new) result }
     ensures failures { F.failed folder.new ≡ failures_after (F.failed folder.old) result }

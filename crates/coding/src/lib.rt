@@ -12,12 +12,12 @@
 //! that only a refused growth of memory answers Memory, or how fast a checksum is.
 #![tactic(auto)]
 
+mod common_prefix;
 mod crc;
 mod fault;
 mod varint;
-mod words;
 
+pub use common_prefix::common_len;
 pub use crc::{crc32c, crc32c_pair, crc32c_plain, mask, remainder_law, unmask};
 pub use fault::{Fault, FaultName};
 pub use varint::{one_reading, push_slice, push_varint, read_u32_varint, read_u64_varint};
-pub use words::common_len;

@@ -6,7 +6,7 @@ ghost use Rattle.coding.specs.Answers.{EqualOrMemory};
 ghost use Rattle.folder.specs.Calls.{Files, Tells};
 ghost use Rattle.folder.specs.OpenAnswer.{FolderAnswers};
 ghost use Rattle.folder.specs.Orders.{order_cmp};
-ghost use Rattle.folder.specs.ReadsAs.{IsHeldIn};
+ghost use Rattle.folder.specs.ReadsAs.{IsFileIn};
 ghost use Rattle.folder.specs.Reports.{OnlyReads, ReportsDevice};
 ghost use Rattle.commands.specs.FolderLines.{IsAnswerOfFolder, IsAnswerOfVersion};
 ghost use Rattle.commands.specs.FolderLines.{got_answer, verified_line};
@@ -89,7 +89,7 @@ pub fn verify<F: ReadsTables, W: Watch + Sync, R: Threads + Sync>(
 ) -> Result<Vec<u8>, Fault>
     ensures answer { (files : Files) → Tells (F.tells folder.old) files →
         FolderAnswers (λ v. v.items) (F.failed folder.old) (F.failed folder.new) result
-        (IsAnswerOfFolder (IsHeldIn files) (λ _. verified_line)) }
+        (IsAnswerOfFolder (IsFileIn files) (λ _. verified_line)) }
     ensures device { ReportsDevice F.Folder folder.old folder.new result }
     ensures reads { OnlyReads F.Folder folder.old folder.new }
 {
@@ -126,7 +126,7 @@ pub fn get_dir<F: ReadsTables, W: Watch + Sync, R: Threads + Sync>(
 ) -> Result<Option<Vec<u8>>, Fault>
     ensures answer { (files : Files) → Tells (F.tells folder.old) files →
         FolderAnswers (option_map (λ v. v.items)) (F.failed folder.old) (F.failed folder.new) result
-        (IsAnswerOfFolder (IsHeldIn files) (got_answer form key.now at)) }
+        (IsAnswerOfFolder (IsFileIn files) (got_answer form key.now at)) }
     ensures device { ReportsDevice F.Folder folder.old folder.new result }
     ensures reads { OnlyReads F.Folder folder.old folder.new }
 {
@@ -159,7 +159,7 @@ pub fn answer_opened<F: ReadsTables, W: Watch + Sync, R: Threads + Sync>(
 ) -> Result<Option<Vec<u8>>, Fault>
     ensures answer { (files : Files) → Tells (F.tells folder.old) files →
         FolderAnswers (option_map (λ v. v.items)) (F.failed folder.old) (F.failed folder.new) result
-        (IsAnswerOfVersion (IsHeldIn files) (order_cmp order) version.now
+        (IsAnswerOfVersion (IsFileIn files) (order_cmp order) version.now
         (answer_to question.entry version.now)) }
     ensures device { ReportsDevice F.Folder folder.old folder.new result }
     ensures reads { OnlyReads F.Folder folder.old folder.new }

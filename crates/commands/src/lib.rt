@@ -31,7 +31,7 @@ mod version_text;
 mod version_verdict;
 
 pub use board::Open;
-pub use checks::Tested;
+pub use checks::VersionTotals;
 pub use exit_status::status;
 pub use fault_lines::{fault_count_line, file_fault_line, key_fault_line};
 pub use folder_commands::{answer_opened, get_dir, manifest, manifest_lines, verify};

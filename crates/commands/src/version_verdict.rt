@@ -7,12 +7,12 @@ ghost use Rattle.coding.specs.declared.fault.FaultName.TheVariants.{Memory};
 ghost use Rattle.folder.specs.Calls.{Files, Tells};
 ghost use Rattle.folder.specs.OpenAnswer.{FolderAnswers};
 ghost use Rattle.folder.specs.Orders.{order_cmp};
-ghost use Rattle.folder.specs.ReadsAs.{IsHeldIn};
+ghost use Rattle.folder.specs.ReadsAs.{IsFileIn};
 ghost use Rattle.folder.specs.Reports.{OnlyReads, ReportsDevice};
 ghost use Rattle.checks.specs.TestedTables.{IsTested};
 ghost use Rattle.commands.specs.FolderLines.{lawful_line};
 
-use checks::{CHECKERS, Tested, Watch, test_version};
+use checks::{CHECKERS, VersionTotals, Watch, test_version};
 use coding::Fault;
 use edit::Version;
 use folder::{Order, ReadsTables};
@@ -30,10 +30,10 @@ pub fn test_opened<F: ReadsTables, W: Watch + Sync, R: Threads + Sync>(
     version: &Version,
     memory: u64,
     watch: &W,
-) -> Result<Tested, Fault>
+) -> Result<VersionTotals, Fault>
     ensures answer { (files : Files) → Tells (F.tells folder.old) files →
         FolderAnswers (λ tested. tested) (F.failed folder.old) (F.failed folder.new) result
-        (IsTested (IsHeldIn files) (order_cmp order) version.now) }
+        (IsTested (IsFileIn files) (order_cmp order) version.now) }
     ensures device { ReportsDevice F.Folder folder.old folder.new result }
     ensures reads { OnlyReads F.Folder folder.old folder.new }
 {
@@ -48,7 +48,7 @@ pub fn test_opened<F: ReadsTables, W: Watch + Sync, R: Threads + Sync>(
 }
 
 /// The line of a lawful version as what is printed. The only fault is Memory.
-pub(crate) fn lawful_answer(alloc: Global, tested: Tested) -> Result<Option<Vec<u8>>, Fault>
+pub(crate) fn lawful_answer(alloc: Global, tested: VersionTotals) -> Result<Option<Vec<u8>>, Fault>
     ensures { EqualOrMemory (option_map (λ v. v.items)) result
         (Ok (Some (lawful_line tested.files tested.entries))) }
 {
@@ -56,7 +56,7 @@ pub(crate) fn lawful_answer(alloc: Global, tested: Tested) -> Result<Option<Vec<
 }
 
 /// The line of a lawful version with this many files and entries. The only fault is Memory.
-pub(crate) fn lawful_line(alloc: Global, tested: Tested) -> Result<Vec<u8>, Fault>
+pub(crate) fn lawful_line(alloc: Global, tested: VersionTotals) -> Result<Vec<u8>, Fault>
     ensures { EqualOrMemory (λ v. v.items) result
         (Ok (lawful_line tested.files tested.entries)) }
 {

@@ -22,9 +22,9 @@ use Rattle.cut.specs.declared.output_meta.OutputMeta.{OutputMeta}
 use Rattle.cut.proofs.Grouped.{groups_join, groups_mapped}
 use Rattle.request.specs.EditOf.{edit_of}
 use Rattle.request.specs.Request.{RequestView}
-use Rattle.compact.specs.Grouped.{GroupedAnswer, joined_answer, table_sizes}
-use Rattle.compact.specs.Merged.{group_tables, runs_answer}
-use Rattle.compact.specs.Written.{answer_of, planned_files}
+use Rattle.compact.specs.GroupedAnswer.{GroupedAnswer, joined_answer, table_sizes}
+use Rattle.compact.specs.MergedRequest.{group_tables, runs_answer}
+use Rattle.compact.specs.WrittenOutputs.{answer_of, planned_files}
 use Rattle.compact.proofs.Joined.{plan_fits}
 
 -- ---- a plan

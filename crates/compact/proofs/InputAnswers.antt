@@ -11,11 +11,11 @@ use Rattle.coding.specs.Answers.{fault, ◌>>=◌, FailsOrMemory}
 use Rattle.coding.proofs.Refusals.{unless_from}
 use Rattle.block.specs.EncodedEntry.{Entry}
 use Rattle.table.specs.TableContents.{Contents, contents_reading}
-use Rattle.table.specs.ReadingEntries.{first_key}
-use Rattle.table.specs.ReadingSteps.{test_result}
+use Rattle.table.specs.EntryTests.{first_key}
+use Rattle.table.specs.TestResult.{test_result}
 use Rattle.edit.specs.declared.meta.FileMeta.{FileMeta}
-use Rattle.pick.specs.declared.picked.InputFile.{InputFile}
-use Rattle.board.specs.Collected.{collected_results}
+use Rattle.pick.specs.declared.picked_inputs.InputFile.{InputFile}
+use Rattle.board.specs.CollectedResults.{collected_results}
 use Rattle.reads.specs.Bounds.{has_bounds}
 use Rattle.keep.proofs.Reaching.{first_from, last_from}
 use Rattle.request.specs.Inputs.{result_at_input, table_matches_metadata, input_reading, inputs_reading}

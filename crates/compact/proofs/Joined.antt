@@ -11,9 +11,9 @@ use Rattle.coding.specs.declared.fault.FaultName.TheVariants.{Workers, Duplicate
 use Rattle.coding.specs.Answers.{fault, ◌>>=◌, EqualOrMemory, FailsOrMemory}
 use Rattle.coding.proofs.Refusals.{unless_from}
 use Rattle.block.specs.EncodedEntry.{Entry}
-use Rattle.table.specs.ReadingSteps.{test_result}
+use Rattle.table.specs.TestResult.{test_result}
 use Rattle.table.specs.Table.{table}
-use Rattle.merge.specs.Merged.{merged}
+use Rattle.merge.specs.MergedLists.{merged}
 use Rattle.merge.specs.Union.{VersionsRise}
 use Rattle.split.specs.Boundaries.{IsSplit}
 use Rattle.keep.specs.Runs.{Run, are_distinct, joined_run, runs_of, DistinctLaw}
@@ -23,8 +23,8 @@ use Rattle.request.specs.Inputs.{inputs_reading, union_reading}
 use Rattle.request.specs.OneThread.{Answer, one_thread, outputs_answer}
 use Rattle.request.specs.OutputTables.{outputs_from}
 use Rattle.compact.specs.RangeMerges.{by_workers, runs_reading}
-use Rattle.compact.specs.Merged.{runs_answer}
-use Rattle.compact.specs.Written.{written_of}
+use Rattle.compact.specs.MergedRequest.{runs_answer}
+use Rattle.compact.specs.WrittenOutputs.{written_of}
 use Rattle.compact.proofs.PlanAnswers.{outputs_planned}
 use Rattle.compact.proofs.WorkerAnswers.{within, within_limits}
 use Rattle.ikey.specs.Comparator.{ShortKeys}

@@ -5,14 +5,14 @@ use Rattle.std.specs.List.{All, list_all}
 use Rattle.std.proofs.lemmas.Bool.{and_parts}
 use Rattle.std.proofs.lemmas.Bool.Decides.{nat_tests}
 use Rattle.std.proofs.lemmas.List.Elements.{All-nil, All-cons}
-use Rattle.table.specs.ReadingEntries.{first_key}
+use Rattle.table.specs.EntryTests.{first_key}
 use Rattle.edit.specs.declared.meta.NewFile.{NewFile}
 use Rattle.cut.specs.OutputMeta.{IsMetaOf}
 use Rattle.cut.specs.Plan.{OutputView}
 use Rattle.cut.specs.declared.output_meta.OutputMeta.{OutputMeta}
-use Rattle.pick.specs.Picked.{PickedInputs}
-use Rattle.pick.specs.declared.picked.InputFile.{InputFile}
-use Rattle.compact.specs.Written.{planned_file}
+use Rattle.pick.specs.PickedInputs.{PickedInputs}
+use Rattle.pick.specs.declared.picked_inputs.InputFile.{InputFile}
+use Rattle.compact.specs.WrittenOutputs.{planned_file}
 use Rattle.request.specs.Request.{has_levels}
 
 -- ---- an output

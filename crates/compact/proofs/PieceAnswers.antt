@@ -6,7 +6,7 @@ use Rattle.std.proofs.lemmas.List.{length-map}
 use Rattle.std.proofs.lemmas.Option.{slice_get-map}
 use Rattle.coding.specs.declared.fault.Fault.{Fault}
 use Rattle.coding.specs.Answers.{◌>>=◌}
-use Rattle.board.specs.Collected.{collected_results}
+use Rattle.board.specs.CollectedResults.{collected_results}
 use Rattle.block.specs.EncodedEntry.{Entry}
 use Rattle.cut.specs.Plan.{OutputView, encoded_pieces, pieces, plan_tables, jobs}
 use Rattle.cut.specs.OutputPlan.{PlanSeen, lists_in}

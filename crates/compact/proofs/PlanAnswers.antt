@@ -9,7 +9,7 @@ use Rattle.coding.specs.declared.fault.Fault.{Fault}
 use Rattle.coding.specs.declared.fault.FaultName.TheVariants.{Numbers, TooLarge}
 use Rattle.block.specs.EncodedEntry.{Entry}
 use Rattle.table.specs.DataBlocks.{data_blocks}
-use Rattle.table.specs.ReadingSteps.{test_result}
+use Rattle.table.specs.TestResult.{test_result}
 use Rattle.table.specs.declared.options.Options.{Options}
 use Rattle.edit.specs.Edit.{edit_bytes}
 use Rattle.edit.specs.declared.meta.NewFile.{NewFile}
@@ -18,7 +18,7 @@ use Rattle.request.specs.EditOf.{edit_of, new_file, new_files}
 use Rattle.request.specs.OneThread.{Answer, outputs_answer}
 use Rattle.request.specs.OutputTables.{Output, data_block_count, numbered_tables, outputs_from}
 use Rattle.request.specs.Request.{RequestView}
-use Rattle.compact.specs.Written.{answer_of, planned_file, planned_files, written_of}
+use Rattle.compact.specs.WrittenOutputs.{answer_of, planned_file, planned_files, written_of}
 
 module _ (table_of : List Entry → List ℕ) (o : Options) where
   length_is : (number : ℕ) (qs : List (List Entry)) → length (outputs_from table_of number qs) ≡ length qs

@@ -9,13 +9,13 @@ use Rattle.coding.specs.declared.fault.Fault.{Fault}
 use Rattle.coding.specs.declared.fault.FaultName.TheVariants.{Duplicate}
 use Rattle.coding.specs.Answers.{fault, ◌>>=◌}
 use Rattle.block.specs.EncodedEntry.{Entry}
-use Rattle.merge.specs.Merged.{merged}
+use Rattle.merge.specs.MergedLists.{merged}
 use Rattle.split.specs.Boundaries.{IsSplit}
 use Rattle.split.specs.Ranges.{KeyRange, range_at}
 use Rattle.keep.specs.InRange.{entries_in}
 use Rattle.keep.specs.Marks.{CompactionContext}
 use Rattle.keep.specs.Runs.{Run, run_of, are_distinct, range_run, ranges_from, ranges_of, runs_of, RangesCompose}
-use Rattle.board.specs.Collected.{collected_results}
+use Rattle.board.specs.CollectedResults.{collected_results}
 use Rattle.compact.specs.JobAnswers.{range_answers}
 use Rattle.compact.specs.RangeMerges.{runs_reading}
 

@@ -10,11 +10,11 @@ use Rattle.coding.specs.declared.fault.Fault.{Fault}
 use Rattle.block.specs.EncodedEntry.{Entry}
 use Rattle.table.specs.TableContents.{Contents}
 use Rattle.edit.specs.declared.meta.FileMeta.{FileMeta}
-use Rattle.pick.specs.declared.picked.InputFile.{InputFile}
+use Rattle.pick.specs.declared.picked_inputs.InputFile.{InputFile}
 use Rattle.reads.specs.Lawful.{IsFileOf}
 use Rattle.reads.specs.Tables.{NumberedContents}
 use Rattle.request.specs.Inputs.{result_at_input, table_matches_metadata, inputs_reading}
-use Rattle.compact.specs.Sound.{AreInputs}
+use Rattle.compact.specs.CheckedInputs.{AreInputs}
 use Rattle.compact.proofs.InputAnswers.{read_stated, stated_by}
 
 pub read_inputs : (cmp : List ℕ → List ℕ → Ordering) (place : ℕ) (files : List InputFile) (tables : List Contents) → AreInputs cmp files tables

@@ -6,10 +6,10 @@ use Rattle.coding.specs.declared.fault.Fault.{Fault}
 use Rattle.coding.specs.declared.fault.FaultName.TheVariants.{Workers as NamedWorkers}
 use Rattle.coding.specs.Answers.{fault, ◌>>=◌, FailsOrMemory}
 use Rattle.coding.proofs.Refusals.{FailsOrMemory-from}
-use Rattle.table.specs.ReadingSteps.{test_result}
+use Rattle.table.specs.TestResult.{test_result}
 use Rattle.board.specs.declared.pool.RunFault.{RunFault}
 use Rattle.board.specs.RunAnswer.{AreResults, IsRefused, fault_of_run}
-use Rattle.board.specs.Collected.{collected_results, refusal_at, HasValue}
+use Rattle.board.specs.CollectedResults.{collected_results, refusal_at, HasValue}
 use Rattle.board.proofs.CollectedAnswers.{results_collected, refused_collected}
 use Rattle.compact.specs.RangeMerges.{by_workers}
 

@@ -1,9 +1,9 @@
 -- what contracts rest on
 pub mod RangeMerges
-pub mod Answered
-pub mod Grouped
+pub mod AnswerIn
+pub mod GroupedAnswer
 -- serves proofs alone
 pub mod JobAnswers
-pub mod Written
-pub mod Merged
-pub mod Sound
+pub mod WrittenOutputs
+pub mod MergedRequest
+pub mod CheckedInputs

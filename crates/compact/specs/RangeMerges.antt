@@ -5,7 +5,7 @@ use Rattle.coding.specs.declared.fault.Fault.{Fault}
 use Rattle.coding.specs.declared.fault.FaultName.TheVariants.{Workers}
 use Rattle.ikey.specs.Comparator.{KeyOrder}
 use Rattle.block.specs.EncodedEntry.{Entry}
-use Rattle.table.specs.ReadingSteps.{test_result}
+use Rattle.table.specs.TestResult.{test_result}
 use Rattle.keep.specs.Marks.{CompactionContext}
 use Rattle.keep.specs.Runs.{Run, runs_of}
 use Rattle.request.specs.Inputs.{union_reading}

@@ -6,9 +6,9 @@ ghost use Rattle.split.specs.Boundaries.{IsSplit};
 ghost use Rattle.request.specs.Inputs.{inputs_reading};
 ghost use Rattle.request.specs.OneThread.{Answer, compaction_result, one_thread};
 ghost use Rattle.request.specs.Request.{request_in, request_test};
-ghost use Rattle.survival.specs.Survive.{LeavesReads};
-ghost use Rattle.compact.specs.Answered.{answer_in};
-ghost use Rattle.compact.specs.Merged.{runs_answer};
+ghost use Rattle.survival.specs.SurvivingReads.{LeavesReads};
+ghost use Rattle.compact.specs.AnswerIn.{answer_in};
+ghost use Rattle.compact.specs.MergedRequest.{runs_answer};
 ghost use Rattle.board.specs.declared.limits.TheConstants.{MAX_WORKERS};
 
 use crate::inputs::check_inputs;

@@ -6,10 +6,10 @@ ghost use Rattle.coding.specs.declared.fault.FaultName.TheVariants.{Memory};
 ghost use Rattle.edit.specs.Edit.{edit_bytes};
 ghost use Rattle.cut.specs.OutputMeta.{IsMetaOf};
 ghost use Rattle.cut.specs.Plan.{OutputView};
-ghost use Rattle.pick.specs.Picked.{picked_in};
+ghost use Rattle.pick.specs.PickedInputs.{picked_in};
 ghost use Rattle.request.specs.Request.{has_levels, request_in};
 ghost use Rattle.request.specs.EditOf.{edit_of};
-ghost use Rattle.compact.specs.Written.{planned_file, planned_files};
+ghost use Rattle.compact.specs.WrittenOutputs.{planned_file, planned_files};
 
 use coding::Fault;
 use cut::{OutputMeta, Plan};

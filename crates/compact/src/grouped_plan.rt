@@ -6,7 +6,7 @@ ghost use Rattle.coding.specs.Answers.{EqualOrMemory, fault};
 ghost use Rattle.coding.specs.declared.fault.FaultName.TheVariants.{Memory};
 ghost use Rattle.table.specs.Table.{table};
 ghost use Rattle.cut.specs.Plan.{plan_tables};
-ghost use Rattle.compact.specs.Grouped.{joined_answer, table_sizes};
+ghost use Rattle.compact.specs.GroupedAnswer.{joined_answer, table_sizes};
 ghost use Rattle.board.specs.declared.limits.TheConstants.{MAX_WORKERS};
 
 use coding::Fault;
@@ -29,8 +29,8 @@ pub struct Planned<'m, 't, C: Comparator> {
 }
 
 impl<'m, 't, C: Comparator> Model for Planned<'m, 't, C> {
-    ghost use Rattle.compact.specs.Grouped.{GroupedAnswer};
-    ghost use Rattle.compact.specs.Merged.{AreWorkers, group_tables};
+    ghost use Rattle.compact.specs.GroupedAnswer.{GroupedAnswer};
+    ghost use Rattle.compact.specs.MergedRequest.{AreWorkers, group_tables};
 
     ghost Value = { GroupedAnswer };
 

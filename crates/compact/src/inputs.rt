@@ -32,7 +32,7 @@ impl<'r, 't, C: Comparator> Labour for Checks<'r, 't, C> {
     type Out = SoundTable<'t, C>;
 
     ghost use Rattle.std.specs.Prelude.{length, map};
-    ghost use Rattle.board.specs.Collected.{refusal_at, HasValue};
+    ghost use Rattle.board.specs.CollectedResults.{refusal_at, HasValue};
     ghost use Rattle.compact.specs.JobAnswers.{input_answers};
 
     ghost jobs = { λ s.

@@ -8,8 +8,8 @@ ghost use Rattle.keep.specs.Runs.{joined_run};
 ghost use Rattle.cut.specs.Groups.{groups_of};
 ghost use Rattle.cut.specs.Outputs.{outputs_of};
 ghost use Rattle.cut.specs.Plan.{plan_of};
-ghost use Rattle.compact.specs.Answered.{answer_in};
-ghost use Rattle.compact.specs.Grouped.{joined_answer};
+ghost use Rattle.compact.specs.AnswerIn.{answer_in};
+ghost use Rattle.compact.specs.GroupedAnswer.{joined_answer};
 ghost use Rattle.compact.specs.declared.grouped_plan.TheConstants.{MAX_TABLES};
 
 use crate::edit_bytes::edit_bytes;
@@ -41,7 +41,7 @@ impl<'q, 't, C: Comparator> Model for Merged<'q, 't, C> {
     ghost use Rattle.coding.specs.declared.fault.Fault.{Fault};
     ghost use Rattle.request.specs.Request.{request_in};
     ghost use Rattle.request.specs.OneThread.{Answer};
-    ghost use Rattle.compact.specs.Merged.{IsMerged, runs_answer};
+    ghost use Rattle.compact.specs.MergedRequest.{IsMerged, runs_answer};
 
     ghost Value = { Result Answer Fault };
 

@@ -4,10 +4,10 @@ ghost use Rattle.std.specs.Prelude.{◌≡◌, ◌+◌, ◌<◌, ◌≤◌, ◌^
 ghost use Rattle.coding.specs.Answers.{EqualOrMemory};
 ghost use Rattle.table.specs.Table.{table};
 ghost use Rattle.cut.specs.Plan.{plan_tables};
-ghost use Rattle.pick.specs.Picked.{picked_in};
+ghost use Rattle.pick.specs.PickedInputs.{picked_in};
 ghost use Rattle.request.specs.Request.{has_levels, request_in};
-ghost use Rattle.compact.specs.Answered.{answer_in};
-ghost use Rattle.compact.specs.Written.{answer_of};
+ghost use Rattle.compact.specs.AnswerIn.{answer_in};
+ghost use Rattle.compact.specs.WrittenOutputs.{answer_of};
 ghost use Rattle.board.specs.declared.limits.TheConstants.{MAX_WORKERS};
 
 use crate::edit_bytes::edit_bytes;

@@ -24,7 +24,7 @@ impl<'p, C: Comparator + 'static> Labour for Encodes<'p, C> {
     type Out = Vec<u8>;
 
     ghost use Rattle.std.specs.Prelude.{length};
-    ghost use Rattle.board.specs.Collected.{refusal_at, HasValue};
+    ghost use Rattle.board.specs.CollectedResults.{refusal_at, HasValue};
     ghost use Rattle.compact.specs.JobAnswers.{piece_answers};
 
     ghost jobs = { λ s. length (piece_answers s.plan.now) };

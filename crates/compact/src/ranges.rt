@@ -53,7 +53,7 @@ impl<'r, 't, C: Comparator + 't + 'static> Labour for Merges<'r, 't, C> {
     type Out = RangeRun<'t>;
 
     ghost use Rattle.std.specs.Prelude.{◌+◌, length};
-    ghost use Rattle.board.specs.Collected.{refusal_at, HasValue};
+    ghost use Rattle.board.specs.CollectedResults.{refusal_at, HasValue};
     ghost use Rattle.compact.specs.JobAnswers.{range_answers};
 
     ghost jobs = { λ s. length s.boundaries + 1 };

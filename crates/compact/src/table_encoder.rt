@@ -29,7 +29,7 @@ impl<'p, C: Comparator + 'static> Labour for Outputs<'p, C> {
 
     ghost use Rattle.std.specs.Prelude.{length};
     ghost use Rattle.table.specs.Table.{table};
-    ghost use Rattle.board.specs.Collected.{refusal_at, HasValue};
+    ghost use Rattle.board.specs.CollectedResults.{refusal_at, HasValue};
     ghost use Rattle.compact.specs.JobAnswers.{output_answers};
 
     ghost jobs = { λ s. length s.plan.now.outputs };

@@ -2,7 +2,7 @@
 
 ghost use Rattle.std.specs.Prelude.{◌≡◌, nat_le, ◌&&◌};
 ghost use Rattle.coding.specs.declared.fault.FaultName.TheVariants.{Workers};
-ghost use Rattle.table.specs.ReadingSteps.{test_result};
+ghost use Rattle.table.specs.TestResult.{test_result};
 
 use board::MAX_WORKERS;
 use coding::{Fault, FaultName};

@@ -5,7 +5,7 @@ ghost use Rattle.std.specs.List.{AllByRecursion};
 ghost use Rattle.block.specs.BuilderView.{last_key, with_entry};
 ghost use Rattle.block.specs.BlockFormat.{block};
 ghost use Rattle.table.specs.Table.{stored_blocks};
-ghost use Rattle.encoding.specs.Planned.{IsPlanned, parts_of};
+ghost use Rattle.encoding.specs.PlannedBlocks.{IsPlanned, block_lists};
 
 use block::BlockBuilder;
 use coding::{Fault, FaultName};
@@ -154,7 +154,7 @@ fn pieces_of(
     requires front { AllByRecursion (λ b. length (block 16 b.entries.entries) ≤ 2 ^ 31) front.now }
     requires back { AllByRecursion (λ b. length (block 16 b.entries.entries) ≤ 2 ^ 31) back.now }
     ensures { IfOk result (λ v. flat_map (λ p. p.items) v.items
-        ≡ stored_blocks 16 (parts_of front.now) ++ stored_blocks 16 (parts_of back.now)) }
+        ≡ stored_blocks 16 (block_lists front.now) ++ stored_blocks 16 (block_lists back.now)) }
 {
     let mut pieces = Vec::new(alloc);
     pieces.push(encode_blocks(alloc, front, 16, TWO_BLOCKS.len())?)?;

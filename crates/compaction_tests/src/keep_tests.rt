@@ -4,8 +4,8 @@ use coding::{Fault, FaultName};
 use edit::{Version, VersionEdit};
 use ikey::{Bytewise, Kind};
 use keep::{
-    Mark, RangeRun, Snapshots, begun_law, cursor_from, distinct_law, holds_law, is_rising,
-    largest_rise, merge_range, one_key, ranges_compose, seek_range,
+    Mark, RangeRun, Snapshots, cursor_from, distinct_law, holds_law, is_rising, largest_rise,
+    merge_range, one_key, range_start_law, ranges_compose, seek_range,
 };
 use pick::{Inputs, inputs};
 use split::Range;
@@ -402,7 +402,7 @@ fn cursors_begin_at_their_ranges(rt: HostRuntime) -> Result<(), Fault> {
 
 #[test]
 fn laws_are_called(rt: HostRuntime) {
-    begun_law::<Bytewise>();
+    range_start_law::<Bytewise>();
     distinct_law::<Bytewise>();
     holds_law::<Bytewise>();
     one_key::<Bytewise>();

@@ -3,7 +3,7 @@
 use crate::checks_tests::are_tables;
 use board::Open;
 use checks::{
-    HeldTables, Tested, checked_tables, hold_next, lent_tables, test_and_hold, test_version,
+    HeldTables, VersionTotals, checked_tables, hold_next, lent_tables, test_and_hold, test_version,
 };
 use coding::{Fault, FaultName};
 use edit::{Version, VersionEdit};
@@ -209,7 +209,7 @@ pub(crate) fn version_after(alloc: Global, edit: &[u8]) -> Result<Version, Fault
 
 /// Whether an answer is the expected one.
 pub(crate) fn is_told(
-    answer: Result<Tested, Fault>,
+    answer: Result<VersionTotals, Fault>,
     told: Result<(usize, u128), FaultName>,
 ) -> bool {
     match (answer, told) {
@@ -341,7 +341,7 @@ fn are_held(rt: &(impl Threads + Sync + AllocGlobal), row: &HeldRow) -> Result<b
     )?;
     let is_held = are_tables(&found.tables.lend(alloc)?, row.held);
     let is_tested = found.tested
-        == Tested {
+        == VersionTotals {
             files: 5,
             entries: 6,
         };

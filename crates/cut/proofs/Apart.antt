@@ -20,11 +20,11 @@ use Rattle.table.specs.DataBlocks.{open_block, flushed}
 use Rattle.merge.specs.Union.{key_version_cmp, VersionsRise}
 use Rattle.edit.specs.declared.meta.FileMeta.{FileMeta}
 use Rattle.keep.specs.declared.mark.Mark.{Mark}
-use Rattle.keep.specs.DropRule.{is_same_user, keeps, kept, kept_behind}
-use Rattle.keep.specs.Marks.{CompactionContext, grandparents_below, heads, heads_behind, is_first}
-use Rattle.merge.specs.Merged.{entries_of_lists}
-use Rattle.cut.specs.Stops.{is_stop, stops, stops_behind}
-use Rattle.cut.specs.Outputs.{AreBelow, UsersRise, WholeLaw, ends_before, outputs, outputs_behind, outputs_in, segments}
+use Rattle.keep.specs.DropRule.{is_same_user, keeps, kept, kept_after}
+use Rattle.keep.specs.Marks.{CompactionContext, grandparents_below, heads, heads_after, is_first}
+use Rattle.merge.specs.MergedLists.{entries_of_lists}
+use Rattle.cut.specs.Stops.{is_stop, stops, stops_after}
+use Rattle.cut.specs.Outputs.{AreBelow, UsersRise, WholeLaw, ends_before, outputs, outputs_after, outputs_in, segments}
 use Rattle.cut.proofs.Elements.{each, both, front, behind}
 use Rattle.cut.proofs.Whole.{all_behind, all_segments, all_two, some_segments}
 
@@ -128,12 +128,12 @@ module _ (cmp : List ℕ → List ℕ → Ordering) (total : IsTotalOrder cmp) (
     apart_open [] = tt
     apart_open (e ∷ es) = (below_none (e ∷ es), tt)
 
-    apart_by : (b : Bool) (latest : List Entry) (e : Entry) (es : List Entry) → ends_before o latest e ≡ b → Rises (latest ++ e ∷ es) → UsersRise cmp (outputs_behind o (e ∷ []) es) → UsersRise cmp (outputs_behind o (latest ++ e ∷ []) es)
-        → UsersRise cmp (if b then latest ∷ outputs_behind o (e ∷ []) es else outputs_behind o (latest ++ e ∷ []) es)
+    apart_by : (b : Bool) (latest : List Entry) (e : Entry) (es : List Entry) → ends_before o latest e ≡ b → Rises (latest ++ e ∷ es) → UsersRise cmp (outputs_after o (e ∷ []) es) → UsersRise cmp (outputs_after o (latest ++ e ∷ []) es)
+        → UsersRise cmp (if b then latest ∷ outputs_after o (e ∷ []) es else outputs_after o (latest ++ e ∷ []) es)
     apart_by true latest e es ends h ended grown = (subst (AreBelow cmp latest) (sym (all_behind o (e ∷ []) es)) (ended_below latest e es h ends), ended)
     apart_by false latest e es ends h ended grown = grown
 
-    apart_behind : (latest es : List Entry) → Rises (latest ++ es) → UsersRise cmp (outputs_behind o latest es)
+    apart_behind : (latest es : List Entry) → Rises (latest ++ es) → UsersRise cmp (outputs_after o latest es)
     apart_behind latest [] h = apart_open latest
     apart_behind latest (e ∷ es) h =
         apart_by (ends_before o latest e) latest e es refl h (apart_behind (e ∷ []) es (rises_behind latest (e ∷ es) h)) (apart_behind (latest ++ e ∷ []) es (subst Rises (sym (append_assoc latest (e ∷ []) es)) h))
@@ -175,17 +175,17 @@ module _ (cmp : List ℕ → List ℕ → Ordering) (total : IsTotalOrder cmp) (
       kept_one P e es true h rest = (h, rest)
       kept_one P e es false h rest = rest
 
-      kept_each : (P : Entry → Type 0) (before : Option Entry) (es : List Entry) → AllByRecursion P es → AllByRecursion P (kept_behind cmp b.readable b.deeper before es)
+      kept_each : (P : Entry → Type 0) (before : Option Entry) (es : List Entry) → AllByRecursion P es → AllByRecursion P (kept_after cmp b.readable b.deeper before es)
       kept_each P before [] h = tt
-      kept_each P before (e ∷ es) h = kept_one P e (kept_behind cmp b.readable b.deeper (Some e) es) (keeps cmp b.readable b.deeper before e) h.0 (kept_each P (Some e) es h.1)
+      kept_each P before (e ∷ es) h = kept_one P e (kept_after cmp b.readable b.deeper (Some e) es) (keeps cmp b.readable b.deeper before e) h.0 (kept_each P (Some e) es h.1)
 
       -- the kept entries after one
       abbrev rest : Entry → List Entry → List Entry
-      rest e es = kept_behind cmp b.readable b.deeper (Some e) es
+      rest e es = kept_after cmp b.readable b.deeper (Some e) es
 
       -- the stops after an entry, with n kept entries before them
       abbrev stops_on : ℕ → Entry → ℕ → List Entry → List ℕ
-      stops_on since e n es = stops_behind gs o.file_size since (heads_behind cmp b (Some e) n es)
+      stops_on since e n es = stops_after gs o.file_size since (heads_after cmp b (Some e) n es)
 
       abbrev CutOn : ℕ → List Entry → Entry → List Entry → Type 0
       CutOn first latest e es = (since : ℕ) → IsCut first (stops_on since e (first + length latest) es) (latest ++ rest e es)
@@ -223,7 +223,7 @@ module _ (cmp : List ℕ → List ℕ → Ordering) (total : IsTotalOrder cmp) (
           → is_stop gs o.file_size since m ≡ stop → AllByRecursion (λ x. UpTo x d) latest → Rises (d ∷ e ∷ es)
           → ((since : ℕ) → IsCut first (stops_on since e (if k then (first + length latest) + 1 else first + length latest) es) (latest ++ ((if k then e ∷ [] else []) ++ rest e es)))
           → ((since : ℕ) → IsCut (first + length latest) (stops_on since e (if k then (first + length latest) + 1 else first + length latest) es) ((if k then e ∷ [] else []) ++ rest e es))
-          → IsCut first (stops_behind gs o.file_size since ((if head then m ∷ [] else []) ++ heads_behind cmp b (Some e) (if k then (first + length latest) + 1 else first + length latest) es)) (latest ++ ((if k then e ∷ [] else []) ++ rest e es))
+          → IsCut first (stops_after gs o.file_size since ((if head then m ∷ [] else []) ++ heads_after cmp b (Some e) (if k then (first + length latest) + 1 else first + length latest) es)) (latest ++ ((if k then e ∷ [] else []) ++ rest e es))
       here_by false stop k first latest d e es since m is kept-is place stopped up h on anew = on since
       here_by true false k first latest d e es since m is kept-is place stopped up h on anew = rw stopped (on since)
       here_by true true k first latest d e es since m is kept-is place stopped up h on anew =
@@ -254,7 +254,7 @@ module _ (cmp : List ℕ → List ℕ → Ordering) (total : IsTotalOrder cmp) (
       rises_one e es true h rising_rest = (h, rising_rest)
       rises_one e es false h rising_rest = rising_rest
 
-      kept_rises : (before : Option Entry) (es : List Entry) → Rises es → Rises (kept_behind cmp b.readable b.deeper before es)
+      kept_rises : (before : Option Entry) (es : List Entry) → Rises es → Rises (kept_after cmp b.readable b.deeper before es)
       kept_rises before [] h = tt
       kept_rises before (e ∷ es) h = rises_one e (rest e es) (keeps cmp b.readable b.deeper before e) (kept_each (λ f. UpTo e f) (Some e) es h.0) (kept_rises (Some e) es h.1)
 

@@ -13,8 +13,8 @@ use Rattle.table.specs.declared.table_check.TheConstants.{MAX_TABLE_LEN}
 use Rattle.table.specs.Table.{table}
 use Rattle.encoding.specs.declared.planned_block.PlannedBlock.{PlannedBlock}
 use Rattle.cut.specs.declared.planned_output.PlannedOutput.{PlannedOutput}
-use Rattle.encoding.specs.Planned.{parts_of}
-use Rattle.cut.specs.Opened.{entries_in_blocks}
+use Rattle.encoding.specs.PlannedBlocks.{block_lists}
+use Rattle.cut.specs.OutputInProgress.{entries_in_blocks}
 use Rattle.cut.specs.Plan.{block_ends_from, stored_len}
 use Rattle.cut.specs.PlanInvariant.{IsPlannedOutput}
 use Rattle.cut.proofs.Metered.{length-piece}
@@ -38,10 +38,10 @@ module _ (interval : ℕ) where
   block_holds : (q : List Entry) → length q ≤ length (block interval q)
   block_holds q = omega (arith, all_more [] q)
 
-stored_holds : (o : Options) (blocks : List PlannedBlock) → length (entries_in_blocks blocks) ≤ stored_len o.restart_interval (parts_of blocks)
+stored_holds : (o : Options) (blocks : List PlannedBlock) → length (entries_in_blocks blocks) ≤ stored_len o.restart_interval (block_lists blocks)
 stored_holds o [] = omega arith
 stored_holds o (b ∷ bs) =
-    omega (arith, length-append b.entries.entries (entries_in_blocks bs), stored_cons o b.entries.entries (parts_of bs), block_holds o.restart_interval b.entries.entries, stored_holds o bs)
+    omega (arith, length-append b.entries.entries (entries_in_blocks bs), stored_cons o b.entries.entries (block_lists bs), block_holds o.restart_interval b.entries.entries, stored_holds o bs)
 
 pub output_holds : (cmp : List ℕ → List ℕ → Ordering) (short_keys : ShortKeys) (o : Options) (p : PlannedOutput) → IsPlannedOutput (table cmp short_keys o) o p → length (entries_in_blocks p.blocks.items) ≤ MAX_TABLE_LEN
 output_holds cmp short_keys o p h =
@@ -49,12 +49,12 @@ output_holds cmp short_keys o p h =
 
 -- ---- a block
 
-pub part_at : (blocks : List PlannedBlock) (i : ℕ) (b : PlannedBlock) → i < length blocks → slice_get (parts_of blocks) i ≡ Some (get_or blocks i b).entries.entries
+pub part_at : (blocks : List PlannedBlock) (i : ℕ) (b : PlannedBlock) → i < length blocks → slice_get (block_lists blocks) i ≡ Some (get_or blocks i b).entries.entries
 part_at [] i b lt = absurd (omega arith)
 part_at (x ∷ xs) zero b lt = refl
 part_at (x ∷ xs) (suc i) b lt = part_at xs i b (omega arith)
 
-pub part_none : (blocks : List PlannedBlock) (i : ℕ) → length blocks ≤ i → slice_get (parts_of blocks) i ≡ None
+pub part_none : (blocks : List PlannedBlock) (i : ℕ) → length blocks ≤ i → slice_get (block_lists blocks) i ≡ None
 part_none [] zero le = refl
 part_none [] (suc i) le = refl
 part_none (b ∷ bs) zero le = absurd (omega arith)
@@ -68,7 +68,7 @@ front_le [] (suc n) = omega arith
 front_le (b ∷ bs) (suc n) =
     omega (arith, length-append b.entries.entries (entries_in_blocks (take n bs)), length-append b.entries.entries (entries_in_blocks bs), front_le bs n)
 
-pub end_at : (at : ℕ) (blocks : List PlannedBlock) (i : ℕ) → i < length blocks → slice_get (block_ends_from at (parts_of blocks)) i ≡ Some (at + length (entries_in_blocks (take (suc i) blocks)))
+pub end_at : (at : ℕ) (blocks : List PlannedBlock) (i : ℕ) → i < length blocks → slice_get (block_ends_from at (block_lists blocks)) i ≡ Some (at + length (entries_in_blocks (take (suc i) blocks)))
 end_at at [] i lt = absurd (omega arith)
 end_at at (b ∷ bs) zero lt = ap (λ (q : List Entry). Some (at + length q)) (sym (append-nil b.entries.entries))
 end_at at (b ∷ bs) (suc i) lt =
@@ -76,7 +76,7 @@ end_at at (b ∷ bs) (suc i) lt =
     let same : at + length b.entries.entries + length rest ≡ at + length (b.entries.entries ++ rest) = omega (arith, length-append b.entries.entries rest) in
     end_at (at + length b.entries.entries) bs i (omega arith) ∙ ap (λ (n : ℕ). Some n) same
 
-pub end_none : (at : ℕ) (blocks : List PlannedBlock) (i : ℕ) → length blocks ≤ i → slice_get (block_ends_from at (parts_of blocks)) i ≡ None
+pub end_none : (at : ℕ) (blocks : List PlannedBlock) (i : ℕ) → length blocks ≤ i → slice_get (block_ends_from at (block_lists blocks)) i ≡ None
 end_none at [] zero le = refl
 end_none at [] (suc i) le = refl
 end_none at (b ∷ bs) zero le = absurd (omega arith)

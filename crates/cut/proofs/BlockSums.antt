@@ -7,11 +7,11 @@ use Rattle.std.proofs.lemmas.List.{length-append, length-map, drop_more}
 use Rattle.std.proofs.lemmas.Option.{same_Some}
 use Rattle.block.specs.EncodedEntry.{Entry}
 use Rattle.block.specs.BuilderView.{last_key}
-use Rattle.table.specs.ReadingEntries.{first_key}
+use Rattle.table.specs.EntryTests.{first_key}
 use Rattle.encoding.specs.declared.planned_block.PlannedBlock.{PlannedBlock}
-use Rattle.cut.specs.Metered.{last_entry_key}
-use Rattle.encoding.specs.Planned.{parts_of}
-use Rattle.cut.specs.Opened.{entries_in_blocks}
+use Rattle.cut.specs.BlockInProgress.{last_entry_key}
+use Rattle.encoding.specs.PlannedBlocks.{block_lists}
+use Rattle.cut.specs.OutputInProgress.{entries_in_blocks}
 use Rattle.cut.specs.Plan.{block_ends_from}
 use Rattle.cut.specs.PlanInvariant.{HaveEntries}
 use Rattle.cut.proofs.Metered.{ended_is}
@@ -70,8 +70,8 @@ length-ends : (at : ℕ) (ps : List (List Entry)) → length (block_ends_from at
 length-ends at [] = refl
 length-ends at (p ∷ ps) = let rest = length-ends (at + length p) ps in omega (arith, rest)
 
-pub blocks_are : (blocks : List PlannedBlock) → length blocks ≡ length (block_ends_from 0 (parts_of blocks))
-blocks_are blocks = sym (length-ends 0 (parts_of blocks) ∙ length-map blocks (λ (b : PlannedBlock). b.entries.entries))
+pub blocks_are : (blocks : List PlannedBlock) → length blocks ≡ length (block_ends_from 0 (block_lists blocks))
+blocks_are blocks = sym (length-ends 0 (block_lists blocks) ∙ length-map blocks (λ (b : PlannedBlock). b.entries.entries))
 
 pub some_len : (blocks : List PlannedBlock) → blocks ≢ [] → 0 < length blocks
 some_len [] some = absurd (some refl)

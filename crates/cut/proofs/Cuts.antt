@@ -8,13 +8,13 @@ use Rattle.std.proofs.Math.Seq.{take-add}
 use Rattle.coding.specs.declared.fault.Fault.{Fault}
 use Rattle.block.specs.EncodedEntry.{Entry}
 use Rattle.table.specs.declared.options.Options.{Options}
-use Rattle.table.specs.DataBlocks.{is_full, open_block, blocks_behind, data_blocks}
+use Rattle.table.specs.DataBlocks.{is_full, open_block, blocks_after, data_blocks}
 use Rattle.encoding.specs.declared.planned_block.PlannedBlock.{PlannedBlock}
-use Rattle.merge.specs.Merged.{entries_of_lists}
+use Rattle.merge.specs.MergedLists.{entries_of_lists}
 use Rattle.cut.specs.OutputCuts.{OutputsInProgress, outputs_left}
-use Rattle.encoding.specs.Planned.{parts_of}
-use Rattle.cut.specs.Opened.{entries_in_blocks, HasLen, ArePlanned, ends_by}
-use Rattle.cut.specs.Outputs.{ends_before, outputs_behind, outputs_in, segments}
+use Rattle.encoding.specs.PlannedBlocks.{block_lists}
+use Rattle.cut.specs.OutputInProgress.{entries_in_blocks, HasLen, ArePlanned, ends_by}
+use Rattle.cut.specs.Outputs.{ends_before, outputs_after, outputs_in, segments}
 
 module _ (o : Options) where
   -- ---- the entries of data blocks
@@ -23,12 +23,12 @@ module _ (o : Options) where
   open_all [] = refl
   open_all (e ∷ es) = append-nil (e ∷ es)
 
-  behind_by : (full : Bool) (latest : List Entry) (e : Entry) (es : List Entry) → entries_of_lists (blocks_behind o (e ∷ []) es) ≡ e ∷ es → entries_of_lists (blocks_behind o (latest ++ e ∷ []) es) ≡ (latest ++ e ∷ []) ++ es
-      → entries_of_lists (if full then latest ∷ blocks_behind o (e ∷ []) es else blocks_behind o (latest ++ e ∷ []) es) ≡ latest ++ e ∷ es
+  behind_by : (full : Bool) (latest : List Entry) (e : Entry) (es : List Entry) → entries_of_lists (blocks_after o (e ∷ []) es) ≡ e ∷ es → entries_of_lists (blocks_after o (latest ++ e ∷ []) es) ≡ (latest ++ e ∷ []) ++ es
+      → entries_of_lists (if full then latest ∷ blocks_after o (e ∷ []) es else blocks_after o (latest ++ e ∷ []) es) ≡ latest ++ e ∷ es
   behind_by true latest e es flushed grown = ap (λ (xs : List Entry). latest ++ xs) flushed
   behind_by false latest e es flushed grown = grown ∙ append_assoc latest (e ∷ []) es
 
-  behind_all : (latest es : List Entry) → entries_of_lists (blocks_behind o latest es) ≡ latest ++ es
+  behind_all : (latest es : List Entry) → entries_of_lists (blocks_after o latest es) ≡ latest ++ es
   behind_all latest [] = open_all latest ∙ sym (append-nil latest)
   behind_all latest (e ∷ es) = behind_by (is_full o latest) latest e es (behind_all (e ∷ []) es) (behind_all (latest ++ e ∷ []) es)
 
@@ -37,26 +37,26 @@ module _ (o : Options) where
   data_blocks_all q = behind_all [] q
 
   -- planned blocks have the entries of which they are the data blocks
-  pub entries_are : (q : List Entry) (blocks : List PlannedBlock) → parts_of blocks ≡ data_blocks o q → entries_in_blocks blocks ≡ q
+  pub entries_are : (q : List Entry) (blocks : List PlannedBlock) → block_lists blocks ≡ data_blocks o q → entries_in_blocks blocks ≡ q
   entries_are q blocks are = ap entries_of_lists are ∙ data_blocks_all q
 
-  pub planned_are : (q : List Entry) (blocks : List PlannedBlock) → parts_of blocks ≡ data_blocks o q → AllByRecursion (HasLen o) blocks → ArePlanned o blocks
+  pub planned_are : (q : List Entry) (blocks : List PlannedBlock) → block_lists blocks ≡ data_blocks o q → AllByRecursion (HasLen o) blocks → ArePlanned o blocks
   planned_are q blocks are lens = record { cut = are ∙ ap (data_blocks o) (sym (entries_are q blocks are)); lens = lens }
 
   -- ---- an output ends
 
-  pub ended_none : (outputs : List (List Entry)) (q : List Entry) (blocks : List PlannedBlock) → parts_of blocks ≡ data_blocks o q → blocks ≡ [] → outputs ≡ outputs ++ outputs_behind o q []
+  pub ended_none : (outputs : List (List Entry)) (q : List Entry) (blocks : List PlannedBlock) → block_lists blocks ≡ data_blocks o q → blocks ≡ [] → outputs ≡ outputs ++ outputs_after o q []
   ended_none outputs q blocks are none =
       let no : q ≡ [] = sym (entries_are q blocks are) ∙ ap entries_in_blocks none in
       sym (ap (λ (xs : List Entry). outputs ++ open_block xs) no ∙ append-nil outputs)
 
-  some_open : (q : List Entry) (blocks : List PlannedBlock) → parts_of blocks ≡ data_blocks o q → (blocks ≡ [] → ⊥) → open_block q ≡ q ∷ []
+  some_open : (q : List Entry) (blocks : List PlannedBlock) → block_lists blocks ≡ data_blocks o q → (blocks ≡ [] → ⊥) → open_block q ≡ q ∷ []
   unfolding data_blocks
   some_open [] [] are some = absurd (some refl)
-  some_open [] (b ∷ bs) are some = absurd (let no : parts_of (b ∷ bs) ≡ [] = are in cc)
+  some_open [] (b ∷ bs) are some = absurd (let no : block_lists (b ∷ bs) ≡ [] = are in cc)
   some_open (e ∷ es) blocks are some = refl
 
-  pub ended_some : (outputs : List (List Entry)) (q : List Entry) (blocks : List PlannedBlock) → parts_of blocks ≡ data_blocks o q → (blocks ≡ [] → ⊥) → outputs ++ entries_in_blocks blocks ∷ [] ≡ outputs ++ outputs_behind o q []
+  pub ended_some : (outputs : List (List Entry)) (q : List Entry) (blocks : List PlannedBlock) → block_lists blocks ≡ data_blocks o q → (blocks ≡ [] → ⊥) → outputs ++ entries_in_blocks blocks ∷ [] ≡ outputs ++ outputs_after o q []
   ended_some outputs q blocks are some =
       ap (λ (xs : List Entry). outputs ++ xs ∷ []) (entries_are q blocks are) ∙ sym (ap (λ (ps : List (List Entry)). outputs ++ ps) (some_open q blocks are some))
 
@@ -75,24 +75,24 @@ module _ (o : Options) where
   ends_open (x ∷ xs) e ends = refl
 
   ends_first : (outputs : List (List Entry)) (latest behind : List Entry) (taken : ℕ) → 0 < taken → 0 < length behind → ends_by o latest behind ≡ true → (rest : List Entry)
-      → (outputs ++ outputs_behind o latest []) ++ outputs_behind o [] (take taken behind ++ rest) ≡ outputs ++ outputs_behind o latest (take taken behind ++ rest)
+      → (outputs ++ outputs_after o latest []) ++ outputs_after o [] (take taken behind ++ rest) ≡ outputs ++ outputs_after o latest (take taken behind ++ rest)
   ends_first outputs latest [] taken any some ends rest = absurd (omega (arith, some))
   ends_first outputs latest (e ∷ es) zero any some ends rest = absurd (omega (arith, any))
   ends_first outputs latest (e ∷ es) (suc n) any some ends rest =
-      let last : outputs_behind o latest (e ∷ (take n es ++ rest)) ≡ latest ∷ outputs_behind o (e ∷ []) (take n es ++ rest) = rw ends refl in
-      ap (λ (ps : List (List Entry)). (outputs ++ ps) ++ outputs_behind o (e ∷ []) (take n es ++ rest)) (ends_open latest e ends)
-      ∙ append_assoc outputs (latest ∷ []) (outputs_behind o (e ∷ []) (take n es ++ rest))
+      let last : outputs_after o latest (e ∷ (take n es ++ rest)) ≡ latest ∷ outputs_after o (e ∷ []) (take n es ++ rest) = rw ends refl in
+      ap (λ (ps : List (List Entry)). (outputs ++ ps) ++ outputs_after o (e ∷ []) (take n es ++ rest)) (ends_open latest e ends)
+      ∙ append_assoc outputs (latest ∷ []) (outputs_after o (e ∷ []) (take n es ++ rest))
       ∙ ap (λ (ps : List (List Entry)). outputs ++ ps) (sym last)
 
   -- ---- one segment more
 
-  pub segment_more : (outputs after : List (List Entry)) (from stop : ℕ) (stops : List ℕ) (behind : List Entry) → after ≡ outputs ++ outputs_behind o [] (take (stop - from) behind)
+  pub segment_more : (outputs after : List (List Entry)) (from stop : ℕ) (stops : List ℕ) (behind : List Entry) → after ≡ outputs ++ outputs_after o [] (take (stop - from) behind)
       → after ++ flat_map (outputs_in o) (segments stop stops (drop (stop - from) behind)) ≡ outputs ++ flat_map (outputs_in o) (segments from (stop ∷ stops) behind)
   segment_more outputs after from stop stops behind is =
       ap (λ (ps : List (List Entry)). ps ++ flat_map (outputs_in o) (segments stop stops (drop (stop - from) behind))) is
       ∙ append_assoc outputs (outputs_in o (take (stop - from) behind)) (flat_map (outputs_in o) (segments stop stops (drop (stop - from) behind)))
 
-  pub segment_last : (outputs : List (List Entry)) (from : ℕ) (behind : List Entry) → outputs ++ outputs_behind o [] behind ≡ outputs ++ flat_map (outputs_in o) (segments from [] behind)
+  pub segment_last : (outputs : List (List Entry)) (from : ℕ) (behind : List Entry) → outputs ++ outputs_after o [] behind ≡ outputs ++ flat_map (outputs_in o) (segments from [] behind)
   segment_last outputs from behind = ap (λ (ps : List (List Entry)). outputs ++ ps) (sym (append-nil (outputs_in o behind)))
 
 -- an output that ends before the next entry, and another one begun there, are as it was

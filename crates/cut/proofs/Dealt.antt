@@ -5,7 +5,7 @@ use Rattle.std.proofs.lemmas.List.{drop_more, drop_all}
 use Rattle.std.proofs.lemmas.List.Sums.{sum_by-cons}
 use Rattle.encoding.specs.declared.planned_block.PlannedBlock.{PlannedBlock}
 use Rattle.cut.specs.declared.piece.Piece.{Piece}
-use Rattle.cut.specs.Divided.{piece_places_from}
+use Rattle.cut.specs.PieceDivision.{piece_places_from}
 use Rattle.cut.specs.TableLength.{lens_of}
 
 -- Pieces were dealt out after those before: with those of the blocks that are left they are all pieces of the blocks.

@@ -13,7 +13,7 @@ use Rattle.table.specs.declared.options.Options.{Options}
 use Rattle.table.specs.DataBlocks.{is_full}
 use Rattle.encoding.proofs.Lists.{length_le_block}
 use Rattle.encoding.proofs.Places.{drop_next, last_joined, last_counted}
-use Rattle.cut.specs.Metered.{BlockInProgress, IsMetered, block_after_entries, last_entry_key, next_since, added_size}
+use Rattle.cut.specs.BlockInProgress.{BlockInProgress, IsMetered, block_after_entries, last_entry_key, next_since, added_size}
 use Rattle.cut.proofs.Metered.{metered_push}
 
 -- `taken` of the entries after are taken in, and the block was full before none of them; `rest` is what is left, and `before` the key

@@ -12,7 +12,7 @@ use Rattle.coding.proofs.Refusals.{unless_from}
 use Rattle.table.specs.declared.options.Options.{Options}
 use Rattle.keep.proofs.OnAnswers.{same_ok}
 use Rattle.cut.specs.declared.planned_output.PlannedOutput.{PlannedOutput}
-use Rattle.cut.specs.Groups.{open_group, groups_behind, groups_of, plan_groups}
+use Rattle.cut.specs.Groups.{open_group, groups_after, groups_of, plan_groups}
 use Rattle.cut.specs.OutputPlan.{PlanSeen}
 use Rattle.cut.specs.Plan.{OutputView}
 use Rattle.cut.specs.PlanInvariant.{planned_of, block_count}
@@ -24,13 +24,13 @@ module _ {A : Type 0} (n : ℕ) where
   none_open [] = refl
   none_open (x ∷ xs) = refl
 
-  joined_by : (b : Bool) (latest : List A) (x : A) (xs : List A) → flat_map (λ (g : List A). g) (groups_behind n [] xs) ≡ xs
-      → flat_map (λ (g : List A). g) (groups_behind n (latest ++ x ∷ []) xs) ≡ (latest ++ x ∷ []) ++ xs
-      → flat_map (λ (g : List A). g) (if b then (latest ++ x ∷ []) ∷ groups_behind n [] xs else groups_behind n (latest ++ x ∷ []) xs) ≡ (latest ++ x ∷ []) ++ xs
+  joined_by : (b : Bool) (latest : List A) (x : A) (xs : List A) → flat_map (λ (g : List A). g) (groups_after n [] xs) ≡ xs
+      → flat_map (λ (g : List A). g) (groups_after n (latest ++ x ∷ []) xs) ≡ (latest ++ x ∷ []) ++ xs
+      → flat_map (λ (g : List A). g) (if b then (latest ++ x ∷ []) ∷ groups_after n [] xs else groups_after n (latest ++ x ∷ []) xs) ≡ (latest ++ x ∷ []) ++ xs
   joined_by true latest x xs closed grown = ap (λ (ys : List A). (latest ++ x ∷ []) ++ ys) closed
   joined_by false latest x xs closed grown = grown
 
-  joined_behind : (latest xs : List A) → flat_map (λ (g : List A). g) (groups_behind n latest xs) ≡ latest ++ xs
+  joined_behind : (latest xs : List A) → flat_map (λ (g : List A). g) (groups_after n latest xs) ≡ latest ++ xs
   joined_behind latest [] = none_open latest
   joined_behind latest (x ∷ xs) =
       joined_by (nat_le n (length (latest ++ x ∷ []))) latest x xs (joined_behind [] xs) (joined_behind (latest ++ x ∷ []) xs)
@@ -47,17 +47,17 @@ module _ {A B : Type 0} (f : A → B) (n : ℕ) where
   open_mapped [] = refl
   open_mapped (x ∷ xs) = refl
 
-  mapped_by : (b : Bool) (more xs : List A) → groups_behind n [] (map f xs) ≡ map (map f) (groups_behind n [] xs) → groups_behind n (map f more) (map f xs) ≡ map (map f) (groups_behind n more xs)
-      → (if b then map f more ∷ groups_behind n [] (map f xs) else groups_behind n (map f more) (map f xs)) ≡ map (map f) (if b then more ∷ groups_behind n [] xs else groups_behind n more xs)
+  mapped_by : (b : Bool) (more xs : List A) → groups_after n [] (map f xs) ≡ map (map f) (groups_after n [] xs) → groups_after n (map f more) (map f xs) ≡ map (map f) (groups_after n more xs)
+      → (if b then map f more ∷ groups_after n [] (map f xs) else groups_after n (map f more) (map f xs)) ≡ map (map f) (if b then more ∷ groups_after n [] xs else groups_after n more xs)
   mapped_by true more xs closed grown = ap (λ (gs : List (List B)). map f more ∷ gs) closed
   mapped_by false more xs closed grown = grown
 
-  mapped_behind : (latest xs : List A) → groups_behind n (map f latest) (map f xs) ≡ map (map f) (groups_behind n latest xs)
+  mapped_behind : (latest xs : List A) → groups_after n (map f latest) (map f xs) ≡ map (map f) (groups_after n latest xs)
   mapped_behind latest [] = open_mapped latest
   mapped_behind latest (x ∷ xs) =
       let more : List A = latest ++ x ∷ [] in
-      ap (λ (ys : List B). if nat_le n (length ys) then ys ∷ groups_behind n [] (map f xs) else groups_behind n ys (map f xs)) (sym (map-append f latest (x ∷ [])))
-      ∙ ap (λ (k : ℕ). if nat_le n k then map f more ∷ groups_behind n [] (map f xs) else groups_behind n (map f more) (map f xs)) (length-map more f)
+      ap (λ (ys : List B). if nat_le n (length ys) then ys ∷ groups_after n [] (map f xs) else groups_after n ys (map f xs)) (sym (map-append f latest (x ∷ [])))
+      ∙ ap (λ (k : ℕ). if nat_le n k then map f more ∷ groups_after n [] (map f xs) else groups_after n (map f more) (map f xs)) (length-map more f)
       ∙ mapped_by (nat_le n (length more)) more xs (mapped_behind [] xs) (mapped_behind more xs)
 
   pub groups_mapped : (xs : List A) → groups_of n (map f xs) ≡ map (map f) (groups_of n xs)
@@ -68,28 +68,28 @@ module _ {A B : Type 0} (f : A → B) (n : ℕ) where
 module _ {A B : Type 0} (f : List A → B) (n : ℕ) (all : List A) where
   -- the closed groups, and those of the open one and what is ahead, are the groups of all
   abbrev pub AreDealt : List B → List A → List A → Type 0
-  AreDealt groups latest ahead = groups ++ map f (groups_behind n latest ahead) ≡ map f (groups_of n all)
+  AreDealt groups latest ahead = groups ++ map f (groups_after n latest ahead) ≡ map f (groups_of n all)
 
   stays_open : (m : ℕ) → m < n → nat_le n m ≡ false
   stays_open m h = grind (arith, nat_tests)
 
   next_is : (b : Bool) (latest : List A) (x : A) (rest : List A) → nat_le n (length (latest ++ x ∷ [])) ≡ b
-      → groups_behind n latest (x ∷ rest) ≡ (if b then (latest ++ x ∷ []) ∷ groups_behind n [] rest else groups_behind n (latest ++ x ∷ []) rest)
-  next_is b latest x rest is = ap (λ (t : Bool). if t then (latest ++ x ∷ []) ∷ groups_behind n [] rest else groups_behind n (latest ++ x ∷ []) rest) is
+      → groups_after n latest (x ∷ rest) ≡ (if b then (latest ++ x ∷ []) ∷ groups_after n [] rest else groups_after n (latest ++ x ∷ []) rest)
+  next_is b latest x rest is = ap (λ (t : Bool). if t then (latest ++ x ∷ []) ∷ groups_after n [] rest else groups_after n (latest ++ x ∷ []) rest) is
 
   pub dealt_open : (groups : List B) (latest more ahead rest : List A) (x : A) → ahead ≡ x ∷ rest → more ≡ latest ++ x ∷ [] → length more < n → AreDealt groups latest ahead → AreDealt groups more rest
   dealt_open groups latest more ahead rest x next is less dealt =
-      ap (λ (m : List A). groups ++ map f (groups_behind n m rest)) is
+      ap (λ (m : List A). groups ++ map f (groups_after n m rest)) is
       ∙ ap (λ (gs : List (List A)). groups ++ map f gs) (sym (next_is false latest x rest (stays_open (length (latest ++ x ∷ [])) (subst (λ (m : List A). length m < n) is less))))
-      ∙ ap (λ (xs : List A). groups ++ map f (groups_behind n latest xs)) (sym next)
+      ∙ ap (λ (xs : List A). groups ++ map f (groups_after n latest xs)) (sym next)
       ∙ dealt
 
   pub dealt_full : (groups : List B) (latest more ahead rest : List A) (x : A) → ahead ≡ x ∷ rest → more ≡ latest ++ x ∷ [] → n ≤ length more → AreDealt groups latest ahead → AreDealt (groups ++ f more ∷ []) [] rest
   dealt_full groups latest more ahead rest x next is enough dealt =
-      append_assoc groups (f more ∷ []) (map f (groups_behind n [] rest))
-      ∙ ap (λ (m : List A). groups ++ f m ∷ map f (groups_behind n [] rest)) is
+      append_assoc groups (f more ∷ []) (map f (groups_after n [] rest))
+      ∙ ap (λ (m : List A). groups ++ f m ∷ map f (groups_after n [] rest)) is
       ∙ ap (λ (gs : List (List A)). groups ++ map f gs) (sym (next_is true latest x rest (le-leb n (length (latest ++ x ∷ [])) (subst (λ (m : List A). n ≤ length m) is enough))))
-      ∙ ap (λ (xs : List A). groups ++ map f (groups_behind n latest xs)) (sym next)
+      ∙ ap (λ (xs : List A). groups ++ map f (groups_after n latest xs)) (sym next)
       ∙ dealt
 
   pub dealt_end : (groups : List B) (latest ahead : List A) → latest ≡ [] → length ahead ≡ 0 → AreDealt groups latest ahead → groups ≡ map f (groups_of n all)

@@ -17,15 +17,15 @@ use Rattle.frame.specs.Trailer.{stored_block}
 use Rattle.frame.proofs.Stored.{length-stored}
 use Rattle.table.specs.declared.options.Options.{Options}
 use Rattle.table.specs.Options.{AreInLimits}
-use Rattle.table.specs.DataBlocks.{is_full, open_block, blocks_behind, data_blocks, flushed, flushed_len}
+use Rattle.table.specs.DataBlocks.{is_full, open_block, blocks_after, data_blocks, flushed, flushed_len}
 use Rattle.table.specs.Table.{stored_blocks}
 use Rattle.encoding.specs.declared.planned_block.PlannedBlock.{PlannedBlock}
-use Rattle.merge.specs.Merged.{entries_of_lists}
-use Rattle.cut.specs.Metered.{BlockInProgress, block_after_entries, last_entry_key}
-use Rattle.cut.specs.Outputs.{ends_before, outputs_behind}
+use Rattle.merge.specs.MergedLists.{entries_of_lists}
+use Rattle.cut.specs.BlockInProgress.{BlockInProgress, block_after_entries, last_entry_key}
+use Rattle.cut.specs.Outputs.{ends_before, outputs_after}
 use Rattle.cut.specs.Plan.{stored_len}
-use Rattle.encoding.specs.Planned.{parts_of}
-use Rattle.cut.specs.Opened.{entries_in_blocks, HasLen, IsFlushed, ends_by, IsOpen}
+use Rattle.encoding.specs.PlannedBlocks.{block_lists}
+use Rattle.cut.specs.OutputInProgress.{entries_in_blocks, HasLen, IsFlushed, ends_by, IsOpen}
 use Rattle.cut.proofs.MeteredLengths.{lengths_law}
 
 -- ---- the last key
@@ -47,14 +47,14 @@ all_push : {X : Type 0} (P : X → Type 0) (xs : List X) (x : X) → AllByRecurs
 all_push P [] x h p = (p, tt)
 all_push P (y ∷ ys) x h p = (h.0, all_push P ys x h.1 p)
 
-pub parts_push : (blocks : List PlannedBlock) (b : PlannedBlock) → parts_of (blocks ++ b ∷ []) ≡ parts_of blocks ++ b.entries.entries ∷ []
+pub parts_push : (blocks : List PlannedBlock) (b : PlannedBlock) → block_lists (blocks ++ b ∷ []) ≡ block_lists blocks ++ b.entries.entries ∷ []
 parts_push [] b = refl
 parts_push (x ∷ xs) b = ap (λ (ps : List (List Entry)). x.entries.entries ∷ ps) (parts_push xs b)
 
 pub entries_push : (blocks : List PlannedBlock) (b : PlannedBlock) → entries_in_blocks (blocks ++ b ∷ []) ≡ entries_in_blocks blocks ++ b.entries.entries
 entries_push blocks b =
     ap entries_of_lists (parts_push blocks b)
-    ∙ flat_map-append (λ (q : List Entry). q) (parts_of blocks) (b.entries.entries ∷ [])
+    ∙ flat_map-append (λ (q : List Entry). q) (block_lists blocks) (b.entries.entries ∷ [])
     ∙ ap (λ (q : List Entry). entries_in_blocks blocks ++ q) (append-nil b.entries.entries)
 
 -- the last key of some entries is that of those after others
@@ -76,12 +76,12 @@ module _ (o : Options) where
   -- ---- data blocks
 
   -- a full block ends, whatever comes after it
-  flush : (p rest : List Entry) → is_full o p ≡ true → blocks_behind o p rest ≡ p ∷ blocks_behind o [] rest
+  flush : (p rest : List Entry) → is_full o p ≡ true → blocks_after o p rest ≡ p ∷ blocks_after o [] rest
   flush [] rest full = absurd (false≢true full)
   flush (x ∷ xs) [] full = refl
   flush (x ∷ xs) (e ∷ es) full = rw full refl
 
-  grow : (p : List Entry) (e : Entry) (rest : List Entry) → is_full o p ≡ false → blocks_behind o p (e ∷ rest) ≡ blocks_behind o (p ++ e ∷ []) rest
+  grow : (p : List Entry) (e : Entry) (rest : List Entry) → is_full o p ≡ false → blocks_after o p (e ∷ rest) ≡ blocks_after o (p ++ e ∷ []) rest
   grow p e rest part = rw part refl
 
   -- the entries of blocks and the open one, with one entry more
@@ -89,14 +89,14 @@ module _ (o : Options) where
   more blocks q e rest =
       ap (λ (es : List Entry). es ++ rest) (sym (append_assoc (entries_in_blocks blocks) q (e ∷ []))) ∙ append_assoc (entries_in_blocks blocks ++ q) (e ∷ []) rest
 
-  one_more : (blocks : List PlannedBlock) (q : List Entry) (e : Entry) → is_full o q ≡ false → ((rest : List Entry) → blocks_behind o [] ((entries_in_blocks blocks ++ q) ++ rest) ≡ parts_of blocks ++ blocks_behind o q rest) → (rest : List Entry)
-      → blocks_behind o [] ((entries_in_blocks blocks ++ (q ++ e ∷ [])) ++ rest) ≡ parts_of blocks ++ blocks_behind o (q ++ e ∷ []) rest
+  one_more : (blocks : List PlannedBlock) (q : List Entry) (e : Entry) → is_full o q ≡ false → ((rest : List Entry) → blocks_after o [] ((entries_in_blocks blocks ++ q) ++ rest) ≡ block_lists blocks ++ blocks_after o q rest) → (rest : List Entry)
+      → blocks_after o [] ((entries_in_blocks blocks ++ (q ++ e ∷ [])) ++ rest) ≡ block_lists blocks ++ blocks_after o (q ++ e ∷ []) rest
   one_more blocks q e part cuts rest =
-      ap (blocks_behind o []) (more blocks q e rest) ∙ cuts (e ∷ rest) ∙ ap (λ (ps : List (List Entry)). parts_of blocks ++ ps) (grow q e rest part)
+      ap (blocks_after o []) (more blocks q e rest) ∙ cuts (e ∷ rest) ∙ ap (λ (ps : List (List Entry)). block_lists blocks ++ ps) (grow q e rest part)
 
   -- the data blocks begin with these, however many entries come after the open ones
   abbrev Cut_by : List PlannedBlock → List Entry → Type 0
-  Cut_by blocks q = (rest : List Entry) → blocks_behind o [] ((entries_in_blocks blocks ++ q) ++ rest) ≡ parts_of blocks ++ blocks_behind o q rest
+  Cut_by blocks q = (rest : List Entry) → blocks_after o [] ((entries_in_blocks blocks ++ q) ++ rest) ≡ block_lists blocks ++ blocks_after o q rest
 
   -- the same with n entries more, if the open block is full before none of them
   more_by : (blocks : List PlannedBlock) (n : ℕ) (q es : List Entry) → ((m : ℕ) → m < n → is_full o (q ++ take m es) ≡ false) → Cut_by blocks q → Cut_by blocks (q ++ take n es)
@@ -116,7 +116,7 @@ module _ (o : Options) where
     part = ap (is_full o) none;
     full = tt;
     lens = tt;
-    cuts = λ rest. ap (λ (q : List Entry). blocks_behind o [] (q ++ rest)) none ∙ sym (ap (λ (q : List Entry). blocks_behind o q rest) none);
+    cuts = λ rest. ap (λ (q : List Entry). blocks_after o [] (q ++ rest)) none ∙ sym (ap (λ (q : List Entry). blocks_after o q rest) none);
     flushed_is = refl;
     last_is = sym (ap last_entry_key none);
   }
@@ -146,13 +146,13 @@ module _ (o : Options) where
   sum_saturated : (whole before len : ℕ) → whole ≡ before + (len + 5) → min (min (saturated before + saturated len) (2 ^ 64 - 1) + 5) (2 ^ 64 - 1) ≡ saturated whole
   sum_saturated whole before len is = omega arith
 
-  stored_push : (blocks : List PlannedBlock) (size : ℕ) (b : PlannedBlock) → size ≡ saturated (stored_len o.restart_interval (parts_of blocks)) → HasLen o b
-      → min (min (size + b.len) (2 ^ 64 - 1) + 5) (2 ^ 64 - 1) ≡ saturated (stored_len o.restart_interval (parts_of (blocks ++ b ∷ [])))
+  stored_push : (blocks : List PlannedBlock) (size : ℕ) (b : PlannedBlock) → size ≡ saturated (stored_len o.restart_interval (block_lists blocks)) → HasLen o b
+      → min (min (size + b.len) (2 ^ 64 - 1) + 5) (2 ^ 64 - 1) ≡ saturated (stored_len o.restart_interval (block_lists (blocks ++ b ∷ [])))
   stored_push blocks size b size_is len_is =
       ap (λ (n : ℕ). min (min (n + b.len) (2 ^ 64 - 1) + 5) (2 ^ 64 - 1)) size_is
-      ∙ ap (λ (n : ℕ). min (min (saturated (stored_len o.restart_interval (parts_of blocks)) + n) (2 ^ 64 - 1) + 5) (2 ^ 64 - 1)) len_is
-      ∙ sum_saturated (stored_len o.restart_interval (parts_of (blocks ++ b ∷ []))) (stored_len o.restart_interval (parts_of blocks)) (length (block o.restart_interval b.entries.entries))
-      (ap (stored_len o.restart_interval) (parts_push blocks b) ∙ lengths_law.stored o.restart_interval (parts_of blocks) b.entries.entries)
+      ∙ ap (λ (n : ℕ). min (min (saturated (stored_len o.restart_interval (block_lists blocks)) + n) (2 ^ 64 - 1) + 5) (2 ^ 64 - 1)) len_is
+      ∙ sum_saturated (stored_len o.restart_interval (block_lists (blocks ++ b ∷ []))) (stored_len o.restart_interval (block_lists blocks)) (length (block o.restart_interval b.entries.entries))
+      (ap (stored_len o.restart_interval) (parts_push blocks b) ∙ lengths_law.stored o.restart_interval (block_lists blocks) b.entries.entries)
 
   pub open_flushed : (blocks : List PlannedBlock) (size : ℕ) (last key : Option (List ℕ)) (before full after : BlockInProgress) (n : ℕ) (b : PlannedBlock) → IsOpen o blocks size last before → full ≡ block_after_entries n before
       → ((m : ℕ) → m < n → is_full o (block_after_entries m before).entries ≡ false) → is_full o full.entries ≡ true → b.entries.entries ≡ full.entries → b.len ≡ saturated (length (block full.interval full.entries))
@@ -174,58 +174,58 @@ module _ (o : Options) where
         full = all_push (IsFlushed o) blocks b h.full whole;
         lens = all_push (HasLen o) blocks b h.lens has_len;
         cuts = λ rest.
-            ap (λ (xs : List Entry). blocks_behind o [] (xs ++ rest)) entries
+            ap (λ (xs : List Entry). blocks_after o [] (xs ++ rest)) entries
             ∙ grew rest
-            ∙ ap (λ (ps : List (List Entry)). parts_of blocks ++ ps) (flush q rest whole)
-            ∙ sym (append_assoc (parts_of blocks) (q ∷ []) (blocks_behind o [] rest))
-            ∙ sym (ap (λ (ps : List (List Entry)). ps ++ blocks_behind o [] rest) (parts_push blocks b))
-            ∙ sym (ap (λ (xs : List Entry). parts_of (blocks ++ b ∷ []) ++ blocks_behind o xs rest) none);
+            ∙ ap (λ (ps : List (List Entry)). block_lists blocks ++ ps) (flush q rest whole)
+            ∙ sym (append_assoc (block_lists blocks) (q ∷ []) (blocks_after o [] rest))
+            ∙ sym (ap (λ (ps : List (List Entry)). ps ++ blocks_after o [] rest) (parts_push blocks b))
+            ∙ sym (ap (λ (xs : List Entry). block_lists (blocks ++ b ∷ []) ++ blocks_after o xs rest) none);
         flushed_is = stored_push blocks size b h.flushed_is has_len;
         last_is = key_is ∙ sym (ap last_entry_key entries ∙ ap (λ (xs : List Entry). last_entry_key (entries_in_blocks blocks ++ xs)) entries_are);
       }
 
   -- ---- all data blocks
 
-  pub blocks_open : (blocks : List PlannedBlock) (size : ℕ) (last : Option (List ℕ)) (open_one : BlockInProgress) → IsOpen o blocks size last open_one → data_blocks o (entries_in_blocks blocks ++ open_one.entries) ≡ parts_of blocks ++ open_block open_one.entries
+  pub blocks_open : (blocks : List PlannedBlock) (size : ℕ) (last : Option (List ℕ)) (open_one : BlockInProgress) → IsOpen o blocks size last open_one → data_blocks o (entries_in_blocks blocks ++ open_one.entries) ≡ block_lists blocks ++ open_block open_one.entries
   unfolding data_blocks
-  blocks_open blocks size last open_one h = ap (blocks_behind o []) (sym (append-nil (entries_in_blocks blocks ++ open_one.entries))) ∙ h.cuts []
+  blocks_open blocks size last open_one h = ap (blocks_after o []) (sym (append-nil (entries_in_blocks blocks ++ open_one.entries))) ∙ h.cuts []
 
   some_block : (q : List Entry) → (q ≡ [] → ⊥) → open_block q ≡ q ∷ []
   some_block [] some = absurd (some refl)
   some_block (e ∷ es) some = refl
 
   pub blocks_some : (blocks : List PlannedBlock) (size : ℕ) (last : Option (List ℕ)) (open_one : BlockInProgress) (b : PlannedBlock) → IsOpen o blocks size last open_one → (open_one.entries ≡ [] → ⊥) → b.entries.entries ≡ open_one.entries
-      → parts_of (blocks ++ b ∷ []) ≡ data_blocks o (entries_in_blocks blocks ++ open_one.entries)
+      → block_lists (blocks ++ b ∷ []) ≡ data_blocks o (entries_in_blocks blocks ++ open_one.entries)
   blocks_some blocks size last open_one b h some is =
       parts_push blocks b
-      ∙ ap (λ (q : List Entry). parts_of blocks ++ q ∷ []) is
-      ∙ sym (blocks_open blocks size last open_one h ∙ ap (λ (ps : List (List Entry)). parts_of blocks ++ ps) (some_block open_one.entries some))
+      ∙ ap (λ (q : List Entry). block_lists blocks ++ q ∷ []) is
+      ∙ sym (blocks_open blocks size last open_one h ∙ ap (λ (ps : List (List Entry)). block_lists blocks ++ ps) (some_block open_one.entries some))
 
-  pub blocks_none : (blocks : List PlannedBlock) (size : ℕ) (last : Option (List ℕ)) (open_one : BlockInProgress) → IsOpen o blocks size last open_one → open_one.entries ≡ [] → parts_of blocks ≡ data_blocks o (entries_in_blocks blocks ++ open_one.entries)
+  pub blocks_none : (blocks : List PlannedBlock) (size : ℕ) (last : Option (List ℕ)) (open_one : BlockInProgress) → IsOpen o blocks size last open_one → open_one.entries ≡ [] → block_lists blocks ≡ data_blocks o (entries_in_blocks blocks ++ open_one.entries)
   blocks_none blocks size last open_one h none =
-      sym (blocks_open blocks size last open_one h ∙ ap (λ (q : List Entry). parts_of blocks ++ open_block q) none ∙ append-nil (parts_of blocks))
+      sym (blocks_open blocks size last open_one h ∙ ap (λ (q : List Entry). block_lists blocks ++ open_block q) none ∙ append-nil (block_lists blocks))
 
   -- ---- the flushed size
 
-  stored_sum : (blocks : List PlannedBlock) → AllByRecursion (IsFlushed o) blocks → stored_len o.restart_interval (parts_of blocks) ≡ sum_by (flushed_len o) (parts_of blocks)
+  stored_sum : (blocks : List PlannedBlock) → AllByRecursion (IsFlushed o) blocks → stored_len o.restart_interval (block_lists blocks) ≡ sum_by (flushed_len o) (block_lists blocks)
   stored_sum [] full = refl
   stored_sum (b ∷ bs) full =
       let p : List Entry = b.entries.entries in
       let one : flushed_len o p ≡ length (block o.restart_interval p) + 5 = rw full.0 refl in
-      length-append (stored_block (block o.restart_interval p)) (stored_blocks o.restart_interval (parts_of bs))
-      ∙ ap (λ (n : ℕ). n + stored_len o.restart_interval (parts_of bs)) (length-stored (block o.restart_interval p) ∙ sym one)
+      length-append (stored_block (block o.restart_interval p)) (stored_blocks o.restart_interval (block_lists bs))
+      ∙ ap (λ (n : ℕ). n + stored_len o.restart_interval (block_lists bs)) (length-stored (block o.restart_interval p) ∙ sym one)
       ∙ ap (λ (n : ℕ). flushed_len o p + n) (stored_sum bs full.1)
-      ∙ sym (sum_by-cons (flushed_len o) p (parts_of bs))
+      ∙ sym (sum_by-cons (flushed_len o) p (block_lists bs))
 
   open_sum : (q : List Entry) → is_full o q ≡ false → sum_by (flushed_len o) (open_block q) ≡ 0
   open_sum [] part = refl
   open_sum (e ∷ es) part = sum_by-cons (flushed_len o) (e ∷ es) [] ∙ rw part refl
 
-  flushed_open : (blocks : List PlannedBlock) (size : ℕ) (last : Option (List ℕ)) (open_one : BlockInProgress) → IsOpen o blocks size last open_one → flushed o (entries_in_blocks blocks ++ open_one.entries) ≡ stored_len o.restart_interval (parts_of blocks)
+  flushed_open : (blocks : List PlannedBlock) (size : ℕ) (last : Option (List ℕ)) (open_one : BlockInProgress) → IsOpen o blocks size last open_one → flushed o (entries_in_blocks blocks ++ open_one.entries) ≡ stored_len o.restart_interval (block_lists blocks)
   unfolding flushed
   flushed_open blocks size last open_one h =
       ap (sum_by (flushed_len o)) (blocks_open blocks size last open_one h)
-      ∙ sum_by-append (flushed_len o) (parts_of blocks) (open_block open_one.entries)
+      ∙ sum_by-append (flushed_len o) (block_lists blocks) (open_block open_one.entries)
       ∙ omega (arith, open_sum open_one.entries h.part, stored_sum blocks h.full)
 
   -- ---- where the output ends
@@ -287,15 +287,15 @@ module _ (o : Options) where
 
   -- ---- where the output goes on
 
-  goes_by : (n : ℕ) (q es : List Entry) → ((m : ℕ) → m < n → ends_by o (q ++ take m es) (drop m es) ≡ false) → (rest : List Entry) → outputs_behind o (q ++ take n es) rest ≡ outputs_behind o q (take n es ++ rest)
-  goes_by zero q es on rest = ap (λ (xs : List Entry). outputs_behind o xs rest) (append-nil q)
-  goes_by (suc n) q [] on rest = ap (λ (xs : List Entry). outputs_behind o xs rest) (append-nil q)
+  goes_by : (n : ℕ) (q es : List Entry) → ((m : ℕ) → m < n → ends_by o (q ++ take m es) (drop m es) ≡ false) → (rest : List Entry) → outputs_after o (q ++ take n es) rest ≡ outputs_after o q (take n es ++ rest)
+  goes_by zero q es on rest = ap (λ (xs : List Entry). outputs_after o xs rest) (append-nil q)
+  goes_by (suc n) q [] on rest = ap (λ (xs : List Entry). outputs_after o xs rest) (append-nil q)
   goes_by (suc n) q (e ∷ es) on rest =
       let first : ends_before o q e ≡ false = ap (λ (xs : List Entry). ends_before o xs e) (sym (append-nil q)) ∙ on 0 (omega arith) in
       let later : (m : ℕ) → m < n → ends_by o ((q ++ e ∷ []) ++ take m es) (drop m es) ≡ false =
       λ m lt. ap (λ (xs : List Entry). ends_by o xs (drop m es)) (append_assoc q (e ∷ []) (take m es)) ∙ on (suc m) (omega (arith, lt)) in
-      let step : outputs_behind o q (e ∷ (take n es ++ rest)) ≡ outputs_behind o (q ++ e ∷ []) (take n es ++ rest) = rw first refl in
-      ap (λ (xs : List Entry). outputs_behind o xs rest) (sym (append_assoc q (e ∷ []) (take n es))) ∙ goes_by n (q ++ e ∷ []) es later rest ∙ sym step
+      let step : outputs_after o q (e ∷ (take n es ++ rest)) ≡ outputs_after o (q ++ e ∷ []) (take n es ++ rest) = rw first refl in
+      ap (λ (xs : List Entry). outputs_after o xs rest) (sym (append_assoc q (e ∷ []) (take n es))) ∙ goes_by n (q ++ e ∷ []) es later rest ∙ sym step
 
   ends_below : (blocks : List PlannedBlock) (size : ℕ) (last : Option (List ℕ)) (open_one : BlockInProgress) → IsOpen o blocks size last open_one → nat_le o.file_size size ≡ false → ends_by o (entries_in_blocks blocks ++ open_one.entries) open_one.behind ≡ false
   ends_below blocks size None open_one h below = ends_not blocks size open_one h
@@ -304,7 +304,7 @@ module _ (o : Options) where
   -- the output goes on with all entries that are taken in, if more than one is taken in only below the maximal file size
   pub left_taken : (blocks : List PlannedBlock) (size : ℕ) (last : Option (List ℕ)) (before : BlockInProgress) (n : ℕ) → IsOpen o blocks size last before
       → ((m : ℕ) → m < n → is_full o (block_after_entries m before).entries ≡ false) → ends_by o (entries_in_blocks blocks ++ before.entries) before.behind ≡ false → (1 < n → size < o.file_size) → (rest : List Entry)
-      → outputs_behind o ((entries_in_blocks blocks ++ before.entries) ++ take n before.behind) rest ≡ outputs_behind o (entries_in_blocks blocks ++ before.entries) (take n before.behind ++ rest)
+      → outputs_after o ((entries_in_blocks blocks ++ before.entries) ++ take n before.behind) rest ≡ outputs_after o (entries_in_blocks blocks ++ before.entries) (take n before.behind ++ rest)
   left_taken blocks size last before n h parts first below rest = goes_by n (entries_in_blocks blocks ++ before.entries) before.behind on rest
     where
       on : (m : ℕ) → m < n → ends_by o ((entries_in_blocks blocks ++ before.entries) ++ take m before.behind) (drop m before.behind) ≡ false

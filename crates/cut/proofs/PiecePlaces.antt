@@ -11,10 +11,10 @@ use Rattle.table.specs.DataBlocks.{data_blocks}
 use Rattle.encoding.specs.declared.planned_block.PlannedBlock.{PlannedBlock}
 use Rattle.cut.specs.declared.piece.Piece.{Piece}
 use Rattle.cut.specs.declared.planned_output.PlannedOutput.{PlannedOutput}
-use Rattle.cut.specs.Divided.{blocks_at, piece_blocks, piece_places_from, places_all, piece_limit}
-use Rattle.encoding.specs.Planned.{parts_of}
-use Rattle.cut.specs.Opened.{entries_in_blocks, HasLen, ArePlanned}
-use Rattle.cut.specs.Plan.{open_piece, pieces_behind, pieces_in, stored_len}
+use Rattle.cut.specs.PieceDivision.{blocks_at, piece_blocks, piece_places_from, places_all, piece_limit}
+use Rattle.encoding.specs.PlannedBlocks.{block_lists}
+use Rattle.cut.specs.OutputInProgress.{entries_in_blocks, HasLen, ArePlanned}
+use Rattle.cut.specs.Plan.{open_piece, pieces_from_block, pieces_in, stored_len}
 use Rattle.cut.specs.TableLength.{lens_of}
 use Rattle.cut.proofs.Opened.{parts_push}
 use Rattle.cut.proofs.TableLengths.{stored_exact}
@@ -107,7 +107,7 @@ all_are limit front (p ∷ ps) all i whole e =
 
 -- ---- the entries of pieces
 
-open_parts : (latest : List PlannedBlock) → map parts_of (open_one latest) ≡ open_piece (parts_of latest)
+open_parts : (latest : List PlannedBlock) → map block_lists (open_one latest) ≡ open_piece (block_lists latest)
 open_parts [] = refl
 open_parts (b ∷ bs) = refl
 
@@ -120,18 +120,18 @@ behind_all P [] ys h = h
 behind_all P (x ∷ xs) ys h = behind_all P xs ys h.1
 
 module _ (o : Options) (limit : ℕ) where
-  parts_by : (full : Bool) (latest : List PlannedBlock) (b : PlannedBlock) (bs : List PlannedBlock) → nat_le limit (lens_of (latest ++ b ∷ [])) ≡ full → stored_len o.restart_interval (parts_of latest ++ b.entries.entries ∷ []) ≡ lens_of (latest ++ b ∷ [])
-      → map parts_of (divided_behind limit [] bs) ≡ pieces_behind limit o.restart_interval [] (parts_of bs)
-      → map parts_of (divided_behind limit (latest ++ b ∷ []) bs) ≡ pieces_behind limit o.restart_interval (parts_of (latest ++ b ∷ [])) (parts_of bs)
-      → map parts_of (divided_behind limit latest (b ∷ bs)) ≡ pieces_behind limit o.restart_interval (parts_of latest) (parts_of (b ∷ bs))
+  parts_by : (full : Bool) (latest : List PlannedBlock) (b : PlannedBlock) (bs : List PlannedBlock) → nat_le limit (lens_of (latest ++ b ∷ [])) ≡ full → stored_len o.restart_interval (block_lists latest ++ b.entries.entries ∷ []) ≡ lens_of (latest ++ b ∷ [])
+      → map block_lists (divided_behind limit [] bs) ≡ pieces_from_block limit o.restart_interval [] (block_lists bs)
+      → map block_lists (divided_behind limit (latest ++ b ∷ []) bs) ≡ pieces_from_block limit o.restart_interval (block_lists (latest ++ b ∷ [])) (block_lists bs)
+      → map block_lists (divided_behind limit latest (b ∷ bs)) ≡ pieces_from_block limit o.restart_interval (block_lists latest) (block_lists (b ∷ bs))
   parts_by true latest b bs full len ended grown =
       rw (full, ap (nat_le limit) len ∙ full)
-      (ap (λ (ps : List (List Entry)). ps ∷ map parts_of (divided_behind limit [] bs)) (parts_push latest b) ∙ ap (λ (qs : List (List (List Entry))). (parts_of latest ++ b.entries.entries ∷ []) ∷ qs) ended)
+      (ap (λ (ps : List (List Entry)). ps ∷ map block_lists (divided_behind limit [] bs)) (parts_push latest b) ∙ ap (λ (qs : List (List (List Entry))). (block_lists latest ++ b.entries.entries ∷ []) ∷ qs) ended)
   parts_by false latest b bs full len ended grown =
-      rw (full, ap (nat_le limit) len ∙ full) (grown ∙ ap (λ (ps : List (List Entry)). pieces_behind limit o.restart_interval ps (parts_of bs)) (parts_push latest b))
+      rw (full, ap (nat_le limit) len ∙ full) (grown ∙ ap (λ (ps : List (List Entry)). pieces_from_block limit o.restart_interval ps (block_lists bs)) (parts_push latest b))
 
   pub parts_divided : (latest blocks : List PlannedBlock) → AllByRecursion (HasLen o) (latest ++ blocks) → lens_of (latest ++ blocks) ≤ 2 ^ 30
-      → map parts_of (divided_behind limit latest blocks) ≡ pieces_behind limit o.restart_interval (parts_of latest) (parts_of blocks)
+      → map block_lists (divided_behind limit latest blocks) ≡ pieces_from_block limit o.restart_interval (block_lists latest) (block_lists blocks)
   parts_divided latest [] h le = open_parts latest
   parts_divided latest (b ∷ bs) h le =
       let more : latest ++ b ∷ bs ≡ (latest ++ b ∷ []) ++ bs = sym (append_assoc latest (b ∷ []) bs) in
@@ -139,17 +139,17 @@ module _ (o : Options) (limit : ℕ) where
       let sum : lens_of ((latest ++ b ∷ []) ++ bs) ≡ lens_of (latest ++ b ∷ []) + lens_of bs = sum_by-append (λ (x : PlannedBlock). x.len + 5) (latest ++ b ∷ []) bs in
       let whole : lens_of ((latest ++ b ∷ []) ++ bs) ≤ 2 ^ 30 = subst (λ (q : List PlannedBlock). lens_of q ≤ 2 ^ 30) more le in
       let here : AllByRecursion (HasLen o) (latest ++ b ∷ []) = front_all (HasLen o) (latest ++ b ∷ []) bs all in
-      let len : stored_len o.restart_interval (parts_of latest ++ b.entries.entries ∷ []) ≡ lens_of (latest ++ b ∷ []) =
+      let len : stored_len o.restart_interval (block_lists latest ++ b.entries.entries ∷ []) ≡ lens_of (latest ++ b ∷ []) =
       ap (stored_len o.restart_interval) (sym (parts_push latest b)) ∙ stored_exact o (latest ++ b ∷ []) here (omega arith) in
       parts_by (nat_le limit (lens_of (latest ++ b ∷ []))) latest b bs refl len
       (parts_divided [] bs (behind_all (HasLen o) (latest ++ b ∷ []) bs all) (omega arith))
       (parts_divided (latest ++ b ∷ []) bs all whole)
 
-singles : (interval : ℕ) (ps : List (List Entry)) → pieces_behind 0 interval [] ps ≡ map (λ p. p ∷ []) ps
+singles : (interval : ℕ) (ps : List (List Entry)) → pieces_from_block 0 interval [] ps ≡ map (λ p. p ∷ []) ps
 singles interval [] = refl
 singles interval (p ∷ ps) = rw (le-leb 0 (stored_len interval ([] ++ p ∷ [])) (omega arith)) (ap (λ (qs : List (List (List Entry))). (p ∷ []) ∷ qs) (singles interval ps))
 
-in_by : (few : Bool) (interval : ℕ) (ps : List (List Entry)) → pieces_behind (if few then 0 else 2 ^ 22) interval [] ps ≡ (if few then map (λ p. p ∷ []) ps else pieces_behind (2 ^ 22) interval [] ps)
+in_by : (few : Bool) (interval : ℕ) (ps : List (List Entry)) → pieces_from_block (if few then 0 else 2 ^ 22) interval [] ps ≡ (if few then map (λ p. p ∷ []) ps else pieces_from_block (2 ^ 22) interval [] ps)
 in_by true interval ps = singles interval ps
 in_by false interval ps = refl
 
@@ -158,18 +158,18 @@ pub record IsShort (o : Options) (p : PlannedOutput) : Type 0 where
   pub planned : ArePlanned o p.blocks.items
   pub short : lens_of p.blocks.items ≤ 2 ^ 30
 
-pub one_are : (o : Options) (blocks : ℕ) (bs : List PlannedBlock) → ArePlanned o bs → lens_of bs ≤ 2 ^ 30 → map parts_of (divided_behind (piece_limit blocks) [] bs) ≡ pieces_in o blocks (entries_in_blocks bs)
+pub one_are : (o : Options) (blocks : ℕ) (bs : List PlannedBlock) → ArePlanned o bs → lens_of bs ≤ 2 ^ 30 → map block_lists (divided_behind (piece_limit blocks) [] bs) ≡ pieces_in o blocks (entries_in_blocks bs)
 one_are o blocks bs h le =
     parts_divided o (piece_limit blocks) [] bs h.lens le
-    ∙ ap (pieces_behind (piece_limit blocks) o.restart_interval []) h.cut
+    ∙ ap (pieces_from_block (piece_limit blocks) o.restart_interval []) h.cut
     ∙ in_by (nat_lt blocks 64) o.restart_interval (data_blocks o (entries_in_blocks bs))
 
 pub pieces_are : (o : Options) (blocks : ℕ) (outputs : List PlannedOutput) → AllByRecursion (IsShort o) outputs
-    → map parts_of (divided_all (piece_limit blocks) outputs) ≡ flat_map (pieces_in o blocks) (map (λ (p : PlannedOutput). entries_in_blocks p.blocks.items) outputs)
+    → map block_lists (divided_all (piece_limit blocks) outputs) ≡ flat_map (pieces_in o blocks) (map (λ (p : PlannedOutput). entries_in_blocks p.blocks.items) outputs)
 pieces_are o blocks [] h = refl
 pieces_are o blocks (p ∷ ps) h =
     let bs : List PlannedBlock = p.blocks.items in
     let here = one_are o blocks bs h.0.planned h.0.short in
-    map-append parts_of (divided_behind (piece_limit blocks) [] bs) (divided_all (piece_limit blocks) ps)
-    ∙ ap (λ (qs : List (List (List Entry))). qs ++ map parts_of (divided_all (piece_limit blocks) ps)) here
+    map-append block_lists (divided_behind (piece_limit blocks) [] bs) (divided_all (piece_limit blocks) ps)
+    ∙ ap (λ (qs : List (List (List Entry))). qs ++ map block_lists (divided_all (piece_limit blocks) ps)) here
     ∙ ap (λ (qs : List (List (List Entry))). pieces_in o blocks (entries_in_blocks bs) ++ qs) (pieces_are o blocks ps h.1)

@@ -17,9 +17,9 @@ use Rattle.table.specs.Table.{stored_blocks, table}
 use Rattle.encoding.specs.declared.planned_block.PlannedBlock.{PlannedBlock}
 use Rattle.cut.specs.declared.piece.Piece.{Piece}
 use Rattle.cut.specs.declared.planned_output.PlannedOutput.{PlannedOutput}
-use Rattle.cut.specs.Divided.{blocks_at, piece_blocks, piece_places_from, places_all, piece_limit}
-use Rattle.encoding.specs.Planned.{parts_of}
-use Rattle.cut.specs.Opened.{entries_in_blocks, HasLen}
+use Rattle.cut.specs.PieceDivision.{blocks_at, piece_blocks, piece_places_from, places_all, piece_limit}
+use Rattle.encoding.specs.PlannedBlocks.{block_lists}
+use Rattle.cut.specs.OutputInProgress.{entries_in_blocks, HasLen}
 use Rattle.cut.specs.Plan.{OutputView, parts, pieces, pieces_in}
 use Rattle.cut.specs.OutputPlan.{lists_in}
 use Rattle.cut.specs.PlanInvariant.{planned_of, block_count, IsPlannedOutput, IsPlan}
@@ -140,22 +140,22 @@ module _ (cmp : List ℕ → List ℕ → Ordering) (short_keys : ShortKeys) (o 
       ∙ omega (arith, one, count_seen ps h.1, length-append (data_blocks o (entries_in_blocks p.blocks.items)) (parts o (lists ps)))
 
   -- what is kept of a plan has the pieces of the definition
-  pub plan_pieces : (outputs : List PlannedOutput) (places : List Piece) (counts : List ℕ) → IsPlan T o outputs places counts → map (λ (p : Piece). parts_of (piece_blocks outputs p)) places ≡ pieces o (lists_in (map planned_of outputs))
+  pub plan_pieces : (outputs : List PlannedOutput) (places : List Piece) (counts : List ℕ) → IsPlan T o outputs places counts → map (λ (p : Piece). block_lists (piece_blocks outputs p)) places ≡ pieces o (lists_in (map planned_of outputs))
   plan_pieces outputs places counts h =
       let limit = piece_limit (block_count outputs) in
-      ap (map (λ (p : Piece). parts_of (piece_blocks outputs p))) h.places
+      ap (map (λ (p : Piece). block_lists (piece_blocks outputs p))) h.places
       ∙ map_twice (piece_blocks outputs) (places_all limit 0 outputs)
-      ∙ ap (map parts_of) (all_are limit [] outputs outputs 0 refl refl)
+      ∙ ap (map block_lists) (all_are limit [] outputs outputs 0 refl refl)
       ∙ pieces_are o (block_count outputs) outputs (shorts outputs h.each)
       ∙ ap (λ (n : ℕ). flat_map (pieces_in o n) (lists outputs)) (count_seen outputs h.each)
       ∙ sym (ap (pieces o) (lists_seen outputs))
     where
-      map_twice : (f : Piece → List PlannedBlock) (ps : List Piece) → map (λ (p : Piece). parts_of (f p)) ps ≡ map parts_of (map f ps)
+      map_twice : (f : Piece → List PlannedBlock) (ps : List Piece) → map (λ (p : Piece). block_lists (f p)) ps ≡ map block_lists (map f ps)
       map_twice f [] = refl
-      map_twice f (p ∷ ps) = ap (λ (qs : List (List (List Entry))). parts_of (f p) ∷ qs) (map_twice f ps)
+      map_twice f (p ∷ ps) = ap (λ (qs : List (List (List Entry))). block_lists (f p) ∷ qs) (map_twice f ps)
 
   pub plan_jobs : (outputs : List PlannedOutput) (places : List Piece) (counts : List ℕ) → IsPlan T o outputs places counts → length places ≡ length (pieces o (lists_in (map planned_of outputs)))
-  plan_jobs outputs places counts h = sym (length-map places (λ (p : Piece). parts_of (piece_blocks outputs p))) ∙ ap length (plan_pieces outputs places counts h)
+  plan_jobs outputs places counts h = sym (length-map places (λ (p : Piece). block_lists (piece_blocks outputs p))) ∙ ap length (plan_pieces outputs places counts h)
 
   pub plan_place : (outputs : List PlannedOutput) (places : List Piece) (counts : List ℕ) (i : ℕ) (p : Piece) → IsPlan T o outputs places counts → i < length places → get_or places i p ≡ p → IsPlace outputs p
   plan_place outputs places counts i p h lt is =
@@ -167,14 +167,14 @@ module _ (cmp : List ℕ → List ℕ → Ordering) (short_keys : ShortKeys) (o 
 
   -- the bytes of the piece at a place
   pub piece_at : (outputs : List PlannedOutput) (places : List Piece) (counts : List ℕ) (i : ℕ) (p : Piece) → IsPlan T o outputs places counts → i < length places → get_or places i p ≡ p
-      → slice_get (map (stored_blocks o.restart_interval) (pieces o (lists_in (map planned_of outputs)))) i ≡ Some (stored_blocks o.restart_interval (parts_of (piece_blocks outputs p)))
+      → slice_get (map (stored_blocks o.restart_interval) (pieces o (lists_in (map planned_of outputs)))) i ≡ Some (stored_blocks o.restart_interval (block_lists (piece_blocks outputs p)))
   piece_at outputs places counts i p h lt is =
       sym (ap (λ (qs : List (List (List Entry))). slice_get (map (stored_blocks o.restart_interval) qs) i) (plan_pieces outputs places counts h)) ∙ found places i lt is
     where
       found : (ps : List Piece) (i : ℕ) → i < length ps → get_or ps i p ≡ p
-          → slice_get (map (stored_blocks o.restart_interval) (map (λ (x : Piece). parts_of (piece_blocks outputs x)) ps)) i ≡ Some (stored_blocks o.restart_interval (parts_of (piece_blocks outputs p)))
+          → slice_get (map (stored_blocks o.restart_interval) (map (λ (x : Piece). block_lists (piece_blocks outputs x)) ps)) i ≡ Some (stored_blocks o.restart_interval (block_lists (piece_blocks outputs p)))
       found [] i lt is = absurd (omega arith)
-      found (x ∷ xs) zero lt is = ap (λ (y : Piece). Some (stored_blocks o.restart_interval (parts_of (piece_blocks outputs y)))) is
+      found (x ∷ xs) zero lt is = ap (λ (y : Piece). Some (stored_blocks o.restart_interval (block_lists (piece_blocks outputs y)))) is
       found (x ∷ xs) (suc i) lt is = found xs i (omega arith) is
 
   -- no block of an output is long

@@ -17,8 +17,8 @@ use Rattle.table.specs.Table.{index_keys, table}
 use Rattle.table.proofs.Cuts.{are_data_blocks}
 use Rattle.encoding.specs.declared.planned_block.PlannedBlock.{PlannedBlock}
 use Rattle.cut.specs.declared.planned_output.PlannedOutput.{PlannedOutput}
-use Rattle.encoding.specs.Planned.{parts_of}
-use Rattle.cut.specs.Opened.{entries_in_blocks, ArePlanned}
+use Rattle.encoding.specs.PlannedBlocks.{block_lists}
+use Rattle.cut.specs.OutputInProgress.{entries_in_blocks, ArePlanned}
 use Rattle.cut.specs.Plan.{OutputView, block_ends_from, planned_from, parts, plan_of}
 use Rattle.cut.specs.PlanInvariant.{planned_of, HaveEntries, numbered_from, block_count, IsPlannedOutput}
 use Rattle.cut.specs.TableLength.{capped_length, table_size}
@@ -27,7 +27,7 @@ use Rattle.ikey.specs.Comparator.{ShortKeys}
 
 -- ---- data blocks have entries
 
-each_some : (o : Options) (q : List Entry) (blocks : List PlannedBlock) → AreDataBlocks o q (parts_of blocks) → AllByRecursion (λ (b : PlannedBlock). b.entries.entries ≢ []) blocks
+each_some : (o : Options) (q : List Entry) (blocks : List PlannedBlock) → AreDataBlocks o q (block_lists blocks) → AllByRecursion (λ (b : PlannedBlock). b.entries.entries ≢ []) blocks
 each_some o q [] h = tt
 each_some o q (b ∷ bs) h = (h.2.some, each_some o h.0 bs h.3)
 
@@ -117,7 +117,7 @@ module _ (cmp : List ℕ → List ℕ → Ordering) (short_keys : ShortKeys) (o 
       let both = and_parts (nat_le (size b.items) (2 ^ 30)) (list_all (λ (p : PlannedOutput). nat_le p.len (2 ^ 30)) (numbered_from size (number + 1) bs)) small in
       let q = entries_in_blocks b.items in
       let one : OutputView → List OutputView = λ p. p ∷ map planned_of (numbered_from size (number + 1) bs) in
-      ap (λ (n : ℕ). one (record { number = number; entries = q; blocks = block_ends_from 0 (parts_of b.items); length = n })) (exact b h.0 (leb-true (size b.items) (2 ^ 30) both.0))
+      ap (λ (n : ℕ). one (record { number = number; entries = q; blocks = block_ends_from 0 (block_lists b.items); length = n })) (exact b h.0 (leb-true (size b.items) (2 ^ 30) both.0))
       ∙ ap (λ (ps : List (List Entry)). one (record { number = number; entries = q; blocks = block_ends_from 0 ps; length = length (T q) })) h.0.cut
       ∙ ap (λ (ps : List OutputView). record { number = number; entries = q; blocks = block_ends_from 0 (data_blocks o q); length = length (T q) } ∷ ps) (planned_is (number + 1) bs h.1 both.1)
 

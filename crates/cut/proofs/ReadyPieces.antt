@@ -8,12 +8,12 @@ use Rattle.block.specs.EncodedEntry.{Entry}
 use Rattle.table.specs.declared.options.Options.{Options}
 use Rattle.table.specs.Table.{IndexKeys, index_keys, stored_blocks, table, table_of_blocks}
 use Rattle.encoding.specs.declared.planned_block.PlannedBlock.{PlannedBlock}
-use Rattle.encoding.specs.Planned.{IsPlanned, parts_of}
+use Rattle.encoding.specs.PlannedBlocks.{IsPlanned, block_lists}
 use Rattle.cut.specs.declared.piece.Piece.{Piece}
 use Rattle.cut.specs.declared.planned_output.PlannedOutput.{PlannedOutput}
 use Rattle.cut.specs.PlanTables.{IsReady, AreReady, tables_of}
-use Rattle.cut.specs.Divided.{piece_places_from, counts_all, piece_limit}
-use Rattle.cut.specs.Opened.{entries_in_blocks, HasLen, ArePlanned}
+use Rattle.cut.specs.PieceDivision.{piece_places_from, counts_all, piece_limit}
+use Rattle.cut.specs.OutputInProgress.{entries_in_blocks, HasLen, ArePlanned}
 use Rattle.cut.specs.Plan.{OutputView, plan_tables, encoded_pieces, pieces_in}
 use Rattle.cut.specs.OutputPlan.{lists_in}
 use Rattle.cut.specs.PlanInvariant.{planned_of, block_count, IsPlannedOutput, IsPlan}
@@ -86,7 +86,7 @@ module _ (keys : IndexKeys) (interval : ℕ) where
         subst (AreReady keys interval (drop (i + 1) outputs) (drop (i + 1) counts)) (map-drop bytes_of n old ∙ ap (map bytes_of) (sym rest_is)) both.1,
       )
 
-  pub ready_bytes : {X : Type 0} (bytes_of : X → List ℕ) (p : PlannedOutput) (own : List X) → IsReady keys interval p (map bytes_of own) → flat_map bytes_of own ≡ stored_blocks interval (parts_of p.blocks.items)
+  pub ready_bytes : {X : Type 0} (bytes_of : X → List ℕ) (p : PlannedOutput) (own : List X) → IsReady keys interval p (map bytes_of own) → flat_map bytes_of own ≡ stored_blocks interval (block_lists p.blocks.items)
   ready_bytes bytes_of p own h = sym (flat_of bytes_of own) ∙ h.bytes
 
 -- ---- the pieces of a plan are ready
@@ -96,7 +96,7 @@ each_planned o [] h some = tt
 each_planned o (b ∷ bs) h some = (record { some = some.0; len_is = h.0 }, each_planned o bs h.1 some.1)
 
 table_is : (cmp : List ℕ → List ℕ → Ordering) (short_keys : ShortKeys) (o : Options) (blocks : List PlannedBlock) → ArePlanned o blocks
-    → table cmp short_keys o (entries_in_blocks blocks) ≡ table_of_blocks (index_keys cmp short_keys) o.restart_interval (parts_of blocks)
+    → table cmp short_keys o (entries_in_blocks blocks) ≡ table_of_blocks (index_keys cmp short_keys) o.restart_interval (block_lists blocks)
 unfolding table
 table_is cmp short_keys o blocks h = ap (table_of_blocks (index_keys cmp short_keys) o.restart_interval) (sym h.cut)
 
@@ -130,13 +130,13 @@ module _ (cmp : List ℕ → List ℕ → Ordering) (short_keys : ShortKeys) (o 
       let count : length own ≡ length places =
       length-map (pieces_in o n q) (stored_blocks o.restart_interval)
       ∙ ap length (sym (one_are o n blocks short.planned short.short))
-      ∙ length-map (divided_behind (piece_limit n) [] blocks) parts_of
+      ∙ length-map (divided_behind (piece_limit n) [] blocks) block_lists
       ∙ ap length (sym (places_are (piece_limit n) i [] [] blocks blocks 0 0 0 refl refl refl refl))
       ∙ length-map places (λ (x : Piece). slice_range blocks x.from x.to) in
       let front : own ≡ take (length places) (bytes (flat_map (pieces_in o n) (lists (p ∷ ps)))) = all_taken own rest (bytes (flat_map (pieces_in o n) (lists (p ∷ ps)))) (length places) (sym split) count in
       let behind : rest ≡ drop (length places) (bytes (flat_map (pieces_in o n) (lists (p ∷ ps)))) = all_left own rest (bytes (flat_map (pieces_in o n) (lists (p ∷ ps)))) (length places) (sym split) count in
-      let table_eq : T q ≡ table_of_blocks keys o.restart_interval (parts_of blocks) = table_is cmp short_keys o blocks h.0.planned in
-      let joined : flat_map (λ (piece : List ℕ). piece) own ≡ stored_blocks o.restart_interval (parts_of blocks) =
+      let table_eq : T q ≡ table_of_blocks keys o.restart_interval (block_lists blocks) = table_is cmp short_keys o blocks h.0.planned in
+      let joined : flat_map (λ (piece : List ℕ). piece) own ≡ stored_blocks o.restart_interval (block_lists blocks) =
       flat_of (stored_blocks o.restart_interval) (pieces_in o n q) ∙ pieces_join o n q ∙ ap (stored_blocks o.restart_interval) (sym h.0.planned.cut) in
       let is_ready : IsReady keys o.restart_interval p own = record {
         planned = each_planned o blocks h.0.planned.lens h.0.some.some;
@@ -167,12 +167,12 @@ module _ (cmp : List ℕ → List ℕ → Ordering) (short_keys : ShortKeys) (o 
   pub one_planned : (p : PlannedOutput) → IsPlannedOutput T o p → AllByRecursion (IsPlanned o.restart_interval) p.blocks.items
   one_planned p h = each_planned o p.blocks.items h.planned.lens h.some.some
 
-  pub one_fits : (p : PlannedOutput) → IsPlannedOutput T o p → length (table_of_blocks keys o.restart_interval (parts_of p.blocks.items)) ≤ 2 ^ 30
+  pub one_fits : (p : PlannedOutput) → IsPlannedOutput T o p → length (table_of_blocks keys o.restart_interval (block_lists p.blocks.items)) ≤ 2 ^ 30
   one_fits p h = omega (arith, h.len_is, h.len_le, ap length (table_is cmp short_keys o p.blocks.items h.planned))
 
   -- its number and its table
   pub table_here : (outputs : List PlannedOutput) (i : ℕ) (p : PlannedOutput) → i < length outputs → get_or outputs i p ≡ p → IsPlannedOutput T o p
-      → slice_get (plan_tables T (map planned_of outputs)) i ≡ Some (p.number, table_of_blocks keys o.restart_interval (parts_of p.blocks.items))
+      → slice_get (plan_tables T (map planned_of outputs)) i ≡ Some (p.number, table_of_blocks keys o.restart_interval (block_lists p.blocks.items))
   table_here outputs i p lt is h =
       let seen : OutputView → ℕ × List ℕ = λ v. (v.number, T v.entries) in
       slice_get-map seen (map planned_of outputs) i

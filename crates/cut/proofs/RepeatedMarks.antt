@@ -14,8 +14,8 @@ use Rattle.std.proofs.lemmas.List.Sums.{sum_by-append}
 use Rattle.std.proofs.Math.Seq.{take-add}
 use Rattle.edit.specs.declared.meta.FileMeta.{FileMeta}
 use Rattle.keep.specs.declared.mark.Mark.{Mark}
-use Rattle.keep.specs.Marks.{heads, changes, changes_behind}
-use Rattle.cut.specs.Stops.{size_between, is_stop, stops_behind, stops, AreStops, StopsLaw}
+use Rattle.keep.specs.Marks.{heads, changes, changes_after}
+use Rattle.cut.specs.Stops.{size_between, is_stop, stops_after, stops, AreStops, StopsLaw}
 
 module _ (gs : List FileMeta) (size : ℕ) where
   pub none_between : (n : ℕ) → size_between gs n n ≡ 0
@@ -29,11 +29,11 @@ module _ (gs : List FileMeta) (size : ℕ) where
   quiet_itself n = ap (nat_lt (10 * size)) (none_between n) ∙ le-ltb (10 * size) 0 (omega arith)
 
   abbrev SameBehind : List Mark → Type 0
-  SameBehind ms = (since below : ℕ) → is_quiet since below → stops_behind gs size since (changes_behind below ms) ≡ stops_behind gs size since ms
+  SameBehind ms = (since below : ℕ) → is_quiet since below → stops_after gs size since (changes_after below ms) ≡ stops_after gs size since ms
 
   same_by : (m : Mark) (ms : List Mark) (since below : ℕ) (same stop : Bool) → nat_eq m.below below ≡ same → is_stop gs size since m ≡ stop → is_quiet since below → SameBehind ms
-      → stops_behind gs size since (if same then changes_behind below ms else m ∷ changes_behind m.below ms)
-      ≡ (if stop then m.kept ∷ stops_behind gs size m.below ms else stops_behind gs size since ms)
+      → stops_after gs size since (if same then changes_after below ms else m ∷ changes_after m.below ms)
+      ≡ (if stop then m.kept ∷ stops_after gs size m.below ms else stops_after gs size since ms)
   same_by m ms since below true true e s quiet ih =
       absurd (both_ways (nat_lt (10 * size) (size_between gs since below)) quiet (sym (ap (λ k. nat_lt (10 * size) (size_between gs since k)) (eqb-true m.below below e)) ∙ s))
   same_by m ms since below true false e s quiet ih = ih since below quiet
@@ -50,31 +50,31 @@ module _ (gs : List FileMeta) (size : ℕ) where
 
   -- ---- stops, as a relation
 
-  none_behind : (since : ℕ) (ms : List Mark) → AllByRecursion (λ m. is_stop gs size since m ≡ false) ms → stops_behind gs size since ms ≡ []
+  none_behind : (since : ℕ) (ms : List Mark) → AllByRecursion (λ m. is_stop gs size since m ≡ false) ms → stops_after gs size since ms ≡ []
   none_behind since [] h = refl
   none_behind since (m ∷ ms) h = rw h.0 (none_behind since ms h.1)
 
   next_behind : (since : ℕ) (passed : List Mark) (m : Mark) (rest : List Mark) → AllByRecursion (λ e. is_stop gs size since e ≡ false) passed → is_stop gs size since m ≡ true
-      → stops_behind gs size since (passed ++ m ∷ rest) ≡ m.kept ∷ stops_behind gs size m.below rest
+      → stops_after gs size since (passed ++ m ∷ rest) ≡ m.kept ∷ stops_after gs size m.below rest
   next_behind since [] m rest h s = rw s refl
   next_behind since (p ∷ passed) m rest h s = rw h.0 (next_behind since passed m rest h.1 s)
 
-  are_stops_only : (places : List ℕ) (since : ℕ) (ms : List Mark) → AreStops gs size since ms places → stops_behind gs size since ms ≡ places
+  are_stops_only : (places : List ℕ) (since : ℕ) (ms : List Mark) → AreStops gs size since ms places → stops_after gs size since ms ≡ places
   are_stops_only [] since ms h = none_behind since ms h
   are_stops_only (place ∷ places) since ms h =
-      ap (stops_behind gs size since) h.3 ∙ next_behind since h.0 h.1 h.2 h.4 h.5
-      ∙ ap (λ k. k ∷ stops_behind gs size h.1.below h.2) (sym h.6) ∙ ap (λ ks. place ∷ ks) (are_stops_only places h.1.below h.2 h.7)
+      ap (stops_after gs size since) h.3 ∙ next_behind since h.0 h.1 h.2 h.4 h.5
+      ∙ ap (λ k. k ∷ stops_after gs size h.1.below h.2) (sym h.6) ∙ ap (λ ks. place ∷ ks) (are_stops_only places h.1.below h.2 h.7)
 
   one_more : (places : List ℕ) (since : ℕ) (m : Mark) (ms : List Mark) → is_stop gs size since m ≡ false → AreStops gs size since ms places → AreStops gs size since (m ∷ ms) places
   one_more [] since m ms s h = (s, h)
   one_more (place ∷ places) since m ms s h = (m ∷ h.0, h.1, h.2, ap (λ zs. m ∷ zs) h.3, (s, h.4), h.5, h.6, h.7)
 
-  found_by : (since : ℕ) (m : Mark) (ms : List Mark) (stop : Bool) → is_stop gs size since m ≡ stop → ((n : ℕ) → AreStops gs size n ms (stops_behind gs size n ms))
-      → AreStops gs size since (m ∷ ms) (if stop then m.kept ∷ stops_behind gs size m.below ms else stops_behind gs size since ms)
+  found_by : (since : ℕ) (m : Mark) (ms : List Mark) (stop : Bool) → is_stop gs size since m ≡ stop → ((n : ℕ) → AreStops gs size n ms (stops_after gs size n ms))
+      → AreStops gs size since (m ∷ ms) (if stop then m.kept ∷ stops_after gs size m.below ms else stops_after gs size since ms)
   found_by since m ms true s ih = ([], m, ms, refl, tt, s, refl, ih m.below)
-  found_by since m ms false s ih = one_more (stops_behind gs size since ms) since m ms s (ih since)
+  found_by since m ms false s ih = one_more (stops_after gs size since ms) since m ms s (ih since)
 
-  are_stops_found : (ms : List Mark) (since : ℕ) → AreStops gs size since ms (stops_behind gs size since ms)
+  are_stops_found : (ms : List Mark) (since : ℕ) → AreStops gs size since ms (stops_after gs size since ms)
   are_stops_found [] since = tt
   are_stops_found (m ∷ ms) since = found_by since m ms (is_stop gs size since m) refl (are_stops_found ms)
 

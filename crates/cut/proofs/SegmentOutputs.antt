@@ -16,7 +16,7 @@ use Rattle.block.specs.BuilderView.{last_key}
 use Rattle.table.specs.declared.options.Options.{Options}
 use Rattle.table.specs.DataBlocks.{open_block, flushed}
 use Rattle.merge.specs.Union.{key_version_cmp, VersionsRise}
-use Rattle.cut.specs.Outputs.{ends_before, outputs_behind, outputs_in, MayEnd, IsOutput, AreOutputs, OutputsLaw}
+use Rattle.cut.specs.Outputs.{ends_before, outputs_after, outputs_in, MayEnd, IsOutput, AreOutputs, OutputsLaw}
 use Rattle.cut.proofs.Elements.{each}
 
 unless : (s t : Bool) → (s ≡ true → t ≡ true) → t ≡ false → s ≡ false
@@ -115,14 +115,14 @@ module _ (cmp : List ℕ → List ℕ → Ordering) (total : IsTotalOrder cmp) (
   ended_is_some [] e h = absurd (false≢true h)
   ended_is_some (a ∷ bs) e h = λ no. absurd (cc)
 
-  behind_by : (q : List Entry) (e : Entry) (es : List Entry) (ends : Bool) → ends_before o q e ≡ ends → VersionsRise cmp (q ++ e ∷ es) → IsShortest q (e ∷ es) → AreOutputs o (e ∷ es) (outputs_behind o (e ∷ []) es)
-      → (ends_before o q e ≡ false → AreOutputs o ((q ++ e ∷ []) ++ es) (outputs_behind o (q ++ e ∷ []) es)) → AreOutputs o (q ++ e ∷ es) (outputs_behind o q (e ∷ es))
+  behind_by : (q : List Entry) (e : Entry) (es : List Entry) (ends : Bool) → ends_before o q e ≡ ends → VersionsRise cmp (q ++ e ∷ es) → IsShortest q (e ∷ es) → AreOutputs o (e ∷ es) (outputs_after o (e ∷ []) es)
+      → (ends_before o q e ≡ false → AreOutputs o ((q ++ e ∷ []) ++ es) (outputs_after o (q ++ e ∷ []) es)) → AreOutputs o (q ++ e ∷ es) (outputs_after o q (e ∷ es))
   behind_by q e es true ends rises h ended grown =
       rw ends (e ∷ es, refl, record { some = ended_is_some q e ends; shortest = h; ended = inl (may_end q e es rises ends) }, ended)
   behind_by q e es false part rises h ended grown =
-      rw part (subst (λ (xs : List Entry). AreOutputs o xs (outputs_behind o (q ++ e ∷ []) es)) (append_assoc q (e ∷ []) es) (grown part))
+      rw part (subst (λ (xs : List Entry). AreOutputs o xs (outputs_after o (q ++ e ∷ []) es)) (append_assoc q (e ∷ []) es) (grown part))
 
-  are_behind : (q rest : List Entry) → VersionsRise cmp (q ++ rest) → IsShortest q rest → AreOutputs o (q ++ rest) (outputs_behind o q rest)
+  are_behind : (q rest : List Entry) → VersionsRise cmp (q ++ rest) → IsShortest q rest → AreOutputs o (q ++ rest) (outputs_after o q rest)
   are_behind q [] rises h = ends_open q h
   are_behind q (e ∷ es) rises h =
       behind_by q e es (ends_before o q e) refl rises h (are_behind (e ∷ []) es (rises_behind q (e ∷ es) rises) (shortest_one e es))

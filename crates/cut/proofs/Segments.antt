@@ -13,13 +13,13 @@ use Rattle.ikey.specs.Key.{user_of}
 use Rattle.block.specs.EncodedEntry.{Entry}
 use Rattle.table.specs.declared.options.Options.{Options}
 use Rattle.edit.specs.declared.meta.FileMeta.{FileMeta}
-use Rattle.keep.specs.DropRule.{is_same_user, keeps, kept, kept_behind}
-use Rattle.keep.specs.Marks.{CompactionContext, grandparents_below, heads, heads_behind}
+use Rattle.keep.specs.DropRule.{is_same_user, keeps, kept, kept_after}
+use Rattle.keep.specs.Marks.{CompactionContext, grandparents_below, heads, heads_after}
 use Rattle.merge.specs.Union.{key_version_cmp, VersionsRise}
-use Rattle.merge.specs.Merged.{entries_of_lists}
+use Rattle.merge.specs.MergedLists.{entries_of_lists}
 use Rattle.cut.specs.Outputs.{outputs, outputs_in, segments, AreOutputs}
 use Rattle.cut.specs.Segments.{AreSegments, BeginsSegment, EachReachesNext, ReachesNext, SegmentsLaw}
-use Rattle.cut.specs.Stops.{size_between, stops, stops_behind}
+use Rattle.cut.specs.Stops.{size_between, stops, stops_after}
 use Rattle.cut.proofs.SegmentOutputs.{outputs_law}
 
 -- ---- lists
@@ -131,7 +131,7 @@ module _ (cmp : List ℕ → List ℕ → Ordering) (b : CompactionContext) (siz
   gs = b.grandparents
 
   abbrev keep : Option Entry → List Entry → List Entry
-  keep before es = kept_behind cmp b.readable b.deeper before es
+  keep before es = kept_after cmp b.readable b.deeper before es
 
   abbrev is_kept : Option Entry → Entry → Bool
   is_kept before e = keeps cmp b.readable b.deeper before e
@@ -181,7 +181,7 @@ module _ (cmp : List ℕ → List ℕ → Ordering) (b : CompactionContext) (siz
   -- the stops after the first entry of a segment, with n kept entries before it
   abbrev stops_in : ℕ → List Entry → List ℕ
   stops_in n [] = []
-  stops_in n (f ∷ fs) = stops_behind gs size (g f) (heads_behind cmp b (Some f) (if is_kept None f then n + 1 else n) fs)
+  stops_in n (f ∷ fs) = stops_after gs size (g f) (heads_after cmp b (Some f) (if is_kept None f then n + 1 else n) fs)
 
   -- with that at this entry
   abbrev stops_at : ℕ → List Entry → List ℕ
@@ -189,24 +189,24 @@ module _ (cmp : List ℕ → List ℕ → Ordering) (b : CompactionContext) (siz
   stops_at n (f ∷ fs) = n ∷ stops_in n (f ∷ fs)
 
   no_stop : (first before e : Entry) (n : ℕ) (es : List Entry) → (BeginsSegment cmp gs size first before e → ⊥)
-      → stops_behind gs size (g first) (heads_behind cmp b (Some before) n (e ∷ es)) ≡ stops_behind gs size (g first) (heads_behind cmp b (Some e) (if is_kept (Some before) e then n + 1 else n) es)
+      → stops_after gs size (g first) (heads_after cmp b (Some before) n (e ∷ es)) ≡ stops_after gs size (g first) (heads_after cmp b (Some e) (if is_kept (Some before) e then n + 1 else n) es)
   no_stop first before e n es h = by (is_same_user before e) (is_past cmp gs size first e) refl refl
     where
       by : (s p : Bool) → is_same_user before e ≡ s → is_past cmp gs size first e ≡ p
-          → stops_behind gs size (g first) (heads_behind cmp b (Some before) n (e ∷ es)) ≡ stops_behind gs size (g first) (heads_behind cmp b (Some e) (if is_kept (Some before) e then n + 1 else n) es)
+          → stops_after gs size (g first) (heads_after cmp b (Some before) n (e ∷ es)) ≡ stops_after gs size (g first) (heads_after cmp b (Some e) (if is_kept (Some before) e then n + 1 else n) es)
       by true p s k = rw s refl
       by false true s k = absurd (h (record { other = other_user cmp gs size before e s; passed = ltb-true (10 * size) (size_between gs (g first) (g e)) k }))
       by false false s k = rw (s, k) refl
 
   a_stop : (first before e : Entry) (n : ℕ) (es : List Entry) → BeginsSegment cmp gs size first before e
-      → stops_behind gs size (g first) (heads_behind cmp b (Some before) n (e ∷ es)) ≡ n ∷ stops_in n (e ∷ es)
+      → stops_after gs size (g first) (heads_after cmp b (Some before) n (e ∷ es)) ≡ n ∷ stops_in n (e ∷ es)
   a_stop first before e n es h =
       let s : is_same_user before e ≡ false = differs cmp gs size before e h.other in
       let k : is_past cmp gs size first e ≡ true = lt-ltb (10 * size) (size_between gs (g first) (g e)) h.passed in
-      rw (s, k) (ap (λ (keep_it : Bool). n ∷ stops_behind gs size (g e) (heads_behind cmp b (Some e) (if keep_it then n + 1 else n) es)) refl)
+      rw (s, k) (ap (λ (keep_it : Bool). n ∷ stops_after gs size (g e) (heads_after cmp b (Some e) (if keep_it then n + 1 else n) es)) refl)
 
   stops_reach : (first before : Entry) (n : ℕ) (es rest : List Entry) → ReachesNext cmp gs size first before es rest
-      → stops_behind gs size (g first) (heads_behind cmp b (Some before) n (es ++ rest)) ≡ stops_at (n + length (keep (Some before) es)) rest
+      → stops_after gs size (g first) (heads_after cmp b (Some before) n (es ++ rest)) ≡ stops_at (n + length (keep (Some before) es)) rest
   stops_reach first before n [] [] h = refl
   stops_reach first before n [] (f ∷ fs) h = a_stop first before f n fs h ∙ ap (λ (k : ℕ). stops_at k (f ∷ fs)) (omega arith)
   stops_reach first before n (e ∷ es) rest h =

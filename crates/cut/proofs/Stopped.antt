@@ -9,7 +9,7 @@ use Rattle.edit.specs.declared.meta.FileMeta.{FileMeta}
 use Rattle.keep.specs.declared.mark.Mark.{Mark}
 use Rattle.cut.specs.declared.stops.Overlap.{Overlap}
 use Rattle.cut.specs.declared.stops.Stopping.{Stopping}
-use Rattle.cut.specs.Stops.{size_between, is_stop, stops_behind}
+use Rattle.cut.specs.Stops.{size_between, is_stop, stops_after}
 use Rattle.cut.specs.OverlapStops.{room_left, stops_since, all_stops, HasOverlapRoom, AreCounted}
 use Rattle.cut.proofs.RepeatedMarks.{running, none_between}
 
@@ -88,10 +88,10 @@ a_stop gs size o m h e =
 pub counted_none : (gs : List FileMeta) (size below limit : ℕ) → limit ≡ 10 * size → HasOverlapRoom gs size (record { since = below; counted = below; room = limit })
 counted_none gs size below limit e = record { rises = omega arith; room = omega (arith, e, none_between gs size below) }
 
-passes_mark : (gs : List FileMeta) (size since : ℕ) (m : Mark) (rest : List Mark) → is_stop gs size since m ≡ false → stops_behind gs size since (m ∷ rest) ≡ stops_behind gs size since rest
+passes_mark : (gs : List FileMeta) (size since : ℕ) (m : Mark) (rest : List Mark) → is_stop gs size since m ≡ false → stops_after gs size since (m ∷ rest) ≡ stops_after gs size since rest
 passes_mark gs size since m rest s = rw s refl
 
-stops_at_mark : (gs : List FileMeta) (size since : ℕ) (m : Mark) (rest : List Mark) → is_stop gs size since m ≡ true → stops_behind gs size since (m ∷ rest) ≡ m.kept ∷ stops_behind gs size m.below rest
+stops_at_mark : (gs : List FileMeta) (size since : ℕ) (m : Mark) (rest : List Mark) → is_stop gs size since m ≡ true → stops_after gs size since (m ∷ rest) ≡ m.kept ∷ stops_after gs size m.below rest
 stops_at_mark gs size since m rest s = rw s refl
 
 -- ---- one mark is passed
@@ -120,23 +120,23 @@ counted_next gs size s o further below h is next =
     subst (HasOverlapRoom gs size) found.2 (counted_further gs size o below found.0 (counted_at gs size s o h is) found.1)
 
 pub goes_on : (gs : List FileMeta) (size : ℕ) (s : Stopping) (o further : Overlap) (m : Mark) (rest : List Mark) → AreCounted gs size s → s.overlap ≡ Some o → next_overlap gs o m.below ≡ Some further
-    → s.places.items ++ stops_behind gs size further.since rest ≡ all_stops gs size s (m ∷ rest)
+    → s.places.items ++ stops_after gs size further.since rest ≡ all_stops gs size s (m ∷ rest)
 goes_on gs size s o further m rest h is next =
     let found = mapped_some (overlap_at o m.below) (room_left o.room (size_between gs o.counted m.below)) further next in
     let quiet = no_stop gs size o m found.0 (counted_at gs size s o h is) found.1 in
     ap (λ (x : List ℕ). s.places.items ++ x)
-    (ap (λ (p : Overlap). stops_behind gs size p.since rest) (sym found.2)
+    (ap (λ (p : Overlap). stops_after gs size p.since rest) (sym found.2)
     ∙ sym (passes_mark gs size o.since m rest quiet)
     ∙ ap (λ (p : Option Overlap). stops_since gs size p (m ∷ rest)) (sym is))
 
 pub stops_here : (gs : List FileMeta) (size : ℕ) (s : Stopping) (o fresh : Overlap) (m : Mark) (places : List ℕ) (rest : List Mark) → AreCounted gs size s → s.overlap ≡ Some o → next_overlap gs o m.below ≡ None
     → fresh.since ≡ m.below → places ≡ s.places.items ++ m.kept ∷ []
-    → places ++ stops_behind gs size fresh.since rest ≡ all_stops gs size s (m ∷ rest)
+    → places ++ stops_after gs size fresh.since rest ≡ all_stops gs size s (m ∷ rest)
 stops_here gs size s o fresh m places rest h is next since more =
     let none = mapped_none (overlap_at o m.below) (room_left o.room (size_between gs o.counted m.below)) next in
     let stop = a_stop gs size o m (counted_at gs size s o h is) none in
-    ap (λ (x : List ℕ). x ++ stops_behind gs size fresh.since rest) more
-    ∙ append_assoc s.places.items (m.kept ∷ []) (stops_behind gs size fresh.since rest)
-    ∙ ap (λ (n : ℕ). s.places.items ++ m.kept ∷ stops_behind gs size n rest) since
+    ap (λ (x : List ℕ). x ++ stops_after gs size fresh.since rest) more
+    ∙ append_assoc s.places.items (m.kept ∷ []) (stops_after gs size fresh.since rest)
+    ∙ ap (λ (n : ℕ). s.places.items ++ m.kept ∷ stops_after gs size n rest) since
     ∙ ap (λ (x : List ℕ). s.places.items ++ x)
     (sym (stops_at_mark gs size o.since m rest stop) ∙ ap (λ (p : Option Overlap). stops_since gs size p (m ∷ rest)) (sym is))

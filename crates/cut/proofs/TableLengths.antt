@@ -11,7 +11,7 @@ use Rattle.std.proofs.Math.ListN.{drop_of_length-le}
 use Rattle.std.proofs.Math.Nat.{mod-one}
 use Rattle.coding.specs.Varint.{varint}
 use Rattle.coding.specs.Saturated.{saturated}
-use Rattle.ikey.specs.Short.{internal_separator_of, internal_successor_of}
+use Rattle.ikey.specs.ShortenedKeys.{internal_separator_of, internal_successor_of}
 use Rattle.block.specs.EncodedEntry.{Entry, encoded_entry_bytes}
 use Rattle.block.specs.BlockFormat.{block}
 use Rattle.block.specs.BuilderView.{last_key}
@@ -20,13 +20,13 @@ use Rattle.frame.specs.Handle.{handle_bytes}
 use Rattle.frame.specs.Trailer.{stored_block}
 use Rattle.frame.proofs.Stored.{length-stored}
 use Rattle.table.specs.declared.options.Options.{Options}
-use Rattle.table.specs.ReadingEntries.{first_key}
+use Rattle.table.specs.EntryTests.{first_key}
 use Rattle.table.specs.Table.{IndexKeys, index_key, index_keys, index_from, handle_entry, closing_bytes, stored_blocks, table, table_of_blocks}
 use Rattle.encoding.specs.declared.planned_block.PlannedBlock.{PlannedBlock}
 use Rattle.cut.specs.Lengths.{added_len}
-use Rattle.cut.specs.Metered.{last_entry_key}
-use Rattle.encoding.specs.Planned.{parts_of}
-use Rattle.cut.specs.Opened.{entries_in_blocks, HasLen, ArePlanned}
+use Rattle.cut.specs.BlockInProgress.{last_entry_key}
+use Rattle.encoding.specs.PlannedBlocks.{block_lists}
+use Rattle.cut.specs.OutputInProgress.{entries_in_blocks, HasLen, ArePlanned}
 use Rattle.cut.specs.Plan.{stored_len}
 use Rattle.cut.specs.Sizes.{encoded_entry_size}
 use Rattle.cut.specs.TableLength.{capped_length, lens_of, planned_index_key, planned_index_entries, index_sizes, table_size}
@@ -172,44 +172,44 @@ module _ (o : Options) where
   pub stored_cons : (p : List Entry) (ps : List (List Entry)) → stored_len o.restart_interval (p ∷ ps) ≡ length (block o.restart_interval p) + 5 + stored_len o.restart_interval ps
   stored_cons p ps = omega (arith, length-append (stored_block (block o.restart_interval p)) (stored_blocks o.restart_interval ps), length-stored (block o.restart_interval p))
 
-  pub stored_exact : (blocks : List PlannedBlock) → AllByRecursion (HasLen o) blocks → lens_of blocks ≤ 2 ^ 30 → stored_len o.restart_interval (parts_of blocks) ≡ lens_of blocks
+  pub stored_exact : (blocks : List PlannedBlock) → AllByRecursion (HasLen o) blocks → lens_of blocks ≤ 2 ^ 30 → stored_len o.restart_interval (block_lists blocks) ≡ lens_of blocks
   stored_exact [] h le = refl
   stored_exact (b ∷ bs) h le =
       let all = sum_by-cons (λ (x : PlannedBlock). x.len + 5) b bs in
       let one = exact_one o b h.0 (omega arith) in
-      omega (arith, stored_cons b.entries.entries (parts_of bs), stored_exact bs h.1 (omega arith), one, all)
+      omega (arith, stored_cons b.entries.entries (block_lists bs), stored_exact bs h.1 (omega arith), one, all)
 
-  pub stored_more : (blocks : List PlannedBlock) → AllByRecursion (HasLen o) blocks → lens_of blocks ≤ stored_len o.restart_interval (parts_of blocks)
+  pub stored_more : (blocks : List PlannedBlock) → AllByRecursion (HasLen o) blocks → lens_of blocks ≤ stored_len o.restart_interval (block_lists blocks)
   stored_more [] h = omega arith
   stored_more (b ∷ bs) h =
       let all = sum_by-cons (λ (x : PlannedBlock). x.len + 5) b bs in
       let one : b.len ≤ length (block o.restart_interval b.entries.entries) = omega (arith, h.0) in
-      omega (arith, stored_cons b.entries.entries (parts_of bs), stored_more bs h.1, one, all)
+      omega (arith, stored_cons b.entries.entries (block_lists bs), stored_more bs h.1, one, all)
 
-  pub index_exact : (keys : IndexKeys) (at : ℕ) (blocks : List PlannedBlock) → AllByRecursion (HasLen o) blocks → lens_of blocks ≤ 2 ^ 30 → planned_index_entries keys at blocks ≡ index_from keys o.restart_interval at (parts_of blocks)
+  pub index_exact : (keys : IndexKeys) (at : ℕ) (blocks : List PlannedBlock) → AllByRecursion (HasLen o) blocks → lens_of blocks ≤ 2 ^ 30 → planned_index_entries keys at blocks ≡ index_from keys o.restart_interval at (block_lists blocks)
   index_exact keys at [] h le = refl
   index_exact keys at (b ∷ bs) h le =
       let all = sum_by-cons (λ (x : PlannedBlock). x.len + 5) b bs in
       let one = exact_one o b h.0 (omega arith) in
-      ap (λ (es : List Entry). handle_entry (index_key keys b.entries.entries (parts_of bs)) at b.len ∷ es) (index_exact keys (at + b.len + 5) bs h.1 (omega arith))
-      ∙ ap (λ (n : ℕ). handle_entry (index_key keys b.entries.entries (parts_of bs)) at n ∷ index_from keys o.restart_interval (at + n + 5) (parts_of bs)) one
+      ap (λ (es : List Entry). handle_entry (index_key keys b.entries.entries (block_lists bs)) at b.len ∷ es) (index_exact keys (at + b.len + 5) bs h.1 (omega arith))
+      ∙ ap (λ (n : ℕ). handle_entry (index_key keys b.entries.entries (block_lists bs)) at n ∷ index_from keys o.restart_interval (at + n + 5) (block_lists bs)) one
 
   -- ---- the whole table
 
   module _ (keys : IndexKeys) where
     -- the length of the table of planned blocks
     abbrev whole : List PlannedBlock → ℕ
-    whole blocks = stored_len o.restart_interval (parts_of blocks) + (length (block 1 (index_from keys o.restart_interval 0 (parts_of blocks))) + 66)
+    whole blocks = stored_len o.restart_interval (block_lists blocks) + (length (block 1 (index_from keys o.restart_interval 0 (block_lists blocks))) + 66)
 
-    length-whole : (blocks : List PlannedBlock) → length (table_of_blocks keys o.restart_interval (parts_of blocks)) ≡ whole blocks
+    length-whole : (blocks : List PlannedBlock) → length (table_of_blocks keys o.restart_interval (block_lists blocks)) ≡ whole blocks
     length-whole blocks =
-        let stored_bytes = stored_blocks o.restart_interval (parts_of blocks) in
-        let index = index_from keys o.restart_interval 0 (parts_of blocks) in
+        let stored_bytes = stored_blocks o.restart_interval (block_lists blocks) in
+        let index = index_from keys o.restart_interval 0 (block_lists blocks) in
         length-append stored_bytes (closing_bytes (length stored_bytes) index) ∙ ap (λ (n : ℕ). length stored_bytes + n) (lengths_law.closed (length stored_bytes) index)
 
 pub length-table : (cmp : List ℕ → List ℕ → Ordering) (short_keys : ShortKeys) (o : Options) (blocks : List PlannedBlock) → ArePlanned o blocks
     → length (table cmp short_keys o (entries_in_blocks blocks))
-    ≡ stored_len o.restart_interval (parts_of blocks) + (length (block 1 (index_from (index_keys cmp short_keys) o.restart_interval 0 (parts_of blocks))) + 66)
+    ≡ stored_len o.restart_interval (block_lists blocks) + (length (block 1 (index_from (index_keys cmp short_keys) o.restart_interval 0 (block_lists blocks))) + 66)
 unfolding table
 length-table cmp short_keys o blocks h =
     let keys = index_keys cmp short_keys in
@@ -224,7 +224,7 @@ size_is cmp short_keys o blocks h =
     elim (cases_lt (2 ^ 30) (lens_of blocks)) [
       | inl over ↦ rw (lt-ltb (2 ^ 30) (lens_of blocks) over) (omega (arith, whole, stored_more o blocks h.lens))
       | inr within ↦
-          let exact : length (block 1 (planned_index_entries keys 0 blocks)) ≡ length (block 1 (index_from keys o.restart_interval 0 (parts_of blocks))) = ap (λ (es : List Entry). length (block 1 es)) (index_exact o keys 0 blocks h.lens within) in
+          let exact : length (block 1 (planned_index_entries keys 0 blocks)) ≡ length (block 1 (index_from keys o.restart_interval 0 (block_lists blocks))) = ap (λ (es : List Entry). length (block 1 es)) (index_exact o keys 0 blocks h.lens within) in
           rw (le-ltb (2 ^ 30) (lens_of blocks) within) (omega (arith, whole, stored_exact o blocks h.lens within, exact))
     ]
 

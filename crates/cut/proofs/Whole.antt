@@ -8,8 +8,8 @@ use Rattle.std.proofs.lemmas.List.{take-append-drop}
 use Rattle.block.specs.EncodedEntry.{Entry}
 use Rattle.table.specs.declared.options.Options.{Options}
 use Rattle.table.specs.DataBlocks.{open_block}
-use Rattle.merge.specs.Merged.{entries_of_lists}
-use Rattle.cut.specs.Outputs.{ends_before, outputs_behind, outputs_in, segments}
+use Rattle.merge.specs.MergedLists.{entries_of_lists}
+use Rattle.cut.specs.Outputs.{ends_before, outputs_after, outputs_in, segments}
 
 module _ (o : Options) where
   -- ---- the entries of a segment
@@ -18,12 +18,12 @@ module _ (o : Options) where
   all_open [] = refl
   all_open (e ∷ es) = append-nil (e ∷ es)
 
-  all_by : (b : Bool) (latest : List Entry) (e : Entry) (es : List Entry) → entries_of_lists (outputs_behind o (e ∷ []) es) ≡ e ∷ es → entries_of_lists (outputs_behind o (latest ++ e ∷ []) es) ≡ (latest ++ e ∷ []) ++ es
-      → entries_of_lists (if b then latest ∷ outputs_behind o (e ∷ []) es else outputs_behind o (latest ++ e ∷ []) es) ≡ latest ++ e ∷ es
+  all_by : (b : Bool) (latest : List Entry) (e : Entry) (es : List Entry) → entries_of_lists (outputs_after o (e ∷ []) es) ≡ e ∷ es → entries_of_lists (outputs_after o (latest ++ e ∷ []) es) ≡ (latest ++ e ∷ []) ++ es
+      → entries_of_lists (if b then latest ∷ outputs_after o (e ∷ []) es else outputs_after o (latest ++ e ∷ []) es) ≡ latest ++ e ∷ es
   all_by true latest e es ended grown = ap (λ (xs : List Entry). latest ++ xs) ended
   all_by false latest e es ended grown = grown ∙ append_assoc latest (e ∷ []) es
 
-  pub all_behind : (latest es : List Entry) → entries_of_lists (outputs_behind o latest es) ≡ latest ++ es
+  pub all_behind : (latest es : List Entry) → entries_of_lists (outputs_after o latest es) ≡ latest ++ es
   all_behind latest [] = all_open latest ∙ sym (append-nil latest)
   all_behind latest (e ∷ es) = all_by (ends_before o latest e) latest e es (all_behind (e ∷ []) es) (all_behind (latest ++ e ∷ []) es)
 
@@ -38,12 +38,12 @@ module _ (o : Options) where
   ended_some [] e h = absurd (false≢true h)
   ended_some (a ∷ latest) e h = λ no. absurd (cc)
 
-  some_by : (b : Bool) (latest : List Entry) (e : Entry) (es : List Entry) → ends_before o latest e ≡ b → AllByRecursion IsSome (outputs_behind o (e ∷ []) es) → AllByRecursion IsSome (outputs_behind o (latest ++ e ∷ []) es)
-      → AllByRecursion IsSome (if b then latest ∷ outputs_behind o (e ∷ []) es else outputs_behind o (latest ++ e ∷ []) es)
+  some_by : (b : Bool) (latest : List Entry) (e : Entry) (es : List Entry) → ends_before o latest e ≡ b → AllByRecursion IsSome (outputs_after o (e ∷ []) es) → AllByRecursion IsSome (outputs_after o (latest ++ e ∷ []) es)
+      → AllByRecursion IsSome (if b then latest ∷ outputs_after o (e ∷ []) es else outputs_after o (latest ++ e ∷ []) es)
   some_by true latest e es ends ended grown = (ended_some latest e ends, ended)
   some_by false latest e es ends ended grown = grown
 
-  some_behind : (latest es : List Entry) → AllByRecursion IsSome (outputs_behind o latest es)
+  some_behind : (latest es : List Entry) → AllByRecursion IsSome (outputs_after o latest es)
   some_behind latest [] = some_open latest
   some_behind latest (e ∷ es) = some_by (ends_before o latest e) latest e es refl (some_behind (e ∷ []) es) (some_behind (latest ++ e ∷ []) es)
 

@@ -9,17 +9,17 @@ open_group (x ∷ xs) = (x ∷ xs) ∷ []
 
 -- The groups of a list, if the open group has the elements `latest`. A group ends with the element
 -- by which it has n.
-abbrev pub groups_behind : {A : Type 0} → ℕ → List A → List A → List (List A)
-groups_behind n latest [] = open_group latest
-groups_behind n latest (x ∷ xs) =
+abbrev pub groups_after : {A : Type 0} → ℕ → List A → List A → List (List A)
+groups_after n latest [] = open_group latest
+groups_after n latest (x ∷ xs) =
     if nat_le n (length (latest ++ x ∷ []))
-    then (latest ++ x ∷ []) ∷ groups_behind n [] xs
-    else groups_behind n (latest ++ x ∷ []) xs
+    then (latest ++ x ∷ []) ∷ groups_after n [] xs
+    else groups_after n (latest ++ x ∷ []) xs
 
 -- A list dealt out in groups, in order: each of n elements, but the last of those that are left. No
 -- group if there is no element.
 abbrev pub groups_of : {A : Type 0} → ℕ → List A → List (List A)
-groups_of n xs = groups_behind n [] xs
+groups_of n xs = groups_after n [] xs
 
 -- the plans of at most n outputs each that a plan is dealt out to
 abbrev pub plan_groups : ℕ → PlanSeen → List PlanSeen

@@ -8,12 +8,12 @@ pub mod Groups
 pub mod OutputMeta
 pub mod Lengths
 -- serves proofs alone
-pub mod Metered
+pub mod BlockInProgress
 pub mod Sizes
 pub mod OverlapStops
-pub mod Opened
+pub mod OutputInProgress
 pub mod OutputCuts
 pub mod TableLength
-pub mod Divided
+pub mod PieceDivision
 pub mod PlanInvariant
 pub mod PlanTables

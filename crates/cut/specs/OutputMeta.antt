@@ -1,7 +1,7 @@
 -- What is known of an output before it is written.
 use Rattle.std.specs.Prelude.{◌≡◌, ◌≢◌, [], length}
 use Rattle.block.specs.BuilderView.{last_key}
-use Rattle.table.specs.ReadingEntries.{first_key}
+use Rattle.table.specs.EntryTests.{first_key}
 use Rattle.cut.specs.declared.output_meta.OutputMeta.{OutputMeta}
 use Rattle.cut.specs.Plan.{OutputView}
 

@@ -11,7 +11,7 @@ use Rattle.block.specs.EncodedEntry.{Entry}
 use Rattle.block.specs.BuilderView.{last_key}
 use Rattle.table.specs.declared.options.Options.{Options}
 use Rattle.table.specs.DataBlocks.{open_block, flushed}
-use Rattle.merge.specs.Merged.{entries_of_lists}
+use Rattle.merge.specs.MergedLists.{entries_of_lists}
 use Rattle.merge.specs.Union.{VersionsRise}
 use Rattle.edit.specs.declared.meta.FileMeta.{FileMeta}
 use Rattle.split.specs.Boundaries.{IsSplit}
@@ -34,15 +34,15 @@ ends_before o (e ∷ es) next = nat_le o.file_size (flushed o (e ∷ es))
     && not (bytes_eq (user_of (last_key e.key es)) (user_of next.key))
 
 -- the outputs of the rest of a segment, if the open output has the entries `latest`
-abbrev pub outputs_behind : Options → List Entry → List Entry → List (List Entry)
-outputs_behind o latest [] = open_block latest
-outputs_behind o latest (e ∷ es) =
-    if ends_before o latest e then latest ∷ outputs_behind o (e ∷ []) es
-    else outputs_behind o (latest ++ e ∷ []) es
+abbrev pub outputs_after : Options → List Entry → List Entry → List (List Entry)
+outputs_after o latest [] = open_block latest
+outputs_after o latest (e ∷ es) =
+    if ends_before o latest e then latest ∷ outputs_after o (e ∷ []) es
+    else outputs_after o (latest ++ e ∷ []) es
 
 -- the outputs of the kept entries of a segment
 abbrev pub outputs_in : Options → List Entry → List (List Entry)
-outputs_in o segment = outputs_behind o [] segment
+outputs_in o segment = outputs_after o [] segment
 
 -- the outputs of kept entries, cut at the stops of their marks and then by size
 abbrev pub outputs_of : List FileMeta → Options → Run → List (List Entry)

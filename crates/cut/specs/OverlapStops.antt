@@ -5,7 +5,7 @@ use Rattle.edit.specs.declared.meta.FileMeta.{FileMeta}
 use Rattle.keep.specs.declared.mark.Mark.{Mark}
 use Rattle.cut.specs.declared.stops.Overlap.{Overlap}
 use Rattle.cut.specs.declared.stops.Stopping.{Stopping}
-use Rattle.cut.specs.Stops.{size_between, stops, stops_behind}
+use Rattle.cut.specs.Stops.{size_between, stops, stops_after}
 use Rattle.cut.specs.declared.stops.TheConstants.{MAX_OVERLAP}
 
 -- what is left of the room after `passed` bytes; None if they exceed it
@@ -15,7 +15,7 @@ room_left room passed = if nat_lt room passed then None else Some (room - passed
 -- the stops at further marks: since the last stop or the first mark, if there is one
 abbrev pub stops_since : List FileMeta → ℕ → Option Overlap → List Mark → List ℕ
 stops_since grandparents file_size None ms = stops grandparents file_size ms
-stops_since grandparents file_size (Some o) ms = stops_behind grandparents file_size o.since ms
+stops_since grandparents file_size (Some o) ms = stops_after grandparents file_size o.since ms
 
 -- the stops found so far, and those at the marks that are left
 abbrev pub all_stops : List FileMeta → ℕ → Stopping → List Mark → List ℕ

@@ -10,7 +10,7 @@ use Rattle.block.specs.EncodedEntry.{Entry}
 use Rattle.table.specs.declared.options.Options.{Options}
 use Rattle.table.specs.DataBlocks.{data_blocks}
 use Rattle.table.specs.Table.{closing_bytes, index_from, index_keys, stored_blocks, table}
-use Rattle.table.specs.ReadingSteps.{test_result}
+use Rattle.table.specs.TestResult.{test_result}
 use Rattle.ikey.specs.Comparator.{KeyOrder, ShortKeys}
 use Rattle.table.specs.declared.table_check.TheConstants.{MAX_TABLE_LEN}
 use Rattle.cut.specs.declared.output_plan.TheConstants.{FEW_BLOCKS, MAX_BLOCKS, PIECE_LEN}
@@ -76,19 +76,20 @@ open_piece (p ∷ ps) = (p ∷ ps) ∷ []
 
 -- The pieces of an output's data blocks, if the open piece has the blocks `latest`. A piece ends
 -- with the block at which its bytes reach `size`.
-abbrev pub pieces_behind : ℕ → ℕ → List (List Entry) → List (List Entry) → List (List (List Entry))
-pieces_behind size interval latest [] = open_piece latest
-pieces_behind size interval latest (p ∷ ps) =
+abbrev pub pieces_from_block : ℕ → ℕ → List (List Entry) → List (List Entry) →
+    List (List (List Entry))
+pieces_from_block size interval latest [] = open_piece latest
+pieces_from_block size interval latest (p ∷ ps) =
     if nat_le size (stored_len interval (latest ++ p ∷ []))
-    then (latest ++ p ∷ []) ∷ pieces_behind size interval [] ps
-    else pieces_behind size interval (latest ++ p ∷ []) ps
+    then (latest ++ p ∷ []) ∷ pieces_from_block size interval [] ps
+    else pieces_from_block size interval (latest ++ p ∷ []) ps
 
 -- The pieces of an output. If all outputs together have fewer than 64 data blocks, each block is a
 -- piece; else a piece ends with the block at which its bytes reach 2 ^ 22.
 abbrev pub pieces_in : Options → ℕ → List Entry → List (List (List Entry))
 pieces_in o blocks q =
     if nat_lt blocks FEW_BLOCKS then map (λ p. p ∷ []) (data_blocks o q) else
-    pieces_behind PIECE_LEN o.restart_interval [] (data_blocks o q)
+    pieces_from_block PIECE_LEN o.restart_interval [] (data_blocks o q)
 
 -- the pieces of all outputs, in order
 abbrev pub pieces : Options → List (List Entry) → List (List (List Entry))

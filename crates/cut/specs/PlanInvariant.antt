@@ -8,9 +8,9 @@ use Rattle.table.specs.Options.{AreInLimits}
 use Rattle.encoding.specs.declared.planned_block.PlannedBlock.{PlannedBlock}
 use Rattle.cut.specs.declared.piece.Piece.{Piece}
 use Rattle.cut.specs.declared.planned_output.PlannedOutput.{PlannedOutput}
-use Rattle.cut.specs.Divided.{places_all, counts_all, piece_limit}
-use Rattle.encoding.specs.Planned.{parts_of}
-use Rattle.cut.specs.Opened.{entries_in_blocks, ArePlanned}
+use Rattle.cut.specs.PieceDivision.{places_all, counts_all, piece_limit}
+use Rattle.encoding.specs.PlannedBlocks.{block_lists}
+use Rattle.cut.specs.OutputInProgress.{entries_in_blocks, ArePlanned}
 use Rattle.cut.specs.Plan.{OutputView, block_ends_from}
 use Rattle.table.specs.declared.table_check.TheConstants.{MAX_TABLE_LEN}
 use Rattle.cut.specs.declared.output_plan.TheConstants.{MAX_BLOCKS}
@@ -21,7 +21,7 @@ abbrev pub planned_of : PlannedOutput → OutputView
 planned_of p = record {
   number = p.number;
   entries = entries_in_blocks p.blocks.items;
-  blocks = block_ends_from 0 (parts_of p.blocks.items);
+  blocks = block_ends_from 0 (block_lists p.blocks.items);
   length = p.len;
 }
 

@@ -2,7 +2,7 @@
 use Rattle.std.specs.Prelude.{◌≡◌, ℕ, ◌≤◌, List, [], ◌∷◌, length, map, take, drop, flat_map}
 use Rattle.std.specs.List.{AllByRecursion}
 use Rattle.table.specs.Table.{IndexKeys, stored_blocks, table_of_blocks}
-use Rattle.encoding.specs.Planned.{IsPlanned, parts_of}
+use Rattle.encoding.specs.PlannedBlocks.{IsPlanned, block_lists}
 use Rattle.cut.specs.declared.planned_output.PlannedOutput.{PlannedOutput}
 use Rattle.table.specs.declared.table_check.TheConstants.{MAX_TABLE_LEN}
 
@@ -10,8 +10,8 @@ use Rattle.table.specs.declared.table_check.TheConstants.{MAX_TABLE_LEN}
 pub record IsReady (keys : IndexKeys) (interval : ℕ) (p : PlannedOutput) (pieces : List (List ℕ))
     : Type 0 where
   pub planned : AllByRecursion (IsPlanned interval) p.blocks.items
-  pub fits : length (table_of_blocks keys interval (parts_of p.blocks.items)) ≤ MAX_TABLE_LEN
-  pub bytes : flat_map (λ piece. piece) pieces ≡ stored_blocks interval (parts_of p.blocks.items)
+  pub fits : length (table_of_blocks keys interval (block_lists p.blocks.items)) ≤ MAX_TABLE_LEN
+  pub bytes : flat_map (λ piece. piece) pieces ≡ stored_blocks interval (block_lists p.blocks.items)
 
 -- outputs whose tables can be joined of pieces, of which output i has `counts[i]`
 abbrev pub AreReady : IndexKeys → ℕ → List PlannedOutput → List ℕ → List (List ℕ) → Type 0
@@ -23,5 +23,6 @@ AreReady keys interval (p ∷ ps) (n ∷ ns) pieces = IsReady keys interval p (t
 -- the number and the table of each output
 abbrev pub tables_of : IndexKeys → ℕ → List PlannedOutput → List (ℕ × List ℕ)
 tables_of keys interval outputs =
-    map (λ (p : PlannedOutput). (p.number, table_of_blocks keys interval (parts_of p.blocks.items)))
+    map (λ (p : PlannedOutput).
+    (p.number, table_of_blocks keys interval (block_lists p.blocks.items)))
     outputs

@@ -20,7 +20,7 @@ use Rattle.edit.specs.declared.meta.FileMeta.{FileMeta}
 use Rattle.keep.specs.DropRule.{kept}
 use Rattle.keep.specs.Marks.{CompactionContext, grandparents_below}
 use Rattle.merge.specs.Union.{VersionsRise}
-use Rattle.merge.specs.Merged.{entries_of_lists}
+use Rattle.merge.specs.MergedLists.{entries_of_lists}
 use Rattle.cut.specs.Outputs.{outputs, outputs_in, AreOutputs}
 use Rattle.cut.specs.Stops.{size_between}
 use Rattle.cut.specs.declared.stops.TheConstants.{MAX_OVERLAP}

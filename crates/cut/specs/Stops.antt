@@ -20,12 +20,12 @@ is_stop grandparents file_size since m =
     nat_lt (MAX_OVERLAP * file_size) (size_between grandparents since m.below)
 
 -- the stops at the marks after a stop with `since` grandparents below it
-abbrev pub stops_behind : List FileMeta → ℕ → ℕ → List Mark → List ℕ
-stops_behind grandparents file_size since [] = []
-stops_behind grandparents file_size since (m ∷ ms) =
+abbrev pub stops_after : List FileMeta → ℕ → ℕ → List Mark → List ℕ
+stops_after grandparents file_size since [] = []
+stops_after grandparents file_size since (m ∷ ms) =
     if is_stop grandparents file_size since m
-    then m.kept ∷ stops_behind grandparents file_size m.below ms
-    else stops_behind grandparents file_size since ms
+    then m.kept ∷ stops_after grandparents file_size m.below ms
+    else stops_after grandparents file_size since ms
 
 -- The stops of a compaction, each by the number of kept entries before it. A stop is asked at the
 -- first entry of each user key, kept or dropped. The count begins at the first entry of all, and
@@ -33,7 +33,7 @@ stops_behind grandparents file_size since (m ∷ ms) =
 -- have more than MAX_OVERLAP times the maximal file size together.
 abbrev pub stops : List FileMeta → ℕ → List Mark → List ℕ
 stops grandparents file_size [] = []
-stops grandparents file_size (m ∷ ms) = stops_behind grandparents file_size m.below ms
+stops grandparents file_size (m ∷ ms) = stops_after grandparents file_size m.below ms
 
 -- these are the stops at marks after a stop: each is at the first mark that is one, and after the
 -- last no mark is one
@@ -52,7 +52,7 @@ pub record StopsLaw : Type 0 where
   pub these : (grandparents : List FileMeta) (file_size since : ℕ) (ms : List Mark)
       (places : List ℕ) →
       AreStops grandparents file_size since ms places
-      ↔ (stops_behind grandparents file_size since ms ≡ places)
+      ↔ (stops_after grandparents file_size since ms ≡ places)
   pub changes_alone : (grandparents : List FileMeta) (file_size : ℕ) (ms : List Mark) →
       stops grandparents file_size (changes ms) ≡ stops grandparents file_size ms
   pub running : (grandparents : List FileMeta) (from middle to : ℕ) → from ≤ middle → middle ≤ to →

@@ -7,7 +7,7 @@ use Rattle.block.specs.BlockFormat.{block}
 use Rattle.frame.specs.declared.trailer.TheConstants.{TRAILER_LEN}
 use Rattle.table.specs.Table.{IndexKeys, index_key, handle_entry}
 use Rattle.encoding.specs.declared.planned_block.PlannedBlock.{PlannedBlock}
-use Rattle.encoding.specs.Planned.{parts_of}
+use Rattle.encoding.specs.PlannedBlocks.{block_lists}
 use Rattle.cut.specs.Sizes.{encoded_entry_size}
 use Rattle.cut.specs.declared.table_len.TheConstants.{CLOSING_LEN}
 use Rattle.table.specs.declared.table_check.TheConstants.{MAX_TABLE_LEN}
@@ -23,7 +23,7 @@ lens_of blocks = sum_by (λ (b : PlannedBlock). b.len + TRAILER_LEN) blocks
 -- the index key of the first of these data blocks
 abbrev pub planned_index_key : IndexKeys → List PlannedBlock → List ℕ
 planned_index_key keys [] = []
-planned_index_key keys (b ∷ bs) = index_key keys b.entries.entries (parts_of bs)
+planned_index_key keys (b ∷ bs) = index_key keys b.entries.entries (block_lists bs)
 
 -- the index entries of planned data blocks, the first of which is at offset `at`
 abbrev pub planned_index_entries : IndexKeys → ℕ → List PlannedBlock → List Entry

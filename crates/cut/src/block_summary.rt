@@ -3,10 +3,10 @@
 ghost use Rattle.std.specs.Prelude.{◌≡◌, ◌≤◌, length, slice_get, Some};
 ghost use Rattle.std.specs.Option.{option_map};
 ghost use Rattle.table.specs.declared.table_check.TheConstants.{MAX_TABLE_LEN};
-ghost use Rattle.cut.specs.Metered.{last_entry_key};
+ghost use Rattle.cut.specs.BlockInProgress.{last_entry_key};
 ghost use Rattle.cut.specs.OutputMeta.{IsMetaOf};
-ghost use Rattle.encoding.specs.Planned.{parts_of};
-ghost use Rattle.cut.specs.Opened.{entries_in_blocks};
+ghost use Rattle.encoding.specs.PlannedBlocks.{block_lists};
+ghost use Rattle.cut.specs.OutputInProgress.{entries_in_blocks};
 ghost use Rattle.cut.specs.Plan.{block_ends_from};
 ghost use Rattle.cut.specs.PlanInvariant.{HaveEntries, planned_of};
 
@@ -31,7 +31,7 @@ fn count_entries(blocks: &[PlannedBlock<'_, '_>]) -> u64
 /// block.
 pub(crate) fn end_of(blocks: &[PlannedBlock<'_, '_>], block: usize) -> Option<u64>
     requires { length (entries_in_blocks blocks.now) ≤ MAX_TABLE_LEN }
-    ensures { result ≡ slice_get (block_ends_from 0 (parts_of blocks.now)) block }
+    ensures { result ≡ slice_get (block_ends_from 0 (block_lists blocks.now)) block }
 {
     if block >= blocks.len() {
         return None;
@@ -45,7 +45,7 @@ pub(crate) fn entries_of<'p, 'r, 'a>(
     block: usize,
 ) -> Option<&'p EntryRef<'r, 'a>>
     ensures { option_map (λ entries. entries.now.entries) result
-        ≡ slice_get (parts_of blocks.now) block }
+        ≡ slice_get (block_lists blocks.now) block }
 {
     if block >= blocks.len() {
         return None;

@@ -7,7 +7,7 @@ ghost use Rattle.coding.specs.Saturated.{saturated};
 ghost use Rattle.block.specs.BlockFormat.{block};
 ghost use Rattle.table.specs.DataBlocks.{is_full};
 ghost use Rattle.table.specs.Options.{AreInLimits};
-ghost use Rattle.cut.specs.Metered.{block_after_entries, last_entry_key, added_size};
+ghost use Rattle.cut.specs.BlockInProgress.{block_after_entries, last_entry_key, added_size};
 ghost use Rattle.block.specs.declared.builder.TheConstants.{MAX_RESTART_INTERVAL};
 
 use crate::lengths::{EMPTY_LEN, RESTART_LEN, encoded_entry_len};
@@ -30,7 +30,7 @@ pub(crate) struct OpenBlock<'r, 'a> {
 }
 
 impl<'r, 'a> Model for OpenBlock<'r, 'a> {
-    ghost use Rattle.cut.specs.Metered.{BlockInProgress, IsMetered};
+    ghost use Rattle.cut.specs.BlockInProgress.{BlockInProgress, IsMetered};
 
     ghost Value = { BlockInProgress };
 

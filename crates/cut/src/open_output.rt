@@ -15,9 +15,9 @@ ghost use Rattle.coding.specs.declared.fault.FaultName.TheVariants.{Memory};
 ghost use Rattle.block.specs.EncodedEntry.{Entry};
 ghost use Rattle.table.specs.Options.{AreInLimits};
 ghost use Rattle.table.specs.DataBlocks.{data_blocks};
-ghost use Rattle.encoding.specs.Planned.{parts_of};
-ghost use Rattle.cut.specs.Opened.{HasLen, ends_by};
-ghost use Rattle.cut.specs.Outputs.{outputs_behind};
+ghost use Rattle.encoding.specs.PlannedBlocks.{block_lists};
+ghost use Rattle.cut.specs.OutputInProgress.{HasLen, ends_by};
+ghost use Rattle.cut.specs.Outputs.{outputs_after};
 
 use crate::open_block::OpenBlock;
 use coding::Fault;
@@ -46,7 +46,7 @@ pub(crate) struct OpenOutput<'r, 'a> {
 impl<'r, 'a> Model for OpenOutput<'r, 'a> {
     ghost use Rattle.std.specs.Prelude.{◌++◌};
     ghost use Rattle.std.specs.Option.{option_map};
-    ghost use Rattle.cut.specs.Opened.{OutputInProgress, entries_in_blocks, IsOpen};
+    ghost use Rattle.cut.specs.OutputInProgress.{OutputInProgress, entries_in_blocks, IsOpen};
 
     ghost Value = { OutputInProgress };
 
@@ -97,8 +97,8 @@ impl<'r, 'a> OpenOutput<'r, 'a> {
         ensures some { IfOk result (λ taken. 0 < taken) }
         ensures most { IfOk result (λ taken. taken ≤ most) }
         ensures left { IfOk result (λ taken. (rest : List Entry) →
-            outputs_behind self.old.options (self.old.entries ++ take taken self.old.behind) rest
-            ≡ outputs_behind self.old.options self.old.entries (take taken self.old.behind
+            outputs_after self.old.options (self.old.entries ++ take taken self.old.behind) rest
+            ≡ outputs_after self.old.options self.old.entries (take taken self.old.behind
             ++ rest)) }
         ensures options { self.new.options ≡ self.old.options }
         ensures memory { IfErr result (λ e. e ≡ fault Memory) }
@@ -137,7 +137,7 @@ impl<'r, 'a> OpenOutput<'r, 'a> {
     /// Ends the output and answers its data blocks, none if it has no entry; and begins another one
     /// after it. The only fault is Memory.
     pub fn end(&mut self, alloc: Global) -> Result<Vec<PlannedBlock<'r, 'a>>, Fault>
-        ensures blocks { IfOk result (λ blocks. parts_of blocks.items
+        ensures blocks { IfOk result (λ blocks. block_lists blocks.items
             ≡ data_blocks self.old.options self.old.entries) }
         ensures lens { IfOk result
             (λ blocks. AllByRecursion (HasLen self.old.options) blocks.items) }

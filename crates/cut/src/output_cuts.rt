@@ -17,7 +17,7 @@ ghost use Rattle.block.specs.EncodedEntry.{Entry};
 ghost use Rattle.table.specs.Options.{AreInLimits};
 ghost use Rattle.keep.specs.Runs.{joined_run};
 ghost use Rattle.cut.specs.OutputCuts.{outputs_left};
-ghost use Rattle.cut.specs.Opened.{ArePlanned, entries_in_blocks};
+ghost use Rattle.cut.specs.OutputInProgress.{ArePlanned, entries_in_blocks};
 ghost use Rattle.cut.specs.Outputs.{segments, outputs_in, outputs_of};
 
 use crate::open_output::OpenOutput;
@@ -43,7 +43,7 @@ struct Cutting<'r, 'a> {
 impl<'r, 'a> Model for Cutting<'r, 'a> {
     ghost use Rattle.std.specs.Prelude.{map};
     ghost use Rattle.std.specs.List.{AllByRecursion};
-    ghost use Rattle.cut.specs.Opened.{ArePlanned, entries_in_blocks};
+    ghost use Rattle.cut.specs.OutputInProgress.{ArePlanned, entries_in_blocks};
     ghost use Rattle.cut.specs.OutputCuts.{OutputsInProgress};
 
     ghost Value = { OutputsInProgress };

@@ -10,7 +10,7 @@ ghost use Rattle.table.specs.Options.{AreInLimits};
 ghost use Rattle.table.specs.Table.{index_keys, table};
 ghost use Rattle.table.specs.declared.table_check.TheConstants.{MAX_TABLE_LEN};
 ghost use Rattle.keep.specs.Runs.{joined_run};
-ghost use Rattle.cut.specs.Divided.{places_all, counts_all, piece_limit};
+ghost use Rattle.cut.specs.PieceDivision.{places_all, counts_all, piece_limit};
 ghost use Rattle.cut.specs.Outputs.{outputs_of};
 ghost use Rattle.cut.specs.Plan.{plan_of};
 ghost use Rattle.cut.specs.PlanInvariant.{HaveEntries, IsPlannedOutput, block_count};

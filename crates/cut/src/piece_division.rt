@@ -10,7 +10,7 @@ ghost use Rattle.std.specs.Prelude.{◌≡◌, ◌≤◌, ◌<◌, ◌++◌, OnO
 ghost use Rattle.std.specs.List.{AllByRecursion};
 ghost use Rattle.coding.specs.Answers.{fault};
 ghost use Rattle.coding.specs.declared.fault.FaultName.TheVariants.{Memory};
-ghost use Rattle.cut.specs.Divided.{piece_places_from, places_all, counts_all};
+ghost use Rattle.cut.specs.PieceDivision.{piece_places_from, places_all, counts_all};
 ghost use Rattle.cut.specs.TableLength.{lens_of};
 ghost use Rattle.table.specs.declared.table_check.TheConstants.{MAX_TABLE_LEN};
 

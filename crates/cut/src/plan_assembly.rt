@@ -12,7 +12,7 @@ ghost use Rattle.block.specs.BlockFormat.{block};
 ghost use Rattle.block.specs.declared.builder.TheConstants.{MAX_BLOCK_LEN, MAX_RESTART_INTERVAL};
 ghost use Rattle.table.specs.Table.{index_keys, table_of_blocks};
 ghost use Rattle.table.specs.declared.table_check.TheConstants.{MAX_TABLE_LEN};
-ghost use Rattle.encoding.specs.Planned.{parts_of, IsPlanned};
+ghost use Rattle.encoding.specs.PlannedBlocks.{block_lists, IsPlanned};
 ghost use Rattle.cut.specs.PlanTables.{AreReady, tables_of};
 
 use crate::planned_output::PlannedOutput;
@@ -57,10 +57,10 @@ pub(crate) fn whole_table<C: Comparator>(
     requires planned { AllByRecursion (IsPlanned interval) blocks.now }
     requires fits { length
         (table_of_blocks (index_keys C.cmp C.short_keys) interval
-        (parts_of blocks.now)) ≤ MAX_TABLE_LEN }
+        (block_lists blocks.now)) ≤ MAX_TABLE_LEN }
     ensures { EqualOrMemory (λ v. v.items) result
         (Ok (table_of_blocks (index_keys C.cmp C.short_keys) interval
-        (parts_of blocks.now))) }
+        (block_lists blocks.now))) }
 {
     let mut pieces = Vec::with_capacity(alloc, 1)?;
     pieces.push(encode_blocks(alloc, blocks, interval, room)?)?;

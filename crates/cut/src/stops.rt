@@ -62,7 +62,7 @@ pub(crate) struct Stopping {
 }
 
 /// What is left of `room` after the sizes of `files`; None if they exceed it.
-fn room_behind(files: &[FileMeta], room: u64) -> Option<u64>
+fn room_after(files: &[FileMeta], room: u64) -> Option<u64>
     ensures { result ≡ room_left room (sum_by (λ (f : FileMeta). f.size) files.now) }
 {
     let mut left = room;
@@ -82,7 +82,7 @@ fn room_past(grandparents: &[FileMeta], from: usize, to: usize, room: u64) -> Op
 {
     let end = to.min(grandparents.len());
     let start = from.min(end);
-    room_behind(&grandparents[start..end], room)
+    room_after(&grandparents[start..end], room)
 }
 
 impl Overlap {

@@ -39,7 +39,7 @@ pub(crate) fn refused_among<C: Comparator>(
             Err(fault) => return refused(alloc, table.file.name.as_str(), fault, None),
         }
     }
-    checked.sort_unstable_by(|table, other| standing_order(table, other));
+    checked.sort_unstable_by(|table, other| newest_first_order(table, other));
     unlawful(alloc, version.next_file().unwrap_or(0), &checked)
 }
 
@@ -60,7 +60,7 @@ pub(crate) fn refused(
 
 /// The order of tables, newer entries first: by level, at level 0 by falling number, at each other
 /// level by smallest key.
-fn standing_order<C: Comparator>(
+fn newest_first_order<C: Comparator>(
     table: &CheckedTable<'_, C>,
     other: &CheckedTable<'_, C>,
 ) -> Ordering {

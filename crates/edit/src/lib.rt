@@ -33,12 +33,12 @@ mod file_insertion;
 mod files;
 mod format_laws;
 mod meta;
-mod order;
 mod outcome;
 mod snapshot;
 mod tag;
 mod version;
 mod version_edit;
+mod version_order;
 
 pub use format_laws::{edit_laws, snapshot_law};
 pub use meta::{CompactPointer, DeletedFile, FileMeta, LAST_LEVEL, LEVELS, NewFile};

@@ -9,7 +9,7 @@ ghost use Rattle.edit.specs.declared.meta.TheConstants.{LEVELS};
 
 use crate::files::Files;
 use crate::meta::{CompactPointer, FileMeta, LEVELS, NewFile};
-use crate::order::ordered_at;
+use crate::version_order::ordered_at;
 use coding::Fault;
 use ikey::{Comparator, KeyBuf};
 use std::alloc::Global;

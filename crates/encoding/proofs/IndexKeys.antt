@@ -7,14 +7,14 @@ use borrow.Author.Tests.{ltb-true}
 use Rattle.std.proofs.lemmas.List.{length-take}
 use Rattle.ikey.specs.declared.kind.Kind.TheVariants.{Put}
 use Rattle.ikey.specs.Key.{user_of, internal_key}
-use Rattle.ikey.specs.Short.{shortened_key, internal_separator_of, internal_successor_of}
+use Rattle.ikey.specs.ShortenedKeys.{shortened_key, internal_separator_of, internal_successor_of}
 use Rattle.ikey.proofs.Keys.{length-internal_key}
 use Rattle.block.specs.EncodedEntry.{Entry}
 use Rattle.block.specs.BlockFormat.{block}
 use Rattle.block.specs.BuilderView.{last_key}
 use Rattle.block.proofs.Sizes.{block-grows, length-block-nil}
 use Rattle.frame.proofs.Handles.{length-handle_bytes}
-use Rattle.table.specs.ReadingEntries.{first_key}
+use Rattle.table.specs.EntryTests.{first_key}
 use Rattle.table.specs.Table.{IndexKeys, index_keys, handle_entry, table_of_blocks}
 use Rattle.encoding.proofs.Indexes.{length_stored, length_table}
 use Rattle.ikey.specs.Comparator.{ShortKeys}

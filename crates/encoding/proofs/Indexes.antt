@@ -12,7 +12,7 @@ use Rattle.frame.proofs.Stored.{length-stored}
 use Rattle.table.specs.Table.{IndexKeys, index_key, handle_entry, index_from, stored_blocks, table_of_blocks, closing_bytes}
 use Rattle.table.proofs.Indexes.{length-closing}
 use Rattle.encoding.specs.declared.planned_block.PlannedBlock.{PlannedBlock}
-use Rattle.encoding.specs.Planned.{parts_of, IsPlanned}
+use Rattle.encoding.specs.PlannedBlocks.{block_lists, IsPlanned}
 use Rattle.encoding.specs.PlaceKey.{place_key}
 use Rattle.encoding.proofs.Lists.{suc_is}
 use Rattle.encoding.proofs.Keys.{planned_at, part_at}
@@ -68,16 +68,16 @@ table_over keys r parts n m = omega (arith, length_table keys r parts, stored_pa
 
 -- what one more planned block does
 pub record Steps (keys : IndexKeys) (r : ℕ) (blocks : List PlannedBlock) (i size : ℕ) : Type 0 where
-  pub within : length (stored_blocks r (take i (parts_of blocks))) + (size + 5) ≤ 2 ^ 30
-  pub bytes : length (stored_blocks r (take (i + 1) (parts_of blocks))) ≡ length (stored_blocks r (take i (parts_of blocks))) + (size + 5)
-  pub entry : take (i + 1) (index_from keys r 0 (parts_of blocks)) ≡ take i (index_from keys r 0 (parts_of blocks))
-      ++ handle_entry (place_key keys (drop i (parts_of blocks))) (length (stored_blocks r (take i (parts_of blocks)))) size ∷ []
-  pub fits : length (block 1 (take (i + 1) (index_from keys r 0 (parts_of blocks)))) ≤ 2 ^ 31
+  pub within : length (stored_blocks r (take i (block_lists blocks))) + (size + 5) ≤ 2 ^ 30
+  pub bytes : length (stored_blocks r (take (i + 1) (block_lists blocks))) ≡ length (stored_blocks r (take i (block_lists blocks))) + (size + 5)
+  pub entry : take (i + 1) (index_from keys r 0 (block_lists blocks)) ≡ take i (index_from keys r 0 (block_lists blocks))
+      ++ handle_entry (place_key keys (drop i (block_lists blocks))) (length (stored_blocks r (take i (block_lists blocks)))) size ∷ []
+  pub fits : length (block 1 (take (i + 1) (index_from keys r 0 (block_lists blocks)))) ≤ 2 ^ 31
 
-pub steps : (keys : IndexKeys) (r : ℕ) (blocks : List PlannedBlock) (i : ℕ) (d : PlannedBlock) → i < length blocks → AllByRecursion (IsPlanned r) blocks → length (table_of_blocks keys r (parts_of blocks)) ≤ 2 ^ 30
+pub steps : (keys : IndexKeys) (r : ℕ) (blocks : List PlannedBlock) (i : ℕ) (d : PlannedBlock) → i < length blocks → AllByRecursion (IsPlanned r) blocks → length (table_of_blocks keys r (block_lists blocks)) ≤ 2 ^ 30
     → Steps keys r blocks i (slice_index_or blocks i d).len
 steps keys r blocks i d lt planned fits =
-    let parts : List (List Entry) = parts_of blocks in
+    let parts : List (List Entry) = block_lists blocks in
     let p : List Entry = (slice_index_or blocks i d).entries.entries in
     let size : ℕ = (slice_index_or blocks i d).len in
     let index : List Entry = index_from keys r 0 parts in
@@ -102,7 +102,7 @@ length_index keys r at [] = refl
 length_index keys r at (p ∷ ps) = ap suc (length_index keys r (at + length (block r p) + 5) ps)
 
 -- after the last block the index is whole
-pub index_whole : (keys : IndexKeys) (r : ℕ) (blocks : List PlannedBlock) (n : ℕ) → length blocks ≤ n → take n (index_from keys r 0 (parts_of blocks)) ≡ index_from keys r 0 (parts_of blocks)
+pub index_whole : (keys : IndexKeys) (r : ℕ) (blocks : List PlannedBlock) (n : ℕ) → length blocks ≤ n → take n (index_from keys r 0 (block_lists blocks)) ≡ index_from keys r 0 (block_lists blocks)
 index_whole keys r blocks n h =
-    let parts : length (parts_of blocks) ≡ length blocks = length-map blocks (λ (b : PlannedBlock). b.entries.entries) in
-    take_all n (index_from keys r 0 (parts_of blocks)) (omega (arith, h, parts, length_index keys r 0 (parts_of blocks)))
+    let parts : length (block_lists blocks) ≡ length blocks = length-map blocks (λ (b : PlannedBlock). b.entries.entries) in
+    take_all n (index_from keys r 0 (block_lists blocks)) (omega (arith, h, parts, length_index keys r 0 (block_lists blocks)))

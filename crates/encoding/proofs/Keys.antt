@@ -8,9 +8,9 @@ use Rattle.block.specs.EncodedEntry.{Entry}
 use Rattle.block.specs.BuilderView.{last_key}
 use Rattle.encoding.proofs.LastKeys.{last_known}
 use Rattle.table.specs.Table.{IndexKeys}
-use Rattle.table.specs.ReadingEntries.{first_key}
+use Rattle.table.specs.EntryTests.{first_key}
 use Rattle.encoding.specs.declared.planned_block.PlannedBlock.{PlannedBlock}
-use Rattle.encoding.specs.Planned.{parts_of, IsPlanned}
+use Rattle.encoding.specs.PlannedBlocks.{block_lists, IsPlanned}
 use Rattle.encoding.specs.PlaceKey.{place_key}
 use Rattle.encoding.proofs.Lists.{suc_is}
 
@@ -20,7 +20,7 @@ planned_at r [] i d lt h = absurd (omega arith)
 planned_at r (x ∷ xs) zero d lt h = h.0
 planned_at r (x ∷ xs) (suc i) d lt h = planned_at r xs i d (omega arith) h.1
 
-pub part_at : (blocks : List PlannedBlock) (i : ℕ) (d : PlannedBlock) → i < length blocks → slice_get (parts_of blocks) i ≡ Some (slice_index_or blocks i d).entries.entries
+pub part_at : (blocks : List PlannedBlock) (i : ℕ) (d : PlannedBlock) → i < length blocks → slice_get (block_lists blocks) i ≡ Some (slice_index_or blocks i d).entries.entries
 part_at [] i d lt = absurd (omega arith)
 part_at (x ∷ xs) zero d lt = refl
 part_at (x ∷ xs) (suc i) d lt = part_at xs i d (omega arith)
@@ -32,7 +32,7 @@ first_known (e ∷ q) behind key some h = same_Some e.key key h
 
 -- the key of a block with another one after it
 between_at : (keys : IndexKeys) (blocks : List PlannedBlock) (i : ℕ) (d n : PlannedBlock) → suc i < length blocks
-    → place_key keys (drop i (parts_of blocks)) ≡ keys.between (last_key [] (slice_index_or blocks i d).entries.entries) (first_key (slice_index_or blocks (suc i) n).entries.entries)
+    → place_key keys (drop i (block_lists blocks)) ≡ keys.between (last_key [] (slice_index_or blocks i d).entries.entries) (first_key (slice_index_or blocks (suc i) n).entries.entries)
 between_at keys [] i d n lt = absurd (omega arith)
 between_at keys (x ∷ []) i d n lt = absurd (omega arith)
 between_at keys (x ∷ y ∷ ys) zero d n lt = refl
@@ -40,7 +40,7 @@ between_at keys (x ∷ y ∷ ys) (suc i) d n lt = between_at keys (y ∷ ys) i d
 
 -- the key of the last block
 above_at : (keys : IndexKeys) (blocks : List PlannedBlock) (i : ℕ) (d : PlannedBlock) → suc i ≡ length blocks
-    → place_key keys (drop i (parts_of blocks)) ≡ keys.above (last_key [] (slice_index_or blocks i d).entries.entries)
+    → place_key keys (drop i (block_lists blocks)) ≡ keys.above (last_key [] (slice_index_or blocks i d).entries.entries)
 above_at keys [] i d e = absurd (omega arith)
 above_at keys (x ∷ []) zero d e = refl
 above_at keys (x ∷ []) (suc i) d e = absurd (omega arith)
@@ -52,7 +52,7 @@ pub between_known : (keys : IndexKeys) (r : ℕ) (blocks : List PlannedBlock) (i
     → Some last ≡ option_map (λ (e : Entry). e.key) (last_or None (slice_index_or blocks i d).entries.entries)
     → first ≡ (slice_index_or blocks (i + 1) n).entries.entries ++ (slice_index_or blocks (i + 1) n).entries.behind
     → option_map (λ (e : Entry). e.key) (slice_get first 0) ≡ Some key
-    → keys.between last key ≡ place_key keys (drop i (parts_of blocks))
+    → keys.between last key ≡ place_key keys (drop i (block_lists blocks))
 between_known keys r blocks i d n last key first lt planned l f k =
     let q : List Entry = (slice_index_or blocks (i + 1) n).entries.entries in
     let behind : List Entry = (slice_index_or blocks (i + 1) n).entries.behind in
@@ -66,7 +66,7 @@ between_known keys r blocks i d n last key first lt planned l f k =
 
 pub above_known : (keys : IndexKeys) (blocks : List PlannedBlock) (i : ℕ) (d : PlannedBlock) (last : List ℕ) → i < length blocks → length blocks ≤ i + 1
     → Some last ≡ option_map (λ (e : Entry). e.key) (last_or None (slice_index_or blocks i d).entries.entries)
-    → keys.above last ≡ place_key keys (drop i (parts_of blocks))
+    → keys.above last ≡ place_key keys (drop i (block_lists blocks))
 above_known keys blocks i d last lt ge l =
     let before : last_key [] (slice_index_or blocks i d).entries.entries ≡ last = last_known (slice_index_or blocks i d).entries.entries last (sym l) in
     ap keys.above (sym before) ∙ sym (above_at keys blocks i d (omega (arith, lt, ge)))

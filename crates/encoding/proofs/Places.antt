@@ -8,7 +8,7 @@ use Rattle.std.proofs.lemmas.List.{drop_at, drop-drop, length-drop}
 use Rattle.std.proofs.lemmas.Option.{none-some}
 use Rattle.block.specs.EncodedEntry.{Entry}
 use Rattle.keep.specs.Runs.{Run}
-use Rattle.encoding.specs.SlicePlaces.{slice_between, IsSliced}
+use Rattle.encoding.specs.SpanPlaces.{span_between, IsSpanBetween}
 use Rattle.encoding.specs.RunPlace.{kept_of_runs, IsPlaceInRuns}
 
 drop_none : (n : ℕ) → drop {A = Entry} n [] ≡ []
@@ -63,9 +63,9 @@ more from to later e h d =
     ∙ take-add (length from - length to) 1 from
     ∙ ap (λ xs. take (length from - length to) from ++ take 1 xs) (d ∙ h)
 
-pushed_by : (from to : List Entry) (len : ℕ) (last : Option (List ℕ)) (key : List ℕ) (shown : List Entry) → to ≡ shown → IsSliced from to len last
+pushed_by : (from to : List Entry) (len : ℕ) (last : Option (List ℕ)) (key : List ℕ) (shown : List Entry) → to ≡ shown → IsSpanBetween from to len last
     → option_map (λ (e : Entry). e.key) (slice_get shown 0) ≡ Some key
-    → IsSliced from (drop 1 shown) (min (len + 1) (2 ^ 64 - 1)) (Some key) × (slice_between from (drop 1 shown) ≡ record { entries = take (length from - length to) from ++ take 1 shown; behind = drop 1 shown })
+    → IsSpanBetween from (drop 1 shown) (min (len + 1) (2 ^ 64 - 1)) (Some key) × (span_between from (drop 1 shown) ≡ record { entries = take (length from - length to) from ++ take 1 shown; behind = drop 1 shown })
 pushed_by from to len last key [] h is k = absurd (none-some key k)
 pushed_by from to len last key (e ∷ later) h is k = (
   record {
@@ -82,8 +82,8 @@ pushed_by from to len last key (e ∷ later) h is k = (
 )
 
 -- an entry more: the invariant, and what is seen
-pub pushed : (from to : List Entry) (len : ℕ) (last : Option (List ℕ)) (key : List ℕ) → IsSliced from to len last → option_map (λ (e : Entry). e.key) (slice_get to 0) ≡ Some key
-    → IsSliced from (drop 1 to) (min (len + 1) (2 ^ 64 - 1)) (Some key) × (slice_between from (drop 1 to) ≡ record { entries = take (length from - length to) from ++ take 1 to; behind = drop 1 to })
+pub pushed : (from to : List Entry) (len : ℕ) (last : Option (List ℕ)) (key : List ℕ) → IsSpanBetween from to len last → option_map (λ (e : Entry). e.key) (slice_get to 0) ≡ Some key
+    → IsSpanBetween from (drop 1 to) (min (len + 1) (2 ^ 64 - 1)) (Some key) × (span_between from (drop 1 to) ≡ record { entries = take (length from - length to) from ++ take 1 to; behind = drop 1 to })
 pushed from to len last key is k = pushed_by from to len last key to refl is k
 
 -- ---- a slice with several entries more
@@ -110,9 +110,9 @@ wide from to count le d =
     omega (arith, n, le, length-drop count to)
 
 -- several entries more: the invariant, and what is seen
-pub pushed_all : (from to : List Entry) (len count : ℕ) (last key : Option (List ℕ)) → IsSliced from to len last → 0 < count → count ≤ length to
+pub pushed_all : (from to : List Entry) (len count : ℕ) (last key : Option (List ℕ)) → IsSpanBetween from to len last → 0 < count → count ≤ length to
     → key ≡ option_map (λ (e : Entry). e.key) (slice_get to (count - 1))
-    → IsSliced from (drop count to) (min (len + count) (2 ^ 64 - 1)) key × (slice_between from (drop count to) ≡ record { entries = take (length from - length to) from ++ take count to; behind = drop count to })
+    → IsSpanBetween from (drop count to) (min (len + count) (2 ^ 64 - 1)) key × (span_between from (drop count to) ≡ record { entries = take (length from - length to) from ++ take count to; behind = drop count to })
 pushed_all from to len count last key is some le k =
     let gap : ℕ = length from - length to in
     let far : length from - length (drop count to) ≡ gap + count = wide from to count le is.later in

@@ -7,7 +7,7 @@ use Rattle.std.proofs.Math.Seq.{drop-append-add}
 use Rattle.std.proofs.lemmas.List.{drop-drop, length-append, length-drop, length-take-le}
 use Rattle.block.specs.EncodedEntry.{Entry}
 use Rattle.keep.specs.Runs.{Run}
-use Rattle.encoding.specs.SlicePlaces.{slice_between, IsSliced}
+use Rattle.encoding.specs.SpanPlaces.{span_between, IsSpanBetween}
 use Rattle.encoding.specs.RunPlace.{kept_of_runs, IsPlaceInRuns}
 
 -- `left` entries of these runs are still to be taken off, as `count` are of all; and they are no more than the entries of
@@ -95,11 +95,11 @@ last_taken n xs key some le is =
     ∙ ap (λ (k : ℕ). option_map (λ (e : Entry). e.key) (last_or None (take k xs))) more
 
 -- what is held of a slice is the place of its first entry and their number
-pub record IsHeld (from to : List Entry) (len : ℕ) : Type 0 where
+pub record IsFileReading (from to : List Entry) (len : ℕ) : Type 0 where
   pub within : len ≤ length from
-  pub same : record { entries = take len from; behind = drop len from } ≡ slice_between from to
+  pub same : record { entries = take len from; behind = drop len from } ≡ span_between from to
 
-pub held : (from to : List Entry) (len : ℕ) (last : Option (List ℕ)) → IsSliced from to len last → length (take (length from - length to) from) ≤ 2 ^ 64 - 1 → IsHeld from to len
+pub held : (from to : List Entry) (len : ℕ) (last : Option (List ℕ)) → IsSpanBetween from to len last → length (take (length from - length to) from) ≤ 2 ^ 64 - 1 → IsFileReading from to len
 held from to len last is fits =
     let taken : length (take (length from - length to) from) ≡ length from - length to = length-take-le (length from - length to) from (omega arith) in
     let exact : len ≡ length from - length to = omega (arith, is.count, fits, taken) in

@@ -1,4 +1,4 @@
--- A walk over entries, piece by piece.
+-- A walk over entries, slice by slice.
 use Rattle.std.proofs.Common.{◌≡◌, ℕ, zero, suc, ◌+◌, ◌-◌, ◌<◌, ◌≤◌, Bool, true, false, cond, eqb, List, [], ◌∷◌, length, take, drop, refl, sym, ap, ◌∙◌, inl, inr, arith}
 use Rattle.std.specs.Prelude.{nat_eq, slice_get, slice_index_or, Option, Some, None}
 use Rattle.std.specs.List.{common_prefix_len, last_or}
@@ -13,27 +13,28 @@ use Rattle.block.proofs.Built.{next_shared}
 use Rattle.keep.specs.Runs.{Run}
 use Rattle.keep.specs.SharedLengths.{shared_lens}
 use Rattle.encoding.specs.RunPlace.{kept_of_runs, IsPlaceInRuns}
-use Rattle.encoding.specs.Walking.{Walking, IsInPiece, shared_behind, left_out_len}
+use Rattle.encoding.specs.EntryWalkView.{EntryWalkView, shared_with_before, left_out_len}
+use Rattle.encoding.specs.ChunkWalk.{IsInSlice}
 use Rattle.encoding.proofs.Places.{drop_next}
 
 abbrev pub key_of : Entry → List ℕ
 key_of e = e.key
 
--- ---- a piece
+-- ---- a slice
 
 no_more : (p all : List Entry) → take (length p) all ≡ p → length p ≤ length all
 no_more p all h = omega (arith, ap length h, length-take (length p) all)
 
--- a piece of the first run is a piece of all
-pub piece_of_all : (runs : List Run) (r : Run) (entry : ℕ) (p : List Entry) → IsPlaceInRuns runs entry → 0 < length (drop entry (kept_of_runs runs)) → take (length p) (drop entry (slice_index_or runs 0 r).kept) ≡ p
+-- a slice of the first run is a slice of all
+pub slice_of_all : (runs : List Run) (r : Run) (entry : ℕ) (p : List Entry) → IsPlaceInRuns runs entry → 0 < length (drop entry (kept_of_runs runs)) → take (length p) (drop entry (slice_index_or runs 0 r).kept) ≡ p
     → take (length p) (drop entry (kept_of_runs runs)) ≡ p
-piece_of_all [] r zero p s some h =
+slice_of_all [] r zero p s some h =
     let none : 0 < 0 = some in
     absurd (omega (arith, none))
-piece_of_all [] r (suc n) p s some h =
+slice_of_all [] r (suc n) p s some h =
     let none : 0 < 0 = some in
     absurd (omega (arith, none))
-piece_of_all (q ∷ qs) r entry p s some h =
+slice_of_all (q ∷ qs) r entry p s some h =
     let within : entry < length q.kept = s in
     ap (take (length p)) (drop-append-le entry q.kept (kept_of_runs qs) (omega (arith, within)))
     ∙ take-append-le (length p) (drop entry q.kept) (kept_of_runs qs) (no_more p (drop entry q.kept) h)
@@ -53,31 +54,31 @@ first_dropped (suc n) (x ∷ xs) = first_dropped n xs
 -- ---- where a walk is
 
 -- a walk after an entry with this key
-abbrev pub passed_view : List ℕ → List Entry → Walking
+abbrev pub passed_view : List ℕ → List Entry → EntryWalkView
 passed_view key rest = record { before = Some key; rest = rest }
 
 -- a walk with its next entry passed
-abbrev pub after_next : Walking → Walking
+abbrev pub after_next : EntryWalkView → EntryWalkView
 after_next w = record { before = option_map key_of (slice_get w.rest 0); rest = drop 1 w.rest }
 
--- an entry is still to come just if the piece has one
-pub in_piece : (start piece : List Entry) (passed : ℕ) (before : Option (List ℕ)) → IsInPiece start piece passed before → 0 < length (drop passed start) → passed < length piece
-in_piece start piece passed before h some =
-    elim (cases_lt passed (length piece)) [
+-- an entry is still to come just if the slice has one
+pub in_slice : (start slice : List Entry) (passed : ℕ) (before : Option (List ℕ)) → IsInSlice start slice passed before → 0 < length (drop passed start) → passed < length slice
+in_slice start slice passed before h some =
+    elim (cases_lt passed (length slice)) [
       | inl lt ↦ lt
       | inr le ↦ absurd (omega (arith, some, ap length (h.ended le)))
     ]
 
-pub more_in_piece : (start piece : List Entry) (passed : ℕ) (before : Option (List ℕ)) → IsInPiece start piece passed before → passed < length piece → 0 < length (drop passed start)
-more_in_piece start piece passed before h lt = omega (arith, lt, length-drop passed start, no_more piece start h.front)
+pub more_in_slice : (start slice : List Entry) (passed : ℕ) (before : Option (List ℕ)) → IsInSlice start slice passed before → passed < length slice → 0 < length (drop passed start)
+more_in_slice start slice passed before h lt = omega (arith, lt, length-drop passed start, no_more slice start h.front)
 
--- the next entry is that of the piece
-pub next_is : (start piece : List Entry) (passed : ℕ) (before : Option (List ℕ)) → IsInPiece start piece passed before → passed < length piece → slice_get (drop passed start) 0 ≡ slice_get piece passed
-next_is start piece passed before h lt =
-    first_dropped passed start ∙ sym (first_taken (length piece) start passed lt) ∙ ap (λ (es : List Entry). slice_get es passed) h.front
+-- the next entry is that of the slice
+pub next_is : (start slice : List Entry) (passed : ℕ) (before : Option (List ℕ)) → IsInSlice start slice passed before → passed < length slice → slice_get (drop passed start) 0 ≡ slice_get slice passed
+next_is start slice passed before h lt =
+    first_dropped passed start ∙ sym (first_taken (length slice) start passed lt) ∙ ap (λ (es : List Entry). slice_get es passed) h.front
 
-pub walk_first : (start piece : List Entry) (before : Option (List ℕ)) → 0 < length piece → take (length piece) start ≡ piece → IsInPiece start piece 0 before
-walk_first start piece before some front = record {
+pub walk_first : (start slice : List Entry) (before : Option (List ℕ)) → 0 < length slice → take (length slice) start ≡ slice → IsInSlice start slice 0 before
+walk_first start slice before some front = record {
   front = front;
   within = omega arith;
   ended = λ none. absurd (omega (arith, some, none));
@@ -85,44 +86,44 @@ walk_first start piece before some front = record {
 }
 
 -- what is seen once the next entry is passed
-pub walk_view : (start piece : List Entry) (passed : ℕ) (before : Option (List ℕ)) (key : List ℕ) → IsInPiece start piece passed before → passed < length piece
-    → option_map key_of (slice_get piece passed) ≡ Some key
+pub walk_view : (start slice : List Entry) (passed : ℕ) (before : Option (List ℕ)) (key : List ℕ) → IsInSlice start slice passed before → passed < length slice
+    → option_map key_of (slice_get slice passed) ≡ Some key
     → passed_view key (drop (passed + 1) start) ≡ after_next (record { before = before; rest = drop passed start })
-walk_view start piece passed before key h lt k =
-    ap (λ (b : Option (List ℕ)). record { before = b; rest = drop (passed + 1) start }) (sym k ∙ ap (option_map key_of) (sym (next_is start piece passed before h lt)))
+walk_view start slice passed before key h lt k =
+    ap (λ (b : Option (List ℕ)). record { before = b; rest = drop (passed + 1) start }) (sym k ∙ ap (option_map key_of) (sym (next_is start slice passed before h lt)))
     ∙ ap (λ (es : List Entry). record { before = option_map key_of (slice_get (drop passed start) 0); rest = es }) (drop_next passed start)
 
 -- ---- what keys share
 
 shared_step : (before : List ℕ) (es : List Entry) (n shared : ℕ) → slice_get (shared_lens before es) (suc n) ≡ Some shared
-    → option_map (λ (e : Entry). shared_behind (option_map key_of (slice_get es n)) e.key) (slice_get es (suc n)) ≡ Some shared
+    → option_map (λ (e : Entry). shared_with_before (option_map key_of (slice_get es n)) e.key) (slice_get es (suc n)) ≡ Some shared
 shared_step before [] n shared h = absurd (none-some shared h)
 shared_step before (e ∷ []) zero shared h = absurd (none-some shared h)
 shared_step before (e ∷ f ∷ es) zero shared h = h
 shared_step before (e ∷ es) (suc n) shared h = shared_step e.key es n shared h
 
--- within a piece the kept length is that of the key before
-pub shared_is : (start piece : List Entry) (passed shared : ℕ) (before : Option (List ℕ)) → IsInPiece start piece passed before → 0 < passed → passed < length piece
-    → slice_get (shared_lens [] piece) passed ≡ Some shared
-    → option_map (λ (e : Entry). shared_behind before e.key) (slice_get (drop passed start) 0) ≡ Some shared
-shared_is start piece passed shared before h some lt kept =
+-- within a slice the kept length is that of the key before
+pub shared_is : (start slice : List Entry) (passed shared : ℕ) (before : Option (List ℕ)) → IsInSlice start slice passed before → 0 < passed → passed < length slice
+    → slice_get (shared_lens [] slice) passed ≡ Some shared
+    → option_map (λ (e : Entry). shared_with_before before e.key) (slice_get (drop passed start) 0) ≡ Some shared
+shared_is start slice passed shared before h some lt kept =
     let later : passed ≡ suc (passed - 1) = omega (arith, some) in
     let plus : passed ≡ (passed - 1) + 1 = omega (arith, some) in
-    ap (option_map (λ (e : Entry). shared_behind before e.key)) (next_is start piece passed before h lt)
-    ∙ ap (λ (b : Option (List ℕ)). option_map (λ (e : Entry). shared_behind b e.key) (slice_get piece passed)) (h.last (passed - 1) plus)
-    ∙ ap (λ (m : ℕ). option_map (λ (e : Entry). shared_behind (option_map key_of (slice_get piece (passed - 1))) e.key) (slice_get piece m)) later
-    ∙ shared_step [] piece (passed - 1) shared (ap (slice_get (shared_lens [] piece)) (sym later) ∙ kept)
+    ap (option_map (λ (e : Entry). shared_with_before before e.key)) (next_is start slice passed before h lt)
+    ∙ ap (λ (b : Option (List ℕ)). option_map (λ (e : Entry). shared_with_before b e.key) (slice_get slice passed)) (h.last (passed - 1) plus)
+    ∙ ap (λ (m : ℕ). option_map (λ (e : Entry). shared_with_before (option_map key_of (slice_get slice (passed - 1))) e.key) (slice_get slice m)) later
+    ∙ shared_step [] slice (passed - 1) shared (ap (slice_get (shared_lens [] slice)) (sym later) ∙ kept)
 
 -- ---- what an entry leaves out
 
 -- none if a restart points at it
 pub at_restart : (since : ℕ) (before : Option (List ℕ)) (es : List Entry) → since ≡ 0 → 0 < length es → option_map (λ (e : Entry). left_out_len since before e.key) (slice_get es 0) ≡ Some 0
 at_restart since before [] none some = absurd (omega arith)
-at_restart since before (e ∷ es) none some = ap (λ (t : Bool). Some (cond t 0 (shared_behind before e.key))) (eq-eqb since 0 none)
+at_restart since before (e ∷ es) none some = ap (λ (t : Bool). Some (cond t 0 (shared_with_before before e.key))) (eq-eqb since 0 none)
 
-pub past_restart : (since shared : ℕ) (before : Option (List ℕ)) (es : List Entry) → (since ≡ 0 → ⊥) → option_map (λ (e : Entry). shared_behind before e.key) (slice_get es 0) ≡ Some shared
+pub past_restart : (since shared : ℕ) (before : Option (List ℕ)) (es : List Entry) → (since ≡ 0 → ⊥) → option_map (λ (e : Entry). shared_with_before before e.key) (slice_get es 0) ≡ Some shared
     → option_map (λ (e : Entry). left_out_len since before e.key) (slice_get es 0) ≡ Some shared
-past_restart since shared before es later h = ap (λ (t : Bool). option_map (λ (e : Entry). cond t 0 (shared_behind before e.key)) (slice_get es 0)) (ne_eqb since 0 later) ∙ h
+past_restart since shared before es later h = ap (λ (t : Bool). option_map (λ (e : Entry). cond t 0 (shared_with_before before e.key)) (slice_get es 0)) (ne_eqb since 0 later) ∙ h
 
 -- and none if no entry is before it
 none_left : (restart : Bool) → ◌≡◌ {A = ℕ} (cond restart 0 0) 0
@@ -135,16 +136,16 @@ with_none_before since before (e ∷ es) none some =
     ap (λ (b : Option (List ℕ)). Some (left_out_len since b e.key)) none ∙ ap (λ (n : ℕ). Some n) (none_left (eqb since 0))
 
 -- by the key of the next entry
-pub shared_first : (before : Option (List ℕ)) (es : List Entry) (key : List ℕ) → option_map key_of (slice_get es 0) ≡ Some key → option_map (λ (e : Entry). shared_behind before e.key) (slice_get es 0) ≡ Some (shared_behind before key)
+pub shared_first : (before : Option (List ℕ)) (es : List Entry) (key : List ℕ) → option_map key_of (slice_get es 0) ≡ Some key → option_map (λ (e : Entry). shared_with_before before e.key) (slice_get es 0) ≡ Some (shared_with_before before key)
 shared_first before [] key h = absurd (none-some key h)
-shared_first before (e ∷ es) key h = ap (λ (k : List ℕ). Some (shared_behind before k)) (same_Some e.key key h)
+shared_first before (e ∷ es) key h = ap (λ (k : List ℕ). Some (shared_with_before before k)) (same_Some e.key key h)
 
 left_first : (since left : ℕ) (before : Option (List ℕ)) (es : List Entry) (key : List ℕ) → option_map (λ (e : Entry). left_out_len since before e.key) (slice_get es 0) ≡ Some left → option_map key_of (slice_get es 0) ≡ Some key → left ≡ left_out_len since before key
 left_first since left before [] key l k = absurd (none-some key k)
 left_first since left before (e ∷ es) key l k = sym (same_Some (left_out_len since before e.key) left l) ∙ ap (left_out_len since before) (same_Some e.key key k)
 
 -- an entry leaves out no more than its key has
-left_fits : (restart : Bool) (before : Option (List ℕ)) (key : List ℕ) → cond restart 0 (shared_behind before key) ≤ length key
+left_fits : (restart : Bool) (before : Option (List ℕ)) (key : List ℕ) → cond restart 0 (shared_with_before before key) ≤ length key
 left_fits true before key = omega arith
 left_fits false None key = omega arith
 left_fits false (Some before) key = (common_prefix_len-le nat_eq before key).1
@@ -157,9 +158,9 @@ known : (x : Entry) (xs : List Entry) → option_map key_of (last_or (Some x) xs
 known x [] = refl
 known x (y ∷ ys) = known y ys
 
-shared_after : (q : List Entry) (key : List ℕ) → shared_behind (option_map key_of (last_or None q)) key ≡ common_prefix_len nat_eq (last_key [] q) key
+shared_after : (q : List Entry) (key : List ℕ) → shared_with_before (option_map key_of (last_or None q)) key ≡ common_prefix_len nat_eq (last_key [] q) key
 shared_after [] key = refl
-shared_after (x ∷ xs) key = ap (λ (b : Option (List ℕ)). shared_behind b key) (known x xs)
+shared_after (x ∷ xs) key = ap (λ (b : Option (List ℕ)). shared_with_before b key) (known x xs)
 
 pub left_next : (since left : ℕ) (q es : List Entry) (before : Option (List ℕ)) (key : List ℕ) → before ≡ option_map key_of (last_or None q)
     → option_map (λ (e : Entry). left_out_len since before e.key) (slice_get es 0) ≡ Some left → option_map key_of (slice_get es 0) ≡ Some key → left ≡ next_shared since (last_key [] q) key

@@ -1,8 +1,9 @@
 -- what contracts rest on
-pub mod Slices
-pub mod Planned
-pub mod Walking
+pub mod EntrySpanView
+pub mod PlannedBlocks
+pub mod EntryWalkView
 -- serves proofs alone
 pub mod RunPlace
-pub mod SlicePlaces
+pub mod SpanPlaces
 pub mod PlaceKey
+pub mod ChunkWalk

@@ -9,7 +9,7 @@ ghost use Rattle.block.specs.EncodedEntry.{encoded_entry_bytes, restarts_from};
 ghost use Rattle.block.specs.BlockFormat.{encoded_entries_from, block};
 ghost use Rattle.block.specs.declared.builder.TheConstants.{MAX_BLOCK_LEN, MAX_RESTART_INTERVAL};
 
-use crate::part::EntryRef;
+use crate::entry_ref::EntryRef;
 use crate::walk::EntryWalk;
 use block::{next_since, push_fields, push_restarts};
 use coding::Fault;

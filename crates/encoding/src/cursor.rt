@@ -6,7 +6,7 @@ ghost use Rattle.std.specs.Option.{option_map};
 ghost use Rattle.encoding.specs.RunPlace.{kept_of_runs, IsPlaceInRuns};
 
 use ikey::InternalKey;
-use keep::{KeptPiece, RangeRun};
+use keep::{ChunkSlice, RangeRun};
 use std::marker::Model;
 
 /// A place among the kept entries of runs, one run after the other: the entries from there on.
@@ -77,12 +77,12 @@ impl<'r, 'a> EntryCursor<'r, 'a> {
 
     /// The next entries that lie in one chunk of a run, at least one. Takes no memory.
     #[inline(always)]
-    pub(crate) fn piece(&self) -> KeptPiece<'r, 'a>
+    pub(crate) fn slice(&self) -> ChunkSlice<'r, 'a>
         requires { 0 < length self.now }
         ensures some { 0 < length result }
         ensures front { take (length result) self.now ≡ result }
     {
-        self.runs[0].piece(self.entry)
+        self.runs[0].slice_from(self.entry)
     }
 
     /// Takes off the next entry. Takes no memory.

@@ -5,7 +5,7 @@ ghost use Rattle.std.specs.List.{AllByRecursion};
 ghost use Rattle.coding.specs.Answers.{EqualOrMemory};
 ghost use Rattle.block.specs.BlockFormat.{block};
 ghost use Rattle.table.specs.Table.{stored_blocks};
-ghost use Rattle.encoding.specs.Planned.{parts_of};
+ghost use Rattle.encoding.specs.PlannedBlocks.{block_lists};
 ghost use Rattle.block.specs.declared.builder.TheConstants.{MAX_BLOCK_LEN, MAX_RESTART_INTERVAL};
 
 use crate::block_writer::push_block;
@@ -30,7 +30,7 @@ pub fn encode_blocks(
     requires fits { AllByRecursion
         (λ b. length (block interval b.entries.entries) ≤ MAX_BLOCK_LEN) blocks.now }
     ensures { EqualOrMemory (λ v. v.items) result
-        (Ok (stored_blocks interval (parts_of blocks.now))) }
+        (Ok (stored_blocks interval (block_lists blocks.now))) }
 {
     let mut out = Vec::with_capacity(alloc, room)?;
     let mut restarts = Vec::new(alloc);

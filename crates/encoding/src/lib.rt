@@ -2,7 +2,7 @@
 //! blocks and joined to tables.
 //!
 //! A [`EntryCursor`] is a place in that list, a [`EntrySpan`] grows entry by entry, and a
-//! [`EntryRef`] is entries that stay as they are. An [`EntryWalk`] walks them in pieces. Keys and
+//! [`EntryRef`] is entries that stay as they are. An [`EntryWalk`] walks them by chunks. Keys and
 //! values stay where the runs have them, and no call of these four takes memory.
 //!
 //! A [`PlannedBlock`] is a data block of which no byte is written yet. [`encode_blocks`] writes
@@ -19,17 +19,17 @@
 mod block_writer;
 mod cursor;
 mod data_blocks;
-mod part;
+mod entry_ref;
+mod entry_span;
 mod planned_block;
-mod slice;
 mod table_assembly;
 mod table_index;
 mod walk;
 
 pub use cursor::EntryCursor;
 pub use data_blocks::encode_blocks;
-pub use part::EntryRef;
+pub use entry_ref::EntryRef;
+pub use entry_span::EntrySpan;
 pub use planned_block::PlannedBlock;
-pub use slice::EntrySpan;
 pub use table_assembly::assemble_table;
 pub use walk::EntryWalk;

@@ -1,6 +1,6 @@
 //! A data block that is planned.
 
-use crate::part::EntryRef;
+use crate::entry_ref::EntryRef;
 
 /// A data block of which no byte is written yet.
 #[derive(Drop)]

@@ -6,7 +6,7 @@ ghost use Rattle.coding.specs.Answers.{EqualOrMemory, fault};
 ghost use Rattle.coding.specs.declared.fault.FaultName.TheVariants.{Memory};
 ghost use Rattle.table.specs.Table.{index_keys, stored_blocks, table_of_blocks};
 ghost use Rattle.table.specs.declared.table_check.TheConstants.{MAX_TABLE_LEN};
-ghost use Rattle.encoding.specs.Planned.{parts_of, IsPlanned};
+ghost use Rattle.encoding.specs.PlannedBlocks.{block_lists, IsPlanned};
 
 use crate::planned_block::PlannedBlock;
 use crate::table_index::index_block;
@@ -29,13 +29,13 @@ pub fn assemble_table<C: Comparator>(
 ) -> Result<Vec<u8>, Fault>
     requires planned { AllByRecursion (IsPlanned interval) blocks.now }
     requires pieces { flat_map (λ p. p.items) pieces.items
-        ≡ stored_blocks interval (parts_of blocks.now) }
+        ≡ stored_blocks interval (block_lists blocks.now) }
     requires fits { length
         (table_of_blocks (index_keys C.cmp C.short_keys) interval
-        (parts_of blocks.now)) ≤ MAX_TABLE_LEN }
+        (block_lists blocks.now)) ≤ MAX_TABLE_LEN }
     ensures { EqualOrMemory (λ v. v.items) result
         (Ok (table_of_blocks (index_keys C.cmp C.short_keys) interval
-        (parts_of blocks.now))) }
+        (block_lists blocks.now))) }
 {
     let index = index_block::<C>(alloc, blocks, interval)?;
     let mut table = joined(alloc, pieces)?;

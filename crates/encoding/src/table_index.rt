@@ -6,7 +6,7 @@ ghost use Rattle.coding.specs.Answers.{EqualOrMemory, fault};
 ghost use Rattle.coding.specs.declared.fault.FaultName.TheVariants.{Memory};
 ghost use Rattle.table.specs.Table.{index_keys, index_from, table_of_blocks};
 ghost use Rattle.table.specs.declared.table_check.TheConstants.{MAX_TABLE_LEN};
-ghost use Rattle.encoding.specs.Planned.{parts_of, IsPlanned};
+ghost use Rattle.encoding.specs.PlannedBlocks.{block_lists, IsPlanned};
 ghost use Rattle.encoding.specs.PlaceKey.{place_key};
 
 use crate::planned_block::PlannedBlock;
@@ -27,11 +27,11 @@ pub(crate) fn index_block<C: Comparator>(
     requires planned { AllByRecursion (IsPlanned interval) blocks.now }
     requires fits { length
         (table_of_blocks (index_keys C.cmp C.short_keys) interval
-        (parts_of blocks.now)) ≤ MAX_TABLE_LEN }
+        (block_lists blocks.now)) ≤ MAX_TABLE_LEN }
     ensures index { IfOk result (λ b. b ≡ record {
       interval = 1;
       entries = index_from (index_keys C.cmp C.short_keys) interval 0
-          (parts_of blocks.now);
+          (block_lists blocks.now);
     }) }
     ensures memory { IfErr result (λ e. e ≡ fault Memory) }
 {
@@ -60,7 +60,7 @@ fn index_key<C: Comparator>(
     requires planned { AllByRecursion (IsPlanned interval) blocks.now }
     ensures { EqualOrMemory (λ own. own) result
         (Ok (place_key (index_keys C.cmp C.short_keys)
-        (drop place (parts_of blocks.now)))) }
+        (drop place (block_lists blocks.now)))) }
 {
     let Some(last) = blocks[place].entries.last_key() else {
         unreachable!();

@@ -2,24 +2,24 @@
 
 ghost use Rattle.std.specs.Prelude.{◌≡◌, ◌<◌, ◌≤◌, ◌↔◌, length, drop, slice_get, IsTrue, Some};
 ghost use Rattle.std.specs.Option.{option_map};
-ghost use Rattle.encoding.specs.Walking.{left_out_len};
+ghost use Rattle.encoding.specs.EntryWalkView.{left_out_len};
 
 use crate::cursor::EntryCursor;
 use coding::common_len;
 use ikey::InternalKey;
-use keep::KeptPiece;
+use keep::ChunkSlice;
 use std::marker::Model;
 
 /// A walk over the kept entries of runs: the key before the next entry, if there is one, and the
 /// entries still to come.
 ///
-/// It goes piece by piece, and has of most keys the length that they share with the key before.
+/// It goes chunk by chunk, and has of most keys the length that they share with the key before.
 #[derive(Drop)]
 pub struct EntryWalk<'r, 'a> {
-    /// The place of the first entry of the piece.
+    /// The place of the first entry of the slice.
     start: EntryCursor<'r, 'a>,
-    piece: KeptPiece<'r, 'a>,
-    /// The number of entries of the piece that are passed.
+    slice: ChunkSlice<'r, 'a>,
+    /// The number of entries of the slice that are passed.
     passed: usize,
     before: Option<InternalKey<'r>>,
 }
@@ -27,16 +27,17 @@ pub struct EntryWalk<'r, 'a> {
 impl<'r, 'a> Model for EntryWalk<'r, 'a> {
     ghost use Rattle.std.specs.Prelude.{drop};
     ghost use Rattle.std.specs.Option.{option_map};
-    ghost use Rattle.encoding.specs.Walking.{Walking, IsInPiece};
+    ghost use Rattle.encoding.specs.EntryWalkView.{EntryWalkView};
+    ghost use Rattle.encoding.specs.ChunkWalk.{IsInSlice};
 
-    ghost Value = { Walking };
+    ghost Value = { EntryWalkView };
 
     ghost view = { λ w. record {
       before = option_map (λ key. key.bytes.now) w.before;
       rest = drop w.passed w.start;
     } };
 
-    ghost invariant = { λ w. IsInPiece w.start w.piece w.passed
+    ghost invariant = { λ w. IsInSlice w.start w.slice w.passed
         (option_map (λ key. key.bytes.now) w.before) };
 }
 
@@ -51,10 +52,10 @@ impl<'r, 'a> EntryWalk<'r, 'a> {
           rest = start.entry;
         } }
     {
-        let piece = start.piece();
+        let slice = start.slice();
         EntryWalk {
             start,
-            piece,
+            slice,
             passed: 0,
             before,
         }
@@ -65,7 +66,7 @@ impl<'r, 'a> EntryWalk<'r, 'a> {
     pub fn valid(&self) -> bool
         ensures { IsTrue result ↔ (0 < length self.now.rest) }
     {
-        self.passed < self.piece.len()
+        self.passed < self.slice.len()
     }
 
     /// The internal key of the next entry, which stays in its run. Takes no memory.
@@ -74,7 +75,7 @@ impl<'r, 'a> EntryWalk<'r, 'a> {
         requires { 0 < length self.now.rest }
         ensures { option_map (λ e. e.key) (slice_get self.now.rest 0) ≡ Some result.bytes.now }
     {
-        self.piece.key(self.passed)
+        self.slice.key(self.passed)
     }
 
     /// The value of the next entry, a slice of an input's bytes. Takes no memory.
@@ -83,7 +84,7 @@ impl<'r, 'a> EntryWalk<'r, 'a> {
         requires { 0 < length self.now.rest }
         ensures { option_map (λ e. e.value) (slice_get self.now.rest 0) ≡ Some result.now }
     {
-        self.piece.value(self.passed)
+        self.slice.value(self.passed)
     }
 
     /// How many bytes of its key the next entry leaves out in a block: those that it shares with
@@ -100,10 +101,10 @@ impl<'r, 'a> EntryWalk<'r, 'a> {
             return 0;
         }
         if self.passed > 0 {
-            return self.piece.shared(self.passed);
+            return self.slice.shared(self.passed);
         }
         match self.before {
-            Some(before) => common_len(before.bytes(), self.piece.key(0).bytes()),
+            Some(before) => common_len(before.bytes(), self.slice.key(0).bytes()),
             None => 0,
         }
     }
@@ -125,8 +126,8 @@ impl<'r, 'a> EntryWalk<'r, 'a> {
           rest = drop 1 self.old.rest;
         } }
     {
-        let len = self.piece.len();
-        self.before = Some(self.piece.key(self.passed));
+        let len = self.slice.len();
+        self.before = Some(self.slice.key(self.passed));
         self.passed += 1;
         if self.passed < len {
             return;
@@ -135,7 +136,7 @@ impl<'r, 'a> EntryWalk<'r, 'a> {
         if !next.valid() {
             return;
         }
-        self.piece = next.piece();
+        self.slice = next.slice();
         self.start = next;
         self.passed = 0;
     }

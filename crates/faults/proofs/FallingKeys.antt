@@ -16,7 +16,7 @@ use Rattle.reads.specs.Tables.{NumberedContents, all_entries, table_entries}
 use Rattle.reads.proofs.Members.{first_in, first_or_later, from_filter, in_filter, later_in, none_in}
 use Rattle.reads.proofs.Pairs.{Pairs, pairs_map, pairs_unmap, pairs_within}
 use Rattle.faults.specs.VersionFault.{MisplacedKey}
-use Rattle.faults.specs.KeyFaults.{SearchedEntry, break_behind, first_break, is_of, misplaced_at, misplaced_keys, read_file, searched_in, searched_of, users_of}
+use Rattle.faults.specs.KeyFaults.{SearchedEntry, break_after, first_break, is_of, misplaced_at, misplaced_keys, read_file, searched_in, searched_of, users_of}
 use Rattle.faults.proofs.KeySteps.{key_of}
 use Rattle.faults.proofs.MisplacedLemmas.{are_misplaced, pairs_filter}
 use Rattle.faults.proofs.UserEntries.{false_of, of_user, searched, user_is}
@@ -33,12 +33,12 @@ IsHigher a b = sequence_of b.key < sequence_of a.key
 
 -- ---- one user key
 
-none_behind : (file sequence : ℕ) (rest : List SearchedEntry) → break_behind file sequence rest ≡ None → (e : SearchedEntry) → Contains rest e → sequence_of e.key < sequence
+none_behind : (file sequence : ℕ) (rest : List SearchedEntry) → break_after file sequence rest ≡ None → (e : SearchedEntry) → Contains rest e → sequence_of e.key < sequence
 none_behind file sequence [] h e at = absurd (none_in e at)
 none_behind file sequence (f ∷ rest) h e at = by (nat_le sequence (sequence_of f.key)) refl h (λ k l. none_behind f.file (sequence_of f.key) rest k e l)
   where
-    by : (b : Bool) → nat_le sequence (sequence_of f.key) ≡ b → cond b (Some (file, f.file)) (break_behind f.file (sequence_of f.key) rest) ≡ None
-        → (break_behind f.file (sequence_of f.key) rest ≡ None → Contains rest e → sequence_of e.key < sequence_of f.key) → sequence_of e.key < sequence
+    by : (b : Bool) → nat_le sequence (sequence_of f.key) ≡ b → cond b (Some (file, f.file)) (break_after f.file (sequence_of f.key) rest) ≡ None
+        → (break_after f.file (sequence_of f.key) rest ≡ None → Contains rest e → sequence_of e.key < sequence_of f.key) → sequence_of e.key < sequence
     by true is k later = absurd cc
     by false is k later =
         let lt : sequence_of f.key < sequence = leb-false sequence (sequence_of f.key) is in
@@ -47,21 +47,21 @@ none_behind file sequence (f ∷ rest) h e at = by (nat_le sequence (sequence_of
           | inr behind ↦ omega (arith, lt, later k behind)
         ]
 
-none_rest : (file sequence : ℕ) (rest : List SearchedEntry) → break_behind file sequence rest ≡ None → first_break rest ≡ None
+none_rest : (file sequence : ℕ) (rest : List SearchedEntry) → break_after file sequence rest ≡ None → first_break rest ≡ None
 none_rest file sequence [] h = refl
 none_rest file sequence (f ∷ rest) h = by (nat_le sequence (sequence_of f.key)) h
   where
-    by : (b : Bool) → cond b (Some (file, f.file)) (break_behind f.file (sequence_of f.key) rest) ≡ None → break_behind f.file (sequence_of f.key) rest ≡ None
+    by : (b : Bool) → cond b (Some (file, f.file)) (break_after f.file (sequence_of f.key) rest) ≡ None → break_after f.file (sequence_of f.key) rest ≡ None
     by true k = absurd cc
     by false k = k
 
 not_up : (m n : ℕ) → n < m → nat_le m n ≡ false
 not_up m n lt = false_of (nat_le m n) (λ h. absurd (omega (arith, leb-true m n h)))
 
-none_from : (file sequence : ℕ) (rest : List SearchedEntry) → ((e : SearchedEntry) → Contains rest e → sequence_of e.key < sequence) → Pairs IsHigher rest → break_behind file sequence rest ≡ None
+none_from : (file sequence : ℕ) (rest : List SearchedEntry) → ((e : SearchedEntry) → Contains rest e → sequence_of e.key < sequence) → Pairs IsHigher rest → break_after file sequence rest ≡ None
 none_from file sequence [] below pairs = refl
 none_from file sequence (f ∷ rest) below pairs =
-    ap (λ (b : Bool). cond b (Some (file, f.file)) (break_behind f.file (sequence_of f.key) rest)) (not_up sequence (sequence_of f.key) (below f (first_in f rest)))
+    ap (λ (b : Bool). cond b (Some (file, f.file)) (break_after f.file (sequence_of f.key) rest)) (not_up sequence (sequence_of f.key) (below f (first_in f rest)))
     ∙ none_from f.file (sequence_of f.key) rest pairs.0 pairs.1
 
 none_first : (es : List SearchedEntry) → Pairs IsHigher es → first_break es ≡ None
@@ -77,7 +77,7 @@ falls_from (e ∷ es) none = (
   falls_from es (λ user. behind user (is_of user e) refl (none user)),
 )
   where
-    own : break_behind e.file (sequence_of e.key) (filter (is_of (user_of e.key)) es) ≡ None
+    own : break_after e.file (sequence_of e.key) (filter (is_of (user_of e.key)) es) ≡ None
     own =
         sym (ap (λ (b : Bool). first_break (cond b (e ∷ filter (is_of (user_of e.key)) es) (filter (is_of (user_of e.key)) es))) (user_is (user_of e.key) e refl))
         ∙ none (user_of e.key)

@@ -11,9 +11,9 @@ use Rattle.ikey.specs.Key.{IsInternalKey, internal_key_reading}
 use Rattle.ikey.proofs.Keys.{IsInternalKey-reading}
 use Rattle.block.specs.EncodedEntry.{Entry, EncodedEntry, encoded_entry_bytes, key_after, entries_after, restarts_of, restart_bytes, IsBlock}
 use Rattle.frame.specs.Trailer.{stored_block, trailer_bytes}
-use Rattle.table.specs.ReadingEntries.{HaveKeys}
-use Rattle.table.specs.ReadingIndex.{index_reading}
-use Rattle.table.specs.ReadingTables.{AreBytes, IsNamed, AreNamed}
+use Rattle.table.specs.EntryTests.{HaveKeys}
+use Rattle.table.specs.IndexReading.{index_reading}
+use Rattle.table.specs.TableBytes.{AreBytes, IsNamed, AreNamed}
 use Rattle.table.specs.TableContents.{Contents, DataBlock, blocks_of, contents_reading, data_reading, entries_of, index_in}
 use Rattle.table.proofs.CheckedTables.{blocks_by, entries_read, read_data}
 use Rattle.table.proofs.EntryTests.{all_tests, have_keys}

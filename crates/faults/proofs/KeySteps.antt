@@ -13,17 +13,17 @@ use Rattle.std.proofs.lemmas.List.Elements.{Contains-append_cases, Contains-appe
 use Rattle.std.proofs.lemmas.Slice.Eq.{bytes_eq-Decides}
 use Rattle.ikey.specs.Comparator.{IsExact, KeyOrder}
 use Rattle.ikey.specs.Key.{user_of}
-use Rattle.table.specs.ReadingCursors.{NeverFalls}
+use Rattle.table.specs.EntriesFrom.{NeverFalls}
 use Rattle.split.specs.Boundaries.{KeysRise}
 use Rattle.split.specs.Ranges.{IsIn, KeyRange}
 use Rattle.block.specs.EncodedEntry.{Entry}
-use Rattle.merge.specs.Merged.{entries_of_lists}
+use Rattle.merge.specs.MergedLists.{entries_of_lists}
 use Rattle.reads.proofs.Members.{first_in, first_or_later, from_filter, from_flat_map, from_map, in_filter, in_flat_map, in_map, none_in}
 use Rattle.reads.proofs.Orders.{not_before_itself}
 use Rattle.reads.proofs.Pairs.{Pairs, pairs_append, pairs_from, pairs_map, pairs_to, pairs_unmap}
 use Rattle.faults.specs.VersionFault.{MisplacedKey}
 use Rattle.faults.specs.KeyFaults.{FileEntries, SearchedEntry, first_break, is_of, misplaced_at, searched_in, searched_of}
-use Rattle.faults.specs.KeyWalk.{AreAllFrom, AreMisplacedIn, IsBelowBound, IsNextUser, behind_user, found_keys, with_user}
+use Rattle.faults.specs.KeyWalk.{AreAllFrom, AreMisplacedIn, IsBelowBound, IsNextUser, after_user, found_keys, with_user}
 use Rattle.faults.proofs.TellingLemmas.{none_behind}
 use Rattle.faults.proofs.UserEntries.{files_after, files_part, lists_of, not_both, of_user, other_files, own_files, parts_length, searched, user_is}
 
@@ -117,7 +117,7 @@ some_there x (y ∷ ys) at = omega arith
 
 -- fewer entries are left
 pub fewer : (cmp : KeyOrder) (total : IsTotalOrder cmp) (exact : IsExact cmp) (upper : Option (List ℕ)) (fs : List FileEntries) (user : List ℕ) → IsNextUser cmp upper (entries_of_lists (map own_entries fs)) user → AllByRecursion (NeverFalls cmp) (lists_of cmp total exact fs)
-    → length (searched_of (map (behind_user user) fs)) < length (searched_of fs)
+    → length (searched_of (map (after_user user) fs)) < length (searched_of fs)
 fewer cmp total exact upper fs user upcoming falls =
     let next = next_found cmp upper fs user upcoming in
     let own : Contains (searched_of (map (with_user user) fs)) next.entry =
@@ -187,7 +187,7 @@ module _ (cmp : KeyOrder) (total : IsTotalOrder cmp) (exact : IsExact cmp) (rang
   module _ (fs : List FileEntries) (keys : List MisplacedKey) (walked : IsWalkedTo fs keys) (user : List ℕ) (upcoming : IsNextUser cmp range.upper (entries_of_lists (map own_entries fs)) user) (falls : AllByRecursion (NeverFalls cmp) (lists_of cmp total exact fs))
       (found : Option (ℕ × ℕ)) (order : found ≡ first_break (searched_of (map (with_user user) fs))) where
     abbrev after : List FileEntries
-    after = map (behind_user user) fs
+    after = map (after_user user) fs
 
     next : IsNextFound cmp range.upper (searched_of fs) user
     next = next_found cmp range.upper fs user upcoming

@@ -11,8 +11,8 @@ use Rattle.std.proofs.lemmas.Option.{none-some, same_Some}
 use Rattle.ikey.specs.Comparator.{IsExact, KeyOrder}
 use Rattle.ikey.specs.Key.{user_of}
 use Rattle.block.specs.EncodedEntry.{Entry}
-use Rattle.merge.specs.Least.{IsMerging}
-use Rattle.merge.specs.Merged.{entries_of_lists}
+use Rattle.merge.specs.LeastList.{IsMerging}
+use Rattle.merge.specs.MergedLists.{entries_of_lists}
 use Rattle.reads.proofs.EntriesInOrder.{behind_bound}
 use Rattle.reads.proofs.FallingEntries.{each_of}
 use Rattle.reads.proofs.Members.{first_in, from_flat_map, none_in}

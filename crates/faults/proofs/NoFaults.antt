@@ -21,7 +21,7 @@ use Rattle.folder.specs.Calls.{Files}
 use Rattle.folder.specs.Levels.{file_numbers}
 use Rattle.folder.specs.LoadedTables.{IsTableAnswer, IsTableOf}
 use Rattle.folder.specs.Names.{old_table_name, table_name}
-use Rattle.folder.specs.ReadsAs.{IsHeldIn}
+use Rattle.folder.specs.ReadsAs.{IsFileIn}
 use Rattle.reads.specs.FileList.{AreAll, level_file_in}
 use Rattle.reads.specs.Lawful.{AreDisjoint, IsBelowNextFile, IsFileOf, IsLawful}
 use Rattle.reads.specs.StatedFiles.{IsStatedFile, is_below, matches_metadata}
@@ -38,7 +38,7 @@ use Rattle.reads.proofs.SoundFiles.{stated_tests}
 use Rattle.checks.specs.TableReadings.{tables_reading}
 use Rattle.checks.specs.HeldTables.{AreFound, IsTableIn}
 use Rattle.checks.specs.TestedTables.{IsTested, entry_count}
-use Rattle.checks.specs.declared.tested.Tested.{Tested}
+use Rattle.checks.specs.declared.version_totals.VersionTotals.{VersionTotals}
 use Rattle.checks.proofs.FileTables.{numbers_in}
 use Rattle.checks.proofs.FolderTests.{tested_ok}
 use Rattle.checks.proofs.FoundTables.{found_at, found_tables, one_table}
@@ -173,7 +173,7 @@ module _ (cmp : KeyOrder) (files : Files) (next : Option ℕ) where
 record Built (cmp : KeyOrder) (files : Files) (metas : List FileMeta) : Type 0 where
   loaded : List (ℕ × List ℕ)
   tables : List NumberedContents
-  there : AllZip (IsTableOf (IsHeldIn files)) (numbers_in metas) loaded
+  there : AllZip (IsTableOf (IsFileIn files)) (numbers_in metas) loaded
   read : tables_reading cmp loaded ≡ Ok tables
 
 built : (cmp : KeyOrder) (files : Files) (metas : List FileMeta) → ((f : FileMeta) → Contains metas f → is_sound cmp files f ≡ true) → Built cmp files metas
@@ -262,7 +262,7 @@ module _ (cmp : KeyOrder) (total : IsTotalOrder cmp) (exact : IsExact cmp) (file
     keys_again = ap (λ (ms : List FileMeta). misplaced_keys cmp (searched_of (map (read_file cmp files) ms))) (searched_is cmp files all (clean_sound cmp files v.next_file all clean))
 
     -- the keys of what files hold
-    bytes_of : HoldBytes files → (n : ℕ) (b : List ℕ) → IsTableAnswer (IsHeldIn files) n (Ok b) → (i : ℕ) → slice_index b i < 256
+    bytes_of : HoldBytes files → (n : ℕ) (b : List ℕ) → IsTableAnswer (IsFileIn files) n (Ok b) → (i : ℕ) → slice_index b i < 256
     bytes_of bytes n b (inl h) = bytes (table_name n) b h
     bytes_of bytes n b (inr h) = bytes (old_table_name n) b h.1
 
@@ -341,7 +341,7 @@ module _ (cmp : KeyOrder) (total : IsTotalOrder cmp) (exact : IsExact cmp) (file
   pub accepted_none : IsAccepted cmp files v → version_faults cmp files v ≡ []
   accepted_none h = by h.tested h.is
     where
-      by : (t : Tested) → IsTested (IsHeldIn files) cmp v (Ok t) → version_faults cmp files v ≡ []
+      by : (t : VersionTotals) → IsTested (IsFileIn files) cmp v (Ok t) → version_faults cmp files v ≡ []
       by t (Ok loaded, (there, (Ok tables, h))) = nothing_wrong tables (found_tables cmp files (file_numbers cmp v) loaded tables there (sound_checked cmp v loaded tables h.0)) (sound_lawful cmp v loaded tables h.0)
       by t (Ok loaded, (there, (Err e, h))) = absurd cc
       by t (Err e, h) = absurd cc
@@ -358,7 +358,7 @@ module _ (cmp : KeyOrder) (total : IsTotalOrder cmp) (exact : IsExact cmp) (file
         is = tested_ok cmp files v (length (file_numbers cmp v)) (entry_count made.tables) refl (record {
           loaded = made.loaded;
           tables = made.tables;
-          there = subst (λ (ns : List ℕ). AllZip (IsTableOf (IsHeldIn files)) ns made.loaded) (sym (all_numbers cmp v)) made.there;
+          there = subst (λ (ns : List ℕ). AllZip (IsTableOf (IsFileIn files)) ns made.loaded) (sym (all_numbers cmp v)) made.there;
           read = made.read;
           lawful = lawful_if_none clean made.tables found bytes keys;
           is = refl;

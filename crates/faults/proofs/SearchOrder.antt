@@ -22,9 +22,9 @@ use Rattle.edit.specs.declared.meta.NewFile.{NewFile}
 use Rattle.edit.proofs.Inserted.{all_permute}
 use Rattle.edit.proofs.SortedFiles.{same_number}
 use Rattle.edit.proofs.Tested.{eqb-sym}
-use Rattle.reads.specs.FileChecks.{standing_cmp}
+use Rattle.reads.specs.FileChecks.{newest_first_cmp}
 use Rattle.reads.specs.FileList.{AreAll, same_file, newer_number}
-use Rattle.reads.proofs.FileOrder.{IsRange, comes_before, standing_cmp-total}
+use Rattle.reads.proofs.FileOrder.{IsRange, comes_before, newest_first_cmp-total}
 use Rattle.reads.proofs.Members.{first_in, from_filter, from_map, in_map, later_in}
 use Rattle.reads.proofs.OrderedFiles.{Before, depth_at, top_at}
 use Rattle.reads.proofs.Orders.{less_is}
@@ -202,10 +202,10 @@ module _ (cmp : KeyOrder) (total : IsTotalOrder cmp) (all : List NewFile) (follo
           let f = file_in (get_or items k d) in
           ranges f (from_search f (subst (λ (fs : List NewFile). Contains fs f) (files_again list) (in_map file_in items (get_or items k d) (Contains-get_or items k d lt))))
 
-      not_back : (f g : NewFile) → is_lt (standing_cmp cmp f g) ≡ true → is_lt (standing_cmp cmp g f) ≡ false
-      not_back f g h = ap is_lt ((standing_cmp-total total).antisymm g f ∙ ap ordering_reverse (less_of (standing_cmp cmp f g) h))
+      not_back : (f g : NewFile) → is_lt (newest_first_cmp cmp f g) ≡ true → is_lt (newest_first_cmp cmp g f) ≡ false
+      not_back f g h = ap is_lt ((newest_first_cmp-total total).antisymm g f ∙ ap ordering_reverse (less_of (newest_first_cmp cmp f g) h))
 
-      pub in_order : IsSortedBy (λ f g. is_lt (standing_cmp cmp (file_in f) (file_in g))) items
+      pub in_order : IsSortedBy (λ f g. is_lt (newest_first_cmp cmp (file_in f) (file_in g))) items
       in_order k d le lt =
           let f = file_in (get_or items k d) in
           let g = file_in (get_or items (k + 1) d) in

@@ -13,14 +13,14 @@ use Rattle.ikey.specs.Comparator.{KeyOrder}
 use Rattle.block.specs.EncodedEntry.{Entry}
 use Rattle.block.specs.BuilderView.{last_key}
 use Rattle.table.specs.TableContents.{Contents, DataBlock, blocks_of, contents_of, contents_reading, data_reading, index_in}
-use Rattle.table.specs.ReadingEntries.{first_key}
-use Rattle.table.specs.ReadingIndex.{IndexEntry, index_reading}
+use Rattle.table.specs.EntryTests.{first_key}
+use Rattle.table.specs.IndexReading.{IndexEntry, index_reading}
 use Rattle.table.proofs.CheckedTables.{HasEntry, blocks_by, first_is, last_is, some_entry}
 use Rattle.edit.specs.declared.meta.FileMeta.{FileMeta}
 use Rattle.folder.specs.Calls.{Files}
 use Rattle.folder.specs.LoadedTables.{IsTableAnswer}
 use Rattle.folder.specs.Names.{old_table_name, table_name}
-use Rattle.folder.specs.ReadsAs.{IsHeldIn}
+use Rattle.folder.specs.ReadsAs.{IsFileIn}
 use Rattle.checks.specs.HeldTables.{IsTableIn}
 use Rattle.checks.proofs.FoundTables.{own_bytes}
 use Rattle.faults.specs.FileFaults.{file_reading, largest_of, smallest_of, table_held}
@@ -36,18 +36,18 @@ held_some None e bytes h = absurd (no_value e bytes h)
 held_some (Some b) e bytes h = ap (λ (x : List ℕ). Some x) (ok_is b bytes h)
 
 module _ (files : Files) where
-  pub held_answer : (n : ℕ) (bytes : List ℕ) → table_held files n ≡ Some bytes → IsTableAnswer (IsHeldIn files) n (Ok bytes)
+  pub held_answer : (n : ℕ) (bytes : List ℕ) → table_held files n ≡ Some bytes → IsTableAnswer (IsFileIn files) n (Ok bytes)
   held_answer n bytes h = by (files (table_name n)) refl h
     where
-      by : (o : Option (List ℕ)) → files (table_name n) ≡ o → option_or o (files (old_table_name n)) ≡ Some bytes → IsTableAnswer (IsHeldIn files) n (Ok bytes)
+      by : (o : Option (List ℕ)) → files (table_name n) ≡ o → option_or o (files (old_table_name n)) ≡ Some bytes → IsTableAnswer (IsFileIn files) n (Ok bytes)
       by None e k = inr (e, k)
       by (Some b) e k = inl (e ∙ k)
 
-  pub held_is : (n : ℕ) (bytes : List ℕ) → IsTableAnswer (IsHeldIn files) n (Ok bytes) → table_held files n ≡ Some bytes
+  pub held_is : (n : ℕ) (bytes : List ℕ) → IsTableAnswer (IsFileIn files) n (Ok bytes) → table_held files n ≡ Some bytes
   held_is n bytes (inl h) = ap (λ (o : Option (List ℕ)). option_or o (files (old_table_name n))) h
   held_is n bytes (inr h) = ap (λ (o : Option (List ℕ)). option_or o (files (old_table_name n))) h.0 ∙ h.1
 
-  pub held_none : (n : ℕ) (e : Fault) → IsTableAnswer (IsHeldIn files) n (Err e) → table_held files n ≡ None
+  pub held_none : (n : ℕ) (e : Fault) → IsTableAnswer (IsFileIn files) n (Err e) → table_held files n ≡ None
   held_none n e h = ap (λ (o : Option (List ℕ)). option_or o (files (old_table_name n))) h.0 ∙ h.1
 
 -- ---- what it holds
@@ -81,7 +81,7 @@ module _ (cmp : KeyOrder) (files : Files) where
       let parts = bind_ok (ok_or (table_held files n) (fault Missing)) (contents_reading cmp) x h in
       let same : parts.0 ≡ x.bytes = own_bytes cmp parts.0 x parts.2 in
       record {
-        there = subst (λ (b : List ℕ). IsTableAnswer (IsHeldIn files) n (Ok b)) same (held_answer files n parts.0 (held_some (table_held files n) (fault Missing) parts.0 parts.1));
+        there = subst (λ (b : List ℕ). IsTableAnswer (IsFileIn files) n (Ok b)) same (held_answer files n parts.0 (held_some (table_held files n) (fault Missing) parts.0 parts.1));
         read = subst (λ (b : List ℕ). contents_reading cmp b ≡ Ok x) same parts.2;
       }
 

@@ -13,11 +13,11 @@ use Rattle.ikey.specs.Comparator.{IsExact, KeyOrder}
 use Rattle.ikey.specs.Key.{user_of, sequence_of, kind_of, kind_number}
 use Rattle.ikey.specs.Order.{internal_cmp}
 use Rattle.block.specs.EncodedEntry.{Entry}
-use Rattle.table.specs.ReadingCursors.{NeverFalls}
+use Rattle.table.specs.EntriesFrom.{NeverFalls}
 use Rattle.reads.proofs.FallingEntries.{each_of, of_each}
 use Rattle.reads.proofs.Members.{from_flat_map, from_map, in_flat_map, in_map}
 use Rattle.faults.specs.KeyFaults.{FileEntries, SearchedEntry, is_of, searched_in, searched_of}
-use Rattle.faults.specs.KeyWalk.{behind_user, entries_after_user, entries_of_user, is_user, with_user}
+use Rattle.faults.specs.KeyWalk.{after_user, entries_after_user, entries_of_user, is_user, with_user}
 
 -- ---- tests
 
@@ -180,10 +180,10 @@ module _ (cmp : KeyOrder) (total : IsTotalOrder cmp) (exact : IsExact cmp) where
       filter-append (is_of user) (searched_in f) (searched_of fs)
       ∙ ap₂ (λ (xs ys : List SearchedEntry). xs ++ ys) (own_front f.number user f.entries falls.0 (own_from f fs user from)) (own_files fs user falls.1 (rest_from f fs user from))
 
-  pub other_files : (fs : List FileEntries) (user other : List ℕ) → (user ≡ other → ⊥) → filter (is_of other) (searched_of (map (behind_user user) fs)) ≡ filter (is_of other) (searched_of fs)
+  pub other_files : (fs : List FileEntries) (user other : List ℕ) → (user ≡ other → ⊥) → filter (is_of other) (searched_of (map (after_user user) fs)) ≡ filter (is_of other) (searched_of fs)
   other_files [] user other isnt = refl
   other_files (f ∷ fs) user other isnt =
-      filter-append (is_of other) (searched_in (behind_user user f)) (searched_of (map (behind_user user) fs))
+      filter-append (is_of other) (searched_in (after_user user f)) (searched_of (map (after_user user) fs))
       ∙ ap₂ (λ (xs ys : List SearchedEntry). xs ++ ys) (other_left f.number user other isnt f.entries) (other_files fs user other isnt)
       ∙ sym (filter-append (is_of other) (searched_in f) (searched_of fs))
 
@@ -195,39 +195,39 @@ module _ (cmp : KeyOrder) (total : IsTotalOrder cmp) (exact : IsExact cmp) where
     there : Contains (entries_after_user user file.entries) entry
     is : searched file.number entry ≡ e
 
-  behind_of : (fs : List FileEntries) (user : List ℕ) (e : SearchedEntry) → Contains (searched_of (map (behind_user user) fs)) e → IsBehind fs user e
+  behind_of : (fs : List FileEntries) (user : List ℕ) (e : SearchedEntry) → Contains (searched_of (map (after_user user) fs)) e → IsBehind fs user e
   behind_of fs user e at =
-      let from = from_flat_map searched_in (map (behind_user user) fs) e at in
-      let file = from_map (behind_user user) fs from.source from.there in
-      let held : Contains (searched_in (behind_user user file.source)) e = subst (λ (f : FileEntries). Contains (searched_in f) e) (sym file.is) from.held in
+      let from = from_flat_map searched_in (map (after_user user) fs) e at in
+      let file = from_map (after_user user) fs from.source from.there in
+      let held : Contains (searched_in (after_user user file.source)) e = subst (λ (f : FileEntries). Contains (searched_in f) e) (sym file.is) from.held in
       let entry = from_map (searched file.source.number) (entries_after_user user file.source.entries) e held in
       record { file = file.source; file_there = file.there; entry = entry.source; there = entry.there; is = entry.is }
 
   in_files : (fs : List FileEntries) (f : FileEntries) (e : Entry) → Contains fs f → Contains f.entries e → Contains (searched_of fs) (searched f.number e)
   in_files fs f e i j = in_flat_map searched_in fs f (searched f.number e) i (in_map (searched f.number) f.entries e j)
 
-  pub files_part : (fs : List FileEntries) (user : List ℕ) (e : SearchedEntry) → Contains (searched_of (map (behind_user user) fs)) e → Contains (searched_of fs) e
+  pub files_part : (fs : List FileEntries) (user : List ℕ) (e : SearchedEntry) → Contains (searched_of (map (after_user user) fs)) e → Contains (searched_of fs) e
   files_part fs user e at =
       let b = behind_of fs user e at in
       let own : Contains b.file.entries b.entry = each_of (Contains b.file.entries) (entries_after_user user b.file.entries) (all_behind (Contains b.file.entries) user b.file.entries (of_each (Contains b.file.entries) b.file.entries (λ x there. there))) b.entry b.there in
       subst (Contains (searched_of fs)) b.is (in_files fs b.file b.entry b.file_there own)
 
-  pub files_after : (fs : List FileEntries) (user : List ℕ) → AllByRecursion (NeverFalls cmp) (lists_of fs) → AreFrom fs user → (e : SearchedEntry) → Contains (searched_of (map (behind_user user) fs)) e → cmp user (user_of e.key) ≡ Less
+  pub files_after : (fs : List FileEntries) (user : List ℕ) → AllByRecursion (NeverFalls cmp) (lists_of fs) → AreFrom fs user → (e : SearchedEntry) → Contains (searched_of (map (after_user user) fs)) e → cmp user (user_of e.key) ≡ Less
   files_after fs user falls from e at =
       let b = behind_of fs user e at in
       let own_falls : NeverFalls cmp b.file.entries = each_of (NeverFalls cmp) (lists_of fs) falls b.file.entries (in_map (λ (f : FileEntries). f.entries) fs b.file b.file_there) in
       let own : AllByRecursion (IsFrom user) b.file.entries = of_each (IsFrom user) b.file.entries (λ x there. from (searched b.file.number x) (in_files fs b.file x b.file_there there)) in
       subst (λ (x : SearchedEntry). cmp user (user_of x.key) ≡ Less) b.is (each_of (IsAfter user) (entries_after_user user b.file.entries) (behind_after user b.file.entries own_falls own) b.entry b.there)
 
-  pub parts_length : (fs : List FileEntries) (user : List ℕ) → length (searched_of fs) ≡ length (searched_of (map (with_user user) fs)) + length (searched_of (map (behind_user user) fs))
+  pub parts_length : (fs : List FileEntries) (user : List ℕ) → length (searched_of fs) ≡ length (searched_of (map (with_user user) fs)) + length (searched_of (map (after_user user) fs))
   parts_length [] user = refl
   parts_length (f ∷ fs) user =
-      let one : length (searched_in f) ≡ length (searched_in (with_user user f)) + length (searched_in (behind_user user f)) =
+      let one : length (searched_in f) ≡ length (searched_in (with_user user f)) + length (searched_in (after_user user f)) =
       length-map f.entries (searched f.number) ∙ split_length user f.entries
       ∙ ap₂ (λ (a b : ℕ). a + b) (sym (length-map (entries_of_user user f.entries) (searched f.number))) (sym (length-map (entries_after_user user f.entries) (searched f.number))) in
-      joined (length (searched_in f)) (length (searched_in (with_user user f))) (length (searched_in (behind_user user f))) (length (searched_of fs)) (length (searched_of (map (with_user user) fs))) (length (searched_of (map (behind_user user) fs)))
-      (length (searched_in f ++ searched_of fs)) (length (searched_in (with_user user f) ++ searched_of (map (with_user user) fs))) (length (searched_in (behind_user user f) ++ searched_of (map (behind_user user) fs)))
-      one (parts_length fs user) (length-append (searched_in f) (searched_of fs)) (length-append (searched_in (with_user user f)) (searched_of (map (with_user user) fs))) (length-append (searched_in (behind_user user f)) (searched_of (map (behind_user user) fs)))
+      joined (length (searched_in f)) (length (searched_in (with_user user f))) (length (searched_in (after_user user f))) (length (searched_of fs)) (length (searched_of (map (with_user user) fs))) (length (searched_of (map (after_user user) fs)))
+      (length (searched_in f ++ searched_of fs)) (length (searched_in (with_user user f) ++ searched_of (map (with_user user) fs))) (length (searched_in (after_user user f) ++ searched_of (map (after_user user) fs)))
+      one (parts_length fs user) (length-append (searched_in f) (searched_of fs)) (length-append (searched_in (with_user user f)) (searched_of (map (with_user user) fs))) (length-append (searched_in (after_user user f)) (searched_of (map (after_user user) fs)))
     where
       joined : (a b c d e f x y z : ℕ) → a ≡ b + c → d ≡ e + f → x ≡ a + d → y ≡ b + e → z ≡ c + f → x ≡ y + z
       joined a b c d e f x y z h k i j l = omega arith

@@ -2,21 +2,21 @@
 use Rattle.std.specs.Prelude.{◌≡◌, ◌↔◌, ℕ, List, [], map, Some, Ok, Contains}
 use Rattle.std.specs.List.{All}
 use Rattle.ikey.specs.Comparator.{KeyOrder}
-use Rattle.table.specs.ReadingTables.{AreBytes}
+use Rattle.table.specs.TableBytes.{AreBytes}
 use Rattle.split.specs.Boundaries.{KeysRise}
 use Rattle.edit.specs.Version.{State, IsState}
 use Rattle.folder.specs.Calls.{Files}
-use Rattle.folder.specs.ReadsAs.{IsHeldIn}
+use Rattle.folder.specs.ReadsAs.{IsFileIn}
 use Rattle.checks.specs.TestedTables.{IsTested}
-use Rattle.checks.specs.declared.tested.Tested.{Tested}
+use Rattle.checks.specs.declared.version_totals.VersionTotals.{VersionTotals}
 use Rattle.faults.specs.VersionFault.{MisplacedKey}
 use Rattle.faults.specs.KeyFaults.{SearchedEntry, misplaced_at, misplaced_keys}
 use Rattle.faults.specs.AllFaults.{version_faults}
 
 -- with the tables that files hold a version passes its test
 pub record IsAccepted (cmp : KeyOrder) (files : Files) (v : State) : Type 0 where
-  pub tested : Tested
-  pub is : IsTested (IsHeldIn files) cmp v (Ok tested)
+  pub tested : VersionTotals
+  pub is : IsTested (IsFileIn files) cmp v (Ok tested)
 
 -- what files hold are bytes
 abbrev pub HoldBytes : Files → Type 0

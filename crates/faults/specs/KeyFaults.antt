@@ -87,16 +87,16 @@ searched_entries cmp files all =
 
 -- the first of these entries that isn't older than the one before it, by the files of both; before
 -- the first there is one of this file and sequence
-abbrev pub break_behind : ℕ → ℕ → List SearchedEntry → Option (ℕ × ℕ)
-break_behind file sequence [] = None
-break_behind file sequence (e ∷ rest) =
+abbrev pub break_after : ℕ → ℕ → List SearchedEntry → Option (ℕ × ℕ)
+break_after file sequence [] = None
+break_after file sequence (e ∷ rest) =
     if nat_le sequence (sequence_of e.key) then Some (file, e.file)
-    else break_behind e.file (sequence_of e.key) rest
+    else break_after e.file (sequence_of e.key) rest
 
 -- the same of entries without one before them
 abbrev pub first_break : List SearchedEntry → Option (ℕ × ℕ)
 first_break [] = None
-first_break (e ∷ rest) = break_behind e.file (sequence_of e.key) rest
+first_break (e ∷ rest) = break_after e.file (sequence_of e.key) rest
 
 -- the entries of a user key
 abbrev pub is_of : List ℕ → SearchedEntry → Bool

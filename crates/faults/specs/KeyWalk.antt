@@ -10,7 +10,7 @@ use Rattle.ikey.specs.Key.{user_of}
 use Rattle.block.specs.EncodedEntry.{Entry}
 use Rattle.split.specs.Boundaries.{KeysRise}
 use Rattle.faults.specs.VersionFault.{MisplacedKey}
-use Rattle.faults.specs.KeyFaults.{FileEntries, SearchedEntry, break_behind, first_break}
+use Rattle.faults.specs.KeyFaults.{FileEntries, SearchedEntry, break_after, first_break}
 use Rattle.faults.specs.KeyFaults.{misplaced_at}
 use Rattle.faults.specs.declared.entry_order.EntryOrder.{EntryOrder}
 use Rattle.faults.specs.declared.entry_order.EntryOrder.TheVariants.{Begun, Falling, Broken}
@@ -23,7 +23,7 @@ misplaced_in k = record { user = k.user.items; file = k.file; other = k.other }
 -- the first break of a user key's entries, if this is known of those before these
 abbrev pub break_of : EntryOrder → List SearchedEntry → Option (ℕ × ℕ)
 break_of Begun rest = first_break rest
-break_of (Falling file sequence) rest = break_behind file sequence rest
+break_of (Falling file sequence) rest = break_after file sequence rest
 break_of (Broken file other) rest = Some (file, other)
 
 -- whether an entry has this user key
@@ -44,8 +44,8 @@ entries_after_user user (e ∷ es) = if is_user user e then entries_after_user u
 abbrev pub with_user : List ℕ → FileEntries → FileEntries
 with_user user f = record { number = f.number; entries = entries_of_user user f.entries }
 
-abbrev pub behind_user : List ℕ → FileEntries → FileEntries
-behind_user user f = record { number = f.number; entries = entries_after_user user f.entries }
+abbrev pub after_user : List ℕ → FileEntries → FileEntries
+after_user user f = record { number = f.number; entries = entries_after_user user f.entries }
 
 -- exactly the user keys of a kind whose entries are not in their order, each once, in the order of
 -- the keys

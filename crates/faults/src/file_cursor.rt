@@ -7,7 +7,7 @@ ghost use Rattle.keep.specs.FirstEntry.{first_is};
 ghost use Rattle.keep.specs.InRange.{entries_in};
 ghost use Rattle.split.specs.Ranges.{key_range};
 ghost use Rattle.faults.specs.KeyFaults.{SearchedEntry, searched_in};
-ghost use Rattle.faults.specs.KeyWalk.{behind_user, break_of, is_user, with_user};
+ghost use Rattle.faults.specs.KeyWalk.{after_user, break_of, is_user, with_user};
 
 use crate::entry_order::EntryOrder;
 use coding::Fault;
@@ -60,7 +60,7 @@ impl<'t, C: Comparator> FileCursor<'t, C> {
     pub fn take_user(&mut self, user: &[u8], order: EntryOrder) -> Result<EntryOrder, Fault>
         ensures order { IfOk result (λ after. (rest : List SearchedEntry) → break_of after rest
             ≡ break_of order (searched_in (with_user user.now self.old) ++ rest)) }
-        ensures rest { OnOk result (self.new ≡ behind_user user.now self.old) }
+        ensures rest { OnOk result (self.new ≡ after_user user.now self.old) }
         ensures memory { IfErr result (λ e. e ≡ fault Memory) }
     {
         let mut order = order;

@@ -6,11 +6,11 @@ ghost use Rattle.std.specs.Option.{option_map, option_map_or};
 ghost use Rattle.std.specs.Ordering.{is_lt};
 ghost use Rattle.coding.specs.Answers.{fault};
 ghost use Rattle.coding.specs.declared.fault.FaultName.TheVariants.{Memory};
-ghost use Rattle.table.specs.ReadingCursors.{NeverFalls};
+ghost use Rattle.table.specs.EntriesFrom.{NeverFalls};
 ghost use Rattle.split.specs.Ranges.{IsIn, key_range};
-ghost use Rattle.merge.specs.Merged.{entries_of_lists};
+ghost use Rattle.merge.specs.MergedLists.{entries_of_lists};
 ghost use Rattle.faults.specs.KeyFaults.{first_break, searched_of};
-ghost use Rattle.faults.specs.KeyWalk.{AreAllFrom, AreMisplacedIn, IsNextUser, behind_user};
+ghost use Rattle.faults.specs.KeyWalk.{AreAllFrom, AreMisplacedIn, IsNextUser, after_user};
 ghost use Rattle.faults.specs.KeyWalk.{break_of, found_keys, misplaced_in, with_user};
 
 use crate::entry_order::EntryOrder;
@@ -85,7 +85,7 @@ fn take_user<C: Comparator>(
 ) -> Result<EntryOrder, Fault>
     ensures order { IfOk result (λ order. break_of order []
         ≡ first_break (searched_of (map (with_user user.now) files.old))) }
-    ensures rest { OnOk result (files.new ≡ map (behind_user user.now) files.old) }
+    ensures rest { OnOk result (files.new ≡ map (after_user user.now) files.old) }
     ensures memory { IfErr result (λ e. e ≡ fault Memory) }
 {
     let mut order = EntryOrder::Begun;

@@ -81,14 +81,14 @@ fn read_finding<C: Comparator, F: Folder>(
     ensures device { ReportsDevice F.Folder folder.old folder.new result }
     ensures reads { OnlyReads F.Folder folder.old folder.new }
 {
-    let Some(bytes) = held_bytes(alloc, folder, file.number)? else {
+    let Some(bytes) = table_file_bytes(alloc, folder, file.number)? else {
         return Ok(TableFinding::Unreadable(FaultName::Missing));
     };
     finding_in::<C>(alloc, file, &bytes)
 }
 
 /// The bytes of the table of a number. None if there is none. It only reads.
-fn held_bytes<F: Folder>(
+fn table_file_bytes<F: Folder>(
     alloc: Global,
     folder: &mut F,
     number: u64,

@@ -7,7 +7,7 @@ use Rattle.edit.specs.Version.{State}
 use Rattle.folder.specs.Folder.{DeviceFailed, TellsSame}
 use Rattle.folder.specs.Manifest.{IsManifestAnswer}
 use Rattle.folder.specs.Names.{IsNumberAnswer, manifest_name}
-use Rattle.folder.specs.OpenAnswer.{FolderAnswers, IsHeld, IsOpened, IsStopped}
+use Rattle.folder.specs.OpenAnswer.{FolderAnswers, IsFileReading, IsOpened, IsStopped}
 use Rattle.folder.specs.declared.order.Order.{Order}
 
 -- a failure after a time is one after an earlier time
@@ -54,24 +54,24 @@ answers_alone view before now (Err e) IsFirst IsAnswer f given =
     unless_from e (IsFirst (Err e)) (IsStopped before now e ⊎ IsAnswer (Err e)) (λ first. inr (f (Err e) first)) given
 
 -- what was held at first, told later
-pub held_before : (old new : List ℕ → Option (List ℕ) → Type 0) (name told : List ℕ) (r : Result (List ℕ) Fault) → TellsSame old new → told ≡ name → IsHeld new told r → IsHeld old name r
+pub held_before : (old new : List ℕ → Option (List ℕ) → Type 0) (name told : List ℕ) (r : Result (List ℕ) Fault) → TellsSame old new → told ≡ name → IsFileReading new told r → IsFileReading old name r
 held_before old new name told (Ok bytes) same is h = (same name (Some bytes)).1 (subst (λ (n : List ℕ). new n (Some bytes)) is h)
 held_before old new name told (Err e) same is h = ((same name None).1 (subst (λ (n : List ℕ). new n None) is h.0), h.1)
 
 -- there is no CURRENT
-pub no_current : (tells : List ℕ → Option (List ℕ) → Type 0) (e : Fault) → IsHeld tells (codes "CURRENT") (Err e) → IsOpened tells (Err e)
+pub no_current : (tells : List ℕ → Option (List ℕ) → Type 0) (e : Fault) → IsFileReading tells (codes "CURRENT") (Err e) → IsOpened tells (Err e)
 no_current tells e h = (Err e, (h, refl))
 
 -- CURRENT is of another form
-pub no_number : (tells : List ℕ → Option (List ℕ) → Type 0) (current : List ℕ) (e : Fault) → IsHeld tells (codes "CURRENT") (Ok current) → IsNumberAnswer current (Err e) → IsOpened tells (Err e)
+pub no_number : (tells : List ℕ → Option (List ℕ) → Type 0) (current : List ℕ) (e : Fault) → IsFileReading tells (codes "CURRENT") (Ok current) → IsNumberAnswer current (Err e) → IsOpened tells (Err e)
 no_number tells current e one h = (Ok current, (one, (Err e, (h, refl))))
 
 -- the manifest isn't there
-pub no_manifest : (tells : List ℕ → Option (List ℕ) → Type 0) (current : List ℕ) (number : ℕ) (e : Fault) → IsHeld tells (codes "CURRENT") (Ok current) → IsNumberAnswer current (Ok number)
-    → IsHeld tells (manifest_name number) (Err e) → IsOpened tells (Err e)
+pub no_manifest : (tells : List ℕ → Option (List ℕ) → Type 0) (current : List ℕ) (number : ℕ) (e : Fault) → IsFileReading tells (codes "CURRENT") (Ok current) → IsNumberAnswer current (Ok number)
+    → IsFileReading tells (manifest_name number) (Err e) → IsOpened tells (Err e)
 no_manifest tells current number e one two h = (Ok current, (one, (Ok number, (two, (Err e, (h, refl))))))
 
 -- the manifest is there, and its bytes answer
-pub manifest_answers : (tells : List ℕ → Option (List ℕ) → Type 0) (current : List ℕ) (number : ℕ) (bytes : List ℕ) → IsHeld tells (codes "CURRENT") (Ok current) → IsNumberAnswer current (Ok number)
-    → IsHeld tells (manifest_name number) (Ok bytes) → (a : Result (Order × State) Fault) → IsManifestAnswer number bytes a → IsOpened tells a
+pub manifest_answers : (tells : List ℕ → Option (List ℕ) → Type 0) (current : List ℕ) (number : ℕ) (bytes : List ℕ) → IsFileReading tells (codes "CURRENT") (Ok current) → IsNumberAnswer current (Ok number)
+    → IsFileReading tells (manifest_name number) (Ok bytes) → (a : Result (Order × State) Fault) → IsManifestAnswer number bytes a → IsOpened tells a
 manifest_answers tells current number bytes one two three a h = (Ok current, (one, (Ok number, (two, (Ok bytes, (three, h))))))

@@ -11,7 +11,7 @@ use Rattle.folder.specs.LoadedTables.{IsTableAnswer, IsTableOf}
 use Rattle.folder.specs.Manifest.{IsManifestAnswer}
 use Rattle.folder.specs.Names.{current_text, manifest_name, old_table_name, table_name}
 use Rattle.folder.specs.OpenAnswer.{IsOpened}
-use Rattle.folder.specs.ReadsAs.{Current, IsOneOf, Manifest, OldTable, ReadsAs, RestsOn, Table, IsHeldIn}
+use Rattle.folder.specs.ReadsAs.{Current, IsOneOf, Manifest, OldTable, ReadsAs, RestsOn, Table, IsFileIn}
 use Rattle.folder.specs.declared.order.Order.{Order}
 use Rattle.folder.proofs.OpeningLemmas.{manifest_answers}
 
@@ -29,7 +29,7 @@ pub first_is : {A B : Type 0} (IsFirst : Result A Fault → Type 0) (IsNext : A 
 first_is IsFirst IsNext x (Ok a, h) = (a, h)
 first_is IsFirst IsNext x (Err e, h) = absurd (cc (h.1))
 
-pub opened_parts : (files : Files) (order : Order) (v : State) → IsOpened (IsHeldIn files) (Ok (order, v)) → Opened files order v
+pub opened_parts : (files : Files) (order : Order) (v : State) → IsOpened (IsFileIn files) (Ok (order, v)) → Opened files order v
 opened_parts files order v h =
     let one = first_is _ _ _ h in
     let two = first_is _ _ _ one.1.1 in
@@ -43,19 +43,19 @@ opened_parts files order v h =
       answer = three.1.1;
     }
 
-pub opens : (files : Files) (order : Order) (v : State) → Opened files order v → IsOpened (IsHeldIn files) (Ok (order, v))
-opens files order v h = manifest_answers (IsHeldIn files) (current_text h.number) h.number h.bytes h.current (h.small, refl) h.manifest (Ok (order, v)) h.answer
+pub opens : (files : Files) (order : Order) (v : State) → Opened files order v → IsOpened (IsFileIn files) (Ok (order, v))
+opens files order v h = manifest_answers (IsFileIn files) (current_text h.number) h.number h.bytes h.current (h.small, refl) h.manifest (Ok (order, v)) h.answer
 
 -- a table is the same if its names hold the same
 pub table_same : (files now : Files) (number : ℕ) (bytes : List ℕ) → now (table_name number) ≡ files (table_name number)
-    → (files (table_name number) ≡ None → now (old_table_name number) ≡ files (old_table_name number)) → IsTableAnswer (IsHeldIn files) number (Ok bytes) → IsTableAnswer (IsHeldIn now) number (Ok bytes)
+    → (files (table_name number) ≡ None → now (old_table_name number) ≡ files (old_table_name number)) → IsTableAnswer (IsFileIn files) number (Ok bytes) → IsTableAnswer (IsFileIn now) number (Ok bytes)
 table_same files now number bytes one two (inl h) = inl (one ∙ h)
 table_same files now number bytes one two (inr h) = inr (one ∙ h.0, two h.0 ∙ h.1)
 
 -- so are all tables
 tables_same : (files now : Files) (numbers : List ℕ) (tables : List (ℕ × List ℕ))
     → ((number : ℕ) → IsOneOf numbers number → (now (table_name number) ≡ files (table_name number)) × (files (table_name number) ≡ None → now (old_table_name number) ≡ files (old_table_name number)))
-    → AllZip (IsTableOf (IsHeldIn files)) numbers tables → AllZip (IsTableOf (IsHeldIn now)) numbers tables
+    → AllZip (IsTableOf (IsFileIn files)) numbers tables → AllZip (IsTableOf (IsFileIn now)) numbers tables
 tables_same files now [] [] same h = h
 tables_same files now [] (t ∷ tables) same h = h
 tables_same files now (n ∷ numbers) [] same h = h

@@ -8,14 +8,14 @@ use Rattle.coding.specs.declared.fault.Fault.{Fault}
 use Rattle.coding.specs.declared.fault.FaultName.{FaultName}
 use Rattle.coding.specs.Varint.{varint_reading}
 use Rattle.coding.specs.declared.fault.FaultName.TheVariants.{Apply, Comparator, EditField, EditTag, LogChecksum, LogShape, Missing}
-use Rattle.logrec.specs.LogReader.{behind_zeros, content_len, ends_record, left_at, fragment_reading, record_at, records_in, records_of}
+use Rattle.logrec.specs.LogReader.{after_zeros, content_len, ends_record, left_at, fragment_reading, record_at, records_in, records_of}
 use Rattle.edit.specs.Edit.{Edit, field_fault}
 use Rattle.edit.specs.Tag.{listed_tag}
 use Rattle.edit.specs.Version.{State, applied_by, empty_state}
 use Rattle.folder.specs.LoadedTables.{IsLoaded}
 use Rattle.folder.specs.Manifest.{IsEditsAnswer, IsManifestAnswer, first_name, order_name, order_named, order_of, version_after_edits, version_from}
 use Rattle.folder.specs.Names.{IsNumberAnswer}
-use Rattle.folder.specs.OpenAnswer.{FolderAnswers, HasDeviceFailed, IsHeld, IsOfContents, IsOpened, IsStopped}
+use Rattle.folder.specs.OpenAnswer.{FolderAnswers, HasDeviceFailed, IsFileReading, IsOfContents, IsOpened, IsStopped}
 use Rattle.folder.specs.declared.order.Order.TheVariants.{Bytewise, Shortlex}
 
 -- the refusal comes of what a folder holds
@@ -72,13 +72,13 @@ left_refused (suc n) begins room bytes =
     bound (ends_record begins room first.kind _) _ (ends_refused begins room first.kind _) (λ ends.
     tested ends _ _ (value _) (bound (left_at n false 32761 first.rest) _ (left_refused n false 32761 first.rest) (λ others. value _))))
 
-zeros_refused : (offset : ℕ) (bytes : List ℕ) → AllOfContents (behind_zeros offset bytes)
-unfolding behind_zeros
+zeros_refused : (offset : ℕ) (bytes : List ℕ) → AllOfContents (after_zeros offset bytes)
+unfolding after_zeros
 zeros_refused offset bytes = tested _ _ _ (value _) (named _ LogShape tt)
 
 record_refused : (offset : ℕ) (bytes : List ℕ) → AllOfContents (record_at offset bytes)
 unfolding record_at
-record_refused offset bytes = bound (behind_zeros offset bytes) _ (zeros_refused offset bytes) (λ body. left_refused _ true _ body)
+record_refused offset bytes = bound (after_zeros offset bytes) _ (zeros_refused offset bytes) (λ body. left_refused _ true _ body)
 
 in_refused : (n offset : ℕ) (bytes : List ℕ) → AllOfContents (records_in n offset bytes)
 unfolding records_in
@@ -142,7 +142,7 @@ manifest_refused number bytes e h =
 number_refused : (bytes : List ℕ) (e : Fault) → IsNumberAnswer bytes (Err e) → OfContents e
 number_refused bytes e h = subst OfContents (sym h.1) tt
 
-held_refused : (tells : List ℕ → Option (List ℕ) → Type 0) (name : List ℕ) (e : Fault) → IsHeld tells name (Err e) → OfContents e
+held_refused : (tells : List ℕ → Option (List ℕ) → Type 0) (name : List ℕ) (e : Fault) → IsFileReading tells name (Err e) → OfContents e
 held_refused tells name e h = subst OfContents (sym h.1) tt
 
 -- opening's refusals

@@ -35,16 +35,16 @@ FolderAnswers view before now (Err e) IsAnswer =
     UnlessMemory e (IsStopped before now e ⊎ IsAnswer (Err e))
 
 -- the bytes under a name, or Missing if there is no file
-abbrev pub IsHeld : ToldFiles → List ℕ → Result (List ℕ) Fault → Type 0
-IsHeld tells name (Ok bytes) = tells name (Some bytes)
-IsHeld tells name (Err e) = tells name None × (e ≡ fault Missing)
+abbrev pub IsFileReading : ToldFiles → List ℕ → Result (List ℕ) Fault → Type 0
+IsFileReading tells name (Ok bytes) = tells name (Some bytes)
+IsFileReading tells name (Err e) = tells name None × (e ≡ fault Missing)
 
 -- What opening answers: CURRENT is read, then its form is tested, then the manifest that it names
 -- is read, then the manifest's bytes.
 abbrev pub IsOpened : ToldFiles → Result (Order × State) Fault → Type 0
-IsOpened tells = IsThen (IsHeld tells (codes "CURRENT")) (λ current.
+IsOpened tells = IsThen (IsFileReading tells (codes "CURRENT")) (λ current.
     IsThen (IsNumberAnswer current) (λ number.
-    IsThen (IsHeld tells (manifest_name number)) (IsManifestAnswer number)))
+    IsThen (IsFileReading tells (manifest_name number)) (IsManifestAnswer number)))
 
 -- the refusals that come of what a folder holds; Device and Memory are not among them
 abbrev pub IsOfContents : FaultName → Type 0

@@ -11,16 +11,16 @@ use Rattle.folder.specs.OpenAnswer.{IsOpened}
 use Rattle.folder.specs.declared.order.Order.{Order}
 
 -- the bytes under a name of these files
-abbrev pub IsHeldIn : Files → List ℕ → Option (List ℕ) → Type 0
-IsHeldIn files name held = files name ≡ held
+abbrev pub IsFileIn : Files → List ℕ → Option (List ℕ) → Type 0
+IsFileIn files name held = files name ≡ held
 
 -- The files read as a version of this order, and its tables. CURRENT names a manifest that gives
 -- the version, and each of the version's files has its table. cmp only orders the tables as they
 -- are loaded: nothing ties it to the version's order.
 pub record ReadsAs (cmp : KeyOrder) (order : Order) (v : State) (tables : List (ℕ × List ℕ))
     (files : Files) : Type 0 where
-  pub opened : IsOpened (IsHeldIn files) (Ok (order, v))
-  pub loaded : IsLoaded (IsHeldIn files) (file_numbers cmp v) (Ok tables)
+  pub opened : IsOpened (IsFileIn files) (Ok (order, v))
+  pub loaded : IsLoaded (IsFileIn files) (file_numbers cmp v) (Ok tables)
 
 -- The files read as a version of this order and its tables, and CURRENT names the manifest of this
 -- number.

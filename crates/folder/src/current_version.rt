@@ -2,11 +2,11 @@
 
 ghost use Rattle.std.specs.Prelude.{IfOk, Some, codes};
 ghost use Rattle.folder.specs.Names.{current_text};
-ghost use Rattle.folder.specs.OpenAnswer.{FolderAnswers, IsHeld, IsOpened};
+ghost use Rattle.folder.specs.OpenAnswer.{FolderAnswers, IsFileReading, IsOpened};
 ghost use Rattle.folder.specs.Reports.{OnlyReads, ReportsDevice};
 
-use crate::edits::version_in;
 use crate::folder::Folder;
+use crate::manifest_version::version_in;
 use crate::names::{CURRENT, manifest_name, number_in_current};
 use crate::order::Order;
 use coding::{Fault, FaultName};
@@ -50,10 +50,10 @@ pub fn open<F: Folder>(alloc: Global, folder: &mut F) -> Result<Opened, Fault>
     ensures device { ReportsDevice F.Folder folder.old folder.new result }
     ensures reads { OnlyReads F.Folder folder.old folder.new }
 {
-    let current = held(folder, CURRENT)?;
+    let current = bytes_under(folder, CURRENT)?;
     let number = number_in_current(alloc, &current)?;
     let name = manifest_name(alloc, number)?;
-    let manifest = held(folder, name.as_str())?;
+    let manifest = bytes_under(folder, name.as_str())?;
     let (order, version) = version_in(alloc, number, &manifest)?;
     Ok(Opened {
         order,
@@ -63,9 +63,9 @@ pub fn open<F: Folder>(alloc: Global, folder: &mut F) -> Result<Opened, Fault>
 }
 
 /// The bytes of a file. Missing if no file has this `name`.
-pub(crate) fn held<F: Folder>(folder: &mut F, name: &str) -> Result<Vec<u8>, Fault>
+pub(crate) fn bytes_under<F: Folder>(folder: &mut F, name: &str) -> Result<Vec<u8>, Fault>
     ensures answer { FolderAnswers (λ v. v.items) (F.failed folder.old) (F.failed folder.new) result
-        (IsHeld (F.tells folder.old) name.now) }
+        (IsFileReading (F.tells folder.old) name.now) }
     ensures device { ReportsDevice F.Folder folder.old folder.new result }
     ensures reads { OnlyReads F.Folder folder.old folder.new }
 {

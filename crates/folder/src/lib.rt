@@ -42,13 +42,13 @@
 
 mod current_version;
 mod disk;
-mod edits;
 mod failure;
 mod file_access;
 mod folder;
 mod folder_answer_laws;
 mod folder_lock;
 mod made_table;
+mod manifest_version;
 mod names;
 mod order;
 mod pending_files;

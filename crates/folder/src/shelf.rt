@@ -124,7 +124,7 @@ impl<'a> Shelf<'a> {
     }
 
     /// The bytes under a `name`. None if no file has it.
-    pub fn held<'x>(&'x self, name: &'x str) -> Option<&'x [u8]>
+    pub fn file<'x>(&'x self, name: &'x str) -> Option<&'x [u8]>
         ensures { ⟦<Shelf<'a> as Folder>⟧.tells self.now name.now
             (option_map (λ bytes. bytes.now) result) }
     {
@@ -151,7 +151,7 @@ impl<'a> Folder for Shelf<'a> {
         if let Some(failing) = self.called() {
             return self.fail(failing.fault);
         }
-        match self.held(name) {
+        match self.file(name) {
             Some(bytes) => Ok(Some(Vec::from_slice(self.alloc, bytes)?)),
             None => Ok(None),
         }
@@ -166,7 +166,7 @@ impl<'a> Folder for Shelf<'a> {
         if let Some(failing) = self.called() {
             return self.fail(failing.fault);
         }
-        match self.held(name) {
+        match self.file(name) {
             Some(bytes) => Ok(Some(Vec::from_slice(self.alloc, part_of(bytes, offset, len))?)),
             None => Ok(None),
         }

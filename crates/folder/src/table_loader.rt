@@ -8,7 +8,7 @@ ghost use Rattle.folder.specs.LoadedTables.{IsLoaded, IsTableAnswer};
 ghost use Rattle.folder.specs.OpenAnswer.{FolderAnswers};
 ghost use Rattle.folder.specs.Reports.{OnlyReads, ReportsDevice};
 
-use crate::current_version::held;
+use crate::current_version::bytes_under;
 use crate::folder::Folder;
 use crate::names::{CURRENT, manifest_name, old_table_name, table_name};
 use crate::order::Order;
@@ -114,7 +114,7 @@ fn table<F: Folder>(alloc: Global, folder: &mut F, number: u64) -> Result<Vec<u8
     let old_name = old_table_name(alloc, number)?;
     match folder.read(name.as_str())? {
         Some(bytes) => Ok(bytes),
-        None => held(folder, old_name.as_str()),
+        None => bytes_under(folder, old_name.as_str()),
     }
 }
 

@@ -161,7 +161,7 @@ fn is_clean(shelf: &Shelf<'_>) -> bool {
         } else {
             Some(*bytes)
         };
-        if shelf.held(name) != wanted {
+        if shelf.file(name) != wanted {
             return false;
         }
     }

@@ -66,8 +66,8 @@ fn shelf_of(alloc: Global, row: &Row) -> Shelf<'static> {
 fn is_left(alloc: Global, steps: &[ShelfStep], choice: u64) -> Option<bool> {
     let mut shelf = Shelf::new(alloc, FILES);
     let is_choice = make_left(&mut shelf, steps, choice).ok()?;
-    let is_whole = shelf.held("2") == Some(b"two".as_slice());
-    (is_choice && is_whole).then_some(shelf.held("1").is_some())
+    let is_whole = shelf.file("2") == Some(b"two".as_slice());
+    (is_choice && is_whole).then_some(shelf.file("1").is_some())
 }
 
 /// Whether some crash leaves the file 1, and whether some crash leaves none.
@@ -87,10 +87,10 @@ fn left(alloc: Global, steps: &[ShelfStep]) -> (bool, bool) {
 fn is_right(alloc: Global, row: &Row) -> bool {
     let mut shelf = shelf_of(alloc, row);
     shelf.remove("1").is_ok() == row.fails.is_none()
-        && shelf.held("1").is_none() == row.is_removed
+        && shelf.file("1").is_none() == row.is_removed
         && shelf.remove("3").is_ok()
         && (!row.is_synced || shelf.sync_folder().is_ok())
-        && shelf.held("2") == Some(b"two".as_slice())
+        && shelf.file("2") == Some(b"two".as_slice())
         && left(alloc, shelf.steps()) == row.left
 }
 

@@ -65,7 +65,7 @@ const FILES: &[(&str, &[u8])] = &[("1", b"one"), ("2", b"two"), ("1", b"another"
 
 /// Whether a folder in memory has these bytes under the names 1, 2 and 3.
 fn holds(shelf: &Shelf<'_>, wanted: [Option<&[u8]>; 3]) -> bool {
-    shelf.held("1") == wanted[0] && shelf.held("2") == wanted[1] && shelf.held("3") == wanted[2]
+    shelf.file("1") == wanted[0] && shelf.file("2") == wanted[1] && shelf.file("3") == wanted[2]
 }
 
 /// Whether four calls are done: a new file takes the name of another one; renaming a missing file

@@ -266,9 +266,9 @@ fn ends_there<R: AllocGlobal + Threads + Sync>(
     written(rt, &mut shelf, THREE, form) == Err(fault)
         && shelf.calls() == call
         && (shelf.failures() == 1) == (fault == FolderFault::Device)
-        && shelf.held("000003.ldb") == three
-        && shelf.held("000005.ldb") == five
-        && shelf.held("000008.ldb") == eight
+        && shelf.file("000003.ldb") == three
+        && shelf.file("000005.ldb") == five
+        && shelf.file("000008.ldb") == eight
 }
 
 #[test]

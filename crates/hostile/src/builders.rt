@@ -3,7 +3,7 @@
 
 use crate::cases::SMALLEST;
 use crate::fault::is_memory;
-use crate::worked::{
+use crate::worked_bytes::{
     A_AT_ONE, A_AT_TWO, BLOCK, DELETION_LEFT, SHORT_RECORD, SNAPSHOT_NINE, TABLE_THREE_BLOCKS,
     VERSION_SEVEN,
 };

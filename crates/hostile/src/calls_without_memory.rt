@@ -8,7 +8,7 @@ use crate::cases::{DELETION, SMALLEST};
 use crate::cursors::cursors_over;
 use crate::plans::runs_of;
 use crate::refusals::{Order, refuse, was_refused};
-use crate::worked::{A_AT_ONE, A_AT_TWO, B_AT_ONE, BLOCK, TABLE, VERSION_TEN};
+use crate::worked_bytes::{A_AT_ONE, A_AT_TWO, B_AT_ONE, BLOCK, TABLE, VERSION_TEN};
 use block::{BlockBuilder, BlockCursor};
 use board::Board;
 use coding::{

@@ -1,7 +1,7 @@
 //! Compactions and their expected answers.
 
-use crate::held::Held;
-use crate::worked::U_AT_TWO;
+use crate::holding_gate::Held;
+use crate::worked_bytes::U_AT_TWO;
 use coding::{Fault, FaultName};
 use compact::compact;
 use edit::{CompactPointer, FileMeta, Outcome};

@@ -1,7 +1,7 @@
 //! Worked compactions by two workers over three ranges.
 
 use crate::case::{Case, Meta, Want};
-use crate::worked::{
+use crate::worked_bytes::{
     DELETION_LEFT, GRANDPARENTS_EDIT, OUTPUTS_EDIT, TABLE, TABLE_A_AND_B, TABLE_A_AND_F, TABLE_B,
     TABLE_B_AND_G, TABLE_B_TWO_SPOILT, TABLE_C, TABLE_C_DELETED, TABLE_F, TABLE_G, TABLE_SPOILT,
     TABLE_U, TABLE_U_DELETED, TABLE_U_TWICE,

@@ -3,7 +3,7 @@
 //! before the key or the range's end.
 
 use crate::fault::{is_memory, wanted};
-use crate::worked::{
+use crate::worked_bytes::{
     A_AT_ONE, A_AT_TWO, BLOCK, C_AT_ONE, TABLE_ABCDE, TABLE_ACE, TABLE_ACF, TABLE_BD,
 };
 use block::BlockCursor;

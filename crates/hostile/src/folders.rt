@@ -2,7 +2,7 @@
 //! commands.
 
 use crate::fault::{is_memory, wanted};
-use crate::worked::{
+use crate::worked_bytes::{
     BOTH_ENTRIES, CURRENT_FIVE, FIRST_BLOCK, MANIFEST, NEXT_TEN, SECOND_BLOCK, TABLE_U_TWICE,
 };
 use coding::{Fault, FaultName};

@@ -15,6 +15,7 @@
 #![tactic(auto)]
 
 mod boards;
+mod bounded_memory;
 mod builders;
 mod calls_without_memory;
 mod case;
@@ -23,27 +24,26 @@ mod cursors;
 mod damage;
 mod fault;
 mod folders;
-mod groups;
-mod held;
+mod holding_gate;
 mod outcomes;
 mod plans;
 mod refusals;
+mod refused_requests;
 mod requests;
 mod rows;
-mod tries;
-mod worked;
-mod wrongs;
+mod version_faults;
+mod worked_bytes;
 
 use crate::damage::{print_claims, print_damage};
 use crate::fault::wanted;
 use crate::refusals::is_there;
 use anyhow::Result;
+use refused_requests::run;
 use requests::REQUESTS;
 use rows::{GROWTHS, RESTING, THREADS};
 use std::env;
 use std::env::Env;
 use std::thread::Threads;
-use tries::run;
 
 /// Makes the calls of which something is refused, if `is_refused`, and prints each row.
 fn run_refused<R: AllocGlobal + Print + Threads + Sync>(rt: &R, is_refused: bool) -> Result<()> {

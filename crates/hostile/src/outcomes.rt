@@ -2,7 +2,7 @@
 
 use crate::fault::is_memory;
 use crate::folders::FILES;
-use crate::worked::{TABLE_U_TWICE, TWICE_LEFT};
+use crate::worked_bytes::{TABLE_U_TWICE, TWICE_LEFT};
 use adoption::{AdoptionEnd, Comparison, install_outcome};
 use board::Open;
 use coding::{Fault, FaultName};
@@ -77,7 +77,7 @@ fn installed_again<R: AllocGlobal + Threads + Sync>(
 fn is_as_lent(source: &Shelf<'_>) -> bool {
     let mut is_same = source.steps().is_empty();
     for (name, bytes) in OUTCOME {
-        is_same = is_same && source.held(name) == Some(*bytes);
+        is_same = is_same && source.file(name) == Some(*bytes);
     }
     is_same
 }

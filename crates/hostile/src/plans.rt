@@ -4,7 +4,7 @@ use crate::case::{picked, three_ranges};
 use crate::cases::{DELETION, SMALLEST};
 use crate::cursors::{Left, are_left, cursors_over};
 use crate::fault::{is_memory, wanted};
-use crate::worked::{TABLE_ABC, TABLE_ABCD, TABLE_ACF, TABLE_BD};
+use crate::worked_bytes::{TABLE_ABC, TABLE_ABCD, TABLE_ACF, TABLE_BD};
 use board::{Board, Tally};
 use coding::{Fault, FaultName};
 use cut::{Plan, plan};

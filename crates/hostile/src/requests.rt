@@ -4,7 +4,7 @@
 use crate::case::{Case, Meta, Want, add_file, compacted, is_answer, picked};
 use crate::damage::mend_blocks;
 use crate::rows::{Row, Workers};
-use crate::worked::{
+use crate::worked_bytes::{
     A_AT_ONE, B_AT_ONE, B_AT_TWO, B_AT_ZERO, BLOCK_ENDS, C_AT_ONE, TABLE, TABLE_B_AT_ONE,
     TABLE_B_SPOILT, TABLE_OF_ANOTHER_MAGIC, TABLE_SPOILT, TABLE_U, U_AT_ONE,
 };

@@ -9,7 +9,7 @@ use Rattle.ikey.specs.declared.kind.Kind.TheVariants.{Put}
 use Rattle.ikey.specs.Comparator.{IsBetween, Separates, Succeeds}
 use Rattle.ikey.specs.Key.{user_of, sequence_of, kind_of, kind_number, internal_key, IsInternalKey}
 use Rattle.ikey.specs.Order.{internal_cmp}
-use Rattle.ikey.specs.Short.{shortened_key, internal_separator_of, internal_successor_of}
+use Rattle.ikey.specs.ShortenedKeys.{shortened_key, internal_separator_of, internal_successor_of}
 use borrow.Author.Tests.{ltb-true}
 use Rattle.ikey.proofs.Keys.{IsInternalKey-internal_key, length-user_of, user_of-internal_key}
 use Rattle.ikey.proofs.Ordered.{internal_cmp-total}

@@ -4,7 +4,7 @@ pub mod Bytewise
 pub mod Shortlex
 pub mod Key
 pub mod Order
-pub mod Short
+pub mod ShortenedKeys
 -- serves proofs alone
 pub mod BytewiseLaws
 pub mod ShortlexLaws

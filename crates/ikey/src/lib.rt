@@ -21,7 +21,7 @@ mod comparator;
 mod key;
 mod key_buf;
 mod kind;
-mod short;
+mod short_keys;
 mod shortlex;
 
 pub use bytewise::Bytewise;
@@ -29,5 +29,5 @@ pub use comparator::{Comparator, SharedComparator};
 pub use key::{InternalKey, MAX_SEQUENCE, MAX_USER_KEY, TAG_LEN, order_is_total};
 pub use key_buf::KeyBuf;
 pub use kind::Kind;
-pub use short::{internal_separator, internal_successor};
+pub use short_keys::{internal_separator, internal_successor};
 pub use shortlex::Shortlex;

@@ -14,7 +14,8 @@ use Rattle.folder.specs.ReadsAs.{StandsAs}
 use Rattle.folder.specs.declared.order.Order.{Order}
 use Rattle.folder.proofs.CrashLemmas.{left_reads, shown_left}
 use Rattle.folder.proofs.WrittenLemmas.{file_passed}
-use Rattle.install.specs.Install.{IsBeforeOrAfter, IsEditedBy, SurvivesCrash, calls_before_rename, tables_of_groups, temporary_calls}
+use Rattle.install.specs.Install.{IsBeforeOrAfter, IsEditedBy, SurvivesCrash, calls_before_rename, temporary_calls}
+use Rattle.install.specs.GroupedInstallation.{tables_of_groups}
 use Rattle.install.proofs.Edited.{apart_of}
 use Rattle.install.proofs.Files.{settled_stands}
 use Rattle.install.proofs.Moments.{Apart, leads_split, made_by, moment_made}

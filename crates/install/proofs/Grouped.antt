@@ -14,8 +14,10 @@ use Rattle.folder.specs.OpenAnswer.{IsStopped, StopsAtDevice}
 use Rattle.folder.specs.declared.folder.Folder.{Ghosts}
 use Rattle.folder.specs.declared.order.Order.{Order}
 use Rattle.folder.proofs.RunLemmas.{runs_stopped}
-use Rattle.install.specs.Install.{IsEditedBy, SurvivesCrash, calls_before_rename, current_calls, install_calls, tables_of_groups, manifest_bytes, manifest_calls, next_version_tables, table_calls}
-use Rattle.install.specs.InstallRun.{IsInstallRun, IsGroupedInstallation}
+use Rattle.install.specs.Install.{IsEditedBy, SurvivesCrash, calls_before_rename, current_calls, install_calls, manifest_bytes, manifest_calls, next_version_tables, table_calls}
+use Rattle.install.specs.GroupedInstallation.{tables_of_groups}
+use Rattle.install.specs.InstallCalls.{IsInstallCalls}
+use Rattle.install.specs.GroupedInstallation.{IsGroupedInstallation}
 use Rattle.install.proofs.Before.{stays_before}
 use Rattle.install.proofs.Current.{groups_leave}
 use Rattle.install.proofs.InstallRuns.{install_after, install_none, install_stopped}
@@ -45,7 +47,7 @@ module _ {D : Type 0} {g : Ghosts D} (name : List ℕ) (cmp : List ℕ → List 
 
   module _ (small : number < 2 ^ 64) (total : IsTotalOrder cmp) (is : manifest ≡ manifest_bytes name cmp v edit) (state : IsState v.pointers v.files) (back : IsEdit (edit_bytes (snapshot_of name cmp v)) (snapshot_of name cmp v)) where
     -- all calls before the rename, and those after it
-    whole_installed : {X : Type 0} (a b : D) (r : Result X Fault) → IsInstallRun g (calls_before_rename number groups (manifest_bytes name cmp v edit)) (current_calls number) opened a b r → IsGroupedInstallation g name cmp v opened number groups edit a b r
+    whole_installed : {X : Type 0} (a b : D) (r : Result X Fault) → IsInstallCalls g (calls_before_rename number groups (manifest_bytes name cmp v edit)) (current_calls number) opened a b r → IsGroupedInstallation g name cmp v opened number groups edit a b r
     whole_installed a b r run = record {
       runs = run.runs;
       left = run.left;
@@ -69,10 +71,10 @@ module _ {D : Type 0} {g : Ghosts D} (name : List ℕ) (cmp : List ℕ → List 
     -- all groups were written
     pub groups_installed : {X Y : Type 0} (a b d : D) (y : Y) (r : Result X Fault)
         → MakesCalls {E = Fault} (table_calls groups) (g.calls a) (g.calls b) (g.tells a) (g.tells b) (Ok y) → StopsAtDevice (g.failed a) (g.failed b) (Ok y) → g.failed a ≤ g.failed b
-        → IsInstallRun g (manifest_calls number manifest) (current_calls number) opened b d r → IsGroupedInstallation g name cmp v opened number groups edit a d r
+        → IsInstallCalls g (manifest_calls number manifest) (current_calls number) opened b d r → IsGroupedInstallation g name cmp v opened number groups edit a d r
     groups_installed a b d y r runs at_once later rest =
         whole_installed a d r (install_after (table_calls groups) (manifest_calls number (manifest_bytes name cmp v edit)) (current_calls number) opened a b d y r runs at_once later (groups_leave groups)
-        (subst (λ (m : List ℕ). IsInstallRun g (manifest_calls number m) (current_calls number) opened b d r) is rest))
+        (subst (λ (m : List ℕ). IsInstallCalls g (manifest_calls number m) (current_calls number) opened b d r) is rest))
 
 -- ---- the tables as one list
 

@@ -16,7 +16,7 @@ use Rattle.folder.proofs.ReportLemmas.{reports_handed, reports_then, stopped_dev
 use Rattle.folder.proofs.RunLemmas.{runs_none, runs_then}
 use Rattle.install.specs.CurrentAnswer.{IsCurrentAnswer}
 use Rattle.install.specs.Install.{IsStoppedOrChanged}
-use Rattle.install.specs.InstallRun.{IsInstallRun}
+use Rattle.install.specs.InstallCalls.{IsInstallCalls}
 use Rattle.install.proofs.Current.{AllLeaveCurrent, TellsCurrent, runs_read, same_refused, told_current}
 use Rattle.install.proofs.Parts.{hands_behind, hands_stopped, runs_same, runs_whole}
 
@@ -52,7 +52,7 @@ module _ {D : Type 0} {g : Ghosts D} (first last : List Call) (opened : ℕ) whe
   pub install_stopped : {X Y : Type 0} (a b : D) (e : Fault) (r : Result X Fault) → IsErrAnd r (λ f. f ≡ e)
       → MakesCalls {T = Y} {E = Fault} first (g.calls a) (g.calls b) (g.tells a) (g.tells b) (Err e)
       → UnlessMemory e (IsStopped (g.failed a) (g.failed b) e) → StopsAtDevice {X = Y} (g.failed a) (g.failed b) (Err e) → g.failed a ≤ g.failed b
-      → IsInstallRun g first last opened a b r
+      → IsInstallCalls g first last opened a b r
   install_stopped a b e (Ok x) h runs refused at_once later = absurd h
   install_stopped {Y = Y} a b e (Err f) h runs refused at_once later =
       let stopped = subst (λ (x : Fault). UnlessMemory x (IsStopped (g.failed a) (g.failed b) x)) (sym h) refused in
@@ -70,7 +70,7 @@ module _ {D : Type 0} {g : Ghosts D} (first last : List Call) (opened : ℕ) whe
   pub install_refused : {X Y : Type 0} (a b d : D) (y : Y) (e : Fault) (r : Result X Fault) → IsErrAnd r (λ f. f ≡ e)
       → MakesCalls {E = Fault} first (g.calls a) (g.calls b) (g.tells a) (g.tells b) (Ok y) → StopsAtDevice (g.failed a) (g.failed b) (Ok y) → g.failed a ≤ g.failed b → TellsCurrent (g.tells a) (g.tells b)
       → OnlyReads g b d → ReportsDevice {X = Unit {0}} g b d (Err e) → UnlessMemory e (IsStopped (g.failed b) (g.failed d) e ⊎ IsCurrentAnswer {T = Unit {0}} (g.tells b) opened (Err e))
-      → IsInstallRun g first last opened a d r
+      → IsInstallCalls g first last opened a d r
   install_refused a b d y e (Ok x) h runs at_once later current reads two answer = absurd h
   install_refused {Y = Y} a b d y e (Err f) h runs at_once later current reads two answer =
       let whole = runs_whole first (g.calls a) (g.calls b) (g.tells a) (g.tells b) y runs in
@@ -94,7 +94,7 @@ module _ {D : Type 0} {g : Ghosts D} (first last : List Call) (opened : ℕ) whe
       }
 
   named_by : {X : Type 0} (a b : D) (r : Result X Fault) → MakesCalls (first ++ last) (g.calls a) (g.calls b) (g.tells a) (g.tells b) r → IfErr r (λ e. UnlessMemory e (IsStopped (g.failed a) (g.failed b) e))
-      → ((files : Files) → Tells (g.tells a) files → files (codes "CURRENT") ≡ Some (current_text opened)) → ReportsDevice g a b r → IsInstallRun g first last opened a b r
+      → ((files : Files) → Tells (g.tells a) files → files (codes "CURRENT") ≡ Some (current_text opened)) → ReportsDevice g a b r → IsInstallCalls g first last opened a b r
   named_by a b (Ok x) runs stopped is device = record {
     runs = runs;
     left = tt;
@@ -117,7 +117,7 @@ module _ {D : Type 0} {g : Ghosts D} (first last : List Call) (opened : ℕ) whe
       → MakesCalls {E = Fault} first (g.calls a) (g.calls b) (g.tells a) (g.tells b) (Ok y) → StopsAtDevice (g.failed a) (g.failed b) (Ok y) → g.failed a ≤ g.failed b → TellsCurrent (g.tells a) (g.tells b)
       → OnlyReads g b d → ReportsDevice g b d (Ok z) → g.tells b (codes "CURRENT") (Some (current_text opened))
       → MakesCalls last (g.calls d) (g.calls n) (g.tells d) (g.tells n) r → IfErr r (λ e. UnlessMemory e (IsStopped (g.failed d) (g.failed n) e)) → StopsAtDevice (g.failed d) (g.failed n) r → g.failed d ≤ g.failed n
-      → IsInstallRun g first last opened a n r
+      → IsInstallCalls g first last opened a n r
   install_named {Y = Y} {Z = Z} a b d n y z r runs at_once later current reads two answer more refused at_once' later' =
       let whole = runs_whole first (g.calls a) (g.calls b) (g.tells a) (g.tells b) y runs in
       let one : ReportsDevice {X = Y} g a b (Ok y) = record { device = tt; at_once = at_once; later = later } in
@@ -132,7 +132,7 @@ module _ {D : Type 0} {g : Ghosts D} (first last : List Call) (opened : ℕ) whe
 -- after other calls that leave CURRENT as it is
 pub install_after : {D X Y : Type 0} {g : Ghosts D} (front first last : List Call) (opened : ℕ) (a b d : D) (y : Y) (r : Result X Fault)
     → MakesCalls {E = Fault} front (g.calls a) (g.calls b) (g.tells a) (g.tells b) (Ok y) → StopsAtDevice (g.failed a) (g.failed b) (Ok y) → g.failed a ≤ g.failed b → AllLeaveCurrent front
-    → IsInstallRun g first last opened b d r → IsInstallRun g (front ++ first) last opened a d r
+    → IsInstallCalls g first last opened b d r → IsInstallCalls g (front ++ first) last opened a d r
 install_after {Y = Y} {g = g} front first last opened a b d y r runs at_once later leave rest =
     let whole = runs_whole front (g.calls a) (g.calls b) (g.tells a) (g.tells b) y runs in
     let one : ReportsDevice {X = Y} g a b (Ok y) = record { device = tt; at_once = at_once; later = later } in
@@ -152,7 +152,7 @@ install_after {Y = Y} {g = g} front first last opened a b d y r runs at_once lat
     }
 
 -- nothing was done, since memory ran out
-pub install_none : {D X : Type 0} {g : Ghosts D} (first last : List Call) (opened : ℕ) (a : D) (e : Fault) (r : Result X Fault) → e ≡ fault name.Memory → IsErrAnd r (λ f. f ≡ e) → IsInstallRun g first last opened a a r
+pub install_none : {D X : Type 0} {g : Ghosts D} (first last : List Call) (opened : ℕ) (a : D) (e : Fault) (r : Result X Fault) → e ≡ fault name.Memory → IsErrAnd r (λ f. f ≡ e) → IsInstallCalls g first last opened a a r
 install_none {g = g} first last opened a e r is h =
     install_stopped first last opened {Y = Unit {0}} a a e r h (runs_none {T = Unit {0}} first (g.calls a) (g.tells a) e)
     (subst (λ (f : Fault). UnlessMemory f (IsStopped (g.failed a) (g.failed a) f)) (sym is) tt) (λ rose. absurd (omega (arith, rose))) (omega arith)

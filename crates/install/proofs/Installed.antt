@@ -11,7 +11,8 @@ use Rattle.folder.specs.Crash.{Leads, LeavesOnly, World}
 use Rattle.folder.specs.ReadsAs.{ReadsAs, StandsAs}
 use Rattle.folder.specs.declared.order.Order.{Order}
 use Rattle.folder.specs.Manifest.{order_name}
-use Rattle.install.specs.Install.{IsBeforeOrAfter, IsEditedBy, SurvivesCrash, install_calls, tables_of_groups, manifest_bytes, next_version_tables}
+use Rattle.install.specs.Install.{IsBeforeOrAfter, IsEditedBy, SurvivesCrash, install_calls, manifest_bytes, next_version_tables}
+use Rattle.install.specs.GroupedInstallation.{tables_of_groups}
 use Rattle.edit.proofs.Remade.{remade}
 use Rattle.install.proofs.Edited.{apart_of, setting_of}
 use Rattle.install.proofs.Moments.{any_moment, chained, install_chain, nothing_done, reads_then, stands_installed}

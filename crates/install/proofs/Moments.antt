@@ -13,7 +13,8 @@ use Rattle.folder.specs.declared.order.Order.{Order}
 use Rattle.folder.proofs.CrashLemmas.{left_reads, shown_left}
 use Rattle.folder.proofs.RunLemmas.{made_behind}
 use Rattle.folder.proofs.WrittenLemmas.{AllOther, IsShort, file_passed}
-use Rattle.install.specs.Install.{IsBeforeOrAfter, current_calls, install_calls, tables_of_groups, table_calls, temporary_calls, next_version_tables, write_calls}
+use Rattle.install.specs.Install.{IsBeforeOrAfter, current_calls, install_calls, table_calls, temporary_calls, next_version_tables, write_calls}
+use Rattle.install.specs.GroupedInstallation.{tables_of_groups}
 use Rattle.install.proofs.Outputs.{AreApart, filed, tables_passed}
 use Rattle.install.proofs.Switch.{Setting, ends, last_calls}
 

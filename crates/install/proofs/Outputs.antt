@@ -16,7 +16,8 @@ use Rattle.folder.specs.TableFiles.{named_tables}
 use Rattle.folder.specs.declared.order.Order.{Order}
 use Rattle.folder.proofs.CrashLemmas.{stands_made, stands_still}
 use Rattle.folder.proofs.WrittenLemmas.{AllOther, AllWritten, IsShort, Passed, file_stands, leads_first, leads_none, short_behind, short_none, short_tried, written_still}
-use Rattle.install.specs.Install.{tables_of_groups, table_bytes_of, numbers_of, table_calls}
+use Rattle.install.specs.Install.{table_bytes_of, numbers_of, table_calls}
+use Rattle.install.specs.GroupedInstallation.{tables_of_groups}
 
 -- the tables as files, before other files
 abbrev pub filed : List (ℕ × List ℕ) → List (List ℕ × List ℕ) → List (List ℕ × List ℕ)

@@ -11,7 +11,7 @@ use Rattle.folder.specs.Levels.{file_numbers}
 use Rattle.folder.specs.LoadedTables.{IsTableAnswer}
 use Rattle.folder.specs.Manifest.{IsManifestAnswer}
 use Rattle.folder.specs.Names.{current_text, manifest_name, old_table_name, table_name, temporary_name}
-use Rattle.folder.specs.ReadsAs.{Current, IsOneOf, Manifest, OldTable, ReadsAs, RestsOn, StandsAs, Table, IsHeldIn}
+use Rattle.folder.specs.ReadsAs.{Current, IsOneOf, Manifest, OldTable, ReadsAs, RestsOn, StandsAs, Table, IsFileIn}
 use Rattle.folder.specs.declared.order.Order.{Order}
 use Rattle.folder.proofs.CrashLemmas.{left_reads, rests_on_none, stands_folder_synced, stands_still}
 use Rattle.folder.proofs.NameEnds.{current_end, ends_apart, low_apart, manifest_end, old_table_end, table_end, temporary_end}
@@ -65,16 +65,16 @@ module _ (cmp : List ℕ → List ℕ → Ordering) (order : Order) (v next : St
     same : (name : List ℕ) → RestsOn cmp v files name → name ≢ CURRENT → now name ≡ files name
 
   -- a table of the next version
-  table_next : (files now : Files) → ReadsAs cmp order v tables files → Holds files now → (n : ℕ) → IsOneOf (file_numbers cmp next) n → IsTableAnswer (IsHeldIn now) n (Ok (table_bytes_of (outputs ++ tables) n))
+  table_next : (files now : Files) → ReadsAs cmp order v tables files → Holds files now → (n : ℕ) → IsOneOf (file_numbers cmp next) n → IsTableAnswer (IsFileIn now) n (Ok (table_bytes_of (outputs ++ tables) n))
   table_next files now reads h n m =
-      let output = λ (m' : IsOneOf (numbers_of outputs) n). let t : IsTableAnswer (IsHeldIn now) n (Ok (table_bytes_of (outputs ++ tables) n)) = inl (output_held outputs tables now n h.held m') in t in
+      let output = λ (m' : IsOneOf (numbers_of outputs) n). let t : IsTableAnswer (IsFileIn now) n (Ok (table_bytes_of (outputs ++ tables) n)) = inl (output_held outputs tables now n h.held m') in t in
       elim (among_outputs outputs tables n) [
         | inl m' ↦ output m'
         | inr same ↦ elim (setting.there n m) [
           | inl m' ↦ output m'
-          | inr before ↦ subst (λ (b : List ℕ). IsTableAnswer (IsHeldIn now) n (Ok b)) (sym same)
+          | inr before ↦ subst (λ (b : List ℕ). IsTableAnswer (IsFileIn now) n (Ok b)) (sym same)
               (table_same files now n (table_bytes_of tables n) (h.same _ (Table n before) (table_no_current n)) (λ none'. h.same _ (OldTable n before none') (old_table_no_current n))
-              (loaded_at (IsHeldIn files) (file_numbers cmp v) tables n reads.loaded before))
+              (loaded_at (IsFileIn files) (file_numbers cmp v) tables n reads.loaded before))
         ]
       ]
 
@@ -88,7 +88,7 @@ module _ (cmp : List ℕ → List ℕ → Ordering) (order : Order) (v next : St
       manifest = h.named;
       answer = setting.answer;
     });
-    loaded = loads (IsHeldIn now) (file_numbers cmp next) (table_bytes_of (outputs ++ tables)) (table_next files now reads h);
+    loaded = loads (IsFileIn now) (file_numbers cmp next) (table_bytes_of (outputs ++ tables)) (table_next files now reads h);
   }
 
   -- what a fact has to hold of, so that it holds of all that the next version rests on

@@ -2,7 +2,6 @@
 use Rattle.std.specs.Prelude.{◌≡◌, ◌⊎◌, ◌<◌, ◌≤◌, ℕ, nat_eq, List, [], ◌∷◌, ◌++◌, map, unwrap_or}
 use Rattle.std.specs.Prelude.{codes, Some, None, is_some, true, Result, OnOk}
 use Rattle.std.specs.Global.{Vec}
-use Rattle.std.specs.List.{flat_map}
 use Rattle.std.specs.Map.{lookup}
 use Rattle.coding.specs.Answers.{fault}
 use Rattle.coding.specs.declared.fault.Fault.{Fault}
@@ -31,10 +30,6 @@ tables_in tables = map (λ (t : ℕ × Vec ℕ). (t.0, t.1.items)) tables
 -- a file is made and synced
 abbrev pub write_calls : List ℕ → List ℕ → List Call
 write_calls name bytes = Created name bytes ∷ Synced name ∷ []
-
--- the tables of all groups, in their order
-abbrev pub tables_of_groups : List (List (ℕ × List ℕ)) → List (ℕ × List ℕ)
-tables_of_groups groups = flat_map (λ (g : List (ℕ × List ℕ)). g) groups
 
 -- One group of tables after the other is made and synced, the tables of a group in any order.
 abbrev pub table_calls : List (List (ℕ × List ℕ)) → List Call

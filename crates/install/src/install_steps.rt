@@ -18,7 +18,7 @@ ghost use Rattle.folder.specs.Reports.{OnlyReads, ReportsDevice};
 ghost use Rattle.install.specs.CurrentAnswer.{IsCurrentAnswer};
 ghost use Rattle.install.specs.Install.{AlwaysStandsAs, current_calls, manifest_calls};
 ghost use Rattle.install.specs.Install.{table_calls, tables_in, temporary_calls, write_calls};
-ghost use Rattle.install.specs.InstallRun.{IsInstallRun};
+ghost use Rattle.install.specs.InstallCalls.{IsInstallCalls};
 ghost use Rattle.folder.specs.Names.{current_text, temporary_name};
 
 use board::Gate;
@@ -85,7 +85,7 @@ pub fn install_manifest<F: Folder>(
     number: u64,
     manifest: &[u8],
 ) -> Result<(), Fault>
-    ensures { IsInstallRun F.Folder (manifest_calls number manifest.now) (current_calls number)
+    ensures { IsInstallCalls F.Folder (manifest_calls number manifest.now) (current_calls number)
         opened folder.old folder.new result }
 {
     write_manifest(alloc, folder, number, manifest)?;

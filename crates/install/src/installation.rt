@@ -14,7 +14,7 @@ ghost use Rattle.folder.specs.declared.order.Order.{Order};
 ghost use Rattle.install.specs.Install.{IsEditedBy, IsStoppedOrChanged, SurvivesCrash};
 ghost use Rattle.install.specs.Install.{calls_before_rename, install_calls, manifest_bytes};
 ghost use Rattle.install.specs.Install.{next_version_tables, tables_in};
-ghost use Rattle.install.specs.InstallRun.{IsGroupedInstallation};
+ghost use Rattle.install.specs.GroupedInstallation.{IsGroupedInstallation};
 
 use crate::install_steps::{install_manifest, write_group};
 use crate::manifest::manifest_bytes;

@@ -9,10 +9,10 @@ use Rattle.scan.specs.declared.level_stats.LevelStats.{LevelStats}
 use Rattle.texts.specs.Spelling.{key_text}
 use Rattle.texts.specs.declared.spelling.Spelling.{Spelling}
 use Rattle.json_lines.specs.Objects.{json_line}
-use Rattle.json_lines.specs.Pieces.{listed_item, listed_items}
+use Rattle.json_lines.specs.ObjectTexts.{listed_item, listed_items}
 use Rattle.json_lines.specs.StatsObject.{level_object, stats_object}
-use Rattle.json_lines.specs.StatsPieces.{amounts_text, totals_text}
-use Rattle.json_lines.proofs.PieceLemmas.{items_all}
+use Rattle.json_lines.specs.StatsTexts.{amounts_text, totals_text}
+use Rattle.json_lines.proofs.ObjectTextLemmas.{items_all}
 
 -- twelve pieces before another
 line_of_twelve : (a b c d e f g h i j k l n : List ℕ)

@@ -4,5 +4,5 @@ pub mod VersionObject
 pub mod CompactionObject
 pub mod StatsObject
 -- what serves proofs alone
-pub mod Pieces
-pub mod StatsPieces
+pub mod ObjectTexts
+pub mod StatsTexts

@@ -9,7 +9,7 @@ ghost use Rattle.folder.specs.Names.{manifest_name};
 ghost use Rattle.json_lines.specs.CompactionObject.{compaction_object, deleted_object};
 ghost use Rattle.json_lines.specs.CompactionObject.{output_object};
 ghost use Rattle.json_lines.specs.Objects.{json_line};
-ghost use Rattle.json_lines.specs.Pieces.{end_text, level_text, listed_item, named_text};
+ghost use Rattle.json_lines.specs.ObjectTexts.{end_text, level_text, listed_item, named_text};
 
 use crate::compaction_end::CompactionEnd;
 use crate::items::push_items;

@@ -5,7 +5,7 @@ ghost use Rattle.std.specs.Option.{option_map};
 ghost use Rattle.coding.specs.Answers.{EqualOrMemory, fault};
 ghost use Rattle.coding.specs.declared.fault.FaultName.TheVariants.{Memory};
 ghost use Rattle.json_lines.specs.Objects.{json_line, refusal_object};
-ghost use Rattle.json_lines.specs.Pieces.{named_text, refused_text};
+ghost use Rattle.json_lines.specs.ObjectTexts.{named_text, refused_text};
 
 use crate::quoted::quoted;
 use coding::Fault;

@@ -5,9 +5,9 @@ ghost use Rattle.std.specs.List.{flat_map};
 ghost use Rattle.coding.specs.Answers.{EqualOrMemory, fault};
 ghost use Rattle.coding.specs.declared.fault.FaultName.TheVariants.{Memory};
 ghost use Rattle.json_lines.specs.Objects.{json_line};
-ghost use Rattle.json_lines.specs.Pieces.{listed_item};
+ghost use Rattle.json_lines.specs.ObjectTexts.{listed_item};
 ghost use Rattle.json_lines.specs.StatsObject.{level_object, stats_object};
-ghost use Rattle.json_lines.specs.StatsPieces.{amounts_text, named_total, totals_text};
+ghost use Rattle.json_lines.specs.StatsTexts.{amounts_text, named_total, totals_text};
 
 use crate::items::push_items;
 use crate::quoted::quoted_key;

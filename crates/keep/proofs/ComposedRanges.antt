@@ -13,18 +13,18 @@ use Rattle.std.proofs.lemmas.Slice.Eq.{bytes_eq-Decides}
 use Rattle.ikey.specs.Key.{user_of, sequence_of, kind_of, kind_number}
 use Rattle.ikey.specs.Order.{internal_cmp}
 use Rattle.block.specs.EncodedEntry.{Entry}
-use Rattle.table.specs.ReadingCursors.{NeverFalls}
+use Rattle.table.specs.EntriesFrom.{NeverFalls}
 use Rattle.merge.specs.Union.{VersionsRise}
 use Rattle.split.specs.Boundaries.{KeysRise}
 use Rattle.split.specs.Ranges.{KeyRange, range_at}
-use Rattle.merge.specs.Merged.{entries_of_lists, merged}
+use Rattle.merge.specs.MergedLists.{entries_of_lists, merged}
 use Rattle.merge.proofs.SortedEntries.{sorted_never_falls}
 use Rattle.reads.proofs.Members.{first_in, later_in}
 use Rattle.reads.proofs.Pairs.{Pairs, pairs_from}
-use Rattle.keep.specs.DropRule.{is_same_user, is_snapshot_between, is_obsolete, keeps, kept_behind, kept}
+use Rattle.keep.specs.DropRule.{is_same_user, is_snapshot_between, is_obsolete, keeps, kept_after, kept}
 use Rattle.keep.specs.InRange.{is_in_range, entries_in}
 use Rattle.keep.specs.declared.mark.Mark.{Mark}
-use Rattle.keep.specs.Marks.{CompactionContext, grandparents_below, is_first, heads_behind, heads, changes_behind, changes, marks}
+use Rattle.keep.specs.Marks.{CompactionContext, grandparents_below, is_first, heads_after, heads, changes_after, changes, marks}
 use Rattle.keep.specs.Runs.{run_of, is_same_version, are_distinct, moved_mark, joined_marks, ranges_from, RangesCompose, KeptInRangeLaw}
 
 -- ---- filters
@@ -82,7 +82,7 @@ all_keys P (x ∷ xs) f = (f x (first_in x xs), all_keys P xs (λ k at. f k (lat
 
 abbrev pub ch : Option ℕ → List Mark → List Mark
 ch None ms = changes ms
-ch (Some c) ms = changes_behind c ms
+ch (Some c) ms = changes_after c ms
 
 -- the number of the last mark
 abbrev last : Option ℕ → List Mark → Option ℕ
@@ -90,13 +90,13 @@ last c [] = c
 last c (m ∷ ms) = last (Some m.below) ms
 
 behind_append_by : (c : ℕ) (m : Mark) (xs ys : List Mark) (same : Bool) → nat_eq m.below c ≡ same
-    → ((d : ℕ) → changes_behind d (xs ++ ys) ≡ changes_behind d xs ++ ch (last (Some d) xs) ys)
-    → (if same then changes_behind c (xs ++ ys) else m ∷ changes_behind m.below (xs ++ ys))
-    ≡ (if same then changes_behind c xs else m ∷ changes_behind m.below xs) ++ ch (last (Some m.below) xs) ys
-behind_append_by c m xs ys true e ih = ih c ∙ ap (λ d. changes_behind c xs ++ ch (last (Some d) xs) ys) (sym (eqb-true m.below c e))
+    → ((d : ℕ) → changes_after d (xs ++ ys) ≡ changes_after d xs ++ ch (last (Some d) xs) ys)
+    → (if same then changes_after c (xs ++ ys) else m ∷ changes_after m.below (xs ++ ys))
+    ≡ (if same then changes_after c xs else m ∷ changes_after m.below xs) ++ ch (last (Some m.below) xs) ys
+behind_append_by c m xs ys true e ih = ih c ∙ ap (λ d. changes_after c xs ++ ch (last (Some d) xs) ys) (sym (eqb-true m.below c e))
 behind_append_by c m xs ys false e ih = ap (λ zs. m ∷ zs) (ih m.below)
 
-behind_append : (xs ys : List Mark) (c : ℕ) → changes_behind c (xs ++ ys) ≡ changes_behind c xs ++ ch (last (Some c) xs) ys
+behind_append : (xs ys : List Mark) (c : ℕ) → changes_after c (xs ++ ys) ≡ changes_after c xs ++ ch (last (Some c) xs) ys
 behind_append [] ys c = refl
 behind_append (m ∷ xs) ys c = behind_append_by c m xs ys (nat_eq m.below c) refl (behind_append xs ys)
 
@@ -106,19 +106,19 @@ ch_append None (m ∷ xs) ys = ap (λ zs. m ∷ zs) (behind_append xs ys m.below
 ch_append (Some c) xs ys = behind_append xs ys c
 
 again_by : (c : ℕ) (m : Mark) (xs : List Mark) (same : Bool) → nat_eq m.below c ≡ same
-    → ((d : ℕ) → changes_behind d (changes_behind d xs) ≡ changes_behind d xs)
-    → changes_behind c (if same then changes_behind c xs else m ∷ changes_behind m.below xs) ≡ (if same then changes_behind c xs else m ∷ changes_behind m.below xs)
+    → ((d : ℕ) → changes_after d (changes_after d xs) ≡ changes_after d xs)
+    → changes_after c (if same then changes_after c xs else m ∷ changes_after m.below xs) ≡ (if same then changes_after c xs else m ∷ changes_after m.below xs)
 again_by c m xs true e ih = ih c
 again_by c m xs false e ih = rw e (ap (λ zs. m ∷ zs) (ih m.below))
 
-behind_again : (xs : List Mark) (c : ℕ) → changes_behind c (changes_behind c xs) ≡ changes_behind c xs
+behind_again : (xs : List Mark) (c : ℕ) → changes_after c (changes_after c xs) ≡ changes_after c xs
 behind_again [] c = refl
 behind_again (m ∷ xs) c = again_by c m xs (nat_eq m.below c) refl (behind_again xs)
 
 first_again_by : (c : ℕ) (m : Mark) (xs : List Mark) (same : Bool) → nat_eq m.below c ≡ same
-    → (if same then changes_behind c (changes_behind m.below xs) else m ∷ changes_behind m.below (changes_behind m.below xs))
-    ≡ (if same then changes_behind c xs else m ∷ changes_behind m.below xs)
-first_again_by c m xs true e = ap (λ d. changes_behind c (changes_behind d xs)) (eqb-true m.below c e) ∙ behind_again xs c
+    → (if same then changes_after c (changes_after m.below xs) else m ∷ changes_after m.below (changes_after m.below xs))
+    ≡ (if same then changes_after c xs else m ∷ changes_after m.below xs)
+first_again_by c m xs true e = ap (λ d. changes_after c (changes_after d xs)) (eqb-true m.below c e) ∙ behind_again xs c
 first_again_by c m xs false e = ap (λ zs. m ∷ zs) (behind_again xs m.below)
 
 ch_again : (c : Option ℕ) (xs : List Mark) → ch c (changes xs) ≡ ch c xs
@@ -128,12 +128,12 @@ ch_again (Some c) [] = refl
 ch_again (Some c) (m ∷ xs) = first_again_by c m xs (nat_eq m.below c) refl
 
 last_by : (c : ℕ) (m : Mark) (xs : List Mark) (same : Bool) → nat_eq m.below c ≡ same
-    → ((d : ℕ) → last (Some d) (changes_behind d xs) ≡ last (Some d) xs)
-    → last (Some c) (if same then changes_behind c xs else m ∷ changes_behind m.below xs) ≡ last (Some m.below) xs
+    → ((d : ℕ) → last (Some d) (changes_after d xs) ≡ last (Some d) xs)
+    → last (Some c) (if same then changes_after c xs else m ∷ changes_after m.below xs) ≡ last (Some m.below) xs
 last_by c m xs true e ih = ih c ∙ ap (λ d. last (Some d) xs) (sym (eqb-true m.below c e))
 last_by c m xs false e ih = ih m.below
 
-last_behind : (xs : List Mark) (c : ℕ) → last (Some c) (changes_behind c xs) ≡ last (Some c) xs
+last_behind : (xs : List Mark) (c : ℕ) → last (Some c) (changes_after c xs) ≡ last (Some c) xs
 last_behind [] c = refl
 last_behind (m ∷ xs) c = last_by c m xs (nat_eq m.below c) refl (last_behind xs)
 
@@ -142,13 +142,13 @@ last_changes c [] = refl
 last_changes c (m ∷ xs) = last_behind xs m.below
 
 moved_by : (n c : ℕ) (m : Mark) (xs : List Mark) (same : Bool)
-    → ((d : ℕ) → map (moved_mark n) (changes_behind d xs) ≡ changes_behind d (map (moved_mark n) xs))
-    → map (moved_mark n) (if same then changes_behind c xs else m ∷ changes_behind m.below xs)
-    ≡ (if same then changes_behind c (map (moved_mark n) xs) else moved_mark n m ∷ changes_behind m.below (map (moved_mark n) xs))
+    → ((d : ℕ) → map (moved_mark n) (changes_after d xs) ≡ changes_after d (map (moved_mark n) xs))
+    → map (moved_mark n) (if same then changes_after c xs else m ∷ changes_after m.below xs)
+    ≡ (if same then changes_after c (map (moved_mark n) xs) else moved_mark n m ∷ changes_after m.below (map (moved_mark n) xs))
 moved_by n c m xs true ih = ih c
 moved_by n c m xs false ih = ap (λ zs. moved_mark n m ∷ zs) (ih m.below)
 
-moved_behind : (n : ℕ) (xs : List Mark) (c : ℕ) → map (moved_mark n) (changes_behind c xs) ≡ changes_behind c (map (moved_mark n) xs)
+moved_behind : (n : ℕ) (xs : List Mark) (c : ℕ) → map (moved_mark n) (changes_after c xs) ≡ changes_after c (map (moved_mark n) xs)
 moved_behind n [] c = refl
 moved_behind n (m ∷ xs) c = moved_by n c m xs (nat_eq m.below c) (moved_behind n xs)
 
@@ -171,10 +171,10 @@ module _ (cmp : List ℕ → List ℕ → Ordering) (b : CompactionContext) wher
   keep before e = keeps cmp b.readable b.deeper before e
 
   abbrev kb : Option Entry → List Entry → List Entry
-  kb before es = kept_behind cmp b.readable b.deeper before es
+  kb before es = kept_after cmp b.readable b.deeper before es
 
   abbrev hb : Option Entry → ℕ → List Entry → List Mark
-  hb before n es = heads_behind cmp b before n es
+  hb before n es = heads_after cmp b before n es
 
   keep_fresh : (p y : Entry) → is_same_user p y ≡ false → keep (Some p) y ≡ keep None y
   keep_fresh p y h =

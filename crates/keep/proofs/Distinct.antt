@@ -14,8 +14,8 @@ use Rattle.ikey.specs.Key.{user_of, sequence_of, kind_of, kind_number}
 use Rattle.ikey.specs.Comparator.{IsExact}
 use Rattle.ikey.specs.Order.{internal_cmp}
 use Rattle.block.specs.EncodedEntry.{Entry}
-use Rattle.table.specs.ReadingCursors.{NeverFalls}
-use Rattle.merge.specs.Merged.{entries_of_lists, merged}
+use Rattle.table.specs.EntriesFrom.{NeverFalls}
+use Rattle.merge.specs.MergedLists.{entries_of_lists, merged}
 use Rattle.merge.specs.Union.{key_version_cmp, VersionsRise}
 use Rattle.merge.proofs.SortedEntries.{sorted_never_falls}
 use Rattle.merge.proofs.Unions.{union_is_merged}

@@ -10,7 +10,7 @@ use Rattle.block.specs.EncodedEntry.{Entry}
 use Rattle.edit.specs.declared.meta.FileMeta.{FileMeta}
 use Rattle.pick.specs.Ranges.{is_in_none}
 use Rattle.keep.specs.Readable.{Readable, is_read}
-use Rattle.keep.specs.DropRule.{is_same_user, is_deletion, is_snapshot_between, is_hidden, is_obsolete, keeps, kept_behind, kept}
+use Rattle.keep.specs.DropRule.{is_same_user, is_deletion, is_snapshot_between, is_hidden, is_obsolete, keeps, kept_after, kept}
 use Rattle.reads.specs.NewestFirst.{SequencesFall, AreOf}
 use Rattle.keep.specs.OneKey.{Hides, IsUnderKept, IsUnderDeletion, OneKeyLaw}
 use Rattle.keep.proofs.OneKey.{listed_has, all_hidden, falls_behind, answers}
@@ -22,7 +22,7 @@ later_of (x ∷ xs) ys user h = later_of xs ys user h.1
 
 module _ (cmp : List ℕ → List ℕ → Ordering) (r : Readable) (deeper : List FileMeta) where
   abbrev kb : Option Entry → List Entry → List Entry
-  kb before es = kept_behind cmp r deeper before es
+  kb before es = kept_after cmp r deeper before es
 
   kept_more : (before : Option Entry) (xs ys : List Entry) → kb before (xs ++ ys) ≡ kb before xs ++ kb (last_or before xs) ys
   kept_more before [] ys = refl

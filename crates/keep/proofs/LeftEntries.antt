@@ -10,13 +10,13 @@ use Rattle.std.proofs.lemmas.Bool.{false≢true}
 use Rattle.std.proofs.lemmas.Option.{same_Some, none-some}
 use Rattle.block.specs.EncodedEntry.{Entry}
 use Rattle.ikey.specs.Order.{internal_cmp}
-use Rattle.table.specs.ReadingCursors.{entries_from, LeavesFrom}
-use Rattle.merge.specs.Merged.{entries_with, sorted_entries, entries_of_lists, merged}
-use Rattle.merge.specs.Least.{IsAdvanced}
+use Rattle.table.specs.EntriesFrom.{entries_from, LeavesFrom}
+use Rattle.merge.specs.MergedLists.{entries_with, sorted_entries, entries_of_lists, merged}
+use Rattle.merge.specs.LeastList.{IsAdvanced}
 use Rattle.merge.specs.Seeks.{each_from, EachLeavesFrom}
 use Rattle.merge.proofs.Orders.{less_is}
 use Rattle.merge.proofs.SortedEntries.{filter-sorted}
-use Rattle.keep.specs.Left.{LosesOnly, EachLosesOnly, LosesFirst, EachLosesFirst}
+use Rattle.keep.specs.CursorsLeft.{LosesOnly, EachLosesOnly, LosesFirst, EachLosesFirst}
 use Rattle.keep.specs.FirstEntry.{first_is}
 
 -- ---- one list

@@ -8,7 +8,7 @@ pub mod WalkState
 pub mod LeftEntries
 pub mod Bounds
 pub mod KeyBuffers
-pub mod PieceLists
+pub mod ChunkLists
 pub mod LastKept
 pub mod RisingSearch
 pub mod RangeWalks

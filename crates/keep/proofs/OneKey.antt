@@ -15,7 +15,7 @@ use Rattle.reads.specs.Gets.{value_by, value_in}
 use Rattle.reads.specs.NewestFirst.{SequencesFall, AreOf, answer_at}
 use Rattle.pick.specs.Ranges.{is_in_none}
 use Rattle.keep.specs.Readable.{Readable, is_read}
-use Rattle.keep.specs.DropRule.{is_same_user, is_deletion, is_snapshot_between, is_hidden, is_obsolete, keeps, kept_behind, kept}
+use Rattle.keep.specs.DropRule.{is_same_user, is_deletion, is_snapshot_between, is_hidden, is_obsolete, keeps, kept_after, kept}
 
 or_first : (x y : Bool) → x ≡ true → (x || y) ≡ true
 or_first true y h = refl
@@ -87,7 +87,7 @@ module _ (cmp : List ℕ → List ℕ → Ordering) (r : Readable) (deeper : Lis
 
   -- below a deletion that each readable sequence sees, every entry is hidden
   pub all_hidden : (p : Entry) (es : List Entry) → user_of p.key ≡ user → AreOf user es → SequencesFall (p ∷ es)
-      → nat_le (sequence_of p.key) r.floor ≡ true → list_all (nat_le (sequence_of p.key)) r.listed ≡ true → kept_behind cmp r deeper (Some p) es ≡ []
+      → nat_le (sequence_of p.key) r.floor ≡ true → list_all (nat_le (sequence_of p.key)) r.listed ≡ true → kept_after cmp r deeper (Some p) es ≡ []
   all_hidden p [] is of falls low listed = refl
   all_hidden p (e ∷ es) is of falls low listed =
       let lower : sequence_of e.key < sequence_of p.key = falls.0.0 in
@@ -120,7 +120,7 @@ module _ (cmp : List ℕ → List ℕ → Ordering) (r : Readable) (deeper : Lis
 
     -- a deletion that is seen and dropped, with nothing left below it
     nothing_left : (e : Entry) (es : List Entry) → user_of e.key ≡ user → AreOf user es → SequencesFall (e ∷ es) → nat_le (sequence_of e.key) at ≡ true → is_obsolete cmp r deeper e ≡ true
-        → answer_at at (kept_behind cmp r deeper (Some e) es ++ below) ≡ answer_at at (e ∷ (es ++ below))
+        → answer_at at (kept_after cmp r deeper (Some e) es ++ below) ≡ answer_at at (e ∷ (es ++ below))
     nothing_left e es is of falls seen o =
         let a = is_deletion (kind_of e.key) in
         let b = nat_le (sequence_of e.key) r.floor in
@@ -130,18 +130,18 @@ module _ (cmp : List ℕ → List ℕ → Ordering) (r : Readable) (deeper : Lis
         let ab = and_parts (a && b) c abc.0 in
         let both = and_parts a b ab.0 in
         let empty : below ≡ [] = base (subst (λ (u : List ℕ). is_in_none cmp deeper u ≡ true) is abc.1) in
-        let left : kept_behind cmp r deeper (Some e) es ≡ [] = all_hidden e es is of falls both.1 ab.1 in
+        let left : kept_after cmp r deeper (Some e) es ≡ [] = all_hidden e es is of falls both.1 ab.1 in
         let shown : answer_at at (e ∷ (es ++ below)) ≡ None =
         ap (λ s. option_and_then value_in (cond s (Some e) (find (λ f. nat_le (sequence_of f.key) at) (es ++ below)))) seen ∙ deletion_value (kind_of e.key) e.value both.0 in
         ap (λ xs. answer_at at (xs ++ below)) left ∙ ap (answer_at at) empty ∙ sym shown
 
     same_by : (before : Option Entry) (e : Entry) (es : List Entry) (seen keep : Bool) → nat_le (sequence_of e.key) at ≡ seen → keeps cmp r deeper before e ≡ keep
         → IsUnseen before → AreOf user (e ∷ es) → SequencesFall (e ∷ es)
-        → (at < sequence_of e.key → answer_at at (kept_behind cmp r deeper (Some e) es ++ below) ≡ answer_at at (es ++ below))
-        → answer_at at (((if keep then e ∷ [] else []) ++ kept_behind cmp r deeper (Some e) es) ++ below) ≡ answer_at at (e ∷ (es ++ below))
+        → (at < sequence_of e.key → answer_at at (kept_after cmp r deeper (Some e) es ++ below) ≡ answer_at at (es ++ below))
+        → answer_at at (((if keep then e ∷ [] else []) ++ kept_after cmp r deeper (Some e) es) ++ below) ≡ answer_at at (e ∷ (es ++ below))
     same_by before e es true true s k unseen of falls rest = rw s refl
     same_by before e es true false s k unseen of falls rest =
-        elim (and_cases (not (is_hidden r before e)) (not (is_obsolete cmp r deeper e)) k) as (λ _. answer_at at (kept_behind cmp r deeper (Some e) es ++ below) ≡ answer_at at (e ∷ (es ++ below))) [
+        elim (and_cases (not (is_hidden r before e)) (not (is_obsolete cmp r deeper e)) k) as (λ _. answer_at at (kept_after cmp r deeper (Some e) es ++ below) ≡ answer_at at (e ∷ (es ++ below))) [
           | inl h ↦ absurd (seen_not_hidden before e unseen s (not-false (is_hidden r before e) h))
           | inr o ↦ nothing_left e es of.0 of.1 falls s (not-false (is_obsolete cmp r deeper e) o)
         ]
@@ -149,7 +149,7 @@ module _ (cmp : List ℕ → List ℕ → Ordering) (r : Readable) (deeper : Lis
     same_by before e es false false s k unseen of falls rest = rw s (rest (leb-false (sequence_of e.key) at s))
 
     pub same : (before : Option Entry) (es : List Entry) → IsUnseen before → AreOf user es → SequencesFall es
-        → answer_at at (kept_behind cmp r deeper before es ++ below) ≡ answer_at at (es ++ below)
+        → answer_at at (kept_after cmp r deeper before es ++ below) ≡ answer_at at (es ++ below)
     same before [] unseen of falls = refl
     same before (e ∷ es) unseen of falls =
         same_by before e es (nat_le (sequence_of e.key) at) (keeps cmp r deeper before e) refl refl unseen of falls (λ un. same (Some e) es un of.1 falls.1)

@@ -12,13 +12,13 @@ use Rattle.coding.specs.declared.fault.FaultName.TheVariants.{Duplicate}
 use Rattle.ikey.specs.Comparator.{IsExact}
 use Rattle.ikey.specs.Key.{user_of}
 use Rattle.block.specs.EncodedEntry.{Entry}
-use Rattle.merge.specs.Merged.{entries_of_lists, merged}
-use Rattle.merge.specs.Least.{IsAdvanced}
+use Rattle.merge.specs.MergedLists.{entries_of_lists, merged}
+use Rattle.merge.specs.LeastList.{IsAdvanced}
 use Rattle.merge.proofs.SortedEntries.{sorted_never_falls}
 use Rattle.split.specs.Ranges.{KeyRange}
-use Rattle.keep.specs.Walked.{Walked}
+use Rattle.keep.specs.WalkedRange.{WalkedRange}
 use Rattle.keep.specs.InRange.{is_in_range, entries_in}
-use Rattle.keep.specs.Left.{is_before, is_passed, each_behind, EachLosesOnly, EachLosesFirst}
+use Rattle.keep.specs.CursorsLeft.{is_before, is_passed, each_past_range, EachLosesOnly, EachLosesFirst}
 use Rattle.keep.specs.Marks.{CompactionContext, grandparents_below}
 use Rattle.keep.specs.Runs.{Run, run_of, are_distinct, range_run}
 use Rattle.keep.specs.FirstEntry.{first_is}
@@ -63,7 +63,7 @@ head_is (e ∷ es) key value h k =
 
 -- Where a walk stands among the cursors: over the entries of the range that remain. What was taken off stood before the
 -- end of the range, and what remains doesn't stand before its beginning.
-pub record IsWalking (cmp : List ℕ → List ℕ → Ordering) (b : CompactionContext) (range : KeyRange) (start now : List (List Entry)) (w : Walked) : Type 0 where
+pub record IsWalking (cmp : List ℕ → List ℕ → Ordering) (b : CompactionContext) (range : KeyRange) (start now : List (List Entry)) (w : WalkedRange) : Type 0 where
   pub stands : Stands cmp b (entries_in cmp range (merged cmp start)) (entries_in cmp range (merged cmp now)) w
   pub left : EachLosesFirst (is_passed cmp range) start now
   pub above : AllByRecursion (λ e. is_before cmp range.lower false e ≡ false) (merged cmp now)
@@ -79,7 +79,7 @@ module _ (cmp : List ℕ → List ℕ → Ordering) (total : IsTotalOrder cmp) w
   begun_passed range olds mids news h k =
       each_first_more (is_passed cmp range) olds mids news (each_first_weaker (is_before cmp range.lower false) (is_passed cmp range) (below_passed cmp range) olds mids h) k
 
-  pub all_behind : (range : KeyRange) (olds news : List (List Entry)) → EachLosesFirst (is_passed cmp range) olds news → AllByRecursion (λ e. is_passed cmp range e ≡ false) (merged cmp news) → news ≡ each_behind cmp range olds
+  pub all_behind : (range : KeyRange) (olds news : List (List Entry)) → EachLosesFirst (is_passed cmp range) olds news → AllByRecursion (λ e. is_passed cmp range e ≡ false) (merged cmp news) → news ≡ each_past_range cmp range olds
   all_behind range olds news h none =
       each_others (is_passed cmp range) olds news (each_loses_only (is_passed cmp range) olds news h) (all_merged_back (λ e. is_passed cmp range e ≡ false) cmp news none)
 
@@ -101,17 +101,17 @@ module _ (cmp : List ℕ → List ℕ → Ordering) (total : IsTotalOrder cmp) w
       ap (entries_in cmp range) h
       ∙ one_in cmp total range e es (subst (AllByRecursion (λ f. is_before cmp range.lower false f ≡ false)) h above).0 (subst (λ (xs : List Entry). first_is (is_before cmp range.upper true) xs ≡ true) h first)
 
-  pub walking_at : (b : CompactionContext) (range : KeyRange) (start now : List (List Entry)) (w : Walked) (e : Entry) → IsWalking cmp b range start now w → first_is (is_before cmp range.upper true) (merged cmp now) ≡ true → merged cmp now ≡ e ∷ drop 1 (merged cmp now)
+  pub walking_at : (b : CompactionContext) (range : KeyRange) (start now : List (List Entry)) (w : WalkedRange) (e : Entry) → IsWalking cmp b range start now w → first_is (is_before cmp range.upper true) (merged cmp now) ≡ true → merged cmp now ≡ e ∷ drop 1 (merged cmp now)
       → Stands cmp b (entries_in cmp range (merged cmp start)) (e ∷ entries_in cmp range (drop 1 (merged cmp now))) w
   walking_at b range start now w e h first head =
       subst (λ (xs : List Entry). Stands cmp b (entries_in cmp range (merged cmp start)) xs w) (split_first range e (drop 1 (merged cmp now)) (merged cmp now) head h.above first) h.stands
 
-  pub walking_passed : (b : CompactionContext) (range : KeyRange) (start now : List (List Entry)) (w : Walked) (e : Entry) → IsWalking cmp b range start now w → first_is (is_before cmp range.upper true) (merged cmp now) ≡ true → merged cmp now ≡ e ∷ drop 1 (merged cmp now)
+  pub walking_passed : (b : CompactionContext) (range : KeyRange) (start now : List (List Entry)) (w : WalkedRange) (e : Entry) → IsWalking cmp b range start now w → first_is (is_before cmp range.upper true) (merged cmp now) ≡ true → merged cmp now ≡ e ∷ drop 1 (merged cmp now)
       → w.passed ≤ grandparents_below cmp b.grandparents e.key
   walking_passed b range start now w e h first head =
       stands_passed cmp b (entries_in cmp range (merged cmp start)) (entries_in cmp range (drop 1 (merged cmp now))) w e (walking_at b range start now w e h first head)
 
-  pub walking_next : (b : CompactionContext) (range : KeyRange) (start now next : List (List Entry)) (w : Walked) (e : Entry) → IsWalking cmp b range start now w → first_is (is_before cmp range.upper true) (merged cmp now) ≡ true → merged cmp now ≡ e ∷ drop 1 (merged cmp now)
+  pub walking_next : (b : CompactionContext) (range : KeyRange) (start now next : List (List Entry)) (w : WalkedRange) (e : Entry) → IsWalking cmp b range start now w → first_is (is_before cmp range.upper true) (merged cmp now) ≡ true → merged cmp now ≡ e ∷ drop 1 (merged cmp now)
       → is_repeated (newer_of w.last (user_of e.key)) e.key ≡ false → IsAdvanced cmp now next → merged cmp next ≡ drop 1 (merged cmp now) → IsWalking cmp b range start next (walk_after cmp b w e)
   walking_next b range start now next w e h first head fresh is rest =
       let here = walking_at b range start now w e h first head in
@@ -126,7 +126,7 @@ module _ (cmp : List ℕ → List ℕ → Ordering) (total : IsTotalOrder cmp) w
       passes [] h = h
       passes (f ∷ fs) h = before_passed cmp range f h
 
-  pub walking_repeats : (b : CompactionContext) (range : KeyRange) (start now : List (List Entry)) (w : Walked) (e : Entry) → IsWalking cmp b range start now w → first_is (is_before cmp range.upper true) (merged cmp now) ≡ true → merged cmp now ≡ e ∷ drop 1 (merged cmp now)
+  pub walking_repeats : (b : CompactionContext) (range : KeyRange) (start now : List (List Entry)) (w : WalkedRange) (e : Entry) → IsWalking cmp b range start now w → first_is (is_before cmp range.upper true) (merged cmp now) ≡ true → merged cmp now ≡ e ∷ drop 1 (merged cmp now)
       → is_repeated (newer_of w.last (user_of e.key)) e.key ≡ true → range_run cmp b start range ≡ Err (fault Duplicate)
   walking_repeats b range start now w e h first head again =
       ap (λ s. if s then Ok (run_of cmp b (entries_in cmp range (merged cmp start))) else Err (fault Duplicate))
@@ -136,11 +136,11 @@ module _ (cmp : List ℕ → List ℕ → Ordering) (total : IsTotalOrder cmp) w
   none_before : (range : KeyRange) (now : List (List Entry)) → first_is (is_before cmp range.upper true) (merged cmp now) ≡ false → AllByRecursion (λ e. is_before cmp range.upper true e ≡ false) (merged cmp now)
   none_before range now first = from_bound cmp total range.upper true (merged cmp now) (sorted_never_falls cmp total (entries_of_lists now)) first
 
-  pub walking_ends : (b : CompactionContext) (range : KeyRange) (start now : List (List Entry)) (w : Walked) → IsWalking cmp b range start now w → first_is (is_before cmp range.upper true) (merged cmp now) ≡ false → range_run cmp b start range ≡ Ok w.run
+  pub walking_ends : (b : CompactionContext) (range : KeyRange) (start now : List (List Entry)) (w : WalkedRange) → IsWalking cmp b range start now w → first_is (is_before cmp range.upper true) (merged cmp now) ≡ false → range_run cmp b start range ≡ Ok w.run
   walking_ends b range start now w h first =
       let all : List Entry = entries_in cmp range (merged cmp start) in
       let last : Stands cmp b all [] w = subst (λ (xs : List Entry). Stands cmp b all xs w) (none_in cmp total range (merged cmp now) h.above (none_before range now first)) h.stands in
       ap (λ s. if s then Ok (run_of cmp b all) else Err (fault Duplicate)) (stands_distinct cmp b all w last) ∙ ap (λ (r : Run). Ok r) (sym (stands_kept cmp b all w last))
 
-  pub walking_behind : (b : CompactionContext) (range : KeyRange) (start now : List (List Entry)) (w : Walked) → IsWalking cmp b range start now w → first_is (is_before cmp range.upper true) (merged cmp now) ≡ false → AllByRecursion (λ e. is_passed cmp range e ≡ false) (merged cmp now)
+  pub walking_behind : (b : CompactionContext) (range : KeyRange) (start now : List (List Entry)) (w : WalkedRange) → IsWalking cmp b range start now w → first_is (is_before cmp range.upper true) (merged cmp now) ≡ false → AllByRecursion (λ e. is_passed cmp range e ≡ false) (merged cmp now)
   walking_behind b range start now w h first = none_passed cmp total range (merged cmp now) h.above (none_before range now first)

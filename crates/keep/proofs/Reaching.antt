@@ -16,17 +16,17 @@ use Rattle.ikey.specs.Key.{user_of}
 use Rattle.block.specs.EncodedEntry.{Entry}
 use Rattle.block.specs.BuilderView.{last_key}
 use Rattle.table.specs.TableContents.{Contents, DataBlock, blocks_of, contents_of, contents_reading, data_reading, entries_of, index_in}
-use Rattle.table.specs.ReadingCursors.{NeverFalls}
-use Rattle.table.specs.ReadingEntries.{first_key}
-use Rattle.table.specs.ReadingIndex.{IndexEntry, index_reading}
+use Rattle.table.specs.EntriesFrom.{NeverFalls}
+use Rattle.table.specs.EntryTests.{first_key}
+use Rattle.table.specs.IndexReading.{IndexEntry, index_reading}
 use Rattle.table.proofs.CheckedTables.{blocks_by, last_is, read_data}
 use Rattle.table.proofs.EntryTests.{all_tests, rising}
 use Rattle.table.proofs.Orders.{rising_never_falls}
-use Rattle.merge.specs.Merged.{entries_of_lists, sorted_entries}
+use Rattle.merge.specs.MergedLists.{entries_of_lists, sorted_entries}
 use Rattle.merge.proofs.SortedEntries.{filter-sorted}
 use Rattle.split.specs.Ranges.{KeyRange}
 use Rattle.keep.specs.InRange.{is_in_range, entries_in}
-use Rattle.keep.specs.Left.{is_before, LosesOnly}
+use Rattle.keep.specs.CursorsLeft.{is_before, LosesOnly}
 use Rattle.keep.specs.Marks.{CompactionContext}
 use Rattle.keep.specs.Runs.{run_of, are_distinct, range_run}
 use Rattle.keep.proofs.Bounds.{below_apart, from_bound}

@@ -11,7 +11,7 @@ use Rattle.ikey.specs.Key.{tag_of, sequence_of}
 use Rattle.block.specs.EncodedEntry.{Entry, EncodedEntry, encoded_entry_bytes, key_after, entries_after, restarts_of, restart_bytes, IsBlock}
 use Rattle.frame.specs.Trailer.{stored_block, trailer_bytes}
 use Rattle.table.specs.TableContents.{DataBlock, entries_of, table_reading}
-use Rattle.table.specs.ReadingTables.{IsNamed, AreNamed}
+use Rattle.table.specs.TableBytes.{IsNamed, AreNamed}
 use Rattle.table.proofs.Tables.{reads_tables}
 
 abbrev IsByte : ℕ → Type 0

@@ -49,12 +49,12 @@ abbrev pub keeps : KeyOrder → Readable → List FileMeta → Option Entry → 
 keeps cmp r deeper before e = not (is_hidden r before e) && not (is_obsolete cmp r deeper e)
 
 -- the kept ones of entries, with `before` as the entry previous to the first
-abbrev pub kept_behind : KeyOrder → Readable → List FileMeta → Option Entry → List Entry →
+abbrev pub kept_after : KeyOrder → Readable → List FileMeta → Option Entry → List Entry →
     List Entry
-kept_behind cmp r deeper before [] = []
-kept_behind cmp r deeper before (e ∷ es) =
-    (if keeps cmp r deeper before e then e ∷ [] else []) ++ kept_behind cmp r deeper (Some e) es
+kept_after cmp r deeper before [] = []
+kept_after cmp r deeper before (e ∷ es) =
+    (if keeps cmp r deeper before e then e ∷ [] else []) ++ kept_after cmp r deeper (Some e) es
 
 -- the entries of the union that a compaction keeps
 abbrev pub kept : KeyOrder → Readable → List FileMeta → List Entry → List Entry
-kept cmp r deeper union = kept_behind cmp r deeper None union
+kept cmp r deeper union = kept_after cmp r deeper None union

@@ -12,9 +12,9 @@ all_kept (p ∷ ps) last = p ++ all_kept ps last
 
 -- the chunks have 4,096 entries each, the last one at most as many, and `number` is how many
 -- entries all have; each key is an internal key
-pub record AreInChunks (pieces : List (List Entry)) (behind : List Entry) (number : ℕ) : Type 0
+pub record AreInChunks (chunks : List (List Entry)) (behind : List Entry) (number : ℕ) : Type 0
   where
-    pub full : AllByRecursion (λ p. length p ≡ CHUNK_LEN) pieces
+    pub full : AllByRecursion (λ p. length p ≡ CHUNK_LEN) chunks
     pub last : length behind ≤ CHUNK_LEN
-    pub count : number ≡ length (all_kept pieces behind)
-    pub internal : AllByRecursion (λ e. IsInternalKey e.key) (all_kept pieces behind)
+    pub count : number ≡ length (all_kept chunks behind)
+    pub internal : AllByRecursion (λ e. IsInternalKey e.key) (all_kept chunks behind)

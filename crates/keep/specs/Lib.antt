@@ -2,11 +2,11 @@
 pub mod Readable
 pub mod DropRule
 pub mod InRange
-pub mod Rising
+pub mod RisesBy
 pub mod Marks
 pub mod Runs
-pub mod Left
-pub mod Begun
+pub mod CursorsLeft
+pub mod RangeStart
 pub mod OneKey
 pub mod FirstEntry
 pub mod SharedLengths
@@ -14,5 +14,5 @@ pub mod SharedLengths
 pub mod Versions
 pub mod KeyBuffer
 pub mod EntryChunks
-pub mod Walked
+pub mod WalkedRange
 pub mod RangeWalk

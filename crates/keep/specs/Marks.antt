@@ -6,11 +6,11 @@ use Rattle.ikey.specs.Order.{internal_cmp}
 use Rattle.ikey.specs.Comparator.{KeyOrder}
 use Rattle.block.specs.EncodedEntry.{Entry}
 use Rattle.edit.specs.declared.meta.FileMeta.{FileMeta}
-use Rattle.pick.specs.declared.picked.Inputs.{Inputs}
+use Rattle.pick.specs.declared.picked_inputs.Inputs.{Inputs}
 use Rattle.keep.specs.declared.mark.Mark.{Mark}
 use Rattle.keep.specs.Readable.{Readable}
 use Rattle.keep.specs.DropRule.{is_same_user, keeps}
-use Rattle.keep.specs.Rising.{rises_by}
+use Rattle.keep.specs.RisesBy.{rises_by}
 
 -- how many grandparents lie below an internal key: their largest keys are below it
 abbrev pub grandparents_below : KeyOrder → List FileMeta → List ℕ → ℕ
@@ -48,28 +48,28 @@ is_first (Some before) e = not (is_same_user before e)
 
 -- A mark at the first entry of each user key, kept or dropped, with `before` as the entry previous
 -- to the first, and n kept entries before it.
-abbrev pub heads_behind : KeyOrder → CompactionContext → Option Entry → ℕ → List Entry → List Mark
-heads_behind cmp b before n [] = []
-heads_behind cmp b before n (e ∷ es) =
+abbrev pub heads_after : KeyOrder → CompactionContext → Option Entry → ℕ → List Entry → List Mark
+heads_after cmp b before n [] = []
+heads_after cmp b before n (e ∷ es) =
     let mark : Mark = record { below = grandparents_below cmp b.grandparents e.key; kept = n } in
     (if is_first before e then mark ∷ [] else [])
-    ++ heads_behind cmp b (Some e) (if keeps cmp b.readable b.deeper before e then n + 1 else n) es
+    ++ heads_after cmp b (Some e) (if keeps cmp b.readable b.deeper before e then n + 1 else n) es
 
 -- a mark at the first entry of each user key, kept or dropped
 abbrev pub heads : KeyOrder → CompactionContext → List Entry → List Mark
-heads cmp b entries = heads_behind cmp b None 0 entries
+heads cmp b entries = heads_after cmp b None 0 entries
 
 -- the marks that differ in their number from the mark before, the first being after one with
 -- `below`
-abbrev pub changes_behind : ℕ → List Mark → List Mark
-changes_behind below [] = []
-changes_behind below (m ∷ ms) = if nat_eq m.below below then changes_behind below ms else m ∷
-    changes_behind m.below ms
+abbrev pub changes_after : ℕ → List Mark → List Mark
+changes_after below [] = []
+changes_after below (m ∷ ms) = if nat_eq m.below below then changes_after below ms else m ∷
+    changes_after m.below ms
 
 -- the first mark, and each whose number of grandparents differs from that of the mark before
 abbrev pub changes : List Mark → List Mark
 changes [] = []
-changes (m ∷ ms) = m ∷ changes_behind m.below ms
+changes (m ∷ ms) = m ∷ changes_after m.below ms
 
 -- The marks of entries. One is at the first of all. The others are at the first entry of each user
 -- key at which the number of grandparents below differs from that of the user key before.

@@ -7,7 +7,7 @@ use Rattle.ikey.specs.Key.{user_of, sequence_of}
 use Rattle.ikey.specs.Comparator.{KeyOrder}
 use Rattle.block.specs.EncodedEntry.{Entry}
 use Rattle.keep.specs.declared.mark.Mark.{Mark}
-use Rattle.keep.specs.Walked.{Walked}
+use Rattle.keep.specs.WalkedRange.{WalkedRange}
 use Rattle.keep.specs.Versions.{EntryVersion, version_of, newer_of}
 use Rattle.keep.specs.Readable.{Readable}
 use Rattle.keep.specs.DropRule.{is_obsolete}
@@ -31,8 +31,8 @@ is_hidden_by r (Some newer) key = nat_le newer r.floor
 
 -- whether an entry is kept; `newer` is the sequence of the previous entry if it has the same user
 -- key
-abbrev pub keeps_behind : KeyOrder → CompactionContext → Option ℕ → Entry → Bool
-keeps_behind cmp b newer e = not (is_hidden_by b.readable newer e.key)
+abbrev pub keeps_after : KeyOrder → CompactionContext → Option ℕ → Entry → Bool
+keeps_after cmp b newer e = not (is_hidden_by b.readable newer e.key)
     && not (is_obsolete cmp b.readable b.deeper e)
 
 -- Whether the first entry of a user key sets a mark. It does if it is the first of the range, or
@@ -46,7 +46,7 @@ new_marks last passed below kept =
     if sets_mark last passed below then record { below = below; kept = kept } ∷ [] else []
 
 -- the walk after the marks of the first entry of a user key
-abbrev pub walk_after_first : KeyOrder → CompactionContext → Walked → List ℕ → Walked
+abbrev pub walk_after_first : KeyOrder → CompactionContext → WalkedRange → List ℕ → WalkedRange
 walk_after_first cmp b w key = record {
   run = record {
     kept = w.run.kept;
@@ -59,12 +59,13 @@ walk_after_first cmp b w key = record {
 }
 
 -- the walk after an entry's marks: only the first entry of a user key may set one
-abbrev pub walk_after_head : KeyOrder → CompactionContext → Option ℕ → Walked → List ℕ → Walked
+abbrev pub walk_after_head : KeyOrder → CompactionContext → Option ℕ → WalkedRange → List ℕ →
+    WalkedRange
 walk_after_head cmp b None w key = walk_after_first cmp b w key
 walk_after_head cmp b (Some newer) w key = w
 
 -- the walk after an entry was kept or dropped
-abbrev pub walk_after_entry : Bool → Walked → Entry → Walked
+abbrev pub walk_after_entry : Bool → WalkedRange → Entry → WalkedRange
 walk_after_entry keeps w e = record {
   run = record {
     kept = w.run.kept ++ (if keeps then e ∷ [] else []);
@@ -75,7 +76,7 @@ walk_after_entry keeps w e = record {
 }
 
 -- the walk after an entry
-abbrev pub walk_after : KeyOrder → CompactionContext → Walked → Entry → Walked
+abbrev pub walk_after : KeyOrder → CompactionContext → WalkedRange → Entry → WalkedRange
 walk_after cmp b w e =
-    walk_after_entry (keeps_behind cmp b (newer_of w.last (user_of e.key)) e)
+    walk_after_entry (keeps_after cmp b (newer_of w.last (user_of e.key)) e)
     (walk_after_head cmp b (newer_of w.last (user_of e.key)) w e.key) e

@@ -3,7 +3,7 @@
 ghost use Rattle.std.specs.Prelude.{◌≡◌, ◌↔◌, nat_lt, IsTrue};
 ghost use Rattle.std.specs.List.Sorted.{IsStrictlyIncreasing};
 ghost use Rattle.keep.specs.Marks.{largest_rise};
-ghost use Rattle.keep.specs.Rising.{rises_by};
+ghost use Rattle.keep.specs.RisesBy.{rises_by};
 
 use edit::FileMeta;
 use ikey::Comparator;

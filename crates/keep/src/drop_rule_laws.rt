@@ -1,6 +1,6 @@
 //! Laws of the drop rule and of ranges, over the definitions alone.
 
-ghost use Rattle.keep.specs.Begun.{BegunLaw};
+ghost use Rattle.keep.specs.RangeStart.{RangeStartLaw};
 ghost use Rattle.keep.specs.InRange.{HoldsLaw};
 ghost use Rattle.keep.specs.OneKey.{OneKeyLaw};
 ghost use Rattle.keep.specs.Runs.{DistinctLaw, KeptInRangeLaw, RangesCompose};
@@ -51,6 +51,6 @@ pub fn holds_law<C: Comparator>()
 {}
 
 /// The law that entries before a range take no part in it. A call does nothing.
-pub fn begun_law<C: Comparator>()
-    ensures { BegunLaw C.cmp }
+pub fn range_start_law<C: Comparator>()
+    ensures { RangeStartLaw C.cmp }
 {}

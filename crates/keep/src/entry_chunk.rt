@@ -11,8 +11,8 @@ ghost use Rattle.block.specs.BuilderView.{last_key};
 ghost use Rattle.coding.specs.Answers.{EqualOrMemory, fault};
 ghost use Rattle.coding.specs.declared.fault.FaultName.TheVariants.{Memory};
 
+use crate::chunk_slice::ChunkSlice;
 use crate::kept_entry::KeptEntry;
-use crate::kept_piece::KeptPiece;
 use coding::Fault;
 use ikey::InternalKey;
 use std::alloc::Global;
@@ -54,7 +54,7 @@ impl<'a> EntryChunk<'a> {
     /// An empty chunk with room for as many entries as this one has, and for as many bytes of keys.
     /// The only fault is Memory.
     pub fn emptied(&self, alloc: Global) -> Result<EntryChunk<'a>, Fault>
-        ensures { EqualOrMemory (λ piece. piece) result (Ok []) }
+        ensures { EqualOrMemory (λ entries. entries) result (Ok []) }
     {
         Ok(EntryChunk {
             keys: Vec::with_capacity(alloc, self.keys.len())?,
@@ -100,10 +100,10 @@ impl<'a> EntryChunk<'a> {
 
     /// The entries from `place` on. Takes no memory.
     #[inline(always)]
-    pub fn piece(&self, place: usize) -> KeptPiece<'_, 'a>
+    pub fn slice_from(&self, place: usize) -> ChunkSlice<'_, 'a>
         requires { place < length self.now }
         ensures { result ≡ drop place self.now }
     {
-        KeptPiece::of(&self.keys, &self.kept, place)
+        ChunkSlice::of(&self.keys, &self.kept, place)
     }
 }

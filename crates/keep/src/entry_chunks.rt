@@ -9,8 +9,8 @@ ghost use Rattle.coding.specs.declared.fault.FaultName.TheVariants.{Memory};
 ghost use Rattle.ikey.specs.Key.{IsInternalKey};
 ghost use Rattle.keep.specs.EntryChunks.{all_kept};
 
+use crate::chunk_slice::ChunkSlice;
 use crate::entry_chunk::EntryChunk;
-use crate::kept_piece::KeptPiece;
 use coding::Fault;
 use ikey::InternalKey;
 use std::alloc::Global;
@@ -135,12 +135,12 @@ impl<'a> EntryChunks<'a> {
 
     /// The entries from `place` on that lie in one chunk, at least one. Takes no memory.
     #[inline(always)]
-    pub fn piece(&self, place: usize) -> KeptPiece<'_, 'a>
+    pub fn slice_from(&self, place: usize) -> ChunkSlice<'_, 'a>
         requires { place < length self.now }
         ensures some { 0 < length result }
         ensures front { take (length result) (drop place self.now) ≡ result }
     {
         let chunk = chunk_of(&self.full, &self.last, place / CHUNK_LEN);
-        chunk.piece(place % CHUNK_LEN)
+        chunk.slice_from(place % CHUNK_LEN)
     }
 }

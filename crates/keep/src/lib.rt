@@ -15,13 +15,13 @@
 //! much memory a run takes.
 #![tactic(auto)]
 
+mod chunk_slice;
 mod conditions;
 mod drop_rule_laws;
 mod entry_chunk;
 mod entry_chunks;
 mod grandparents;
 mod kept_entry;
-mod kept_piece;
 mod last_version;
 mod mark;
 mod range_cursors;
@@ -33,11 +33,11 @@ mod snapshots;
 mod walk;
 mod walk_steps;
 
+pub use chunk_slice::ChunkSlice;
 pub use conditions::{is_rising, largest_rise};
 pub use drop_rule_laws::{
-    begun_law, distinct_law, holds_law, kept_in_range, one_key, ranges_compose,
+    distinct_law, holds_law, kept_in_range, one_key, range_start_law, ranges_compose,
 };
-pub use kept_piece::KeptPiece;
 pub use mark::Mark;
 pub use range_cursors::{add_cursor, cursor_from, cursors_from};
 pub use range_merge::{merge_range, starts_before};

@@ -5,7 +5,7 @@ ghost use Rattle.std.specs.Prelude.{IfOk, IfErr, OnOk, OnErr, IsOkUnless};
 ghost use Rattle.coding.specs.Answers.{fault};
 ghost use Rattle.coding.specs.declared.fault.FaultName.TheVariants.{Memory};
 ghost use Rattle.table.specs.TableContents.{table_reading};
-ghost use Rattle.merge.specs.Merged.{entries_of_lists};
+ghost use Rattle.merge.specs.MergedLists.{entries_of_lists};
 ghost use Rattle.split.specs.Ranges.{key_range};
 ghost use Rattle.keep.specs.InRange.{entries_in};
 

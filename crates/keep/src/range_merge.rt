@@ -6,9 +6,9 @@ ghost use Rattle.std.specs.List.Sorted.{IsStrictlyIncreasing};
 ghost use Rattle.std.specs.Option.{option_map};
 ghost use Rattle.coding.specs.Answers.{EqualOrMemory, fault};
 ghost use Rattle.coding.specs.declared.fault.FaultName.TheVariants.{Memory};
-ghost use Rattle.merge.specs.Merged.{merged};
+ghost use Rattle.merge.specs.MergedLists.{merged};
 ghost use Rattle.split.specs.Ranges.{key_range};
-ghost use Rattle.keep.specs.Left.{is_before, is_passed, each_behind, EachLosesFirst};
+ghost use Rattle.keep.specs.CursorsLeft.{is_before, is_passed, each_past_range, EachLosesFirst};
 ghost use Rattle.keep.specs.Marks.{context_of, LargestRise};
 ghost use Rattle.keep.specs.Runs.{range_run};
 ghost use Rattle.keep.specs.FirstEntry.{first_is};
@@ -58,7 +58,7 @@ pub fn merge_range<'a, C: Comparator, S: Cursor<'a, C> + Drop>(
         (map S.remaining cursors.old.items) (key_range range.entry)) }
     ensures behind { OnOk result
         (map S.remaining cursors.new.items
-        ≡ each_behind C.cmp (key_range range.entry) (map S.remaining cursors.old.items)) }
+        ≡ each_past_range C.cmp (key_range range.entry) (map S.remaining cursors.old.items)) }
     ensures left { OnErr result (EachLosesFirst (is_passed C.cmp (key_range range.entry))
         (map S.remaining cursors.old.items) (map S.remaining cursors.new.items)) }
 {
@@ -84,7 +84,7 @@ fn merge_lent<'a, C: Comparator, S: Cursor<'a, C> + Drop>(
     ensures run { EqualOrMemory (λ run. run) result
         (range_run C.cmp rule.now merging.old (key_range range.entry)) }
     ensures behind { OnOk result (merging.new
-        ≡ each_behind C.cmp (key_range range.entry) merging.old) }
+        ≡ each_past_range C.cmp (key_range range.entry) merging.old) }
     ensures left { OnErr result
         (EachLosesFirst (is_passed C.cmp (key_range range.entry)) merging.old merging.new) }
 {

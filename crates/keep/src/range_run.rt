@@ -11,8 +11,8 @@ ghost use Rattle.ikey.specs.Key.{IsInternalKey};
 ghost use Rattle.ikey.specs.declared.key.TheConstants.{TAG_LEN};
 ghost use Rattle.keep.specs.Runs.{Run};
 
+use crate::chunk_slice::ChunkSlice;
 use crate::entry_chunks::EntryChunks;
-use crate::kept_piece::KeptPiece;
 use crate::mark::Mark;
 use coding::Fault;
 use ikey::InternalKey;
@@ -78,7 +78,7 @@ impl<'a> RangeRun<'a> {
         if len == 0 {
             return &[];
         }
-        self.kept.piece(len - 1).key(0).bytes()
+        self.kept.slice_from(len - 1).key(0).bytes()
     }
 
     /// Appends a mark, with `below` grandparents, before the next kept entry. The only fault is
@@ -109,7 +109,7 @@ impl<'a> RangeRun<'a> {
         requires { place < length self.now.kept }
         ensures { option_map (λ e. e.key) (slice_get self.now.kept place) ≡ Some result.bytes.now }
     {
-        self.kept.piece(place).key(0)
+        self.kept.slice_from(place).key(0)
     }
 
     /// The value of the kept entry at `place`, a slice of an input's bytes. Takes no memory.
@@ -117,17 +117,17 @@ impl<'a> RangeRun<'a> {
         requires { place < length self.now.kept }
         ensures { option_map (λ e. e.value) (slice_get self.now.kept place) ≡ Some result.now }
     {
-        self.kept.piece(place).value(0)
+        self.kept.slice_from(place).value(0)
     }
 
     /// The kept entries from `place` on that lie in one chunk, at least one. Takes no memory.
     #[inline(always)]
-    pub fn piece(&self, place: usize) -> KeptPiece<'_, 'a>
+    pub fn slice_from(&self, place: usize) -> ChunkSlice<'_, 'a>
         requires { place < length self.now.kept }
         ensures some { 0 < length result }
         ensures front { take (length result) (drop place self.now.kept) ≡ result }
     {
-        self.kept.piece(place)
+        self.kept.slice_from(place)
     }
 
     /// The marks, in order. Takes no memory.

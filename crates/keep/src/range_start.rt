@@ -7,7 +7,7 @@ ghost use Rattle.coding.specs.Answers.{fault};
 ghost use Rattle.coding.specs.declared.fault.FaultName.TheVariants.{Memory};
 ghost use Rattle.ikey.specs.Key.{sequence_of};
 ghost use Rattle.split.specs.Ranges.{key_range};
-ghost use Rattle.keep.specs.Left.{is_before, LosesOnly};
+ghost use Rattle.keep.specs.CursorsLeft.{is_before, LosesOnly};
 ghost use Rattle.keep.specs.FirstEntry.{first_is};
 
 use crate::range_merge::starts_before;
@@ -21,7 +21,8 @@ use table::Cursor;
 ///
 /// It seeks the first internal key that the lower bound may have as a user key. If all sequences
 /// are below 2^56, only entries before the range are taken off, also by a refused call. A merge of
-/// the range then answers what it would have answered (`begun_law`). The only fault is Memory.
+/// the range then answers what it would have answered (`range_start_law`). The only fault is
+/// Memory.
 pub fn seek_range<'a, C: Comparator, S: Cursor<'a, C>>(
     alloc: Global,
     cursor: &mut S,

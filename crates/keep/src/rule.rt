@@ -20,7 +20,7 @@ ghost use Rattle.std.specs.Prelude.{◌≡◌, nat_le, []};
 ghost use Rattle.std.specs.List.{list_all};
 ghost use Rattle.std.specs.List.Sorted.{IsStrictlyIncreasing};
 ghost use Rattle.keep.specs.DropRule.{is_obsolete};
-ghost use Rattle.keep.specs.RangeWalk.{is_needed, is_hidden_by, keeps_behind};
+ghost use Rattle.keep.specs.RangeWalk.{is_needed, is_hidden_by, keeps_after};
 
 use ikey::{Comparator, InternalKey, Kind};
 use pick::{Inputs, is_base};
@@ -101,7 +101,7 @@ impl<'r> Rule<'r> {
     /// same user key.
     pub fn keeps<C: Comparator>(&self, newer: Option<u64>, key: &InternalKey<'_>) -> bool
         ensures { result
-            ≡ keeps_behind C.cmp self.now newer (record { key = key.now.bytes.now; value = [] }) }
+            ≡ keeps_after C.cmp self.now newer (record { key = key.now.bytes.now; value = [] }) }
     {
         !self.is_hidden(newer, key) && !self.is_obsolete::<C>(key)
     }

@@ -17,9 +17,9 @@ impl<'a> Model for Walk<'a> {
     ghost use Rattle.std.specs.Prelude.{[]};
     ghost use Rattle.block.specs.BuilderView.{last_key};
     ghost use Rattle.keep.specs.Versions.{last_version};
-    ghost use Rattle.keep.specs.Walked.{Walked, IsKeptLast};
+    ghost use Rattle.keep.specs.WalkedRange.{WalkedRange, IsKeptLast};
 
-    ghost Value = { Walked };
+    ghost Value = { WalkedRange };
 
     ghost view = { λ w. record {
       run = w.run;

@@ -14,7 +14,7 @@ use Rattle.coding.specs.declared.fault.FaultName.TheVariants.{LogShape}
 use Rattle.coding.proofs.Binds.{bind_ok, ok_is}
 use Rattle.coding.proofs.Bytes.{IsBytes, IsBytes-drop}
 use Rattle.logrec.specs.Log.{block_left, zeros_due, room_at, fragments, written_record, written_records, log, AppendLaw, OneListLaw}
-use Rattle.logrec.specs.LogReader.{left_at, behind_zeros, record_at, records_in, records_of, lists}
+use Rattle.logrec.specs.LogReader.{left_at, after_zeros, record_at, records_in, records_of, lists}
 use Rattle.logrec.proofs.Bytes.{guard_ended}
 use Rattle.logrec.proofs.Lefts.{left_takes, left_shorter, left_again, fragments_long}
 
@@ -31,8 +31,8 @@ room_of_left false left le = omega arith
 pub room_fits : (offset : ℕ) → room_at offset ≤ 32761
 room_fits offset = room_of_left (ltb (block_left offset) 7) (block_left offset) (omega arith)
 
-behind_takes : (offset : ℕ) (bytes body : List ℕ) → behind_zeros offset bytes ≡ Ok body → (bytes ≡ zeros_due offset ++ body) × (drop (length (zeros_due offset)) bytes ≡ body)
-unfolding behind_zeros
+behind_takes : (offset : ℕ) (bytes body : List ℕ) → after_zeros offset bytes ≡ Ok body → (bytes ≡ zeros_due offset ++ body) × (drop (length (zeros_due offset)) bytes ≡ body)
+unfolding after_zeros
 behind_takes offset bytes body e =
     let g = guard_ended (starts_with eqb bytes (zeros_due offset)) (fault LogShape) (drop (length (zeros_due offset)) bytes) body e in
     (starts_parts bytes (zeros_due offset) g.0 ∙ ap (λ (t : List ℕ). zeros_due offset ++ t) g.1, g.1)
@@ -41,8 +41,8 @@ begun : (b : Bool) (d : Fault) (x y : List ℕ) → b ≡ true → x ≡ y → c
 begun true d x y h e = ap (λ (t : List ℕ). Ok t) e
 begun false d x y h e = absurd cc
 
-behind_again : (offset : ℕ) (body : List ℕ) → behind_zeros offset (zeros_due offset ++ body) ≡ Ok body
-unfolding behind_zeros
+behind_again : (offset : ℕ) (body : List ℕ) → after_zeros offset (zeros_due offset ++ body) ≡ Ok body
+unfolding after_zeros
 behind_again offset body =
     begun (starts_with eqb (zeros_due offset ++ body) (zeros_due offset)) (fault LogShape) (drop (length (zeros_due offset)) (zeros_due offset ++ body)) body
     (parts_start (zeros_due offset ++ body) (zeros_due offset) body refl) (drop_at (zeros_due offset) body (length (zeros_due offset)) refl)
@@ -55,7 +55,7 @@ first_left offset body = left_at (length body) true (room_at offset) body
 record_takes : (offset : ℕ) (bytes : List ℕ) (x : List ℕ × List ℕ) → IsBytes bytes → record_at offset bytes ≡ Ok x → (bytes ≡ written_record offset x.0 ++ x.1) × IsBytes x.1
 unfolding record_at written_record
 record_takes offset bytes x fits e =
-    let a = bind_ok (behind_zeros offset bytes) (first_left offset) x e in
+    let a = bind_ok (after_zeros offset bytes) (first_left offset) x e in
     let z = behind_takes offset bytes a.0 a.1 in
     let body_fits : IsBytes a.0 = subst IsBytes z.1 (IsBytes-drop (length (zeros_due offset)) bytes fits) in
     let t = left_takes (length a.0) true (room_at offset) a.0 x body_fits a.2 (length x.0) (omega arith) in
@@ -64,7 +64,7 @@ record_takes offset bytes x fits e =
 pub record_shorter : (offset : ℕ) (bytes : List ℕ) (x : List ℕ × List ℕ) → record_at offset bytes ≡ Ok x → length x.1 < length bytes
 unfolding record_at
 record_shorter offset bytes x e =
-    let a = bind_ok (behind_zeros offset bytes) (first_left offset) x e in
+    let a = bind_ok (after_zeros offset bytes) (first_left offset) x e in
     let z = behind_takes offset bytes a.0 a.1 in
     omega (arith, left_shorter (length a.0) true (room_at offset) a.0 x a.2, ap length z.0, length-append (zeros_due offset) a.0)
 
@@ -72,7 +72,7 @@ record_again : (offset : ℕ) (r rest : List ℕ) → record_at offset (written_
 unfolding record_at written_record
 record_again offset r rest =
     let body = fragments (length r) true (room_at offset) r ++ rest in
-    ap (λ (b : List ℕ). behind_zeros offset b >>= first_left offset) (append_assoc (zeros_due offset) (fragments (length r) true (room_at offset) r) rest)
+    ap (λ (b : List ℕ). after_zeros offset b >>= first_left offset) (append_assoc (zeros_due offset) (fragments (length r) true (room_at offset) r) rest)
     ∙ ap (λ (b : Result (List ℕ) Fault). b >>= first_left offset) (behind_again offset body)
     ∙ left_again (length body) (length r) true (room_at offset) r rest (inl refl) (omega arith) (room_fits offset) (omega arith)
 
@@ -172,13 +172,13 @@ unbegun : (b : Bool) (d : Fault) (x : List ℕ) → b ≡ false → cond b (Ok x
 unbegun true d x h = absurd cc
 unbegun false d x h = refl
 
-pub behind_refused : (offset k : ℕ) (bytes zeros : List ℕ) (b : Bool) → zeros ≡ take k (zeros_of 6) → k ≡ length (zeros_due offset) → b ≡ starts_with eqb bytes zeros → b ≡ false → behind_zeros offset bytes ≡ Err (fault LogShape)
-unfolding behind_zeros
+pub behind_refused : (offset k : ℕ) (bytes zeros : List ℕ) (b : Bool) → zeros ≡ take k (zeros_of 6) → k ≡ length (zeros_due offset) → b ≡ starts_with eqb bytes zeros → b ≡ false → after_zeros offset bytes ≡ Err (fault LogShape)
+unfolding after_zeros
 behind_refused offset k bytes zeros b z len is h =
     unbegun (starts_with eqb bytes (zeros_due offset)) (fault LogShape) (drop (length (zeros_due offset)) bytes) (ap (starts_with eqb bytes) (sym (z ∙ zeros_taken offset k len)) ∙ sym is ∙ h)
 
-pub behind_found : (offset k : ℕ) (bytes zeros : List ℕ) (b : Bool) → zeros ≡ take k (zeros_of 6) → k ≡ length (zeros_due offset) → b ≡ starts_with eqb bytes zeros → b ≡ true → behind_zeros offset bytes ≡ Ok (take (length bytes - k) (drop k bytes))
-unfolding behind_zeros
+pub behind_found : (offset k : ℕ) (bytes zeros : List ℕ) (b : Bool) → zeros ≡ take k (zeros_of 6) → k ≡ length (zeros_due offset) → b ≡ starts_with eqb bytes zeros → b ≡ true → after_zeros offset bytes ≡ Ok (take (length bytes - k) (drop k bytes))
+unfolding after_zeros
 behind_found offset k bytes zeros b z len is h =
     begun (starts_with eqb bytes (zeros_due offset)) (fault LogShape) (drop (length (zeros_due offset)) bytes) (take (length bytes - k) (drop k bytes))
     (ap (starts_with eqb bytes) (sym (z ∙ zeros_taken offset k len)) ∙ sym is ∙ h)

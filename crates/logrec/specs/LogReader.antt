@@ -55,15 +55,15 @@ left_at (suc n) begins room bytes = do
       λ others. Ok (first.content ++ others.0, others.1))
 
 -- the bytes after the zeros that are due
-unfoldable pub behind_zeros : ℕ → List ℕ → Result (List ℕ) Fault
-behind_zeros offset bytes =
+unfoldable pub after_zeros : ℕ → List ℕ → Result (List ℕ) Fault
+after_zeros offset bytes =
     if starts_with nat_eq bytes (zeros_due offset) then Ok (drop (length (zeros_due offset)) bytes)
     else Err (fault LogShape)
 
 -- the record at an offset, and the bytes after it
 unfoldable pub record_at : ℕ → List ℕ → Result (List ℕ × List ℕ) Fault
 record_at offset bytes = do
-  body ← behind_zeros offset bytes
+  body ← after_zeros offset bytes
   left_at (length body) true (room_at offset) body
 
 -- at most n records from an offset on, up to the end of the bytes

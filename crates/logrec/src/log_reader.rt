@@ -4,7 +4,7 @@ ghost use Rattle.std.specs.Prelude.{◌≡◌, ◌≤◌, true, List, ℕ, lengt
 ghost use Rattle.coding.specs.Answers.{EqualOrMemory};
 ghost use Rattle.logrec.specs.Log.{log};
 ghost use Rattle.logrec.specs.CodeFragment.{fragment_view};
-ghost use Rattle.logrec.specs.LogReader.{fragment_reading, ends_record, left_at, behind_zeros};
+ghost use Rattle.logrec.specs.LogReader.{fragment_reading, ends_record, left_at, after_zeros};
 ghost use Rattle.logrec.specs.LogReader.{record_at, records_of, lists};
 
 use crate::format::{HEADER_LEN, MAX_CONTENT_LEN, ZEROS, checksum, room_at, type_of, zeros_len};
@@ -63,14 +63,14 @@ fn all(alloc: Global, bytes: &[u8]) -> Result<Vec<Vec<u8>>, Fault>
 fn record_at(alloc: Global, offset: usize, bytes: &[u8]) -> Result<(Vec<u8>, &[u8]), Fault>
     ensures { EqualOrMemory (λ x. (x.0.items, x.1.now)) result (record_at offset bytes.now) }
 {
-    let body = behind_zeros(offset, bytes)?;
+    let body = after_zeros(offset, bytes)?;
     left_at(alloc, room_at(offset), body)
 }
 
 /// The bytes after the zeros that are due at `offset`.
-#[tactic(auto, unfolding(crate::specs::LogReader::behind_zeros))]
-fn behind_zeros(offset: usize, bytes: &[u8]) -> Result<&[u8], Fault>
-    ensures { EqualOrMemory (λ x. x.now) result (behind_zeros offset bytes.now) }
+#[tactic(auto, unfolding(crate::specs::LogReader::after_zeros))]
+fn after_zeros(offset: usize, bytes: &[u8]) -> Result<&[u8], Fault>
+    ensures { EqualOrMemory (λ x. x.now) result (after_zeros offset bytes.now) }
 {
     let zeros = zeros_len(offset);
     if !bytes.starts_with(&ZEROS[..zeros]) {

@@ -11,11 +11,11 @@ use Rattle.coding.proofs.Binds.{bind_ok, ok_is}
 use Rattle.block.specs.EncodedEntry.{Entry}
 use Rattle.block.specs.BuilderView.{last_key}
 use Rattle.ikey.specs.Order.{internal_cmp}
-use Rattle.table.specs.Checked.{contents_in}
+use Rattle.table.specs.CheckedContents.{contents_in}
 use Rattle.table.specs.IndexWalk.{Indexes, NamesBlock, all_named, block_named, entries_named}
-use Rattle.table.specs.ReadingCursors.{EntriesRise, entries_from}
-use Rattle.table.specs.ReadingEntries.{HaveKeys, first_key}
-use Rattle.table.specs.ReadingIndex.{index_reading}
+use Rattle.table.specs.EntriesFrom.{EntriesRise, entries_from}
+use Rattle.table.specs.EntryTests.{HaveKeys, first_key}
+use Rattle.table.specs.IndexReading.{index_reading}
 use Rattle.table.specs.SoundTables.{IsChecked}
 use Rattle.table.specs.TableContents.{Contents, blocks_of, contents_of, contents_reading, data_reading, entries_of, index_in}
 use Rattle.table.proofs.CheckedTables.{blocks_by, contents_are}

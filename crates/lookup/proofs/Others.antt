@@ -6,13 +6,13 @@ use Rattle.coding.specs.Answers.{◌>>=◌, UnlessMemory, fault}
 use Rattle.coding.specs.declared.fault.Fault.{Fault}
 use Rattle.coding.specs.declared.fault.FaultName.{FaultName}
 use Rattle.coding.specs.declared.fault.FaultName.TheVariants.{Block, BlockType, Compressed, Device, Handle, Key, Magic, Memory, Range, TooLarge, Trailer}
-use Rattle.block.specs.ReadingBlocks.{block_reading}
+use Rattle.block.specs.BlockReading.{block_reading}
 use Rattle.folder.specs.OpenAnswer.{HasDeviceFailed}
 use Rattle.frame.specs.Footer.{footer_reading}
 use Rattle.frame.specs.Trailer.{stored_reading}
 use Rattle.frame.specs.declared.handle.BlockHandle.{BlockHandle}
 use Rattle.ikey.specs.Key.{internal_key_reading, tag_of}
-use Rattle.table.specs.ReadingIndex.{block_in}
+use Rattle.table.specs.IndexReading.{block_in}
 use Rattle.lookup.specs.SearchAnswers.{index_handle, len_with_trailer}
 
 abbrev refusal : {Y : Type 0} → Fault → Result Y Fault

@@ -15,12 +15,12 @@ use Rattle.frame.specs.declared.footer.Footer.{Footer}
 use Rattle.frame.specs.declared.handle.BlockHandle.{BlockHandle}
 use Rattle.reads.specs.Tables.{NumberedContents}
 use Rattle.table.specs.IndexWalk.{block_named}
-use Rattle.table.specs.ReadingIndex.{block_in, one_handle, stored_at}
-use Rattle.table.specs.ReadingSteps.{test_result}
+use Rattle.table.specs.IndexReading.{block_in, one_handle, stored_at}
+use Rattle.table.specs.TestResult.{test_result}
 use Rattle.table.specs.TableContents.{index_in}
 use Rattle.table.proofs.Walks.{block_named-by}
 use Rattle.lookup.specs.SearchAnswers.{IsFileOfBytes, index_handle, len_with_trailer}
-use Rattle.lookup.specs.Held.{HoldTables, HoldsTable, TellsJust}
+use Rattle.lookup.specs.FolderTables.{HoldTables, HoldsTable, TellsJust}
 use Rattle.lookup.specs.declared.file_parts.TableFile.{TableFile}
 
 -- ---- what is told

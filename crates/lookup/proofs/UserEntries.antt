@@ -11,7 +11,7 @@ use Rattle.ikey.specs.Key.{kind_of, sequence_of, user_of}
 use Rattle.ikey.specs.declared.kind.Kind.TheVariants.{Put}
 use Rattle.reads.specs.Visible.{IsAnswer, visible_of}
 use Rattle.reads.proofs.Sought.{sought_end, sought_other, sought_own}
-use Rattle.table.specs.ReadingCursors.{EntriesRise, entries_from}
+use Rattle.table.specs.EntriesFrom.{EntriesRise, entries_from}
 use Rattle.lookup.proofs.IndexAhead.{from_rises}
 
 module _ (cmp : List ℕ → List ℕ → Ordering) (total : IsTotalOrder cmp) (exact : IsExact cmp) (t : List ℕ) (put : kind_of t ≡ Put) (es : List Entry) (rising : EntriesRise cmp es) where

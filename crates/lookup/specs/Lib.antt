@@ -1,4 +1,4 @@
 -- what contracts rest on
-pub mod Held
+pub mod FolderTables
 -- serves proofs alone
 pub mod SearchAnswers

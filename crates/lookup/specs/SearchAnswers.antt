@@ -8,7 +8,7 @@ use Rattle.frame.specs.Footer.{footer_reading}
 use Rattle.frame.specs.declared.footer.TheConstants.{FOOTER_LEN}
 use Rattle.frame.specs.declared.handle.BlockHandle.{BlockHandle}
 use Rattle.frame.specs.declared.trailer.TheConstants.{TRAILER_LEN}
-use Rattle.lookup.specs.Held.{TellsJust}
+use Rattle.lookup.specs.FolderTables.{TellsJust}
 use Rattle.lookup.specs.declared.file_parts.TableFile.{TableFile}
 
 -- a fault that comes whatever the folder holds

@@ -3,8 +3,8 @@
 ghost use Rattle.std.specs.Prelude.{◌≡◌, ◌+◌, ◌≤◌, ℕ, List, Ok, Some, length, take, drop, IfOk};
 ghost use Rattle.std.specs.Prelude.{string_bytes};
 ghost use Rattle.folder.specs.Reports.{OnlyReads, ReportsDevice};
-ghost use Rattle.table.specs.ReadingIndex.{stored_at};
-ghost use Rattle.lookup.specs.Held.{HoldsTable, TellsJust};
+ghost use Rattle.table.specs.IndexReading.{stored_at};
+ghost use Rattle.lookup.specs.FolderTables.{HoldsTable, TellsJust};
 ghost use Rattle.lookup.specs.SearchAnswers.{Gives, IsFileOfBytes, len_with_trailer};
 ghost use Rattle.frame.specs.declared.trailer.TheConstants.{TRAILER_LEN};
 

@@ -9,7 +9,7 @@ ghost use Rattle.frame.specs.Footer.{footer_reading};
 ghost use Rattle.frame.specs.declared.footer.TheConstants.{FOOTER_LEN};
 ghost use Rattle.frame.specs.declared.trailer.TheConstants.{TRAILER_LEN};
 ghost use Rattle.table.specs.IndexWalk.{block_named};
-ghost use Rattle.table.specs.ReadingIndex.{block_in, one_handle};
+ghost use Rattle.table.specs.IndexReading.{block_in, one_handle};
 ghost use Rattle.table.specs.TableContents.{index_in};
 ghost use Rattle.lookup.specs.SearchAnswers.{Gives, IsFileOfBytes, index_handle};
 

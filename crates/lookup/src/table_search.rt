@@ -9,9 +9,9 @@ ghost use Rattle.ikey.specs.Key.{kind_of, sequence_of, user_of};
 ghost use Rattle.ikey.specs.declared.kind.Kind.TheVariants.{Put};
 ghost use Rattle.reads.specs.Visible.{IsAnswer, visible_of};
 ghost use Rattle.table.specs.IndexWalk.{Indexes, NamesBlock, all_named};
-ghost use Rattle.table.specs.ReadingCursors.{EntriesRise, entries_from};
+ghost use Rattle.table.specs.EntriesFrom.{EntriesRise, entries_from};
 ghost use Rattle.table.specs.TableContents.{Contents, contents_reading, index_in};
-ghost use Rattle.lookup.specs.Held.{HoldsTable};
+ghost use Rattle.lookup.specs.FolderTables.{HoldsTable};
 ghost use Rattle.lookup.specs.SearchAnswers.{Gives, IsFileOfBytes};
 
 use crate::block_search::{entries_ahead, first_in_block};

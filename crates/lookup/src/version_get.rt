@@ -11,7 +11,7 @@ ghost use Rattle.reads.specs.Gets.{get_of};
 ghost use Rattle.reads.specs.Lawful.{IsFileOf, IsLawful};
 ghost use Rattle.reads.specs.Tables.{NumberedContents, all_entries, table_entries};
 ghost use Rattle.reads.specs.Visible.{IsAnswer, visible_of};
-ghost use Rattle.lookup.specs.Held.{HoldTables};
+ghost use Rattle.lookup.specs.FolderTables.{HoldTables};
 ghost use Rattle.lookup.specs.SearchAnswers.{Gives};
 
 use crate::owned_entry::{OwnedEntry, newer, value_of};

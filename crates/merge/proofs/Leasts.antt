@@ -13,9 +13,9 @@ use Rattle.std.proofs.lemmas.Option.{same_Some, none-some, slice_get-map, slice_
 use Rattle.block.specs.EncodedEntry.{Entry}
 use Rattle.ikey.specs.Order.{internal_cmp}
 use Rattle.ikey.proofs.Ordered.{internal_cmp-total}
-use Rattle.table.specs.ReadingCursors.{NeverFalls}
-use Rattle.merge.specs.Merged.{merged}
-use Rattle.merge.specs.Least.{StartsAbove, StartsFrom, IsLeast, IsAdvanced, IsLeastPlace, IsMerging}
+use Rattle.table.specs.EntriesFrom.{NeverFalls}
+use Rattle.merge.specs.MergedLists.{merged}
+use Rattle.merge.specs.LeastList.{StartsAbove, StartsFrom, IsLeast, IsAdvanced, IsLeastPlace, IsMerging}
 use Rattle.merge.proofs.Orders.{all_weaker, all_append, less_is, lt_le_trans, at_most}
 use Rattle.merge.proofs.Merges.{merged_first, merged_none}
 

@@ -7,9 +7,9 @@ use Rattle.std.specs.declared.cmp.Ordering.{Ordering}
 use Rattle.std.proofs.lemmas.List.Elements.{filter-append}
 use Rattle.std.proofs.lemmas.Option.{same_Some, none-some}
 use Rattle.block.specs.EncodedEntry.{Entry}
-use Rattle.table.specs.ReadingCursors.{NeverFalls, entries_from, LeavesFrom}
-use Rattle.merge.specs.Merged.{sorted_entries, entries_of_lists, merged}
-use Rattle.merge.specs.Least.{StartsAbove, StartsFrom, IsLeast}
+use Rattle.table.specs.EntriesFrom.{NeverFalls, entries_from, LeavesFrom}
+use Rattle.merge.specs.MergedLists.{sorted_entries, entries_of_lists, merged}
+use Rattle.merge.specs.LeastList.{StartsAbove, StartsFrom, IsLeast}
 use Rattle.merge.specs.Seeks.{each_from, EachLeavesFrom}
 use Rattle.merge.proofs.Orders.{Above, From, all_append, all_take, all_drop, above_first, from_first}
 use Rattle.merge.proofs.SortedEntries.{sorted_first, sorted_never_falls, filter-sorted, is_from, from_is_filter, leaves_sorted, leaves_append}

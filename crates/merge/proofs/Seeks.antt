@@ -7,7 +7,7 @@ use Rattle.std.proofs.lemmas.List.{append-nil, take_all, drop_all}
 use Rattle.std.proofs.lemmas.Option.{same_Some, none-some}
 use Rattle.block.specs.EncodedEntry.{Entry}
 use Rattle.ikey.specs.Order.{internal_cmp}
-use Rattle.table.specs.ReadingCursors.{entries_from, LeavesFrom}
+use Rattle.table.specs.EntriesFrom.{entries_from, LeavesFrom}
 use Rattle.table.proofs.Orders.{leaves_all}
 use Rattle.merge.specs.Seeks.{each_from, EachLeavesFrom}
 use Rattle.merge.proofs.Orders.{less_is}

@@ -8,8 +8,8 @@ use Rattle.std.specs.declared.cmp.Ordering.{Ordering}
 use Rattle.std.specs.declared.cmp.Ordering.TheVariants.{Less}
 use Rattle.block.specs.EncodedEntry.{Entry}
 use Rattle.ikey.specs.Order.{internal_cmp}
-use Rattle.table.specs.ReadingCursors.{NeverFalls, entries_from, LeavesFrom}
-use Rattle.merge.specs.Merged.{entries_with, sorted_entries}
+use Rattle.table.specs.EntriesFrom.{NeverFalls, entries_from, LeavesFrom}
+use Rattle.merge.specs.MergedLists.{entries_with, sorted_entries}
 use Rattle.merge.proofs.Orders.{Above, From, less_is, not_below, at_most, from_first}
 
 -- ---- what holds of all entries

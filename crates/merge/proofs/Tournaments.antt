@@ -17,9 +17,9 @@ use Rattle.std.proofs.lemmas.Option.{same_Some, none-some, slice_get_read, slice
 use Rattle.block.specs.EncodedEntry.{Entry}
 use Rattle.ikey.specs.Order.{internal_cmp}
 use Rattle.ikey.proofs.Ordered.{internal_cmp-total}
-use Rattle.table.specs.ReadingCursors.{NeverFalls}
-use Rattle.merge.specs.Merged.{merged}
-use Rattle.merge.specs.Least.{StartsAbove, StartsFrom, IsLeast, IsMerging}
+use Rattle.table.specs.EntriesFrom.{NeverFalls}
+use Rattle.merge.specs.MergedLists.{merged}
+use Rattle.merge.specs.LeastList.{StartsAbove, StartsFrom, IsLeast, IsMerging}
 use Rattle.merge.specs.Tournament.{AreBeside, IsAhead, Beats, IsWinner, IsBracket, IsPlayed, IsMatch, IsAboveBy, IsAbove, IsTournament}
 use Rattle.merge.proofs.Orders.{lt_le_trans, never_falls_drop, all_append}
 use Rattle.merge.proofs.Merges.{one_of}

@@ -12,9 +12,9 @@ use Rattle.block.specs.EncodedEntry.{Entry}
 use Rattle.ikey.specs.Key.{user_of, sequence_of, kind_of, kind_number}
 use Rattle.ikey.specs.Order.{internal_cmp}
 use Rattle.ikey.proofs.Ordered.{internal_cmp-total}
-use Rattle.table.specs.ReadingCursors.{EntriesRise}
+use Rattle.table.specs.EntriesFrom.{EntriesRise}
 use Rattle.table.proofs.Orders.{rising_never_falls}
-use Rattle.merge.specs.Merged.{entries_with, sorted_entries, entries_of_lists, merged, has_key, IsMerge}
+use Rattle.merge.specs.MergedLists.{entries_with, sorted_entries, entries_of_lists, merged, has_key, IsMerge}
 use Rattle.merge.specs.Union.{key_version_cmp, VersionsRise, IsUnion}
 use Rattle.merge.proofs.Orders.{Above, all_weaker}
 use Rattle.merge.proofs.OneMerge.{equal_is, none_above, one_merge}

@@ -1,7 +1,7 @@
 -- what contracts rest on
-pub mod Merged
+pub mod MergedLists
 pub mod Union
-pub mod Least
+pub mod LeastList
 pub mod Seeks
 -- serves proofs alone
 pub mod Tournament

@@ -2,7 +2,7 @@
 use Rattle.std.specs.Prelude.{ℕ, List, [], ◌∷◌, map}
 use Rattle.ikey.specs.Comparator.{KeyOrder}
 use Rattle.block.specs.EncodedEntry.{Entry}
-use Rattle.table.specs.ReadingCursors.{entries_from, LeavesFrom}
+use Rattle.table.specs.EntriesFrom.{entries_from, LeavesFrom}
 
 -- of each list the entries from the first one at or above this internal key
 abbrev pub each_from : KeyOrder → List ℕ → List (List Entry) → List (List Entry)

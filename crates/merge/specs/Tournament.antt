@@ -7,7 +7,7 @@ use Rattle.block.specs.EncodedEntry.{Entry}
 use Rattle.ikey.specs.Key.{user_of}
 use Rattle.ikey.specs.Order.{internal_cmp}
 use Rattle.ikey.specs.Comparator.{KeyOrder}
-use Rattle.table.specs.ReadingCursors.{NeverFalls}
+use Rattle.table.specs.EntriesFrom.{NeverFalls}
 
 -- The first list wins, or is the other one: its first key is smaller, or equal at a place that
 -- isn't higher. A list without an entry loses against one with an entry.

@@ -8,7 +8,7 @@ use Rattle.std.specs.declared.cmp.Ordering.TheVariants.{Less}
 use Rattle.block.specs.EncodedEntry.{Entry}
 use Rattle.ikey.specs.Key.{user_of, sequence_of}
 use Rattle.ikey.specs.Comparator.{KeyOrder}
-use Rattle.merge.specs.Merged.{entries_of_lists, merged}
+use Rattle.merge.specs.MergedLists.{entries_of_lists, merged}
 
 -- The order of internal keys without their types: user key rising, then sequence falling. Two keys
 -- of one user key and one sequence are equal in it.

@@ -1,7 +1,7 @@
 //! The cursor that is next in a merge, by one pass.
 
 ghost use Rattle.std.specs.Prelude.{◌+◌, ◌<◌, map, take, length};
-ghost use Rattle.merge.specs.Least.{IsMerging};
+ghost use Rattle.merge.specs.LeastList.{IsMerging};
 
 use ikey::Comparator;
 use table::Cursor;

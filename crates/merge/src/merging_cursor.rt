@@ -4,9 +4,9 @@ ghost use Rattle.std.specs.Prelude.{◌≡◌, ◌<◌, [], map, length, drop, O
 ghost use Rattle.std.specs.Prelude.{OnErr, IsOkUnless, Ok};
 ghost use Rattle.coding.specs.Answers.{EqualOrMemory, fault};
 ghost use Rattle.coding.specs.declared.fault.FaultName.TheVariants.{Memory};
-ghost use Rattle.table.specs.ReadingCursors.{entries_from, LeavesFrom};
-ghost use Rattle.merge.specs.Merged.{merged};
-ghost use Rattle.merge.specs.Least.{IsAdvanced, IsMerging};
+ghost use Rattle.table.specs.EntriesFrom.{entries_from, LeavesFrom};
+ghost use Rattle.merge.specs.MergedLists.{merged};
+ghost use Rattle.merge.specs.LeastList.{IsAdvanced, IsMerging};
 ghost use Rattle.merge.specs.Seeks.{each_from, EachLeavesFrom};
 
 use crate::tournament::{

@@ -15,9 +15,9 @@ ghost use Rattle.std.specs.Prelude.{OnErr};
 ghost use Rattle.std.specs.List.{AllByRecursion};
 ghost use Rattle.coding.specs.Answers.{fault};
 ghost use Rattle.coding.specs.declared.fault.FaultName.TheVariants.{Memory};
-ghost use Rattle.table.specs.ReadingCursors.{NeverFalls};
-ghost use Rattle.merge.specs.Least.{IsMerging};
-ghost use Rattle.merge.specs.Merged.{merged};
+ghost use Rattle.table.specs.EntriesFrom.{NeverFalls};
+ghost use Rattle.merge.specs.LeastList.{IsMerging};
+ghost use Rattle.merge.specs.MergedLists.{merged};
 ghost use Rattle.merge.specs.Tournament.{AreBeside, IsWinner, IsBracket, IsPlayed, IsMatch};
 ghost use Rattle.merge.specs.Tournament.{IsAbove, IsTournament, first_head, AreHeads, IsHeaded};
 

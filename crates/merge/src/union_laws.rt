@@ -1,6 +1,6 @@
 //! Laws of merges.
 
-ghost use Rattle.merge.specs.Merged.{MergeLaw};
+ghost use Rattle.merge.specs.MergedLists.{MergeLaw};
 ghost use Rattle.merge.specs.Union.{UnionLaw};
 
 use ikey::Comparator;

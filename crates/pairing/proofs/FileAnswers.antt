@@ -7,18 +7,18 @@ use Rattle.coding.proofs.Binds.{bind_ok, ok_is}
 use Rattle.coding.proofs.Refusals.{unless_from}
 use Rattle.std.specs.Prelude.{IfOk}
 use Rattle.block.specs.EncodedEntry.{Entry, IsBlock}
-use Rattle.block.specs.ReadingBlocks.{block_reading}
+use Rattle.block.specs.BlockReading.{block_reading}
 use Rattle.block.proofs.BlockReadings.{reads_blocks}
 use Rattle.ikey.specs.Bytewise.{bytewise_cmp}
 use Rattle.pairing.specs.TestedUnion.{tested_entries, union_of, unions_of}
 use Rattle.pairing.specs.EntryTests.{tested_after}
-use Rattle.merge.specs.Merged.{entries_of_lists}
+use Rattle.merge.specs.MergedLists.{entries_of_lists}
 use Rattle.merge.specs.Union.{IsUnion}
-use Rattle.board.specs.Collected.{collected_results}
+use Rattle.board.specs.CollectedResults.{collected_results}
 use Rattle.std.proofs.lemmas.List.{append-nil}
 use Rattle.pairing.specs.Repeats.{HasRepeat}
 use Rattle.pairing.specs.Blocks.{IsFileAnswer, AreBlocksMerged, IsUnionAnswer, IsBlocksAnswer, block_within, counted_block}
-use Rattle.pairing.specs.declared.tested.TestedEntry.{TestedEntry}
+use Rattle.pairing.specs.declared.tested_entry.TestedEntry.{TestedEntry}
 use Rattle.pairing.proofs.Repeats.{no_union, repeat_in_parts, repeat_in_rests}
 use Rattle.pairing.proofs.Unions.{Cut, block_of, union_of_runs}
 use Rattle.pairing.proofs.RangeUnions.{union_found, union_refused_for}

@@ -20,13 +20,13 @@ use Rattle.ikey.specs.Bytewise.{bytewise_cmp}
 use Rattle.ikey.specs.Key.{user_of, sequence_of, kind_of, kind_number}
 use Rattle.ikey.specs.Order.{internal_cmp}
 use Rattle.std.proofs.lemmas.Cmp.{nat_list_cmp_total}
-use Rattle.table.specs.ReadingCursors.{NeverFalls}
-use Rattle.merge.specs.Merged.{entries_with, sorted_entries, entries_of_lists, merged}
+use Rattle.table.specs.EntriesFrom.{NeverFalls}
+use Rattle.merge.specs.MergedLists.{entries_with, sorted_entries, entries_of_lists, merged}
 use Rattle.merge.specs.Union.{VersionsRise}
 use Rattle.merge.proofs.SortedEntries.{sorted_never_falls, all_sorted}
-use Rattle.pairing.specs.TestedUnion.{IsLimited, distinct_after, is_behind, last_key_or, tested_entries, union_of}
+use Rattle.pairing.specs.TestedUnion.{IsLimited, distinct_after, is_after_key, last_key_or, tested_entries, union_of}
 use Rattle.pairing.specs.Repeats.{HasRepeat}
-use Rattle.pairing.specs.declared.tested.TestedEntry.{TestedEntry}
+use Rattle.pairing.specs.declared.tested_entry.TestedEntry.{TestedEntry}
 use Rattle.pairing.proofs.TestedLists.{with_front, regroup, last_key-push}
 use Rattle.pairing.proofs.Unions.{version_total, all_append, all_weaker, guard, Below}
 use Rattle.pairing.proofs.Repeats.{version, times-cons, repeat_moved}
@@ -62,14 +62,14 @@ passed false r f u h = absurd cc
 distinct_same : (before : Option (List ℕ)) (es u : List Entry) → distinct_after before es ≡ Ok u → es ≡ u
 distinct_same before [] u h = ok_is [] u h
 distinct_same before (e ∷ es) u h =
-    let a = passed (is_behind before e.key) (distinct_after (Some e.key) es >>= λ others. Ok (e ∷ others)) (fault Duplicate) u h in
+    let a = passed (is_after_key before e.key) (distinct_after (Some e.key) es >>= λ others. Ok (e ∷ others)) (fault Duplicate) u h in
     let b = bind_ok (distinct_after (Some e.key) es) (λ others. Ok (e ∷ others)) u a.1 in
     ap (λ (xs : List Entry). e ∷ xs) (distinct_same (Some e.key) es b.0 b.1) ∙ ok_is (e ∷ b.0) u b.2
 
 distinct_rises : (before : List ℕ) (es u : List Entry) → distinct_after (Some before) es ≡ Ok u → AllByRecursion (Below version before) es × VersionsRise bytewise_cmp es
 distinct_rises before [] u h = (tt, tt)
 distinct_rises before (e ∷ es) u h =
-    let a = passed (is_behind (Some before) e.key) (distinct_after (Some e.key) es >>= λ others. Ok (e ∷ others)) (fault Duplicate) u h in
+    let a = passed (is_after_key (Some before) e.key) (distinct_after (Some e.key) es >>= λ others. Ok (e ∷ others)) (fault Duplicate) u h in
     let b = bind_ok (distinct_after (Some e.key) es) (λ others. Ok (e ∷ others)) u a.1 in
     let rest = distinct_rises e.key es b.0 b.1 in
     let up : version before e.key ≡ Less = guard (version before e.key) a.0 in
@@ -132,9 +132,9 @@ repeat_behind b es h = (h.0, omega (arith, h.1, times-cons h.0 b es))
 
 refused_behind : (b : Entry) (es : List Entry) (f : Fault) → NeverFalls bytewise_cmp (b ∷ es) → distinct_after (Some b.key) es ≡ Err f → (f ≡ fault Duplicate) × HasRepeat (b ∷ es)
 refused_behind b [] f falls h = absurd cc
-refused_behind b (e ∷ es) f falls h = by_test (is_behind (Some b.key) e.key) refl (λ more. refused_behind e es f falls.1 more) h
+refused_behind b (e ∷ es) f falls h = by_test (is_after_key (Some b.key) e.key) refl (λ more. refused_behind e es f falls.1 more) h
   where
-    by_test : (t : Bool) → is_behind (Some b.key) e.key ≡ t → (distinct_after (Some e.key) es ≡ Err f → (f ≡ fault Duplicate) × HasRepeat (e ∷ es))
+    by_test : (t : Bool) → is_after_key (Some b.key) e.key ≡ t → (distinct_after (Some e.key) es ≡ Err f → (f ≡ fault Duplicate) × HasRepeat (e ∷ es))
         → cond t (distinct_after (Some e.key) es >>= λ others. Ok (e ∷ others)) (Err (fault Duplicate)) ≡ Err f → (f ≡ fault Duplicate) × HasRepeat (b ∷ e ∷ es)
     by_test true is more k = let found = more (bind_err (distinct_after (Some e.key) es) e f k) in (found.0, repeat_behind b (e ∷ es) found.1)
     by_test false is more k = (err_is (fault Duplicate) f k, neighbours b e es (equal_by (version b.key e.key) is (at_most b.key e.key falls.0.0)))
@@ -154,21 +154,21 @@ union_refused_for a b f h =
 abbrev entry : List ℕ → List ℕ → Entry
 entry key value = record { key = key; value = value }
 
-step : (t : Bool) (before : Option (List ℕ)) (q rest : List Entry) (e : Entry) → q ≡ e ∷ rest → is_behind before e.key ≡ t → distinct_after before q ≡ cond t (distinct_after (Some e.key) rest >>= λ others. Ok (e ∷ others)) (Err (fault Duplicate))
+step : (t : Bool) (before : Option (List ℕ)) (q rest : List Entry) (e : Entry) → q ≡ e ∷ rest → is_after_key before e.key ≡ t → distinct_after before q ≡ cond t (distinct_after (Some e.key) rest >>= λ others. Ok (e ∷ others)) (Err (fault Duplicate))
 step t before q rest e first is =
     ap (distinct_after before) first ∙ ap (λ (b : Bool). cond b (distinct_after (Some e.key) rest >>= λ others. Ok (e ∷ others)) (Err (fault Duplicate))) is
 
-pub goes_on_behind : (front q : List Entry) (key value : List ℕ) (total : Result (List Entry) Fault) → q ≡ record { key = key; value = value } ∷ drop 1 q → is_behind (last_key_or None front) key ≡ true
+pub goes_on_behind : (front q : List Entry) (key value : List ℕ) (total : Result (List Entry) Fault) → q ≡ record { key = key; value = value } ∷ drop 1 q → is_after_key (last_key_or None front) key ≡ true
     → with_front front (distinct_after (last_key_or None front) q) ≡ total → with_front (front ++ record { key = key; value = value } ∷ []) (distinct_after (last_key_or None (front ++ record { key = key; value = value } ∷ [])) (drop 1 q)) ≡ total
 goes_on_behind front q key value total first is so_far =
     ap (λ (b : Option (List ℕ)). with_front (front ++ entry key value ∷ []) (distinct_after b (drop 1 q))) (last_key-push None front (entry key value))
     ∙ sym (regroup front (entry key value) (distinct_after (Some key) (drop 1 q))) ∙ sym (ap (with_front front) (step true (last_key_or None front) q (drop 1 q) (entry key value) first is)) ∙ so_far
 
-pub ends_behind : (front q : List Entry) (key : List ℕ) (total : Result (List Entry) Fault) → option_map (λ e. e.key) (slice_get q 0) ≡ Some key → is_behind (last_key_or None front) key ≡ false
+pub ends_behind : (front q : List Entry) (key : List ℕ) (total : Result (List Entry) Fault) → option_map (λ e. e.key) (slice_get q 0) ≡ Some key → is_after_key (last_key_or None front) key ≡ false
     → with_front front (distinct_after (last_key_or None front) q) ≡ total → total ≡ Err (fault Duplicate)
 ends_behind front [] key total first is so_far = absurd (none-some key first)
 ends_behind front (e ∷ q) key total first is so_far =
-    let here : is_behind (last_key_or None front) e.key ≡ false = ap (λ (k : List ℕ). is_behind (last_key_or None front) k) (same_Some e.key key first) ∙ is in
+    let here : is_after_key (last_key_or None front) e.key ≡ false = ap (λ (k : List ℕ). is_after_key (last_key_or None front) k) (same_Some e.key key first) ∙ is in
     sym so_far ∙ ap (with_front front) (step false (last_key_or None front) (e ∷ q) q e refl here)
 
 pub is_done_behind : (front q : List Entry) (total : Result (List Entry) Fault) → length q ≡ 0 → with_front front (distinct_after (last_key_or None front) q) ≡ total → total ≡ Ok front

@@ -10,14 +10,14 @@ use Rattle.coding.specs.declared.fault.Fault.{Fault}
 use Rattle.coding.specs.declared.fault.FaultName.TheVariants.{Key, TooLarge, Order}
 use Rattle.ikey.specs.Bytewise.{bytewise_cmp}
 use Rattle.ikey.specs.Key.{tag_of, internal_key_reading}
-use Rattle.table.specs.ReadingEntries.{is_above}
+use Rattle.table.specs.EntryTests.{is_above}
 use Rattle.std.specs.Prelude.{IfOk}
 use Rattle.std.specs.Global.{Vec}
 use Rattle.block.specs.EncodedEntry.{Entry, IsBlock}
-use Rattle.block.specs.ReadingBlocks.{block_reading}
+use Rattle.block.specs.BlockReading.{block_reading}
 use Rattle.block.proofs.BlockReadings.{reads_blocks}
 use Rattle.pairing.specs.TestedUnion.{last_key_or, tested_entries}
-use Rattle.pairing.specs.declared.tested.TestedEntry.{TestedEntry}
+use Rattle.pairing.specs.declared.tested_entry.TestedEntry.{TestedEntry}
 use Rattle.pairing.specs.EntryTests.{file_entry_test, tested_after}
 
 -- what was tested before, and what is still tested

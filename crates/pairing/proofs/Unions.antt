@@ -26,12 +26,12 @@ use Rattle.coding.specs.declared.fault.FaultName.TheVariants.{TooLarge, Order}
 use Rattle.ikey.specs.Order.{internal_cmp}
 use Rattle.ikey.proofs.Ordered.{internal_cmp-total}
 use Rattle.merge.specs.Union.{key_version_cmp, IsUnion, VersionsRise}
-use Rattle.table.specs.ReadingCursors.{EntriesRise, NeverFalls}
-use Rattle.table.specs.ReadingEntries.{is_above}
+use Rattle.table.specs.EntriesFrom.{EntriesRise, NeverFalls}
+use Rattle.table.specs.EntryTests.{is_above}
 use Rattle.table.proofs.Orders.{rising_never_falls}
 use Rattle.pairing.specs.Ranges.{IsBefore, IsFrom}
 use Rattle.pairing.specs.TestedUnion.{tested_entry, tested_entries}
-use Rattle.pairing.specs.declared.tested.TestedEntry.{TestedEntry}
+use Rattle.pairing.specs.declared.tested_entry.TestedEntry.{TestedEntry}
 use Rattle.pairing.specs.EntryTests.{file_entry_test, tested_after}
 use Rattle.coding.proofs.Binds.{bind_ok}
 use Rattle.pairing.proofs.TestedLists.{tested_same}

@@ -7,7 +7,7 @@ use Rattle.coding.specs.declared.fault.FaultName.TheVariants.{TooLarge, Order}
 use Rattle.block.specs.EncodedEntry.{Entry}
 use Rattle.ikey.specs.Bytewise.{bytewise_cmp}
 use Rattle.ikey.specs.Key.{internal_key_reading}
-use Rattle.table.specs.ReadingEntries.{is_above}
+use Rattle.table.specs.EntryTests.{is_above}
 use Rattle.table.specs.declared.table_check.TheConstants.{MAX_VALUE_LEN}
 
 -- The tests of an entry after this key. Its key is an internal key, and its user key is within its

@@ -6,10 +6,10 @@ use Rattle.coding.specs.Answers.{fault, ◌>>=◌}
 use Rattle.coding.specs.declared.fault.Fault.{Fault}
 use Rattle.coding.specs.declared.fault.FaultName.TheVariants.{Duplicate}
 use Rattle.ikey.specs.Bytewise.{bytewise_cmp}
-use Rattle.merge.specs.Merged.{merged}
+use Rattle.merge.specs.MergedLists.{merged}
 use Rattle.merge.specs.Union.{key_version_cmp}
 use Rattle.block.specs.EncodedEntry.{Entry}
-use Rattle.pairing.specs.declared.tested.TestedEntry.{TestedEntry}
+use Rattle.pairing.specs.declared.tested_entry.TestedEntry.{TestedEntry}
 use Rattle.table.specs.declared.table_check.TheConstants.{MAX_VALUE_LEN}
 
 abbrev pub tested_entry : TestedEntry → Entry
@@ -28,15 +28,15 @@ abbrev pub IsLimited : Entry → Type 0
 IsLimited e = length e.value ≤ MAX_VALUE_LEN
 
 -- whether a key is after the one before it, if there is one, by user key and falling sequence
-abbrev pub is_behind : Option (List ℕ) → List ℕ → Bool
-is_behind None key = true
-is_behind (Some before) key = is_lt (key_version_cmp bytewise_cmp before key)
+abbrev pub is_after_key : Option (List ℕ) → List ℕ → Bool
+is_after_key None key = true
+is_after_key (Some before) key = is_lt (key_version_cmp bytewise_cmp before key)
 
 -- the entries, if each is after the one before it, by user key and falling sequence; else Duplicate
 abbrev pub distinct_after : Option (List ℕ) → List Entry → Result (List Entry) Fault
 distinct_after before [] = Ok []
 distinct_after before (e ∷ es) =
-    if is_behind before e.key then (distinct_after (Some e.key) es >>= λ others. Ok (e ∷ others))
+    if is_after_key before e.key then (distinct_after (Some e.key) es >>= λ others. Ok (e ∷ others))
     else Err (fault Duplicate)
 
 -- the union of the files' entries in a range, or Duplicate

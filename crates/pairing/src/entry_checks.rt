@@ -4,16 +4,16 @@ ghost use Rattle.std.specs.Prelude.{◌≡◌, ◌≤◌, ◌++◌, [], ◌∷�
 ghost use Rattle.std.specs.Option.{option_map};
 ghost use Rattle.std.specs.Result.{result_map_both};
 ghost use Rattle.block.specs.EncodedEntry.{Entry};
-ghost use Rattle.block.specs.ReadingBlocks.{block_reading};
+ghost use Rattle.block.specs.BlockReading.{block_reading};
 ghost use Rattle.coding.specs.Answers.{EqualOrMemory, HoldsOrMemory, fault};
 ghost use Rattle.coding.specs.declared.fault.FaultName.TheVariants.{Memory};
 ghost use Rattle.pairing.specs.Blocks.{IsFileAnswer};
 ghost use Rattle.pairing.specs.TestedUnion.{last_key_or, tested_entries};
 ghost use Rattle.ikey.specs.Bytewise.{bytewise_cmp};
-ghost use Rattle.table.specs.ReadingCursors.{EntriesRise};
+ghost use Rattle.table.specs.EntriesFrom.{EntriesRise};
 ghost use Rattle.pairing.specs.EntryTests.{file_entry_test, tested_after};
 
-use crate::tested::TestedEntry;
+use crate::tested_entry::TestedEntry;
 use block::{BlockCursor, check};
 use coding::{Fault, FaultName};
 use ikey::{Bytewise, InternalKey, KeyBuf};

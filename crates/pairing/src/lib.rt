@@ -11,9 +11,9 @@
 
 mod entry_checks;
 mod parted_entries;
-mod parts;
-mod tested;
+mod range_pair;
 mod tested_cursor;
+mod tested_entry;
 mod two_blocks;
 mod two_ranges;
 

@@ -3,11 +3,11 @@
 ghost use Rattle.std.specs.Prelude.{◌≡◌, ◌++◌, ◌↔◌, ℕ, ◌<◌, ◌≤◌, length, IsTrue, slice_index_or};
 ghost use Rattle.std.specs.List.{AllByRecursion};
 ghost use Rattle.ikey.specs.Bytewise.{bytewise_cmp};
-ghost use Rattle.table.specs.ReadingCursors.{EntriesRise};
+ghost use Rattle.table.specs.EntriesFrom.{EntriesRise};
 ghost use Rattle.pairing.specs.TestedUnion.{tested_entry, tested_entries};
 ghost use Rattle.pairing.specs.Ranges.{IsBefore, IsFrom};
 
-use crate::tested::TestedEntry;
+use crate::tested_entry::TestedEntry;
 use ikey::{Bytewise, Comparator};
 
 /// The entries before the user key `at`, and those from it on.

@@ -3,11 +3,11 @@
 ghost use Rattle.std.specs.Prelude.{◌≡◌, ◌<◌, length, drop};
 ghost use Rattle.block.specs.EncodedEntry.{Entry};
 ghost use Rattle.ikey.specs.Bytewise.{bytewise_cmp};
-ghost use Rattle.table.specs.ReadingCursors.{NeverFalls};
+ghost use Rattle.table.specs.EntriesFrom.{NeverFalls};
 ghost use Rattle.table.specs.RestartSearch.{first_is_below};
 ghost use Rattle.pairing.specs.TestedUnion.{tested_entries};
 
-use crate::tested::TestedEntry;
+use crate::tested_entry::TestedEntry;
 use coding::Fault;
 use ikey::{Bytewise, Comparator, InternalKey};
 use std::marker::Model;
@@ -24,7 +24,7 @@ impl<'r, 'a> Model for TestedCursor<'r, 'a> {
     ghost use Rattle.std.specs.Prelude.{List};
     ghost use Rattle.block.specs.EncodedEntry.{Entry};
     ghost use Rattle.ikey.specs.Bytewise.{bytewise_cmp};
-    ghost use Rattle.table.specs.ReadingCursors.{NeverFalls};
+    ghost use Rattle.table.specs.EntriesFrom.{NeverFalls};
     ghost use Rattle.pairing.specs.TestedUnion.{tested_entries};
 
     ghost Value = { List Entry };

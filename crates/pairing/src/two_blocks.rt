@@ -6,14 +6,14 @@ ghost use Rattle.pairing.specs.Blocks.{AreBlocksMerged, IsBlocksAnswer, IsUnionA
 ghost use Rattle.pairing.specs.Blocks.{block_within};
 ghost use Rattle.pairing.specs.Blocks.{counted_block};
 ghost use Rattle.ikey.specs.Bytewise.{bytewise_cmp};
-ghost use Rattle.merge.specs.Merged.{entries_of_lists};
-ghost use Rattle.table.specs.ReadingCursors.{EntriesRise};
+ghost use Rattle.merge.specs.MergedLists.{entries_of_lists};
+ghost use Rattle.table.specs.EntriesFrom.{EntriesRise};
 ghost use Rattle.pairing.specs.TestedUnion.{tested_entries};
 
 use crate::entry_checks::tested;
 use crate::parted_entries::parted;
-use crate::parts::Parts;
-use crate::tested::TestedEntry;
+use crate::range_pair::RangePair;
+use crate::tested_entry::TestedEntry;
 use crate::two_ranges::TwoRanges;
 use block::BlockBuilder;
 use board::{Open, run};
@@ -105,8 +105,8 @@ fn united<'a, R: Threads + Sync>(
     let (before_b, from_b) = parted(b, at);
     let ranges = TwoRanges {
         alloc,
-        before: Parts::new(before_a, before_b),
-        from: Parts::new(from_a, from_b),
+        before: RangePair::new(before_a, before_b),
+        from: RangePair::new(from_a, from_b),
     };
     let runs = run(rt, alloc, &ranges, RANGES, RANGES, &Open)?;
     in_a_row(alloc, runs)

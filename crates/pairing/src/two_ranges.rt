@@ -1,7 +1,7 @@
 //! The jobs of merging two files.
 
-use crate::parts::Parts;
-use crate::tested::TestedEntry;
+use crate::range_pair::RangePair;
+use crate::tested_entry::TestedEntry;
 use board::Labour;
 use coding::Fault;
 use std::alloc::Global;
@@ -11,14 +11,14 @@ use std::alloc::Global;
 #[derive(Drop)]
 pub(crate) struct TwoRanges<'r, 'a> {
     pub alloc: Global,
-    pub before: Parts<'r, 'a>,
-    pub from: Parts<'r, 'a>,
+    pub before: RangePair<'r, 'a>,
+    pub from: RangePair<'r, 'a>,
 }
 
 impl<'r, 'a> Labour for TwoRanges<'r, 'a> {
     type Out = Vec<TestedEntry<'a>>;
 
-    ghost use Rattle.board.specs.Collected.{refusal_at, HasValue};
+    ghost use Rattle.board.specs.CollectedResults.{refusal_at, HasValue};
     ghost use Rattle.pairing.specs.TestedUnion.{tested_entries, unions_of};
 
     ghost jobs = { λ _. 2 };

@@ -18,11 +18,11 @@ use Rattle.edit.specs.declared.meta.FileMeta.{FileMeta}
 use Rattle.edit.proofs.Tested.{eqb-sym}
 use Rattle.edit.proofs.SortedFiles.{same_number}
 use Rattle.pick.specs.Ranges.{is_at_most, begins_by, ends_at_or_after, overlaps}
-use Rattle.pick.specs.Chosen.{first_file, IsLeastClosed, AreChosen}
+use Rattle.pick.specs.ChosenFiles.{first_file, IsLeastClosed, AreChosen}
 use Rattle.pick.specs.Spans.{is_overlapping, is_covering}
 use Rattle.pick.specs.Boundaries.{with_largest, largest_key, goes_on, AreWithBoundaries}
 use Rattle.pick.specs.Choices.{IsGrown, boundary_pass, IsUpperAnswer}
-use Rattle.pick.specs.Picked.{AreUpper}
+use Rattle.pick.specs.PickedInputs.{AreUpper}
 use Rattle.pick.proofs.Lists.{IsIn, all_in, all_from, any_gives, filter_in, in_filter, filter_nothing, find_some, or_left, or_right, or_either, and_both, and_first, and_second, cond_true, cond_false, one_alone}
 use Rattle.pick.proofs.UserOrders.{le_trans}
 use Rattle.pick.proofs.Grown.{overlaps_reaching, reaches_own}

@@ -7,7 +7,7 @@ use Rattle.std.specs.declared.cmp.Ordering.{Ordering}
 use Rattle.ikey.specs.Key.{user_of}
 use Rattle.edit.specs.declared.meta.FileMeta.{FileMeta}
 use Rattle.pick.specs.Ranges.{is_at_most, begins_by, ends_at_or_after, overlaps}
-use Rattle.pick.specs.Chosen.{IsOverlapClosed}
+use Rattle.pick.specs.ChosenFiles.{IsOverlapClosed}
 use Rattle.pick.specs.Spans.{lesser_user, greater_user, is_overlapping, is_covering}
 use Rattle.pick.specs.Choices.{Reaches, IsGrown}
 use Rattle.pick.proofs.Lists.{IsIn, all_in, all_from, any_from, any_gives, in_filter, or_left, or_right, and_both, and_first, and_second, find_none, false_true}

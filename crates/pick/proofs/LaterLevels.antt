@@ -4,7 +4,7 @@ use Rattle.std.specs.declared.cmp.Ordering.{Ordering}
 use Rattle.edit.specs.Version.{State}
 use Rattle.edit.specs.VersionOrder.{level_files}
 use Rattle.edit.specs.declared.meta.FileMeta.{FileMeta}
-use Rattle.pick.specs.Picked.{files_from}
+use Rattle.pick.specs.PickedInputs.{files_from}
 
 -- the files of one level and those of the rest
 pub deeper_more : (cmp : List ℕ → List ℕ → Ordering) (v : State) (level : ℕ) → level < 7 → files_from cmp v level (7 - level) ≡ level_files cmp v level ++ files_from cmp v (level + 1) (7 - (level + 1))

@@ -17,8 +17,8 @@ use Rattle.edit.specs.declared.meta.FileMeta.{FileMeta}
 use Rattle.pick.specs.Spans.{least_user, greatest_user, is_overlapping}
 use Rattle.pick.specs.Boundaries.{greater_key, with_largest, largest_key, AreWithBoundaries}
 use Rattle.pick.specs.Choices.{IsUpperAnswer}
-use Rattle.pick.specs.Picked.{PickedInputs, AreUpper, IsPicked, IsInputsAnswer, files_from, input_at}
-use Rattle.pick.specs.declared.picked.InputFile.{InputFile}
+use Rattle.pick.specs.PickedInputs.{PickedInputs, AreUpper, IsPicked, IsInputsAnswer, files_from, input_at}
+use Rattle.pick.specs.declared.picked_inputs.InputFile.{InputFile}
 use Rattle.pick.proofs.Lists.{lent}
 use Rattle.pick.proofs.FileSpans.{head_in, IsSpan, span_all, span_more, overlapping_is}
 use Rattle.pick.proofs.ChosenInputs.{some_in, first_in}

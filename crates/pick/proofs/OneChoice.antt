@@ -6,10 +6,10 @@ use Rattle.edit.specs.Version.{State}
 use Rattle.edit.specs.VersionOrder.{level_files}
 use Rattle.edit.specs.declared.meta.FileMeta.{FileMeta}
 use Rattle.pick.specs.Ranges.{overlaps}
-use Rattle.pick.specs.Chosen.{IsLeastClosed, AreChosen}
+use Rattle.pick.specs.ChosenFiles.{IsLeastClosed, AreChosen}
 use Rattle.pick.specs.Boundaries.{largest_key, is_among, IsChain, AreWithBoundaries}
-use Rattle.pick.specs.Picked.{PickedInputs, AreUpper, AreLower, input_at, grandparents_of, HasOneChoice}
-use Rattle.pick.specs.declared.picked.InputFile.{InputFile}
+use Rattle.pick.specs.PickedInputs.{PickedInputs, AreUpper, AreLower, input_at, grandparents_of, HasOneChoice}
+use Rattle.pick.specs.declared.picked_inputs.InputFile.{InputFile}
 use Rattle.pick.proofs.Lists.{all_in, filter_same, same_test}
 
 inside : {A : Type 0} (x y : A) → Some x ≡ Some y → x ≡ y

@@ -10,10 +10,10 @@ use Rattle.edit.specs.Version.{State}
 use Rattle.edit.specs.VersionOrder.{level_files}
 use Rattle.edit.specs.declared.meta.FileMeta.{FileMeta}
 use Rattle.pick.specs.Ranges.{begins_by, ends_at_or_after}
-use Rattle.pick.specs.Chosen.{IsOverlapClosed}
+use Rattle.pick.specs.ChosenFiles.{IsOverlapClosed}
 use Rattle.pick.specs.Spans.{is_overlapping, is_covering}
 use Rattle.pick.specs.Boundaries.{with_largest, largest_key, goes_on}
-use Rattle.pick.specs.Picked.{AreUpper}
+use Rattle.pick.specs.PickedInputs.{AreUpper}
 use Rattle.pick.specs.declared.choice.Choice.{Choice}
 use Rattle.pick.specs.declared.choice.Choice.TheVariants.{First, Around, Overlapping}
 use Rattle.pick.specs.declared.range.UserRange.{UserRange}

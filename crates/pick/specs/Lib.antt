@@ -1,8 +1,8 @@
 -- what contracts rest on
 pub mod Ranges
-pub mod Chosen
+pub mod ChosenFiles
 pub mod Boundaries
-pub mod Picked
+pub mod PickedInputs
 -- serves proofs alone
 pub mod Spans
 pub mod Choices

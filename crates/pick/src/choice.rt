@@ -4,7 +4,7 @@ ghost use Rattle.std.specs.Prelude.{◌≡◌, map, find};
 ghost use Rattle.std.specs.Option.{option_copied};
 ghost use Rattle.std.specs.Ordering.{is_lt};
 ghost use Rattle.ikey.specs.Order.{internal_cmp};
-ghost use Rattle.pick.specs.Chosen.{first_file as first_of};
+ghost use Rattle.pick.specs.ChosenFiles.{first_file as first_of};
 ghost use Rattle.pick.specs.Choices.{is_chosen, is_widening, IsGrown};
 
 use crate::range::UserRange;

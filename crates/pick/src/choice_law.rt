@@ -1,6 +1,6 @@
 //! Laws of the choice of inputs.
 
-ghost use Rattle.pick.specs.Picked.{HasOneChoice};
+ghost use Rattle.pick.specs.PickedInputs.{HasOneChoice};
 
 use ikey::Comparator;
 

@@ -7,14 +7,14 @@ ghost use Rattle.edit.specs.Version.{IsState};
 ghost use Rattle.edit.specs.VersionOrder.{level_files};
 ghost use Rattle.edit.specs.declared.meta.TheConstants.{LAST_LEVEL, LEVELS};
 ghost use Rattle.pick.specs.Choices.{is_in};
-ghost use Rattle.pick.specs.Picked.{picked_in, input_at, files_from, IsInputsAnswer};
+ghost use Rattle.pick.specs.PickedInputs.{picked_in, input_at, files_from, IsInputsAnswer};
 ghost use Rattle.pick.specs.declared.input_choice.TheConstants.{LAST_INPUT_LEVEL};
 
 use crate::boundaries::largest_of;
-use crate::deeper::{deeper_files, grandparents, push_inputs};
-use crate::picked::{InputFile, Inputs};
+use crate::file_copies::{deeper_files, grandparents, push_inputs};
+use crate::level_files::{lower_files, upper_files};
+use crate::picked_inputs::{InputFile, Inputs};
 use crate::range::UserRange;
-use crate::taken::{lower_files, upper_files};
 use coding::{Fault, FaultName};
 use edit::{CompactPointer, FileMeta, LAST_LEVEL, Version};
 use ikey::{Comparator, KeyBuf};

@@ -18,12 +18,12 @@
 mod boundaries;
 mod choice;
 mod choice_law;
-mod deeper;
+mod file_copies;
 mod input_choice;
-mod picked;
+mod level_files;
+mod picked_inputs;
 mod range;
-mod taken;
 
 pub use choice_law::one_choice;
 pub use input_choice::{LAST_INPUT_LEVEL, inputs};
-pub use picked::{InputFile, Inputs, is_base};
+pub use picked_inputs::{InputFile, Inputs, is_base};

@@ -16,7 +16,7 @@ use Rattle.ikey.specs.Key.{user_of, sequence_of}
 use Rattle.ikey.specs.Order.{internal_cmp}
 use Rattle.block.specs.EncodedEntry.{Entry}
 use Rattle.table.specs.TableContents.{Contents}
-use Rattle.table.specs.ReadingCursors.{EntriesRise}
+use Rattle.table.specs.EntriesFrom.{EntriesRise}
 use Rattle.edit.specs.declared.meta.FileMeta.{FileMeta}
 use Rattle.reads.specs.Bounds.{may_hold}
 use Rattle.reads.specs.Tables.{NumberedContents, table_of_number, table_entries}

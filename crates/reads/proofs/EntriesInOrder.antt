@@ -19,9 +19,9 @@ use Rattle.ikey.specs.Key.{IsInternalKey, kind_number, user_of, sequence_of, kin
 use Rattle.ikey.specs.Order.{internal_cmp}
 use Rattle.ikey.proofs.Ordered.{internal_cmp-total}
 use Rattle.block.specs.EncodedEntry.{Entry}
-use Rattle.table.specs.ReadingCursors.{NeverFalls}
-use Rattle.merge.specs.Merged.{entries_of_lists, merged}
-use Rattle.merge.specs.Least.{StartsAbove, StartsFrom, IsLeast, IsAdvanced, IsMerging}
+use Rattle.table.specs.EntriesFrom.{NeverFalls}
+use Rattle.merge.specs.MergedLists.{entries_of_lists, merged}
+use Rattle.merge.specs.LeastList.{StartsAbove, StartsFrom, IsLeast, IsAdvanced, IsMerging}
 use Rattle.merge.proofs.Merges.{joined_at, joined_set, one_of, merged_first}
 use Rattle.merge.proofs.Orders.{le_trans}
 use Rattle.reads.specs.FileChecks.{steps_back}

@@ -12,19 +12,19 @@ use Rattle.std.proofs.lemmas.List.Elements.{Contains-get_or}
 use Rattle.ikey.specs.Order.{internal_cmp}
 use Rattle.ikey.proofs.Ordered.{internal_cmp-total}
 use Rattle.block.specs.EncodedEntry.{Entry}
-use Rattle.table.specs.ReadingCursors.{EntriesRise}
+use Rattle.table.specs.EntriesFrom.{EntriesRise}
 use Rattle.edit.specs.declared.meta.NewFile.{NewFile}
 use Rattle.reads.specs.declared.level_file.LevelFile.{LevelFile}
 use Rattle.reads.specs.Tables.{NumberedContents}
-use Rattle.reads.specs.FileChecks.{IsStatedFile, stands_before, rank_of, standing_cmp, AreInTurn}
+use Rattle.reads.specs.FileChecks.{IsStatedFile, stands_before, rank_of, newest_first_cmp, AreInTurn}
 use Rattle.reads.specs.FileList.{level_file_in}
 use Rattle.reads.proofs.Members.{first_or_later, first_in, later_in, none_in}
 use Rattle.reads.proofs.Answers.{first_or_above, last_place}
 use Rattle.reads.proofs.OrderedFiles.{Before, before_decides, at_top, at_depth, top_at, depth_at}
 use Rattle.reads.proofs.Pairs.{Pairs}
 
-pub standing_cmp-total : {cmp : List ℕ → List ℕ → Ordering} → IsTotalOrder cmp → IsTotalOrder (standing_cmp cmp)
-standing_cmp-total total =
+pub newest_first_cmp-total : {cmp : List ℕ → List ℕ → Ordering} → IsTotalOrder cmp → IsTotalOrder (newest_first_cmp cmp)
+newest_first_cmp-total total =
     then_total (on_total (λ (f : NewFile). f.level) nat_cmp_total)
     (then_total (back_total (on_total rank_of nat_cmp_total)) (on_total (λ (f : NewFile). f.meta.smallest) (internal_cmp-total total)))
 
@@ -136,7 +136,7 @@ module _ (cmp : List ℕ → List ℕ → Ordering) (total : IsTotalOrder cmp) w
   -- ---- files in their order
 
   -- a file that stands before another comes before it in the order
-  pub comes_before : (f g : NewFile) → IsRange f → Before cmp f g → is_lt (standing_cmp cmp f g) ≡ true
+  pub comes_before : (f g : NewFile) → IsRange f → Before cmp f g → is_lt (newest_first_cmp cmp f g) ≡ true
   comes_before f g range (inl lt) =
       ap (λ (o : Ordering). is_lt (ordering_then o (ordering_then (nat_cmp (rank_of g) (rank_of f)) (internal_cmp cmp f.meta.smallest g.meta.smallest)))) (less_numbers f.level g.level lt)
   comes_before f g range (inr at) = ap is_lt (then_is (nat_cmp f.level g.level) (ordering_then (nat_cmp (rank_of g) (rank_of f)) (internal_cmp cmp f.meta.smallest g.meta.smallest)) (equal_numbers f.level g.level at.0) ∙ by_depth (zero_or_deep f.level))

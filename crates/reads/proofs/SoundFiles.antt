@@ -11,8 +11,8 @@ use Rattle.std.proofs.lemmas.Slice.Eq.{bytes_eq-Decides}
 use Rattle.coding.specs.Answers.{◌>>=◌}
 use Rattle.coding.proofs.Binds.{bind_ok, ok_is}
 use Rattle.table.specs.TableContents.{Contents, contents_reading, blocks_of, data_reading, entries_of, index_in}
-use Rattle.table.specs.ReadingIndex.{index_reading}
-use Rattle.table.specs.ReadingCursors.{EntriesRise}
+use Rattle.table.specs.IndexReading.{index_reading}
+use Rattle.table.specs.EntriesFrom.{EntriesRise}
 use Rattle.table.proofs.CheckedTables.{blocks_by, entries_read, read_data}
 use Rattle.table.proofs.EntryTests.{all_tests, rising}
 use Rattle.edit.specs.declared.meta.FileMeta.{FileMeta}

@@ -53,8 +53,8 @@ rank_of f = if nat_eq f.level 0 then f.meta.number else 0
 
 -- The order of files, newer entries first: by level, at level 0 by falling number, at each other
 -- level by smallest key.
-abbrev pub standing_cmp : KeyOrder → NewFile → NewFile → Ordering
-standing_cmp cmp f g =
+abbrev pub newest_first_cmp : KeyOrder → NewFile → NewFile → Ordering
+newest_first_cmp cmp f g =
     ordering_then (nat_cmp f.level g.level)
     (ordering_then (nat_cmp (rank_of g) (rank_of f))
     (internal_cmp cmp f.meta.smallest g.meta.smallest))
@@ -63,7 +63,7 @@ standing_cmp cmp f g =
 pub record AreListed (cmp : KeyOrder) (files : List NewFile) (listed : List LevelFile)
     : Type 0 where
   pub all : AreAll files (map level_file_in listed)
-  pub sorted : IsSortedBy (λ f g. is_lt (standing_cmp cmp (level_file_in f) (level_file_in g)))
+  pub sorted : IsSortedBy (λ f g. is_lt (newest_first_cmp cmp (level_file_in f) (level_file_in g)))
       listed
 
 -- each file comes before the next one

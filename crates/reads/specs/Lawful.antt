@@ -12,7 +12,7 @@ use Rattle.ikey.specs.Order.{internal_cmp}
 use Rattle.ikey.specs.Comparator.{KeyOrder}
 use Rattle.block.specs.EncodedEntry.{Entry}
 use Rattle.table.specs.TableContents.{Contents, contents_reading}
-use Rattle.table.specs.ReadingCursors.{EntriesRise}
+use Rattle.table.specs.EntriesFrom.{EntriesRise}
 use Rattle.edit.specs.Version.{State, are_apart}
 use Rattle.edit.specs.declared.meta.FileMeta.{FileMeta}
 use Rattle.edit.specs.declared.meta.NewFile.{NewFile}

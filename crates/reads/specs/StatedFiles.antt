@@ -4,7 +4,7 @@ use Rattle.std.specs.Prelude.{Option, Some, None, Ok}
 use Rattle.std.specs.Option.{option_map}
 use Rattle.ikey.specs.Comparator.{KeyOrder}
 use Rattle.table.specs.TableContents.{Contents, contents_reading}
-use Rattle.table.specs.ReadingCursors.{EntriesRise}
+use Rattle.table.specs.EntriesFrom.{EntriesRise}
 use Rattle.edit.specs.declared.meta.FileMeta.{FileMeta}
 use Rattle.reads.specs.Bounds.{has_bounds}
 use Rattle.reads.specs.Tables.{NumberedContents, table_of_number}

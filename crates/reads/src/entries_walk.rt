@@ -4,7 +4,7 @@ ghost use Rattle.std.specs.Prelude.{◌≡◌, ◌↔◌, true, ◌&&◌, IfOk, 
 ghost use Rattle.coding.specs.Answers.{fault};
 ghost use Rattle.coding.specs.declared.fault.FaultName.TheVariants.{Memory};
 ghost use Rattle.ikey.specs.Key.{user_of};
-ghost use Rattle.merge.specs.Merged.{entries_of_lists};
+ghost use Rattle.merge.specs.MergedLists.{entries_of_lists};
 ghost use Rattle.split.specs.Ranges.{key_range, IsIn};
 ghost use Rattle.reads.specs.FileChecks.{is_from, steps_back};
 ghost use Rattle.reads.specs.TableOrder.{AreFallingIn};

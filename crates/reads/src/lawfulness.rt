@@ -19,7 +19,7 @@ ghost use Rattle.reads.specs.Lawful.{IsBelowNextFile, IsLawful, IsUnlawful};
 ghost use Rattle.reads.specs.StatedFiles.{is_below, matches_metadata, IsStatedFile};
 ghost use Rattle.reads.specs.FileChecks.{stands_before, rank_of};
 ghost use Rattle.reads.specs.FileList.{level_file_in};
-ghost use Rattle.reads.specs.FileChecks.{standing_cmp, AreListed, AreInTurn};
+ghost use Rattle.reads.specs.FileChecks.{newest_first_cmp, AreListed, AreInTurn};
 ghost use Rattle.reads.specs.TableOrder.{AreAllAdded, AreStanding, AreStandingFiles, IsNeverLawful};
 
 use crate::bounds::has_bounds;
@@ -62,7 +62,7 @@ pub fn lawful<C: Comparator>(
     ensures { MatchResult result (λ none. IsLawful C.cmp version.now tables.now)
         (λ e. UnlessMemory e (IsUnlawful C.cmp version.now tables.now e)) }
 {
-    let standing = standing_tables(alloc, version, tables)?;
+    let standing = tables_newest_first(alloc, version, tables)?;
     let all = Range {
         lower: None,
         upper: None,
@@ -78,7 +78,7 @@ pub fn lawful<C: Comparator>(
 ///
 /// It makes all tests of [`lawful`] but one, which [`falls_in`] makes: that of each user key the
 /// sequences fall through these tables. Faults as of `lawful`, for these tests.
-pub fn standing_tables<'t, 'a, C: Comparator>(
+pub fn tables_newest_first<'t, 'a, C: Comparator>(
     alloc: Global,
     version: &Version,
     tables: &'t [NumberedTable<'a, C>],
@@ -88,11 +88,11 @@ pub fn standing_tables<'t, 'a, C: Comparator>(
         (λ e. UnlessMemory e (IsUnlawful C.cmp version.now tables.now e)) }
 {
     let tables = TablePlaces::of(alloc, tables)?;
-    standing_among(alloc, version, &tables)
+    newest_first_among(alloc, version, &tables)
 }
 
-/// As [`standing_tables`], of tables whose places are known.
-fn standing_among<'t, 'a, C: Comparator>(
+/// As [`tables_newest_first`], of tables whose places are known.
+fn newest_first_among<'t, 'a, C: Comparator>(
     alloc: Global,
     version: &Version,
     tables: &TablePlaces<'t, 'a, C>,
@@ -118,7 +118,7 @@ fn standing_among<'t, 'a, C: Comparator>(
 ///
 /// It makes all tests of [`lawful`] but those that need a table: that of each file, which
 /// [`is_stated`] makes, and that of each user key the sequences fall. The only fault is Memory.
-pub fn standing_files<'v, C: Comparator>(
+pub fn files_newest_first<'v, C: Comparator>(
     alloc: Global,
     version: &'v Version,
 ) -> Result<Option<Vec<&'v FileMeta>>, Fault>
@@ -157,8 +157,8 @@ fn rank_of(file: &LevelFile<'_>) -> u64
 
 /// The order of files, newer entries first: by level, at level 0 by falling number, at each other
 /// level by smallest key.
-fn standing_order<C: Comparator>(file: &LevelFile<'_>, other: &LevelFile<'_>) -> Ordering
-    ensures { result ≡ standing_cmp C.cmp (level_file_in file.now) (level_file_in other.now) }
+fn newest_first_order<C: Comparator>(file: &LevelFile<'_>, other: &LevelFile<'_>) -> Ordering
+    ensures { result ≡ newest_first_cmp C.cmp (level_file_in file.now) (level_file_in other.now) }
 {
     let levels = file.level.cmp(&other.level);
     let ranks = rank_of(other).cmp(&rank_of(file));
@@ -179,7 +179,7 @@ fn listed_files<'v, C: Comparator>(
     ensures memory { IfErr result (λ e. e ≡ fault Memory) }
 {
     let mut files = all_files::<C>(alloc, version)?;
-    files.sort_unstable_by(|file, other| standing_order::<C>(file, other));
+    files.sort_unstable_by(|file, other| newest_first_order::<C>(file, other));
     Ok(files)
 }
 

@@ -3,8 +3,9 @@
 //! 1. A [`NumberedTable`] is a checked table with the number of its file.
 //! 2. [`lawful`] tests a version with its tables: each table is what the version states of it, and
 //!    of each user key newer entries are above older ones.
-//! 3. [`standing_tables`] and [`falls_in`] make the same test in parts, so that workers may share
-//!    it. [`standing_files`] and [`is_stated`] make the tests of the files, a table at a time.
+//! 3. [`tables_newest_first`] and [`falls_in`] make the same test in parts, so that workers may
+//!    share it. [`files_newest_first`] and [`is_stated`] make the tests of the files, a table at a
+//!    time.
 //! 4. [`get`] answers the value of a user key at a sequence.
 //!
 //! [`has_bounds`], [`is_below`] and [`may_hold`] test what a version states of a file.
@@ -18,7 +19,7 @@
 mod bounds;
 mod entries_walk;
 mod file_list;
-mod found;
+mod found_entry;
 mod lawfulness;
 mod level_file;
 mod newest_first_law;
@@ -30,7 +31,7 @@ mod version_get;
 pub use bounds::has_bounds;
 pub use entries_walk::falls_in;
 pub use file_list::all_files;
-pub use lawfulness::{is_below, is_stated, lawful, standing_files, standing_tables};
+pub use lawfulness::{files_newest_first, is_below, is_stated, lawful, tables_newest_first};
 pub use level_file::LevelFile;
 pub use newest_first_law::answers_newest_first;
 pub use numbered_table::NumberedTable;

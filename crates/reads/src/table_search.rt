@@ -8,11 +8,11 @@ ghost use Rattle.coding.specs.declared.fault.FaultName.TheVariants.{Memory};
 ghost use Rattle.ikey.specs.Key.{user_of, sequence_of, kind_of};
 ghost use Rattle.ikey.specs.declared.kind.Kind.TheVariants.{Put};
 ghost use Rattle.block.specs.EncodedEntry.{Entry};
-ghost use Rattle.table.specs.ReadingCursors.{entries_from};
+ghost use Rattle.table.specs.EntriesFrom.{entries_from};
 ghost use Rattle.reads.specs.Tables.{table_of_number, tables_test};
 ghost use Rattle.reads.specs.Visible.{visible_in, IsAnswer};
 
-use crate::found::Found;
+use crate::found_entry::Found;
 use crate::table_places::TablePlaces;
 use coding::{Fault, FaultName};
 use edit::{FileMeta, LEVELS, Version};

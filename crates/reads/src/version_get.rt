@@ -19,7 +19,7 @@ ghost use Rattle.reads.specs.Visible.{visible_in, newer_visible, IsAnswer};
 ghost use Rattle.reads.specs.Gets.{get_of};
 ghost use Rattle.reads.specs.Lawful.{IsFileOf, IsLawful};
 
-use crate::found::Found;
+use crate::found_entry::Found;
 use crate::numbered_table::NumberedTable;
 use crate::table_places::TablePlaces;
 use crate::table_search::{newest_in_table, tables_test};
@@ -78,7 +78,7 @@ fn get_among<'a, C: Comparator>(
     let Some(found) = newest_in_version(alloc, version, tables, target.as_key())? else {
         return Ok(None);
     };
-    Ok(found.held())
+    Ok(found.value())
 }
 
 /// The newest entry of a user key that a sequence sees, at the first level that has one. `target`

@@ -11,17 +11,17 @@ use Rattle.coding.specs.Answers.{◌>>=◌}
 use Rattle.coding.specs.declared.fault.Fault.{Fault}
 use Rattle.coding.specs.declared.fault.FaultName.TheVariants.{NoInput, Level, Options, Snapshot, SnapshotList}
 use Rattle.table.specs.Options.{are_in_limits}
-use Rattle.table.specs.ReadingEntries.{is_some_list}
-use Rattle.table.specs.ReadingSteps.{test_result}
+use Rattle.table.specs.EntryTests.{is_some_list}
+use Rattle.table.specs.TestResult.{test_result}
 use Rattle.table.proofs.EntryTests.{passed}
-use Rattle.pick.specs.declared.picked.InputFile.{InputFile}
+use Rattle.pick.specs.declared.picked_inputs.InputFile.{InputFile}
 use Rattle.keep.specs.Marks.{largest_rise}
-use Rattle.keep.specs.Rising.{rises_by}
+use Rattle.keep.specs.RisesBy.{rises_by}
 use Rattle.keep.specs.Readable.{listed_of}
 use Rattle.keep.proofs.RisingTests.{rise_told}
 use Rattle.keep.specs.declared.snapshots.Snapshots.{Snapshots}
 use Rattle.keep.specs.declared.snapshots.Snapshots.TheVariants.{From, Listed}
-use Rattle.request.specs.Passed.{PassedLaw}
+use Rattle.request.specs.PassedRequest.{PassedLaw}
 use Rattle.request.specs.Request.{has_levels, has_options, has_snapshots, is_snapshot_list, named_by}
 use Rattle.request.proofs.OptionLimits.{limits_told}
 

@@ -3,11 +3,11 @@ use Rattle.std.specs.Prelude.{ℕ, ◌+◌, List, [], ◌∷◌, length, map, So
 use Rattle.std.specs.List.{fold}
 use Rattle.std.specs.BTreeSet.{insert_key}
 use Rattle.block.specs.BuilderView.{last_key}
-use Rattle.table.specs.ReadingEntries.{first_key}
+use Rattle.table.specs.EntryTests.{first_key}
 use Rattle.edit.specs.Edit.{Edit, deleted_cmp}
 use Rattle.edit.specs.declared.meta.NewFile.{NewFile}
 use Rattle.edit.specs.declared.meta.DeletedFile.{DeletedFile}
-use Rattle.pick.specs.declared.picked.InputFile.{InputFile}
+use Rattle.pick.specs.declared.picked_inputs.InputFile.{InputFile}
 use Rattle.request.specs.OutputTables.{Output}
 use Rattle.request.specs.Request.{RequestView}
 

@@ -8,11 +8,11 @@ use Rattle.ikey.specs.Comparator.{KeyOrder}
 use Rattle.block.specs.EncodedEntry.{Entry}
 use Rattle.block.specs.BuilderView.{last_key}
 use Rattle.table.specs.TableContents.{Contents, contents_reading}
-use Rattle.table.specs.ReadingEntries.{first_key}
-use Rattle.table.specs.ReadingSteps.{test_result}
+use Rattle.table.specs.EntryTests.{first_key}
+use Rattle.table.specs.TestResult.{test_result}
 use Rattle.edit.specs.declared.meta.FileMeta.{FileMeta}
-use Rattle.merge.specs.Merged.{merged}
-use Rattle.pick.specs.declared.picked.InputFile.{InputFile}
+use Rattle.merge.specs.MergedLists.{merged}
+use Rattle.pick.specs.declared.picked_inputs.InputFile.{InputFile}
 use Rattle.reads.specs.Bounds.{has_bounds}
 use Rattle.keep.specs.Runs.{are_distinct}
 

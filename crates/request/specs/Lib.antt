@@ -4,4 +4,4 @@ pub mod Inputs
 pub mod OutputTables
 pub mod EditOf
 pub mod OneThread
-pub mod Passed
+pub mod PassedRequest

@@ -5,7 +5,7 @@ use Rattle.coding.specs.declared.fault.Fault.{Fault}
 use Rattle.coding.specs.declared.fault.FaultName.TheVariants.{Workers}
 use Rattle.block.specs.EncodedEntry.{Entry}
 use Rattle.table.specs.Table.{table}
-use Rattle.table.specs.ReadingSteps.{test_result}
+use Rattle.table.specs.TestResult.{test_result}
 use Rattle.edit.specs.Edit.{edit_bytes}
 use Rattle.cut.specs.Outputs.{outputs}
 use Rattle.request.specs.Request.{RequestView, below_request, request_test}

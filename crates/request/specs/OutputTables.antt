@@ -7,7 +7,7 @@ use Rattle.coding.specs.declared.fault.FaultName.TheVariants.{Numbers, TooLarge}
 use Rattle.block.specs.EncodedEntry.{Entry}
 use Rattle.table.specs.declared.options.Options.{Options}
 use Rattle.table.specs.DataBlocks.{data_blocks}
-use Rattle.table.specs.ReadingSteps.{test_result}
+use Rattle.table.specs.TestResult.{test_result}
 use Rattle.table.specs.declared.table_check.TheConstants.{MAX_TABLE_LEN}
 use Rattle.cut.specs.declared.output_plan.TheConstants.{MAX_BLOCKS}
 

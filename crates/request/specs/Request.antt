@@ -8,14 +8,14 @@ use Rattle.coding.specs.declared.fault.FaultName.TheVariants.{NoInput, Level, Op
 use Rattle.coding.specs.declared.fault.FaultName.TheVariants.{SnapshotList}
 use Rattle.table.specs.Options.{are_in_limits}
 use Rattle.table.specs.declared.options.Options as declared
-use Rattle.table.specs.ReadingSteps.{test_result}
-use Rattle.table.specs.ReadingEntries.{is_some_list}
-use Rattle.pick.specs.Picked.{PickedInputs, picked_in}
-use Rattle.pick.specs.declared.picked.InputFile.{InputFile}
+use Rattle.table.specs.TestResult.{test_result}
+use Rattle.table.specs.EntryTests.{is_some_list}
+use Rattle.pick.specs.PickedInputs.{PickedInputs, picked_in}
+use Rattle.pick.specs.declared.picked_inputs.InputFile.{InputFile}
 use Rattle.pick.specs.declared.input_choice.TheConstants.{LAST_INPUT_LEVEL}
 use Rattle.keep.specs.Readable.{readable_of}
 use Rattle.keep.specs.Marks.{CompactionContext, largest_rise}
-use Rattle.keep.specs.Rising.{rises_by}
+use Rattle.keep.specs.RisesBy.{rises_by}
 use Rattle.keep.specs.declared.snapshots.Snapshots.{Snapshots}
 use Rattle.keep.specs.declared.snapshots.Snapshots.TheVariants.{From, Listed}
 use Rattle.request.specs.declared.request.Request.{Request}

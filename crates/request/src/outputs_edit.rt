@@ -6,7 +6,7 @@ ghost use Rattle.coding.specs.Answers.{EqualOrMemory};
 ghost use Rattle.edit.specs.Edit.{HasValidLevels, HasShortName, edit_in};
 ghost use Rattle.edit.specs.declared.meta.NewFile.{NewFile};
 ghost use Rattle.edit.specs.declared.meta.TheConstants.{LAST_LEVEL};
-ghost use Rattle.pick.specs.Picked.{picked_in};
+ghost use Rattle.pick.specs.PickedInputs.{picked_in};
 ghost use Rattle.request.specs.Request.{has_levels, request_in};
 ghost use Rattle.request.specs.EditOf.{deletions_of, edit_of};
 

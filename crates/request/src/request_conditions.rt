@@ -2,8 +2,8 @@
 
 ghost use Rattle.std.specs.Prelude.{◌≡◌, nat_eq, nat_lt, nat_le, ◌||◌};
 ghost use Rattle.std.specs.List.{list_all};
-ghost use Rattle.pick.specs.Picked.{picked_in};
-ghost use Rattle.pick.specs.declared.picked.InputFile.{InputFile};
+ghost use Rattle.pick.specs.PickedInputs.{picked_in};
+ghost use Rattle.pick.specs.declared.picked_inputs.InputFile.{InputFile};
 ghost use Rattle.request.specs.Request.{has_levels, has_options, has_snapshots};
 ghost use Rattle.request.specs.Request.{is_snapshot_list, request_in};
 

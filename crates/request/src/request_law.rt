@@ -1,6 +1,6 @@
 //! The law of the tests of a request.
 
-ghost use Rattle.request.specs.Passed.{PassedLaw};
+ghost use Rattle.request.specs.PassedRequest.{PassedLaw};
 
 use ikey::Comparator;
 

@@ -8,7 +8,7 @@ use Rattle.ikey.specs.Key.{kind_of, user_of}
 use Rattle.ikey.specs.declared.kind.Kind.{Kind}
 use Rattle.block.specs.EncodedEntry.{Entry}
 use Rattle.keep.specs.FirstEntry.{first_is}
-use Rattle.keep.specs.Left.{is_before}
+use Rattle.keep.specs.CursorsLeft.{is_before}
 use Rattle.scan.specs.Counts.{amounts_after, amounts_at, capped_plus, decided_then, entry_amounts}
 use Rattle.scan.specs.EntryRows.{decided_after, is_decided}
 use Rattle.scan.specs.declared.amounts.Amounts.{Amounts}

@@ -8,7 +8,7 @@ use Rattle.std.proofs.lemmas.List.Sums.{get_or-le-sum_by, sum_by-append, sum_by-
 use Rattle.ikey.specs.Key.{kind_of}
 use Rattle.ikey.specs.Order.{internal_cmp}
 use Rattle.block.specs.EncodedEntry.{Entry}
-use Rattle.merge.specs.Merged.{entries_with, sorted_entries}
+use Rattle.merge.specs.MergedLists.{entries_with, sorted_entries}
 use Rattle.reads.proofs.Members.{first_in, later_in}
 use Rattle.scan.specs.Counts.{counted, entry_amounts}
 use Rattle.scan.specs.HiddenEntries.{is_deletion_entry}

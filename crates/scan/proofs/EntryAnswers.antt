@@ -16,7 +16,7 @@ use Rattle.ikey.specs.Order.{internal_cmp}
 use Rattle.ikey.specs.declared.kind.Kind.{Kind}
 use Rattle.ikey.specs.declared.kind.Kind.TheVariants.{Put, Delete}
 use Rattle.block.specs.EncodedEntry.{Entry}
-use Rattle.table.specs.ReadingCursors.{NeverFalls}
+use Rattle.table.specs.EntriesFrom.{NeverFalls}
 use Rattle.reads.specs.Gets.{value_by, value_in}
 use Rattle.reads.specs.NewestFirst.{answer_at}
 use Rattle.reads.proofs.FallingEntries.{each_of}
@@ -24,7 +24,7 @@ use Rattle.reads.proofs.Members.{first_or_later, later_in, first_in, none_in}
 use Rattle.reads.proofs.Orders.{not_before_itself}
 use Rattle.reads.proofs.Pairs.{Pairs}
 use Rattle.scan.specs.Row.{Row}
-use Rattle.scan.specs.EntryRows.{is_decided, is_passed_over, rows_behind, rows_by}
+use Rattle.scan.specs.EntryRows.{is_decided, is_passed_over, rows_after, rows_by}
 
 -- ---- tests
 
@@ -185,14 +185,14 @@ module _ (cmp : List ℕ → List ℕ → Ordering) (total : IsTotalOrder cmp) (
   later_row decided e es r above same h = (above, record { entry = h.entry; there = later_in e es h.entry h.there; own_key = h.own_key; answer = same ∙ h.answer })
 
   each_by : (decided : Option (List ℕ)) (e : Entry) (es : List Entry) (b : Bool) → is_passed_over at decided e ≡ b → IsFrom decided (user_of e.key)
-      → ((r : Row) → Contains (rows_behind at decided es) r → IsRowOf decided es r) → ((r : Row) → Contains (rows_behind at (Some (user_of e.key)) es) r → IsRowOf (Some (user_of e.key)) es r)
-      → (r : Row) → Contains (cond b [] (rows_by (kind_of e.key) (user_of e.key) e.value) ++ rows_behind at (cond b decided (Some (user_of e.key))) es) r → IsRowOf decided (e ∷ es) r
+      → ((r : Row) → Contains (rows_after at decided es) r → IsRowOf decided es r) → ((r : Row) → Contains (rows_after at (Some (user_of e.key)) es) r → IsRowOf (Some (user_of e.key)) es r)
+      → (r : Row) → Contains (cond b [] (rows_by (kind_of e.key) (user_of e.key) e.value) ++ rows_after at (cond b decided (Some (user_of e.key))) es) r → IsRowOf decided (e ∷ es) r
   each_by decided e es true is up same other r there =
       let h = same r there in
       later_row decided e es r h.0 (passed_same decided r.key e es h.0 is) h.1
   each_by decided e es false is up same other r there =
       let parts = neither (not (nat_le (sequence_of e.key) at)) (is_decided decided (user_of e.key)) is in
-      elim (Contains-append_cases (rows_by (kind_of e.key) (user_of e.key) e.value) (rows_behind at (Some (user_of e.key)) es) r there) [
+      elim (Contains-append_cases (rows_by (kind_of e.key) (user_of e.key) e.value) (rows_after at (Some (user_of e.key)) es) r there) [
         | inl here ↦ here_by (kind_of e.key) decided e es refl up parts.1 (isnt_not (nat_le (sequence_of e.key) at) parts.0) r here
         | inr later ↦
             let h = other r later in
@@ -200,7 +200,7 @@ module _ (cmp : List ℕ → List ℕ → Ordering) (total : IsTotalOrder cmp) (
             (other_same at r.key e es (λ equal. not_before_itself cmp total r.key (subst (λ (k : List ℕ). cmp k r.key ≡ Less) equal h.0))) h.1
       ]
 
-  pub each_row : (decided : Option (List ℕ)) (es : List Entry) → NeverFalls cmp es → AreFrom decided es → (r : Row) → Contains (rows_behind at decided es) r → IsRowOf decided es r
+  pub each_row : (decided : Option (List ℕ)) (es : List Entry) → NeverFalls cmp es → AreFrom decided es → (r : Row) → Contains (rows_after at decided es) r → IsRowOf decided es r
   each_row decided [] falls up r there = absurd (none_in r there)
   each_row decided (e ∷ es) falls up r there =
       each_by decided e es (is_passed_over at decided e) refl (up e (first_in e es)) (each_row decided es falls.1 (λ f k. up f (later_in e es f k))) (each_row (Some (user_of e.key)) es falls.1 (later_up e es falls)) r there
@@ -211,13 +211,13 @@ module _ (cmp : List ℕ → List ℕ → Ordering) (total : IsTotalOrder cmp) (
   rising_kind Put user value rows above rest = (above, rest)
   rising_kind Delete user value rows above rest = rest
 
-  rising_by : (decided : Option (List ℕ)) (e : Entry) (es : List Entry) (b : Bool) → ((r : Row) → Contains (rows_behind at (Some (user_of e.key)) es) r → cmp (user_of e.key) r.key ≡ Less)
-      → Pairs (IsBelow cmp) (rows_behind at decided es) → Pairs (IsBelow cmp) (rows_behind at (Some (user_of e.key)) es)
-      → Pairs (IsBelow cmp) (cond b [] (rows_by (kind_of e.key) (user_of e.key) e.value) ++ rows_behind at (cond b decided (Some (user_of e.key))) es)
+  rising_by : (decided : Option (List ℕ)) (e : Entry) (es : List Entry) (b : Bool) → ((r : Row) → Contains (rows_after at (Some (user_of e.key)) es) r → cmp (user_of e.key) r.key ≡ Less)
+      → Pairs (IsBelow cmp) (rows_after at decided es) → Pairs (IsBelow cmp) (rows_after at (Some (user_of e.key)) es)
+      → Pairs (IsBelow cmp) (cond b [] (rows_by (kind_of e.key) (user_of e.key) e.value) ++ rows_after at (cond b decided (Some (user_of e.key))) es)
   rising_by decided e es true above same other = same
-  rising_by decided e es false above same other = rising_kind (kind_of e.key) (user_of e.key) e.value (rows_behind at (Some (user_of e.key)) es) above other
+  rising_by decided e es false above same other = rising_kind (kind_of e.key) (user_of e.key) e.value (rows_after at (Some (user_of e.key)) es) above other
 
-  pub rising_rows : (decided : Option (List ℕ)) (es : List Entry) → NeverFalls cmp es → AreFrom decided es → Pairs (IsBelow cmp) (rows_behind at decided es)
+  pub rising_rows : (decided : Option (List ℕ)) (es : List Entry) → NeverFalls cmp es → AreFrom decided es → Pairs (IsBelow cmp) (rows_after at decided es)
   rising_rows decided [] falls up = tt
   rising_rows decided (e ∷ es) falls up =
       rising_by decided e es (is_passed_over at decided e)
@@ -249,25 +249,25 @@ module _ (cmp : List ℕ → List ℕ → Ordering) (total : IsTotalOrder cmp) (
       by (Some d) other same is = other (decided_is d (user_of e.key) same ∙ is)
 
   all_by : (decided : Option (List ℕ)) (e : Entry) (es : List Entry) (key value : List ℕ) (b : Bool) → is_passed_over at decided e ≡ b → IsOther decided key → answer_of at key (e ∷ es) ≡ Some value
-      → (IsOther decided key → answer_of at key es ≡ Some value → Contains (rows_behind at decided es) (row key value))
-      → (IsOther (Some (user_of e.key)) key → answer_of at key es ≡ Some value → Contains (rows_behind at (Some (user_of e.key)) es) (row key value))
-      → Contains (cond b [] (rows_by (kind_of e.key) (user_of e.key) e.value) ++ rows_behind at (cond b decided (Some (user_of e.key))) es) (row key value)
+      → (IsOther decided key → answer_of at key es ≡ Some value → Contains (rows_after at decided es) (row key value))
+      → (IsOther (Some (user_of e.key)) key → answer_of at key es ≡ Some value → Contains (rows_after at (Some (user_of e.key)) es) (row key value))
+      → Contains (cond b [] (rows_by (kind_of e.key) (user_of e.key) e.value) ++ rows_after at (cond b decided (Some (user_of e.key))) es) (row key value)
   all_by decided e es key value true is other answered same next = same other (sym (passed_other decided key e es other is) ∙ answered)
   all_by decided e es key value false is other answered same next = by (is_of key e) refl
     where
-      by : (c : Bool) → is_of key e ≡ c → Contains (rows_by (kind_of e.key) (user_of e.key) e.value ++ rows_behind at (Some (user_of e.key)) es) (row key value)
+      by : (c : Bool) → is_of key e ≡ c → Contains (rows_by (kind_of e.key) (user_of e.key) e.value ++ rows_after at (Some (user_of e.key)) es) (row key value)
       by true own_key =
           let equal : user_of e.key ≡ key = of_user key e own_key in
           let parts = neither (not (nat_le (sequence_of e.key) at)) (is_decided decided (user_of e.key)) is in
           let held : value_by (kind_of e.key) e.value ≡ Some value = sym (seen_first at key e es equal (isnt_not (nat_le (sequence_of e.key) at) parts.0)) ∙ answered in
-          subst (λ (k : List ℕ). Contains (rows_by (kind_of e.key) (user_of e.key) e.value ++ rows_behind at (Some (user_of e.key)) es) (row k value)) equal
-          (told_by (kind_of e.key) (user_of e.key) value e.value (rows_behind at (Some (user_of e.key)) es) held)
+          subst (λ (k : List ℕ). Contains (rows_by (kind_of e.key) (user_of e.key) e.value ++ rows_after at (Some (user_of e.key)) es) (row k value)) equal
+          (told_by (kind_of e.key) (user_of e.key) value e.value (rows_after at (Some (user_of e.key)) es) held)
       by false not_own =
           let isnt : user_of e.key ≡ key → ⊥ = λ equal. not_both (is_of key e) (user_is key e equal) not_own in
-          Contains-append_right (rows_by (kind_of e.key) (user_of e.key) e.value) (rows_behind at (Some (user_of e.key)) es) (row key value)
+          Contains-append_right (rows_by (kind_of e.key) (user_of e.key) e.value) (rows_after at (Some (user_of e.key)) es) (row key value)
           (next isnt (sym (other_same at key e es isnt) ∙ answered))
 
-  pub all_rows : (decided : Option (List ℕ)) (es : List Entry) (key value : List ℕ) → IsOther decided key → answer_of at key es ≡ Some value → Contains (rows_behind at decided es) (row key value)
+  pub all_rows : (decided : Option (List ℕ)) (es : List Entry) (key value : List ℕ) → IsOther decided key → answer_of at key es ≡ Some value → Contains (rows_after at decided es) (row key value)
   all_rows decided [] key value other answered = absurd (none-some value answered)
   all_rows decided (e ∷ es) key value other answered =
       all_by decided e es key value (is_passed_over at decided e) refl other answered (all_rows decided es key value) (all_rows (Some (user_of e.key)) es key value)

@@ -8,8 +8,8 @@ use Rattle.std.proofs.lemmas.List.Elements.{Contains-append_cases, Contains-appe
 use Rattle.ikey.specs.Comparator.{IsExact}
 use Rattle.ikey.specs.Key.{user_of}
 use Rattle.block.specs.EncodedEntry.{Entry}
-use Rattle.table.specs.ReadingCursors.{NeverFalls}
-use Rattle.merge.specs.Merged.{entries_of_lists, sorted_entries}
+use Rattle.table.specs.EntriesFrom.{NeverFalls}
+use Rattle.merge.specs.MergedLists.{entries_of_lists, sorted_entries}
 use Rattle.merge.proofs.SortedEntries.{sorted_never_falls}
 use Rattle.split.specs.Ranges.{IsCover, IsIn, KeyRange, range_at}
 use Rattle.edit.specs.Version.{State}
@@ -28,7 +28,7 @@ use Rattle.checks.specs.RangeOrder.{common_of}
 use Rattle.checks.proofs.CommonRanges.{common_in, in_common}
 use Rattle.scan.specs.Row.{Row}
 use Rattle.scan.specs.Rows.{AreRows}
-use Rattle.scan.specs.EntryRows.{file_rows, rows_behind, rows_from}
+use Rattle.scan.specs.EntryRows.{file_rows, rows_after, rows_from}
 use Rattle.scan.proofs.EntryAnswers.{IsBelow, all_rows, answer_of, each_row, is_of, of_user, own, rising_rows, user_is}
 use Rattle.scan.proofs.SortedNewer.{distinct_filter, from_sorted, in_sorted, newer_sorted, own_fall}
 use Rattle.scan.proofs.VersionFiles.{from_standing, to_standing}
@@ -112,7 +112,7 @@ module _ (cmp : List ℕ → List ℕ → Ordering) (total : IsTotalOrder cmp) (
     falls : NeverFalls cmp sorted
     falls = sorted_never_falls cmp total (entries_in cmp range all)
 
-    pub range_rows : AreRowsOf cmp (IsIn cmp range) get (rows_behind at None sorted)
+    pub range_rows : AreRowsOf cmp (IsIn cmp range) get (rows_after at None sorted)
     range_rows = record {
       rising = rising_rows cmp total exact at None sorted falls (λ f there. tt);
       each = λ r there.
@@ -134,7 +134,7 @@ module _ (cmp : List ℕ → List ℕ → Ordering) (total : IsTotalOrder cmp) (
   pub some_rows : IsLawful cmp v tables → (range : KeyRange) → (rows : List Row) × AreRows cmp v tables range at rows
   some_rows lawful range =
       let all : List Entry = all_entries tables v.files in
-      let rows : List Row = rows_behind at None (sorted_entries cmp (entries_in cmp range all)) in
+      let rows : List Row = rows_after at None (sorted_entries cmp (entries_in cmp range all)) in
       (rows, are_rows range rows (range_rows all (λ e there. there) (λ e there. there) (pairs_from AreDistinct all lawful.sequences_once) range))
 
   -- ---- all ranges

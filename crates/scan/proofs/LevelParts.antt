@@ -2,7 +2,7 @@
 use Rattle.std.proofs.Common.{◌≡◌, ◌<◌, ◌+◌, ℕ, suc, List, [], ◌∷◌, ◌++◌, length, map, take, drop, get_or, sym, ap, ap₂, ◌∙◌, append_assoc, arith}
 use Rattle.std.proofs.Math.Seq.{drop-cons}
 use Rattle.std.proofs.lemmas.List.{drop-drop, drop-map, map-append, take-map}
-use Rattle.scan.specs.Parts.{in_parts}
+use Rattle.scan.specs.ListParts.{in_parts}
 
 -- the next part of what is left
 pub parts_more : {X Y : Type 0} (f : X → Y) (sizes : List ℕ) (xs : List X) (start i n : ℕ) → i < length sizes → get_or sizes i 0 ≡ n → in_parts (drop i sizes) (map f (drop start xs)) ≡ map f (take n (drop start xs)) ∷ in_parts (drop (i + 1) sizes) (map f (drop (start + n) xs))

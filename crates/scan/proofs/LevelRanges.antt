@@ -9,7 +9,7 @@ use Rattle.block.specs.EncodedEntry.{Entry}
 use Rattle.edit.specs.declared.meta.FileMeta.{FileMeta}
 use Rattle.folder.specs.Calls.{Files}
 use Rattle.ikey.specs.Key.{user_of}
-use Rattle.merge.specs.Merged.{entries_of_lists}
+use Rattle.merge.specs.MergedLists.{entries_of_lists}
 use Rattle.split.specs.Ranges.{IsCover, KeyRange, range_at}
 use Rattle.keep.specs.InRange.{entries_in, is_in_range}
 use Rattle.keep.proofs.Distinct.{holds_tells}

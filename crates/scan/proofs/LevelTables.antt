@@ -8,7 +8,7 @@ use Rattle.std.proofs.lemmas.List.{drop_at, length-append, length-map, map-appen
 use Rattle.std.proofs.lemmas.List.Elements.{All-contains, All-filter, Contains-append_left, Contains-append_right, Contains-get_or, filter-append}
 use Rattle.std.proofs.lemmas.List.Sums.{sum_by-cons}
 use Rattle.block.specs.EncodedEntry.{Entry}
-use Rattle.merge.specs.Merged.{entries_of_lists}
+use Rattle.merge.specs.MergedLists.{entries_of_lists}
 use Rattle.split.specs.Ranges.{KeyRange}
 use Rattle.edit.specs.declared.meta.FileMeta.{FileMeta}
 use Rattle.folder.specs.Calls.{Files}
@@ -23,7 +23,7 @@ use Rattle.checks.specs.NeededFiles.{is_file_needed}
 use Rattle.checks.proofs.FileTables.{all_found, found_lists, numbers_in}
 use Rattle.checks.proofs.NeededLemmas.{needed_entries}
 use Rattle.scan.specs.LevelCounts.{files_of_levels, lists_of_levels}
-use Rattle.scan.specs.Parts.{in_parts}
+use Rattle.scan.specs.ListParts.{in_parts}
 use Rattle.scan.proofs.ScanAnswers.{entries_each}
 
 -- ---- levels, one after the other
@@ -66,14 +66,14 @@ flat_filter : (p : FileMeta → Bool) (levels : List (List FileMeta)) → files_
 flat_filter p [] = refl
 flat_filter p (fs ∷ levels) = ap (λ (gs : List FileMeta). filter p fs ++ gs) (flat_filter p levels) ∙ sym (filter-append p fs (files_of_levels levels))
 
-parts_of : {Y : Type 0} (f : FileMeta → Y) (levels : List (List FileMeta)) → in_parts (map (λ (fs : List FileMeta). length fs) levels) (map f (files_of_levels levels)) ≡ map (map f) levels
-parts_of f [] = refl
-parts_of {Y = Y} f (fs ∷ levels) =
+block_lists : {Y : Type 0} (f : FileMeta → Y) (levels : List (List FileMeta)) → in_parts (map (λ (fs : List FileMeta). length fs) levels) (map f (files_of_levels levels)) ≡ map (map f) levels
+block_lists f [] = refl
+block_lists {Y = Y} f (fs ∷ levels) =
     let whole = map-append f fs (files_of_levels levels) in
     let size = length-map fs f in
     ap₂ (λ (ys : List Y) (yss : List (List Y)). ys ∷ yss)
     (ap (take (length fs)) whole ∙ take_at (map f fs) (map f (files_of_levels levels)) (length fs) size)
-    (ap (in_parts (map (λ (gs : List FileMeta). length gs) levels)) (ap (drop (length fs)) whole ∙ drop_at (map f fs) (map f (files_of_levels levels)) (length fs) size) ∙ parts_of f levels)
+    (ap (in_parts (map (λ (gs : List FileMeta). length gs) levels)) (ap (drop (length fs)) whole ∙ drop_at (map f fs) (map f (files_of_levels levels)) (length fs) size) ∙ block_lists f levels)
 
 -- ---- what holds of all files
 
@@ -107,7 +107,7 @@ module _ (cmp : List ℕ → List ℕ → Ordering) (total : IsTotalOrder cmp) (
       let there : AreFound cmp files (numbers_in (files_of_levels needed)) held = subst (λ (ns : List ℕ). AreFound cmp files ns held) own found in
       let lists : entries_each held ≡ lists_of_files tables (files_of_levels needed) = sym (found_lists cmp files next tables are.read (files_of_levels needed) held there stated) in
       ap (map (λ (ls : List (List Entry)). entries_in cmp range (entries_of_lists ls)))
-      (ap₂ (λ (ns : List ℕ) (ls : List (List Entry)). in_parts ns ls) (sizes_are lent ∙ ap (map (λ (fs : List FileMeta). length fs)) are_needed) lists ∙ parts_of (λ (f : FileMeta). table_entries tables f.number) needed)
+      (ap₂ (λ (ns : List ℕ) (ls : List (List Entry)). in_parts ns ls) (sizes_are lent ∙ ap (map (λ (fs : List FileMeta). length fs)) are_needed) lists ∙ block_lists (λ (f : FileMeta). table_entries tables f.number) needed)
       ∙ entries_of levels are.stated
 
   -- they are found

@@ -6,15 +6,15 @@ use Rattle.std.specs.declared.cmp.Ordering.{Ordering}
 use Rattle.std.proofs.lemmas.Bool.{false≢true}
 use Rattle.ikey.specs.Key.{user_of}
 use Rattle.block.specs.EncodedEntry.{Entry}
-use Rattle.merge.specs.Merged.{entries_of_lists, merged}
+use Rattle.merge.specs.MergedLists.{entries_of_lists, merged}
 use Rattle.merge.proofs.SortedEntries.{filter-sorted, sorted_never_falls}
 use Rattle.split.specs.Ranges.{KeyRange}
 use Rattle.keep.specs.FirstEntry.{first_is}
 use Rattle.keep.specs.InRange.{entries_in, is_in_range}
-use Rattle.keep.specs.Left.{is_before}
+use Rattle.keep.specs.CursorsLeft.{is_before}
 use Rattle.keep.proofs.Bounds.{below_apart, from_bound, none_in, one_in}
 use Rattle.scan.specs.Row.{Row}
-use Rattle.scan.specs.EntryRows.{decided_after, entry_rows, rows_behind, sorted_rows}
+use Rattle.scan.specs.EntryRows.{decided_after, entry_rows, rows_after, sorted_rows}
 use Rattle.scan.specs.RowParts.{AreBegun, AreEnough, AreTelling, AreWanted, IsRowPart}
 use Rattle.scan.specs.declared.row_limit.RowLimit.TheVariants.{More}
 use Rattle.scan.proofs.Told.{begun_then, enough_then, more_then}
@@ -26,7 +26,7 @@ IsAfter cmp range es = AllByRecursion (λ (e : Entry). is_before cmp range.lower
 -- how far the entries of a range were walked: some of their rows were told, and none of the other
 -- entries is before the range
 pub record IsWalkedTo {T : Type 0} (tells : T → Row → Bool → T → Type 0) (cmp : List ℕ → List ℕ → Ordering) (range : KeyRange) (at : ℕ) (rows : List Row) (old : T) (limit : Option ℕ) (es : List Entry) (decided : Option (List ℕ)) (now : T) (left : Option ℕ) : Type 0 where
-  pub part : IsRowPart tells rows old limit (rows_behind at decided (entries_in cmp range es)) now left true
+  pub part : IsRowPart tells rows old limit (rows_after at decided (entries_in cmp range es)) now left true
   pub after : IsAfter cmp range es
   pub wanted : AreWanted left
 
@@ -37,8 +37,8 @@ module _ (cmp : List ℕ → List ℕ → Ordering) (total : IsTotalOrder cmp) (
   skipped (e ∷ es) fs first rest = ap (entries_in cmp range) rest ∙ sym (ap (λ (b : Bool). cond b (e ∷ entries_in cmp range es) (entries_in cmp range es)) (below_apart cmp range e first))
 
   -- the rows of merged lists, as they come
-  pub merged_rows : (at : ℕ) (lists : List (List Entry)) → sorted_rows cmp range at lists ≡ rows_behind at None (entries_in cmp range (merged cmp lists))
-  merged_rows at lists = ap (rows_behind at None) (sym (filter-sorted cmp total (λ (e : Entry). is_in_range cmp range (user_of e.key)) (entries_of_lists lists)))
+  pub merged_rows : (at : ℕ) (lists : List (List Entry)) → sorted_rows cmp range at lists ≡ rows_after at None (entries_in cmp range (merged cmp lists))
+  merged_rows at lists = ap (rows_after at None) (sym (filter-sorted cmp total (λ (e : Entry). is_in_range cmp range (user_of e.key)) (entries_of_lists lists)))
 
   -- after the entries before the range
   pub begun_after : (lists : List (List Entry)) → first_is (is_before cmp range.lower false) (merged cmp lists) ≡ false → IsAfter cmp range (merged cmp lists)
@@ -65,10 +65,10 @@ module _ (cmp : List ℕ → List ℕ → Ordering) (total : IsTotalOrder cmp) (
     front = entry_rows at decided e
 
     abbrev behind : List Row
-    behind = rows_behind at (decided_after at decided e) (entries_in cmp range (drop 1 es))
+    behind = rows_after at (decided_after at decided e) (entries_in cmp range (drop 1 es))
 
     here : IsRowPart tells rows old limit (front ++ behind) now left true
-    here = subst (λ (xs : List Entry). IsRowPart tells rows old limit (rows_behind at decided xs) now left true) (next_in es e head walked.after first) walked.part
+    here = subst (λ (xs : List Entry). IsRowPart tells rows old limit (rows_after at decided xs) now left true) (next_in es e head walked.after first) walked.part
 
     pub walked_enough : AreEnough tells front now left new → AreEnough tells rows old limit new
     walked_enough h = enough_then tells rows front behind old now new limit left here h
@@ -82,8 +82,8 @@ module _ (cmp : List ℕ → List ℕ → Ordering) (total : IsTotalOrder cmp) (
 
     pub walked_more : (less : Option ℕ) (after : Option (List ℕ)) (fs : List Entry) → AreTelling tells front now left new (Ok (More less)) → after ≡ decided_after at decided e → fs ≡ drop 1 es → IsWalkedTo tells cmp range at rows old limit fs after new less
     walked_more less after fs h is rest = record {
-      part = subst (λ (d : Option (List ℕ)). IsRowPart tells rows old limit (rows_behind at d (entries_in cmp range fs)) new less true) (sym is)
-          (subst (λ (xs : List Entry). IsRowPart tells rows old limit (rows_behind at (decided_after at decided e) (entries_in cmp range xs)) new less true) (sym rest) (more_then tells rows front behind old now new limit left here less h));
+      part = subst (λ (d : Option (List ℕ)). IsRowPart tells rows old limit (rows_after at d (entries_in cmp range fs)) new less true) (sym is)
+          (subst (λ (xs : List Entry). IsRowPart tells rows old limit (rows_after at (decided_after at decided e) (entries_in cmp range xs)) new less true) (sym rest) (more_then tells rows front behind old now new limit left here less h));
       after = subst (IsAfter cmp range) (sym rest) (after_next es e head walked.after);
       wanted = h.0;
     }

@@ -10,7 +10,7 @@ use Rattle.coding.specs.Answers.{FailsOrMemory, UnlessMemory, fault}
 use Rattle.coding.specs.declared.fault.Fault.{Fault}
 use Rattle.coding.specs.declared.fault.FaultName.TheVariants.{Device, Memory}
 use Rattle.block.specs.EncodedEntry.{Entry}
-use Rattle.merge.specs.Merged.{sorted_entries}
+use Rattle.merge.specs.MergedLists.{sorted_entries}
 use Rattle.split.specs.Ranges.{KeyRange}
 use Rattle.edit.specs.Version.{State}
 use Rattle.edit.specs.declared.meta.FileMeta.{FileMeta}
@@ -20,7 +20,7 @@ use Rattle.folder.specs.Calls.{Files, Tells}
 use Rattle.folder.specs.Levels.{file_numbers}
 use Rattle.folder.specs.LoadedTables.{IsLoaded}
 use Rattle.folder.specs.OpenAnswer.{HasDeviceFailed, IsStopped}
-use Rattle.folder.specs.ReadsAs.{IsHeldIn}
+use Rattle.folder.specs.ReadsAs.{IsFileIn}
 use Rattle.reads.specs.StatedFiles.{IsStatedFile}
 use Rattle.reads.specs.TableOrder.{AreStandingFiles}
 use Rattle.reads.specs.Tables.{NumberedContents}
@@ -31,7 +31,7 @@ use Rattle.checks.specs.HeldTables.{AreFound}
 use Rattle.checks.specs.LawfulTables.{IsLawfulTables}
 use Rattle.checks.specs.NeededFiles.{is_file_needed}
 use Rattle.checks.specs.TestedTables.{IsTested}
-use Rattle.checks.specs.declared.tested.Tested.{Tested}
+use Rattle.checks.specs.declared.version_totals.VersionTotals.{VersionTotals}
 use Rattle.checks.proofs.FileTables.{all_found, found_lists, numbers_in}
 use Rattle.checks.proofs.FolderTests.{loaded_in}
 use Rattle.checks.proofs.FoundTables.{found_at, found_tables}
@@ -41,7 +41,7 @@ use Rattle.checks.proofs.TableRefusals.{no_device}
 use Rattle.scan.specs.Row.{Row}
 use Rattle.scan.specs.Rows.{AreRows}
 use Rattle.scan.specs.ChosenRows.{chosen_range, chosen_sequence, rows_within}
-use Rattle.scan.specs.EntryRows.{file_rows, rows_behind, sorted_rows}
+use Rattle.scan.specs.EntryRows.{file_rows, rows_after, sorted_rows}
 use Rattle.scan.specs.RowParts.{AreScanned, IsRowPart}
 use Rattle.scan.specs.ToldRows.{IsScan}
 use Rattle.scan.specs.declared.row_choice.RowChoice.{RowChoice}
@@ -70,7 +70,7 @@ module _ (cmp : List ℕ → List ℕ → Ordering) (total : IsTotalOrder cmp) (
   pub found_rows : (found : List NumberedContents) → AreFound cmp files (numbers_in needed) found → (at : ℕ) → sorted_rows cmp range at (entries_each found) ≡ file_rows cmp tables standing at range
   found_rows found there at =
       ap (λ (ls : List (List Entry)). sorted_rows cmp range at ls) (sym (found_lists cmp files next tables are.read needed found there stated))
-      ∙ ap (λ (es : List Entry). rows_behind at None (sorted_entries cmp es)) (needed_entries cmp total range next tables standing are.stated)
+      ∙ ap (λ (es : List Entry). rows_after at None (sorted_entries cmp es)) (needed_entries cmp total range next tables standing are.stated)
 
   -- they are found
   pub never_unfound : ((found : List NumberedContents) → AreFound cmp files (numbers_in needed) found → ⊥) → ⊥
@@ -152,7 +152,7 @@ scan_since tells cmp v tables choice old new before middle now r same h = subst 
 pub record LawfulTables (cmp : List ℕ → List ℕ → Ordering) (files : Files) (v : State) : Type 0 where
   pub loaded : List (ℕ × List ℕ)
   pub tables : List NumberedContents
-  pub there : IsLoaded (IsHeldIn files) (file_numbers cmp v) (Ok loaded)
+  pub there : IsLoaded (IsFileIn files) (file_numbers cmp v) (Ok loaded)
   pub lawful : IsLawfulTables cmp v loaded (Ok tables)
 
 abbrev refusal : {Y : Type 0} → Fault → Result Y Fault
@@ -161,14 +161,14 @@ refusal e = Err e
 no_refusal : {Y : Type 0} (y : Y) (e : Fault) → Ok y ≡ refusal e → ⊥
 no_refusal y e h = cc
 
-pub lawful_tables : (cmp : List ℕ → List ℕ → Ordering) (files : Files) (v : State) (tested : Tested) → IsTested (IsHeldIn files) cmp v (Ok tested) → LawfulTables cmp files v
+pub lawful_tables : (cmp : List ℕ → List ℕ → Ordering) (files : Files) (v : State) (tested : VersionTotals) → IsTested (IsFileIn files) cmp v (Ok tested) → LawfulTables cmp files v
 lawful_tables cmp files v tested (Ok loaded, (there, (Ok tables, h))) = record { loaded = loaded; tables = tables; there = there; lawful = h.0 }
 lawful_tables cmp files v tested (Ok loaded, (there, (Err e, h))) = absurd (no_refusal tested e h.1)
 lawful_tables cmp files v tested (Err e, h) = absurd (no_refusal tested e h.1)
 
 -- the same files, as a folder tells them
-pub loaded_told : (told : List ℕ → Option (List ℕ) → Type 0) (files : Files) (numbers : List ℕ) (r : Result (List (ℕ × List ℕ)) Fault) → Tells told files → IsLoaded (IsHeldIn files) numbers r → IsLoaded told numbers r
-loaded_told told files numbers r all h = loaded_before told (IsHeldIn files) numbers r all h
+pub loaded_told : (told : List ℕ → Option (List ℕ) → Type 0) (files : Files) (numbers : List ℕ) (r : Result (List (ℕ × List ℕ)) Fault) → Tells told files → IsLoaded (IsFileIn files) numbers r → IsLoaded told numbers r
+loaded_told told files numbers r all h = loaded_before told (IsFileIn files) numbers r all h
 
 -- ---- a table's refusal isn't Device
 

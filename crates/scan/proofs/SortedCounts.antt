@@ -8,7 +8,7 @@ use Rattle.std.proofs.lemmas.List.{length-map}
 use Rattle.std.proofs.lemmas.List.Folds.{list_any-append}
 use Rattle.ikey.specs.Order.{internal_cmp}
 use Rattle.block.specs.EncodedEntry.{Entry}
-use Rattle.merge.specs.Merged.{entries_of_lists, entries_with, sorted_entries}
+use Rattle.merge.specs.MergedLists.{entries_of_lists, entries_with, sorted_entries}
 use Rattle.scan.specs.Counts.{amounts_at, AreAmountsCounted, AreOnce, counted, HasRoom, is_version, list_at}
 use Rattle.scan.specs.HiddenEntries.{hides, is_hidden_among}
 use Rattle.scan.specs.Stats.{amounts_plus}

@@ -7,8 +7,8 @@ use Rattle.std.specs.declared.cmp.Ordering.{Ordering}
 use Rattle.ikey.specs.Key.{sequence_of}
 use Rattle.ikey.specs.Order.{internal_cmp}
 use Rattle.block.specs.EncodedEntry.{Entry}
-use Rattle.table.specs.ReadingCursors.{NeverFalls}
-use Rattle.merge.specs.Merged.{entries_with, sorted_entries}
+use Rattle.table.specs.EntriesFrom.{NeverFalls}
+use Rattle.merge.specs.MergedLists.{entries_with, sorted_entries}
 use Rattle.merge.proofs.Orders.{not_below}
 use Rattle.merge.proofs.SortedEntries.{all_sorted, all_with, sorted_never_falls}
 use Rattle.reads.specs.Lawful.{AreDistinct}

@@ -10,9 +10,9 @@ use Rattle.coding.specs.declared.fault.FaultName.TheVariants.{Device, Lawless}
 use Rattle.edit.specs.Version.{State}
 use Rattle.folder.specs.Calls.{Files}
 use Rattle.folder.specs.OpenAnswer.{FolderAnswers, IsStopped}
-use Rattle.folder.specs.ReadsAs.{IsHeldIn}
-use Rattle.checks.specs.TestedTables.{entry_count, IsTested, tested_of}
-use Rattle.checks.specs.declared.tested.Tested.{Tested}
+use Rattle.folder.specs.ReadsAs.{IsFileIn}
+use Rattle.checks.specs.TestedTables.{entry_count, IsTested, totals_of}
+use Rattle.checks.specs.declared.version_totals.VersionTotals.{VersionTotals}
 use Rattle.scan.specs.Stats.{Stats, version_stats}
 use Rattle.scan.specs.TestedStats.{IsTestedStats}
 use Rattle.scan.proofs.ScanAnswers.{LawfulTables}
@@ -48,24 +48,24 @@ answers_equal view before now (Err e) one two given same = unless_from e (Ok one
 
 module _ (cmp : List ℕ → List ℕ → Ordering) (files : Files) (v : State) where
   -- what the test of the version refuses
-  pub refused_stats : (e : Fault) → IsTested (IsHeldIn files) cmp v (Err e) → IsTestedStats (IsHeldIn files) cmp v (Err e)
+  pub refused_stats : (e : Fault) → IsTested (IsFileIn files) cmp v (Err e) → IsTestedStats (IsFileIn files) cmp v (Err e)
   refused_stats e (Ok loaded, (there, (Ok tables, h))) = absurd (no_refusal _ e h.1)
   refused_stats e (Ok loaded, (there, (Err d, h))) = (Ok loaded, (there, (Err d, (h.0, ap refusal (same_refusal e d h.1)))))
   refused_stats e (Err d, h) = (Err d, (h.0, ap refusal (same_refusal e d h.1)))
 
   -- the tables of a version that was tested, and how many entries they have
-  pub record CountedTables (tested : Tested) : Type 0 where
+  pub record CountedTables (tested : VersionTotals) : Type 0 where
     pub found : LawfulTables cmp files v
     pub entries : tested.entries ≡ entry_count found.tables
 
-  pub counted_tables : (tested : Tested) → IsTested (IsHeldIn files) cmp v (Ok tested) → CountedTables tested
+  pub counted_tables : (tested : VersionTotals) → IsTested (IsFileIn files) cmp v (Ok tested) → CountedTables tested
   counted_tables tested (Ok loaded, (there, (Ok tables, h))) = record {
     found = record { loaded = loaded; tables = tables; there = there; lawful = h.0 };
-    entries = ap (λ (t : Tested). t.entries) (ok_is tested (tested_of tables) h.1);
+    entries = ap (λ (t : VersionTotals). t.entries) (ok_is tested (totals_of tables) h.1);
   }
   counted_tables tested (Ok loaded, (there, (Err e, h))) = absurd (no_refusal tested e (sym h.1))
   counted_tables tested (Err e, h) = absurd (no_refusal tested e (sym h.1))
 
   -- and of a version that is lawful
-  pub lawful_stats : (found : LawfulTables cmp files v) (answer : Result Stats Fault) → answer ≡ Ok (version_stats cmp v found.tables) → IsTestedStats (IsHeldIn files) cmp v answer
+  pub lawful_stats : (found : LawfulTables cmp files v) (answer : Result Stats Fault) → answer ≡ Ok (version_stats cmp v found.tables) → IsTestedStats (IsFileIn files) cmp v answer
   lawful_stats found answer is = (Ok found.loaded, (found.there, (Ok found.tables, (found.lawful, is))))

@@ -22,7 +22,7 @@ use Rattle.folder.specs.Calls.{Files, Tells}
 use Rattle.folder.specs.Levels.{all_levels, by_level, file_numbers, numbers_at}
 use Rattle.folder.specs.LoadedTables.{IsLoaded}
 use Rattle.folder.proofs.LoadingLemmas.{map_fused}
-use Rattle.merge.specs.Merged.{entries_of_lists}
+use Rattle.merge.specs.MergedLists.{entries_of_lists}
 use Rattle.reads.specs.Lawful.{AreDistinct, IsLawful}
 use Rattle.reads.specs.StatedFiles.{IsStatedFile}
 use Rattle.reads.specs.TableOrder.{IsNewer, lists_of_files}

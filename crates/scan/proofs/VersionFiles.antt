@@ -7,7 +7,7 @@ use Rattle.std.specs.declared.cmp.Ordering.{Ordering}
 use Rattle.std.proofs.lemmas.List.Elements.{Contains-append_cases}
 use Rattle.std.proofs.lemmas.List.Sorted.{Contains-permutation, IsPermutation-sym}
 use Rattle.block.specs.EncodedEntry.{Entry}
-use Rattle.merge.specs.Merged.{entries_of_lists}
+use Rattle.merge.specs.MergedLists.{entries_of_lists}
 use Rattle.edit.specs.Version.{State}
 use Rattle.edit.specs.VersionOrder.{added_from, at_level, files_at, in_version_order}
 use Rattle.edit.specs.declared.meta.FileMeta.{FileMeta}

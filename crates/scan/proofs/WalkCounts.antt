@@ -14,15 +14,15 @@ use Rattle.ikey.specs.Comparator.{IsExact}
 use Rattle.ikey.specs.Key.{kind_of, user_of}
 use Rattle.ikey.specs.Order.{internal_cmp}
 use Rattle.block.specs.EncodedEntry.{Entry}
-use Rattle.merge.specs.Least.{IsAdvanced, IsMerging}
-use Rattle.merge.specs.Merged.{entries_of_lists, merged}
+use Rattle.merge.specs.LeastList.{IsAdvanced, IsMerging}
+use Rattle.merge.specs.MergedLists.{entries_of_lists, merged}
 use Rattle.merge.proofs.Leasts.{place_within}
 use Rattle.merge.proofs.Merges.{joined_at, joined_set}
 use Rattle.merge.proofs.SortedEntries.{sorted_never_falls}
 use Rattle.split.specs.Ranges.{KeyRange}
 use Rattle.keep.specs.FirstEntry.{first_is}
 use Rattle.keep.specs.InRange.{entries_in, is_in_range}
-use Rattle.keep.specs.Left.{is_before}
+use Rattle.keep.specs.CursorsLeft.{is_before}
 use Rattle.keep.proofs.Bounds.{below_apart, from_bound, within}
 use Rattle.reads.proofs.EntriesInOrder.{at_most_all, left_is}
 use Rattle.reads.proofs.FallingEntries.{each_of}

@@ -8,7 +8,7 @@ use Rattle.ikey.specs.Comparator.{KeyOrder}
 use Rattle.ikey.specs.Key.{user_of, sequence_of, kind_of}
 use Rattle.block.specs.EncodedEntry.{Entry}
 use Rattle.edit.specs.declared.meta.FileMeta.{FileMeta}
-use Rattle.merge.specs.Merged.{entries_of_lists, sorted_entries}
+use Rattle.merge.specs.MergedLists.{entries_of_lists, sorted_entries}
 use Rattle.split.specs.Ranges.{KeyRange, range_at}
 use Rattle.keep.specs.InRange.{entries_in}
 use Rattle.reads.specs.TableOrder.{lists_of_files}
@@ -46,15 +46,15 @@ abbrev pub decided_after : ℕ → Option (List ℕ) → Entry → Option (List 
 decided_after at decided e = if is_passed_over at decided e then decided else Some (user_of e.key)
 
 -- the rows of entries, if this user key was decided before them
-abbrev pub rows_behind : ℕ → Option (List ℕ) → List Entry → List Row
-rows_behind at decided [] = []
-rows_behind at decided (e ∷ es) =
-    entry_rows at decided e ++ rows_behind at (decided_after at decided e) es
+abbrev pub rows_after : ℕ → Option (List ℕ) → List Entry → List Row
+rows_after at decided [] = []
+rows_after at decided (e ∷ es) =
+    entry_rows at decided e ++ rows_after at (decided_after at decided e) es
 
 -- the rows of the entries that lists have in a range
 abbrev pub sorted_rows : KeyOrder → KeyRange → ℕ → List (List Entry) → List Row
 sorted_rows cmp range at lists =
-    rows_behind at None (sorted_entries cmp (entries_in cmp range (entries_of_lists lists)))
+    rows_after at None (sorted_entries cmp (entries_in cmp range (entries_of_lists lists)))
 
 -- the rows of the tables of files, in a range
 abbrev pub file_rows : KeyOrder → List NumberedContents → List FileMeta → ℕ → KeyRange → List Row

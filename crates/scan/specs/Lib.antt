@@ -12,6 +12,6 @@ pub mod TestedStats
 pub mod EntryRows
 pub mod RowParts
 pub mod Counts
-pub mod Parts
+pub mod ListParts
 pub mod LevelCounts
 pub mod LevelRows

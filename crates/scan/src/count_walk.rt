@@ -4,7 +4,7 @@ ghost use Rattle.std.specs.Prelude.{◌≡◌, ◌<◌, List, ◌∷◌, length,
 ghost use Rattle.coding.specs.Answers.{fault};
 ghost use Rattle.coding.specs.declared.fault.FaultName.TheVariants.{Memory};
 ghost use Rattle.block.specs.EncodedEntry.{Entry};
-ghost use Rattle.merge.specs.Merged.{merged};
+ghost use Rattle.merge.specs.MergedLists.{merged};
 ghost use Rattle.split.specs.Ranges.{key_range};
 ghost use Rattle.keep.specs.InRange.{entries_in};
 ghost use Rattle.scan.specs.Counts.{amounts_after, decided_then, AreAmountsCounted};

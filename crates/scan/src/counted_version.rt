@@ -10,7 +10,7 @@ ghost use Rattle.folder.specs.Levels.{file_numbers};
 ghost use Rattle.folder.specs.LoadedTables.{IsLoaded};
 ghost use Rattle.folder.specs.OpenAnswer.{FolderAnswers};
 ghost use Rattle.folder.specs.Orders.{order_cmp};
-ghost use Rattle.folder.specs.ReadsAs.{IsHeldIn};
+ghost use Rattle.folder.specs.ReadsAs.{IsFileIn};
 ghost use Rattle.folder.specs.Reports.{OnlyReads, ReportsDevice};
 ghost use Rattle.reads.specs.TableOrder.{IsNeverLawful};
 ghost use Rattle.reads.specs.Tables.{NumberedContents};
@@ -28,7 +28,7 @@ use coding::{Fault, FaultName};
 use edit::Version;
 use folder::{Order, ReadsTables};
 use ikey::{Bytewise, SharedComparator, Shortlex};
-use reads::standing_files;
+use reads::files_newest_first;
 use split::Split;
 use std::alloc::Global;
 use std::thread::Threads;
@@ -54,7 +54,7 @@ pub fn version_stats<F: ReadsTables, W: Watch + Sync, R: Threads + Sync>(
 ) -> Result<VersionStats, Fault>
     ensures stats { (files : Files) → Tells (F.tells folder.old) files →
         FolderAnswers seen_stats (F.failed folder.old) (F.failed folder.new) result
-        (IsTestedStats (IsHeldIn files) (order_cmp order) version.now) }
+        (IsTestedStats (IsFileIn files) (order_cmp order) version.now) }
     ensures device { ReportsDevice F.Folder folder.old folder.new result }
     ensures reads { OnlyReads F.Folder folder.old folder.new }
 {
@@ -84,7 +84,7 @@ pub fn version_stats_by<
 ) -> Result<VersionStats, Fault>
     ensures stats { (files : Files) → Tells (F.tells folder.old) files →
         FolderAnswers seen_stats (F.failed folder.old) (F.failed folder.new) result
-        (IsTestedStats (IsHeldIn files) C.cmp version.now) }
+        (IsTestedStats (IsFileIn files) C.cmp version.now) }
     ensures device { ReportsDevice F.Folder folder.old folder.new result }
     ensures reads { OnlyReads F.Folder folder.old folder.new }
 {
@@ -132,7 +132,7 @@ fn level_split<C: SharedComparator>(
     ensures refused { IfErr result (λ e. UnlessMemory e
         ((e ≡ fault Lawless) × IsNeverLawful C.cmp version.now)) }
 {
-    let Some(standing) = standing_files::<C>(alloc, version)? else {
+    let Some(standing) = files_newest_first::<C>(alloc, version)? else {
         return Err(Fault::of(FaultName::Lawless));
     };
     group_split::<C>(alloc, &standing, memory)

@@ -4,12 +4,12 @@ ghost use Rattle.std.specs.Prelude.{◌≡◌, ◌+◌, ◌≤◌, length, map, 
 ghost use Rattle.std.specs.List.{sum_by};
 ghost use Rattle.coding.specs.Answers.{fault};
 ghost use Rattle.coding.specs.declared.fault.FaultName.TheVariants.{Memory};
-ghost use Rattle.merge.specs.Merged.{entries_of_lists, merged, sorted_entries};
+ghost use Rattle.merge.specs.MergedLists.{entries_of_lists, merged, sorted_entries};
 ghost use Rattle.split.specs.Ranges.{key_range};
 ghost use Rattle.keep.specs.InRange.{entries_in};
 ghost use Rattle.reads.specs.Tables.{NumberedContents};
 ghost use Rattle.scan.specs.Counts.{AreAmountsCounted};
-ghost use Rattle.scan.specs.Parts.{in_parts};
+ghost use Rattle.scan.specs.ListParts.{in_parts};
 
 use crate::amounts::Amounts;
 use crate::count_walk::count_merged;

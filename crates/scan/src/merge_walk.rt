@@ -3,11 +3,11 @@
 ghost use Rattle.std.specs.Prelude.{◌≡◌, false, OnOk, IsOkUnless, IfErr};
 ghost use Rattle.coding.specs.Answers.{fault};
 ghost use Rattle.coding.specs.declared.fault.FaultName.TheVariants.{Memory};
-ghost use Rattle.merge.specs.Merged.{merged};
+ghost use Rattle.merge.specs.MergedLists.{merged};
 ghost use Rattle.split.specs.Ranges.{key_range};
 ghost use Rattle.keep.specs.FirstEntry.{first_is};
 ghost use Rattle.keep.specs.InRange.{entries_in};
-ghost use Rattle.keep.specs.Left.{is_before};
+ghost use Rattle.keep.specs.CursorsLeft.{is_before};
 ghost use Rattle.scan.specs.EntryRows.{sorted_rows};
 ghost use Rattle.scan.specs.RowParts.{AreTelling, AreWanted};
 

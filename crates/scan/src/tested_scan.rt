@@ -3,7 +3,7 @@
 ghost use Rattle.std.specs.Prelude.{◌≡◌, ℕ};
 ghost use Rattle.folder.specs.Calls.{Files, Tells};
 ghost use Rattle.folder.specs.Orders.{order_cmp};
-ghost use Rattle.folder.specs.ReadsAs.{IsHeldIn};
+ghost use Rattle.folder.specs.ReadsAs.{IsFileIn};
 ghost use Rattle.folder.specs.Reports.{OnlyReads, ReportsDevice};
 ghost use Rattle.scan.specs.TestedScan.{IsTestedScan};
 
@@ -35,7 +35,7 @@ pub fn scan_version<F: ReadsTables, T: RowTaker, W: Watch + Sync, R: Threads + S
     watch: &W,
 ) -> Result<(), Fault>
     ensures rows { (files : Files) → Tells (F.tells folder.old) files →
-        IsTestedScan T.tells (IsHeldIn files) (order_cmp order) version.now choice.entry
+        IsTestedScan T.tells (IsFileIn files) (order_cmp order) version.now choice.entry
         taker.old taker.new (F.failed folder.old) (F.failed folder.new) result }
     ensures device { ReportsDevice F.Folder folder.old folder.new result }
     ensures reads { OnlyReads F.Folder folder.old folder.new }
@@ -68,7 +68,7 @@ pub fn scan_version_by<
     watch: &W,
 ) -> Result<(), Fault>
     ensures rows { (files : Files) → Tells (F.tells folder.old) files →
-        IsTestedScan T.tells (IsHeldIn files) C.cmp version.now choice.entry
+        IsTestedScan T.tells (IsFileIn files) C.cmp version.now choice.entry
         taker.old taker.new (F.failed folder.old) (F.failed folder.new) result }
     ensures device { ReportsDevice F.Folder folder.old folder.new result }
     ensures reads { OnlyReads F.Folder folder.old folder.new }

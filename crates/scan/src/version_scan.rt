@@ -19,7 +19,7 @@ use coding::{Fault, FaultName};
 use edit::Version;
 use folder::{Order, ReadsTables};
 use ikey::{Bytewise, SharedComparator, Shortlex};
-use reads::standing_files;
+use reads::files_newest_first;
 use std::alloc::Global;
 use std::thread::Threads;
 
@@ -90,7 +90,7 @@ pub fn scan_unverified_by<
     ensures device { ReportsDevice F.Folder folder.old folder.new result }
     ensures reads { OnlyReads F.Folder folder.old folder.new }
 {
-    let Some(standing) = standing_files::<C>(alloc, version)? else {
+    let Some(standing) = files_newest_first::<C>(alloc, version)? else {
         return Err(Fault::of(FaultName::Lawless));
     };
     let split = group_split::<C>(alloc, &standing, memory.min(SCANNED_BYTES))?;

@@ -11,13 +11,14 @@ use Rattle.coding.specs.Answers.{FailsOrMemory, ◌>>=◌}
 use Rattle.coding.specs.declared.fault.Fault.{Fault}
 use Rattle.coding.specs.declared.fault.FaultName.TheVariants.{Bounds}
 use Rattle.table.proofs.EntryTests.{passed}
-use Rattle.table.specs.ReadingSteps.{test_result}
+use Rattle.table.specs.TestResult.{test_result}
 use Rattle.table.specs.TableContents.{Contents, contents_reading}
-use Rattle.pick.specs.declared.picked.InputFile.{InputFile}
+use Rattle.pick.specs.declared.picked_inputs.InputFile.{InputFile}
 use Rattle.reads.specs.Tables.{NumberedContents}
 use Rattle.checks.specs.TableReadings.{tables_reading}
-use Rattle.checks.specs.HeldTables.{AreReadAs, held_bytes}
-use Rattle.compact.specs.Sound.{AreInputs}
+use Rattle.checks.specs.HeldTables.{AreReadAs}
+use Rattle.checks.specs.HeldBytes.{held_bytes}
+use Rattle.compact.specs.CheckedInputs.{AreInputs}
 use Rattle.compact.proofs.ReadInputs.{read_inputs}
 use Rattle.install.specs.Install.{tables_in}
 use Rattle.checks.proofs.FoundTables.{checked_parts}

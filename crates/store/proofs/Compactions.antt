@@ -10,11 +10,11 @@ use Rattle.coding.specs.Answers.{FailsOrMemory, fault, ◌>>=◌}
 use Rattle.coding.specs.declared.fault.Fault.{Fault}
 use Rattle.coding.specs.declared.fault.FaultName.{FaultName}
 use Rattle.coding.specs.declared.fault.FaultName.TheVariants.{Level, NoInput, Numbers, SplitCount, Workers}
-use Rattle.table.specs.ReadingSteps.{test_result}
+use Rattle.table.specs.TestResult.{test_result}
 use Rattle.edit.specs.Version.{IsState, State}
 use Rattle.folder.specs.declared.order.Order.{Order}
 use Rattle.edit.specs.VersionOrder.{level_files}
-use Rattle.pick.specs.Picked.{IsInputsAnswer, IsPicked, PickedInputs}
+use Rattle.pick.specs.PickedInputs.{IsInputsAnswer, IsPicked, PickedInputs}
 use Rattle.reads.specs.Tables.{NumberedContents}
 use Rattle.checks.specs.LawfulTables.{IsLawfulTables}
 use Rattle.checks.proofs.LawfulLemmas.{sound_checked, sound_lawful}
@@ -22,7 +22,7 @@ use Rattle.request.specs.OneThread.{Answer, compaction_result, one_thread}
 use Rattle.request.specs.Request.{RequestView}
 use Rattle.store.specs.FolderRequest.{compaction_from, first_output, manifest_of, numbered_request, request_from}
 use Rattle.store.specs.Compaction.{VersionCompaction}
-use Rattle.store.specs.JointLaws.{NumberedJointLaw}
+use Rattle.store.specs.NumberedJointLaw.{NumberedJointLaw}
 use Rattle.store.specs.Lines.{compaction_lines}
 use Rattle.store.specs.Outcome.{LevelCompaction}
 use Rattle.settings.specs.declared.settings.Settings.{Settings}

@@ -13,7 +13,7 @@ use Rattle.folder.specs.declared.order.Order.{Order}
 use Rattle.reads.specs.Tables.{NumberedContents}
 use Rattle.settings.specs.declared.settings.Settings.{Settings}
 use Rattle.store.specs.AllLevels.{IsDescended}
-use Rattle.store.specs.StepTaken.{IsUntold}
+use Rattle.store.specs.Untold.{IsUntold}
 use Rattle.store.specs.declared.descent_end.DescentEnd.{DescentEnd}
 
 pub untold_since : {T W : Type 0} (first before after : List Step) (zero old new : List ℕ → Option (List ℕ) → Type 0) (told told_now : W) (P : Fault → Type 0) (r : Result T Fault) → before ≡ first → TellsSame zero old

@@ -8,7 +8,7 @@ use Rattle.folder.proofs.OpeningLemmas.{answers_since, hands_on}
 pub use Rattle.folder.proofs.ToldLemmas.{loaded_in, opened_in, told_still}
 use Rattle.folder.specs.Calls.{Files, Tells}
 use Rattle.folder.specs.OpenAnswer.{FolderAnswers, HasDeviceFailed, IsStopped}
-use Rattle.folder.specs.ReadsAs.{IsHeldIn}
+use Rattle.folder.specs.ReadsAs.{IsFileIn}
 
 abbrev refusal : {Y : Type 0} → Fault → Result Y Fault
 refusal e = Err e
@@ -17,7 +17,7 @@ pub no_refusal : {Y : Type 0} (y : Y) (e : Fault) → Ok y ≡ refusal e → ⊥
 no_refusal y e h = cc
 
 -- files tell themselves
-pub told_themselves : (files : Files) → Tells (IsHeldIn files) files
+pub told_themselves : (files : Files) → Tells (IsFileIn files) files
 told_themselves files name held = ((λ h. h), (λ h. h))
 
 -- ---- answers

@@ -8,10 +8,10 @@ use Rattle.std.specs.declared.cmp.Ordering.{Ordering}
 use Rattle.std.proofs.lemmas.Bool.{eqb-true}
 use Rattle.std.proofs.lemmas.Option.{none-some, same_Some}
 use Rattle.coding.specs.declared.fault.Fault.{Fault}
-use Rattle.table.specs.Checked.{contents_in}
+use Rattle.table.specs.CheckedContents.{contents_in}
 use Rattle.table.specs.TableContents.{Contents, contents_of, contents_reading}
 use Rattle.reads.specs.Tables.{NumberedContents, table_of_number}
-use Rattle.survival.specs.Survive.{output_table}
+use Rattle.survival.specs.SurvivingReads.{output_table}
 use Rattle.store.proofs.Loaded.{own_bytes, turned}
 
 -- the first table of a number

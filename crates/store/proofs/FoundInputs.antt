@@ -7,10 +7,11 @@ use Rattle.ikey.specs.Comparator.{ShortKeys}
 use Rattle.edit.specs.Version.{State}
 use Rattle.folder.specs.Calls.{Files}
 use Rattle.folder.specs.LoadedTables.{IsLoaded}
-use Rattle.folder.specs.ReadsAs.{IsHeldIn}
-use Rattle.pick.specs.Picked.{IsInputsAnswer, PickedInputs}
+use Rattle.folder.specs.ReadsAs.{IsFileIn}
+use Rattle.pick.specs.PickedInputs.{IsInputsAnswer, PickedInputs}
 use Rattle.reads.specs.Tables.{NumberedContents}
-use Rattle.checks.specs.HeldTables.{IsCheckedAnswer, held_bytes}
+use Rattle.checks.specs.HeldTables.{IsCheckedAnswer}
+use Rattle.checks.specs.HeldBytes.{held_bytes}
 use Rattle.request.specs.OneThread.{Answer}
 use Rattle.settings.specs.declared.settings.Settings.{Settings}
 use Rattle.store.specs.FoundInputs.{IsInputsFound}
@@ -57,7 +58,7 @@ module _ (cmp : List ℕ → List ℕ → Ordering) (files : Files) (v : State) 
   pub record AreLevelInputs (p : PickedInputs) (tables : List NumberedContents) : Type 0 where
     pub orderly : IsOrderlyAnswer cmp v (Ok tt)
     pub picked : IsInputsAnswer cmp v level (Ok p)
-    pub loaded : IsLoaded (IsHeldIn files) (input_numbers p.files) (Ok (held_bytes tables))
+    pub loaded : IsLoaded (IsFileIn files) (input_numbers p.files) (Ok (held_bytes tables))
 
   pub inputs_found : (p : PickedInputs) (tables : List NumberedContents) → IsInputsFound cmp files v level (Ok (p, tables)) → AreLevelInputs p tables
   inputs_found p tables (Err d, (h, is)) = absurd (no_fault (p, tables) d is)
@@ -70,7 +71,7 @@ module _ (cmp : List ℕ → List ℕ → Ordering) (files : Files) (v : State) 
       record {
         orderly = h;
         picked = subst (λ (x : PickedInputs). IsInputsAnswer cmp v level (Ok x)) one k;
-        loaded = subst (λ (ts : List NumberedContents). IsLoaded (IsHeldIn files) (input_numbers p.files) (Ok (held_bytes ts))) two
+        loaded = subst (λ (ts : List NumberedContents). IsLoaded (IsFileIn files) (input_numbers p.files) (Ok (held_bytes ts))) two
             (checked_loaded cmp files (input_numbers p.files) found_tables (subst (λ (x : PickedInputs). IsCheckedAnswer cmp files (input_numbers x.files) (Ok found_tables)) one l));
       }
 
@@ -80,4 +81,4 @@ module _ (cmp : List ℕ → List ℕ → Ordering) (files : Files) (v : State) 
   level_told tell first short_keys s p tables answer given told =
       first_passed (IsOrderlyAnswer cmp v) (λ passed. IsThen (IsInputsAnswer cmp v level) (IsPickedTold tell first cmp short_keys files v s)) tt answer given.orderly
       (first_passed (IsInputsAnswer cmp v level) (IsPickedTold tell first cmp short_keys files v s) p answer given.picked
-      (first_passed (IsLoaded (IsHeldIn files) (input_numbers p.files)) (IsReadTold tell first cmp short_keys v p s) (held_bytes tables) answer given.loaded told))
+      (first_passed (IsLoaded (IsFileIn files) (input_numbers p.files)) (IsReadTold tell first cmp short_keys v p s) (held_bytes tables) answer given.loaded told))

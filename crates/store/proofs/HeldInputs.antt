@@ -6,16 +6,17 @@ use Rattle.coding.specs.Answers.{◌>>=◌}
 use Rattle.coding.specs.declared.fault.Fault.{Fault}
 use Rattle.coding.specs.declared.fault.FaultName.TheVariants.{Bounds}
 use Rattle.ikey.specs.Comparator.{ShortKeys}
-use Rattle.table.specs.ReadingSteps.{test_result}
+use Rattle.table.specs.TestResult.{test_result}
 use Rattle.table.specs.TableContents.{Contents}
 use Rattle.edit.specs.Version.{State}
 use Rattle.folder.specs.Calls.{Files}
 use Rattle.folder.specs.LoadedTables.{IsLoaded}
-use Rattle.folder.specs.ReadsAs.{IsHeldIn}
-use Rattle.pick.specs.Picked.{PickedInputs}
+use Rattle.folder.specs.ReadsAs.{IsFileIn}
+use Rattle.pick.specs.PickedInputs.{PickedInputs}
 use Rattle.reads.specs.Tables.{NumberedContents}
 use Rattle.checks.specs.TableReadings.{tables_reading}
-use Rattle.checks.specs.HeldTables.{IsCheckedAnswer, held_bytes, held_numbers}
+use Rattle.checks.specs.HeldTables.{IsCheckedAnswer, held_numbers}
+use Rattle.checks.specs.HeldBytes.{held_bytes}
 use Rattle.checks.proofs.FoundTables.{checked_parts}
 use Rattle.request.specs.OneThread.{Answer}
 use Rattle.settings.specs.declared.settings.Settings.{Settings}
@@ -38,8 +39,8 @@ module _ (cmp : List ℕ → List ℕ → Ordering) where
       ∙ ap (λ (b : List ℕ). (l.0, b) ∷ held_bytes c.behind) (own_bytes cmp l.1 c.contents c.read)
       ∙ ap (λ (ls : List (ℕ × List ℕ)). l ∷ ls) (held_loaded loaded c.behind c.rest)
 
-  pub checked_loaded : (files : Files) (numbers : List ℕ) (tables : List NumberedContents) → IsCheckedAnswer cmp files numbers (Ok tables) → IsLoaded (IsHeldIn files) numbers (Ok (held_bytes tables))
-  checked_loaded files numbers tables (Ok loaded, (there, read)) = subst (λ (ls : List (ℕ × List ℕ)). IsLoaded (IsHeldIn files) numbers (Ok ls)) (sym (held_loaded loaded tables read)) there
+  pub checked_loaded : (files : Files) (numbers : List ℕ) (tables : List NumberedContents) → IsCheckedAnswer cmp files numbers (Ok tables) → IsLoaded (IsFileIn files) numbers (Ok (held_bytes tables))
+  checked_loaded files numbers tables (Ok loaded, (there, read)) = subst (λ (ls : List (ℕ × List ℕ)). IsLoaded (IsFileIn files) numbers (Ok ls)) (sym (held_loaded loaded tables read)) there
   checked_loaded files numbers tables (Err d, h) = absurd (no_error tables d h.1)
     where
       no_error : (tables : List NumberedContents) (e : Fault) → done tables ≡ failed e → ⊥
@@ -50,11 +51,11 @@ module _ (cmp : List ℕ → List ℕ → Ordering) where
       → IsCheckedAnswer cmp files (input_numbers p.files) (Err e) → IsPickedTold tell first cmp short_keys files v s p (Err e)
   checked_refused {T} tell first short_keys files v s p e (Err d, h) =
       let same : d ≡ e = same_error d e h.1 in
-      first_refused (IsLoaded (IsHeldIn files) (input_numbers p.files)) (IsReadTold tell first cmp short_keys v p s) e (subst (λ (f : Fault). IsLoaded (IsHeldIn files) (input_numbers p.files) (Err f)) same h.0)
+      first_refused (IsLoaded (IsFileIn files) (input_numbers p.files)) (IsReadTold tell first cmp short_keys v p s) e (subst (λ (f : Fault). IsLoaded (IsFileIn files) (input_numbers p.files) (Err f)) same h.0)
     where
       same_error : (d e : Fault) → failed {A = List NumberedContents} e ≡ failed d → d ≡ e
       same_error d e h = cc h
   checked_refused {T} tell first short_keys files v s p e (Ok loaded, (there, read)) =
-      first_passed (IsLoaded (IsHeldIn files) (input_numbers p.files)) (IsReadTold tell first cmp short_keys v p s) loaded (Err e) there
+      first_passed (IsLoaded (IsFileIn files) (input_numbers p.files)) (IsReadTold tell first cmp short_keys v p s) loaded (Err e) there
       (first_refused (λ r. input_tables cmp p.files loaded ≡ r) (λ (contents : List Contents) (a : Result T Fault). a ≡ (compaction_from first cmp short_keys v loaded p s >>= λ x. Ok (tell p x))) e
       (ap (λ (r : Result (List NumberedContents) Fault). r >>= λ ts. test_result (are_stated p.files ts) Bounds >>= λ _. Ok (map (λ (t : NumberedContents). t.contents) ts)) read))

@@ -15,9 +15,9 @@ use Rattle.folder.specs.LoadedTables.{IsLoaded}
 use Rattle.install.specs.Install.{table_bytes_of}
 use Rattle.pick.proofs.VersionFiles.{are_level_files}
 use Rattle.pick.specs.Boundaries.{AreWithBoundaries, is_among}
-use Rattle.pick.specs.Picked.{IsPicked, PickedInputs, input_at}
+use Rattle.pick.specs.PickedInputs.{IsPicked, PickedInputs, input_at}
 use Rattle.pick.specs.Ranges.{overlaps}
-use Rattle.pick.specs.declared.picked.InputFile.{InputFile}
+use Rattle.pick.specs.declared.picked_inputs.InputFile.{InputFile}
 use Rattle.reads.proofs.Apart.{AreTwoMetas, metas_apart, one_number}
 use Rattle.reads.proofs.Levels.{IsAtLevel, from_level}
 use Rattle.reads.proofs.Members.{first_in, from_filter, from_map, later_in}

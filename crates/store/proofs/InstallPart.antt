@@ -11,7 +11,7 @@ use Rattle.folder.specs.CallSequence.{AreMadeBy, MakesCalls}
 use Rattle.folder.specs.Folder.{TellsSame}
 use Rattle.folder.specs.Names.{current_text}
 use Rattle.folder.specs.OpenAnswer.{IsOpened, IsStopped}
-use Rattle.folder.specs.ReadsAs.{IsHeldIn}
+use Rattle.folder.specs.ReadsAs.{IsFileIn}
 use Rattle.folder.specs.declared.order.Order.{Order}
 use Rattle.install.specs.Install.{IsEditedBy, SurvivesCrash, next_version_tables}
 use Rattle.install.proofs.Moments.{made_by}
@@ -80,7 +80,7 @@ installed_since order cmp short_keys v files level s first before after zero old
 
 -- the version was opened, and its sync was refused
 pub sync_refused : {T : Type 0} (order : Order) (v : State) (manifest : ℕ) (files : Files) (level : ℕ) (s : Settings) (first before after : List Step) (zero old new : List ℕ → Option (List ℕ) → Type 0) (r : Result T Fault) (q : Result CompactionStep Fault)
-    → IsOpened (IsHeldIn files) (Ok (order, v)) → files (codes "CURRENT") ≡ Some (current_text manifest) → before ≡ first → TellsSame zero old → MakesCalls (sync_calls (order_cmp order) v manifest) before after old new r → OnOk q ⊥
+    → IsOpened (IsFileIn files) (Ok (order, v)) → files (codes "CURRENT") ≡ Some (current_text manifest) → before ≡ first → TellsSame zero old → MakesCalls (sync_calls (order_cmp order) v manifest) before after old new r → OnOk q ⊥
     → IsFolderLeft files level s first after zero new q
 sync_refused order v manifest files level s first before after zero old new r q opened named is same runs refused =
     let calls = sync_calls (order_cmp order) v manifest in
@@ -106,7 +106,7 @@ all_made {T = T} calls steps r x was made = subst (λ (q : Result T Fault). AreM
 
 -- the version was opened and synced, and then compacted
 pub synced_left : {T : Type 0} (order : Order) (v : State) (manifest : ℕ) (files : Files) (level : ℕ) (s : Settings) (first before synced after : List Step) (zero old middle new : List ℕ → Option (List ℕ) → Type 0) (r : Result T Fault) (x : T) (q : Result CompactionStep Fault)
-    → IsOpened (IsHeldIn files) (Ok (order, v)) → files (codes "CURRENT") ≡ Some (current_text manifest) → before ≡ first → TellsSame zero old → r ≡ Ok x → MakesCalls (sync_calls (order_cmp order) v manifest) before synced old middle r
+    → IsOpened (IsFileIn files) (Ok (order, v)) → files (codes "CURRENT") ≡ Some (current_text manifest) → before ≡ first → TellsSame zero old → r ≡ Ok x → MakesCalls (sync_calls (order_cmp order) v manifest) before synced old middle r
     → IsVersionLeft order (order_cmp order) (order_short_keys order) v files level s synced after middle new q → IsFolderLeft files level s first after zero new q
 synced_left order v manifest files level s first before synced after zero old middle new r x q opened named is same was runs left =
     let calls = sync_calls (order_cmp order) v manifest in

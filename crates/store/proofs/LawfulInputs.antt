@@ -11,7 +11,7 @@ use Rattle.coding.specs.Answers.{IsThen, fault, ◌>>=◌}
 use Rattle.coding.specs.declared.fault.Fault.{Fault}
 use Rattle.coding.specs.declared.fault.FaultName.TheVariants.{Bounds, Level, NoInput, Numbers, SplitCount}
 use Rattle.ikey.specs.Comparator.{ShortKeys}
-use Rattle.table.specs.ReadingSteps.{test_result}
+use Rattle.table.specs.TestResult.{test_result}
 use Rattle.table.specs.TableContents.{Contents, contents_reading}
 use Rattle.edit.specs.Version.{State}
 use Rattle.edit.specs.VersionOrder.{level_files}
@@ -19,10 +19,10 @@ use Rattle.edit.specs.declared.meta.FileMeta.{FileMeta}
 use Rattle.folder.specs.Calls.{Files}
 use Rattle.folder.specs.Levels.{file_numbers, numbers_at}
 use Rattle.folder.specs.LoadedTables.{IsLoaded, IsTableOf}
-use Rattle.folder.specs.ReadsAs.{IsHeldIn, IsOneOf}
+use Rattle.folder.specs.ReadsAs.{IsFileIn, IsOneOf}
 use Rattle.install.specs.Install.{table_bytes_of}
-use Rattle.pick.specs.Picked.{IsInputsAnswer, IsPicked, PickedInputs, input_at}
-use Rattle.pick.specs.declared.picked.InputFile.{InputFile}
+use Rattle.pick.specs.PickedInputs.{IsInputsAnswer, IsPicked, PickedInputs, input_at}
+use Rattle.pick.specs.declared.picked_inputs.InputFile.{InputFile}
 use Rattle.reads.proofs.Members.{first_in, first_or_later, from_map, later_in, none_in}
 use Rattle.reads.specs.Lawful.{IsLawful}
 use Rattle.reads.specs.Tables.{NumberedContents}
@@ -82,7 +82,7 @@ no_refusal : {Y : Type 0} (y : Y) (e : Fault) → Ok y ≡ refusal e → ⊥
 no_refusal y e h = cc
 
 module _ (cmp : List ℕ → List ℕ → Ordering) (total : IsTotalOrder cmp) (files : Files) (v : State) (loaded : List (ℕ × List ℕ)) (tables : List NumberedContents)
-    (held : IsLoaded (IsHeldIn files) (file_numbers cmp v) (Ok loaded)) (sound : IsLawfulTables cmp v loaded (Ok tables)) where
+    (held : IsLoaded (IsFileIn files) (file_numbers cmp v) (Ok loaded)) (sound : IsLawfulTables cmp v loaded (Ok tables)) where
   checked : tables_reading cmp loaded ≡ Ok tables
   checked = sound_checked cmp v loaded tables sound
 
@@ -120,7 +120,7 @@ module _ (cmp : List ℕ → List ℕ → Ordering) (total : IsTotalOrder cmp) (
     among (i ∷ is) inside n (inr m) = among is (λ j at. inside j (later_in i is j at)) n m
 
     -- so its table isn't missing
-    pub not_missing : (e : Fault) → IsLoaded (IsHeldIn files) (input_numbers p.files) (Err e) → ⊥
+    pub not_missing : (e : Fault) → IsLoaded (IsFileIn files) (input_numbers p.files) (Err e) → ⊥
     not_missing e missing = none_missing files (file_numbers cmp v) (input_numbers p.files) loaded e held (among p.files (λ i at. at)) missing
 
     one_input : (is : List InputFile) (i : InputFile) → Contains is i → IsOneOf (input_numbers is) i.meta.number
@@ -130,7 +130,7 @@ module _ (cmp : List ℕ → List ℕ → Ordering) (total : IsTotalOrder cmp) (
         by [] j = absurd (none_in i j)
         by (k ∷ js) j = elim (first_or_later k js i j) [ inl same ↦ inl (ap (λ (x : InputFile). x.meta.number) same) | inr later ↦ inr (by js later) ]
 
-    module _ (own : List (ℕ × List ℕ)) (read : IsLoaded (IsHeldIn files) (input_numbers p.files) (Ok own)) where
+    module _ (own : List (ℕ × List ℕ)) (read : IsLoaded (IsFileIn files) (input_numbers p.files) (Ok own)) where
       bytes_same : (i : InputFile) → Contains p.files i → table_bytes_of own i.meta.number ≡ table_bytes_of loaded i.meta.number
       bytes_same i at = same_bytes files (file_numbers cmp v) (input_numbers p.files) loaded own i.meta.number held read (input_number i at) (one_input p.files i at)
 
@@ -152,18 +152,18 @@ module _ (cmp : List ℕ → List ℕ → Ordering) (total : IsTotalOrder cmp) (
         reading : tables_reading cmp given ≡ Ok found
         stated : are_stated is found ≡ true
 
-      read_one : (i : InputFile) (t : ℕ × List ℕ) → Contains p.files i → IsTableOf (IsHeldIn files) i.meta.number t → (c : Contents) × (numbered_reading cmp t ≡ Ok (record { number = t.0; contents = c })) × (table_matches_metadata i.meta c ≡ true)
+      read_one : (i : InputFile) (t : ℕ × List ℕ) → Contains p.files i → IsTableOf (IsFileIn files) i.meta.number t → (c : Contents) × (numbered_reading cmp t ≡ Ok (record { number = t.0; contents = c })) × (table_matches_metadata i.meta c ≡ true)
       read_one i t at is =
           let f = file_of_input cmp total v loaded tables level p checked lawful picked i at in
           let bytes : t.1 ≡ f.table.bytes =
-          one_table files i.meta.number (table_bytes_of loaded i.meta.number) t.1 (loaded_at (IsHeldIn files) (file_numbers cmp v) loaded i.meta.number held (input_number i at)) is.1
+          one_table files i.meta.number (table_bytes_of loaded i.meta.number) t.1 (loaded_at (IsFileIn files) (file_numbers cmp v) loaded i.meta.number held (input_number i at)) is.1
           ∙ bytes_found loaded i.meta.number f.table.bytes (found_loaded cmp loaded tables i.meta.number f.table checked f.there) in (
             f.table,
             ap (λ (r : Result Contents Fault). r >>= λ c. Ok (record { number = t.0; contents = c })) (ap (contents_reading cmp) bytes ∙ f.accepted),
             stated_lawful cmp tables i.meta f,
           )
 
-      are_read : (is : List InputFile) (ts : List (ℕ × List ℕ)) → ((i : InputFile) → Contains is i → Contains p.files i) → AllZip (IsTableOf (IsHeldIn files)) (input_numbers is) ts → AreRead is ts
+      are_read : (is : List InputFile) (ts : List (ℕ × List ℕ)) → ((i : InputFile) → Contains is i → Contains p.files i) → AllZip (IsTableOf (IsFileIn files)) (input_numbers is) ts → AreRead is ts
       are_read [] [] inside h = record { found = []; reading = refl; stated = refl }
       are_read [] (t ∷ ts) inside h = absurd h
       are_read (i ∷ is) [] inside h = absurd h

@@ -10,14 +10,14 @@ use Rattle.coding.specs.declared.fault.FaultName.{FaultName}
 use Rattle.coding.specs.declared.fault.FaultName.TheVariants.{Bounds, Device, Duplicate, Level, Memory, NoInput, Numbers, Options, Snapshot, SnapshotList, SplitCount, TooLarge, Workers}
 use Rattle.block.specs.EncodedEntry.{Entry}
 use Rattle.table.specs.TableContents.{Contents, contents_reading}
-use Rattle.table.specs.ReadingEntries.{is_some_list}
-use Rattle.table.specs.ReadingSteps.{test_result}
+use Rattle.table.specs.EntryTests.{is_some_list}
+use Rattle.table.specs.TestResult.{test_result}
 use Rattle.edit.specs.Version.{State}
 use Rattle.edit.specs.VersionOrder.{level_files}
 use Rattle.edit.specs.declared.meta.FileMeta.{FileMeta}
-use Rattle.merge.specs.Merged.{merged}
-use Rattle.pick.specs.Picked.{IsInputsAnswer, PickedInputs}
-use Rattle.pick.specs.declared.picked.InputFile.{InputFile}
+use Rattle.merge.specs.MergedLists.{merged}
+use Rattle.pick.specs.PickedInputs.{IsInputsAnswer, PickedInputs}
+use Rattle.pick.specs.declared.picked_inputs.InputFile.{InputFile}
 use Rattle.keep.specs.Runs.{are_distinct}
 use Rattle.cut.specs.Outputs.{outputs}
 use Rattle.reads.specs.Tables.{NumberedContents}

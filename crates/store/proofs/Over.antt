@@ -8,14 +8,14 @@ use Rattle.std.proofs.lemmas.List.Elements.{All-contains}
 use Rattle.table.specs.TableContents.{Contents}
 use Rattle.edit.specs.Version.{State}
 use Rattle.edit.specs.declared.meta.NewFile.{NewFile}
-use Rattle.pick.specs.Picked.{IsPicked, PickedInputs}
-use Rattle.pick.specs.declared.picked.InputFile.{InputFile}
+use Rattle.pick.specs.PickedInputs.{IsPicked, PickedInputs}
+use Rattle.pick.specs.declared.picked_inputs.InputFile.{InputFile}
 use Rattle.reads.specs.Lawful.{IsBelowNextFile, IsFileOf, IsLawful}
 use Rattle.reads.specs.Tables.{NumberedContents}
 use Rattle.reads.proofs.Members.{first_in, later_in}
 use Rattle.checks.specs.TableReadings.{tables_reading}
 use Rattle.install.specs.Install as install
-use Rattle.survival.specs.Over.{IsOver, input_bytes_of}
+use Rattle.survival.specs.RequestOverVersion.{IsOver, input_bytes_of}
 use Rattle.survival.proofs.Inputs.{input_file}
 use Rattle.store.specs.FolderRequest.{manifest_of, request_from}
 use Rattle.settings.specs.declared.settings.Settings.{Settings}

@@ -7,7 +7,7 @@ use Rattle.coding.specs.Answers.{FailsOrMemory, UnlessMemory, fault, ◌>>=◌}
 use Rattle.coding.specs.declared.fault.Fault.{Fault}
 use Rattle.coding.specs.declared.fault.FaultName.TheVariants.{Device, Memory, SplitCount}
 use Rattle.ikey.specs.Comparator.{ShortKeys}
-use Rattle.table.specs.ReadingSteps.{test_result}
+use Rattle.table.specs.TestResult.{test_result}
 use Rattle.edit.specs.Version.{State}
 use Rattle.folder.proofs.LoadingLemmas.{told_since}
 use Rattle.folder.proofs.OpeningLemmas.{refuses}
@@ -16,7 +16,7 @@ use Rattle.folder.specs.Folder.{TellsSame}
 use Rattle.folder.specs.OpenAnswer.{FolderAnswers, IsStopped}
 use Rattle.folder.specs.declared.order.Order.{Order}
 use Rattle.install.specs.Install.{SurvivesCrash, next_version_tables}
-use Rattle.pick.specs.Picked.{PickedInputs}
+use Rattle.pick.specs.PickedInputs.{PickedInputs}
 use Rattle.request.specs.OneThread.{Answer, compaction_result}
 use Rattle.request.specs.Request.{RequestView}
 use Rattle.settings.specs.declared.settings.Settings.{Settings}

@@ -15,7 +15,7 @@ use Rattle.folder.specs.OpenAnswer.{IsStopped}
 use Rattle.folder.specs.declared.folder.Folder.{Ghosts}
 use Rattle.folder.specs.declared.folder.FolderFault.{FolderFault}
 use Rattle.folder.specs.declared.folder.FolderFault.TheVariants.{Device, Memory}
-use Rattle.store.specs.CallRun.{IsRunOf}
+use Rattle.store.specs.CallsAnswer.{IsCallsAnswer}
 
 memory_other : (e : Fault) → e ≡ fault name.Memory → e.name ≢ name.Device
 memory_other e is same = let both : name.Memory ≡ name.Device = sym (ap (λ (f : Fault). f.name) is) ∙ same in cc both
@@ -61,7 +61,7 @@ memory_refused before now e (Err f) h is = subst (λ (x : Fault). UnlessMemory x
 
 module _ {D : Type 0} {g : Ghosts D} where
   -- memory runs out before the first call
-  pub run_none : {X : Type 0} (calls : List Call) (a : D) (e : Fault) (r : Result X Fault) → e ≡ fault name.Memory → IsErrAnd r (λ f. f ≡ e) → IsRunOf g calls a a r
+  pub run_none : {X : Type 0} (calls : List Call) (a : D) (e : Fault) (r : Result X Fault) → e ≡ fault name.Memory → IsErrAnd r (λ f. f ≡ e) → IsCallsAnswer g calls a a r
   run_none calls a e r is h = record {
     runs = runs_nowhere calls (g.calls a) (g.tells a) e r h;
     refused = memory_refused (g.failed a) (g.failed a) e r h is;
@@ -70,7 +70,7 @@ module _ {D : Type 0} {g : Ghosts D} where
 
   -- calls of the folder that failed
   pub run_failed : {X T : Type 0} (calls more : List Call) (a b : D) (first : Result T FolderFault) (e : FolderFault) (r : Result X Fault) → first ≡ Err e → IsErrAnd r (λ f. f ≡ fault (fault_name e))
-      → g.failed b ≡ failures_after (g.failed a) first → MakesCalls calls (g.calls a) (g.calls b) (g.tells a) (g.tells b) first → IsRunOf g (calls ++ more) a b r
+      → g.failed b ≡ failures_after (g.failed a) first → MakesCalls calls (g.calls a) (g.calls b) (g.tells a) (g.tells b) first → IsCallsAnswer g (calls ++ more) a b r
   run_failed calls more a b first e r was h count k = record {
     runs = runs_handed (λ f. f ≡ fault (fault_name e)) calls more (g.calls a) (g.calls b) (g.tells a) (g.tells b) first e r was h k;
     refused = stopped_by (g.failed a) (g.failed b) first e r was count h;
@@ -79,7 +79,7 @@ module _ {D : Type 0} {g : Ghosts D} where
 
   -- calls of the folder that were all done
   pub run_done : {X T : Type 0} (calls : List Call) (a b : D) (first : Result T FolderFault) (x : T) (y : X) → first ≡ Ok x
-      → g.failed b ≡ failures_after (g.failed a) first → MakesCalls calls (g.calls a) (g.calls b) (g.tells a) (g.tells b) first → IsRunOf g calls a b (Ok y)
+      → g.failed b ≡ failures_after (g.failed a) first → MakesCalls calls (g.calls a) (g.calls b) (g.tells a) (g.tells b) first → IsCallsAnswer g calls a b (Ok y)
   run_done {T = T} calls a b first x y was count k =
       let same : g.failed b ≡ g.failed a = count ∙ ap (failures_after {T = T} (g.failed a)) was in
       record {
@@ -89,7 +89,7 @@ module _ {D : Type 0} {g : Ghosts D} where
       }
 
   -- what a function was refused as is handed on
-  pub run_handed : {X Y : Type 0} (calls more : List Call) (a b : D) (first : Result Y Fault) (e : Fault) (r : Result X Fault) → first ≡ Err e → IsErrAnd r (λ f. f ≡ e) → IsRunOf g calls a b first → IsRunOf g (calls ++ more) a b r
+  pub run_handed : {X Y : Type 0} (calls more : List Call) (a b : D) (first : Result Y Fault) (e : Fault) (r : Result X Fault) → first ≡ Err e → IsErrAnd r (λ f. f ≡ e) → IsCallsAnswer g calls a b first → IsCallsAnswer g (calls ++ more) a b r
   run_handed {Y = Y} calls more a b first e r was h k = record {
     runs = runs_handed (λ f. f ≡ e) calls more (g.calls a) (g.calls b) (g.tells a) (g.tells b) first e r was h k.runs;
     refused = refused_handed (g.failed a) (g.failed b) e r (subst (λ (q : Result Y Fault). IfErr q (λ f. UnlessMemory f (IsStopped (g.failed a) (g.failed b) f))) was k.refused) h;
@@ -97,19 +97,19 @@ module _ {D : Type 0} {g : Ghosts D} where
   }
 
   -- one function after another that answered Ok
-  pub run_then : {X Y : Type 0} (calls more : List Call) (a b c : D) (first : Result Y Fault) (x : Y) (r : Result X Fault) → first ≡ Ok x → IsRunOf g calls a b first → IsRunOf g more b c r → IsRunOf g (calls ++ more) a c r
+  pub run_then : {X Y : Type 0} (calls more : List Call) (a b c : D) (first : Result Y Fault) (x : Y) (r : Result X Fault) → first ≡ Ok x → IsCallsAnswer g calls a b first → IsCallsAnswer g more b c r → IsCallsAnswer g (calls ++ more) a c r
   run_then {Y = Y} calls more a b c first x r was one two = record {
     runs = runs_then {E = Fault} calls more (g.calls a) (g.calls b) (g.calls c) (g.tells a) (g.tells b) (g.tells c) x r (subst (λ (q : Result Y Fault). MakesCalls calls (g.calls a) (g.calls b) (g.tells a) (g.tells b) q) was one.runs) two.runs;
     refused = refused_since (g.failed a) (g.failed b) (g.failed c) r one.device.later two.device.later two.refused;
     device = reports_then was one.device two.device;
   }
 
-  pub run_same : {X : Type 0} (calls others : List Call) (a b : D) (r : Result X Fault) → calls ≡ others → IsRunOf g calls a b r → IsRunOf g others a b r
-  run_same calls others a b r same h = subst (λ (c : List Call). IsRunOf g c a b r) same h
+  pub run_same : {X : Type 0} (calls others : List Call) (a b : D) (r : Result X Fault) → calls ≡ others → IsCallsAnswer g calls a b r → IsCallsAnswer g others a b r
+  run_same calls others a b r same h = subst (λ (c : List Call). IsCallsAnswer g c a b r) same h
 
-  pub run_ok : {X Y : Type 0} (calls : List Call) (a b : D) (first : Result Y Fault) (x : Y) (y : X) → first ≡ Ok x → IsRunOf g calls a b first → IsRunOf g calls a b (Ok y)
+  pub run_ok : {X Y : Type 0} (calls : List Call) (a b : D) (first : Result Y Fault) (x : Y) (y : X) → first ≡ Ok x → IsCallsAnswer g calls a b first → IsCallsAnswer g calls a b (Ok y)
   run_ok {Y = Y} calls a b first x y was h =
-      let k : IsRunOf g calls a b (Ok x) = subst (λ (q : Result Y Fault). IsRunOf g calls a b q) was h in
+      let k : IsCallsAnswer g calls a b (Ok x) = subst (λ (q : Result Y Fault). IsCallsAnswer g calls a b q) was h in
       record {
         runs = record { steps = k.runs.steps; made = k.runs.made; appended = k.runs.appended; change = k.runs.change };
         refused = tt;
@@ -118,4 +118,4 @@ module _ {D : Type 0} {g : Ghosts D} where
 
 -- all of the calls were made
 abbrev pub IsWholeRun : {D : Type 0} → Ghosts D → List Call → D → D → Type 0
-IsWholeRun g calls a b = IsRunOf {X = Unit {0}} g calls a b (Ok tt)
+IsWholeRun g calls a b = IsCallsAnswer {X = Unit {0}} g calls a b (Ok tt)

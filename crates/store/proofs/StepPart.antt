@@ -16,20 +16,20 @@ use Rattle.folder.specs.Levels.{file_numbers}
 use Rattle.folder.specs.LoadedTables.{IsLoaded}
 use Rattle.folder.specs.Manifest.{order_name}
 use Rattle.folder.specs.Names.{current_text, manifest_name, temporary_name}
-use Rattle.folder.specs.ReadsAs.{IsHeldIn, ReadsAs}
+use Rattle.folder.specs.ReadsAs.{IsFileIn, ReadsAs}
 use Rattle.folder.specs.declared.order.Order.{Order}
 use Rattle.install.specs.Install.{IsEditedBy, SurvivesCrash, current_calls, install_calls, next_version_tables, table_calls, temporary_calls, write_calls}
 use Rattle.checks.specs.LawfulTables.{IsLawfulTables}
 use Rattle.reads.specs.Tables.{NumberedContents}
-use Rattle.pick.specs.Picked.{IsInputsAnswer}
+use Rattle.pick.specs.PickedInputs.{IsInputsAnswer}
 use Rattle.request.specs.OneThread.{Answer}
 use Rattle.settings.specs.declared.settings.Settings.{Settings}
 use Rattle.store.specs.Answers.{IsVersionCompacted, lines_of}
 use Rattle.store.specs.Compaction.{IsVersionLeft, VersionCompaction}
 use Rattle.store.specs.FolderRequest.{compaction_of, manifest_of}
 use Rattle.store.specs.StepLeft.{IsStepLeft}
-use Rattle.checks.specs.TestedTables.{IsTested, tested_of}
-use Rattle.checks.specs.declared.tested.Tested.{Tested}
+use Rattle.checks.specs.TestedTables.{IsTested, totals_of}
+use Rattle.checks.specs.declared.version_totals.VersionTotals.{VersionTotals}
 use Rattle.store.specs.declared.compaction_step.CompactionStep.{CompactionStep}
 use Rattle.store.proofs.Flow.{loaded_in, no_refusal}
 use Rattle.store.proofs.InstallPart.{Promises, all_made, still, survives_on}
@@ -125,7 +125,7 @@ refused_err (Err f) e P h p = subst P (sym h) p
 -- what a version has that passed its test
 pub record HasPassed (cmp : List ℕ → List ℕ → Ordering) (files : Files) (v : State) : Type 0 where
   pub loaded : List (ℕ × List ℕ)
-  pub held : IsLoaded (IsHeldIn files) (file_numbers cmp v) (Ok loaded)
+  pub held : IsLoaded (IsFileIn files) (file_numbers cmp v) (Ok loaded)
   pub tables : List NumberedContents
   pub sound : IsLawfulTables cmp v loaded (Ok tables)
 
@@ -135,19 +135,19 @@ refusal e = Err e
 same_refusal : {Y : Type 0} (e d : Fault) → refusal {Y = Y} e ≡ refusal d → e ≡ d
 same_refusal e d h = cc
 
-pub has_passed : (cmp : List ℕ → List ℕ → Ordering) (tells : List ℕ → Option (List ℕ) → Type 0) (files : Files) (v : State) (tested : Tested) → Tells tells files → IsTested tells cmp v (Ok tested) → HasPassed cmp files v
+pub has_passed : (cmp : List ℕ → List ℕ → Ordering) (tells : List ℕ → Option (List ℕ) → Type 0) (files : Files) (v : State) (tested : VersionTotals) → Tells tells files → IsTested tells cmp v (Ok tested) → HasPassed cmp files v
 has_passed cmp tells files v tested told (Err e, (l, is)) = absurd (no_refusal tested e is)
 has_passed cmp tells files v tested told (Ok loaded, (l, (Err e, (k, is)))) = absurd (no_refusal tested e is)
 has_passed cmp tells files v tested told (Ok loaded, (l, (Ok tables, (k, is)))) = record { loaded = loaded; held = loaded_in tells files (file_numbers cmp v) (Ok loaded) told l; tables = tables; sound = k }
 
 -- its refusal is that of what follows
 pub test_ends : {T : Type 0} (cmp : List ℕ → List ℕ → Ordering) (IsNext : List (ℕ × List ℕ) → List NumberedContents → Result T Fault → Type 0) (tells : List ℕ → Option (List ℕ) → Type 0) (files : Files) (v : State) (e : Fault)
-    → Tells tells files → IsTested tells cmp v (Err e) → IsThen (IsLoaded (IsHeldIn files) (file_numbers cmp v)) (λ loaded. IsThen (IsLawfulTables cmp v loaded) (IsNext loaded)) (Err e)
+    → Tells tells files → IsTested tells cmp v (Err e) → IsThen (IsLoaded (IsFileIn files) (file_numbers cmp v)) (λ loaded. IsThen (IsLawfulTables cmp v loaded) (IsNext loaded)) (Err e)
 test_ends cmp IsNext tells files v e told (Err d, (l, is)) =
-    (Err d, (loaded_in tells files (file_numbers cmp v) (Err d) told l, ap (λ (x : Fault). Err x) (same_refusal {Y = Tested} e d is)))
+    (Err d, (loaded_in tells files (file_numbers cmp v) (Err d) told l, ap (λ (x : Fault). Err x) (same_refusal {Y = VersionTotals} e d is)))
 test_ends cmp IsNext tells files v e told (Ok loaded, (l, (Err d, (k, is)))) =
-    (Ok loaded, (loaded_in tells files (file_numbers cmp v) (Ok loaded) told l, (Err d, (k, ap (λ (x : Fault). Err x) (same_refusal {Y = Tested} e d is)))))
-test_ends cmp IsNext tells files v e told (Ok loaded, (l, (Ok tables, (k, is)))) = absurd (no_refusal (tested_of tables) e (sym is))
+    (Ok loaded, (loaded_in tells files (file_numbers cmp v) (Ok loaded) told l, (Err d, (k, ap (λ (x : Fault). Err x) (same_refusal {Y = VersionTotals} e d is)))))
+test_ends cmp IsNext tells files v e told (Ok loaded, (l, (Ok tables, (k, is)))) = absurd (no_refusal (totals_of tables) e (sym is))
 
 pub test_refused : (cmp : List ℕ → List ℕ → Ordering) (short_keys : ShortKeys) (tells : List ℕ → Option (List ℕ) → Type 0) (files : Files) (v : State) (level : ℕ) (s : Settings) (e : Fault)
     → Tells tells files → IsTested tells cmp v (Err e) → IsVersionCompacted cmp short_keys files v level s (Err e)

@@ -4,12 +4,12 @@ use Rattle.std.specs.declared.cmp.Ordering.{Ordering}
 use Rattle.coding.proofs.Refusals.{unless_from}
 use Rattle.coding.specs.Answers.{EqualOrMemory, HoldsOrMemory, ◌>>=◌}
 use Rattle.coding.specs.declared.fault.Fault.{Fault}
-use Rattle.compact.specs.Answered.{answer_in}
+use Rattle.compact.specs.AnswerIn.{answer_in}
 use Rattle.edit.specs.Version.{State}
 use Rattle.edit.specs.declared.outcome.Outcome.{Outcome}
 use Rattle.folder.specs.Calls.{Files}
 use Rattle.ikey.specs.Comparator.{ShortKeys}
-use Rattle.pick.specs.Picked.{PickedInputs}
+use Rattle.pick.specs.PickedInputs.{PickedInputs}
 use Rattle.request.specs.OneThread.{Answer}
 use Rattle.settings.specs.declared.settings.Settings.{Settings}
 use Rattle.store.specs.InputsCompaction.{IsInputsTold}

@@ -10,7 +10,7 @@ use Rattle.folder.specs.Calls.{Files, Step, Tells}
 use Rattle.folder.specs.Crash.{LeavesOnly, World}
 use Rattle.folder.specs.Folder.{TellsSame}
 use Rattle.folder.specs.OpenAnswer.{IsStopped}
-use Rattle.folder.specs.ReadsAs.{IsHeldIn, ReadsAs}
+use Rattle.folder.specs.ReadsAs.{IsFileIn, ReadsAs}
 use Rattle.folder.specs.declared.order.Order.{Order}
 use Rattle.reads.specs.Gets.{get_of}
 use Rattle.reads.specs.Tables.{NumberedContents}
@@ -24,7 +24,7 @@ use Rattle.store.specs.Answers.{IsLoadedCompacted}
 use Rattle.store.specs.Compaction.{VersionCompaction}
 use Rattle.store.specs.Descent.{IsBottom, IsNextLevel}
 use Rattle.store.specs.FolderRequest.{last_of}
-use Rattle.store.specs.StepTaken.{IsUntold}
+use Rattle.store.specs.Untold.{IsUntold}
 use Rattle.checks.specs.TestedTables.{IsTested}
 use Rattle.store.specs.declared.descent_end.DescentEnd.{DescentEnd}
 use Rattle.store.specs.declared.descent_end.DescentEnd.TheVariants.{AtBottom, Stopped}
@@ -148,7 +148,7 @@ abbrev pub IsAllLeft : {W : Type 0} → (W → List ℕ → W → Type 0) → Or
 IsAllLeft tells order cmp short_keys s v files before after old new failed now told told_now
     result =
     IsUntold before after old new told told_now
-    (λ e. IsStopped failed now e ⊎ IsTested (IsHeldIn files) cmp v (Err e)) result
+    (λ e. IsStopped failed now e ⊎ IsTested (IsFileIn files) cmp v (Err e)) result
     ⊎ (IsAtBottom v before after old new told told_now result
     ⊎ ((loaded : List (ℕ × List ℕ)) × (tables : List NumberedContents)
     × ReadsAs cmp order v loaded files × IsLawfulTables cmp v loaded (Ok tables)

@@ -8,8 +8,8 @@ use Rattle.folder.specs.Calls.{Files}
 use Rattle.folder.specs.Levels.{file_numbers}
 use Rattle.folder.specs.LoadedTables.{IsLoaded}
 use Rattle.folder.specs.OpenAnswer.{IsOpened}
-use Rattle.folder.specs.ReadsAs.{IsHeldIn}
-use Rattle.pick.specs.Picked.{IsInputsAnswer, PickedInputs}
+use Rattle.folder.specs.ReadsAs.{IsFileIn}
+use Rattle.pick.specs.PickedInputs.{IsInputsAnswer, PickedInputs}
 use Rattle.checks.specs.LawfulTables.{IsLawfulTables}
 use Rattle.request.specs.OneThread.{Answer}
 use Rattle.ikey.specs.Comparator.{ShortKeys}
@@ -36,12 +36,12 @@ IsLoadedCompacted cmp short_keys v loaded level s =
 abbrev pub IsVersionCompacted : (List ℕ → List ℕ → Ordering) → ShortKeys →
     Files → State → ℕ → Settings → Result (List ℕ) Fault → Type 0
 IsVersionCompacted cmp short_keys files v level s =
-    IsThen (IsLoaded (IsHeldIn files) (file_numbers cmp v))
+    IsThen (IsLoaded (IsFileIn files) (file_numbers cmp v))
     (λ loaded. IsLoadedCompacted cmp short_keys v loaded level s)
 
 -- the same of the version that the folder opens as, by the order of its user keys
 abbrev pub IsFolderCompacted : Files → ℕ → Settings → Result (List ℕ) Fault → Type 0
 IsFolderCompacted files level s =
-    IsThen (IsOpened (IsHeldIn files)) (λ opened.
+    IsThen (IsOpened (IsFileIn files)) (λ opened.
     IsVersionCompacted (order_cmp opened.0) (order_short_keys opened.0)
     files opened.1 level s)

@@ -13,9 +13,9 @@ use Rattle.folder.specs.Folder.{TellsSame}
 use Rattle.folder.specs.Manifest.{order_name}
 use Rattle.folder.specs.Names.{current_text}
 use Rattle.folder.specs.OpenAnswer.{IsOpened}
-use Rattle.folder.specs.ReadsAs.{IsHeldIn, ReadsAs, RestsOn}
+use Rattle.folder.specs.ReadsAs.{IsFileIn, ReadsAs, RestsOn}
 use Rattle.folder.specs.declared.order.Order.{Order}
-use Rattle.pick.specs.Picked.{IsPicked, PickedInputs}
+use Rattle.pick.specs.PickedInputs.{IsPicked, PickedInputs}
 use Rattle.reads.specs.Gets.{get_of}
 use Rattle.reads.specs.Tables.{NumberedContents}
 use Rattle.keep.specs.Readable.{is_read, readable_of}
@@ -128,7 +128,7 @@ pub record IsOpenedLeft (files : Files) (level : ℕ) (s : Settings) (before aft
   pub order : Order
   pub version : State
   pub manifest : ℕ
-  pub opened : IsOpened (IsHeldIn files) (Ok (order, version))
+  pub opened : IsOpened (IsFileIn files) (Ok (order, version))
   pub named : files (codes "CURRENT") ≡ Some (current_text manifest)
   pub left : IsSynced (sync_calls (order_cmp order) version manifest) before after old new result
       ⊎ IsInstalled order (order_cmp order) (order_short_keys order) version files level s

@@ -9,7 +9,7 @@ use Rattle.coding.specs.declared.fault.FaultName.TheVariants.{Missing}
 use Rattle.edit.specs.Version.{State}
 use Rattle.folder.specs.Calls.{Files}
 use Rattle.folder.specs.Names.{manifest_name, old_table_name, table_name}
-use Rattle.pick.specs.Picked.{IsInputsAnswer}
+use Rattle.pick.specs.PickedInputs.{IsInputsAnswer}
 use Rattle.store.specs.InputsCompaction.{IsOrderlyAnswer, input_numbers}
 
 -- the name under which the table of a number is there, or Missing if it is under neither

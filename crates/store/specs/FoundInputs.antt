@@ -8,7 +8,7 @@ use Rattle.ikey.specs.Comparator.{ShortKeys}
 use Rattle.edit.specs.Version.{State}
 use Rattle.folder.specs.Calls.{Files}
 use Rattle.folder.specs.declared.order.Order.{Order}
-use Rattle.pick.specs.Picked.{IsInputsAnswer, PickedInputs}
+use Rattle.pick.specs.PickedInputs.{IsInputsAnswer, PickedInputs}
 use Rattle.reads.specs.Tables.{NumberedContents}
 use Rattle.checks.specs.HeldTables.{IsCheckedAnswer}
 use Rattle.request.specs.OneThread.{Answer}

@@ -7,10 +7,10 @@ use Rattle.edit.specs.Version.{State, are_apart}
 use Rattle.folder.specs.Calls.{Files}
 use Rattle.folder.specs.Levels.{file_numbers}
 use Rattle.folder.specs.LoadedTables.{IsLoaded}
-use Rattle.folder.specs.ReadsAs.{IsHeldIn}
+use Rattle.folder.specs.ReadsAs.{IsFileIn}
 use Rattle.install.specs.Install.{table_bytes_of}
-use Rattle.pick.specs.Picked.{IsInputsAnswer, IsPicked, PickedInputs}
-use Rattle.pick.specs.declared.picked.InputFile.{InputFile}
+use Rattle.pick.specs.PickedInputs.{IsInputsAnswer, IsPicked, PickedInputs}
+use Rattle.pick.specs.declared.picked_inputs.InputFile.{InputFile}
 use Rattle.reads.specs.Tables.{NumberedContents}
 use Rattle.checks.specs.LawfulTables.{IsLawfulTables}
 use Rattle.request.specs.OneThread.{Answer}
@@ -37,9 +37,9 @@ abbrev pub SameInputsLaw : (List ℕ → List ℕ → Ordering) → ShortKeys �
 SameInputsLaw cmp short_keys =
     (first : Option ℕ) (files : Files) (v : State) (loaded own : List (ℕ × List ℕ))
     (tables : List NumberedContents) (level : ℕ) (p : PickedInputs) (s : Settings) →
-    IsLoaded (IsHeldIn files) (file_numbers cmp v) (Ok loaded) →
+    IsLoaded (IsFileIn files) (file_numbers cmp v) (Ok loaded) →
     IsLawfulTables cmp v loaded (Ok tables) → IsInputsAnswer cmp v level (Ok p) →
-    IsLoaded (IsHeldIn files) (input_numbers p.files) (Ok own) →
+    IsLoaded (IsFileIn files) (input_numbers p.files) (Ok own) →
     compaction_from first cmp short_keys v own p s
     ≡ compaction_from first cmp short_keys v loaded p s
 
@@ -50,7 +50,7 @@ OutcomeSufficesLaw cmp short_keys =
     (first : Option ℕ) (files : Files) (v : State) (loaded : List (ℕ × List ℕ))
     (tables : List NumberedContents) (level : ℕ) (s : Settings)
     (answer : Result (Answer × List ℕ) Fault) →
-    IsLoaded (IsHeldIn files) (file_numbers cmp v) (Ok loaded) →
+    IsLoaded (IsFileIn files) (file_numbers cmp v) (Ok loaded) →
     IsLawfulTables cmp v loaded (Ok tables) →
     IsOutcomeOfInputs first cmp short_keys files v level s answer →
     IsLoadedOutcome first cmp short_keys v loaded level s answer

@@ -9,7 +9,7 @@ use Rattle.coding.specs.declared.fault.Fault.{Fault}
 use Rattle.coding.specs.declared.fault.FaultName.TheVariants.{Bounds, Lawless}
 use Rattle.ikey.specs.Comparator.{ShortKeys}
 use Rattle.ikey.specs.Order.{internal_cmp}
-use Rattle.table.specs.ReadingSteps.{test_result}
+use Rattle.table.specs.TestResult.{test_result}
 use Rattle.table.specs.TableContents.{Contents}
 use Rattle.edit.specs.Version.{State}
 use Rattle.edit.specs.VersionOrder.{level_files}
@@ -18,9 +18,9 @@ use Rattle.edit.specs.declared.meta.TheConstants.{LAST_LEVEL}
 use Rattle.folder.specs.Calls.{Files}
 use Rattle.folder.specs.Levels.{file_numbers}
 use Rattle.folder.specs.LoadedTables.{IsLoaded}
-use Rattle.folder.specs.ReadsAs.{IsHeldIn}
-use Rattle.pick.specs.Picked.{IsInputsAnswer, PickedInputs}
-use Rattle.pick.specs.declared.picked.InputFile.{InputFile}
+use Rattle.folder.specs.ReadsAs.{IsFileIn}
+use Rattle.pick.specs.PickedInputs.{IsInputsAnswer, PickedInputs}
+use Rattle.pick.specs.declared.picked_inputs.InputFile.{InputFile}
 use Rattle.reads.specs.Lawful.{IsBelowNextFile}
 use Rattle.reads.specs.Tables.{NumberedContents}
 use Rattle.checks.specs.TableReadings.{tables_reading}
@@ -87,7 +87,7 @@ abbrev pub IsPickedTold : {T : Type 0} → (PickedInputs → Answer → T) → O
     (List ℕ → List ℕ → Ordering) → ShortKeys → Files → State → Settings → PickedInputs →
     Result T Fault → Type 0
 IsPickedTold tell first cmp short_keys files v s p =
-    IsThen (IsLoaded (IsHeldIn files) (input_numbers p.files))
+    IsThen (IsLoaded (IsFileIn files) (input_numbers p.files))
     (IsReadTold tell first cmp short_keys v p s)
 
 -- The answer for a level of a version. The first refusal counts: of the version's files, of which
@@ -115,7 +115,7 @@ abbrev pub InputsSufficeLaw : (List ℕ → List ℕ → Ordering) → ShortKeys
 InputsSufficeLaw cmp short_keys =
     (files : Files) (v : State) (loaded : List (ℕ × List ℕ)) (tables : List NumberedContents)
     (level : ℕ) (s : Settings) (answer : Result (List ℕ) Fault) →
-    IsLoaded (IsHeldIn files) (file_numbers cmp v) (Ok loaded) →
+    IsLoaded (IsFileIn files) (file_numbers cmp v) (Ok loaded) →
     IsLawfulTables cmp v loaded (Ok tables) →
     IsInputsCompacted cmp short_keys files v level s answer →
     IsLoadedCompacted cmp short_keys v loaded level s answer

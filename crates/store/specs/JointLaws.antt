@@ -6,13 +6,13 @@ use Rattle.edit.specs.Version.{State}
 use Rattle.edit.specs.declared.meta.NewFile.{NewFile}
 use Rattle.edit.specs.declared.meta.TheConstants.{LAST_LEVEL}
 use Rattle.folder.specs.declared.order.Order.{Order}
-use Rattle.pick.specs.Picked.{IsPicked, PickedInputs}
+use Rattle.pick.specs.PickedInputs.{IsPicked, PickedInputs}
 use Rattle.reads.specs.Lawful.{IsLawful}
 use Rattle.reads.specs.Tables.{NumberedContents}
 use Rattle.checks.specs.TableReadings.{tables_reading}
 use Rattle.request.specs.OneThread.{Answer, one_thread}
-use Rattle.survival.specs.Over.{IsOver}
-use Rattle.store.specs.FolderRequest.{manifest_of, request_from, request_of}
+use Rattle.survival.specs.RequestOverVersion.{IsOver}
+use Rattle.store.specs.FolderRequest.{request_of}
 use Rattle.store.specs.Compaction.{EditedVersion}
 use Rattle.settings.specs.declared.settings.Settings.{Settings}
 use Rattle.ikey.specs.Comparator.{ShortKeys}
@@ -42,18 +42,4 @@ JointLaw cmp short_keys =
     (request_of v loaded p s).log_number < 2 ^ 64 →
     (request_of v loaded p s).previous_log < 2 ^ 64 →
     one_thread cmp short_keys (request_of v loaded p s) ≡ Ok answer →
-    EditedVersion order cmp v loaded tables s answer
-
--- The same of a request whose outputs have the numbers from a first one on, if that one is above
--- the manifest's.
-abbrev pub NumberedJointLaw : (List ℕ → List ℕ → Ordering) → ShortKeys → Type 0
-NumberedJointLaw cmp short_keys =
-    (number : ℕ) (order : Order) (v : State) (loaded : List (ℕ × List ℕ))
-    (tables : List NumberedContents) (level : ℕ) (p : PickedInputs) (s : Settings)
-    (answer : Answer) → manifest_of v < number →
-    tables_reading cmp loaded ≡ Ok tables → IsLawful cmp v tables →
-    All (λ (f : NewFile). f.level ≤ LAST_LEVEL) v.files → IsPicked cmp v level p →
-    (request_from number v loaded p s).log_number < 2 ^ 64 →
-    (request_from number v loaded p s).previous_log < 2 ^ 64 →
-    one_thread cmp short_keys (request_from number v loaded p s) ≡ Ok answer →
     EditedVersion order cmp v loaded tables s answer

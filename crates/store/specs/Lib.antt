@@ -9,13 +9,15 @@ pub mod StepLeft
 pub mod OpenedAfter
 pub mod JointLaws
 pub mod Descent
-pub mod StepTaken
 pub mod AllLevels
 pub mod Outcome
 pub mod FilesToCompact
+pub mod Untold
 -- serves proofs alone
-pub mod CallRun
+pub mod CallsAnswer
 pub mod LentFiles
 pub mod InputLaws
 pub mod FoundInputs
 pub mod NameLines
+pub mod NumberedJointLaw
+pub mod StepTaken

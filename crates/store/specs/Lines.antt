@@ -1,10 +1,10 @@
 -- The lines of a compaction.
 use Rattle.std.specs.Prelude.{ℕ, List, ◌++◌, codes, decimal}
 use Rattle.std.specs.List.{flat_map}
-use Rattle.compact.specs.Grouped.{table_sizes}
+use Rattle.compact.specs.GroupedAnswer.{table_sizes}
 use Rattle.edit.specs.declared.meta.DeletedFile.{DeletedFile}
 use Rattle.folder.specs.Names.{manifest_name}
-use Rattle.pick.specs.declared.picked.InputFile.{InputFile}
+use Rattle.pick.specs.declared.picked_inputs.InputFile.{InputFile}
 use Rattle.request.specs.EditOf.{deletions_of}
 
 -- `output NUMBER SIZE`

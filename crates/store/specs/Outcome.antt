@@ -8,9 +8,9 @@ use Rattle.edit.specs.Version.{State}
 use Rattle.folder.specs.Calls.{Call, Files, FolderSynced, Renamed}
 use Rattle.folder.specs.Levels.{file_numbers}
 use Rattle.folder.specs.LoadedTables.{IsLoaded}
-use Rattle.folder.specs.ReadsAs.{IsHeldIn}
+use Rattle.folder.specs.ReadsAs.{IsFileIn}
 use Rattle.folder.specs.declared.order.Order.{Order}
-use Rattle.pick.specs.Picked.{IsInputsAnswer, IsPicked, PickedInputs}
+use Rattle.pick.specs.PickedInputs.{IsInputsAnswer, IsPicked, PickedInputs}
 use Rattle.reads.specs.Tables.{NumberedContents}
 use Rattle.checks.specs.LawfulTables.{IsLawfulTables}
 use Rattle.request.specs.OneThread.{Answer}
@@ -45,7 +45,7 @@ IsLoadedOutcome first cmp short_keys v loaded level s =
 abbrev pub IsOutcomeOfVersion : Option ℕ → (List ℕ → List ℕ → Ordering) → ShortKeys →
     Files → State → ℕ → Settings → Result (Answer × List ℕ) Fault → Type 0
 IsOutcomeOfVersion first cmp short_keys files v level s =
-    IsThen (IsLoaded (IsHeldIn files) (file_numbers cmp v))
+    IsThen (IsLoaded (IsFileIn files) (file_numbers cmp v))
     (λ loaded. IsLoadedOutcome first cmp short_keys v loaded level s)
 
 -- A compaction of a level of a version with the bytes of its tables. The version is lawful, these

@@ -13,18 +13,9 @@ use Rattle.folder.specs.declared.current_version.Opened.{Opened}
 use Rattle.folder.specs.declared.order.Order.{Order}
 use Rattle.settings.specs.declared.settings.Settings.{Settings}
 use Rattle.store.specs.Answers.{IsLoadedCompacted}
-use Rattle.store.specs.Compaction.{IsUnchanged}
 use Rattle.store.specs.FolderRequest.{manifest_of}
 use Rattle.store.specs.StepLeft.{IsStepInstalled, IsStepLeft}
 use Rattle.store.specs.declared.compaction_step.CompactionStep.{CompactionStep}
-
--- nothing was changed and nothing told, for a reason unless memory ran out
-pub record IsUntold {T W : Type 0} (before after : List Step) (old new : List ℕ → Option (List ℕ) →
-    Type 0) (told told_now : W) (IsReason : Fault → Type 0) (result : Result T Fault)
-    : Type 0 where
-  pub unchanged : IsUnchanged before after old new result
-  pub same : told_now ≡ told
-  pub reason : IfErr result (λ e. UnlessMemory e (IsReason e))
 
 -- it was refused, so nothing was told; by its refusal, or since the device failed
 pub record IsStepRefused {W : Type 0} (order : Order) (cmp : List ℕ → List ℕ → Ordering)

@@ -10,14 +10,15 @@ ghost use Rattle.folder.specs.Calls.{Files, Tells};
 ghost use Rattle.folder.specs.Names.{current_text};
 ghost use Rattle.folder.specs.OpenAnswer.{FolderAnswers, IsOpened};
 ghost use Rattle.folder.specs.Orders.{order_cmp, order_short_keys};
-ghost use Rattle.folder.specs.ReadsAs.{IsHeldIn, ReadsAs};
+ghost use Rattle.folder.specs.ReadsAs.{IsFileIn, ReadsAs};
 ghost use Rattle.folder.specs.Reports.{OnlyReads, ReportsDevice};
 ghost use Rattle.reads.specs.Tables.{NumberedContents};
 ghost use Rattle.checks.specs.TestedTables.{IsTested};
 ghost use Rattle.store.specs.AllLevels.{IsAllLeft, IsDescended};
 ghost use Rattle.store.specs.Descent.{IsBottom, IsNextLevel};
 ghost use Rattle.store.specs.OpenedAfter.{IsOpenedAfter};
-ghost use Rattle.store.specs.StepTaken.{IsStepTaken, IsUntold};
+ghost use Rattle.store.specs.StepTaken.{IsStepTaken};
+ghost use Rattle.store.specs.Untold.{IsUntold};
 
 use crate::compaction_step::CompactionStep;
 use crate::descent::{bottom, next_level};
@@ -26,7 +27,7 @@ use crate::input_compaction::compact_inputs;
 use crate::install_laws::inputs_suffice;
 use crate::install_watch::InstallWatch;
 use crate::next_opened::opened_after;
-use checks::{CHECKERS, Tested, Watch, test_version};
+use checks::{CHECKERS, VersionTotals, Watch, test_version};
 use coding::{Fault, FaultName};
 use edit::Version;
 use folder::{Opened, Order, ReadsTables, WritesTables};
@@ -60,7 +61,7 @@ pub fn compact_all<
     // - the version is lawful, and compactions are made.
     ensures left { (files : Files) → Tells (F.tells folder.old) files →
         files (codes "CURRENT") ≡ Some (current_text opened.manifest) →
-        IsOpened (IsHeldIn files) (Ok (opened.order, opened.version)) →
+        IsOpened (IsFileIn files) (Ok (opened.order, opened.version)) →
         IsAllLeft T.tells opened.order (order_cmp opened.order) (order_short_keys opened.order)
         settings.now opened.version files (F.calls folder.old) (F.calls folder.new)
         (F.tells folder.old) (F.tells folder.new) (F.failed folder.old) (F.failed folder.new)
@@ -203,10 +204,10 @@ fn test_opened<F: ReadsTables, W: Watch + Sync, R: Threads + Sync>(
     opened: &Opened,
     memory: u64,
     watch: &W,
-) -> Result<Tested, Fault>
+) -> Result<VersionTotals, Fault>
     ensures answer { (files : Files) → Tells (F.tells folder.old) files →
         FolderAnswers (λ tested. tested) (F.failed folder.old) (F.failed folder.new) result
-        (IsTested (IsHeldIn files) (order_cmp opened.now.order) opened.now.version) }
+        (IsTested (IsFileIn files) (order_cmp opened.now.order) opened.now.version) }
     ensures device { ReportsDevice F.Folder folder.old folder.new result }
     ensures reads { OnlyReads F.Folder folder.old folder.new }
 {

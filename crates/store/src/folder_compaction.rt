@@ -6,7 +6,7 @@ ghost use Rattle.folder.specs.Manifest.{order_name};
 ghost use Rattle.folder.specs.Names.{current_text};
 ghost use Rattle.folder.specs.OpenAnswer.{FolderAnswers, IsOpened, IfCurrent, IsOkOnlyIfCurrent};
 ghost use Rattle.folder.specs.Orders.{order_cmp, order_short_keys};
-ghost use Rattle.folder.specs.ReadsAs.{IsHeldIn};
+ghost use Rattle.folder.specs.ReadsAs.{IsFileIn};
 ghost use Rattle.folder.specs.Reports.{ReportsDevice};
 ghost use Rattle.folder.specs.declared.order.Order.{Order};
 ghost use Rattle.store.specs.Answers.{IsFolderCompacted, IsVersionCompacted};
@@ -106,7 +106,7 @@ pub fn compact_opened<F: ReadsTables + WritesTables, W: Watch + Sync, R: Threads
         files opened.now.version level settings.now)) }
     // If moreover they open as this version in this order.
     ensures left { IfCurrent (F.tells folder.old) opened.now.manifest (λ files.
-        IsOpened (IsHeldIn files) (Ok (opened.now.order, opened.now.version)) →
+        IsOpened (IsFileIn files) (Ok (opened.now.order, opened.now.version)) →
         IsVersionLeft opened.now.order (order_cmp opened.now.order)
         (order_short_keys opened.now.order) opened.now.version files level settings.now
         (F.calls folder.old) (F.calls folder.new) (F.tells folder.old) (F.tells folder.new)
@@ -154,7 +154,7 @@ fn compact_version<
     ensures left { (files : Files) (order : Order) → Tells (F.tells folder.old) files →
         files (codes "CURRENT") ≡ Some (current_text opened.now.manifest) →
         order_name order ≡ C.name_bytes →
-        IsOpened (IsHeldIn files) (Ok (order, opened.now.version)) →
+        IsOpened (IsFileIn files) (Ok (order, opened.now.version)) →
         IsVersionLeft order C.cmp C.short_keys opened.now.version files level settings.now
         (F.calls folder.old) (F.calls folder.new) (F.tells folder.old) (F.tells folder.new) result }
     ensures other { IsOkOnlyIfCurrent (F.tells folder.old) opened.now.manifest result }

@@ -3,16 +3,16 @@
 ghost use Rattle.std.specs.Prelude.{◌≡◌, ℕ, List, Ok, IfOk};
 ghost use Rattle.checks.specs.HeldTables.{AreHeldIn};
 ghost use Rattle.checks.specs.LawfulTables.{IsLawfulTables};
-ghost use Rattle.compact.specs.Answered.{answer_in};
+ghost use Rattle.compact.specs.AnswerIn.{answer_in};
 ghost use Rattle.folder.specs.Calls.{Files, Tells};
 ghost use Rattle.folder.specs.Levels.{file_numbers};
 ghost use Rattle.folder.specs.LoadedTables.{IsLoaded};
 ghost use Rattle.folder.specs.OpenAnswer.{FolderAnswers};
 ghost use Rattle.folder.specs.Orders.{order_cmp, order_short_keys};
-ghost use Rattle.folder.specs.ReadsAs.{IsHeldIn};
+ghost use Rattle.folder.specs.ReadsAs.{IsFileIn};
 ghost use Rattle.folder.specs.Reports.{OnlyReads, ReportsDevice};
 ghost use Rattle.folder.specs.declared.order.Order.{Order};
-ghost use Rattle.pick.specs.Picked.{PickedInputs};
+ghost use Rattle.pick.specs.PickedInputs.{PickedInputs};
 ghost use Rattle.reads.specs.Tables.{NumberedContents};
 ghost use Rattle.store.specs.Outcome.{IsOutcomeOfInputs, IsOutcomeOfVersion, LevelCompaction};
 
@@ -61,7 +61,7 @@ pub fn outcome_of_opened<F: ReadsTables, W: Watch + Sync, R: Threads + Sync>(
     // version.
     ensures compacted { (files : Files) → Tells (F.tells folder.old) files →
         IfOk result (λ o. (loaded : List (ℕ × List ℕ))
-        × IsLoaded (IsHeldIn files) (file_numbers (order_cmp opened.now.order) opened.now.version)
+        × IsLoaded (IsFileIn files) (file_numbers (order_cmp opened.now.order) opened.now.version)
         (Ok loaded) × ((p : PickedInputs) × LevelCompaction opened.now.order
         (order_cmp opened.now.order) (order_short_keys opened.now.order) opened.now.version loaded
         level first settings.now p (answer_in o.outcome))) }
@@ -116,7 +116,7 @@ pub fn outcome_of_inputs<F: ReadsTables, W: Watch + Sync, R: Threads + Sync>(
     // edited version, also by a later installation.
     ensures compacted { (files : Files) (loaded : List (ℕ × List ℕ))
         (tables : List NumberedContents) → Tells (F.tells folder.old) files →
-        IsLoaded (IsHeldIn files) (file_numbers (order_cmp opened.now.order) opened.now.version)
+        IsLoaded (IsFileIn files) (file_numbers (order_cmp opened.now.order) opened.now.version)
         (Ok loaded) →
         IsLawfulTables (order_cmp opened.now.order) opened.now.version loaded (Ok tables) →
         IfOk result (λ o. (p : PickedInputs) × LevelCompaction opened.now.order
@@ -165,7 +165,7 @@ fn outcome_tested<
         (IsOutcomeOfVersion first C.cmp C.short_keys files version.now level settings.now) }
     ensures compacted { (files : Files) (order : Order) → Tells (F.tells folder.old) files →
         IfOk result (λ o. (loaded : List (ℕ × List ℕ))
-        × IsLoaded (IsHeldIn files) (file_numbers C.cmp version.now) (Ok loaded)
+        × IsLoaded (IsFileIn files) (file_numbers C.cmp version.now) (Ok loaded)
         × ((p : PickedInputs) × LevelCompaction order C.cmp C.short_keys version.now loaded level
         first settings.now p (answer_in o.outcome))) }
     ensures device { ReportsDevice F.Folder folder.old folder.new result }
@@ -212,7 +212,7 @@ fn outcome_untested<
     ensures compacted { (files : Files) (order : Order) (loaded : List (ℕ × List ℕ))
         (tables : List NumberedContents) → Tells (F.tells folder.old) files →
         AreHeldIn C.cmp files held →
-        IsLoaded (IsHeldIn files) (file_numbers C.cmp version.now) (Ok loaded) →
+        IsLoaded (IsFileIn files) (file_numbers C.cmp version.now) (Ok loaded) →
         IsLawfulTables C.cmp version.now loaded (Ok tables) →
         IfOk result (λ o. (p : PickedInputs) × LevelCompaction order C.cmp C.short_keys version.now
         loaded level first settings.now p (answer_in o.outcome)) }

@@ -3,7 +3,7 @@
 ghost use Rattle.std.specs.Prelude.{◌≡◌, ◌<◌, ◌^◌, ℕ, List, map, unwrap_or, IfOk};
 ghost use Rattle.coding.specs.Answers.{EqualOrMemory};
 ghost use Rattle.install.specs.Install.{table_bytes_of};
-ghost use Rattle.pick.specs.Picked.{picked_in};
+ghost use Rattle.pick.specs.PickedInputs.{picked_in};
 ghost use Rattle.request.specs.Request.{request_in};
 ghost use Rattle.store.specs.FolderRequest.{first_output, manifest_of, numbered_request};
 

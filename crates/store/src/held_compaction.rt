@@ -4,9 +4,9 @@ ghost use Rattle.std.specs.Prelude.{◌≡◌, ◌&&◌, ◌<◌, ◌^◌, nat_l
 ghost use Rattle.std.specs.Prelude.{None, Some, codes, length, unwrap_or};
 ghost use Rattle.coding.specs.Answers.{EqualOrMemory, HoldsOrMemory};
 ghost use Rattle.coding.specs.declared.fault.FaultName.TheVariants.{SplitCount};
-ghost use Rattle.table.specs.ReadingSteps.{test_result};
-ghost use Rattle.compact.specs.Answered.{answer_in};
-ghost use Rattle.checks.specs.HeldTables.{held_bytes};
+ghost use Rattle.table.specs.TestResult.{test_result};
+ghost use Rattle.compact.specs.AnswerIn.{answer_in};
+ghost use Rattle.checks.specs.HeldBytes.{held_bytes};
 ghost use Rattle.folder.specs.Calls.{Files, Tells};
 ghost use Rattle.folder.specs.Manifest.{order_name};
 ghost use Rattle.folder.specs.Names.{current_text};
@@ -14,7 +14,7 @@ ghost use Rattle.folder.specs.OpenAnswer.{FolderAnswers, IfCurrent, IsOkOnlyIfCu
 ghost use Rattle.folder.specs.Reports.{ReportsDevice};
 ghost use Rattle.folder.specs.declared.order.Order.{Order};
 ghost use Rattle.install.specs.Install.{table_bytes_of};
-ghost use Rattle.pick.specs.Picked.{picked_in};
+ghost use Rattle.pick.specs.PickedInputs.{picked_in};
 ghost use Rattle.request.specs.Inputs.{inputs_reading};
 ghost use Rattle.split.specs.declared.split.TheConstants.{MAX_RANGES};
 ghost use Rattle.store.specs.FolderRequest.{compaction_from};

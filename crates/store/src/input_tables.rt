@@ -2,7 +2,7 @@
 
 ghost use Rattle.std.specs.Prelude.{◌≡◌, length, map, Ok};
 ghost use Rattle.coding.specs.Answers.{EqualOrMemory};
-ghost use Rattle.checks.specs.HeldTables.{held_bytes};
+ghost use Rattle.checks.specs.HeldBytes.{held_bytes};
 ghost use Rattle.folder.specs.LoadedTables.{IsLoaded};
 ghost use Rattle.folder.specs.OpenAnswer.{FolderAnswers};
 ghost use Rattle.folder.specs.Reports.{OnlyReads, ReportsDevice};

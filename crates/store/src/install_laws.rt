@@ -2,7 +2,8 @@
 
 ghost use Rattle.store.specs.Compaction.{SyncLaw};
 ghost use Rattle.store.specs.InputsCompaction.{InputsSufficeLaw};
-ghost use Rattle.store.specs.JointLaws.{JointLaw, NumberedJointLaw, OverLaw};
+ghost use Rattle.store.specs.JointLaws.{JointLaw, OverLaw};
+ghost use Rattle.store.specs.NumberedJointLaw.{NumberedJointLaw};
 
 use ikey::Comparator;
 use request::passed_law;

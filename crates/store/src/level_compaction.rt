@@ -3,15 +3,15 @@
 ghost use Rattle.std.specs.Prelude.{ℕ, List, Ok, IfOk};
 ghost use Rattle.checks.specs.HeldTables.{AreHeldIn};
 ghost use Rattle.checks.specs.LawfulTables.{IsLawfulTables};
-ghost use Rattle.compact.specs.Answered.{answer_in};
+ghost use Rattle.compact.specs.AnswerIn.{answer_in};
 ghost use Rattle.folder.specs.Calls.{Files, Tells};
 ghost use Rattle.folder.specs.Levels.{file_numbers};
 ghost use Rattle.folder.specs.LoadedTables.{IsLoaded};
 ghost use Rattle.folder.specs.OpenAnswer.{FolderAnswers};
-ghost use Rattle.folder.specs.ReadsAs.{IsHeldIn};
+ghost use Rattle.folder.specs.ReadsAs.{IsFileIn};
 ghost use Rattle.folder.specs.Reports.{OnlyReads, ReportsDevice};
 ghost use Rattle.folder.specs.declared.order.Order.{Order};
-ghost use Rattle.pick.specs.Picked.{picked_in};
+ghost use Rattle.pick.specs.PickedInputs.{picked_in};
 ghost use Rattle.reads.specs.Tables.{NumberedContents};
 ghost use Rattle.store.specs.InputLaws.{with_inputs};
 ghost use Rattle.store.specs.InputsCompaction.{IsInputsTold};
@@ -65,7 +65,7 @@ pub(crate) fn level_outcome<
     ensures compacted { (files : Files) (order : Order) (loaded : List (ℕ × List ℕ))
         (tables : List NumberedContents) → Tells (F.tells folder.old) files →
         AreHeldIn C.cmp files held →
-        IsLoaded (IsHeldIn files) (file_numbers C.cmp version.now) (Ok loaded) →
+        IsLoaded (IsFileIn files) (file_numbers C.cmp version.now) (Ok loaded) →
         IsLawfulTables C.cmp version.now loaded (Ok tables) →
         IfOk result (λ o. LevelCompaction order C.cmp C.short_keys version.now loaded level first
         settings.now (picked_in o.picked) (answer_in o.outcome)) }

@@ -1,13 +1,14 @@
 //! The inputs of the compaction of a level, with their tables.
 
 ghost use Rattle.std.specs.Prelude.{◌≡◌, map, IfOk, OnOk};
-ghost use Rattle.checks.specs.HeldTables.{AreHeldIn, held_bytes};
+ghost use Rattle.checks.specs.HeldTables.{AreHeldIn};
+ghost use Rattle.checks.specs.HeldBytes.{held_bytes};
 ghost use Rattle.edit.specs.Version.{IsState};
 ghost use Rattle.folder.specs.Calls.{Files, Tells};
 ghost use Rattle.folder.specs.OpenAnswer.{FolderAnswers};
 ghost use Rattle.folder.specs.Reports.{OnlyReads, ReportsDevice};
 ghost use Rattle.install.specs.Install.{table_bytes_of};
-ghost use Rattle.pick.specs.Picked.{picked_in};
+ghost use Rattle.pick.specs.PickedInputs.{picked_in};
 ghost use Rattle.store.specs.FoundInputs.{IsInputsFound};
 
 use crate::input_laws::inputs_in_order;

@@ -4,7 +4,7 @@ ghost use Rattle.std.specs.Prelude.{◌≡◌, ◌++◌, ℕ, List, Ok, IfErr, O
 ghost use Rattle.std.specs.List.{flat_map};
 ghost use Rattle.coding.specs.Answers.{EqualOrMemory, fault};
 ghost use Rattle.coding.specs.declared.fault.FaultName.TheVariants.{Memory};
-ghost use Rattle.compact.specs.Grouped.{table_sizes};
+ghost use Rattle.compact.specs.GroupedAnswer.{table_sizes};
 ghost use Rattle.install.specs.Install.{tables_in};
 ghost use Rattle.request.specs.EditOf.{deletions_of};
 ghost use Rattle.store.specs.Lines.{compaction_lines, deleted_line, installed_line, outcome_lines};

@@ -2,14 +2,14 @@
 
 ghost use Rattle.std.specs.Prelude.{◌≡◌, ◌∷◌, [], IfErr, codes};
 ghost use Rattle.coding.specs.Answers.{UnlessMemory};
-ghost use Rattle.compact.specs.Answered.{answer_in};
+ghost use Rattle.compact.specs.AnswerIn.{answer_in};
 ghost use Rattle.folder.specs.CallSequence.{MakesCalls};
 ghost use Rattle.folder.specs.Calls.{FolderSynced, Renamed};
 ghost use Rattle.folder.specs.Folder.{failures_after};
 ghost use Rattle.folder.specs.OpenAnswer.{IsStopped};
 ghost use Rattle.folder.specs.Reports.{ReportsDevice};
 ghost use Rattle.install.specs.Install.{table_calls, tables_in, write_calls};
-ghost use Rattle.store.specs.CallRun.{IsRunOf};
+ghost use Rattle.store.specs.CallsAnswer.{IsCallsAnswer};
 ghost use Rattle.store.specs.Outcome.{edit_calls, outcome_calls};
 
 use coding::Fault;
@@ -56,7 +56,7 @@ fn write_files<F: Folder, R: Threads + Sync>(
     folder: &mut F,
     outcome: &Outcome,
 ) -> Result<(), Fault>
-    ensures { IsRunOf F.Folder (outcome_calls (answer_in outcome.now)) folder.old folder.new
+    ensures { IsCallsAnswer F.Folder (outcome_calls (answer_in outcome.now)) folder.old folder.new
         result }
 {
     write_tables(rt, folder, &outcome.tables)?;
@@ -69,7 +69,7 @@ fn write_tables<F: Folder, R: Threads + Sync>(
     folder: &mut F,
     tables: &[(u64, Vec<u8>)],
 ) -> Result<(), Fault>
-    ensures { IsRunOf F.Folder (table_calls (tables_in tables.now ∷ [])) folder.old folder.new
+    ensures { IsCallsAnswer F.Folder (table_calls (tables_in tables.now ∷ [])) folder.old folder.new
         result }
 {
     Ok(folder.write_tables(rt, tables)?)

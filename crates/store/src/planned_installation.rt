@@ -8,7 +8,7 @@ ghost use Rattle.std.specs.Prelude.{◌≡◌, ◌∷◌, [], ◌<◌, ◌^◌, 
 ghost use Rattle.std.specs.Prelude.{IfErr, IfOk, slice_get};
 ghost use Rattle.coding.specs.Answers.{fault};
 ghost use Rattle.coding.specs.declared.fault.FaultName.TheVariants.{Memory};
-ghost use Rattle.compact.specs.Grouped.{joined_answer};
+ghost use Rattle.compact.specs.GroupedAnswer.{joined_answer};
 ghost use Rattle.folder.specs.Calls.{Files, Tells};
 ghost use Rattle.folder.specs.Manifest.{order_name};
 ghost use Rattle.folder.specs.Names.{current_text};
@@ -16,10 +16,10 @@ ghost use Rattle.folder.specs.OpenAnswer.{FolderAnswers, IfCurrent, IsOkOnlyIfCu
 ghost use Rattle.folder.specs.Reports.{ReportsDevice};
 ghost use Rattle.folder.specs.declared.order.Order.{Order};
 ghost use Rattle.install.specs.Install.{table_calls};
-ghost use Rattle.install.specs.InstallRun.{IsGroupedInstallation};
+ghost use Rattle.install.specs.GroupedInstallation.{IsGroupedInstallation};
 ghost use Rattle.request.specs.OneThread.{Answer};
 ghost use Rattle.settings.specs.declared.settings.Settings.{Settings};
-ghost use Rattle.store.specs.CallRun.{IsRunOf};
+ghost use Rattle.store.specs.CallsAnswer.{IsCallsAnswer};
 ghost use Rattle.store.specs.Compaction.{VersionCompaction};
 ghost use Rattle.store.specs.FolderRequest.{manifest_of};
 ghost use Rattle.store.specs.FoundInputs.{NeverDevice, answer_as};
@@ -147,7 +147,7 @@ fn write_groups<C: SharedComparator + 'static, F: WritesTables, W: Watch + Sync,
     planned: &Planned<'_, '_, C>,
     watch: &W,
 ) -> Result<(), Fault>
-    ensures { IsRunOf F.Folder (table_calls planned.now.groups) folder.old folder.new result }
+    ensures { IsCallsAnswer F.Folder (table_calls planned.now.groups) folder.old folder.new result }
 {
     for place in 0..planned.len() {
         write_encoded(rt, alloc, folder, planned, place, watch)?;
@@ -171,7 +171,7 @@ fn write_encoded<
 ) -> Result<(), Fault>
     requires { place < length planned.now.groups }
     ensures { (group : List (ℕ × List ℕ)) → slice_get planned.now.groups place ≡ Some group →
-        IsRunOf F.Folder (table_calls (group ∷ [])) folder.old folder.new result }
+        IsCallsAnswer F.Folder (table_calls (group ∷ [])) folder.old folder.new result }
 {
     let source = GroupTables {
         plan: planned.group(place),

@@ -11,7 +11,7 @@ ghost use Rattle.folder.specs.OpenAnswer.{IsStopped};
 ghost use Rattle.folder.specs.Orders.{order_cmp};
 ghost use Rattle.folder.specs.Reports.{ReportsDevice};
 ghost use Rattle.install.specs.Install.{AlwaysStandsBy};
-ghost use Rattle.store.specs.CallRun.{IsRunOf};
+ghost use Rattle.store.specs.CallsAnswer.{IsCallsAnswer};
 ghost use Rattle.store.specs.VersionSync.{AlwaysReadsBy, sync_calls, table_syncs};
 
 use coding::Fault;
@@ -59,7 +59,7 @@ pub fn sync_version<F: Folder>(alloc: Global, folder: &mut F, opened: &Opened) -
 
 /// Syncs CURRENT, the manifest, the tables and the folder.
 fn make_syncs<F: Folder>(alloc: Global, folder: &mut F, opened: &Opened) -> Result<(), Fault>
-    ensures { IsRunOf F.Folder
+    ensures { IsCallsAnswer F.Folder
         (sync_calls (order_cmp opened.now.order) opened.now.version opened.now.manifest)
         folder.old folder.new result }
 {
@@ -71,7 +71,7 @@ fn make_syncs<F: Folder>(alloc: Global, folder: &mut F, opened: &Opened) -> Resu
 
 /// Syncs the tables of what a folder was `opened` as.
 fn sync_tables<F: Folder>(alloc: Global, folder: &mut F, opened: &Opened) -> Result<(), Fault>
-    ensures { IsRunOf F.Folder
+    ensures { IsCallsAnswer F.Folder
         (table_syncs (file_numbers (order_cmp opened.now.order) opened.now.version))
         folder.old folder.new result }
 {
@@ -87,7 +87,7 @@ fn sync_levels<C: Comparator, F: Folder>(
     folder: &mut F,
     version: &Version,
 ) -> Result<(), Fault>
-    ensures { IsRunOf F.Folder (table_syncs (file_numbers C.cmp version.now))
+    ensures { IsCallsAnswer F.Folder (table_syncs (file_numbers C.cmp version.now))
         folder.old folder.new result }
 {
     for level in 0..LEVELS {
@@ -98,7 +98,7 @@ fn sync_levels<C: Comparator, F: Folder>(
 
 /// Syncs the tables of these `files`, in order.
 fn sync_files<F: Folder>(alloc: Global, folder: &mut F, files: &[&FileMeta]) -> Result<(), Fault>
-    ensures { IsRunOf F.Folder (table_syncs (map (λ f. f.now.number) files.now))
+    ensures { IsCallsAnswer F.Folder (table_syncs (map (λ f. f.now.number) files.now))
         folder.old folder.new result }
 {
     for file in files {
@@ -109,7 +109,7 @@ fn sync_files<F: Folder>(alloc: Global, folder: &mut F, files: &[&FileMeta]) -> 
 
 /// Syncs the table of a `number`, under its name and under its older one.
 fn sync_table<F: Folder>(alloc: Global, folder: &mut F, number: u64) -> Result<(), Fault>
-    ensures { IsRunOf F.Folder (table_syncs (number ∷ [])) folder.old folder.new result }
+    ensures { IsCallsAnswer F.Folder (table_syncs (number ∷ [])) folder.old folder.new result }
 {
     let name = table_name(alloc, number)?;
     let old_name = old_table_name(alloc, number)?;

@@ -21,14 +21,14 @@ use Rattle.edit.proofs.Inserted.{all_permute}
 use Rattle.edit.proofs.Kept.{apart_filter}
 use Rattle.edit.proofs.RisingFiles.{same_file, number_total, same_turned, tied_same}
 use Rattle.edit.proofs.Tested.{both_true, both_false, not_is_true}
-use Rattle.pick.specs.Picked.{IsPicked}
-use Rattle.pick.specs.declared.picked.InputFile.{InputFile}
+use Rattle.pick.specs.PickedInputs.{IsPicked}
+use Rattle.pick.specs.declared.picked_inputs.InputFile.{InputFile}
 use Rattle.pick.proofs.Lists.{and_both, and_second, same_test}
 use Rattle.reads.specs.Lawful.{IsLawful}
 use Rattle.reads.specs.Tables.{NumberedContents}
 use Rattle.reads.proofs.Members.{first_or_later, later_in, first_in, none_in, from_filter, in_map, from_map}
 use Rattle.reads.proofs.Orders.{equal_is}
-use Rattle.survival.specs.Closed.{is_input}
+use Rattle.survival.specs.ClosedInputs.{is_input}
 use Rattle.survival.proofs.Closing.{any_at}
 use Rattle.request.specs.OutputTables.{Output}
 use Rattle.request.specs.Request.{RequestView}

@@ -8,7 +8,7 @@ use Rattle.std.specs.declared.cmp.Ordering.{Ordering}
 use Rattle.ikey.specs.Key.{user_of}
 use Rattle.edit.specs.declared.meta.FileMeta.{FileMeta}
 use Rattle.pick.specs.Ranges.{is_at_most, begins_by, ends_at_or_after, overlaps}
-use Rattle.pick.specs.Chosen.{IsLeastClosed}
+use Rattle.pick.specs.ChosenFiles.{IsLeastClosed}
 use Rattle.pick.specs.Boundaries.{largest_key, goes_on, is_among, IsChain}
 use Rattle.pick.proofs.Lists.{IsIn, all_in, any_from, and_both, and_first, and_second, false_true, filter_in, in_filter, in_front, in_either, find_some}
 use Rattle.pick.proofs.UserOrders.{le_trans}

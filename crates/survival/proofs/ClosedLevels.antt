@@ -15,8 +15,8 @@ use Rattle.edit.proofs.SortedFiles.{same_number}
 use Rattle.pick.specs.Boundaries.{is_among}
 use Rattle.reads.specs.Tables.{NumberedContents, table_entries}
 use Rattle.reads.specs.Lawful.{IsFileOf, IsLawful, AreDisjoint, AreNewer}
-use Rattle.pick.specs.declared.picked.InputFile.{InputFile}
-use Rattle.pick.specs.Picked.{input_at}
+use Rattle.pick.specs.declared.picked_inputs.InputFile.{InputFile}
+use Rattle.pick.specs.PickedInputs.{input_at}
 use Rattle.pick.proofs.Lists.{IsIn, any_from, any_gives, false_true, one_alone}
 use Rattle.reads.proofs.Members.{in_map, from_map}
 use Rattle.reads.proofs.Levels.{IsAtLevel, from_level, at_level, is_in, contains_in}

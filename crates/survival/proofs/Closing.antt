@@ -17,11 +17,11 @@ use Rattle.edit.specs.declared.meta.NewFile.{NewFile}
 use Rattle.edit.proofs.SortedFiles.{same_number}
 use Rattle.pick.specs.Ranges.{is_at_most, begins_by, ends_at_or_after, overlaps, holds_user, is_in_none}
 use Rattle.pick.specs.Boundaries.{is_among, IsChain, AreWithBoundaries}
-use Rattle.pick.specs.Picked.{PickedInputs, IsPicked, AreUpper, input_at, files_from}
+use Rattle.pick.specs.PickedInputs.{PickedInputs, IsPicked, AreUpper, input_at, files_from}
 use Rattle.reads.specs.Tables.{NumberedContents, table_entries}
 use Rattle.reads.specs.Lawful.{IsLawful, AreNewer, AreDisjoint}
-use Rattle.survival.specs.Closed.{ClosedInputs, is_input, upper_inputs, is_within, IsNewerThanInputs, IsOlderThanInputs}
-use Rattle.pick.specs.declared.picked.InputFile.{InputFile}
+use Rattle.survival.specs.ClosedInputs.{ClosedInputs, is_input, upper_inputs, is_within, IsNewerThanInputs, IsOlderThanInputs}
+use Rattle.pick.specs.declared.picked_inputs.InputFile.{InputFile}
 use Rattle.pick.proofs.Lists.{IsIn, any_from, any_gives, and_both, and_first, and_second, or_left, or_right, false_true, filter_in, in_filter, in_front, in_back, in_either, find_some}
 use Rattle.pick.proofs.UserOrders.{le_trans}
 use Rattle.reads.proofs.Members.{first_or_later, none_in, from_filter, from_map}

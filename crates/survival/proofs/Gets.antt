@@ -17,10 +17,10 @@ use Rattle.block.specs.EncodedEntry.{Entry}
 use Rattle.edit.specs.Version.{State}
 use Rattle.edit.specs.declared.meta.FileMeta.{FileMeta}
 use Rattle.edit.specs.declared.meta.NewFile.{NewFile}
-use Rattle.merge.specs.Merged.{entries_of_lists}
+use Rattle.merge.specs.MergedLists.{entries_of_lists}
 use Rattle.merge.specs.Union.{key_version_cmp, VersionsRise, IsUnion}
-use Rattle.pick.specs.Picked.{PickedInputs, IsPicked}
-use Rattle.pick.specs.declared.picked.InputFile.{InputFile}
+use Rattle.pick.specs.PickedInputs.{PickedInputs, IsPicked}
+use Rattle.pick.specs.declared.picked_inputs.InputFile.{InputFile}
 use Rattle.reads.specs.Gets.{get_of}
 use Rattle.reads.specs.Lawful.{IsLawful}
 use Rattle.reads.specs.NewestFirst.{SequencesFall, AreThoseOf}
@@ -29,10 +29,10 @@ use Rattle.reads.proofs.FallingEntries.{each_of, of_each, answers_newest_first}
 use Rattle.reads.proofs.Members.{first_or_later, later_in, first_in, none_in, in_filter, from_filter, in_flat_map, from_flat_map, in_map, from_map}
 use Rattle.reads.proofs.Orders.{less_is}
 use Rattle.reads.proofs.Pairs.{Pairs}
-use Rattle.survival.specs.Together.{StandTogether, entries_read, files_above, files_taken, files_below}
+use Rattle.survival.specs.InputsTogether.{StandTogether, entries_read, files_above, files_taken, files_below}
 use Rattle.survival.proofs.FallingOrder.{IsLower, is_of, of_user, user_is, falls}
 use Rattle.survival.proofs.StandingTogether.{inputs_stand_together}
-use Rattle.keep.specs.DropRule.{is_same_user, keeps, kept_behind, kept}
+use Rattle.keep.specs.DropRule.{is_same_user, keeps, kept_after, kept}
 use Rattle.keep.specs.Readable.{Readable, is_read}
 use Rattle.keep.proofs.Dropped.{one_key_law}
 use Rattle.keep.proofs.OneKey.{falls_behind, falls_front}
@@ -82,10 +82,10 @@ kept_part_by : (b : Bool) (e : Entry) (rest : List Entry) (x : Entry) → Contai
 kept_part_by true e rest x at = first_or_later e rest x at
 kept_part_by false e rest x at = inr at
 
-pub kept_part : (cmp : List ℕ → List ℕ → Ordering) (r : Readable) (deeper : List FileMeta) (before : Option Entry) (es : List Entry) (x : Entry) → Contains (kept_behind cmp r deeper before es) x → Contains es x
+pub kept_part : (cmp : List ℕ → List ℕ → Ordering) (r : Readable) (deeper : List FileMeta) (before : Option Entry) (es : List Entry) (x : Entry) → Contains (kept_after cmp r deeper before es) x → Contains es x
 kept_part cmp r deeper before [] x at = at
 kept_part cmp r deeper before (e ∷ es) x at =
-    elim (kept_part_by (keeps cmp r deeper before e) e (kept_behind cmp r deeper (Some e) es) x at) [
+    elim (kept_part_by (keeps cmp r deeper before e) e (kept_after cmp r deeper (Some e) es) x at) [
       | inl same ↦ subst (λ (y : Entry). Contains (e ∷ es) y) (sym same) (first_in e es)
       | inr later ↦ later_in e es x (kept_part cmp r deeper (Some e) es x later)
     ]
@@ -95,12 +95,12 @@ kept_falls_by true e rest lower falling = (of_each (λ (x : Entry). sequence_of 
 kept_falls_by false e rest lower falling = falling
 
 -- sequences still fall if a part of them in the middle is left out
-kept_falls : (cmp : List ℕ → List ℕ → Ordering) (r : Readable) (deeper : List FileMeta) (below : List Entry) (before : Option Entry) (es : List Entry) → SequencesFall (es ++ below) → SequencesFall (kept_behind cmp r deeper before es ++ below)
+kept_falls : (cmp : List ℕ → List ℕ → Ordering) (r : Readable) (deeper : List FileMeta) (below : List Entry) (before : Option Entry) (es : List Entry) → SequencesFall (es ++ below) → SequencesFall (kept_after cmp r deeper before es ++ below)
 kept_falls cmp r deeper below before [] falling = falling
 kept_falls cmp r deeper below before (e ∷ es) falling = around (keeps cmp r deeper before e) (kept_falls cmp r deeper below (Some e) es falling.1)
   where
     rest : List Entry
-    rest = kept_behind cmp r deeper (Some e) es
+    rest = kept_after cmp r deeper (Some e) es
 
     lower : (x : Entry) → Contains (rest ++ below) x → sequence_of x.key < sequence_of e.key
     lower x at =
@@ -188,7 +188,7 @@ module _ (cmp : List ℕ → List ℕ → Ordering) (total : IsTotalOrder cmp) (
 
     module _ (r : Readable) (deeper : List FileMeta) where
       abbrev behind : Option Entry → List Entry → List Entry
-      behind before es = kept_behind cmp r deeper before es
+      behind before es = kept_after cmp r deeper before es
 
       -- an entry of another user key before it makes no difference to an entry
       other_before : (p e : Entry) → is_of user p ≡ false → is_of user e ≡ true → keeps cmp r deeper (Some p) e ≡ keeps cmp r deeper None e

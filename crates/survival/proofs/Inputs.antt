@@ -13,15 +13,15 @@ use Rattle.edit.specs.declared.meta.FileMeta.{FileMeta}
 use Rattle.edit.specs.declared.meta.NewFile.{NewFile}
 use Rattle.pick.specs.Ranges.{overlaps}
 use Rattle.pick.specs.Boundaries.{is_among, AreWithBoundaries}
-use Rattle.pick.specs.Picked.{PickedInputs, IsPicked, input_at}
-use Rattle.pick.specs.declared.picked.InputFile.{InputFile}
+use Rattle.pick.specs.PickedInputs.{PickedInputs, IsPicked, input_at}
+use Rattle.pick.specs.declared.picked_inputs.InputFile.{InputFile}
 use Rattle.pick.proofs.Lists.{or_either}
 use Rattle.reads.specs.Lawful.{IsLawful, IsBelowNextFile}
 use Rattle.reads.specs.Tables.{NumberedContents}
 use Rattle.reads.proofs.Levels.{IsAtLevel, from_level}
 use Rattle.reads.proofs.LawfulVersions.{one_number}
 use Rattle.reads.proofs.Members.{later_in, first_in, from_filter, from_map}
-use Rattle.survival.specs.Closed.{is_input}
+use Rattle.survival.specs.ClosedInputs.{is_input}
 use Rattle.survival.proofs.Closing.{any_at}
 
 -- one that passes a test

@@ -16,19 +16,19 @@ use Rattle.ikey.specs.Key.{IsInternalKey, user_of, sequence_of}
 use Rattle.ikey.specs.Order.{internal_cmp}
 use Rattle.block.specs.EncodedEntry.{Entry}
 use Rattle.block.specs.BuilderView.{last_key}
-use Rattle.table.specs.Checked.{contents_in}
+use Rattle.table.specs.CheckedContents.{contents_in}
 use Rattle.table.specs.TableContents.{Contents, contents_reading}
-use Rattle.table.specs.ReadingCursors.{EntriesRise}
-use Rattle.table.specs.ReadingEntries.{first_key}
+use Rattle.table.specs.EntriesFrom.{EntriesRise}
+use Rattle.table.specs.EntryTests.{first_key}
 use Rattle.table.proofs.CheckedTables.{HasEntry, first_is, last_is}
 use Rattle.edit.specs.Version.{State}
 use Rattle.edit.specs.declared.meta.FileMeta.{FileMeta}
 use Rattle.edit.specs.declared.meta.NewFile.{NewFile}
 use Rattle.edit.proofs.RisingFiles.{same_file, same_turned, distinct_apart}
 use Rattle.edit.proofs.Tested.{not_is_true}
-use Rattle.merge.specs.Merged.{entries_of_lists}
-use Rattle.pick.specs.Picked.{PickedInputs, IsPicked}
-use Rattle.pick.specs.declared.picked.InputFile.{InputFile}
+use Rattle.merge.specs.MergedLists.{entries_of_lists}
+use Rattle.pick.specs.PickedInputs.{PickedInputs, IsPicked}
+use Rattle.pick.specs.declared.picked_inputs.InputFile.{InputFile}
 use Rattle.pick.proofs.Lists.{false_true}
 use Rattle.std.proofs.lemmas.Bool.{cases_lt}
 use Rattle.reads.specs.Lawful.{IsLawful, IsFileOf, IsBelowNextFile, AreDisjoint, AreDistinct, AreNewer, StandsAbove}
@@ -37,12 +37,12 @@ use Rattle.reads.proofs.Answers.{entries_are}
 use Rattle.reads.proofs.Members.{later_in, first_in, from_filter, in_flat_map, from_flat_map, in_map, from_map, IsFrom}
 use Rattle.reads.proofs.Newer.{newer_at, newer_of}
 use Rattle.reads.proofs.Pairs.{Pairs, pairs_from, pairs_to, pairs_part, pairs_of_two, pairs_joined}
-use Rattle.survival.specs.Closed.{AreClosed, is_input, IsNewerThanInputs, IsOlderThanInputs}
+use Rattle.survival.specs.ClosedInputs.{AreClosed, is_input, IsNewerThanInputs, IsOlderThanInputs}
 use Rattle.survival.proofs.Closing.{closed_inputs}
 use Rattle.survival.proofs.ClosedLevels.{in_level}
 use Rattle.survival.proofs.FallingOrder.{IsLower}
 use Rattle.survival.proofs.FileKeys.{below_upto, from_smallest, keys_total, to_largest, upto_below}
-use Rattle.keep.specs.DropRule.{keeps, kept_behind, kept}
+use Rattle.keep.specs.DropRule.{keeps, kept_after, kept}
 use Rattle.keep.specs.Readable.{Readable, readable_of}
 use Rattle.request.specs.OutputTables.{Output, numbered_tables}
 use Rattle.request.specs.Request.{RequestView}
@@ -50,8 +50,8 @@ use Rattle.request.specs.EditOf.{new_file, new_files}
 use Rattle.request.specs.OneThread.{Answer}
 use Rattle.survival.specs.GetsAfter.{staying_files, entries_of_inputs, HoldKept}
 use Rattle.survival.specs.EditAfter.{version_after}
-use Rattle.survival.specs.Over.{IsOver, AreWritten, output_entries, HoldOutputs}
-use Rattle.survival.specs.Survive.{output_table, tables_after, VersionAfterLaw}
+use Rattle.survival.specs.RequestOverVersion.{IsOver, AreWritten, output_entries, HoldOutputs}
+use Rattle.survival.specs.SurvivingReads.{output_table, tables_after, VersionAfterLaw}
 use Rattle.survival.proofs.AppliedEdit.{apart_all, edit_applies, numbered_to}
 use Rattle.survival.proofs.Gets.{kept_part, not_itself, rising_lower}
 use Rattle.survival.proofs.Inputs.{below_first, input_file, is_one}
@@ -82,11 +82,11 @@ has_entry (e ∷ es) some = record { first = e; others = es; same = refl }
 
 -- ---- what holds of each and each later one holds of what is kept
 
-kept_pairs : (cmp : List ℕ → List ℕ → Ordering) (R : Entry → Entry → Type 0) (r : Readable) (deeper : List FileMeta) (before : Option Entry) (es : List Entry) → Pairs R es → Pairs R (kept_behind cmp r deeper before es)
+kept_pairs : (cmp : List ℕ → List ℕ → Ordering) (R : Entry → Entry → Type 0) (r : Readable) (deeper : List FileMeta) (before : Option Entry) (es : List Entry) → Pairs R es → Pairs R (kept_after cmp r deeper before es)
 kept_pairs cmp R r deeper before [] h = tt
 kept_pairs cmp R r deeper before (e ∷ es) h = around (keeps cmp r deeper before e) (kept_pairs cmp R r deeper (Some e) es h.1)
   where
-    around : (b : Bool) → Pairs R (kept_behind cmp r deeper (Some e) es) → Pairs R ((if b then e ∷ [] else []) ++ kept_behind cmp r deeper (Some e) es)
+    around : (b : Bool) → Pairs R (kept_after cmp r deeper (Some e) es) → Pairs R ((if b then e ∷ [] else []) ++ kept_after cmp r deeper (Some e) es)
     around true rest = (λ x at. h.0 x (kept_part cmp r deeper (Some e) es x at), rest)
     around false rest = rest
 

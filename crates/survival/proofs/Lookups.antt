@@ -8,19 +8,19 @@ use Rattle.std.specs.declared.cmp.Ordering.TheVariants.{Less}
 use Rattle.std.proofs.lemmas.Bool.{eqb-true, eq-eqb}
 use Rattle.ikey.specs.Key.{user_of}
 use Rattle.block.specs.EncodedEntry.{Entry}
-use Rattle.table.specs.Checked.{contents_in}
-use Rattle.pick.specs.Picked.{PickedInputs}
+use Rattle.table.specs.CheckedContents.{contents_in}
+use Rattle.pick.specs.PickedInputs.{PickedInputs}
 use Rattle.pick.proofs.Lists.{false_true}
 use Rattle.reads.specs.Tables.{NumberedContents, table_of_number}
 use Rattle.reads.proofs.FallingEntries.{each_of}
 use Rattle.reads.proofs.Members.{first_or_later, later_in, first_in, none_in, from_map, in_flat_map, in_map}
-use Rattle.merge.specs.Merged.{entries_of_lists}
-use Rattle.survival.specs.Closed.{is_input}
+use Rattle.merge.specs.MergedLists.{entries_of_lists}
+use Rattle.survival.specs.ClosedInputs.{is_input}
 use Rattle.cut.specs.Outputs.{UsersRise}
 use Rattle.request.specs.OutputTables.{Output, numbered_tables}
 use Rattle.survival.specs.EditAfter.{AreNumberedFrom}
-use Rattle.survival.specs.Over.{output_entries}
-use Rattle.survival.specs.Survive.{output_table}
+use Rattle.survival.specs.RequestOverVersion.{output_entries}
+use Rattle.survival.specs.SurvivingReads.{output_table}
 use Rattle.survival.proofs.AppliedEdit.{numbered_from}
 
 find_past : {X : Type 0} (test : X → Bool) (xs ys : List X) → ((x : X) → Contains xs x → test x ≡ false) → find test (xs ++ ys) ≡ find test ys

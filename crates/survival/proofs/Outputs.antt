@@ -18,12 +18,12 @@ use Rattle.ikey.specs.Key.{IsInternalKey, user_of, sequence_of, kind_of, kind_nu
 use Rattle.ikey.specs.Order.{internal_cmp}
 use Rattle.block.specs.EncodedEntry.{Entry}
 use Rattle.table.specs.TableContents.{Contents, DataBlock, blocks_of, contents_of, contents_reading, data_reading, entries_of, index_in}
-use Rattle.table.specs.ReadingEntries.{entries_test}
-use Rattle.table.specs.ReadingIndex.{index_reading}
-use Rattle.table.specs.ReadingBack.{IsWritable, ReadBackLaw}
-use Rattle.table.specs.ReadingCursors.{EntriesRise}
-use Rattle.table.specs.ReadingSteps.{test_result}
-use Rattle.table.specs.ReadingTables.{IsTable}
+use Rattle.table.specs.EntryTests.{entries_test}
+use Rattle.table.specs.IndexReading.{index_reading}
+use Rattle.table.specs.ReadBackLaw.{IsWritable, ReadBackLaw}
+use Rattle.table.specs.EntriesFrom.{EntriesRise}
+use Rattle.table.specs.TestResult.{test_result}
+use Rattle.table.specs.TableBytes.{IsTable}
 use Rattle.table.specs.Table.{table}
 use Rattle.table.proofs.CheckedTables.{blocks_by, contents_are, contents_read, read_data}
 use Rattle.table.proofs.EntryTests.{all_tests, passed, passes}
@@ -32,17 +32,17 @@ use Rattle.edit.specs.Edit.{edit_bytes}
 use Rattle.edit.specs.Version.{State}
 use Rattle.edit.specs.declared.meta.FileMeta.{FileMeta}
 use Rattle.edit.specs.declared.meta.NewFile.{NewFile}
-use Rattle.merge.specs.Merged.{entries_of_lists, merged}
+use Rattle.merge.specs.MergedLists.{entries_of_lists, merged}
 use Rattle.merge.specs.Union.{key_version_cmp, VersionsRise, IsUnion}
-use Rattle.pick.specs.Picked.{IsPicked}
-use Rattle.pick.specs.declared.picked.InputFile.{InputFile}
+use Rattle.pick.specs.PickedInputs.{IsPicked}
+use Rattle.pick.specs.declared.picked_inputs.InputFile.{InputFile}
 use Rattle.pick.proofs.Lists.{and_first, and_second}
 use Rattle.reads.specs.Lawful.{IsLawful, IsFileOf}
 use Rattle.reads.specs.Tables.{NumberedContents, table_of_number, table_entries}
 use Rattle.reads.proofs.Answers.{entries_are}
 use Rattle.reads.proofs.FallingEntries.{each_of, of_each}
 use Rattle.reads.proofs.Members.{first_or_later, later_in, first_in, none_in, in_flat_map, from_flat_map, in_map, from_map}
-use Rattle.keep.specs.DropRule.{keeps, kept_behind, kept}
+use Rattle.keep.specs.DropRule.{keeps, kept_after, kept}
 use Rattle.keep.specs.Readable.{Readable, readable_of}
 use Rattle.keep.specs.Marks.{heads}
 use Rattle.keep.specs.Runs.{are_distinct}
@@ -56,7 +56,7 @@ use Rattle.request.specs.EditOf.{edit_of, new_files}
 use Rattle.request.specs.OneThread.{Answer, one_thread, outputs_answer, table_for}
 use Rattle.survival.specs.GetsAfter.{entries_of_inputs}
 use Rattle.survival.specs.EditAfter.{AreNumberedFrom}
-use Rattle.survival.specs.Over.{input_bytes_of, IsOver, AreWritten, output_entries, HoldOutputs, OutputsHold}
+use Rattle.survival.specs.RequestOverVersion.{input_bytes_of, IsOver, AreWritten, output_entries, HoldOutputs, OutputsHold}
 use Rattle.survival.proofs.Gets.{kept_part}
 use Rattle.survival.proofs.Inputs.{input_file}
 
@@ -182,13 +182,13 @@ module _ (cmp : List ℕ → List ℕ → Ordering) where
     union_rises es h.1,
   )
 
-  kept_rises : (r : Readable) (deeper : List FileMeta) (before : Option Entry) (es : List Entry) → EntriesRise cmp es → EntriesRise cmp (kept_behind cmp r deeper before es)
+  kept_rises : (r : Readable) (deeper : List FileMeta) (before : Option Entry) (es : List Entry) → EntriesRise cmp es → EntriesRise cmp (kept_after cmp r deeper before es)
   kept_rises r deeper before [] h = tt
   kept_rises r deeper before (e ∷ es) h = around (keeps cmp r deeper before e) (kept_rises r deeper (Some e) es h.1)
     where
-      around : (b : Bool) → EntriesRise cmp (kept_behind cmp r deeper (Some e) es) → EntriesRise cmp ((if b then e ∷ [] else []) ++ kept_behind cmp r deeper (Some e) es)
+      around : (b : Bool) → EntriesRise cmp (kept_after cmp r deeper (Some e) es) → EntriesRise cmp ((if b then e ∷ [] else []) ++ kept_after cmp r deeper (Some e) es)
       around true rest = (
-        of_each (λ (f : Entry). internal_cmp cmp e.key f.key ≡ Less) (kept_behind cmp r deeper (Some e) es)
+        of_each (λ (f : Entry). internal_cmp cmp e.key f.key ≡ Less) (kept_after cmp r deeper (Some e) es)
             (λ f at. each_of (λ (g : Entry). internal_cmp cmp e.key g.key ≡ Less) es h.0 f (kept_part cmp r deeper (Some e) es f at)),
         rest,
       )

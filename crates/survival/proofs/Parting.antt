@@ -13,7 +13,7 @@ use Rattle.reads.specs.Lawful.{IsLawful}
 use Rattle.reads.specs.Tables.{NumberedContents, table_entries}
 use Rattle.reads.proofs.Members.{first_in, later_in, from_filter, from_flat_map}
 use Rattle.reads.proofs.Pairs.{Pairs}
-use Rattle.survival.specs.Together.{entries_read}
+use Rattle.survival.specs.InputsTogether.{entries_read}
 use Rattle.survival.proofs.FallingOrder.{is_of, of_user}
 use Rattle.survival.proofs.ReadOrder.{IsNewer}
 

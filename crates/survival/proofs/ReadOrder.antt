@@ -29,7 +29,7 @@ use Rattle.reads.proofs.Members.{later_in, first_in, none_in}
 use Rattle.reads.proofs.Newer.{newer_at}
 use Rattle.reads.proofs.Orders.{less_is, not_before_itself}
 use Rattle.reads.proofs.Pairs.{Pairs, pairs_append}
-use Rattle.survival.specs.Together.{level_read, files_read}
+use Rattle.survival.specs.InputsTogether.{level_read, files_read}
 use Rattle.reads.specs.FileList.{newer_number}
 use Rattle.survival.proofs.ClosedLevels.{level_of, level_disjoint, level_file_of}
 use Rattle.survival.proofs.FileKeys.{IsUpTo, keys_total, upto_below, before_newer, range_rises}

@@ -6,13 +6,13 @@ use Rattle.ikey.specs.Key.{user_of, sequence_of}
 use Rattle.ikey.specs.declared.kind.Kind.TheVariants.{Put}
 use Rattle.ikey.proofs.Keys.{user_of-internal_key, sequence_of-internal_key}
 use Rattle.edit.specs.declared.meta.NewFile.{NewFile}
-use Rattle.pick.specs.declared.picked.InputFile.{InputFile}
+use Rattle.pick.specs.declared.picked_inputs.InputFile.{InputFile}
 use Rattle.reads.specs.Lawful.{AreNewer}
 use Rattle.reads.specs.Tables.{table_entries}
 use Rattle.reads.proofs.Members.{first_in, later_in}
 use Rattle.reads.proofs.Newer.{newer_at}
-use Rattle.survival.specs.Closed.{AreClosed}
-use Rattle.survival.specs.Row.{key_of_sequence, file_at, entry_of_sequence, two_files, two_tables, first_alone}
+use Rattle.survival.specs.ClosedInputs.{AreClosed}
+use Rattle.survival.specs.WorkedRow.{key_of_sequence, file_at, entry_of_sequence, two_files, two_tables, first_alone}
 
 abbrev first_file : NewFile
 first_file = record { level = 1; meta = file_at 8 10 }

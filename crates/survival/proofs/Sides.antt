@@ -13,9 +13,9 @@ use Rattle.edit.specs.VersionOrder.{level_files}
 use Rattle.edit.specs.declared.meta.FileMeta.{FileMeta}
 use Rattle.edit.proofs.SortedFiles.{same_number}
 use Rattle.pick.specs.Boundaries.{goes_on, is_among, largest_key, next_boundary, IsChain}
-use Rattle.pick.specs.Picked.{PickedInputs, IsPicked, input_at}
+use Rattle.pick.specs.PickedInputs.{PickedInputs, IsPicked, input_at}
 use Rattle.pick.specs.Ranges.{is_at_most, begins_by, ends_at_or_after, overlaps}
-use Rattle.pick.specs.declared.picked.InputFile.{InputFile}
+use Rattle.pick.specs.declared.picked_inputs.InputFile.{InputFile}
 use Rattle.pick.proofs.Chains.{is_next}
 use Rattle.pick.proofs.Lists.{IsIn, and_first, and_second, false_true, filter_in, find_some, in_back, in_either, in_front, in_filter as filtered}
 use Rattle.pick.proofs.UserOrders.{le_trans}
@@ -23,7 +23,7 @@ use Rattle.reads.specs.Lawful.{IsLawful, AreDisjoint}
 use Rattle.reads.specs.Tables.{NumberedContents}
 use Rattle.reads.proofs.Levels.{contains_in, is_in}
 use Rattle.reads.proofs.Members.{from_filter, in_filter}
-use Rattle.survival.specs.Closed.{is_input}
+use Rattle.survival.specs.ClosedInputs.{is_input}
 use Rattle.survival.proofs.BoundaryRanges.{HasLargest, begins_on, ends_on, goes_within, has_largest, none_follows, overlapping_leads}
 use Rattle.survival.proofs.ClosedLevels.{all_inputs, among_is, among_own, level_disjoint, level_file_of, level_of, lower_input, other_number}
 use Rattle.survival.proofs.Closing.{any_at}

@@ -12,8 +12,8 @@ use Rattle.block.specs.EncodedEntry.{Entry}
 use Rattle.edit.specs.Version.{State}
 use Rattle.edit.specs.declared.meta.FileMeta.{FileMeta}
 use Rattle.edit.specs.declared.meta.NewFile.{NewFile}
-use Rattle.pick.specs.declared.picked.InputFile.{InputFile}
-use Rattle.pick.specs.Picked.{PickedInputs, IsPicked}
+use Rattle.pick.specs.declared.picked_inputs.InputFile.{InputFile}
+use Rattle.pick.specs.PickedInputs.{PickedInputs, IsPicked}
 use Rattle.pick.specs.Ranges.{is_in_none}
 use Rattle.pick.proofs.Lists.{cases, false_true}
 use Rattle.reads.specs.Lawful.{IsLawful, AreNewer}
@@ -22,8 +22,8 @@ use Rattle.reads.specs.Tables.{NumberedContents, table_entries, all_entries}
 use Rattle.reads.proofs.FallingEntries.{of_each, answers_newest_first}
 use Rattle.reads.proofs.Members.{first_in, later_in, in_filter, from_filter, in_flat_map, from_flat_map}
 use Rattle.reads.proofs.Newer.{newer_at}
-use Rattle.survival.specs.Closed.{is_input, AreClosed}
-use Rattle.survival.specs.Together.{files_read, entries_read, files_above, files_taken, files_below, StandTogether, InputsStandTogether}
+use Rattle.survival.specs.ClosedInputs.{is_input, AreClosed}
+use Rattle.survival.specs.InputsTogether.{files_read, entries_read, files_above, files_taken, files_below, StandTogether, InputsStandTogether}
 use Rattle.survival.proofs.Closing.{any_at, same_itself, input_file, closed_inputs}
 use Rattle.survival.proofs.FallingOrder.{is_of, of_user, user_is, read_falls}
 use Rattle.survival.proofs.Parting.{from_read, read-append, nothing_in, parted}

@@ -15,9 +15,9 @@ use Rattle.coding.specs.declared.fault.FaultName.TheVariants.{NoInput, Level, Op
 use Rattle.ikey.specs.Comparator.{ShortKeys, IsExact}
 use Rattle.ikey.specs.Key.{IsInternalKey}
 use Rattle.block.specs.EncodedEntry.{Entry}
-use Rattle.table.specs.ReadingBack.{ReadBackLaw}
-use Rattle.table.specs.ReadingEntries.{is_some_list}
-use Rattle.table.specs.ReadingSteps.{test_result}
+use Rattle.table.specs.ReadBackLaw.{ReadBackLaw}
+use Rattle.table.specs.EntryTests.{is_some_list}
+use Rattle.table.specs.TestResult.{test_result}
 use Rattle.table.proofs.EntryTests.{passed}
 use Rattle.edit.specs.Edit.{Edit, IsEdit, deleted_cmp}
 use Rattle.edit.specs.Field.{Field, DeleteFile, AddFile, IsField}
@@ -29,8 +29,8 @@ use Rattle.edit.proofs.Edits.{one_edit}
 use Rattle.edit.proofs.Inserted.{sorted_all}
 use Rattle.edit.proofs.Written.{fields_lawful, reads_back}
 use Rattle.pick.specs.Boundaries.{largest_key}
-use Rattle.pick.specs.Picked.{IsPicked, input_at}
-use Rattle.pick.specs.declared.picked.InputFile.{InputFile}
+use Rattle.pick.specs.PickedInputs.{IsPicked, input_at}
+use Rattle.pick.specs.declared.picked_inputs.InputFile.{InputFile}
 use Rattle.pick.proofs.Lists.{and_first}
 use Rattle.reads.specs.Lawful.{IsLawful, IsFileOf}
 use Rattle.reads.specs.Tables.{NumberedContents}
@@ -44,8 +44,8 @@ use Rattle.request.specs.Request.{RequestView, has_levels, has_options, has_snap
 use Rattle.request.specs.EditOf.{deletion_of, deletions_of, edit_of, new_file, new_files}
 use Rattle.request.specs.OneThread.{Answer}
 use Rattle.survival.specs.EditAfter.{version_after}
-use Rattle.survival.specs.Over.{IsOver, AreWritten, HoldOutputs}
-use Rattle.survival.specs.Survive.{KeepsReads, ReadsSurvive}
+use Rattle.survival.specs.RequestOverVersion.{IsOver, AreWritten, HoldOutputs}
+use Rattle.survival.specs.SurvivingReads.{KeepsReads, ReadsSurvive}
 use Rattle.survival.proofs.AppliedEdit.{edit_applies, from_deletions, numbered_to}
 use Rattle.survival.proofs.Gets.{gets_after}
 use Rattle.survival.proofs.Inputs.{below_first, input_file}

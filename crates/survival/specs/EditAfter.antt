@@ -4,7 +4,7 @@ use Rattle.std.specs.List.Sorted.{IsPermutation}
 use Rattle.std.specs.Option.{ForSome}
 use Rattle.ikey.specs.Comparator.{KeyOrder}
 use Rattle.edit.specs.Version.{State, applied, with_file, with_pointer}
-use Rattle.pick.specs.Picked.{IsPicked}
+use Rattle.pick.specs.PickedInputs.{IsPicked}
 use Rattle.reads.specs.Lawful.{IsLawful}
 use Rattle.reads.specs.Tables.{NumberedContents}
 use Rattle.request.specs.Request.{RequestView}

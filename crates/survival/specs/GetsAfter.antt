@@ -8,12 +8,12 @@ use Rattle.edit.specs.Version.{State}
 use Rattle.edit.specs.declared.meta.NewFile.{NewFile}
 use Rattle.edit.specs.declared.meta.TheConstants.{LAST_LEVEL}
 use Rattle.merge.specs.Union.{IsUnion}
-use Rattle.pick.specs.Picked.{PickedInputs, IsPicked}
-use Rattle.pick.specs.declared.picked.InputFile.{InputFile}
+use Rattle.pick.specs.PickedInputs.{PickedInputs, IsPicked}
+use Rattle.pick.specs.declared.picked_inputs.InputFile.{InputFile}
 use Rattle.reads.specs.Gets.{get_of}
 use Rattle.reads.specs.Lawful.{IsLawful}
 use Rattle.reads.specs.Tables.{NumberedContents, table_entries, all_entries}
-use Rattle.survival.specs.Closed.{is_input}
+use Rattle.survival.specs.ClosedInputs.{is_input}
 use Rattle.keep.specs.DropRule.{kept}
 use Rattle.keep.specs.Readable.{Readable, is_read}
 

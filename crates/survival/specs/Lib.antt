@@ -1,8 +1,8 @@
 -- what contracts rest on
-pub mod Closed
-pub mod Together
-pub mod Row
+pub mod ClosedInputs
+pub mod InputsTogether
+pub mod WorkedRow
 pub mod GetsAfter
 pub mod EditAfter
-pub mod Over
-pub mod Survive
+pub mod RequestOverVersion
+pub mod SurvivingReads

@@ -3,9 +3,9 @@
 //! Premises of the first two: the version is lawful, its files are at levels up to 6, and the
 //! inputs were picked from it.
 
-ghost use Rattle.survival.specs.Closed.{AreClosed, ClosedInputs};
-ghost use Rattle.survival.specs.Row.{first_alone, two_files, two_tables};
-ghost use Rattle.survival.specs.Together.{InputsStandTogether};
+ghost use Rattle.survival.specs.ClosedInputs.{AreClosed, ClosedInputs};
+ghost use Rattle.survival.specs.WorkedRow.{first_alone, two_files, two_tables};
+ghost use Rattle.survival.specs.InputsTogether.{InputsStandTogether};
 
 use ikey::Comparator;
 

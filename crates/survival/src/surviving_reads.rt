@@ -6,8 +6,8 @@
 
 ghost use Rattle.survival.specs.EditAfter.{EditApplies};
 ghost use Rattle.survival.specs.GetsAfter.{GetsAfter};
-ghost use Rattle.survival.specs.Over.{OutputsHold};
-ghost use Rattle.survival.specs.Survive.{ReadsSurvive, VersionAfterLaw};
+ghost use Rattle.survival.specs.RequestOverVersion.{OutputsHold};
+ghost use Rattle.survival.specs.SurvivingReads.{ReadsSurvive, VersionAfterLaw};
 
 use ikey::Comparator;
 

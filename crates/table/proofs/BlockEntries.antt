@@ -5,19 +5,19 @@ use Rattle.std.proofs.Math.Seq.{take-append_seam}
 use Rattle.std.proofs.lemmas.List.{drop_at}
 use Rattle.byteorder.specs.Endian.{little_bytes, little_number}
 use Rattle.block.specs.EncodedEntry.{Entry, EncodedEntry, encoded_entry_bytes, restarts_of, block_bytes}
-use Rattle.block.specs.Behind.{entries_behind}
+use Rattle.block.specs.EntriesOfBytes.{entries_of_encoded}
 use Rattle.block.specs.BlockFormat.{encoded_entries_from, block}
-use Rattle.block.specs.Parts.{HasBlockParts}
+use Rattle.block.specs.BlockParts.{HasBlockParts}
 use Rattle.block.proofs.Restarts.{words, length-words}
 use Rattle.block.proofs.Splits.{split_count}
-use Rattle.block.proofs.Pieces.{AreWide-of, entries_behind-pieces}
+use Rattle.block.proofs.Pieces.{AreWide-of, entries_of_encoded-pieces}
 use Rattle.block.proofs.Written.{AreOfBlock-pieces_from, entries_after-pieces_from}
 use Rattle.block.proofs.Built.{length-restarts_of}
 use Rattle.frame.specs.Trailer.{stored_block, trailer_bytes}
 use Rattle.frame.proofs.Stored.{length-stored}
 use Rattle.table.specs.declared.flushed_block.FlushedBlock.{FlushedBlock}
 use Rattle.table.specs.Table.{IndexKeys, stored_blocks}
-use Rattle.table.specs.Flushed.{index_before}
+use Rattle.table.specs.FlushedBlocks.{index_before}
 use Rattle.table.specs.BuilderState.{block_entries, blocks_in}
 
 -- a block gives the entries back
@@ -33,9 +33,9 @@ block_entries-block r q fits =
     let split : HasBlockParts bytes area (words (restarts_of ps)) = record { count = length (restarts_of ps); some = some; fits = count; len = length-words (restarts_of ps); whole = refl } in
     let c = split_count bytes area (words (restarts_of ps)) split in
     let at : length bytes - (4 * little_number 4 (drop (length bytes - 4) bytes) + 4) ≡ length area = omega (arith, c.0, c.1) in
-    ap (λ (n : ℕ). entries_behind [] (take n bytes)) at
-    ∙ ap (entries_behind []) (take-append_seam area (words (restarts_of ps) ++ little_bytes 4 (length (restarts_of ps))))
-    ∙ entries_behind-pieces [] ps (AreWide-of 0 ps lawful.pieces)
+    ap (λ (n : ℕ). entries_of_encoded [] (take n bytes)) at
+    ∙ ap (entries_of_encoded []) (take-append_seam area (words (restarts_of ps) ++ little_bytes 4 (length (restarts_of ps))))
+    ∙ entries_of_encoded-pieces [] ps (AreWide-of 0 ps lawful.pieces)
     ∙ entries_after-pieces_from r 0 [] q
 
 -- the sizes of blocks

@@ -15,10 +15,10 @@ use Rattle.frame.proofs.Stored.{length-stored}
 use Rattle.table.specs.declared.options.Options.{Options}
 use Rattle.table.specs.declared.flushed_block.FlushedBlock.{FlushedBlock}
 use Rattle.table.specs.Options.{AreInLimits}
-use Rattle.table.specs.DataBlocks.{is_full, blocks_behind, data_blocks, flushed_len}
+use Rattle.table.specs.DataBlocks.{is_full, blocks_after, data_blocks, flushed_len}
 use Rattle.table.specs.Table.{IndexKeys, stored_blocks}
-use Rattle.table.specs.ReadingEntries.{first_key}
-use Rattle.table.specs.Flushed.{flushed_block_at, index_before}
+use Rattle.table.specs.EntryTests.{first_key}
+use Rattle.table.specs.FlushedBlocks.{flushed_block_at, index_before}
 use Rattle.table.specs.BuilderState.{entries_so_far, entries_of_parts, blocks_in, IsTableBuilder, IsAnyTableBuilder}
 use Rattle.table.proofs.BlockEntries.{blocks_in-stored, sizes-index_before}
 use Rattle.table.proofs.Flushes.{stored_blocks-push, entries_of_parts-push, index_before-push}
@@ -56,11 +56,11 @@ index_before-grown keys r parts [] e begun =
     ap (λ (x : List (List Entry)). index_before keys r 0 x []) none ∙ ap (λ (x : List (List Entry)). index_before keys r 0 x e.key) (sym none)
 index_before-grown keys r parts (x ∷ xs) e begun = refl
 
-blocks_behind-grown : (o : Options) (entries : List Entry) (e : Entry) (more : List Entry) → is_full o entries ≡ false → blocks_behind o entries (e ∷ more) ≡ blocks_behind o (entries ++ e ∷ []) more
-blocks_behind-grown o entries e more part = rw part refl
+blocks_after-grown : (o : Options) (entries : List Entry) (e : Entry) (more : List Entry) → is_full o entries ≡ false → blocks_after o entries (e ∷ more) ≡ blocks_after o (entries ++ e ∷ []) more
+blocks_after-grown o entries e more part = rw part refl
 
-blocks_behind-flushed : (o : Options) (entries : List Entry) (e : Entry) (more : List Entry) → is_full o entries ≡ true → blocks_behind o entries (e ∷ more) ≡ entries ∷ blocks_behind o (e ∷ []) more
-blocks_behind-flushed o entries e more full = rw full refl
+blocks_after-flushed : (o : Options) (entries : List Entry) (e : Entry) (more : List Entry) → is_full o entries ≡ true → blocks_after o entries (e ∷ more) ≡ entries ∷ blocks_after o (e ∷ []) more
+blocks_after-flushed o entries e more full = rw full refl
 
 pub IsBuilt-grown : {keys : IndexKeys} {o : Options} {parts : List (List Entry)} {bytes : List ℕ} {index : List FlushedBlock} {interval : ℕ} {entries : List Entry} (e : Entry) → IsTableBuilder keys o parts bytes index interval entries
     → is_full o entries ≡ false → IsInternalKey e.key → length (block o.restart_interval (entries ++ e ∷ [])) ≤ 2 ^ 31 → IsTableBuilder keys o parts bytes index interval (entries ++ e ∷ [])
@@ -73,7 +73,7 @@ IsBuilt-grown {keys = keys} {o = o} {parts = parts} {entries = entries} e h part
   cut = λ more.
       let grouped : (entries_of_parts parts ++ (entries ++ e ∷ [])) ++ more ≡ (entries_of_parts parts ++ entries) ++ (e ∷ more) =
       ap (λ (x : List Entry). x ++ more) (sym (append_assoc (entries_of_parts parts) entries (e ∷ []))) ∙ append_assoc (entries_of_parts parts ++ entries) (e ∷ []) more in
-      ap (data_blocks o) grouped ∙ h.cut (e ∷ more) ∙ ap (λ (x : List (List Entry)). parts ++ x) (blocks_behind-grown o entries e more part);
+      ap (data_blocks o) grouped ∙ h.cut (e ∷ more) ∙ ap (λ (x : List (List Entry)). parts ++ x) (blocks_after-grown o entries e more part);
   flushed_is = h.flushed_is;
   parts_fit = h.parts_fit;
   entries_fit = fits;
@@ -117,8 +117,8 @@ IsBuilt-flushed {keys = keys} {o = o} {parts = parts} {bytes = bytes} {index = i
           ap (λ (x : List Entry). (x ++ e ∷ []) ++ more) (entries_of_parts-push parts entries) ∙ append_assoc (entries_of_parts parts ++ entries) (e ∷ []) more in
           ap (data_blocks o) grouped
           ∙ h.cut (e ∷ more)
-          ∙ ap (λ (x : List (List Entry)). parts ++ x) (blocks_behind-flushed o entries e more full)
-          ∙ sym (append_assoc parts (entries ∷ []) (blocks_behind o (e ∷ []) more));
+          ∙ ap (λ (x : List (List Entry)). parts ++ x) (blocks_after-flushed o entries e more full)
+          ∙ sym (append_assoc parts (entries ∷ []) (blocks_after o (e ∷ []) more));
       flushed_is = sum_by-append (flushed_len o) parts (entries ∷ []) ∙ omega (arith, h.flushed_is, flushed_len-full o entries full, length-append bytes (stored_block b), length-stored b, len);
       parts_fit = AllByRecursion-push (λ p. length (block r p) ≤ 2 ^ 31) parts entries h.parts_fit h.entries_fit;
       entries_fit = fits;

@@ -11,15 +11,15 @@ use Rattle.coding.proofs.Binds.{done, bind_ok, ok_is}
 use Rattle.block.specs.EncodedEntry.{Entry}
 use Rattle.block.specs.BuilderView.{last_key}
 use Rattle.ikey.specs.Key.{user_of}
-use Rattle.table.specs.ReadingSteps.{test_result}
-use Rattle.table.specs.ReadingEntries.{HaveInternalKeys, first_key, key_behind, is_some_list, data_test}
+use Rattle.table.specs.TestResult.{test_result}
+use Rattle.table.specs.EntryTests.{HaveInternalKeys, first_key, last_key_after, is_some_list, data_test}
 use Rattle.table.specs.BoundsReading.{bounds_of}
 use Rattle.table.specs.declared.bounds.Bounds.{Bounds}
-use Rattle.table.specs.ReadingIndex.{IndexEntry, block_in, index_reading}
+use Rattle.table.specs.IndexReading.{IndexEntry, block_in, index_reading}
 use Rattle.table.specs.TableContents.{DataBlock, blocks_reading, index_fits, data_reading, index_in, blocks_of, entries_of, Contents, contents_of, contents_reading, table_reading}
-use Rattle.table.specs.Checked.{contents_in}
+use Rattle.table.specs.CheckedContents.{contents_in}
 use Rattle.table.specs.SoundTables.{HasBounds, IsChecked}
-use Rattle.table.specs.ReadingTables.{IsTable}
+use Rattle.table.specs.TableBytes.{IsTable}
 use Rattle.table.proofs.Steps.{fails_map}
 use Rattle.table.proofs.DataSteps.{all_bounds}
 
@@ -46,14 +46,14 @@ pub record ReadBlock (cmp : List ℕ → List ℕ → Ordering) (before : Option
   pub others : List DataBlock
   pub block : block_in i.stored ≡ Ok entries
   pub tests : data_test cmp before entries ≡ Ok tt
-  pub behind : blocks_reading cmp (key_behind before entries) is ≡ Ok others
+  pub behind : blocks_reading cmp (last_key_after before entries) is ≡ Ok others
   pub same : record { index_key = i.key; entries = entries } ∷ others ≡ blocks
 
 pub read_block : (cmp : List ℕ → List ℕ → Ordering) (before : Option (List ℕ)) (i : IndexEntry) (is : List IndexEntry) (blocks : List DataBlock) → blocks_reading cmp before (i ∷ is) ≡ Ok blocks → ReadBlock cmp before i is blocks
 read_block cmp before i is blocks h =
     let a = bind_ok (block_in i.stored) _ blocks h in
     let b = bind_ok (data_test cmp before a.0) _ blocks a.2 in
-    let d = bind_ok (blocks_reading cmp (key_behind before a.0) is) (λ others. done (record { index_key = i.key; entries = a.0 } ∷ others)) blocks b.2 in
+    let d = bind_ok (blocks_reading cmp (last_key_after before a.0) is) (λ others. done (record { index_key = i.key; entries = a.0 } ∷ others)) blocks b.2 in
     record { entries = a.0; others = d.0; block = a.1; tests = b.1; behind = d.1; same = ok_is _ _ d.2 }
 
 pub record HasEntry (es : List Entry) : Type 0 where
@@ -123,7 +123,7 @@ pub keys_kept : (cmp : List ℕ → List ℕ → Ordering) (before : Option (Lis
 keys_kept cmp before [] blocks h = ap (λ (bs : List DataBlock). map (λ b. user_of b.index_key) bs) (sym (ok_is [] blocks h))
 keys_kept cmp before (i ∷ is) blocks h =
     let r = read_block cmp before i is blocks h in
-    sym (ap (λ (bs : List DataBlock). map (λ b. user_of b.index_key) bs) r.same) ∙ ap (λ (us : List (List ℕ)). user_of i.key ∷ us) (keys_kept cmp (key_behind before r.entries) is r.others r.behind)
+    sym (ap (λ (bs : List DataBlock). map (λ b. user_of b.index_key) bs) r.same) ∙ ap (λ (us : List (List ℕ)). user_of i.key ∷ us) (keys_kept cmp (last_key_after before r.entries) is r.others r.behind)
 
 -- ---- what a check finds
 

@@ -16,8 +16,8 @@ use Rattle.table.specs.declared.options.Options.{Options}
 use Rattle.table.specs.declared.flushed_block.FlushedBlock.{FlushedBlock}
 use Rattle.table.specs.DataBlocks.{is_full, open_block, data_blocks, flushed_len, flushed}
 use Rattle.table.specs.Table.{IndexKeys, handle_entry, index_from, stored_blocks, closing_bytes, table_of_blocks}
-use Rattle.table.specs.ReadingEntries.{first_key}
-use Rattle.table.specs.Flushed.{flushed_block_at, index_entries, index_before}
+use Rattle.table.specs.EntryTests.{first_key}
+use Rattle.table.specs.FlushedBlocks.{flushed_block_at, index_entries, index_before}
 use Rattle.table.specs.BuilderView.{IsAboveLast}
 use Rattle.table.specs.BuilderState.{IsTableBuilder, entries_so_far, entries_of_parts}
 use Rattle.table.proofs.Flushes.{stored_blocks-push, index_from-push}

@@ -4,7 +4,7 @@ use Rattle.std.proofs.lemmas.List.{take_at, drop_at, take-append-le, length-appe
 use Rattle.std.proofs.lemmas.Bool.{cases_lt}
 use Rattle.block.specs.EncodedEntry.{Entry}
 use Rattle.table.specs.declared.options.Options.{Options}
-use Rattle.table.specs.DataBlocks.{is_full, open_block, blocks_behind, data_blocks, IsDataBlock, AreDataBlocks, DataBlocksLaw}
+use Rattle.table.specs.DataBlocks.{is_full, open_block, blocks_after, data_blocks, IsDataBlock, AreDataBlocks, DataBlocksLaw}
 
 -- no shorter beginning is full
 abbrev IsShortest : Options → List Entry → Type 0
@@ -33,14 +33,14 @@ ends_open : (o : Options) (p : List Entry) → IsShortest o p → AreDataBlocks 
 ends_open o [] h = refl
 ends_open o (e ∷ es) h = ([], refl, record { some = λ no. absurd (cc); shortest = h; full = inr refl }, refl)
 
-behind_by : (o : Options) (p : List Entry) (e : Entry) (es : List Entry) (full : Bool) → is_full o p ≡ full → IsShortest o p → AreDataBlocks o (e ∷ es) (blocks_behind o (e ∷ []) es)
-    → (is_full o p ≡ false → AreDataBlocks o ((p ++ e ∷ []) ++ es) (blocks_behind o (p ++ e ∷ []) es)) → AreDataBlocks o (p ++ e ∷ es) (blocks_behind o p (e ∷ es))
+behind_by : (o : Options) (p : List Entry) (e : Entry) (es : List Entry) (full : Bool) → is_full o p ≡ full → IsShortest o p → AreDataBlocks o (e ∷ es) (blocks_after o (e ∷ []) es)
+    → (is_full o p ≡ false → AreDataBlocks o ((p ++ e ∷ []) ++ es) (blocks_after o (p ++ e ∷ []) es)) → AreDataBlocks o (p ++ e ∷ es) (blocks_after o p (e ∷ es))
 behind_by o p e es true full h flushed grown =
     rw full (e ∷ es, refl, record { some = full_is_some o p full; shortest = h; full = inl full }, flushed)
 behind_by o p e es false part h flushed grown =
-    rw part (subst (λ (q : List Entry). AreDataBlocks o q (blocks_behind o (p ++ e ∷ []) es)) (append_assoc p (e ∷ []) es) (grown part))
+    rw part (subst (λ (q : List Entry). AreDataBlocks o q (blocks_after o (p ++ e ∷ []) es)) (append_assoc p (e ∷ []) es) (grown part))
 
-are_behind : (o : Options) (p rest : List Entry) → IsShortest o p → AreDataBlocks o (p ++ rest) (blocks_behind o p rest)
+are_behind : (o : Options) (p rest : List Entry) → IsShortest o p → AreDataBlocks o (p ++ rest) (blocks_after o p rest)
 are_behind o p [] h = ends_open o p h
 are_behind o p (e ∷ es) h =
     behind_by o p e es (is_full o p) refl h (are_behind o (e ∷ []) es (shortest_one o e)) (λ part. are_behind o (p ++ e ∷ []) es (shortest_push o p e h part))

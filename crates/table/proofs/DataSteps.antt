@@ -10,13 +10,13 @@ use Rattle.coding.proofs.Binds.{done, failed, bind_ok, ok_is}
 use Rattle.block.specs.EncodedEntry.{Entry}
 use Rattle.block.specs.BuilderView.{last_key}
 use Rattle.ikey.specs.Order.{internal_cmp}
-use Rattle.table.specs.ReadingSteps.{test_result}
-use Rattle.table.specs.ReadingEntries.{first_key, key_behind, is_above, data_test}
+use Rattle.table.specs.TestResult.{test_result}
+use Rattle.table.specs.EntryTests.{first_key, last_key_after, is_above, data_test}
 use Rattle.table.specs.BoundsReading.{bounds_reading, bounds_of}
-use Rattle.table.specs.TallySteps.{tally_of_none, tally_behind}
+use Rattle.table.specs.TallySteps.{tally_of_none, tally_after}
 use Rattle.table.specs.declared.bounds.Bounds.{Bounds}
 use Rattle.table.specs.declared.tally.Tally.{Tally}
-use Rattle.table.specs.ReadingIndex.{IndexEntry, block_in}
+use Rattle.table.specs.IndexReading.{IndexEntry, block_in}
 use Rattle.table.specs.TableContents.{DataBlock, blocks_reading, is_between_index_keys, index_fits, data_reading, entries_of}
 use Rattle.table.proofs.Tallies.{tally-append, tally_is}
 
@@ -27,11 +27,11 @@ last_key-append before (e ∷ es) fs = last_key-append e.key es fs
 -- what is known of a data block that passed
 pub record Stands (cmp : List ℕ → List ℕ → Ordering) (before : Option (List ℕ)) (so_far : Tally) (q : List Entry) (x : Bounds) : Type 0 where
   pub tests : data_test cmp before q ≡ Ok tt
-  pub bounds : record { smallest = first_key q; largest = last_key [] q; tally = tally_behind so_far before q } ≡ x
+  pub bounds : record { smallest = first_key q; largest = last_key [] q; tally = tally_after so_far before q } ≡ x
 
 pub stands : (cmp : List ℕ → List ℕ → Ordering) (before : Option (List ℕ)) (so_far : Tally) (q : List Entry) (x : Bounds) → bounds_reading cmp before so_far q ≡ Ok x → Stands cmp before so_far q x
 stands cmp before so_far q x h =
-    let a = bind_ok (data_test cmp before q) (λ _. done (record { smallest = first_key q; largest = last_key [] q; tally = tally_behind so_far before q })) x h in
+    let a = bind_ok (data_test cmp before q) (λ _. done (record { smallest = first_key q; largest = last_key [] q; tally = tally_after so_far before q })) x h in
     record { tests = a.1; bounds = ok_is _ _ a.2 }
 
 bind_done : {A B : Type 0} (r : Result A Fault) (y : B) (d : Fault) → (r >>= λ _. done y) ≡ Err d → r ≡ Err d
@@ -49,7 +49,7 @@ finished fits x = test_result fits Index >>= λ _. Ok x
 
 -- the bounds of entries and of those after them
 abbrev pub bounds_behind : Bounds → List Entry → Bounds
-bounds_behind x es = record { smallest = x.smallest; largest = last_key x.largest es; tally = tally_behind x.tally (Some x.largest) es }
+bounds_behind x es = record { smallest = x.smallest; largest = last_key x.largest es; tally = tally_after x.tally (Some x.largest) es }
 
 -- those of all data blocks, if these are of the blocks so far, this is their last index key, and
 -- all index keys before fit or don't
@@ -65,11 +65,11 @@ turned false false b = refl
 
 -- the bounds of the entries of a block
 abbrev bounds_with : List ℕ → Tally → Option (List ℕ) → Entry → List Entry → Bounds
-bounds_with smallest so_far before e es = record { smallest = smallest; largest = last_key e.key es; tally = tally_behind so_far before (e ∷ es) }
+bounds_with smallest so_far before e es = record { smallest = smallest; largest = last_key e.key es; tally = tally_after so_far before (e ∷ es) }
 
-behind_with : (smallest : List ℕ) (so_far : Tally) (before : Option (List ℕ)) (e : Entry) (es fs : List Entry) → bounds_behind (bounds_with smallest so_far before e es) fs ≡ record { smallest = smallest; largest = last_key e.key (es ++ fs); tally = tally_behind so_far before (e ∷ (es ++ fs)) }
+behind_with : (smallest : List ℕ) (so_far : Tally) (before : Option (List ℕ)) (e : Entry) (es fs : List Entry) → bounds_behind (bounds_with smallest so_far before e es) fs ≡ record { smallest = smallest; largest = last_key e.key (es ++ fs); tally = tally_after so_far before (e ∷ (es ++ fs)) }
 behind_with smallest so_far before e es fs =
-    ap (λ (k : List ℕ). let x : Bounds = record { smallest = smallest; largest = k; tally = tally_behind (tally_behind so_far before (e ∷ es)) (Some (last_key e.key es)) fs } in x) (sym (last_key-append e.key es fs))
+    ap (λ (k : List ℕ). let x : Bounds = record { smallest = smallest; largest = k; tally = tally_after (tally_after so_far before (e ∷ es)) (Some (last_key e.key es)) fs } in x) (sym (last_key-append e.key es fs))
     ∙ ap (λ (t : Tally). let x : Bounds = record { smallest = smallest; largest = last_key e.key (es ++ fs); tally = t } in x) (sym (tally-append so_far before (e ∷ es) fs))
 
 -- one more block, by what is read of those after it
@@ -97,10 +97,10 @@ first_by cmp key e es (Ok bs) =
 
 -- the reading of blocks whose first one passes
 first_read : (cmp : List ℕ → List ℕ → Ordering) (before : Option (List ℕ)) (i : IndexEntry) (is : List IndexEntry) (q : List Entry) → block_in i.stored ≡ Ok q → data_test cmp before q ≡ Ok tt
-    → blocks_reading cmp before (i ∷ is) ≡ (blocks_reading cmp (key_behind before q) is >>= λ bs. Ok (record { index_key = i.key; entries = q } ∷ bs))
+    → blocks_reading cmp before (i ∷ is) ≡ (blocks_reading cmp (last_key_after before q) is >>= λ bs. Ok (record { index_key = i.key; entries = q } ∷ bs))
 first_read cmp before i is q e t =
-    ap (λ (r : Result (List Entry) Fault). r >>= λ entries. data_test cmp before entries >>= λ _. blocks_reading cmp (key_behind before entries) is >>= λ bs. Ok (record { index_key = i.key; entries = entries } ∷ bs)) e
-    ∙ ap (λ (r : Result (Unit {0}) Fault). r >>= λ _. blocks_reading cmp (key_behind before q) is >>= λ bs. Ok (record { index_key = i.key; entries = q } ∷ bs)) t
+    ap (λ (r : Result (List Entry) Fault). r >>= λ entries. data_test cmp before entries >>= λ _. blocks_reading cmp (last_key_after before entries) is >>= λ bs. Ok (record { index_key = i.key; entries = entries } ∷ bs)) e
+    ∙ ap (λ (r : Result (Unit {0}) Fault). r >>= λ _. blocks_reading cmp (last_key_after before q) is >>= λ bs. Ok (record { index_key = i.key; entries = q } ∷ bs)) t
 
 pub blocks_go_on : (cmp : List ℕ → List ℕ → Ordering) (x : Bounds) (below : List ℕ) (fits : Bool) (i : IndexEntry) (is : List IndexEntry) (q : List Entry) (y : Bounds) → block_in i.stored ≡ Ok q → Stands cmp (Some x.largest) x.tally q y
     → rest_bounds cmp (record { smallest = x.smallest; largest = y.largest; tally = y.tally }) i.key ((is_above cmp (Some below) y.smallest && not (is_gt (internal_cmp cmp y.largest i.key))) && fits) is ≡ rest_bounds cmp x below fits (i ∷ is)
@@ -108,7 +108,7 @@ blocks_go_on cmp x below fits i is q y e s =
     subst (λ (z : Bounds). rest_bounds cmp (record { smallest = x.smallest; largest = z.largest; tally = z.tally }) i.key ((is_above cmp (Some below) z.smallest && not (is_gt (internal_cmp cmp z.largest i.key))) && fits) is ≡ rest_bounds cmp x below fits (i ∷ is)) s.bounds (of_block q e s.tests)
   where
     of_block : (q : List Entry) → block_in i.stored ≡ Ok q → data_test cmp (Some x.largest) q ≡ Ok tt
-        → rest_bounds cmp (record { smallest = x.smallest; largest = last_key [] q; tally = tally_behind x.tally (Some x.largest) q }) i.key ((is_above cmp (Some below) (first_key q) && not (is_gt (internal_cmp cmp (last_key [] q) i.key))) && fits) is ≡ rest_bounds cmp x below fits (i ∷ is)
+        → rest_bounds cmp (record { smallest = x.smallest; largest = last_key [] q; tally = tally_after x.tally (Some x.largest) q }) i.key ((is_above cmp (Some below) (first_key q) && not (is_gt (internal_cmp cmp (last_key [] q) i.key))) && fits) is ≡ rest_bounds cmp x below fits (i ∷ is)
     of_block [] e t = absurd cc
     of_block (f ∷ fs) e t =
         more_by cmp x below fits i.key f fs (blocks_reading cmp (Some (last_key f.key fs)) is)
@@ -120,7 +120,7 @@ blocks_begin cmp i is q y e s =
     subst (λ (z : Bounds). rest_bounds cmp z i.key (is_above cmp None z.smallest && not (is_gt (internal_cmp cmp z.largest i.key))) is ≡ all_bounds cmp (i ∷ is)) s.bounds (of_block q e s.tests)
   where
     of_block : (q : List Entry) → block_in i.stored ≡ Ok q → data_test cmp None q ≡ Ok tt
-        → rest_bounds cmp (record { smallest = first_key q; largest = last_key [] q; tally = tally_behind tally_of_none None q }) i.key (is_above cmp None (first_key q) && not (is_gt (internal_cmp cmp (last_key [] q) i.key))) is ≡ all_bounds cmp (i ∷ is)
+        → rest_bounds cmp (record { smallest = first_key q; largest = last_key [] q; tally = tally_after tally_of_none None q }) i.key (is_above cmp None (first_key q) && not (is_gt (internal_cmp cmp (last_key [] q) i.key))) is ≡ all_bounds cmp (i ∷ is)
     of_block [] e t = absurd cc
     of_block (f ∷ fs) e t =
         first_by cmp i.key f fs (blocks_reading cmp (Some (last_key f.key fs)) is)
@@ -130,13 +130,13 @@ blocks_begin cmp i is q y e s =
 
 block_refused : (cmp : List ℕ → List ℕ → Ordering) (before : Option (List ℕ)) (i : IndexEntry) (is : List IndexEntry) (d : Fault) → block_in i.stored ≡ Err d → blocks_reading cmp before (i ∷ is) ≡ Err d
 block_refused cmp before i is d e =
-    ap (λ (r : Result (List Entry) Fault). r >>= λ entries. data_test cmp before entries >>= λ _. blocks_reading cmp (key_behind before entries) is >>= λ bs. Ok (record { index_key = i.key; entries = entries } ∷ bs)) e
+    ap (λ (r : Result (List Entry) Fault). r >>= λ entries. data_test cmp before entries >>= λ _. blocks_reading cmp (last_key_after before entries) is >>= λ bs. Ok (record { index_key = i.key; entries = entries } ∷ bs)) e
 
 data_refused : (cmp : List ℕ → List ℕ → Ordering) (before : Option (List ℕ)) (so_far : Tally) (i : IndexEntry) (is : List IndexEntry) (q : List Entry) (d : Fault) → block_in i.stored ≡ Ok q → bounds_reading cmp before so_far q ≡ Err d → blocks_reading cmp before (i ∷ is) ≡ Err d
 data_refused cmp before so_far i is q d e h =
-    let t = bind_done (data_test cmp before q) (record { smallest = first_key q; largest = last_key [] q; tally = tally_behind so_far before q }) d h in
-    ap (λ (r : Result (List Entry) Fault). r >>= λ entries. data_test cmp before entries >>= λ _. blocks_reading cmp (key_behind before entries) is >>= λ bs. Ok (record { index_key = i.key; entries = entries } ∷ bs)) e
-    ∙ ap (λ (r : Result (Unit {0}) Fault). r >>= λ _. blocks_reading cmp (key_behind before q) is >>= λ bs. Ok (record { index_key = i.key; entries = q } ∷ bs)) t
+    let t = bind_done (data_test cmp before q) (record { smallest = first_key q; largest = last_key [] q; tally = tally_after so_far before q }) d h in
+    ap (λ (r : Result (List Entry) Fault). r >>= λ entries. data_test cmp before entries >>= λ _. blocks_reading cmp (last_key_after before entries) is >>= λ bs. Ok (record { index_key = i.key; entries = entries } ∷ bs)) e
+    ∙ ap (λ (r : Result (Unit {0}) Fault). r >>= λ _. blocks_reading cmp (last_key_after before q) is >>= λ bs. Ok (record { index_key = i.key; entries = q } ∷ bs)) t
 
 in_rest : (cmp : List ℕ → List ℕ → Ordering) (x : Bounds) (below : List ℕ) (fits : Bool) (index : List IndexEntry) (d : Fault) → blocks_reading cmp (Some x.largest) index ≡ Err d → rest_bounds cmp x below fits index ≡ Err d
 in_rest cmp x below fits index d h = ap (λ (r : Result (List DataBlock) Fault). r >>= λ bs. finished (fits && index_fits cmp (Some below) bs) (bounds_behind x (entries_of bs))) h

@@ -15,11 +15,11 @@ use Rattle.block.specs.EncodedEntry.{Entry}
 use Rattle.ikey.specs.Key.{tag_of, internal_key_reading}
 use Rattle.ikey.specs.Order.{internal_cmp}
 use Rattle.ikey.proofs.Ordered.{internal_cmp-total}
-use Rattle.table.specs.ReadingSteps.{test_result}
-use Rattle.table.specs.ReadingEntries.{is_above, key_behind, entry_test, entries_test, is_some_list, data_test, HaveKeys}
-use Rattle.table.specs.ReadingIndex.{IndexEntry}
+use Rattle.table.specs.TestResult.{test_result}
+use Rattle.table.specs.EntryTests.{is_above, last_key_after, entry_test, entries_test, is_some_list, data_test, HaveKeys}
+use Rattle.table.specs.IndexReading.{IndexEntry}
 use Rattle.table.specs.TableContents.{DataBlock, blocks_reading, entries_of}
-use Rattle.table.specs.ReadingCursors.{EntriesRise, entries_from}
+use Rattle.table.specs.EntriesFrom.{EntriesRise, entries_from}
 use Rattle.table.specs.RestartSearch.{first_is_below}
 use Rattle.table.proofs.CheckedTables.{read_block}
 
@@ -70,11 +70,11 @@ pub have_keys : (cmp : List ℕ → List ℕ → Ordering) (before : Option (Lis
 have_keys cmp before [] h = tt
 have_keys cmp before (e ∷ es) h = let p = passes cmp before e es h in (p.first.key, have_keys cmp (Some e.key) es p.behind)
 
-pub behind_again : (before : Option (List ℕ)) (e : Entry) (es : List Entry) → key_behind (Some e.key) es ≡ key_behind before (e ∷ es)
+pub behind_again : (before : Option (List ℕ)) (e : Entry) (es : List Entry) → last_key_after (Some e.key) es ≡ last_key_after before (e ∷ es)
 behind_again before e [] = refl
 behind_again before e (f ∷ es) = refl
 
-pub entries_test-append : (cmp : List ℕ → List ℕ → Ordering) (before : Option (List ℕ)) (es fs : List Entry) → entries_test cmp before es ≡ Ok tt → entries_test cmp (key_behind before es) fs ≡ Ok tt → entries_test cmp before (es ++ fs) ≡ Ok tt
+pub entries_test-append : (cmp : List ℕ → List ℕ → Ordering) (before : Option (List ℕ)) (es fs : List Entry) → entries_test cmp before es ≡ Ok tt → entries_test cmp (last_key_after before es) fs ≡ Ok tt → entries_test cmp before (es ++ fs) ≡ Ok tt
 entries_test-append cmp before [] fs h q = q
 entries_test-append cmp before (e ∷ es) fs h q =
     let a = bind_ok (entry_test cmp before e) (λ _. entries_test cmp (Some e.key) es) tt h in
@@ -91,7 +91,7 @@ all_tests cmp before [] blocks h = ap (λ (bs : List DataBlock). entries_test cm
 all_tests cmp before (i ∷ is) blocks h =
     let r = read_block cmp before i is blocks h in
     subst (λ (bs : List DataBlock). entries_test cmp before (entries_of bs) ≡ Ok tt) r.same
-    (entries_test-append cmp before r.entries (entries_of r.others) (data_tests cmp before r.entries r.tests) (all_tests cmp (key_behind before r.entries) is r.others r.behind))
+    (entries_test-append cmp before r.entries (entries_of r.others) (data_tests cmp before r.entries r.tests) (all_tests cmp (last_key_after before r.entries) is r.others r.behind))
 
 -- ---- rising
 

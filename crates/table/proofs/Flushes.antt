@@ -9,8 +9,8 @@ use Rattle.frame.specs.Trailer.{stored_block}
 use Rattle.frame.proofs.Stored.{length-stored}
 use Rattle.table.specs.declared.flushed_block.FlushedBlock.{FlushedBlock}
 use Rattle.table.specs.Table.{IndexKeys, index_key, handle_entry, index_from, stored_blocks}
-use Rattle.table.specs.ReadingEntries.{first_key}
-use Rattle.table.specs.Flushed.{flushed_block_at, index_entries, next_key, index_before}
+use Rattle.table.specs.EntryTests.{first_key}
+use Rattle.table.specs.FlushedBlocks.{flushed_block_at, index_entries, next_key, index_before}
 use Rattle.table.specs.BuilderState.{entries_of_parts}
 
 pub stored_blocks-push : (r : ℕ) (parts : List (List Entry)) (p : List Entry) → stored_blocks r (parts ++ p ∷ []) ≡ stored_blocks r parts ++ stored_block (block r p)

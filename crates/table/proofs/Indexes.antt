@@ -14,7 +14,7 @@ use Rattle.frame.proofs.Stored.{length-stored}
 use Rattle.frame.proofs.Footers.{length-footer_bytes}
 use Rattle.table.specs.declared.flushed_block.FlushedBlock.{FlushedBlock}
 use Rattle.table.specs.Table.{handle_entry, metaindex, footer_at, closing_bytes}
-use Rattle.table.specs.Flushed.{index_entries}
+use Rattle.table.specs.FlushedBlocks.{index_entries}
 
 -- the index of some blocks is no longer than that of all
 pub length-index_part : (index : List FlushedBlock) (i : ℕ) → length (block 1 (index_entries (take i index))) ≤ length (block 1 (index_entries index))

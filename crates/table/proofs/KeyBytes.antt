@@ -8,8 +8,8 @@ use Rattle.coding.proofs.Bytes.{IsBytes, IsBytes-take, IsBytes-drop}
 use Rattle.block.specs.EncodedEntry.{Entry, EncodedEntry, IsBlock, encoded_entry_bytes, entries_after, key_after, restart_bytes, restarts_of}
 use Rattle.frame.specs.Trailer.{stored_block, trailer_bytes}
 use Rattle.ikey.proofs.Keys.{IsInternalKey-reading}
-use Rattle.table.specs.ReadingEntries.{HaveKeys, HaveInternalKeys}
-use Rattle.table.specs.ReadingTables.{AreNamed, IsTable}
+use Rattle.table.specs.EntryTests.{HaveKeys, HaveInternalKeys}
+use Rattle.table.specs.TableBytes.{AreNamed, IsTable}
 use Rattle.table.specs.TableContents.{DataBlock, entries_of}
 
 -- ---- parts of bytes

@@ -17,12 +17,12 @@ use Rattle.ikey.specs.Order.{internal_cmp}
 use Rattle.frame.specs.declared.handle.BlockHandle.{BlockHandle}
 use Rattle.frame.specs.Handle.{handle_bytes, handle_reading, HandleBehind}
 use Rattle.frame.proofs.Handles.{handle_reading-spelled, reads_handle}
-use Rattle.table.specs.ReadingSteps.{test_result}
-use Rattle.table.specs.ReadingEntries.{first_key, is_above, key_behind, entry_test, entries_test, is_some_list, data_test, HaveKeys}
-use Rattle.table.specs.ReadingIndex.{IndexEntry, handle_alone, one_handle, stored_at, block_in, index_entry, index_reading}
+use Rattle.table.specs.TestResult.{test_result}
+use Rattle.table.specs.EntryTests.{first_key, is_above, last_key_after, entry_test, entries_test, is_some_list, data_test, HaveKeys}
+use Rattle.table.specs.IndexReading.{IndexEntry, handle_alone, one_handle, stored_at, block_in, index_entry, index_reading}
 use Rattle.table.specs.TableContents.{DataBlock, blocks_reading, is_between_index_keys, index_fits, entries_of}
-use Rattle.table.specs.ReadingCursors.{EntriesRise}
-use Rattle.table.specs.ReadingTables.{AreNamed, IsBelowNextBlock, AreBetween, AreBytes}
+use Rattle.table.specs.EntriesFrom.{EntriesRise}
+use Rattle.table.specs.TableBytes.{AreNamed, IsBelowNextBlock, AreBetween, AreBytes}
 use Rattle.block.proofs.BlockReadings.{both, join}
 use Rattle.table.proofs.CheckedTables.{read_block}
 use Rattle.table.proofs.EntryTests.{AllAbove, less_is, key_same, passes, behind_again}
@@ -50,7 +50,7 @@ tests_of cmp before (e ∷ es) keys values above rising =
 -- the tests of two lists are those of one and then the other
 pub record Splits (cmp : List ℕ → List ℕ → Ordering) (before : Option (List ℕ)) (es fs : List Entry) : Type 0 where
   pub front : entries_test cmp before es ≡ Ok tt
-  pub rest : entries_test cmp (key_behind before es) fs ≡ Ok tt
+  pub rest : entries_test cmp (last_key_after before es) fs ≡ Ok tt
 
 pub splits : (cmp : List ℕ → List ℕ → Ordering) (before : Option (List ℕ)) (es fs : List Entry) → entries_test cmp before (es ++ fs) ≡ Ok tt → Splits cmp before es fs
 splits cmp before [] fs h = record { front = refl; rest = h }
@@ -112,9 +112,9 @@ blocks_read cmp before (i ∷ is) [] h t = absurd h
 blocks_read cmp before (i ∷ is) (b ∷ bs) h t =
     let s = splits cmp before b.entries (entries_of bs) t in
     let tests : data_test cmp before b.entries ≡ Ok tt = ap (λ (x : Bool). test_result x Empty >>= λ _. entries_test cmp before b.entries) h.2 ∙ s.front in
-    bind_is (block_in i.stored) b.entries (λ q. data_test cmp before q >>= λ _. blocks_reading cmp (key_behind before q) is >>= λ others. Ok (record { index_key = i.key; entries = q } ∷ others)) (done (b ∷ bs)) h.1
-    (bind_is (data_test cmp before b.entries) tt (λ _. blocks_reading cmp (key_behind before b.entries) is >>= λ others. Ok (record { index_key = i.key; entries = b.entries } ∷ others)) (done (b ∷ bs)) tests
-    (bind_is (blocks_reading cmp (key_behind before b.entries) is) bs (λ others. Ok (record { index_key = i.key; entries = b.entries } ∷ others)) (done (b ∷ bs)) (blocks_read cmp (key_behind before b.entries) is bs h.3 s.rest)
+    bind_is (block_in i.stored) b.entries (λ q. data_test cmp before q >>= λ _. blocks_reading cmp (last_key_after before q) is >>= λ others. Ok (record { index_key = i.key; entries = q } ∷ others)) (done (b ∷ bs)) h.1
+    (bind_is (data_test cmp before b.entries) tt (λ _. blocks_reading cmp (last_key_after before b.entries) is >>= λ others. Ok (record { index_key = i.key; entries = b.entries } ∷ others)) (done (b ∷ bs)) tests
+    (bind_is (blocks_reading cmp (last_key_after before b.entries) is) bs (λ others. Ok (record { index_key = i.key; entries = b.entries } ∷ others)) (done (b ∷ bs)) (blocks_read cmp (last_key_after before b.entries) is bs h.3 s.rest)
     (ap (λ (k : List ℕ). done (record { index_key = k; entries = b.entries } ∷ bs)) h.0)))
 
 -- the one handle that a value is
@@ -161,7 +161,7 @@ read_named cmp bytes (e ∷ es) before index bs fits h k =
         block = read_stands bytes handle.0 there.0 r.entries fits there.1 block;
         some = data_some cmp before r.entries r.tests;
       },
-      read_named cmp bytes es (key_behind before r.entries) c.0 r.others fits c.1 r.behind,
+      read_named cmp bytes es (last_key_after before r.entries) c.0 r.others fits c.1 r.behind,
     )
 
 -- ---- the index keys in order

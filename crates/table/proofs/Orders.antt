@@ -6,7 +6,7 @@ use Rattle.std.specs.declared.cmp.Ordering.{Ordering}
 use Rattle.std.specs.declared.cmp.Ordering.TheVariants.{Less}
 use Rattle.block.specs.EncodedEntry.{Entry}
 use Rattle.ikey.specs.Order.{internal_cmp}
-use Rattle.table.specs.ReadingCursors.{EntriesRise, NeverFalls, LeavesFrom}
+use Rattle.table.specs.EntriesFrom.{EntriesRise, NeverFalls, LeavesFrom}
 
 -- entries that rise strictly never fall
 pub rising_never_falls : (cmp : List ℕ → List ℕ → Ordering) (es : List Entry) → EntriesRise cmp es → NeverFalls cmp es

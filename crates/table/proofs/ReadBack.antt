@@ -22,11 +22,11 @@ use Rattle.table.specs.declared.options.Options.{Options}
 use Rattle.table.specs.DataBlocks.{data_blocks, AreDataBlocks}
 use Rattle.table.specs.BuilderState.{entries_of_parts}
 use Rattle.table.specs.Table.{IndexKeys, index_key, index_from, stored_blocks, metaindex, footer_at, closing_bytes, table_of_blocks}
-use Rattle.table.specs.ReadingEntries.{first_key, HaveKeys}
-use Rattle.table.specs.ReadingCursors.{EntriesRise}
+use Rattle.table.specs.EntryTests.{first_key, HaveKeys}
+use Rattle.table.specs.EntriesFrom.{EntriesRise}
 use Rattle.table.specs.TableContents.{DataBlock, entries_of}
-use Rattle.table.specs.ReadingTables.{IsStoredAt, EndsWith, AreNamed, AreBetween, IsTable}
-use Rattle.table.specs.ReadingBack.{IsWritable}
+use Rattle.table.specs.TableBytes.{IsStoredAt, EndsWith, AreNamed, AreBetween, IsTable}
+use Rattle.table.specs.ReadBackLaw.{IsWritable}
 use Rattle.table.proofs.Indexes.{length-closing}
 use Rattle.table.proofs.Cuts.{are_data_blocks}
 

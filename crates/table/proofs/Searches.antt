@@ -9,12 +9,12 @@ use Rattle.std.specs.declared.cmp.Ordering.{Ordering}
 use Rattle.std.specs.declared.cmp.Ordering.TheVariants.{Less}
 use Rattle.std.proofs.lemmas.Option.{get_or_from_slice_get, same_Some}
 use Rattle.block.specs.EncodedEntry.{Entry}
-use Rattle.block.specs.Sound.{BlockView}
+use Rattle.block.specs.BlockView.{BlockView}
 use Rattle.ikey.specs.Order.{internal_cmp}
 use Rattle.ikey.proofs.Ordered.{internal_cmp-total}
-use Rattle.table.specs.ReadingCursors.{EntriesRise, entries_from}
+use Rattle.table.specs.EntriesFrom.{EntriesRise, entries_from}
 use Rattle.table.specs.RestartSearch.{first_is_below, restart_is_below, IsLastBelow}
-use Rattle.table.specs.ReadingEntries.{HaveKeys}
+use Rattle.table.specs.EntryTests.{HaveKeys}
 use Rattle.ikey.specs.Key.{internal_key_reading}
 use Rattle.table.proofs.EntryTests.{less_is}
 

@@ -12,12 +12,12 @@ use Rattle.coding.proofs.Refusals.{FailsOrMemory-from, unless_from}
 use Rattle.coding.proofs.Binds.{done, failed}
 use Rattle.block.specs.EncodedEntry.{Entry, IsBlock}
 use Rattle.block.specs.BuilderView.{last_key}
-use Rattle.block.specs.ReadingBlocks.{block_reading}
-use Rattle.table.specs.ReadingEntries.{first_key, entry_test, entries_test}
+use Rattle.block.specs.BlockReading.{block_reading}
+use Rattle.table.specs.EntryTests.{first_key, entry_test, entries_test}
 use Rattle.table.specs.BoundsReading.{bounds_reading}
-use Rattle.table.specs.TallySteps.{tally_behind}
+use Rattle.table.specs.TallySteps.{tally_after}
 use Rattle.table.specs.declared.tally.Tally.{Tally}
-use Rattle.table.specs.ReadingIndex.{IndexEntry, index_entry, index_reading}
+use Rattle.table.specs.IndexReading.{IndexEntry, index_entry, index_reading}
 use Rattle.block.proofs.BlockReadings.{reads_blocks, refused}
 
 -- ---- a block
@@ -101,7 +101,7 @@ handed_on {X} {Y} view r e d total same name h =
 pub bounds_refused : (cmp : List ℕ → List ℕ → Ordering) (before : Option (List ℕ)) (so_far : Tally) (q : List Entry) (d : Fault) → 0 < length q → entries_test cmp before q ≡ Err d → bounds_reading cmp before so_far q ≡ Err d
 bounds_refused cmp before so_far [] d some h = absurd (omega arith)
 bounds_refused cmp before so_far (e ∷ q) d some h =
-    ap (λ (r : Result (Unit {0}) Fault). r >>= λ _. done (record { smallest = first_key (e ∷ q); largest = last_key [] (e ∷ q); tally = tally_behind so_far before (e ∷ q) })) h
+    ap (λ (r : Result (Unit {0}) Fault). r >>= λ _. done (record { smallest = first_key (e ∷ q); largest = last_key [] (e ∷ q); tally = tally_after so_far before (e ∷ q) })) h
 
 -- ---- a loop's list
 

@@ -19,9 +19,9 @@ use Rattle.frame.specs.Trailer.{stored_block, stored_reading}
 use Rattle.frame.specs.Footer.{handles_bytes, magic, handles_reading, footer_reading}
 use Rattle.frame.proofs.Handles.{handle_reading-spelled, reads_handle, found_first}
 use Rattle.frame.proofs.Stored.{length-stored, stored_again, only_stored}
-use Rattle.block.specs.ReadingBlocks.{block_reading}
-use Rattle.table.specs.ReadingIndex.{stored_at, block_in}
-use Rattle.table.specs.ReadingTables.{IsStoredAt, EndsWith, AreBytes}
+use Rattle.block.specs.BlockReading.{block_reading}
+use Rattle.table.specs.IndexReading.{stored_at, block_in}
+use Rattle.table.specs.TableBytes.{IsStoredAt, EndsWith, AreBytes}
 use Rattle.block.proofs.BlockReadings.{reads_blocks}
 
 -- a step that did not fail

@@ -10,12 +10,12 @@ use Rattle.coding.proofs.Binds.{done, bind_ok, ok_is}
 use Rattle.block.specs.EncodedEntry.{Entry}
 use Rattle.frame.specs.declared.footer.Footer.{Footer}
 use Rattle.frame.specs.Footer.{footer_reading}
-use Rattle.table.specs.ReadingSteps.{test_result}
-use Rattle.table.specs.ReadingEntries.{is_some_list, entries_test, HaveKeys}
-use Rattle.table.specs.ReadingCursors.{EntriesRise}
-use Rattle.table.specs.ReadingIndex.{IndexEntry, stored_at, block_in, index_reading}
+use Rattle.table.specs.TestResult.{test_result}
+use Rattle.table.specs.EntryTests.{is_some_list, entries_test, HaveKeys}
+use Rattle.table.specs.EntriesFrom.{EntriesRise}
+use Rattle.table.specs.IndexReading.{IndexEntry, stored_at, block_in, index_reading}
 use Rattle.table.specs.TableContents.{DataBlock, blocks_reading, index_fits, data_reading, index_in, blocks_of, entries_of, table_reading}
-use Rattle.table.specs.ReadingTables.{IsStoredAt, EndsWith, IsTable, AreBytes, ReadsTables}
+use Rattle.table.specs.TableBytes.{IsStoredAt, EndsWith, IsTable, AreBytes, ReadsTables}
 use Rattle.table.proofs.CheckedTables.{blocks_by, read_block, read_data}
 use Rattle.table.proofs.EntryTests.{passed, have_keys, all_tests, rising}
 use Rattle.table.proofs.StoredTables.{bind_is, stands_read, stands_fit, read_stands, ends_read, read_ends, long_footer}

@@ -3,20 +3,20 @@ use Rattle.std.proofs.Common.{◌≡◌, ℕ, ◌+◌, ◌-◌, ◌^◌, ◌≤�
 use Rattle.block.specs.EncodedEntry.{Entry}
 use Rattle.ikey.specs.Key.{sequence_of}
 use Rattle.ikey.specs.declared.key.TheConstants.{MAX_SEQUENCE}
-use Rattle.table.specs.ReadingEntries.{key_behind}
+use Rattle.table.specs.EntryTests.{last_key_after}
 use Rattle.table.specs.Tallies.{is_twin, has_twins, least_sequence, greatest_sequence, tally_of}
-use Rattle.table.specs.TallySteps.{tally_of_none, tally_with, tally_behind}
+use Rattle.table.specs.TallySteps.{tally_of_none, tally_with, tally_after}
 use Rattle.table.specs.declared.tally.Tally.{Tally}
 
 -- two lists, one after the other
-pub tally-append : (t : Tally) (before : Option (List ℕ)) (es fs : List Entry) → tally_behind t before (es ++ fs) ≡ tally_behind (tally_behind t before es) (key_behind before es) fs
+pub tally-append : (t : Tally) (before : Option (List ℕ)) (es fs : List Entry) → tally_after t before (es ++ fs) ≡ tally_after (tally_after t before es) (last_key_after before es) fs
 tally-append t before [] fs = refl
 tally-append t before (e ∷ []) fs = refl
 tally-append t before (e ∷ f ∷ es) fs = tally-append (tally_with t before e.key) (Some e.key) (f ∷ es) fs
 
 -- one entry further on
-pub tally_goes_on : (t : Tally) (before : Option (List ℕ)) (q : List Entry) (key value : List ℕ) (total : Tally) → q ≡ record { key = key; value = value } ∷ drop 1 q → tally_behind t before q ≡ total → tally_behind (tally_with t before key) (Some key) (drop 1 q) ≡ total
-tally_goes_on t before q key value total first so_far = sym (ap (tally_behind t before) first) ∙ so_far
+pub tally_goes_on : (t : Tally) (before : Option (List ℕ)) (q : List Entry) (key value : List ℕ) (total : Tally) → q ≡ record { key = key; value = value } ∷ drop 1 q → tally_after t before q ≡ total → tally_after (tally_with t before key) (Some key) (drop 1 q) ≡ total
+tally_goes_on t before q key value total first so_far = sym (ap (tally_after t before) first) ∙ so_far
 
 -- ---- as a whole
 
@@ -36,7 +36,7 @@ or_more true b c = refl
 or_more false b c = refl
 
 whole : (t : Tally) (before : Option (List ℕ)) (es : List Entry) → t.entries ≤ 2 ^ 64 - 1 → t.oldest ≤ MAX_SEQUENCE
-    → tally_behind t before es ≡ tally (min (t.entries + length es) (2 ^ 64 - 1)) (min t.oldest (least_sequence es)) (max t.newest (greatest_sequence es)) (t.has_twins || has_twins before es)
+    → tally_after t before es ≡ tally (min (t.entries + length es) (2 ^ 64 - 1)) (min t.oldest (least_sequence es)) (max t.newest (greatest_sequence es)) (t.has_twins || has_twins before es)
 whole t before [] few old =
     same_tally t.entries (min (t.entries + 0) (2 ^ 64 - 1)) t.oldest (min t.oldest MAX_SEQUENCE) t.newest (max t.newest 0) t.has_twins (t.has_twins || false)
     (omega (arith, few)) (omega (arith, old)) (omega arith) (or_false t.has_twins)
@@ -64,7 +64,7 @@ least_small [] = omega arith
 least_small (e ∷ es) = omega (arith, least_small es)
 
 -- what is counted from the start is what is counted of all
-pub tally_is : (es : List Entry) → tally_behind tally_of_none None es ≡ tally_of es
+pub tally_is : (es : List Entry) → tally_after tally_of_none None es ≡ tally_of es
 tally_is es =
     whole tally_of_none None es (omega arith) (omega arith)
     ∙ same_tally (min (0 + length es) (2 ^ 64 - 1)) (min (length es) (2 ^ 64 - 1)) (min MAX_SEQUENCE (least_sequence es)) (least_sequence es) (max 0 (greatest_sequence es)) (greatest_sequence es)

@@ -22,13 +22,13 @@ use Rattle.ikey.proofs.Ordered.{internal_cmp-total}
 use Rattle.frame.specs.declared.handle.BlockHandle.{BlockHandle}
 use Rattle.frame.specs.Handle.{HandleBehind, handle_reading}
 use Rattle.frame.specs.Trailer.{stored_reading}
-use Rattle.block.specs.ReadingBlocks.{block_reading}
-use Rattle.table.specs.ReadingEntries.{first_key, is_above, key_behind, is_some_list, data_test, HaveKeys}
-use Rattle.table.specs.ReadingIndex.{IndexEntry, handle_alone, one_handle, stored_at, block_in, index_entry, index_reading}
+use Rattle.block.specs.BlockReading.{block_reading}
+use Rattle.table.specs.EntryTests.{first_key, is_above, last_key_after, is_some_list, data_test, HaveKeys}
+use Rattle.table.specs.IndexReading.{IndexEntry, handle_alone, one_handle, stored_at, block_in, index_entry, index_reading}
 use Rattle.table.specs.TableContents.{DataBlock, blocks_reading, is_between_index_keys, index_fits, entries_of, Contents}
-use Rattle.table.specs.Checked.{contents_in}
+use Rattle.table.specs.CheckedContents.{contents_in}
 use Rattle.table.specs.SoundTables.{IsChecked}
-use Rattle.table.specs.ReadingCursors.{EntriesRise, entries_from}
+use Rattle.table.specs.EntriesFrom.{EntriesRise, entries_from}
 use Rattle.table.specs.RestartSearch.{first_is_below}
 use Rattle.table.specs.IndexWalk.{block_named, entries_named, all_named, NamesBlock, Indexes, IsWalkLeft}
 use Rattle.block.proofs.BlockReadings.{both, reads_blocks}
@@ -149,7 +149,7 @@ name_all cmp bytes before below (e ∷ es) index blocks total h k fits =
     let read = reads bytes e a.0 a.1 in
     let here : entries_named bytes e ≡ r.entries = named_entries bytes e r.entries (read.block ∙ r.block) in
     let names = names_block cmp bytes before e a.0 r.entries total read r.block r.tests g.1 in
-    let more = name_all cmp bytes (key_behind before r.entries) (Some a.0.key) es c.0 r.others total c.1 r.behind f.1 in
+    let more = name_all cmp bytes (last_key_after before r.entries) (Some a.0.key) es c.0 r.others total c.1 r.behind f.1 in
     let behind : AllAbove cmp (Some e.key) es = subst (λ (k : List ℕ). AllAbove cmp (Some k) es) (sym read.same) more.above in
     record {
       each = (names, more.each);

@@ -5,11 +5,11 @@ use Rattle.coding.specs.declared.fault.Fault.{Fault}
 use Rattle.ikey.specs.Comparator.{KeyOrder}
 use Rattle.block.specs.EncodedEntry.{Entry}
 use Rattle.block.specs.BuilderView.{last_key}
-use Rattle.table.specs.ReadingEntries.{first_key, data_test}
-use Rattle.table.specs.ReadingIndex.{block_in}
+use Rattle.table.specs.EntryTests.{first_key, data_test}
+use Rattle.table.specs.IndexReading.{block_in}
 use Rattle.table.specs.TableContents.{DataBlock, entries_of}
 use Rattle.table.specs.Tallies.{tally_of}
-use Rattle.table.specs.TallySteps.{tally_behind}
+use Rattle.table.specs.TallySteps.{tally_after}
 use Rattle.table.specs.declared.bounds.Bounds.{Bounds}
 use Rattle.table.specs.declared.tally.Tally.{Tally}
 
@@ -21,7 +21,7 @@ bounds_reading cmp before so_far entries = do
   Ok (record {
     smallest = first_key entries;
     largest = last_key [] entries;
-    tally = tally_behind so_far before entries;
+    tally = tally_after so_far before entries;
   })
 
 -- the first and the last key of data blocks, and what is counted of their entries

@@ -5,23 +5,23 @@ use Rattle.std.specs.List.{flat_map, sum_by, AllByRecursion}
 use Rattle.byteorder.specs.Endian.{little_number}
 use Rattle.ikey.specs.Key.{IsInternalKey}
 use Rattle.block.specs.EncodedEntry.{Entry}
-use Rattle.block.specs.Behind.{entries_behind}
+use Rattle.block.specs.EntriesOfBytes.{entries_of_encoded}
 use Rattle.block.specs.BlockFormat.{block}
 use Rattle.block.specs.BuilderView.{BlockBuilding, last_key}
 use Rattle.table.specs.declared.options.Options.{Options}
 use Rattle.table.specs.declared.flushed_block.FlushedBlock.{FlushedBlock}
 use Rattle.table.specs.Options.{AreInLimits}
-use Rattle.table.specs.DataBlocks.{blocks_behind, data_blocks, flushed_len}
+use Rattle.table.specs.DataBlocks.{blocks_after, data_blocks, flushed_len}
 use Rattle.table.specs.Table.{IndexKeys, stored_blocks}
-use Rattle.table.specs.ReadingEntries.{first_key}
-use Rattle.table.specs.Flushed.{index_before}
+use Rattle.table.specs.EntryTests.{first_key}
+use Rattle.table.specs.FlushedBlocks.{index_before}
 use Rattle.block.specs.declared.builder.TheConstants.{MAX_BLOCK_LEN}
 use Rattle.frame.specs.declared.trailer.TheConstants.{TRAILER_LEN}
 
 -- the entries of a block, of its bytes before the restarts
 unfoldable pub block_entries : List ℕ → List Entry
 block_entries bytes =
-    entries_behind []
+    entries_of_encoded []
     (take (length bytes - (4 * little_number 4 (drop (length bytes - 4) bytes) + 4)) bytes)
 
 -- the entries of blocks of these sizes, each of which has its trailer
@@ -50,7 +50,7 @@ pub record IsTableBuilder (keys : IndexKeys) (o : Options) (parts : List (List E
     pub index_is : index ≡ index_before keys o.restart_interval 0 parts (first_key entries)
     pub begun : length entries ≡ 0 → parts ≡ []
     pub cut : (more : List Entry) → data_blocks o ((entries_of_parts parts ++ entries) ++ more)
-        ≡ parts ++ blocks_behind o entries more
+        ≡ parts ++ blocks_after o entries more
     pub flushed_is : sum_by (flushed_len o) parts ≡ length bytes
     pub parts_fit : AllByRecursion (λ p. length (block o.restart_interval p) ≤ MAX_BLOCK_LEN) parts
     pub entries_fit : length (block o.restart_interval entries) ≤ MAX_BLOCK_LEN

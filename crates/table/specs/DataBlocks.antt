@@ -19,15 +19,15 @@ open_block [] = []
 open_block (e ∷ es) = (e ∷ es) ∷ []
 
 -- the data blocks of the open block's entries `latest` and those after them
-abbrev pub blocks_behind : Options → List Entry → List Entry → List (List Entry)
-blocks_behind o latest [] = open_block latest
-blocks_behind o latest (e ∷ es) =
-    if is_full o latest then latest ∷ blocks_behind o (e ∷ []) es
-    else blocks_behind o (latest ++ e ∷ []) es
+abbrev pub blocks_after : Options → List Entry → List Entry → List (List Entry)
+blocks_after o latest [] = open_block latest
+blocks_after o latest (e ∷ es) =
+    if is_full o latest then latest ∷ blocks_after o (e ∷ []) es
+    else blocks_after o (latest ++ e ∷ []) es
 
 -- the data blocks of a list
 unfoldable pub data_blocks : Options → List Entry → List (List Entry)
-data_blocks o q = blocks_behind o [] q
+data_blocks o q = blocks_after o [] q
 
 -- p is a data block, with these entries after it. It has an entry, no shorter beginning of it is
 -- full, and it is full itself unless nothing comes after it.

@@ -11,9 +11,9 @@ use Rattle.ikey.specs.Key.{internal_key_reading}
 use Rattle.ikey.specs.Order.{internal_cmp}
 use Rattle.ikey.specs.Comparator.{KeyOrder}
 use Rattle.frame.specs.Handle.{handle_reading}
-use Rattle.table.specs.ReadingIndex.{one_handle, stored_at, block_in}
-use Rattle.table.specs.ReadingCursors.{EntriesRise}
-use Rattle.table.specs.ReadingEntries.{HaveKeys}
+use Rattle.table.specs.IndexReading.{one_handle, stored_at, block_in}
+use Rattle.table.specs.EntriesFrom.{EntriesRise}
+use Rattle.table.specs.EntryTests.{HaveKeys}
 
 -- the entries of the data block whose handle these bytes are, or the first test that it fails
 unfoldable pub block_named : List ℕ → List ℕ → Result (List Entry) Fault

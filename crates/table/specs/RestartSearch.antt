@@ -3,7 +3,7 @@ use Rattle.std.specs.Prelude.{◌≡◌, ℕ, ◌<◌, Bool, true, false, List, 
 use Rattle.std.specs.Prelude.{slice_index}
 use Rattle.std.specs.Ordering.{is_lt}
 use Rattle.block.specs.EncodedEntry.{Entry}
-use Rattle.block.specs.Sound.{BlockView}
+use Rattle.block.specs.BlockView.{BlockView}
 use Rattle.ikey.specs.Order.{internal_cmp}
 use Rattle.ikey.specs.Comparator.{KeyOrder}
 

@@ -3,8 +3,8 @@ use Rattle.std.specs.Prelude.{◌≡◌, ℕ, List, [], Ok}
 use Rattle.ikey.specs.Comparator.{KeyOrder}
 use Rattle.block.specs.EncodedEntry.{Entry}
 use Rattle.block.specs.BuilderView.{last_key}
-use Rattle.table.specs.ReadingEntries.{HaveInternalKeys, first_key}
-use Rattle.table.specs.ReadingIndex.{IndexEntry, index_reading}
+use Rattle.table.specs.EntryTests.{HaveInternalKeys, first_key}
+use Rattle.table.specs.IndexReading.{IndexEntry, index_reading}
 use Rattle.table.specs.TableContents.{DataBlock, index_in, data_reading, entries_of}
 use Rattle.table.specs.Tallies.{tally_of}
 use Rattle.table.specs.declared.bounds.Bounds.{Bounds}

@@ -6,7 +6,7 @@ use Rattle.std.specs.List.{flat_map}
 use Rattle.coding.specs.Answers.{fault}
 use Rattle.coding.specs.declared.fault.Fault.{Fault}
 use Rattle.coding.specs.declared.fault.FaultName.TheVariants.{TooLarge}
-use Rattle.ikey.specs.Short.{internal_separator_of, internal_successor_of}
+use Rattle.ikey.specs.ShortenedKeys.{internal_separator_of, internal_successor_of}
 use Rattle.block.specs.EncodedEntry.{Entry}
 use Rattle.block.specs.BlockFormat.{block}
 use Rattle.block.specs.BuilderView.{last_key}
@@ -17,7 +17,7 @@ use Rattle.frame.specs.declared.footer.Footer.{Footer}
 use Rattle.frame.specs.declared.trailer.TheConstants.{TRAILER_LEN}
 use Rattle.table.specs.declared.options.Options.{Options}
 use Rattle.table.specs.DataBlocks.{data_blocks}
-use Rattle.table.specs.ReadingEntries.{first_key}
+use Rattle.table.specs.EntryTests.{first_key}
 use Rattle.ikey.specs.Comparator.{KeyOrder, ShortKeys}
 use Rattle.table.specs.declared.table_check.TheConstants.{MAX_TABLE_LEN}
 

@@ -12,9 +12,9 @@ use Rattle.ikey.specs.Key.{user_of}
 use Rattle.ikey.specs.Order.{internal_cmp}
 use Rattle.ikey.specs.Comparator.{KeyOrder}
 use Rattle.frame.specs.Footer.{footer_reading}
-use Rattle.table.specs.ReadingSteps.{test_result}
-use Rattle.table.specs.ReadingEntries.{first_key, key_behind, is_above, is_some_list, data_test}
-use Rattle.table.specs.ReadingIndex.{IndexEntry, stored_at, block_in, index_reading}
+use Rattle.table.specs.TestResult.{test_result}
+use Rattle.table.specs.EntryTests.{first_key, last_key_after, is_above, is_some_list, data_test}
+use Rattle.table.specs.IndexReading.{IndexEntry, stored_at, block_in, index_reading}
 use Rattle.table.specs.declared.table_check.TheConstants.{MAX_TABLE_LEN}
 use Rattle.frame.specs.declared.footer.TheConstants.{FOOTER_LEN}
 
@@ -31,7 +31,7 @@ blocks_reading cmp before [] = Ok []
 blocks_reading cmp before (i ∷ is) = do
   entries ← block_in i.stored
   _ ← data_test cmp before entries
-  others ← blocks_reading cmp (key_behind before entries) is
+  others ← blocks_reading cmp (last_key_after before entries) is
   Ok (record { index_key = i.key; entries = entries } ∷ others)
 
 -- whether a block is above the index key before it, if there is one, and none of its keys is above

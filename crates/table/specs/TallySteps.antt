@@ -20,6 +20,6 @@ tally_with t before key = record {
 }
 
 -- with more entries, which are after the key `before`
-abbrev pub tally_behind : Tally → Option (List ℕ) → List Entry → Tally
-tally_behind t before [] = t
-tally_behind t before (e ∷ es) = tally_behind (tally_with t before e.key) (Some e.key) es
+abbrev pub tally_after : Tally → Option (List ℕ) → List Entry → Tally
+tally_after t before [] = t
+tally_after t before (e ∷ es) = tally_after (tally_with t before e.key) (Some e.key) es

@@ -5,9 +5,9 @@ ghost use Rattle.std.specs.Prelude.{OnOk, IsOkUnless, Some};
 ghost use Rattle.std.specs.Option.{option_map};
 ghost use Rattle.coding.specs.Answers.{fault};
 ghost use Rattle.coding.specs.declared.fault.FaultName.TheVariants.{Memory};
-ghost use Rattle.table.specs.ReadingCursors.{EntriesRise, entries_from};
+ghost use Rattle.table.specs.EntriesFrom.{EntriesRise, entries_from};
 ghost use Rattle.table.specs.RestartSearch.{first_is_below, restart_is_below, IsLastBelow};
-ghost use Rattle.table.specs.ReadingEntries.{HaveKeys};
+ghost use Rattle.table.specs.EntryTests.{HaveKeys};
 
 use block::{BlockCursor, SoundBlock};
 use coding::Fault;

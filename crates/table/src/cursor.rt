@@ -6,7 +6,7 @@ ghost use Rattle.std.specs.Option.{option_map};
 ghost use Rattle.coding.specs.Answers.{fault};
 ghost use Rattle.coding.specs.declared.fault.FaultName.TheVariants.{Memory};
 ghost use Rattle.block.specs.EncodedEntry.{Entry};
-ghost use Rattle.table.specs.ReadingCursors.{NeverFalls, entries_from, LeavesFrom};
+ghost use Rattle.table.specs.EntriesFrom.{NeverFalls, entries_from, LeavesFrom};
 
 use coding::Fault;
 use ikey::{Comparator, InternalKey};

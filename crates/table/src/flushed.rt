@@ -6,7 +6,7 @@ ghost use Rattle.coding.specs.Answers.{EqualOrMemory, UnlessMemory, fault};
 ghost use Rattle.coding.specs.declared.fault.FaultName.TheVariants.{Memory, TooLarge};
 ghost use Rattle.block.specs.BlockFormat.{block};
 ghost use Rattle.frame.specs.Trailer.{stored_block};
-ghost use Rattle.table.specs.Flushed.{flushed_block_at, index_entries};
+ghost use Rattle.table.specs.FlushedBlocks.{flushed_block_at, index_entries};
 ghost use Rattle.table.specs.Table.{closing_bytes, within_limit};
 ghost use Rattle.table.specs.declared.table_check.TheConstants.{MAX_TABLE_LEN};
 

@@ -28,7 +28,7 @@ pub struct OwnedTable<C: Comparator> {
 }
 
 impl<C: Comparator> Model for OwnedTable<C> {
-    ghost use Rattle.table.specs.Checked.{contents_in};
+    ghost use Rattle.table.specs.CheckedContents.{contents_in};
     ghost use Rattle.table.specs.TableContents.{Contents};
     ghost use Rattle.table.specs.SoundTables.{IsCheckedTable};
 

@@ -28,7 +28,7 @@ pub struct SoundTable<'a, C: Comparator> {
 }
 
 impl<'a, C: Comparator> Model for SoundTable<'a, C> {
-    ghost use Rattle.table.specs.Checked.{contents_in};
+    ghost use Rattle.table.specs.CheckedContents.{contents_in};
     ghost use Rattle.table.specs.TableContents.{Contents};
     ghost use Rattle.table.specs.SoundTables.{HasBounds};
 
@@ -42,8 +42,8 @@ impl<'a, C: Comparator> Model for SoundTable<'a, C> {
 impl<'a, C: Comparator> SoundTable<'a, C> {
     ghost use Rattle.table.specs.SoundTables.{HasBounds, IsCheckedTable};
     ghost use Rattle.table.specs.Tallies.{tally_of};
-    ghost use Rattle.table.specs.ReadingCursors.{EntriesRise};
-    ghost use Rattle.table.specs.ReadingEntries.{HaveInternalKeys};
+    ghost use Rattle.table.specs.EntriesFrom.{EntriesRise};
+    ghost use Rattle.table.specs.EntryTests.{HaveInternalKeys};
     ghost use Rattle.table.specs.IndexWalk.{Indexes};
 
     /// The bytes of the table, which read as what contracts see of it.

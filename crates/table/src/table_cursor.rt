@@ -4,7 +4,7 @@ ghost use Rattle.std.specs.Prelude.{◌≡◌, ◌<◌, ◌↔◌, List, true, l
 ghost use Rattle.std.specs.Prelude.{IfOk, IfErr, OnOk, OnErr, IsOkUnless, Ok};
 ghost use Rattle.coding.specs.Answers.{EqualOrMemory, fault};
 ghost use Rattle.coding.specs.declared.fault.FaultName.TheVariants.{Memory};
-ghost use Rattle.table.specs.ReadingCursors.{EntriesRise, NeverFalls, entries_from, LeavesFrom};
+ghost use Rattle.table.specs.EntriesFrom.{EntriesRise, NeverFalls, entries_from, LeavesFrom};
 ghost use Rattle.table.specs.RestartSearch.{first_is_below};
 
 use crate::block_walk::{entries_from, first_key, is_below};

@@ -1,7 +1,7 @@
 //! Laws of what is written.
 
 ghost use Rattle.table.specs.DataBlocks.{DataBlocksLaw};
-ghost use Rattle.table.specs.ReadingBack.{ReadBackLaw};
+ghost use Rattle.table.specs.ReadBackLaw.{ReadBackLaw};
 
 use ikey::Comparator;
 

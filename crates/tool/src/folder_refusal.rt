@@ -2,7 +2,7 @@
 
 use crate::explanations::{Words, of_file};
 use crate::refusal::{Refusal, RefusalText, told};
-use crate::settings_refusal::settings_told;
+use crate::settings_refusal::settings_refusal;
 use coding::{Fault, FaultName};
 use diagnostics::{Detail, RefusedFile, refused_file};
 use folder::{CURRENT, Disk, SystemFiles};
@@ -37,7 +37,7 @@ pub(crate) fn compaction_explained<R: SystemFiles + AllocGlobal>(
     if refusal.told.is_some() {
         return refusal;
     }
-    match settings_told(rt.alloc(), folder, levels, settings, refusal.fault.name) {
+    match settings_refusal(rt.alloc(), folder, levels, settings, refusal.fault.name) {
         None => explained(rt, folder, refusal),
         told => Refusal::new(refusal.fault, told),
     }
@@ -71,7 +71,7 @@ fn file_found<R: SystemFiles + AllocGlobal>(
     name: FaultName,
 ) -> Option<RefusalText> {
     match refused_file(rt.alloc(), &mut Disk::new(rt, folder)) {
-        Ok(Some(file)) if is_refused_so(&file, name) => file_told(rt.alloc(), folder, &file),
+        Ok(Some(file)) if is_refused_so(&file, name) => file_refusal(rt.alloc(), folder, &file),
         _ => None,
     }
 }
@@ -88,11 +88,11 @@ fn is_refused_so(file: &RefusedFile, name: FaultName) -> bool {
 }
 
 /// What is told of a refused file of a folder.
-fn file_told(alloc: Global, folder: &str, file: &RefusedFile) -> Option<RefusalText> {
+fn file_refusal(alloc: Global, folder: &str, file: &RefusedFile) -> Option<RefusalText> {
     let path = path_in(alloc, folder, file.name.as_str())?;
     let path = path.as_str();
     match &file.detail {
-        Some(detail) => detail_told(alloc, path, file.fault.name, detail),
+        Some(detail) => detail_refusal(alloc, path, file.fault.name, detail),
         None if file.fault.name == FaultName::Missing => {
             told(alloc, path, of_missing(file.name.as_str()))
         }
@@ -130,7 +130,12 @@ fn of_missing(name: &str) -> Words {
 }
 
 /// What is told of a file of which more is known.
-fn detail_told(alloc: Global, path: &str, name: FaultName, detail: &Detail) -> Option<RefusalText> {
+fn detail_refusal(
+    alloc: Global,
+    path: &str,
+    name: FaultName,
+    detail: &Detail,
+) -> Option<RefusalText> {
     match detail {
         Detail::NotBelow(next) => not_below(alloc, path, name, *next),
         Detail::UnknownComparator(name) => {
@@ -149,7 +154,7 @@ fn detail_told(alloc: Global, path: &str, name: FaultName, detail: &Detail) -> O
         }
         detail => match of_detail(detail) {
             Some(words) => told(alloc, path, words),
-            None => lawless_told(alloc, path, detail),
+            None => lawless_refusal(alloc, path, detail),
         },
     }
 }
@@ -206,7 +211,7 @@ fn of_counter(wrong: &'static str) -> (&'static str, &'static str) {
 }
 
 /// What is told of a table that makes a version unlawful.
-fn lawless_told(alloc: Global, path: &str, detail: &Detail) -> Option<RefusalText> {
+fn lawless_refusal(alloc: Global, path: &str, detail: &Detail) -> Option<RefusalText> {
     match detail {
         Detail::Size { held, stated } => {
             let wrong = format!(in alloc; "it has {held} bytes, and the manifest says {stated}");
@@ -223,7 +228,7 @@ fn lawless_told(alloc: Global, path: &str, detail: &Detail) -> Option<RefusalTex
             other,
         } => {
             let key = text_of(alloc, user).ok()?;
-            misplaced_told(alloc, path, key.as_str(), (*here, *there), other.as_str())
+            misplaced_refusal(alloc, path, key.as_str(), (*here, *there), other.as_str())
         }
         _ => None,
     }
@@ -231,7 +236,7 @@ fn lawless_told(alloc: Global, path: &str, detail: &Detail) -> Option<RefusalTex
 
 /// What is told of a table that has a user key's older entry, and of the `other` one that has a
 /// newer or the same. That is the sequence in the first, and that in the second.
-fn misplaced_told(
+fn misplaced_refusal(
     alloc: Global,
     path: &str,
     key: &str,

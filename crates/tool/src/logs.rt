@@ -26,7 +26,7 @@ pub(crate) fn logs_with_writes<R: Files + AllocGlobal>(
     for entry in fs::read_dir(&rt, folder)? {
         let entry = entry?;
         if let Some(number) = replayed_log(version, entry.file_name())
-            && let Some(bytes) = bytes_held(rt, entry.path())?
+            && let Some(bytes) = file_len(rt, entry.path())?
         {
             logs.push(Log { number, bytes })?;
         }
@@ -36,7 +36,7 @@ pub(crate) fn logs_with_writes<R: Files + AllocGlobal>(
 }
 
 /// How many bytes the file at a path has. None if it is no file, or empty.
-fn bytes_held<R: Files>(rt: &R, path: Path<'_>) -> io::Result<Option<u64>> {
+fn file_len<R: Files>(rt: &R, path: Path<'_>) -> io::Result<Option<u64>> {
     let metadata = fs::metadata(rt, path)?;
     if metadata.is_file() && metadata.len() > 0 {
         Ok(Some(metadata.len()))

@@ -30,7 +30,7 @@ pub(crate) fn outcome_explained<'a, R: SystemFiles + AllocGlobal>(
     if let Ok(Some(file)) = refused_outcome(rt.alloc(), &mut out, order, EDIT, name)
         && file.fault.name == name
     {
-        return Refusal::new(refusal.fault, file_told(rt.alloc(), line.out, &file));
+        return Refusal::new(refusal.fault, file_refusal(rt.alloc(), line.out, &file));
     }
     let settings = Settings {
         snapshots: line.snapshots,
@@ -40,7 +40,7 @@ pub(crate) fn outcome_explained<'a, R: SystemFiles + AllocGlobal>(
     if explained.told.is_some() {
         return explained;
     }
-    Refusal::new(explained.fault, outcome_told(rt.alloc(), line.out, name))
+    Refusal::new(explained.fault, outcome_refusal(rt.alloc(), line.out, name))
 }
 
 /// Whether a refusal of this name is about no file that can be found.
@@ -53,7 +53,7 @@ fn is_of_no_file(name: FaultName) -> bool {
 
 /// What is told of an outcome each of whose files by itself is accepted. None if it isn't refused
 /// by this name.
-fn outcome_told(alloc: Global, out: &str, name: FaultName) -> Option<RefusalText> {
+fn outcome_refusal(alloc: Global, out: &str, name: FaultName) -> Option<RefusalText> {
     match name {
         FaultName::Apply => {
             let words = Words {
@@ -75,7 +75,7 @@ fn outcome_told(alloc: Global, out: &str, name: FaultName) -> Option<RefusalText
 }
 
 /// What is told of a refused file of an outcome.
-fn file_told(alloc: Global, out: &str, file: &RefusedFile) -> Option<RefusalText> {
+fn file_refusal(alloc: Global, out: &str, file: &RefusedFile) -> Option<RefusalText> {
     let path = path_in(alloc, out, file.name.as_str())?;
     let path = path.as_str();
     let wrong = match &file.detail {

@@ -111,7 +111,7 @@ impl Refusal {
 
     /// The refusal of the file at `path`, by a test of its bytes.
     pub fn of_file(alloc: Global, path: &str, fault: Fault) -> Refusal {
-        Refusal::new(fault, file_told(alloc, path, fault.name))
+        Refusal::new(fault, file_refusal(alloc, path, fault.name))
     }
 
     /// The refusal that the file at `path` isn't there.
@@ -129,7 +129,7 @@ impl Refusal {
         match error.kind() {
             ErrorKind::OutOfMemory => Refusal::from(Fault::of(FaultName::Memory)),
             _ => {
-                let told = call_told(alloc, path, call, error);
+                let told = call_refusal(alloc, path, call, error);
                 Refusal::new(Fault::of(FaultName::Device), told)
             }
         }
@@ -145,7 +145,7 @@ impl Refusal {
 }
 
 /// What is told of a file that is refused. None if memory runs out.
-fn file_told(alloc: Global, path: &str, name: FaultName) -> Option<RefusalText> {
+fn file_refusal(alloc: Global, path: &str, name: FaultName) -> Option<RefusalText> {
     if name == FaultName::Memory {
         return None;
     }
@@ -163,7 +163,7 @@ pub(crate) fn told(alloc: Global, path: &str, words: Words) -> Option<RefusalTex
 }
 
 /// What is told of a call of the system that failed.
-fn call_told(alloc: Global, path: &str, call: &str, error: &io::Error) -> Option<RefusalText> {
+fn call_refusal(alloc: Global, path: &str, call: &str, error: &io::Error) -> Option<RefusalText> {
     let text = format!(in alloc; "{error}").ok()?;
     let reason = without_number(text.as_str());
     RefusalText::alone(alloc, path, format!(in alloc; "cannot {call}: {reason}"))

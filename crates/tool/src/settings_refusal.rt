@@ -17,7 +17,7 @@ const LIST_FEWER: &str = "give at most 4096";
 
 /// What is told if the compaction of the folder at a path is refused by this name. None if it isn't
 /// refused for what was asked for.
-pub(crate) fn settings_told(
+pub(crate) fn settings_refusal(
     alloc: Global,
     folder: &str,
     levels: Levels,
@@ -25,18 +25,23 @@ pub(crate) fn settings_told(
     name: FaultName,
 ) -> Option<RefusalText> {
     match name {
-        FaultName::Level | FaultName::NoInput => level_told(alloc, folder, levels, name),
+        FaultName::Level | FaultName::NoInput => level_refusal(alloc, folder, levels, name),
         FaultName::Workers => outside(alloc, folder, "--workers", settings.workers, MAX_WORKERS),
         FaultName::SplitCount => outside(alloc, folder, "--ranges", settings.ranges, MAX_RANGES),
-        FaultName::Options => options_told(alloc, folder, settings),
-        FaultName::Snapshot => snapshot_told(alloc, folder, settings.snapshots),
-        FaultName::SnapshotList => list_told(alloc, folder, settings.snapshots),
+        FaultName::Options => options_refusal(alloc, folder, settings),
+        FaultName::Snapshot => snapshot_refusal(alloc, folder, settings.snapshots),
+        FaultName::SnapshotList => list_refusal(alloc, folder, settings.snapshots),
         _ => None,
     }
 }
 
 /// What is told of a level that can't be compacted.
-fn level_told(alloc: Global, folder: &str, levels: Levels, name: FaultName) -> Option<RefusalText> {
+fn level_refusal(
+    alloc: Global,
+    folder: &str,
+    levels: Levels,
+    name: FaultName,
+) -> Option<RefusalText> {
     let Levels::One(level) = levels else {
         return None;
     };
@@ -69,7 +74,7 @@ fn outside(
 }
 
 /// What is told of the option of the outputs that is outside its limits. None if none is.
-fn options_told(alloc: Global, folder: &str, settings: &Settings<'_>) -> Option<RefusalText> {
+fn options_refusal(alloc: Global, folder: &str, settings: &Settings<'_>) -> Option<RefusalText> {
     let options = &settings.options;
     let block_size = outside(
         alloc,
@@ -91,7 +96,7 @@ fn options_told(alloc: Global, folder: &str, settings: &Settings<'_>) -> Option<
 }
 
 /// What is told of a snapshot that is 2^56 - 1 or more. None if there is none.
-fn snapshot_told(alloc: Global, folder: &str, snapshots: Snapshots<'_>) -> Option<RefusalText> {
+fn snapshot_refusal(alloc: Global, folder: &str, snapshots: Snapshots<'_>) -> Option<RefusalText> {
     match snapshots {
         Snapshots::From(sequence) => beyond(alloc, folder, "--snapshot", sequence),
         Snapshots::Listed(list) => {
@@ -124,7 +129,7 @@ fn beyond(alloc: Global, folder: &str, option: &str, sequence: u64) -> Option<Re
 
 /// What is told of a list of snapshots that is too long, doesn't rise, or has one above the last
 /// sequence: then the greatest.
-fn list_told(alloc: Global, folder: &str, snapshots: Snapshots<'_>) -> Option<RefusalText> {
+fn list_refusal(alloc: Global, folder: &str, snapshots: Snapshots<'_>) -> Option<RefusalText> {
     let Snapshots::Listed(list) = snapshots else {
         return None;
     };

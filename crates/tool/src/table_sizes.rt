@@ -25,7 +25,7 @@ pub(crate) fn sizes_tested<R: SystemFiles + AllocGlobal>(
     let tested = Disk::new(rt, path).check_sizes(opened.order, &opened.version);
     tested.map_err(|fault| {
         let told = if fault.name == FaultName::TooLarge {
-            large_told(rt, path, opened)
+            large_refusal(rt, path, opened)
         } else {
             None
         };
@@ -43,7 +43,7 @@ pub(crate) fn bytes_of(files: &[&FileMeta]) -> u64 {
 }
 
 /// What is told of the first table that is too large. None if there is none.
-fn large_told<R: SystemFiles + AllocGlobal>(
+fn large_refusal<R: SystemFiles + AllocGlobal>(
     rt: &R,
     path: &str,
     opened: &Opened,
@@ -77,15 +77,15 @@ fn large_among<R: SystemFiles + AllocGlobal>(
 fn large_of<R: SystemFiles + AllocGlobal>(rt: &R, path: &str, number: u64) -> Option<RefusalText> {
     let name = table_name(rt.alloc(), number).ok()?;
     let older = old_table_name(rt.alloc(), number).ok()?;
-    let told = told_if_large(rt, path, name.as_str());
+    let told = refusal_if_large(rt, path, name.as_str());
     if told.is_some() {
         return told;
     }
-    told_if_large(rt, path, older.as_str())
+    refusal_if_large(rt, path, older.as_str())
 }
 
 /// What is told of the file of this name, if it is too large.
-fn told_if_large<R: SystemFiles + AllocGlobal>(
+fn refusal_if_large<R: SystemFiles + AllocGlobal>(
     rt: &R,
     folder: &str,
     name: &str,

@@ -5,8 +5,8 @@ use coding::{Fault, FaultName};
 use edit::{FileMeta, Version, VersionEdit};
 use ikey::Bytewise;
 use reads::{
-    NumberedTable, answers_newest_first, falls_in, get, is_stated, lawful, standing_files,
-    standing_tables,
+    NumberedTable, answers_newest_first, falls_in, files_newest_first, get, is_stated, lawful,
+    tables_newest_first,
 };
 use split::Range;
 use std::alloc::Global;
@@ -225,7 +225,7 @@ fn stand(
     tables: &[NumberedTable<'_, Bytewise>],
     row: &Row,
 ) -> bool {
-    match standing_tables(alloc, version, tables) {
+    match tables_newest_first(alloc, version, tables) {
         Ok(found) => are_sequences(&found, row.standing),
         Err(fault) => row.standing.is_empty() && row.lawless == Some(fault.name),
     }
@@ -313,7 +313,7 @@ fn are_numbers(files: &[&FileMeta], wanted: &[u64]) -> bool {
 /// Whether the files of a version stand as expected.
 fn files_stand(alloc: Global, row: &Standing) -> Result<bool, Fault> {
     let version = version_of(alloc, row.0)?;
-    match (standing_files::<Bytewise>(alloc, &version)?, row.1) {
+    match (files_newest_first::<Bytewise>(alloc, &version)?, row.1) {
         (Some(files), Some(wanted)) => Ok(are_numbers(&files, wanted)),
         (None, None) => Ok(true),
         _ => Ok(false),
@@ -324,7 +324,7 @@ fn files_stand(alloc: Global, row: &Standing) -> Result<bool, Fault> {
 fn first_is(alloc: Global, edit: &[u8], bytes: &[u8]) -> Result<bool, Fault> {
     let version = version_of(alloc, edit)?;
     let table = check::<Bytewise>(alloc, bytes)?;
-    let Some(files) = standing_files::<Bytewise>(alloc, &version)? else {
+    let Some(files) = files_newest_first::<Bytewise>(alloc, &version)? else {
         return Ok(false);
     };
     let next = version.next_file();

@@ -34,7 +34,7 @@ fn is_answer(answer: &Result<Vec<u8>, Fault>, wanted: Result<&str, FaultName>) -
 /// Whether a folder holds these files.
 fn holds(folder: &Shelf<'_>, files: Files) -> bool {
     for (name, bytes) in files {
-        if folder.held(name) != Some(*bytes) {
+        if folder.file(name) != Some(*bytes) {
             return false;
         }
     }

@@ -170,7 +170,7 @@ fn ends_there<R: AllocGlobal + Threads + Sync>(rt: &R, call: u64) -> Result<bool
         is_half_done: false,
     });
     let answer = write_outcome(rt, &mut folder, &made.outcome);
-    let has_edit = folder.held(EDIT).is_some();
+    let has_edit = folder.file(EDIT).is_some();
     Ok(
         answer == Err(Fault::of(FaultName::Device))
             && folder.calls() == call

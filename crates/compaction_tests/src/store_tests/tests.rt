@@ -75,7 +75,7 @@ fn answers<R: AllocGlobal + Threads + Sync>(
 /// Whether a folder holds these files.
 pub(crate) fn holds(folder: &Shelf<'_>, files: Files) -> bool {
     for (name, bytes) in files {
-        if folder.held(name) != Some(*bytes) {
+        if folder.file(name) != Some(*bytes) {
             return false;
         }
     }

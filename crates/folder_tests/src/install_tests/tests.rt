@@ -458,7 +458,7 @@ fn folder_not_synced_first(rt: HostRuntime) {
 fn is_made(shelf: &Shelf<'_>, row: &Row) -> bool {
     shelf.steps().len() as u64 == row.calls
         && shelf.failures() == 0
-        && shelf.held("CURRENT") == Some(b"MANIFEST-000008\n".as_slice())
+        && shelf.file("CURRENT") == Some(b"MANIFEST-000008\n".as_slice())
 }
 
 /// Whether an installation makes its calls and the folder then reads as the edited version; or it
@@ -517,7 +517,7 @@ fn is_refused<R: AllocGlobal + Threads + Sync>(rt: &R, row: &Row, current: Optio
     answer == Err(Fault::of(FaultName::Changed))
         && shelf.calls() == calls_of(row).saturating_sub(1)
         && shelf.steps().len() as u64 == row.calls.saturating_sub(1)
-        && shelf.held("CURRENT") == current
+        && shelf.file("CURRENT") == current
 }
 
 #[test]

@@ -33,7 +33,7 @@ use crate::damage::row::Expected::{Each, Only};
 use crate::damage::row::Part::{Bytes, Fill};
 use crate::damage::row::Source::{Joined, Plain};
 use crate::damage::row::{Row, Way};
-use crate::worked::{
+use crate::worked_bytes::{
     A_AT_ONE, BLOCK, BOTH_ENTRIES, CURRENT_FIVE, DELETION_LEFT, EMPTY_LOG, EMPTY_SNAPSHOT,
     FIRST_BLOCK, MANIFEST, NO_ENTRY, NOTHING_LEFT, SECOND_BLOCK, TABLE, TABLE_THREE_BLOCKS,
     TABLE_U_DELETED, TABLE_U_TWICE, TWO_LOGS,

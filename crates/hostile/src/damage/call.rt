@@ -2,7 +2,7 @@
 
 use crate::case::{Case, Want, compacted, picked};
 use crate::fault::wanted;
-use crate::worked::{A_AT_ONE, CURRENT_FIVE, TABLE};
+use crate::worked_bytes::{A_AT_ONE, CURRENT_FIVE, TABLE};
 use coding::{Fault, FaultName};
 use edit::{Outcome, VersionEdit};
 use folder::{Shelf, open};

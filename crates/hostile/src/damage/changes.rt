@@ -37,7 +37,7 @@ use crate::damage::call::Call;
 use crate::damage::row::Expected::{Each, Only};
 use crate::damage::row::Source::Plain;
 use crate::damage::row::{Mend, Row, Way};
-use crate::worked::{
+use crate::worked_bytes::{
     A_AT_ONE, BLOCK, BLOCK_ENDS, CURRENT_FIVE, DELETION_LEFT, EMPTY_LOG, MANIFEST, NOTHING_LEFT,
     TABLE,
 };

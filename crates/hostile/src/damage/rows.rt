@@ -7,7 +7,7 @@ use crate::damage::call::Call;
 use crate::damage::row::Expected::Only;
 use crate::damage::row::Source::Plain;
 use crate::damage::row::{Row, Way};
-use crate::worked::CURRENT_FIVE;
+use crate::worked_bytes::CURRENT_FIVE;
 use coding::FaultName::{
     Block, BlockType, Compressed, EditField, EditTag, Empty, Handle, Index, Key, LogChecksum,
     LogShape, Missing, Range, Short, Trailer,

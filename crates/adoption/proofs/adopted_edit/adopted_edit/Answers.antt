@@ -1,7 +1,7 @@
 use Rattle.std.proofs.Common.{Ok, Err, refl, sym}
 use Rattle.checks.proofs.LawfulLemmas.{handed_on}
 use Rattle.edit.specs.Edit.{edit_in}
-use Rattle.pick.specs.Picked.{picked_in}
+use Rattle.pick.specs.PickedInputs.{picked_in}
 use Rattle.store.specs.InputsCompaction.{IsOrderlyAnswer}
 use Rattle.adoption.specs.Adoption.{IsAdoption, adoption_by}
 use Rattle.adoption.specs.AdoptionIn.{adoption_in}

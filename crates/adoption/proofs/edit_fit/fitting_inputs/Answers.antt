@@ -5,7 +5,7 @@ use Rattle.coding.specs.Answers.{UnlessMemory, fault}
 use Rattle.coding.specs.declared.fault.Fault.{Fault}
 use Rattle.coding.specs.declared.fault.FaultName.TheVariants.{Apply}
 use Rattle.edit.specs.Edit.{edit_in}
-use Rattle.pick.specs.Picked.{picked_in}
+use Rattle.pick.specs.PickedInputs.{picked_in}
 use Rattle.adoption.specs.EditFit.{IsChoiceOf, IsFitting, only_level}
 use Rattle.adoption.proofs.EditFitLemmas.{fits_so, no_choice, no_fit}
 use Rattle.adoption.proofs.edit_fit.fitting_inputs.Goals as goal

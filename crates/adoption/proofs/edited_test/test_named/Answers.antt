@@ -1,4 +1,4 @@
-use Rattle.folder.specs.ReadsAs.{IsHeldIn}
+use Rattle.folder.specs.ReadsAs.{IsFileIn}
 use Rattle.install.specs.Install.{tables_in}
 use Rattle.checks.specs.TestedTables.{IsTested}
 use Rattle.adoption.specs.Adoption.{with_tables}
@@ -13,7 +13,7 @@ returns-clause-answer g c files told =
     let failed = g.F.Folder.failed in
     let tables = tables_in c.args.tables.now in
     let v = c.args.next.now in
-    answers_with (λ tested. tested) (failed c.args.folder) (failed c.test_version-answer.new.folder.folder) c.test_version-answer.result (IsTested (IsHeldIn (overlay_files tables files)) cmp v) (IsTested (IsHeldIn (with_tables tables files)) cmp v)
+    answers_with (λ tested. tested) (failed c.args.folder) (failed c.test_version-answer.new.folder.folder) c.test_version-answer.result (IsTested (IsFileIn (overlay_files tables files)) cmp v) (IsTested (IsFileIn (with_tables tables files)) cmp v)
     (tested_plainly tables files cmp v) (c.test_version-answer.ensures.answer (overlay_files tables files) (overlay_told tables (g.F.Folder.tells c.args.folder) files told))
 
 pub returns-clause-device : goal.returns-clause-device

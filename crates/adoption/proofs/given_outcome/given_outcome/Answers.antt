@@ -4,7 +4,7 @@ use Rattle.folder.proofs.LoadingLemmas.{loaded_before}
 use Rattle.folder.proofs.OpeningLemmas.{hands_on, refuses}
 use Rattle.folder.specs.LoadedTables.{IsLoaded}
 use Rattle.install.specs.Install.{tables_in}
-use Rattle.pick.specs.declared.picked.InputFile.{InputFile}
+use Rattle.pick.specs.declared.picked_inputs.InputFile.{InputFile}
 use Rattle.store.specs.InputsCompaction.{input_numbers}
 use Rattle.store.proofs.InputsApart.{numbers_loaded}
 use Rattle.adoption.specs.Adoption.{IsAdoption, IsEditGiven, IsGiven}

@@ -1,8 +1,8 @@
 use Rattle.std.proofs.Common.{◌≡◌, List, Ok, sym, ap, ◌∙◌}
 use Rattle.table.specs.TableContents.{Contents}
 use Rattle.install.specs.Install.{tables_in}
-use Rattle.pick.specs.Picked.{picked_in}
-use Rattle.pick.specs.declared.picked.InputFile.{InputFile}
+use Rattle.pick.specs.PickedInputs.{picked_in}
+use Rattle.pick.specs.declared.picked_inputs.InputFile.{InputFile}
 use Rattle.store.specs.InputsCompaction.{input_tables}
 use Rattle.adoption.specs.Adoption.{IsTablesCompared}
 use Rattle.adoption.proofs.AdoptionSteps.{holds_behind}

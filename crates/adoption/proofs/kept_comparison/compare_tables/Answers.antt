@@ -5,7 +5,7 @@ use Rattle.coding.specs.Answers.{UnlessMemory, fault}
 use Rattle.coding.specs.declared.fault.Fault.{Fault}
 use Rattle.coding.specs.declared.fault.FaultName.TheVariants.{Lawless}
 use Rattle.table.specs.TableContents.{Contents}
-use Rattle.pick.specs.Picked.{picked_in}
+use Rattle.pick.specs.PickedInputs.{picked_in}
 use Rattle.keep.specs.Readable.{Readable, floor_of, readable_of}
 use Rattle.adoption.specs.Adoption.{IsTablesCompared, compared_request}
 use Rattle.adoption.specs.KeptEntries.{HoldsKept}

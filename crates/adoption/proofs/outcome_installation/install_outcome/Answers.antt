@@ -5,7 +5,7 @@ use Rattle.folder.specs.declared.order.Order.{Order}
 use Rattle.folder.specs.declared.order.Order.TheVariants.{Bytewise, Shortlex}
 use Rattle.adoption.specs.Adoption.{IsInstalledFrom}
 use Rattle.adoption.specs.AdoptionLeft.{IsAdoptionLeft}
-use Rattle.adoption.specs.Both.{AnswersFrom}
+use Rattle.adoption.specs.BothFolders.{AnswersFrom}
 use Rattle.adoption.proofs.outcome_installation.install_outcome.Goals as goal
 
 pub returns-in-Bytewise-clause-answer : goal.returns-in-Bytewise-clause-answer

@@ -1,9 +1,9 @@
 use Rattle.std.proofs.Common.{◌≡◌, ℕ, List, Result, Ok, Err, subst, refl}
 use Rattle.coding.specs.declared.fault.Fault.{Fault}
-use Rattle.folder.specs.ReadsAs.{IsHeldIn}
+use Rattle.folder.specs.ReadsAs.{IsFileIn}
 use Rattle.install.specs.Install.{IsEditedBy}
 use Rattle.checks.specs.TestedTables.{IsTested}
-use Rattle.checks.specs.declared.tested.Tested.{Tested}
+use Rattle.checks.specs.declared.version_totals.VersionTotals.{VersionTotals}
 use Rattle.store.specs.FolderRequest.{manifest_of}
 use Rattle.store.specs.Lines.{compaction_lines}
 use Rattle.store.proofs.Flow.{answers_behind, told_still}
@@ -21,8 +21,8 @@ returns-in-Ok-clause-answer g c files told current =
     let given = given_in c.args.given.now in
     let v = c.args.opened.now.version in
     let end = c.test_edited-end.result in
-    let first = IsTested (IsHeldIn (with_tables given.1 files)) cmp given.0.next in
-    let next = λ (tested : Tested) (answer : Result (List ℕ) Fault). answer ≡ Ok (compaction_lines given.1 given.0.picked.files (manifest_of v)) in
+    let first = IsTested (IsFileIn (with_tables given.1 files)) cmp given.0.next in
+    let next = λ (tested : VersionTotals) (answer : Result (List ℕ) Fault). answer ≡ Ok (compaction_lines given.1 given.0.picked.files (manifest_of v)) in
     let passed = ok_answers (λ tested. tested) (failed c.args.folder) (failed end.folder) end.answer c.in-Ok.field-0 first c.in-Ok.is (tested_with (failed c.args.folder) (failed end.folder) end.answer c.as_slice-tables.result.now c.args.given.now.outcome.tables.items cmp given.0.next files c.as_slice-tables.ensures.value (c.test_edited-end.ensures.answer files told)) in
     answers_behind (λ v. v.items) (failed c.args.folder) (failed end.folder) (failed c.install_lines-answer.new.folder) c.install_lines-answer.result first next next c.in-Ok.field-0 c.test_edited-end.ensures.device.later c.install_lines-answer.ensures.device.later
     passed (λ a h. h) (c.install_lines-answer.ensures.answer files (told_still (tells c.args.folder) (tells end.folder) files c.test_edited-end.ensures.reads.same told) current)
@@ -38,7 +38,7 @@ returns-in-Ok-clause-left g c files order loaded told current named reads =
     let end = c.test_edited-end.result in
     let now = c.install_lines-answer.new.folder in
     let still = told_still (tells c.args.folder) (tells end.folder) files c.test_edited-end.ensures.reads.same told in
-    let passed = ok_answers (λ tested. tested) (failed c.args.folder) (failed end.folder) end.answer c.in-Ok.field-0 (IsTested (IsHeldIn (with_tables given.1 files)) cmp given.0.next) c.in-Ok.is (tested_with (failed c.args.folder) (failed end.folder) end.answer c.as_slice-tables.result.now c.args.given.now.outcome.tables.items cmp given.0.next files c.as_slice-tables.ensures.value (c.test_edited-end.ensures.answer files told)) in
+    let passed = ok_answers (λ tested. tested) (failed c.args.folder) (failed end.folder) end.answer c.in-Ok.field-0 (IsTested (IsFileIn (with_tables given.1 files)) cmp given.0.next) c.in-Ok.is (tested_with (failed c.args.folder) (failed end.folder) end.answer c.as_slice-tables.result.now c.args.given.now.outcome.tables.items cmp given.0.next files c.as_slice-tables.ensures.value (c.test_edited-end.ensures.answer files told)) in
     let version = adopted_version order cmp v given.0 given.1 c.requires.adopted files loaded reads.loaded c.in-Ok.field-0 passed in
     let by = subst (λ (name : List ℕ). IsEditedBy name cmp order v (manifest_of v) given.1 given.0.edit given.0.next) named version.edited in
     tested_since order cmp v loaded given (calls c.args.folder) (calls end.folder) (calls now) (tells c.args.folder) (tells end.folder) (tells now) c.install_lines-answer.result c.test_edited-end.ensures.reads.calls c.test_edited-end.ensures.reads.same version
@@ -56,6 +56,6 @@ returns-in-Err-clause-answer g c files told current =
     let given = given_in c.args.given.now in
     let end = c.test_edited-end.result in
     let e = c.in-Err.fault in
-    let first = IsTested (IsHeldIn (with_tables given.1 files)) cmp given.0.next in
+    let first = IsTested (IsFileIn (with_tables given.1 files)) cmp given.0.next in
     refused_with (failed c.args.folder) (failed end.folder) e first (IsEditedInstalled cmp files c.args.opened.now.version given) (λ h. (Err e, (h, refl)))
     (err_answers (λ tested. tested) (failed c.args.folder) (failed end.folder) end.answer e first c.in-Err.is (tested_with (failed c.args.folder) (failed end.folder) end.answer c.as_slice-tables.result.now c.args.given.now.outcome.tables.items cmp given.0.next files c.as_slice-tables.ensures.value (c.test_edited-end.ensures.answer files told)))

@@ -1,5 +1,5 @@
 use Rattle.std.proofs.Common.{◌≡◌, ℕ, ◌+◌, ◌*◌, List, suc, refl, ap, ◌∙◌, bit_xor, slice_index, arith}
-use Rattle.block.specs.ReadingAhead.{folded_lines}
+use Rattle.block.specs.FoldedLines.{folded_lines}
 use Rattle.block.proofs.read_ahead.folded_lines.Goals as goal
 
 next : (n : ℕ) (b : List ℕ) → bit_xor (folded_lines n b) (slice_index b (64 * n)) ≡ folded_lines (n + 1) b

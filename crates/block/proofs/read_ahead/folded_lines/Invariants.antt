@@ -1,5 +1,5 @@
 use Rattle.std.proofs.Common.{◌≡◌}
-use Rattle.block.specs.ReadingAhead.{folded_lines}
+use Rattle.block.specs.FoldedLines.{folded_lines}
 use Rattle.block.proofs.read_ahead.folded_lines.Given as goal
 
 abbrev pub invariant-loop-line : goal.invariant-loop-line

@@ -1,7 +1,7 @@
 use Rattle.std.proofs.Common.{◌≡◌, ◌≢◌, List, ℕ, length, [], refl, sym, subst, ap, ◌∙◌}
 use Rattle.std.proofs.lemmas.List.{nil_from_length}
 use Rattle.std.proofs.lemmas.Bool.{eqb-true, eqb-false, eq-eqb}
-use Rattle.block.specs.Front.{front_field}
+use Rattle.block.specs.FrontField.{front_field}
 use Rattle.block.specs.BlockPass.{PassState}
 use Rattle.block.proofs.Areas.{shorter, kept_all, is_area}
 use Rattle.block.proofs.sound_block.are_entries.Goals as goal
@@ -17,7 +17,7 @@ returns-in_default c =
     (λ h. absurd cc, λ h. absurd (c.in_default.ensures.none c.args.restarts.now some c.loop-rest.invariant h))
 
 pub loop-rest-smaller : goal.loop-rest-smaller
-loop-rest-smaller c = shorter c.loop-rest.rest.now (front_field c.in-Some.next.piece) c.in-Some.ensures.next.read
+loop-rest-smaller c = shorter c.loop-rest.rest.now (front_field c.in-Some.next.front) c.in-Some.ensures.next.read
 
 pub loop-rest-preserved : goal.loop-rest-preserved
 loop-rest-preserved c = c.in-Some.ensures.next.kept c.args.restarts.now (c.are_begun.ensures.begins c.if-not-are_begun.false) c.loop-rest.invariant

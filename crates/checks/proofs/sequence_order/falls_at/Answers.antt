@@ -1,11 +1,12 @@
 use Rattle.std.proofs.Common.{◌≡◌, List, map, sym, subst}
 use Rattle.block.specs.EncodedEntry.{Entry}
-use Rattle.merge.specs.Merged.{entries_of_lists}
+use Rattle.merge.specs.MergedLists.{entries_of_lists}
 use Rattle.split.specs.Ranges.{KeyRange, key_range, range_at, IsIn}
 use Rattle.keep.specs.InRange.{entries_in}
 use Rattle.keep.proofs.Distinct.{holds_tells}
 use Rattle.reads.specs.TableOrder.{AreFallingIn}
-use Rattle.checks.specs.RangeOrder.{IsInBoth, common_of}
+use Rattle.checks.specs.RangeOrder.{common_of}
+use Rattle.checks.specs.CommonRange.{IsInBoth}
 use Rattle.checks.proofs.CommonRanges.{common_in, in_common}
 use Rattle.checks.proofs.FallingRanges.{other_kind, same_in_range}
 use Rattle.checks.proofs.sequence_order.falls_at.Goals as goal

@@ -3,7 +3,7 @@ use mathlib.Core.List.{not-mem-nil}
 use Rattle.std.proofs.lemmas.Result.{err_from_is_err_and}
 use Rattle.block.specs.EncodedEntry.{Entry}
 use Rattle.split.specs.Ranges.{key_range}
-use Rattle.checks.specs.RangeOrder.{TellsRange}
+use Rattle.checks.specs.CommonRange.{TellsRange}
 use Rattle.checks.proofs.FallingRanges.{all_told, only_memory_left}
 use Rattle.checks.proofs.sequence_order.walk_falls.Goals as goal
 

@@ -5,7 +5,7 @@ use Rattle.coding.specs.declared.fault.Fault.{Fault}
 use Rattle.board.specs.RunAnswer.{fault_of_run}
 use Rattle.board.proofs.CollectedAnswers.{results_collected, fault_collected}
 use Rattle.reads.specs.Tables.{NumberedContents}
-use Rattle.checks.specs.TableReadings.{table_answers}
+use Rattle.checks.specs.TableAnswers.{table_answers}
 use Rattle.checks.proofs.Lent.{lent_table}
 use Rattle.checks.proofs.TableRounds.{answers_length, same_tables, tables_collected}
 use Rattle.checks.proofs.table_check.check_round.Goals as goal

@@ -6,7 +6,7 @@ use Rattle.coding.specs.declared.fault.Fault.{Fault}
 use Rattle.folder.proofs.OpeningLemmas.{hands_on}
 use Rattle.folder.specs.Levels.{file_numbers}
 use Rattle.folder.specs.OpenAnswer.{IsStopped}
-use Rattle.folder.specs.ReadsAs.{IsHeldIn}
+use Rattle.folder.specs.ReadsAs.{IsFileIn}
 use Rattle.reads.specs.Tables.{NumberedContents}
 use Rattle.checks.specs.GroupTest.{IsSweepAnswer}
 use Rattle.checks.specs.HeldTables.{AreHeldIn, IsTableIn}
@@ -20,7 +20,7 @@ returns-in_err-found-clause-answer g c files told =
     let cmp = g.C.Comparator.cmp in
     let v = c.args.version.now in
     let failed = g.F.Folder.failed in
-    hands_on (λ found. found.tested) (failed c.args.folder.now) (failed c.args.folder.now) (failed c.tested_entries.new.folder) c.from_residual-in_err-found.result c.in_err-found.field-0.0 (IsSweepAnswer cmp files v) (IsTested (IsHeldIn files) cmp v)
+    hands_on (λ found. found.tested) (failed c.args.folder.now) (failed c.args.folder.now) (failed c.tested_entries.new.folder) c.from_residual-in_err-found.result c.in_err-found.field-0.0 (IsSweepAnswer cmp files v) (IsTested (IsFileIn files) cmp v)
     c.from_residual-in_err-found.ensures.1 (omega arith) c.tested_entries.ensures.device.later (c.in_err-found.ensures.answer files told (subst (AreHeldIn cmp files) (sym c.none-tables.ensures) (All-nil (λ (t : NumberedContents). IsTableIn cmp files t.number t.contents)))) (λ h. absurd h)
 
 pub returns-in-Some-clause-answer : goal.returns-in-Some-clause-answer
@@ -39,7 +39,7 @@ returns-in_err-check_in_order-clause-answer g c files told =
     let tells = g.F.Folder.tells in
     let e = c.in_err-check_in_order.field-0.0 in
     let numbers : c.deref.result.now ≡ file_numbers cmp v = c.deref.ensures.value ∙ sym (ok_is _ _ c.in_ok-numbers.ensures) in
-    hands_on (λ found. found.tested) (failed c.args.folder.now) (failed c.tested_entries.new.folder) (failed c.check_in_order.new.folder) c.from_residual-in_err-check_in_order.result e (AreChecked cmp files c.deref.result.now) (IsTested (IsHeldIn files) cmp v)
+    hands_on (λ found. found.tested) (failed c.args.folder.now) (failed c.tested_entries.new.folder) (failed c.check_in_order.new.folder) c.from_residual-in_err-check_in_order.result e (AreChecked cmp files c.deref.result.now) (IsTested (IsFileIn files) cmp v)
     c.from_residual-in_err-check_in_order.ensures.1 c.tested_entries.ensures.device.later c.check_in_order.ensures.device.later
     (c.in_err-check_in_order.ensures.answer files (told_still (tells c.args.folder.now) (tells c.tested_entries.new.folder) files c.tested_entries.ensures.reads.same told))
     (λ h. not_tested cmp files v e (subst (λ (ns : List ℕ). AreChecked cmp files ns (Err e)) numbers h))
@@ -54,7 +54,7 @@ returns-clause-answer g c files told =
     let swept = subst (λ (o : Option ℕ). IsSweepAnswer cmp files v (Ok o)) c.in_default.is (c.in_ok-found.ensures.answer files told (subst (AreHeldIn cmp files) (sym c.none-tables.ensures) (All-nil (λ (t : NumberedContents). IsTableIn cmp files t.number t.contents)))) in
     let checked = subst (λ (ns : List ℕ). AreChecked cmp files ns (Ok tt)) numbers
     (c.in_ok-check_in_order.ensures.answer files (told_still (tells c.args.folder.now) (tells c.tested_entries.new.folder) files c.tested_entries.ensures.reads.same told)) in
-    subst (λ (e : Fault). UnlessMemory e (IsStopped (failed c.args.folder.now) (failed c.check_in_order.new.folder) e ⊎ IsTested (IsHeldIn files) cmp v (Err e))) (sym c.of.ensures)
+    subst (λ (e : Fault). UnlessMemory e (IsStopped (failed c.args.folder.now) (failed c.check_in_order.new.folder) e ⊎ IsTested (IsFileIn files) cmp v (Err e))) (sym c.of.ensures)
     (inr (not_lawful_tested cmp files v swept.0 swept.1 checked))
 
 pub returns-in-Some-clause-held : goal.returns-in-Some-clause-held

@@ -3,7 +3,7 @@ use Rattle.std.specs.Global.{Vec}
 use Rattle.std.specs.List.{AllZip}
 use Rattle.board.proofs.RunResults.{run_zipped}
 use Rattle.reads.specs.Tables.{NumberedContents}
-use Rattle.checks.specs.HeldTables.{IsToldTable}
+use Rattle.checks.specs.HeldBytes.{IsToldTable}
 use Rattle.checks.proofs.worker_tables.tables_of.Goals as goal
 
 pub returns : goal.returns

@@ -3,7 +3,7 @@ use Rattle.folder.proofs.OpeningLemmas.{hands_on}
 use Rattle.folder.proofs.ReportLemmas.{reads_then, reports_handed, reports_then}
 use Rattle.folder.proofs.ToldLemmas.{opened_in, told_still}
 use Rattle.folder.specs.OpenAnswer.{IsOpened}
-use Rattle.folder.specs.ReadsAs.{IsHeldIn}
+use Rattle.folder.specs.ReadsAs.{IsFileIn}
 use Rattle.commands.proofs.FolderLineLemmas.{not_opened, opened_answer}
 use Rattle.commands.specs.FolderLines.{IsAnswerOfFolder, got_answer}
 use Rattle.commands.proofs.folder_commands.get_dir.Goals as goal
@@ -14,8 +14,8 @@ returns-in_err-opened-clause-answer g c files told =
     let failed = g.F.Folder.failed in
     let e = c.in_err-opened.field-0.0 in
     let got = got_answer c.args.form c.args.key.now c.args.at in
-    hands_on (option_map (λ v. v.items)) (failed c.args.folder.now) (failed c.args.folder.now) (failed c.open.new.folder) c.from_residual.result e (IsOpened tells) (IsAnswerOfFolder (IsHeldIn files) got)
-    c.from_residual.ensures.1 (omega arith) c.open.ensures.device.later c.in_err-opened.ensures.answer (λ h. not_opened (IsHeldIn files) got e (opened_in tells files (Err e) told h))
+    hands_on (option_map (λ v. v.items)) (failed c.args.folder.now) (failed c.args.folder.now) (failed c.open.new.folder) c.from_residual.result e (IsOpened tells) (IsAnswerOfFolder (IsFileIn files) got)
+    c.from_residual.ensures.1 (omega arith) c.open.ensures.device.later c.in_err-opened.ensures.answer (λ h. not_opened (IsFileIn files) got e (opened_in tells files (Err e) told h))
 
 pub returns-clause-answer : goal.returns-clause-answer
 returns-clause-answer g c files told =

@@ -2,8 +2,8 @@ use Rattle.std.proofs.Common.{◌+◌, ◌≤◌, map, subst}
 use Rattle.std.specs.List.{All}
 use Rattle.keep.proofs.OnAnswers.{same_ok}
 use Rattle.edit.specs.declared.meta.NewFile.{NewFile}
-use Rattle.pick.specs.Picked.{PickedInputs, picked_in}
-use Rattle.compact.specs.Written.{planned_file}
+use Rattle.pick.specs.PickedInputs.{PickedInputs, picked_in}
+use Rattle.compact.specs.WrittenOutputs.{planned_file}
 use Rattle.compact.proofs.NewFiles.{low_level, low_files}
 use Rattle.compact.proofs.edit_bytes.edit_bytes.Goals as goal
 

@@ -1,7 +1,7 @@
 use Rattle.std.proofs.Common.{◌≡◌, ◌<◌, ◌++◌, ◌∷◌, [], List, map, take, length, sym, ap, ◌∙◌, arith}
 use Rattle.edit.specs.declared.meta.NewFile.{NewFile}
 use Rattle.cut.specs.Plan.{OutputView}
-use Rattle.compact.specs.Written.{planned_file}
+use Rattle.compact.specs.WrittenOutputs.{planned_file}
 use Rattle.compact.proofs.NewFiles.{one_more}
 use Rattle.compact.proofs.edit_bytes.new_files.Goals as goal
 

@@ -1,5 +1,5 @@
 use Rattle.std.proofs.Common.{◌≡◌, map, take}
-use Rattle.compact.specs.Written.{planned_file}
+use Rattle.compact.specs.WrittenOutputs.{planned_file}
 use Rattle.compact.proofs.edit_bytes.new_files.Given as goal
 
 -- the outputs so far are new files

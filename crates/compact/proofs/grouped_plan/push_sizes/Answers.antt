@@ -3,7 +3,7 @@ use Rattle.block.specs.EncodedEntry.{Entry}
 use Rattle.table.specs.Table.{table}
 use Rattle.cut.specs.Plan.{OutputView, plan_tables}
 use Rattle.cut.specs.declared.output_meta.OutputMeta.{OutputMeta}
-use Rattle.compact.specs.Grouped.{table_sizes}
+use Rattle.compact.specs.GroupedAnswer.{table_sizes}
 use Rattle.compact.proofs.GroupedAnswers.{size_more}
 use Rattle.compact.proofs.grouped_plan.push_sizes.Goals as goal
 

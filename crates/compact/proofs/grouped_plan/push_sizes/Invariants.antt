@@ -1,7 +1,7 @@
 use Rattle.std.proofs.Common.{◌≡◌, ◌++◌, take}
 use Rattle.table.specs.Table.{table}
 use Rattle.cut.specs.Plan.{plan_tables}
-use Rattle.compact.specs.Grouped.{table_sizes}
+use Rattle.compact.specs.GroupedAnswer.{table_sizes}
 use Rattle.compact.proofs.grouped_plan.push_sizes.Given as goal
 
 -- the sizes so far are those of the tables so far

@@ -1,5 +1,5 @@
 use Rattle.std.proofs.Common.{◌≡◌, ◌+◌, length, drop}
-use Rattle.cut.specs.Opened.{entries_in_blocks}
+use Rattle.cut.specs.OutputInProgress.{entries_in_blocks}
 use Rattle.cut.proofs.block_summary.count_entries.Given as goal
 
 abbrev pub invariant-loop-block : goal.invariant-loop-block

@@ -3,8 +3,8 @@ use Rattle.std.specs.Prelude.{slice_get}
 use Rattle.std.specs.Option.{option_map}
 use Rattle.block.specs.EncodedEntry.{Entry}
 use Rattle.encoding.specs.declared.planned_block.PlannedBlock.{PlannedBlock}
-use Rattle.cut.specs.Metered.{last_entry_key}
-use Rattle.cut.specs.Opened.{entries_in_blocks}
+use Rattle.cut.specs.BlockInProgress.{last_entry_key}
+use Rattle.cut.specs.OutputInProgress.{entries_in_blocks}
 use Rattle.cut.proofs.BlockSums.{blocks_are, entries_some, first_is, last_is}
 use Rattle.cut.proofs.block_summary.meta_of.Goals as goal
 

@@ -1,7 +1,7 @@
 use Rattle.std.proofs.Common.{◌^◌, ◌≤◌, List, sym, ap, subst, ◌∙◌}
 use Rattle.std.specs.List.{AllByRecursion}
 use Rattle.cut.specs.declared.planned_output.PlannedOutput.{PlannedOutput}
-use Rattle.cut.specs.Divided.{places_all, counts_all, piece_limit}
+use Rattle.cut.specs.PieceDivision.{places_all, counts_all, piece_limit}
 use Rattle.cut.specs.PlanInvariant.{block_count}
 use Rattle.cut.specs.TableLength.{lens_of}
 use Rattle.cut.proofs.PlanPieces.{short_lens}

@@ -3,7 +3,7 @@ use Rattle.std.proofs.lemmas.List.{drop_more, drop_all}
 use Rattle.encoding.specs.declared.planned_block.PlannedBlock.{PlannedBlock}
 use Rattle.cut.specs.declared.piece.Piece.{Piece}
 use Rattle.cut.specs.declared.planned_output.PlannedOutput.{PlannedOutput}
-use Rattle.cut.specs.Divided.{piece_places_from, places_all, counts_all}
+use Rattle.cut.specs.PieceDivision.{piece_places_from, places_all, counts_all}
 use Rattle.cut.specs.TableLength.{lens_of}
 use Rattle.cut.proofs.PlanPieces.{at}
 use Rattle.cut.proofs.piece_division.pieces_of.Goals as goal

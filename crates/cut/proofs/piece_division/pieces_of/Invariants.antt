@@ -1,5 +1,5 @@
 use Rattle.std.proofs.Common.{◌≡◌, ◌++◌, drop}
-use Rattle.cut.specs.Divided.{places_all, counts_all}
+use Rattle.cut.specs.PieceDivision.{places_all, counts_all}
 use Rattle.cut.proofs.piece_division.pieces_of.Given as goal
 
 abbrev pub invariant-loop-place : goal.invariant-loop-place

@@ -5,7 +5,7 @@ use Rattle.std.specs.List.{AllByRecursion}
 use Rattle.std.specs.Vec.Iter.{into_iter_items}
 use Rattle.table.specs.Table.{table}
 use Rattle.cut.specs.declared.planned_output.PlannedOutput.{PlannedOutput}
-use Rattle.cut.specs.Groups.{groups_behind}
+use Rattle.cut.specs.Groups.{groups_after}
 use Rattle.cut.specs.OutputPlan.{PlanSeen}
 use Rattle.cut.specs.PlanInvariant.{IsPlannedOutput, block_count}
 use Rattle.cut.proofs.Grouped.{all_more, count_more, count_ahead, dealt_open, dealt_full, dealt_end, dealt_rest, plan_seen, seen_groups}
@@ -23,9 +23,9 @@ loop-output-init g c =
     let count : block_count (into_iter_items c.into_iter-output-iterator.result) ≡ block_count c.args.outputs.items = ap block_count began in
     record {
       dealt =
-          ap (λ (gs : List PlanSeen). gs ++ map f (groups_behind n c.new-latest.result.items (into_iter_items c.into_iter-output-iterator.result))) c.new-groups.ensures.items
-          ∙ ap (λ (xs : List PlannedOutput). map f (groups_behind n xs (into_iter_items c.into_iter-output-iterator.result))) none
-          ∙ ap (λ (xs : List PlannedOutput). map f (groups_behind n [] xs)) began;
+          ap (λ (gs : List PlanSeen). gs ++ map f (groups_after n c.new-latest.result.items (into_iter_items c.into_iter-output-iterator.result))) c.new-groups.ensures.items
+          ∙ ap (λ (xs : List PlannedOutput). map f (groups_after n xs (into_iter_items c.into_iter-output-iterator.result))) none
+          ∙ ap (λ (xs : List PlannedOutput). map f (groups_after n [] xs)) began;
       each = subst (AllByRecursion P) (sym none) tt;
       coming = subst (AllByRecursion P) (sym began) c.requires.each;
       few = omega (arith, c.requires.few, zero, count);
@@ -73,8 +73,8 @@ loop-output-preserved-in-Continue-branch-2 g c =
     let f : List PlannedOutput → PlanSeen = plan_seen c.args.options in
     record {
       dealt =
-          ap (λ (gs : List PlanSeen). gs ++ map f (groups_behind c.args.most c.replace-full.new.dest.items rest)) pushed
-          ∙ ap (λ (xs : List PlannedOutput). (c.loop-output.groups.items ++ f c.push.new.self.items ∷ []) ++ map f (groups_behind c.args.most xs rest)) none
+          ap (λ (gs : List PlanSeen). gs ++ map f (groups_after c.args.most c.replace-full.new.dest.items rest)) pushed
+          ∙ ap (λ (xs : List PlannedOutput). (c.loop-output.groups.items ++ f c.push.new.self.items ∷ []) ++ map f (groups_after c.args.most xs rest)) none
           ∙ dealt;
       each = subst (AllByRecursion P) (sym none) tt;
       coming = ahead.1;

@@ -1,5 +1,5 @@
 use Rattle.std.proofs.Common.{length}
-use Rattle.merge.specs.Merged.{merged}
+use Rattle.merge.specs.MergedLists.{merged}
 use Rattle.diagnostics.proofs.misplaced_entry.step_back.Given as goal
 
 abbrev pub decreases-loop-merging : goal.decreases-loop-merging

@@ -6,7 +6,7 @@ use Rattle.std.proofs.lemmas.List.{take_all, take_rest, length-append, length-dr
 use Rattle.block.specs.EncodedEntry.{Entry, restarts_from}
 use Rattle.block.specs.BlockFormat.{encoded_entries_from, block}
 use Rattle.block.specs.BuilderView.{with_entry, last_key}
-use Rattle.encoding.specs.Walking.{Walking}
+use Rattle.encoding.specs.EntryWalkView.{EntryWalkView}
 use Rattle.encoding.proofs.Places.{drop_next}
 use Rattle.encoding.proofs.Appended.{IsAppended, bytes_of, none_appended, one_appended, offset_is, offset_fits, since_below}
 use Rattle.encoding.proofs.Lists.{suc_is, next_entry, front_fits, length_le_block}
@@ -16,8 +16,8 @@ use Rattle.encoding.proofs.block_writer.push_entries.Goals as goal
 pub loop-init : goal.loop-init
 loop-init c = (
   none_appended c.args.interval c.args.out.now.items c.args.restarts.now.items c.requires.positive c.requires.limited c.requires.none,
-  ap (λ (w : Walking). w.rest) c.new-walk.ensures ∙ c.first.ensures,
-  ap (λ (w : Walking). w.before) c.new-walk.ensures,
+  ap (λ (w : EntryWalkView). w.rest) c.new-walk.ensures ∙ c.first.ensures,
+  ap (λ (w : EntryWalkView). w.before) c.new-walk.ensures,
   omega (arith, c.len-end.ensures),
 )
 
@@ -58,7 +58,7 @@ loop-preserved c =
     let i : ℕ = c.loop.counter in
     let r : ℕ = c.args.interval in
     let all : List Entry = q ++ c.args.entries.now.behind in
-    let walk : Walking = c.loop.walk in
+    let walk : EntryWalkView = c.loop.walk in
     let key_is : List ℕ = c.bytes-key.result.now in
     let value_is : List ℕ = c.value.result.now in
     let shared : ℕ = c.left_out-shared.result in
@@ -77,8 +77,8 @@ loop-preserved c =
     let added = one_appended key_is value_is _ c.push_fields.new.out.items c.push_restart.new.restarts.items shared (c.len-in-loop.result - c.len-start.result) c.next_since-since.result c.loop.invariant.0 fits left rest offset c.in_ok-push_fields.ensures.ok c.in_ok-push_restart.ensures.ok c.next_since-since.ensures in (
       subst (λ (es : List Entry). IsAppended r es front c.push_fields.new.out.items c.push_restart.new.restarts.items (last_key [] es) c.next_since-since.result) more
           (subst (λ (last : List ℕ). IsAppended r (with_entry (take i q) key_is value_is) front c.push_fields.new.out.items c.push_restart.new.restarts.items last c.next_since-since.result) (sym (last_with (take i q) key_is value_is)) added),
-      ap (λ (w : Walking). w.rest) c.advance.ensures ∙ ap (drop 1) c.loop.invariant.1 ∙ sym (drop_next i all),
-      ap (λ (w : Walking). w.before) c.advance.ensures ∙ key ∙ sym (last_next (take i q) key_is value_is) ∙ ap (λ (es : List Entry). option_map key_of (last_or None es)) more,
+      ap (λ (w : EntryWalkView). w.rest) c.advance.ensures ∙ ap (drop 1) c.loop.invariant.1 ∙ sym (drop_next i all),
+      ap (λ (w : EntryWalkView). w.before) c.advance.ensures ∙ key ∙ sym (last_next (take i q) key_is value_is) ∙ ap (λ (es : List Entry). option_map key_of (last_or None es)) more,
       c.loop.invariant.3,
     )
 

@@ -7,7 +7,7 @@ use Rattle.frame.specs.Handle.{handle_bytes}
 use Rattle.table.specs.Table.{IndexKeys, index_keys, index_from, stored_blocks}
 use Rattle.table.proofs.Refused.{ok_is}
 use Rattle.encoding.specs.declared.planned_block.PlannedBlock.{PlannedBlock}
-use Rattle.encoding.specs.Planned.{parts_of}
+use Rattle.encoding.specs.PlannedBlocks.{block_lists}
 use Rattle.encoding.specs.PlaceKey.{place_key}
 use Rattle.encoding.proofs.Indexes.{Steps, steps, index_whole}
 use Rattle.encoding.proofs.table_index.index_block.Goals as goal
@@ -22,14 +22,14 @@ with_more b key handle = record { interval = b.interval; entries = with_entry b.
 
 -- the entries of the index with that of one block more
 added : (keys : IndexKeys) (r : ℕ) (blocks : List PlannedBlock) (i offset size : ℕ) (index : BlockBuilding) (key handle : List ℕ) → Steps keys r blocks i size
-    → index ≡ listing (take i (index_from keys r 0 (parts_of blocks))) → offset ≡ length (stored_blocks r (take i (parts_of blocks)))
-    → key ≡ place_key keys (drop i (parts_of blocks)) → handle ≡ handle_bytes offset size
-    → with_more index key handle ≡ listing (take (i + 1) (index_from keys r 0 (parts_of blocks)))
+    → index ≡ listing (take i (index_from keys r 0 (block_lists blocks))) → offset ≡ length (stored_blocks r (take i (block_lists blocks)))
+    → key ≡ place_key keys (drop i (block_lists blocks)) → handle ≡ handle_bytes offset size
+    → with_more index key handle ≡ listing (take (i + 1) (index_from keys r 0 (block_lists blocks)))
 added keys r blocks i offset size index key handle s so_far at key_is handle_is =
-    let front : List Entry = take i (index_from keys r 0 (parts_of blocks)) in
+    let front : List Entry = take i (index_from keys r 0 (block_lists blocks)) in
     ap (λ (b : BlockBuilding). with_more b key handle) so_far
     ∙ ap (λ (k : List ℕ). listing (with_entry front k handle)) key_is
-    ∙ ap (λ (h : List ℕ). listing (with_entry front (place_key keys (drop i (parts_of blocks))) h)) (handle_is ∙ ap (λ (n : ℕ). handle_bytes n size) at)
+    ∙ ap (λ (h : List ℕ). listing (with_entry front (place_key keys (drop i (block_lists blocks))) h)) (handle_is ∙ ap (λ (n : ℕ). handle_bytes n size) at)
     ∙ ap listing (sym s.entry)
 
 fits_by : (index : BlockBuilding) (key handle : List ℕ) (entries : List Entry) → with_more index key handle ≡ listing entries → length (block 1 entries) ≤ 2 ^ 31 → length (block index.interval (with_entry index.entries key handle)) ≤ 2 ^ 31

@@ -3,8 +3,8 @@ use Rattle.std.specs.Option.{option_map}
 use Rattle.std.proofs.lemmas.List.{length-map}
 use Rattle.block.specs.EncodedEntry.{Entry}
 use Rattle.ikey.specs.Key.{user_of}
-use Rattle.merge.specs.Least.{IsMerging}
-use Rattle.merge.specs.Merged.{entries_of_lists}
+use Rattle.merge.specs.LeastList.{IsMerging}
+use Rattle.merge.specs.MergedLists.{entries_of_lists}
 use Rattle.merge.proofs.Leasts.{at_place, least_some, place_within}
 use Rattle.faults.specs.KeyWalk.{IsNextUser}
 use Rattle.faults.proofs.NextUsers.{all_far, next_is, none_left, own_key}

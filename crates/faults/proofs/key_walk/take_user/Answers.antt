@@ -1,6 +1,6 @@
 use Rattle.std.proofs.Common.{◌≡◌, ℕ, ◌<◌, ◌++◌, List, length, get_or, set, sym, ap, ◌∙◌, add-one, arith}
 use Rattle.faults.specs.KeyFaults.{FileEntries, first_break, searched_in}
-use Rattle.faults.specs.KeyWalk.{behind_user, break_of, with_user}
+use Rattle.faults.specs.KeyWalk.{after_user, break_of, with_user}
 use Rattle.faults.proofs.TakenFiles.{behind_all, behind_at, behind_next, part_behind, taken_more}
 use Rattle.faults.proofs.key_walk.take_user.Goals as goal
 
@@ -20,7 +20,7 @@ loop-file-preserved g c =
           ∙ now.invariant.order (searched_in (with_user user f) ++ rest)
           ∙ sym (ap first_break (taken_more user i fs f rest lt is));
       files = ap (λ (xs : List FileEntries). set xs i c.take_user.new.self) now.invariant.files
-          ∙ ap (set (part_behind user i fs) i) (c.in_ok-order.ensures.rest ∙ ap (behind_user user) (sym c.file-item.is))
+          ∙ ap (set (part_behind user i fs) i) (c.in_ok-order.ensures.rest ∙ ap (after_user user) (sym c.file-item.is))
           ∙ behind_next user i fs f lt is
           ∙ ap (λ (n : ℕ). part_behind user n fs) (sym (add-one i));
     }

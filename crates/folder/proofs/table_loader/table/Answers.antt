@@ -18,12 +18,12 @@ returns-in-Some-clause-device g c =
     reports_steady _ (read_same (failed c.args.folder.now) (failed c.read.new.self) _ c.read.result c.in_ok-bytes.was c.read.ensures.failures) tt
 
 pub returns-clause-reads : goal.returns-clause-reads
-returns-clause-reads g c = reads_then (record { same = c.read.ensures.same; calls = c.read.ensures.calls }) c.held.ensures.reads
+returns-clause-reads g c = reads_then (record { same = c.read.ensures.same; calls = c.read.ensures.calls }) c.bytes_under.ensures.reads
 
 pub returns-clause-device : goal.returns-clause-device
 returns-clause-device g c =
     let failed = g.F.Folder.failed in
-    reports_on (read_same (failed c.args.folder.now) (failed c.read.new.self) _ c.read.result c.in_ok-bytes.was c.read.ensures.failures) c.held.ensures.device
+    reports_on (read_same (failed c.args.folder.now) (failed c.read.new.self) _ c.read.result c.in_ok-bytes.was c.read.ensures.failures) c.bytes_under.ensures.device
 
 pub returns-in-Some-clause-answer : goal.returns-in-Some-clause-answer
 returns-in-Some-clause-answer g c = search rules

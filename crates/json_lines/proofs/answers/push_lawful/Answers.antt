@@ -1,5 +1,5 @@
 use Rattle.std.proofs.Common.{List, ℕ, string_bytes, ap, ◌∙◌, ◌++◌}
-use Rattle.json_lines.proofs.PieceLemmas.{lawful_pieces}
+use Rattle.json_lines.proofs.ObjectTextLemmas.{lawful_pieces}
 use Rattle.json_lines.proofs.answers.push_lawful.Goals as goal
 
 pub returns-clause-ok : goal.returns-clause-ok

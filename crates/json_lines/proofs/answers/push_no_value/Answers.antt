@@ -2,7 +2,7 @@ use Rattle.std.proofs.Common.{List, ℕ, codes, ap, ◌∙◌, ◌++◌}
 use Rattle.json.specs.Print.{quoted}
 use Rattle.texts.specs.Spelling.{key_text}
 use Rattle.texts.proofs.Appended.{appended_on}
-use Rattle.json_lines.proofs.PieceLemmas.{no_value_pieces}
+use Rattle.json_lines.proofs.ObjectTextLemmas.{no_value_pieces}
 use Rattle.json_lines.proofs.answers.push_no_value.Goals as goal
 
 pub returns-clause-ok : goal.returns-clause-ok

@@ -2,7 +2,7 @@ use Rattle.std.proofs.Common.{List, ℕ, codes, ap, ◌∙◌, ◌++◌}
 use Rattle.json.specs.Print.{quoted}
 use Rattle.texts.specs.Spelling.{key_text, value_text}
 use Rattle.texts.proofs.Appended.{appended_on, kept_on}
-use Rattle.json_lines.proofs.PieceLemmas.{pair_pieces}
+use Rattle.json_lines.proofs.ObjectTextLemmas.{pair_pieces}
 use Rattle.json_lines.proofs.answers.push_pair.Goals as goal
 
 pub returns-in_err-push_quoted_key-clause-err : goal.returns-in_err-push_quoted_key-clause-err

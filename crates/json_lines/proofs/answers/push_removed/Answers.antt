@@ -1,6 +1,6 @@
 use Rattle.std.proofs.Common.{List, ℕ, string_bytes, sym, ap, ◌∙◌, ◌++◌}
 use Rattle.coding.proofs.Binds.{ok_is}
-use Rattle.json_lines.proofs.PieceLemmas.{removed_pieces}
+use Rattle.json_lines.proofs.ObjectTextLemmas.{removed_pieces}
 use Rattle.json_lines.proofs.answers.push_removed.Goals as goal
 
 pub returns-clause-ok : goal.returns-clause-ok

@@ -1,5 +1,5 @@
 use Rattle.std.proofs.Common.{List, ℕ, string_bytes, ap, ◌∙◌, ◌++◌}
-use Rattle.json_lines.proofs.PieceLemmas.{valid_pieces}
+use Rattle.json_lines.proofs.ObjectTextLemmas.{valid_pieces}
 use Rattle.json_lines.proofs.answers.push_valid.Goals as goal
 
 pub returns-clause-ok : goal.returns-clause-ok

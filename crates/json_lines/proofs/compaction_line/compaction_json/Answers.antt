@@ -5,8 +5,8 @@ use Rattle.edit.specs.Edit.{edit_in}
 use Rattle.edit.specs.declared.meta.DeletedFile.{DeletedFile}
 use Rattle.edit.specs.declared.meta.NewFile.{NewFile}
 use Rattle.json_lines.specs.CompactionObject.{deleted_object, output_object}
-use Rattle.json_lines.specs.Pieces.{end_text, listed_item}
-use Rattle.json_lines.proofs.PieceLemmas.{compaction_pieces}
+use Rattle.json_lines.specs.ObjectTexts.{end_text, listed_item}
+use Rattle.json_lines.proofs.ObjectTextLemmas.{compaction_pieces}
 use Rattle.json_lines.proofs.compaction_line.compaction_json.Goals as goal
 
 pub returns : goal.returns

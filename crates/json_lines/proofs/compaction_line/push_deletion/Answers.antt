@@ -1,5 +1,5 @@
 use Rattle.std.proofs.Common.{List, ℕ, string_bytes, ap, ◌∙◌, ◌++◌}
-use Rattle.json_lines.proofs.PieceLemmas.{deleted_pieces}
+use Rattle.json_lines.proofs.ObjectTextLemmas.{deleted_pieces}
 use Rattle.json_lines.proofs.compaction_line.push_deletion.Goals as goal
 
 pub returns-clause-ok : goal.returns-clause-ok

@@ -1,7 +1,7 @@
 use Rattle.std.proofs.Common.{◌≡◌, ◌++◌, string_bytes}
 use Rattle.std.specs.List.{flat_map}
 use Rattle.json_lines.specs.CompactionObject.{deleted_object}
-use Rattle.json_lines.specs.Pieces.{listed_item}
+use Rattle.json_lines.specs.ObjectTexts.{listed_item}
 use Rattle.json_lines.proofs.compaction_line.push_deletions.Given as goal
 
 -- the text so far, and the items of the files that are left, are all

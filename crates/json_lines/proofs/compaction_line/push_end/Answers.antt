@@ -1,5 +1,5 @@
 use Rattle.std.proofs.Common.{◌≡◌, ◌++◌, OnOk, string_bytes, subst, sym}
-use Rattle.json_lines.specs.Pieces.{end_text}
+use Rattle.json_lines.specs.ObjectTexts.{end_text}
 use Rattle.json_lines.specs.declared.compaction_end.CompactionEnd.{CompactionEnd}
 use Rattle.json_lines.proofs.compaction_line.push_end.Goals as goal
 

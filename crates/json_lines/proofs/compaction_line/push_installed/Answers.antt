@@ -1,7 +1,7 @@
 use Rattle.std.proofs.Common.{◌≡◌, ℕ, List, ◌++◌, OnOk, Some, codes, string_bytes, subst, sym, ◌∙◌}
 use Rattle.folder.specs.Names.{manifest_name}
 use Rattle.coding.proofs.Binds.{ok_is}
-use Rattle.json_lines.specs.Pieces.{named_text}
+use Rattle.json_lines.specs.ObjectTexts.{named_text}
 use Rattle.json_lines.proofs.compaction_line.push_installed.Goals as goal
 
 pub returns-clause-ok : goal.returns-clause-ok

@@ -1,7 +1,7 @@
 use Rattle.std.proofs.Common.{List, [], ℕ, Ok, codes, option_map, string_bytes, sym, ap, ◌∙◌, ◌++◌}
 use Rattle.coding.proofs.Texts.{joined}
-use Rattle.json_lines.specs.Pieces.{named_text, refused_text}
-use Rattle.json_lines.proofs.PieceLemmas.{refusal_pieces}
+use Rattle.json_lines.specs.ObjectTexts.{named_text, refused_text}
+use Rattle.json_lines.proofs.ObjectTextLemmas.{refusal_pieces}
 use Rattle.json_lines.proofs.refusal.refusal_json.Goals as goal
 
 pub returns : goal.returns

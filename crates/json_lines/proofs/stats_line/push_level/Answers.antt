@@ -4,7 +4,7 @@ use Rattle.coding.proofs.Texts.{joined}
 use Rattle.json.specs.Print.{quoted}
 use Rattle.ikey.specs.Key.{user_of}
 use Rattle.texts.specs.Spelling.{key_text}
-use Rattle.json_lines.specs.StatsPieces.{amounts_text}
+use Rattle.json_lines.specs.StatsTexts.{amounts_text}
 use Rattle.json_lines.proofs.StatsLemmas.{level_pieces}
 use Rattle.json_lines.proofs.stats_line.push_level.Goals as goal
 

@@ -1,7 +1,7 @@
 use Rattle.std.proofs.Common.{◌≡◌, ◌++◌, take, string_bytes}
 use Rattle.std.specs.List.{flat_map}
 use Rattle.scan.specs.declared.level_stats.LevelStats.{LevelStats}
-use Rattle.json_lines.specs.Pieces.{listed_item}
+use Rattle.json_lines.specs.ObjectTexts.{listed_item}
 use Rattle.json_lines.specs.StatsObject.{level_object}
 use Rattle.json_lines.proofs.stats_line.push_levels.Given as goal
 

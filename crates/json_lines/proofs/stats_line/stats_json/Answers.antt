@@ -2,9 +2,9 @@ use Rattle.std.proofs.Common.{◌≡◌, List, ℕ, Ok, string_bytes, subst, ap,
 use Rattle.std.specs.List.{flat_map}
 use Rattle.coding.specs.Answers.{EqualOrMemory}
 use Rattle.scan.specs.declared.level_stats.LevelStats.{LevelStats}
-use Rattle.json_lines.specs.Pieces.{listed_item}
+use Rattle.json_lines.specs.ObjectTexts.{listed_item}
 use Rattle.json_lines.specs.StatsObject.{level_object}
-use Rattle.json_lines.specs.StatsPieces.{totals_text}
+use Rattle.json_lines.specs.StatsTexts.{totals_text}
 use Rattle.json_lines.proofs.StatsLemmas.{stats_pieces}
 use Rattle.json_lines.proofs.stats_line.stats_json.Goals as goal
 

@@ -3,7 +3,7 @@ use Rattle.coding.proofs.Binds.{ok_is}
 use Rattle.json.specs.Print.{quoted}
 use Rattle.ikey.specs.Key.{user_of}
 use Rattle.texts.specs.Spelling.{key_text}
-use Rattle.json_lines.proofs.PieceLemmas.{file_pieces}
+use Rattle.json_lines.proofs.ObjectTextLemmas.{file_pieces}
 use Rattle.json_lines.proofs.version_line.push_file.Goals as goal
 
 pub returns-clause-ok : goal.returns-clause-ok

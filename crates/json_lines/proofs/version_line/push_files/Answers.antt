@@ -4,7 +4,7 @@ use Rattle.std.proofs.lemmas.List.Folds.{flat_map-map}
 use Rattle.coding.proofs.Binds.{ok_is}
 use Rattle.edit.specs.declared.meta.FileMeta.{FileMeta}
 use Rattle.folder.proofs.LoadingLemmas.{level_more}
-use Rattle.json_lines.specs.Pieces.{file_items, listed_item}
+use Rattle.json_lines.specs.ObjectTexts.{file_items, listed_item}
 use Rattle.json_lines.specs.VersionObject.{file_object}
 use Rattle.json_lines.proofs.version_line.push_files.Goals as goal
 

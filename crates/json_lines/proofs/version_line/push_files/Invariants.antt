@@ -1,6 +1,6 @@
 use Rattle.std.proofs.Common.{◌≡◌, ◌++◌, ◌-◌, string_bytes}
 use Rattle.folder.specs.Levels.{all_levels, by_level}
-use Rattle.json_lines.specs.Pieces.{file_items}
+use Rattle.json_lines.specs.ObjectTexts.{file_items}
 use Rattle.json_lines.proofs.version_line.push_files.Given as goal
 
 -- the text so far, and the items of the levels that are left, are all

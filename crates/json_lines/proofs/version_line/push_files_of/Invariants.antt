@@ -1,6 +1,6 @@
 use Rattle.std.proofs.Common.{◌≡◌, ◌++◌, take, string_bytes}
 use Rattle.std.specs.List.{flat_map}
-use Rattle.json_lines.specs.Pieces.{listed_item}
+use Rattle.json_lines.specs.ObjectTexts.{listed_item}
 use Rattle.json_lines.specs.VersionObject.{file_object}
 use Rattle.json_lines.proofs.version_line.push_files_of.Given as goal
 

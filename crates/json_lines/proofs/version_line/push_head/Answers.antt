@@ -2,7 +2,7 @@ use Rattle.std.proofs.Common.{Option, ℕ, codes, string_bytes, ap, ◌∙◌, �
 use Rattle.coding.proofs.Texts.{joined}
 use Rattle.folder.specs.Manifest.{order_name}
 use Rattle.json.specs.Print.{quoted}
-use Rattle.json_lines.specs.Pieces.{named_number}
+use Rattle.json_lines.specs.ObjectTexts.{named_number}
 use Rattle.json_lines.proofs.version_line.push_head.Goals as goal
 
 pub returns-clause-ok : goal.returns-clause-ok

@@ -3,7 +3,7 @@ use Rattle.coding.proofs.Binds.{ok_is}
 use Rattle.json.specs.Print.{quoted}
 use Rattle.ikey.specs.Key.{kind_number, kind_of, sequence_of, user_of}
 use Rattle.texts.specs.Spelling.{key_text}
-use Rattle.json_lines.proofs.PieceLemmas.{pointer_pieces}
+use Rattle.json_lines.proofs.ObjectTextLemmas.{pointer_pieces}
 use Rattle.json_lines.proofs.version_line.push_pointer.Goals as goal
 
 pub returns-clause-ok : goal.returns-clause-ok

@@ -1,6 +1,6 @@
 use Rattle.std.proofs.Common.{string_bytes, refl}
 use Rattle.folder.proofs.LoadingLemmas.{level_more}
-use Rattle.json_lines.specs.Pieces.{pointer_items}
+use Rattle.json_lines.specs.ObjectTexts.{pointer_items}
 use Rattle.json_lines.proofs.version_line.push_pointers.Goals as goal
 
 pub loop-level-preserved : goal.loop-level-preserved

@@ -1,6 +1,6 @@
 use Rattle.std.proofs.Common.{◌≡◌, ◌++◌, ◌-◌, string_bytes}
 use Rattle.folder.specs.Levels.{all_levels, by_level}
-use Rattle.json_lines.specs.Pieces.{pointer_items}
+use Rattle.json_lines.specs.ObjectTexts.{pointer_items}
 use Rattle.json_lines.proofs.version_line.push_pointers.Given as goal
 
 -- the text so far, and the items of the levels that are left, are all

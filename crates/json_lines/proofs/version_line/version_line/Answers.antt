@@ -1,8 +1,8 @@
 use Rattle.std.proofs.Common.{◌≡◌, List, ℕ, Ok, string_bytes, subst, ap, ◌∙◌, ◌++◌}
 use Rattle.coding.specs.Answers.{EqualOrMemory}
 use Rattle.folder.specs.Levels.{all_levels}
-use Rattle.json_lines.specs.Pieces.{file_items, head_text, pointer_items}
-use Rattle.json_lines.proofs.PieceLemmas.{version_pieces}
+use Rattle.json_lines.specs.ObjectTexts.{file_items, head_text, pointer_items}
+use Rattle.json_lines.proofs.ObjectTextLemmas.{version_pieces}
 use Rattle.json_lines.proofs.version_line.version_line.Goals as goal
 
 pub returns : goal.returns

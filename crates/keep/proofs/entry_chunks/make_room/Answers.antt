@@ -1,7 +1,7 @@
 use Rattle.std.proofs.Common.{◌≡◌, List, [], ◌∷◌, ◌++◌, sym, ap, ◌∙◌, rules}
 use Rattle.block.specs.EncodedEntry.{Entry}
 use Rattle.keep.specs.EntryChunks.{all_kept}
-use Rattle.keep.proofs.PieceLists.{all_kept_closed}
+use Rattle.keep.proofs.ChunkLists.{all_kept_closed}
 use Rattle.keep.proofs.OnAnswers.{same_ok}
 use Rattle.keep.proofs.entry_chunks.make_room.Goals as goal
 

@@ -1,8 +1,8 @@
 use Rattle.std.proofs.Common.{refl, false, List, sym, subst, ◌∙◌}
 use Rattle.std.specs.Option.{option_map}
 use Rattle.block.specs.EncodedEntry.{Entry}
-use Rattle.merge.specs.Merged.{merged}
-use Rattle.keep.specs.Left.{is_before, EachLosesFirst}
+use Rattle.merge.specs.MergedLists.{merged}
+use Rattle.keep.specs.CursorsLeft.{is_before, EachLosesFirst}
 use Rattle.keep.proofs.RangeWalks.{first_some, fewer, begins}
 use Rattle.keep.proofs.LeftEntries.{each_first_all}
 use Rattle.keep.proofs.range_merge.begin.Goals as goal

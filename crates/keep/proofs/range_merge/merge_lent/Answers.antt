@@ -2,7 +2,7 @@ use Rattle.std.proofs.Common.{false, Result, subst}
 use Rattle.coding.specs.Answers.{EqualOrMemory}
 use Rattle.coding.specs.declared.fault.Fault.{Fault}
 use Rattle.split.specs.Ranges.{key_range}
-use Rattle.keep.specs.Left.{is_before, is_passed, EachLosesFirst}
+use Rattle.keep.specs.CursorsLeft.{is_before, is_passed, EachLosesFirst}
 use Rattle.keep.specs.Runs.{Run}
 use Rattle.keep.proofs.Bounds.{below_passed}
 use Rattle.keep.proofs.LeftEntries.{each_first_weaker, each_loses_only}

@@ -4,7 +4,7 @@ use Rattle.coding.specs.Answers.{EqualOrMemory}
 use Rattle.coding.proofs.Refusals.{unless_from}
 use Rattle.block.specs.EncodedEntry.{Entry}
 use Rattle.split.specs.Ranges.{key_range}
-use Rattle.keep.specs.Left.{is_passed, each_behind, EachLosesFirst}
+use Rattle.keep.specs.CursorsLeft.{is_passed, each_past_range, EachLosesFirst}
 use Rattle.keep.specs.Marks.{context_of}
 use Rattle.keep.specs.Runs.{Run, range_run}
 use Rattle.keep.proofs.LeftEntries.{each_first_all}
@@ -30,7 +30,7 @@ returns-clause-run g c =
 
 pub returns-clause-behind : goal.returns-clause-behind
 returns-clause-behind g c =
-    let behind = each_behind g.C.Comparator.cmp (key_range c.args.range) in
+    let behind = each_past_range g.C.Comparator.cmp (key_range c.args.range) in
     let lists : c.in_ok-merging.merging ≡ map g.S.Entries.remaining c.args.cursors.now.items = sym (same_ok _ _ c.in_ok-merging.ensures.merging) in
     on_ok c.merge_lent-run.result _ _ (λ e. c.into_cursors.ensures ∙ e ∙ ap behind lists) c.merge_lent-run.ensures.behind
 

@@ -2,16 +2,16 @@ use Rattle.std.proofs.Common.{refl, ◌≡◌, true, List, ◌∷◌, drop, Ok, 
 use Rattle.std.proofs.lemmas.Result.{err_from_is_err_and}
 use Rattle.coding.proofs.Refusals.{unless_from}
 use Rattle.block.specs.EncodedEntry.{Entry}
-use Rattle.merge.specs.Merged.{merged}
+use Rattle.merge.specs.MergedLists.{merged}
 use Rattle.split.specs.Ranges.{key_range}
-use Rattle.keep.specs.Walked.{Walked}
-use Rattle.keep.specs.Left.{is_before, is_passed, EachLosesFirst}
+use Rattle.keep.specs.WalkedRange.{WalkedRange}
+use Rattle.keep.specs.CursorsLeft.{is_before, is_passed, EachLosesFirst}
 use Rattle.keep.proofs.RangeWalks.{first_some, fewer, head_is, IsWalking, walking_first, walking_passed, walking_next, walking_repeats, walking_ends, walking_behind}
 use Rattle.keep.proofs.range_merge.walk_range.Goals as goal
 
 pub loop-merging-init : goal.loop-merging-init
 loop-merging-init g c =
-    subst (λ (w : Walked). IsWalking g.C.Comparator.cmp c.args.rule.now (key_range c.args.range) c.args.merging.now c.args.merging.now w) (sym c.new-walk.ensures)
+    subst (λ (w : WalkedRange). IsWalking g.C.Comparator.cmp c.args.rule.now (key_range c.args.range) c.args.merging.now c.args.merging.now w) (sym c.new-walk.ensures)
     (walking_first g.C.Comparator.cmp g.met.C.Comparator.total g.met.C.Comparator.exact c.args.rule.now (key_range c.args.range) c.args.merging.now c.requires.begun)
 
 pub key-requires : goal.key-requires
@@ -35,7 +35,7 @@ loop-merging-preserved g c =
     let cmp = g.C.Comparator.cmp in
     let e : Entry = record { key = c.key.result.bytes.now; value = c.value.result.now } in
     let head : merged cmp c.loop-merging.merging ≡ e ∷ drop 1 (merged cmp c.loop-merging.merging) = head_is (merged cmp c.loop-merging.merging) c.key.result.bytes.now c.value.result.now c.key.ensures c.value.ensures in
-    subst (λ (w : Walked). IsWalking cmp c.args.rule.now (key_range c.args.range) c.args.merging.now c.advance.new.self w) (sym c.in_ok-step.ensures.new)
+    subst (λ (w : WalkedRange). IsWalking cmp c.args.rule.now (key_range c.args.range) c.args.merging.now c.advance.new.self w) (sym c.in_ok-step.ensures.new)
     (walking_next cmp g.met.C.Comparator.total c.args.rule.now (key_range c.args.range) c.args.merging.now c.loop-merging.merging c.advance.new.self c.loop-merging.walk e c.loop-merging.invariant (sym c.starts_before.ensures ∙ c.loop-merging-test.true) head
     c.in_ok-step.ensures.ok c.in_ok-advance.ensures.advanced c.in_ok-advance.ensures.ok)
 
@@ -64,7 +64,7 @@ returns-in_err-advance-clause-left g c =
 pub returns-clause-run : goal.returns-clause-run
 returns-clause-run g c =
     walking_ends g.C.Comparator.cmp g.met.C.Comparator.total c.args.rule.now (key_range c.args.range) c.args.merging.now c.loop-merging.merging c.loop-merging.walk c.loop-merging.invariant (sym c.starts_before.ensures ∙ c.loop-merging-test.false)
-    ∙ ap (λ (w : Walked). Ok w.run) (sym c.walk-2.view_is)
+    ∙ ap (λ (w : WalkedRange). Ok w.run) (sym c.walk-2.view_is)
 
 pub returns-clause-left : goal.returns-clause-left
 returns-clause-left g c = c.loop-merging.invariant.left

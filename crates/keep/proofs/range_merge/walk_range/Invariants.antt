@@ -1,5 +1,5 @@
 use Rattle.std.proofs.Common.{length}
-use Rattle.merge.specs.Merged.{merged}
+use Rattle.merge.specs.MergedLists.{merged}
 use Rattle.split.specs.Ranges.{key_range}
 use Rattle.keep.proofs.RangeWalks.{IsWalking}
 use Rattle.keep.proofs.range_merge.walk_range.Given as goal

@@ -1,6 +1,6 @@
 use Rattle.std.proofs.Common.{refl, false, sym, ◌∙◌}
 use Rattle.split.specs.Ranges.{key_range}
-use Rattle.keep.specs.Left.{is_before}
+use Rattle.keep.specs.CursorsLeft.{is_before}
 use Rattle.keep.proofs.LeftEntries.{leaves_next}
 use Rattle.keep.proofs.RangeWalks.{first_some, fewer}
 use Rattle.keep.proofs.range_start.seek_range.Goals as goal

@@ -3,7 +3,7 @@ use Rattle.std.specs.List.{AllByRecursion}
 use Rattle.block.specs.EncodedEntry.{Entry}
 use Rattle.ikey.specs.Key.{sequence_of}
 use Rattle.split.specs.Ranges.{key_range}
-use Rattle.keep.specs.Left.{is_before, LosesOnly}
+use Rattle.keep.specs.CursorsLeft.{is_before, LosesOnly}
 use Rattle.keep.proofs.range_start.seek_range.Given as goal
 
 abbrev pub invariant-loop-cursor : goal.invariant-loop-cursor

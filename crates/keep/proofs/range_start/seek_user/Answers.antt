@@ -2,7 +2,7 @@ use Rattle.std.proofs.Common.{◌≡◌, false, List, ℕ, Option, Some, sym, su
 use Rattle.std.specs.Option.{option_map}
 use Rattle.ikey.specs.declared.kind.Kind.TheVariants.{Put}
 use Rattle.ikey.specs.Key.{internal_key}
-use Rattle.keep.specs.Left.{is_before, LosesOnly}
+use Rattle.keep.specs.CursorsLeft.{is_before, LosesOnly}
 use Rattle.keep.proofs.LeftEntries.{leaves_all}
 use Rattle.keep.proofs.OnAnswers.{same_ok}
 use Rattle.keep.proofs.Sought.{sought_leaves}

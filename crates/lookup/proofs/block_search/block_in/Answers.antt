@@ -2,7 +2,7 @@ use Rattle.std.proofs.Common.{List, ℕ, Result, ap, subst}
 use Rattle.coding.specs.Answers.{EqualOrMemory, ◌>>=◌}
 use Rattle.coding.specs.declared.fault.Fault.{Fault}
 use Rattle.block.specs.EncodedEntry.{Entry}
-use Rattle.block.specs.ReadingBlocks.{block_reading}
+use Rattle.block.specs.BlockReading.{block_reading}
 use Rattle.table.proofs.Steps.{check_gives}
 use Rattle.lookup.proofs.block_search.block_in.Goals as goal
 

@@ -1,8 +1,8 @@
 use Rattle.std.proofs.Common.{◌≡◌, List, ap, sym, subst, ◌∙◌}
 use Rattle.std.specs.Prelude.{slice_get}
 use Rattle.block.specs.EncodedEntry.{Entry}
-use Rattle.table.specs.ReadingCursors.{entries_from}
-use Rattle.table.specs.ReadingEntries.{HaveKeys}
+use Rattle.table.specs.EntriesFrom.{entries_from}
+use Rattle.table.specs.EntryTests.{HaveKeys}
 use Rattle.table.proofs.Walks.{keys_from}
 use Rattle.lookup.proofs.Giving.{gives_from, handed}
 use Rattle.lookup.proofs.Others.{other_handed}

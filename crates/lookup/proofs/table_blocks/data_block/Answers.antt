@@ -1,6 +1,6 @@
 use Rattle.std.proofs.Common.{◌≡◌, Ok, ap, ◌∙◌}
 use Rattle.frame.specs.Handle.{handle_reading}
-use Rattle.table.specs.ReadingIndex.{block_in, one_handle, stored_at}
+use Rattle.table.specs.IndexReading.{block_in, one_handle, stored_at}
 use Rattle.lookup.proofs.Giving.{gives_from}
 use Rattle.lookup.proofs.Parts.{named_there, not_refused, value_is}
 use Rattle.lookup.proofs.table_blocks.data_block.Goals as goal

@@ -1,8 +1,8 @@
 use Rattle.std.proofs.Common.{◌≡◌, ◌-◌, List, ℕ, Ok, Some, length, take, drop, ap, sym, subst, ◌∙◌, arith}
 use Rattle.folder.proofs.ReportLemmas.{reports_after}
-use Rattle.table.specs.ReadingIndex.{block_in, stored_at}
+use Rattle.table.specs.IndexReading.{block_in, stored_at}
 use Rattle.lookup.specs.SearchAnswers.{index_handle}
-use Rattle.lookup.specs.Held.{TellsJust}
+use Rattle.lookup.specs.FolderTables.{TellsJust}
 use Rattle.lookup.proofs.Giving.{gives_from}
 use Rattle.lookup.proofs.Others.{index_handle_other, never_device, other_handed}
 use Rattle.lookup.proofs.Parts.{file_later, footer_is, index_there, not_refused, value_is}

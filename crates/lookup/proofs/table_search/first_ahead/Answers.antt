@@ -1,7 +1,7 @@
 use Rattle.std.proofs.Common.{ap, ◌∙◌}
 use Rattle.folder.proofs.CountLemmas.{steady}
 use Rattle.folder.proofs.ReportLemmas.{reads_then}
-use Rattle.table.specs.ReadingIndex.{block_in}
+use Rattle.table.specs.IndexReading.{block_in}
 use Rattle.lookup.proofs.Giving.{handed}
 use Rattle.lookup.proofs.IndexAhead.{head_of, passed, reached}
 use Rattle.lookup.proofs.Parts.{file_later}

@@ -4,8 +4,8 @@ use Rattle.std.specs.List.{AllByRecursion}
 use Rattle.block.specs.EncodedEntry.{Entry}
 use Rattle.folder.proofs.ReportLemmas.{reports_after, reports_then}
 use Rattle.table.specs.IndexWalk.{NamesBlock, all_named}
-use Rattle.table.specs.ReadingCursors.{entries_from}
-use Rattle.table.specs.ReadingIndex.{block_in}
+use Rattle.table.specs.EntriesFrom.{entries_from}
+use Rattle.table.specs.IndexReading.{block_in}
 use Rattle.table.proofs.Walks.{named_keys}
 use Rattle.lookup.proofs.Giving.{gives_from, handed}
 use Rattle.lookup.proofs.IndexAhead.{names_ahead}

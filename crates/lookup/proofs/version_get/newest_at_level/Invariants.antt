@@ -6,7 +6,7 @@ use Rattle.ikey.specs.Key.{user_of, sequence_of}
 use Rattle.reads.specs.Lawful.{IsFileOf}
 use Rattle.reads.specs.Tables.{NumberedContents, table_entries}
 use Rattle.reads.specs.Visible.{IsAnswer, visible_of}
-use Rattle.lookup.specs.Held.{HoldTables}
+use Rattle.lookup.specs.FolderTables.{HoldTables}
 use Rattle.lookup.proofs.version_get.newest_at_level.Given as goal
 
 -- the newest so far is that of the files so far

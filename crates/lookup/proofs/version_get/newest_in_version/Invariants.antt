@@ -4,7 +4,7 @@ use Rattle.ikey.specs.Key.{user_of, sequence_of}
 use Rattle.reads.specs.Lawful.{IsLawful}
 use Rattle.reads.specs.Tables.{NumberedContents}
 use Rattle.reads.proofs.Versions.{NoneBefore}
-use Rattle.lookup.specs.Held.{HoldTables}
+use Rattle.lookup.specs.FolderTables.{HoldTables}
 use Rattle.lookup.proofs.version_get.newest_in_version.Given as goal
 
 -- no entry of the levels so far is visible

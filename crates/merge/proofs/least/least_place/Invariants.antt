@@ -1,5 +1,5 @@
 use Rattle.std.proofs.Common.{map, take}
-use Rattle.merge.specs.Least.{IsMerging}
+use Rattle.merge.specs.LeastList.{IsMerging}
 use Rattle.merge.proofs.least.least_place.Given as goal
 
 abbrev pub invariant-loop-place : goal.invariant-loop-place

@@ -1,6 +1,6 @@
 use Rattle.std.proofs.Common.{map, take}
 use Rattle.std.specs.List.{AllByRecursion}
-use Rattle.table.specs.ReadingCursors.{NeverFalls}
+use Rattle.table.specs.EntriesFrom.{NeverFalls}
 use Rattle.merge.proofs.Heads.{AreNoted}
 use Rattle.merge.proofs.tournament.note_heads.Given as goal
 

@@ -4,7 +4,7 @@ use Rattle.coding.specs.declared.fault.Fault.{Fault}
 use Rattle.coding.proofs.Refusals.{FailsOrMemory-from}
 use Rattle.block.specs.EncodedEntry.{Entry}
 use Rattle.pairing.specs.TestedUnion.{last_key_or, tested_entries}
-use Rattle.pairing.specs.declared.tested.TestedEntry.{TestedEntry}
+use Rattle.pairing.specs.declared.tested_entry.TestedEntry.{TestedEntry}
 use Rattle.pairing.specs.EntryTests.{file_entry_test, tested_after}
 use Rattle.pairing.proofs.TestedLists.{first_entry, goes_on, ends, with_front, entry_test_same}
 use Rattle.pairing.proofs.entry_checks.tested_all.Goals as goal

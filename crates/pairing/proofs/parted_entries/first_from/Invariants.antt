@@ -1,7 +1,7 @@
 use Rattle.std.proofs.Common.{ℕ, ◌<◌, get_or}
 use Rattle.pairing.specs.TestedUnion.{tested_entry}
 use Rattle.pairing.specs.Ranges.{IsBefore}
-use Rattle.pairing.specs.declared.tested.TestedEntry.{TestedEntry}
+use Rattle.pairing.specs.declared.tested_entry.TestedEntry.{TestedEntry}
 use Rattle.pairing.proofs.parted_entries.first_from.Given as goal
 
 abbrev pub invariant-loop-place : goal.invariant-loop-place

@@ -2,7 +2,7 @@ use Rattle.std.proofs.Common.{List, sym, subst}
 use Rattle.std.specs.List.{AllByRecursion}
 use Rattle.pairing.specs.TestedUnion.{tested_entries}
 use Rattle.pairing.specs.Ranges.{IsBefore, IsFrom}
-use Rattle.pairing.specs.declared.tested.TestedEntry.{TestedEntry}
+use Rattle.pairing.specs.declared.tested_entry.TestedEntry.{TestedEntry}
 use Rattle.pairing.proofs.Unions.{before_cut, from_cut}
 use Rattle.pairing.proofs.parted_entries.parted.Goals as goal
 

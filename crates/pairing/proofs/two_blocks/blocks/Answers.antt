@@ -7,7 +7,7 @@ use Rattle.ikey.specs.Bytewise.{bytewise_cmp}
 use Rattle.merge.specs.Union.{IsUnion}
 use Rattle.pairing.specs.Blocks.{IsBlocksAnswer, IsUnionAnswer, counted_block}
 use Rattle.pairing.specs.TestedUnion.{tested_entries}
-use Rattle.pairing.specs.declared.tested.TestedEntry.{TestedEntry}
+use Rattle.pairing.specs.declared.tested_entry.TestedEntry.{TestedEntry}
 use Rattle.pairing.proofs.FileAnswers.{blocks_counted, blocks_merged, union_refused}
 use Rattle.pairing.proofs.two_blocks.blocks.Goals as goal
 

@@ -1,5 +1,5 @@
 use Rattle.std.proofs.Common.{◌≡◌, map}
-use Rattle.merge.specs.Merged.{entries_of_lists}
+use Rattle.merge.specs.MergedLists.{entries_of_lists}
 use Rattle.pairing.specs.TestedUnion.{tested_entries}
 use Rattle.pairing.proofs.two_blocks.in_a_row.Given as goal
 

@@ -10,7 +10,7 @@ use Rattle.edit.specs.declared.meta.FileMeta.{FileMeta}
 use Rattle.pick.specs.Boundaries.{largest_key}
 use Rattle.pick.specs.Choices.{is_in}
 use Rattle.pick.specs.Spans.{least_user, greatest_user, is_overlapping}
-use Rattle.pick.specs.Picked.{IsInputsAnswer, picked_in, files_from, input_at}
+use Rattle.pick.specs.PickedInputs.{IsInputsAnswer, picked_in, files_from, input_at}
 use Rattle.pick.proofs.Lists.{lent}
 use Rattle.pick.proofs.LevelInputs.{is_no_input, are_inputs, no_largest, no_head_lent, head_lent, both_are, holds_from, on_ok}
 use Rattle.pick.proofs.input_choice.inputs.Goals as goal

@@ -3,7 +3,7 @@ use Rattle.std.specs.List.{filter}
 use Rattle.coding.proofs.Binds.{ok_is}
 use Rattle.edit.specs.VersionOrder.{level_files}
 use Rattle.pick.specs.Choices.{is_in}
-use Rattle.pick.specs.Picked.{files_from}
+use Rattle.pick.specs.PickedInputs.{files_from}
 use Rattle.pick.proofs.LevelInputs.{same_picked}
 use Rattle.pick.proofs.input_choice.picked.Goals as goal
 

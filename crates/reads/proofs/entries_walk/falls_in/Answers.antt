@@ -3,7 +3,7 @@ use Rattle.std.specs.Prelude.{◌↔◌, IfOk}
 use Rattle.std.proofs.lemmas.List.{map-id}
 use Rattle.block.specs.EncodedEntry.{Entry}
 use Rattle.coding.proofs.Binds.{ok_is}
-use Rattle.merge.specs.Merged.{entries_of_lists}
+use Rattle.merge.specs.MergedLists.{entries_of_lists}
 use Rattle.split.specs.Ranges.{key_range, IsIn}
 use Rattle.reads.specs.TableOrder.{AreFallingIn}
 use Rattle.reads.proofs.entries_walk.falls_in.Goals as goal

@@ -2,8 +2,8 @@ use Rattle.std.proofs.Common.{◌≡◌, ◌<◌, List, [], ◌∷◌, drop, len
 use Rattle.block.specs.EncodedEntry.{Entry}
 use Rattle.ikey.specs.Key.{IsInternalKey, user_of}
 use Rattle.split.specs.Ranges.{KeyRange, key_range, IsIn}
-use Rattle.merge.specs.Least.{IsMerging}
-use Rattle.merge.specs.Merged.{merged}
+use Rattle.merge.specs.LeastList.{IsMerging}
+use Rattle.merge.specs.MergedLists.{merged}
 use Rattle.merge.proofs.Leasts.{some_where_least}
 use Rattle.split.specs.Bounds.{is_user_before}
 use Rattle.reads.specs.FileChecks.{is_from}

@@ -1,5 +1,5 @@
 use Rattle.std.proofs.Common.{length}
-use Rattle.merge.specs.Merged.{merged}
+use Rattle.merge.specs.MergedLists.{merged}
 use Rattle.split.specs.Ranges.{key_range, IsIn}
 use Rattle.reads.proofs.EntriesInOrder.{IsLeft}
 use Rattle.reads.proofs.entries_walk.is_falling.Given as goal

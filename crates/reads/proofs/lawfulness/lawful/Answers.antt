@@ -1,6 +1,6 @@
 use Rattle.std.proofs.Common.{List, map, refl, ap, subst, ◌∙◌}
 use Rattle.block.specs.EncodedEntry.{Entry}
-use Rattle.merge.specs.Merged.{entries_of_lists}
+use Rattle.merge.specs.MergedLists.{entries_of_lists}
 use Rattle.reads.specs.TableOrder.{AreFalling}
 use Rattle.reads.proofs.Ranged.{all_fall}
 use Rattle.reads.proofs.lawfulness.lawful.Goals as goal

@@ -4,7 +4,7 @@ use Rattle.coding.proofs.Binds.{done, ok_is}
 use Rattle.ikey.specs.Key.{internal_key, kind_of}
 use Rattle.ikey.specs.declared.kind.Kind.TheVariants.{Put}
 use Rattle.ikey.proofs.Keys.{kind_of-internal_key}
-use Rattle.reads.specs.declared.found.Found.{Found}
+use Rattle.reads.specs.declared.found_entry.Found.{Found}
 use Rattle.reads.specs.Gets.{get_of}
 use Rattle.reads.specs.Visible.{visible_in}
 use Rattle.reads.specs.Tables.{tables_test}
@@ -42,4 +42,4 @@ returns-clause-lawful g c lawful =
     let made : c.as_key.result.bytes.now ≡ internal_key c.args.key.now c.min.result Put = c.as_key.ensures ∙ sym (ok_is _ _ c.in_ok-target.ensures) in
     let got : get_of c.args.version.now c.args.tables.now c.args.key.now c.args.at ≡ got_by c.in_ok-found.field-0 =
     get_by g.C.Comparator.cmp c.args.version.now c.args.tables.now c.args.key.now c.args.at c.as_key.result.bytes.now c.min.result (option_map visible_in c.in_ok-found.field-0) lawful (omega arith) made (c.in_ok-found.ensures.found lawful) in
-    ap done (got ∙ ap got_by c.in-Some.is ∙ sym c.held.ensures)
+    ap done (got ∙ ap got_by c.in-Some.is ∙ sym c.value.ensures)

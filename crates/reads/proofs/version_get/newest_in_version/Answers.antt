@@ -5,7 +5,7 @@ use Rattle.coding.proofs.Binds.{ok_is}
 use Rattle.edit.specs.VersionOrder.{in_version_order, files_at}
 use Rattle.edit.specs.declared.meta.FileMeta.{FileMeta}
 use Rattle.ikey.specs.Key.{user_of, sequence_of}
-use Rattle.reads.specs.declared.found.Found.{Found}
+use Rattle.reads.specs.declared.found_entry.Found.{Found}
 use Rattle.reads.specs.Visible.{VisibleEntry, visible_in, IsAnswer}
 use Rattle.reads.proofs.Levels.{level_there}
 use Rattle.reads.proofs.Versions.{lent_entries, none_begin, none_more, none_end, found, level_files_of}

@@ -1,12 +1,12 @@
 use Rattle.std.proofs.Common.{◌≡◌, ◌<◌, ℕ, true, List, [], ◌∷◌, drop, length, Some, refl, sym, ap, ◌∙◌, arith}
 use Rattle.block.specs.EncodedEntry.{Entry}
-use Rattle.merge.specs.Least.{IsMerging}
-use Rattle.merge.specs.Merged.{merged}
+use Rattle.merge.specs.LeastList.{IsMerging}
+use Rattle.merge.specs.MergedLists.{merged}
 use Rattle.merge.proofs.Leasts.{place_within, some_where_least}
 use Rattle.merge.proofs.Merges.{merged_first}
 use Rattle.split.specs.Ranges.{key_range}
 use Rattle.keep.specs.FirstEntry.{first_is}
-use Rattle.keep.specs.Left.{is_before}
+use Rattle.keep.specs.CursorsLeft.{is_before}
 use Rattle.scan.proofs.WalkCounts.{after_number, count_begins, count_ends, count_more, count_stops, new_number}
 use Rattle.scan.proofs.count_walk.count_merged.Goals as goal
 

@@ -2,7 +2,7 @@ use Rattle.std.proofs.Common.{◌≡◌, ℕ, ◌≤◌, ◌-◌, ◌^◌, Ok, E
 use Rattle.std.specs.Prelude.{◌⊎◌}
 use Rattle.folder.specs.Levels.{file_numbers}
 use Rattle.folder.specs.OpenAnswer.{IsStopped}
-use Rattle.folder.specs.ReadsAs.{IsHeldIn}
+use Rattle.folder.specs.ReadsAs.{IsFileIn}
 use Rattle.checks.specs.TestedTables.{IsTested}
 use Rattle.checks.proofs.FolderTests.{told_still}
 use Rattle.folder.proofs.OpeningLemmas.{answers_since}
@@ -20,7 +20,7 @@ returns-in_err-test_version-clause-stats g c files told =
     let before = failed c.args.folder.now in
     let now = failed c.test_version.new.folder in
     let e = c.in_err-test_version.field-0.0 in
-    answers_handed seen_stats before now c.from_residual.result e (IsStopped before now e ⊎ IsTested (IsHeldIn files) cmp v (Err e)) (IsTestedStats (IsHeldIn files) cmp v) c.from_residual.ensures.1 (c.in_err-test_version.ensures.answer files told) (λ h. elim h [
+    answers_handed seen_stats before now c.from_residual.result e (IsStopped before now e ⊎ IsTested (IsFileIn files) cmp v (Err e)) (IsTestedStats (IsFileIn files) cmp v) c.from_residual.ensures.1 (c.in_err-test_version.ensures.answer files told) (λ h. elim h [
       | inl stopped ↦ inl stopped
       | inr refused ↦ inr (refused_stats cmp files v e refused)
     ])
@@ -37,5 +37,5 @@ returns-clause-stats g c files told =
     let found = counted.found in
     let fits : c.in_ok-test_version.field-0.entries ≤ 2 ^ 128 - 1 = omega arith in
     let still = told_still (tells c.args.folder.now) (tells middle) files c.test_version.ensures.reads.same told in
-    answers_since seen_stats (failed c.args.folder.now) (failed middle) (failed f.new.folder) f.result (λ answer. answer ≡ Ok (version_stats cmp v found.tables)) (IsTestedStats (IsHeldIn files) cmp v) (lawful_stats cmp files v found) c.test_version.ensures.device.later f.ensures.device.later
+    answers_since seen_stats (failed c.args.folder.now) (failed middle) (failed f.new.folder) f.result (λ answer. answer ≡ Ok (version_stats cmp v found.tables)) (IsTestedStats (IsFileIn files) cmp v) (lawful_stats cmp files v found) c.test_version.ensures.device.later f.ensures.device.later
     (f.ensures.stats files found.loaded found.tables still (loaded_told (tells middle) files (file_numbers cmp v) (Ok found.loaded) still found.there) found.lawful (subst (λ (n : ℕ). n ≤ 2 ^ 128 - 1) counted.entries fits))

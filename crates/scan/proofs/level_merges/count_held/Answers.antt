@@ -3,12 +3,12 @@ use Rattle.std.specs.Prelude.{OnOk}
 use Rattle.std.proofs.lemmas.List.{length-map}
 use Rattle.coding.proofs.Binds.{ok_is}
 use Rattle.block.specs.EncodedEntry.{Entry}
-use Rattle.merge.specs.Merged.{entries_of_lists}
+use Rattle.merge.specs.MergedLists.{entries_of_lists}
 use Rattle.split.specs.Ranges.{key_range}
 use Rattle.keep.specs.InRange.{entries_in}
 use Rattle.reads.specs.Tables.{NumberedContents}
 use Rattle.scan.specs.Counts.{AreAmountsCounted}
-use Rattle.scan.specs.Parts.{in_parts}
+use Rattle.scan.specs.ListParts.{in_parts}
 use Rattle.scan.proofs.ScanAnswers.{entries_each}
 use Rattle.scan.proofs.level_merges.count_held.Goals as goal
 

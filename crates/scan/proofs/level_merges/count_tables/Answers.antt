@@ -4,11 +4,11 @@ use Rattle.std.proofs.lemmas.Result.{on_ok_weaker}
 use Rattle.coding.proofs.Binds.{ok_is}
 use Rattle.block.specs.EncodedEntry.{Entry}
 use Rattle.folder.proofs.LoadingLemmas.{map_fused}
-use Rattle.merge.specs.Merged.{entries_of_lists, merged, sorted_entries}
+use Rattle.merge.specs.MergedLists.{entries_of_lists, merged, sorted_entries}
 use Rattle.split.specs.Ranges.{key_range}
 use Rattle.keep.specs.InRange.{entries_in}
 use Rattle.scan.specs.Counts.{AreAmountsCounted}
-use Rattle.scan.specs.Parts.{in_parts}
+use Rattle.scan.specs.ListParts.{in_parts}
 use Rattle.scan.proofs.SortedCounts.{sorted_counted}
 use Rattle.scan.proofs.level_merges.count_tables.Goals as goal
 

@@ -3,7 +3,7 @@ use Rattle.std.proofs.lemmas.List.{map-id}
 use Rattle.coding.proofs.Binds.{ok_is}
 use Rattle.ikey.specs.Key.{user_of}
 use Rattle.block.specs.EncodedEntry.{Entry}
-use Rattle.merge.specs.Merged.{entries_of_lists, merged, sorted_entries}
+use Rattle.merge.specs.MergedLists.{entries_of_lists, merged, sorted_entries}
 use Rattle.merge.proofs.SortedEntries.{filter-sorted}
 use Rattle.split.specs.Ranges.{key_range}
 use Rattle.keep.specs.InRange.{entries_in, is_in_range}

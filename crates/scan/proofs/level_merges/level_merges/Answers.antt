@@ -4,10 +4,10 @@ use Rattle.std.proofs.lemmas.List.{append-nil, get_or-map, length-map}
 use Rattle.std.proofs.lemmas.List.Sums.{sum_by-drop_more}
 use Rattle.block.specs.EncodedEntry.{Entry}
 use Rattle.edit.specs.declared.meta.FileMeta.{FileMeta}
-use Rattle.merge.specs.Merged.{entries_of_lists, merged, sorted_entries}
+use Rattle.merge.specs.MergedLists.{entries_of_lists, merged, sorted_entries}
 use Rattle.split.specs.Ranges.{key_range}
 use Rattle.keep.specs.InRange.{entries_in}
-use Rattle.scan.specs.Parts.{in_parts}
+use Rattle.scan.specs.ListParts.{in_parts}
 use Rattle.scan.proofs.LevelParts.{made_more, parts_more}
 use Rattle.scan.proofs.LevelTables.{sizes_of}
 use Rattle.scan.proofs.level_merges.level_merges.Goals as goal

@@ -1,7 +1,7 @@
 use Rattle.std.proofs.Common.{refl, false, sym, ◌∙◌}
-use Rattle.merge.specs.Merged.{merged}
+use Rattle.merge.specs.MergedLists.{merged}
 use Rattle.split.specs.Ranges.{key_range}
-use Rattle.keep.specs.Left.{is_before}
+use Rattle.keep.specs.CursorsLeft.{is_before}
 use Rattle.keep.proofs.RangeWalks.{fewer, first_some}
 use Rattle.scan.proofs.MergedRows.{skipped}
 use Rattle.scan.proofs.merge_walk.skip_before.Goals as goal

@@ -1,12 +1,12 @@
 use Rattle.std.proofs.Common.{◌≡◌, ℕ, true, List, ◌∷◌, drop, Option, None, Ok, refl, sym, ap, subst, ◌∙◌}
 use Rattle.block.specs.EncodedEntry.{Entry}
-use Rattle.merge.specs.Merged.{merged}
+use Rattle.merge.specs.MergedLists.{merged}
 use Rattle.split.specs.Ranges.{key_range}
 use Rattle.keep.specs.InRange.{entries_in}
-use Rattle.keep.specs.Left.{is_before}
+use Rattle.keep.specs.CursorsLeft.{is_before}
 use Rattle.keep.proofs.RangeWalks.{fewer, first_some, head_is}
 use Rattle.scan.specs.Row.{Row}
-use Rattle.scan.specs.EntryRows.{entry_rows, rows_behind, sorted_rows}
+use Rattle.scan.specs.EntryRows.{entry_rows, rows_after, sorted_rows}
 use Rattle.scan.specs.RowParts.{AreTelling, IsRowPart}
 use Rattle.scan.specs.declared.row_limit.RowLimit.{RowLimit}
 use Rattle.scan.proofs.MergedRows.{at_end, begun_after, merged_rows, walked_begun, walked_enough, walked_left, walked_more}
@@ -27,10 +27,10 @@ loop-merging-init g c =
     let tells = g.T.RowTaker.tells in
     let taker = c.args.taker.now in
     let rows = sorted_rows cmp range at c.args.merging.now in
-    let start : rows ≡ rows_behind at c.none-decided.result (entries_in cmp range (merged cmp c.skip_before.new.merging)) =
+    let start : rows ≡ rows_after at c.none-decided.result (entries_in cmp range (merged cmp c.skip_before.new.merging)) =
     merged_rows cmp g.met.C.Comparator.total range at c.args.merging.now
-    ∙ ap (rows_behind at None) (sym c.in_ok-skip_before.ensures.same)
-    ∙ ap (λ (d : Option (List ℕ)). rows_behind at d (entries_in cmp range (merged cmp c.skip_before.new.merging))) (sym c.none-decided.ensures) in
+    ∙ ap (rows_after at None) (sym c.in_ok-skip_before.ensures.same)
+    ∙ ap (λ (d : Option (List ℕ)). rows_after at d (entries_in cmp range (merged cmp c.skip_before.new.merging))) (sym c.none-decided.ensures) in
     record {
       part = subst (λ (rs : List Row). IsRowPart tells rows taker c.args.limit rs taker c.args.limit true) start (none_told tells rows taker taker c.args.limit refl);
       after = begun_after cmp g.met.C.Comparator.total range c.skip_before.new.merging c.in_ok-skip_before.ensures.begun;
@@ -114,5 +114,5 @@ returns-clause-told g c =
     let now = c.loop-merging in
     let none = at_end cmp g.met.C.Comparator.total range now.merging now.invariant.after (sym c.starts_before.ensures ∙ c.loop-merging-test.false) in (
       now.invariant.wanted,
-      subst (λ (es : List Entry). IsRowPart tells (sorted_rows cmp range at c.args.merging.now) c.args.taker.now c.args.limit (rows_behind at now.decided es) now.taker now.left true) none now.invariant.part,
+      subst (λ (es : List Entry). IsRowPart tells (sorted_rows cmp range at c.args.merging.now) c.args.taker.now c.args.limit (rows_after at now.decided es) now.taker now.left true) none now.invariant.part,
     )

@@ -3,7 +3,7 @@ use Rattle.std.specs.Prelude.{filter}
 use Rattle.coding.proofs.Binds.{ok_is}
 use Rattle.coding.proofs.Refusals.{only_memory}
 use Rattle.block.specs.EncodedEntry.{Entry}
-use Rattle.merge.specs.Merged.{entries_of_lists, sorted_entries}
+use Rattle.merge.specs.MergedLists.{entries_of_lists, sorted_entries}
 use Rattle.split.specs.Ranges.{key_range}
 use Rattle.edit.specs.declared.meta.FileMeta.{FileMeta}
 use Rattle.reads.specs.TableOrder.{lists_of_files}
@@ -13,7 +13,7 @@ use Rattle.checks.specs.NeededFiles.{is_file_needed}
 use Rattle.checks.proofs.FileTables.{lent_numbers}
 use Rattle.checks.proofs.FoundTables.{held_found, held_unfound}
 use Rattle.scan.specs.Row.{Row}
-use Rattle.scan.specs.EntryRows.{file_rows, rows_behind}
+use Rattle.scan.specs.EntryRows.{file_rows, rows_after}
 use Rattle.scan.specs.RowParts.{AreTelling, IsRowPart}
 use Rattle.scan.proofs.ScanAnswers.{found_rows, memory_handed, memory_stopped, never_unfound, stopped_or}
 use Rattle.scan.proofs.Told.{handed_begun, none_told, refused_first}
@@ -41,7 +41,7 @@ returns-then-is_none-clause-told g c files next tables told are own =
     let taker = c.args.taker.now in
     let none = c.is_empty-is_none.ensures c.if-is_none.true (entries_of_lists (lists_of_files tables (map now_of c.args.standing.now))) in (
       c.is_done-is_over.ensures.wanted c.if-is_over.false,
-      subst (λ (rs : List Row). IsRowPart tells rs taker c.args.limit [] taker c.args.limit true) (sym (ap (λ (es : List Entry). rows_behind at None (sorted_entries cmp es)) none)) (none_told tells [] taker taker c.args.limit refl),
+      subst (λ (rs : List Row). IsRowPart tells rs taker c.args.limit [] taker c.args.limit true) (sym (ap (λ (es : List Entry). rows_after at None (sorted_entries cmp es)) none)) (none_told tells [] taker taker c.args.limit refl),
     )
 
 pub returns-in_err-needed-clause-told : goal.returns-in_err-needed-clause-told

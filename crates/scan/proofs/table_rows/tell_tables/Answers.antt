@@ -2,11 +2,11 @@ use Rattle.std.proofs.Common.{◌≡◌, ℕ, List, map, None, refl, sym, ap, su
 use Rattle.std.proofs.lemmas.List.{map-id}
 use Rattle.coding.proofs.Binds.{ok_is}
 use Rattle.block.specs.EncodedEntry.{Entry}
-use Rattle.merge.specs.Merged.{entries_of_lists, sorted_entries}
+use Rattle.merge.specs.MergedLists.{entries_of_lists, sorted_entries}
 use Rattle.split.specs.Ranges.{key_range}
 use Rattle.keep.specs.InRange.{entries_in}
 use Rattle.scan.specs.Row.{Row}
-use Rattle.scan.specs.EntryRows.{rows_behind, sorted_rows}
+use Rattle.scan.specs.EntryRows.{rows_after, sorted_rows}
 use Rattle.scan.specs.RowParts.{AreTelling}
 use Rattle.scan.proofs.ScanAnswers.{entries_each}
 use Rattle.scan.proofs.Told.{handed_begun, refused_first}
@@ -42,4 +42,4 @@ returns-clause-told g c =
     let tables : map (λ t. t.now.entries) c.deref.result.now ≡ entries_each c.args.tables.now = ap (map (λ t. t.now.entries)) c.deref.ensures.value ∙ c.in_ok-lent.ensures.lent in
     let held : entries_in cmp range (entries_of_lists c.in_ok-merging.merging) ≡ entries_in cmp range (entries_of_lists (entries_each c.args.tables.now)) =
     ap (λ (ls : List (List Entry)). entries_in cmp range (entries_of_lists ls)) merging ∙ c.in_ok-cursors.ensures.held ∙ ap (λ (ls : List (List Entry)). entries_in cmp range (entries_of_lists ls)) tables in
-    subst (λ (rs : List Row). AreTelling tells rs c.args.taker.now c.args.limit c.tell_merged.new.taker c.tell_merged.result) (ap (λ (es : List Entry). rows_behind at None (sorted_entries cmp es)) held) c.tell_merged.ensures.told
+    subst (λ (rs : List Row). AreTelling tells rs c.args.taker.now c.args.limit c.tell_merged.new.taker c.tell_merged.result) (ap (λ (es : List Entry). rows_after at None (sorted_entries cmp es)) held) c.tell_merged.ensures.told

@@ -4,7 +4,7 @@ use Rattle.coding.specs.Answers.{UnlessMemory}
 use Rattle.folder.proofs.CountLemmas.{steady}
 use Rattle.folder.specs.Levels.{file_numbers}
 use Rattle.folder.specs.OpenAnswer.{IsStopped}
-use Rattle.folder.specs.ReadsAs.{IsHeldIn}
+use Rattle.folder.specs.ReadsAs.{IsFileIn}
 use Rattle.checks.specs.TestedTables.{IsTested}
 use Rattle.checks.proofs.FolderTests.{told_still}
 use Rattle.scan.proofs.ScanAnswers.{handed_err, lawful_tables, loaded_told, scan_since}
@@ -17,7 +17,7 @@ returns-in_err-test_version-clause-rows g c files told =
     let failed = g.F.Folder.failed in
     inr (
       refl,
-      handed_err c.from_residual.result c.in_err-test_version.field-0.0 (λ e. UnlessMemory e (IsStopped (failed c.args.folder.now) (failed c.test_version.new.folder) e ⊎ IsTested (IsHeldIn files) cmp v (Err e))) c.from_residual.ensures.1
+      handed_err c.from_residual.result c.in_err-test_version.field-0.0 (λ e. UnlessMemory e (IsStopped (failed c.args.folder.now) (failed c.test_version.new.folder) e ⊎ IsTested (IsFileIn files) cmp v (Err e))) c.from_residual.ensures.1
           (c.in_err-test_version.ensures.answer files told),
     )
 

@@ -3,7 +3,7 @@ use Rattle.folder.proofs.CountLemmas.{steady}
 use Rattle.folder.proofs.ReportLemmas.{reports_handed, reports_steady, reports_then}
 use Rattle.folder.specs.OpenAnswer.{IsStopped}
 use Rattle.folder.specs.Orders.{order_cmp, order_short_keys}
-use Rattle.folder.specs.ReadsAs.{IsHeldIn, ReadsAs}
+use Rattle.folder.specs.ReadsAs.{IsFileIn, ReadsAs}
 use Rattle.checks.specs.TestedTables.{IsTested}
 use Rattle.coding.specs.Answers.{UnlessMemory}
 use Rattle.coding.specs.declared.fault.Fault.{Fault}
@@ -40,7 +40,7 @@ returns-clause-left g c files told current opened =
     let tells = g.F.Folder.tells in
     let failed = g.F.Folder.failed in
     let cmp = order_cmp o.order in
-    let passed = has_passed cmp (IsHeldIn files) files o.version _ (told_themselves files) (c.in_ok-test_opened.ensures.answer files told) in
+    let passed = has_passed cmp (IsFileIn files) files o.version _ (told_themselves files) (c.in_ok-test_opened.ensures.answer files told) in
     let reads : ReadsAs cmp o.order o.version passed.loaded files = record { opened = opened; loaded = passed.held } in
     let count = steady (failed c.args.folder.now) (failed c.args.folder.now) (failed c.test_opened.new.folder) _ c.test_opened.result c.in_ok-test_opened.was refl c.test_opened.ensures.device.later c.test_opened.ensures.device.at_once in
     elim (c.compact_levels.ensures.left files passed.loaded passed.tables (told_still (tells c.args.folder.now) (tells c.test_opened.new.folder) files c.test_opened.ensures.reads.same told) current reads passed.sound) [
@@ -64,7 +64,7 @@ returns-in_err-is_at_bottom-clause-left g c files told current opened =
     let failed = g.F.Folder.failed in
     let e = c.in_err-is_at_bottom.field-0.0 in
     let h = c.from_residual.ensures.1 in
-    let why : Fault → Type 0 = λ x. IsStopped (failed c.args.folder.now) (failed c.args.folder.now) x ⊎ IsTested (IsHeldIn files) (order_cmp o.order) o.version (Err x) in
+    let why : Fault → Type 0 = λ x. IsStopped (failed c.args.folder.now) (failed c.args.folder.now) x ⊎ IsTested (IsFileIn files) (order_cmp o.order) o.version (Err x) in
     inl (record {
       unchanged = record { calls = refl; same = same_tells (g.F.Folder.tells c.args.folder.now); refused = no_value c.from_residual.result _ h };
       same = refl;

@@ -4,7 +4,7 @@ use Rattle.folder.proofs.OpeningLemmas.{hands_on}
 use Rattle.folder.proofs.ReportLemmas.{reports_handed, reports_then}
 use Rattle.folder.specs.Levels.{file_numbers}
 use Rattle.folder.specs.LoadedTables.{IsLoaded}
-use Rattle.folder.specs.ReadsAs.{IsHeldIn, ReadsAs}
+use Rattle.folder.specs.ReadsAs.{IsFileIn, ReadsAs}
 use Rattle.store.specs.Answers.{IsLoadedCompacted, IsVersionCompacted}
 use Rattle.store.specs.InputsCompaction.{IsInputsCompacted}
 use Rattle.store.specs.declared.compaction_step.CompactionStep.{CompactionStep}
@@ -19,10 +19,10 @@ returns-in_err-found-clause-answer g c files told current =
     let tells = g.F.Folder.tells c.args.folder.now in
     let failed = g.F.Folder.failed in
     let e = c.in_err-found.field-0.0 in
-    hands_on (λ (step : CompactionStep). step.lines.items) (failed c.args.folder.now) (failed c.args.folder.now) (failed c.test_and_hold.new.folder) c.from_residual.result e (IsTested (IsHeldIn files) cmp v)
+    hands_on (λ (step : CompactionStep). step.lines.items) (failed c.args.folder.now) (failed c.args.folder.now) (failed c.test_and_hold.new.folder) c.from_residual.result e (IsTested (IsFileIn files) cmp v)
     (IsVersionCompacted cmp g.C.Comparator.short_keys files v c.args.level c.args.settings.now)
     c.from_residual.ensures.1 (omega arith) c.test_and_hold.ensures.device.later (c.in_err-found.ensures.answer files told)
-    (λ h. test_refused cmp g.C.Comparator.short_keys (IsHeldIn files) files v c.args.level c.args.settings.now e (told_themselves files) h)
+    (λ h. test_refused cmp g.C.Comparator.short_keys (IsFileIn files) files v c.args.level c.args.settings.now e (told_themselves files) h)
 
 pub returns-in_err-found-clause-left : goal.returns-in_err-found-clause-left
 returns-in_err-found-clause-left g c files order told current named opened =
@@ -43,10 +43,10 @@ returns-clause-answer g c files told current =
     let s = c.args.settings.now in
     let tells = g.F.Folder.tells in
     let failed = g.F.Folder.failed in
-    let passed = has_passed cmp (IsHeldIn files) files v _ (told_themselves files) (c.in_ok-found.ensures.answer files told) in
+    let passed = has_passed cmp (IsFileIn files) files v _ (told_themselves files) (c.in_ok-found.ensures.answer files told) in
     let still = told_still (tells c.args.folder.now) (tells c.test_and_hold.new.folder) files c.test_and_hold.ensures.reads.same told in
     answers_behind (λ (step : CompactionStep). step.lines.items) (failed c.args.folder.now) (failed c.test_and_hold.new.folder) (failed c.compact_step.new.folder) c.compact_step.result
-    (IsLoaded (IsHeldIn files) (file_numbers cmp v)) (λ loaded. IsLoadedCompacted cmp short_keys v loaded level s) (λ _. IsInputsCompacted cmp short_keys files v level s) passed.loaded
+    (IsLoaded (IsFileIn files) (file_numbers cmp v)) (λ loaded. IsLoadedCompacted cmp short_keys v loaded level s) (λ _. IsInputsCompacted cmp short_keys files v level s) passed.loaded
     c.test_and_hold.ensures.device.later c.compact_step.ensures.device.later passed.held
     (λ answer h. c.inputs_suffice.ensures files v passed.loaded passed.tables level s answer passed.held passed.sound h)
     (c.compact_step.ensures.answer files still current (c.in_ok-found.ensures.held files told))
@@ -57,7 +57,7 @@ returns-clause-left g c files order told current named opened =
     let v = c.args.opened.now.version in
     let calls = g.F.Folder.calls in
     let tells = g.F.Folder.tells in
-    let passed = has_passed cmp (IsHeldIn files) files v _ (told_themselves files) (c.in_ok-found.ensures.answer files told) in
+    let passed = has_passed cmp (IsFileIn files) files v _ (told_themselves files) (c.in_ok-found.ensures.answer files told) in
     let still = told_still (tells c.args.folder.now) (tells c.test_and_hold.new.folder) files c.test_and_hold.ensures.reads.same told in
     let reads : ReadsAs cmp order v passed.loaded files = record { opened = opened; loaded = passed.held } in
     version_left order cmp g.C.Comparator.short_keys files v passed.loaded c.args.level c.args.settings.now

@@ -1,14 +1,14 @@
 use Rattle.std.proofs.Common.{Ok, IfOk, subst, sym}
 use Rattle.std.proofs.lemmas.List.Elements.{All-nil}
-use Rattle.compact.specs.Answered.{answer_in}
+use Rattle.compact.specs.AnswerIn.{answer_in}
 use Rattle.folder.specs.Levels.{file_numbers}
 use Rattle.folder.specs.LoadedTables.{IsLoaded}
 use Rattle.folder.specs.OpenAnswer.{FolderAnswers}
 use Rattle.folder.specs.Orders.{order_cmp, order_short_keys}
-use Rattle.folder.specs.ReadsAs.{IsHeldIn}
+use Rattle.folder.specs.ReadsAs.{IsFileIn}
 use Rattle.folder.specs.declared.order.Order.{Order}
 use Rattle.folder.specs.declared.order.Order.TheVariants.{Bytewise, Shortlex}
-use Rattle.pick.specs.Picked.{PickedInputs}
+use Rattle.pick.specs.PickedInputs.{PickedInputs}
 use Rattle.reads.specs.Tables.{NumberedContents}
 use Rattle.checks.specs.HeldTables.{AreHeldIn, IsTableIn}
 use Rattle.checks.specs.LawfulTables.{IsLawfulTables}
@@ -28,7 +28,7 @@ returns-in-Bytewise-clause-compacted g c files loaded tables told held sound =
     let is = c.in-Bytewise.is in
     subst (λ (order : Order). IfOk c.outcome_untested.result (λ o. (p : PickedInputs) × LevelCompaction order (order_cmp order) (order_short_keys order) v loaded c.args.level c.args.first c.args.settings.now p (answer_in o.outcome)))
     (sym is) (c.outcome_untested.ensures.compacted files Bytewise loaded tables told (subst (AreHeldIn (order_cmp Bytewise) files) (sym c.none-none.ensures) (All-nil (λ (t : NumberedContents). IsTableIn (order_cmp Bytewise) files t.number t.contents)))
-    (subst (λ (order : Order). IsLoaded (IsHeldIn files) (file_numbers (order_cmp order) v) (Ok loaded)) is held) (subst (λ (order : Order). IsLawfulTables (order_cmp order) v loaded (Ok tables)) is sound))
+    (subst (λ (order : Order). IsLoaded (IsFileIn files) (file_numbers (order_cmp order) v) (Ok loaded)) is held) (subst (λ (order : Order). IsLawfulTables (order_cmp order) v loaded (Ok tables)) is sound))
 
 pub returns-in-Shortlex-clause-answer : goal.returns-in-Shortlex-clause-answer
 returns-in-Shortlex-clause-answer g c files told =
@@ -43,4 +43,4 @@ returns-in-Shortlex-clause-compacted g c files loaded tables told held sound =
     let is = c.in-Shortlex.is in
     subst (λ (order : Order). IfOk c.outcome_untested-in-Shortlex.result (λ o. (p : PickedInputs) × LevelCompaction order (order_cmp order) (order_short_keys order) v loaded c.args.level c.args.first c.args.settings.now p (answer_in o.outcome)))
     (sym is) (c.outcome_untested-in-Shortlex.ensures.compacted files Shortlex loaded tables told (subst (AreHeldIn (order_cmp Shortlex) files) (sym c.none-none-in-Shortlex.ensures) (All-nil (λ (t : NumberedContents). IsTableIn (order_cmp Shortlex) files t.number t.contents)))
-    (subst (λ (order : Order). IsLoaded (IsHeldIn files) (file_numbers (order_cmp order) v) (Ok loaded)) is held) (subst (λ (order : Order). IsLawfulTables (order_cmp order) v loaded (Ok tables)) is sound))
+    (subst (λ (order : Order). IsLoaded (IsFileIn files) (file_numbers (order_cmp order) v) (Ok loaded)) is held) (subst (λ (order : Order). IsLawfulTables (order_cmp order) v loaded (Ok tables)) is sound))

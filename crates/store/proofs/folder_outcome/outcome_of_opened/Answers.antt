@@ -1,13 +1,13 @@
 use Rattle.std.proofs.Common.{ℕ, List, Ok, IfOk, subst, sym}
-use Rattle.compact.specs.Answered.{answer_in}
+use Rattle.compact.specs.AnswerIn.{answer_in}
 use Rattle.folder.specs.Levels.{file_numbers}
 use Rattle.folder.specs.LoadedTables.{IsLoaded}
 use Rattle.folder.specs.OpenAnswer.{FolderAnswers}
 use Rattle.folder.specs.Orders.{order_cmp, order_short_keys}
-use Rattle.folder.specs.ReadsAs.{IsHeldIn}
+use Rattle.folder.specs.ReadsAs.{IsFileIn}
 use Rattle.folder.specs.declared.order.Order.{Order}
 use Rattle.folder.specs.declared.order.Order.TheVariants.{Bytewise, Shortlex}
-use Rattle.pick.specs.Picked.{PickedInputs}
+use Rattle.pick.specs.PickedInputs.{PickedInputs}
 use Rattle.store.specs.Outcome.{IsOutcomeOfVersion, LevelCompaction}
 use Rattle.store.proofs.folder_outcome.outcome_of_opened.Goals as goal
 
@@ -21,7 +21,7 @@ returns-in-Bytewise-clause-answer g c files told =
 pub returns-in-Bytewise-clause-compacted : goal.returns-in-Bytewise-clause-compacted
 returns-in-Bytewise-clause-compacted g c files told =
     let v = c.args.opened.now.version in
-    subst (λ (order : Order). IfOk c.outcome_tested.result (λ o. (loaded : List (ℕ × List ℕ)) × IsLoaded (IsHeldIn files) (file_numbers (order_cmp order) v) (Ok loaded)
+    subst (λ (order : Order). IfOk c.outcome_tested.result (λ o. (loaded : List (ℕ × List ℕ)) × IsLoaded (IsFileIn files) (file_numbers (order_cmp order) v) (Ok loaded)
     × ((p : PickedInputs) × LevelCompaction order (order_cmp order) (order_short_keys order) v loaded c.args.level c.args.first c.args.settings.now p (answer_in o.outcome))))
     (sym c.in-Bytewise.is) (c.outcome_tested.ensures.compacted files Bytewise told)
 
@@ -35,6 +35,6 @@ returns-in-Shortlex-clause-answer g c files told =
 pub returns-in-Shortlex-clause-compacted : goal.returns-in-Shortlex-clause-compacted
 returns-in-Shortlex-clause-compacted g c files told =
     let v = c.args.opened.now.version in
-    subst (λ (order : Order). IfOk c.outcome_tested-in-Shortlex.result (λ o. (loaded : List (ℕ × List ℕ)) × IsLoaded (IsHeldIn files) (file_numbers (order_cmp order) v) (Ok loaded)
+    subst (λ (order : Order). IfOk c.outcome_tested-in-Shortlex.result (λ o. (loaded : List (ℕ × List ℕ)) × IsLoaded (IsFileIn files) (file_numbers (order_cmp order) v) (Ok loaded)
     × ((p : PickedInputs) × LevelCompaction order (order_cmp order) (order_short_keys order) v loaded c.args.level c.args.first c.args.settings.now p (answer_in o.outcome))))
     (sym c.in-Shortlex.is) (c.outcome_tested-in-Shortlex.ensures.compacted files Shortlex told)

@@ -2,14 +2,14 @@ use Rattle.std.proofs.Common.{◌≡◌, ℕ, List, Result, Ok, arith}
 use Rattle.std.proofs.lemmas.Result.{IfOk-weaker}
 use Rattle.coding.specs.Answers.{IsThen, ◌>>=◌}
 use Rattle.coding.specs.declared.fault.Fault.{Fault}
-use Rattle.compact.specs.Answered.{answer_in}
+use Rattle.compact.specs.AnswerIn.{answer_in}
 use Rattle.folder.proofs.OpeningLemmas.{hands_on}
 use Rattle.folder.proofs.ReportLemmas.{reads_then, reports_handed, reports_then}
 use Rattle.folder.specs.Levels.{file_numbers}
 use Rattle.folder.specs.LoadedTables.{IsLoaded}
-use Rattle.folder.specs.ReadsAs.{IsHeldIn}
+use Rattle.folder.specs.ReadsAs.{IsFileIn}
 use Rattle.checks.specs.TestedTables.{IsTested}
-use Rattle.pick.specs.Picked.{IsInputsAnswer, PickedInputs}
+use Rattle.pick.specs.PickedInputs.{IsInputsAnswer, PickedInputs}
 use Rattle.request.specs.OneThread.{Answer}
 use Rattle.store.specs.FolderRequest.{compaction_from}
 use Rattle.store.specs.Outcome.{IsLoadedOutcome, IsOutcomeOfInputs, IsOutcomeOfVersion, LevelCompaction, outcome_told}
@@ -25,11 +25,11 @@ returns-in_err-found-clause-answer g c files told =
     let s = c.args.settings.now in
     let failed = g.F.Folder.failed in
     let e = c.in_err-found.field-0.0 in
-    hands_on (λ o. (answer_in o.outcome, o.lines.items)) (failed c.args.folder.now) (failed c.args.folder.now) (failed c.test_and_hold.new.folder) c.from_residual.result e (IsTested (IsHeldIn files) cmp v)
+    hands_on (λ o. (answer_in o.outcome, o.lines.items)) (failed c.args.folder.now) (failed c.args.folder.now) (failed c.test_and_hold.new.folder) c.from_residual.result e (IsTested (IsFileIn files) cmp v)
     (IsOutcomeOfVersion c.args.first cmp keys files v c.args.level s)
     c.from_residual.ensures.1 (omega arith) c.test_and_hold.ensures.device.later (c.in_err-found.ensures.answer files told)
     (λ h. test_ends cmp (λ loaded tables. IsThen (IsInputsAnswer cmp v c.args.level) (λ p (a : Result (Answer × List ℕ) Fault). a ≡ (compaction_from c.args.first cmp keys v loaded p s >>= λ x. Ok (outcome_told p x))))
-    (IsHeldIn files) files v e (told_themselves files) h)
+    (IsFileIn files) files v e (told_themselves files) h)
 
 pub returns-in_err-found-clause-device : goal.returns-in_err-found-clause-device
 returns-in_err-found-clause-device g c = reports_handed c.from_residual.result c.in_err-found.was c.test_and_hold.ensures.device c.from_residual.ensures.1
@@ -42,9 +42,9 @@ returns-clause-answer g c files told =
     let s = c.args.settings.now in
     let tells = g.F.Folder.tells in
     let failed = g.F.Folder.failed in
-    let passed = has_passed cmp (IsHeldIn files) files v _ (told_themselves files) (c.in_ok-found.ensures.answer files told) in
+    let passed = has_passed cmp (IsFileIn files) files v _ (told_themselves files) (c.in_ok-found.ensures.answer files told) in
     let still = told_still (tells c.args.folder.now) (tells c.test_and_hold.new.folder) files c.test_and_hold.ensures.reads.same told in
-    answers_behind (λ o. (answer_in o.outcome, o.lines.items)) (failed c.args.folder.now) (failed c.test_and_hold.new.folder) (failed c.outcome_untested.new.folder) c.outcome_untested.result (IsLoaded (IsHeldIn files) (file_numbers cmp v))
+    answers_behind (λ o. (answer_in o.outcome, o.lines.items)) (failed c.args.folder.now) (failed c.test_and_hold.new.folder) (failed c.outcome_untested.new.folder) c.outcome_untested.result (IsLoaded (IsFileIn files) (file_numbers cmp v))
     (λ loaded. IsLoadedOutcome c.args.first cmp keys v loaded c.args.level s) (λ loaded. IsOutcomeOfInputs c.args.first cmp keys files v c.args.level s) passed.loaded
     c.test_and_hold.ensures.device.later c.outcome_untested.ensures.device.later passed.held
     (λ a h. c.outcome_suffices.ensures c.args.first files v passed.loaded passed.tables c.args.level s a passed.held passed.sound h) (c.outcome_untested.ensures.answer files still (c.in_ok-found.ensures.held files told))
@@ -56,10 +56,10 @@ returns-clause-compacted g c files order told =
     let v = c.args.version.now in
     let s = c.args.settings.now in
     let tells = g.F.Folder.tells in
-    let passed = has_passed cmp (IsHeldIn files) files v _ (told_themselves files) (c.in_ok-found.ensures.answer files told) in
+    let passed = has_passed cmp (IsFileIn files) files v _ (told_themselves files) (c.in_ok-found.ensures.answer files told) in
     let still = told_still (tells c.args.folder.now) (tells c.test_and_hold.new.folder) files c.test_and_hold.ensures.reads.same told in
     IfOk-weaker c.outcome_untested.result (λ o. (p : PickedInputs) × LevelCompaction order cmp keys v passed.loaded c.args.level c.args.first s p (answer_in o.outcome))
-    (λ o. (loaded : List (ℕ × List ℕ)) × IsLoaded (IsHeldIn files) (file_numbers cmp v) (Ok loaded) × ((p : PickedInputs) × LevelCompaction order cmp keys v loaded c.args.level c.args.first s p (answer_in o.outcome)))
+    (λ o. (loaded : List (ℕ × List ℕ)) × IsLoaded (IsFileIn files) (file_numbers cmp v) (Ok loaded) × ((p : PickedInputs) × LevelCompaction order cmp keys v loaded c.args.level c.args.first s p (answer_in o.outcome)))
     (λ o h. (passed.loaded, passed.held, h)) (c.outcome_untested.ensures.compacted files order passed.loaded passed.tables still (c.in_ok-found.ensures.held files told) passed.held passed.sound)
 
 pub returns-clause-device : goal.returns-clause-device

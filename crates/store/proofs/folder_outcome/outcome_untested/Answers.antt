@@ -1,11 +1,11 @@
 use Rattle.std.proofs.Common.{◌≡◌, ℕ, List, Ok, Err, sym, ap, subst, ◌∙◌, arith}
 use Rattle.coding.proofs.Binds.{ok_is}
-use Rattle.compact.specs.Answered.{answer_in}
+use Rattle.compact.specs.AnswerIn.{answer_in}
 use Rattle.folder.proofs.OpeningLemmas.{hands_on, refuses}
 use Rattle.folder.proofs.ReportLemmas.{reports_after, reports_handed}
 use Rattle.install.specs.Install.{tables_in}
-use Rattle.pick.specs.Picked.{PickedInputs, picked_in}
-use Rattle.pick.specs.declared.picked.InputFile.{InputFile}
+use Rattle.pick.specs.PickedInputs.{PickedInputs, picked_in}
+use Rattle.pick.specs.declared.picked_inputs.InputFile.{InputFile}
 use Rattle.request.specs.OneThread.{Answer}
 use Rattle.store.specs.InputLaws.{with_inputs}
 use Rattle.store.specs.InputsCompaction.{IsInputsTold}

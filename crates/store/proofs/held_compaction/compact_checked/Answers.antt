@@ -6,13 +6,13 @@ use Rattle.coding.specs.Answers.{EqualOrMemory}
 use Rattle.coding.specs.declared.fault.Fault.{Fault}
 use Rattle.coding.specs.declared.fault.FaultName.TheVariants.{SplitCount}
 use Rattle.table.specs.TableContents.{Contents}
-use Rattle.table.specs.ReadingSteps.{test_result}
-use Rattle.pick.specs.Picked.{picked_in}
-use Rattle.pick.specs.declared.picked.Inputs.{Inputs}
+use Rattle.table.specs.TestResult.{test_result}
+use Rattle.pick.specs.PickedInputs.{picked_in}
+use Rattle.pick.specs.declared.picked_inputs.Inputs.{Inputs}
 use Rattle.request.specs.Inputs.{inputs_reading}
 use Rattle.request.specs.OneThread.{Answer, compaction_result}
 use Rattle.request.specs.Request.{RequestView, request_in}
-use Rattle.compact.specs.Answered.{answer_in}
+use Rattle.compact.specs.AnswerIn.{answer_in}
 use Rattle.store.specs.FolderRequest.{numbered_request}
 use Rattle.store.proofs.Compactions.{answer_behind, refused_behind}
 use Rattle.store.proofs.held_compaction.compact_checked.Goals as goal

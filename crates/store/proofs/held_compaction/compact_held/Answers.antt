@@ -3,10 +3,10 @@ use Rattle.coding.specs.Answers.{UnlessMemory, ◌>>=◌}
 use Rattle.coding.specs.declared.fault.Fault.{Fault}
 use Rattle.table.specs.TableContents.{Contents}
 use Rattle.install.specs.Install.{table_bytes_of}
-use Rattle.compact.specs.Answered.{answer_in}
-use Rattle.pick.specs.Picked.{PickedInputs, picked_in}
-use Rattle.pick.specs.declared.picked.InputFile.{InputFile}
-use Rattle.checks.specs.HeldTables.{held_bytes}
+use Rattle.compact.specs.AnswerIn.{answer_in}
+use Rattle.pick.specs.PickedInputs.{PickedInputs, picked_in}
+use Rattle.pick.specs.declared.picked_inputs.InputFile.{InputFile}
+use Rattle.checks.specs.HeldBytes.{held_bytes}
 use Rattle.checks.proofs.LawfulLemmas.{handed_on}
 use Rattle.request.specs.Inputs.{inputs_reading}
 use Rattle.request.specs.OneThread.{Answer}

@@ -5,11 +5,11 @@ use Rattle.coding.specs.Answers.{FailsOrMemory, ◌>>=◌}
 use Rattle.coding.specs.declared.fault.Fault.{Fault}
 use Rattle.coding.specs.declared.fault.FaultName.TheVariants.{SplitCount}
 use Rattle.folder.proofs.ReportLemmas.{reports_steady}
-use Rattle.table.specs.ReadingSteps.{test_result}
+use Rattle.table.specs.TestResult.{test_result}
 use Rattle.table.specs.TableContents.{Contents}
-use Rattle.pick.specs.Picked.{picked_in}
-use Rattle.pick.specs.declared.picked.InputFile.{InputFile}
-use Rattle.pick.specs.declared.picked.Inputs.{Inputs}
+use Rattle.pick.specs.PickedInputs.{picked_in}
+use Rattle.pick.specs.declared.picked_inputs.InputFile.{InputFile}
+use Rattle.pick.specs.declared.picked_inputs.Inputs.{Inputs}
 use Rattle.request.specs.Inputs.{inputs_reading}
 use Rattle.request.specs.OneThread.{Answer, compaction_result}
 use Rattle.request.specs.Request.{RequestView, request_in}

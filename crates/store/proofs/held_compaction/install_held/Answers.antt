@@ -6,9 +6,9 @@ use Rattle.folder.proofs.OpeningLemmas.{refuses}
 use Rattle.folder.proofs.ReportLemmas.{reports_steady}
 use Rattle.table.specs.TableContents.{Contents}
 use Rattle.install.specs.Install.{table_bytes_of}
-use Rattle.pick.specs.Picked.{picked_in}
-use Rattle.pick.specs.declared.picked.InputFile.{InputFile}
-use Rattle.checks.specs.HeldTables.{held_bytes}
+use Rattle.pick.specs.PickedInputs.{picked_in}
+use Rattle.pick.specs.declared.picked_inputs.InputFile.{InputFile}
+use Rattle.checks.specs.HeldBytes.{held_bytes}
 use Rattle.request.specs.Inputs.{inputs_reading}
 use Rattle.store.specs.FolderRequest.{compaction_from}
 use Rattle.store.specs.InputsCompaction.{IsReadTold, input_tables, installed_lines}

@@ -1,8 +1,8 @@
 use Rattle.std.proofs.Common.{None, sym, ◌∙◌, arith, inl}
 use Rattle.folder.proofs.OpeningLemmas.{hands_on, answers_since}
 use Rattle.folder.proofs.ReportLemmas.{reports_handed, reports_then}
-use Rattle.pick.specs.Picked.{picked_in}
-use Rattle.checks.specs.HeldTables.{held_bytes}
+use Rattle.pick.specs.PickedInputs.{picked_in}
+use Rattle.checks.specs.HeldBytes.{held_bytes}
 use Rattle.store.specs.FoundInputs.{IsInputsFound}
 use Rattle.store.specs.InputsCompaction.{IsInputsCompacted, IsReadTold, installed_lines}
 use Rattle.store.proofs.Compactions.{is_compacted, picked_of}

@@ -7,7 +7,7 @@ use Rattle.coding.specs.declared.fault.Fault.{Fault}
 use Rattle.table.specs.TableContents.{Contents}
 use Rattle.reads.specs.Tables.{NumberedContents}
 use Rattle.checks.specs.TableReadings.{tables_reading}
-use Rattle.checks.specs.HeldTables.{held_bytes}
+use Rattle.checks.specs.HeldBytes.{held_bytes}
 use Rattle.store.specs.InputsCompaction.{are_stated, input_tables}
 use Rattle.store.proofs.CheckedInputs.{held_reading, lent_refused, tables_are}
 use Rattle.store.proofs.input_tables.stated_tables.Goals as goal

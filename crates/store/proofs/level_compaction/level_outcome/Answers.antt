@@ -1,10 +1,10 @@
 use Rattle.std.proofs.Common.{Result, Ok, Err, sym, ◌∙◌, arith}
 use Rattle.coding.specs.declared.fault.Fault.{Fault}
-use Rattle.compact.specs.Answered.{answer_in}
+use Rattle.compact.specs.AnswerIn.{answer_in}
 use Rattle.folder.proofs.OpeningLemmas.{hands_on, refuses}
 use Rattle.folder.proofs.ReportLemmas.{reports_after, reports_handed}
-use Rattle.pick.specs.Picked.{PickedInputs, picked_in}
-use Rattle.checks.specs.HeldTables.{held_bytes}
+use Rattle.pick.specs.PickedInputs.{PickedInputs, picked_in}
+use Rattle.checks.specs.HeldBytes.{held_bytes}
 use Rattle.request.specs.OneThread.{Answer}
 use Rattle.store.specs.FoundInputs.{IsInputsFound}
 use Rattle.store.specs.InputLaws.{with_inputs}

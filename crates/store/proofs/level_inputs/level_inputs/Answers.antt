@@ -3,9 +3,10 @@ use Rattle.coding.proofs.Binds.{ok_is}
 use Rattle.coding.specs.Answers.{IsThen}
 use Rattle.folder.proofs.OpeningLemmas.{hands_on, refuses}
 use Rattle.folder.proofs.ReportLemmas.{reports_after, reports_handed, reports_steady}
-use Rattle.pick.specs.Picked.{IsInputsAnswer, PickedInputs, picked_in}
+use Rattle.pick.specs.PickedInputs.{IsInputsAnswer, PickedInputs, picked_in}
 use Rattle.reads.specs.Tables.{NumberedContents}
-use Rattle.checks.specs.HeldTables.{IsCheckedAnswer, held_bytes}
+use Rattle.checks.specs.HeldTables.{IsCheckedAnswer}
+use Rattle.checks.specs.HeldBytes.{held_bytes}
 use Rattle.store.specs.FoundInputs.{IsInputsFound}
 use Rattle.store.specs.InputsCompaction.{IsOrderlyAnswer, input_numbers}
 use Rattle.store.proofs.Compactions.{picked_of}

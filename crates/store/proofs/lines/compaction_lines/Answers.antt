@@ -2,7 +2,7 @@ use Rattle.std.proofs.Common.{List, ℕ, sym, ap, ◌∙◌}
 use Rattle.std.specs.Global.{Vec}
 use Rattle.coding.proofs.Binds.{ok_is}
 use Rattle.install.specs.Install.{tables_in}
-use Rattle.compact.specs.Grouped.{table_sizes}
+use Rattle.compact.specs.GroupedAnswer.{table_sizes}
 use Rattle.store.proofs.lines.compaction_lines.Goals as goal
 
 pub returns : goal.returns

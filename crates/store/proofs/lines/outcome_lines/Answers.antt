@@ -5,7 +5,7 @@ use Rattle.coding.proofs.Binds.{ok_is}
 use Rattle.install.specs.Install.{tables_in}
 use Rattle.request.specs.EditOf.{deletions_of}
 use Rattle.store.specs.Lines.{deleted_line, size_line}
-use Rattle.compact.specs.Grouped.{table_sizes}
+use Rattle.compact.specs.GroupedAnswer.{table_sizes}
 use Rattle.store.proofs.lines.outcome_lines.Goals as goal
 
 pub returns : goal.returns

@@ -1,6 +1,6 @@
 use Rattle.std.proofs.Common.{◌≡◌, take}
 use Rattle.install.specs.Install.{tables_in}
-use Rattle.compact.specs.Grouped.{table_sizes}
+use Rattle.compact.specs.GroupedAnswer.{table_sizes}
 use Rattle.store.proofs.lines.sizes_of.Given as goal
 
 abbrev pub invariant-loop-number : goal.invariant-loop-number

@@ -7,8 +7,8 @@ use Rattle.coding.specs.declared.fault.Fault.{Fault}
 use Rattle.folder.proofs.OpeningLemmas.{hands_on, refuses}
 use Rattle.folder.proofs.ReportLemmas.{reports_after, reports_handed, reports_steady}
 use Rattle.folder.specs.Names.{current_text}
-use Rattle.pick.specs.Picked.{IsInputsAnswer, PickedInputs, picked_in}
-use Rattle.pick.specs.declared.picked.InputFile.{InputFile}
+use Rattle.pick.specs.PickedInputs.{IsInputsAnswer, PickedInputs, picked_in}
+use Rattle.pick.specs.declared.picked_inputs.InputFile.{InputFile}
 use Rattle.store.specs.FilesToCompact.{AreFilesToCompact, names_there}
 use Rattle.store.specs.InputsCompaction.{IsOrderlyAnswer, input_numbers}
 use Rattle.store.proofs.Flow.{first_passed, first_refused, no_refusal}

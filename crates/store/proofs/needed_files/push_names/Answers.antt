@@ -5,7 +5,7 @@ use Rattle.coding.specs.declared.fault.Fault.{Fault}
 use Rattle.folder.proofs.CountLemmas.{steady}
 use Rattle.folder.proofs.OpeningLemmas.{hands_on}
 use Rattle.folder.proofs.ReportLemmas.{reads_then, reports_handed, reports_on}
-use Rattle.pick.specs.declared.picked.InputFile.{InputFile}
+use Rattle.pick.specs.declared.picked_inputs.InputFile.{InputFile}
 use Rattle.store.specs.InputsCompaction.{input_numbers}
 use Rattle.store.specs.NameLines.{line_after, lines_after}
 use Rattle.store.proofs.Flow.{told_still}

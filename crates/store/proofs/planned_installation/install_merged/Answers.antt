@@ -1,6 +1,6 @@
 use Rattle.std.proofs.Common.{◌≡◌, ℕ, List, Some, Result, Ok, codes, refl, ap, subst, ◌∙◌, arith, inl}
 use Rattle.coding.specs.declared.fault.Fault.{Fault}
-use Rattle.compact.specs.Grouped.{joined_answer}
+use Rattle.compact.specs.GroupedAnswer.{joined_answer}
 use Rattle.folder.proofs.ReportLemmas.{reports_after, reports_handed, reports_steady}
 use Rattle.folder.specs.Names.{current_text}
 use Rattle.install.specs.Install.{manifest_bytes}

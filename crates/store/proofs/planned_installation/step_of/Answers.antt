@@ -1,6 +1,6 @@
 use Rattle.std.proofs.Common.{sym, ◌∙◌}
 use Rattle.coding.proofs.Binds.{ok_is}
-use Rattle.compact.specs.Grouped.{joined_answer}
+use Rattle.compact.specs.GroupedAnswer.{joined_answer}
 use Rattle.store.proofs.planned_installation.step_of.Goals as goal
 
 pub returns-clause-lines : goal.returns-clause-lines

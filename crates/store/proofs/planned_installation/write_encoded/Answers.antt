@@ -4,7 +4,7 @@ use Rattle.table.specs.Table.{table}
 use Rattle.cut.specs.Plan.{plan_tables}
 use Rattle.folder.proofs.ReportLemmas.{stopped_device}
 use Rattle.install.specs.Install.{table_calls}
-use Rattle.store.specs.CallRun.{IsRunOf}
+use Rattle.store.specs.CallsAnswer.{IsCallsAnswer}
 use Rattle.store.proofs.planned_installation.write_encoded.Goals as goal
 
 pub returns : goal.returns
@@ -16,7 +16,7 @@ returns g c group at =
     let plan = c.group.result.now in
     let made : List (ℕ × List ℕ) = plan_tables (table g.C.Comparator.cmp g.C.Comparator.short_keys plan.options) plan.outputs in
     let same : made ≡ group = same_Some made group (sym c.group.ensures ∙ at) in
-    subst (λ (ts : List (ℕ × List ℕ)). IsRunOf g.F.Folder (table_calls (ts ∷ [])) a n r) same
+    subst (λ (ts : List (ℕ × List ℕ)). IsCallsAnswer g.F.Folder (table_calls (ts ∷ [])) a n r) same
     (record {
       runs = c.write_source_group.ensures.runs;
       refused = c.write_source_group.ensures.refused;

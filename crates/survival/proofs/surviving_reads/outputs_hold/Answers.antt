@@ -1,7 +1,7 @@
 use Rattle.std.proofs.Common.{refl}
 use Rattle.ikey.proofs.Shortened.{internal_separator_of-between, internal_successor_of-above, IsInternalKey-internal_separator_of, IsInternalKey-internal_successor_of}
 use Rattle.table.specs.Table.{index_keys, table}
-use Rattle.table.specs.ReadingBack.{ReadBackLaw}
+use Rattle.table.specs.ReadBackLaw.{ReadBackLaw}
 use Rattle.table.proofs.ReadBack.{KeepOrder, is_table}
 use Rattle.survival.proofs.Outputs as lemma
 use Rattle.survival.proofs.surviving_reads.outputs_hold.Goals as goal

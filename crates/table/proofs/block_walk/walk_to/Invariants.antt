@@ -1,6 +1,6 @@
 use Rattle.std.proofs.Common.{◌≡◌, length}
-use Rattle.table.specs.ReadingCursors.{entries_from}
-use Rattle.table.specs.ReadingEntries.{HaveKeys}
+use Rattle.table.specs.EntriesFrom.{entries_from}
+use Rattle.table.specs.EntryTests.{HaveKeys}
 use Rattle.table.proofs.block_walk.walk_to.Given as goal
 
 abbrev pub invariant-loop-entries : goal.invariant-loop-entries

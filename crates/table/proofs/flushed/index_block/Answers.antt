@@ -6,7 +6,7 @@ use Rattle.block.specs.BuilderView.{BlockBuilding, with_entry}
 use Rattle.frame.specs.Handle.{handle_bytes}
 use Rattle.table.specs.declared.flushed_block.FlushedBlock.{FlushedBlock}
 use Rattle.table.specs.Table.{handle_entry}
-use Rattle.table.specs.Flushed.{index_entries}
+use Rattle.table.specs.FlushedBlocks.{index_entries}
 use Rattle.table.proofs.Indexes.{length-index_part, index_fits}
 use Rattle.table.proofs.flushed.index_block.Goals as goal
 

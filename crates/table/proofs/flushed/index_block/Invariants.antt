@@ -1,5 +1,5 @@
 use Rattle.std.proofs.Common.{◌≡◌, take}
-use Rattle.table.specs.Flushed.{index_entries}
+use Rattle.table.specs.FlushedBlocks.{index_entries}
 use Rattle.table.proofs.flushed.index_block.Given as goal
 
 abbrev pub invariant-loop-entry : goal.invariant-loop-entry

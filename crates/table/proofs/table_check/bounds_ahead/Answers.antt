@@ -9,10 +9,10 @@ use Rattle.coding.proofs.Binds.{done, ok_is}
 use Rattle.coding.proofs.Refusals.{FailsOrMemory-from}
 use Rattle.block.specs.EncodedEntry.{Entry}
 use Rattle.block.specs.BuilderView.{last_key}
-use Rattle.block.specs.ReadingBlocks.{block_reading}
-use Rattle.table.specs.ReadingEntries.{first_key, entry_test, entries_test}
+use Rattle.block.specs.BlockReading.{block_reading}
+use Rattle.table.specs.EntryTests.{first_key, entry_test, entries_test}
 use Rattle.table.specs.BoundsReading.{bounds_reading}
-use Rattle.table.specs.TallySteps.{tally_behind, tally_with}
+use Rattle.table.specs.TallySteps.{tally_after, tally_with}
 use Rattle.table.specs.declared.bounds.Bounds.{Bounds}
 use Rattle.table.specs.declared.tally.Tally.{Tally}
 use Rattle.ikey.specs.declared.key.InternalKey.{InternalKey}
@@ -119,8 +119,8 @@ loop-largest-init g c =
     let tests : entries_test cmp (Some k) (drop 1 entries) ≡ entries_test cmp before entries = entries_go_on cmp before entries k v (entries_test cmp before entries) start c.in_ok-first.ensures.test refl in
     let last : last_key k (drop 1 entries) ≡ last_key [] entries = last_goes_on [] entries k v (last_key [] entries) start refl in
     let with_key : c.with-tally.result ≡ tally_with c.args.so_far before k = c.with-tally.ensures ∙ ap (tally_with c.args.so_far before) c.in_ok-first.ensures.key in
-    let tally : tally_behind c.with-tally.result (Some k) (drop 1 entries) ≡ tally_behind c.args.so_far before entries =
-    ap (λ (t : Tally). tally_behind t (Some k) (drop 1 entries)) with_key ∙ tally_goes_on c.args.so_far before entries k v (tally_behind c.args.so_far before entries) start refl in
+    let tally : tally_after c.with-tally.result (Some k) (drop 1 entries) ≡ tally_after c.args.so_far before entries =
+    ap (λ (t : Tally). tally_after t (Some k) (drop 1 entries)) with_key ∙ tally_goes_on c.args.so_far before entries k v (tally_after c.args.so_far before entries) start refl in
     record {
       bytes = ap (λ walk. walk.bytes) ok;
       all = ap (λ walk. walk.all) ok;
@@ -148,8 +148,8 @@ loop-largest-preserved g c =
     let last_is : option_map (λ (key : InternalKey). key.bytes.now) (Some c.as_key.result) ≡ Some c.loop-largest.largest = ap (λ (b : List ℕ). Some b) c.as_key.ensures in
     let with_key : c.with-tally-in-loop-largest.result ≡ tally_with c.loop-largest.tally (Some c.loop-largest.largest) k =
     c.with-tally-in-loop-largest.ensures ∙ ap (λ (b : Option (List ℕ)). tally_with c.loop-largest.tally b c.in_ok-key.key.bytes.now) last_is ∙ ap (tally_with c.loop-largest.tally (Some c.loop-largest.largest)) c.in_ok-key.ensures.key in
-    let tally : tally_behind c.with-tally-in-loop-largest.result (Some k) (drop 1 q) ≡ tally_behind c.args.so_far before entries =
-    ap (λ (t : Tally). tally_behind t (Some k) (drop 1 q)) with_key ∙ tally_goes_on c.loop-largest.tally (Some c.loop-largest.largest) q k v (tally_behind c.args.so_far before entries) first kept.tally in
+    let tally : tally_after c.with-tally-in-loop-largest.result (Some k) (drop 1 q) ≡ tally_after c.args.so_far before entries =
+    ap (λ (t : Tally). tally_after t (Some k) (drop 1 q)) with_key ∙ tally_goes_on c.loop-largest.tally (Some c.loop-largest.largest) q k v (tally_after c.args.so_far before entries) first kept.tally in
     record {
       bytes = ap (λ walk. walk.bytes) ok ∙ kept.bytes;
       all = ap (λ walk. walk.all) ok ∙ kept.all;
@@ -160,12 +160,12 @@ loop-largest-preserved g c =
 
 -- entries that pass their tests have these bounds
 bounds_read : (cmp : List ℕ → List ℕ → Ordering) (before : Option (List ℕ)) (so_far : Tally) (q : List Entry) (x : Bounds) → 0 < length q → entries_test cmp before q ≡ Ok tt → first_key q ≡ x.smallest → last_key [] q ≡ x.largest
-    → tally_behind so_far before q ≡ x.tally → bounds_reading cmp before so_far q ≡ Ok x
+    → tally_after so_far before q ≡ x.tally → bounds_reading cmp before so_far q ≡ Ok x
 bounds_read cmp before so_far [] x some passed first last counted = absurd (omega (arith, some))
 bounds_read cmp before so_far (e ∷ q) x some passed first last counted =
-    ap (λ (r : Result (Unit {0}) Fault). r >>= λ _. done (record { smallest = first_key (e ∷ q); largest = last_key [] (e ∷ q); tally = tally_behind so_far before (e ∷ q) })) passed
-    ∙ ap (λ (k : List ℕ). let y : Bounds = record { smallest = k; largest = last_key [] (e ∷ q); tally = tally_behind so_far before (e ∷ q) } in done y) first
-    ∙ ap (λ (k : List ℕ). let y : Bounds = record { smallest = x.smallest; largest = k; tally = tally_behind so_far before (e ∷ q) } in done y) last
+    ap (λ (r : Result (Unit {0}) Fault). r >>= λ _. done (record { smallest = first_key (e ∷ q); largest = last_key [] (e ∷ q); tally = tally_after so_far before (e ∷ q) })) passed
+    ∙ ap (λ (k : List ℕ). let y : Bounds = record { smallest = k; largest = last_key [] (e ∷ q); tally = tally_after so_far before (e ∷ q) } in done y) first
+    ∙ ap (λ (k : List ℕ). let y : Bounds = record { smallest = x.smallest; largest = k; tally = tally_after so_far before (e ∷ q) } in done y) last
     ∙ ap (λ (t : Tally). let y : Bounds = record { smallest = x.smallest; largest = x.largest; tally = t } in done y) counted
 
 pub returns-clause-bounds : goal.returns-clause-bounds
@@ -183,4 +183,4 @@ returns-clause-bounds g c ok =
     (sym kept.tests ∙ ap (entries_test cmp (Some c.loop-largest.largest)) none)
     (ap first_key start ∙ sym c.in_ok-first.ensures.key ∙ ok_is _ _ c.in_ok-smallest.ensures)
     (sym kept.last ∙ ap (last_key c.loop-largest.largest) none)
-    (sym kept.tally ∙ ap (tally_behind c.loop-largest.tally (Some c.loop-largest.largest)) none)
+    (sym kept.tally ∙ ap (tally_after c.loop-largest.tally (Some c.loop-largest.largest)) none)

@@ -5,11 +5,11 @@ use Rattle.std.proofs.lemmas.Result.{err_from_is_err_and}
 use Rattle.coding.specs.Answers.{EqualOrMemory, FailsOrMemory, ◌>>=◌}
 use Rattle.coding.specs.declared.fault.Fault.{Fault}
 use Rattle.block.specs.EncodedEntry.{Entry}
-use Rattle.block.specs.ReadingBlocks.{block_reading}
+use Rattle.block.specs.BlockReading.{block_reading}
 use Rattle.block.proofs.BlockReadings.{reads_blocks}
 use Rattle.table.specs.BoundsReading.{bounds_reading}
 use Rattle.table.specs.declared.bounds.Bounds.{Bounds}
-use Rattle.table.specs.ReadingIndex.{block_in}
+use Rattle.table.specs.IndexReading.{block_in}
 use Rattle.table.proofs.Steps.{check_gives, handed_on}
 use Rattle.table.proofs.OneWalk.{first_fails, walked}
 use Rattle.table.proofs.table_check.bounds_of.Goals as goal

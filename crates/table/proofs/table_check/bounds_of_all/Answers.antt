@@ -6,14 +6,14 @@ use Rattle.coding.specs.declared.fault.Fault.{Fault}
 use Rattle.coding.specs.declared.fault.FaultName.TheVariants.{Index}
 use Rattle.coding.proofs.Binds.{done, bind_ok}
 use Rattle.ikey.specs.Order.{internal_cmp}
-use Rattle.table.specs.ReadingSteps.{test_result}
-use Rattle.table.specs.ReadingEntries.{is_above}
+use Rattle.table.specs.TestResult.{test_result}
+use Rattle.table.specs.EntryTests.{is_above}
 use Rattle.table.specs.BoundsReading.{bounds_reading}
 use Rattle.table.specs.TallySteps.{tally_of_none}
 use Rattle.table.specs.declared.bounds.Bounds.{Bounds}
 use Rattle.table.specs.declared.tally.Tally.{Tally}
-use Rattle.table.specs.ReadingIndex.{IndexEntry, block_in}
-use Rattle.table.specs.Indexed.{index_entry_of, index_entries_of}
+use Rattle.table.specs.IndexReading.{IndexEntry, block_in}
+use Rattle.table.specs.IndexEntries.{index_entry_of, index_entries_of}
 use Rattle.table.specs.declared.indexed_block.IndexedBlock.{IndexedBlock}
 use Rattle.table.proofs.Steps.{fails_map, handed_on, next_item, past_end, both_hold, one_fails}
 use Rattle.table.proofs.DataSteps.{all_bounds, rest_bounds, stands, blocks_begin, blocks_go_on, blocks_done, first_refused, next_refused}

@@ -1,5 +1,5 @@
 use Rattle.std.proofs.Common.{◌≡◌, drop}
-use Rattle.table.specs.Indexed.{index_entries_of}
+use Rattle.table.specs.IndexEntries.{index_entries_of}
 use Rattle.table.proofs.DataSteps.{all_bounds, rest_bounds}
 use Rattle.table.proofs.table_check.bounds_of_all.Given as goal
 

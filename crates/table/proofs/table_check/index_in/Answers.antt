@@ -8,8 +8,8 @@ use Rattle.coding.proofs.Refusals.{FailsOrMemory-from}
 use Rattle.block.specs.EncodedEntry.{Entry}
 use Rattle.frame.specs.Footer.{footer_reading}
 use Rattle.frame.specs.declared.footer.Footer.{Footer}
-use Rattle.table.specs.ReadingSteps.{test_result}
-use Rattle.table.specs.ReadingIndex.{stored_at, block_in}
+use Rattle.table.specs.TestResult.{test_result}
+use Rattle.table.specs.IndexReading.{stored_at, block_in}
 use Rattle.table.specs.TableContents.{index_in}
 use Rattle.table.proofs.Steps.{handed_on}
 use Rattle.table.proofs.table_check.index_in.Goals as goal

@@ -3,8 +3,8 @@ use Rattle.std.specs.Prelude.{drop}
 use Rattle.std.proofs.lemmas.Result.{err_from_is_err_and}
 use Rattle.std.proofs.lemmas.List.{map_push, length-drop}
 use Rattle.block.specs.EncodedEntry.{Entry}
-use Rattle.table.specs.ReadingIndex.{IndexEntry, index_entry, index_reading}
-use Rattle.table.specs.Indexed.{index_entry_of, index_entries_of}
+use Rattle.table.specs.IndexReading.{IndexEntry, index_entry, index_reading}
+use Rattle.table.specs.IndexEntries.{index_entry_of, index_entries_of}
 use Rattle.table.proofs.Steps.{with_front, first_entry, index_goes_on, index_ends, fails_map, handed_on}
 use Rattle.table.proofs.table_check.indexed_blocks.Goals as goal
 

@@ -1,6 +1,6 @@
 use Rattle.std.proofs.Common.{◌≡◌, length}
-use Rattle.table.specs.ReadingIndex.{index_reading}
-use Rattle.table.specs.Indexed.{index_entries_of}
+use Rattle.table.specs.IndexReading.{index_reading}
+use Rattle.table.specs.IndexEntries.{index_entries_of}
 use Rattle.table.proofs.Steps.{with_front}
 use Rattle.table.proofs.table_check.indexed_blocks.Given as goal
 

@@ -1,9 +1,9 @@
 use Rattle.std.proofs.Common.{List, sym, ap, ◌∙◌, arith}
 use Rattle.std.proofs.lemmas.Result.{err_from_is_err_and}
 use Rattle.table.specs.declared.bounds.Bounds.{Bounds}
-use Rattle.table.specs.ReadingIndex.{IndexEntry, index_reading}
+use Rattle.table.specs.IndexReading.{IndexEntry, index_reading}
 use Rattle.table.specs.TableContents.{index_in, contents_reading}
-use Rattle.table.specs.Indexed.{index_entries_of}
+use Rattle.table.specs.IndexEntries.{index_entries_of}
 use Rattle.table.specs.declared.indexed_block.IndexedBlock.{IndexedBlock}
 use Rattle.table.proofs.Steps.{fails_map, handed_on}
 use Rattle.table.proofs.DataSteps.{all_bounds}

@@ -2,11 +2,11 @@ use Rattle.std.proofs.Common.{◌≡◌, ◌≤◌, ◌+◌, ◌^◌, ◌++◌, 
 use Rattle.std.proofs.lemmas.Bool.{eq-eqb, ne_eqb}
 use Rattle.std.proofs.lemmas.List.{take_rest, append-nil}
 use Rattle.block.specs.EncodedEntry.{encoded_entry_bytes}
-use Rattle.block.specs.Behind.{entries_behind}
+use Rattle.block.specs.EntriesOfBytes.{entries_of_encoded}
 use Rattle.block.specs.BlockFormat.{block}
 use Rattle.block.specs.BuilderView.{BlockBuilding, with_entry}
 use Rattle.block.specs.BuilderState.{IsBlockBuilder}
-use Rattle.block.proofs.Built.{length-built, since_below, next_piece, next_shared, next_piece_bytes, next_last, next_since, IsKept-next, entries_behind-next}
+use Rattle.block.proofs.Built.{length-built, since_below, next_piece, next_shared, next_piece_bytes, next_last, next_since, IsKept-next, entries_of_encoded-next}
 use Rattle.block.proofs.builder.BlockBuilder.add.Goals as goal
 use Rattle.block.proofs.builder.BlockBuilder.add.Goals.{then-self-eq0+in_ok-push, else-self-eq0}
 
@@ -68,7 +68,7 @@ invariant_of-self-2 c =
     c.next_since-self-inside.ensures ∙ ap (λ (n : ℕ). next_since n c.if-self-eq0.self-inside.since) interval_same ∙ ap (λ (n : ℕ). next_since was.interval n) since_same in
     let fits = subst (λ (b : BlockBuilding). length (block b.interval (with_entry b.entries c.args.key.now c.args.value.now)) ≤ 2 ^ 31) (sym c.self.view_is) c.requires in
     let kept = IsKept-next c.args.key.now c.args.value.now c.if-self-eq0.self-inside.bytes.items c.if-self-eq0.self-inside.restarts.items c.extend_from_slice.new.self.items c.next_since-self-inside.result c.self.invariant fits pieces restarts last since in
-    subst (λ (r : ℕ). IsBlockBuilder r (entries_behind [] c.if-self-eq0.self-inside.bytes.items) c.if-self-eq0.self-inside.bytes.items c.if-self-eq0.self-inside.restarts.items c.extend_from_slice.new.self.items c.next_since-self-inside.result) (sym interval_same) kept.built
+    subst (λ (r : ℕ). IsBlockBuilder r (entries_of_encoded [] c.if-self-eq0.self-inside.bytes.items) c.if-self-eq0.self-inside.bytes.items c.if-self-eq0.self-inside.restarts.items c.extend_from_slice.new.self.items c.next_since-self-inside.result) (sym interval_same) kept.built
 
 pub returns-clause-ok : goal.returns-clause-ok
 returns-clause-ok c =
@@ -89,5 +89,5 @@ returns-clause-ok c =
     let pieces : c.if-self-eq0.self-inside.bytes.items ≡ was.bytes.items ++ encoded_entry_bytes (next_piece was.since was.last.items c.args.key.now c.args.value.now) =
     bytes ∙ c.in_ok-push_encoded_entry.ensures.ok ∙ ap (λ (x : List ℕ). was.bytes.items ++ x) (next_piece_bytes was.since was.last.items c.args.key.now c.args.value.now _ shared shared_is rest_is) in
     let fits = subst (λ (b : BlockBuilding). length (block b.interval (with_entry b.entries c.args.key.now c.args.value.now)) ≤ 2 ^ 31) (sym c.self.view_is) c.requires in
-    let entries = entries_behind-next c.args.key.now c.args.value.now c.if-self-eq0.self-inside.bytes.items c.self.invariant fits pieces in
+    let entries = entries_of_encoded-next c.args.key.now c.args.value.now c.if-self-eq0.self-inside.bytes.items c.self.invariant fits pieces in
     rw (← c.self.view_is, interval_same, entries) refl

@@ -1,7 +1,7 @@
 use Rattle.std.proofs.Common.{◌≡◌, ℕ, List, Bor, [], vec_len, sym, ap, ◌∙◌, inl, inr, arith}
 use Rattle.std.proofs.lemmas.Bool.{eqb-true, eqb-false}
 use Rattle.block.specs.EncodedEntry.{restarts_of}
-use Rattle.block.specs.Behind.{entries_behind}
+use Rattle.block.specs.EntriesOfBytes.{entries_of_encoded}
 use Rattle.block.specs.BlockFormat.{encoded_entries_from, block}
 use Rattle.block.specs.BuilderView.{BlockBuilding}
 use Rattle.block.proofs.Built.{restarts_of-written, length-written, finished}
@@ -11,7 +11,7 @@ use Rattle.block.proofs.builder.BlockBuilder.finish.Goals.{then-is_empty, else-i
 pub push_restarts-requires : goal.push_restarts-requires
 push_restarts-requires c =
     let kept = c.self.inside.restarts in
-    let written : restarts_of (encoded_entries_from c.self.inside.interval 0 [] (entries_behind [] c.self.inside.bytes.items)) ≡ c.if-is_empty.written.now =
+    let written : restarts_of (encoded_entries_from c.self.inside.interval 0 [] (entries_of_encoded [] c.self.inside.bytes.items)) ≡ c.if-is_empty.written.now =
     restarts_of-written c.if-is_empty.written.now c.self.invariant (elim c.if-is_empty.branch [
       | then-is_empty w ↦ inl (omega (arith, eqb-true (vec_len kept) 0 (sym w.if-is_empty.ensures)), ap (λ (b : Bor (List ℕ)). b.now) w.written-is ∙ w.as_slice-written.ensures)
       | else-is_empty w ↦ inr (omega (arith, eqb-false (vec_len kept) 0 (sym w.if-is_empty.ensures)), ap (λ (b : Bor (List ℕ)). b.now) w.written-is ∙ w.as_slice-written-else-is_empty.ensures.value)
@@ -21,7 +21,7 @@ push_restarts-requires c =
 pub returns-clause-ok : goal.returns-clause-ok
 returns-clause-ok c =
     let kept = c.self.inside.restarts in
-    let written : restarts_of (encoded_entries_from c.self.inside.interval 0 [] (entries_behind [] c.self.inside.bytes.items)) ≡ c.if-is_empty.written.now =
+    let written : restarts_of (encoded_entries_from c.self.inside.interval 0 [] (entries_of_encoded [] c.self.inside.bytes.items)) ≡ c.if-is_empty.written.now =
     restarts_of-written c.if-is_empty.written.now c.self.invariant (elim c.if-is_empty.branch [
       | then-is_empty w ↦ inl (omega (arith, eqb-true (vec_len kept) 0 (sym w.if-is_empty.ensures)), ap (λ (b : Bor (List ℕ)). b.now) w.written-is ∙ w.as_slice-written.ensures)
       | else-is_empty w ↦ inr (omega (arith, eqb-false (vec_len kept) 0 (sym w.if-is_empty.ensures)), ap (λ (b : Bor (List ℕ)). b.now) w.written-is ∙ w.as_slice-written-else-is_empty.ensures.value)

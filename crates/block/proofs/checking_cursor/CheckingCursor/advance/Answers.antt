@@ -5,13 +5,13 @@ use Rattle.coding.specs.declared.fault.Fault.{Fault}
 use Rattle.coding.proofs.Binds.{failed}
 use Rattle.coding.proofs.Refusals.{FailsOrMemory-from}
 use Rattle.block.specs.EncodedEntry.{Entry}
-use Rattle.block.specs.Front.{front_field}
-use Rattle.block.specs.Behind.{entries_behind}
+use Rattle.block.specs.FrontField.{front_field}
+use Rattle.block.specs.EntriesOfBytes.{entries_of_encoded}
 use Rattle.block.specs.BuilderState.{IsArea}
 use Rattle.block.specs.BlockPass.{PassState, IsNextEncodedEntry}
 use Rattle.block.specs.CheckedBytes.{BlockChecking}
 use Rattle.block.specs.CheckingWalk.{Passes}
-use Rattle.block.specs.ReadingBlocks.{block_reading}
+use Rattle.block.specs.BlockReading.{block_reading}
 use Rattle.block.proofs.Areas.{within}
 use Rattle.block.proofs.CheckingSteps.{stands, passes_next, passes_end, left_over, not_next, one_behind, one_less, none_less, next_less}
 use Rattle.block.proofs.checking_cursor.CheckingCursor.advance.Goals as goal
@@ -59,25 +59,25 @@ returns-in_default-clause-refused c =
 pub replace_end-requires-clause-within : goal.replace_end-requires-clause-within
 replace_end-requires-clause-within c =
     let len : c.len-key_len.result ≡ length c.self.inside.key = omega arith in
-    subst (λ (n : ℕ). c.in-Some.next.piece.shared ≤ n) len c.in-Some.ensures.next.shared
+    subst (λ (n : ℕ). c.in-Some.next.front.shared ≤ n) len c.in-Some.ensures.next.shared
 
 pub invariant_of-self-2 : goal.invariant_of-self-2
 invariant_of-self-2 c =
     let was = c.self.inside in
-    let piece = front_field c.in-Some.next.piece in
+    let front = front_field c.in-Some.next.front in
     let on = subst (Passes was.bytes.now was.area.now was.rest.now was.pending.now was.key) (stands was.valid _ _ c.args.self.now.ahead (ap (λ (v : BlockChecking). v.ahead) c.self.view_is) c.requires) c.self.invariant in
     let len : c.len-key_len.result ≡ length was.key = omega arith in
-    let next = subst (λ (n : ℕ). IsNextEncodedEntry was.area.now was.rest.now was.pending.now n piece c.in-Some.next.pending.now) len c.in-Some.ensures.next in
+    let next = subst (λ (n : ℕ). IsNextEncodedEntry was.area.now was.rest.now was.pending.now n front c.in-Some.next.pending.now) len c.in-Some.ensures.next in
     let valid : was.valid ≡ true = stands was.valid _ _ c.args.self.now.ahead (ap (λ (v : BlockChecking). v.ahead) c.self.view_is) c.requires in
-    subst (Passes was.bytes.now was.area.now c.in-Some.next.piece.rest.now c.in-Some.next.pending.now c.replace_end.new.self) (sym valid)
-    (passes_next was.bytes.now was.area.now was.rest.now was.pending.now was.key piece c.in-Some.next.pending.now c.replace_end.new.self on next c.in_ok-replace_end.ensures.ok)
+    subst (Passes was.bytes.now was.area.now c.in-Some.next.front.rest.now c.in-Some.next.pending.now c.replace_end.new.self) (sym valid)
+    (passes_next was.bytes.now was.area.now was.rest.now was.pending.now was.key front c.in-Some.next.pending.now c.replace_end.new.self on next c.in_ok-replace_end.ensures.ok)
 
 pub returns-clause-ok : goal.returns-clause-ok
 returns-clause-ok c =
     let was = c.self.inside in
-    let piece = front_field c.in-Some.next.piece in
+    let front = front_field c.in-Some.next.front in
     let valid : was.valid ≡ true = stands was.valid _ _ c.args.self.now.ahead (ap (λ (v : BlockChecking). v.ahead) c.self.view_is) c.requires in
-    let entry : List ℕ → Entry = λ k. record { key = k; value = c.in-Some.next.piece.value.now } in
-    let same : entries_behind was.key was.rest.now ≡ entry c.replace_end.new.self ∷ entries_behind c.replace_end.new.self c.in-Some.next.piece.rest.now =
-    one_behind was.key was.rest.now piece c.in-Some.ensures.next.read ∙ ap (λ (k : List ℕ). entry k ∷ entries_behind k c.in-Some.next.piece.rest.now) (sym c.in_ok-replace_end.ensures.ok) in
+    let entry : List ℕ → Entry = λ k. record { key = k; value = c.in-Some.next.front.value.now } in
+    let same : entries_of_encoded was.key was.rest.now ≡ entry c.replace_end.new.self ∷ entries_of_encoded c.replace_end.new.self c.in-Some.next.front.rest.now =
+    one_behind was.key was.rest.now front c.in-Some.ensures.next.read ∙ ap (λ (k : List ℕ). entry k ∷ entries_of_encoded k c.in-Some.next.front.rest.now) (sym c.in_ok-replace_end.ensures.ok) in
     one_less _ c.args.self.now _ c.self.view_is (next_less was.valid _ _ _ _ valid same)

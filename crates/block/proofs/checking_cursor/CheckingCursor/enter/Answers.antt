@@ -5,9 +5,9 @@ use Rattle.coding.specs.declared.fault.Fault.{Fault}
 use Rattle.coding.proofs.Binds.{failed}
 use Rattle.coding.proofs.Refusals.{FailsOrMemory-from}
 use Rattle.block.specs.EncodedEntry.{key_after}
-use Rattle.block.specs.Front.{front_field}
-use Rattle.block.specs.Behind.{entries_behind}
-use Rattle.block.specs.ReadingBlocks.{block_reading}
+use Rattle.block.specs.FrontField.{front_field}
+use Rattle.block.specs.EntriesOfBytes.{entries_of_encoded}
+use Rattle.block.specs.BlockReading.{block_reading}
 use Rattle.block.proofs.Areas.{kept_none}
 use Rattle.block.proofs.Walks.{first_key_whole}
 use Rattle.block.proofs.CheckingSteps.{not_split, not_area, same_entries, passes_first, passes_nothing, one_behind}
@@ -33,7 +33,7 @@ pub returns-then-is_empty-clause-ahead : goal.returns-then-is_empty-clause-ahead
 returns-then-is_empty-clause-ahead c =
     let area = c.in-Some.parts.area.now in
     let none : area ≡ [] = nil_from_length area (eqb-true _ _ (sym c.is_empty.ensures ∙ c.if-is_empty.true)) in
-    sym (ap (entries_behind []) none)
+    sym (ap (entries_of_encoded []) none)
 
 pub returns-then-is_empty-clause-all : goal.returns-then-is_empty-clause-all
 returns-then-is_empty-clause-all c = same_entries c.args.bytes.now c.in-Some.parts.area.now c.in-Some.parts.restarts.now c.in-Some.ensures.found
@@ -51,14 +51,14 @@ invariant_of-self-2 c =
     let area = c.in-Some.parts.area.now in
     let restarts = c.in-Some.parts.restarts.now in
     let some : area ≢ [] = λ e. eqb-false _ _ (sym c.is_empty.ensures ∙ c.if-is_empty.false) (ap length e) in
-    passes_first c.args.bytes.now area restarts (front_field c.in-Some-next_entry.first.piece) c.in-Some-next_entry.first.pending.now c.replace_end.new.self c.in-Some.ensures.found (c.are_begun.ensures.begins c.if-not-are_begun.false) some c.in-Some-next_entry.ensures.next c.in_ok-replace_end.ensures.ok
+    passes_first c.args.bytes.now area restarts (front_field c.in-Some-next_entry.first.front) c.in-Some-next_entry.first.pending.now c.replace_end.new.self c.in-Some.ensures.found (c.are_begun.ensures.begins c.if-not-are_begun.false) some c.in-Some-next_entry.ensures.next c.in_ok-replace_end.ensures.ok
 
 pub returns-clause-ahead : goal.returns-clause-ahead
 returns-clause-ahead c =
-    let piece = front_field c.in-Some-next_entry.first.piece in
-    let key : c.replace_end.new.self ≡ key_after [] piece.field = c.in_ok-replace_end.ensures.ok ∙ sym (first_key_whole piece.field) in
-    ap (λ (k : List ℕ). record { key = k; value = c.in-Some-next_entry.first.piece.value.now } ∷ entries_behind k c.in-Some-next_entry.first.piece.rest.now) key
-    ∙ sym (one_behind [] c.in-Some.parts.area.now piece c.in-Some-next_entry.ensures.next.read)
+    let front = front_field c.in-Some-next_entry.first.front in
+    let key : c.replace_end.new.self ≡ key_after [] front.field = c.in_ok-replace_end.ensures.ok ∙ sym (first_key_whole front.field) in
+    ap (λ (k : List ℕ). record { key = k; value = c.in-Some-next_entry.first.front.value.now } ∷ entries_of_encoded k c.in-Some-next_entry.first.front.rest.now) key
+    ∙ sym (one_behind [] c.in-Some.parts.area.now front c.in-Some-next_entry.ensures.next.read)
 
 pub returns-clause-all : goal.returns-clause-all
 returns-clause-all c = same_entries c.args.bytes.now c.in-Some.parts.area.now c.in-Some.parts.restarts.now c.in-Some.ensures.found

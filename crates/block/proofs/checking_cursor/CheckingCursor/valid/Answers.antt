@@ -1,6 +1,6 @@
 use Rattle.std.proofs.Common.{◌≡◌, Ok, subst}
 use Rattle.block.specs.CheckedBytes.{BlockChecking}
-use Rattle.block.specs.ReadingBlocks.{block_reading}
+use Rattle.block.specs.BlockReading.{block_reading}
 use Rattle.block.proofs.CheckingSteps.{read_all}
 use Rattle.block.proofs.checking_cursor.CheckingCursor.valid.Goals as goal
 

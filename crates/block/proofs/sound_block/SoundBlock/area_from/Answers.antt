@@ -1,8 +1,8 @@
 use Rattle.std.proofs.Common.{◌≡◌, ◌*◌, ◌<◌, ℕ, [], length, drop, get_or, ap, sym, subst, ◌∙◌, arith}
 use Rattle.std.proofs.lemmas.List.{length-drop}
 use Rattle.byteorder.specs.Endian.{little_number}
-use Rattle.block.specs.Behind.{entries_behind, AreEncodedEntriesAfter}
-use Rattle.block.specs.Sound.{BlockView}
+use Rattle.block.specs.EntriesOfBytes.{entries_of_encoded, AreEncodedEntriesAfter}
+use Rattle.block.specs.BlockView.{BlockView}
 use Rattle.block.proofs.Places.{stands_at, length-places}
 use Rattle.block.proofs.sound_block.SoundBlock.area_from.Goals as goal
 
@@ -34,6 +34,6 @@ returns c =
     let offset : c.read_u32-offset.result ≡ little_number 4 (drop (c.args.restart * 4) c.self.inside.restarts.now) = c.read_u32-offset.ensures ∙ ap (little_number 4) c.split_at.ensures.back in
     let rest : c.split_at-2.result.1.now ≡ drop (little_number 4 (drop (c.args.restart * 4) c.self.inside.restarts.now)) c.self.inside.area.now = c.split_at-2.ensures.back ∙ ap (λ (n : ℕ). drop n c.self.inside.area.now) offset in
     record {
-      entries = ap (entries_behind []) rest ∙ stands.entries ∙ ap (λ (b : BlockView). drop (get_or b.restarts c.args.restart 0) b.entries) c.self.view_is;
-      pieces = subst (AreEncodedEntriesAfter []) (sym rest) stands.pieces;
+      entries = ap (entries_of_encoded []) rest ∙ stands.entries ∙ ap (λ (b : BlockView). drop (get_or b.restarts c.args.restart 0) b.entries) c.self.view_is;
+      encoded = subst (AreEncodedEntriesAfter []) (sym rest) stands.pieces;
     }

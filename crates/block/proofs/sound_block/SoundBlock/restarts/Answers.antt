@@ -1,5 +1,5 @@
 use Rattle.std.proofs.Common.{◌≡◌, ◌*◌, length, subst, arith}
-use Rattle.block.specs.Sound.{BlockView}
+use Rattle.block.specs.BlockView.{BlockView}
 use Rattle.block.proofs.Places.{ArePlaces, some_place, places_of_sound, length-places}
 use Rattle.block.proofs.sound_block.SoundBlock.restarts.Goals as goal
 

@@ -1,6 +1,6 @@
 use Rattle.std.proofs.Common.{◌≡◌, List, [], ◌∷◌, ◌++◌, All, length, sym, subst, rules}
 use Rattle.board.specs.Progress.{Layout, Progress}
-use Rattle.board.specs.Finished.{all_done, all_failed, all_skipped}
+use Rattle.board.specs.FinishedSeats.{all_done, all_failed, all_skipped}
 use Rattle.board.specs.GatheredSeats.{Gathers}
 use Rattle.board.proofs.Closings.{all_front, all_last, counts_exact, spent_exact, nothing_left, closes_all}
 use Rattle.board.proofs.ResultPlaces.{one_popped}

@@ -34,7 +34,7 @@ pub invariant_of-seat-in-Some : goal.invariant_of-seat-in-Some
 invariant_of-seat-in-Some c =
     let i = c.loop-seat.invariant in
     let e = c.in-Some.ensures in (
-      still_seated _ _ _ _ _ _ i.seated e.token.1 (ap (λ v. v.parts) e.number.0) (ap (λ v. v.jobs) e.number.0) (ap (λ v. v.seats) e.number.0) (ap (λ v. v.empty) e.number.0),
+      still_seated _ _ _ _ _ _ i.seated e.token.1 (ap (λ v. v.members) e.number.0) (ap (λ v. v.jobs) e.number.0) (ap (λ v. v.seats) e.number.0) (ap (λ v. v.empty) e.number.0),
       counted_draw _ _ _ _ _ i.counted _ _ e.number.0 e.new.0 e.new.1,
       i.share,
     )

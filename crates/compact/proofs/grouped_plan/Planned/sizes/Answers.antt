@@ -1,6 +1,6 @@
 use Rattle.std.proofs.Common.{◌<◌, ◌≤◌, List, Ok, length, sym, ap, ◌∙◌, arith}
 use Rattle.cut.specs.OutputPlan.{PlanSeen}
-use Rattle.compact.specs.Grouped.{GroupedAnswer, joined_answer, table_sizes}
+use Rattle.compact.specs.GroupedAnswer.{GroupedAnswer, joined_answer, table_sizes}
 use Rattle.compact.proofs.GroupedAnswers.{plan_more, plans_done, sizes_in}
 use Rattle.compact.proofs.grouped_plan.Planned.sizes.Goals as goal
 

@@ -3,7 +3,7 @@ use Rattle.coding.specs.declared.fault.Fault.{Fault}
 use Rattle.ikey.specs.Bytewise.{bytewise_cmp}
 use Rattle.block.specs.EncodedEntry.{Entry}
 use Rattle.table.specs.TableContents.{Contents}
-use Rattle.pick.specs.declared.picked.InputFile.{InputFile}
+use Rattle.pick.specs.declared.picked_inputs.InputFile.{InputFile}
 use Rattle.request.specs.Inputs.{inputs_reading}
 use Rattle.request.specs.Request.{RequestView, request_in}
 use Rattle.compact.specs.RangeMerges.{by_workers}

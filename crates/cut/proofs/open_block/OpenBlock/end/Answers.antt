@@ -1,5 +1,5 @@
 use Rattle.std.proofs.Common.{◌≡◌, [], sym, ap, subst}
-use Rattle.cut.specs.Metered.{IsMetered}
+use Rattle.cut.specs.BlockInProgress.{IsMetered}
 use Rattle.cut.proofs.Metered.{metered_first}
 use Rattle.cut.proofs.open_block.OpenBlock.end.Goals as goal
 

@@ -4,8 +4,8 @@ use Rattle.std.specs.Option.{option_map}
 use Rattle.coding.specs.Saturated.{saturated}
 use Rattle.block.specs.EncodedEntry.{Entry}
 use Rattle.table.specs.DataBlocks.{is_full}
-use Rattle.encoding.specs.Walking.{Walking}
-use Rattle.cut.specs.Metered.{BlockInProgress, IsMetered, added_size, next_since, last_entry_key}
+use Rattle.encoding.specs.EntryWalkView.{EntryWalkView}
+use Rattle.cut.specs.BlockInProgress.{BlockInProgress, IsMetered, added_size, next_since, last_entry_key}
 use Rattle.cut.proofs.Filled.{IsFilling, filling_first, filling_more, filling_part, last_in}
 use Rattle.cut.proofs.Metered.{since_below}
 use Rattle.cut.proofs.open_block.OpenBlock.take_in.Goals as goal
@@ -16,7 +16,7 @@ new-walk-requires c =
 
 pub added_len-requires : goal.added_len-requires
 added_len-requires c =
-    subst (λ (w : Walking). 0 < length w.rest) (sym c.new-walk.ensures)
+    subst (λ (w : EntryWalkView). 0 < length w.rest) (sym c.new-walk.ensures)
     (subst (λ (es : List Entry). 0 < length es) (sym c.behind.ensures) (subst (λ (m : BlockInProgress). 0 < length m.behind) (sym c.self.view_is) c.requires.any))
 
 pub next_since-since-requires : goal.next_since-since-requires
@@ -29,16 +29,16 @@ loop-taken-init c =
     let rest : List Entry = c.behind.result in
     let before : Option (List ℕ) = option_map (λ key. key.bytes.now) c.last_key.result in
     let some : 0 < length rest = subst (λ (es : List Entry). 0 < length es) (sym c.behind.ensures) (subst (λ (x : BlockInProgress). 0 < length x.behind) (sym c.self.view_is) c.requires.any) in
-    let added_is = subst (λ (w : Walking). option_map (λ (e : Entry). saturated (added_size was.since w.before e.key (length e.value))) (slice_get w.rest 0) ≡ Some c.added_len.result) c.new-walk.ensures c.added_len.ensures in
+    let added_is = subst (λ (w : EntryWalkView). option_map (λ (e : Entry). saturated (added_size was.since w.before e.key (length e.value))) (slice_get w.rest 0) ≡ Some c.added_len.result) c.new-walk.ensures c.added_len.ensures in
     let first : IsFilling c.args.options m 0 rest before was.len was.since =
     filling_first c.args.options m rest before was.len was.since
     (c.behind.ensures ∙ ap (λ (x : BlockInProgress). x.behind) c.self.view_is)
     (c.last_key.ensures ∙ ap (λ (x : BlockInProgress). last_entry_key x.entries) c.self.view_is)
     (subst (λ (x : BlockInProgress). IsMetered x.interval x.entries was.len was.since) c.self.view_is c.self.invariant) in
     let part : is_full c.args.options (m.entries ++ take 0 m.behind) ≡ false = subst (λ (xs : List Entry). is_full c.args.options xs ≡ false) (sym (append-nil m.entries)) c.requires.part in
-    let later : c.advance.new.self.rest ≡ drop 1 rest = ap (λ (w : Walking). w.rest) c.advance.ensures ∙ ap (λ (w : Walking). drop 1 w.rest) c.new-walk.ensures in
+    let later : c.advance.new.self.rest ≡ drop 1 rest = ap (λ (w : EntryWalkView). w.rest) c.advance.ensures ∙ ap (λ (w : EntryWalkView). drop 1 w.rest) c.new-walk.ensures in
     let last : c.advance.new.self.before ≡ option_map (λ (e : Entry). e.key) (slice_get rest 0) =
-    ap (λ (w : Walking). w.before) c.advance.ensures ∙ ap (λ (w : Walking). option_map (λ (e : Entry). e.key) (slice_get w.rest 0)) c.new-walk.ensures in
+    ap (λ (w : EntryWalkView). w.before) c.advance.ensures ∙ ap (λ (w : EntryWalkView). option_map (λ (e : Entry). e.key) (slice_get w.rest 0)) c.new-walk.ensures in
     let since : c.next_since-since.result ≡ next_since m.interval was.since =
     c.next_since-since.ensures ∙ ap (λ (x : BlockInProgress). next_since x.interval was.since) c.self.view_is in (
       rw (later, last, c.saturating_add-len.ensures, since)
@@ -50,13 +50,13 @@ loop-taken-init c =
 pub loop-taken-preserved : goal.loop-taken-preserved
 loop-taken-preserved c =
     let m : BlockInProgress = c.args.self.now in
-    let walk : Walking = c.loop-taken.walk in
+    let walk : EntryWalkView = c.loop-taken.walk in
     let h : IsFilling c.args.options m c.loop-taken.taken walk.rest walk.before c.loop-taken.len c.loop-taken.since = c.loop-taken.invariant.0 in
     let some : 0 < length walk.rest = c.valid.ensures.0 c.if-valid.true in
     let part : is_full c.args.options (m.entries ++ take c.loop-taken.taken m.behind) ≡ false =
     filling_part c.args.options m c.loop-taken.taken walk.rest walk.before c.loop-taken.len c.loop-taken.since h c.loop-taken.invariant.1 c.requires.limits.block_size_le c.requires.interval c.if-len-options.true in
-    let later : c.advance-in-loop-taken.new.self.rest ≡ drop 1 walk.rest = ap (λ (w : Walking). w.rest) c.advance-in-loop-taken.ensures in
-    let last : c.advance-in-loop-taken.new.self.before ≡ option_map (λ (e : Entry). e.key) (slice_get walk.rest 0) = ap (λ (w : Walking). w.before) c.advance-in-loop-taken.ensures in
+    let later : c.advance-in-loop-taken.new.self.rest ≡ drop 1 walk.rest = ap (λ (w : EntryWalkView). w.rest) c.advance-in-loop-taken.ensures in
+    let last : c.advance-in-loop-taken.new.self.before ≡ option_map (λ (e : Entry). e.key) (slice_get walk.rest 0) = ap (λ (w : EntryWalkView). w.before) c.advance-in-loop-taken.ensures in
     let since : c.next_since-since-in-loop-taken.result ≡ next_since m.interval c.loop-taken.since =
     c.next_since-since-in-loop-taken.ensures ∙ ap (λ (x : BlockInProgress). next_since x.interval c.loop-taken.since) c.self.view_is in (
       rw (later, last, c.saturating_add-len-in-loop-taken.ensures, since)

@@ -5,7 +5,7 @@ use Rattle.std.specs.Str.{bytes_eq}
 use Rattle.std.proofs.lemmas.Bool.{le-leb, lt-leb}
 use Rattle.ikey.specs.Key.{user_of}
 use Rattle.block.specs.EncodedEntry.{Entry}
-use Rattle.cut.specs.Opened.{OutputInProgress, IsOpen, ends_by}
+use Rattle.cut.specs.OutputInProgress.{OutputInProgress, IsOpen, ends_by}
 use Rattle.cut.proofs.Opened.{ends_not, ends_part, ends_last}
 use Rattle.cut.proofs.open_output.OpenOutput.ends_before_next.Goals as goal
 

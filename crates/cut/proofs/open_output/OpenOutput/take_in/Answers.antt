@@ -2,9 +2,9 @@ use Rattle.std.proofs.Common.{◌≡◌, ◌<◌, ◌+◌, ◌-◌, ◌^◌, ℕ
 use Rattle.std.specs.Option.{option_map}
 use Rattle.table.specs.DataBlocks.{is_full}
 use Rattle.encoding.specs.declared.planned_block.PlannedBlock.{PlannedBlock}
-use Rattle.cut.specs.Metered.{BlockInProgress, block_after_entries, last_entry_key}
-use Rattle.cut.specs.Opened.{OutputInProgress, IsOpen, entries_in_blocks, ends_by}
-use Rattle.cut.specs.Outputs.{outputs_behind}
+use Rattle.cut.specs.BlockInProgress.{BlockInProgress, block_after_entries, last_entry_key}
+use Rattle.cut.specs.OutputInProgress.{OutputInProgress, IsOpen, entries_in_blocks, ends_by}
+use Rattle.cut.specs.Outputs.{outputs_after}
 use Rattle.cut.proofs.Opened.{ended_behind, some_taken, parts_by, open_grown, open_flushed, left_taken}
 use Rattle.cut.proofs.open_output.OpenOutput.take_in.Goals as goal
 use Rattle.cut.proofs.open_output.OpenOutput.take_in.Goals.{then-self, else-self}
@@ -55,7 +55,7 @@ returns-then-is_full-clause-left c =
       | then-self w ↦ λ more. w.if-self.true
       | else-self w ↦ λ more. absurd (omega (arith, more, w.fits-is, c.take_in-taken.ensures.most))
     ] in
-    λ rest. subst (λ (s : OutputInProgress). outputs_behind s.options (s.entries ++ take n s.behind) rest ≡ outputs_behind s.options s.entries (take n s.behind ++ rest)) c.self.view_is
+    λ rest. subst (λ (s : OutputInProgress). outputs_after s.options (s.entries ++ take n s.behind) rest ≡ outputs_after s.options s.entries (take n s.behind ++ rest)) c.self.view_is
     (left_taken was.options was.blocks.items was.flushed last was.current n c.self.invariant parts first below rest)
 
 pub returns-else-is_full-clause-left : goal.returns-else-is_full-clause-left
@@ -71,5 +71,5 @@ returns-else-is_full-clause-left c =
       | then-self w ↦ λ more. w.if-self.true
       | else-self w ↦ λ more. absurd (omega (arith, more, w.fits-is, c.take_in-taken.ensures.most))
     ] in
-    λ rest. subst (λ (s : OutputInProgress). outputs_behind s.options (s.entries ++ take n s.behind) rest ≡ outputs_behind s.options s.entries (take n s.behind ++ rest)) c.self.view_is
+    λ rest. subst (λ (s : OutputInProgress). outputs_after s.options (s.entries ++ take n s.behind) rest ≡ outputs_after s.options s.entries (take n s.behind ++ rest)) c.self.view_is
     (left_taken was.options was.blocks.items was.flushed last was.current n c.self.invariant parts first below rest)

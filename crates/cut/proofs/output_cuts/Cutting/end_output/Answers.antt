@@ -4,8 +4,8 @@ use Rattle.std.proofs.lemmas.Bool.{eqb-true, eqb-false}
 use Rattle.std.proofs.lemmas.List.{map-append, nil_from_length}
 use Rattle.block.specs.EncodedEntry.{Entry}
 use Rattle.cut.specs.OutputCuts.{OutputsInProgress, outputs_left}
-use Rattle.cut.specs.Opened.{OutputInProgress, ArePlanned, entries_in_blocks}
-use Rattle.cut.specs.Outputs.{outputs_behind}
+use Rattle.cut.specs.OutputInProgress.{OutputInProgress, ArePlanned, entries_in_blocks}
+use Rattle.cut.specs.Outputs.{outputs_after}
 use Rattle.cut.proofs.Cuts.{ended_none, ended_some, same_options, planned_push, planned_are}
 use Rattle.cut.proofs.output_cuts.Cutting.end_output.Goals as goal
 
@@ -40,7 +40,7 @@ returns-in_ok-push-clause-ended c =
     let before : List (List Entry) = map (λ b. entries_in_blocks b.items) was.ended.items in
     let items : c.push.new.self.items ≡ was.ended.items ++ blocks ∷ [] = search rules in
     let some : blocks.items ≡ [] → ⊥ = λ none. omega (arith, eqb-false (vec_len blocks) 0 (sym c.if-not-is_empty.ensures), ap length none) in
-    let outputs : map (λ b. entries_in_blocks b.items) c.push.new.self.items ≡ before ++ outputs_behind o q [] =
+    let outputs : map (λ b. entries_in_blocks b.items) c.push.new.self.items ≡ before ++ outputs_after o q [] =
     ap (map (λ b. entries_in_blocks b.items)) items ∙ map-append (λ b. entries_in_blocks b.items) was.ended.items (blocks ∷ []) ∙ ended_some o before q blocks.items c.in_ok-blocks.ensures.blocks some in
     let seen : OutputInProgress → List (List Entry) → OutputsInProgress = λ s ps. record { options = s.options; outputs = ps; latest = s.entries; behind = s.behind } in
     let after : OutputsInProgress → OutputsInProgress = λ cut. record { options = cut.options; outputs = outputs_left cut []; latest = []; behind = cut.behind } in
@@ -56,7 +56,7 @@ returns-else-not-is_empty-clause-ended c =
     let blocks = c.in_ok-blocks.blocks in
     let before : List (List Entry) = map (λ b. entries_in_blocks b.items) was.ended.items in
     let none : blocks.items ≡ [] = nil_from_length blocks.items (omega (arith, eqb-true (vec_len blocks) 0 (sym c.if-not-is_empty.ensures))) in
-    let outputs : before ≡ before ++ outputs_behind o q [] = ended_none o before q blocks.items c.in_ok-blocks.ensures.blocks none in
+    let outputs : before ≡ before ++ outputs_after o q [] = ended_none o before q blocks.items c.in_ok-blocks.ensures.blocks none in
     let seen : OutputInProgress → List (List Entry) → OutputsInProgress = λ s ps. record { options = s.options; outputs = ps; latest = s.entries; behind = s.behind } in
     let after : OutputsInProgress → OutputsInProgress = λ cut. record { options = cut.options; outputs = outputs_left cut []; latest = []; behind = cut.behind } in
     ap (λ (s : OutputInProgress). seen s before) c.in_ok-blocks.ensures.new

@@ -1,8 +1,8 @@
 use Rattle.std.proofs.Common.{◌≡◌, ◌<◌, ℕ, true, List, ◌++◌, map, take, sym, ap, subst, ◌∙◌}
 use Rattle.block.specs.EncodedEntry.{Entry}
 use Rattle.cut.specs.OutputCuts.{OutputsInProgress, outputs_left}
-use Rattle.cut.specs.Opened.{OutputInProgress, entries_in_blocks, ends_by}
-use Rattle.cut.specs.Outputs.{outputs_behind}
+use Rattle.cut.specs.OutputInProgress.{OutputInProgress, entries_in_blocks, ends_by}
+use Rattle.cut.specs.Outputs.{outputs_after}
 use Rattle.cut.proofs.Cuts.{ended_then, from_three}
 use Rattle.cut.proofs.output_cuts.Cutting.step.Goals as goal
 use Rattle.cut.proofs.output_cuts.Cutting.step.Goals.{then-ends_before_next+in_ok-end_output, else-ends_before_next}
@@ -22,7 +22,7 @@ returns-clause-left c =
     ] in
     from_three c.take_in.result c.take_in.ensures.ok c.take_in.ensures.some c.take_in.ensures.left
     (λ n new any left rest.
-    ap (λ (x : OutputInProgress). outs ++ outputs_behind x.options x.entries rest) new
+    ap (λ (x : OutputInProgress). outs ++ outputs_after x.options x.entries rest) new
     ∙ ap (λ (ps : List (List Entry)). outs ++ ps) (left rest)
     ∙ ap (λ (v : OutputsInProgress). outputs_left v (take n v.behind ++ rest)) c.self-2.view_is
     ∙ moved n any rest)

@@ -4,7 +4,7 @@ use Rattle.coding.specs.Answers.{EqualOrMemory}
 use Rattle.table.specs.Table.{IndexKeys, index_keys, table}
 use Rattle.cut.specs.declared.planned_output.PlannedOutput.{PlannedOutput}
 use Rattle.cut.specs.PlanTables.{AreReady, tables_of}
-use Rattle.cut.specs.Divided.{piece_limit}
+use Rattle.cut.specs.PieceDivision.{piece_limit}
 use Rattle.cut.specs.Plan.{plan_tables, encoded_pieces}
 use Rattle.cut.specs.OutputPlan.{PlanSeen, lists_in}
 use Rattle.cut.specs.PlanInvariant.{block_count, planned_of}

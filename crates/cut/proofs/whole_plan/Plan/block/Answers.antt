@@ -6,7 +6,7 @@ use Rattle.block.specs.EncodedEntry.{Entry}
 use Rattle.table.specs.DataBlocks.{data_blocks}
 use Rattle.encoding.specs.declared.planned_block.PlannedBlock.{PlannedBlock}
 use Rattle.cut.specs.declared.planned_output.PlannedOutput.{PlannedOutput}
-use Rattle.encoding.specs.Planned.{parts_of}
+use Rattle.encoding.specs.PlannedBlocks.{block_lists}
 use Rattle.cut.specs.OutputPlan.{PlanSeen}
 use Rattle.cut.specs.Plan.{OutputView}
 use Rattle.cut.specs.PlanInvariant.{planned_of}
@@ -22,5 +22,5 @@ returns g c =
     subst (λ (s : PlanSeen). IfSome (slice_get s.outputs c.args.place) (λ (q : OutputView). option_map (λ entries. entries.now.entries) c.entries_of.result ≡ slice_get (data_blocks s.options q.entries) c.args.block)) c.self.view_is
     (if_here (λ (q : OutputView). option_map (λ entries. entries.now.entries) c.entries_of.result ≡ slice_get (data_blocks was.options q.entries) c.args.block) was.outputs.items c.args.place p lt (sym c.index-output.ensures)
     (c.entries_of.ensures
-    ∙ ap (λ (bs : List PlannedBlock). slice_get (parts_of bs) c.args.block) c.deref.ensures.value
+    ∙ ap (λ (bs : List PlannedBlock). slice_get (block_lists bs) c.args.block) c.deref.ensures.value
     ∙ ap (λ (ps : List (List Entry)). slice_get ps c.args.block) planned.planned.cut))

@@ -5,8 +5,8 @@ use Rattle.block.specs.EncodedEntry.{Entry}
 use Rattle.table.specs.declared.table_check.TheConstants.{MAX_TABLE_LEN}
 use Rattle.encoding.specs.declared.planned_block.PlannedBlock.{PlannedBlock}
 use Rattle.cut.specs.declared.planned_output.PlannedOutput.{PlannedOutput}
-use Rattle.encoding.specs.Planned.{parts_of}
-use Rattle.cut.specs.Opened.{entries_in_blocks}
+use Rattle.encoding.specs.PlannedBlocks.{block_lists}
+use Rattle.cut.specs.OutputInProgress.{entries_in_blocks}
 use Rattle.cut.specs.OutputPlan.{PlanSeen}
 use Rattle.cut.specs.Plan.{OutputView, block_ends, block_ends_from}
 use Rattle.cut.specs.PlanInvariant.{planned_of}
@@ -31,5 +31,5 @@ returns g c =
     subst (λ (s : PlanSeen). IfSome (slice_get s.outputs c.args.place) (λ (q : OutputView). c.end_of.result ≡ slice_get (block_ends s.options q.entries) c.args.block)) c.self.view_is
     (if_here (λ (q : OutputView). c.end_of.result ≡ slice_get (block_ends was.options q.entries) c.args.block) was.outputs.items c.args.place p lt (sym c.index-output.ensures)
     (c.end_of.ensures
-    ∙ ap (λ (bs : List PlannedBlock). slice_get (block_ends_from 0 (parts_of bs)) c.args.block) c.deref.ensures.value
+    ∙ ap (λ (bs : List PlannedBlock). slice_get (block_ends_from 0 (block_lists bs)) c.args.block) c.deref.ensures.value
     ∙ ap (λ (ps : List (List Entry)). slice_get (block_ends_from 0 ps) c.args.block) planned.planned.cut))

@@ -6,8 +6,8 @@ use Rattle.table.specs.Table.{stored_blocks, table}
 use Rattle.encoding.specs.declared.planned_block.PlannedBlock.{PlannedBlock}
 use Rattle.cut.specs.declared.piece.Piece.{Piece}
 use Rattle.cut.specs.declared.planned_output.PlannedOutput.{PlannedOutput}
-use Rattle.cut.specs.Divided.{blocks_at, piece_blocks}
-use Rattle.encoding.specs.Planned.{parts_of}
+use Rattle.cut.specs.PieceDivision.{blocks_at, piece_blocks}
+use Rattle.encoding.specs.PlannedBlocks.{block_lists}
 use Rattle.cut.specs.Plan.{jobs, encoded_pieces}
 use Rattle.cut.specs.OutputPlan.{PlanSeen, lists_in}
 use Rattle.cut.specs.PlanInvariant.{IsPlannedOutput, planned_of}
@@ -67,8 +67,8 @@ returns-clause-ok g c =
     plan_place g.C.Comparator.cmp g.C.Comparator.short_keys was.options was.outputs.items was.pieces.items was.counts.items c.args.job p c.self.invariant lt (sym c.index-piece.ensures) in
     let blocks : blocks_at was.outputs.items p.output ≡ c.deref.result.now = blocks_here was.outputs.items p.output q place.output (sym c.index-output.ensures) ∙ sym c.deref.ensures.value in
     let range : piece_blocks was.outputs.items p ≡ c.range_of-blocks.result.now = ap (λ (bs : List PlannedBlock). slice_range bs p.from p.to) blocks ∙ sym c.range_of-blocks.ensures in
-    let found : slice_get (encoded_pieces was.options (lists_in (map planned_of was.outputs.items))) c.args.job ≡ Some (stored_blocks was.options.restart_interval (parts_of c.range_of-blocks.result.now)) =
+    let found : slice_get (encoded_pieces was.options (lists_in (map planned_of was.outputs.items))) c.args.job ≡ Some (stored_blocks was.options.restart_interval (block_lists c.range_of-blocks.result.now)) =
     piece_at g.C.Comparator.cmp g.C.Comparator.short_keys was.options was.outputs.items was.pieces.items was.counts.items c.args.job p c.self.invariant lt (sym c.index-piece.ensures)
-    ∙ ap (λ (bs : List PlannedBlock). Some (stored_blocks was.options.restart_interval (parts_of bs))) range in
+    ∙ ap (λ (bs : List PlannedBlock). Some (stored_blocks was.options.restart_interval (block_lists bs))) range in
     subst (λ (s : PlanSeen). IfOk c.encode_blocks.result (λ bytes. slice_get (encoded_pieces s.options (lists_in s.outputs)) c.args.job ≡ Some bytes.items)) c.self.view_is
-    (bytes_are c.encode_blocks.result (stored_blocks was.options.restart_interval (parts_of c.range_of-blocks.result.now)) (slice_get (encoded_pieces was.options (lists_in (map planned_of was.outputs.items))) c.args.job) c.encode_blocks.ensures found)
+    (bytes_are c.encode_blocks.result (stored_blocks was.options.restart_interval (block_lists c.range_of-blocks.result.now)) (slice_get (encoded_pieces was.options (lists_in (map planned_of was.outputs.items))) c.args.job) c.encode_blocks.ensures found)

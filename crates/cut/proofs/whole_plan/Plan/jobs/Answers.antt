@@ -1,5 +1,5 @@
 use Rattle.std.proofs.Common.{◌≡◌, length, map, ap, subst, arith}
-use Rattle.cut.specs.Divided.{piece_limit}
+use Rattle.cut.specs.PieceDivision.{piece_limit}
 use Rattle.cut.specs.Plan.{jobs}
 use Rattle.cut.specs.OutputPlan.{PlanSeen, lists_in}
 use Rattle.cut.specs.PlanInvariant.{block_count, planned_of}

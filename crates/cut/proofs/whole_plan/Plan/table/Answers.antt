@@ -5,7 +5,7 @@ use Rattle.std.proofs.lemmas.List.{length-map}
 use Rattle.block.specs.BlockFormat.{block}
 use Rattle.table.specs.Table.{IndexKeys, index_keys, table, table_of_blocks}
 use Rattle.encoding.specs.declared.planned_block.PlannedBlock.{PlannedBlock}
-use Rattle.encoding.specs.Planned.{IsPlanned, parts_of}
+use Rattle.encoding.specs.PlannedBlocks.{IsPlanned, block_lists}
 use Rattle.keep.proofs.OnAnswers.{same_ok}
 use Rattle.cut.specs.declared.planned_output.PlannedOutput.{PlannedOutput}
 use Rattle.cut.specs.OutputPlan.{PlanSeen}
@@ -39,7 +39,7 @@ whole_table-requires-clause-fits g c =
     let keys : IndexKeys = index_keys g.C.Comparator.cmp g.C.Comparator.short_keys in
     let lt : c.args.place < length was.outputs.items = omega (arith, subst (λ (s : PlanSeen). c.args.place < length s.outputs) (sym c.self.view_is) c.requires, length-map was.outputs.items planned_of) in
     let planned = output_at g.C.Comparator.cmp g.C.Comparator.short_keys was.options was.outputs.items was.pieces.items was.counts.items c.args.place p c.self.invariant lt (sym c.index-output.ensures) in
-    subst (λ (bs : List PlannedBlock). length (table_of_blocks keys was.options.restart_interval (parts_of bs)) ≤ 2 ^ 30) (sym c.deref.ensures.value) (one_fits g.C.Comparator.cmp g.C.Comparator.short_keys was.options p planned)
+    subst (λ (bs : List PlannedBlock). length (table_of_blocks keys was.options.restart_interval (block_lists bs)) ≤ 2 ^ 30) (sym c.deref.ensures.value) (one_fits g.C.Comparator.cmp g.C.Comparator.short_keys was.options p planned)
 
 pub returns-clause-table : goal.returns-clause-table
 returns-clause-table g c =
@@ -48,7 +48,7 @@ returns-clause-table g c =
     let keys : IndexKeys = index_keys g.C.Comparator.cmp g.C.Comparator.short_keys in
     let lt : c.args.place < length was.outputs.items = omega (arith, subst (λ (s : PlanSeen). c.args.place < length s.outputs) (sym c.self.view_is) c.requires, length-map was.outputs.items planned_of) in
     let planned = output_at g.C.Comparator.cmp g.C.Comparator.short_keys was.options was.outputs.items was.pieces.items was.counts.items c.args.place p c.self.invariant lt (sym c.index-output.ensures) in
-    let bytes : c.in_ok-bytes.bytes.items ≡ table_of_blocks keys was.options.restart_interval (parts_of p.blocks.items) =
-    sym (same_ok _ _ c.in_ok-bytes.ensures) ∙ ap (λ (bs : List PlannedBlock). table_of_blocks keys was.options.restart_interval (parts_of bs)) c.deref.ensures.value in
+    let bytes : c.in_ok-bytes.bytes.items ≡ table_of_blocks keys was.options.restart_interval (block_lists p.blocks.items) =
+    sym (same_ok _ _ c.in_ok-bytes.ensures) ∙ ap (λ (bs : List PlannedBlock). table_of_blocks keys was.options.restart_interval (block_lists bs)) c.deref.ensures.value in
     subst (λ (s : PlanSeen). slice_get (plan_tables (table g.C.Comparator.cmp g.C.Comparator.short_keys s.options) s.outputs) c.args.place ≡ Some (p.number, c.in_ok-bytes.bytes.items)) c.self.view_is
     (table_here g.C.Comparator.cmp g.C.Comparator.short_keys was.options was.outputs.items c.args.place p lt (sym c.index-output.ensures) planned ∙ ap (λ (bs : List ℕ). Some (p.number, bs)) (sym bytes))

@@ -2,18 +2,18 @@ use Rattle.std.proofs.Common.{◌<◌, length, sym, ap, subst, ◌∙◌}
 use Rattle.std.specs.Prelude.{slice_get}
 use Rattle.std.specs.Option.{option_map}
 use Rattle.block.specs.EncodedEntry.{Entry}
-use Rattle.encoding.specs.Walking.{Walking}
-use Rattle.encoding.proofs.Walks.{in_piece, next_is}
+use Rattle.encoding.specs.EntryWalkView.{EntryWalkView}
+use Rattle.encoding.proofs.Walks.{in_slice, next_is}
 use Rattle.encoding.proofs.walk.EntryWalk.value.Goals as goal
 
 pub value-requires : goal.value-requires
 value-requires c =
-    in_piece c.self.inside.start c.self.inside.piece c.self.inside.passed _ c.self.invariant (subst (λ (w : Walking). 0 < length w.rest) (sym c.self.view_is) c.requires)
+    in_slice c.self.inside.start c.self.inside.slice c.self.inside.passed _ c.self.invariant (subst (λ (w : EntryWalkView). 0 < length w.rest) (sym c.self.view_is) c.requires)
 
 pub returns : goal.returns
 returns c =
     let was = c.self.inside in
-    let lt : was.passed < length was.piece = in_piece was.start was.piece was.passed _ c.self.invariant (subst (λ (w : Walking). 0 < length w.rest) (sym c.self.view_is) c.requires) in
-    ap (λ (w : Walking). option_map (λ (e : Entry). e.value) (slice_get w.rest 0)) (sym c.self.view_is)
-    ∙ ap (option_map (λ (e : Entry). e.value)) (next_is was.start was.piece was.passed _ c.self.invariant lt)
+    let lt : was.passed < length was.slice = in_slice was.start was.slice was.passed _ c.self.invariant (subst (λ (w : EntryWalkView). 0 < length w.rest) (sym c.self.view_is) c.requires) in
+    ap (λ (w : EntryWalkView). option_map (λ (e : Entry). e.value) (slice_get w.rest 0)) (sym c.self.view_is)
+    ∙ ap (option_map (λ (e : Entry). e.value)) (next_is was.start was.slice was.passed _ c.self.invariant lt)
     ∙ c.value.ensures

@@ -5,7 +5,7 @@ use Rattle.block.specs.EncodedEntry.{Entry}
 use Rattle.block.specs.BuilderView.{last_key}
 use Rattle.keep.specs.EntryChunks.{all_kept, AreInChunks}
 use Rattle.keep.proofs.LastKept.{last_of_all}
-use Rattle.keep.proofs.PieceLists.{all_kept_push, pieces_same, pieces_push}
+use Rattle.keep.proofs.ChunkLists.{all_kept_push, chunks_same, chunks_push}
 use Rattle.keep.proofs.entry_chunks.EntryChunks.push.Goals as goal
 
 pub invariant_of-self-2 : goal.invariant_of-self-2
@@ -15,11 +15,11 @@ invariant_of-self-2 c =
     let last : List Entry = c.make_room.new.last in
     let e : Entry = record { key = c.args.key.bytes.now; value = c.args.value.now } in
     let moved : AreInChunks full last (length was.tally.items) =
-    pieces_same was.full.items full was.last last (length was.tally.items) c.self.invariant c.make_room.ensures.same (c.make_room.ensures.full c.self.invariant.full) c.make_room.ensures.last in
+    chunks_same was.full.items full was.last last (length was.tally.items) c.self.invariant c.make_room.ensures.same (c.make_room.ensures.full c.self.invariant.full) c.make_room.ensures.last in
     let items : c.push-2.new.self.items ≡ was.tally.items ++ tt ∷ [] = search rules in
     let count : length c.push-2.new.self.items ≡ length was.tally.items + 1 = omega (arith, ap length items, length-append was.tally.items (tt ∷ [])) in
     subst (λ (es : List Entry). AreInChunks full es (length c.push-2.new.self.items)) (sym c.in_ok-push.ensures.ok)
-    (pieces_push full last (length was.tally.items) (length c.push-2.new.self.items) e moved count c.args.key.lawful c.in_ok-make_room.ensures.room)
+    (chunks_push full last (length was.tally.items) (length c.push-2.new.self.items) e moved count c.args.key.lawful c.in_ok-make_room.ensures.room)
 
 pub returns-clause-ok : goal.returns-clause-ok
 returns-clause-ok c =

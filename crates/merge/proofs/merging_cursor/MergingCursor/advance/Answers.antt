@@ -2,8 +2,8 @@ use Rattle.std.proofs.Common.{List, ℕ, refl, length-set, length, map, set, dro
 use Rattle.std.proofs.lemmas.List.{length-map, map-set, with_items_is}
 use Rattle.std.proofs.lemmas.Result.{on_err_weaker}
 use Rattle.block.specs.EncodedEntry.{Entry}
-use Rattle.merge.specs.Merged.{merged}
-use Rattle.merge.specs.Least.{IsAdvanced, IsMerging}
+use Rattle.merge.specs.MergedLists.{merged}
+use Rattle.merge.specs.LeastList.{IsAdvanced, IsMerging}
 use Rattle.merge.specs.Tournament.{IsTournament, AreHeads, IsHeaded}
 use Rattle.merge.proofs.Heads.{cursors_on}
 use Rattle.merge.proofs.Leasts.{at_place, place_within, map_set_same, advanced, merged_behind}

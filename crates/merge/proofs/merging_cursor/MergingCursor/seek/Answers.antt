@@ -3,8 +3,8 @@ use Rattle.std.specs.Vec.{with_items}
 use Rattle.std.proofs.lemmas.List.{with_items_is}
 use Rattle.std.proofs.lemmas.Result.{on_ok_weaker, on_err_weaker}
 use Rattle.block.specs.EncodedEntry.{Entry}
-use Rattle.table.specs.ReadingCursors.{entries_from}
-use Rattle.merge.specs.Merged.{merged}
+use Rattle.table.specs.EntriesFrom.{entries_from}
+use Rattle.merge.specs.MergedLists.{merged}
 use Rattle.merge.specs.Seeks.{each_from, EachLeavesFrom}
 use Rattle.merge.proofs.Merges.{merged_from, leaves_merged}
 use Rattle.merge.proofs.merging_cursor.MergingCursor.seek.Goals as goal

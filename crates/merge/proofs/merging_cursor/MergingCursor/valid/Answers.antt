@@ -1,8 +1,8 @@
 use Rattle.std.proofs.Common.{List, length, map, ◌<◌, subst}
 use Rattle.std.specs.Prelude.{IsTrue, ◌↔◌}
 use Rattle.block.specs.EncodedEntry.{Entry}
-use Rattle.merge.specs.Merged.{entries_of_lists, merged}
-use Rattle.merge.specs.Least.{IsMerging}
+use Rattle.merge.specs.MergedLists.{entries_of_lists, merged}
+use Rattle.merge.specs.LeastList.{IsMerging}
 use Rattle.merge.proofs.SortedEntries.{sorted_never_falls}
 use Rattle.merge.proofs.Leasts.{has_entries}
 use Rattle.merge.proofs.merging_cursor.MergingCursor.valid.Goals as goal

@@ -1,6 +1,6 @@
 use Rattle.std.proofs.Common.{◌≡◌, length}
 use Rattle.ikey.specs.Bytewise.{bytewise_cmp}
-use Rattle.table.specs.ReadingCursors.{entries_from}
+use Rattle.table.specs.EntriesFrom.{entries_from}
 use Rattle.pairing.proofs.tested_cursor.TestedCursorCursorBytewise.seek.Given as goal
 
 abbrev pub invariant-loop-self : goal.invariant-loop-self

@@ -1,5 +1,5 @@
 use Rattle.std.proofs.Common.{◌≡◌, rules, [], ◌∷◌}
-use Rattle.pick.specs.Picked.{picked_in}
+use Rattle.pick.specs.PickedInputs.{picked_in}
 use Rattle.request.specs.EditOf.{deletions_of}
 use Rattle.request.proofs.EditLevels.{levels_of}
 use Rattle.request.proofs.request.Request.edit.Goals as goal

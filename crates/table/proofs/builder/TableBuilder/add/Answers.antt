@@ -2,11 +2,11 @@ use Rattle.std.proofs.Common.{◌≡◌, ℕ, List, [], ◌++◌, ◌∷◌, len
 use Rattle.block.specs.EncodedEntry.{Entry}
 use Rattle.block.specs.BlockFormat.{block}
 use Rattle.block.specs.BuilderView.{BlockBuilding, last_key, with_entry}
-use Rattle.ikey.specs.Short.{internal_separator_of}
+use Rattle.ikey.specs.ShortenedKeys.{internal_separator_of}
 use Rattle.table.specs.declared.options.Options.{Options}
 use Rattle.table.specs.Table.{index_keys}
 use Rattle.table.specs.declared.flushed_block.FlushedBlock.{FlushedBlock}
-use Rattle.table.specs.Flushed.{flushed_block_at}
+use Rattle.table.specs.FlushedBlocks.{flushed_block_at}
 use Rattle.table.specs.BuilderView.{TableBuilding}
 use Rattle.table.specs.BuilderState.{entries_so_far, IsAnyTableBuilder}
 use Rattle.table.proofs.Builds.{Adds, first_fits, open_fits, grows, flushes}

@@ -2,9 +2,9 @@ use Rattle.std.proofs.Common.{◌≡◌, ◌++◌, ◌∷◌, [], ℕ, List, len
 use Rattle.coding.specs.Answers.{EqualOrMemory}
 use Rattle.block.specs.BlockFormat.{block}
 use Rattle.block.specs.BuilderView.{last_key}
-use Rattle.ikey.specs.Short.{internal_successor_of}
+use Rattle.ikey.specs.ShortenedKeys.{internal_successor_of}
 use Rattle.table.specs.Table.{index_keys, table, within_limit}
-use Rattle.table.specs.Flushed.{flushed_block_at}
+use Rattle.table.specs.FlushedBlocks.{flushed_block_at}
 use Rattle.table.specs.BuilderView.{TableBuilding}
 use Rattle.table.specs.BuilderState.{entries_so_far}
 use Rattle.table.proofs.Closes.{closed, closed_is, closes_last, closes_none, some_length}

@@ -6,7 +6,7 @@ use Rattle.block.specs.BlockFormat.{block}
 use Rattle.block.specs.BuilderView.{BlockBuilding}
 use Rattle.table.specs.declared.flushed_block.FlushedBlock.{FlushedBlock}
 use Rattle.table.specs.Table.{closing_bytes}
-use Rattle.table.specs.Flushed.{index_entries}
+use Rattle.table.specs.FlushedBlocks.{index_entries}
 use Rattle.table.proofs.Indexes.{length-closing}
 use Rattle.coding.proofs.Refusals.{unless_from}
 use Rattle.table.proofs.Refused.{over_limit, in_limit}

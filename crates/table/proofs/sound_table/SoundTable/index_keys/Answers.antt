@@ -3,7 +3,7 @@ use Rattle.std.proofs.lemmas.List.{append-nil, nil_from_length, length-drop}
 use Rattle.coding.proofs.Binds.{done}
 use Rattle.block.specs.EncodedEntry.{Entry}
 use Rattle.ikey.specs.Key.{user_of}
-use Rattle.table.specs.ReadingEntries.{HaveKeys}
+use Rattle.table.specs.EntryTests.{HaveKeys}
 use Rattle.table.specs.TableContents.{Contents}
 use Rattle.table.proofs.CheckedTables.{users_are}
 use Rattle.table.proofs.Walks.{indexes, keys_behind, named_keys, none_valid, users_go_on, users_named}

@@ -1,6 +1,6 @@
 use Rattle.std.proofs.Common.{◌≡◌, ◌++◌, map, length}
 use Rattle.ikey.specs.Key.{user_of}
-use Rattle.table.specs.ReadingEntries.{HaveKeys}
+use Rattle.table.specs.EntryTests.{HaveKeys}
 use Rattle.table.proofs.sound_table.SoundTable.index_users.Given as goal
 
 abbrev pub invariant-loop-alloc : goal.invariant-loop-alloc

@@ -1,6 +1,6 @@
 use Rattle.std.proofs.Common.{◌≡◌, None, sym, ap, subst, ◌∙◌}
-use Rattle.table.specs.ReadingCursors.{EntriesRise}
-use Rattle.table.specs.ReadingEntries.{HaveInternalKeys}
+use Rattle.table.specs.EntriesFrom.{EntriesRise}
+use Rattle.table.specs.EntryTests.{HaveInternalKeys}
 use Rattle.table.specs.TableContents.{Contents, entries_of}
 use Rattle.table.specs.Tallies.{tally_of}
 use Rattle.table.proofs.CheckedTables.{blocks_are, contents_are, read_data}

@@ -1,6 +1,6 @@
 use Rattle.std.proofs.Common.{◌≡◌, ◌<◌, ℕ, List, length, drop, ap, sym, subst, ◌∙◌}
 use Rattle.block.specs.EncodedEntry.{Entry}
-use Rattle.block.specs.Sound.{BlockView}
+use Rattle.block.specs.BlockView.{BlockView}
 use Rattle.table.specs.IndexWalk.{Indexes, IsWalkLeft}
 use Rattle.table.proofs.Walks.{left_all}
 use Rattle.table.proofs.table_cursor.TableCursor.new.Goals as goal

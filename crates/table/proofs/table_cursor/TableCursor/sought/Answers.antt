@@ -1,8 +1,8 @@
 use Rattle.std.proofs.Common.{[], List, length, drop, sym, ap, subst, arith}
 use Rattle.std.proofs.lemmas.List.{nil_from_length, length-drop}
 use Rattle.block.specs.EncodedEntry.{Entry}
-use Rattle.block.specs.Sound.{BlockView}
-use Rattle.table.specs.ReadingCursors.{entries_from}
+use Rattle.block.specs.BlockView.{BlockView}
+use Rattle.table.specs.EntriesFrom.{entries_from}
 use Rattle.table.specs.IndexWalk.{IsWalkLeft}
 use Rattle.table.proofs.Walks.{Seeks, seek_begins, seek_enters, seek_ends, seek_leaves, first_data, first_named, named_keys, none_valid, some_valid}
 use Rattle.table.proofs.table_cursor.TableCursor.sought.Goals as goal

@@ -1,5 +1,5 @@
 use Rattle.std.proofs.Common.{length}
-use Rattle.table.specs.ReadingCursors.{entries_from}
+use Rattle.table.specs.EntriesFrom.{entries_from}
 use Rattle.table.proofs.Walks.{Seeks}
 use Rattle.table.proofs.table_cursor.TableCursor.sought.Given as goal
 

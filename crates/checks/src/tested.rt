@@ -1,9 +1,0 @@
-//! What a test tells of a lawful version.
-
-/// What a test tells of a lawful version: how many files it has, and how many entries all their
-/// tables have.
-#[derive(Clone, Copy, Debug, PartialEq, Eq)]
-pub struct Tested {
-    pub files: usize,
-    pub entries: u128,
-}

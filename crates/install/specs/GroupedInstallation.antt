@@ -1,0 +1,58 @@
+-- What an installation guarantees that writes its tables in groups.
+use Rattle.std.specs.Prelude.{ℕ, List}
+use Rattle.std.specs.List.{flat_map}
+use Rattle.std.specs.Prelude.{◌≡◌, ◌≢◌, ◌++◌, codes, map, Some, Result, IfErr, IsErrAnd}
+use Rattle.coding.specs.Answers.{UnlessMemory, fault}
+use Rattle.coding.specs.declared.fault.Fault.{Fault}
+use Rattle.coding.specs.declared.fault.FaultName.TheVariants.{Changed}
+use Rattle.ikey.specs.Comparator.{KeyOrder}
+use Rattle.edit.specs.Version.{State}
+use Rattle.folder.specs.Calls.{Done, Files, Tells}
+use Rattle.folder.specs.CallSequence.{MakesCalls}
+use Rattle.folder.specs.Names.{current_text}
+use Rattle.folder.specs.OpenAnswer.{IsStopped}
+use Rattle.folder.specs.Reports.{ReportsDevice}
+use Rattle.folder.specs.declared.folder.Folder.{Ghosts}
+use Rattle.folder.specs.declared.order.Order.{Order}
+use Rattle.install.specs.Install.{IsEditedBy, IsStoppedOrChanged, SurvivesCrash}
+use Rattle.install.specs.Install.{calls_before_rename, install_calls, manifest_bytes}
+use Rattle.install.specs.Install.{next_version_tables}
+
+-- the tables of all groups, in their order
+abbrev pub tables_of_groups : List (List (ℕ × List ℕ)) → List (ℕ × List ℕ)
+tables_of_groups groups = flat_map (λ (g : List (ℕ × List ℕ)). g) groups
+
+-- What an installation guarantees that writes its tables in groups: the edit makes the edited
+-- version of this one, by a manifest of this number. `install` has the same clauses, of one group.
+pub record IsGroupedInstallation {F X : Type 0} (g : Ghosts F) (name : List ℕ) (cmp : KeyOrder)
+    (v : State) (opened number : ℕ) (groups : List (List (ℕ × List ℕ))) (edit : List ℕ)
+    (old new : F) (result : Result X Fault) : Type 0 where
+  -- the calls that write, in their order, up to one that fails
+  pub runs : MakesCalls (install_calls number groups (manifest_bytes name cmp v edit))
+      (g.calls old) (g.calls new) (g.tells old) (g.tells new) result
+  -- at Changed those before the rename were made, and no others
+  pub left : IfErr result (λ e. e ≡ fault Changed → g.calls new ≡ g.calls old
+      ++ map Done (calls_before_rename number groups (manifest_bytes name cmp v edit)))
+  -- a crash at any moment leaves the version before or the edited one
+  pub survives : (order : Order) (next : State) (tables : List (ℕ × List ℕ))
+      → IsEditedBy name cmp order v number (tables_of_groups groups) edit next
+      → SurvivesCrash cmp order v tables next
+      (next_version_tables cmp next (tables_of_groups groups) tables)
+      (g.calls old) (g.calls new) (g.tells old) (g.tells new) result
+  -- at Changed it leaves the version before
+  pub before : (order : Order) (next : State) (tables : List (ℕ × List ℕ))
+      → IsEditedBy name cmp order v number (tables_of_groups groups) edit next
+      → IfErr result (λ e. e ≡ fault Changed
+      → SurvivesCrash cmp order v tables v tables
+      (g.calls old) (g.calls new) (g.tells old) (g.tells new) result)
+  -- only Device, Changed and Memory are answered, Device only if the device failed
+  pub refused : IfErr result
+      (λ e. UnlessMemory e (IsStoppedOrChanged (g.failed old) (g.failed new) e))
+  -- Changed isn't answered if CURRENT is the one that was opened, and Ok isn't if it is another one
+  pub same_current : (files : Files) → Tells (g.tells old) files →
+      files (codes "CURRENT") ≡ Some (current_text opened) →
+      IfErr result (λ e. UnlessMemory e (IsStopped (g.failed old) (g.failed new) e))
+  pub other_current : (files : Files) → Tells (g.tells old) files →
+      files (codes "CURRENT") ≢ Some (current_text opened) → IsErrAnd result
+      (λ e. UnlessMemory e (IsStoppedOrChanged (g.failed old) (g.failed new) e))
+  pub device : ReportsDevice g old new result

@@ -1,12 +1,12 @@
 -- Files that start in a range.
 use Rattle.std.specs.Prelude.{ℕ, Bool, true, false, not, ◌&&◌, List}
-use Rattle.std.specs.declared.cmp.Ordering.{Ordering}
 use Rattle.ikey.specs.Key.{user_of}
+use Rattle.ikey.specs.Comparator.{KeyOrder}
 use Rattle.split.specs.Bounds.{is_user_before}
 use Rattle.split.specs.Ranges.{KeyRange}
 use Rattle.edit.specs.declared.meta.FileMeta.{FileMeta}
 
 -- whether a file begins in a range
-abbrev pub starts_in : (List ℕ → List ℕ → Ordering) → KeyRange → FileMeta → Bool
+abbrev pub starts_in : KeyOrder → KeyRange → FileMeta → Bool
 starts_in cmp range f = is_user_before cmp range.upper true (user_of f.smallest)
     && not (is_user_before cmp range.lower false (user_of f.smallest))

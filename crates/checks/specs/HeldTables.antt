@@ -2,9 +2,9 @@
 use Rattle.std.specs.Prelude.{◌≡◌, ℕ, Bool, true, false, List, map, Option, Some, None}
 use Rattle.std.specs.Prelude.{Result, Ok, Err}
 use Rattle.std.specs.List.{All, AllZip}
-use Rattle.std.specs.declared.cmp.Ordering.{Ordering}
 use Rattle.coding.specs.Answers.{IsThen}
 use Rattle.coding.specs.declared.fault.Fault.{Fault}
+use Rattle.ikey.specs.Comparator.{KeyOrder}
 use Rattle.table.specs.TableContents.{Contents, contents_reading}
 use Rattle.folder.specs.Calls.{Files}
 use Rattle.folder.specs.LoadedTables.{IsLoaded, IsTableAnswer}
@@ -13,8 +13,7 @@ use Rattle.reads.specs.Tables.{NumberedContents}
 use Rattle.checks.specs.TableReadings.{tables_reading}
 
 -- the table of a number among these files, and what it holds
-pub record IsTableIn (cmp : List ℕ → List ℕ → Ordering) (files : Files) (number : ℕ) (x : Contents)
-    : Type 0 where
+pub record IsTableIn (cmp : KeyOrder) (files : Files) (number : ℕ) (x : Contents) : Type 0 where
   pub there : IsTableAnswer (IsFileIn files) number (Ok x.bytes)
   pub read : contents_reading cmp x.bytes ≡ Ok x
 
@@ -23,30 +22,30 @@ abbrev pub held_numbers : List NumberedContents → List ℕ
 held_numbers tables = map (λ (t : NumberedContents). t.number) tables
 
 -- each of the tables is the one of its number among the files
-abbrev pub AreHeldIn : (List ℕ → List ℕ → Ordering) → Files → List NumberedContents → Type 0
+abbrev pub AreHeldIn : KeyOrder → Files → List NumberedContents → Type 0
 AreHeldIn cmp files tables =
     All (λ (t : NumberedContents). IsTableIn cmp files t.number t.contents) tables
 
 -- these are the tables of the numbers among the files, in order
-abbrev pub AreFound : (List ℕ → List ℕ → Ordering) → Files → List ℕ → List NumberedContents → Type 0
+abbrev pub AreFound : KeyOrder → Files → List ℕ → List NumberedContents → Type 0
 AreFound cmp files numbers tables =
     AllZip (λ (n : ℕ) (t : NumberedContents). (t.number ≡ n) × IsTableIn cmp files n t.contents)
     numbers tables
 
 -- the bytes of each table read as what it holds
-abbrev pub AreReadAs : (List ℕ → List ℕ → Ordering) → List NumberedContents → Type 0
+abbrev pub AreReadAs : KeyOrder → List NumberedContents → Type 0
 AreReadAs cmp tables =
     All (λ (t : NumberedContents). contents_reading cmp t.contents.bytes ≡ Ok t.contents) tables
 
 -- the tables of the numbers, or the first refusal: all of them are read, in order, and then each is
 -- checked
-abbrev pub IsCheckedAnswer : (List ℕ → List ℕ → Ordering) → Files → List ℕ →
-    Result (List NumberedContents) Fault → Type 0
+abbrev pub IsCheckedAnswer : KeyOrder → Files → List ℕ → Result (List NumberedContents) Fault →
+    Type 0
 IsCheckedAnswer cmp files numbers =
     IsThen (IsLoaded (IsFileIn files) numbers) (λ loaded answer. tables_reading cmp loaded ≡ answer)
 
 -- the tables of the numbers; None if one of them is missing or invalid
-abbrev pub IsFoundAnswer : (List ℕ → List ℕ → Ordering) → Files → List ℕ →
+abbrev pub IsFoundAnswer : KeyOrder → Files → List ℕ →
     Result (Option (List NumberedContents)) Fault → Type 0
 IsFoundAnswer cmp files numbers (Ok (Some tables)) = AreFound cmp files numbers tables
 IsFoundAnswer cmp files numbers (Ok None) =

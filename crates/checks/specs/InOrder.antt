@@ -1,9 +1,9 @@
 -- The tables of a version, read and checked in order.
 use Rattle.std.specs.Prelude.{◌≡◌, ℕ, List, ◌++◌, Option, Some, None, Result, Ok, Err}
 use Rattle.std.specs.List.{AllZip}
-use Rattle.std.specs.declared.cmp.Ordering.{Ordering}
 use Rattle.coding.specs.Answers.{IsThen}
 use Rattle.coding.specs.declared.fault.Fault.{Fault}
+use Rattle.ikey.specs.Comparator.{KeyOrder}
 use Rattle.folder.specs.Calls.{Files}
 use Rattle.folder.specs.LoadedTables.{IsLoaded, IsTableOf}
 use Rattle.folder.specs.ReadsAs.{IsFileIn}
@@ -11,22 +11,21 @@ use Rattle.reads.specs.Tables.{NumberedContents}
 use Rattle.checks.specs.TableReadings.{tables_reading}
 
 -- all tables are read, and then each is checked
-abbrev pub AreChecked : (List ℕ → List ℕ → Ordering) → Files → List ℕ → Result (Unit {0}) Fault →
-    Type 0
+abbrev pub AreChecked : KeyOrder → Files → List ℕ → Result (Unit {0}) Fault → Type 0
 AreChecked cmp files numbers =
     IsThen (IsLoaded (IsFileIn files) numbers) (λ loaded.
     IsThen (λ checked. tables_reading cmp loaded ≡ checked) (λ tables answer. answer ≡ Ok tt))
 
 -- the refusal of the first invalid table, if one is
-abbrev pub IsFirstRefusal : (List ℕ → List ℕ → Ordering) → List (ℕ × List ℕ) → Option Fault → Type 0
+abbrev pub IsFirstRefusal : KeyOrder → List (ℕ × List ℕ) → Option Fault → Type 0
 IsFirstRefusal cmp loaded None = (tables : List NumberedContents)
     × (tables_reading cmp loaded ≡ Ok tables)
 IsFirstRefusal cmp loaded (Some e) = tables_reading cmp loaded ≡ Err e
 
 -- the numbers so far have these tables, of which the first invalid one has this refusal; the rest
 -- is still to come
-pub record AreCheckedSoFar (cmp : List ℕ → List ℕ → Ordering) (files : Files)
-    (numbers rest : List ℕ) (first : Option Fault) : Type 0 where
+pub record AreCheckedSoFar (cmp : KeyOrder) (files : Files) (numbers rest : List ℕ)
+    (first : Option Fault) : Type 0 where
   pub before : List ℕ
   pub loaded : List (ℕ × List ℕ)
   pub parts : before ++ rest ≡ numbers

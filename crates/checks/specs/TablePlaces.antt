@@ -2,10 +2,10 @@
 use Rattle.std.specs.Prelude.{◌≡◌, ℕ, List, [], ◌∷◌, map, Contains, Option, Some, None}
 use Rattle.std.specs.Prelude.{Result, Ok, Err}
 use Rattle.std.specs.List.{AllZip, filter_map}
-use Rattle.std.specs.declared.cmp.Ordering.{Ordering}
 use Rattle.coding.specs.Answers.{fault}
 use Rattle.coding.specs.declared.fault.Fault.{Fault}
 use Rattle.coding.specs.declared.fault.FaultName.TheVariants.{Missing}
+use Rattle.ikey.specs.Comparator.{KeyOrder}
 use Rattle.table.specs.SoundTables.{IsCheckedTable}
 use Rattle.table.specs.declared.bounds.Bounds.{Bounds}
 use Rattle.folder.specs.Calls.{ToldFiles}
@@ -49,7 +49,7 @@ IsLoadedIfThere tells numbers (Ok None) = IsLoaded tells numbers (Err (fault Mis
 IsLoadedIfThere tells numbers (Err e) = ⊥
 
 -- the bytes of each are a table with these bounds
-abbrev pub AreBounds : (List ℕ → List ℕ → Ordering) → List (ℕ × List ℕ) → List Bounds → Type 0
+abbrev pub AreBounds : KeyOrder → List (ℕ × List ℕ) → List Bounds → Type 0
 AreBounds cmp loaded bounds =
     AllZip (λ (t : ℕ × List ℕ) (b : Bounds). IsCheckedTable cmp t.1 b)
     loaded bounds

@@ -1,20 +1,18 @@
 -- The tables of a version, each checked.
 use Rattle.std.specs.Prelude.{ℕ, List, [], ◌∷◌, Result, Ok}
-use Rattle.std.specs.declared.cmp.Ordering.{Ordering}
 use Rattle.coding.specs.Answers.{◌>>=◌}
 use Rattle.coding.specs.declared.fault.Fault.{Fault}
+use Rattle.ikey.specs.Comparator.{KeyOrder}
 use Rattle.table.specs.TableContents.{contents_reading}
 use Rattle.reads.specs.Tables.{NumberedContents}
 
 -- the table of a number, or the first test that its bytes fail
-abbrev pub numbered_reading : (List ℕ → List ℕ → Ordering) → ℕ × List ℕ →
-    Result NumberedContents Fault
+abbrev pub numbered_reading : KeyOrder → ℕ × List ℕ → Result NumberedContents Fault
 numbered_reading cmp table = contents_reading cmp table.1 >>=
     λ contents. Ok (record { number = table.0; contents = contents })
 
 -- all tables in order, or the refusal of the first that is invalid
-abbrev pub tables_reading : (List ℕ → List ℕ → Ordering) → List (ℕ × List ℕ) →
-    Result (List NumberedContents) Fault
+abbrev pub tables_reading : KeyOrder → List (ℕ × List ℕ) → Result (List NumberedContents) Fault
 tables_reading cmp [] = Ok []
 tables_reading cmp (t ∷ ts) = do
   first ← numbered_reading cmp t

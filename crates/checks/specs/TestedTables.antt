@@ -1,13 +1,14 @@
 -- The test of a version with tables that files hold.
-use Rattle.std.specs.Prelude.{◌≡◌, ℕ, List, length, Option, Result, Ok}
+use Rattle.std.specs.Prelude.{◌≡◌, ℕ, List, length, Result, Ok}
 use Rattle.std.specs.List.{flat_map}
-use Rattle.std.specs.declared.cmp.Ordering.{Ordering}
 use Rattle.coding.specs.Answers.{IsThen}
 use Rattle.coding.specs.declared.fault.Fault.{Fault}
+use Rattle.ikey.specs.Comparator.{KeyOrder}
 use Rattle.edit.specs.Version.{State}
 use Rattle.folder.specs.Levels.{file_numbers}
 use Rattle.folder.specs.LoadedTables.{IsLoaded}
 use Rattle.reads.specs.Tables.{NumberedContents}
+use Rattle.folder.specs.Calls.{ToldFiles}
 use Rattle.checks.specs.LawfulTables.{IsLawfulTables}
 use Rattle.checks.specs.declared.version_totals.VersionTotals.{VersionTotals}
 
@@ -21,8 +22,7 @@ totals_of tables = record { files = length tables; entries = entry_count tables 
 
 -- What the test of a version answers, with the tables that a folder tells. All of them are read, by
 -- level and in version order; then each is checked; then the version is lawful with them.
-abbrev pub IsTested : (List ℕ → Option (List ℕ) → Type 0) → (List ℕ → List ℕ → Ordering) → State →
-    Result VersionTotals Fault → Type 0
+abbrev pub IsTested : ToldFiles → KeyOrder → State → Result VersionTotals Fault → Type 0
 IsTested tells cmp v =
     IsThen (IsLoaded tells (file_numbers cmp v)) (λ loaded.
     IsThen (IsLawfulTables cmp v loaded) (λ tables answer. answer ≡ Ok (totals_of tables)))

@@ -1,4 +1,4 @@
--- The pieces that lines are made of.
+-- The texts that lines are made of.
 use Rattle.std.specs.Prelude.{ℕ, List, [], ◌++◌, codes, decimal, Option, Some, None, unwrap_or}
 use Rattle.std.specs.List.{flat_map}
 use Rattle.json.specs.Print.{quoted}

@@ -1,4 +1,4 @@
--- The pieces that the line of how much a version has is made of.
+-- The texts that the line of how much a version has is made of.
 use Rattle.std.specs.Prelude.{ℕ, List, ◌++◌, codes, decimal}
 use Rattle.scan.specs.declared.amounts.Amounts.{Amounts}
 use Rattle.scan.specs.declared.file_total.FileTotal.{FileTotal}

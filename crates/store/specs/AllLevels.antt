@@ -1,12 +1,11 @@
 -- Compactions of one level after the other.
-use Rattle.std.specs.Prelude.{◌≡◌, ◌⊎◌, ℕ, true, List, [], ◌∷◌, ◌++◌, map, Option, Some, None}
+use Rattle.std.specs.Prelude.{◌≡◌, ◌⊎◌, ℕ, true, List, [], ◌∷◌, ◌++◌, map, Some, None}
 use Rattle.std.specs.Prelude.{Result, Ok, Err, IfErr, IfOk, OnOk, Contains}
-use Rattle.std.specs.declared.cmp.Ordering.{Ordering}
 use Rattle.coding.specs.Answers.{UnlessMemory}
 use Rattle.coding.specs.declared.fault.Fault.{Fault}
-use Rattle.ikey.specs.Comparator.{ShortKeys}
+use Rattle.ikey.specs.Comparator.{KeyOrder, ShortKeys}
 use Rattle.edit.specs.Version.{State}
-use Rattle.folder.specs.Calls.{Files, Step, Tells}
+use Rattle.folder.specs.Calls.{ToldFiles, Files, Step, Tells}
 use Rattle.folder.specs.Crash.{LeavesOnly, World}
 use Rattle.folder.specs.Folder.{TellsSame}
 use Rattle.folder.specs.OpenAnswer.{IsStopped}
@@ -39,9 +38,8 @@ pub record CompactionLink : Type 0 where
 
 -- It is a compaction of this version with these tables, of the first level above the bottom that
 -- has a file. What it leaves is its edited version.
-pub record IsLink (order : Order) (cmp : List ℕ → List ℕ → Ordering) (short_keys : ShortKeys)
-    (s : Settings) (bottom : ℕ) (v : State) (loaded : List (ℕ × List ℕ)) (l : CompactionLink)
-    : Type 0 where
+pub record IsLink (order : Order) (cmp : KeyOrder) (short_keys : ShortKeys) (s : Settings)
+    (bottom : ℕ) (v : State) (loaded : List (ℕ × List ℕ)) (l : CompactionLink) : Type 0 where
   pub next_level : IsNextLevel v bottom (Some l.level)
   pub answer : Answer
   pub compacted : VersionCompaction order cmp short_keys v loaded l.level s answer l.lines
@@ -49,8 +47,8 @@ pub record IsLink (order : Order) (cmp : List ℕ → List ℕ → Ordering) (sh
   pub tables_are : l.tables ≡ next_version_tables cmp compacted.edited.next answer.tables loaded
 
 -- compactions, each of the version and the tables that the one before it leaves
-abbrev pub AreLinked : Order → (List ℕ → List ℕ → Ordering) → ShortKeys → Settings → ℕ → State →
-    List (ℕ × List ℕ) → List CompactionLink → Type 0
+abbrev pub AreLinked : Order → KeyOrder → ShortKeys → Settings → ℕ → State → List (ℕ × List ℕ) →
+    List CompactionLink → Type 0
 AreLinked order cmp short_keys s bottom v loaded [] = Unit {0}
 AreLinked order cmp short_keys s bottom v loaded (l ∷ links) =
     IsLink order cmp short_keys s bottom v loaded l
@@ -67,15 +65,15 @@ last_tables loaded [] = loaded
 last_tables loaded (l ∷ links) = last_tables l.tables links
 
 -- files that read as the version before all of them, or as the one that one of them leaves
-abbrev pub IsAtLink : (List ℕ → List ℕ → Ordering) → Order → State → List (ℕ × List ℕ) →
-    List CompactionLink → Files → Type 0
+abbrev pub IsAtLink : KeyOrder → Order → State → List (ℕ × List ℕ) → List CompactionLink → Files →
+    Type 0
 IsAtLink cmp order v loaded links files = ReadsAs cmp order v loaded files
     ⊎ ((l : CompactionLink) × Contains links l × ReadsAs cmp order l.version l.tables files)
 
 -- A version with the bytes of its tables answers as another one does: it is lawful, and each get at
 -- a sequence that was to stay readable answers as there.
-pub record AnswersAs (cmp : List ℕ → List ℕ → Ordering) (s : Settings) (v : State)
-    (tables : List NumberedContents) (next : State) (loaded : List (ℕ × List ℕ)) : Type 0 where
+pub record AnswersAs (cmp : KeyOrder) (s : Settings) (v : State) (tables : List NumberedContents)
+    (next : State) (loaded : List (ℕ × List ℕ)) : Type 0 where
   pub tables_next : List NumberedContents
   pub lawful : IsLawfulTables cmp next loaded (Ok tables_next)
   pub gets : (user : List ℕ) (at : ℕ) → is_read (readable_of s.snapshots (last_of v)) at ≡ true →
@@ -87,9 +85,8 @@ IsEndOf v bottom AtBottom = IsNextLevel v bottom None
 IsEndOf v bottom Stopped = Unit {0}
 
 -- The compaction of the next level is refused so.
-pub record IsNextRefused (cmp : List ℕ → List ℕ → Ordering) (short_keys : ShortKeys)
-    (s : Settings) (bottom : ℕ) (v : State) (loaded : List (ℕ × List ℕ)) (e : Fault)
-    : Type 0 where
+pub record IsNextRefused (cmp : KeyOrder) (short_keys : ShortKeys) (s : Settings) (bottom : ℕ)
+    (v : State) (loaded : List (ℕ × List ℕ)) (e : Fault) : Type 0 where
   pub level : ℕ
   pub next_level : IsNextLevel v bottom (Some level)
   pub refused : IsLoadedCompacted cmp short_keys v loaded level s (Err e)
@@ -103,10 +100,10 @@ pub record IsNextRefused (cmp : List ℕ → List ℕ → Ordering) (short_keys 
 --   told to stop.
 -- - Else the next compaction is refused, or the device failed.
 pub record IsDescended {W : Type 0} (tells : W → List ℕ → W → Type 0) (order : Order)
-    (cmp : List ℕ → List ℕ → Ordering) (short_keys : ShortKeys) (s : Settings)
-    (v : State) (loaded : List (ℕ × List ℕ)) (tables : List NumberedContents)
-    (before after : List Step) (new : List ℕ → Option (List ℕ) → Type 0) (failed now : ℕ)
-    (told told_now : W) (result : Result DescentEnd Fault) : Type 0 where
+    (cmp : KeyOrder) (short_keys : ShortKeys) (s : Settings) (v : State)
+    (loaded : List (ℕ × List ℕ)) (tables : List NumberedContents) (before after : List Step)
+    (new : ToldFiles) (failed now : ℕ) (told told_now : W) (result : Result DescentEnd Fault)
+    : Type 0 where
   pub bottom : ℕ
   pub is_bottom : IsBottom v bottom
   pub links : List CompactionLink
@@ -127,9 +124,8 @@ pub record IsDescended {W : Type 0} (tells : W → List ℕ → W → Type 0) (o
       e))
 
 -- No file of the version is above its bottom, so nothing was changed, tested or told.
-pub record IsAtBottom {W : Type 0} (v : State) (before after : List Step)
-    (old new : List ℕ → Option (List ℕ) → Type 0) (told told_now : W)
-    (result : Result DescentEnd Fault) : Type 0 where
+pub record IsAtBottom {W : Type 0} (v : State) (before after : List Step) (old new : ToldFiles)
+    (told told_now : W) (result : Result DescentEnd Fault) : Type 0 where
   pub bottom : ℕ
   pub is_bottom : IsBottom v bottom
   pub none_above : IsNextLevel v bottom None
@@ -141,9 +137,8 @@ pub record IsAtBottom {W : Type 0} (v : State) (before after : List Step)
 -- What is left of a folder that opens as a version, of which all levels are compacted after a test
 -- of it. Nothing was changed or told: the test is refused, or the device failed. Or no file is
 -- above the bottom. Or the version is lawful, and compactions were made.
-abbrev pub IsAllLeft : {W : Type 0} → (W → List ℕ → W → Type 0) → Order →
-    (List ℕ → List ℕ → Ordering) → ShortKeys → Settings → State → Files → List Step → List Step →
-    (List ℕ → Option (List ℕ) → Type 0) → (List ℕ → Option (List ℕ) → Type 0) → ℕ → ℕ → W → W →
+abbrev pub IsAllLeft : {W : Type 0} → (W → List ℕ → W → Type 0) → Order → KeyOrder → ShortKeys →
+    Settings → State → Files → List Step → List Step → ToldFiles → ToldFiles → ℕ → ℕ → W → W →
     Result DescentEnd Fault → Type 0
 IsAllLeft tells order cmp short_keys s v files before after old new failed now told told_now
     result =

@@ -1,12 +1,11 @@
 -- What a compaction makes of a folder.
-use Rattle.std.specs.Prelude.{◌≡◌, ◌⊎◌, ℕ, ◌<◌, ◌^◌, true, List, [], ◌∷◌, ◌++◌, map, codes, Option}
+use Rattle.std.specs.Prelude.{◌≡◌, ◌⊎◌, ℕ, ◌<◌, ◌^◌, true, List, [], ◌∷◌, ◌++◌, map, codes}
 use Rattle.std.specs.Prelude.{Some, Result, Ok, IfErr, IfOk, OnOk}
-use Rattle.std.specs.declared.cmp.Ordering.{Ordering}
 use Rattle.coding.specs.Answers.{UnlessMemory, fault}
 use Rattle.coding.specs.declared.fault.Fault.{Fault}
 use Rattle.coding.specs.declared.fault.FaultName.TheVariants.{Device}
 use Rattle.edit.specs.Version.{State}
-use Rattle.folder.specs.Calls.{Call, Done, Files, FolderSynced, Step, Tells}
+use Rattle.folder.specs.Calls.{ToldFiles, Call, Done, Files, FolderSynced, Step, Tells}
 use Rattle.folder.specs.CallSequence.{AreMade}
 use Rattle.folder.specs.Crash.{IsDurable, Leads, World}
 use Rattle.folder.specs.Folder.{TellsSame}
@@ -28,13 +27,12 @@ use Rattle.store.specs.VersionSync.{AlwaysReadsBy, sync_calls}
 use Rattle.store.specs.declared.compaction_step.CompactionStep.{CompactionStep}
 use Rattle.folder.specs.Orders.{order_cmp, order_short_keys}
 use Rattle.settings.specs.declared.settings.Settings.{Settings}
-use Rattle.ikey.specs.Comparator.{ShortKeys}
+use Rattle.ikey.specs.Comparator.{KeyOrder, ShortKeys}
 
 -- The edited version of a compaction's answer: the answer's edit makes it of the version, by a
 -- manifest whose number is next file. Last sequence stays, and next file rises. With the tables
 -- that an installation leaves it is lawful, and each get at a readable sequence answers as before.
-pub record EditedVersion (order : Order) (cmp : List ℕ → List ℕ →
-    Ordering) (v : State) (loaded : List (ℕ × List ℕ))
+pub record EditedVersion (order : Order) (cmp : KeyOrder) (v : State) (loaded : List (ℕ × List ℕ))
     (tables : List NumberedContents) (s : Settings) (answer : Answer) : Type 0 where
   pub next : State
   pub edited : IsEditedBy (order_name order) cmp order v (manifest_of v) answer.tables answer.edit
@@ -51,10 +49,9 @@ pub record EditedVersion (order : Order) (cmp : List ℕ → List ℕ →
 
 -- A compaction of a level of a version with the bytes of its tables. The version is lawful, the
 -- inputs are picked, and these are the answer, what it makes, and its lines.
-pub record VersionCompaction (order : Order) (cmp : List ℕ → List ℕ →
-    Ordering) (short_keys : ShortKeys)
-    (v : State) (loaded : List (ℕ × List ℕ)) (level : ℕ) (s : Settings) (answer : Answer)
-    (lines : List ℕ) : Type 0 where
+pub record VersionCompaction (order : Order) (cmp : KeyOrder) (short_keys : ShortKeys) (v : State)
+    (loaded : List (ℕ × List ℕ)) (level : ℕ) (s : Settings) (answer : Answer) (lines : List ℕ)
+    : Type 0 where
   pub tables : List NumberedContents
   pub lawful : IsLawfulTables cmp v loaded (Ok tables)
   pub picked : PickedInputs
@@ -64,8 +61,8 @@ pub record VersionCompaction (order : Order) (cmp : List ℕ → List ℕ →
   pub told : lines ≡ compaction_lines answer.tables picked.files (manifest_of v)
 
 -- a compaction of a level of this version, as which the files read
-pub record Compaction (order : Order) (cmp : List ℕ → List ℕ → Ordering) (short_keys : ShortKeys)
-    (v : State) (files : Files) (level : ℕ) (s : Settings) : Type 0 where
+pub record Compaction (order : Order) (cmp : KeyOrder) (short_keys : ShortKeys) (v : State)
+    (files : Files) (level : ℕ) (s : Settings) : Type 0 where
   pub loaded : List (ℕ × List ℕ)
   pub reads : ReadsAs cmp order v loaded files
   pub answer : Answer
@@ -73,21 +70,21 @@ pub record Compaction (order : Order) (cmp : List ℕ → List ℕ → Ordering)
   pub compacted : VersionCompaction order cmp short_keys v loaded level s answer lines
 
 -- the edited version of a compaction
-abbrev pub next_of : {order : Order} {cmp : List ℕ → List ℕ → Ordering} {short_keys : ShortKeys}
-    {v : State} {files : Files} {level : ℕ} {s : Settings} →
+abbrev pub next_of : {order : Order} {cmp : KeyOrder} {short_keys : ShortKeys} {v : State}
+    {files : Files} {level : ℕ} {s : Settings} →
     Compaction order cmp short_keys v files level s → State
 next_of c = c.compacted.edited.next
 
 -- No call that writes was made, and the folder holds what it held.
-pub record IsUnchanged {T : Type 0} (before after : List Step) (old new : List ℕ → Option (List ℕ) →
-    Type 0) (result : Result T Fault) : Type 0 where
+pub record IsUnchanged {T : Type 0} (before after : List Step) (old new : ToldFiles)
+    (result : Result T Fault) : Type 0 where
   pub calls : after ≡ before
   pub same : TellsSame old new
   pub refused : OnOk result ⊥
 
 -- The only calls that write were syncs, the first of these, and the folder holds what it held.
 pub record IsSynced {T : Type 0} (syncs : List Call) (before after : List Step)
-    (old new : List ℕ → Option (List ℕ) → Type 0) (result : Result T Fault) : Type 0 where
+    (old new : ToldFiles) (result : Result T Fault) : Type 0 where
   pub steps : List Step
   pub made : AreMade syncs steps
   pub calls : after ≡ before ++ steps
@@ -97,11 +94,9 @@ pub record IsSynced {T : Type 0} (syncs : List Call) (before after : List Step)
 -- A compaction was installed, from these calls on. A crash at any moment leaves the version before
 -- or the edited one. At Ok it is the edited one, and the answer has the lines and the edit. The
 -- only faults are Device and Memory.
-pub record IsInstalled (order : Order) (cmp : List ℕ → List ℕ → Ordering)
-    (short_keys : ShortKeys)
-    (v : State) (files : Files) (level : ℕ) (s : Settings) (before after : List Step)
-    (old new : List ℕ → Option (List ℕ) → Type 0) (result : Result CompactionStep Fault)
-    : Type 0 where
+pub record IsInstalled (order : Order) (cmp : KeyOrder) (short_keys : ShortKeys) (v : State)
+    (files : Files) (level : ℕ) (s : Settings) (before after : List Step) (old new : ToldFiles)
+    (result : Result CompactionStep Fault) : Type 0 where
   pub compaction : Compaction order cmp short_keys v files level s
   pub survives : SurvivesCrash cmp order v compaction.loaded (next_of compaction)
       (next_version_tables cmp (next_of compaction) compaction.answer.tables compaction.loaded)
@@ -112,9 +107,8 @@ pub record IsInstalled (order : Order) (cmp : List ℕ → List ℕ → Ordering
 
 -- what is left of a folder that reads as this version, which has this order: it is unchanged, or a
 -- compaction was installed
-abbrev pub IsVersionLeft : Order → (List ℕ → List ℕ → Ordering) → ShortKeys → State → Files → ℕ →
-    Settings → List Step → List Step → (List ℕ → Option (List ℕ) → Type 0) →
-    (List ℕ → Option (List ℕ) → Type 0) → Result CompactionStep Fault → Type 0
+abbrev pub IsVersionLeft : Order → KeyOrder → ShortKeys → State → Files → ℕ → Settings → List Step →
+    List Step → ToldFiles → ToldFiles → Result CompactionStep Fault → Type 0
 IsVersionLeft order cmp short_keys v files level s before after old new result =
     IsUnchanged before after old new result
     ⊎ IsInstalled order cmp short_keys v files level s before after old new result
@@ -123,8 +117,7 @@ IsVersionLeft order cmp short_keys v files level s before after old new result =
 -- it held, and at most the version was synced; or after the sync of it a compaction was installed.
 -- If the folder reads as the version, whatever was synced before, it stands for it after that sync.
 pub record IsOpenedLeft (files : Files) (level : ℕ) (s : Settings) (before after : List Step)
-    (old new : List ℕ → Option (List ℕ) → Type 0) (result : Result CompactionStep Fault)
-    : Type 0 where
+    (old new : ToldFiles) (result : Result CompactionStep Fault) : Type 0 where
   pub order : Order
   pub version : State
   pub manifest : ℕ
@@ -140,9 +133,8 @@ pub record IsOpenedLeft (files : Files) (level : ℕ) (s : Settings) (before aft
 
 -- What is left of a folder that held these files: it is untouched, as if it can't be opened, or it
 -- was opened.
-abbrev pub IsFolderLeft : Files → ℕ → Settings
-    → List Step → List Step → (List ℕ → Option (List ℕ) → Type 0) →
-    (List ℕ → Option (List ℕ) → Type 0) → Result CompactionStep Fault → Type 0
+abbrev pub IsFolderLeft : Files → ℕ → Settings → List Step → List Step → ToldFiles → ToldFiles →
+    Result CompactionStep Fault → Type 0
 IsFolderLeft files level s before after old new result =
     IsUnchanged before after old new result
     ⊎ IsOpenedLeft files level s before after old new result
@@ -151,7 +143,7 @@ IsFolderLeft files level s before after old new result =
 -- version after it. It keeps each file that was synced, and each name without a file.
 abbrev pub SyncLaw : Type 0
 SyncLaw =
-    (cmp : List ℕ → List ℕ → Ordering) (order : Order) (v : State) (tables : List (ℕ × List ℕ))
+    (cmp : KeyOrder) (order : Order) (v : State) (tables : List (ℕ × List ℕ))
     (start : World) (calls : List Step) →
     ((w : World) → Leads start calls w →
     ReadsAs cmp order v tables w.shown.files × ((name : List ℕ) → RestsOn cmp v w.shown.files name →

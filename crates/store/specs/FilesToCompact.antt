@@ -2,10 +2,10 @@
 use Rattle.std.specs.Prelude.{◌≡◌, ℕ, List, [], ◌∷◌, ◌++◌, codes, is_some, if◌then◌else◌}
 use Rattle.std.specs.Prelude.{Result, Ok, Err}
 use Rattle.std.specs.List.{flat_map}
-use Rattle.std.specs.declared.cmp.Ordering.{Ordering}
 use Rattle.coding.specs.Answers.{IsThen, fault, ◌>>=◌}
 use Rattle.coding.specs.declared.fault.Fault.{Fault}
 use Rattle.coding.specs.declared.fault.FaultName.TheVariants.{Missing}
+use Rattle.ikey.specs.Comparator.{KeyOrder}
 use Rattle.edit.specs.Version.{State}
 use Rattle.folder.specs.Calls.{Files}
 use Rattle.folder.specs.Names.{manifest_name, old_table_name, table_name}
@@ -34,8 +34,7 @@ name_line name = name ++ codes "\n"
 -- The lines of a level of a version that was opened by the manifest of a number: CURRENT, that
 -- manifest, and each input in order. The first refusal counts: of the version's files; of a level
 -- without inputs; Missing if a table of theirs is missing.
-abbrev pub AreFilesToCompact : (List ℕ → List ℕ → Ordering) → Files → State → ℕ → ℕ →
-    Result (List ℕ) Fault → Type 0
+abbrev pub AreFilesToCompact : KeyOrder → Files → State → ℕ → ℕ → Result (List ℕ) Fault → Type 0
 AreFilesToCompact cmp files v manifest level =
     IsThen (IsOrderlyAnswer cmp v) (λ passed. IsThen (IsInputsAnswer cmp v level) (λ p answer.
     answer ≡ (names_there files (input_numbers p.files) >>= λ names.

@@ -2,7 +2,6 @@
 use Rattle.std.specs.Prelude.{ℕ, ◌+◌, ◌-◌, ◌^◌, nat_le, nat_lt, ◌&&◌, if◌then◌else◌, List, map}
 use Rattle.std.specs.Prelude.{unwrap_or, Option, Some, None, Result, Ok}
 use Rattle.std.specs.Option.{ok_or}
-use Rattle.std.specs.declared.cmp.Ordering.{Ordering}
 use Rattle.coding.specs.Answers.{fault, ◌>>=◌}
 use Rattle.coding.specs.declared.fault.Fault.{Fault}
 use Rattle.coding.specs.declared.fault.FaultName.TheVariants.{Numbers, SplitCount}
@@ -13,7 +12,7 @@ use Rattle.pick.specs.declared.picked_inputs.InputFile.{InputFile}
 use Rattle.install.specs.Install.{table_bytes_of}
 use Rattle.request.specs.OneThread.{Answer, compaction_result}
 use Rattle.request.specs.Request.{RequestView}
-use Rattle.ikey.specs.Comparator.{ShortKeys}
+use Rattle.ikey.specs.Comparator.{KeyOrder, ShortKeys}
 use Rattle.settings.specs.declared.settings.Settings.{Settings}
 use Rattle.split.specs.declared.split.TheConstants.{MAX_RANGES}
 
@@ -59,14 +58,14 @@ numbered_request first v loaded p s = ok_or (first_output v first) (fault Number
 -- What a compaction of these inputs answers, for outputs with the numbers after the manifest's, or
 -- from a first one on that is asked for. It is SplitCount if the ranges are outside 1 to 4,096,
 -- then Numbers if there is no such first number, then what the request for them answers.
-abbrev pub compaction_from : Option ℕ → (List ℕ → List ℕ → Ordering) → ShortKeys →
-    State → List (ℕ × List ℕ) → PickedInputs → Settings → Result Answer Fault
+abbrev pub compaction_from : Option ℕ → KeyOrder → ShortKeys → State → List (ℕ × List ℕ) →
+    PickedInputs → Settings → Result Answer Fault
 compaction_from first cmp short_keys v loaded p s = do
   _ ← test_result (nat_le 1 s.ranges && nat_le s.ranges MAX_RANGES) SplitCount
   r ← numbered_request first v loaded p s
   compaction_result cmp short_keys s.workers r
 
 -- the same with the numbers after the manifest's
-abbrev pub compaction_of : (List ℕ → List ℕ → Ordering) → ShortKeys →
-    State → List (ℕ × List ℕ) → PickedInputs → Settings → Result Answer Fault
+abbrev pub compaction_of : KeyOrder → ShortKeys → State → List (ℕ × List ℕ) → PickedInputs →
+    Settings → Result Answer Fault
 compaction_of cmp short_keys v loaded p s = compaction_from None cmp short_keys v loaded p s

@@ -1,10 +1,9 @@
 -- The inputs of a level, as they are found, and what their compaction is to be for an installation.
 use Rattle.std.specs.Prelude.{◌≡◌, ◌≢◌, ◌<◌, ◌^◌, ℕ, List, unwrap_or, None, Result, Ok, Err}
-use Rattle.std.specs.declared.cmp.Ordering.{Ordering}
 use Rattle.coding.specs.Answers.{IsThen, ◌>>=◌}
 use Rattle.coding.specs.declared.fault.Fault.{Fault}
 use Rattle.coding.specs.declared.fault.FaultName.TheVariants.{Device}
-use Rattle.ikey.specs.Comparator.{ShortKeys}
+use Rattle.ikey.specs.Comparator.{KeyOrder, ShortKeys}
 use Rattle.edit.specs.Version.{State}
 use Rattle.folder.specs.Calls.{Files}
 use Rattle.folder.specs.declared.order.Order.{Order}
@@ -18,7 +17,7 @@ use Rattle.store.specs.Outcome.{LevelCompaction}
 
 -- The inputs of a level and their tables. The first refusal counts: of the version's files, of a
 -- level without inputs, of their tables.
-abbrev pub IsInputsFound : (List ℕ → List ℕ → Ordering) → Files → State → ℕ →
+abbrev pub IsInputsFound : KeyOrder → Files → State → ℕ →
     Result (PickedInputs × List NumberedContents) Fault → Type 0
 IsInputsFound cmp files v level =
     IsThen (IsOrderlyAnswer cmp v) (λ passed.
@@ -28,8 +27,8 @@ IsInputsFound cmp files v level =
 
 -- if this is what the compaction of inputs answers, and the version's log numbers are below 2 ^ 64,
 -- it makes the edited version
-abbrev pub CanBeInstalled : Order → (List ℕ → List ℕ → Ordering) → ShortKeys → State →
-    List (ℕ × List ℕ) → ℕ → Settings → PickedInputs → Result Answer Fault → Type 0
+abbrev pub CanBeInstalled : Order → KeyOrder → ShortKeys → State → List (ℕ × List ℕ) → ℕ →
+    Settings → PickedInputs → Result Answer Fault → Type 0
 CanBeInstalled order cmp short_keys v loaded level s p answered =
     (answer : Answer) → answered ≡ Ok answer → unwrap_or v.log_number 0 < 2 ^ 64 →
     unwrap_or v.previous_log 0 < 2 ^ 64 →

@@ -1,8 +1,7 @@
 -- Inputs that are read alone.
 use Rattle.std.specs.Prelude.{◌≡◌, ℕ, true, List, map, Option, Result, Ok}
-use Rattle.std.specs.declared.cmp.Ordering.{Ordering}
 use Rattle.coding.specs.declared.fault.Fault.{Fault}
-use Rattle.ikey.specs.Comparator.{ShortKeys}
+use Rattle.ikey.specs.Comparator.{KeyOrder, ShortKeys}
 use Rattle.edit.specs.Version.{State, are_apart}
 use Rattle.folder.specs.Calls.{Files}
 use Rattle.folder.specs.Levels.{file_numbers}
@@ -24,7 +23,7 @@ abbrev pub with_inputs : PickedInputs → Answer → PickedInputs × Answer
 with_inputs p a = (p, a)
 
 -- the bytes that were read of picked inputs in their order are those under their numbers
-abbrev pub InputsInOrderLaw : (List ℕ → List ℕ → Ordering) → Type 0
+abbrev pub InputsInOrderLaw : KeyOrder → Type 0
 InputsInOrderLaw cmp =
     (v : State) (level : ℕ) (p : PickedInputs) (own : List (ℕ × List ℕ)) →
     are_apart v.files ≡ true → IsPicked cmp v level p →
@@ -33,7 +32,7 @@ InputsInOrderLaw cmp =
     ≡ map (λ (i : InputFile). table_bytes_of own i.meta.number) p.files
 
 -- with the inputs of a lawful version the same is answered as with all its tables
-abbrev pub SameInputsLaw : (List ℕ → List ℕ → Ordering) → ShortKeys → Type 0
+abbrev pub SameInputsLaw : KeyOrder → ShortKeys → Type 0
 SameInputsLaw cmp short_keys =
     (first : Option ℕ) (files : Files) (v : State) (loaded own : List (ℕ × List ℕ))
     (tables : List NumberedContents) (level : ℕ) (p : PickedInputs) (s : Settings) →
@@ -45,7 +44,7 @@ SameInputsLaw cmp short_keys =
 
 -- if a version is lawful with the tables that a folder holds, the outcome by its inputs alone is
 -- the one by all tables
-abbrev pub OutcomeSufficesLaw : (List ℕ → List ℕ → Ordering) → ShortKeys → Type 0
+abbrev pub OutcomeSufficesLaw : KeyOrder → ShortKeys → Type 0
 OutcomeSufficesLaw cmp short_keys =
     (first : Option ℕ) (files : Files) (v : State) (loaded : List (ℕ × List ℕ))
     (tables : List NumberedContents) (level : ℕ) (s : Settings)

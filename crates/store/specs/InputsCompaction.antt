@@ -2,12 +2,11 @@
 use Rattle.std.specs.Prelude.{◌≡◌, ℕ, ◌+◌, ◌<◌, ◌≤◌, Bool, true, ◌&&◌, List, ◌∷◌, length, map}
 use Rattle.std.specs.Prelude.{slice_index_or, Option, None, Result, Ok, Err}
 use Rattle.std.specs.List.{All}
-use Rattle.std.specs.declared.cmp.Ordering.{Ordering}
 use Rattle.std.specs.declared.cmp.Ordering.TheVariants.{Less}
 use Rattle.coding.specs.Answers.{IsThen, fault, ◌>>=◌}
 use Rattle.coding.specs.declared.fault.Fault.{Fault}
 use Rattle.coding.specs.declared.fault.FaultName.TheVariants.{Bounds, Lawless}
-use Rattle.ikey.specs.Comparator.{ShortKeys}
+use Rattle.ikey.specs.Comparator.{KeyOrder, ShortKeys}
 use Rattle.ikey.specs.Order.{internal_cmp}
 use Rattle.table.specs.TestResult.{test_result}
 use Rattle.table.specs.TableContents.{Contents}
@@ -33,24 +32,24 @@ use Rattle.store.specs.FolderRequest.{compaction_from, manifest_of}
 use Rattle.store.specs.Lines.{compaction_lines}
 
 -- the largest key of each file is below the smallest of the next one
-abbrev pub RangesRise : (List ℕ → List ℕ → Ordering) → List FileMeta → Type 0
+abbrev pub RangesRise : KeyOrder → List FileMeta → Type 0
 RangesRise cmp files = (k : ℕ) (d : FileMeta) → k + 1 < length files →
     internal_cmp cmp (slice_index_or files k d).largest (slice_index_or files (k + 1) d).smallest
     ≡ Less
 
 -- what the files of a level tell of a lawful version by themselves: their numbers are below next
 -- file, and from level 1 on their ranges rise
-pub record IsOrderlyLevel (cmp : List ℕ → List ℕ → Ordering) (v : State) (level : ℕ) : Type 0 where
+pub record IsOrderlyLevel (cmp : KeyOrder) (v : State) (level : ℕ) : Type 0 where
   pub below_next : All (λ (f : FileMeta). IsBelowNextFile v.next_file f.number)
       (level_files cmp v level)
   pub rising : 1 ≤ level → RangesRise cmp (level_files cmp v level)
 
 -- each level is so; each version has each number once
-abbrev pub IsOrderly : (List ℕ → List ℕ → Ordering) → State → Type 0
+abbrev pub IsOrderly : KeyOrder → State → Type 0
 IsOrderly cmp v = (level : ℕ) → level ≤ LAST_LEVEL → IsOrderlyLevel cmp v level
 
 -- what the test of a version's files answers that reads no table
-abbrev pub IsOrderlyAnswer : (List ℕ → List ℕ → Ordering) → State → Result (Unit {0}) Fault → Type 0
+abbrev pub IsOrderlyAnswer : KeyOrder → State → Result (Unit {0}) Fault → Type 0
 IsOrderlyAnswer cmp v (Ok passed) = IsOrderly cmp v
 IsOrderlyAnswer cmp v (Err e) = (e ≡ fault Lawless) × (IsOrderly cmp v → ⊥)
 
@@ -66,7 +65,7 @@ are_stated _ _ = true
 
 -- The tables of inputs by their bytes: the refusal of the first that is invalid; else Bounds if one
 -- isn't as its file states.
-abbrev pub input_tables : (List ℕ → List ℕ → Ordering) → List InputFile → List (ℕ × List ℕ) →
+abbrev pub input_tables : KeyOrder → List InputFile → List (ℕ × List ℕ) →
     Result (List Contents) Fault
 input_tables cmp files loaded = do
   tables ← tables_reading cmp loaded
@@ -75,26 +74,23 @@ input_tables cmp files loaded = do
 
 -- The answer for inputs whose tables were read: first that of their tables. At Ok it tells of the
 -- inputs and of the answer to the request for them.
-abbrev pub IsReadTold : {T : Type 0} → (PickedInputs → Answer → T) → Option ℕ →
-    (List ℕ → List ℕ → Ordering) → ShortKeys → State → PickedInputs → Settings →
-    List (ℕ × List ℕ) → Result T Fault → Type 0
+abbrev pub IsReadTold : {T : Type 0} → (PickedInputs → Answer → T) → Option ℕ → KeyOrder →
+    ShortKeys → State → PickedInputs → Settings → List (ℕ × List ℕ) → Result T Fault → Type 0
 IsReadTold tell first cmp short_keys v p s loaded =
     IsThen (λ read. input_tables cmp p.files loaded ≡ read) (λ tables answer.
     answer ≡ (compaction_from first cmp short_keys v loaded p s >>= λ a. Ok (tell p a)))
 
 -- the answer for inputs whose tables are in a folder: first Missing of the first that is missing
-abbrev pub IsPickedTold : {T : Type 0} → (PickedInputs → Answer → T) → Option ℕ →
-    (List ℕ → List ℕ → Ordering) → ShortKeys → Files → State → Settings → PickedInputs →
-    Result T Fault → Type 0
+abbrev pub IsPickedTold : {T : Type 0} → (PickedInputs → Answer → T) → Option ℕ → KeyOrder →
+    ShortKeys → Files → State → Settings → PickedInputs → Result T Fault → Type 0
 IsPickedTold tell first cmp short_keys files v s p =
     IsThen (IsLoaded (IsFileIn files) (input_numbers p.files))
     (IsReadTold tell first cmp short_keys v p s)
 
 -- The answer for a level of a version. The first refusal counts: of the version's files, of which
 -- no table is read; of a level without inputs; of their tables; of their compaction.
-abbrev pub IsInputsTold : {T : Type 0} → (PickedInputs → Answer → T) → Option ℕ →
-    (List ℕ → List ℕ → Ordering) → ShortKeys → Files → State → ℕ → Settings → Result T Fault →
-    Type 0
+abbrev pub IsInputsTold : {T : Type 0} → (PickedInputs → Answer → T) → Option ℕ → KeyOrder →
+    ShortKeys → Files → State → ℕ → Settings → Result T Fault → Type 0
 IsInputsTold tell first cmp short_keys files v level s =
     IsThen (IsOrderlyAnswer cmp v) (λ passed.
     IsThen (IsInputsAnswer cmp v level) (IsPickedTold tell first cmp short_keys files v s))
@@ -104,14 +100,14 @@ abbrev pub installed_lines : State → PickedInputs → Answer → List ℕ
 installed_lines v p a = compaction_lines a.tables p.files (manifest_of v)
 
 -- the answer whose Ok are these lines
-abbrev pub IsInputsCompacted : (List ℕ → List ℕ → Ordering) → ShortKeys →
-    Files → State → ℕ → Settings → Result (List ℕ) Fault → Type 0
+abbrev pub IsInputsCompacted : KeyOrder → ShortKeys → Files → State → ℕ → Settings →
+    Result (List ℕ) Fault → Type 0
 IsInputsCompacted cmp short_keys files v level s =
     IsInputsTold (installed_lines v) None cmp short_keys files v level s
 
 -- If a version is lawful with the tables that a folder holds, this is the answer of the compaction
 -- that tests all of them.
-abbrev pub InputsSufficeLaw : (List ℕ → List ℕ → Ordering) → ShortKeys → Type 0
+abbrev pub InputsSufficeLaw : KeyOrder → ShortKeys → Type 0
 InputsSufficeLaw cmp short_keys =
     (files : Files) (v : State) (loaded : List (ℕ × List ℕ)) (tables : List NumberedContents)
     (level : ℕ) (s : Settings) (answer : Result (List ℕ) Fault) →

@@ -1,7 +1,6 @@
 -- How compaction and installation fit: what the one answers is what the other asks for.
 use Rattle.std.specs.Prelude.{◌≡◌, ℕ, ◌<◌, ◌≤◌, ◌^◌, List, Ok}
 use Rattle.std.specs.List.{All}
-use Rattle.std.specs.declared.cmp.Ordering.{Ordering}
 use Rattle.edit.specs.Version.{State}
 use Rattle.edit.specs.declared.meta.NewFile.{NewFile}
 use Rattle.edit.specs.declared.meta.TheConstants.{LAST_LEVEL}
@@ -15,12 +14,12 @@ use Rattle.survival.specs.RequestOverVersion.{IsOver}
 use Rattle.store.specs.FolderRequest.{request_of}
 use Rattle.store.specs.Compaction.{EditedVersion}
 use Rattle.settings.specs.declared.settings.Settings.{Settings}
-use Rattle.ikey.specs.Comparator.{ShortKeys}
+use Rattle.ikey.specs.Comparator.{KeyOrder, ShortKeys}
 
 -- If inputs are picked from a lawful version, and its log numbers are below 2^64, the request for
 -- them is one over the version. That is: the bytes loaded of each input are those of its table, and
 -- the numbers of its outputs are free.
-abbrev pub OverLaw : (List ℕ → List ℕ → Ordering) → Type 0
+abbrev pub OverLaw : KeyOrder → Type 0
 OverLaw cmp =
     (v : State) (loaded : List (ℕ × List ℕ)) (tables : List NumberedContents) (level : ℕ)
     (p : PickedInputs) (s : Settings) →
@@ -33,7 +32,7 @@ OverLaw cmp =
 -- version, by a manifest whose number is the version's next file. The tables that its installation
 -- leaves are read, the edited version is lawful with them, and each get at a readable sequence
 -- answers as before.
-abbrev pub JointLaw : (List ℕ → List ℕ → Ordering) → ShortKeys → Type 0
+abbrev pub JointLaw : KeyOrder → ShortKeys → Type 0
 JointLaw cmp short_keys =
     (order : Order) (v : State) (loaded : List (ℕ × List ℕ)) (tables : List NumberedContents)
     (level : ℕ) (p : PickedInputs) (s : Settings) (answer : Answer) →

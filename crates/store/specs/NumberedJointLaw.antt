@@ -1,7 +1,6 @@
 -- The law that the answer of a compaction fits its installation, for numbered tables.
 use Rattle.std.specs.Prelude.{◌≡◌, ℕ, ◌<◌, ◌≤◌, ◌^◌, List, Ok}
 use Rattle.std.specs.List.{All}
-use Rattle.std.specs.declared.cmp.Ordering.{Ordering}
 use Rattle.edit.specs.Version.{State}
 use Rattle.edit.specs.declared.meta.NewFile.{NewFile}
 use Rattle.edit.specs.declared.meta.TheConstants.{LAST_LEVEL}
@@ -14,11 +13,11 @@ use Rattle.request.specs.OneThread.{Answer, one_thread}
 use Rattle.store.specs.FolderRequest.{manifest_of, request_from}
 use Rattle.store.specs.Compaction.{EditedVersion}
 use Rattle.settings.specs.declared.settings.Settings.{Settings}
-use Rattle.ikey.specs.Comparator.{ShortKeys}
+use Rattle.ikey.specs.Comparator.{KeyOrder, ShortKeys}
 
 -- The same of a request whose outputs have the numbers from a first one on, if that one is above
 -- the manifest's.
-abbrev pub NumberedJointLaw : (List ℕ → List ℕ → Ordering) → ShortKeys → Type 0
+abbrev pub NumberedJointLaw : KeyOrder → ShortKeys → Type 0
 NumberedJointLaw cmp short_keys =
     (number : ℕ) (order : Order) (v : State) (loaded : List (ℕ × List ℕ))
     (tables : List NumberedContents) (level : ℕ) (p : PickedInputs) (s : Settings)

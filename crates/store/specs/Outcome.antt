@@ -1,9 +1,8 @@
 -- The outcome of a compaction that is not installed: what is answered, and the calls that write it.
 use Rattle.std.specs.Prelude.{◌≡◌, ℕ, List, [], ◌∷◌, ◌++◌, codes, Option, Result, Ok}
-use Rattle.std.specs.declared.cmp.Ordering.{Ordering}
 use Rattle.coding.specs.Answers.{IsThen, ◌>>=◌}
 use Rattle.coding.specs.declared.fault.Fault.{Fault}
-use Rattle.ikey.specs.Comparator.{ShortKeys}
+use Rattle.ikey.specs.Comparator.{KeyOrder, ShortKeys}
 use Rattle.edit.specs.Version.{State}
 use Rattle.folder.specs.Calls.{Call, Files, FolderSynced, Renamed}
 use Rattle.folder.specs.Levels.{file_numbers}
@@ -27,23 +26,23 @@ outcome_told p a = (a, outcome_lines a.tables p.files)
 
 -- The outcome of a level of a version, of which the inputs alone are read. The outputs' numbers are
 -- those after the manifest's, or from a first one on that is asked for.
-abbrev pub IsOutcomeOfInputs : Option ℕ → (List ℕ → List ℕ → Ordering) → ShortKeys →
-    Files → State → ℕ → Settings → Result (Answer × List ℕ) Fault → Type 0
+abbrev pub IsOutcomeOfInputs : Option ℕ → KeyOrder → ShortKeys → Files → State → ℕ → Settings →
+    Result (Answer × List ℕ) Fault → Type 0
 IsOutcomeOfInputs first cmp short_keys files v level s =
     IsInputsTold outcome_told first cmp short_keys files v level s
 
 -- The outcome on a version with the bytes of its tables. The first refusal counts: of a table; of a
 -- version that isn't lawful; of a level without inputs; of their compaction.
-abbrev pub IsLoadedOutcome : Option ℕ → (List ℕ → List ℕ → Ordering) → ShortKeys →
-    State → List (ℕ × List ℕ) → ℕ → Settings → Result (Answer × List ℕ) Fault → Type 0
+abbrev pub IsLoadedOutcome : Option ℕ → KeyOrder → ShortKeys → State → List (ℕ × List ℕ) → ℕ →
+    Settings → Result (Answer × List ℕ) Fault → Type 0
 IsLoadedOutcome first cmp short_keys v loaded level s =
     IsThen (IsLawfulTables cmp v loaded) (λ tables.
     IsThen (IsInputsAnswer cmp v level) (λ p answer.
     answer ≡ (compaction_from first cmp short_keys v loaded p s >>= λ a. Ok (outcome_told p a))))
 
 -- the same with tables in a folder: first all of them are read, by level and in version order
-abbrev pub IsOutcomeOfVersion : Option ℕ → (List ℕ → List ℕ → Ordering) → ShortKeys →
-    Files → State → ℕ → Settings → Result (Answer × List ℕ) Fault → Type 0
+abbrev pub IsOutcomeOfVersion : Option ℕ → KeyOrder → ShortKeys → Files → State → ℕ → Settings →
+    Result (Answer × List ℕ) Fault → Type 0
 IsOutcomeOfVersion first cmp short_keys files v level s =
     IsThen (IsLoaded (IsFileIn files) (file_numbers cmp v))
     (λ loaded. IsLoadedOutcome first cmp short_keys v loaded level s)
@@ -51,9 +50,9 @@ IsOutcomeOfVersion first cmp short_keys files v level s =
 -- A compaction of a level of a version with the bytes of its tables. The version is lawful, these
 -- inputs are picked, and this is the answer. Its edit makes the edited version, also by an
 -- installation later on: the outputs' numbers are above the manifest's.
-pub record LevelCompaction (order : Order) (cmp : List ℕ → List ℕ → Ordering)
-    (short_keys : ShortKeys) (v : State) (loaded : List (ℕ × List ℕ)) (level : ℕ)
-    (first : Option ℕ) (s : Settings) (p : PickedInputs) (answer : Answer) : Type 0 where
+pub record LevelCompaction (order : Order) (cmp : KeyOrder) (short_keys : ShortKeys) (v : State)
+    (loaded : List (ℕ × List ℕ)) (level : ℕ) (first : Option ℕ) (s : Settings) (p : PickedInputs)
+    (answer : Answer) : Type 0 where
   pub tables : List NumberedContents
   pub lawful : IsLawfulTables cmp v loaded (Ok tables)
   pub is_picked : IsPicked cmp v level p

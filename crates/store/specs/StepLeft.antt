@@ -1,12 +1,11 @@
 -- What a compaction of a version leaves that is known to be lawful.
-use Rattle.std.specs.Prelude.{◌≡◌, ◌⊎◌, ℕ, List, codes, Option, Some, Result, IfErr, IfOk, OnOk}
-use Rattle.std.specs.declared.cmp.Ordering.{Ordering}
+use Rattle.std.specs.Prelude.{◌≡◌, ◌⊎◌, ℕ, List, codes, Some, Result, IfErr, IfOk, OnOk}
 use Rattle.coding.specs.Answers.{UnlessMemory, fault}
 use Rattle.coding.specs.declared.fault.Fault.{Fault}
 use Rattle.coding.specs.declared.fault.FaultName.TheVariants.{Device}
-use Rattle.ikey.specs.Comparator.{ShortKeys}
+use Rattle.ikey.specs.Comparator.{KeyOrder, ShortKeys}
 use Rattle.edit.specs.Version.{State}
-use Rattle.folder.specs.Calls.{Step}
+use Rattle.folder.specs.Calls.{ToldFiles, Step}
 use Rattle.folder.specs.Names.{current_text}
 use Rattle.folder.specs.declared.order.Order.{Order}
 use Rattle.request.specs.OneThread.{Answer}
@@ -19,11 +18,9 @@ use Rattle.store.specs.declared.compaction_step.CompactionStep.{CompactionStep}
 -- A compaction of the version was installed, from these calls on. A crash at any moment leaves the
 -- version before or the edited one. At Ok it is the edited one, CURRENT names its manifest, and the
 -- answer has the lines and the edit. The only faults are Device and Memory.
-pub record IsStepInstalled (order : Order) (cmp : List ℕ → List ℕ → Ordering)
-    (short_keys : ShortKeys)
-    (v : State) (loaded : List (ℕ × List ℕ)) (level : ℕ) (s : Settings) (before after : List Step)
-    (old new : List ℕ → Option (List ℕ) → Type 0) (result : Result CompactionStep Fault)
-    : Type 0 where
+pub record IsStepInstalled (order : Order) (cmp : KeyOrder) (short_keys : ShortKeys) (v : State)
+    (loaded : List (ℕ × List ℕ)) (level : ℕ) (s : Settings) (before after : List Step)
+    (old new : ToldFiles) (result : Result CompactionStep Fault) : Type 0 where
   pub answer : Answer
   pub lines : List ℕ
   pub compacted : VersionCompaction order cmp short_keys v loaded level s answer lines
@@ -37,10 +34,8 @@ pub record IsStepInstalled (order : Order) (cmp : List ℕ → List ℕ → Orde
 
 -- what is left of a folder that reads as this version with these tables: it is unchanged, or a
 -- compaction was installed
-abbrev pub IsStepLeft : Order → (List ℕ → List ℕ → Ordering) → ShortKeys → State →
-    List (ℕ × List ℕ) → ℕ → Settings → List Step → List Step →
-    (List ℕ → Option (List ℕ) → Type 0) → (List ℕ → Option (List ℕ) → Type 0) →
-    Result CompactionStep Fault → Type 0
+abbrev pub IsStepLeft : Order → KeyOrder → ShortKeys → State → List (ℕ × List ℕ) → ℕ → Settings →
+    List Step → List Step → ToldFiles → ToldFiles → Result CompactionStep Fault → Type 0
 IsStepLeft order cmp short_keys v loaded level s before after old new result =
     IsUnchanged before after old new result
     ⊎ IsStepInstalled order cmp short_keys v loaded level s before after old new result

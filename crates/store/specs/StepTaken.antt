@@ -1,13 +1,12 @@
 -- What one of several compactions of a folder leaves.
 use Rattle.std.specs.Prelude.{◌≡◌, ◌⊎◌, ℕ, List, Option, Result, Ok, Err, IfErr, IfOk}
 use Rattle.std.specs.Option.{IfSome}
-use Rattle.std.specs.declared.cmp.Ordering.{Ordering}
 use Rattle.coding.specs.Answers.{UnlessMemory, fault}
 use Rattle.coding.specs.declared.fault.Fault.{Fault}
 use Rattle.coding.specs.declared.fault.FaultName.TheVariants.{Memory}
-use Rattle.ikey.specs.Comparator.{ShortKeys}
+use Rattle.ikey.specs.Comparator.{KeyOrder, ShortKeys}
 use Rattle.edit.specs.Version.{State}
-use Rattle.folder.specs.Calls.{Step}
+use Rattle.folder.specs.Calls.{ToldFiles, Step}
 use Rattle.folder.specs.OpenAnswer.{IsStopped}
 use Rattle.folder.specs.declared.current_version.Opened.{Opened}
 use Rattle.folder.specs.declared.order.Order.{Order}
@@ -18,10 +17,9 @@ use Rattle.store.specs.StepLeft.{IsStepInstalled, IsStepLeft}
 use Rattle.store.specs.declared.compaction_step.CompactionStep.{CompactionStep}
 
 -- it was refused, so nothing was told; by its refusal, or since the device failed
-pub record IsStepRefused {W : Type 0} (order : Order) (cmp : List ℕ → List ℕ → Ordering)
-    (short_keys : ShortKeys) (v : State) (loaded : List (ℕ × List ℕ)) (level : ℕ) (s : Settings)
-    (before after : List Step)
-    (old new : List ℕ → Option (List ℕ) → Type 0) (failed now : ℕ) (told told_now : W)
+pub record IsStepRefused {W : Type 0} (order : Order) (cmp : KeyOrder) (short_keys : ShortKeys)
+    (v : State) (loaded : List (ℕ × List ℕ)) (level : ℕ) (s : Settings) (before after : List Step)
+    (old new : ToldFiles) (failed now : ℕ) (told told_now : W)
     (result : Result (Option Opened) Fault) : Type 0 where
   pub e : Fault
   pub is : result ≡ Err e
@@ -32,9 +30,8 @@ pub record IsStepRefused {W : Type 0} (order : Order) (cmp : List ℕ → List �
 
 -- it was installed and told; what it is opened as after it is what was installed
 pub record IsStepTold {W : Type 0} (tells : W → List ℕ → W → Type 0) (order : Order)
-    (cmp : List ℕ → List ℕ → Ordering) (short_keys : ShortKeys) (v : State)
-    (loaded : List (ℕ × List ℕ)) (level : ℕ) (s : Settings) (before after : List Step)
-    (old new : List ℕ → Option (List ℕ) → Type 0) (told told_now : W)
+    (cmp : KeyOrder) (short_keys : ShortKeys) (v : State) (loaded : List (ℕ × List ℕ)) (level : ℕ)
+    (s : Settings) (before after : List Step) (old new : ToldFiles) (told told_now : W)
     (result : Result (Option Opened) Fault) : Type 0 where
   pub step : CompactionStep
   pub installed : IsStepInstalled order cmp short_keys v loaded level s before after old new
@@ -44,10 +41,9 @@ pub record IsStepTold {W : Type 0} (tells : W → List ℕ → W → Type 0) (or
       × (next.version ≡ installed.compacted.edited.next) × (next.manifest ≡ manifest_of v)))
   pub memory : IfErr result (λ e. e ≡ fault Memory)
 
-abbrev pub IsStepTaken : {W : Type 0} → (W → List ℕ → W → Type 0) → Order →
-    (List ℕ → List ℕ → Ordering) → ShortKeys → State → List (ℕ × List ℕ) → ℕ → Settings →
-    List Step → List Step → (List ℕ → Option (List ℕ) → Type 0) →
-    (List ℕ → Option (List ℕ) → Type 0) → ℕ → ℕ → W → W → Result (Option Opened) Fault → Type 0
+abbrev pub IsStepTaken : {W : Type 0} → (W → List ℕ → W → Type 0) → Order → KeyOrder → ShortKeys →
+    State → List (ℕ × List ℕ) → ℕ → Settings → List Step → List Step → ToldFiles → ToldFiles → ℕ →
+    ℕ → W → W → Result (Option Opened) Fault → Type 0
 IsStepTaken tells order cmp short_keys v loaded level s before after old new failed now told
     told_now result =
     IsStepRefused order cmp short_keys v loaded level s before after old new failed now told

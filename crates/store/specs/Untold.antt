@@ -1,14 +1,13 @@
 -- What a call leaves that told nothing.
-use Rattle.std.specs.Prelude.{◌≡◌, ℕ, List, Option, Result, IfErr}
+use Rattle.std.specs.Prelude.{◌≡◌, ℕ, List, Result, IfErr}
 use Rattle.coding.specs.Answers.{UnlessMemory}
 use Rattle.coding.specs.declared.fault.Fault.{Fault}
-use Rattle.folder.specs.Calls.{Step}
+use Rattle.folder.specs.Calls.{ToldFiles, Step}
 use Rattle.store.specs.Compaction.{IsUnchanged}
 
 -- nothing was changed and nothing told, for a reason unless memory ran out
-pub record IsUntold {T W : Type 0} (before after : List Step) (old new : List ℕ → Option (List ℕ) →
-    Type 0) (told told_now : W) (IsReason : Fault → Type 0) (result : Result T Fault)
-    : Type 0 where
+pub record IsUntold {T W : Type 0} (before after : List Step) (old new : ToldFiles)
+    (told told_now : W) (IsReason : Fault → Type 0) (result : Result T Fault) : Type 0 where
   pub unchanged : IsUnchanged before after old new result
   pub same : told_now ≡ told
   pub reason : IfErr result (λ e. UnlessMemory e (IsReason e))

@@ -1,7 +1,7 @@
 -- The calls that sync what a version rests on, and the folders for which they make it stand.
 use Rattle.std.specs.Prelude.{ℕ, List, [], ◌∷◌, ◌++◌, codes}
 use Rattle.std.specs.List.{flat_map}
-use Rattle.std.specs.declared.cmp.Ordering.{Ordering}
+use Rattle.ikey.specs.Comparator.{KeyOrder}
 use Rattle.edit.specs.Version.{State}
 use Rattle.folder.specs.Calls.{Call, FolderSynced, Step, Synced}
 use Rattle.folder.specs.Crash.{Leads, World}
@@ -18,14 +18,14 @@ table_syncs numbers =
 
 -- The calls that sync a version: CURRENT, the manifest of this number, the version's tables by
 -- level and in version order, and then the folder.
-abbrev pub sync_calls : (List ℕ → List ℕ → Ordering) → State → ℕ → List Call
+abbrev pub sync_calls : KeyOrder → State → ℕ → List Call
 sync_calls cmp v manifest =
     Synced (codes "CURRENT") ∷ Synced (manifest_name manifest)
     ∷ (table_syncs (file_numbers cmp v) ++ FolderSynced ∷ [])
 
 -- After these calls from the start, the folder reads as the version and its tables, by this
 -- manifest. Nothing is said of what was synced.
-abbrev pub AlwaysReadsBy : (List ℕ → List ℕ → Ordering) → Order → State → ℕ →
-    List (ℕ × List ℕ) → World → List Step → Type 0
+abbrev pub AlwaysReadsBy : KeyOrder → Order → State → ℕ → List (ℕ × List ℕ) → World → List Step →
+    Type 0
 AlwaysReadsBy cmp order v manifest tables start calls = (w : World) → Leads start calls w →
     ReadsBy cmp order v manifest tables w.shown.files

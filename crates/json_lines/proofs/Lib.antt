@@ -1,3 +1,3 @@
-mod PieceLemmas
+mod ObjectTextLemmas
 mod QuotedLemmas
 mod StatsLemmas

@@ -421,7 +421,7 @@ fn are_next(rt: &(impl Threads + Sync + AllocGlobal), row: &NextRow) -> Result<b
         is_held == row.is_held
             && are_tables(&lent, row.held)
             && are_lent(alloc, &lent)?
-            && shelf.calls() == before + row.calls,
+            && before.checked_add(row.calls) == Some(shelf.calls()),
     )
 }
 

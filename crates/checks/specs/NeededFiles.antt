@@ -1,5 +1,5 @@
 -- Which files the test of a range of user keys needs.
-use Rattle.std.specs.Prelude.{ℕ, Bool, true, false, not, ◌&&◌, ◌||◌, List}
+use Rattle.std.specs.Prelude.{Bool, true, false, not, ◌&&◌, ◌||◌}
 use Rattle.ikey.specs.Key.{user_of}
 use Rattle.ikey.specs.Comparator.{KeyOrder}
 use Rattle.split.specs.Bounds.{is_user_before}

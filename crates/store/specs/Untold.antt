@@ -1,5 +1,5 @@
 -- What a call leaves that told nothing.
-use Rattle.std.specs.Prelude.{◌≡◌, ℕ, List, Result, IfErr}
+use Rattle.std.specs.Prelude.{◌≡◌, List, Result, IfErr}
 use Rattle.coding.specs.Answers.{UnlessMemory}
 use Rattle.coding.specs.declared.fault.Fault.{Fault}
 use Rattle.folder.specs.Calls.{ToldFiles, Step}

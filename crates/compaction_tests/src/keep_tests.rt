@@ -5,7 +5,7 @@ use edit::{Version, VersionEdit};
 use ikey::{Bytewise, Kind};
 use keep::{
     Mark, RangeRun, Snapshots, cursor_from, distinct_law, holds_law, is_rising, largest_rise,
-    merge_range, one_key, range_start_law, ranges_compose, seek_range,
+    merge_range, one_key, range_start_law, ranges_compose, seek_range, starts_before,
 };
 use pick::{Inputs, inputs};
 use split::Range;
@@ -408,4 +408,22 @@ fn laws_are_called(rt: HostRuntime) {
     one_key::<Bytewise>();
     ranges_compose::<Bytewise>();
     assert!(rt; is_rising(&[1, 2]) && !is_rising(&[2, 2]));
+}
+
+/// A bound, the answer without one, and whether an entry of `u` is to come before it.
+const BOUNDS: &[(Option<&[u8]>, bool, bool)] = &[
+    (Some(b"v"), false, true),
+    (Some(b"u"), true, false),
+    (None, true, true),
+    (None, false, false),
+];
+
+#[test]
+fn entries_before_a_bound(rt: HostRuntime) -> Result<(), Fault> {
+    let cursor = cursor(rt.alloc(), NINE_FIVE_THREE)?;
+    for (bound, otherwise, wanted) in BOUNDS {
+        let starts = starts_before::<Bytewise, _>(&cursor, *bound, *otherwise);
+        assert!(rt; starts == *wanted, "{bound:?}");
+    }
+    Ok(())
 }

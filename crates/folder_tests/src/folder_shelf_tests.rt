@@ -144,3 +144,23 @@ pub(crate) fn gives_parts(folder: &mut impl Folder, name: &str) -> bool {
 fn parts_of_a_file(rt: HostRuntime) {
     assert!(rt; gives_parts(&mut Shelf::new(rt.alloc(), FILES), "1"));
 }
+
+/// An offset, a length, and what of `abcdef` that is.
+const PARTS_OF_SIX: &[(u64, usize, &[u8])] = &[
+    (0, 3, b"abc"),
+    (4, 2, b"ef"),
+    (4, 9, b"ef"),
+    (2, 0, b""),
+    (6, 1, b""),
+    (u64::MAX, usize::MAX, b""),
+];
+
+#[test]
+fn parts_of_bytes(rt: HostRuntime) {
+    for (offset, len, wanted) in PARTS_OF_SIX {
+        assert!(rt;
+            part_of(b"abcdef", *offset, *len) == *wanted,
+            "{offset} {len}"
+        );
+    }
+}

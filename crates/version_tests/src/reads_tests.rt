@@ -3,12 +3,12 @@
 
 use coding::{Fault, FaultName};
 use edit::{FileMeta, Version, VersionEdit};
-use ikey::Bytewise;
+use ikey::{Bytewise, InternalKey};
 use reads::{
-    NumberedTable, answers_newest_first, falls_in, files_newest_first, get, is_stated, lawful,
-    tables_newest_first,
+    NumberedTable, all_files, answers_newest_first, falls_in, files_newest_first, get, is_below,
+    is_stated, lawful, may_hold, tables_newest_first,
 };
-use split::Range;
+use split::{Range, is_before};
 use std::alloc::Global;
 use std::process::Abort;
 use std::test::*;
@@ -388,6 +388,86 @@ fn fall(alloc: Global, row: &Falling) -> Result<bool, Fault> {
 fn entries_that_fall_in_a_range(rt: HostRuntime) -> Result<(), Fault> {
     for (place, row) in FALLING.iter().enumerate() {
         assert!(rt; fall(rt.alloc(), row)? == row.3, "{place}");
+    }
+    Ok(())
+}
+
+/// The next file of a version, a number, and whether it is below.
+const NEXT_FILES: &[(Option<u64>, u64, bool)] = &[
+    (Some(5), 4, true),
+    (Some(5), 5, false),
+    (Some(0), 0, false),
+    (Some(u64::MAX), u64::MAX - 1, true),
+    (None, 0, false),
+];
+
+#[test]
+fn numbers_below_the_next_file(rt: HostRuntime) {
+    for (next, number, wanted) in NEXT_FILES {
+        assert!(rt; is_below(*next, *number) == *wanted, "{next:?} {number}");
+    }
+}
+
+/// Versions, and their files by level and in version order: each level and number.
+const LISTED: &[(&[u8], &[(u64, u64)])] = &[
+    (TWO, &[(1, 8), (1, 7)]),
+    (AT_LEVEL_0, &[(0, 8), (0, 7)]),
+    (NEWER_FIRST, &[(0, 7), (0, 8)]),
+    (NEWER_BELOW, &[(1, 7), (2, 8)]),
+    (b"", &[]),
+];
+
+/// User keys, and whether a file that holds `u` alone may hold them.
+const USERS: &[(&[u8], bool)] = &[(b"u", true), (b"t", false), (b"u\0", false), (b"", false)];
+
+/// Whether a file may hold just the keys that it should.
+fn holds_as_wanted(file: &FileMeta) -> bool {
+    for (user, wanted) in USERS {
+        if may_hold::<Bytewise>(file, user) != *wanted {
+            return false;
+        }
+    }
+    true
+}
+
+/// Whether these are the files of a version, each of which holds `u` alone.
+fn are_listed(alloc: Global, edit: &[u8], wanted: &[(u64, u64)]) -> Result<bool, Fault> {
+    let version = version_of(alloc, edit)?;
+    let files = all_files::<Bytewise>(alloc, &version)?;
+    for (file, place) in files.iter().zip(wanted) {
+        if (file.level, file.meta.number) != *place || !holds_as_wanted(file.meta) {
+            return Ok(false);
+        }
+    }
+    Ok(files.len() == wanted.len())
+}
+
+#[test]
+fn files_by_level(rt: HostRuntime) -> Result<(), Fault> {
+    for (edit, wanted) in LISTED {
+        assert!(rt; are_listed(rt.alloc(), edit, wanted)?, "{wanted:?}");
+    }
+    Ok(())
+}
+
+/// A bound, the answer without one, and whether the user key `u` is before it.
+const BOUNDS: &[(Option<&[u8]>, bool, bool)] = &[
+    (Some(b"v"), false, true),
+    (Some(b"u\0"), false, true),
+    (Some(b"u"), true, false),
+    (Some(b"t"), true, false),
+    (None, true, true),
+    (None, false, false),
+];
+
+#[test]
+fn a_key_before_a_bound(rt: HostRuntime) -> Result<(), Fault> {
+    let key = InternalKey::parse(b"u\x01\x05\0\0\0\0\0\0")?;
+    for (bound, otherwise, wanted) in BOUNDS {
+        assert!(rt;
+            is_before::<Bytewise>(key, *bound, *otherwise) == *wanted,
+            "{bound:?}"
+        );
     }
     Ok(())
 }

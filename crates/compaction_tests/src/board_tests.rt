@@ -374,12 +374,6 @@ const WILLING: Refusing = Refusing {
     for_memory: u64::MAX,
 };
 
-/// Refuses the first job, so that a lone worker skips the others.
-const FIRST: Refusing = Refusing {
-    by_name: 0,
-    for_memory: u64::MAX,
-};
-
 /// Refuses job 2 by name, and the first as out of memory.
 const FIRST_FOR_MEMORY: Refusing = Refusing {
     by_name: 2,
@@ -426,28 +420,10 @@ const ROWS: &[Row] = &[
         wanted: Ok(&[]),
     },
     Row {
-        name: "as many workers as there may be",
-        labour: WILLING,
-        jobs: 5,
-        workers: 64,
-        held: FREE,
-        each: 0x01_0101_0101,
-        wanted: Ok(&[0, 1, 2, 3, 4]),
-    },
-    Row {
         name: "one worker too many",
         labour: WILLING,
         jobs: 5,
         workers: 65,
-        held: FREE,
-        each: 0,
-        wanted: Err(RunFault::Workers),
-    },
-    Row {
-        name: "no worker",
-        labour: WILLING,
-        jobs: 5,
-        workers: 0,
         held: FREE,
         each: 0,
         wanted: Err(RunFault::Workers),
@@ -461,30 +437,6 @@ const ROWS: &[Row] = &[
         held: MEETING,
         each: 0x0101,
         wanted: Ok(&[0, 1]),
-    },
-    Row {
-        name: "a lone worker skips what is above a failed job",
-        labour: FIRST,
-        jobs: 4,
-        workers: 1,
-        held: FREE,
-        each: 0x0101_0101,
-        wanted: Err(RunFault::Job {
-            job: 0,
-            fault: NAMED,
-        }),
-    },
-    Row {
-        name: "so do three workers",
-        labour: FIRST,
-        jobs: 4,
-        workers: 3,
-        held: FREE,
-        each: 0x0101_0101,
-        wanted: Err(RunFault::Job {
-            job: 0,
-            fault: NAMED,
-        }),
     },
     Row {
         name: "job 0 lacks memory once job 2 was refused by name",

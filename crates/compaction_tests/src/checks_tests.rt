@@ -1,10 +1,11 @@
+use crate::range_checks_tests::version_after;
 use board::Open;
 use checks::*;
 use coding::{Fault, FaultName};
-use edit::{Version, VersionEdit};
 use ikey::Bytewise;
 use reads::NumberedTable;
 use std::alloc::Global;
+use std::process::Abort;
 use std::test::*;
 use std::thread::Threads;
 
@@ -39,13 +40,6 @@ const LONGER_FILE: &[u8] = b"\
     \x01\x1aleveldb.BytewiseComparator\x02\x03\x09\0\x03\x09\x04\x04\x07\x01\x07\x7e\x09u\0\x04\0\
     \0\0\0\0\0\x09u\x01\x02\0\0\0\0\0\0";
 
-/// `edit: comparator leveldb.BytewiseComparator, log 3, previous 0, next 9, last 4, file 1 7 125
-/// u@4 del .. u@2 put, file 2 8 125 u@4 del .. u@2 put`
-const TWO_FILES: &[u8] = b"\
-    \x01\x1aleveldb.BytewiseComparator\x02\x03\x09\0\x03\x09\x04\x04\x07\x01\x07\x7d\x09u\0\x04\0\
-    \0\0\0\0\0\x09u\x01\x02\0\0\0\0\0\0\x07\x02\x08\x7d\x09u\0\x04\0\0\0\0\0\0\x09u\x01\x02\0\0\0\
-    \0\0\0";
-
 /// The number of a table, and its bytes.
 type Given = (u64, &'static [u8]);
 
@@ -69,22 +63,10 @@ const ROWS: &[Row] = &[
         told: Ok(&[(8, 3), (7, 4), (9, 3)]),
     },
     Row {
-        name: "none",
-        edit: None,
-        tables: &[],
-        told: Ok(&[]),
-    },
-    Row {
         name: "the first of two refusals",
         edit: None,
         tables: &[(8, ONE_ENTRY), (7, DAMAGED), (9, BLANK)],
         told: Err(FaultName::Short),
-    },
-    Row {
-        name: "the first of two other refusals",
-        edit: None,
-        tables: &[(8, BLANK), (7, DAMAGED), (9, ONE_ENTRY)],
-        told: Err(FaultName::Magic),
     },
     Row {
         name: "a lawful version",
@@ -93,38 +75,21 @@ const ROWS: &[Row] = &[
         told: Ok(&[(7, 4)]),
     },
     Row {
-        name: "a table that is not there",
-        edit: Some(ONE_FILE),
-        tables: &[(8, ONE_ENTRY)],
-        told: Err(FaultName::Missing),
-    },
-    Row {
         name: "a file that is not so long",
         edit: Some(LONGER_FILE),
         tables: &[(7, TWO_ENTRIES)],
         told: Err(FaultName::Lawless),
     },
-    Row {
-        name: "a damaged table before a version that is not lawful",
-        edit: Some(LONGER_FILE),
-        tables: &[(7, TWO_ENTRIES), (8, DAMAGED)],
-        told: Err(FaultName::Short),
-    },
-    Row {
-        name: "entries that stand twice",
-        edit: Some(TWO_FILES),
-        tables: &[(7, TWO_ENTRIES), (8, TWO_ENTRIES)],
-        told: Err(FaultName::Lawless),
-    },
 ];
 
 /// The numbers and bytes of tables, as a folder gives them.
-fn loaded(alloc: Global, tables: &[Given]) -> Result<Vec<(u64, Vec<u8>)>, Fault> {
+fn loaded(rt: &impl Abort, alloc: Global, tables: &[Given]) -> Vec<(u64, Vec<u8>)> {
     let mut loaded = Vec::new(alloc);
     for (number, bytes) in tables {
-        loaded.push((*number, Vec::from_slice(alloc, bytes)?))?;
+        let bytes = Vec::from_slice(alloc, bytes).expect(rt, "memory");
+        loaded.push((*number, bytes)).expect(rt, "memory");
     }
-    Ok(loaded)
+    loaded
 }
 
 /// Whether tables have these numbers, and first keys of these sequences.
@@ -147,36 +112,22 @@ fn is_told(answer: Result<Vec<NumberedTable<'_, Bytewise>>, Fault>, told: Told) 
     }
 }
 
-/// The version after an edit.
-fn version_after(alloc: Global, edit: &[u8]) -> Result<Version, Fault> {
-    let edit = VersionEdit::decode(alloc, edit)?;
-    Version::empty(alloc).applied::<Bytewise>(edit)
-}
-
-/// Whether four workers answer this of the tables of the version after an edit.
-fn tell_of(
-    rt: &(impl Threads + Sync + AllocGlobal),
-    edit: &[u8],
-    loaded: &[(u64, Vec<u8>)],
-    told: Told,
-) -> Result<bool, Fault> {
-    let version = version_after(rt.alloc(), edit)?;
-    let answer = lawful_tables(rt, rt.alloc(), &version, loaded, 4, &Open);
-    Ok(is_told(answer, told))
-}
-
 /// Whether four workers answer what a row says.
-fn tell(rt: &(impl Threads + Sync + AllocGlobal), row: &Row) -> Result<bool, Fault> {
-    let loaded = loaded(rt.alloc(), row.tables)?;
-    match row.edit {
-        Some(edit) => tell_of(rt, edit, &loaded, row.told),
-        None => Ok(is_told(check_tables(rt, rt.alloc(), &loaded, 4, &Open), row.told)),
-    }
+fn tell(rt: &(impl Threads + Sync + Abort), alloc: Global, row: &Row) -> bool {
+    let loaded = loaded(rt, alloc, row.tables);
+    let Some(edit) = row.edit else {
+        return is_told(check_tables(rt, alloc, &loaded, 4, &Open), row.told);
+    };
+    let version = version_after(rt, alloc, edit);
+    is_told(
+        lawful_tables(rt, alloc, &version, &loaded, 4, &Open),
+        row.told,
+    )
 }
 
 #[test]
 fn tables_as_they_are_told(rt: HostRuntime) {
     for row in ROWS {
-        assert!(rt; tell(&rt, row) == Ok(true), "{}", row.name);
+        assert!(rt; tell(&rt, rt.alloc(), row), "{}", row.name);
     }
 }

@@ -1,8 +1,6 @@
-//! The tests of `compact`: rows of the whole, over ranges and workers, whole and in groups.
+//! The tests of `compact`: rows of the whole, over ranges and workers.
 
 mod gates;
-mod groups;
 mod rows;
-mod stated;
-mod tables;
+pub(crate) mod tables;
 mod tests;

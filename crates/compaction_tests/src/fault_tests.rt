@@ -7,27 +7,14 @@ use crate::range_checks_tests::{
 };
 use board::Open;
 use checks::test_version;
-use coding::Fault;
+use edit::Version;
 use faults::{FaultTaker, FileFault, all_faults};
 use folder::{Order, Shelf};
 use ikey::Bytewise;
+use std::alloc::Global;
+use std::process::Abort;
 use std::test::*;
 use std::thread::Threads;
-
-/// One sequence, once of each type.
-/// `table: u@4 put -, u@4 del`
-const U_OF_TWO_TYPES: &[u8] = b"\
-    \0\x09\0u\x01\x04\0\0\0\0\0\0\x01\x08\0\0\x04\0\0\0\0\0\0\0\0\0\0\x01\0\0\0\0\xd88\xa3E\0\0\0\0\
-    \x01\0\0\0\0\xc0\xf2\xa1\xb0\0\x09\x02u\0\x04\0\0\0\0\0\0\0\x1f\0\0\0\0\x01\0\0\0\0f\x97\xea\
-    \xdb\x24\x081\x16\0\0\0\0\0\0\0\0\0\0\0\0\0\0\0\0\0\0\0\0\0\0\0\0\0\0\0\0\0\0\0\0\0\0\0\0W\xfb\
-    \x80\x8b\x24uG\xdb";
-
-/// A file that holds them.
-/// `edit: comparator leveldb.BytewiseComparator, log 3, previous 0, next 20, last 10, file 1 9 124
-/// u@4 put .. u@4 del`
-const TWO_TYPES: &[u8] = b"\
-    \x01\x1aleveldb.BytewiseComparator\x02\x03\x09\0\x03\x14\x04\x0a\x07\x01\x09\x7c\x09u\x01\x04\0\
-    \0\0\0\0\0\x09u\0\x04\0\0\0\0\0\0";
 
 /// The range of file 9 has all keys of file 11, and the first key of file 12.
 /// `edit: comparator leveldb.BytewiseComparator, log 3, previous 0, next 20, last 10, file 1 9 125
@@ -43,13 +30,6 @@ const OVERLAPPING: &[u8] = b"\
 const LOW_NEXT: &[u8] = b"\
     \x01\x1aleveldb.BytewiseComparator\x02\x03\x09\0\x03\x0c\x04\x0a\x07\x01\x0cr\x09u\x01\x09\0\0\
     \0\0\0\0\x09u\x01\x09\0\0\0\0\0\0";
-
-/// Next file was never set.
-/// `edit: comparator leveldb.BytewiseComparator, log 3, previous 0, last 10, file 1 12 114 u@9 put
-/// .. u@9 put`
-const NO_NEXT: &[u8] = b"\
-    \x01\x1aleveldb.BytewiseComparator\x02\x03\x09\0\x04\x0a\x07\x01\x0cr\x09u\x01\x09\0\0\0\0\0\0\
-    \x09u\x01\x09\0\0\0\0\0\0";
 
 /// Searched are 13, 12, 9, 10 and 11.
 /// `edit: comparator leveldb.BytewiseComparator, log 3, previous 0, next 20, last 10, file 0 13 114
@@ -105,8 +85,8 @@ const PLAIN: Row = Row {
     count: 0,
 };
 
-/// What is wrong with files.
-const OF_FILES: &[Row] = &[
+/// What is wrong with files, and then user keys whose sequences don't fall.
+const ROWS: &[Row] = &[
     PLAIN,
     Row {
         name: "a missing table and two invalid ones",
@@ -118,14 +98,6 @@ const OF_FILES: &[Row] = &[
         ],
         told: "13 Refused(Missing), 12 Refused(Magic), 9 Refused(Short), ",
         count: 3,
-        ..PLAIN
-    },
-    Row {
-        name: "the bounds of a table",
-        edit: SHARED_KEY,
-        files: &[("000011.ldb", U_AT_SEVEN), ("000012.ldb", U_AT_ONE)],
-        told: "12 Smallest, 12 Largest, ",
-        count: 2,
         ..PLAIN
     },
     Row {
@@ -145,14 +117,6 @@ const OF_FILES: &[Row] = &[
         ..PLAIN
     },
     Row {
-        name: "next file was never set",
-        edit: NO_NEXT,
-        files: &[("000012.ldb", U_AT_NINE)],
-        told: "12 NotBelow(0), ",
-        count: 1,
-        ..PLAIN
-    },
-    Row {
         name: "files of a level that overlap",
         edit: OVERLAPPING,
         files: &[
@@ -164,18 +128,6 @@ const OF_FILES: &[Row] = &[
         count: 3,
         ..PLAIN
     },
-    Row {
-        name: "a taker that says to stop among the files",
-        edit: SHARED_KEY,
-        files: &[("000011.ldb", U_AT_SEVEN), ("000012.ldb", U_AT_ONE)],
-        most: 1,
-        told: "12 Smallest, ",
-        count: 1,
-    },
-];
-
-/// User keys whose sequences don't fall.
-const OF_KEYS: &[Row] = &[
     Row {
         name: "an older entry above a newer one",
         edit: OLDER_ABOVE,
@@ -191,46 +143,11 @@ const OF_KEYS: &[Row] = &[
         ..PLAIN
     },
     Row {
-        name: "one of the two tables is invalid",
-        edit: OLDER_ABOVE,
-        files: &[
-            ("000009.ldb", A_AND_U),
-            ("000010.ldb", A_AT_THREE),
-            ("000011.ldb", B_AT_TWO),
-            ("000012.ldb", b"short"),
-            ("000013.ldb", U_AT_SEVEN),
-        ],
-        told: "12 Refused(Short), ",
-        count: 1,
-        ..PLAIN
-    },
-    Row {
         name: "two keys out of order",
         edit: OUT_OF_ORDER,
         files: DISORDERED,
         told: "key 97 9 10, key 117 13 12, ",
         count: 2,
-        ..PLAIN
-    },
-    Row {
-        name: "another pair, without the first table",
-        edit: OUT_OF_ORDER,
-        files: &[
-            ("000009.ldb", A_AND_U),
-            ("000010.ldb", A_AT_THREE),
-            ("000011.ldb", U_AT_SEVEN),
-            ("000012.ldb", U_AT_NINE),
-        ],
-        told: "13 Refused(Missing), key 97 9 10, key 117 9 11, ",
-        count: 3,
-        ..PLAIN
-    },
-    Row {
-        name: "one sequence twice in a table",
-        edit: TWO_TYPES,
-        files: &[("000009.ldb", U_OF_TWO_TYPES)],
-        told: "key 117 9 9, ",
-        count: 1,
         ..PLAIN
     },
     Row {
@@ -275,11 +192,17 @@ impl FaultTaker for Collected {
     }
 }
 
+/// Whether a version passes its test exactly if nothing is wrong with it.
+fn is_tested(rt: &(impl Threads + Sync), alloc: Global, version: &Version, row: &Row) -> bool {
+    let mut shelf = Shelf::new(alloc, row.files);
+    let tested = test_version::<Bytewise, _, _, _>(rt, alloc, &mut shelf, version, 300, 4, &Open);
+    tested.is_ok() == (row.count == 0)
+}
+
 /// Whether what is told of a row is what it says, and nothing exactly if the version passes its
 /// test.
-fn tell(rt: &(impl Threads + Sync + AllocGlobal), row: &Row, memory: u64) -> Result<bool, Fault> {
-    let alloc = rt.alloc();
-    let version = version_after(alloc, row.edit)?;
+fn tell(rt: &(impl Threads + Sync + Abort), alloc: Global, row: &Row, memory: u64) -> bool {
+    let version = version_after(rt, alloc, row.edit);
     let mut shelf = Shelf::new(alloc, row.files);
     let mut told = Collected {
         text: String::new(alloc),
@@ -289,33 +212,16 @@ fn tell(rt: &(impl Threads + Sync + AllocGlobal), row: &Row, memory: u64) -> Res
     let order = Order::Bytewise;
     let count = all_faults(
         rt, alloc, &mut shelf, order, &version, memory, &mut told, &Open,
-    )?;
-    let mut again = Shelf::new(alloc, row.files);
-    let tested = test_version::<Bytewise, _, _, _>(
-        rt, alloc, &mut again, &version, memory, 4, &Open,
     );
-    Ok(told.text.as_str() == row.told && count == row.count && tested.is_ok() == (count == 0))
+    told.text.as_str() == row.told && count == Ok(row.count) && is_tested(rt, alloc, &version, row)
 }
 
 #[test]
-fn faults_of_files(rt: HostRuntime) {
-    for row in OF_FILES {
+fn faults_of_versions(rt: HostRuntime) {
+    for row in ROWS {
         for memory in BUDGETS {
             assert!(rt;
-                tell(&rt, row, *memory) == Ok(true),
-                "{} {memory}",
-                row.name
-            );
-        }
-    }
-}
-
-#[test]
-fn faults_of_keys(rt: HostRuntime) {
-    for row in OF_KEYS {
-        for memory in BUDGETS {
-            assert!(rt;
-                tell(&rt, row, *memory) == Ok(true),
+                tell(&rt, rt.alloc(), row, *memory),
                 "{} {memory}",
                 row.name
             );

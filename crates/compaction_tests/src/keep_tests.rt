@@ -1,7 +1,8 @@
-//! Which entries of a range are kept.
+//! Which entries of a range are kept. Rows of `compact_tests` have more lists of snapshots, and
+//! deletions.
 
+use crate::range_checks_tests::version_after;
 use coding::{Fault, FaultName};
-use edit::{Version, VersionEdit};
 use ikey::{Bytewise, Kind};
 use keep::{
     Mark, RangeRun, Snapshots, cursor_from, distinct_law, holds_law, is_rising, largest_rise,
@@ -22,27 +23,6 @@ const NINE_FIVE_THREE: &[u8] = b"\
     \0\0\x01\0\0\0\0qX\xd4\xc0\0\0\0\0\x01\0\0\0\0\xc0\xf2\xa1\xb0\0\x09\x02u\x01\x03\0\0\0\0\0\0\
     \0\x2b\0\0\0\0\x01\0\0\0\0P\xd12\xf20\x08\x3d\x16\0\0\0\0\0\0\0\0\0\0\0\0\0\0\0\0\0\0\0\0\0\0\
     \0\0\0\0\0\0\0\0\0\0\0\0\0\0W\xfb\x80\x8b\x24uG\xdb";
-
-/// `table: u@9 put x, u@7 put x, u@5 put x, u@3 put x`
-const NINE_TO_THREE: &[u8] = b"\
-    \0\x09\x01u\x01\x09\0\0\0\0\0\0x\x02\x07\x01\x07\0\0\0\0\0\0x\x02\x07\x01\x05\0\0\0\0\0\0x\x02\
-    \x07\x01\x03\0\0\0\0\0\0x\0\0\0\0\x01\0\0\0\0\xb0\xb3\xd2A\0\0\0\0\x01\0\0\0\0\xc0\xf2\xa1\xb0\
-    \0\x09\x02u\x01\x03\0\0\0\0\0\0\06\0\0\0\0\x01\0\0\0\0\xa8\x8bR\xcc\x3b\x08H\x16\0\0\0\0\0\0\0\
-    \0\0\0\0\0\0\0\0\0\0\0\0\0\0\0\0\0\0\0\0\0\0\0\0\0\0\0\0\0W\xfb\x80\x8b\x24uG\xdb";
-
-/// `table: u@12 put x, u@9 put x`
-const TWELVE_NINE: &[u8] = b"\
-    \0\x09\x01u\x01\x0c\0\0\0\0\0\0x\x02\x07\x01\x09\0\0\0\0\0\0x\0\0\0\0\x01\0\0\0\0\xc9\xd7\x88\
-    \xad\0\0\0\0\x01\0\0\0\0\xc0\xf2\xa1\xb0\0\x09\x02u\x01\x09\0\0\0\0\0\0\0\x20\0\0\0\0\x01\0\0\
-    \0\0\xac\xfb\x15\xea\x25\x082\x16\0\0\0\0\0\0\0\0\0\0\0\0\0\0\0\0\0\0\0\0\0\0\0\0\0\0\0\0\0\0\
-    \0\0\0\0\0\0W\xfb\x80\x8b\x24uG\xdb";
-
-/// `table: u@4 del, u@2 put x`
-const DELETED: &[u8] = b"\
-    \0\x09\0u\0\x04\0\0\0\0\0\0\x01\x08\x01\x01\x02\0\0\0\0\0\0x\0\0\0\0\x01\0\0\0\0\xef\xe0\xe5\
-    \x28\0\0\0\0\x01\0\0\0\0\xc0\xf2\xa1\xb0\0\x09\x02u\x01\x02\0\0\0\0\0\0\0\x20\0\0\0\0\x01\0\0\
-    \0\0\x0a\xb0\x5c\x0c\x25\x082\x16\0\0\0\0\0\0\0\0\0\0\0\0\0\0\0\0\0\0\0\0\0\0\0\0\0\0\0\0\0\0\
-    \0\0\0\0\0\0W\xfb\x80\x8b\x24uG\xdb";
 
 /// `table: u@5 put x, u@5 del`
 const TWICE: &[u8] = b"\
@@ -72,18 +52,6 @@ const ALONE: &[u8] = b"\x07\x01\x07r\x09a\x01\x01\0\0\0\0\0\0\x09z\x01\x02\0\0\0
 const OVER_M: &[u8] = b"\
     \x07\x01\x07r\x09a\x01\x01\0\0\0\0\0\0\x09z\x01\x02\0\0\0\0\0\0\x07\x03\x03r\x09m\x01\x01\0\0\
     \0\0\0\0\x09m\x01\x01\0\0\0\0\0\0";
-
-/// That file from `t` to `v`.
-/// `edit: file 1 7 114 a@1 put .. z@2 put, file 3 3 114 t@1 put .. v@1 put`
-const OVER_T_TO_V: &[u8] = b"\
-    \x07\x01\x07r\x09a\x01\x01\0\0\0\0\0\0\x09z\x01\x02\0\0\0\0\0\0\x07\x03\x03r\x09t\x01\x01\0\0\
-    \0\0\0\0\x09v\x01\x01\0\0\0\0\0\0";
-
-/// That file from `v` to `w`.
-/// `edit: file 1 7 114 a@1 put .. z@2 put, file 3 3 114 v@1 put .. w@1 put`
-const OVER_V_TO_W: &[u8] = b"\
-    \x07\x01\x07r\x09a\x01\x01\0\0\0\0\0\0\x09z\x01\x02\0\0\0\0\0\0\x07\x03\x03r\x09v\x01\x01\0\0\
-    \0\0\0\0\x09w\x01\x01\0\0\0\0\0\0";
 
 /// A range, whether cursors seek it before it is merged, the sequences that it keeps (None if one
 /// comes twice), and how many grandparents lie below its first entry.
@@ -139,85 +107,6 @@ const ROWS: &[Row] = &[
         9,
         &[(ALL, false, Some(&[9]), 0)],
     ),
-    (
-        &[NINE_TO_THREE],
-        ALONE,
-        Snapshots::Listed(&[]),
-        9,
-        &[(ALL, false, Some(&[9]), 0)],
-    ),
-    (
-        &[NINE_TO_THREE],
-        ALONE,
-        Snapshots::Listed(&[5]),
-        9,
-        &[(ALL, false, Some(&[9, 5]), 0)],
-    ),
-    (
-        &[NINE_TO_THREE],
-        ALONE,
-        Snapshots::Listed(&[6]),
-        9,
-        &[(ALL, false, Some(&[9, 5]), 0)],
-    ),
-    (
-        &[NINE_TO_THREE],
-        ALONE,
-        Snapshots::Listed(&[7]),
-        9,
-        &[(ALL, false, Some(&[9, 7]), 0)],
-    ),
-    (
-        &[NINE_TO_THREE],
-        ALONE,
-        Snapshots::Listed(&[3, 6]),
-        9,
-        &[(ALL, false, Some(&[9, 5, 3]), 0)],
-    ),
-    (
-        &[TWELVE_NINE],
-        ALONE,
-        Snapshots::Listed(&[]),
-        9,
-        &[(ALL, false, Some(&[12, 9]), 0)],
-    ),
-    // A deletion and what it deletes, over no deeper file, over one that may have its user key, and
-    // over one that may not.
-    (
-        &[DELETED],
-        ALONE,
-        Snapshots::Listed(&[2]),
-        4,
-        &[(ALL, false, Some(&[4, 2]), 0)],
-    ),
-    (
-        &[DELETED],
-        ALONE,
-        Snapshots::Listed(&[]),
-        4,
-        &[(ALL, false, Some(&[]), 0)],
-    ),
-    (
-        &[DELETED],
-        ALONE,
-        Snapshots::From(4),
-        4,
-        &[(ALL, false, Some(&[]), 0)],
-    ),
-    (
-        &[DELETED],
-        OVER_T_TO_V,
-        Snapshots::From(4),
-        4,
-        &[(ALL, false, Some(&[4]), 0)],
-    ),
-    (
-        &[DELETED],
-        OVER_V_TO_W,
-        Snapshots::From(4),
-        4,
-        &[(ALL, false, Some(&[]), 0)],
-    ),
     // Three ranges of the same cursors, and one that is sought.
     (
         &[A_AND_U, U_AND_Z],
@@ -248,27 +137,27 @@ const ROWS: &[Row] = &[
 ];
 
 /// The inputs of a compaction of level 1 of the version that an edit makes of the empty one.
-fn inputs_of(alloc: Global, edit: &[u8]) -> Result<Inputs, Fault> {
-    let edit = VersionEdit::decode(alloc, edit)?;
-    let version = Version::empty(alloc).applied::<Bytewise>(edit)?;
-    inputs::<Bytewise>(alloc, &version, 1)
+fn inputs_of(rt: &impl Abort, alloc: Global, edit: &[u8]) -> Inputs {
+    inputs::<Bytewise>(alloc, &version_after(rt, alloc, edit), 1).expect(rt, "inputs")
 }
 
 /// The cursor over a table.
-fn cursor(alloc: Global, bytes: &'static [u8]) -> Result<TableCursor<'static, Bytewise>, Fault> {
-    TableCursor::new(alloc, &check::<Bytewise>(alloc, bytes)?)
+fn cursor(rt: &impl Abort, alloc: Global, bytes: &'static [u8]) -> TableCursor<'static, Bytewise> {
+    let table = check::<Bytewise>(alloc, bytes).expect(rt, "a table");
+    TableCursor::new(alloc, &table).expect(rt, "memory")
 }
 
 /// The cursors over tables.
 fn cursors_of(
+    rt: &impl Abort,
     alloc: Global,
     tables: &[&'static [u8]],
-) -> Result<Vec<TableCursor<'static, Bytewise>>, Fault> {
+) -> Vec<TableCursor<'static, Bytewise>> {
     let mut cursors = Vec::new(alloc);
     for bytes in tables {
-        cursors.push(cursor(alloc, bytes)?)?;
+        cursors.push(cursor(rt, alloc, bytes)).expect(rt, "memory");
     }
-    Ok(cursors)
+    cursors
 }
 
 /// Whether a cursor seeks a range, and is at its lower bound after that.
@@ -364,40 +253,33 @@ fn are_merged(
 }
 
 /// Whether a row is merged as it says.
-fn is_kept(alloc: Global, row: &Row) -> Result<bool, Fault> {
-    let inputs = inputs_of(alloc, row.1)?;
-    let mut cursors = cursors_of(alloc, row.0)?;
-    Ok(are_merged(alloc, &mut cursors, row, &inputs))
+fn is_kept(rt: &impl Abort, alloc: Global, row: &Row) -> bool {
+    let inputs = inputs_of(rt, alloc, row.1);
+    let mut cursors = cursors_of(rt, alloc, row.0);
+    are_merged(alloc, &mut cursors, row, &inputs)
 }
 
-/// Whether a cursor over the table of `a` and `u`, made for the user keys from `lower` on, is at
-/// the user key `first`. If that is None, whether it is at its end.
-fn begins_at(alloc: Global, lower: Option<&[u8]>, first: Option<&[u8]>) -> Result<bool, Fault> {
-    let table = check::<Bytewise>(alloc, A_AND_U)?;
-    let cursor = cursor_from(alloc, &table, Range { lower, upper: None })?;
-    Ok(match first {
-        Some(user) => cursor.valid() && cursor.key().user() == user,
-        None => !cursor.valid(),
-    })
+/// Whether a cursor over the table of `a` and `u`, made for the user keys from `b` on, begins at
+/// `u`, which comes before no `u`.
+fn begins_at_u(rt: &impl Abort, alloc: Global) -> bool {
+    let table = check::<Bytewise>(alloc, A_AND_U).expect(rt, "a table");
+    let range = Range {
+        lower: Some(b"b"),
+        upper: None,
+    };
+    let cursor = cursor_from(alloc, &table, range).expect(rt, "memory");
+    cursor.valid()
+        && cursor.key().user() == b"u".as_slice()
+        && starts_before::<Bytewise, _>(&cursor, Some(b"v"), false)
+        && !starts_before::<Bytewise, _>(&cursor, Some(b"u"), true)
 }
 
 #[test]
-fn what_ranges_keep(rt: HostRuntime) -> Result<(), Fault> {
+fn what_ranges_keep(rt: HostRuntime) {
     for (place, row) in ROWS.iter().enumerate() {
-        assert!(rt; is_kept(rt.alloc(), row)?, "{place}");
+        assert!(rt; is_kept(&rt, rt.alloc(), row), "{place}");
     }
-    Ok(())
-}
-
-#[test]
-fn cursors_begin_at_their_ranges(rt: HostRuntime) -> Result<(), Fault> {
-    let alloc = rt.alloc();
-    assert!(rt; begins_at(alloc, None, Some(b"a"))?);
-    assert!(rt; begins_at(alloc, Some(b"a"), Some(b"a"))?);
-    assert!(rt; begins_at(alloc, Some(b"b"), Some(b"u"))?);
-    assert!(rt; begins_at(alloc, Some(b"u"), Some(b"u"))?);
-    assert!(rt; begins_at(alloc, Some(b"v"), None)?);
-    Ok(())
+    assert!(rt; begins_at_u(&rt, rt.alloc()));
 }
 
 #[test]
@@ -408,22 +290,4 @@ fn laws_are_called(rt: HostRuntime) {
     one_key::<Bytewise>();
     ranges_compose::<Bytewise>();
     assert!(rt; is_rising(&[1, 2]) && !is_rising(&[2, 2]));
-}
-
-/// A bound, the answer without one, and whether an entry of `u` is to come before it.
-const BOUNDS: &[(Option<&[u8]>, bool, bool)] = &[
-    (Some(b"v"), false, true),
-    (Some(b"u"), true, false),
-    (None, true, true),
-    (None, false, false),
-];
-
-#[test]
-fn entries_before_a_bound(rt: HostRuntime) -> Result<(), Fault> {
-    let cursor = cursor(rt.alloc(), NINE_FIVE_THREE)?;
-    for (bound, otherwise, wanted) in BOUNDS {
-        let starts = starts_before::<Bytewise, _>(&cursor, *bound, *otherwise);
-        assert!(rt; starts == *wanted, "{bound:?}");
-    }
-    Ok(())
 }

@@ -1,5 +1,5 @@
 //! The tests of a compaction, from who draws which job and what a worker keeps to the whole and to
-//! a folder. They are of `board`, `split`, `merge`, `keep`, `encoding`, `cut`, `request`,
+//! a folder. They are of `board`, `split`, `merge`, `keep`, `cut`, `request`,
 //! `compact`, `checks`, `scan`, `faults`, `store` and `adoption`.
 #![tactic(auto)]
 
@@ -8,15 +8,11 @@ mod adoption_tests;
 #[cfg(test)]
 mod board_tests;
 #[cfg(test)]
-mod bounds_tests;
-#[cfg(test)]
 mod checks_tests;
 #[cfg(test)]
 mod compact_tests;
 #[cfg(test)]
 mod cut_tests;
-#[cfg(test)]
-mod encoding_tests;
 #[cfg(test)]
 mod fault_tests;
 #[cfg(test)]

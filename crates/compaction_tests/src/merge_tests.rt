@@ -1,5 +1,4 @@
-use coding::Fault;
-use ikey::{Bytewise, Comparator, Shortlex};
+use ikey::Bytewise;
 use merge::{Merging, least_place, merge_law, union_law};
 use std::alloc::Global;
 use std::process::Abort;
@@ -54,80 +53,38 @@ const ACF: &[u8] = b"\
     \0\0\0\0\x2f\0\0\0\0\x01\0\0\0\0q\xc5\x88\xfe4\x08A\x16\0\0\0\0\0\0\0\0\0\0\0\0\0\0\0\0\0\0\0\
     \0\0\0\0\0\0\0\0\0\0\0\0\0\0\0\0\0W\xfb\x80\x8b\x24uG\xdb";
 
-/// `shortlex: p*7@1 put a, 0x707070707070707000@1 put c, p*16@1 put f, p*32@1 put h,
-/// 0x707070707070707070707070707070707070707070707070707070707070707000@1 put i`
-const SHARING: &[u8] = b"\
-    \0\x0f\x01ppppppp\x01\x01\0\0\0\0\0\0a\x07\x0a\x01p\0\x01\x01\0\0\0\0\0\0c\x08\x10\x01pppppppp\
-    \x01\x01\0\0\0\0\0\0f\x10\x18\x01pppppppppppppppp\x01\x01\0\0\0\0\0\0h\x20\x09\x01\0\x01\x01\0\
-    \0\0\0\0\0i\0\0\0\0\x01\0\0\0\0\xf7k\xb2\xd6\0\0\0\0\x01\0\0\0\0\xc0\xf2\xa1\xb0\0\x29\x02ppppp\
-    ppppppppppppppppppppppppppp\0\x01\x01\0\0\0\0\0\0\0f\0\0\0\0\x01\0\0\0\0H\xffG\xd9k\x08x6\0\0\0\
-    \0\0\0\0\0\0\0\0\0\0\0\0\0\0\0\0\0\0\0\0\0\0\0\0\0\0\0\0\0\0\0\0\0W\xfb\x80\x8b\x24uG\xdb";
-
-/// `shortlex: p*8@1 put b, p*15@1 put d, 0x7070707070707070707070707070707000@1 put g,
-/// 0x707070707070707070707070707070707070707070707070707070707070707071@1 put j`
-const SHARING_TOO: &[u8] = b"\
-    \0\x10\x01pppppppp\x01\x01\0\0\0\0\0\0b\x08\x0f\x01ppppppp\x01\x01\0\0\0\0\0\0d\x0f\x0a\x01p\0\
-    \x01\x01\0\0\0\0\0\0g\x10\x19\x01ppppppppppppppppq\x01\x01\0\0\0\0\0\0j\0\0\0\0\x01\0\0\0\0\x5c\
-    \xc9\x15\x9b\0\0\0\0\x01\0\0\0\0\xc0\xf2\xa1\xb0\0\x29\x02ppppppppppppppppppppppppppppppppq\x01\
-    \x01\0\0\0\0\0\0\0Z\0\0\0\0\x01\0\0\0\0\x1b\x3b\xf9\xf6\x5f\x08l6\0\0\0\0\0\0\0\0\0\0\0\0\0\0\0\
-    \0\0\0\0\0\0\0\0\0\0\0\0\0\0\0\0\0\0\0\0\0W\xfb\x80\x8b\x24uG\xdb";
-
-/// `shortlex: q@1 put m, 0xff*16@1 put n, 0xff*17@1 put o`
-const APART: &[u8] = b"\
-    \0\x09\x01q\x01\x01\0\0\0\0\0\0m\0\x18\x01\xff\xff\xff\xff\xff\xff\xff\xff\xff\xff\xff\xff\xff\
-    \xff\xff\xff\x01\x01\0\0\0\0\0\0n\x10\x09\x01\xff\x01\x01\0\0\0\0\0\0o\0\0\0\0\x01\0\0\0\0\xa0\
-    \x60\xcd\x0b\0\0\0\0\x01\0\0\0\0\xc0\xf2\xa1\xb0\0\x19\x02\xff\xff\xff\xff\xff\xff\xff\xff\xff\
-    \xff\xff\xff\xff\xff\xff\xff\xff\x01\x01\0\0\0\0\0\0\0\x3e\0\0\0\0\x01\0\0\0\0\xcf\xc5\x16\x7eC\
-    \x08P\x26\0\0\0\0\0\0\0\0\0\0\0\0\0\0\0\0\0\0\0\0\0\0\0\0\0\0\0\0\0\0\0\0\0\0\0\0W\xfb\x80\x8b\
-    \x24uG\xdb";
-
-/// `shortlex: 0x707070707070707071@1 put l`
-const LONGER: &[u8] = b"\
-    \0\x11\x01ppppppppq\x01\x01\0\0\0\0\0\0l\0\0\0\0\x01\0\0\0\0H5C\x08\0\0\0\0\x01\0\0\0\0\xc0\xf2\
-    \xa1\xb0\0\x11\x02ppppppppq\x01\x01\0\0\0\0\0\0\0\x1d\0\0\0\0\x01\0\0\0\0\x3e\xbf\x21\x86\x22\
-    \x08\x2f\x1e\0\0\0\0\0\0\0\0\0\0\0\0\0\0\0\0\0\0\0\0\0\0\0\0\0\0\0\0\0\0\0\0\0\0\0\0W\xfb\x80\
-    \x8b\x24uG\xdb";
-
-/// `shortlex: p*16@9 put e, 0x7070707070707070707070707070707071@1 put k`
-const NEWER: &[u8] = b"\
-    \0\x18\x01pppppppppppppppp\x01\x09\0\0\0\0\0\0e\x10\x09\x01q\x01\x01\0\0\0\0\0\0k\0\0\0\0\x01\0\
-    \0\0\0\x8d1\x9f\xb2\0\0\0\0\x01\0\0\0\0\xc0\xf2\xa1\xb0\0\x19\x02ppppppppppppppppq\x01\x01\0\0\
-    \0\0\0\0\01\0\0\0\0\x01\0\0\0\0\x1ei\x04\x196\x08C\x26\0\0\0\0\0\0\0\0\0\0\0\0\0\0\0\0\0\0\0\0\
-    \0\0\0\0\0\0\0\0\0\0\0\0\0\0\0\0W\xfb\x80\x8b\x24uG\xdb";
-
-/// Tables of keys with the same first 8, 16 or 32 bytes, some at the greatest head there is.
-const SAME_HEADS: &[&[u8]] = &[SHARING, SHARING_TOO, APART, LONGER, NEWER];
-
 /// Tables of one entry each.
 const ONE_EACH: &[&[u8]] = &[U, A, NEWER_U, OTHER_U];
 
 /// The cursor over a table.
-fn cursor<C: Comparator>(alloc: Global, bytes: &[u8]) -> Result<TableCursor<'_, C>, Fault> {
-    TableCursor::new(alloc, &check::<C>(alloc, bytes)?)
+fn cursor(rt: &impl Abort, alloc: Global, bytes: &'static [u8]) -> TableCursor<'static, Bytewise> {
+    let table = check::<Bytewise>(alloc, bytes).expect(rt, "a table");
+    TableCursor::new(alloc, &table).expect(rt, "memory")
 }
 
 /// Appends the cursors over these tables.
-fn push_cursors<C: Comparator>(
+fn push_cursors(
+    rt: &impl Abort,
     alloc: Global,
-    cursors: &mut Vec<TableCursor<'static, C>>,
+    cursors: &mut Vec<TableCursor<'static, Bytewise>>,
     tables: &[&'static [u8]],
-) -> Result<(), Fault> {
+) {
     for bytes in tables {
-        cursors.push(cursor(alloc, *bytes)?)?;
+        cursors.push(cursor(rt, alloc, *bytes)).expect(rt, "memory");
     }
-    Ok(())
 }
 
 /// The cursors over lists of tables.
 fn cursors(
+    rt: &impl Abort,
     alloc: Global,
     lists: &[&[&'static [u8]]],
-) -> Result<Vec<TableCursor<'static, Bytewise>>, Fault> {
+) -> Vec<TableCursor<'static, Bytewise>> {
     let mut cursors = Vec::new(alloc);
     for tables in lists {
-        push_cursors(alloc, &mut cursors, *tables)?;
+        push_cursors(rt, alloc, &mut cursors, *tables);
     }
-    Ok(cursors)
+    cursors
 }
 
 /// Whether a user key and a value are of one byte each, and these.
@@ -136,25 +93,25 @@ fn are(user: &[u8], value: &[u8], pair: &[u8; 2]) -> bool {
 }
 
 /// Takes a cursor past its entry. Whether that has this user key and value.
-fn goes<'a, S: Cursor<'a, Bytewise>>(cursor: &mut S, pair: &[u8; 2]) -> Result<bool, Fault> {
+fn goes<'a, S: Cursor<'a, Bytewise>>(rt: &impl Abort, cursor: &mut S, pair: &[u8; 2]) -> bool {
     if !cursor.valid() {
-        return Ok(false);
+        return false;
     }
     let is_this = are(cursor.key().user(), cursor.value(), pair);
-    cursor.advance()?;
-    Ok(is_this)
+    cursor.advance().expect(rt, "memory");
+    is_this
 }
 
 /// Whether a cursor begins with these user keys and values, each key before its value. It is taken
 /// past them.
-fn begins<'a, S: Cursor<'a, Bytewise>>(cursor: &mut S, walked: &[u8]) -> Result<bool, Fault> {
+fn begins<'a, S: Cursor<'a, Bytewise>>(rt: &impl Abort, cursor: &mut S, walked: &[u8]) -> bool {
     let (pairs, _) = walked.as_chunks::<2>();
     for pair in pairs {
-        if !goes(cursor, pair)? {
-            return Ok(false);
+        if !goes(rt, cursor, pair) {
+            return false;
         }
     }
-    Ok(true)
+    true
 }
 
 /// Lists of tables, the entries with which all of them together begin, and the place of the cursor
@@ -205,12 +162,12 @@ const ROWS: &[Row] = &[
 ];
 
 /// Whether tables merged as one are walked so.
-fn is_walked(alloc: Global, row: &Row) -> Result<bool, Fault> {
-    let mut merging = Merging::new(alloc, cursors(alloc, row.lists)?)?;
-    let is_begun = begins(&mut merging, row.walked)?;
+fn is_walked(rt: &impl Abort, alloc: Global, row: &Row) -> bool {
+    let mut merging = Merging::new(alloc, cursors(rt, alloc, row.lists)).expect(rt, "memory");
+    let is_begun = begins(rt, &mut merging, row.walked);
     let place = merging.place();
     let cursors = merging.into_cursors();
-    Ok(is_begun && place == row.next && least_place::<Bytewise, _>(&cursors) == row.next)
+    is_begun && place == row.next && least_place::<Bytewise, _>(&cursors) == row.next
 }
 
 #[test]
@@ -218,35 +175,6 @@ fn cursors_are_walked_as_one(rt: HostRuntime) {
     merge_law::<Bytewise>();
     union_law::<Bytewise>();
     for row in ROWS {
-        assert!(rt; is_walked(rt.alloc(), row) == Ok(true), "{}", row.name);
+        assert!(rt; is_walked(&rt, rt.alloc(), row), "{}", row.name);
     }
-}
-
-/// Takes a cursor past its entry. Whether that has this value of one byte.
-fn passes<'a, C: Comparator, S: Cursor<'a, C>>(cursor: &mut S, value: u8) -> Result<bool, Fault> {
-    if !cursor.valid() {
-        return Ok(false);
-    }
-    let is_this = cursor.value() == [value].as_slice();
-    cursor.advance()?;
-    Ok(is_this)
-}
-
-/// Whether the tables of keys with the same heads, merged as one, have just these values.
-fn have_values<C: Comparator>(alloc: Global, values: &[u8]) -> Result<bool, Fault> {
-    let mut cursors = Vec::new(alloc);
-    push_cursors::<C>(alloc, &mut cursors, SAME_HEADS)?;
-    let mut merging = Merging::<C, _>::new(alloc, cursors)?;
-    for value in values {
-        if !passes::<C, _>(&mut merging, *value)? {
-            return Ok(false);
-        }
-    }
-    Ok(!merging.valid())
-}
-
-#[test]
-fn keys_with_the_same_heads_are_compared(rt: HostRuntime) {
-    assert!(rt; have_values::<Bytewise>(rt.alloc(), b"abcdefghijklmno") == Ok(true));
-    assert!(rt; have_values::<Shortlex>(rt.alloc(), b"mabcldefngkohij") == Ok(true));
 }

@@ -11,6 +11,7 @@ use folder::Shelf;
 use ikey::Bytewise;
 use reads::NumberedTable;
 use std::alloc::Global;
+use std::process::Abort;
 use std::test::*;
 use std::thread::Threads;
 
@@ -119,20 +120,6 @@ const ROWS: &[Row] = &[
         calls: Some(4),
     },
     Row {
-        name: "two files of a level that share a user key",
-        edit: SHARED_KEY,
-        files: &[("000011.ldb", U_AT_SEVEN), ("000012.ldb", U_AT_NINE)],
-        told: Ok((2, 2)),
-        calls: Some(2),
-    },
-    Row {
-        name: "a table that is not what the version states",
-        edit: SHARED_KEY,
-        files: &[("000011.ldb", U_AT_SEVEN), ("000012.ldb", U_AT_ONE)],
-        told: Err(FaultName::Lawless),
-        calls: None,
-    },
-    Row {
         name: "several ranges, and a table that reaches into three",
         edit: SEVERAL_RANGES,
         files: &[
@@ -144,44 +131,6 @@ const ROWS: &[Row] = &[
         ],
         told: Ok((5, 6)),
         calls: Some(5),
-    },
-    Row {
-        name: "the last of several tables is missing",
-        edit: SEVERAL_RANGES,
-        files: &[
-            ("000010.ldb", A_AT_THREE),
-            ("000011.ldb", b"short"),
-            ("000012.ldb", U_AT_SEVEN),
-            ("000013.ldb", U_AT_NINE),
-        ],
-        told: Err(FaultName::Missing),
-        calls: None,
-    },
-    Row {
-        name: "an invalid table before another",
-        edit: SEVERAL_RANGES,
-        files: &[
-            ("000009.ldb", b"short"),
-            ("000010.ldb", A_AT_THREE),
-            ("000011.ldb", B_AT_TWO),
-            ("000012.ldb", &[0; 48]),
-            ("000013.ldb", U_AT_NINE),
-        ],
-        told: Err(FaultName::Magic),
-        calls: None,
-    },
-    Row {
-        name: "an invalid table after entries that do not fall",
-        edit: OLDER_ABOVE,
-        files: &[
-            ("000009.ldb", b"short"),
-            ("000010.ldb", A_AT_THREE),
-            ("000011.ldb", B_AT_TWO),
-            ("000012.ldb", U_AT_NINE),
-            ("000013.ldb", U_AT_SEVEN),
-        ],
-        told: Err(FaultName::Short),
-        calls: None,
     },
     Row {
         name: "entries of the last range that do not fall",
@@ -202,16 +151,15 @@ const ROWS: &[Row] = &[
 const BUDGETS: &[u64] = &[1, 300, 1 << 30];
 
 /// The version after an edit.
-pub(crate) fn version_after(alloc: Global, edit: &[u8]) -> Result<Version, Fault> {
-    let edit = VersionEdit::decode(alloc, edit)?;
-    Version::empty(alloc).applied::<Bytewise>(edit)
+pub(crate) fn version_after(rt: &impl Abort, alloc: Global, edit: &[u8]) -> Version {
+    let edit = VersionEdit::decode(alloc, edit).expect(rt, "an edit");
+    Version::empty(alloc)
+        .applied::<Bytewise>(edit)
+        .expect(rt, "a version")
 }
 
 /// Whether an answer is the expected one.
-pub(crate) fn is_told(
-    answer: Result<VersionTotals, Fault>,
-    told: Result<(usize, u128), FaultName>,
-) -> bool {
+fn is_told(answer: Result<VersionTotals, Fault>, told: Result<(usize, u128), FaultName>) -> bool {
     match (answer, told) {
         (Ok(tested), Ok((files, entries))) => tested.files == files && tested.entries == entries,
         (Err(fault), Err(name)) => fault.name == name,
@@ -220,23 +168,17 @@ pub(crate) fn is_told(
 }
 
 /// Whether the test answers what a row says, with this budget.
-fn tell(rt: &(impl Threads + Sync + AllocGlobal), row: &Row, memory: u64) -> Result<bool, Fault> {
-    let version = version_after(rt.alloc(), row.edit)?;
-    let mut shelf = Shelf::new(rt.alloc(), row.files);
+fn tell(rt: &(impl Threads + Sync + Abort), alloc: Global, row: &Row, memory: u64) -> bool {
+    let version = version_after(rt, alloc, row.edit);
+    let mut shelf = Shelf::new(alloc, row.files);
     let answer = test_version::<Bytewise, _, _, _>(
-        rt,
-        rt.alloc(),
-        &mut shelf,
-        &version,
-        memory,
-        4,
-        &Open,
+        rt, alloc, &mut shelf, &version, memory, 4, &Open,
     );
     let is_counted = match row.calls {
         Some(calls) => shelf.calls() == calls,
         None => true,
     };
-    Ok(is_told(answer, row.told) && is_counted)
+    is_told(answer, row.told) && is_counted
 }
 
 #[test]
@@ -244,7 +186,7 @@ fn versions_tested_in_ranges(rt: HostRuntime) {
     for row in ROWS {
         for memory in BUDGETS {
             assert!(rt;
-                tell(&rt, row, *memory) == Ok(true),
+                tell(&rt, rt.alloc(), row, *memory),
                 "{} {memory}",
                 row.name
             );
@@ -266,15 +208,14 @@ const OF_SEVERAL: &[Held] = &[
 type Firsts = &'static [(u64, u64)];
 
 /// What the test of the version of several ranges holds at its end with a budget of memory, numbers
-/// that are wanted then, and what is answered of them.
+/// that are wanted then, and their tables.
 struct HeldRow {
     memory: u64,
     held: Firsts,
     wanted: &'static [u64],
-    told: Result<Firsts, FaultName>,
+    told: Firsts,
     /// How many calls of the folder that makes together: one for each table that is tested, and one
-    /// for each that is wanted and isn't held. If one of these is wrong, each that is wanted is
-    /// read again. A missing table is looked for under both of its names.
+    /// for each that is wanted and isn't held.
     calls: u64,
 }
 
@@ -284,7 +225,7 @@ const HELD: &[HeldRow] = &[
         memory: 1 << 30,
         held: &[(13, 9), (10, 3), (11, 2), (12, 7), (9, 1)],
         wanted: &[9, 10, 11, 12, 13],
-        told: Ok(&[(9, 1), (10, 3), (11, 2), (12, 7), (13, 9)]),
+        told: &[(9, 1), (10, 3), (11, 2), (12, 7), (13, 9)],
         calls: 5,
     },
     // Those that reach into the range from `u` on.
@@ -292,73 +233,40 @@ const HELD: &[HeldRow] = &[
         memory: 1,
         held: &[(13, 9), (12, 7), (9, 1)],
         wanted: &[12, 11, 13],
-        told: Ok(&[(12, 7), (11, 2), (13, 9)]),
+        told: &[(12, 7), (11, 2), (13, 9)],
         calls: 6,
-    },
-    HeldRow {
-        memory: 1,
-        held: &[(13, 9), (12, 7), (9, 1)],
-        wanted: &[],
-        told: Ok(&[]),
-        calls: 5,
-    },
-    HeldRow {
-        memory: 1,
-        held: &[(13, 9), (12, 7), (9, 1)],
-        wanted: &[8, 12],
-        told: Err(FaultName::Short),
-        calls: 5 + 1 + 2,
-    },
-    HeldRow {
-        memory: 1,
-        held: &[(13, 9), (12, 7), (9, 1)],
-        wanted: &[8, 14],
-        told: Err(FaultName::Missing),
-        calls: 5 + 3 + 3,
     },
 ];
 
-/// Whether what is answered of wanted tables is what a row says.
-fn are_checked(
+/// Whether tables that are held, or were read, are these.
+fn are_lent_as(
+    rt: &impl Abort,
     alloc: Global,
-    answer: Result<HeldTables<Bytewise>, Fault>,
-    told: Result<Firsts, FaultName>,
-) -> Result<bool, Fault> {
-    match (answer, told) {
-        (Ok(tables), Ok(firsts)) => Ok(are_tables(&tables.lend(alloc)?, firsts)),
-        (Err(fault), Err(name)) => Ok(fault.name == name),
-        _ => Ok(false),
-    }
+    tables: &HeldTables<Bytewise>,
+    firsts: Firsts,
+) -> bool {
+    are_tables(&tables.lend(alloc).expect(rt, "memory"), firsts)
 }
 
 /// Whether the test holds the tables of a row, and those that are wanted are answered so.
-fn are_held(rt: &(impl Threads + Sync + AllocGlobal), row: &HeldRow) -> Result<bool, Fault> {
-    let alloc = rt.alloc();
-    let version = version_after(alloc, SEVERAL_RANGES)?;
+fn are_held(rt: &(impl Threads + Sync + Abort), alloc: Global, row: &HeldRow) -> bool {
+    let version = version_after(rt, alloc, SEVERAL_RANGES);
     let mut shelf = Shelf::new(alloc, OF_SEVERAL);
     let found = test_and_hold::<Bytewise, _, _, _>(
         rt, alloc, &mut shelf, &version, row.memory, 4, &Open,
-    )?;
-    let is_held = are_tables(&found.tables.lend(alloc)?, row.held);
-    let is_tested = found.tested
-        == VersionTotals {
-            files: 5,
-            entries: 6,
-        };
-    let answer = checked_tables(rt, alloc, &mut shelf, found.tables, row.wanted, 4, &Open);
-    let is_checked = are_checked(alloc, answer, row.told)?;
-    Ok(is_held && is_tested && is_checked && shelf.calls() == row.calls)
+    ).expect(rt, "a lawful version");
+    let is_held = are_lent_as(rt, alloc, &found.tables, row.held);
+    let is_tested = (found.tested.files, found.tested.entries) == (5, 6);
+    let wanted = checked_tables(rt, alloc, &mut shelf, found.tables, row.wanted, 4, &Open).expect(
+        rt, "tables",
+    );
+    is_held && is_tested && are_lent_as(rt, alloc, &wanted, row.told) && shelf.calls() == row.calls
 }
 
 #[test]
 fn tables_that_are_held_and_wanted(rt: HostRuntime) {
     for row in HELD {
-        assert!(rt;
-            are_held(&rt, row) == Ok(true),
-            "{} {:?}",
-            row.memory,
-            row.wanted
-        );
+        assert!(rt; are_held(&rt, rt.alloc(), row), "{}", row.memory);
     }
 }
 
@@ -374,22 +282,10 @@ struct NextRow {
 
 const NEXT: &[NextRow] = &[
     NextRow {
-        numbers: &[13, 9],
-        is_held: true,
-        held: &[(13, 9), (9, 1)],
-        calls: 0,
-    },
-    NextRow {
         numbers: &[10, 12, 11],
         is_held: true,
         held: &[(10, 3), (12, 7), (11, 2)],
         calls: 2,
-    },
-    NextRow {
-        numbers: &[],
-        is_held: true,
-        held: &[],
-        calls: 0,
     },
     // Table 8 is invalid.
     NextRow {
@@ -398,47 +294,41 @@ const NEXT: &[NextRow] = &[
         held: &[],
         calls: 1,
     },
-    // There is no table 14. It is looked for under both names.
-    NextRow {
-        numbers: &[12, 14],
-        is_held: false,
-        held: &[],
-        calls: 2,
-    },
 ];
 
 /// Whether the tables of a row are held next, and are lent in this order.
-fn are_next(rt: &(impl Threads + Sync + AllocGlobal), row: &NextRow) -> Result<bool, Fault> {
-    let alloc = rt.alloc();
-    let version = version_after(alloc, SEVERAL_RANGES)?;
+fn are_next(rt: &(impl Threads + Sync + Abort), alloc: Global, row: &NextRow) -> bool {
+    let version = version_after(rt, alloc, SEVERAL_RANGES);
     let mut shelf = Shelf::new(alloc, OF_SEVERAL);
-    let found = test_and_hold::<Bytewise, _, _, _>(rt, alloc, &mut shelf, &version, 1, 4, &Open)?;
+    let found = test_and_hold::<Bytewise, _, _, _>(
+        rt, alloc, &mut shelf, &version, 1, 4, &Open,
+    ).expect(rt, "a lawful version");
     let mut held = found.tables;
     let before = shelf.calls();
-    let is_held = hold_next(rt, alloc, &mut shelf, &mut held, row.numbers, 4, &Open)?;
-    let lent = held.lend(alloc)?;
-    Ok(
-        is_held == row.is_held
-            && are_tables(&lent, row.held)
-            && are_lent(alloc, &lent)?
-            && before.checked_add(row.calls) == Some(shelf.calls()),
-    )
+    let is_held = hold_next(rt, alloc, &mut shelf, &mut held, row.numbers, 4, &Open).expect(
+        rt, "memory",
+    );
+    let lent = held.lend(alloc).expect(rt, "memory");
+    is_held == row.is_held
+        && are_tables(&lent, row.held)
+        && are_lent(rt, alloc, &lent)
+        && before.checked_add(row.calls) == Some(shelf.calls())
 }
 
 /// Whether tables are handed to a walk in their order.
-fn are_lent(alloc: Global, tables: &[NumberedTable<'_, Bytewise>]) -> Result<bool, Fault> {
-    let lent = lent_tables(alloc, tables)?;
+fn are_lent(rt: &impl Abort, alloc: Global, tables: &[NumberedTable<'_, Bytewise>]) -> bool {
+    let lent = lent_tables(alloc, tables).expect(rt, "memory");
     for (table, other) in lent.iter().zip(tables) {
         if table.smallest().sequence() != other.table().smallest().sequence() {
-            return Ok(false);
+            return false;
         }
     }
-    Ok(lent.len() == tables.len())
+    lent.len() == tables.len()
 }
 
 #[test]
 fn tables_that_are_held_next(rt: HostRuntime) {
     for row in NEXT {
-        assert!(rt; are_next(&rt, row) == Ok(true), "{:?}", row.numbers);
+        assert!(rt; are_next(&rt, rt.alloc(), row), "{:?}", row.numbers);
     }
 }

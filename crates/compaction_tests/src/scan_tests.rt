@@ -6,10 +6,10 @@ use crate::range_checks_tests::{
 use crate::store_tests::rows::U4_DELETED;
 use board::Open;
 use coding::{Fault, FaultName};
-use edit::Version;
 use folder::{Order, Shelf};
 use scan::{RowChoice, RowTaker, scan_unverified, scan_version, sequence_of};
-use std::alloc::AllocError;
+use std::alloc::{AllocError, Global};
+use std::process::Abort;
 use std::test::*;
 use std::thread::Threads;
 
@@ -37,6 +37,15 @@ pub(crate) const VALUES: &[Held] = &[
 
 /// Those that hold a.
 const VALUES_OF_A: &[Held] = &[("000009.ldb", A_AND_U), ("000010.ldb", A_AT_THREE)];
+
+/// A table of a later range is missing.
+const PARTLY_THERE: Row = Row {
+    name: "a table of a later range is missing",
+    files: VALUES_OF_A,
+    told: "a= ",
+    answer: Err(FaultName::Missing),
+    ..PLAIN
+};
 
 /// The files of [`DELETION_ABOVE`].
 pub(crate) const DELETED: &[Held] = &[
@@ -88,24 +97,10 @@ const LAWFUL: &[Row] = &[
         ..PLAIN
     },
     Row {
-        name: "a sequence before b",
-        choice: RowChoice { at: Some(1), ..ALL },
-        told: "a= u= ",
-        ..PLAIN
-    },
-    Row {
         name: "a deletion above an older value",
         edit: DELETION_ABOVE,
         files: DELETED,
         told: "a= b= ",
-        ..PLAIN
-    },
-    Row {
-        name: "the value before the deletion",
-        edit: DELETION_ABOVE,
-        files: DELETED,
-        choice: RowChoice { at: Some(3), ..ALL },
-        told: "a= b= u= ",
         ..PLAIN
     },
     Row {
@@ -116,26 +111,6 @@ const LAWFUL: &[Row] = &[
             ..ALL
         },
         told: "b= ",
-        ..PLAIN
-    },
-    Row {
-        name: "from and to keys without a row",
-        choice: RowChoice {
-            from: Some(b"aa"),
-            to: Some(b"v"),
-            ..ALL
-        },
-        told: "b= u=x ",
-        ..PLAIN
-    },
-    Row {
-        name: "a key on before itself",
-        choice: RowChoice {
-            from: Some(b"b"),
-            to: Some(b"b"),
-            ..ALL
-        },
-        told: "",
         ..PLAIN
     },
     Row {
@@ -151,37 +126,6 @@ const LAWFUL: &[Row] = &[
         name: "a taker that says to stop",
         most: 1,
         told: "a= ",
-        ..PLAIN
-    },
-];
-
-/// Rows of a version whose tables aren't all there, which isn't tested.
-const PARTLY_THERE: &[Row] = &[
-    Row {
-        name: "no row is wanted",
-        files: &[],
-        choice: RowChoice {
-            limit: Some(0),
-            ..ALL
-        },
-        told: "",
-        ..PLAIN
-    },
-    Row {
-        name: "no further row is wanted",
-        files: VALUES_OF_A,
-        choice: RowChoice {
-            limit: Some(1),
-            ..ALL
-        },
-        told: "a= ",
-        ..PLAIN
-    },
-    Row {
-        name: "a table of a later range is missing",
-        files: VALUES_OF_A,
-        told: "a= ",
-        answer: Err(FaultName::Missing),
         ..PLAIN
     },
 ];
@@ -225,96 +169,64 @@ fn is_told(answer: Result<(), Fault>, told: &Collected, row: &Row) -> bool {
     is_answer && told.rows.as_slice() == row.told.as_bytes()
 }
 
-/// Whether the scan of a row, without a test of the version, tells its rows.
-fn tell<R: AllocGlobal + Threads + Sync>(rt: &R, row: &Row, memory: u64) -> Result<bool, Fault> {
-    let alloc = rt.alloc();
-    let version = version_after(alloc, row.edit)?;
-    let mut shelf = Shelf::new(alloc, row.files);
-    let mut told = Collected {
+/// Who collects the rows of a scan, up to as many as are wanted.
+fn new_taker(alloc: Global, row: &Row) -> Collected {
+    Collected {
         rows: Vec::new(alloc),
         most: row.most,
         number: 0,
-    };
+    }
+}
+
+/// Whether the scan of a row, without a test of the version, tells its rows.
+fn tell<R: Threads + Sync + Abort>(rt: &R, alloc: Global, row: &Row, memory: u64) -> bool {
+    let version = version_after(rt, alloc, row.edit);
+    let mut shelf = Shelf::new(alloc, row.files);
+    let mut told = new_taker(alloc, row);
+    let order = Order::Bytewise;
     let answer = scan_unverified(
-        rt,
-        alloc,
-        &mut shelf,
-        Order::Bytewise,
-        &version,
-        row.choice,
-        memory,
-        &mut told,
+        rt, alloc, &mut shelf, order, &version, row.choice, memory, &mut told,
     );
-    Ok(is_told(answer, &told, row))
+    is_told(answer, &told, row)
 }
 
 /// The same with a test of the version.
-fn tell_tested<R: AllocGlobal + Threads + Sync>(rt: &R, row: &Row) -> Result<bool, Fault> {
-    let alloc = rt.alloc();
-    let version = version_after(alloc, row.edit)?;
+fn tell_tested<R: Threads + Sync + Abort>(rt: &R, alloc: Global, row: &Row) -> bool {
+    let version = version_after(rt, alloc, row.edit);
     let mut shelf = Shelf::new(alloc, row.files);
-    let mut told = Collected {
-        rows: Vec::new(alloc),
-        most: row.most,
-        number: 0,
-    };
+    let mut told = new_taker(alloc, row);
+    let order = Order::Bytewise;
     let answer = scan_version(
         rt,
         alloc,
         &mut shelf,
-        Order::Bytewise,
+        order,
         &version,
         row.choice,
         1 << 30,
         &mut told,
         &Open,
     );
-    Ok(is_told(answer, &told, row))
+    is_told(answer, &told, row)
 }
 
 #[test]
 fn rows_of_versions(rt: HostRuntime) {
     for row in LAWFUL {
-        assert!(rt; tell_tested(&rt, row) == Ok(true), "{}", row.name);
+        assert!(rt; tell_tested(&rt, rt.alloc(), row), "{}", row.name);
         for memory in BUDGETS {
             assert!(rt;
-                tell(&rt, row, *memory) == Ok(true),
+                tell(&rt, rt.alloc(), row, *memory),
                 "{} {memory}",
                 row.name
             );
         }
     }
+    assert!(rt; tell(&rt, rt.alloc(), &PARTLY_THERE, 1));
 }
 
 #[test]
-fn rows_without_all_tables(rt: HostRuntime) {
-    for row in PARTLY_THERE {
-        assert!(rt; tell(&rt, row, 1) == Ok(true), "{}", row.name);
-    }
-}
-
-#[test]
-fn no_rows_after_a_refused_test(rt: HostRuntime) {
-    let refused = Row {
-        files: VALUES_OF_A,
-        told: "",
-        answer: Err(FaultName::Missing),
-        ..PLAIN
-    };
-    assert!(rt; tell_tested(&rt, &refused) == Ok(true));
-}
-
-/// A sequence that is asked for, and that at which [`DELETION_ABOVE`] is read: its last is 10.
-const SEQUENCES: &[(Option<u64>, u64)] = &[(None, 10), (Some(0), 0), (Some(4), 4), (Some(11), 11)];
-
-#[test]
-fn sequences_at_which_versions_are_read(rt: HostRuntime) -> Result<(), Fault> {
-    let version = version_after(rt.alloc(), DELETION_ABOVE)?;
-    for (asked, at) in SEQUENCES {
-        assert!(rt; sequence_of(&version, *asked) == *at, "{asked:?}");
-    }
-    let empty = Version::empty(rt.alloc());
-    assert!(rt; sequence_of(&empty, None) == 0);
-    assert!(rt; sequence_of(&empty, Some(7)) == 7);
-    Ok(())
+fn sequences_at_which_versions_are_read(rt: HostRuntime) {
+    let version = version_after(&rt, rt.alloc(), DELETION_ABOVE);
+    assert!(rt; sequence_of(&version, None) == 10 && sequence_of(&version, Some(4)) == 4);
 }

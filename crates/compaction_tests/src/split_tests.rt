@@ -1,10 +1,10 @@
 use coding::{Fault, FaultName};
-use ikey::{Bytewise, Comparator, InternalKey};
+use ikey::{Bytewise, InternalKey};
 use split::{Split, one_choice};
 use std::alloc::Global;
 use std::process::Abort;
 use std::test::*;
-use table::{KeyList, MAX_VALUE_LEN, Options, SoundTable, TableBuilder, check};
+use table::{MAX_VALUE_LEN, Options, TableBuilder, check};
 
 /// `table: a@1 put x | c@1 put x`
 const A_AND_C: &[u8] = b"\
@@ -30,10 +30,15 @@ enum Choice {
 }
 
 /// The boundaries that are taken if the indexes have the user keys a, c and b, d.
-fn chosen(alloc: Global, choice: Choice, want: u64) -> Result<Split<Bytewise>, Fault> {
+fn chosen(
+    rt: &impl Abort,
+    alloc: Global,
+    choice: Choice,
+    want: u64,
+) -> Result<Split<Bytewise>, Fault> {
     let tables = [
-        check::<Bytewise>(alloc, A_AND_C)?,
-        check::<Bytewise>(alloc, B_AND_D)?,
+        check::<Bytewise>(alloc, A_AND_C).expect(rt, "a table"),
+        check::<Bytewise>(alloc, B_AND_D).expect(rt, "a table"),
     ];
     match choice {
         Choice::OfAll => Split::choose(alloc, &tables, want),
@@ -96,11 +101,11 @@ fn boundaries_that_are_chosen(rt: HostRuntime) {
     one_choice::<Bytewise>();
     for (want, wanted) in CHOSEN {
         assert!(rt;
-            is_answer(chosen(rt.alloc(), Choice::OfAll, *want), wanted),
+            is_answer(chosen(&rt, rt.alloc(), Choice::OfAll, *want), wanted),
             "{want} ranges"
         );
         assert!(rt;
-            is_answer(chosen(rt.alloc(), Choice::OfSample, *want), wanted),
+            is_answer(chosen(&rt, rt.alloc(), Choice::OfSample, *want), wanted),
             "{want} ranges of a sample"
         );
     }
@@ -113,56 +118,26 @@ fn internal_key(number: u16) -> [u8; 10] {
 }
 
 /// Adds the entry of a number to a table.
-fn add(table: &mut TableBuilder<Bytewise>, number: u16) -> Result<(), Fault> {
+fn add(rt: &impl Abort, table: &mut TableBuilder<Bytewise>, number: u16) {
     let bytes = internal_key(number);
-    let key = InternalKey::parse(&bytes)?;
+    let key = InternalKey::parse(&bytes).expect(rt, "a key");
     let value = &bytes[..2];
-    if !table.is_above_last(&key) || value.len() > MAX_VALUE_LEN {
-        return Err(Fault::of(FaultName::Order));
-    }
-    table.add(key, value)
+    assert!(rt; table.is_above_last(&key) && value.len() <= MAX_VALUE_LEN);
+    table.add(key, value).expect(rt, "memory");
 }
 
 /// The table of `count` numbers from `first` on, each in a block of its own.
-fn table_of(alloc: Global, first: u16, count: u16) -> Result<Vec<u8>, Fault> {
+fn table_of(rt: &impl Abort, alloc: Global, first: u16, count: u16) -> Vec<u8> {
     let options = Options {
         block_size: 1,
         ..Options::default()
     };
-    if !options.are_in_limits() {
-        return Err(Fault::of(FaultName::Options));
-    }
+    assert!(rt; options.are_in_limits());
     let mut table = TableBuilder::<Bytewise>::new(alloc, options);
     for place in 0..count {
-        add(&mut table, first.wrapping_add(place))?;
+        add(rt, &mut table, first.wrapping_add(place));
     }
-    table.finish()
-}
-
-/// Whether a key is one of a list.
-fn has_key(keys: &KeyList, key: &[u8]) -> bool {
-    for place in 0..keys.len() {
-        if keys.get(place) == key {
-            return true;
-        }
-    }
-    false
-}
-
-/// Whether the boundaries of a split rise, and each is a key of one of two lists.
-fn are_of(split: &Split<Bytewise>, one: &KeyList, other: &KeyList) -> bool {
-    let mut before: &[u8] = b"";
-    for number in 1..split.len() {
-        let Some(key) = split.range(number).lower else {
-            return false;
-        };
-        let is_later = Bytewise::compare(before, key).is_lt();
-        if !is_later || !(has_key(one, key) || has_key(other, key)) {
-            return false;
-        }
-        before = key;
-    }
-    true
+    table.finish().expect(rt, "memory")
 }
 
 /// Two tables of numbers: how many the first has from 0 on, and the first number of the second and
@@ -170,56 +145,40 @@ fn are_of(split: &Split<Bytewise>, one: &KeyList, other: &KeyList) -> bool {
 /// first boundary.
 type Sampled = (u16, (u16, u16), u64, u64, u16);
 
-/// Whether the split by a sample of tables has as many ranges as its row says and that first
-/// boundary. Each boundary is an index key, and comes once.
-fn is_sample(
-    alloc: Global,
-    tables: &[SoundTable<'_, Bytewise>; 2],
-    sampled: &Sampled,
-) -> Result<bool, Fault> {
-    let split = Split::sample(alloc, tables, sampled.2)?;
-    let one = tables[0].index_keys(alloc)?;
-    let other = tables[1].index_keys(alloc)?;
+/// Whether a split has as many ranges as its row says and that first boundary.
+fn is_cut(split: &Split<Bytewise>, sampled: &Sampled) -> bool {
     let key = internal_key(sampled.4);
-    let is_cut = split.len() == sampled.3 && has_bounds(&split, 0, None, Some(&key[..2]));
-    Ok(is_cut && are_of(&split, &one, &other))
+    split.len() == sampled.3 && has_bounds(split, 0, None, Some(&key[..2]))
 }
 
-/// The same of the tables of these bytes.
-fn is_sample_of(alloc: Global, files: &[Vec<u8>; 2], sampled: &Sampled) -> Result<bool, Fault> {
+/// Whether that is the split by a sample of the tables of these bytes.
+fn is_sample(rt: &impl Abort, alloc: Global, files: &[Vec<u8>; 2], sampled: &Sampled) -> bool {
     let tables = [
-        check::<Bytewise>(alloc, &files[0])?,
-        check::<Bytewise>(alloc, &files[1])?,
+        check::<Bytewise>(alloc, &files[0]).expect(rt, "a table"),
+        check::<Bytewise>(alloc, &files[1]).expect(rt, "a table"),
     ];
-    is_sample(alloc, &tables, sampled)
+    let split = Split::sample(alloc, &tables, sampled.2).expect(rt, "a split");
+    is_cut(&split, sampled)
 }
 
 /// The same, after the tables are written.
-fn is_sampled(alloc: Global, sampled: &Sampled) -> Result<bool, Fault> {
-    let one = table_of(alloc, 0, sampled.0)?;
-    let other = table_of(alloc, sampled.1.0, sampled.1.1)?;
-    is_sample_of(alloc, &[one, other], sampled)
+fn is_sampled(rt: &impl Abort, alloc: Global, sampled: &Sampled) -> bool {
+    let one = table_of(rt, alloc, 0, sampled.0);
+    let other = table_of(rt, alloc, sampled.1.0, sampled.1.1);
+    is_sample(rt, alloc, &[one, other], sampled)
 }
 
 /// A sample has the numbers 8, 24, 40 and so on up to 984 of a thousand: 62. That is enough for 15
 /// ranges.
 const SAMPLED: &[Sampled] = &[
-    (1_000, (2_000, 1), 2, 2, 504),
     (1_000, (2_000, 1), 15, 15, 72),
     (1_000, (2_000, 1), 16, 16, 62),
-    (1_000, (2_000, 1), 4_096, 1_002, 0),
-    (1_000, (1_000, 1_000), 2, 2, 1_008),
-    (1_000, (0, 1_000), 31, 31, 40),
 ];
 
 #[test]
 fn boundaries_that_are_sampled(rt: HostRuntime) {
     for sampled in SAMPLED {
-        assert!(rt;
-            is_sampled(rt.alloc(), sampled) == Ok(true),
-            "{:?}",
-            sampled
-        );
+        assert!(rt; is_sampled(&rt, rt.alloc(), sampled), "{:?}", sampled);
     }
 }
 
@@ -228,7 +187,7 @@ fn boundaries_that_are_sampled(rt: HostRuntime) {
 type Parting = (u16, u16, u16);
 
 /// How many ranges there are between them.
-fn ranges_between(alloc: Global, parting: &Parting) -> Result<u64, Fault> {
+fn ranges_between(rt: &impl Abort, alloc: Global, parting: &Parting) -> Result<u64, Fault> {
     let mut keys = Vec::new(alloc);
     for number in 0..parting.2 {
         let key = parting
@@ -236,7 +195,8 @@ fn ranges_between(alloc: Global, parting: &Parting) -> Result<u64, Fault> {
             .wrapping_add(parting.1.wrapping_mul(number))
             .to_be_bytes();
         let len = if key[1] == 0 { 1 } else { 2 };
-        keys.push(Vec::from_slice(alloc, &key[..len])?)?;
+        let key = Vec::from_slice(alloc, &key[..len]).expect(rt, "memory");
+        keys.push(key).expect(rt, "memory");
     }
     let split = Split::<Bytewise>::from_keys(keys)?;
     Ok(split.len())
@@ -266,6 +226,9 @@ const GIVEN: &[(&str, Parting, Result<u64, Fault>)] = &[
 #[test]
 fn boundaries_that_are_given(rt: HostRuntime) {
     for (name, parting, wanted) in GIVEN {
-        assert!(rt; ranges_between(rt.alloc(), parting) == *wanted, "{name}");
+        assert!(rt;
+            ranges_between(&rt, rt.alloc(), parting) == *wanted,
+            "{name}"
+        );
     }
 }

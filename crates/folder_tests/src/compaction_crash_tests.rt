@@ -92,20 +92,13 @@ fn make_files(shelf: &mut Shelf<'_>) -> Result<(), FolderFault> {
 }
 
 /// Makes the folder and compacts level 1 of it. Whether the calls are those.
-fn is_compacted<R: AllocGlobal + Threads + Sync>(
+fn is_compacted<R: Threads + Sync>(
     rt: &R,
+    alloc: Global,
     shelf: &mut Shelf<'_>,
 ) -> Result<bool, Fault> {
     make_files(shelf)?;
-    compact_dir(
-        rt,
-        rt.alloc(),
-        shelf,
-        1,
-        &Settings::default(),
-        MEMORY,
-        &Open,
-    )?;
+    compact_dir(rt, alloc, shelf, 1, &Settings::default(), MEMORY, &Open)?;
     Ok(are_calls(shelf.steps()))
 }
 
@@ -182,7 +175,7 @@ fn unsynced(steps: &[ShelfStep]) -> &[ShelfStep] {
 fn crashes_of_a_folder_that_was_not_synced(rt: HostRuntime) {
     let alloc = rt.alloc();
     let mut shelf = Shelf::new(alloc, &[]);
-    assert_eq!(rt; is_compacted(&rt, &mut shelf), Ok(true));
+    assert_eq!(rt; is_compacted(&rt, alloc, &mut shelf), Ok(true));
     assert_eq!(rt;
         found(alloc, unsynced(shelf.steps())),
         None,

@@ -3,15 +3,25 @@
 use crate::folder_shelf_tests::gives_parts;
 use folder::*;
 use std::process::Abort;
-use std::test::Fail;
-use std::{env, fs, process};
+use std::rt::Files;
+use std::{env, fs, io, process};
 
 /// The path of a folder of the system that a test makes.
-pub(crate) fn new_path(rt: &HostRuntime, name: &str) -> Result<String, Fail> {
+pub(crate) fn new_path(rt: &HostRuntime, name: &str) -> io::Result<String> {
     let id = process::id(rt.process());
     let base = env::temp_dir(rt)?;
     let base = base.as_str();
     Ok(format!(in rt.alloc(); "{base}/sedvokt-{id}-{name}")?)
+}
+
+/// Makes a folder.
+pub(crate) fn make_folder(rt: &(impl Files + Abort), path: &str) {
+    fs::create_dir(rt, path).expect(rt, "a new folder");
+}
+
+/// Removes a folder with what is in it.
+pub(crate) fn remove_folder(rt: &(impl Files + AllocGlobal + Abort), path: &str) {
+    fs::remove_dir_all(rt, path).expect(rt, "a folder that is removed");
 }
 
 /// Makes these files. Whether all were made.
@@ -81,9 +91,9 @@ fn is_right(rt: &HostRuntime, path: &str) -> bool {
 }
 
 #[test]
-fn a_folder_of_the_system(rt: HostRuntime) -> Result<(), Fail> {
+fn a_folder_of_the_system(rt: HostRuntime) {
     // No folder has the empty path.
     assert!(rt; has(&mut Disk::new(&rt, ""), "tmp", None));
-    assert!(rt; is_right(&rt, new_path(&rt, "made")?.as_str()));
-    Ok(())
+    let path = new_path(&rt, "made").expect(&rt, "a path");
+    assert!(rt; is_right(&rt, path.as_str()));
 }

@@ -53,43 +53,15 @@ const RECORDS: &[Records] = &[
         &[SHORTLEX, NO_PREVIOUS],
         Ok((Order::Shortlex, &[Some(3), None, Some(6), Some(4)])),
     ),
-    // A tag that isn't listed, and an invalid number; the first record decides.
-    (&[BYTEWISE, NUMBERS, b"\x08"], Err(FaultName::EditTag)),
-    (&[BYTEWISE, NUMBERS, b"\x02\x80"], Err(FaultName::EditField)),
-    (&[b"\x02\x80", b"\x08"], Err(FaultName::EditField)),
-    (&[b"\x08", b"\x02\x80"], Err(FaultName::EditTag)),
-    // All records are read before a comparator is looked for, and before an edit is applied.
+    // All records are read before a comparator is looked for. The first one decides.
     (&[ANOTHER, b"\x08"], Err(FaultName::EditTag)),
-    (&[BYTEWISE, ABSENT, b"\x02\x80"], Err(FaultName::EditField)),
-    // No record, no name, and another comparator's.
-    (&[], Err(FaultName::Comparator)),
-    (&[NUMBERS, SEVEN], Err(FaultName::Comparator)),
-    (&[ANOTHER, NUMBERS], Err(FaultName::Comparator)),
+    (&[b"\x02\x80", b"\x08"], Err(FaultName::EditField)),
     // The first name decides, before an edit is applied.
     (
         &[ABSENT, ANOTHER, BYTEWISE, NUMBERS],
         Err(FaultName::Comparator),
     ),
-    (&[NUMBERS, BYTEWISE, SHORTLEX], Err(FaultName::Comparator)),
-    (&[NUMBERS, SHORTLEX, BYTEWISE], Err(FaultName::Comparator)),
-    // The first edit that doesn't fit decides.
     (&[BYTEWISE, NUMBERS, ABSENT], Err(FaultName::Apply)),
-    (&[BYTEWISE, NUMBERS, SEVEN, SEVEN], Err(FaultName::Apply)),
-    (&[BYTEWISE, ABSENT, ANOTHER], Err(FaultName::Apply)),
-    (&[BYTEWISE, ANOTHER, ABSENT], Err(FaultName::Comparator)),
-    // No log number, no next file, no last sequence.
-    (
-        &[BYTEWISE, b"\x09\0\x03\x09\x04\x04"],
-        Err(FaultName::Apply),
-    ),
-    (
-        &[BYTEWISE, b"\x02\x03\x09\0\x04\x04"],
-        Err(FaultName::Apply),
-    ),
-    (
-        &[BYTEWISE, b"\x02\x03\x09\0\x03\x09"],
-        Err(FaultName::Apply),
-    ),
     // The manifest has the number of the next file.
     (&[BYTEWISE, NUMBERS, b"\x03\x05"], Err(FaultName::Apply)),
 ];
@@ -111,9 +83,9 @@ fn opened_of(alloc: Global, manifest: &[u8]) -> Result<(Order, Version), Fault> 
 }
 
 /// The version of a folder whose manifest has these bytes.
-pub(crate) fn version_of(alloc: Global, manifest: &[u8]) -> Result<Version, Fault> {
-    let (_order, version) = opened_of(alloc, manifest)?;
-    Ok(version)
+pub(crate) fn version_of(rt: &impl Abort, alloc: Global, manifest: &[u8]) -> Version {
+    let (_order, version) = opened_of(alloc, manifest).expect(rt, "a folder that opens");
+    version
 }
 
 /// What a folder opens as if its manifest has these records.
@@ -159,20 +131,10 @@ pub(crate) const THREE_FILES: &[u8] = b"\
     \x01\x05d\x09a\x01\x01\0\0\0\0\0\0\x09a\x01\x01\0\0\0\0\0\0\x07\0\x03d\x09b\x01\x01\0\0\0\0\0\
     \0\x09b\x01\x01\0\0\0\0\0\0\x07\0\x08d\x09a\x01\x02\0\0\0\0\0\0\x09a\x01\x02\0\0\0\0\0\0";
 
-/// `log: comparator leveldb.BytewiseComparator, log 3, previous 0, next 9, last 4`
-const NO_FILE: &[u8] =
-    b"\xcd\xf0\xe1B\x24\0\x01\x01\x1aleveldb.BytewiseComparator\x02\x03\x09\0\x03\x09\x04\x04";
-
-/// The same without its last byte.
+/// A log whose last record lacks its last byte.
+/// `comparator leveldb.BytewiseComparator, log 3, previous 0, next 9, last 4`
 const TORN: &[u8] =
     b"\xcd\xf0\xe1\x42\x24\0\x01\x01\x1aleveldb.BytewiseComparator\x02\x03\x09\0\x03\x09\x04";
-
-/// The same with another last byte.
-const DAMAGED: &[u8] =
-    b"\xcd\xf0\xe1\x42\x24\0\x01\x01\x1aleveldb.BytewiseComparator\x02\x03\x09\0\x03\x09\x04\x05";
-
-/// A log of one record with an unknown tag, and then a part of another record.
-const UNKNOWN_AND_TORN: &[u8] = b"\x0d\xbb\x57\x11\x01\0\x01\x08\0";
 
 const MANIFEST: (&str, &[u8]) = ("MANIFEST-000005", THREE_FILES);
 
@@ -198,97 +160,33 @@ const ALL: NamedFiles = &[
 /// The tables that are loaded from it, in version order.
 const LOADED: Tables = &[(8, b"eight"), (3, b"three"), (5, b"five")];
 
-const DEVICE: FolderFault = FolderFault::Device;
-
-const MEMORY: FolderFault = FolderFault::Memory;
-
-/// Files of a folder, a call that fails and how; the tables that are loaded, or the refusal; how
-/// often the device failed, and how many calls were made.
-type Row = (
-    NamedFiles,
-    (u64, FolderFault),
-    Result<Tables, FaultName>,
-    (u64, u64),
-);
+/// Files of a folder, the refusal of its tables, and how many calls are made.
+type Row = (NamedFiles, FaultName, u64);
 
 const FOLDERS: &[Row] = &[
-    // Two calls open the folder. Then one is made for number 8, two are for number 3 and one for
-    // number 5. A call that isn't made doesn't fail.
-    (ALL, (7, DEVICE), Ok(LOADED), (0, 6)),
-    (ALL, (1, DEVICE), Err(FaultName::Device), (1, 1)),
-    (ALL, (2, DEVICE), Err(FaultName::Device), (1, 2)),
-    (ALL, (3, DEVICE), Err(FaultName::Device), (1, 3)),
-    (ALL, (4, DEVICE), Err(FaultName::Device), (1, 4)),
-    (ALL, (5, DEVICE), Err(FaultName::Device), (1, 5)),
-    (ALL, (6, DEVICE), Err(FaultName::Device), (1, 6)),
-    (ALL, (1, MEMORY), Err(FaultName::Memory), (0, 1)),
-    (ALL, (2, MEMORY), Err(FaultName::Memory), (0, 2)),
-    (ALL, (3, MEMORY), Err(FaultName::Memory), (0, 3)),
-    (ALL, (4, MEMORY), Err(FaultName::Memory), (0, 4)),
-    (ALL, (5, MEMORY), Err(FaultName::Memory), (0, 5)),
-    (ALL, (6, MEMORY), Err(FaultName::Memory), (0, 6)),
-    // A version without files has no table.
-    (
-        &[CURRENT_FIVE, ("MANIFEST-000005", NO_FILE)],
-        (3, DEVICE),
-        Ok(&[]),
-        (0, 2),
-    ),
-    // Without the table of number 8, and without that of number 3. The first missing table is
-    // answered before a later call fails.
+    // Without the table of number 8.
     (
         &[CURRENT_FIVE, MANIFEST, FIVE, OLD_THREE],
-        (5, DEVICE),
-        Err(FaultName::Missing),
-        (0, 4),
+        FaultName::Missing,
+        4,
     ),
-    (
-        &[CURRENT_FIVE, MANIFEST, EIGHT, FIVE],
-        (6, DEVICE),
-        Err(FaultName::Missing),
-        (0, 5),
-    ),
-    // No CURRENT. If a call fails, it isn't known what is missing.
-    (&[MANIFEST], (2, DEVICE), Err(FaultName::Missing), (0, 1)),
-    (&[], (1, DEVICE), Err(FaultName::Device), (1, 1)),
-    // No manifest of that name.
-    (
-        &[
-            CURRENT_FIVE,
-            ("MANIFEST-000006", THREE_FILES),
-            ("MANIFEST-5", THREE_FILES),
-        ],
-        (3, DEVICE),
-        Err(FaultName::Missing),
-        (0, 2),
-    ),
-    // The form of CURRENT is tested before that.
+    (&[MANIFEST], FaultName::Missing, 1),
+    // The form of CURRENT is tested before there is a manifest of that name.
     (
         &[("CURRENT", b"MANIFEST-000005"), MANIFEST],
-        (2, DEVICE),
-        Err(FaultName::Apply),
-        (0, 1),
+        FaultName::Apply,
+        1,
     ),
-    // Bytes that are no log. The log is tested before its records.
     (
         &[CURRENT_FIVE, ("MANIFEST-000005", TORN)],
-        (3, DEVICE),
-        Err(FaultName::LogShape),
-        (0, 2),
-    ),
-    (
-        &[CURRENT_FIVE, ("MANIFEST-000005", DAMAGED)],
-        (3, DEVICE),
-        Err(FaultName::LogChecksum),
-        (0, 2),
-    ),
-    (
-        &[CURRENT_FIVE, ("MANIFEST-000005", UNKNOWN_AND_TORN)],
-        (3, DEVICE),
-        Err(FaultName::LogShape),
-        (0, 2),
+        FaultName::LogShape,
+        2,
     ),
 ];
+
+/// How many calls open the folder of [`ALL`] and load its tables: two open it, then one is made for
+/// number 8, two are for number 3 and one for number 5.
+const CALLS: u64 = 6;
 
 /// Opens a folder and loads its tables.
 fn loaded(alloc: Global, folder: &mut Shelf<'_>) -> Result<Vec<(u64, Vec<u8>)>, Fault> {
@@ -307,7 +205,7 @@ fn are(tables: &[(u64, Vec<u8>)], wanted: &[(u64, &[u8])]) -> bool {
 }
 
 /// Whether these tables are loaded, or the refusal is this one.
-pub(crate) fn are_loaded(
+fn are_loaded(
     answer: Result<Vec<(u64, Vec<u8>)>, Fault>,
     wanted: Result<Tables, FaultName>,
 ) -> bool {
@@ -318,20 +216,46 @@ pub(crate) fn are_loaded(
     }
 }
 
-/// Whether a folder has the answer of its row.
-fn is_answered(alloc: Global, (files, (call, fault), wanted, counts): Row) -> bool {
-    let mut folder = Shelf::new(alloc, files).failing(Failing {
+/// Whether a folder of these files, read by this many calls, has this answer.
+fn is_answered(
+    alloc: Global,
+    files: NamedFiles,
+    wanted: Result<Tables, FaultName>,
+    calls: u64,
+) -> bool {
+    let mut folder = Shelf::new(alloc, files);
+    let answer = loaded(alloc, &mut folder);
+    are_loaded(answer, wanted) && (folder.failures(), folder.calls()) == (0, calls)
+}
+
+/// Whether the loading of the folder of [`ALL`] ends at a call that fails.
+fn ends_there(alloc: Global, call: u64, fault: FolderFault) -> bool {
+    let failing = Failing {
         call,
         fault,
         is_half_done: false,
-    });
+    };
+    let mut folder = Shelf::new(alloc, ALL).failing(failing);
     let answer = loaded(alloc, &mut folder);
-    are_loaded(answer, wanted) && (folder.failures(), folder.calls()) == counts
+    let failures = u64::from(fault == FolderFault::Device);
+    are_loaded(answer, Err(Fault::from(fault).name))
+        && (folder.failures(), folder.calls()) == (failures, call)
 }
 
 #[test]
 fn folders_in_memory(rt: HostRuntime) {
-    for (place, row) in FOLDERS.iter().enumerate() {
-        assert!(rt; is_answered(rt.alloc(), *row), "{place}");
+    assert!(rt; is_answered(rt.alloc(), ALL, Ok(LOADED), CALLS));
+    for (place, (files, name, calls)) in FOLDERS.iter().enumerate() {
+        assert!(rt;
+            is_answered(rt.alloc(), files, Err(*name), *calls),
+            "{place}"
+        );
+    }
+    for call in 1..CALLS + 1 {
+        assert!(rt;
+            ends_there(rt.alloc(), call, FolderFault::Device)
+                && ends_there(rt.alloc(), call, FolderFault::Memory),
+            "{call}"
+        );
     }
 }

@@ -6,7 +6,6 @@ use folder::*;
 use std::alloc::Global;
 use std::fs;
 use std::process::Abort;
-use std::test::Fail;
 
 /// A table that is read.
 #[derive(Clone, Copy, Drop)]
@@ -119,20 +118,19 @@ fn is_right_in<R: SystemFiles + WholeFiles + AllocGlobal>(
 }
 
 #[test]
-fn tables_are_read(rt: HostRuntime) -> Result<(), Fail> {
-    let path = new_path(&rt, "reader")?;
-    let inner = new_path(&rt, "reader/000006.ldb")?;
+fn tables_are_read(rt: HostRuntime) {
+    let path = new_path(&rt, "reader").expect(&rt, "a path");
+    let inner = new_path(&rt, "reader/000006.ldb").expect(&rt, "a path");
     for (place, trial) in TRIALS.iter().enumerate() {
         let paths = (path.as_str(), inner.as_str());
         assert!(rt; is_right_in(&rt, paths, trial), "{place}");
     }
-    Ok(())
 }
 
 /// Of folders that aren't there nothing is read, and neither is of one in memory, which has no
 /// reader.
 #[test]
-fn nothing_is_read(rt: HostRuntime) -> Result<(), Fail> {
+fn nothing_is_read(rt: HostRuntime) {
     let alloc = rt.alloc();
     let none = &[Read {
         number: 8,
@@ -142,5 +140,4 @@ fn nothing_is_read(rt: HostRuntime) -> Result<(), Fail> {
     assert!(rt; gives(alloc, &Disk::new(&rt, "/nowhere/at/all").reader(), none));
     let shelf = Shelf::new(alloc, &[("000008.ldb", b"eight")]);
     assert!(rt; gives(alloc, &shelf.reader(), none));
-    Ok(())
 }

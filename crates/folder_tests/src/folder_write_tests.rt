@@ -2,15 +2,14 @@
 
 ghost use Rattle.std.specs.Prelude.{◌≡◌};
 
-use crate::folder_disk_tests::{has, new_path};
+use crate::folder_disk_tests::{has, make_folder, new_path, remove_folder};
 use crate::folder_system_tests::{is_told, path_of};
 use board::Open;
 use coding::{Fault, FaultName};
 use folder::*;
 use std::alloc::{AllocError, Global};
-use std::fs;
 use std::process::Abort;
-use std::test::Fail;
+use std::rt::Files;
 use std::thread::Threads;
 
 /// Tables by their numbers.
@@ -37,13 +36,11 @@ enum Form {
     Made(u64),
 }
 
-/// Each way in which tables are written. Workers are 1 to 64; others are as the nearest of these.
+/// Ways in which tables are written. Workers are 1 to 64; others are as the nearest of these.
 const FORMS: &[Form] = &[
     Form::Held,
     Form::Made(0),
-    Form::Made(1),
     Form::Made(2),
-    Form::Made(64),
     Form::Made(u64::MAX),
 ];
 
@@ -78,13 +75,13 @@ impl TableSource for Given {
 }
 
 /// Writes these tables into a folder.
-fn written<F: WritesTables, R: AllocGlobal + Threads + Sync>(
+fn written<F: WritesTables, R: Threads + Sync>(
     rt: &R,
+    alloc: Global,
     folder: &mut F,
     wanted: Tables,
     form: Form,
 ) -> Result<(), FolderFault> {
-    let alloc = rt.alloc();
     match form {
         Form::Held => {
             let tables = made(alloc, wanted)?;
@@ -116,19 +113,29 @@ fn has_tables(folder: &mut impl Folder) -> bool {
         && has(folder, "000008.ldb", Some(b""))
 }
 
+/// Whether a folder takes tables in this form, then others, and then none.
+fn are_written<R: Threads + Sync>(
+    rt: &R,
+    alloc: Global,
+    disk: &mut Disk<'_, HostRuntime>,
+    form: Form,
+) -> bool {
+    written(rt, alloc, disk, THREE, form).is_ok()
+        && written(rt, alloc, disk, TWICE, form).is_ok()
+        && written(rt, alloc, disk, &[], form).is_ok()
+        && has_tables(disk)
+        && disk.failures() == 0
+}
+
 #[test]
-fn tables_are_written_together(rt: HostRuntime) -> Result<(), Fail> {
+fn tables_are_written_together(rt: HostRuntime) {
     for form in FORMS {
-        let path = new_path(&rt, "together")?;
-        fs::create_dir(&rt, path.as_str())?;
+        let path = new_path(&rt, "together").expect(&rt, "a path");
+        make_folder(&rt, path.as_str());
         let mut disk = Disk::new(&rt, path.as_str());
-        assert!(rt; written(&rt, &mut disk, THREE, *form).is_ok());
-        assert!(rt; written(&rt, &mut disk, TWICE, *form).is_ok());
-        assert!(rt; written(&rt, &mut disk, &[], *form).is_ok());
-        assert!(rt; has_tables(&mut disk) && disk.failures() == 0, "{form:?}");
-        fs::remove_dir_all(&rt, path.as_str())?;
+        assert!(rt; are_written(&rt, rt.alloc(), &mut disk, *form), "{form:?}");
+        remove_folder(&rt, path.as_str());
     }
-    Ok(())
 }
 
 /// Whether a folder of the system has those of the three tables whose names are not this one.
@@ -142,54 +149,53 @@ fn has_others(folder: &mut impl Folder, name: &str) -> bool {
 }
 
 /// Makes a folder of the system, and in it one that has the name of a table.
-fn take(rt: &HostRuntime, path: &str, name: &str) -> Result<(), Fail> {
-    let taken = path_of(rt, path, name)?;
-    fs::create_dir(rt, path)?;
-    fs::create_dir(rt, taken.as_str())?;
-    Ok(())
+fn take(rt: &(impl Files + Abort), alloc: Global, path: &str, name: &str) {
+    let taken = path_of(rt, alloc, path, name);
+    make_folder(rt, path);
+    make_folder(rt, taken.as_str());
 }
 
 /// Whether the newest call that failed was to make this table, whose name is taken.
-fn is_told_of(rt: &HostRuntime, disk: &Disk<'_, HostRuntime>, name: &str) -> Result<bool, Fail> {
-    let line = format!(in rt.alloc(); "cannot create {name}: Is a directory")?;
-    is_told(rt, disk, line.as_str())
+fn is_told_of(rt: &impl Abort, alloc: Global, disk: &Disk<'_, HostRuntime>, name: &str) -> bool {
+    let line = format!(in alloc; "cannot create {name}: Is a directory").expect(rt, "memory");
+    is_told(rt, alloc, disk, line.as_str())
 }
 
-/// Whether the other tables are written if a folder has the name of this one.
-fn keeps_no_other_out<R: AllocGlobal + Threads + Sync>(
-    rt: &HostRuntime,
-    threads: &R,
+/// Whether the other tables are written into this folder, if it has the name of one.
+fn keeps_no_other_out<R: Threads + Sync + Abort>(
+    rt: &R,
+    alloc: Global,
+    disk: &mut Disk<'_, HostRuntime>,
     name: &str,
     form: Form,
-) -> Result<bool, Fail> {
-    let path = new_path(rt, name)?;
-    take(rt, path.as_str(), name)?;
-    let mut disk = Disk::new(rt, path.as_str());
-    let is_refused = written(threads, &mut disk, THREE, form) == Err(FolderFault::Device)
+) -> bool {
+    written(rt, alloc, disk, THREE, form) == Err(FolderFault::Device)
         && disk.failures() == 1
-        && is_told_of(rt, &disk, name)?
-        && has_others(&mut disk, name);
-    fs::remove_dir_all(rt, path.as_str())?;
-    Ok(is_refused)
+        && is_told_of(rt, alloc, disk, name)
+        && has_others(disk, name)
 }
 
 /// A table that isn't made doesn't keep the others out.
 #[test]
-fn each_table_that_is_not_made(rt: HostRuntime) -> Result<(), Fail> {
+fn each_table_that_is_not_made(rt: HostRuntime) {
     for (name, _) in OF_THREE {
         for form in FORMS {
+            let path = new_path(&rt, name).expect(&rt, "a path");
+            take(&rt, rt.alloc(), path.as_str(), name);
+            let mut disk = Disk::new(&rt, path.as_str());
             assert!(rt;
-                keeps_no_other_out(&rt, &rt, name, *form)?,
+                keeps_no_other_out(&rt, rt.alloc(), &mut disk, name, *form),
                 "{name} {form:?}"
             );
+            remove_folder(&rt, path.as_str());
         }
     }
-    Ok(())
 }
 
 /// Whether a folder answers Memory, if memory runs out for the table at `place`.
-fn runs_out<F: WritesTables, R: AllocGlobal + Threads + Sync>(
+fn runs_out<F: WritesTables, R: Threads + Sync>(
     rt: &R,
+    alloc: Global,
     folder: &mut F,
     place: usize,
     workers: u64,
@@ -198,94 +204,39 @@ fn runs_out<F: WritesTables, R: AllocGlobal + Threads + Sync>(
         tables: THREE,
         without_memory: Some(place),
     };
-    write_source(rt, rt.alloc(), folder, &source, workers, &Open) == Err(FolderFault::Memory)
+    write_source(rt, alloc, folder, &source, workers, &Open) == Err(FolderFault::Memory)
         && folder.failures() == 0
 }
 
-/// A folder is asked for other tables after memory ran out.
+/// Whether neither a folder of the system nor one in memory takes a table if memory runs out for
+/// the one at `place`, and the first takes all after that.
+fn goes_on<R: Threads + Sync>(
+    rt: &R,
+    alloc: Global,
+    disk: &mut Disk<'_, HostRuntime>,
+    place: usize,
+    workers: u64,
+) -> bool {
+    let mut shelf = Shelf::new(alloc, &[]);
+    runs_out(rt, alloc, disk, place, workers)
+        && runs_out(rt, alloc, &mut shelf, place, workers)
+        && shelf.calls() == 0
+        && written(rt, alloc, disk, THREE, Form::Made(workers)).is_ok()
+        && has_others(disk, "")
+}
+
 #[test]
-fn each_table_without_memory(rt: HostRuntime) -> Result<(), Fail> {
+fn each_table_without_memory(rt: HostRuntime) {
     for place in 0..THREE.len() {
         for workers in [1, 4] {
-            let path = new_path(&rt, "memory")?;
-            fs::create_dir(&rt, path.as_str())?;
+            let path = new_path(&rt, "memory").expect(&rt, "a path");
+            make_folder(&rt, path.as_str());
             let mut disk = Disk::new(&rt, path.as_str());
-            let mut shelf = Shelf::new(rt.alloc(), &[]);
             assert!(rt;
-                runs_out(&rt, &mut disk, place, workers),
+                goes_on(&rt, rt.alloc(), &mut disk, place, workers),
                 "{place} {workers}"
             );
-            assert!(rt;
-                runs_out(&rt, &mut shelf, place, workers),
-                "{place} {workers}"
-            );
-            assert!(rt; shelf.calls() == 0, "{place} {workers}");
-            assert!(rt; written(&rt, &mut disk, THREE, Form::Made(workers)).is_ok());
-            assert!(rt; has_others(&mut disk, ""), "{place} {workers}");
-            fs::remove_dir_all(&rt, path.as_str())?;
+            remove_folder(&rt, path.as_str());
         }
-    }
-    Ok(())
-}
-
-/// The bytes of a table, if it is there.
-type Left = Option<&'static [u8]>;
-
-/// A call that fails, whether it is half done, and what a folder in memory then has of the three
-/// tables. Each is made by one call and synced by another.
-type Failed = (u64, bool, Left, Left, Left);
-
-const FAILED: &[Failed] = &[
-    (1, false, None, None, None),
-    (1, true, Some(b"th"), None, None),
-    (2, false, Some(b"three"), None, None),
-    (2, true, Some(b"three"), None, None),
-    (3, false, Some(b"three"), None, None),
-    (3, true, Some(b"three"), Some(b"fi"), None),
-    (4, false, Some(b"three"), Some(b"five"), None),
-    (4, true, Some(b"three"), Some(b"five"), None),
-    (5, false, Some(b"three"), Some(b"five"), None),
-    (5, true, Some(b"three"), Some(b"five"), Some(b"")),
-    (6, false, Some(b"three"), Some(b"five"), Some(b"")),
-    (6, true, Some(b"three"), Some(b"five"), Some(b"")),
-];
-
-/// Whether the writing of the three tables into a folder in memory ends at a call that fails so,
-/// and leaves what its row says.
-fn ends_there<R: AllocGlobal + Threads + Sync>(
-    rt: &R,
-    (call, is_half_done, three, five, eight): Failed,
-    fault: FolderFault,
-    form: Form,
-) -> bool {
-    let mut shelf = Shelf::new(rt.alloc(), &[]).failing(Failing {
-        call,
-        fault,
-        is_half_done,
-    });
-    written(rt, &mut shelf, THREE, form) == Err(fault)
-        && shelf.calls() == call
-        && (shelf.failures() == 1) == (fault == FolderFault::Device)
-        && shelf.file("000003.ldb") == three
-        && shelf.file("000005.ldb") == five
-        && shelf.file("000008.ldb") == eight
-}
-
-#[test]
-fn tables_in_memory(rt: HostRuntime) {
-    for form in FORMS {
-        for failed in FAILED {
-            assert!(rt;
-                ends_there(&rt, *failed, FolderFault::Device, *form)
-                    && ends_there(&rt, *failed, FolderFault::Memory, *form),
-                "{} {} {form:?}",
-                failed.0,
-                failed.1
-            );
-        }
-        let mut shelf = Shelf::new(rt.alloc(), &[]);
-        assert!(rt; written(&rt, &mut shelf, THREE, *form).is_ok());
-        assert!(rt; written(&rt, &mut shelf, TWICE, *form).is_ok());
-        assert!(rt; has_tables(&mut shelf) && shelf.failures() == 0, "{form:?}");
     }
 }

@@ -16,8 +16,6 @@ mod folder_opening_tests;
 #[cfg(test)]
 mod folder_reader_tests;
 #[cfg(test)]
-mod folder_removal_tests;
-#[cfg(test)]
 mod folder_shelf_tests;
 #[cfg(test)]
 mod folder_system_tests;

@@ -31,45 +31,41 @@ fn add(
     estimate: usize,
     key: &[u8; 9],
     value: &[u8; 1],
-) -> Result<(), Fault> {
+) {
     assert!(rt; estimate <= 21 && builder.estimate() == estimate);
-    builder.add(key, value)
+    builder.add(key, value).expect(rt, "memory");
 }
 
 /// Adds both entries to an empty builder.
-fn add_both(rt: &impl Abort, builder: &mut BlockBuilder) -> Result<(), Fault> {
+fn add_both(rt: &impl Abort, builder: &mut BlockBuilder) {
     assert!(rt; builder.is_empty() && builder.last_key().is_empty());
-    add(rt, builder, 8, &FIRST_KEY, b"x")?;
+    add(rt, builder, 8, &FIRST_KEY, b"x");
     assert!(rt; !builder.is_empty() && builder.last_key() == FIRST_KEY.as_slice());
-    add(rt, builder, 21, &SECOND_KEY, b"y")
+    add(rt, builder, 21, &SECOND_KEY, b"y");
 }
 
 /// The block of both entries, written by a builder that had them before and was cleared. Its block
 /// of no entries is appended to `nothing`.
-fn written(
-    rt: &(impl Abort + AllocGlobal),
-    interval: u64,
-    nothing: &mut Vec<u8>,
-) -> Result<Vec<u8>, Fault>
+fn written(rt: &impl Abort, alloc: Global, interval: u64, nothing: &mut Vec<u8>) -> Vec<u8>
     requires positive { 1 ≤ interval }
     requires limited { interval ≤ 1024 }
 {
-    let mut builder = BlockBuilder::new(rt.alloc(), interval);
-    add_both(rt, &mut builder)?;
+    let mut builder = BlockBuilder::new(alloc, interval);
+    add_both(rt, &mut builder);
     builder.clear();
-    builder.push_block(nothing)?;
-    add_both(rt, &mut builder)?;
-    builder.finish()
+    builder.push_block(nothing).expect(rt, "memory");
+    add_both(rt, &mut builder);
+    builder.finish().expect(rt, "memory")
 }
 
 /// Whether both entries are written as these bytes at this interval.
-fn is_written(rt: &(impl Abort + AllocGlobal), interval: u64, wanted: &[u8]) -> Result<bool, Fault>
+fn is_written(rt: &impl Abort, alloc: Global, interval: u64, wanted: &[u8]) -> bool
     requires positive { 1 ≤ interval }
     requires limited { interval ≤ 1024 }
 {
-    let mut nothing = Vec::new(rt.alloc());
-    let block = written(rt, interval, &mut nothing)?;
-    Ok(nothing.as_slice() == NOTHING && block.as_slice() == wanted)
+    let mut nothing = Vec::new(alloc);
+    let block = written(rt, alloc, interval, &mut nothing);
+    nothing.as_slice() == NOTHING && block.as_slice() == wanted
 }
 
 /// An entry: its key, its value, and whether it is the last one.
@@ -127,112 +123,98 @@ const ROWS: &[Row] = &[
 ];
 
 /// Takes a cursor past its entry. Whether that is this one.
-fn goes(cursor: &mut BlockCursor<'_>, entry: &Entry) -> Result<bool, Fault> {
+fn goes(rt: &impl Abort, cursor: &mut BlockCursor<'_>, entry: &Entry) -> bool {
     if !cursor.valid() {
-        return Ok(false);
+        return false;
     }
     let is_this = cursor.key() == entry.0
         && cursor.value() == entry.1
         && cursor.is_last() == entry.2;
-    cursor.advance()?;
-    Ok(is_this)
+    cursor.advance().expect(rt, "memory");
+    is_this
 }
 
 /// Whether a cursor has these entries and no more. It ends after them.
-fn has(cursor: &mut BlockCursor<'_>, entries: &[Entry]) -> Result<bool, Fault> {
+fn has(rt: &impl Abort, cursor: &mut BlockCursor<'_>, entries: &[Entry]) -> bool {
     for entry in entries {
-        if !goes(cursor, entry)? {
-            return Ok(false);
+        if !goes(rt, cursor, entry) {
+            return false;
         }
     }
-    Ok(!cursor.valid())
+    !cursor.valid()
 }
 
 /// Whether a block has its restarts, and its entries from the last of them on.
-fn is_read_from_last(alloc: Global, row: &Row) -> Result<bool, Fault> {
-    let block = check(row.bytes)?;
+fn is_read_from_last(rt: &impl Abort, alloc: Global, row: &Row) -> bool {
+    let block = check(row.bytes).expect(rt, "a block");
     if block.restarts() != row.restarts {
-        return Ok(false);
+        return false;
     }
     let last = block.restarts() - 1;
     if block.key_at(last) != row.last_key {
-        return Ok(false);
+        return false;
     }
-    has(&mut BlockCursor::at(alloc, &block, last)?, row.from_last)
+    let mut cursor = BlockCursor::at(alloc, &block, last).expect(rt, "memory");
+    has(rt, &mut cursor, row.from_last)
 }
 
-/// Whether a block reopened has its entries, and a cursor over others moves to them.
-fn is_read_again(alloc: Global, row: &Row) -> Result<bool, Fault> {
-    let sound = check(row.bytes)?;
-    let block = reopen(row.bytes);
-    let mut cursor = BlockCursor::new(alloc, &block)?;
-    if !has(&mut cursor, row.entries)? {
-        return Ok(false);
-    }
-    cursor.enter(&sound.copy())?;
-    has(&mut cursor, row.entries)
+/// A cursor over a block that is reopened, since its bytes were checked.
+fn reopened(alloc: Global, bytes: &[u8]) -> Result<BlockCursor<'_>, Fault> {
+    let sound = check(bytes)?;
+    let block = reopen(bytes);
+    let cursor = BlockCursor::new(alloc, &block)?;
+    Ok(cursor)
+}
+
+/// Whether a block reopened has its entries, and a cursor at its end moves to them again.
+fn is_read_again(rt: &impl Abort, alloc: Global, row: &Row) -> bool {
+    let mut cursor = reopened(alloc, row.bytes).expect(rt, "a block");
+    let is_read = has(rt, &mut cursor, row.entries);
+    let sound = check(row.bytes).expect(rt, "a block");
+    cursor.enter(&sound.copy()).expect(rt, "memory");
+    is_read && has(rt, &mut cursor, row.entries)
 }
 
 /// Takes a checking cursor past its entry. Whether that is this one.
-fn tests(cursor: &mut CheckingCursor<'_>, entry: &Entry) -> Result<bool, Fault> {
+fn tests(rt: &impl Abort, cursor: &mut CheckingCursor<'_>, entry: &Entry) -> bool {
     if !cursor.valid() {
-        return Ok(false);
+        return false;
     }
     let is_this = cursor.key() == entry.0 && cursor.value() == entry.1;
-    cursor.advance()?;
-    Ok(is_this)
+    cursor.advance().expect(rt, "a block");
+    is_this
 }
 
 /// Whether a checking cursor finds these entries and no more.
-fn is_tested(cursor: &mut CheckingCursor<'static>, row: &Row) -> Result<bool, Fault> {
-    cursor.enter(row.bytes)?;
+fn is_tested(rt: &impl Abort, cursor: &mut CheckingCursor<'static>, row: &Row) -> bool {
+    cursor.enter(row.bytes).expect(rt, "a block");
     for entry in row.entries {
-        if !tests(cursor, entry)? {
-            return Ok(false);
+        if !tests(rt, cursor, entry) {
+            return false;
         }
     }
-    Ok(!cursor.valid())
+    !cursor.valid()
 }
 
 /// Whether a block is read in each way.
-fn is_read(cursor: &mut CheckingCursor<'static>, alloc: Global, row: &Row) -> Result<bool, Fault> {
-    Ok(is_read_from_last(alloc, row)? && is_read_again(alloc, row)? && is_tested(cursor, row)?)
+fn is_read(
+    rt: &impl Abort,
+    alloc: Global,
+    cursor: &mut CheckingCursor<'static>,
+    row: &Row,
+) -> bool {
+    is_read_from_last(rt, alloc, row) && is_read_again(rt, alloc, row) && is_tested(rt, cursor, row)
 }
 
-/// Tests that each block is read.
-fn are_read(rt: &(impl Abort + AllocGlobal)) -> Result<(), Fault> {
+#[test]
+fn blocks_are_written_and_read(rt: HostRuntime) {
+    assert!(rt; is_written(&rt, rt.alloc(), 16, SHARING));
+    assert!(rt; is_written(&rt, rt.alloc(), 1, WHOLE));
     let mut cursor = CheckingCursor::none(rt.alloc());
     assert!(rt; !cursor.valid());
     for row in ROWS {
-        assert!(rt; is_read(&mut cursor, rt.alloc(), row)?, "{}", row.name);
+        assert!(rt; is_read(&rt, rt.alloc(), &mut cursor, row), "{}", row.name);
     }
-    Ok(())
-}
-
-/// Tests that the blocks are written and read.
-fn all(rt: &(impl Abort + AllocGlobal)) -> Result<(), Fault> {
-    assert!(rt; is_written(rt, 16, SHARING)?);
-    assert!(rt; is_written(rt, 1, WHOLE)?);
-    are_read(rt)
-}
-
-/// Whether a call was refused as out of memory.
-fn is_memory(answer: &Result<(), Fault>) -> bool {
-    match answer {
-        Ok(()) => false,
-        Err(refused) => *refused == Fault::of(FaultName::Memory),
-    }
-}
-
-// With `rt try --test --fail-alloc N` the Nth request for memory is refused, and all is tested once
-// more. Without it none is.
-#[test]
-fn blocks_are_written_and_read(rt: HostRuntime) -> Result<(), Fault> {
-    let answer = all(&rt);
-    if is_memory(&answer) {
-        return all(&rt);
-    }
-    answer
 }
 
 /// Invalid blocks, and why they are.
@@ -240,49 +222,6 @@ const NO_BLOCKS: &[(&str, &[u8])] = &[
     ("no bytes", b""),
     ("no restart", b"\0\0\0\0"),
     ("a restart, and none told", b"\0\0\0\0\0\0\0\0"),
-    (
-        "a restart at no entry",
-        b"\0\x01\0a\0\x01\0b\0\0\0\0\x03\0\0\0\x02\0\0\0",
-    ),
-    (
-        "a restart at the end",
-        b"\0\x01\0a\0\x01\0b\0\0\0\0\x08\0\0\0\x02\0\0\0",
-    ),
-    (
-        "a restart twice",
-        b"\0\x01\0a\0\x01\0b\0\0\0\0\x04\0\0\0\x04\0\0\0\x03\0\0\0",
-    ),
-    (
-        "restarts that fall",
-        b"\0\x01\0a\0\x01\0b\0\0\0\0\x04\0\0\0\0\0\0\0\x03\0\0\0",
-    ),
-    (
-        "a first restart that is not 0",
-        b"\0\x01\0a\0\x01\0b\x04\0\0\0\x01\0\0\0",
-    ),
-    (
-        "a restart at a key that shares",
-        b"\0\x01\0a\x01\x01\0b\0\0\0\0\x04\0\0\0\x02\0\0\0",
-    ),
-    (
-        "more restarts than there is room",
-        b"\0\x01\0a\0\0\0\0\x09\0\0\0",
-    ),
-    (
-        "as many restarts as can be told",
-        b"\0\x01\0a\0\0\0\0\xff\xff\xff\xff",
-    ),
-    (
-        "more shared than there is",
-        b"\0\x01\0a\x02\0\0\0\0\0\0\x01\0\0\0",
-    ),
-    ("a first key that shares", b"\x01\x01\0a\0\0\0\0\x01\0\0\0"),
-    (
-        "a length that is spelt too long",
-        b"\x80\0\x01\0a\0\0\0\0\x01\0\0\0",
-    ),
-    ("an entry cut short", b"\0\x02\0a\0\0\0\0\x01\0\0\0"),
-    ("two restarts of no entry", b"\0\0\0\0\0\0\0\0\x02\0\0\0"),
 ];
 
 /// Whether bytes are refused as an invalid block.

@@ -49,13 +49,9 @@ fn numbers_are_spelt_and_read(rt: HostRuntime) {
     }
 }
 
-/// Two slices, and the length of what they share, within words of eight bytes and after them.
+/// Two slices, and the length of what they share.
 const BEGINNINGS: &[(&[u8], &[u8], usize)] = &[
-    (b"", b"abc", 0),
     (b"abc", b"abd", 2),
-    (b"abcdefgh", b"abcdefgh", 8),
-    (b"abcdefghijkl", b"abcdefghijXl", 10),
-    (b"abcdeFghijklmnopqr", b"abcdefghijklmnopqr", 5),
     (b"abcdefghijklmnopQr", b"abcdefghijklmnopqr", 16),
 ];
 
@@ -113,41 +109,5 @@ fn crcs_and_masks_of_other_programs(rt: HostRuntime) {
     for (bytes, crc, masked) in VECTORS {
         let is_masked = mask(*crc) == *masked && unmask(*masked) == *crc;
         assert!(rt; is_crc(bytes, *crc) && is_masked, "{crc:x}");
-    }
-}
-
-/// How many bytes the longest of [`LENGTHS`] has.
-const LONGEST: usize = 2336;
-
-/// Lengths at which bytes begin to be taken in in another way, and their neighbours.
-const LENGTHS: &[usize] = &[
-    639, 640, 641, 655, 656, 1295, 1296, 1297, 1311, 1312, 2319, 2320, 2321, LONGEST,
-];
-
-/// Bytes without a pattern.
-fn mixed_bytes() -> [u8; LONGEST] {
-    let mut bytes = [0; LONGEST];
-    let mut state = 1u32;
-    for byte in &mut bytes {
-        state = state.wrapping_mul(1_664_525).wrapping_add(1_013_904_223);
-        *byte = state.to_le_bytes()[3];
-    }
-    bytes
-}
-
-/// Whether the CRC of the beginning of `bytes` is that bit by bit.
-fn is_as_plain(bytes: &[u8], len: usize) -> bool {
-    let front = &bytes[..len.min(bytes.len())];
-    is_crc(front, crc32c_plain(front))
-}
-
-#[test]
-fn crcs_of_long_bytes_are_those_bit_by_bit(rt: HostRuntime) {
-    let mixed = mixed_bytes();
-    for len in LENGTHS {
-        let is_same = is_as_plain(&mixed, *len)
-            && is_as_plain(&[0; LONGEST], *len)
-            && is_as_plain(&[0xff; LONGEST], *len);
-        assert!(rt; is_same, "{len}");
     }
 }

@@ -1,6 +1,6 @@
-use coding::Fault;
 use logrec::*;
 use std::alloc::Global;
+use std::process::Abort;
 use std::test::*;
 
 /// The number of bytes 7 in a record, the record after it, the length of their log, and how it
@@ -51,17 +51,17 @@ fn are_records(read: &[Vec<u8>], first: &[u8], second: &[u8]) -> bool {
 }
 
 /// Whether the log of a row's records is as the row says, and is read as them.
-fn is_log(alloc: Global, (len, second, log_len, end): Row) -> Result<bool, Fault> {
-    let first = vec![in alloc; 7u8; len]?;
-    let log = append(alloc, &append(alloc, &[], &first)?, second)?;
-    let is_written = log.len() == log_len && log.ends_with(end);
-    Ok(is_written && are_records(&records(alloc, &log)?, &first, second))
+fn is_log(rt: &impl Abort, alloc: Global, (len, second, log_len, end): Row) -> bool {
+    let first = vec![in alloc; 7u8; len].expect(rt, "memory");
+    let log = append(alloc, &[], &first).expect(rt, "memory");
+    let log = append(alloc, &log, second).expect(rt, "memory");
+    let read = records(alloc, &log).expect(rt, "a log");
+    log.len() == log_len && log.ends_with(end) && are_records(&read, &first, second)
 }
 
 #[test]
-fn logs_of_two_records(rt: HostRuntime) -> Result<(), Fault> {
+fn logs_of_two_records(rt: HostRuntime) {
     for row in ROWS {
-        assert!(rt; is_log(rt.alloc(), *row)?, "{}", row.2);
+        assert!(rt; is_log(&rt, rt.alloc(), *row), "{}", row.2);
     }
-    Ok(())
 }

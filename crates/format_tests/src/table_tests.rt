@@ -1,7 +1,6 @@
 //! Tables that are written, read, walked and sought. The bytes are made from the texts above them,
 //! except those of one table that LevelDB wrote.
 
-use coding::{Fault, FaultName};
 use ikey::{Bytewise, InternalKey};
 use std::alloc::Global;
 use std::process::Abort;
@@ -69,44 +68,41 @@ const WRITTEN: &[Written] = &[
 /// Adds an entry to a table, and answers the bytes of the flushed blocks. None if its key isn't
 /// above the last one; then nothing is added.
 fn added(
+    rt: &impl Abort,
     table: &mut TableBuilder<Bytewise>,
     key: &[u8],
     value: &[u8],
-) -> Result<Option<u64>, Fault> {
-    let key = InternalKey::parse(key)?;
+) -> Option<u64> {
+    let key = InternalKey::parse(key).expect(rt, "a key");
     if !table.is_above_last(&key) || value.len() > MAX_VALUE_LEN {
-        return Ok(None);
+        return None;
     }
-    table.add(key, value)?;
-    Ok(Some(table.flushed()))
+    table.add(key, value).expect(rt, "memory");
+    Some(table.flushed())
 }
 
 /// Whether a table is written so.
-fn is_written(alloc: Global, wanted: &Written) -> Result<bool, Fault> {
+fn is_written(rt: &impl Abort, alloc: Global, wanted: &Written) -> bool {
     let options = Options {
         block_size: wanted.0,
         ..Options::default()
     };
     if !options.are_in_limits() {
-        return Ok(false);
+        return false;
     }
     let mut table = TableBuilder::<Bytewise>::new(alloc, options);
     for (key, value, flushed) in wanted.1 {
-        if added(&mut table, key, value)? != *flushed {
-            return Ok(false);
+        if added(rt, &mut table, key, value) != *flushed {
+            return false;
         }
     }
-    Ok(table.finish()?.as_slice() == wanted.2)
+    table.finish().expect(rt, "memory").as_slice() == wanted.2
 }
 
 #[test]
 fn tables_are_written(rt: HostRuntime) {
     for wanted in WRITTEN {
-        assert!(rt;
-            is_written(rt.alloc(), wanted) == Ok(true),
-            "{:?}",
-            wanted.1
-        );
+        assert!(rt; is_written(&rt, rt.alloc(), wanted), "{:?}", wanted.1);
     }
 }
 
@@ -178,39 +174,40 @@ const SOUGHT: &[Sought] = &[
 ];
 
 /// The cursor over a table.
-fn cursor_over(alloc: Global, bytes: &[u8]) -> Result<TableCursor<'_, Bytewise>, Fault> {
-    TableCursor::new(alloc, &check::<Bytewise>(alloc, bytes)?)
+fn cursor_over<'a>(rt: &impl Abort, alloc: Global, bytes: &'a [u8]) -> TableCursor<'a, Bytewise> {
+    let table = check::<Bytewise>(alloc, bytes).expect(rt, "a table");
+    TableCursor::new(alloc, &table).expect(rt, "memory")
 }
 
 /// Seeks internal keys, one after the other.
-fn seek_all(cursor: &mut TableCursor<'_, Bytewise>, targets: &[&[u8]]) -> Result<(), Fault> {
+fn seek_all(rt: &impl Abort, cursor: &mut TableCursor<'_, Bytewise>, targets: &[&[u8]]) {
     for target in targets {
-        cursor.seek(InternalKey::parse(target)?)?;
+        let key = InternalKey::parse(target).expect(rt, "a key");
+        cursor.seek(key).expect(rt, "memory");
     }
-    Ok(())
 }
 
 /// Whether the entries left are of these user keys, each put at 1 with the value `v`. The cursor
 /// ends after them.
-fn has_users(cursor: &mut TableCursor<'_, Bytewise>, users: &[u8]) -> Result<bool, Fault> {
+fn has_users(rt: &impl Abort, cursor: &mut TableCursor<'_, Bytewise>, users: &[u8]) -> bool {
     for user in users {
         let key = [*user, 1, 1, 0, 0, 0, 0, 0, 0];
         if !cursor.valid()
             || cursor.key().bytes() != key.as_slice()
             || cursor.value() != b"v".as_slice()
         {
-            return Ok(false);
+            return false;
         }
-        cursor.advance()?;
+        cursor.advance().expect(rt, "memory");
     }
-    Ok(!cursor.valid())
+    !cursor.valid()
 }
 
 /// Whether these user keys are left of a table.
-fn are_left(alloc: Global, wanted: &Sought) -> Result<bool, Fault> {
-    let mut cursor = cursor_over(alloc, wanted.0)?;
-    seek_all(&mut cursor, wanted.1)?;
-    has_users(&mut cursor, wanted.2)
+fn are_left(rt: &impl Abort, alloc: Global, wanted: &Sought) -> bool {
+    let mut cursor = cursor_over(rt, alloc, wanted.0);
+    seek_all(rt, &mut cursor, wanted.1);
+    has_users(rt, &mut cursor, wanted.2)
 }
 
 /// Whether a table has the bytes of `FIVE`, and its bounds.
@@ -234,43 +231,34 @@ fn are_keys(keys: &KeyList) -> bool {
 }
 
 /// Whether the table of five entries is read as it is, with the user keys of its index.
-fn is_read(alloc: Global) -> Result<bool, Fault> {
-    let table = check::<Bytewise>(alloc, FIVE)?;
-    Ok(
-        is_five(&table)
-            && are_users(&table.index_users(alloc)?)
-            && are_keys(&table.index_keys(alloc)?),
-    )
+fn is_read(rt: &impl Abort, alloc: Global) -> bool {
+    let table = check::<Bytewise>(alloc, FIVE).expect(rt, "a table");
+    let users = table.index_users(alloc).expect(rt, "memory");
+    let keys = table.index_keys(alloc).expect(rt, "memory");
+    is_five(&table) && are_users(&users) && are_keys(&keys)
 }
 
-/// Whether that table keeps its bytes and bounds, and is lent twice as what it is.
-fn is_lent(alloc: Global) -> Result<bool, Fault> {
-    let owned = OwnedTable::<Bytewise>::check(alloc, Vec::from_slice(alloc, FIVE)?)?;
-    Ok(
-        owned.bytes() == FIVE
-            && owned.smallest().user() == b"a".as_slice()
-            && owned.largest().user() == b"e".as_slice()
-            && is_five(&owned.lend(alloc)?)
-            && are_users(&owned.lend(alloc)?.index_users(alloc)?),
-    )
+/// Whether a table has the bytes of `FIVE`, its bounds, and is lent as what it is.
+fn is_owned(rt: &impl Abort, alloc: Global, table: &OwnedTable<Bytewise>) -> bool {
+    let lent = table.lend(alloc).expect(rt, "memory");
+    table.bytes() == FIVE
+        && table.smallest().user() == b"a".as_slice()
+        && table.largest().user() == b"e".as_slice()
+        && is_five(&lent)
 }
 
-/// Why bytes are not owned as a table.
-fn not_owned(alloc: Global, bytes: &[u8]) -> Option<FaultName> {
-    let own = Vec::from_slice(alloc, bytes).ok()?;
-    match OwnedTable::<Bytewise>::check(alloc, own) {
-        Ok(_) => None,
-        Err(fault) => Some(fault.name),
-    }
+/// Whether that table keeps its bytes and bounds.
+fn is_lent(rt: &impl Abort, alloc: Global) -> bool {
+    let bytes = Vec::from_slice(alloc, FIVE).expect(rt, "memory");
+    let table = OwnedTable::<Bytewise>::check(alloc, bytes).expect(rt, "a table");
+    is_owned(rt, alloc, &table)
 }
 
 #[test]
 fn tables_are_read_and_sought(rt: HostRuntime) {
-    assert!(rt; is_read(rt.alloc()) == Ok(true));
-    assert!(rt; is_lent(rt.alloc()) == Ok(true));
-    assert!(rt; not_owned(rt.alloc(), &FIVE[1..]) == Some(FaultName::Range));
+    assert!(rt; is_read(&rt, rt.alloc()) && is_lent(&rt, rt.alloc()));
     for wanted in SOUGHT {
-        assert!(rt; are_left(rt.alloc(), wanted) == Ok(true), "{:?}", wanted.1);
+        assert!(rt; are_left(&rt, rt.alloc(), wanted), "{:?}", wanted.1);
     }
 }
 
@@ -377,43 +365,46 @@ const ENTRIES: usize = 160;
 /// Takes a cursor past its entry, and adds that to a table. Whether there was one, and it could be
 /// added.
 fn is_moved(
+    rt: &impl Abort,
     table: &mut TableBuilder<Bytewise>,
     cursor: &mut TableCursor<'_, Bytewise>,
-) -> Result<bool, Fault> {
+) -> bool {
     if !cursor.valid() {
-        return Ok(false);
+        return false;
     }
-    let answer = added(table, cursor.key().bytes(), cursor.value())?;
-    cursor.advance()?;
-    Ok(answer.is_some())
+    let answer = added(rt, table, cursor.key().bytes(), cursor.value());
+    cursor.advance().expect(rt, "memory");
+    answer.is_some()
 }
 
 /// Whether all entries of a cursor are moved to a table.
 fn are_moved(
+    rt: &impl Abort,
     table: &mut TableBuilder<Bytewise>,
     cursor: &mut TableCursor<'_, Bytewise>,
-) -> Result<bool, Fault> {
+) -> bool {
     for _entry in 0..ENTRIES {
-        if !is_moved(table, cursor)? {
-            return Ok(false);
+        if !is_moved(rt, table, cursor) {
+            return false;
         }
     }
-    Ok(!cursor.valid())
+    !cursor.valid()
 }
 
 /// Whether the table of the entries of LevelDB's table is that table.
-fn is_built_again(alloc: Global) -> Result<bool, Fault> {
+fn is_built_again(rt: &impl Abort, alloc: Global) -> bool {
     if !OPTIONS.are_in_limits() {
-        return Ok(false);
+        return false;
     }
-    let mut cursor = cursor_over(alloc, OF_LEVELDB)?;
+    let mut cursor = cursor_over(rt, alloc, OF_LEVELDB);
     let mut table = TableBuilder::<Bytewise>::new(alloc, OPTIONS);
-    Ok(are_moved(&mut table, &mut cursor)? && table.finish()?.as_slice() == OF_LEVELDB)
+    are_moved(rt, &mut table, &mut cursor)
+        && table.finish().expect(rt, "memory").as_slice() == OF_LEVELDB
 }
 
 #[test]
 fn a_table_of_leveldb_is_built_again(rt: HostRuntime) {
-    assert!(rt; is_built_again(rt.alloc()) == Ok(true));
+    assert!(rt; is_built_again(&rt, rt.alloc()));
 }
 
 /// `table: u@4 put x, u@4 del`
@@ -423,42 +414,29 @@ const TWINS: &[u8] = b"\
     \x80\xdce\x8c\x25\x082\x16\0\0\0\0\0\0\0\0\0\0\0\0\0\0\0\0\0\0\0\0\0\0\0\0\0\0\0\0\0\0\0\0\0\0\
     \0\0W\xfb\x80\x8b\x24uG\xdb";
 
-/// `table: u@4 put x | u@4 del`
-const PARTED_TWINS: &[u8] = b"\
-    \0\x09\x01u\x01\x04\0\0\0\0\0\0x\0\0\0\0\x01\0\0\0\0\x0f\xed\x0d\xbf\0\x09\0u\0\x04\0\0\0\0\0\
-    \0\0\0\0\0\x01\0\0\0\0\x0dk\x91\xcc\0\0\0\0\x01\0\0\0\0\xc0\xf2\xa1\xb0\0\x09\x02u\x01\x04\0\0\
-    \0\0\0\0\0\x15\0\x09\x02u\0\x04\0\0\0\0\0\0\x1a\x14\0\0\0\0\x0e\0\0\0\x02\0\0\0\01\xf9dl3\x08\
-    \x40\x28\0\0\0\0\0\0\0\0\0\0\0\0\0\0\0\0\0\0\0\0\0\0\0\0\0\0\0\0\0\0\0\0\0\0\0\0W\xfb\x80\x8b\
-    \x24uG\xdb";
-
 /// A table, the number of its entries, their least and greatest sequence, and whether two
 /// neighbours have one user key and one sequence.
 type Counted = (&'static [u8], u64, u64, u64, bool);
 
 const COUNTED: &[Counted] = &[
-    (ONE_ENTRY, 1, 1, 1, false),
-    // One user key, two sequences.
+    // One user key, two sequences; and one sequence.
     (TWO_ENTRIES, 2, 2, 4, false),
-    // One sequence, of other user keys.
-    (FIVE, 5, 1, 1, false),
-    (FORTY, 40, 1, 1, false),
     (TWINS, 2, 4, 4, true),
-    (PARTED_TWINS, 2, 4, 4, true),
     (OF_LEVELDB, ENTRIES as u64, 1, 160, false),
 ];
 
 /// Whether so much is counted of a table.
-fn is_counted(alloc: Global, wanted: &Counted) -> Result<bool, Fault> {
-    let tally = check::<Bytewise>(alloc, wanted.0)?.tally();
-    Ok(
-        (tally.entries, tally.oldest, tally.newest, tally.has_twins)
-            == (wanted.1, wanted.2, wanted.3, wanted.4),
-    )
+fn is_counted(rt: &impl Abort, alloc: Global, wanted: &Counted) -> bool {
+    let tally = check::<Bytewise>(alloc, wanted.0)
+        .expect(rt, "a table")
+        .tally();
+    (tally.entries, tally.oldest, tally.newest, tally.has_twins)
+        == (wanted.1, wanted.2, wanted.3, wanted.4)
 }
 
 #[test]
 fn entries_are_counted(rt: HostRuntime) {
     for wanted in COUNTED {
-        assert!(rt; is_counted(rt.alloc(), wanted) == Ok(true), "{}", wanted.1);
+        assert!(rt; is_counted(&rt, rt.alloc(), wanted), "{}", wanted.1);
     }
 }

@@ -56,24 +56,17 @@ const EDITS: &[(&[u8], &[u8])] = &[
     ),
 ];
 
-/// The edit of these bytes, written again.
-fn written_again(alloc: Global, bytes: &[u8]) -> Result<Vec<u8>, Fault> {
-    VersionEdit::decode(alloc, bytes)?.encode(alloc)
-}
-
-/// Whether it is written as these bytes.
-fn is_written(alloc: Global, bytes: &[u8], wanted: &[u8]) -> bool {
-    match written_again(alloc, bytes) {
-        Ok(written) => written.as_slice() == wanted,
-        Err(_) => false,
-    }
+/// Whether the edit of these bytes is written as those.
+fn is_written(rt: &impl Abort, alloc: Global, bytes: &[u8], wanted: &[u8]) -> bool {
+    let edit = VersionEdit::decode(alloc, bytes).expect(rt, "an edit");
+    edit.encode(alloc).expect(rt, "memory").as_slice() == wanted
 }
 
 #[test]
 fn edits_are_read_and_written(rt: HostRuntime) {
     edit_laws();
     for (bytes, wanted) in EDITS {
-        assert!(rt; is_written(rt.alloc(), bytes, wanted), "{wanted:?}");
+        assert!(rt; is_written(&rt, rt.alloc(), bytes, wanted), "{wanted:?}");
     }
 }
 
@@ -158,23 +151,33 @@ const VERSIONS: &[Row] = &[
     (TWO_FILES, EIGHT_TWICE, Err(FaultName::Apply)),
 ];
 
-/// The version of two edits, one after the other.
-fn version_of_two(alloc: Global, first: &[u8], second: &[u8]) -> Result<Version, Fault> {
-    let edit = VersionEdit::decode(alloc, first)?;
-    let version = Version::empty(alloc).applied::<Bytewise>(edit)?;
-    version.apply::<Bytewise>(alloc, &VersionEdit::decode(alloc, second)?)
+/// The version of two edits, one after the other, or the refusal of the second.
+fn version_of_two(
+    rt: &impl Abort,
+    alloc: Global,
+    first: &[u8],
+    second: &[u8],
+) -> Result<Version, Fault> {
+    let edit = VersionEdit::decode(alloc, first).expect(rt, "an edit");
+    let version = Version::empty(alloc)
+        .applied::<Bytewise>(edit)
+        .expect(rt, "a version");
+    let edit = VersionEdit::decode(alloc, second).expect(rt, "an edit");
+    version.apply::<Bytewise>(alloc, &edit)
 }
 
-/// The bytes of its snapshot.
-fn snapshot_of_two(alloc: Global, first: &[u8], second: &[u8]) -> Result<Vec<u8>, Fault> {
-    let version = version_of_two(alloc, first, second)?;
-    version.snapshot_edit::<Bytewise>(alloc)?.encode(alloc)
+/// Whether these are the bytes of a version's snapshot.
+fn is_snapshot(rt: &impl Abort, alloc: Global, version: &Version, wanted: &[u8]) -> bool {
+    let edit = version
+        .snapshot_edit::<Bytewise>(alloc)
+        .expect(rt, "memory");
+    edit.encode(alloc).expect(rt, "memory").as_slice() == wanted
 }
 
 /// Whether two edits have the answer of their row.
-fn is_answered(alloc: Global, row: &Row) -> bool {
-    match (snapshot_of_two(alloc, row.0, row.1), row.2) {
-        (Ok(snapshot), Ok(wanted)) => snapshot.as_slice() == wanted,
+fn is_answered(rt: &impl Abort, alloc: Global, row: &Row) -> bool {
+    match (version_of_two(rt, alloc, row.0, row.1), row.2) {
+        (Ok(version), Ok(wanted)) => is_snapshot(rt, alloc, &version, wanted),
         (Err(refused), Err(wanted)) => refused.name == wanted,
         _ => false,
     }
@@ -208,25 +211,24 @@ fn is_first(file: &FileMeta) -> bool {
 }
 
 /// Whether a version has three files at level 0, and a copy of the first is that file.
-fn has_files(alloc: Global, version: &Version) -> Result<bool, Fault> {
-    let files = version.files::<Bytewise>(alloc, 0)?;
-    match files.first() {
-        Some(file) => Ok(files.len() == 3 && is_first(&file.copy(alloc)?)),
-        None => Ok(false),
-    }
+fn has_files(rt: &impl Abort, alloc: Global, version: &Version) -> bool {
+    let files = version.files::<Bytewise>(alloc, 0).expect(rt, "memory");
+    let first = files.first().expect(rt, "a file");
+    let copy = first.copy(alloc).expect(rt, "memory");
+    files.len() == 3 && is_first(&copy)
 }
 
 /// Whether the version of the second database is read so.
-fn is_mixed(alloc: Global) -> Result<bool, Fault> {
-    let version = version_of_two(alloc, MIXED, MIXED_NEXT)?;
-    Ok(has_numbers(&version) && has_files(alloc, &version)?)
+fn is_mixed(rt: &impl Abort, alloc: Global) -> bool {
+    let version = version_of_two(rt, alloc, MIXED, MIXED_NEXT).expect(rt, "a version");
+    has_numbers(&version) && has_files(rt, alloc, &version)
 }
 
 #[test]
 fn versions_after_edits(rt: HostRuntime) {
     snapshot_law::<Bytewise>();
-    assert!(rt; is_mixed(rt.alloc()) == Ok(true));
+    assert!(rt; is_mixed(&rt, rt.alloc()));
     for row in VERSIONS {
-        assert!(rt; is_answered(rt.alloc(), row), "{:?}", row.1);
+        assert!(rt; is_answered(&rt, rt.alloc(), row), "{:?}", row.1);
     }
 }

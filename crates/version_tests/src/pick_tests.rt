@@ -59,13 +59,16 @@ const LEVELS: &[u8] = b"\
     \0\0\0\0\0";
 
 /// The version that an edit makes of the empty one.
-fn version_of(alloc: Global, edit: &[u8]) -> Result<Version, Fault> {
-    Version::empty(alloc).applied::<Bytewise>(VersionEdit::decode(alloc, edit)?)
+fn version_of(rt: &impl Abort, alloc: Global, edit: &[u8]) -> Version {
+    let edit = VersionEdit::decode(alloc, edit).expect(rt, "an edit");
+    Version::empty(alloc)
+        .applied::<Bytewise>(edit)
+        .expect(rt, "a version")
 }
 
 /// The inputs of a compaction of a level of that version.
-fn chosen(alloc: Global, edit: &[u8], level: u64) -> Result<Inputs, Fault> {
-    inputs::<Bytewise>(alloc, &version_of(alloc, edit)?, level)
+fn chosen(rt: &impl Abort, alloc: Global, edit: &[u8], level: u64) -> Result<Inputs, Fault> {
+    inputs::<Bytewise>(alloc, &version_of(rt, alloc, edit), level)
 }
 
 /// The inputs of a compaction.
@@ -184,8 +187,8 @@ fn are_taken(found: &Inputs, level: u64, wanted: &Taken) -> bool {
 }
 
 /// Whether a compaction has the inputs of its row, or its refusal.
-fn is_answered(alloc: Global, row: &Row) -> bool {
-    match (chosen(alloc, row.0, row.1), &row.2) {
+fn is_answered(rt: &impl Abort, alloc: Global, row: &Row) -> bool {
+    match (chosen(rt, alloc, row.0, row.1), &row.2) {
         (Ok(found), Ok(wanted)) => are_taken(&found, row.1, wanted),
         (Err(refused), Err(wanted)) => refused.name == *wanted,
         _ => false,
@@ -204,17 +207,17 @@ fn are_base(found: &Inputs, users: &[u8], wanted: bool) -> bool {
 
 /// Whether some deeper file's range has each of `h`, `x`, `y`, `z`, `r` and `s`, and none has `g`,
 /// `j`, `w`, `t` or `q`.
-fn are_told(alloc: Global) -> Result<bool, Fault> {
-    let found = chosen(alloc, LEVELS, 1)?;
-    Ok(are_base(&found, b"hxyzrs", false) && are_base(&found, b"gjwtq", true))
+fn are_told(rt: &impl Abort, alloc: Global) -> bool {
+    let found = chosen(rt, alloc, LEVELS, 1).expect(rt, "inputs");
+    are_base(&found, b"hxyzrs", false) && are_base(&found, b"gjwtq", true)
 }
 
 #[test]
 fn inputs_and_user_keys_below_them(rt: HostRuntime) {
     one_choice::<Bytewise>();
     one_choice::<Shortlex>();
-    assert!(rt; are_told(rt.alloc()) == Ok(true));
+    assert!(rt; are_told(&rt, rt.alloc()));
     for (place, row) in ROWS.iter().enumerate() {
-        assert!(rt; is_answered(rt.alloc(), row), "row {place}");
+        assert!(rt; is_answered(&rt, rt.alloc(), row), "row {place}");
     }
 }

@@ -1,7 +1,7 @@
 //! Which versions are lawful, the order of their tables, what they answer, and whether entries
 //! fall.
 
-use coding::{Fault, FaultName};
+use coding::FaultName;
 use edit::{FileMeta, Version, VersionEdit};
 use ikey::{Bytewise, InternalKey};
 use reads::{
@@ -30,13 +30,6 @@ const U_AT_FIVE: &[u8] = b"\
     \0\0\0\0\0\0\0\0\0\0\0\0\0\0\0\0\0\0\0\0\0\0\0\0\0\0\0\0\0\0\0\0\0\0\0\0W\xfb\x80\x8b\x24uG\
     \xdb";
 
-/// `table: u@5 put b, u@5 del`
-const U_TWICE: &[u8] = b"\
-    \0\x09\x01u\x01\x05\0\0\0\0\0\0b\x01\x08\0\0\x05\0\0\0\0\0\0\0\0\0\0\x01\0\0\0\0GI\xc1\x1c\0\0\
-    \0\0\x01\0\0\0\0\xc0\xf2\xa1\xb0\0\x09\x02u\0\x05\0\0\0\0\0\0\0\x20\0\0\0\0\x01\0\0\0\0R\xda7\
-    \x90\x25\x082\x16\0\0\0\0\0\0\0\0\0\0\0\0\0\0\0\0\0\0\0\0\0\0\0\0\0\0\0\0\0\0\0\0\0\0\0\0W\xfb\
-    \x80\x8b\x24uG\xdb";
-
 /// Two files of level 1, the newer one first: 8 and 7, of 114 bytes each. The next file has number
 /// 9.
 /// `edit: next 9, file 1 8 114 u@10 put .. u@10 put, file 1 7 114 u@5 put .. u@5 put`
@@ -55,27 +48,11 @@ const NEWER_FIRST: &[u8] = b"\
     \x03\x09\x07\0\x07r\x09u\x01\x0a\0\0\0\0\0\0\x09u\x01\x0a\0\0\0\0\0\0\x07\0\x08r\x09u\x01\x05\
     \0\0\0\0\0\0\x09u\x01\x05\0\0\0\0\0\0";
 
-/// The newer one at a deeper level.
-/// `edit: next 9, file 2 8 114 u@10 put .. u@10 put, file 1 7 114 u@5 put .. u@5 put`
-const NEWER_BELOW: &[u8] = b"\
-    \x03\x09\x07\x02\x08r\x09u\x01\x0a\0\0\0\0\0\0\x09u\x01\x0a\0\0\0\0\0\0\x07\x01\x07r\x09u\x01\
-    \x05\0\0\0\0\0\0\x09u\x01\x05\0\0\0\0\0\0";
-
 /// The older one with a byte more than its table has.
 /// `edit: next 9, file 1 8 114 u@10 put .. u@10 put, file 1 7 115 u@5 put .. u@5 put`
 const LONGER: &[u8] = b"\
     \x03\x09\x07\x01\x08r\x09u\x01\x0a\0\0\0\0\0\0\x09u\x01\x0a\0\0\0\0\0\0\x07\x01\x07s\x09u\x01\
     \x05\0\0\0\0\0\0\x09u\x01\x05\0\0\0\0\0\0";
-
-/// No number of the next file.
-/// `edit: file 1 8 114 u@10 put .. u@10 put, file 1 7 114 u@5 put .. u@5 put`
-const NO_NEXT: &[u8] = b"\
-    \x07\x01\x08r\x09u\x01\x0a\0\0\0\0\0\0\x09u\x01\x0a\0\0\0\0\0\0\x07\x01\x07r\x09u\x01\x05\0\0\
-    \0\0\0\0\x09u\x01\x05\0\0\0\0\0\0";
-
-/// One file, 7, with two entries of one sequence.
-/// `edit: next 9, file 1 7 125 u@5 put .. u@5 del`
-const ONE: &[u8] = b"\x03\x09\x07\x01\x07\x7d\x09u\x01\x05\0\0\0\0\0\0\x09u\0\x05\0\0\0\0\0\0";
 
 /// A file's number and its table.
 type Given = (u64, &'static [u8]);
@@ -135,42 +112,9 @@ const ROWS: &[Row] = &[
         standing: &[5, 10],
         gets: &[],
     },
-    Row {
-        edit: NEWER_BELOW,
-        first: (8, U_AT_TEN),
-        second: (7, U_AT_FIVE),
-        lawless: Some(FaultName::Lawless),
-        standing: &[5, 10],
-        gets: &[],
-    },
-    // A user key has one sequence twice in a table. Of two tables of one number the first counts.
-    Row {
-        edit: ONE,
-        first: (7, U_TWICE),
-        second: (7, U_AT_FIVE),
-        lawless: Some(FaultName::Lawless),
-        standing: &[5],
-        gets: &[],
-    },
-    // What is stated of a file is wrong: its size, its keys, or that its number is below next file.
+    // The stated size is wrong.
     Row {
         edit: LONGER,
-        first: (8, U_AT_TEN),
-        second: (7, U_AT_FIVE),
-        lawless: Some(FaultName::Lawless),
-        standing: &[],
-        gets: &[],
-    },
-    Row {
-        edit: TWO,
-        first: (8, U_AT_FIVE),
-        second: (7, U_AT_FIVE),
-        lawless: Some(FaultName::Lawless),
-        standing: &[],
-        gets: &[],
-    },
-    Row {
-        edit: NO_NEXT,
         first: (8, U_AT_TEN),
         second: (7, U_AT_FIVE),
         lawless: Some(FaultName::Lawless),
@@ -180,14 +124,17 @@ const ROWS: &[Row] = &[
 ];
 
 /// The version that an edit makes of the empty one.
-fn version_of(alloc: Global, edit: &[u8]) -> Result<Version, Fault> {
-    let edit = VersionEdit::decode(alloc, edit)?;
-    Version::empty(alloc).applied::<Bytewise>(edit)
+fn version_of(rt: &impl Abort, alloc: Global, edit: &[u8]) -> Version {
+    let edit = VersionEdit::decode(alloc, edit).expect(rt, "an edit");
+    Version::empty(alloc)
+        .applied::<Bytewise>(edit)
+        .expect(rt, "a version")
 }
 
 /// The table of a file.
-fn table_of(alloc: Global, given: Given) -> Result<NumberedTable<'static, Bytewise>, Fault> {
-    Ok(NumberedTable::of(given.0, check::<Bytewise>(alloc, given.1)?))
+fn table_of(rt: &impl Abort, alloc: Global, given: Given) -> NumberedTable<'static, Bytewise> {
+    let table = check::<Bytewise>(alloc, given.1).expect(rt, "a table");
+    NumberedTable::of(given.0, table)
 }
 
 /// Whether a table is that of this file.
@@ -262,26 +209,22 @@ fn is_row(
         && are_got(alloc, version, tables, row.gets)
 }
 
-/// Whether a version has them with the tables of the row.
-fn is_answered_with(alloc: Global, version: &Version, row: &Row) -> Result<bool, Fault> {
-    let first = table_of(alloc, row.first)?;
-    let is_first = is_given(&first, row.first);
-    let tables = [first, table_of(alloc, row.second)?];
-    Ok(is_first && is_row(alloc, version, &tables, row))
-}
-
-/// Whether the version of a row has them.
-fn is_answered(alloc: Global, row: &Row) -> Result<bool, Fault> {
-    is_answered_with(alloc, &version_of(alloc, row.edit)?, row)
+/// Whether the version of a row has them with the tables of the row.
+fn is_answered(rt: &impl Abort, alloc: Global, row: &Row) -> bool {
+    let version = version_of(rt, alloc, row.edit);
+    let tables = [
+        table_of(rt, alloc, row.first),
+        table_of(rt, alloc, row.second),
+    ];
+    is_given(&tables[0], row.first) && is_row(alloc, &version, &tables, row)
 }
 
 #[test]
-fn versions_and_what_they_answer(rt: HostRuntime) -> Result<(), Fault> {
+fn versions_and_what_they_answer(rt: HostRuntime) {
     answers_newest_first();
     for (place, row) in ROWS.iter().enumerate() {
-        assert!(rt; is_answered(rt.alloc(), row)?, "{place}");
+        assert!(rt; is_answered(&rt, rt.alloc(), row), "{place}");
     }
-    Ok(())
 }
 
 /// `edit: next 9, file 1 7 114 u@5 put .. u@5 put, file 1 8 114 u@5 put .. u@5 put`
@@ -292,13 +235,7 @@ const SAME_RANGE: &[u8] = b"\
 /// An edit, and the numbers of its version's files as they stand, if each comes before the next.
 type Standing = (&'static [u8], Option<&'static [u64]>);
 
-const STANDING: &[Standing] = &[
-    (TWO, Some(&[8, 7])),
-    (AT_LEVEL_0, Some(&[8, 7])),
-    (NEWER_FIRST, Some(&[8, 7])),
-    (NEWER_BELOW, Some(&[7, 8])),
-    (SAME_RANGE, None),
-];
+const STANDING: &[Standing] = &[(AT_LEVEL_0, Some(&[8, 7])), (SAME_RANGE, None)];
 
 /// Whether files have these numbers.
 fn are_numbers(files: &[&FileMeta], wanted: &[u64]) -> bool {
@@ -311,38 +248,33 @@ fn are_numbers(files: &[&FileMeta], wanted: &[u64]) -> bool {
 }
 
 /// Whether the files of a version stand as expected.
-fn files_stand(alloc: Global, row: &Standing) -> Result<bool, Fault> {
-    let version = version_of(alloc, row.0)?;
-    match (files_newest_first::<Bytewise>(alloc, &version)?, row.1) {
-        (Some(files), Some(wanted)) => Ok(are_numbers(&files, wanted)),
-        (None, None) => Ok(true),
-        _ => Ok(false),
+fn files_stand(rt: &impl Abort, alloc: Global, row: &Standing) -> bool {
+    let version = version_of(rt, alloc, row.0);
+    let files = files_newest_first::<Bytewise>(alloc, &version).expect(rt, "memory");
+    match (files, row.1) {
+        (Some(files), Some(wanted)) => are_numbers(&files, wanted),
+        (None, None) => true,
+        _ => false,
     }
 }
 
 /// Whether the first file of a version is stated to have this table.
-fn first_is(alloc: Global, edit: &[u8], bytes: &[u8]) -> Result<bool, Fault> {
-    let version = version_of(alloc, edit)?;
-    let table = check::<Bytewise>(alloc, bytes)?;
-    let Some(files) = files_newest_first::<Bytewise>(alloc, &version)? else {
-        return Ok(false);
-    };
+fn first_is(rt: &impl Abort, alloc: Global, edit: &[u8], bytes: &[u8]) -> bool {
+    let version = version_of(rt, alloc, edit);
+    let table = check::<Bytewise>(alloc, bytes).expect(rt, "a table");
+    let files = all_files::<Bytewise>(alloc, &version).expect(rt, "memory");
+    let first = files.first().expect(rt, "a file");
     let next = version.next_file();
-    let Some(first) = files.first() else {
-        return Ok(false);
-    };
-    Ok(is_stated(next, first, bytes, table.smallest(), table.largest()))
+    is_stated(next, first.meta, bytes, table.smallest(), table.largest())
 }
 
 #[test]
-fn files_as_they_stand(rt: HostRuntime) -> Result<(), Fault> {
+fn files_as_they_stand(rt: HostRuntime) {
     for (place, row) in STANDING.iter().enumerate() {
-        assert!(rt; files_stand(rt.alloc(), row)?, "{place}");
+        assert!(rt; files_stand(&rt, rt.alloc(), row), "{place}");
     }
-    assert!(rt; first_is(rt.alloc(), TWO, U_AT_TEN)?);
-    assert!(rt; !first_is(rt.alloc(), TWO, U_AT_FIVE)?);
-    assert!(rt; !first_is(rt.alloc(), NO_NEXT, U_AT_TEN)?);
-    Ok(())
+    assert!(rt; first_is(&rt, rt.alloc(), TWO, U_AT_TEN));
+    assert!(rt; !first_is(&rt, rt.alloc(), TWO, U_AT_FIVE));
 }
 
 /// Tables in their order, a range of user keys, and whether the entries of each user key fall
@@ -356,118 +288,52 @@ type Falling = (
 
 const FALLING: &[Falling] = &[
     (&[U_AT_TEN, U_AT_FIVE], None, None, true),
-    (&[U_AT_FIVE, U_AT_TEN], None, None, false),
     (&[U_AT_FIVE, U_AT_TEN], Some(b"u"), Some(b"u\0"), false),
-    // The ranges have no entry.
+    // The range has no entry.
     (&[U_AT_FIVE, U_AT_TEN], None, Some(b"u"), true),
-    (&[U_AT_FIVE, U_AT_TEN], Some(b"v"), None, true),
-    (&[U_TWICE], None, None, false),
-    (&[], None, None, true),
 ];
 
 /// The cursor over a table.
-fn cursor(alloc: Global, bytes: &'static [u8]) -> Result<TableCursor<'static, Bytewise>, Fault> {
-    let table = table_of(alloc, (7, bytes))?.into_table();
-    TableCursor::new(alloc, &table)
+fn cursor(rt: &impl Abort, alloc: Global, bytes: &'static [u8]) -> TableCursor<'static, Bytewise> {
+    let table = table_of(rt, alloc, (7, bytes)).into_table();
+    TableCursor::new(alloc, &table).expect(rt, "memory")
 }
 
 /// Whether the entries of tables, read one after the other, fall in a range.
-fn fall(alloc: Global, row: &Falling) -> Result<bool, Fault> {
+fn fall(rt: &impl Abort, alloc: Global, row: &Falling) -> bool {
     let mut cursors = Vec::new(alloc);
     for bytes in row.0 {
-        cursors.push(cursor(alloc, bytes)?)?;
+        cursors.push(cursor(rt, alloc, bytes)).expect(rt, "memory");
     }
     let range = Range {
         lower: row.1,
         upper: row.2,
     };
-    falls_in(alloc, cursors, range)
+    falls_in(alloc, cursors, range).expect(rt, "memory")
 }
 
 #[test]
-fn entries_that_fall_in_a_range(rt: HostRuntime) -> Result<(), Fault> {
+fn entries_that_fall_in_a_range(rt: HostRuntime) {
     for (place, row) in FALLING.iter().enumerate() {
-        assert!(rt; fall(rt.alloc(), row)? == row.3, "{place}");
-    }
-    Ok(())
-}
-
-/// The next file of a version, a number, and whether it is below.
-const NEXT_FILES: &[(Option<u64>, u64, bool)] = &[
-    (Some(5), 4, true),
-    (Some(5), 5, false),
-    (Some(0), 0, false),
-    (Some(u64::MAX), u64::MAX - 1, true),
-    (None, 0, false),
-];
-
-#[test]
-fn numbers_below_the_next_file(rt: HostRuntime) {
-    for (next, number, wanted) in NEXT_FILES {
-        assert!(rt; is_below(*next, *number) == *wanted, "{next:?} {number}");
+        assert!(rt; fall(&rt, rt.alloc(), row) == row.3, "{place}");
     }
 }
 
-/// Versions, and their files by level and in version order: each level and number.
-const LISTED: &[(&[u8], &[(u64, u64)])] = &[
-    (TWO, &[(1, 8), (1, 7)]),
-    (AT_LEVEL_0, &[(0, 8), (0, 7)]),
-    (NEWER_FIRST, &[(0, 7), (0, 8)]),
-    (NEWER_BELOW, &[(1, 7), (2, 8)]),
-    (b"", &[]),
-];
-
-/// User keys, and whether a file that holds `u` alone may hold them.
-const USERS: &[(&[u8], bool)] = &[(b"u", true), (b"t", false), (b"u\0", false), (b"", false)];
-
-/// Whether a file may hold just the keys that it should.
-fn holds_as_wanted(file: &FileMeta) -> bool {
-    for (user, wanted) in USERS {
-        if may_hold::<Bytewise>(file, user) != *wanted {
-            return false;
-        }
-    }
-    true
-}
-
-/// Whether these are the files of a version, each of which holds `u` alone.
-fn are_listed(alloc: Global, edit: &[u8], wanted: &[(u64, u64)]) -> Result<bool, Fault> {
-    let version = version_of(alloc, edit)?;
-    let files = all_files::<Bytewise>(alloc, &version)?;
-    for (file, place) in files.iter().zip(wanted) {
-        if (file.level, file.meta.number) != *place || !holds_as_wanted(file.meta) {
-            return Ok(false);
-        }
-    }
-    Ok(files.len() == wanted.len())
+/// Whether the files of a version stand by level, and hold `u` alone.
+fn are_listed(rt: &impl Abort, alloc: Global) -> bool {
+    let version = version_of(rt, alloc, NEWER_FIRST);
+    let files = all_files::<Bytewise>(alloc, &version).expect(rt, "memory");
+    let first = files.first().expect(rt, "a file");
+    (files.len(), first.level, first.meta.number) == (2, 0, 7)
+        && may_hold::<Bytewise>(first.meta, b"u")
+        && !may_hold::<Bytewise>(first.meta, b"t")
 }
 
 #[test]
-fn files_by_level(rt: HostRuntime) -> Result<(), Fault> {
-    for (edit, wanted) in LISTED {
-        assert!(rt; are_listed(rt.alloc(), edit, wanted)?, "{wanted:?}");
-    }
-    Ok(())
-}
-
-/// A bound, the answer without one, and whether the user key `u` is before it.
-const BOUNDS: &[(Option<&[u8]>, bool, bool)] = &[
-    (Some(b"v"), false, true),
-    (Some(b"u\0"), false, true),
-    (Some(b"u"), true, false),
-    (Some(b"t"), true, false),
-    (None, true, true),
-    (None, false, false),
-];
-
-#[test]
-fn a_key_before_a_bound(rt: HostRuntime) -> Result<(), Fault> {
-    let key = InternalKey::parse(b"u\x01\x05\0\0\0\0\0\0")?;
-    for (bound, otherwise, wanted) in BOUNDS {
-        assert!(rt;
-            is_before::<Bytewise>(key, *bound, *otherwise) == *wanted,
-            "{bound:?}"
-        );
-    }
-    Ok(())
+fn files_keys_and_numbers(rt: HostRuntime) {
+    let key = InternalKey::parse(b"u\x01\x05\0\0\0\0\0\0").expect(&rt, "a key");
+    assert!(rt; are_listed(&rt, rt.alloc()));
+    assert!(rt; is_before::<Bytewise>(key, Some(b"v"), false));
+    assert!(rt; !is_before::<Bytewise>(key, Some(b"u"), true));
+    assert!(rt; is_below(Some(5), 4) && !is_below(Some(5), 5));
 }

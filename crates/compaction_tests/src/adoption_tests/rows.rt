@@ -1,7 +1,7 @@
 //! Outcomes that are installed, with the answers and the files left.
 
 use crate::store_tests::rows::{
-    AA, B, B_AA, DELETION_LEFT, FILE_ABOVE, Files, NINE, SHORTLEX, T_AND_V, TWO_ENTRIES, U4_DELETED,
+    AA, B, B_AA, DELETION_LEFT, FILE_ABOVE, Files, NINE, SHORTLEX, TWO_ENTRIES, U4_DELETED,
 };
 use adoption::Comparison;
 use coding::FaultName;
@@ -39,28 +39,10 @@ const SHORT_EDIT: &[u8] = b"\
     \x02\x03\x09\0\x03\x0b\x04\x04\x05\x01\x09u\x01\x02\0\0\0\0\0\0\x06\x01\x07\x07\x02\x0ap\x09u\0\
     \x04\0\0\0\0\0\0\x09u\0\x04\0\0\0\0\0\0";
 
-/// `edit: log 3, previous 0, next 11, last 4, pointer 1 u@2 put, delete 1 7, file 2 10 125 u@4 del
-/// .. u@2 put`
-const WHOLE_EDIT: &[u8] = b"\
-    \x02\x03\x09\0\x03\x0b\x04\x04\x05\x01\x09u\x01\x02\0\0\0\0\0\0\x06\x01\x07\x07\x02\x0a\x7d\x09\
-    u\0\x04\0\0\0\0\0\0\x09u\x01\x02\0\0\0\0\0\0";
-
 /// `edit: log 3, previous 0, next 21, last 4, pointer 1 u@2 put, delete 1 7, file 2 20 113 u@4 del
 /// .. u@4 del`
 const LATE_EDIT: &[u8] = b"\
     \x02\x03\x09\0\x03\x15\x04\x04\x05\x01\x09u\x01\x02\0\0\0\0\0\0\x06\x01\x07\x07\x02\x14q\x09u\0\
-    \x04\0\0\0\0\0\0\x09u\0\x04\0\0\0\0\0\0";
-
-/// `edit: log 3, previous 0, next 11, last 5, pointer 1 u@2 put, delete 1 7, file 2 10 113 u@4 del
-/// .. u@4 del`
-const NEWER_EDIT: &[u8] = b"\
-    \x02\x03\x09\0\x03\x0b\x04\x05\x05\x01\x09u\x01\x02\0\0\0\0\0\0\x06\x01\x07\x07\x02\x0aq\x09u\0\
-    \x04\0\0\0\0\0\0\x09u\0\x04\0\0\0\0\0\0";
-
-/// `edit: log 3, previous 0, next 11, last 4, pointer 1 u@2 put, delete 1 6, file 2 10 113 u@4 del
-/// .. u@4 del`
-const OTHER_EDIT: &[u8] = b"\
-    \x02\x03\x09\0\x03\x0b\x04\x04\x05\x01\x09u\x01\x02\0\0\0\0\0\0\x06\x01\x06\x07\x02\x0aq\x09u\0\
     \x04\0\0\0\0\0\0\x09u\0\x04\0\0\0\0\0\0";
 
 /// `edit: log 3, previous 0, next 12, last 4, pointer 1 aa@1 put, delete 1 7, file 2 10 114 b@2 put
@@ -122,14 +104,6 @@ pub(crate) const INSTALLED: &[Row] = &[
         ],
         ..OWN
     },
-    Row {
-        name: "what a snapshot keeps",
-        outcome: &[("EDIT", WHOLE_EDIT), ("000010.ldb", TWO_ENTRIES)],
-        comparison: Comparison::With(Snapshots::From(2)),
-        answer: Ok("output 10 125\ndeleted 1 7\ninstalled MANIFEST-000009\n"),
-        left: &[NINE, ("000010.ldb", TWO_ENTRIES)],
-        ..OWN
-    },
     // A compaction here would put both into one table.
     Row {
         name: "of another file size, by length first",
@@ -150,18 +124,12 @@ pub(crate) const INSTALLED: &[Row] = &[
     },
 ];
 
-/// Outcomes whose edit is refused.
-pub(crate) const REFUSED_EDITS: &[Row] = &[
+/// Outcomes that are refused for their edit, and for their outputs.
+pub(crate) const REFUSED_ROWS: &[Row] = &[
     Row {
         name: "no edit",
         outcome: &[("000010.ldb", U4_DELETED)],
         answer: Err(FaultName::Missing),
-        ..REFUSED
-    },
-    Row {
-        name: "an edit of an unknown tag",
-        outcome: &[("EDIT", b"\x08"), ("000010.ldb", U4_DELETED)],
-        answer: Err(FaultName::EditTag),
         ..REFUSED
     },
     Row {
@@ -171,30 +139,8 @@ pub(crate) const REFUSED_EDITS: &[Row] = &[
         ..REFUSED
     },
     Row {
-        name: "of a later version",
-        outcome: &[("EDIT", NEWER_EDIT), ("000010.ldb", U4_DELETED)],
-        answer: Err(FaultName::Apply),
-        ..REFUSED
-    },
-    Row {
-        name: "of other inputs",
-        outcome: &[("EDIT", OTHER_EDIT), ("000010.ldb", U4_DELETED)],
-        answer: Err(FaultName::Apply),
-        ..REFUSED
-    },
-];
-
-/// Outcomes whose outputs are refused.
-pub(crate) const REFUSED_OUTPUTS: &[Row] = &[
-    Row {
         name: "an entry too few",
         outcome: &[("EDIT", EMPTY_EDIT)],
-        answer: Err(FaultName::Lawless),
-        ..REFUSED
-    },
-    Row {
-        name: "an entry too many",
-        outcome: &[("EDIT", WHOLE_EDIT), ("000010.ldb", TWO_ENTRIES)],
         answer: Err(FaultName::Lawless),
         ..REFUSED
     },
@@ -202,18 +148,6 @@ pub(crate) const REFUSED_OUTPUTS: &[Row] = &[
         name: "snapshots above the last sequence",
         comparison: Comparison::With(Snapshots::Listed(&[5])),
         answer: Err(FaultName::SnapshotList),
-        ..REFUSED
-    },
-    Row {
-        name: "no output",
-        outcome: &[("EDIT", KEPT_EDIT)],
-        answer: Err(FaultName::Missing),
-        ..REFUSED
-    },
-    Row {
-        name: "an output that is no table",
-        outcome: &[("EDIT", KEPT_EDIT), ("000010.ldb", b"")],
-        answer: Err(FaultName::Short),
         ..REFUSED
     },
     Row {

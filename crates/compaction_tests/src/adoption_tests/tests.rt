@@ -1,10 +1,11 @@
 //! Outcomes that are installed in folders in memory.
 
-use crate::adoption_tests::rows::{INSTALLED, OWN, REFUSED_EDITS, REFUSED_OUTPUTS, Row};
+use crate::adoption_tests::rows::{INSTALLED, OWN, REFUSED_ROWS, Row};
 use crate::store_tests::rows::{CURRENT, Files, T_AND_V};
 use adoption::{AdoptionEnd, install_outcome};
 use coding::{Fault, FaultName};
 use folder::{Shelf, open};
+use std::alloc::Global;
 use std::test::*;
 use std::thread::Threads;
 use store::Open;
@@ -42,12 +43,12 @@ fn holds(folder: &Shelf<'_>, files: Files) -> bool {
 }
 
 /// Installs the outcome of a row in a folder.
-fn installed<'f, R: AllocGlobal + Threads + Sync>(
+fn installed<'f, R: Threads + Sync>(
     rt: &R,
+    alloc: Global,
     folder: Shelf<'f>,
     row: &Row,
 ) -> AdoptionEnd<Shelf<'f>> {
-    let alloc = rt.alloc();
     let mut folder = folder;
     let mut source = Shelf::new(alloc, row.outcome);
     match open(alloc, &mut folder) {
@@ -72,42 +73,24 @@ fn installed<'f, R: AllocGlobal + Threads + Sync>(
 }
 
 /// Whether the installation of a row has its answer and leaves its files.
-fn is_answered<R: AllocGlobal + Threads + Sync>(rt: &R, row: &Row) -> bool {
+fn is_answered<R: Threads + Sync>(rt: &R, alloc: Global, row: &Row) -> bool {
     let files = files_of(row);
-    let end = installed(rt, Shelf::new(rt.alloc(), &files), row);
+    let end = installed(rt, alloc, Shelf::new(alloc, &files), row);
     is_answer(&end.answer, row.answer) && holds(&end.folder, row.left)
 }
 
 /// Whether an outcome that was installed is refused if it is installed again, and the folder stays.
-fn is_refused_twice<R: AllocGlobal + Threads + Sync>(rt: &R, row: &Row) -> bool {
+fn is_refused_twice<R: Threads + Sync>(rt: &R, alloc: Global, row: &Row) -> bool {
     let files = files_of(row);
-    let first = installed(rt, Shelf::new(rt.alloc(), &files), row);
-    let second = installed(rt, first.folder, row);
+    let first = installed(rt, alloc, Shelf::new(alloc, &files), row);
+    let second = installed(rt, alloc, first.folder, row);
     is_answer(&second.answer, Err(FaultName::Apply)) && holds(&second.folder, row.left)
 }
 
 #[test]
 fn outcomes_that_are_installed(rt: HostRuntime) {
-    for row in INSTALLED {
-        assert!(rt; is_answered(&rt, row), "{}", row.name);
+    for row in INSTALLED.iter().chain(REFUSED_ROWS) {
+        assert!(rt; is_answered(&rt, rt.alloc(), row), "{}", row.name);
     }
-}
-
-#[test]
-fn edits_that_are_refused(rt: HostRuntime) {
-    for row in REFUSED_EDITS {
-        assert!(rt; is_answered(&rt, row), "{}", row.name);
-    }
-}
-
-#[test]
-fn outputs_that_are_refused(rt: HostRuntime) {
-    for row in REFUSED_OUTPUTS {
-        assert!(rt; is_answered(&rt, row), "{}", row.name);
-    }
-}
-
-#[test]
-fn outcomes_that_are_installed_twice(rt: HostRuntime) {
-    assert!(rt; is_refused_twice(&rt, &OWN));
+    assert!(rt; is_refused_twice(&rt, rt.alloc(), &OWN));
 }

@@ -10,7 +10,7 @@ use keep::Snapshots;
 pub(crate) type Parting = (u16, u16, u16);
 
 /// Into one range.
-pub(crate) const WHOLE: Parting = (0, 0, 0);
+const WHOLE: Parting = (0, 0, 0);
 
 /// Into three ranges, at `c` and `f`.
 const AT_C_AND_F: Parting = (0x6300, 0x0300, 2);
@@ -70,8 +70,6 @@ pub(crate) struct Row {
     pub wait: Wait,
     pub boards: u64,
     pub answer: Answer,
-    /// How many tables each group of outputs has, if there are several. Then no answer is named.
-    pub groups: &'static [usize],
 }
 
 /// What rows have if they say nothing else. Without tables there is no input.
@@ -90,7 +88,6 @@ const PLAIN: Row = Row {
     wait: Wait::ForNone,
     boards: 0,
     answer: Answer::Refused(FaultName::NoInput, None),
-    groups: &[],
 };
 
 /// Level 1, and the last sequence 4.
@@ -205,11 +202,6 @@ const SAME: &[u8] = b"\
 const A_U_AND_U: &[u8] = b"\
     \x07\0\x07\x7f\x09a\x01\x01\0\0\0\0\0\0\x09u\x01\x05\0\0\0\0\0\0\x07\0\x08r\x09u\x01\x09\0\0\0\
     \0\0\0\x09u\x01\x09\0\0\0\0\0\0";
-
-/// File 7 of level 0: `aa` to `cn` at 1, 66 user keys.
-/// `edit: file 0 7 983 aa@1 put .. cn@1 put`
-const AA_TO_CN_FILE: &[u8] =
-    b"\x07\0\x07\xd7\x07\x0aaa\x01\x01\0\0\0\0\0\0\x0acn\x01\x01\0\0\0\0\0\0";
 
 /// Rows that have tables and an edit.
 pub(crate) const WRITTEN: &[Row] = &[
@@ -352,16 +344,6 @@ pub(crate) const WRITTEN: &[Row] = &[
         ..PLAIN
     },
 ];
-
-/// A row of 66 outputs.
-pub(crate) const SIXTY_SIX: &Row = &Row {
-    name: "66 outputs",
-    files: AA_TO_CN_FILE,
-    tables: &[AA_TO_CN],
-    runs: &[(WHOLE, 1), (AT_C_AND_F, 4)],
-    groups: &[64, 2],
-    ..SMALLEST
-};
 
 /// The first sequence that no snapshot may have, 2^56 - 1.
 const TOO_HIGH: u64 = 72_057_594_037_927_935;

@@ -2,49 +2,45 @@
 
 use crate::compact_tests::gates::Held;
 use crate::compact_tests::rows::{Answer, Parting, REFUSED, Row, Run, WRITTEN};
-use crate::compact_tests::tables::A_F;
+use crate::compact_tests::tables::{A_F, U4_DELETED_U2};
+use crate::range_checks_tests::version_after;
 use coding::Fault;
-use compact::compact;
-use edit::{Outcome, Version, VersionEdit};
+use compact::{compact, matches_metadata};
+use edit::Outcome;
 use ikey::Bytewise;
 use keep::add_cursor;
 use pick::{Inputs, inputs};
 use request::Request;
 use split::{Range, Split};
 use std::alloc::Global;
+use std::process::Abort;
 use std::test::*;
 use std::thread::Threads;
 use table::{Options, check};
 
 /// The split into these ranges.
-pub(crate) fn split_of(
-    alloc: Global,
-    (first, step, count): Parting,
-) -> Result<Split<Bytewise>, Fault> {
+fn split_of(rt: &impl Abort, alloc: Global, (first, step, count): Parting) -> Split<Bytewise> {
     let mut keys = Vec::new(alloc);
     for place in 0..count {
         let key = place.wrapping_mul(step).wrapping_add(first).to_be_bytes();
         let len = if key[1] == 0 { 1 } else { 2 };
-        keys.push(Vec::from_slice(alloc, &key[..len])?)?;
+        let key = Vec::from_slice(alloc, &key[..len]).expect(rt, "memory");
+        keys.push(key).expect(rt, "memory");
     }
-    Split::from_keys(keys)
-}
-
-/// The version of the files of a row.
-fn version_of(alloc: Global, row: &Row) -> Result<Version, Fault> {
-    Version::empty(alloc).applied::<Bytewise>(VersionEdit::decode(alloc, row.files)?)
+    Split::from_keys(keys).expect(rt, "a split")
 }
 
 /// The inputs of a row.
-pub(crate) fn picked(alloc: Global, row: &Row) -> Result<Inputs, Fault> {
-    let mut picked = inputs::<Bytewise>(alloc, &version_of(alloc, row)?, row.from)?;
+fn picked(rt: &impl Abort, alloc: Global, row: &Row) -> Inputs {
+    let version = version_after(rt, alloc, row.files);
+    let mut picked = inputs::<Bytewise>(alloc, &version, row.from).expect(rt, "inputs");
     picked.level = row.level;
     picked.files.truncate(row.tables.len());
-    Ok(picked)
+    picked
 }
 
 /// The request of a row over these inputs.
-pub(crate) fn asked<'x>(row: &Row, picked: &'x Inputs) -> Request<'x> {
+fn asked<'x>(row: &Row, picked: &'x Inputs) -> Request<'x> {
     Request {
         picked,
         tables: row.tables,
@@ -62,15 +58,15 @@ pub(crate) fn asked<'x>(row: &Row, picked: &'x Inputs) -> Request<'x> {
 }
 
 /// What a compaction answers.
-pub(crate) fn answer_of<R: AllocGlobal + Threads + Sync>(
+fn answer_of<R: Threads + Sync + Abort>(
     rt: &R,
+    alloc: Global,
     row: &Row,
     (parting, workers): Run,
     gate: &Held,
 ) -> Result<Outcome, Fault> {
-    let alloc = rt.alloc();
-    let picked = picked(alloc, row)?;
-    let split = split_of(alloc, parting)?;
+    let picked = picked(rt, alloc, row);
+    let split = split_of(rt, alloc, parting);
     compact::<Bytewise, Held, R>(rt, alloc, &asked(row, &picked), &split, workers, gate)
 }
 
@@ -85,7 +81,7 @@ fn are_tables(tables: &[(u64, Vec<u8>)], wanted: &[(u64, &[u8])]) -> bool {
 }
 
 /// Whether an answer is this one.
-pub(crate) fn is_answer(answer: &Result<Outcome, Fault>, wanted: Answer) -> bool {
+fn is_answer(answer: &Result<Outcome, Fault>, wanted: Answer) -> bool {
     match (answer, wanted) {
         (Ok(outcome), Answer::Tables(tables, edit)) => {
             are_tables(&outcome.tables, tables)
@@ -97,10 +93,12 @@ pub(crate) fn is_answer(answer: &Result<Outcome, Fault>, wanted: Answer) -> bool
 }
 
 /// Whether a compaction has its answer in each run, and no job is let go too early.
-fn has_answer<R: AllocGlobal + Threads + Sync>(rt: &R, row: &Row) -> bool {
+fn has_answer<R: Threads + Sync + Abort>(rt: &R, alloc: Global, row: &Row) -> bool {
     for run in row.runs {
         let gate = Held::new(row.wait);
-        if !is_answer(&answer_of(rt, row, *run, &gate), row.answer) || !gate.has_held(row.boards) {
+        if !is_answer(&answer_of(rt, alloc, row, *run, &gate), row.answer)
+            || !gate.has_held(row.boards)
+        {
             return false;
         }
     }
@@ -108,22 +106,36 @@ fn has_answer<R: AllocGlobal + Threads + Sync>(rt: &R, row: &Row) -> bool {
 }
 
 /// How many cursors are made over the table of `a` and `f` for the range between two user keys.
-fn cursors_over(alloc: Global, lower: &[u8], upper: &[u8]) -> Result<usize, Fault> {
-    let table = check::<Bytewise>(alloc, A_F)?;
+fn cursors_over(rt: &impl Abort, alloc: Global, lower: &[u8], upper: &[u8]) -> usize {
+    let table = check::<Bytewise>(alloc, A_F).expect(rt, "a table");
     let range = Range {
         lower: Some(lower),
         upper: Some(upper),
     };
     let mut cursors = Vec::new(alloc);
-    add_cursor(alloc, &mut cursors, &table, range)?;
-    Ok(cursors.len())
+    add_cursor(alloc, &mut cursors, &table, range).expect(rt, "memory");
+    cursors.len()
+}
+
+/// Whether a table is as the first file of a row states.
+fn is_stated(rt: &impl Abort, alloc: Global, row: &Row, table: &[u8]) -> bool {
+    let picked = picked(rt, alloc, row);
+    let input = picked.files.first().expect(rt, "an input");
+    let table = check::<Bytewise>(alloc, table).expect(rt, "a table");
+    matches_metadata(&input.meta, &table)
 }
 
 #[test]
 fn one_answer_over_ranges_and_workers(rt: HostRuntime) {
     for row in WRITTEN.iter().chain(REFUSED) {
-        assert!(rt; has_answer(&rt, row), "{}", row.name);
+        assert!(rt; has_answer(&rt, rt.alloc(), row), "{}", row.name);
     }
-    assert!(rt; cursors_over(rt.alloc(), b"c", b"g") == Ok(1));
-    assert!(rt; cursors_over(rt.alloc(), b"g", b"z") == Ok(0));
+    assert!(rt;
+        cursors_over(&rt, rt.alloc(), b"c", b"g") == 1
+            && cursors_over(&rt, rt.alloc(), b"g", b"z") == 0
+    );
+    assert!(rt;
+        is_stated(&rt, rt.alloc(), &WRITTEN[0], U4_DELETED_U2)
+            && !is_stated(&rt, rt.alloc(), &WRITTEN[0], A_F)
+    );
 }

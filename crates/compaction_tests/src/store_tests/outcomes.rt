@@ -1,14 +1,13 @@
 //! Outcomes of folders in memory that are not installed, and the folders that they are written
 //! into.
 
-use crate::store_tests::rows::{
-    CURRENT, Files, KEPT, ONE_FILE, PLAIN, Row, TWO_ENTRIES, U4_DELETED,
-};
+use crate::store_tests::rows::{CURRENT, Files, KEPT, ONE_FILE, Row, TWO_ENTRIES, U4_DELETED};
 use crate::store_tests::tests::{MEMORY, files_of, holds};
 use coding::{Fault, FaultName};
 use edit::Outcome;
 use folder::{Failing, FolderFault, Shelf, open};
 use std::alloc::Global;
+use std::process::Abort;
 use std::test::*;
 use std::thread::Threads;
 use store::{
@@ -38,13 +37,8 @@ const NUMBER_300: &[u8] = b"\
     \x02\x03\x09\0\x03\xad\x02\x04\x04\x05\x01\x09u\x01\x02\0\0\0\0\0\0\x06\x01\x07\x07\x02\xac\
     \x02q\x09u\0\x04\0\0\0\0\0\0\x09u\0\x04\0\0\0\0\0\0";
 
-/// `edit: log 3, previous 0, next 18446744073709551615, last 4, pointer 1 u@2 put, delete 1 7`
-const NO_OUTPUT: &[u8] = b"\
-    \x02\x03\x09\0\x03\xff\xff\xff\xff\xff\xff\xff\xff\xff\x01\x04\x04\x05\x01\x09u\x01\x02\0\0\0\
-    \0\0\0\x06\x01\x07";
-
-/// The numbers that an installation gives, greater ones, and those that are not free. Next file is
-/// 9, which is the number of a later manifest.
+/// The numbers that an installation gives, greater ones, and one that is not free. Next file is 9,
+/// which is the number of a later manifest.
 const OUTCOMES: &[OutcomeRow] = &[
     OutcomeRow {
         row: &KEPT,
@@ -54,32 +48,11 @@ const OUTCOMES: &[OutcomeRow] = &[
     },
     OutcomeRow {
         row: &KEPT,
-        first: Some(10),
-        answer: Ok("output 10 113\ndeleted 1 7\nwritten EDIT\n"),
-        written: &[("000010.ldb", U4_DELETED), (EDIT, NUMBER_10)],
-    },
-    OutcomeRow {
-        row: &KEPT,
         first: Some(300),
         answer: Ok("output 300 113\ndeleted 1 7\nwritten EDIT\n"),
         written: &[("000300.ldb", U4_DELETED), (EDIT, NUMBER_300)],
     },
-    OutcomeRow {
-        row: &PLAIN,
-        first: Some(u64::MAX),
-        answer: Ok("deleted 1 7\nwritten EDIT\n"),
-        written: &[(EDIT, NO_OUTPUT)],
-    },
     NEXT_FILE,
-    OutcomeRow {
-        first: Some(0),
-        ..NEXT_FILE
-    },
-    // No number is left for next file.
-    OutcomeRow {
-        first: Some(u64::MAX),
-        ..NEXT_FILE
-    },
 ];
 
 /// That of next file as the first number.
@@ -93,13 +66,13 @@ const NEXT_FILE: OutcomeRow = OutcomeRow {
 const NO_FILES: Files = &[];
 
 /// The outcome of a row over a folder, with a test of its version or without.
-fn outcome_of<R: AllocGlobal + Threads + Sync>(
+fn outcome_of<R: Threads + Sync>(
     rt: &R,
+    alloc: Global,
     folder: &mut Shelf<'_>,
     asked: &OutcomeRow,
     is_tested: bool,
 ) -> Result<CompactionOutcome, Fault> {
-    let alloc = rt.alloc();
     let opened = open(alloc, folder)?;
     let (level, first, settings) = (asked.row.level, asked.first, &asked.row.settings);
     if is_tested {
@@ -113,25 +86,27 @@ fn outcome_of<R: AllocGlobal + Threads + Sync>(
 
 /// Whether an outcome is written as these files, by two calls each, one that names the edit, and
 /// one for the folder.
-fn is_written<R: AllocGlobal + Threads + Sync>(rt: &R, outcome: &Outcome, files: Files) -> bool {
-    let mut folder = Shelf::new(rt.alloc(), NO_FILES);
+fn is_written<R: Threads + Sync>(rt: &R, alloc: Global, outcome: &Outcome, files: Files) -> bool {
+    let mut folder = Shelf::new(alloc, NO_FILES);
     let answer = write_outcome(rt, &mut folder, outcome);
     answer == Ok(()) && holds(&folder, files) && folder.calls() == 2 * files.len() as u64 + 2
 }
 
 /// Whether the outcome of a row is its answer, and leaves its folder as it was.
-fn is_outcome<R: AllocGlobal + Threads + Sync>(
+fn is_outcome<R: Threads + Sync>(
     rt: &R,
+    alloc: Global,
     asked: &OutcomeRow,
     is_tested: bool,
 ) -> bool {
     let files = files_of(asked.row);
-    let mut folder = Shelf::new(rt.alloc(), &files);
-    let answer = outcome_of(rt, &mut folder, asked, is_tested);
+    let mut folder = Shelf::new(alloc, &files);
+    let answer = outcome_of(rt, alloc, &mut folder, asked, is_tested);
     folder.steps().is_empty()
         && match answer {
             Ok(made) => {
-                is_text(&made.lines, asked.answer) && is_written(rt, &made.outcome, asked.written)
+                is_text(&made.lines, asked.answer)
+                    && is_written(rt, alloc, &made.outcome, asked.written)
             }
             Err(fault) => asked.answer == Err(fault.name) && fault == Fault::of(fault.name),
         }
@@ -148,8 +123,16 @@ fn is_text(lines: &[u8], wanted: Result<&str, FaultName>) -> bool {
 #[test]
 fn outcomes_that_are_written(rt: HostRuntime) {
     for asked in OUTCOMES {
-        assert!(rt; is_outcome(&rt, asked, true), "{:?}", asked.first);
-        assert!(rt; is_outcome(&rt, asked, false), "{:?}", asked.first);
+        assert!(rt;
+            is_outcome(&rt, rt.alloc(), asked, true),
+            "{:?}",
+            asked.first
+        );
+        assert!(rt;
+            is_outcome(&rt, rt.alloc(), asked, false),
+            "{:?}",
+            asked.first
+        );
     }
 }
 
@@ -159,11 +142,10 @@ const CALLS: u64 = 6;
 
 /// Whether a failing call ends the writing of an outcome of one table, and the edit isn't there
 /// before the table is synced.
-fn ends_there<R: AllocGlobal + Threads + Sync>(rt: &R, call: u64) -> Result<bool, Fault> {
-    let alloc = rt.alloc();
+fn ends_there<R: Threads + Sync + Abort>(rt: &R, alloc: Global, call: u64) -> bool {
     let files = files_of(&KEPT);
     let mut database = Shelf::new(alloc, &files);
-    let made = outcome_of(rt, &mut database, &OUTCOMES[0], false)?;
+    let made = outcome_of(rt, alloc, &mut database, &OUTCOMES[0], false).expect(rt, "an outcome");
     let mut folder = Shelf::new(alloc, NO_FILES).failing(Failing {
         call,
         fault: FolderFault::Device,
@@ -171,17 +153,13 @@ fn ends_there<R: AllocGlobal + Threads + Sync>(rt: &R, call: u64) -> Result<bool
     });
     let answer = write_outcome(rt, &mut folder, &made.outcome);
     let has_edit = folder.file(EDIT).is_some();
-    Ok(
-        answer == Err(Fault::of(FaultName::Device))
-            && folder.calls() == call
-            && has_edit == (call > 5),
-    )
+    answer == Err(Fault::of(FaultName::Device)) && folder.calls() == call && has_edit == (call > 5)
 }
 
 #[test]
 fn an_outcome_that_is_half_written(rt: HostRuntime) {
     for call in 1..CALLS + 1 {
-        assert!(rt; ends_there(&rt, call) == Ok(true), "{call}");
+        assert!(rt; ends_there(&rt, rt.alloc(), call), "{call}");
     }
 }
 
@@ -193,18 +171,8 @@ struct FilesRow {
     answer: Result<&'static str, FaultName>,
 }
 
-/// The folder of one file, with its table under either name, both or none.
+/// The folder of one file, with its table under either name, and without it.
 const NEEDED: &[FilesRow] = &[
-    FilesRow {
-        files: &[
-            ("CURRENT", CURRENT),
-            ("MANIFEST-000005", ONE_FILE),
-            ("000007.ldb", TWO_ENTRIES),
-            ("000007.sst", CURRENT),
-        ],
-        level: 1,
-        answer: Ok("CURRENT\nMANIFEST-000005\n000007.ldb\n"),
-    },
     FilesRow {
         files: &[
             ("CURRENT", CURRENT),
@@ -214,42 +182,26 @@ const NEEDED: &[FilesRow] = &[
         level: 1,
         answer: Ok("CURRENT\nMANIFEST-000005\n000007.sst\n"),
     },
-    NO_TABLE,
     FilesRow {
-        level: 0,
-        answer: Err(FaultName::NoInput),
-        ..NO_TABLE
-    },
-    FilesRow {
-        level: 6,
-        answer: Err(FaultName::Level),
-        ..NO_TABLE
+        files: &[("CURRENT", CURRENT), ("MANIFEST-000005", ONE_FILE)],
+        level: 1,
+        answer: Err(FaultName::Missing),
     },
 ];
 
-/// That folder without the table.
-const NO_TABLE: FilesRow = FilesRow {
-    files: &[("CURRENT", CURRENT), ("MANIFEST-000005", ONE_FILE)],
-    level: 1,
-    answer: Err(FaultName::Missing),
-};
-
 /// Whether the files of a row are its answer.
-fn are_needed<R: AllocGlobal>(rt: &R, asked: &FilesRow) -> Result<bool, Fault> {
-    let alloc = rt.alloc();
+fn are_needed(rt: &impl Abort, alloc: Global, asked: &FilesRow) -> bool {
     let mut folder = Shelf::new(alloc, asked.files);
-    let opened = open(alloc, &mut folder)?;
-    Ok(
-        match files_to_compact(alloc, &mut folder, &opened, asked.level) {
-            Ok(lines) => is_text(&lines, asked.answer),
-            Err(fault) => asked.answer == Err(fault.name) && fault == Fault::of(fault.name),
-        },
-    )
+    let opened = open(alloc, &mut folder).expect(rt, "an open folder");
+    match files_to_compact(alloc, &mut folder, &opened, asked.level) {
+        Ok(lines) => is_text(&lines, asked.answer),
+        Err(fault) => asked.answer == Err(fault.name),
+    }
 }
 
 #[test]
 fn files_that_a_compaction_needs(rt: HostRuntime) {
     for asked in NEEDED {
-        assert!(rt; are_needed(&rt, asked) == Ok(true), "{}", asked.level);
+        assert!(rt; are_needed(&rt, rt.alloc(), asked));
     }
 }

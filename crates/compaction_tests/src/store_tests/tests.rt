@@ -10,6 +10,7 @@ use folder::{Failing, FolderFault, Opened, Shelf, file_numbers, open};
 use ikey::Bytewise;
 use keep::Snapshots;
 use std::alloc::Global;
+use std::process::Abort;
 use std::test::*;
 use std::thread::Threads;
 use store::{
@@ -36,20 +37,13 @@ pub(crate) fn files_of(row: &Row) -> [(&'static str, &'static [u8]); 4] {
 }
 
 /// What the compaction of a row answers over a folder.
-fn answer_of<R: AllocGlobal + Threads + Sync>(
+fn answer_of<R: Threads + Sync>(
     rt: &R,
+    alloc: Global,
     folder: &mut Shelf<'_>,
     row: &Row,
 ) -> Result<Vec<u8>, Fault> {
-    let step = compact_dir(
-        rt,
-        rt.alloc(),
-        folder,
-        row.level,
-        &row.settings,
-        MEMORY,
-        &Open,
-    )?;
+    let step = compact_dir(rt, alloc, folder, row.level, &row.settings, MEMORY, &Open)?;
     Ok(step.lines)
 }
 
@@ -63,13 +57,14 @@ fn is_answer(answer: &Result<Vec<u8>, Fault>, wanted: Result<&str, FaultName>) -
 }
 
 /// Whether the compaction of a row answers this over a folder.
-fn answers<R: AllocGlobal + Threads + Sync>(
+fn answers<R: Threads + Sync>(
     rt: &R,
+    alloc: Global,
     folder: &mut Shelf<'_>,
     row: &Row,
     wanted: Result<&str, FaultName>,
 ) -> bool {
-    is_answer(&answer_of(rt, folder, row), wanted)
+    is_answer(&answer_of(rt, alloc, folder, row), wanted)
 }
 
 /// Whether a folder holds these files.
@@ -83,42 +78,44 @@ pub(crate) fn holds(folder: &Shelf<'_>, files: Files) -> bool {
 }
 
 /// Whether the compaction of a row has its answer and leaves its files.
-fn is_compacted<R: AllocGlobal + Threads + Sync>(rt: &R, row: &Row) -> bool {
+fn is_compacted<R: Threads + Sync>(rt: &R, alloc: Global, row: &Row) -> bool {
     let files = files_of(row);
-    let mut folder = Shelf::new(rt.alloc(), &files);
-    answers(rt, &mut folder, row, row.answer) && holds(&folder, row.left)
+    let mut folder = Shelf::new(alloc, &files);
+    answers(rt, alloc, &mut folder, row, row.answer) && holds(&folder, row.left)
 }
 
 /// Whether two openings are of one manifest, with the same counters and as many files.
-fn are_same(alloc: Global, one: &Opened, other: &Opened) -> Result<bool, Fault> {
+fn are_same(rt: &impl Abort, alloc: Global, one: &Opened, other: &Opened) -> bool {
     let manifests = one.manifest == other.manifest && one.order == other.order;
     let counters = one.version.next_file() == other.version.next_file()
         && one.version.last_sequence() == other.version.last_sequence();
-    let numbers = file_numbers::<Bytewise>(alloc, &one.version)?;
-    let others = file_numbers::<Bytewise>(alloc, &other.version)?;
-    Ok(manifests && counters && numbers.as_slice() == others.as_slice())
+    let numbers = file_numbers::<Bytewise>(alloc, &one.version).expect(rt, "memory");
+    let others = file_numbers::<Bytewise>(alloc, &other.version).expect(rt, "memory");
+    manifests && counters && numbers.as_slice() == others.as_slice()
 }
 
 /// Whether the compaction of the inputs of a row alone has its answer and leaves its files. And
 /// whether what the folder is opened as after it is known without reading it.
-fn is_known_after<R: AllocGlobal + Threads + Sync>(rt: &R, row: &Row) -> Result<bool, Fault> {
+fn is_known_after<R: Threads + Sync + Abort>(rt: &R, alloc: Global, row: &Row) -> bool {
     let files = files_of(row);
-    let alloc = rt.alloc();
     let mut folder = Shelf::new(alloc, &files);
-    let opened = open(alloc, &mut folder)?;
+    let opened = open(alloc, &mut folder).expect(rt, "an open folder");
     let settings = &row.settings;
-    let step = compact_inputs(rt, alloc, &mut folder, &opened, row.level, settings, &Open)?;
-    let after = opened_after(alloc, &opened, &step)?;
-    let is_after = are_same(alloc, &after, &open(alloc, &mut folder)?)?;
-    Ok(is_answer(&Ok(step.lines), row.answer) && holds(&folder, row.left) && is_after)
+    let step = compact_inputs(rt, alloc, &mut folder, &opened, row.level, settings, &Open).expect(
+        rt,
+        "a compaction",
+    );
+    let after = opened_after(alloc, &opened, &step).expect(rt, "memory");
+    let again = open(alloc, &mut folder).expect(rt, "an open folder");
+    is_answer(&Ok(step.lines), row.answer)
+        && holds(&folder, row.left)
+        && are_same(rt, alloc, &after, &again)
 }
 
 #[test]
 fn inputs_that_are_compacted_alone(rt: HostRuntime) {
     for row in ROWS {
-        if row.answer.is_ok() {
-            assert!(rt; is_known_after(&rt, row) == Ok(true), "{}", row.name);
-        }
+        assert!(rt; is_known_after(&rt, rt.alloc(), row), "{}", row.name);
     }
 }
 
@@ -151,27 +148,27 @@ impl InstallWatch for Collected {
 }
 
 /// How the compaction of all levels of a folder ends.
-fn descent<R: AllocGlobal + Threads + Sync>(
+fn descent<R: Threads + Sync>(
     rt: &R,
+    alloc: Global,
     folder: &mut Shelf<'_>,
     settings: &Settings<'_>,
     told: &mut Collected,
 ) -> Result<DescentEnd, Fault> {
-    let alloc = rt.alloc();
     let opened = open(alloc, folder)?;
     compact_all(rt, alloc, folder, opened, settings, MEMORY, &Open, told)
 }
 
 /// Whether all levels of the folder of a row are compacted so.
-fn is_descent<R: AllocGlobal + Threads + Sync>(rt: &R, row: &Descent) -> bool {
+fn is_descent<R: Threads + Sync>(rt: &R, alloc: Global, row: &Descent) -> bool {
     let files = files_of(&KEPT);
     let count = row.files.min(files.len());
-    let mut folder = Shelf::new(rt.alloc(), &files[..count]);
+    let mut folder = Shelf::new(alloc, &files[..count]);
     let mut told = Collected {
-        lines: Vec::new(rt.alloc()),
+        lines: Vec::new(alloc),
         left: row.most,
     };
-    let answer = descent(rt, &mut folder, &DEFAULTS, &mut told);
+    let answer = descent(rt, alloc, &mut folder, &DEFAULTS, &mut told);
     is_end(answer, row) && told.has(row.lines) && holds(&folder, row.left)
 }
 
@@ -186,7 +183,7 @@ fn is_end(answer: Result<DescentEnd, Fault>, row: &Descent) -> bool {
 #[test]
 fn all_levels_that_are_compacted(rt: HostRuntime) {
     for row in DESCENTS {
-        assert!(rt; is_descent(&rt, row), "{}", row.lines);
+        assert!(rt; is_descent(&rt, rt.alloc(), row), "{}", row.lines);
     }
 }
 
@@ -201,7 +198,7 @@ fn are_defaults(settings: &Settings<'_>) -> bool {
 fn folders_that_are_compacted(rt: HostRuntime) {
     assert!(rt; are_defaults(&Settings::default()));
     for row in ROWS {
-        assert!(rt; is_compacted(&rt, row), "{}", row.name);
+        assert!(rt; is_compacted(&rt, rt.alloc(), row), "{}", row.name);
     }
 }
 
@@ -229,28 +226,29 @@ fn second(call: u64, is_half_done: bool) -> Result<&'static str, FaultName> {
 
 /// Whether the compaction of the deletion makes no further call after one that fails, and a second
 /// one goes on from what is left.
-fn ends_well<R: AllocGlobal + Threads + Sync>(
+fn ends_well<R: Threads + Sync>(
     rt: &R,
+    alloc: Global,
     call: u64,
     (fault, is_half_done, name): (FolderFault, bool, FaultName),
 ) -> bool {
     let row = &PLAIN;
     let files = files_of(row);
-    let mut folder = Shelf::new(rt.alloc(), &files).failing(Failing {
+    let mut folder = Shelf::new(alloc, &files).failing(Failing {
         call,
         fault,
         is_half_done,
     });
-    let is_refused = answers(rt, &mut folder, row, Err(name));
+    let is_refused = answers(rt, alloc, &mut folder, row, Err(name));
     let calls = folder.calls();
-    let goes_on = answers(rt, &mut folder, row, second(call, is_half_done));
+    let goes_on = answers(rt, alloc, &mut folder, row, second(call, is_half_done));
     is_refused && calls == call && goes_on
 }
 
 /// Whether this holds for each way in which a call fails.
-fn end_well<R: AllocGlobal + Threads + Sync>(rt: &R, call: u64) -> bool {
+fn end_well<R: Threads + Sync>(rt: &R, alloc: Global, call: u64) -> bool {
     for failure in FAILURES {
-        if !ends_well(rt, call, *failure) {
+        if !ends_well(rt, alloc, call, *failure) {
             return false;
         }
     }
@@ -260,6 +258,6 @@ fn end_well<R: AllocGlobal + Threads + Sync>(rt: &R, call: u64) -> bool {
 #[test]
 fn a_call_that_fails_ends_it(rt: HostRuntime) {
     for call in 1..CALLS + 1 {
-        assert!(rt; end_well(&rt, call), "{call}");
+        assert!(rt; end_well(&rt, rt.alloc(), call), "{call}");
     }
 }

@@ -164,15 +164,15 @@ fn tables_of(
 }
 
 /// Installs an outcome over a version in two groups.
-fn install_groups<R: AllocGlobal + Threads + Sync>(
+fn install_groups<R: Threads + Sync>(
     rt: &R,
+    alloc: Global,
     shelf: &mut Shelf<'_>,
     version: &Version,
     row: &Row,
     outcome: &Outcome,
     second: usize,
 ) -> Result<(), Fault> {
-    let alloc = rt.alloc();
     let manifest = manifest_bytes::<Bytewise>(alloc, version, &outcome.edit)?;
     let tables = outcome.tables.as_slice();
     let (first, rest) = tables.split_at(tables.len().saturating_sub(second));
@@ -182,16 +182,16 @@ fn install_groups<R: AllocGlobal + Threads + Sync>(
 }
 
 /// Installs the outcome of a row over a version.
-fn installed<R: AllocGlobal + Threads + Sync>(
+fn installed<R: Threads + Sync>(
     rt: &R,
+    alloc: Global,
     shelf: &mut Shelf<'_>,
     version: &Version,
     row: &Row,
 ) -> Result<(), Fault> {
-    let alloc = rt.alloc();
     let outcome = outcome_of(alloc, row)?;
     if let Some(second) = row.second {
-        return install_groups(rt, shelf, version, row, &outcome, second);
+        return install_groups(rt, alloc, shelf, version, row, &outcome, second);
     }
     install::<Bytewise, Shelf<'_>, R>(
         rt,
@@ -246,24 +246,24 @@ pub(crate) fn read_as(alloc: Global, folder: &mut Shelf<'_>) -> u64 {
 }
 
 /// Opens a folder, loads its tables and installs the outcome of a row.
-fn install_row<R: AllocGlobal + Threads + Sync>(
+fn install_row<R: Threads + Sync>(
     rt: &R,
+    alloc: Global,
     shelf: &mut Shelf<'_>,
     row: &Row,
 ) -> Result<(), Fault> {
-    let alloc = rt.alloc();
     let (version, _number) = opened(alloc, shelf)?;
-    installed(rt, shelf, &version, row)
+    installed(rt, alloc, shelf, &version, row)
 }
 
 /// The same, and then opens it and loads its tables again. The next file of what it reads as.
-fn round<R: AllocGlobal + Threads + Sync>(
+fn round<R: Threads + Sync>(
     rt: &R,
+    alloc: Global,
     shelf: &mut Shelf<'_>,
     row: &Row,
 ) -> Result<u64, Fault> {
-    let alloc = rt.alloc();
-    install_row(rt, shelf, row)?;
+    install_row(rt, alloc, shelf, row)?;
     let (_version, number) = opened(alloc, shelf)?;
     Ok(number)
 }
@@ -316,10 +316,9 @@ fn wrong_moment(
 }
 
 /// The first moment of the installation of a row at which a crash leaves what it should not.
-fn wrong_crash<R: AllocGlobal + Threads + Sync>(rt: &R, row: &Row) -> Option<usize> {
-    let alloc = rt.alloc();
+fn wrong_crash<R: Threads + Sync>(rt: &R, alloc: Global, row: &Row) -> Option<usize> {
     let mut shelf = Shelf::new(alloc, FILES);
-    if install_row(rt, &mut shelf, row).is_err() {
+    if install_row(rt, alloc, &mut shelf, row).is_err() {
         return Some(0);
     }
     wrong_moment(alloc, shelf.steps(), 0, (BEFORE, row.edited))
@@ -327,14 +326,13 @@ fn wrong_crash<R: AllocGlobal + Threads + Sync>(rt: &R, row: &Row) -> Option<usi
 
 /// Syncs a folder after a failure and installs again: the same outcome if it reads as the version
 /// before, the second outcome over the version with one output. What the folder then reads as.
-fn run_again<R: AllocGlobal + Threads + Sync>(rt: &R, shelf: &mut Shelf<'_>, row: &Row) -> u64 {
-    let alloc = rt.alloc();
+fn run_again<R: Threads + Sync>(rt: &R, alloc: Global, shelf: &mut Shelf<'_>, row: &Row) -> u64 {
     if shelf.sync_folder().is_err() {
         return 0;
     }
     match read_as(alloc, shelf) {
-        BEFORE => round(rt, shelf, row).unwrap_or(0),
-        10 => round(rt, shelf, SECOND).unwrap_or(0),
+        BEFORE => round(rt, alloc, shelf, row).unwrap_or(0),
+        10 => round(rt, alloc, shelf, SECOND).unwrap_or(0),
         other => other,
     }
 }
@@ -359,14 +357,14 @@ fn calls_of(row: &Row) -> u64 {
 /// Whether an installation ends at a call that fails. A crash then leaves the version before, or
 /// from the rename on either. The folder reads as the version before, or after the rename as the
 /// edited one. A second run goes on from there.
-fn ends_there<R: AllocGlobal + Threads + Sync>(
+fn ends_there<R: Threads + Sync>(
     rt: &R,
+    alloc: Global,
     shelf: &mut Shelf<'_>,
     row: &Row,
     failing: Failing,
 ) -> bool {
-    let alloc = rt.alloc();
-    let answer = install_row(rt, shelf, row);
+    let answer = install_row(rt, alloc, shelf, row);
     let rename = calls_of(row).saturating_sub(1);
     let is_renamed = failing.call > rename || (failing.call == rename && failing.is_half_done);
     let (read, again) = if is_renamed {
@@ -380,13 +378,12 @@ fn ends_there<R: AllocGlobal + Threads + Sync>(
     is_last(shelf, answer, failing)
         && (is_other || found(alloc, shelf.steps(), (BEFORE, row.edited)) == left)
         && read_as(alloc, shelf) == read
-        && run_again(rt, shelf, row) == again
+        && run_again(rt, alloc, shelf, row) == again
 }
 
 /// The first call of reading and installing a row for whose failure this is wrong: by the device or
 /// by memory, half done or not at all.
-fn wrong_failure<R: AllocGlobal + Threads + Sync>(rt: &R, row: &Row) -> Option<usize> {
-    let alloc = rt.alloc();
+fn wrong_failure<R: Threads + Sync>(rt: &R, alloc: Global, row: &Row) -> Option<usize> {
     let calls = calls_of(row);
     for way in 0..calls.saturating_mul(4) {
         let failing = Failing {
@@ -398,12 +395,8 @@ fn wrong_failure<R: AllocGlobal + Threads + Sync>(rt: &R, row: &Row) -> Option<u
             },
             is_half_done: way % 4 > 1,
         };
-        if !ends_there(
-            rt,
-            &mut Shelf::new(alloc, FILES).failing(failing),
-            row,
-            failing,
-        ) {
+        let mut shelf = Shelf::new(alloc, FILES).failing(failing);
+        if !ends_there(rt, alloc, &mut shelf, row, failing) {
             return Some(failing.call as usize);
         }
     }
@@ -418,8 +411,8 @@ fn is_none(rt: &impl Abort, wrong: Option<usize>, row: &Row) {
 #[test]
 fn crashes_and_calls_that_fail(rt: HostRuntime) {
     for row in ROWS {
-        is_none(&rt, wrong_crash(&rt, row), row);
-        is_none(&rt, wrong_failure(&rt, row), row);
+        is_none(&rt, wrong_crash(&rt, rt.alloc(), row), row);
+        is_none(&rt, wrong_failure(&rt, rt.alloc(), row), row);
     }
 }
 
@@ -433,13 +426,13 @@ const LAST_SYNC: Failing = Failing {
 /// The first moment at which a crash leaves what it should not, of a second run after an
 /// installation whose last call failed. After its sync of the folder, the tenth call, that is never
 /// the version before.
-fn wrong_after_the_last_sync<R: AllocGlobal + Threads + Sync>(
+fn wrong_after_the_last_sync<R: Threads + Sync>(
     rt: &R,
+    alloc: Global,
     shelf: &mut Shelf<'_>,
 ) -> Option<usize> {
-    let alloc = rt.alloc();
-    if install_row(rt, shelf, ONE).is_err()
-        && run_again(rt, shelf, ONE) == SECOND.edited
+    if install_row(rt, alloc, shelf, ONE).is_err()
+        && run_again(rt, alloc, shelf, ONE) == SECOND.edited
         && shelf.steps().len() == 19
     {
         wrong_moment(alloc, shelf.steps(), 20, (ONE.edited, SECOND.edited))
@@ -451,36 +444,11 @@ fn wrong_after_the_last_sync<R: AllocGlobal + Threads + Sync>(
 #[test]
 fn folder_not_synced_first(rt: HostRuntime) {
     let mut shelf = Shelf::new(rt.alloc(), FILES).failing(LAST_SYNC);
-    is_none(&rt, wrong_after_the_last_sync(&rt, &mut shelf), SECOND);
-}
-
-/// Whether the row's calls that write were made, none failed, and CURRENT names the new manifest.
-fn is_made(shelf: &Shelf<'_>, row: &Row) -> bool {
-    shelf.steps().len() as u64 == row.calls
-        && shelf.failures() == 0
-        && shelf.file("CURRENT") == Some(b"MANIFEST-000008\n".as_slice())
-}
-
-/// Whether an installation makes its calls and the folder then reads as the edited version; or it
-/// is refused as Memory, and leaves one of the two. Only one request for memory is refused.
-fn ends_well<R: AllocGlobal + Threads + Sync>(rt: &R, shelf: &mut Shelf<'_>, row: &Row) -> bool {
-    let alloc = rt.alloc();
-    match round(rt, shelf, row) {
-        Ok(number) => number == row.edited && is_made(shelf, row),
-        Err(fault) => {
-            let number = read_as(alloc, shelf);
-            fault.name == FaultName::Memory && (number == BEFORE || number == row.edited)
-        }
-    }
-}
-
-// With `rt try --test --fail-alloc N` the Nth request for memory is refused; without it none is.
-#[test]
-fn a_refused_growth_is_memory(rt: HostRuntime) {
-    for row in ROWS {
-        let mut shelf = Shelf::new(rt.alloc(), FILES);
-        assert!(rt; ends_well(&rt, &mut shelf, row), "of {} calls", row.calls);
-    }
+    is_none(
+        &rt,
+        wrong_after_the_last_sync(&rt, rt.alloc(), &mut shelf),
+        SECOND,
+    );
 }
 
 /// What another program may leave as CURRENT while the folder is open: that of another manifest,
@@ -496,23 +464,22 @@ fn replace(shelf: &mut Shelf<'_>, current: Option<&[u8]>) -> Result<(), FolderFa
 }
 
 /// Opens a folder, replaces CURRENT, and installs the outcome of a row.
-fn install_late<R: AllocGlobal + Threads + Sync>(
+fn install_late<R: Threads + Sync>(
     rt: &R,
+    alloc: Global,
     shelf: &mut Shelf<'_>,
     row: &Row,
     current: Option<&[u8]>,
 ) -> Result<(), Fault> {
-    let alloc = rt.alloc();
     let (version, _number) = opened(alloc, shelf)?;
     replace(shelf, current)?;
-    installed(rt, shelf, &version, row)
+    installed(rt, alloc, shelf, &version, row)
 }
 
 /// Whether it is refused as Changed, after all calls but the last two, and leaves that CURRENT.
-fn is_refused<R: AllocGlobal + Threads + Sync>(rt: &R, row: &Row, current: Option<&[u8]>) -> bool {
-    let alloc = rt.alloc();
+fn is_refused<R: Threads + Sync>(rt: &R, alloc: Global, row: &Row, current: Option<&[u8]>) -> bool {
     let mut shelf = Shelf::new(alloc, FILES);
-    let answer = install_late(rt, &mut shelf, row, current);
+    let answer = install_late(rt, alloc, &mut shelf, row, current);
     // The call that replaced CURRENT is counted too.
     answer == Err(Fault::of(FaultName::Changed))
         && shelf.calls() == calls_of(row).saturating_sub(1)
@@ -524,7 +491,11 @@ fn is_refused<R: AllocGlobal + Threads + Sync>(rt: &R, row: &Row, current: Optio
 fn current_that_changed(rt: HostRuntime) {
     for row in ROWS {
         for current in REPLACED {
-            assert!(rt; is_refused(&rt, row, *current), "of {} calls", row.calls);
+            assert!(rt;
+                is_refused(&rt, rt.alloc(), row, *current),
+                "of {} calls",
+                row.calls
+            );
         }
     }
 }

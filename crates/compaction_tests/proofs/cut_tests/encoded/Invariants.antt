@@ -1,7 +1,7 @@
 use Rattle.std.proofs.Common.{◌≡◌, map, take}
 use Rattle.cut.specs.Plan.{jobs, encoded_pieces}
 use Rattle.cut.specs.OutputPlan.{lists_in}
-use Rattle.compaction_tests.proofs.cut_tests.encoded_plans.encoded.Given as goal
+use Rattle.compaction_tests.proofs.cut_tests.encoded.Given as goal
 
 abbrev pub invariant-loop-job : goal.invariant-loop-job
 invariant-loop-job l =

@@ -1,7 +1,7 @@
 use Rattle.std.proofs.Common.{arith}
 use Rattle.cut.specs.OutputPlan.{lists_in}
 use Rattle.cut.proofs.Collected.{one_collected, all_collected}
-use Rattle.compaction_tests.proofs.cut_tests.encoded_plans.encoded.Goals as goal
+use Rattle.compaction_tests.proofs.cut_tests.encoded.Goals as goal
 
 pub loop-job-preserved : goal.loop-job-preserved
 loop-job-preserved c =

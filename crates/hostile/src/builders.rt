@@ -2,7 +2,8 @@
 //! the call is made again on it.
 
 use crate::cases::SMALLEST;
-use crate::fault::is_memory;
+use crate::fault::{is_memory, wanted};
+use crate::refusals::{allow, forbid};
 use crate::worked_bytes::{
     A_AT_ONE, A_AT_TWO, BLOCK, DELETION_LEFT, SHORT_RECORD, SNAPSHOT_NINE, TABLE_THREE_BLOCKS,
     VERSION_SEVEN,
@@ -18,6 +19,9 @@ use table::TableBuilder;
 /// The length from which a block gets no further entry.
 const BLOCK_LEN: usize = 4_096;
 
+/// The length of a block without an entry.
+const NO_ENTRY: usize = 8;
+
 /// The internal keys of `u` put at 9, 5 and 3.
 const THREE_KEYS: [&[u8; 9]; 3] = [
     b"u\x01\x09\0\0\0\0\0\0",
@@ -27,8 +31,17 @@ const THREE_KEYS: [&[u8; 9]; 3] = [
 
 /// Adds an entry to a block that is not full.
 #[tactic(auto, using(block::proofs::Sizes::fits_with_entry))]
-pub fn add_entry(builder: &mut BlockBuilder, key: &[u8; 9], value: &[u8; 1]) -> Result<(), Fault> {
+fn add_entry(
+    alloc: Global,
+    builder: &mut BlockBuilder,
+    key: &[u8; 9],
+    value: &[u8; 1],
+) -> Result<(), Fault> {
+    forbid(alloc);
     let estimate = builder.estimate();
+    let is_empty = builder.is_empty();
+    allow(alloc);
+    wanted(is_empty == (estimate == NO_ENTRY))?;
     if estimate >= BLOCK_LEN {
         return Err(Fault::of(FaultName::TooLarge));
     }
@@ -45,18 +58,25 @@ pub fn add_entry(builder: &mut BlockBuilder, key: &[u8; 9], value: &[u8; 1]) -> 
 /// The worked block, built.
 pub fn block_built(alloc: Global) -> Result<bool, Fault> {
     let mut builder = BlockBuilder::new(alloc, 16);
-    add_entry(&mut builder, &A_AT_TWO, b"x")?;
-    add_entry(&mut builder, &A_AT_ONE, b"y")?;
+    add_entry(alloc, &mut builder, &A_AT_TWO, b"x")?;
+    add_entry(alloc, &mut builder, &A_AT_ONE, b"y")?;
     Ok(builder.finish()?.as_slice() == BLOCK)
 }
 
 /// Adds an entry of the value `x` to a table, above its last one.
-pub fn add_row(builder: &mut TableBuilder<Bytewise>, key: &[u8; 9]) -> Result<(), Fault> {
+fn add_row(
+    alloc: Global,
+    builder: &mut TableBuilder<Bytewise>,
+    key: &[u8; 9],
+) -> Result<(), Fault> {
     let key = InternalKey::parse(key)?;
-    if !builder.is_above_last(&key) {
+    forbid(alloc);
+    let is_above = builder.is_above_last(&key);
+    let flushed = builder.flushed();
+    allow(alloc);
+    if !is_above {
         return Err(Fault::of(FaultName::Order));
     }
-    let flushed = builder.flushed();
     let answer = builder.add(key, b"x");
     if !is_memory(&answer) {
         return answer;
@@ -71,7 +91,7 @@ pub fn add_row(builder: &mut TableBuilder<Bytewise>, key: &[u8; 9]) -> Result<()
 pub fn table_built(alloc: Global) -> Result<bool, Fault> {
     let mut builder = TableBuilder::<Bytewise>::new(alloc, SMALLEST);
     for key in THREE_KEYS {
-        add_row(&mut builder, key)?;
+        add_row(alloc, &mut builder, key)?;
     }
     Ok(builder.finish()?.as_slice() == TABLE_THREE_BLOCKS)
 }
@@ -94,7 +114,7 @@ pub fn logged(alloc: Global) -> Result<bool, Fault> {
 }
 
 /// The version that the edit of these bytes makes of an empty one.
-pub fn version_of(alloc: Global, bytes: &[u8]) -> Result<Version, Fault> {
+fn version_of(alloc: Global, bytes: &[u8]) -> Result<Version, Fault> {
     Version::empty(alloc).applied::<Bytewise>(VersionEdit::decode(alloc, bytes)?)
 }
 
@@ -114,5 +134,22 @@ fn snapshot_of(alloc: Global, version: &Version) -> Result<Vec<u8>, Fault> {
 pub fn edited(alloc: Global) -> Result<bool, Fault> {
     let version = version_after(alloc)?;
     let snapshot = snapshot_of(alloc, &version)?;
-    Ok(snapshot.as_slice() == SNAPSHOT_NINE && version.next_file() == Some(10))
+    Ok(snapshot.as_slice() == SNAPSHOT_NINE && has_numbers(alloc, &version))
+}
+
+/// Whether these are the version's numbers, and there is a compact pointer of level 1 and none of
+/// level 2.
+fn has_numbers(alloc: Global, version: &Version) -> bool {
+    forbid(alloc);
+    let Some(pointer) = version.pointer(1) else {
+        return false;
+    };
+    let has_numbers = version.log_number() == Some(3)
+        && version.previous_log() == Some(0)
+        && version.next_file() == Some(10)
+        && version.last_sequence() == Some(4)
+        && pointer.as_key().user() == b"u".as_slice()
+        && version.pointer(2).is_none();
+    allow(alloc);
+    has_numbers
 }

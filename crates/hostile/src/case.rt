@@ -18,6 +18,7 @@ use table::Options;
 pub type Meta<'k> = (u64, u64, &'k [u8], &'k [u8]);
 
 /// A compaction and its expected answer.
+#[derive(Clone, Copy)]
 pub struct Case {
     pub level: u64,
     pub files: &'static [Meta<'static>],
@@ -33,6 +34,7 @@ pub struct Case {
 }
 
 /// The expected answer of a compaction.
+#[derive(Clone, Copy)]
 pub enum Want {
     /// Any outcome.
     Accepted,
@@ -82,7 +84,7 @@ fn no_inputs(alloc: Global, case: &Case) -> Result<Inputs, Fault> {
 }
 
 /// Adds a file of the inputs' level to them.
-pub fn add_file(alloc: Global, picked: &mut Inputs, file: &Meta<'_>) -> Result<(), Fault> {
+fn add_file(alloc: Global, picked: &mut Inputs, file: &Meta<'_>) -> Result<(), Fault> {
     let level = picked.level;
     let meta = meta_of(alloc, file)?;
     Ok(picked.files.push(InputFile { level, meta })?)

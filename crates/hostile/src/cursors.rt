@@ -3,6 +3,7 @@
 //! before the key or the range's end.
 
 use crate::fault::{is_memory, wanted};
+use crate::refusals::{allow, forbid};
 use crate::worked_bytes::{
     A_AT_ONE, A_AT_TWO, BLOCK, C_AT_ONE, TABLE_ABCDE, TABLE_ACE, TABLE_ACF, TABLE_BD,
 };
@@ -13,25 +14,29 @@ use merge::Merging;
 use std::alloc::Global;
 use table::{Cursor, TableCursor, check};
 
-/// The user key of a cursor's entry, if it has one.
-fn first<'a, S: Cursor<'a, Bytewise>>(cursor: &S) -> Option<u8> {
-    if !cursor.valid() {
-        return None;
-    }
-    cursor.key().user().first().copied()
+/// The user key of a cursor's entry, if it has one, whose value is `x`. It takes no memory.
+pub fn first<'a, S: Cursor<'a, Bytewise>>(alloc: Global, cursor: &S) -> Option<u8> {
+    forbid(alloc);
+    let first = if cursor.valid() && cursor.value() == b"x".as_slice() {
+        cursor.key().user().first().copied()
+    } else {
+        None
+    };
+    allow(alloc);
+    first
 }
 
 /// Takes a cursor past its entry, if it has one.
-fn step<'a, S: Cursor<'a, Bytewise>>(cursor: &mut S) -> Result<(), Fault> {
+fn step<'a, S: Cursor<'a, Bytewise>>(alloc: Global, cursor: &mut S) -> Result<(), Fault> {
     if !cursor.valid() {
         return Ok(());
     }
-    let user = first(cursor);
+    let user = first(alloc, cursor);
     let answer = cursor.advance();
     if !is_memory(&answer) {
         return answer;
     }
-    if !cursor.valid() || first(cursor) != user {
+    if !cursor.valid() || first(alloc, cursor) != user {
         return Err(Fault::of(FaultName::Lawless));
     }
     cursor.advance()
@@ -47,24 +52,35 @@ fn seek<'a, S: Cursor<'a, Bytewise>>(cursor: &mut S, user: u8) -> Result<(), Fau
     cursor.seek(InternalKey::parse(&target)?)
 }
 
-/// Whether a cursor has entries of just these user keys. It takes the cursor to its end.
-fn has_users<'a, S: Cursor<'a, Bytewise>>(cursor: &mut S, users: &[u8]) -> Result<bool, Fault> {
-    for user in users {
-        if first(cursor) != Some(*user) {
-            return Ok(false);
+/// More entries than the tables have together.
+const ENTRIES: usize = 9;
+
+/// The user keys of a cursor's entries to come. It takes the cursor to its end.
+fn users_left<'a, S: Cursor<'a, Bytewise>>(
+    alloc: Global,
+    cursor: &mut S,
+) -> Result<Vec<u8>, Fault> {
+    let mut users = Vec::new(alloc);
+    for _ in 0..ENTRIES {
+        if let Some(user) = first(alloc, cursor) {
+            users.push(user)?;
         }
-        step(cursor)?;
+        step(alloc, cursor)?;
     }
-    Ok(first(cursor) == None)
+    Ok(users)
 }
 
 /// Whether a cursor has entries of just these user keys after a step, a seek of `c` and one back to
 /// `a`.
-fn is_walked<'a, S: Cursor<'a, Bytewise>>(cursor: &mut S, users: &[u8]) -> Result<bool, Fault> {
-    step(cursor)?;
+fn is_walked<'a, S: Cursor<'a, Bytewise>>(
+    alloc: Global,
+    cursor: &mut S,
+    users: &[u8],
+) -> Result<bool, Fault> {
+    step(alloc, cursor)?;
     seek(cursor, b'c')?;
     seek(cursor, b'a')?;
-    has_users(cursor, users)
+    Ok(users_left(alloc, cursor)?.as_slice() == users)
 }
 
 /// A cursor over a table.
@@ -76,7 +92,7 @@ fn cursor_over<'a>(alloc: Global, bytes: &'a [u8]) -> Result<TableCursor<'a, Byt
 /// A cursor over five blocks, sought forwards and backwards.
 pub fn table_walked(alloc: Global) -> Result<bool, Fault> {
     let mut cursor = cursor_over(alloc, TABLE_ABCDE)?;
-    is_walked(&mut cursor, b"cde")
+    is_walked(alloc, &mut cursor, b"cde")
 }
 
 /// Cursors over these tables.
@@ -109,7 +125,7 @@ fn taken<'a>(
 pub fn merged(alloc: Global) -> Result<bool, Fault> {
     let mut cursors = cursors_over(alloc, &[TABLE_ACE, TABLE_BD, TABLE_ACF])?;
     let mut merging = taken(alloc, &mut cursors)?;
-    is_walked(&mut merging, b"ccdef")
+    is_walked(alloc, &mut merging, b"ccdef")
 }
 
 /// The user keys of a table's entries, and those of them that a seek, or the merge of a range,
@@ -134,24 +150,6 @@ const SOUGHT: &[Left<'static>] = &[
         kept: b"cf",
     },
 ];
-
-/// More entries than a worked table has.
-const ENTRIES: usize = 8;
-
-/// The user keys of a cursor's entries to come. It takes the cursor to its end.
-fn users_left<'a, S: Cursor<'a, Bytewise>>(
-    alloc: Global,
-    cursor: &mut S,
-) -> Result<Vec<u8>, Fault> {
-    let mut users = Vec::new(alloc);
-    for _ in 0..ENTRIES {
-        if let Some(user) = first(cursor) {
-            users.push(user)?;
-        }
-        step(cursor)?;
-    }
-    Ok(users)
-}
 
 /// Whether a cursor has just the entries that are left; if memory was refused, maybe the last of
 /// those before them too.
@@ -197,21 +195,31 @@ pub fn sought(alloc: Global) -> Result<bool, Fault> {
     Ok(true)
 }
 
-/// Whether a cursor's entry is this one.
-fn is_at(cursor: &BlockCursor<'_>, key: &[u8; 9], value: &[u8; 1]) -> bool {
-    cursor.valid() && cursor.key() == key.as_slice() && cursor.value() == value.as_slice()
+/// Whether a cursor's entry is this one. It takes no memory.
+fn is_at(alloc: Global, cursor: &BlockCursor<'_>, key: &[u8; 9], value: &[u8; 1]) -> bool {
+    forbid(alloc);
+    let is_at = cursor.valid()
+        && cursor.key() == key.as_slice()
+        && cursor.value() == value.as_slice();
+    allow(alloc);
+    is_at
 }
 
 /// Takes a cursor past this entry. Lawless if it has another or none.
-fn pass(cursor: &mut BlockCursor<'_>, key: &[u8; 9], value: &[u8; 1]) -> Result<(), Fault> {
-    if !cursor.valid() || !is_at(cursor, key, value) {
+fn pass(
+    alloc: Global,
+    cursor: &mut BlockCursor<'_>,
+    key: &[u8; 9],
+    value: &[u8; 1],
+) -> Result<(), Fault> {
+    if !cursor.valid() || !is_at(alloc, cursor, key, value) {
         return Err(Fault::of(FaultName::Lawless));
     }
     let answer = cursor.advance();
     if !is_memory(&answer) {
         return answer;
     }
-    if !cursor.valid() || !is_at(cursor, key, value) {
+    if !cursor.valid() || !is_at(alloc, cursor, key, value) {
         return Err(Fault::of(FaultName::Lawless));
     }
     cursor.advance()
@@ -219,8 +227,9 @@ fn pass(cursor: &mut BlockCursor<'_>, key: &[u8; 9], value: &[u8; 1]) -> Result<
 
 /// The worked block, walked.
 pub fn block_walked(alloc: Global) -> Result<bool, Fault> {
-    let mut cursor = BlockCursor::new(alloc, &block::check(BLOCK)?)?;
-    pass(&mut cursor, &A_AT_TWO, b"x")?;
-    pass(&mut cursor, &A_AT_ONE, b"y")?;
-    Ok(!cursor.valid())
+    let block = block::check(BLOCK)?;
+    let mut cursor = BlockCursor::new(alloc, &block)?;
+    pass(alloc, &mut cursor, &A_AT_TWO, b"x")?;
+    pass(alloc, &mut cursor, &A_AT_ONE, b"y")?;
+    Ok(!cursor.valid() && block.restarts() == 1)
 }

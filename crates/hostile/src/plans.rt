@@ -1,20 +1,22 @@
 //! Ranges merged, outputs planned and encoded, boards and splits.
 
+use crate::boards::{are_worked, is_closed};
 use crate::case::{picked, three_ranges};
 use crate::cases::{DELETION, SMALLEST};
 use crate::cursors::{Left, are_left, cursors_over};
 use crate::fault::{is_memory, wanted};
+use crate::refusals::{allow, forbid};
 use crate::worked_bytes::{TABLE_ABC, TABLE_ABCD, TABLE_ACF, TABLE_BD};
-use board::{Board, Tally};
+use board::Board;
 use coding::{Fault, FaultName};
 use cut::{Plan, plan};
 use ikey::Bytewise;
 use keep::{RangeRun, largest_rise, merge_range};
-use pick::Inputs;
+use pick::{Inputs, is_base};
 use split::Split;
 use std::alloc::Global;
 use std::thread::Threads;
-use table::{TableCursor, check};
+use table::{SoundTable, TableCursor, check};
 
 /// The run of a split's first range over a table, with all sequences from 1 on readable.
 fn first_run_of<'a>(
@@ -38,7 +40,7 @@ fn run_of<'a>(alloc: Global, bytes: &'a [u8]) -> Result<RangeRun<'a>, Fault> {
 }
 
 /// The run of the one range over a table, as the runs of all ranges.
-pub fn runs_of<'a>(alloc: Global, bytes: &'a [u8]) -> Result<Vec<RangeRun<'a>>, Fault> {
+fn runs_of<'a>(alloc: Global, bytes: &'a [u8]) -> Result<Vec<RangeRun<'a>>, Fault> {
     let run = run_of(alloc, bytes)?;
     let mut runs = Vec::new(alloc);
     runs.push(run)?;
@@ -65,10 +67,14 @@ fn is_range_merged(
     split: &Split<Bytewise>,
     inputs: &Inputs,
 ) -> Result<bool, Fault> {
-    if split.len() != 3 || !largest_rise::<Bytewise>(&inputs.grandparents) {
+    forbid(alloc);
+    let are_ruled = is_base::<Bytewise>(inputs, b"s") && !is_base::<Bytewise>(inputs, b"u");
+    if !are_ruled || split.len() != 3 || !largest_rise::<Bytewise>(&inputs.grandparents) {
         return Ok(false);
     }
-    let answer = merge_range::<Bytewise, _>(alloc, cursors, split.range(1), &[], 1, inputs);
+    let range = split.range(1);
+    allow(alloc);
+    let answer = merge_range::<Bytewise, _>(alloc, cursors, range, &[], 1, inputs);
     wanted(are_left(alloc, cursors, MERGED, is_memory(&answer))?)?;
     Ok(answer?.len() == 2)
 }
@@ -81,15 +87,18 @@ pub fn range_merged(alloc: Global) -> Result<bool, Fault> {
     is_range_merged(alloc, &mut cursors, &split, &inputs)
 }
 
-/// Whether the outputs of a plan have 114 bytes each, and the numbers from 5 on.
-fn are_outputs(plan: &Plan<'_, '_, Bytewise>) -> bool {
+/// Whether the outputs of a plan have 114 bytes each, and numbers from 5 on. No memory is taken.
+fn are_outputs(alloc: Global, plan: &Plan<'_, '_, Bytewise>) -> bool {
+    forbid(alloc);
     for place in 0..plan.len() {
         let output = plan.output(place);
         if output.len != 114 || output.number != (place as u64).saturating_add(5) {
             return false;
         }
     }
-    plan.len() == 3
+    let are_all = plan.len() == 3 && plan.jobs() == 3;
+    allow(alloc);
+    are_all
 }
 
 /// Whether each piece of a plan has 26 bytes.
@@ -99,7 +108,7 @@ fn are_pieces(alloc: Global, plan: &Plan<'_, '_, Bytewise>) -> Result<bool, Faul
             return Ok(false);
         }
     }
-    Ok(plan.jobs() == 3)
+    Ok(true)
 }
 
 /// Whether the plan of runs of three entries, each a block and an output, is right, and its pieces
@@ -111,7 +120,7 @@ fn is_planned<R: AllocGlobal + Threads + Sync>(
     let alloc = rt.alloc();
     let plan = plan::<Bytewise, R>(rt, alloc, runs, &[], SMALLEST, 5, 1)?;
     let are_pieces = are_pieces(alloc, &plan)?;
-    Ok(are_pieces && are_outputs(&plan))
+    Ok(are_pieces && are_outputs(alloc, &plan))
 }
 
 /// Three entries, merged in one range and planned as three outputs by one worker.
@@ -122,20 +131,31 @@ pub fn planned<R: AllocGlobal + Threads + Sync>(rt: &R) -> Result<bool, Fault> {
 
 /// Two ranges, chosen from four index keys: the boundary is the third.
 pub fn chosen(alloc: Global) -> Result<bool, Fault> {
-    let tables = [check::<Bytewise>(alloc, TABLE_ABCD)?];
+    let table = check::<Bytewise>(alloc, TABLE_ABCD)?;
+    if !is_from_a_to_d(alloc, &table) {
+        return Ok(false);
+    }
+    let tables = [table];
     let split = Split::choose(alloc, &tables, 2)?;
     Ok(split.len() == 2 && split.range(0).upper == Some(b"c".as_slice()))
 }
 
-/// A board of three jobs and two seats, closed before a job is drawn.
+/// Whether a table has the keys from `a` to `d`. It takes no memory.
+fn is_from_a_to_d(alloc: Global, table: &SoundTable<'_, Bytewise>) -> bool {
+    forbid(alloc);
+    let is_right = table.bytes() == TABLE_ABCD
+        && table.smallest().user() == b"a".as_slice()
+        && table.largest().user() == b"d".as_slice();
+    allow(alloc);
+    is_right
+}
+
+/// A board of five jobs and five seats, on which jobs are done, failed and skipped. Only the board
+/// itself takes memory.
 pub fn seated(alloc: Global) -> Result<bool, Fault> {
-    let (board, seats) = Board::new(alloc, 3, 2)?;
-    let is_whole = seats.len() == 2;
-    let none = Tally {
-        done: 0,
-        failed: 0,
-        skipped: 0,
-        least: None,
-    };
-    Ok(is_whole && board.close(seats) == none)
+    let (board, mut seats) = Board::new(alloc, 5, 5)?;
+    forbid(alloc);
+    let is_right = are_worked(&board, &mut seats) && is_closed(board, seats);
+    allow(alloc);
+    Ok(is_right)
 }

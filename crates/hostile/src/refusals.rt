@@ -39,6 +39,9 @@ const THREADS: usize = NOTHING + (5 << 40);
 /// the last order.
 const IS_CHANGED: usize = NOTHING + (6 << 40);
 
+/// A request of this thread ends the program. It ends no order before.
+const FORBIDDEN: usize = NOTHING + (7 << 40);
+
 /// The largest number that an order has.
 const MOST: usize = (1 << 40) - 1;
 
@@ -74,6 +77,16 @@ pub fn was_refused(alloc: Global) -> bool {
 pub fn has_as_many(alloc: Global) -> bool {
     let _ = is_granted(alloc, IS_CHANGED);
     is_granted(alloc, 1)
+}
+
+/// From here on a request of this thread for memory ends the program.
+pub fn forbid(alloc: Global) {
+    let _ = is_granted(alloc, FORBIDDEN + 1);
+}
+
+/// From here on it doesn't.
+pub fn allow(alloc: Global) {
+    let _ = is_granted(alloc, FORBIDDEN);
 }
 
 /// Whether the library is there.

@@ -4,20 +4,16 @@
 //! memory to spare, and have to have the row's answer. The calls of one thread have to give back
 //! all memory that they took. Without the library that refuses, all is made once.
 
-use crate::bounded_memory::{version_asked, version_counted, version_scanned, version_tested};
 use crate::builders::{block_built, edited, logged, table_built};
-use crate::calls_without_memory::{blocks, board, numbers, plans, rules, tables, versions};
 use crate::case::{Case, carried, is_answer, picked, three_ranges};
 use crate::cursors::{block_walked, merged, sought, table_walked};
 use crate::fault::{is_memory, wanted};
-use crate::folders::{blocks_merged, folder_asked, folder_compacted, installed, table_dumped};
+use crate::folders::folder_asked;
 use crate::holding_gate::{Held, Wait, Wanting};
-use crate::outcomes::outcome_installed;
+use crate::numbers::numbers_read;
 use crate::plans::{chosen, planned, range_merged, seated};
 use crate::refusals::{Order, has_as_many, refuse, was_refused};
-use crate::requests::is_answered_of_many;
-use crate::rows::{Resting, Row, Workers};
-use crate::version_faults::faults_told;
+use crate::rows::{Compaction, Row, Workers};
 use anyhow::Result;
 use coding::{Fault, FaultName};
 use ikey::Bytewise;
@@ -41,7 +37,7 @@ const FEW_TURNS: u64 = 1_000;
 #[derive(Drop)]
 struct Asked<'x> {
     case: &'static Case,
-    workers: &'static Workers,
+    workers: Workers,
     picked: &'x Inputs,
     split: &'x Split<Bytewise>,
 }
@@ -49,12 +45,12 @@ struct Asked<'x> {
 /// What is called, with what is made once for all tries.
 #[derive(Drop)]
 enum Tried<'x> {
-    Row(&'static Row),
+    Row(Row),
     Asked(&'x Asked<'x>),
 }
 
 /// What is refused of a compaction by its workers.
-fn order_of(workers: &Workers, number: u64) -> Order {
+fn order_of(workers: Workers, number: u64) -> Order {
     match workers {
         Workers::Free | Workers::Held => Order::Request(number),
         Workers::Fewer => Order::Threads(number),
@@ -67,7 +63,6 @@ fn order_of(workers: &Workers, number: u64) -> Order {
 fn begin(alloc: Global, tried: &Tried<'_>, number: u64) {
     let order = match tried {
         _ if number == 0 => Order::Nothing,
-        Tried::Row(Row::Resting(_)) => Order::Nothing,
         Tried::Row(_) => Order::Request(number),
         Tried::Asked(asked) => order_of(asked.workers, number),
     };
@@ -75,7 +70,7 @@ fn begin(alloc: Global, tried: &Tried<'_>, number: u64) {
 }
 
 /// The gate of a compaction of which something is refused by its number.
-fn gate_of(alloc: Global, workers: &Workers, number: u64) -> Held {
+fn gate_of(alloc: Global, workers: Workers, number: u64) -> Held {
     let turns = if number == 0 { TURNS } else { FEW_TURNS };
     match workers {
         Workers::Free | Workers::Fewer => Held::new(alloc, None, None),
@@ -103,7 +98,7 @@ fn wait_of(held: u64, awaited: u64, turns: u64) -> Wait {
 }
 
 /// Whether the held job waited until the other one had ended, if there is a second worker.
-fn has_waited(workers: &Workers, number: u64, gate: &Held) -> bool {
+fn has_waited(workers: Workers, number: u64, gate: &Held) -> bool {
     match workers {
         Workers::Held if number > 0 => true,
         _ => gate.given_up.load(Ordering::SeqCst) == 0,
@@ -129,24 +124,11 @@ fn is_compacted<R: AllocGlobal + Threads + Sync>(
     is_answer(asked.case, answer)
 }
 
-/// Whether calls that take no memory have their answers.
-fn is_resting<R: AllocGlobal + Threads + Sync>(rt: &R, resting: &Resting) -> Result<bool, Fault> {
-    let alloc = rt.alloc();
-    match resting {
-        Resting::Numbers => numbers(alloc),
-        Resting::Blocks => blocks(alloc),
-        Resting::Tables => tables(alloc),
-        Resting::Rules => rules(alloc),
-        Resting::Plans => plans(rt),
-        Resting::Versions => versions(alloc),
-        Resting::Board => board(alloc),
-    }
-}
-
 /// Whether a row has its answer.
-fn is_right<R: AllocGlobal + Threads + Sync>(rt: &R, row: &Row) -> Result<bool, Fault> {
+fn is_right<R: AllocGlobal + Threads + Sync>(rt: &R, row: Row) -> Result<bool, Fault> {
     let alloc = rt.alloc();
     match row {
+        Row::Numbers => numbers_read(alloc),
         Row::Block => block_built(alloc),
         Row::Table => table_built(alloc),
         Row::Cursor => table_walked(alloc),
@@ -158,21 +140,8 @@ fn is_right<R: AllocGlobal + Threads + Sync>(rt: &R, row: &Row) -> Result<bool, 
         Row::Plan => planned(rt),
         Row::Split => chosen(alloc),
         Row::Board => seated(alloc),
-        Row::Install => installed(rt),
-        Row::Case(..) => Ok(false),
-        Row::Many(case, count) => is_answered_of_many(rt, case, *count),
-        Row::Blocks => blocks_merged(rt),
-        Row::Folder => folder_compacted(rt),
         Row::BlockCursor => block_walked(alloc),
-        Row::FolderAsked => folder_asked(rt),
-        Row::Groups => version_tested(rt),
-        Row::Rows => version_scanned(rt),
-        Row::Values => version_asked(rt),
-        Row::Counts => version_counted(rt),
-        Row::Faults => faults_told(rt),
-        Row::Outcome => outcome_installed(rt),
-        Row::Dump => table_dumped(alloc),
-        Row::Resting(resting) => is_resting(rt, resting),
+        Row::Folder => folder_asked(rt),
     }
 }
 
@@ -183,7 +152,7 @@ fn has_answer<R: AllocGlobal + Threads + Sync>(
     number: u64,
 ) -> Result<bool, Fault> {
     match tried {
-        Tried::Row(row) => is_right(rt, row),
+        Tried::Row(row) => is_right(rt, *row),
         Tried::Asked(asked) => is_compacted(rt, asked, number),
     }
 }
@@ -201,26 +170,10 @@ fn is_accepted(tried: &Tried<'_>, answer: &Result<bool, Fault>) -> bool {
     }
 }
 
-/// Whether memory is counted: of calls of one thread that give no order themselves. A thread that
-/// has ended leaves some to the C library.
+/// Whether memory is counted: of calls of one thread. A thread that has ended leaves some to the C
+/// library.
 fn is_counted(tried: &Tried<'_>) -> bool {
-    match tried {
-        Tried::Row(
-            Row::Resting(_)
-            | Row::Many(..)
-            | Row::Blocks
-            | Row::Folder
-            | Row::FolderAsked
-            | Row::Groups
-            | Row::Rows
-            | Row::Values
-            | Row::Counts
-            | Row::Faults
-            | Row::Outcome,
-        ) => false,
-        Tried::Row(_) => true,
-        Tried::Asked(_) => false,
-    }
+    !matches!(tried, Tried::Row(Row::Folder) | Tried::Asked(_))
 }
 
 /// Makes the calls while something is refused by its number. If something was, makes them again.
@@ -260,7 +213,7 @@ fn refused_in_turn<R: AllocGlobal + Threads + Sync>(
 fn case_refused<R: AllocGlobal + Threads + Sync>(
     rt: &R,
     case: &'static Case,
-    workers: &'static Workers,
+    workers: Workers,
 ) -> Result<u64, Fault> {
     let picked = picked(rt.alloc(), case)?;
     let split = three_ranges(rt.alloc())?;
@@ -273,24 +226,40 @@ fn case_refused<R: AllocGlobal + Threads + Sync>(
     refused_in_turn(rt, &Tried::Asked(&asked))
 }
 
-/// Tests each row, and prints its text, and how many times something was refused. Lawless if
-/// nothing was although it `is_refused`: the row is the one after the last text.
-pub fn run<R: AllocGlobal + Print + Threads + Sync>(
+/// Prints the words for some calls, and how many times something was refused. Lawless if nothing
+/// was although it `is_refused`: the calls are those after the last line.
+fn print_count<R: Print>(rt: &R, words: &str, count: u64, is_refused: bool) -> Result<()> {
+    wanted(!is_refused || count > 0)?;
+    if count > 0 {
+        println!(rt; "{words}: {count} refused")?;
+    } else {
+        println!(rt; "{words}")?;
+    }
+    Ok(())
+}
+
+/// Tests each row, and prints it.
+pub fn run_rows<R: AllocGlobal + Print + Threads + Sync>(
     rt: &R,
-    rows: &'static [(Row, &str)],
+    rows: &[(Row, &str)],
     is_refused: bool,
 ) -> Result<()> {
-    for (row, text) in rows {
-        let count = match row {
-            Row::Case(case, workers) => case_refused(rt, case, workers)?,
-            row => refused_in_turn(rt, &Tried::Row(row))?,
-        };
-        wanted(!is_refused || count > 0)?;
-        if count > 0 {
-            println!(rt; "{text}: {count} refused")?;
-        } else {
-            println!(rt; "{text}")?;
-        }
+    for (row, words) in rows {
+        let count = refused_in_turn(rt, &Tried::Row(*row))?;
+        print_count(rt, words, count, is_refused)?;
+    }
+    Ok(())
+}
+
+/// Tests each compaction, and prints it.
+pub fn run_compactions<R: AllocGlobal + Print + Threads + Sync>(
+    rt: &R,
+    rows: &[Compaction],
+    is_refused: bool,
+) -> Result<()> {
+    for (case, workers, words) in rows {
+        let count = case_refused(rt, *case, *workers)?;
+        print_count(rt, words, count, is_refused)?;
     }
     Ok(())
 }

@@ -1,4 +1,5 @@
-//! Rows of calls, and how many times a request of each is refused (`tries.rt`).
+//! Rows of calls that take memory, of which a request is refused by each number in turn
+//! (`refused_requests.rt`).
 //!
 //! | Row | Calls | Compared |
 //! |---|---|---|
@@ -9,23 +10,13 @@
 //! | three tables, sought (3) | `Merging`: `seek`, `into_cursors` | user keys left of each |
 //! | a range of two tables (3) | `merge_range` | user keys left of each, length |
 //! | a log | `append`, `records` | length, end, records |
-//! | an edit | `decode`, `applied`, `apply`, `snapshot_edit`, `encode` | bytes, next file |
+//! | an edit | `decode`, `applied`, `apply`, `snapshot_edit`, `encode` | bytes, numbers |
 //! | a range and a plan | `check`, `merge_range`, `plan`, `encode` | numbers, lengths |
 //! | a boundary | `check`, `Split::choose` | ranges, boundary |
-//! | a board | `Board::new` | seats, counts |
-//! | a folder, installed into (4) | `open`, `load`, `install` | table, version after |
-//! | compactions (5) | `compact`, two workers, three ranges | outcome, or `Trailer` |
-//! | two blocks | `blocks` | number of entries, block |
-//! | a folder is compacted (4) | `compact_dir` | lines |
+//! | a board | `Board::new` | seats, jobs, counts |
 //! | a block is walked (2) | `BlockCursor`: `new`, `advance` | entries |
-//! | a folder is asked (4) | `manifest`, `verify`, `get_dir`, `unverified_value` | lines |
-//! | a version in groups | `test_version` | files, entries |
-//! | rows in groups | `scan_unverified` | rows, of which the first may be told before a refusal |
-//! | values in groups (6) | `answer_opened` | lines |
-//! | counts in groups (6) | `version_stats` | amounts of each level |
-//! | faults in groups (6) | `all_faults` and their lines | lines, as of rows in groups |
-//! | an outcome (4) | `install_outcome` | lines, version after |
-//! | a table is dumped | `dump`, `progress_text` | lines, text |
+//! | a folder is asked | `manifest`, `verify`, `get_dir` | lines |
+//! | compactions (4) | `compact`, two workers, three ranges | outcome, or `Trailer` |
 //!
 //! If a call was refused, the next try makes all anew, except:
 //!
@@ -33,14 +24,74 @@
 //! 2. `advance`, `seek` and `take` are made again on the same cursors. After `advance` the entry
 //!    has to be the same.
 //! 3. The cursors may only have lost entries before the key, or before the end of the range.
-//! 4. The calls are made again on the same folder.
-//! 5. The next try has the same inputs and split.
-//! 6. The calls are made again on the same version and folder.
+//! 4. The next try has the same inputs and split.
+//!
+//! The cases `refused_memory` and `refused_compaction` of `tests/run` try the commands so.
+//!
+//! Calls that take no memory are made in these rows while a request ends the program:
+//!
+//! | Row | Calls |
+//! |---|---|
+//! | numbers and keys | `read_u32_varint`, `read_u64_varint`, `crc32c`, `mask`, `unmask` |
+//! | | `status`, `Comparator`: `name`, `compare`, `KeyBuf`: `as_key` |
+//! | | `InternalKey`: `parse`, `user`, `sequence`, `kind`, `compare` |
+//! | a block is built | `BlockBuilder`: `estimate`, `is_empty` |
+//! | a table is built | `TableBuilder`: `flushed`, `is_above_last` |
+//! | those that walk | `valid`, `key`, `value`, `SoundBlock::restarts` |
+//! | a range of two tables | `Split`: `len`, `range`, `is_base` |
+//! | an edit | `Version`: the numbers, `pointer` |
+//! | a range and a plan | `RangeRun`: `len`, `Plan`: `jobs`, `len`, `output` |
+//! | a boundary | `SoundTable`: `bytes`, `smallest`, `largest` |
+//! | a board | `Board`: `draw`, `done`, `fail`, `skip`, `least_fault`, `close` |
 
 use crate::case::Case;
 use crate::cases::{DELETION, FOUR_WORKERS, GRANDPARENTS, OUTPUTS, SPOILT, THIRD_SPOILT};
 
+/// What is called.
+#[derive(Clone, Copy)]
+pub enum Row {
+    Numbers,
+    Block,
+    Table,
+    Cursor,
+    Merging,
+    Seek,
+    Range,
+    Log,
+    Edit,
+    Plan,
+    Split,
+    Board,
+    BlockCursor,
+    Folder,
+}
+
+/// The rows, but for compactions.
+pub const GROWTHS: &[(Row, &str)] = &[
+    (Row::Numbers, "  numbers and keys are read"),
+    (Row::Block, "  a block is built"),
+    (Row::Table, "  a table is built"),
+    (Row::Cursor, "  a table is walked"),
+    (Row::Merging, "  three tables are walked as one"),
+    (Row::Seek, "  three tables are sought as one"),
+    (Row::Range, "  a range of two tables is merged"),
+    (Row::Log, "  a log is written and read"),
+    (Row::Edit, "  an edit is read, applied and written"),
+    (
+        Row::Plan,
+        "  a range is merged, and its outputs planned and encoded",
+    ),
+    (Row::Split, "  a boundary is chosen"),
+    (Row::Board, "  a board is made and worked"),
+    (Row::BlockCursor, "  a block is walked"),
+    (
+        Row::Folder,
+        "  a folder is shown, verified and asked for a key",
+    ),
+];
+
 /// How the workers of a compaction do their jobs, and what is refused of it.
+#[derive(Clone, Copy)]
 pub enum Workers {
     /// Jobs are done as they come. A request for memory is refused.
     Free,
@@ -56,156 +107,43 @@ pub enum Workers {
     LastWants,
 }
 
-/// What is called.
-pub enum Row {
-    Block,
-    Table,
-    Cursor,
-    Merging,
-    Seek,
-    Range,
-    Log,
-    Edit,
-    Plan,
-    Split,
-    Board,
-    Install,
-    /// A compaction whose inputs and ranges have to be made.
-    Case(&'static Case, Workers),
-    /// A compaction of this many inputs.
-    Many(&'static Case, u32),
-    Blocks,
-    Folder,
-    BlockCursor,
-    FolderAsked,
-    Groups,
-    Rows,
-    Values,
-    Counts,
-    Faults,
-    Outcome,
-    Dump,
-    Resting(Resting),
-}
-
-/// Which calls that take no memory.
-pub enum Resting {
-    Numbers,
-    Blocks,
-    Tables,
-    Rules,
-    Plans,
-    Versions,
-    Board,
-}
+/// A compaction, how its workers do their jobs, and the words for it.
+pub type Compaction = (&'static Case, Workers, &'static str);
 
 /// The compaction of which threads are refused.
-pub const THREADS: &[(Row, &str)] = &[(Row::Case(FOUR_WORKERS, Workers::Fewer), "  three outputs")];
+pub const THREADS: &[Compaction] = &[(FOUR_WORKERS, Workers::Fewer, "  three outputs")];
 
-/// The calls that take no memory.
-pub const RESTING: &[(Row, &str)] = &[
+/// Compactions of which requests for memory are refused.
+pub const COMPACTIONS: &[Compaction] = &[
     (
-        Row::Resting(Resting::Numbers),
-        "  read_u32_varint, read_u64_varint\n  crc32c, crc32c_pair, mask, unmask\n  common_len\n  \
-            Fault: of, code, status\n  Bytewise, Shortlex: name, compare\n  InternalKey: parse, \
-            user, sequence, kind, bytes, Kind: number\n  InternalKey: compare\n  KeyBuf: as_key",
-    ),
-    (
-        Row::Resting(Resting::Blocks),
-        "  block::check, reopen, SoundBlock: copy, restarts\n  BlockCursor: none, valid, key, \
-            value, is_last\n  BlockBuilder: new, is_empty, estimate, last_key\n  TableBuilder: \
-            new, flushed, is_above_last",
-    ),
-    (
-        Row::Resting(Resting::Tables),
-        "  BlockHandle::read\n  SoundTable: bytes, smallest, largest\n  TableCursor: valid, key, \
-            value, least_place\n  Merging: valid, key, value, place",
-    ),
-    (
-        Row::Resting(Resting::Rules),
-        "  Snapshots: floor, listed\n  is_rising, largest_rise\n  is_base",
-    ),
-    (
-        Row::Resting(Resting::Plans),
-        "  RangeRun: len, key, value, marks\n  Split: from_keys, len, range\n  Plan: is_empty, \
-            jobs, len, output",
-    ),
-    (
-        Row::Resting(Resting::Versions),
-        "  Version: empty, log_number, previous_log, next_file, last_sequence\n  Version: pointer",
-    ),
-    (
-        Row::Resting(Resting::Board),
-        "  Board: draw, skip, done, fail, least_fault, close, Job: number",
-    ),
-];
-
-/// The calls that take memory.
-pub const GROWTHS: &[(Row, &str)] = &[
-    (Row::Block, "  a block is built"),
-    (Row::Table, "  a table is built"),
-    (Row::Cursor, "  a table is walked"),
-    (Row::Merging, "  three tables are walked as one"),
-    (Row::Seek, "  three tables are sought as one"),
-    (Row::Range, "  a range of two tables is merged"),
-    (Row::Log, "  a log is written and read"),
-    (Row::Edit, "  an edit is read, applied and written"),
-    (
-        Row::Plan,
-        "  a range is merged, and its outputs planned and encoded",
-    ),
-    (Row::Split, "  a boundary is chosen"),
-    (Row::Board, "  a board is made"),
-    (
-        Row::Install,
-        "  a folder is opened, read and installed into",
-    ),
-    (
-        Row::Case(DELETION, Workers::Free),
+        DELETION,
+        Workers::Free,
         "  compact: a hidden version, and a deletion that is kept",
     ),
     (
-        Row::Case(GRANDPARENTS, Workers::Free),
+        GRANDPARENTS,
+        Workers::Free,
         "  compact: three outputs, two ended by grandparents",
     ),
     (
-        Row::Case(OUTPUTS, Workers::Free),
+        OUTPUTS,
+        Workers::Free,
         "  compact: three outputs, ended by size",
     ),
-    (Row::Case(SPOILT, Workers::Free), "  compact: Trailer at 0"),
+    (SPOILT, Workers::Free, "  compact: Trailer at 0"),
     (
-        Row::Case(SPOILT, Workers::Held),
+        SPOILT,
+        Workers::Held,
         "  compact: Trailer at 0, held until input 2 was refused",
     ),
     (
-        Row::Case(THIRD_SPOILT, Workers::FirstWants),
+        THIRD_SPOILT,
+        Workers::FirstWants,
         "  compact: Memory at 0, held until input 2 was refused as Trailer",
     ),
     (
-        Row::Case(THIRD_SPOILT, Workers::LastWants),
+        THIRD_SPOILT,
+        Workers::LastWants,
         "  compact: Trailer at 2, held until input 5 was refused as Memory",
-    ),
-    (Row::Blocks, "  two blocks are merged"),
-    (Row::Folder, "  a folder is compacted"),
-    (Row::BlockCursor, "  a block is walked"),
-    (
-        Row::FolderAsked,
-        "  a folder is shown, verified and asked for a key",
-    ),
-    (Row::Groups, "  a version is tested in groups"),
-    (Row::Rows, "  the rows of a version are told in groups"),
-    (Row::Values, "  a version in groups is asked for values"),
-    (
-        Row::Counts,
-        "  the entries of a version are counted in groups",
-    ),
-    (
-        Row::Faults,
-        "  all that is wrong with a version is told in groups",
-    ),
-    (Row::Outcome, "  an outcome is tested and installed"),
-    (
-        Row::Dump,
-        "  a table is dumped, and a line of progress made",
     ),
 ];

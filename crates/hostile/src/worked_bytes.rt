@@ -49,10 +49,6 @@ pub const U_AT_ONE: [u8; 9] = *b"u\x01\x01\0\0\0\0\0\0";
 /// That of `u` at 2.
 pub const U_AT_TWO: [u8; 9] = *b"u\x01\x02\0\0\0\0\0\0";
 
-/// Where the blocks of a table of one entry end, with their types and checksums. The key has nine
-/// bytes, the value one.
-pub const BLOCK_ENDS: &[usize] = &[26, 39, 66];
-
 /// `table: a@1 put x`
 pub const TABLE: &[u8] = b"\
     \0\x09\x01a\x01\x01\0\0\0\0\0\0x\0\0\0\0\x01\0\0\0\0\x84\xdd\x88t\0\0\0\0\x01\0\0\0\0\xc0\xf2\
@@ -80,6 +76,13 @@ pub const TABLE_THREE_BLOCKS: &[u8] = b"\
     \x01\x05\0\0\0\0\0\0\x1a\x15\0\x09\x02u\x01\x03\0\0\0\0\0\04\x15\0\0\0\0\x0e\0\0\0\x1c\0\0\0\
     \x03\0\0\0\0\x9dI\x84TN\x08\x5b\x3a\0\0\0\0\0\0\0\0\0\0\0\0\0\0\0\0\0\0\0\0\0\0\0\0\0\0\0\0\0\
     \0\0\0\0\0\0\0W\xfb\x80\x8b\x24uG\xdb";
+
+/// `table: b@1 put x, a@1 put x`
+pub const TABLE_FALLING: &[u8] = b"\
+    \0\x09\x01b\x01\x01\0\0\0\0\0\0x\0\x09\x01a\x01\x01\0\0\0\0\0\0x\0\0\0\0\x01\0\0\0\0Qc\xee\x1c\
+    \0\0\0\0\x01\0\0\0\0\xc0\xf2\xa1\xb0\0\x09\x02a\x01\x01\0\0\0\0\0\0\0\x22\0\0\0\0\x01\0\0\0\0\
+    \xa5y\xbe\xbc\x27\x084\x16\0\0\0\0\0\0\0\0\0\0\0\0\0\0\0\0\0\0\0\0\0\0\0\0\0\0\0\0\0\0\0\0\0\0\
+    \0\0W\xfb\x80\x8b\x24uG\xdb";
 
 /// `table: b@1 put x`
 pub const TABLE_B_AT_ONE: &[u8] = b"\
@@ -131,17 +134,6 @@ pub const DELETION_LEFT: &[u8] = b"\
 /// The snapshot of the empty version.
 /// `edit: comparator leveldb.BytewiseComparator`
 pub const EMPTY_SNAPSHOT: &[u8] = b"\x01\x1aleveldb.BytewiseComparator";
-
-/// The snapshot of a version of one file at level 1: number 7 of 125 bytes, from a deletion of `u`
-/// at 4 to a value at 2.
-/// `edit: comparator leveldb.BytewiseComparator, file 1 7 125 u@4 del .. u@2 put`
-pub const ONE_FILE: &[u8] = b"\
-    \x01\x1aleveldb.BytewiseComparator\x07\x01\x07\x7d\x09u\0\x04\0\0\0\0\0\0\x09u\x01\x02\0\0\0\0\
-    \0\0";
-
-/// Log 3, previous log 0, next file 9, last sequence 4.
-/// `edit: log 3, previous 0, next 9, last 4`
-pub const NUMBERS: &[u8] = b"\x02\x03\x09\0\x03\x09\x04\x04";
 
 /// `log: comparator leveldb.BytewiseComparator, file 1 7 125 u@4 del .. u@2 put | log 3, previous
 /// 0, next 9, last 4`
@@ -291,10 +283,6 @@ pub const OUTPUTS_EDIT: &[u8] = b"\
     \x02\0\0\0\0\0\0\x09b\x01\x02\0\0\0\0\0\0\x07\x02\x07r\x09c\x01\x03\0\0\0\0\0\0\x09c\x01\x03\0\
     \0\0\0\0\0";
 
-/// Log 3, previous log 0, next file 10, last sequence 4, and file 7 of level 1 deleted.
-/// `edit: log 3, previous 0, next 10, last 4, delete 1 7`
-pub const NEXT_TEN: &[u8] = b"\x02\x03\x09\0\x03\x0a\x04\x04\x06\x01\x07";
-
 /// The snapshot of a version of one file at level 1, number 7, and log 3, previous log 0, next
 /// file 9, last sequence 4.
 /// `edit: comparator leveldb.BytewiseComparator, file 1 7 125 u@4 del .. u@2 put, log 3, previous
@@ -321,66 +309,3 @@ pub const VERSION_TEN: &[u8] = b"\
 /// What the record `x` adds to a log after a record of 32,754 bytes: an empty first fragment, and
 /// the last one.
 pub const SHORT_RECORD: &[u8] = b"dQ\xd0\xe9\0\0\x02,t\x1b\xd8\x01\0\x04x";
-
-/// `table: a@3 put -`
-pub const TABLE_A_AT_THREE: &[u8] = b"\
-    \0\x09\0a\x01\x03\0\0\0\0\0\0\0\0\0\0\x01\0\0\0\0E\xed\x3a\x01\0\0\0\0\x01\0\0\0\0\xc0\xf2\xa1\
-    \xb0\0\x09\x02a\x01\x03\0\0\0\0\0\0\0\x14\0\0\0\0\x01\0\0\0\0.\xe0\xc8\x85\x19\x08\x26\x16\0\0\
-    \0\0\0\0\0\0\0\0\0\0\0\0\0\0\0\0\0\0\0\0\0\0\0\0\0\0\0\0\0\0\0\0\0\0W\xfb\x80\x8b\x24uG\xdb";
-
-/// `table: u@9 put x`
-pub const TABLE_U_AT_NINE: &[u8] = b"\
-    \0\x09\x01u\x01\x09\0\0\0\0\0\0x\0\0\0\0\x01\0\0\0\0\xd4\x8b\x9dW\0\0\0\0\x01\0\0\0\0\xc0\xf2\
-    \xa1\xb0\0\x09\x02u\x01\x09\0\0\0\0\0\0\0\x15\0\0\0\0\x01\0\0\0\0\x9e\xd1\0\xe5\x1a\x08\x27\
-    \x16\0\0\0\0\0\0\0\0\0\0\0\0\0\0\0\0\0\0\0\0\0\0\0\0\0\0\0\0\0\0\0\0\0\0\0\0W\xfb\x80\x8b\x24u\
-    G\xdb";
-
-/// `table: u@7 put y`
-pub const TABLE_U_AT_SEVEN: &[u8] = b"\
-    \0\x09\x01u\x01\x07\0\0\0\0\0\0y\0\0\0\0\x01\0\0\0\0\x99\x3f\x86\xc4\0\0\0\0\x01\0\0\0\0\xc0\
-    \xf2\xa1\xb0\0\x09\x02u\x01\x07\0\0\0\0\0\0\0\x15\0\0\0\0\x01\0\0\0\0\x92A\xbc\x1b\x1a\x08\x27\
-    \x16\0\0\0\0\0\0\0\0\0\0\0\0\0\0\0\0\0\0\0\0\0\0\0\0\0\0\0\0\0\0\0\0\0\0\0\0W\xfb\x80\x8b\x24u\
-    G\xdb";
-
-/// `table: a@1 put -, u@1 put -`
-pub const TABLE_A_AND_U: &[u8] = b"\
-    \0\x09\0a\x01\x01\0\0\0\0\0\0\0\x09\0u\x01\x01\0\0\0\0\0\0\0\0\0\0\x01\0\0\0\0eBSN\0\0\0\0\x01\
-    \0\0\0\0\xc0\xf2\xa1\xb0\0\x09\x02u\x01\x01\0\0\0\0\0\0\0\x20\0\0\0\0\x01\0\0\0\0\x1c\xd1\xa6\
-    \x07\x25\x082\x16\0\0\0\0\0\0\0\0\0\0\0\0\0\0\0\0\0\0\0\0\0\0\0\0\0\0\0\0\0\0\0\0\0\0\0\0W\xfb\
-    \x80\x8b\x24uG\xdb";
-
-/// `table: b@2 put -`
-pub const TABLE_B_NO_VALUE: &[u8] = b"\
-    \0\x09\0b\x01\x02\0\0\0\0\0\0\0\0\0\0\x01\0\0\0\0\xdb\xafB\xec\0\0\0\0\x01\0\0\0\0\xc0\xf2\xa1\
-    \xb0\0\x09\x02b\x01\x02\0\0\0\0\0\0\0\x14\0\0\0\0\x01\0\0\0\0\xe4B\x20y\x19\x08\x26\x16\0\0\0\
-    \0\0\0\0\0\0\0\0\0\0\0\0\0\0\0\0\0\0\0\0\0\0\0\0\0\0\0\0\0\0\0\0\0W\xfb\x80\x8b\x24uG\xdb";
-
-/// Files of several ranges of user keys, one of which reaches over all.
-/// `edit: comparator leveldb.BytewiseComparator, log 3, previous 0, next 20, last 10, file 0 13 114
-/// u@9 put .. u@9 put, file 1 10 113 a@3 put .. a@3 put, file 1 11 113 b@2 put .. b@2 put, file 1
-/// 12 114 u@7 put .. u@7 put, file 2 9 125 a@1 put .. u@1 put`
-pub const SEVERAL_RANGES: &[u8] = b"\
-    \x01\x1aleveldb.BytewiseComparator\x02\x03\x09\0\x03\x14\x04\x0a\x07\0\x0dr\x09u\x01\x09\0\0\0\
-    \0\0\0\x09u\x01\x09\0\0\0\0\0\0\x07\x01\x0aq\x09a\x01\x03\0\0\0\0\0\0\x09a\x01\x03\0\0\0\0\0\0\
-    \x07\x01\x0bq\x09b\x01\x02\0\0\0\0\0\0\x09b\x01\x02\0\0\0\0\0\0\x07\x01\x0cr\x09u\x01\x07\0\0\
-    \0\0\0\0\x09u\x01\x07\0\0\0\0\0\0\x07\x02\x09\x7d\x09a\x01\x01\0\0\0\0\0\0\x09u\x01\x01\0\0\0\
-    \0\0\0";
-
-/// Files of which those of level 1 have older entries of two user keys than those below.
-/// `edit: comparator leveldb.BytewiseComparator, log 3, previous 0, next 20, last 10, file 1 9 125
-/// a@1 put .. u@1 put, file 2 10 113 a@3 put .. a@3 put, file 2 11 113 b@2 put .. b@2 put, file 2
-/// 12 114 u@7 put .. u@7 put`
-pub const DISORDERED: &[u8] = b"\
-    \x01\x1aleveldb.BytewiseComparator\x02\x03\x09\0\x03\x14\x04\x0a\x07\x01\x09\x7d\x09a\x01\x01\
-    \0\0\0\0\0\0\x09u\x01\x01\0\0\0\0\0\0\x07\x02\x0aq\x09a\x01\x03\0\0\0\0\0\0\x09a\x01\x03\0\0\0\
-    \0\0\0\x07\x02\x0bq\x09b\x01\x02\0\0\0\0\0\0\x09b\x01\x02\0\0\0\0\0\0\x07\x02\x0cr\x09u\x01\x07\
-    \0\0\0\0\0\0\x09u\x01\x07\0\0\0\0\0\0";
-
-/// Log 3, previous log 0, next file 11, last sequence 4, and at level 1 a compact pointer of `u`
-/// at 2. File 7 of level 1 is deleted. At level 2 there is file 10 of 125 bytes from `u` at 4 to
-/// `u` at 2.
-/// `edit: log 3, previous 0, next 11, last 4, pointer 1 u@2 put, delete 1 7, file 2 10 125 u@4 del
-/// .. u@2 put`
-pub const TWICE_LEFT: &[u8] = b"\
-    \x02\x03\x09\0\x03\x0b\x04\x04\x05\x01\x09u\x01\x02\0\0\0\0\0\0\x06\x01\x07\x07\x02\x0a\x7d\x09\
-    u\0\x04\0\0\0\0\0\0\x09u\x01\x02\0\0\0\0\0\0";

@@ -1,21 +1,21 @@
 //! The calls that take bytes, each seen as bytes in and an answer out.
 
 use crate::case::{Case, Want, compacted, picked};
+use crate::cursors::first;
 use crate::fault::wanted;
 use crate::worked_bytes::{A_AT_ONE, CURRENT_FIVE, TABLE};
 use coding::{Fault, FaultName};
 use edit::{Outcome, VersionEdit};
 use folder::{Shelf, open};
-use ikey::{Bytewise, InternalKey};
+use ikey::Bytewise;
 use logrec::records;
 use std::alloc::Global;
 use std::thread::Threads;
-use table::{Cursor, Options, SoundTable, TableCursor};
+use table::{Options, SoundTable, TableCursor};
 
 /// A call that takes bytes.
+#[derive(Clone, Copy)]
 pub enum Call {
-    /// `InternalKey::parse`.
-    Key,
     /// `block::check`.
     Block,
     /// `table::check`.
@@ -66,17 +66,6 @@ fn refusal<T: Drop>(answer: Result<T, Fault>) -> Answer {
     }
 }
 
-/// Whether a cursor has an entry, and its value is `x`.
-fn is_x(cursor: &TableCursor<'_, Bytewise>) -> bool {
-    cursor.valid() && cursor.value() == b"x".as_slice()
-}
-
-/// Whether the first entry of a table has the value `x`.
-fn has_x(alloc: Global, table: &SoundTable<'_, Bytewise>) -> Result<bool, Fault> {
-    let cursor = TableCursor::new(alloc, table)?;
-    Ok(is_x(&cursor))
-}
-
 /// Whether the smallest and the largest key of a table are both `a` at 1.
 fn is_a_alone(table: &SoundTable<'_, Bytewise>) -> bool {
     table.smallest().bytes() == A_AT_ONE.as_slice()
@@ -87,8 +76,8 @@ fn is_a_alone(table: &SoundTable<'_, Bytewise>) -> bool {
 /// there is one entry if the smallest key is the largest.
 fn listed(alloc: Global, bytes: &[u8]) -> Result<(), Fault> {
     let table = table::check::<Bytewise>(alloc, bytes)?;
-    let is_value = has_x(alloc, &table)?;
-    wanted(is_value && is_a_alone(&table))
+    let cursor = TableCursor::new(alloc, &table)?;
+    wanted(first(alloc, &cursor) == Some(b'a') && is_a_alone(&table))
 }
 
 /// Compacts one input.
@@ -105,10 +94,9 @@ fn input_compacted<R: AllocGlobal + Threads + Sync>(
 }
 
 /// What a call answers to some bytes.
-pub fn answer<R: AllocGlobal + Threads + Sync>(rt: &R, call: &Call, bytes: &[u8]) -> Answer {
+pub fn answer<R: AllocGlobal + Threads + Sync>(rt: &R, call: Call, bytes: &[u8]) -> Answer {
     let alloc = rt.alloc();
     match call {
-        Call::Key => refusal(InternalKey::parse(bytes)),
         Call::Block => refusal(block::check(bytes)),
         Call::Table => refusal(table::check::<Bytewise>(alloc, bytes)),
         Call::List => refusal(listed(alloc, bytes)),

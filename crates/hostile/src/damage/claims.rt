@@ -1,10 +1,18 @@
-//! Lengths that exceed what is there.
+//! Few bytes that claim many more.
+//!
+//! No theorem says how much memory a call asks for. So they are also made with memory for little
+//! more than the bytes: then a call that asks for what is claimed is refused as Memory.
 
-use crate::damage::call::Call;
-use crate::damage::row::Expected::Only;
-use crate::damage::row::Source::Plain;
-use crate::damage::row::{Row, Way};
-use coding::FaultName::{Block, EditField, LogShape, Range};
+use crate::damage::call::{Answer, Call, answer};
+use crate::damage::print_answer;
+use crate::damage::source::Source;
+use crate::damage::source::Source::{Changed, Ended, Plain};
+use crate::fault::wanted;
+use crate::refusals::{Order, refuse, was_refused};
+use anyhow::Result;
+use coding::Fault;
+use std::alloc::Global;
+use std::thread::Threads;
 
 /// The greatest number that four bytes hold.
 const FOUR_BYTES: usize = u32::MAX as usize;
@@ -12,333 +20,242 @@ const FOUR_BYTES: usize = u32::MAX as usize;
 /// The greatest that two bytes hold.
 const TWO_BYTES: usize = u16::MAX as usize;
 
-/// Few bytes that claim many more.
-pub const CLAIMS: &[Row] = &[
-    Row {
-        line: "block with a value of 2^32 - 1 bytes: Block",
-        call: Call::Block,
-        source: Plain(b"\0\x01\xff\xff\xff\xff\x0fa\0\0\0\0\x01\0\0\0"),
-        way: Way::Whole,
-        steps: 1,
-        claimed: FOUR_BYTES,
-        want: Only(Some(Block), 1),
-    },
-    Row {
-        line: "block with a key of 2^32 - 1 bytes: Block",
-        call: Call::Block,
-        source: Plain(b"\0\xff\xff\xff\xff\x0f\x01a\0\0\0\0\x01\0\0\0"),
-        way: Way::Whole,
-        steps: 1,
-        claimed: FOUR_BYTES,
-        want: Only(Some(Block), 1),
-    },
-    Row {
-        line: "block with 2^32 - 1 shared bytes: Block",
-        call: Call::Block,
-        source: Plain(b"\0\x01\0a\xff\xff\xff\xff\x0f\x01\0b\0\0\0\0\x01\0\0\0"),
-        way: Way::Whole,
-        steps: 1,
-        claimed: FOUR_BYTES,
-        want: Only(Some(Block), 1),
-    },
-    Row {
-        line: "block with 2^32 - 1 restarts: Block",
-        call: Call::Block,
-        source: Plain(b"\0\x01\0a\0\0\0\0\xff\xff\xff\xff"),
-        way: Way::Whole,
-        steps: 1,
-        claimed: FOUR_BYTES,
-        want: Only(Some(Block), 1),
-    },
-    Row {
-        line: "log of 65535 bytes: LogShape",
-        call: Call::Records,
-        source: Plain(b"\x05+(C\xff\xff\x01"),
-        way: Way::Whole,
-        steps: 1,
-        claimed: TWO_BYTES,
-        want: Only(Some(LogShape), 1),
-    },
-    Row {
-        line: "manifest of 65535 bytes: LogShape",
-        call: Call::Manifest,
-        source: Plain(b"\x05+(C\xff\xff\x01"),
-        way: Way::Whole,
-        steps: 1,
-        claimed: TWO_BYTES,
-        want: Only(Some(LogShape), 1),
-    },
-    Row {
-        line: "edit with a name of 2^32 - 1 bytes: EditField",
-        call: Call::Decode,
-        source: Plain(b"\x01\xff\xff\xff\xff\x0fa"),
-        way: Way::Whole,
-        steps: 1,
-        claimed: FOUR_BYTES,
-        want: Only(Some(EditField), 1),
-    },
-    Row {
-        line: "edit with a key of 2^32 - 1 bytes: EditField",
-        call: Call::Decode,
-        source: Plain(b"\x05\0\xff\xff\xff\xff\x0fu\x01\x02\0\0\0\0\0\0"),
-        way: Way::Whole,
-        steps: 1,
-        claimed: FOUR_BYTES,
-        want: Only(Some(EditField), 1),
-    },
-    Row {
-        line: "edit with a smallest key of 2^32 - 1 bytes: EditField",
-        call: Call::Decode,
-        source: Plain(b"\x07\x01\x07}\xff\xff\xff\xff\x0fu\x01\x02\0\0\0\0\0\0"),
-        way: Way::Whole,
-        steps: 1,
-        claimed: FOUR_BYTES,
-        want: Only(Some(EditField), 1),
-    },
-    Row {
-        line: "edit with a largest key of 2^32 - 1 bytes: EditField",
-        call: Call::Decode,
-        source: Plain(
-            b"\x07\x01\x07}\x09u\0\x04\0\0\0\0\0\0\xff\xff\xff\xff\x0fu\x01\x02\0\0\0\0\0\0",
+/// The longest table.
+const TABLE_LEN: usize = 1 << 30;
+
+/// The end of a table whose index says that its data block has 2^30 bytes. It begins with the
+/// length of the value in the index.
+const OF_2_TO_30: &[u8] =
+    b"\x06a\x01\x01\0\0\0\0\0\0\0\x80\x80\x80\x80\x04\0\0\0\0\x01\0\0\0\0\x27\xcb\x81\x98\x1a\x08\
+        \x27\x1a\0\0\0\0\0\0\0\0\0\0\0\0\0\0\0\0\0\0\0\0\0\0\0\0\0\0\0\0\0\0\0\0\0\0\0\0W\xfb\x80\
+        \x8b\x24uG\xdb";
+
+/// The same, of 2^64 - 1 bytes.
+const OF_A_FAR_END: &[u8] =
+    b"\x0ba\x01\x01\0\0\0\0\0\0\0\xff\xff\xff\xff\xff\xff\xff\xff\xff\x01\0\0\0\0\x01\0\0\0\0\x29g\
+        m\x7c\x1a\x08\x27\x1f\0\0\0\0\0\0\0\0\0\0\0\0\0\0\0\0\0\0\0\0\0\0\0\0\0\0\0\0\0\0\0\0\0\0\
+        \0\0W\xfb\x80\x8b\x24uG\xdb";
+
+/// The same, at 2^64 - 1 too.
+const OF_A_FAR_PLACE: &[u8] =
+    b"\x14a\x01\x01\0\0\0\0\0\0\xff\xff\xff\xff\xff\xff\xff\xff\xff\x01\xff\xff\xff\xff\xff\xff\
+        \xff\xff\xff\x01\0\0\0\0\x01\0\0\0\0\xd7\x8b\xad\xc1\x1a\x08\x27\x28\0\0\0\0\0\0\0\0\0\0\0\
+        \0\0\0\0\0\0\0\0\0\0\0\0\0\0\0\0\0\0\0\0\0\0\0\0\0W\xfb\x80\x8b\x24uG\xdb";
+
+/// The same, of eight bytes at 2^64 - 1.
+const PAST_2_TO_64: &[u8] =
+    b"\x0ba\x01\x01\0\0\0\0\0\0\xff\xff\xff\xff\xff\xff\xff\xff\xff\x01\x08\0\0\0\0\x01\0\0\0\0a\
+        \x178\x0c\x1a\x08\x27\x1f\0\0\0\0\0\0\0\0\0\0\0\0\0\0\0\0\0\0\0\0\0\0\0\0\0\0\0\0\0\0\0\0\
+        \0\0\0\0W\xfb\x80\x8b\x24uG\xdb";
+
+/// Bytes, the words for them, and how many they claim.
+const CLAIMS: &[(&str, Call, Source, usize)] = &[
+    (
+        "block with a value of 2^32 - 1 bytes",
+        Call::Block,
+        Plain(b"\0\x01\xff\xff\xff\xff\x0fa\0\0\0\0\x01\0\0\0"),
+        FOUR_BYTES,
+    ),
+    (
+        "block with a key of 2^32 - 1 bytes",
+        Call::Block,
+        Plain(b"\0\xff\xff\xff\xff\x0f\x01a\0\0\0\0\x01\0\0\0"),
+        FOUR_BYTES,
+    ),
+    (
+        "block with 2^32 - 1 shared bytes",
+        Call::Block,
+        Plain(b"\0\x01\0a\xff\xff\xff\xff\x0f\x01\0b\0\0\0\0\x01\0\0\0"),
+        FOUR_BYTES,
+    ),
+    (
+        "block with 2^32 - 1 restarts",
+        Call::Block,
+        Plain(b"\0\x01\0a\0\0\0\0\xff\xff\xff\xff"),
+        FOUR_BYTES,
+    ),
+    (
+        "log of 65535 bytes",
+        Call::Records,
+        Plain(b"\x05\x2b\x28C\xff\xff\x01"),
+        TWO_BYTES,
+    ),
+    (
+        "manifest of 65535 bytes",
+        Call::Manifest,
+        Plain(b"\x05\x2b\x28C\xff\xff\x01"),
+        TWO_BYTES,
+    ),
+    (
+        "edit with a name of 2^32 - 1 bytes",
+        Call::Decode,
+        Plain(b"\x01\xff\xff\xff\xff\x0fa"),
+        FOUR_BYTES,
+    ),
+    (
+        "edit with a key of 2^32 - 1 bytes",
+        Call::Decode,
+        Plain(b"\x05\0\xff\xff\xff\xff\x0fu\x01\x02\0\0\0\0\0\0"),
+        FOUR_BYTES,
+    ),
+    (
+        "edit with a smallest key of 2^32 - 1 bytes",
+        Call::Decode,
+        Plain(b"\x07\x01\x07\x7d\xff\xff\xff\xff\x0fu\x01\x02\0\0\0\0\0\0"),
+        FOUR_BYTES,
+    ),
+    (
+        "edit with a largest key of 2^32 - 1 bytes",
+        Call::Decode,
+        Plain(b"\x07\x01\x07\x7d\x09u\0\x04\0\0\0\0\0\0\xff\xff\xff\xff\x0fu\x01\x02\0\0\0\0\0\0"),
+        FOUR_BYTES,
+    ),
+    (
+        "handle of 2^30 bytes\n  of a footer's metaindex block",
+        Call::Table,
+        Changed(66, b"\0\x80\x80\x80\x80\x04\x27\x16"),
+        TABLE_LEN,
+    ),
+    (
+        "  of a footer's index block",
+        Call::Table,
+        Changed(68, b"\0\x80\x80\x80\x80\x04"),
+        TABLE_LEN,
+    ),
+    (
+        "  in an index",
+        Call::Table,
+        Ended(41, OF_2_TO_30),
+        TABLE_LEN,
+    ),
+    (
+        "  in an input",
+        Call::Compact,
+        Ended(41, OF_2_TO_30),
+        TABLE_LEN,
+    ),
+    (
+        "handle of a far end\n  of a footer's metaindex block",
+        Call::Table,
+        Changed(66, b"\0\xff\xff\xff\xff\xff\xff\xff\xff\xff\x01\x27\x16"),
+        usize::MAX,
+    ),
+    (
+        "  of a footer's index block",
+        Call::Table,
+        Changed(68, b"\0\xff\xff\xff\xff\xff\xff\xff\xff\xff\x01"),
+        usize::MAX,
+    ),
+    (
+        "  in an index",
+        Call::Table,
+        Ended(41, OF_A_FAR_END),
+        usize::MAX,
+    ),
+    (
+        "  in an input",
+        Call::Compact,
+        Ended(41, OF_A_FAR_END),
+        usize::MAX,
+    ),
+    (
+        "handle of a far place\n  of a footer's metaindex block",
+        Call::Table,
+        Changed(
+            66,
+            b"\xff\xff\xff\xff\xff\xff\xff\xff\xff\x01\xff\xff\xff\xff\xff\xff\xff\xff\xff\x01\
+                \x27\x16",
         ),
-        way: Way::Whole,
-        steps: 1,
-        claimed: FOUR_BYTES,
-        want: Only(Some(EditField), 1),
-    },
-    Row {
-        line: "handle of 2^30 bytes\n  of a footer's metaindex block: Range",
-        call: Call::Table,
-        source: Plain(
-            b"\0\x09\x01a\x01\x01\0\0\0\0\0\0x\0\0\0\0\x01\0\0\0\0\x84\xdd\x88t\0\0\0\0\x01\0\0\0\0\
-                \xc0\xf2\xa1\xb0\0\x09\x02a\x01\x01\0\0\0\0\0\0\0\x15\0\0\0\0\x01\0\0\0\06I%\xbf\0\
-                \x80\x80\x80\x80\x04'\x16\0\0\0\0\0\0\0\0\0\0\0\0\0\0\0\0\0\0\0\0\0\0\0\0\0\0\0\0\0\
-                \0\0\0W\xfb\x80\x8b$uG\xdb",
+        usize::MAX,
+    ),
+    (
+        "  of a footer's index block",
+        Call::Table,
+        Changed(
+            68,
+            b"\xff\xff\xff\xff\xff\xff\xff\xff\xff\x01\xff\xff\xff\xff\xff\xff\xff\xff\xff\x01",
         ),
-        way: Way::Whole,
-        steps: 1,
-        claimed: 1 << 30,
-        want: Only(Some(Range), 1),
-    },
-    Row {
-        line: "  of a footer's index block: Range",
-        call: Call::Table,
-        source: Plain(
-            b"\0\x09\x01a\x01\x01\0\0\0\0\0\0x\0\0\0\0\x01\0\0\0\0\x84\xdd\x88t\0\0\0\0\x01\0\0\0\0\
-                \xc0\xf2\xa1\xb0\0\x09\x02a\x01\x01\0\0\0\0\0\0\0\x15\0\0\0\0\x01\0\0\0\06I%\xbf\
-                \x1a\x08\0\x80\x80\x80\x80\x04\0\0\0\0\0\0\0\0\0\0\0\0\0\0\0\0\0\0\0\0\0\0\0\0\0\0\
-                \0\0\0\0\0\0W\xfb\x80\x8b$uG\xdb",
-        ),
-        way: Way::Whole,
-        steps: 1,
-        claimed: 1 << 30,
-        want: Only(Some(Range), 1),
-    },
-    Row {
-        line: "  in an index: Range",
-        call: Call::Table,
-        source: Plain(
-            b"\0\x09\x01a\x01\x01\0\0\0\0\0\0x\0\0\0\0\x01\0\0\0\0\x84\xdd\x88t\0\0\0\0\x01\0\0\0\0\
-                \xc0\xf2\xa1\xb0\0\x09\x06a\x01\x01\0\0\0\0\0\0\0\x80\x80\x80\x80\x04\0\0\0\0\x01\0\
-                \0\0\0'\xcb\x81\x98\x1a\x08'\x1a\0\0\0\0\0\0\0\0\0\0\0\0\0\0\0\0\0\0\0\0\0\0\0\0\0\
-                \0\0\0\0\0\0\0\0\0\0\0W\xfb\x80\x8b$uG\xdb",
-        ),
-        way: Way::Whole,
-        steps: 1,
-        claimed: 1 << 30,
-        want: Only(Some(Range), 1),
-    },
-    Row {
-        line: "  in an input: Range",
-        call: Call::Compact,
-        source: Plain(
-            b"\0\x09\x01a\x01\x01\0\0\0\0\0\0x\0\0\0\0\x01\0\0\0\0\x84\xdd\x88t\0\0\0\0\x01\0\0\0\0\
-                \xc0\xf2\xa1\xb0\0\x09\x06a\x01\x01\0\0\0\0\0\0\0\x80\x80\x80\x80\x04\0\0\0\0\x01\0\
-                \0\0\0'\xcb\x81\x98\x1a\x08'\x1a\0\0\0\0\0\0\0\0\0\0\0\0\0\0\0\0\0\0\0\0\0\0\0\0\0\
-                \0\0\0\0\0\0\0\0\0\0\0W\xfb\x80\x8b$uG\xdb",
-        ),
-        way: Way::Whole,
-        steps: 1,
-        claimed: 1 << 30,
-        want: Only(Some(Range), 1),
-    },
-    Row {
-        line: "handle of a far end\n  of a footer's metaindex block: Range",
-        call: Call::Table,
-        source: Plain(
-            b"\0\x09\x01a\x01\x01\0\0\0\0\0\0x\0\0\0\0\x01\0\0\0\0\x84\xdd\x88t\0\0\0\0\x01\0\0\0\0\
-                \xc0\xf2\xa1\xb0\0\x09\x02a\x01\x01\0\0\0\0\0\0\0\x15\0\0\0\0\x01\0\0\0\06I%\xbf\0\
-                \xff\xff\xff\xff\xff\xff\xff\xff\xff\x01'\x16\0\0\0\0\0\0\0\0\0\0\0\0\0\0\0\0\0\0\0\
-                \0\0\0\0\0\0\0\0W\xfb\x80\x8b$uG\xdb",
-        ),
-        way: Way::Whole,
-        steps: 1,
-        claimed: usize::MAX,
-        want: Only(Some(Range), 1),
-    },
-    Row {
-        line: "  of a footer's index block: Range",
-        call: Call::Table,
-        source: Plain(
-            b"\0\x09\x01a\x01\x01\0\0\0\0\0\0x\0\0\0\0\x01\0\0\0\0\x84\xdd\x88t\0\0\0\0\x01\0\0\0\0\
-                \xc0\xf2\xa1\xb0\0\x09\x02a\x01\x01\0\0\0\0\0\0\0\x15\0\0\0\0\x01\0\0\0\06I%\xbf\
-                \x1a\x08\0\xff\xff\xff\xff\xff\xff\xff\xff\xff\x01\0\0\0\0\0\0\0\0\0\0\0\0\0\0\0\0\
-                \0\0\0\0\0\0\0\0\0\0\0W\xfb\x80\x8b$uG\xdb",
-        ),
-        way: Way::Whole,
-        steps: 1,
-        claimed: usize::MAX,
-        want: Only(Some(Range), 1),
-    },
-    Row {
-        line: "  in an index: Range",
-        call: Call::Table,
-        source: Plain(
-            b"\0\x09\x01a\x01\x01\0\0\0\0\0\0x\0\0\0\0\x01\0\0\0\0\x84\xdd\x88t\0\0\0\0\x01\0\0\0\0\
-                \xc0\xf2\xa1\xb0\0\x09\x0ba\x01\x01\0\0\0\0\0\0\0\xff\xff\xff\xff\xff\xff\xff\xff\
-                \xff\x01\0\0\0\0\x01\0\0\0\0)gm|\x1a\x08'\x1f\0\0\0\0\0\0\0\0\0\0\0\0\0\0\0\0\0\0\0\
-                \0\0\0\0\0\0\0\0\0\0\0\0\0\0\0\0\0W\xfb\x80\x8b$uG\xdb",
-        ),
-        way: Way::Whole,
-        steps: 1,
-        claimed: usize::MAX,
-        want: Only(Some(Range), 1),
-    },
-    Row {
-        line: "  in an input: Range",
-        call: Call::Compact,
-        source: Plain(
-            b"\0\x09\x01a\x01\x01\0\0\0\0\0\0x\0\0\0\0\x01\0\0\0\0\x84\xdd\x88t\0\0\0\0\x01\0\0\0\0\
-                \xc0\xf2\xa1\xb0\0\x09\x0ba\x01\x01\0\0\0\0\0\0\0\xff\xff\xff\xff\xff\xff\xff\xff\
-                \xff\x01\0\0\0\0\x01\0\0\0\0)gm|\x1a\x08'\x1f\0\0\0\0\0\0\0\0\0\0\0\0\0\0\0\0\0\0\0\
-                \0\0\0\0\0\0\0\0\0\0\0\0\0\0\0\0\0W\xfb\x80\x8b$uG\xdb",
-        ),
-        way: Way::Whole,
-        steps: 1,
-        claimed: usize::MAX,
-        want: Only(Some(Range), 1),
-    },
-    Row {
-        line: "handle of a far place\n  of a footer's metaindex block: Range",
-        call: Call::Table,
-        source: Plain(
-            b"\0\x09\x01a\x01\x01\0\0\0\0\0\0x\0\0\0\0\x01\0\0\0\0\x84\xdd\x88t\0\0\0\0\x01\0\0\0\0\
-                \xc0\xf2\xa1\xb0\0\x09\x02a\x01\x01\0\0\0\0\0\0\0\x15\0\0\0\0\x01\0\0\0\06I%\xbf\
-                \xff\xff\xff\xff\xff\xff\xff\xff\xff\x01\xff\xff\xff\xff\xff\xff\xff\xff\xff\x01'\
-                \x16\0\0\0\0\0\0\0\0\0\0\0\0\0\0\0\0\0\0W\xfb\x80\x8b$uG\xdb",
-        ),
-        way: Way::Whole,
-        steps: 1,
-        claimed: usize::MAX,
-        want: Only(Some(Range), 1),
-    },
-    Row {
-        line: "  of a footer's index block: Range",
-        call: Call::Table,
-        source: Plain(
-            b"\0\x09\x01a\x01\x01\0\0\0\0\0\0x\0\0\0\0\x01\0\0\0\0\x84\xdd\x88t\0\0\0\0\x01\0\0\0\0\
-                \xc0\xf2\xa1\xb0\0\x09\x02a\x01\x01\0\0\0\0\0\0\0\x15\0\0\0\0\x01\0\0\0\06I%\xbf\
-                \x1a\x08\xff\xff\xff\xff\xff\xff\xff\xff\xff\x01\xff\xff\xff\xff\xff\xff\xff\xff\
-                \xff\x01\0\0\0\0\0\0\0\0\0\0\0\0\0\0\0\0\0\0W\xfb\x80\x8b$uG\xdb",
-        ),
-        way: Way::Whole,
-        steps: 1,
-        claimed: usize::MAX,
-        want: Only(Some(Range), 1),
-    },
-    Row {
-        line: "  in an index: Range",
-        call: Call::Table,
-        source: Plain(
-            b"\0\x09\x01a\x01\x01\0\0\0\0\0\0x\0\0\0\0\x01\0\0\0\0\x84\xdd\x88t\0\0\0\0\x01\0\0\0\0\
-                \xc0\xf2\xa1\xb0\0\x09\x14a\x01\x01\0\0\0\0\0\0\xff\xff\xff\xff\xff\xff\xff\xff\xff\
-                \x01\xff\xff\xff\xff\xff\xff\xff\xff\xff\x01\0\0\0\0\x01\0\0\0\0\xd7\x8b\xad\xc1\
-                \x1a\x08'(\0\0\0\0\0\0\0\0\0\0\0\0\0\0\0\0\0\0\0\0\0\0\0\0\0\0\0\0\0\0\0\0\0\0\0\0W\
-                \xfb\x80\x8b$uG\xdb",
-        ),
-        way: Way::Whole,
-        steps: 1,
-        claimed: usize::MAX,
-        want: Only(Some(Range), 1),
-    },
-    Row {
-        line: "  in an input: Range",
-        call: Call::Compact,
-        source: Plain(
-            b"\0\x09\x01a\x01\x01\0\0\0\0\0\0x\0\0\0\0\x01\0\0\0\0\x84\xdd\x88t\0\0\0\0\x01\0\0\0\0\
-                \xc0\xf2\xa1\xb0\0\x09\x14a\x01\x01\0\0\0\0\0\0\xff\xff\xff\xff\xff\xff\xff\xff\xff\
-                \x01\xff\xff\xff\xff\xff\xff\xff\xff\xff\x01\0\0\0\0\x01\0\0\0\0\xd7\x8b\xad\xc1\
-                \x1a\x08'(\0\0\0\0\0\0\0\0\0\0\0\0\0\0\0\0\0\0\0\0\0\0\0\0\0\0\0\0\0\0\0\0\0\0\0\0W\
-                \xfb\x80\x8b$uG\xdb",
-        ),
-        way: Way::Whole,
-        steps: 1,
-        claimed: usize::MAX,
-        want: Only(Some(Range), 1),
-    },
-    Row {
-        line: "handle whose end passes 2^64\n  of a footer's metaindex block: Range",
-        call: Call::Table,
-        source: Plain(
-            b"\0\x09\x01a\x01\x01\0\0\0\0\0\0x\0\0\0\0\x01\0\0\0\0\x84\xdd\x88t\0\0\0\0\x01\0\0\0\0\
-                \xc0\xf2\xa1\xb0\0\x09\x02a\x01\x01\0\0\0\0\0\0\0\x15\0\0\0\0\x01\0\0\0\06I%\xbf\
-                \xff\xff\xff\xff\xff\xff\xff\xff\xff\x01\x08'\x16\0\0\0\0\0\0\0\0\0\0\0\0\0\0\0\0\0\
-                \0\0\0\0\0\0\0\0\0\0W\xfb\x80\x8b$uG\xdb",
-        ),
-        way: Way::Whole,
-        steps: 1,
-        claimed: usize::MAX,
-        want: Only(Some(Range), 1),
-    },
-    Row {
-        line: "  of a footer's index block: Range",
-        call: Call::Table,
-        source: Plain(
-            b"\0\x09\x01a\x01\x01\0\0\0\0\0\0x\0\0\0\0\x01\0\0\0\0\x84\xdd\x88t\0\0\0\0\x01\0\0\0\0\
-                \xc0\xf2\xa1\xb0\0\x09\x02a\x01\x01\0\0\0\0\0\0\0\x15\0\0\0\0\x01\0\0\0\06I%\xbf\
-                \x1a\x08\xff\xff\xff\xff\xff\xff\xff\xff\xff\x01\x08\0\0\0\0\0\0\0\0\0\0\0\0\0\0\0\
-                \0\0\0\0\0\0\0\0\0\0\0\0W\xfb\x80\x8b$uG\xdb",
-        ),
-        way: Way::Whole,
-        steps: 1,
-        claimed: usize::MAX,
-        want: Only(Some(Range), 1),
-    },
-    Row {
-        line: "  in an index: Range",
-        call: Call::Table,
-        source: Plain(
-            b"\0\x09\x01a\x01\x01\0\0\0\0\0\0x\0\0\0\0\x01\0\0\0\0\x84\xdd\x88t\0\0\0\0\x01\0\0\0\0\
-                \xc0\xf2\xa1\xb0\0\x09\x0ba\x01\x01\0\0\0\0\0\0\xff\xff\xff\xff\xff\xff\xff\xff\xff\
-                \x01\x08\0\0\0\0\x01\0\0\0\0a\x178\x0c\x1a\x08'\x1f\0\0\0\0\0\0\0\0\0\0\0\0\0\0\0\0\
-                \0\0\0\0\0\0\0\0\0\0\0\0\0\0\0\0\0\0\0\0W\xfb\x80\x8b$uG\xdb",
-        ),
-        way: Way::Whole,
-        steps: 1,
-        claimed: usize::MAX,
-        want: Only(Some(Range), 1),
-    },
-    Row {
-        line: "  in an input: Range",
-        call: Call::Compact,
-        source: Plain(
-            b"\0\x09\x01a\x01\x01\0\0\0\0\0\0x\0\0\0\0\x01\0\0\0\0\x84\xdd\x88t\0\0\0\0\x01\0\0\0\0\
-                \xc0\xf2\xa1\xb0\0\x09\x0ba\x01\x01\0\0\0\0\0\0\xff\xff\xff\xff\xff\xff\xff\xff\xff\
-                \x01\x08\0\0\0\0\x01\0\0\0\0a\x178\x0c\x1a\x08'\x1f\0\0\0\0\0\0\0\0\0\0\0\0\0\0\0\0\
-                \0\0\0\0\0\0\0\0\0\0\0\0\0\0\0\0\0\0\0\0W\xfb\x80\x8b$uG\xdb",
-        ),
-        way: Way::Whole,
-        steps: 1,
-        claimed: usize::MAX,
-        want: Only(Some(Range), 1),
-    },
-    Row {
-        line: "manifest with a name of 2^32 - 1 bytes: EditField",
-        call: Call::Manifest,
-        source: Plain(b"\x04\xcd\x9b\x97\x07\0\x01\x01\xff\xff\xff\xff\x0fa"),
-        way: Way::Whole,
-        steps: 1,
-        claimed: FOUR_BYTES,
-        want: Only(Some(EditField), 1),
-    },
+        usize::MAX,
+    ),
+    (
+        "  in an index",
+        Call::Table,
+        Ended(41, OF_A_FAR_PLACE),
+        usize::MAX,
+    ),
+    (
+        "  in an input",
+        Call::Compact,
+        Ended(41, OF_A_FAR_PLACE),
+        usize::MAX,
+    ),
+    (
+        "handle whose end passes 2^64\n  of a footer's metaindex block",
+        Call::Table,
+        Changed(66, b"\xff\xff\xff\xff\xff\xff\xff\xff\xff\x01\x08\x27\x16"),
+        usize::MAX,
+    ),
+    (
+        "  of a footer's index block",
+        Call::Table,
+        Changed(68, b"\xff\xff\xff\xff\xff\xff\xff\xff\xff\x01\x08"),
+        usize::MAX,
+    ),
+    (
+        "  in an index",
+        Call::Table,
+        Ended(41, PAST_2_TO_64),
+        usize::MAX,
+    ),
+    (
+        "  in an input",
+        Call::Compact,
+        Ended(41, PAST_2_TO_64),
+        usize::MAX,
+    ),
+    (
+        "manifest with a name of 2^32 - 1 bytes",
+        Call::Manifest,
+        Plain(b"\x04\xcd\x9b\x97\x07\0\x01\x01\xff\xff\xff\xff\x0fa"),
+        FOUR_BYTES,
+    ),
 ];
+
+/// Whether there is no memory for `len` bytes.
+fn is_short_of(alloc: Global, len: usize) -> bool {
+    let room: Result<Vec<u8>, _> = Vec::with_capacity(alloc, len);
+    room.is_err()
+}
+
+/// What a call answers to bytes with 32 bytes of memory for each of them and 4,096. Lawless if that
+/// is enough for as many as they claim.
+fn tight_answer<R: AllocGlobal + Threads + Sync>(
+    rt: &R,
+    call: Call,
+    bytes: &[u8],
+    claimed: usize,
+) -> Result<Answer, Fault> {
+    let alloc = rt.alloc();
+    let room = bytes.len().saturating_mul(32).saturating_add(4_096);
+    refuse(alloc, &Order::Bytes(room));
+    let is_short = is_short_of(alloc, claimed);
+    let given = answer(rt, call, bytes);
+    let _ = was_refused(alloc);
+    wanted(is_short)?;
+    Ok(given)
+}
+
+/// Makes the calls, with memory for little more than the bytes if it `is_tight`, and prints what
+/// they answer.
+pub fn print_claims<R: AllocGlobal + Print + Threads + Sync>(rt: &R, is_tight: bool) -> Result<()> {
+    for (words, call, source, claimed) in CLAIMS {
+        let bytes = source.bytes(rt.alloc())?;
+        let given = if is_tight {
+            tight_answer(rt, *call, &bytes, *claimed)?
+        } else {
+            answer(rt, *call, &bytes)
+        };
+        print_answer(rt, words, given)?;
+    }
+    Ok(())
+}

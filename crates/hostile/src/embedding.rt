@@ -1,13 +1,11 @@
-//! The program `embedding`: how a store makes one compaction by the call `compact`.
+//! How a store makes one compaction by the call `compact`.
 //!
 //! The store has two tables at level 0 and one at level 1, and the edit that made its version. It
 //! compacts level 0 by one worker, and once more by four workers over two ranges. Both answer the
 //! same bytes. Then it applies the edit. `docs/EMBEDDING.md` explains the steps.
-#![tactic(auto)]
-
 mod store;
 
-use crate::store::{FILES, TABLES};
+use crate::embedding::store::{FILES, TABLES};
 use anyhow::{Result, ensure};
 use board::Open;
 use coding::Fault;
@@ -64,23 +62,16 @@ fn compacted<R: Threads + Sync>(
 
 /// Whether two outcomes are the same tables and the same edit.
 fn are_same(one: &Outcome, other: &Outcome) -> bool {
-    one.edit.as_slice() == other.edit.as_slice()
-        && one.tables.len() == other.tables.len()
-        && are_same_tables(&one.tables, &other.tables)
-}
-
-/// Whether the tables of two equally long lists are the same.
-fn are_same_tables(tables: &[(u64, Vec<u8>)], others: &[(u64, Vec<u8>)]) -> bool {
-    for (place, table) in tables.iter().enumerate() {
-        let same = match others.get(place) {
-            Some(other) => table.0 == other.0 && table.1.as_slice() == other.1.as_slice(),
-            None => false,
-        };
-        if !same {
-            return false;
-        }
+    let mut same = one.edit.as_slice() == other.edit.as_slice()
+        && one.tables.len() == other.tables.len();
+    for (place, table) in one.tables.iter().enumerate() {
+        same = same
+            && match other.tables.get(place) {
+                Some(twin) => table.0 == twin.0 && table.1.as_slice() == twin.1.as_slice(),
+                None => false,
+            };
     }
-    true
+    same
 }
 
 /// Compacts level 0 twice, and answers the outcome and whether it was the same.
@@ -116,12 +107,13 @@ fn print_files<R: AllocGlobal + Print>(rt: &R, version: &Version) -> Result<()> 
     Ok(())
 }
 
-fn main(rt: HostRuntime) -> Result<()> {
+/// Makes the compaction, and prints what it makes, and the files of the version before and after.
+pub fn embed<R: AllocGlobal + Print + Threads + Sync>(rt: &R) -> Result<()> {
     let alloc = rt.alloc();
     let version = edited(alloc, Version::empty(alloc), FILES)?;
-    print_files(&rt, &version)?;
-    let (outcome, same) = compacted_twice(&rt, alloc, &version)?;
+    print_files(rt, &version)?;
+    let (outcome, same) = compacted_twice(rt, alloc, &version)?;
     ensure!(same, "the second answer is another one");
-    print_outcome(&rt, &outcome)?;
-    print_files(&rt, &edited(alloc, version, &outcome.edit)?)
+    print_outcome(rt, &outcome)?;
+    print_files(rt, &edited(alloc, version, &outcome.edit)?)
 }

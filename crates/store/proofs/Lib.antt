@@ -25,6 +25,7 @@ mod StepPart
 mod PlannedPart
 mod NamesThere
 mod Runs
+mod WholeOutcomes
 mod GroupRuns
 mod AfterEdit
 mod StepsTaken

@@ -11,6 +11,7 @@ pub mod JointLaws
 pub mod Descent
 pub mod AllLevels
 pub mod Outcome
+pub mod WholeOutcome
 pub mod FilesToCompact
 pub mod Untold
 -- serves proofs alone

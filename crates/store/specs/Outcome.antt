@@ -59,11 +59,14 @@ pub record LevelCompaction (order : Order) (cmp : KeyOrder) (short_keys : ShortK
   pub answered : compaction_from first cmp short_keys v loaded p s ≡ Ok answer
   pub edited : EditedVersion order cmp v loaded tables s answer
 
--- the calls that write an edit: it is made and synced under a temporary name, then it gets its
--- name, and then the folder is synced
+-- the calls that name a written edit: the folder is synced, then it gets its name, and then the
+-- folder is synced again
+abbrev pub naming_calls : List Call
+naming_calls = FolderSynced ∷ Renamed (codes "EDIT.dbtmp") (codes "EDIT") ∷ FolderSynced ∷ []
+
+-- the calls that write an edit: it is made and synced under a temporary name, and then named
 abbrev pub edit_calls : List ℕ → List Call
-edit_calls edit = write_calls (codes "EDIT.dbtmp") edit
-    ++ (Renamed (codes "EDIT.dbtmp") (codes "EDIT") ∷ FolderSynced ∷ [])
+edit_calls edit = write_calls (codes "EDIT.dbtmp") edit ++ naming_calls
 
 -- the calls that write an outcome: each table is made and synced, and then the edit is written
 abbrev pub outcome_calls : Answer → List Call

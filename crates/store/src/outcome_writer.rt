@@ -5,12 +5,15 @@ ghost use Rattle.coding.specs.Answers.{UnlessMemory};
 ghost use Rattle.compact.specs.AnswerIn.{answer_in};
 ghost use Rattle.folder.specs.CallSequence.{MakesCalls};
 ghost use Rattle.folder.specs.Calls.{FolderSynced, Renamed};
+ghost use Rattle.folder.specs.Crash.{Leads, LeavesOnly, World};
 ghost use Rattle.folder.specs.Folder.{failures_after};
 ghost use Rattle.folder.specs.OpenAnswer.{IsStopped};
 ghost use Rattle.folder.specs.Reports.{ReportsDevice};
+ghost use Rattle.folder.specs.TableFiles.{named_tables};
 ghost use Rattle.install.specs.Install.{table_calls, tables_in, write_calls};
 ghost use Rattle.store.specs.CallsAnswer.{IsCallsAnswer};
-ghost use Rattle.store.specs.Outcome.{edit_calls, outcome_calls};
+ghost use Rattle.store.specs.Outcome.{edit_calls, naming_calls, outcome_calls};
+ghost use Rattle.store.specs.WholeOutcome.{AreNamedApart, HasNoEdit, IsAbsentOrWhole};
 
 use coding::Fault;
 use edit::Outcome;
@@ -27,10 +30,12 @@ const UNFINISHED_EDIT: &str = "EDIT.dbtmp";
 ///
 /// 1. the tables are made and synced, in any order, each under its name `%06d.ldb`;
 /// 2. `EDIT.dbtmp` is made of the bytes of the edit, and synced;
-/// 3. it is renamed to [`EDIT`];
-/// 4. the folder is synced.
+/// 3. the folder is synced;
+/// 4. `EDIT.dbtmp` is renamed to [`EDIT`];
+/// 5. the folder is synced.
 ///
-/// So EDIT is there only after all tables are, and never in part. At Ok all of it outlives a crash.
+/// So EDIT is there only if all tables are, and never in part, also after a crash. At Ok all of it
+/// outlives a crash.
 ///
 /// The faults are Device and Memory. If the device fails a call, no further call is made; what was
 /// written by then stays.
@@ -42,6 +47,12 @@ pub fn write_outcome<F: Folder, R: Threads + Sync>(
     // The calls in their order, each once, up to one that fails.
     ensures runs { MakesCalls (outcome_calls (answer_in outcome.now)) (F.calls folder.old)
         (F.calls folder.new) (F.tells folder.old) (F.tells folder.new) result }
+    // If EDIT wasn't there, and no two tables have one name: at each moment a crash leaves no EDIT,
+    // or all of it with all tables.
+    ensures whole { AreNamedApart (named_tables (answer_in outcome.now).tables) → (start : World) →
+        ((w : World) → Leads start (F.calls folder.old) w → HasNoEdit w) →
+        LeavesOnly start (F.calls folder.old) (F.calls folder.new)
+        (IsAbsentOrWhole (answer_in outcome.now)) }
     // Only Device and Memory are answered, Device only if the device failed.
     ensures refused { IfErr result
         (λ e. UnlessMemory e (IsStopped (F.failed folder.old) (F.failed folder.new) e)) }
@@ -95,8 +106,18 @@ fn write_edit<F: Folder>(folder: &mut F, bytes: &[u8]) -> Result<(), FolderFault
     name_edit(folder)
 }
 
-/// Gives the written edit its name, and syncs the folder.
+/// Syncs the folder, and gives the written edit its name.
 fn name_edit<F: Folder>(folder: &mut F) -> Result<(), FolderFault>
+    ensures runs { MakesCalls naming_calls (F.calls folder.old) (F.calls folder.new)
+        (F.tells folder.old) (F.tells folder.new) result }
+    ensures failures { F.failed folder.new ≡ failures_after (F.failed folder.old) result }
+{
+    folder.sync_folder()?;
+    rename_edit(folder)
+}
+
+/// Gives the written edit its name, and syncs the folder.
+fn rename_edit<F: Folder>(folder: &mut F) -> Result<(), FolderFault>
     ensures runs { MakesCalls (Renamed (codes "EDIT.dbtmp") (codes "EDIT") ∷ FolderSynced ∷ [])
         (F.calls folder.old) (F.calls folder.new) (F.tells folder.old) (F.tells folder.new) result }
     ensures failures { F.failed folder.new ≡ failures_after (F.failed folder.old) result }

@@ -9,9 +9,7 @@ returns-clause-runs g c =
     let calls = g.F.Folder.calls in
     let tells = g.F.Folder.tells in
     let a = c.args.folder.now in
-    let b = c.rename.new.self in
-    let d = c.sync_folder.new.self in
-    let named = Renamed (codes "EDIT.dbtmp") (codes "EDIT") in
-    runs_then {E = FolderFault} (named ∷ []) (FolderSynced ∷ []) (calls a) (calls b) (calls d) (tells a) (tells b) (tells d) c.in_ok-rename.field-0 c.sync_folder.result
-    (runs_one named (calls a) (calls b) (tells a) (tells b) _ c.in_ok-rename.ensures.calls c.in_ok-rename.ensures.change)
-    (runs_one FolderSynced (calls b) (calls d) (tells b) (tells d) c.sync_folder.result c.sync_folder.ensures.calls c.sync_folder.ensures.change)
+    let b = c.sync_folder.new.self in
+    let d = c.rename_edit.new.folder in
+    runs_then {E = FolderFault} (FolderSynced ∷ []) (Renamed (codes "EDIT.dbtmp") (codes "EDIT") ∷ FolderSynced ∷ []) (calls a) (calls b) (calls d) (tells a) (tells b) (tells d) c.in_ok-sync_folder.field-0 c.rename_edit.result
+    (runs_one FolderSynced (calls a) (calls b) (tells a) (tells b) _ c.in_ok-sync_folder.ensures.calls c.in_ok-sync_folder.ensures.change) c.rename_edit.ensures.runs

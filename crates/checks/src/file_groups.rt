@@ -12,10 +12,12 @@ use split::{MAX_BOUNDARIES, Split};
 use std::alloc::Global;
 
 /// A split into ranges so that the tables that reach into a range have at most `memory` bytes
-/// together, as the files state their sizes. They have more only if:
+/// together, as the files state their sizes. They have more only
 ///
-/// - they hold the range's first user key; or
-/// - the split has as many boundaries as it may have, `split::MAX_BOUNDARIES`.
+/// - by tables that hold the range's first user key; or
+/// - by tables that begin in it, of which all but the last one have less than 1/4,095 of the bytes
+///   of all files. So that there are never more than 4,096 ranges, a range has as much whatever
+///   `memory` is.
 ///
 /// Each boundary is the smallest user key of a file. `standing` may have any order. Which tables
 /// reach into a range is what [`needed_files`](crate::needed_files()) answers for it.
@@ -53,8 +55,28 @@ fn smallest<'v>(file: &'v FileMeta) -> &'v [u8] {
     file.smallest.as_key().user()
 }
 
+/// The bytes of the files of a group.
+#[derive(Clone, Copy)]
+struct GroupBytes {
+    /// Of those that begin in it.
+    begun: u64,
+    /// Of all that reach into it.
+    reaching: u64,
+}
+
+impl GroupBytes {
+    /// With one more file that begins in it.
+    fn with(self, file: &FileMeta) -> GroupBytes {
+        GroupBytes {
+            begun: self.begun.saturating_add(file.size),
+            reaching: self.reaching.saturating_add(file.size),
+        }
+    }
+}
+
 /// Where each group but the last one ends: at the smallest user key of the first file that doesn't
-/// fit. The files are in the order of those keys. The only fault is Memory.
+/// fit, if its part of all files is full. The files are in the order of those keys. The only fault
+/// is Memory.
 fn group_ends<C: Comparator>(
     alloc: Global,
     files: &[&FileMeta],
@@ -62,18 +84,37 @@ fn group_ends<C: Comparator>(
 ) -> Result<Vec<Vec<u8>>, Fault>
     ensures memory { IfErr result (λ e. e ≡ fault Memory) }
 {
+    let part = least_part(files);
     let mut ends = Vec::<Vec<u8>>::new(alloc);
-    let mut bytes = 0u64;
+    let mut group = GroupBytes {
+        begun: 0,
+        reaching: 0,
+    };
     for place in 0..files.len() {
         let file = files[place];
         let is_new = place > 0 && C::compare(smallest(files[place - 1]), smallest(file)).is_lt();
-        bytes = bytes.saturating_add(file.size);
-        if is_new && bytes > memory && ends.len() < MAX_BOUNDARIES {
+        let is_full = group.begun >= part && group.with(file).reaching > memory;
+        // If the stated sizes have more than 2^64 bytes together, there may be more groups.
+        if is_new && is_full && ends.len() < MAX_BOUNDARIES {
             ends.push(Vec::from_slice(alloc, smallest(file))?)?;
-            bytes = reaching::<C>(&files[..place], smallest(file)).saturating_add(file.size);
+            group = GroupBytes {
+                begun: 0,
+                reaching: reaching::<C>(&files[..place], smallest(file)),
+            };
         }
+        group = group.with(file);
     }
     Ok(ends)
+}
+
+/// The least bytes of the files that begin in a group which is ended: so many that as many groups
+/// as a split may have boundaries hold all files. At least 1.
+fn least_part(files: &[&FileMeta]) -> u64 {
+    let mut bytes = 0u64;
+    for file in files {
+        bytes = bytes.saturating_add(file.size);
+    }
+    (bytes / MAX_BOUNDARIES as u64).saturating_add(1)
 }
 
 /// How many bytes those of the files have together that don't end before a user key.

@@ -26,6 +26,9 @@
 //! [`remove_obsolete`] removes, of the names that it is given, those that [`is_obsolete_file`]
 //! tells; [`obsolete_names`] answers these.
 //!
+//! [`pending_current`] finds a `CURRENT.N` that goleveldb has not renamed yet. Beside one, CURRENT
+//! may not name the version that is to be kept.
+//!
 //! Premises of what is said of a crash:
 //!
 //! - nobody else writes the folder;
@@ -45,10 +48,12 @@
 
 mod file_kind;
 mod obsolete_files;
+mod pending_names;
 mod removal;
 mod removal_watch;
 
 pub use file_kind::FileKind;
 pub use obsolete_files::{is_obsolete_file, obsolete_names};
+pub use pending_names::pending_current;
 pub use removal::remove_obsolete;
 pub use removal_watch::RemovalWatch;

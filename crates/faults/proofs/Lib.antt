@@ -1,5 +1,6 @@
 pub mod TellingLemmas
 pub mod FindingLemmas
+pub mod OverlapLemmas
 pub mod UserEntries
 pub mod KeySteps
 pub mod MisplacedLemmas

@@ -9,3 +9,4 @@ pub mod Findings
 pub mod ToldFaults
 pub mod KeyWalk
 pub mod RangeKeys
+pub mod FileOrder

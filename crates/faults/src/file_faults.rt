@@ -4,10 +4,13 @@ ghost use Rattle.std.specs.Prelude.{◌≡◌, ◌++◌, ◌&&◌, map, not, tru
 ghost use Rattle.std.specs.Prelude.{unwrap_or};
 ghost use Rattle.coding.specs.Answers.{EqualOrMemory, fault};
 ghost use Rattle.coding.specs.declared.fault.FaultName.TheVariants.{Memory};
+ghost use Rattle.std.specs.Ordering.{is_le};
+ghost use Rattle.ikey.specs.Order.{internal_cmp};
 ghost use Rattle.reads.specs.StatedFiles.{is_below};
 ghost use Rattle.reads.specs.FileList.{level_file_in};
 ghost use Rattle.faults.specs.FileFaults.{are_disjoint, lies_before, overlap, overlap_faults};
 ghost use Rattle.faults.specs.FileFaults.{unless};
+ghost use Rattle.faults.specs.FileOrder.{are_in_order, is_in_order, is_past};
 ghost use Rattle.faults.specs.Findings.{faults_of_found, finding_faults, found_faults};
 ghost use Rattle.faults.specs.Findings.{found_in};
 ghost use Rattle.faults.specs.ToldFaults.{IsTelling};
@@ -25,6 +28,8 @@ use std::alloc::Global;
 
 /// Tells what is wrong with files of which this was found, one after the other, until the taker
 /// says to stop. `next` is the version's next file. The only fault is Memory.
+///
+/// If the files are in version order, each is compared with those that it overlaps and one more.
 pub(crate) fn tell_files<C: Comparator, T: FaultTaker>(
     alloc: Global,
     tested: &[TestedFile<'_>],
@@ -37,10 +42,11 @@ pub(crate) fn tell_files<C: Comparator, T: FaultTaker>(
         taker.old told.count taker.new result }
     ensures memory { IfErr result (λ e. e ≡ fault Memory) }
 {
+    let is_ordered = are_in_order::<C>(tested);
     let mut told = told;
     for place in 0..tested.len() {
         let file = &tested[place];
-        let faults = file_faults::<C>(alloc, next, file, &tested[place + 1..])?;
+        let faults = file_faults::<C>(alloc, next, file, &tested[place + 1..], is_ordered)?;
         told = tell_file(taker, file.file.meta.number, &faults, told);
         if !told.goes {
             return Ok(told);
@@ -49,14 +55,45 @@ pub(crate) fn tell_files<C: Comparator, T: FaultTaker>(
     Ok(told)
 }
 
-/// What is wrong with a file of which this was found, if these come after it. The only fault is
-/// Memory.
+/// Whether files are by level and in version order.
+fn are_in_order<C: Comparator>(tested: &[TestedFile<'_>]) -> bool
+    ensures { result ≡ are_in_order C.cmp (map (λ t. level_file_in t.file) tested.now) }
+{
+    for place in 1..tested.len() {
+        if !is_in_order::<C>(&tested[place - 1].file, &tested[place].file) {
+            return false;
+        }
+    }
+    true
+}
+
+/// Whether a file is above another one, or at its level and doesn't begin after it.
+fn is_in_order<C: Comparator>(file: &LevelFile<'_>, other: &LevelFile<'_>) -> bool
+    ensures { result ≡ is_in_order C.cmp (level_file_in file.now) (level_file_in other.now) }
+{
+    file.level < other.level
+        || file.level == other.level && begins_first::<C>(file.meta, other.meta)
+}
+
+/// Whether a file doesn't begin after another one.
+fn begins_first<C: Comparator>(file: &FileMeta, other: &FileMeta) -> bool
+    ensures { result ≡ is_le (internal_cmp C.cmp file.now.smallest other.now.smallest) }
+{
+    let smallest = file.smallest.as_key();
+    smallest.compare::<C>(&other.smallest.as_key()).is_le()
+}
+
+/// What is wrong with a file of which this was found, if these come after it. `is_ordered` says
+/// whether these are in order. The only fault is Memory.
 fn file_faults<C: Comparator>(
     alloc: Global,
     next: Option<u64>,
     tested: &TestedFile<'_>,
     behind: &[TestedFile<'_>],
+    is_ordered: bool,
 ) -> Result<Vec<FileFault>, Fault>
+    requires { is_ordered ≡ true →
+        are_in_order C.cmp (map (λ t. level_file_in t.file) behind.now) ≡ true }
     ensures { EqualOrMemory (λ v. v.items) result
         (Ok (found_faults C.cmp next (found_in tested.now)
         (map (λ t. level_file_in t.file) behind.now))) }
@@ -67,7 +104,7 @@ fn file_faults<C: Comparator>(
         faults.push(FileFault::NotBelow(next.unwrap_or(0)))?;
     }
     push_finding(&mut faults, meta, tested.finding)?;
-    push_overlaps::<C>(&mut faults, tested.file, behind)?;
+    push_overlaps::<C>(&mut faults, tested.file, behind, is_ordered)?;
     Ok(faults)
 }
 
@@ -111,23 +148,41 @@ fn push_unless(faults: &mut Vec<FileFault>, holds: bool, wrong: FileFault) -> Re
     Ok(())
 }
 
-/// Appends that a file overlaps some of those that come after it. The only fault is Memory.
+/// Appends that a file overlaps some of those that come after it. `is_ordered` says whether these
+/// are in order: then those after one that it lies before aren't looked at. The only fault is
+/// Memory.
 fn push_overlaps<C: Comparator>(
     faults: &mut Vec<FileFault>,
     file: LevelFile<'_>,
     behind: &[TestedFile<'_>],
+    is_ordered: bool,
 ) -> Result<(), Fault>
+    requires { is_ordered ≡ true →
+        are_in_order C.cmp (map (λ t. level_file_in t.file) behind.now) ≡ true }
     ensures ok { OnOk result (faults.new.items ≡ faults.old.items
         ++ overlap_faults C.cmp (level_file_in file.entry)
         (map (λ t. level_file_in t.file) behind.now)) }
     ensures memory { IsOkUnless result (fault Memory) }
 {
     for tested in behind {
+        if is_ordered && is_past::<C>(&file, &tested.file) {
+            return Ok(());
+        }
         if overlap::<C>(&file, &tested.file) {
             faults.push(FileFault::Overlaps(tested.file.meta.number))?;
         }
     }
     Ok(())
+}
+
+/// Whether a file overlaps neither another one nor any that comes after that in order: it is at
+/// level 0, or above the other, or at its level and ends before it begins.
+fn is_past<C: Comparator>(file: &LevelFile<'_>, other: &LevelFile<'_>) -> bool
+    ensures { result ≡ is_past C.cmp (level_file_in file.now) (level_file_in other.now) }
+{
+    file.level == 0
+        || file.level < other.level
+        || file.level == other.level && lies_before::<C>(file.meta, other.meta)
 }
 
 /// Whether two files are at one level from 1 on, and their ranges of internal keys are not

@@ -47,6 +47,7 @@ mod file_access;
 mod folder;
 mod folder_answer_laws;
 mod folder_lock;
+mod listed_locks;
 mod made_table;
 mod manifest_version;
 mod names;

@@ -4,8 +4,13 @@ use Rattle.faults.specs.VersionFault.{VersionFault, OfFile}
 use Rattle.faults.specs.Findings.{faults_of_found, found_in}
 use Rattle.faults.specs.ToldFaults.{IsPart}
 use Rattle.faults.proofs.FindingLemmas.{next_file}
+use Rattle.faults.proofs.OverlapLemmas.{order_behind}
 use Rattle.faults.proofs.TellingLemmas.{not_false, not_true, told_more, told_stops}
 use Rattle.faults.proofs.file_faults.tell_files.Goals as goal
+
+pub file_faults-requires : goal.file_faults-requires
+file_faults-requires g c is_true =
+    order_behind g.C.Comparator.cmp (c.loop-place.place + 1) c.args.tested.now c.are_in_order-is_ordered.result c.are_in_order-is_ordered.ensures is_true
 
 pub loop-place-preserved : goal.loop-place-preserved
 loop-place-preserved g c =

@@ -39,81 +39,93 @@ memory_rule = record (value_rule (codes "memory")) { parser = Some (parser.Unsig
 abbrev pub verbose_rule : Rule
 verbose_rule = record (flag_rule (codes "verbose")) { short = Some 118 }
 
--- the program: a command must be given, and it tells its version
-abbrev pub bare_app : App
-bare_app = let app = new_app (codes "sedvokt") in
-    record app { top = record app.top { has_version = true; subcommand_required = true } }
+-- `-q`, or `--quiet`
+abbrev pub quiet_rule : Rule
+quiet_rule = record (flag_rule (codes "quiet")) { short = Some 113 }
 
--- `blocks A B --at HEXKEY OUT`
-abbrev pub blocks_app : App
-blocks_app = with_rules (new_app (codes "blocks")) (required_argument (codes "A")
-    ∷ required_argument (codes "B") ∷ record (value_rule (codes "at")) { required = true }
-    ∷ required_argument (codes "OUT") ∷ [])
+-- the app with `-v` and `-q` too
+abbrev pub with_verbosity : App → App
+with_verbosity app = with_rules app (verbose_rule ∷ quiet_rule ∷ [])
+
+-- the program without its commands: one must be given, and it tells its version
+abbrev pub bare_app : App
+bare_app = with_verbosity (let app = new_app (codes "sedvokt") in
+    record app { top = record app.top { has_version = true; subcommand_required = true } })
+
+-- a command with these arguments, and with `-v` and `-q`
+abbrev pub command_app : Text → List Rule → App
+command_app name rules = with_verbosity (with_rules (new_app name) rules)
+
+-- `stats DIR [--text] [--json] [--memory MIB]`
+abbrev pub stats_app : App
+stats_app = command_app (codes "stats") (required_argument (codes "DIR")
+    ∷ flag_rule (codes "text") ∷ flag_rule (codes "json") ∷ memory_rule ∷ [])
+
+-- `verify [DIR] [--table FILE] [--json] [--all-faults] [--memory MIB]`
+abbrev pub verify_app : App
+verify_app = command_app (codes "verify") (new_rule (codes "DIR")
+    ∷ value_rule (codes "table") ∷ flag_rule (codes "json") ∷ flag_rule (codes "all-faults")
+    ∷ memory_rule ∷ [])
+
+-- `get DIR KEY [--at N] [--text] [--raw] [--json] [--no-verify] [--memory MIB]`
+abbrev pub get_app : App
+get_app = command_app (codes "get") (required_argument (codes "DIR")
+    ∷ required_argument (codes "KEY") ∷ number_rule (codes "at") ∷ flag_rule (codes "text")
+    ∷ flag_rule (codes "raw") ∷ flag_rule (codes "json") ∷ flag_rule (codes "no-verify")
+    ∷ memory_rule ∷ [])
+
+-- `scan DIR [--from KEY] [--to KEY] [--at N] [--limit N] [--keys] [--text] [--json] [--no-verify]
+-- [--memory MIB]`
+abbrev pub scan_app : App
+scan_app = command_app (codes "scan") (required_argument (codes "DIR")
+    ∷ value_rule (codes "from") ∷ value_rule (codes "to") ∷ number_rule (codes "at")
+    ∷ number_rule (codes "limit") ∷ flag_rule (codes "keys") ∷ flag_rule (codes "text")
+    ∷ flag_rule (codes "json") ∷ flag_rule (codes "no-verify") ∷ memory_rule ∷ [])
+
+-- `manifest DIR [--text] [--json]`
+abbrev pub manifest_app : App
+manifest_app = command_app (codes "manifest") (required_argument (codes "DIR")
+    ∷ flag_rule (codes "text") ∷ flag_rule (codes "json") ∷ [])
 
 -- `dump TABLE [--text]`
 abbrev pub dump_app : App
-dump_app = with_rules (new_app (codes "dump")) (required_argument (codes "TABLE")
+dump_app = command_app (codes "dump") (required_argument (codes "TABLE")
     ∷ flag_rule (codes "text") ∷ [])
 
--- `manifest DIR [--text] [--json] [-v]`
-abbrev pub manifest_app : App
-manifest_app = with_rules (new_app (codes "manifest")) (required_argument (codes "DIR")
-    ∷ flag_rule (codes "text") ∷ flag_rule (codes "json") ∷ verbose_rule ∷ [])
-
--- `stats DIR [--text] [--json] [--memory MIB] [-v]`
-abbrev pub stats_app : App
-stats_app = with_rules (new_app (codes "stats")) (required_argument (codes "DIR")
-    ∷ flag_rule (codes "text") ∷ flag_rule (codes "json") ∷ memory_rule ∷ verbose_rule ∷ [])
-
--- `verify [DIR] [--table FILE] [--json] [--all-faults] [--memory MIB] [-v]`
-abbrev pub verify_app : App
-verify_app = with_rules (new_app (codes "verify")) (new_rule (codes "DIR")
-    ∷ value_rule (codes "table") ∷ flag_rule (codes "json") ∷ flag_rule (codes "all-faults")
-    ∷ memory_rule ∷ verbose_rule ∷ [])
-
--- `get DIR KEY [--at N] [--text] [--raw] [--json] [--no-verify] [--memory MIB] [-v]`
-abbrev pub get_app : App
-get_app = with_rules (new_app (codes "get")) (required_argument (codes "DIR")
-    ∷ required_argument (codes "KEY") ∷ number_rule (codes "at") ∷ flag_rule (codes "text")
-    ∷ flag_rule (codes "raw") ∷ flag_rule (codes "json") ∷ flag_rule (codes "no-verify")
-    ∷ memory_rule ∷ verbose_rule ∷ [])
-
--- `scan DIR [--from KEY] [--to KEY] [--at N] [--limit N] [--keys] [--text] [--json] [--no-verify]
--- [--memory MIB] [-v]`
-abbrev pub scan_app : App
-scan_app = with_rules (new_app (codes "scan")) (required_argument (codes "DIR")
-    ∷ value_rule (codes "from") ∷ value_rule (codes "to") ∷ number_rule (codes "at")
-    ∷ number_rule (codes "limit") ∷ flag_rule (codes "keys") ∷ flag_rule (codes "text")
-    ∷ flag_rule (codes "json") ∷ flag_rule (codes "no-verify") ∷ memory_rule ∷ verbose_rule ∷ [])
-
--- `job DIR --level N [-v]`
-abbrev pub job_app : App
-job_app = with_rules (new_app (codes "job")) (required_argument (codes "DIR")
-    ∷ record (number_rule (codes "level")) { required = true } ∷ verbose_rule ∷ [])
-
 -- `compact DIR [--level N] [--all] [--out OUT] [--first-number K] [--no-verify] [--memory MIB]
--- [--workers W] [--ranges R] [-v] [--explain] [--snapshot S] [--snapshots S,S,..] [--block-size B]
+-- [--workers W] [--ranges R] [--explain] [--snapshot S] [--snapshots S,S,..] [--block-size B]
 -- [--file-size F] [--clean] [--json]`
 abbrev pub compact_app : App
-compact_app = with_rules (new_app (codes "compact")) (required_argument (codes "DIR")
+compact_app = command_app (codes "compact") (required_argument (codes "DIR")
     ∷ number_rule (codes "level") ∷ flag_rule (codes "all") ∷ value_rule (codes "out")
     ∷ number_rule (codes "first-number") ∷ flag_rule (codes "no-verify") ∷ memory_rule
-    ∷ number_rule (codes "workers") ∷ number_rule (codes "ranges") ∷ verbose_rule
-    ∷ flag_rule (codes "explain") ∷ number_rule (codes "snapshot") ∷ value_rule (codes "snapshots")
+    ∷ number_rule (codes "workers") ∷ number_rule (codes "ranges") ∷ flag_rule (codes "explain")
+    ∷ number_rule (codes "snapshot") ∷ value_rule (codes "snapshots")
     ∷ number_rule (codes "block-size") ∷ number_rule (codes "file-size") ∷ flag_rule (codes "clean")
     ∷ flag_rule (codes "json") ∷ [])
 
--- `install DIR OUT [--snapshot S] [--snapshots S,S,..] [--no-verify] [--memory MIB] [--clean] [-v]`
+-- `clean DIR [--dry-run]`
+abbrev pub clean_app : App
+clean_app = command_app (codes "clean") (required_argument (codes "DIR")
+    ∷ flag_rule (codes "dry-run") ∷ [])
+
+-- `job DIR --level N`
+abbrev pub job_app : App
+job_app = command_app (codes "job") (required_argument (codes "DIR")
+    ∷ record (number_rule (codes "level")) { required = true } ∷ [])
+
+-- `install DIR OUT [--snapshot S] [--snapshots S,S,..] [--no-verify] [--memory MIB] [--clean]`
 abbrev pub install_app : App
-install_app = with_rules (new_app (codes "install")) (required_argument (codes "DIR")
+install_app = command_app (codes "install") (required_argument (codes "DIR")
     ∷ required_argument (codes "OUT") ∷ number_rule (codes "snapshot")
     ∷ value_rule (codes "snapshots") ∷ flag_rule (codes "no-verify") ∷ memory_rule
-    ∷ flag_rule (codes "clean") ∷ verbose_rule ∷ [])
+    ∷ flag_rule (codes "clean") ∷ [])
 
--- `clean DIR [--dry-run] [-v]`
-abbrev pub clean_app : App
-clean_app = with_rules (new_app (codes "clean")) (required_argument (codes "DIR")
-    ∷ flag_rule (codes "dry-run") ∷ verbose_rule ∷ [])
+-- `blocks A B --at HEXKEY OUT`
+abbrev pub blocks_app : App
+blocks_app = command_app (codes "blocks") (required_argument (codes "A")
+    ∷ required_argument (codes "B") ∷ record (value_rule (codes "at")) { required = true }
+    ∷ required_argument (codes "OUT") ∷ [])
 
 -- the app with these commands too, in their order
 abbrev pub with_commands : App → List App → App
@@ -122,19 +134,19 @@ with_commands app (command ∷ commands) = with_commands (with_subcommand app co
 
 -- the program with its commands
 abbrev pub program_app : App
-program_app = with_commands bare_app (blocks_app ∷ dump_app ∷ manifest_app ∷ stats_app ∷ verify_app
-    ∷ get_app ∷ scan_app ∷ job_app ∷ compact_app ∷ install_app ∷ clean_app ∷ [])
+program_app = with_commands bare_app (stats_app ∷ verify_app ∷ get_app ∷ scan_app ∷ manifest_app
+    ∷ dump_app ∷ compact_app ∷ clean_app ∷ job_app ∷ install_app ∷ blocks_app ∷ [])
 
 -- the command of a name
 abbrev pub app_of_name : CommandName → App
-app_of_name Blocks = blocks_app
-app_of_name Dump = dump_app
-app_of_name Manifest = manifest_app
 app_of_name Stats = stats_app
 app_of_name Verify = verify_app
 app_of_name Get = get_app
 app_of_name Scan = scan_app
-app_of_name Job = job_app
+app_of_name Manifest = manifest_app
+app_of_name Dump = dump_app
 app_of_name Compact = compact_app
-app_of_name Install = install_app
 app_of_name Clean = clean_app
+app_of_name Job = job_app
+app_of_name Install = install_app
+app_of_name Blocks = blocks_app

@@ -1,14 +1,14 @@
 -- How commands are put together.
 use Rattle.std.specs.Prelude.{◌≡◌, Bool, false, map}
-use Rattle.clap.specs.Words.{App, Rule, app_of, new_app, new_rule, rule_of}
+use Rattle.clap.specs.Words.{App, Rule, app_of, new_rule, rule_of}
 use Rattle.clap.specs.declared.builder.arg.Arg.{Arg}
 use Rattle.clap.specs.declared.builder.command.Command.{Command}
 use Rattle.clap.specs.declared.builder.command.Command.TheViews.{out-Command}
-use Rattle.grammar.specs.Apps.{flag_rule, memory_rule, number_rule, value_rule, verbose_rule}
-use Rattle.grammar.specs.Apps.{with_rules}
+use Rattle.grammar.specs.Apps.{command_app, flag_rule, memory_rule, number_rule, quiet_rule}
+use Rattle.grammar.specs.Apps.{value_rule, verbose_rule}
 use Rattle.grammar.specs.declared.argument.Argument.{Argument}
 use Rattle.grammar.specs.declared.argument.Argument.TheVariants.{Place, Flag, Value, Number}
-use Rattle.grammar.specs.declared.argument.Argument.TheVariants.{Memory, Verbose}
+use Rattle.grammar.specs.declared.argument.Argument.TheVariants.{Memory, Verbose, Quiet}
 use Rattle.grammar.specs.declared.descriptions.Description.{Description}
 
 -- the command is this app, and no argument of it is one of all its subcommands
@@ -37,8 +37,9 @@ rule_of_argument (Value id name is_wanted help) = is_wanted_if is_wanted (value_
 rule_of_argument (Number id name is_wanted help) = is_wanted_if is_wanted (number_rule id.now)
 rule_of_argument Memory = memory_rule
 rule_of_argument Verbose = verbose_rule
+rule_of_argument Quiet = quiet_rule
 
 -- the command that is described so
 abbrev pub app_of_description : Description → App
 app_of_description description =
-    with_rules (new_app description.name.now) (map rule_of_argument description.arguments.now)
+    command_app description.name.now (map rule_of_argument description.arguments.now)

@@ -38,4 +38,6 @@ pub(crate) enum Argument<'a> {
     Memory,
     /// `-v`, or `--verbose`.
     Verbose,
+    /// `-q`, or `--quiet`.
+    Quiet,
 }

@@ -2,11 +2,11 @@
 
 ghost use Rattle.clap.specs.Words.{new_rule};
 ghost use Rattle.grammar.specs.Apps.{flag_rule, memory_rule, number_rule, value_rule};
-ghost use Rattle.grammar.specs.Apps.{verbose_rule};
+ghost use Rattle.grammar.specs.Apps.{quiet_rule, verbose_rule};
 ghost use Rattle.grammar.specs.Commands.{IsArgument, is_wanted_if, rule_of_argument};
 
 use crate::argument::Argument;
-use crate::arguments::{MEMORY_HELP, VERBOSE_HELP};
+use crate::arguments::{MEMORY_HELP, QUIET_HELP, VERBOSE_HELP};
 use clap::builder::ValueParser;
 use clap::{Arg, ArgAction, value_parser};
 use std::alloc::Global;
@@ -39,6 +39,7 @@ pub(crate) fn arg_of<'a>(alloc: Global, argument: Argument<'a>) -> Arg<'a>
         } => number(alloc, id, name, is_wanted, help),
         Argument::Memory => memory(alloc),
         Argument::Verbose => verbose(alloc),
+        Argument::Quiet => quiet(alloc),
     }
 }
 
@@ -91,4 +92,11 @@ fn verbose<'a>(alloc: Global) -> Arg<'a>
     ensures { IsArgument verbose_rule result }
 {
     flag(alloc, "verbose", VERBOSE_HELP).short('v')
+}
+
+/// `-q`, or `--quiet`.
+fn quiet<'a>(alloc: Global) -> Arg<'a>
+    ensures { IsArgument quiet_rule result }
+{
+    flag(alloc, "quiet", QUIET_HELP).short('q')
 }

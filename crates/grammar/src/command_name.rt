@@ -3,32 +3,32 @@
 /// A command of the program.
 #[derive(Clone, Copy, Debug, PartialEq, Eq)]
 pub enum CommandName {
-    Blocks,
-    Dump,
-    Manifest,
     Stats,
     Verify,
     Get,
     Scan,
-    Job,
+    Manifest,
+    Dump,
     Compact,
-    Install,
     Clean,
+    Job,
+    Install,
+    Blocks,
 }
 
-/// All commands, in the order of help.
+/// All commands, in the order of help: those that are wanted most come first.
 pub(crate) const COMMANDS: &[CommandName] = &[
-    CommandName::Blocks,
-    CommandName::Dump,
-    CommandName::Manifest,
     CommandName::Stats,
     CommandName::Verify,
     CommandName::Get,
     CommandName::Scan,
-    CommandName::Job,
+    CommandName::Manifest,
+    CommandName::Dump,
     CommandName::Compact,
-    CommandName::Install,
     CommandName::Clean,
+    CommandName::Job,
+    CommandName::Install,
+    CommandName::Blocks,
 ];
 
 impl CommandName {

@@ -3,11 +3,13 @@
 ghost use Rattle.std.specs.Prelude.{◌≡◌, IfOk, map};
 ghost use Rattle.clap.specs.Words.{App, app_of, new_app, with_subcommand};
 ghost use Rattle.grammar.specs.Apps.{app_of_name, bare_app, program_app, with_rules};
+ghost use Rattle.grammar.specs.Apps.{with_verbosity};
 ghost use Rattle.grammar.specs.Commands.{Extends, IsCommand, app_of_description};
 ghost use Rattle.grammar.specs.Commands.{rule_of_argument};
 
 use crate::argument::Argument;
 use crate::argument_forms::arg_of;
+use crate::arguments::VERBOSITY;
 use crate::command_name::{COMMANDS, CommandName};
 use crate::descriptions::{
     BLOCKS, CLEAN, COMPACT, DUMP, Description, GET, INSTALL, JOB, MANIFEST, SCAN, STATS, VERIFY,
@@ -15,21 +17,27 @@ use crate::descriptions::{
 use clap::Command;
 use std::alloc::{AllocError, Global};
 
-/// The version, and the logic of the kit that proved it.
-const VERSION: &str = "0.1.0, proved with a Rattle kit of logic dac8208d650f15bf";
+/// The version, and whether the program was proved, in a field of 128 bytes. The compiler writes
+/// that it was not. Once a kit has proved and built the program, `scripts/build` writes into the
+/// field of the built file which logic proved it.
+const VERSION: &str = concat!(
+    "0.1.0, unproved                                                         ",
+    "                                                               "
+);
 
 /// What is told after the program's help.
 const STATUSES: &str =
-    "A key is written as hexadecimal digits of either case, two a byte; - is the empty key.
-As text (--text) it is printable ASCII, and \\xHH for every other byte; \"\" is the empty key.
-The status is 0 when the work is done, 1 when it is refused, 2 for a fault of usage and 3 when a \
-device fails.";
+    "DIR is the folder of a LevelDB database that no other program has open. A key is
+hexadecimal digits, two a byte; - is the empty key. As text (--text) it is
+printable ASCII, and \\xHH for every other byte; \"\" is the empty key.
+The status is 0 when the work is done, 1 when it is refused, 2 for a fault of
+usage and 3 when a device fails.";
 
 /// The program with its commands. The only fault is out of memory.
 pub fn program_command<'a>(alloc: Global) -> Result<Command<'a>, AllocError>
     ensures { IfOk result (λ command. app_of command ≡ program_app) }
 {
-    let mut command = bare_command(alloc);
+    let mut command = bare_command(alloc)?;
     for name in COMMANDS {
         command = with_command(command, command_of_name(alloc, *name))?;
     }
@@ -42,6 +50,16 @@ pub fn command_alone<'a>(alloc: Global, name: CommandName) -> Result<Command<'a>
 {
     let command = command_of_name(alloc, name)?;
     command.bin_name(name.in_usage())
+}
+
+/// The command of this name, if there is one.
+pub fn command_named(name: &str) -> Option<CommandName> {
+    for command in COMMANDS {
+        if description_of(*command).name == name {
+            return Some(*command);
+        }
+    }
+    None
 }
 
 /// The command of a name.
@@ -70,15 +88,21 @@ fn description_of(name: CommandName) -> Description<'static>
     }
 }
 
+/// The version without the spaces of its field.
+fn version_told() -> &'static str {
+    VERSION.trim_end()
+}
+
 /// The program without its commands.
-fn bare_command<'a>(alloc: Global) -> Command<'a>
-    ensures { app_of result ≡ bare_app }
+fn bare_command<'a>(alloc: Global) -> Result<Command<'a>, AllocError>
+    ensures { IfOk result (λ command. app_of command ≡ bare_app) }
 {
-    Command::new(alloc, "sedvokt")
-        .version(VERSION)
-        .about("Carries out compactions of sorted tables, by proved code")
+    let command = Command::new(alloc, "sedvokt")
+        .version(version_told())
+        .about("Compacts LevelDB databases on several threads; tests and reads them")
         .after_help(STATUSES)
-        .subcommand_required(true)
+        .subcommand_required(true);
+    with_verbosity(alloc, command)
 }
 
 /// `command` with one more below it. If that one was refused for lack of memory, so is this.
@@ -97,7 +121,16 @@ fn described<'a>(alloc: Global, description: Description<'a>) -> Result<Command<
     ensures { IfOk result (IsCommand (app_of_description description.entry)) }
 {
     let command = named(alloc, description);
-    with_arguments(alloc, command, description.arguments)
+    let command = with_arguments(alloc, command, description.arguments)?;
+    with_verbosity(alloc, command)
+}
+
+/// The command with `-v` and `-q` too. The program has both, and so has each of its commands: they
+/// are given before a command or after it.
+fn with_verbosity<'a>(alloc: Global, command: Command<'a>) -> Result<Command<'a>, AllocError>
+    ensures { IfOk result (Extends with_verbosity command.entry) }
+{
+    with_arguments(alloc, command, VERBOSITY)
 }
 
 /// The same without arguments yet.

@@ -1,4 +1,6 @@
-//! What help says of each command, and its arguments.
+//! What help says of each command, and its arguments. Its lines have at most 80 columns: what an
+//! option says has at most 52 in a line. In examples DIR is the folder of any database, and 000005
+//! the number of any table.
 
 use crate::argument::Argument;
 use crate::arguments::{
@@ -13,67 +15,50 @@ use crate::arguments::{
 pub(crate) struct Description<'a> {
     /// Its name.
     pub name: &'a str,
-    /// What it does, in a line.
+    /// What it does and prints, in a line.
     pub about: &'a str,
-    /// Examples, which are told after its help.
+    /// The form of what it prints, and examples, which are told after its help.
     pub examples: &'a str,
-    /// Its arguments, in the order of its help.
+    /// Its arguments, in the order of its help. It has `-v` and `-q` too.
     pub arguments: &'a [Argument<'a>],
 }
 
-pub(crate) const BLOCKS: Description<'static> = Description {
-    name: "blocks",
-    about: "Merges the entries of two blocks into the block of their sorted union",
-    examples: "Example: sedvokt blocks tests/data/blocks/edges.a tests/data/blocks/edges.b --at - \
-        /tmp/edges",
-    arguments: &[FIRST_BLOCK, SECOND_BLOCK, BOUNDARY, BLOCK_OUT],
-};
-
-pub(crate) const DUMP: Description<'static> = Description {
-    name: "dump",
-    about: "Prints the entries of a table, a line an entry",
-    examples: "Example: sedvokt dump tests/data/folders/mixed/000019.ldb --text",
-    arguments: &[TABLE, TEXT],
-};
-
-pub(crate) const MANIFEST: Description<'static> = Description {
-    name: "manifest",
-    about: "Prints the version that a database folder holds",
-    examples: "Example: sedvokt manifest tests/data/folders/mixed --text",
-    arguments: &[FOLDER, TEXT, JSON, Argument::Verbose],
-};
-
 pub(crate) const STATS: Description<'static> = Description {
     name: "stats",
-    about: "Prints how many files, bytes and entries the version of a database folder has at each \
-        level",
-    examples: "Example: sedvokt stats tests/data/folders/mixed --text",
-    arguments: &[FOLDER, TEXT, JSON, Argument::Memory, Argument::Verbose],
+    about: "Prints the files, bytes and entries of each level",
+    examples: "Prints a table with a line a level, and the least and largest key of each.
+
+Examples: sedvokt stats DIR --text
+          sedvokt stats DIR --json",
+    arguments: &[FOLDER, TEXT, JSON, Argument::Memory],
 };
 
 pub(crate) const VERIFY: Description<'static> = Description {
     name: "verify",
-    about: "Tests whether the version that a database folder holds is lawful, or one table",
-    examples: "Examples: sedvokt verify tests/data/folders/mixed -v
-          sedvokt verify tests/data/folders/mixed --all-faults
-          sedvokt verify --table tests/data/folders/mixed/000019.ldb",
+    about: "Tests a database, or one table, and prints that it is lawful",
+    examples: "Prints, as an example, lawful: 4 files, 596 entries
+
+Examples: sedvokt verify DIR
+          sedvokt verify DIR --all-faults
+          sedvokt verify --table DIR/000005.ldb",
     arguments: &[
         FOLDER_OR_TABLE,
         ONE_TABLE,
         JSON,
         ALL_FAULTS,
         Argument::Memory,
-        Argument::Verbose,
     ],
 };
 
 pub(crate) const GET: Description<'static> = Description {
     name: "get",
-    about: "Prints the value that a key has in a database folder, or none",
-    examples: "Examples: sedvokt get tests/data/folders/mixed k00001 --text
-          sedvokt get tests/data/folders/mixed 6b3030303031 --at 900
-          sedvokt get tests/data/folders/mixed 6b3030303031 --no-verify --raw
-          sedvokt get tests/data/folders/mixed k00001 --text --json",
+    about: "Prints the value of a key, or none",
+    examples: "Prints the value in a line; none if the key has no value.
+
+Examples: sedvokt get DIR k00001 --text
+          sedvokt get DIR 6b3030303031 --at 900
+          sedvokt get DIR k00001 --text --no-verify --raw
+          sedvokt get DIR k00001 --text --json",
     arguments: &[
         FOLDER,
         KEY,
@@ -83,17 +68,17 @@ pub(crate) const GET: Description<'static> = Description {
         JSON,
         NO_VERIFY,
         Argument::Memory,
-        Argument::Verbose,
     ],
 };
 
 pub(crate) const SCAN: Description<'static> = Description {
     name: "scan",
-    about: "Prints the keys that have a value in a database folder, in their order, each with its \
-        value",
-    examples: "Examples: sedvokt scan tests/data/folders/mixed --text --limit 10
-          sedvokt scan tests/data/folders/mixed --from k00001 --to k00005 --text
-          sedvokt scan tests/data/folders/mixed --from 6b3030303031 --at 900 --keys",
+    about: "Prints the keys that have a value, in their order, with their values",
+    examples: "Prints a line a key: KEY VALUE
+
+Examples: sedvokt scan DIR --text --limit 10
+          sedvokt scan DIR --from k00001 --to k00005 --text
+          sedvokt scan DIR --from 6b3030303031 --at 900 --keys",
     arguments: &[
         FOLDER,
         FROM,
@@ -105,24 +90,37 @@ pub(crate) const SCAN: Description<'static> = Description {
         JSON,
         NO_VERIFY,
         Argument::Memory,
-        Argument::Verbose,
     ],
 };
 
-pub(crate) const JOB: Description<'static> = Description {
-    name: "job",
-    about: "Prints the names of the files that a compaction of a level would read",
-    examples: "Example: sedvokt job tests/data/folders/mixed --level 0",
-    arguments: &[FOLDER, WANTED_LEVEL, Argument::Verbose],
+pub(crate) const MANIFEST: Description<'static> = Description {
+    name: "manifest",
+    about: "Prints what the manifest says: numbers, and the files of each level",
+    examples: "Prints a line a number, and a line a file: file LEVEL NUMBER BYTES
+
+Examples: sedvokt manifest DIR
+          sedvokt manifest DIR --json --text",
+    arguments: &[FOLDER, TEXT, JSON],
+};
+
+pub(crate) const DUMP: Description<'static> = Description {
+    name: "dump",
+    about: "Prints the entries of one table",
+    examples: "Prints a line an entry: KEY SEQUENCE put VALUE, or KEY SEQUENCE del
+
+Example: sedvokt dump DIR/000005.ldb --text",
+    arguments: &[TABLE, TEXT],
 };
 
 pub(crate) const COMPACT: Description<'static> = Description {
     name: "compact",
-    about: "Compacts files of a database folder into the next level, and installs the outcome",
-    examples: "Examples: sedvokt compact /tmp/mixed --level 0 --explain
-          sedvokt compact /tmp/mixed --all --snapshots 900,1151 --clean
-          sedvokt compact /tmp/mixed --level 0 --out /tmp/outcome
-Each is for a new copy in /tmp of the folder tests/data/folders/mixed.",
+    about: "Compacts a level, or all, and prints which files are new and gone",
+    examples: "Prints a line a file: output NUMBER BYTES, or deleted LEVEL NUMBER; then the
+manifest that is installed.
+
+Examples: sedvokt compact DIR --level 0 --explain
+          sedvokt compact DIR --all --snapshots 900,1151 --clean
+          sedvokt compact DIR --level 0 --out OUT",
     arguments: &[
         FOLDER,
         LEVEL,
@@ -133,7 +131,6 @@ Each is for a new copy in /tmp of the folder tests/data/folders/mixed.",
         Argument::Memory,
         WORKERS,
         RANGES,
-        Argument::Verbose,
         EXPLAIN,
         SNAPSHOT,
         SNAPSHOTS,
@@ -144,12 +141,32 @@ Each is for a new copy in /tmp of the folder tests/data/folders/mixed.",
     ],
 };
 
+pub(crate) const CLEAN: Description<'static> = Description {
+    name: "clean",
+    about: "Removes the files that a database does not need; prints their names",
+    examples: "Prints a line a file: removed NAME BYTES, or removable NAME BYTES
+
+Examples: sedvokt clean DIR --dry-run
+          sedvokt clean DIR",
+    arguments: &[FOLDER, DRY_RUN],
+};
+
+pub(crate) const JOB: Description<'static> = Description {
+    name: "job",
+    about: "Prints the names of the files that a compaction would read",
+    examples: "Prints a line a name: those to copy for compact --out elsewhere.
+
+Example: sedvokt job DIR --level 0",
+    arguments: &[FOLDER, WANTED_LEVEL],
+};
+
 pub(crate) const INSTALL: Description<'static> = Description {
     name: "install",
-    about: "Installs in a database folder the outcome of a compaction of it",
-    examples: "Example: sedvokt install /tmp/mixed /tmp/outcome
-It is for a new copy in /tmp of the folder tests/data/folders/mixed, after the last example of \
-        compact.",
+    about: "Installs what compact --out made of a database, and prints the same",
+    examples: "Prints what compact prints without --out.
+
+Example: sedvokt install DIR OUT
+It is for a database DIR and the folder OUT of the last example of compact.",
     arguments: &[
         FOLDER,
         OUTCOME,
@@ -158,14 +175,14 @@ It is for a new copy in /tmp of the folder tests/data/folders/mixed, after the l
         NO_COMPARISON,
         Argument::Memory,
         CLEANS,
-        Argument::Verbose,
     ],
 };
 
-pub(crate) const CLEAN: Description<'static> = Description {
-    name: "clean",
-    about: "Removes the files of a database folder that its version does not need, and prints \
-        their names",
-    examples: "Example: sedvokt clean tests/data/folders/mixed --dry-run",
-    arguments: &[FOLDER, DRY_RUN, Argument::Verbose],
+pub(crate) const BLOCKS: Description<'static> = Description {
+    name: "blocks",
+    about: "Merges two blocks into one, and prints how much it has",
+    examples: "Prints, as an example, 2 entries, 34 bytes
+
+Example: sedvokt blocks A B --at - OUT",
+    arguments: &[FIRST_BLOCK, SECOND_BLOCK, BOUNDARY, BLOCK_OUT],
 };

@@ -2,21 +2,22 @@
 //!
 //! [`program_command`] describes them all, and [`command_alone`] one of them:
 //!
-//!     blocks A B --at HEXKEY OUT
-//!     dump TABLE [--text]
-//!     manifest DIR [--text] [--json] [-v]
-//!     stats DIR [--text] [--json] [--memory MIB] [-v]
-//!     verify DIR [--json | --all-faults] [--memory MIB] [-v]
+//!     stats DIR [--text] [--json] [--memory MIB]
+//!     verify DIR [--json | --all-faults] [--memory MIB]
 //!     verify --table FILE [--json]
-//!     get DIR KEY [--at N] [--text] [--raw | --json] [--no-verify] [--memory MIB] [-v]
+//!     get DIR KEY [--at N] [--text] [--raw | --json] [--no-verify] [--memory MIB]
 //!     scan DIR [--from KEY] [--to KEY] [--at N] [--limit N] [--keys] [--text] [--json]
-//!         [--no-verify] [--memory MIB] [-v]
-//!     job DIR --level N [-v]
+//!         [--no-verify] [--memory MIB]
+//!     manifest DIR [--text] [--json]
+//!     dump TABLE [--text]
 //!     compact DIR (--level N | --all) [options]
 //!     compact DIR --level N --out OUT [--first-number K] [options]
+//!     clean DIR [--dry-run]
+//!     job DIR --level N
 //!     install DIR OUT [--snapshot S | --snapshots S,S,..] [--no-verify] [--memory MIB] [--clean]
-//!         [-v]
-//!     clean DIR [--dry-run] [-v]
+//!     blocks A B --at HEXKEY OUT
+//!
+//! Each takes `-v` or `-q`, before its name or after it.
 //!
 //! Which options exclude one another, and which want another one, isn't said to `clap`: `usage`
 //! tests it. No contract says which texts of help there are.
@@ -31,4 +32,4 @@ mod descriptions;
 
 pub use argument_forms::MAX_MEMORY;
 pub use command_name::CommandName;
-pub use commands::{command_alone, program_command};
+pub use commands::{command_alone, command_named, program_command};

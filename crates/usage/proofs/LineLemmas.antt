@@ -3,7 +3,7 @@ use Rattle.std.proofs.Common.{◌≡◌, ℕ, Bool, true, false, List, [], Optio
 use Rattle.std.specs.Prelude.{◌&&◌, ◌⊎◌, IsErr, IsErrAnd, MatchOption, Box}
 use Rattle.std.specs.Borrow.{Bor}
 use Rattle.std.specs.Str.{bytes_eq}
-use Rattle.clap.specs.Words.{App, IsAmong, Row, Text, fault_of, is_simple, is_simple_and_free, built, kind_of, subcommand_of, subcommand_rows, subcommand_rows_of}
+use Rattle.clap.specs.Words.{App, IsAmong, Row, Text, fault_of, is_simple, is_simple_and_free, built, kind_of, matches_of, subcommand_of, subcommand_rows, subcommand_rows_of}
 use Rattle.clap.specs.Matches.{subcommand_name_of}
 use Rattle.clap.specs.Faults.{is_free_app}
 use Rattle.clap.specs.Kinds.{HasKind}
@@ -20,13 +20,16 @@ use Rattle.grammar.specs.Apps.{program_app}
 use Rattle.texts.specs.Spelling.{bytes_of}
 use Rattle.texts.specs.declared.spelling.Spelling.{Spelling}
 use Rattle.usage.specs.KeyParts.{IsKeyFault, IsNoKey}
-use Rattle.usage.specs.Line.{GivesNoKey, GivesRows, HasBlocks, HasGet, HasRows, LacksAll, LacksRows, LineGives, rows_under}
+use Rattle.usage.specs.Line.{CommandLineGives, GivesNoKey, GivesRows, HasBlocks, HasGet, HasRows, LacksRows, LineGives, rows_under}
 use Rattle.usage.specs.InstallLine.{HasInstall}
-use Rattle.usage.specs.LineParts.{GivesCommand, GivesTexts, IsKeyAnswer, IsRefusal, TextsGiven}
+use Rattle.usage.specs.LineParts.{GivesAsked, GivesTexts, IsKeyAnswer, IsRefusal, LacksAsked, TextsGiven}
 use Rattle.usage.specs.ScanLine.{AreKeyBounds, HasScan}
 use Rattle.usage.specs.ScanLineParts.{AreOptions}
+use Rattle.usage.specs.Verbosity.{rows_below}
+use Rattle.usage.specs.declared.command_line.Asked.{Asked}
 use Rattle.usage.specs.declared.command_line.Given.{Given}
 use Rattle.usage.specs.declared.compact_texts.CompactNumbers.{CompactNumbers}
+use Rattle.usage.specs.declared.requests.CommandLine.{CommandLine}
 use Rattle.usage.specs.declared.requests.CompactOptions.{CompactOptions}
 use Rattle.usage.specs.declared.requests.Line.{Line}
 use Rattle.usage.specs.declared.requests.RowOptions.{RowOptions}
@@ -106,28 +109,37 @@ TurnsInto-refused words e (Clap d) kind h =
     ]
 
 -- the answer that `clap`'s error turns into
-pub TextsGiven-refused : (app : App) (words : List Text) (e : Error) (r : Result Given Usage) → app ≡ program_app
+pub TextsGiven-refused : (app : App) (words : List Text) (e : Error) (r : Result Asked Usage) → app ≡ program_app
     → (is_simple_and_free app ≡ true → HasKind (fault_of app words) e)
     → IsErr r × IsErrAnd r (TurnsInto e) → TextsGiven words r
-TextsGiven-refused app words e (Ok given) same kind h = absurd h.1
+TextsGiven-refused app words e (Ok asked) same kind h = absurd h.1
 TextsGiven-refused app words e (Err u) same kind h =
     TurnsInto-refused words e u
     (subst (λ (a : App). HasKind (fault_of a words) e) same (kind (ap is_simple_and_free same ∙ is_simple_and_free-program))) h.1
 
--- what `clap` gives the program's command
-given_rows : (app : App) (words : List Text) (s : Option (Text × List Row)) → app ≡ program_app → s ≡ subcommand_of app words
-    → s ≡ subcommand_of program_app words
-given_rows app words s same e = e ∙ ap (λ (a : App). subcommand_of a words) same
+-- what `clap` gives the program and its command
+abbrev pub IsGivenBy : App → List Text → List Row → Option (Text × List Row) → Type 0
+IsGivenBy app words above s = (above ≡ matches_of app words) × (s ≡ subcommand_of app words)
 
--- the texts that a parse gives
-pub GivesTexts-parsed : {P : Type 0} (app : App) (words : List Text) (s : Option (Text × List Row)) (given : Given) → app ≡ program_app
-    → (is_simple_and_free app ≡ true → fault_of app words ≡ []) → (is_simple app ≡ true → P × (s ≡ subcommand_of app words))
-    → GivesCommand s given → GivesTexts words given
-GivesTexts-parsed app words s given same taken walked h = (
-  subst (λ (x : App). fault_of x words ≡ []) same (taken (ap is_simple_and_free same ∙ is_simple_and_free-program)),
-  subst (λ (t : Option (Text × List Row)). GivesCommand t given)
-      (given_rows app words s same (walked (ap is_simple same ∙ is_simple-program)).1) h,
-)
+given_rows : (app : App) (words : List Text) (above : List Row) (s : Option (Text × List Row)) → app ≡ program_app
+    → (is_simple app ≡ true → IsGivenBy app words above s) → IsGivenBy program_app words above s
+given_rows app words above s same walked =
+    subst (λ (a : App). IsGivenBy a words above s) same (walked (ap is_simple same ∙ is_simple-program))
+
+-- what holds of a parse holds of what the words give
+of_words : (words : List Text) (above : List Row) (s : Option (Text × List Row)) (P : List Row → Option (Text × List Row) → Type 0)
+    → IsGivenBy program_app words above s → P above s → P (matches_of program_app words) (subcommand_of program_app words)
+of_words words above s P given h =
+    subst (λ (t : Option (Text × List Row)). P (matches_of program_app words) t) given.1 (subst (λ (rows : List Row). P rows s) given.0 h)
+
+-- how much a parse asks to be told, and the texts that it gives
+pub TextsGiven-parsed : (app : App) (words : List Text) (above : List Row) (s : Option (Text × List Row)) (asked : Asked) → app ≡ program_app
+    → (is_simple_and_free app ≡ true → fault_of app words ≡ []) → (is_simple app ≡ true → IsGivenBy app words above s)
+    → GivesAsked above s asked → TextsGiven words (Ok asked)
+TextsGiven-parsed app words above s asked same taken walked h =
+    let accepted = subst (λ (x : App). fault_of x words ≡ []) same (taken (ap is_simple_and_free same ∙ is_simple_and_free-program)) in
+    let gives = of_words words above s (λ rows t. GivesAsked rows t asked) (given_rows app words above s same walked) h in
+    (gives.1, ((accepted, gives.0), gives.2))
 
 -- `clap`'s error turns into Memory or into itself
 pub TurnsInto-only : (e : Error) (u : Usage) → TurnsInto e u → IsRefusal u
@@ -138,17 +150,17 @@ TurnsInto-only e Snapshots h = absurd h
 TurnsInto-only e Memory h = tt
 TurnsInto-only e (Clap d) h = tt
 
--- the usage of words that are no command with its texts
-pub TextsGiven-lacking : {P : Type 0} (app : App) (words : List Text) (s : Option (Text × List Row)) (u : Usage) → app ≡ program_app
-    → (is_simple app ≡ true → P × (s ≡ subcommand_of app words)) → LacksAll s → IsRefusal u
+-- the usage of words that ask for more and for less, or are no command with its texts
+pub TextsGiven-lacking : (app : App) (words : List Text) (above : List Row) (s : Option (Text × List Row)) (u : Usage) → app ≡ program_app
+    → (is_simple app ≡ true → IsGivenBy app words above s) → LacksAsked above s → IsRefusal u
     → TextsGiven words (Err u)
-TextsGiven-lacking app words s Key same walked lacks h = absurd h
-TextsGiven-lacking app words s NotHexadecimal same walked lacks h = absurd h
-TextsGiven-lacking app words s NotText same walked lacks h = absurd h
-TextsGiven-lacking app words s Snapshots same walked lacks h = absurd h
-TextsGiven-lacking app words s Memory same walked lacks h = tt
-TextsGiven-lacking app words s (Clap d) same walked lacks h =
-    inr (subst LacksAll (given_rows app words s same (walked (ap is_simple same ∙ is_simple-program)).1) lacks)
+TextsGiven-lacking app words above s Key same walked lacks h = absurd h
+TextsGiven-lacking app words above s NotHexadecimal same walked lacks h = absurd h
+TextsGiven-lacking app words above s NotText same walked lacks h = absurd h
+TextsGiven-lacking app words above s Snapshots same walked lacks h = absurd h
+TextsGiven-lacking app words above s Memory same walked lacks h = tt
+TextsGiven-lacking app words above s (Clap d) same walked lacks h =
+    inr (of_words words above s LacksAsked (given_rows app words above s same walked) lacks)
 
 -- what the parse gives, known as this command
 pub given_as : (words : List Text) (given known : Given) → given ≡ known → GivesTexts words given → GivesTexts words known
@@ -158,6 +170,29 @@ given_as words given known is h = subst (GivesTexts words) is h
 pub LineGives-residual : (words : List Text) (u : Usage) (r : Result Line Usage) → IsErr r × IsErrAnd r (λ handed. handed ≡ u) → LineGives words (Err u) → LineGives words r
 LineGives-residual words u (Ok made) h gives = absurd h.1
 LineGives-residual words u (Err handed) h gives = subst (λ (x : Usage). LineGives words (Err x)) (sym h.1) gives
+
+-- the same of a command line
+pub CommandLineGives-residual : (words : List Text) (u : Usage) (r : Result CommandLine Usage) → IsErr r × IsErrAnd r (λ handed. handed ≡ u) → LineGives words (Err u) → CommandLineGives words r
+CommandLineGives-residual words u (Ok made) h gives = absurd h.1
+CommandLineGives-residual words u (Err handed) h gives = subst (λ (x : Usage). LineGives words (Err x)) (sym h.1) gives
+
+-- the usage of words that give no texts
+pub LineGives-no_texts : (words : List Text) (u : Usage) → TextsGiven words (Err u) → LineGives words (Err u)
+LineGives-no_texts words Key h = absurd h
+LineGives-no_texts words NotHexadecimal h = absurd h
+LineGives-no_texts words NotText h = absurd h
+LineGives-no_texts words Snapshots h = absurd h
+LineGives-no_texts words Memory h = tt
+LineGives-no_texts words (Clap e) h = h
+
+-- the rows of the command that a parse met, or none
+pub rows_below-met : (s : Option (Text × List Row)) (rows : List Row) → Some rows ≡ option_map (λ p. p.1) s → rows_below s ≡ rows
+rows_below-met None rows e = cc e
+rows_below-met (Some p) rows e = sym (ap (λ (o : Option (List Row)). unwrap_or o []) e)
+
+pub rows_below-none : (s : Option (Text × List Row)) → None ≡ option_map (λ p. p.1) s → rows_below s ≡ []
+rows_below-none None e = refl
+rows_below-none (Some p) e = cc e
 
 -- the usage of the key of `blocks`
 pub LineGives-key : (words : List Text) (a b at out : Text) (u : Usage) → GivesRows words (codes "blocks") (HasBlocks a b at out) → IsKeyAnswer at (Err u) → LineGives words (Err u)
@@ -178,10 +213,10 @@ no_key words spelling Fails Memory h gives = tt
 no_key words spelling Fails (Clap e) h gives = absurd h
 
 -- the usage of the key of `get`
-pub LineGives-get_key : (words : List Text) (folder key : Text) (at : Option ℕ) (spelling : Spelling) (is_raw is_json : Bool) (testing : Testing) (verbose : Bool) (u : Usage)
-    → GivesRows words (codes "get") (HasGet folder key at spelling is_raw is_json testing verbose) → IsKeyFault spelling (bytes_of spelling key ≡ None) u → LineGives words (Err u)
-LineGives-get_key words folder key at spelling is_raw is_json testing verbose u given h =
-    no_key words spelling (bytes_of spelling key ≡ None) u h (λ none. (key, (inl (folder, at, is_raw, is_json, testing, verbose, given), none)))
+pub LineGives-get_key : (words : List Text) (folder key : Text) (at : Option ℕ) (spelling : Spelling) (is_raw is_json : Bool) (testing : Testing) (u : Usage)
+    → GivesRows words (codes "get") (HasGet folder key at spelling is_raw is_json testing) → IsKeyFault spelling (bytes_of spelling key ≡ None) u → LineGives words (Err u)
+LineGives-get_key words folder key at spelling is_raw is_json testing u given h =
+    no_key words spelling (bytes_of spelling key ≡ None) u h (λ none. (key, (inl (folder, at, is_raw, is_json, testing, given), none)))
 
 -- the text of an option that stands for no bytes
 text_given : (spelling : Spelling) (text : Option Text) → IsNoKey spelling text → (t : Text) × ((text ≡ Some t) × (bytes_of spelling t ≡ None))
@@ -189,30 +224,30 @@ text_given spelling None h = absurd h
 text_given spelling (Some t) h = (t, (refl, h))
 
 -- the usage of the keys of `scan`
-pub LineGives-bounds : (words : List Text) (folder : Text) (from to : Option Text) (at limit : Option ℕ) (with_values : Bool) (spelling : Spelling) (is_json : Bool) (testing : Testing) (verbose : Bool) (u : Usage)
-    → GivesRows words (codes "scan") (HasScan folder from to at limit with_values spelling is_json testing verbose) → IsKeyFault spelling (IsNoKey spelling from ⊎ IsNoKey spelling to) u → LineGives words (Err u)
-LineGives-bounds words folder from to at limit with_values spelling is_json testing verbose u given h =
+pub LineGives-bounds : (words : List Text) (folder : Text) (from to : Option Text) (at limit : Option ℕ) (with_values : Bool) (spelling : Spelling) (is_json : Bool) (testing : Testing) (u : Usage)
+    → GivesRows words (codes "scan") (HasScan folder from to at limit with_values spelling is_json testing) → IsKeyFault spelling (IsNoKey spelling from ⊎ IsNoKey spelling to) u → LineGives words (Err u)
+LineGives-bounds words folder from to at limit with_values spelling is_json testing u given h =
     no_key words spelling (IsNoKey spelling from ⊎ IsNoKey spelling to) u h (λ none.
     elim none [
       | inl of_from ↦
           let text = text_given spelling from of_from in
-          (text.0, (inr (folder, from, to, at, limit, with_values, is_json, testing, verbose, (given, inl text.1.0)), text.1.1))
+          (text.0, (inr (folder, from, to, at, limit, with_values, is_json, testing, (given, inl text.1.0)), text.1.1))
       | inr of_to ↦
           let text = text_given spelling to of_to in
-          (text.0, (inr (folder, from, to, at, limit, with_values, is_json, testing, verbose, (given, inr text.1.0)), text.1.1))
+          (text.0, (inr (folder, from, to, at, limit, with_values, is_json, testing, (given, inr text.1.0)), text.1.1))
     ])
 
 -- the rows that `scan` is asked for
-pub LineGives-scan : (words : List Text) (folder : Text) (from to : Option Text) (at limit : Option ℕ) (with_values : Bool) (spelling : Spelling) (is_json : Bool) (testing : Testing) (verbose : Bool) (options : RowOptions)
-    → GivesRows words (codes "scan") (HasScan folder from to at limit with_values spelling is_json testing verbose) → AreOptions spelling from to at limit with_values options
-    → (from' to' : Option Text) × (GivesRows words (codes "scan") (HasScan folder from' to' options.at options.limit options.with_values spelling is_json testing verbose) × AreKeyBounds spelling from' to' options)
-LineGives-scan words folder from to at limit with_values spelling is_json testing verbose options given h = (
+pub LineGives-scan : (words : List Text) (folder : Text) (from to : Option Text) (at limit : Option ℕ) (with_values : Bool) (spelling : Spelling) (is_json : Bool) (testing : Testing) (options : RowOptions)
+    → GivesRows words (codes "scan") (HasScan folder from to at limit with_values spelling is_json testing) → AreOptions spelling from to at limit with_values options
+    → (from' to' : Option Text) × (GivesRows words (codes "scan") (HasScan folder from' to' options.at options.limit options.with_values spelling is_json testing) × AreKeyBounds spelling from' to' options)
+LineGives-scan words folder from to at limit with_values spelling is_json testing options given h = (
   from,
   to,
   (
-    subst (λ (n : Option ℕ). GivesRows words (codes "scan") (HasScan folder from to n options.limit options.with_values spelling is_json testing verbose)) (sym h.1.0)
-        (subst (λ (n : Option ℕ). GivesRows words (codes "scan") (HasScan folder from to at n options.with_values spelling is_json testing verbose)) (sym h.1.1.0)
-        (subst (λ (b : Bool). GivesRows words (codes "scan") (HasScan folder from to at limit b spelling is_json testing verbose)) (sym h.1.1.1) given)),
+    subst (λ (n : Option ℕ). GivesRows words (codes "scan") (HasScan folder from to n options.limit options.with_values spelling is_json testing)) (sym h.1.0)
+        (subst (λ (n : Option ℕ). GivesRows words (codes "scan") (HasScan folder from to at n options.with_values spelling is_json testing)) (sym h.1.1.0)
+        (subst (λ (b : Bool). GivesRows words (codes "scan") (HasScan folder from to at limit b spelling is_json testing)) (sym h.1.1.1) given)),
     h.0,
   ),
 )
@@ -237,14 +272,14 @@ LineGives-compact_list words folder options numbers since listed u given h = lis
     no_list None (Some text) given none = (text, (inl (folder, options, numbers, given), none))
 
 -- of `install`
-pub LineGives-install_list : (words : List Text) (folder out : Text) (since : Option ℕ) (listed : Option Text) (testing : Testing) (cleans verbose : Bool) (u : Usage)
-    → GivesRows words (codes "install") (HasInstall folder out since listed testing cleans verbose) → IsListFault since listed u → LineGives words (Err u)
-LineGives-install_list words folder out since listed testing cleans verbose u given h = list_fault words since listed u h (no_list since listed given)
+pub LineGives-install_list : (words : List Text) (folder out : Text) (since : Option ℕ) (listed : Option Text) (testing : Testing) (cleans : Bool) (u : Usage)
+    → GivesRows words (codes "install") (HasInstall folder out since listed testing cleans) → IsListFault since listed u → LineGives words (Err u)
+LineGives-install_list words folder out since listed testing cleans u given h = list_fault words since listed u h (no_list since listed given)
   where
-    no_list : (since : Option ℕ) (listed : Option Text) → GivesRows words (codes "install") (HasInstall folder out since listed testing cleans verbose) → IsNoList since listed → LineGives words (Err Snapshots)
+    no_list : (since : Option ℕ) (listed : Option Text) → GivesRows words (codes "install") (HasInstall folder out since listed testing cleans) → IsNoList since listed → LineGives words (Err Snapshots)
     no_list (Some sequence) listed given none = absurd none
     no_list None None given none = absurd none
-    no_list None (Some text) given none = (text, (inr (folder, out, testing, cleans, verbose, given), none))
+    no_list None (Some text) given none = (text, (inr (folder, out, testing, cleans, given), none))
 
 -- none of the commands has its texts
 pub MatchOption-lacking : {T : Type 0} (Lacks : Type 0) (Gives : T → Type 0) (r : Option T) → r ≡ None → Lacks → MatchOption r Lacks Gives

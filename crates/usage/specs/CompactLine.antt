@@ -17,7 +17,6 @@ use Rattle.settings.specs.declared.settings.Settings.{Settings}
 use Rattle.usage.specs.declared.requests.CompactOptions.{CompactOptions}
 use Rattle.usage.specs.declared.requests.CompactWork.{CompactWork}
 use Rattle.usage.specs.declared.requests.CompactWork.TheVariants.{Installed, Written}
-use Rattle.usage.specs.declared.requests.Verbosity.{Verbosity}
 use Rattle.usage.specs.declared.compact_texts.CompactNumbers.{CompactNumbers}
 
 -- the rows give these numbers of `--workers`, `--ranges`, `--block-size` and `--file-size`
@@ -58,11 +57,6 @@ LacksLevels rows = IsNoNumber (first_of (codes "level") rows)
     ⊎ (((first_of (codes "level") rows ≡ None) × (is_flagged (codes "all") rows ≡ false))
     ⊎ ((first_of (codes "level") rows ≢ None) × (is_flagged (codes "all") rows ≡ true)))
 
--- the rows give these flags of `--verbose` and `--explain`
-abbrev pub HasVerbosity : Verbosity → List Row → Type 0
-HasVerbosity verbosity rows = (verbosity.verbose ≡ is_flagged (codes "verbose") rows)
-    × (verbosity.explain ≡ is_flagged (codes "explain") rows)
-
 -- the rows give an option of a compaction that is installed: `--all`, `--clean` or `--explain`
 abbrev pub GivesInstalled : List Row → Type 0
 GivesInstalled rows = (is_flagged (codes "all") rows ≡ true)
@@ -90,7 +84,7 @@ LacksWork rows = LacksLevels rows ⊎ (IsNoNumber (first_of (codes "first-number
 -- the rows give this work, these options on the test, and these flags
 abbrev pub HasOptions : CompactOptions → List Row → Type 0
 HasOptions options rows = HasWork options.work rows × HasTesting options.testing rows
-    × HasVerbosity options.verbosity rows
+    × (options.explains ≡ is_flagged (codes "explain") rows)
     × (options.is_json ≡ is_flagged (codes "json") rows)
     × (options.cleans ≡ is_flagged (codes "clean") rows)
 

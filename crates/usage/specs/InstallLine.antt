@@ -18,14 +18,13 @@ LacksComparison rows = LacksReadable rows ⊎ (LacksMemory rows
     ⊎ ((is_flagged (codes "no-verify") rows ≡ true)
     × ((first_of (codes "snapshot") rows ≢ None) ⊎ (first_of (codes "snapshots") rows ≢ None))))
 
--- the rows give these texts of DIR and OUT, these snapshots and options on the test, and these
--- flags of `--clean` and `--verbose`
-abbrev pub HasInstall : Text → Text → Option ℕ → Option Text → Testing → Bool → Bool → List Row →
-    Type 0
-HasInstall folder out since listed testing cleans verbose rows =
+-- the rows give these texts of DIR and OUT, these snapshots and options on the test, and this flag
+-- of `--clean`
+abbrev pub HasInstall : Text → Text → Option ℕ → Option Text → Testing → Bool → List Row → Type 0
+HasInstall folder out since listed testing cleans rows =
     (first_of (codes "DIR") rows ≡ Some folder) × (first_of (codes "OUT") rows ≡ Some out)
     × HasComparison since listed testing rows
-    × (cleans ≡ is_flagged (codes "clean") rows) × (verbose ≡ is_flagged (codes "verbose") rows)
+    × (cleans ≡ is_flagged (codes "clean") rows)
 
 -- the rows give no text of DIR or OUT, or an invalid option
 abbrev pub LacksInstall : List Row → Type 0

@@ -1,6 +1,7 @@
 -- what contracts rest on
 pub mod Usage
 pub mod Flags
+pub mod Verbosity
 pub mod TestOptions
 pub mod Keys
 pub mod ScanLine

@@ -1,16 +1,20 @@
 -- What the steps of reading a command line answer.
-use Rattle.std.specs.Prelude.{◌≡◌, ℕ, List, [], Option, Some, None, Result, Ok, Err, codes}
+use Rattle.std.specs.Prelude.{◌≡◌, ◌⊎◌, ℕ, true, false, List, Option, Some, None, Result, Ok}
+use Rattle.std.specs.Prelude.{Err, codes}
 use Rattle.std.specs.Option.{option_map}
 use Rattle.std.specs.Global.{Vec}
-use Rattle.clap.specs.Words.{Row, Text, fault_of, subcommand_of}
+use Rattle.clap.specs.Words.{Row, Text, subcommand_of}
 use Rattle.usage.specs.CompactLine.{HasCompact}
 use Rattle.grammar.specs.Apps.{program_app}
 use Rattle.usage.specs.InstallLine.{HasInstall}
-use Rattle.usage.specs.Line.{HasBlocks, HasGet, HasRows, LineGives, RefusedWith, rows_under}
+use Rattle.usage.specs.Line.{AreAccepted, HasBlocks, HasGet, HasRows, LacksAll, LineGives}
+use Rattle.usage.specs.Line.{RefusedWith, rows_under, verbosity_asked}
 use Rattle.usage.specs.PlainLines.{HasClean, HasDump, HasJob, HasManifest, HasStats, HasTable}
 use Rattle.usage.specs.PlainLines.{HasVerify}
 use Rattle.usage.specs.ScanLine.{HasScan}
+use Rattle.usage.specs.Verbosity.{is_at_odds, verbosity_of}
 use Rattle.texts.specs.Text.{bytes_of_text}
+use Rattle.usage.specs.declared.command_line.Asked.{Asked}
 use Rattle.usage.specs.declared.command_line.Given.{Given}
 use Rattle.usage.specs.declared.command_line.Given.TheVariants.{Plain, Blocks, Get, Scan, Compact}
 use Rattle.usage.specs.declared.command_line.Given.TheVariants.{Install}
@@ -27,20 +31,20 @@ abbrev pub GivesPlain : Option (Text × List Row) → PlainLine → Type 0
 GivesPlain parsed (plain.Dump line) =
     HasRows (HasDump line.table.now line.spelling) (rows_under (codes "dump") parsed)
 GivesPlain parsed (plain.Manifest line) =
-    HasRows (HasManifest line.folder.now line.spelling line.is_json line.verbose)
+    HasRows (HasManifest line.folder.now line.spelling line.is_json)
     (rows_under (codes "manifest") parsed)
 GivesPlain parsed (plain.Stats line) =
-    HasRows (HasStats line.folder.now line.spelling line.is_json line.memory line.verbose)
+    HasRows (HasStats line.folder.now line.spelling line.is_json line.memory)
     (rows_under (codes "stats") parsed)
 GivesPlain parsed (plain.Verify line) =
-    HasRows (HasVerify line.folder.now line.form line.memory line.verbose)
+    HasRows (HasVerify line.folder.now line.form line.memory)
     (rows_under (codes "verify") parsed)
 GivesPlain parsed (plain.Table line) =
     HasRows (HasTable line.table.now line.is_json) (rows_under (codes "verify") parsed)
 GivesPlain parsed (plain.Job line) =
-    HasRows (HasJob line.folder.now line.level line.verbose) (rows_under (codes "job") parsed)
+    HasRows (HasJob line.folder.now line.level) (rows_under (codes "job") parsed)
 GivesPlain parsed (plain.Clean line) =
-    HasRows (HasClean line.folder.now line.is_dry_run line.verbose)
+    HasRows (HasClean line.folder.now line.is_dry_run)
     (rows_under (codes "clean") parsed)
 
 -- the parse is a command with these texts
@@ -51,12 +55,12 @@ GivesCommand parsed (Blocks texts) =
     (rows_under (codes "blocks") parsed)
 GivesCommand parsed (Get texts) =
     HasRows (HasGet texts.folder.now texts.key.now texts.at texts.spelling texts.flags.is_raw
-    texts.flags.is_json texts.testing texts.verbose)
+    texts.flags.is_json texts.testing)
     (rows_under (codes "get") parsed)
 GivesCommand parsed (Scan texts) =
     HasRows (HasScan texts.folder.now (option_map (λ text. text.now) texts.rows.from)
     (option_map (λ text. text.now) texts.rows.to) texts.rows.at texts.rows.limit
-    texts.rows.with_values texts.spelling texts.is_json texts.testing texts.verbose)
+    texts.rows.with_values texts.spelling texts.is_json texts.testing)
     (rows_under (codes "scan") parsed)
 GivesCommand parsed (Compact texts) =
     HasRows (HasCompact texts.folder.now texts.options texts.numbers texts.readable.since
@@ -64,14 +68,22 @@ GivesCommand parsed (Compact texts) =
     (rows_under (codes "compact") parsed)
 GivesCommand parsed (Install texts) =
     HasRows (HasInstall texts.folder.now texts.out.now texts.readable.since
-    (option_map (λ text. text.now) texts.readable.listed) texts.testing texts.cleans
-    texts.verbose)
+    (option_map (λ text. text.now) texts.readable.listed) texts.testing texts.cleans)
     (rows_under (codes "install") parsed)
 
--- `clap` accepts the words, and they give a command with these texts
+-- the words are accepted, and they give a command with these texts
 abbrev pub GivesTexts : List Text → Given → Type 0
-GivesTexts words given = (fault_of program_app words ≡ [])
-    × GivesCommand (subcommand_of program_app words) given
+GivesTexts words given =
+    AreAccepted words × GivesCommand (subcommand_of program_app words) given
+
+-- the parse asks to be told as much, and is a command with these texts
+abbrev pub GivesAsked : List Row → Option (Text × List Row) → Asked → Type 0
+GivesAsked above parsed asked = (is_at_odds above parsed ≡ false)
+    × (asked.verbosity ≡ verbosity_of above parsed) × GivesCommand parsed asked.texts
+
+-- the parse has both flags of how much is told, or is no command with all its texts
+abbrev pub LacksAsked : List Row → Option (Text × List Row) → Type 0
+LacksAsked above parsed = (is_at_odds above parsed ≡ true) ⊎ LacksAll parsed
 
 -- the line that such a command is
 abbrev pub IsPlainLine : PlainLine → Line → Type 0
@@ -87,9 +99,11 @@ IsRefusal NotHexadecimal = ⊥
 IsRefusal NotText = ⊥
 IsRefusal Snapshots = ⊥
 
--- the texts that a command line gives, or `clap`'s refusal; Memory may come for any words
-abbrev pub TextsGiven : List Text → Result Given Usage → Type 0
-TextsGiven words (Ok given) = GivesTexts words given
+-- how much the words ask to be told, and the texts that they give, or `clap`'s refusal; Memory may
+-- come for any words
+abbrev pub TextsGiven : List Text → Result Asked Usage → Type 0
+TextsGiven words (Ok asked) =
+    (asked.verbosity ≡ verbosity_asked words) × GivesTexts words asked.texts
 TextsGiven words (Err Key) = ⊥
 TextsGiven words (Err NotHexadecimal) = ⊥
 TextsGiven words (Err NotText) = ⊥

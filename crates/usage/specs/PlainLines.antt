@@ -17,16 +17,15 @@ abbrev pub HasDump : Text → Spelling → List Row → Type 0
 HasDump table spelling rows =
     (first_of (codes "TABLE") rows ≡ Some table) × (spelling ≡ spelling_of rows)
 
--- the rows give this text of DIR, this spelling, and these flags of `--json` and `--verbose`
-abbrev pub HasManifest : Text → Spelling → Bool → Bool → List Row → Type 0
-HasManifest folder spelling is_json verbose rows = (first_of (codes "DIR") rows ≡ Some folder)
+-- the rows give this text of DIR, this spelling, and this flag of `--json`
+abbrev pub HasManifest : Text → Spelling → Bool → List Row → Type 0
+HasManifest folder spelling is_json rows = (first_of (codes "DIR") rows ≡ Some folder)
     × (spelling ≡ spelling_of rows) × (is_json ≡ is_flagged (codes "json") rows)
-    × (verbose ≡ is_flagged (codes "verbose") rows)
 
 -- the same, and this number of `--memory`
-abbrev pub HasStats : Text → Spelling → Bool → ℕ → Bool → List Row → Type 0
-HasStats folder spelling is_json memory verbose rows =
-    HasManifest folder spelling is_json verbose rows
+abbrev pub HasStats : Text → Spelling → Bool → ℕ → List Row → Type 0
+HasStats folder spelling is_json memory rows =
+    HasManifest folder spelling is_json rows
     × IsMemoryOf (first_of (codes "memory") rows) memory
 
 -- the rows give no text of DIR, or a text of `--memory` that is no number
@@ -47,13 +46,12 @@ abbrev pub LacksForm : List Row → Type 0
 LacksForm rows =
     (is_flagged (codes "json") rows ≡ true) × (is_flagged (codes "all-faults") rows ≡ true)
 
--- the rows give this text of DIR and none of `--table`, the flag of this form, this number of
--- `--memory`, and this flag of `--verbose`
-abbrev pub HasVerify : Text → VerdictForm → ℕ → Bool → List Row → Type 0
-HasVerify folder form memory verbose rows = (first_of (codes "DIR") rows ≡ Some folder)
+-- the rows give this text of DIR and none of `--table`, the flag of this form, and this number of
+-- `--memory`
+abbrev pub HasVerify : Text → VerdictForm → ℕ → List Row → Type 0
+HasVerify folder form memory rows = (first_of (codes "DIR") rows ≡ Some folder)
     × (first_of (codes "table") rows ≡ None) × HasForm form rows
     × IsMemoryOf (first_of (codes "memory") rows) memory
-    × (verbose ≡ is_flagged (codes "verbose") rows)
 
 -- the rows give no text of DIR, one of `--table`, both `--json` and `--all-faults`, or a text of
 -- `--memory` that is no number
@@ -61,17 +59,16 @@ abbrev pub LacksVerify : List Row → Type 0
 LacksVerify rows = (first_of (codes "DIR") rows ≡ None) ⊎ ((first_of (codes "table") rows ≢ None)
     ⊎ (LacksForm rows ⊎ LacksMemory rows))
 
--- the rows give something of a folder or its test: DIR, `--all-faults`, `--memory` or `--verbose`
+-- the rows give something of a folder or its test: DIR, `--all-faults` or `--memory`
 abbrev pub GivesFolder : List Row → Type 0
 GivesFolder rows = (first_of (codes "DIR") rows ≢ None)
-    ⊎ ((is_flagged (codes "all-faults") rows ≡ true)
-    ⊎ ((first_of (codes "memory") rows ≢ None) ⊎ (is_flagged (codes "verbose") rows ≡ true)))
+    ⊎ ((is_flagged (codes "all-faults") rows ≡ true) ⊎ (first_of (codes "memory") rows ≢ None))
 
 -- the rows give none of it
 abbrev pub GivesNoFolder : List Row → Type 0
 GivesNoFolder rows = (first_of (codes "DIR") rows ≡ None)
     × (is_flagged (codes "all-faults") rows ≡ false)
-    × (first_of (codes "memory") rows ≡ None) × (is_flagged (codes "verbose") rows ≡ false)
+    × (first_of (codes "memory") rows ≡ None)
 
 -- the rows give this text of `--table`, this flag of `--json`, and nothing else
 abbrev pub HasTable : Text → Bool → List Row → Type 0
@@ -82,19 +79,17 @@ HasTable table is_json rows = (first_of (codes "table") rows ≡ Some table)
 abbrev pub LacksTable : List Row → Type 0
 LacksTable rows = (first_of (codes "table") rows ≡ None) ⊎ GivesFolder rows
 
--- the rows give this text of DIR, this number of `--level`, and this flag of `--verbose`
-abbrev pub HasJob : Text → ℕ → Bool → List Row → Type 0
-HasJob folder level verbose rows = (first_of (codes "DIR") rows ≡ Some folder)
+-- the rows give this text of DIR, and this number of `--level`
+abbrev pub HasJob : Text → ℕ → List Row → Type 0
+HasJob folder level rows = (first_of (codes "DIR") rows ≡ Some folder)
     × IsNumberOf (first_of (codes "level") rows) (Some level)
-    × (verbose ≡ is_flagged (codes "verbose") rows)
 
 -- the rows give no text of DIR, or none of `--level` that is a number
 abbrev pub LacksJob : List Row → Type 0
 LacksJob rows = (first_of (codes "DIR") rows ≡ None)
     ⊎ ((first_of (codes "level") rows ≡ None) ⊎ IsNoNumber (first_of (codes "level") rows))
 
--- the rows give this text of DIR, and these flags of `--dry-run` and `--verbose`
-abbrev pub HasClean : Text → Bool → Bool → List Row → Type 0
-HasClean folder is_dry_run verbose rows = (first_of (codes "DIR") rows ≡ Some folder)
+-- the rows give this text of DIR, and this flag of `--dry-run`
+abbrev pub HasClean : Text → Bool → List Row → Type 0
+HasClean folder is_dry_run rows = (first_of (codes "DIR") rows ≡ Some folder)
     × (is_dry_run ≡ is_flagged (codes "dry-run") rows)
-    × (verbose ≡ is_flagged (codes "verbose") rows)

@@ -25,14 +25,14 @@ LacksRowTexts rows =
     IsNoNumber (first_of (codes "at") rows) ⊎ IsNoNumber (first_of (codes "limit") rows)
 
 -- the rows give this text of DIR, these texts and numbers, this spelling, this flag of `--json`,
--- these options on the test, and this flag of `--verbose`
+-- and these options on the test
 abbrev pub HasScan : Text → Option Text → Option Text → Option ℕ → Option ℕ → Bool → Spelling →
-    Bool → Testing → Bool → List Row → Type 0
-HasScan folder from to at limit with_values spelling is_json testing verbose rows =
+    Bool → Testing → List Row → Type 0
+HasScan folder from to at limit with_values spelling is_json testing rows =
     (first_of (codes "DIR") rows ≡ Some folder)
     × HasRowTexts from to at limit with_values rows
     × (spelling ≡ spelling_of rows) × (is_json ≡ is_flagged (codes "json") rows)
-    × HasTesting testing rows × (verbose ≡ is_flagged (codes "verbose") rows)
+    × HasTesting testing rows
 
 -- the rows give no text of DIR, or a text of `--at`, `--limit` or `--memory` that is no number
 abbrev pub LacksScan : List Row → Type 0

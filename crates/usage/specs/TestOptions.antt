@@ -5,10 +5,10 @@ use Rattle.usage.specs.Flags.{is_flagged}
 use Rattle.texts.specs.Text.{IsNoNumber, IsNumberOf}
 use Rattle.usage.specs.declared.requests.Testing.{Testing}
 
--- the number of a text, or 1024 if there is no text
+-- the number of a text, or 128 if there is no text
 abbrev pub IsMemoryOf : Option Text → ℕ → Type 0
 IsMemoryOf text memory = (given : Option ℕ)
-    × (IsNumberOf text given × (memory ≡ unwrap_or given 1024))
+    × (IsNumberOf text given × (memory ≡ unwrap_or given 128))
 
 -- the rows give this flag of `--no-verify`, and this number of `--memory`
 abbrev pub HasTesting : Testing → List Row → Type 0

@@ -3,10 +3,11 @@
 ghost use Rattle.std.specs.Prelude.{◌≡◌, List, MatchOption, codes, map};
 ghost use Rattle.clap.specs.Words.{Text, app_of, found_of, rows_of, subcommand_rows_of};
 ghost use Rattle.grammar.specs.Apps.{program_app};
-ghost use Rattle.usage.specs.Line.{GivesRows, HasBlocks, HasGet, HasRows, HasValueFlags};
-ghost use Rattle.usage.specs.Line.{LacksAll, LacksBlocks, LacksGet, LacksRows, LacksValueFlags};
-ghost use Rattle.usage.specs.Line.{LineGives, rows_under};
-ghost use Rattle.usage.specs.LineParts.{GivesCommand, IsKeyAnswer, IsRefusal, TextsGiven};
+ghost use Rattle.usage.specs.Line.{CommandLineGives, GivesRows, HasBlocks, HasGet, HasRows};
+ghost use Rattle.usage.specs.Line.{HasValueFlags, LacksAll, LacksBlocks, LacksGet, LacksRows};
+ghost use Rattle.usage.specs.Line.{LacksValueFlags, LineGives, rows_under};
+ghost use Rattle.usage.specs.LineParts.{GivesAsked, GivesCommand, GivesTexts, IsKeyAnswer};
+ghost use Rattle.usage.specs.LineParts.{IsRefusal, LacksAsked, TextsGiven};
 
 use crate::arguments::{first_number, first_text, is_flagged, spelling_given};
 use crate::compact_line::{compact_line, install_line};
@@ -15,10 +16,11 @@ use crate::complaint::complaint_of;
 use crate::install_texts::{InstallTexts, install_texts};
 use crate::keys::key_in;
 use crate::plain_line::{PlainLine, plain_line};
-use crate::requests::{BlocksLine, GetLine, Line, Testing, Usage};
+use crate::requests::{BlocksLine, CommandLine, GetLine, Line, Testing, Usage, Verbosity};
 use crate::scan_line::scan_line;
 use crate::scan_texts::{ScanTexts, scan_texts};
 use crate::test_options::testing_of;
+use crate::verbosity::verbosity_given;
 use clap::{ArgMatches, Command};
 use grammar::program_command;
 use std::alloc::Global;
@@ -31,7 +33,7 @@ use texts::{Spelling, key_of};
 /// Of several faults of usage the first of these is answered:
 ///
 /// 1. a fault that `clap` finds;
-/// 2. options that have to go together, or must not;
+/// 2. options that have to go together, or must not: `--verbose` and `--quiet` first;
 /// 3. a number with a sign;
 /// 4. `Key`, `Hexadecimal` or `Text`: a text that is no key, of `--from` before that of `--to`; or
 ///    `Snapshots`: a text that is no list of numbers.
@@ -41,10 +43,22 @@ pub fn line<'a, S: AsStr>(
     alloc: Global,
     words: &'a [S],
     listed: &'a mut Vec<u64>,
-) -> Result<Line<'a>, Usage>
-    ensures { LineGives (map S.text words.entry.now) result }
+) -> Result<CommandLine<'a>, Usage>
+    ensures { CommandLineGives (map S.text words.entry.now) result }
 {
-    match texts_given(alloc, words)? {
+    let asked = texts_given(alloc, words)?;
+    let line = line_of(alloc, asked.texts, listed)?;
+    Ok(CommandLine {
+        verbosity: asked.verbosity,
+        line,
+    })
+}
+
+/// The line of the texts given to a command.
+fn line_of<'a>(alloc: Global, given: Given<'a>, listed: &'a mut Vec<u64>) -> Result<Line<'a>, Usage>
+    ensures { (words : List Text) → GivesTexts words given.entry → LineGives words result }
+{
+    match given {
         Given::Plain(texts) => Ok(texts.line()),
         Given::Blocks(texts) => blocks_line(alloc, texts),
         Given::Get(texts) => get_line(alloc, texts),
@@ -52,6 +66,13 @@ pub fn line<'a, S: AsStr>(
         Given::Compact(texts) => compact_line(alloc, texts, listed),
         Given::Install(texts) => install_line(alloc, texts, listed),
     }
+}
+
+/// What the words ask for: how much is told, and the texts given to a command.
+#[derive(Clone, Copy)]
+struct Asked<'a> {
+    verbosity: Verbosity,
+    texts: Given<'a>,
 }
 
 /// The texts given to a command.
@@ -129,18 +150,16 @@ struct GetTexts<'a> {
     spelling: Spelling,
     flags: ValueFlags,
     testing: Testing,
-    verbose: bool,
 }
 
 impl<'a> GetTexts<'a> {
     /// The texts of both arguments, the number of `--at` if it is given, the spelling, and the
-    /// options on the test. And whether `--raw` or `--json` is given, and whether `--verbose` is
-    /// given.
+    /// options on the test. And whether `--raw` or `--json` is given.
     fn of(values: &ArgMatches<'a>) -> Option<GetTexts<'a>>
         ensures { let rows = rows_of (found_of values.now) in
             MatchOption result (LacksGet rows)
             (λ texts. HasGet texts.folder.now texts.key.now texts.at texts.spelling
-            texts.flags.is_raw texts.flags.is_json texts.testing texts.verbose rows) }
+            texts.flags.is_raw texts.flags.is_json texts.testing rows) }
     {
         let Some(folder) = first_text(values, "DIR") else {
             return None;
@@ -164,30 +183,29 @@ impl<'a> GetTexts<'a> {
             spelling: spelling_given(values),
             flags,
             testing,
-            verbose: is_flagged(values, "verbose"),
         })
     }
 }
 
-/// The texts that the words give to a command.
-fn texts_given<'a, S: AsStr>(alloc: Global, words: &'a [S]) -> Result<Given<'a>, Usage>
+/// How much the words ask to be told, and the texts that they give to a command.
+fn texts_given<'a, S: AsStr>(alloc: Global, words: &'a [S]) -> Result<Asked<'a>, Usage>
     ensures { TextsGiven (map S.text words.entry.now) result }
 {
     let mut command = program_command(alloc)?;
     texts_taken(alloc, &mut command, words)
 }
 
-/// The texts that the words give to the program's `command`.
+/// The same of the program's `command`.
 fn texts_taken<'a, S: AsStr>(
     alloc: Global,
     command: &mut Command<'a>,
     words: &'a [S],
-) -> Result<Given<'a>, Usage>
+) -> Result<Asked<'a>, Usage>
     ensures { app_of command.old ≡ program_app → TextsGiven (map S.text words.entry.now) result }
 {
     let matches = command.try_get_matches_from_mut(words)?;
-    match texts_in(&matches) {
-        Some(given) => Ok(given),
+    match asked_in(&matches) {
+        Some(asked) => Ok(asked),
         // `clap` accepts a number with a plus sign, and knows no options that go together or not.
         // It demands all else.
         None => Err(refusal(alloc, &matches)),
@@ -203,6 +221,18 @@ fn refusal(alloc: Global, matches: &ArgMatches<'_>) -> Usage
         // Formatting fails only if memory runs out.
         Err(_) => Usage::Memory,
     }
+}
+
+/// How much is told, and the texts of the command. None if both `--verbose` and `--quiet` are given,
+/// or if there are no texts.
+fn asked_in<'a>(matches: &ArgMatches<'a>) -> Option<Asked<'a>>
+    ensures { let above = rows_of (found_of matches.now) in
+        let parsed = subcommand_rows_of matches.now in
+        MatchOption result (LacksAsked above parsed) (GivesAsked above parsed) }
+{
+    let verbosity = verbosity_given(matches)?;
+    let texts = texts_in(matches)?;
+    Some(Asked { verbosity, texts })
 }
 
 /// The texts of the command, if it is one of the program's and its texts are there.
@@ -247,7 +277,7 @@ fn get_texts<'a>(matches: &ArgMatches<'a>) -> Option<GetTexts<'a>>
         MatchOption result (LacksRows LacksGet given)
         (λ texts. HasRows
         (HasGet texts.folder.now texts.key.now texts.at texts.spelling texts.flags.is_raw
-        texts.flags.is_json texts.testing texts.verbose) given) }
+        texts.flags.is_json texts.testing) given) }
 {
     let Some(values) = matches.subcommand_matches("get") else {
         return None;
@@ -274,7 +304,7 @@ fn blocks_line<'a>(alloc: Global, texts: BlocksTexts<'a>) -> Result<Line<'a>, Us
 fn get_line<'a>(alloc: Global, texts: GetTexts<'a>) -> Result<Line<'a>, Usage>
     ensures { (words : List Text) → GivesRows words (codes "get")
         (HasGet texts.entry.folder.now texts.entry.key.now texts.entry.at texts.entry.spelling
-        texts.entry.flags.is_raw texts.entry.flags.is_json texts.entry.testing texts.entry.verbose)
+        texts.entry.flags.is_raw texts.entry.flags.is_json texts.entry.testing)
         → LineGives words result }
 {
     let key = key_in(alloc, texts.spelling, texts.key)?;
@@ -286,7 +316,6 @@ fn get_line<'a>(alloc: Global, texts: GetTexts<'a>) -> Result<Line<'a>, Usage>
         is_raw: texts.flags.is_raw,
         is_json: texts.flags.is_json,
         testing: texts.testing,
-        verbose: texts.verbose,
     }))
 }
 

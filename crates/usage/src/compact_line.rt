@@ -67,7 +67,7 @@ pub(crate) fn install_line<'a>(
     ensures { (words : List Text) → GivesRows words (codes "install")
         (HasInstall texts.entry.folder.now texts.entry.out.now texts.entry.readable.since
         (option_map (λ text. text.now) texts.entry.readable.listed) texts.entry.testing
-        texts.entry.cleans texts.entry.verbose)
+        texts.entry.cleans)
         → LineGives words result }
 {
     let snapshots = snapshots(alloc, texts.readable, listed)?;
@@ -77,7 +77,6 @@ pub(crate) fn install_line<'a>(
         snapshots,
         testing: texts.testing,
         cleans: texts.cleans,
-        verbose: texts.verbose,
     }))
 }
 

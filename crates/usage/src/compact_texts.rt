@@ -5,13 +5,13 @@ ghost use Rattle.std.specs.Option.{option_map};
 ghost use Rattle.clap.specs.Words.{first_of, found_of, rows_of, subcommand_rows_of};
 ghost use Rattle.texts.specs.Text.{IsNumberOf};
 ghost use Rattle.usage.specs.CompactLine.{HasCompact, HasLevels, HasNumbers};
-ghost use Rattle.usage.specs.CompactLine.{HasOptions, HasReadable, HasVerbosity, HasWork};
+ghost use Rattle.usage.specs.CompactLine.{HasOptions, HasReadable, HasWork};
 ghost use Rattle.usage.specs.CompactLine.{LacksCompact, LacksLevels, LacksNumbers};
 ghost use Rattle.usage.specs.CompactLine.{LacksOptions, LacksReadable, LacksWork};
 ghost use Rattle.usage.specs.Line.{HasRows, LacksRows, rows_under};
 
 use crate::arguments::{first_number, first_text, is_flagged};
-use crate::requests::{CompactOptions, CompactWork, Levels, Verbosity};
+use crate::requests::{CompactOptions, CompactWork, Levels};
 use crate::test_options::testing_of;
 use clap::ArgMatches;
 
@@ -131,7 +131,7 @@ fn options_of<'a>(values: &ArgMatches<'a>) -> Option<CompactOptions<'a>>
     Some(CompactOptions {
         work,
         testing,
-        verbosity: verbosity_of(values),
+        explains: is_flagged(values, "explain"),
         is_json: is_flagged(values, "json"),
         cleans: is_flagged(values, "clean"),
     })
@@ -185,16 +185,6 @@ fn written<'a>(
             first_number,
         }),
         Levels::All => None,
-    }
-}
-
-/// What is told beside the answer.
-fn verbosity_of(values: &ArgMatches<'_>) -> Verbosity
-    ensures { HasVerbosity result (rows_of (found_of values.now)) }
-{
-    Verbosity {
-        verbose: is_flagged(values, "verbose"),
-        explain: is_flagged(values, "explain"),
     }
 }
 

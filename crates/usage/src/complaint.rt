@@ -7,9 +7,10 @@ use crate::arguments::{first_text, is_flagged};
 use crate::exclusions::{
     COMPACT_EXCLUSIONS, Exclusion, GET_EXCLUSIONS, INSTALL_EXCLUSIONS, VERIFY_EXCLUSIONS,
 };
+use crate::verbosity::verbosity_given;
 use clap::ArgMatches;
 use clap::error::{Error, ErrorKind};
-use grammar::{CommandName, command_alone};
+use grammar::{CommandName, command_alone, command_named};
 use std::alloc::{AllocError, Global};
 
 /// The message if neither `--level` nor `--all` is given.
@@ -22,6 +23,9 @@ const NO_OUT: &str = "the following required arguments were not provided:\n  --o
 /// The message if neither a folder nor a table is given.
 const NO_FOLDER: &str =
     "the following required arguments were not provided:\n  <DIR|--table <FILE>>";
+
+/// The message if both `--verbose` and `--quiet` are given.
+const AT_ODDS: &str = "the argument '--verbose' cannot be used with '--quiet'";
 
 /// The message for a text that is no number.
 const NO_DIGITS: &str = "a number is written in decimal digits alone";
@@ -47,25 +51,32 @@ impl Complaint {
 /// What is wrong with words that `clap` accepts. It knows no options that go together or not, and
 /// accepts a number with a plus sign.
 pub(crate) fn complaint_of(matches: &ArgMatches<'_>) -> Complaint {
-    if let Some(values) = matches.subcommand_matches("compact") {
-        return compact_complaint(values);
+    let command = command_in(matches);
+    if verbosity_given(matches).is_none() {
+        return Complaint {
+            command,
+            kind: ErrorKind::ArgumentConflict,
+            text: AT_ODDS,
+        };
     }
-    if let Some(values) = matches.subcommand_matches("verify") {
-        return verify_complaint(values);
+    let Some((_, values)) = matches.subcommand() else {
+        return number_complaint(command);
+    };
+    match command {
+        CommandName::Compact => compact_complaint(values),
+        CommandName::Verify => verify_complaint(values),
+        CommandName::Get => complaint_by(command, GET_EXCLUSIONS, values),
+        CommandName::Install => complaint_by(command, INSTALL_EXCLUSIONS, values),
+        _ => number_complaint(command),
     }
-    if let Some(values) = matches.subcommand_matches("get") {
-        return complaint_by(CommandName::Get, GET_EXCLUSIONS, values);
+}
+
+/// The command of words that `clap` accepts. It demands one of the program's.
+fn command_in(matches: &ArgMatches<'_>) -> CommandName {
+    match matches.subcommand_name() {
+        Some(name) => command_named(name).unwrap_or(CommandName::Stats),
+        None => CommandName::Stats,
     }
-    if let Some(values) = matches.subcommand_matches("install") {
-        return complaint_by(CommandName::Install, INSTALL_EXCLUSIONS, values);
-    }
-    if matches.subcommand_matches("stats").is_some() {
-        return number_complaint(CommandName::Stats);
-    }
-    if matches.subcommand_matches("job").is_some() {
-        return number_complaint(CommandName::Job);
-    }
-    number_complaint(CommandName::Scan)
 }
 
 /// What is wrong with what is given to `verify`.

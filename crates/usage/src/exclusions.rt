@@ -44,11 +44,6 @@ pub(crate) const VERIFY_EXCLUSIONS: &[Exclusion] = &[
         text: "the argument '--table <FILE>' cannot be used with '--memory <MIB>'",
     },
     Exclusion {
-        first: Side::Value("table"),
-        second: Side::Flag("verbose"),
-        text: "the argument '--table <FILE>' cannot be used with '--verbose'",
-    },
-    Exclusion {
         first: Side::Flag("json"),
         second: Side::Flag("all-faults"),
         text: "the argument '--json' cannot be used with '--all-faults'",

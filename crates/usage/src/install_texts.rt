@@ -50,7 +50,6 @@ pub(crate) struct InstallTexts<'a> {
     pub readable: ReadableTexts<'a>,
     pub testing: Testing,
     pub cleans: bool,
-    pub verbose: bool,
 }
 
 impl<'a> InstallTexts<'a> {
@@ -61,7 +60,7 @@ impl<'a> InstallTexts<'a> {
             MatchOption result (LacksInstall rows)
             (λ texts. HasInstall texts.folder.now texts.out.now texts.readable.since
             (option_map (λ text. text.now) texts.readable.listed) texts.testing texts.cleans
-            texts.verbose rows) }
+            rows) }
     {
         let Some(folder) = first_text(values, "DIR") else {
             return None;
@@ -78,7 +77,6 @@ impl<'a> InstallTexts<'a> {
             readable: comparison.readable,
             testing: comparison.testing,
             cleans: is_flagged(values, "clean"),
-            verbose: is_flagged(values, "verbose"),
         })
     }
 }
@@ -89,8 +87,8 @@ pub(crate) fn install_texts<'a>(matches: &ArgMatches<'a>) -> Option<InstallTexts
         MatchOption result (LacksRows LacksInstall given)
         (λ texts. HasRows
         (HasInstall texts.folder.now texts.out.now texts.readable.since
-        (option_map (λ text. text.now) texts.readable.listed) texts.testing texts.cleans
-        texts.verbose) given) }
+        (option_map (λ text. text.now) texts.readable.listed) texts.testing texts.cleans)
+        given) }
 {
     let Some(values) = matches.subcommand_matches("install") else {
         return None;

@@ -87,12 +87,11 @@ impl<'a> DumpLine<'a> {
 }
 
 impl<'a> ManifestLine<'a> {
-    /// The text of DIR, the spelling, and whether `--json` and `--verbose` are given.
+    /// The text of DIR, the spelling, and whether `--json` is given.
     fn of(values: &ArgMatches<'a>) -> Option<ManifestLine<'a>>
         ensures { let rows = rows_of (found_of values.now) in
             MatchOption result (LacksPath (codes "DIR") rows)
-            (λ line. HasManifest line.folder.now line.spelling line.is_json line.verbose
-            rows) }
+            (λ line. HasManifest line.folder.now line.spelling line.is_json rows) }
     {
         let Some(folder) = first_text(values, "DIR") else {
             return None;
@@ -101,19 +100,17 @@ impl<'a> ManifestLine<'a> {
             folder,
             spelling: spelling_given(values),
             is_json: is_flagged(values, "json"),
-            verbose: is_flagged(values, "verbose"),
         })
     }
 }
 
 impl<'a> StatsLine<'a> {
-    /// The text of DIR, the spelling, the number of `--memory`, and whether `--json` and
-    /// `--verbose` are given. None if DIR is missing, or if the number is invalid.
+    /// The text of DIR, the spelling, the number of `--memory`, and whether `--json` is given. None
+    /// if DIR is missing, or if the number is invalid.
     fn of(values: &ArgMatches<'a>) -> Option<StatsLine<'a>>
         ensures { let rows = rows_of (found_of values.now) in
             MatchOption result (LacksStats rows)
-            (λ line. HasStats line.folder.now line.spelling line.is_json line.memory
-            line.verbose rows) }
+            (λ line. HasStats line.folder.now line.spelling line.is_json line.memory rows) }
     {
         let Some(folder) = first_text(values, "DIR") else {
             return None;
@@ -126,18 +123,17 @@ impl<'a> StatsLine<'a> {
             spelling: spelling_given(values),
             is_json: is_flagged(values, "json"),
             memory,
-            verbose: is_flagged(values, "verbose"),
         })
     }
 }
 
 impl<'a> JobLine<'a> {
-    /// The text of DIR, the number of `--level`, and whether `--verbose` is given. None if one of
-    /// the first two is missing, or if the number is invalid.
+    /// The text of DIR, and the number of `--level`. None if one of them is missing, or if the
+    /// number is invalid.
     fn of(values: &ArgMatches<'a>) -> Option<JobLine<'a>>
         ensures { let rows = rows_of (found_of values.now) in
             MatchOption result (LacksJob rows)
-            (λ line. HasJob line.folder.now line.level line.verbose rows) }
+            (λ line. HasJob line.folder.now line.level rows) }
     {
         let Some(folder) = first_text(values, "DIR") else {
             return None;
@@ -148,32 +144,22 @@ impl<'a> JobLine<'a> {
         let Some(level) = given else {
             return None;
         };
-        let verbose = is_flagged(values, "verbose");
-        Some(JobLine {
-            folder,
-            level,
-            verbose,
-        })
+        Some(JobLine { folder, level })
     }
 }
 
 impl<'a> CleanLine<'a> {
-    /// The text of DIR, and whether `--dry-run` and `--verbose` are given.
+    /// The text of DIR, and whether `--dry-run` is given.
     fn of(values: &ArgMatches<'a>) -> Option<CleanLine<'a>>
         ensures { let rows = rows_of (found_of values.now) in
             MatchOption result (LacksPath (codes "DIR") rows)
-            (λ line. HasClean line.folder.now line.is_dry_run line.verbose rows) }
+            (λ line. HasClean line.folder.now line.is_dry_run rows) }
     {
         let Some(folder) = first_text(values, "DIR") else {
             return None;
         };
         let is_dry_run = is_flagged(values, "dry-run");
-        let verbose = is_flagged(values, "verbose");
-        Some(CleanLine {
-            folder,
-            is_dry_run,
-            verbose,
-        })
+        Some(CleanLine { folder, is_dry_run })
     }
 }
 
@@ -193,8 +179,7 @@ fn dump_line<'a>(matches: &ArgMatches<'a>) -> Option<DumpLine<'a>>
 fn manifest_line<'a>(matches: &ArgMatches<'a>) -> Option<ManifestLine<'a>>
     ensures { let given = rows_under (codes "manifest") (subcommand_rows_of matches.now) in
         MatchOption result (LacksRows (LacksPath (codes "DIR")) given)
-        (λ line. HasRows
-        (HasManifest line.folder.now line.spelling line.is_json line.verbose) given) }
+        (λ line. HasRows (HasManifest line.folder.now line.spelling line.is_json) given) }
 {
     let Some(values) = matches.subcommand_matches("manifest") else {
         return None;
@@ -207,8 +192,7 @@ fn stats_line<'a>(matches: &ArgMatches<'a>) -> Option<StatsLine<'a>>
     ensures { let given = rows_under (codes "stats") (subcommand_rows_of matches.now) in
         MatchOption result (LacksRows LacksStats given)
         (λ line. HasRows
-        (HasStats line.folder.now line.spelling line.is_json line.memory line.verbose)
-        given) }
+        (HasStats line.folder.now line.spelling line.is_json line.memory) given) }
 {
     let Some(values) = matches.subcommand_matches("stats") else {
         return None;
@@ -220,7 +204,7 @@ fn stats_line<'a>(matches: &ArgMatches<'a>) -> Option<StatsLine<'a>>
 fn job_line<'a>(matches: &ArgMatches<'a>) -> Option<JobLine<'a>>
     ensures { let given = rows_under (codes "job") (subcommand_rows_of matches.now) in
         MatchOption result (LacksRows LacksJob given)
-        (λ line. HasRows (HasJob line.folder.now line.level line.verbose) given) }
+        (λ line. HasRows (HasJob line.folder.now line.level) given) }
 {
     let Some(values) = matches.subcommand_matches("job") else {
         return None;
@@ -232,7 +216,7 @@ fn job_line<'a>(matches: &ArgMatches<'a>) -> Option<JobLine<'a>>
 fn clean_line<'a>(matches: &ArgMatches<'a>) -> Option<CleanLine<'a>>
     ensures { let given = rows_under (codes "clean") (subcommand_rows_of matches.now) in
         MatchOption result (LacksRows (LacksPath (codes "DIR")) given)
-        (λ line. HasRows (HasClean line.folder.now line.is_dry_run line.verbose) given) }
+        (λ line. HasRows (HasClean line.folder.now line.is_dry_run) given) }
 {
     let Some(values) = matches.subcommand_matches("clean") else {
         return None;

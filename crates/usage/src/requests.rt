@@ -10,7 +10,27 @@ use settings::Settings;
 use std::alloc::AllocError;
 use texts::Spelling;
 
-/// What a command line asks for.
+/// What a command line asks for, and how much it asks to be told of it.
+#[derive(Debug, Drop)]
+pub struct CommandLine<'a> {
+    /// How much is told on the standard error.
+    pub verbosity: Verbosity,
+    /// What its command is asked for.
+    pub line: Line<'a>,
+}
+
+/// How much is told on the standard error beside a refusal and what is wrong.
+#[derive(Clone, Copy, Debug, PartialEq, Eq)]
+pub enum Verbosity {
+    /// Nothing: `--quiet` is given.
+    Quiet,
+    /// Notes, and progress if somebody watches: neither is given.
+    Normal,
+    /// More: how long the work took. `--verbose` is given.
+    Verbose,
+}
+
+/// What a command is asked for.
 #[derive(Debug, Drop)]
 pub enum Line<'a> {
     /// Merges the blocks in two files into one, over two ranges: before a key and from it on.
@@ -70,8 +90,6 @@ pub struct ManifestLine<'a> {
     pub spelling: Spelling,
     /// Whether the version is printed as JSON.
     pub is_json: bool,
-    /// Whether more is told on the standard error.
-    pub verbose: bool,
 }
 
 /// What is asked for of `stats`.
@@ -85,8 +103,6 @@ pub struct StatsLine<'a> {
     pub is_json: bool,
     /// How many MiB of tables the test before may hold, 1 to 2^24.
     pub memory: u64,
-    /// Whether more is told on the standard error.
-    pub verbose: bool,
 }
 
 /// What is asked for of `verify` of a folder.
@@ -98,8 +114,6 @@ pub struct VerifyLine<'a> {
     pub form: VerdictForm,
     /// How many MiB of tables the test may hold, 1 to 2^24.
     pub memory: u64,
-    /// Whether more is told on the standard error.
-    pub verbose: bool,
 }
 
 /// What is asked for of `verify` of a table.
@@ -128,8 +142,6 @@ pub struct GetLine<'a> {
     pub is_json: bool,
     /// How the version is tested before.
     pub testing: Testing,
-    /// Whether more is told on the standard error.
-    pub verbose: bool,
 }
 
 /// What is asked for of `scan`.
@@ -145,8 +157,6 @@ pub struct ScanLine<'a> {
     pub is_json: bool,
     /// How the version is tested before.
     pub testing: Testing,
-    /// Whether more is told on the standard error.
-    pub verbose: bool,
 }
 
 /// What is asked for of `job`.
@@ -156,8 +166,6 @@ pub struct JobLine<'a> {
     pub folder: &'a str,
     /// The level, any number.
     pub level: u64,
-    /// Whether more is told on the standard error.
-    pub verbose: bool,
 }
 
 /// What is asked for of `compact`.
@@ -185,8 +193,6 @@ pub struct InstallLine<'a> {
     pub testing: Testing,
     /// Whether files that no version needs are removed after the installation.
     pub cleans: bool,
-    /// Whether more is told on the standard error.
-    pub verbose: bool,
 }
 
 /// What is asked for of `clean`.
@@ -196,8 +202,6 @@ pub struct CleanLine<'a> {
     pub folder: &'a str,
     /// Whether the files are only told, and none is removed.
     pub is_dry_run: bool,
-    /// Whether more is told on the standard error.
-    pub verbose: bool,
 }
 
 /// What `verify` prints of a version.
@@ -233,8 +237,9 @@ pub struct CompactOptions<'a> {
     pub work: CompactWork<'a>,
     /// How the version is tested before.
     pub testing: Testing,
-    /// What is told of it on the standard error.
-    pub verbosity: Verbosity,
+    /// Whether the account of the compaction is told on the standard error: inputs, ranges, kept
+    /// and dropped entries, outputs.
+    pub explains: bool,
     /// Whether its lines are JSON.
     pub is_json: bool,
     /// Whether files that no version needs are removed after each installation.
@@ -266,16 +271,6 @@ pub struct Testing {
     pub is_skipped: bool,
     /// How many MiB of tables the test may hold, 1 to 2^24.
     pub memory: u64,
-}
-
-/// What is told of a compaction on the standard error.
-#[derive(Clone, Copy, Debug)]
-pub struct Verbosity {
-    /// Whether more is told: how long it took.
-    pub verbose: bool,
-    /// Whether the account of the compaction is told: inputs, ranges, kept and dropped entries,
-    /// outputs.
-    pub explain: bool,
 }
 
 /// Which levels of a folder are compacted.

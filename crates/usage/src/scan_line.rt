@@ -19,7 +19,7 @@ pub(crate) fn scan_line<'a>(alloc: Global, texts: ScanTexts<'a>) -> Result<Line<
         (HasScan texts.entry.folder.now (option_map (λ text. text.now) texts.entry.rows.from)
         (option_map (λ text. text.now) texts.entry.rows.to) texts.entry.rows.at
         texts.entry.rows.limit texts.entry.rows.with_values texts.entry.spelling
-        texts.entry.is_json texts.entry.testing texts.entry.verbose)
+        texts.entry.is_json texts.entry.testing)
         → LineGives words result }
 {
     let rows = row_options(alloc, texts.spelling, texts.rows)?;
@@ -29,7 +29,6 @@ pub(crate) fn scan_line<'a>(alloc: Global, texts: ScanTexts<'a>) -> Result<Line<
         spelling: texts.spelling,
         is_json: texts.is_json,
         testing: texts.testing,
-        verbose: texts.verbose,
     }))
 }
 

@@ -55,7 +55,6 @@ pub(crate) struct ScanTexts<'a> {
     pub spelling: Spelling,
     pub is_json: bool,
     pub testing: Testing,
-    pub verbose: bool,
 }
 
 impl<'a> ScanTexts<'a> {
@@ -65,8 +64,7 @@ impl<'a> ScanTexts<'a> {
             MatchOption result (LacksScan rows)
             (λ texts. HasScan texts.folder.now (option_map (λ text. text.now) texts.rows.from)
             (option_map (λ text. text.now) texts.rows.to) texts.rows.at texts.rows.limit
-            texts.rows.with_values texts.spelling texts.is_json texts.testing texts.verbose
-            rows) }
+            texts.rows.with_values texts.spelling texts.is_json texts.testing rows) }
     {
         let Some(folder) = first_text(values, "DIR") else {
             return None;
@@ -83,7 +81,6 @@ impl<'a> ScanTexts<'a> {
             spelling: spelling_given(values),
             is_json: is_flagged(values, "json"),
             testing,
-            verbose: is_flagged(values, "verbose"),
         })
     }
 }
@@ -95,7 +92,7 @@ pub(crate) fn scan_texts<'a>(matches: &ArgMatches<'a>) -> Option<ScanTexts<'a>>
         (λ texts. HasRows
         (HasScan texts.folder.now (option_map (λ text. text.now) texts.rows.from)
         (option_map (λ text. text.now) texts.rows.to) texts.rows.at texts.rows.limit
-        texts.rows.with_values texts.spelling texts.is_json texts.testing texts.verbose) given) }
+        texts.rows.with_values texts.spelling texts.is_json texts.testing) given) }
 {
     let Some(values) = matches.subcommand_matches("scan") else {
         return None;

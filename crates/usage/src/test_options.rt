@@ -10,9 +10,9 @@ use crate::requests::Testing;
 use clap::ArgMatches;
 
 /// How many MiB of tables a test may hold if no number is given.
-const MEMORY: u64 = 1024;
+const MEMORY: u64 = 128;
 
-/// The number given to `--memory`, or 1024.
+/// The number given to `--memory`, or 128.
 pub(crate) fn memory_of(values: &ArgMatches<'_>) -> Result<u64, NotDigits>
     ensures { let text = first_of (codes "memory") (rows_of (found_of values.now)) in
         MatchResult result (IsMemoryOf text) (λ _. IsNoNumber text) }

@@ -13,13 +13,12 @@ use crate::test_options::memory_of;
 use clap::ArgMatches;
 
 impl<'a> VerifyLine<'a> {
-    /// The text of DIR, what is printed, the number of `--memory`, and whether `--verbose` is
-    /// given. None if DIR is missing, `--table` is given, both flags on what is printed are, or the
-    /// number is invalid.
+    /// The text of DIR, what is printed, and the number of `--memory`. None if DIR is missing,
+    /// `--table` is given, both flags on what is printed are, or the number is invalid.
     fn of(values: &ArgMatches<'a>) -> Option<VerifyLine<'a>>
         ensures { let rows = rows_of (found_of values.now) in
             MatchOption result (LacksVerify rows)
-            (λ line. HasVerify line.folder.now line.form line.memory line.verbose rows) }
+            (λ line. HasVerify line.folder.now line.form line.memory rows) }
     {
         let Some(folder) = first_text(values, "DIR") else {
             return None;
@@ -37,7 +36,6 @@ impl<'a> VerifyLine<'a> {
             folder,
             form,
             memory,
-            verbose: is_flagged(values, "verbose"),
         })
     }
 }
@@ -82,15 +80,13 @@ fn gives_folder(values: &ArgMatches<'_>) -> bool
     first_text(values, "DIR").is_some()
         || is_flagged(values, "all-faults")
         || first_text(values, "memory").is_some()
-        || is_flagged(values, "verbose")
 }
 
 /// What is given to `verify`, if that is the command and the texts of a folder are there.
 pub(crate) fn verify_line<'a>(matches: &ArgMatches<'a>) -> Option<VerifyLine<'a>>
     ensures { let given = rows_under (codes "verify") (subcommand_rows_of matches.now) in
         MatchOption result (LacksRows LacksVerify given)
-        (λ line. HasRows (HasVerify line.folder.now line.form line.memory line.verbose)
-        given) }
+        (λ line. HasRows (HasVerify line.folder.now line.form line.memory) given) }
 {
     let Some(values) = matches.subcommand_matches("verify") else {
         return None;

@@ -8,7 +8,7 @@ use Rattle.grammar.proofs.commands.program_command.Goals as goal
 
 pub loop-name-preserved : goal.loop-name-preserved
 loop-name-preserved c =
-    command_added bare_app _ c.loop-name.name-index _ c.loop-name.command c.in_ok-command.command c.command_of_name.result c.loop-name-test.true c.loop-name.invariant c.command_of_name.ensures c.in_ok-command.ensures
+    command_added bare_app _ c.loop-name.name-index _ c.loop-name.command c.in_ok-command-2.command c.command_of_name.result c.loop-name-test.true c.loop-name.invariant c.command_of_name.ensures c.in_ok-command-2.ensures
 
 pub returns : goal.returns
 returns c = c.loop-name.invariant ∙ ap (λ (all : List CommandName). with_commands bare_app (map app_of_name all)) (take_all c.loop-name.name-index _ c.loop-name-test.false)

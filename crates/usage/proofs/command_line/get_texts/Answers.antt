@@ -8,5 +8,5 @@ pub returns : goal.returns
 returns c =
     let m = c.args.matches.now in
     let values = c.in-Some.ensures in
-    MatchOption-rows _ (rows_of (found_of c.in-Some.values.now)) _ LacksGet (λ texts. HasGet texts.folder.now texts.key.now texts.at texts.spelling texts.flags.is_raw texts.flags.is_json texts.testing texts.verbose)
+    MatchOption-rows _ (rows_of (found_of c.in-Some.values.now)) _ LacksGet (λ texts. HasGet texts.folder.now texts.key.now texts.at texts.spelling texts.flags.is_raw texts.flags.is_json texts.testing)
     (rows_under-named (codes "get") (subcommand_rows_of m) _ (sym (subcommand_name_of-rows m) ∙ values.found.0 refl) values.rows) c.of.ensures

@@ -1,33 +1,18 @@
 use Rattle.std.proofs.Common.{map}
-use Rattle.usage.proofs.LineLemmas.{given_as}
+use Rattle.usage.proofs.LineLemmas.{CommandLineGives-residual, LineGives-no_texts}
 use Rattle.usage.proofs.command_line.line.Goals as goal
 
-pub returns-in-Plain : goal.returns-in-Plain
-returns-in-Plain g c =
+pub returns-in_err-asked : goal.returns-in_err-asked
+returns-in_err-asked g c =
     let words = map g.S.AsStr.text c.args.words.now in
-    c.line.ensures words (given_as words _ _ c.in-Plain.is c.in_ok-texts.ensures)
+    CommandLineGives-residual words _ c.from_residual.result c.from_residual.ensures (LineGives-no_texts words _ c.in_err-asked.ensures)
 
-pub returns-in-Blocks : goal.returns-in-Blocks
-returns-in-Blocks g c =
+pub returns-in_err-line : goal.returns-in_err-line
+returns-in_err-line g c =
     let words = map g.S.AsStr.text c.args.words.now in
-    c.blocks_line.ensures words (given_as words _ _ c.in-Blocks.is c.in_ok-texts.ensures)
+    CommandLineGives-residual words _ c.from_residual-in_err-line.result c.from_residual-in_err-line.ensures (c.in_err-line.ensures words c.in_ok-asked.ensures.1)
 
-pub returns-in-Get : goal.returns-in-Get
-returns-in-Get g c =
+pub returns : goal.returns
+returns g c =
     let words = map g.S.AsStr.text c.args.words.now in
-    c.get_line.ensures words (given_as words _ _ c.in-Get.is c.in_ok-texts.ensures)
-
-pub returns-in-Scan : goal.returns-in-Scan
-returns-in-Scan g c =
-    let words = map g.S.AsStr.text c.args.words.now in
-    c.scan_line.ensures words (given_as words _ _ c.in-Scan.is c.in_ok-texts.ensures)
-
-pub returns-in-Compact : goal.returns-in-Compact
-returns-in-Compact g c =
-    let words = map g.S.AsStr.text c.args.words.now in
-    c.compact_line.ensures words (given_as words _ _ c.in-Compact.is c.in_ok-texts.ensures)
-
-pub returns-in-Install : goal.returns-in-Install
-returns-in-Install g c =
-    let words = map g.S.AsStr.text c.args.words.now in
-    c.install_line.ensures words (given_as words _ _ c.in-Install.is c.in_ok-texts.ensures)
+    (c.in_ok-asked.ensures.0, c.in_ok-line.ensures words c.in_ok-asked.ensures.1)

@@ -6,7 +6,7 @@ pub returns-in_err-snapshots : goal.returns-in_err-snapshots
 returns-in_err-snapshots c = λ words given.
     let texts = c.args.texts in
     LineGives-residual words _ c.from_residual.result c.from_residual.ensures
-    (LineGives-install_list words texts.folder.now texts.out.now texts.readable.since (option_map (λ text. text.now) texts.readable.listed) texts.testing texts.cleans texts.verbose _ given c.in_err-snapshots.ensures)
+    (LineGives-install_list words texts.folder.now texts.out.now texts.readable.since (option_map (λ text. text.now) texts.readable.listed) texts.testing texts.cleans _ given c.in_err-snapshots.ensures)
 
 pub returns : goal.returns
 returns c = λ words given.

@@ -10,5 +10,5 @@ returns c =
     let m = c.args.matches.now in
     let values = c.in-Some.ensures in
     MatchOption-rows _ (rows_of (found_of c.in-Some.values.now)) _ LacksScan
-    (λ texts. HasScan texts.folder.now (option_map (λ text. text.now) texts.rows.from) (option_map (λ text. text.now) texts.rows.to) texts.rows.at texts.rows.limit texts.rows.with_values texts.spelling texts.is_json texts.testing texts.verbose)
+    (λ texts. HasScan texts.folder.now (option_map (λ text. text.now) texts.rows.from) (option_map (λ text. text.now) texts.rows.to) texts.rows.at texts.rows.limit texts.rows.with_values texts.spelling texts.is_json texts.testing)
     (rows_under-named (codes "scan") (subcommand_rows_of m) _ (sym (subcommand_name_of-rows m) ∙ values.found.0 refl) values.rows) c.of.ensures

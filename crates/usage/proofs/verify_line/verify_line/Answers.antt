@@ -8,5 +8,5 @@ pub returns : goal.returns
 returns c =
     let m = c.args.matches.now in
     let values = c.in-Some.ensures in
-    MatchOption-rows _ (rows_of (found_of c.in-Some.values.now)) _ LacksVerify (λ line. HasVerify line.folder.now line.form line.memory line.verbose)
+    MatchOption-rows _ (rows_of (found_of c.in-Some.values.now)) _ LacksVerify (λ line. HasVerify line.folder.now line.form line.memory)
     (rows_under-named (codes "verify") (subcommand_rows_of m) _ (sym (subcommand_name_of-rows m) ∙ values.found.0 refl) values.rows) c.of.ensures

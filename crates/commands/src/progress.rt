@@ -11,7 +11,7 @@ use coding::Fault;
 use std::alloc::Global;
 
 /// How far the work is, if `done` jobs of both parts together are done. The first part has `jobs`
-/// jobs: `ranges merged: 3 of 8`. In the second part: `pieces encoded: 12`. The only fault is
+/// jobs: `ranges merged: 3 of 8`. In the second part: `tables encoded: 12`. The only fault is
 /// Memory.
 pub fn progress_text(alloc: Global, work: Work, jobs: u64, done: u64) -> Result<String, Fault>
     ensures { EqualOrMemory (λ text. string_bytes text) result (Ok (progress_text work jobs done)) }
@@ -41,7 +41,7 @@ fn second_part(work: Work) -> &'static str
 {
     match work {
         Work::Check => "ranges tested",
-        Work::Compact => "pieces encoded",
+        Work::Compact => "tables encoded",
     }
 }
 

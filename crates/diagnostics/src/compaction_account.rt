@@ -3,7 +3,7 @@
 
 ghost use Rattle.folder.specs.Reports.{OnlyReads};
 
-use crate::diagnosis::table_file;
+use crate::table_file::table_file;
 use account::{Account, LevelInputs, Output, RangeEntries};
 use coding::{Fault, FaultName};
 use edit::{FileMeta, LEVELS, Version};

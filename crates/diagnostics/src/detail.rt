@@ -19,6 +19,8 @@ pub enum Detail {
     NotBelow(u64),
     /// An edit of the manifest doesn't fit what the earlier ones made.
     NoFit,
+    /// The same, and an edit adds two files of this number.
+    AddedTwice(u64),
     /// The table hasn't the size that the manifest states.
     Size {
         /// The bytes that it has.

@@ -4,9 +4,10 @@ ghost use Rattle.folder.specs.Reports.{OnlyReads};
 
 use crate::detail::Detail;
 use coding::{Fault, FaultName};
-use edit::VersionEdit;
+use edit::{NewFile, VersionEdit};
 use folder::{Folder, Order};
 use std::alloc::Global;
+use std::collections::BTreeSet;
 
 /// What is known of the refusal of the manifest of this `name` and `number`, by the name of its
 /// fault. None if nothing is. It only reads.
@@ -27,7 +28,7 @@ pub(crate) fn manifest_detail<F: Folder>(
     };
     let edits = edits_in(alloc, &bytes)?;
     if fault == FaultName::Apply {
-        return Ok(Some(misfit(number, &edits)));
+        return Ok(Some(misfit(alloc, number, &edits)?));
     }
     comparator_detail(alloc, &edits)
 }
@@ -87,19 +88,40 @@ struct Counters {
 }
 
 /// Why the edits of the manifest of this `number` are refused as Apply.
-fn misfit(number: u64, edits: &[VersionEdit]) -> Detail {
+fn misfit(alloc: Global, number: u64, edits: &[VersionEdit]) -> Result<Detail, Fault> {
     let counters = counters_of(edits);
     if counters.log_number.is_none() {
-        return Detail::NoLog;
+        return Ok(Detail::NoLog);
     }
     if counters.last_sequence.is_none() {
-        return Detail::NoLastSequence;
+        return Ok(Detail::NoLastSequence);
     }
     match counters.next_file {
-        None => Detail::NoNextFile,
-        Some(next) if number >= next => Detail::NotBelow(next),
-        Some(_) => Detail::NoFit,
+        None => Ok(Detail::NoNextFile),
+        Some(next) if number >= next => Ok(Detail::NotBelow(next)),
+        Some(_) => unfit(alloc, edits),
     }
+}
+
+/// Why edits that set all counters don't fit together.
+fn unfit(alloc: Global, edits: &[VersionEdit]) -> Result<Detail, Fault> {
+    for edit in edits {
+        if let Some(number) = added_twice(alloc, &edit.added)? {
+            return Ok(Detail::AddedTwice(number));
+        }
+    }
+    Ok(Detail::NoFit)
+}
+
+/// The first number that two of these files have. None if no two have one.
+fn added_twice(alloc: Global, files: &[NewFile]) -> Result<Option<u64>, Fault> {
+    let mut numbers = BTreeSet::new(alloc);
+    for file in files {
+        if !numbers.insert(file.meta.number)? {
+            return Ok(Some(file.meta.number));
+        }
+    }
+    Ok(None)
 }
 
 /// The counters as the last edits that set them leave them.

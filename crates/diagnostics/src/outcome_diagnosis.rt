@@ -2,14 +2,15 @@
 
 ghost use Rattle.folder.specs.Reports.{OnlyReads};
 
-use crate::checked_tables::{refused, unlike_stated};
-use crate::diagnosis::{RefusedFile, missing, table_file};
+use crate::detail::Detail;
+use crate::refused_files::{RefusedFile, missing, refused};
+use crate::table_file::table_file;
 use coding::{Fault, FaultName};
 use edit::{FileMeta, VersionEdit};
 use folder::{Folder, Order};
 use ikey::{Bytewise, Comparator, Shortlex};
 use std::alloc::Global;
-use table::check;
+use table::{SoundTable, check};
 
 /// The first file of an outcome that is refused by this `fault`; None if none is. It only reads.
 /// The file is
@@ -96,4 +97,22 @@ fn refused_output<C: Comparator, F: Folder>(
         }
         None => Ok(None),
     }
+}
+
+/// In what a table is not as an edit states. None if it is.
+fn unlike_stated<C: Comparator>(sound: &SoundTable<'_, C>, meta: &FileMeta) -> Option<Detail> {
+    let held = sound.bytes().len() as u64;
+    if held != meta.size {
+        return Some(Detail::Size {
+            held,
+            stated: meta.size,
+        });
+    }
+    if sound.smallest().bytes() != meta.smallest.as_key().bytes() {
+        return Some(Detail::Smallest);
+    }
+    if sound.largest().bytes() != meta.largest.as_key().bytes() {
+        return Some(Detail::Largest);
+    }
+    None
 }

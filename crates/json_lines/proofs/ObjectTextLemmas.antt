@@ -21,8 +21,8 @@ use Rattle.folder.specs.declared.order.Order.{Order}
 use Rattle.texts.specs.Spelling.{key_text, value_text}
 use Rattle.texts.specs.declared.spelling.Spelling.{Spelling}
 use Rattle.json_lines.specs.CompactionObject.{compaction_object, deleted_object, end_members, output_object}
-use Rattle.json_lines.specs.Objects.{json_line, lawful_object, refusal_object, removed_object, row_object, valid_object, value_object, with_text}
-use Rattle.json_lines.specs.ObjectTexts.{end_text, file_items, head_text, level_text, listed_item, listed_items, named_text, pointer_items, refused_text}
+use Rattle.json_lines.specs.Objects.{json_line, lawful_object, logs_data, logs_object, refusal_object, removed_object, row_object, valid_object, value_object, with_text}
+use Rattle.json_lines.specs.ObjectTexts.{end_text, file_items, head_text, level_text, listed_item, listed_items, logs_end, members_of, named_text, pair_text, pointer_items, refused_text}
 use Rattle.json_lines.specs.VersionObject.{file_object, file_objects, object_by, pointer_object, pointer_objects}
 use Rattle.json_lines.specs.declared.compaction_end.CompactionEnd.{CompactionEnd}
 use Rattle.json_lines.specs.declared.compaction_end.CompactionEnd.TheVariants.{Installed, Written}
@@ -34,6 +34,9 @@ line_of_three a b c n = simp append_assoc
 
 line_of_five : (a b c d e n : List ℕ) → a ++ (b ++ (c ++ (d ++ (e ++ n)))) ≡ (a ++ (b ++ (c ++ (d ++ e)))) ++ n
 line_of_five a b c d e n = simp append_assoc
+
+line_of_seven : (a b c d e f g n : List ℕ) → a ++ (b ++ (c ++ (d ++ (e ++ (f ++ (g ++ n)))))) ≡ (a ++ (b ++ (c ++ (d ++ (e ++ (f ++ g)))))) ++ n
+line_of_seven a b c d e f g n = simp append_assoc
 
 joined_line : (a b c d e n : List ℕ) → a ++ b ++ c ++ d ++ (e ++ n) ≡ (a ++ (b ++ (c ++ (d ++ e)))) ++ n
 joined_line a b c d e n = simp append_assoc
@@ -55,10 +58,17 @@ line_of_two_lists a l o first closed next second ends last n = simp append_assoc
 
 -- ---- answers
 
-pub lawful_pieces : (files entries : ℕ)
-    → codes "{\"lawful\":true,\"files\":" ++ (decimal files ++ (codes ",\"entries\":" ++ (decimal entries ++ codes "}\n"))) ≡ json_line (lawful_object files entries)
+pub lawful_pieces : (files entries : ℕ) (logs : Option ℕ) (k : List ℕ) → k ≡ compact_text (logs_data logs)
+    → codes "{\"lawful\":true,\"files\":" ++ (decimal files ++ (codes ",\"entries\":" ++ (decimal entries ++ (codes ",\"logs\":" ++ (k ++ codes "}\n"))))) ≡ json_line (lawful_object files entries logs)
 unfolding escape_byte
-lawful_pieces files entries = line_of_five (codes "{\"lawful\":true,\"files\":") (decimal files) (codes ",\"entries\":") (decimal entries) (codes "}") (codes "\n")
+lawful_pieces files entries logs k is =
+    line_of_seven (codes "{\"lawful\":true,\"files\":") (decimal files) (codes ",\"entries\":") (decimal entries) (codes ",\"logs\":") k (codes "}") (codes "\n")
+    ∙ ap (λ (x : List ℕ). (codes "{\"lawful\":true,\"files\":" ++ (decimal files ++ (codes ",\"entries\":" ++ (decimal entries ++ (codes ",\"logs\":" ++ (x ++ codes "}")))))) ++ codes "\n") is
+
+pub logs_pieces : (logs : Option ℕ) (k : List ℕ) → k ≡ compact_text (logs_data logs) → codes "{\"logs\":" ++ (k ++ codes "}\n") ≡ json_line (logs_object logs)
+unfolding escape_byte
+logs_pieces logs k is =
+    line_of_three (codes "{\"logs\":") k (codes "}") (codes "\n") ∙ ap (λ (x : List ℕ). (codes "{\"logs\":" ++ (x ++ codes "}")) ++ codes "\n") is
 
 pub valid_pieces : (entries : ℕ) → codes "{\"valid\":true,\"entries\":" ++ (decimal entries ++ codes "}\n") ≡ json_line (valid_object entries)
 unfolding escape_byte
@@ -72,14 +82,25 @@ removed_pieces name bytes k is =
     ∙ ap (λ (x : List ℕ). (codes "{\"removed\":" ++ (x ++ (codes ",\"bytes\":" ++ (decimal bytes ++ codes "}")))) ++ codes "\n") is
 
 pub pair_pieces : (spelling : Spelling) (key value : List ℕ)
-    → codes "{\"key\":" ++ quoted (key_text spelling key) ++ codes ",\"value\":" ++ quoted (value_text spelling value) ++ codes "}\n" ≡ json_line (value_object spelling key (Some value))
+    → pair_text spelling key value ++ codes "}\n" ≡ json_line (row_object spelling key (Some value))
 unfolding escape_byte
 pair_pieces spelling key value =
     joined_line (codes "{\"key\":") (quoted (key_text spelling key)) (codes ",\"value\":") (quoted (value_text spelling value)) (codes "}") (codes "\n")
 
-pub no_value_pieces : (spelling : Spelling) (key : List ℕ) → codes "{\"key\":" ++ quoted (key_text spelling key) ++ codes ",\"value\":null}\n" ≡ json_line (value_object spelling key None)
+-- null before the logs, and a value
+null_and_logs : (a b c e f g n : List ℕ) → (a ++ b ++ c) ++ (e ++ (f ++ (g ++ n))) ≡ (a ++ (b ++ (c ++ (e ++ (f ++ g))))) ++ n
+null_and_logs a b c e f g n = simp append_assoc
+
+value_and_logs : (a b c d e f g n : List ℕ) → (a ++ b ++ c ++ d) ++ (e ++ (f ++ (g ++ n))) ≡ (a ++ (b ++ (c ++ (d ++ (e ++ (f ++ g)))))) ++ n
+value_and_logs a b c d e f g n = simp append_assoc
+
+pub value_pieces : (spelling : Spelling) (key : List ℕ) (value : Option (List ℕ)) (logs : Option ℕ)
+    → members_of spelling key value ++ logs_end logs ≡ json_line (value_object spelling key value logs)
 unfolding escape_byte
-no_value_pieces spelling key = simp append_assoc
+value_pieces spelling key (Some value) logs =
+    value_and_logs (codes "{\"key\":") (quoted (key_text spelling key)) (codes ",\"value\":") (quoted (value_text spelling value)) (codes ",\"logs\":") (compact_text (logs_data logs)) (codes "}") (codes "\n")
+value_pieces spelling key None logs =
+    null_and_logs (codes "{\"key\":") (quoted (key_text spelling key)) (codes ",\"value\":null") (codes ",\"logs\":") (compact_text (logs_data logs)) (codes "}") (codes "\n")
 
 pub key_pieces : (spelling : Spelling) (key : List ℕ) → codes "{\"key\":" ++ quoted (key_text spelling key) ++ codes "}\n" ≡ json_line (row_object spelling key None)
 unfolding escape_byte

@@ -9,7 +9,9 @@ use Rattle.edit.specs.Version.{State}
 use Rattle.folder.specs.Manifest.{order_name}
 use Rattle.folder.specs.Names.{manifest_name}
 use Rattle.folder.specs.declared.order.Order.{Order}
+use Rattle.texts.specs.Spelling.{key_text, value_text}
 use Rattle.texts.specs.declared.spelling.Spelling.{Spelling}
+use Rattle.json_lines.specs.Objects.{logs_data}
 use Rattle.json_lines.specs.VersionObject.{file_objects, pointer_objects}
 use Rattle.json_lines.specs.declared.compaction_end.CompactionEnd.{CompactionEnd}
 use Rattle.json_lines.specs.declared.compaction_end.CompactionEnd.TheVariants.{Installed, Written}
@@ -33,6 +35,21 @@ file_items spelling cmp v level = listed_items (file_objects spelling cmp v leve
 abbrev pub named_text : List ℕ → Option (List ℕ) → List ℕ
 named_text name None = []
 named_text name (Some text) = name ++ quoted text
+
+-- the members of a key and its value
+abbrev pub pair_text : Spelling → List ℕ → List ℕ → List ℕ
+pair_text spelling key value = codes "{\"key\":" ++ quoted (key_text spelling key)
+    ++ codes ",\"value\":" ++ quoted (value_text spelling value)
+
+-- the same with null for none
+abbrev pub members_of : Spelling → List ℕ → Option (List ℕ) → List ℕ
+members_of spelling key None =
+    codes "{\"key\":" ++ quoted (key_text spelling key) ++ codes ",\"value\":null"
+members_of spelling key (Some value) = pair_text spelling key value
+
+-- the last member and the end of its line
+abbrev pub logs_end : Option ℕ → List ℕ
+logs_end logs = codes ",\"logs\":" ++ (compact_text (logs_data logs) ++ codes "}\n")
 
 -- the line of a refusal up to its name
 abbrev pub refused_text : List ℕ → List ℕ

@@ -2,7 +2,8 @@
 //!
 //! - [`version_json`]: what `manifest` shows. [`lawful_json`]: the verdict of `verify`;
 //!   [`valid_json`]: that of a table. [`stats_json`]: how much a version has.
-//! - [`value_json`]: the value of a key. [`push_row_json`]: one key of many, appended.
+//! - [`value_json`]: the value of a key. [`push_row_json`]: one key of many, appended; [`logs_json`]:
+//!   the line after them.
 //! - [`compaction_json`]: a compaction, and its [end](CompactionEnd). [`removed_json`]: a file that
 //!   was removed.
 //! - [`refusal_json`]: why a command was refused.
@@ -20,7 +21,7 @@ mod refusal;
 mod stats_line;
 mod version_line;
 
-pub use answers::{lawful_json, push_row_json, removed_json, valid_json, value_json};
+pub use answers::{lawful_json, logs_json, push_row_json, removed_json, valid_json, value_json};
 pub use compaction_end::CompactionEnd;
 pub use compaction_line::compaction_json;
 pub use refusal::{Told, refusal_json};

@@ -9,7 +9,7 @@ use Rattle.std.proofs.lemmas.Option.{same_Some}
 use Rattle.std.proofs.lemmas.Slice.Eq.{bytes_eq-Decides}
 use Rattle.hex.specs.Hex.{IsBytes, hex_digit_value, lower_digits}
 use Rattle.hex.proofs.HexLemmas.{IsDigits-lower_digits}
-use Rattle.texts.specs.Escaped.{backslash, byte_of_digits, byte_of_escape, byte_of_plain, bytes_of_characters, bytes_of_escaped, empty_text, escape, escaped, escaped_byte, first_in_value, is_plain, joined, unescaped}
+use Rattle.texts.specs.Escaped.{backslash, byte_of_digits, byte_of_escape, byte_of_own, bytes_of_characters, bytes_of_escaped, empty_text, escape, escaped, escaped_byte, first_in_value, is_own, is_plain, joined, unescaped}
 
 -- ---- the first byte of a text
 
@@ -52,23 +52,23 @@ unescaped-escape (c ∷ x ∷ high ∷ []) b long slash value = absurd (omega ar
 unescaped-escape (c ∷ x ∷ high ∷ low ∷ text) b long slash value =
     cond-true (c == backslash) _ _ (eq-eqb c backslash slash) ∙ ap (λ (o : Option ℕ). joined o (unescaped text)) value
 
--- a backslash is not plain
-not_plain : (c : ℕ) → c ≡ backslash → byte_of_plain c ≡ None
-not_plain c slash = rw slash refl
+-- a backslash is not read as itself
+not_own : (c : ℕ) → c ≡ backslash → byte_of_own c ≡ None
+not_own c slash = rw slash refl
 
 -- a backslash that begins no escape
 pub unescaped-no_escape : (text : List ℕ) → 0 < length text → get_or text 0 0 ≡ backslash → (4 ≤ length text → byte_of_escape (get_or text 1 0) (get_or text 2 0) (get_or text 3 0) ≡ None)
     → unescaped text ≡ None
 unfolding unescaped
 unescaped-no_escape [] some slash none = absurd (omega arith)
-unescaped-no_escape (c ∷ []) some slash none = ap (λ (o : Option ℕ). joined o (Some [])) (not_plain c slash)
-unescaped-no_escape (c ∷ x ∷ []) some slash none = ap (λ (o : Option ℕ). joined o (unescaped (x ∷ []))) (not_plain c slash)
-unescaped-no_escape (c ∷ x ∷ high ∷ []) some slash none = ap (λ (o : Option ℕ). joined o (unescaped (x ∷ high ∷ []))) (not_plain c slash)
+unescaped-no_escape (c ∷ []) some slash none = ap (λ (o : Option ℕ). joined o (Some [])) (not_own c slash)
+unescaped-no_escape (c ∷ x ∷ []) some slash none = ap (λ (o : Option ℕ). joined o (unescaped (x ∷ []))) (not_own c slash)
+unescaped-no_escape (c ∷ x ∷ high ∷ []) some slash none = ap (λ (o : Option ℕ). joined o (unescaped (x ∷ high ∷ []))) (not_own c slash)
 unescaped-no_escape (c ∷ x ∷ high ∷ low ∷ text) some slash none =
     cond-true (c == backslash) _ _ (eq-eqb c backslash slash) ∙ ap (λ (o : Option ℕ). joined o (unescaped text)) (none (omega arith))
 
 -- a text whose first character is no backslash
-pub unescaped-character : (c : ℕ) (text : List ℕ) → c ≢ backslash → unescaped (c ∷ text) ≡ joined (byte_of_plain c) (unescaped text)
+pub unescaped-character : (c : ℕ) (text : List ℕ) → c ≢ backslash → unescaped (c ∷ text) ≡ joined (byte_of_own c) (unescaped text)
 unfolding unescaped
 unescaped-character c [] other = refl
 unescaped-character c (x ∷ []) other = refl
@@ -76,15 +76,15 @@ unescaped-character c (x ∷ high ∷ []) other = refl
 unescaped-character c (x ∷ high ∷ low ∷ text) other = cond-false (c == backslash) _ _ (ne_eqb c backslash other)
 
 -- a character that stands for itself
-pub unescaped-plain : (c : ℕ) (text : List ℕ) → is_plain first_in_value c ≡ true → unescaped (c ∷ text) ≡ joined (Some c) (unescaped text)
-unescaped-plain c text plain =
+pub unescaped-own : (c : ℕ) (text : List ℕ) → is_own c ≡ true → unescaped (c ∷ text) ≡ joined (Some c) (unescaped text)
+unescaped-own c text own =
     let other : c ≢ backslash = grind (arith, nat_tests) in
-    unescaped-character c text other ∙ ap (λ (o : Option ℕ). joined o (unescaped text)) (cond-true (is_plain first_in_value c) (Some c) None plain)
+    unescaped-character c text other ∙ ap (λ (o : Option ℕ). joined o (unescaped text)) (cond-true (is_own c) (Some c) None own)
 
 -- a character that stands for nothing by itself, and begins no escape
-pub unescaped-refused : (c : ℕ) (text : List ℕ) → c ≢ backslash → is_plain first_in_value c ≡ false → unescaped (c ∷ text) ≡ None
-unescaped-refused c text other plain =
-    unescaped-character c text other ∙ ap (λ (o : Option ℕ). joined o (unescaped text)) (cond-false (is_plain first_in_value c) (Some c) None plain)
+pub unescaped-refused : (c : ℕ) (text : List ℕ) → c ≢ backslash → is_own c ≡ false → unescaped (c ∷ text) ≡ None
+unescaped-refused c text other own =
+    unescaped-character c text other ∙ ap (λ (o : Option ℕ). joined o (unescaped text)) (cond-false (is_own c) (Some c) None own)
 
 -- ---- the texts of bytes
 
@@ -97,9 +97,9 @@ unescaped-escape_of b text fits =
     let value : byte_of_escape 120 (slice_index lower_digits (b / 16)) (slice_index lower_digits (b % 16)) ≡ Some b = rw (high, low, whole) refl in
     unescaped-escape (escape b ++ text) b (omega arith) refl value
 
--- what stands for itself from a later character on also does so from the space on
-plain_in_value : (first b : ℕ) → first_in_value ≤ first → is_plain first b ≡ true → is_plain first_in_value b ≡ true
-plain_in_value first b late plain = grind (arith, nat_tests)
+-- what stands for itself from a later character on is read as itself
+plain_is_own : (first b : ℕ) → first_in_value ≤ first → is_plain first b ≡ true → is_own b ≡ true
+plain_is_own first b late plain = grind (arith, nat_tests)
 
 -- bytes, each itself or its escape, are read as they are
 unescaped-bytes : (first : ℕ) (bytes : List ℕ) → first_in_value ≤ first → IsBytes bytes → unescaped (flat_map (escaped_byte first) bytes) ≡ Some bytes
@@ -110,7 +110,7 @@ unescaped-bytes first (b ∷ bytes) late fits = step (is_plain first b) refl (un
     step : (plain : Bool) → is_plain first b ≡ plain → unescaped (flat_map (escaped_byte first) bytes) ≡ Some bytes
         → unescaped ((if plain then b ∷ [] else escape b) ++ flat_map (escaped_byte first) bytes) ≡ Some (b ∷ bytes)
     step true is ih =
-        unescaped-plain b (flat_map (escaped_byte first) bytes) (plain_in_value first b late is) ∙ ap (joined (Some b)) ih
+        unescaped-own b (flat_map (escaped_byte first) bytes) (plain_is_own first b late is) ∙ ap (joined (Some b)) ih
     step false is ih =
         unescaped-escape_of b (flat_map (escaped_byte first) bytes) (fits 0) ∙ ap (joined (Some b)) ih
 

@@ -1,5 +1,6 @@
--- Keys and values as printable ASCII, with `\xHH` for every other byte.
-use Rattle.std.specs.Prelude.{ℕ, ◌+◌, ◌*◌, ◌/◌, ◌%◌, ◌==◌, ◌&&◌, nat_le, not, Bool, List, [], ◌∷◌}
+-- Keys and values as printable ASCII, with `\xHH` for every other byte. A text is read so too, and
+-- a character outside ASCII as its bytes.
+use Rattle.std.specs.Prelude.{ℕ, ◌+◌, ◌*◌, ◌/◌, ◌%◌, ◌==◌, ◌&&◌, ◌||◌, nat_le, not, Bool, List, [], ◌∷◌}
 use Rattle.std.specs.Prelude.{◌++◌, Option, Some, None, codes, slice_index, if◌then◌else◌}
 use Rattle.std.specs.List.{flat_map}
 use Rattle.std.specs.Str.{bytes_eq}
@@ -60,9 +61,14 @@ abbrev pub byte_of_escape : ℕ → ℕ → ℕ → Option ℕ
 byte_of_escape x high low =
     if x == 120 then byte_of_digits (hex_digit_value high) (hex_digit_value low) else None
 
--- the byte that a character stands for by itself
-abbrev pub byte_of_plain : ℕ → Option ℕ
-byte_of_plain c = if is_plain first_in_value c then Some c else None
+-- whether a byte of a text is read as itself: it stands for itself in a value, or it is part of a
+-- character outside ASCII
+abbrev pub is_own : ℕ → Bool
+is_own c = is_plain first_in_value c || nat_le 128 c
+
+-- the byte that a byte of a text stands for by itself
+abbrev pub byte_of_own : ℕ → Option ℕ
+byte_of_own c = if is_own c then Some c else None
 
 -- a first byte and the bytes after it, if both are read
 abbrev pub joined : Option ℕ → Option (List ℕ) → Option (List ℕ)
@@ -75,8 +81,8 @@ unfoldable pub unescaped : List ℕ → Option (List ℕ)
 unescaped [] = Some []
 unescaped (c ∷ x ∷ high ∷ low ∷ text) =
     if c == backslash then joined (byte_of_escape x high low) (unescaped text)
-    else joined (byte_of_plain c) (unescaped (x ∷ high ∷ low ∷ text))
-unescaped (c ∷ text) = joined (byte_of_plain c) (unescaped text)
+    else joined (byte_of_own c) (unescaped (x ∷ high ∷ low ∷ text))
+unescaped (c ∷ text) = joined (byte_of_own c) (unescaped text)
 
 -- the bytes of a text with a character; None for the empty text
 abbrev pub bytes_of_characters : List ℕ → Option (List ℕ)

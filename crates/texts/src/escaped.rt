@@ -6,8 +6,8 @@
 //! 3. No bytes are `""`. The two bytes `""` are `\x22\x22`.
 //!
 //! A text is read by the same rules, with digits of either case. In a key too a space is read, and
-//! any byte may be given as `\xHH`. No other text is read: not the empty one, nor one with a lone
-//! backslash, a control character or a letter outside ASCII.
+//! any byte may be given as `\xHH`. A character outside ASCII is read as its bytes in UTF-8. No other
+//! text is read: not the empty one, nor one with a lone backslash or a control character.
 
 ghost use Rattle.std.specs.Prelude.{◌≡◌, ◌++◌, ◌<◌, length, slice_index, take, IsOkUnless, IfSome};
 ghost use Rattle.std.specs.Prelude.{None, Ok, Some, MatchOption, OnErr, OnOk, option_map};
@@ -16,7 +16,8 @@ ghost use Rattle.coding.specs.Answers.{EqualOrMemory, fault};
 ghost use Rattle.coding.specs.declared.fault.FaultName.TheVariants.{Memory};
 ghost use Rattle.hex.specs.Hex.{hex_digit_value};
 ghost use Rattle.texts.specs.Escaped.{backslash, bytes_of_escaped, escaped, escaped_byte};
-ghost use Rattle.texts.specs.Escaped.{escaped_key, escaped_value, is_plain, joined, unescaped};
+ghost use Rattle.texts.specs.Escaped.{escaped_key, escaped_value, is_own, is_plain, joined};
+ghost use Rattle.texts.specs.Escaped.{unescaped};
 
 use crate::digits::digit_of;
 use coding::Fault;
@@ -59,8 +60,8 @@ pub(crate) fn push_escaped_value(out: &mut Vec<u8>, value: &[u8]) -> Result<(), 
     push_escaped(out, value, FIRST_IN_VALUE)
 }
 
-/// The bytes of a text of printable ASCII, in which a backslash begins `\xHH`, with digits of
-/// either case; no bytes for `""`.
+/// The bytes of a text without control characters, in which a backslash begins `\xHH`, with digits
+/// of either case; no bytes for `""`. A character outside ASCII is its bytes in UTF-8.
 ///
 /// None for every other text, as the empty one. The only fault is Memory.
 pub fn bytes_of_escaped(alloc: Global, text: &str) -> Result<Option<Vec<u8>>, Fault>
@@ -130,6 +131,15 @@ fn is_plain(byte: u8, first: u8) -> bool
     first <= byte && byte <= b'~' && byte != b'\\'
 }
 
+/// Whether a byte of a text is read as itself: it stands for itself in a value, or it is part of a
+/// character outside ASCII.
+#[inline]
+fn is_own(byte: u8) -> bool
+    ensures { result ≡ is_own byte }
+{
+    is_plain(byte, FIRST_IN_VALUE) || !byte.is_ascii()
+}
+
 /// The bytes that characters stand for; None if one stands for none. The only fault is Memory.
 fn unescaped(alloc: Global, text: &[u8]) -> Result<Option<Vec<u8>>, Fault>
     ensures { EqualOrMemory (option_map (λ bytes. bytes.items)) result (Ok (unescaped text.now)) }
@@ -165,7 +175,7 @@ fn first_byte(text: &[u8]) -> Option<FirstByte<'_>>
     if character == b'\\' {
         return escape_at_front(text);
     }
-    if !is_plain(character, FIRST_IN_VALUE) {
+    if !is_own(character) {
         return None;
     }
     Some(FirstByte {

@@ -2,8 +2,8 @@
 //!
 //! - [`text_of`]: bytes as lower-case hexadecimal digits, two a byte. No bytes are `-`.
 //! - [`key_of`]: the bytes of such a text, in digits of either case.
-//! - [`bytes_of_escaped`]: the bytes of a text of printable ASCII, and `\xHH` for every other byte.
-//!   No bytes are `""`.
+//! - [`bytes_of_escaped`]: the bytes of a text of characters, and `\xHH` for every other byte. No
+//!   bytes are `""`.
 //! - [`Spelling`]: which of the two ways is meant; it has the texts of keys and values, alone or
 //!   appended. [`texts_law`]: they read back.
 //! - [`number_of`]: the number of a text of decimal digits.

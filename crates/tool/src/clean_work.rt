@@ -1,27 +1,24 @@
 //! The files of a folder that its version doesn't need, from its path to what is printed.
 
-use crate::folder_locks::{locked_to_change, locked_to_read};
-use crate::folder_refusal::{explained, path_in};
-use crate::folder_work::{begin_work, open_folder, print_lines, refused_at, sync};
-use crate::host::Host;
-use crate::refusal::{Refusal, RefusalText};
-use crate::reporter::{Telling, tell_time};
-use crate::table_sizes::sizes_tested;
-use clean::{RemovalWatch, obsolete_names, remove_obsolete};
+use crate::version_sync::sync;
+use clean::{RemovalWatch, remove_obsolete};
 use coding::{Fault, FaultName};
+use edit::Version;
 use folder::{Disk, Opened, SystemFiles};
 use json_lines::removed_json;
+use queries::{UnneededFiles, unneeded_files};
+use session::{
+    Host, Refusal, RefusalText, Telling, begin_work, explained, locked_to_change, locked_to_read,
+    open_folder, print_lines, refused_at, sizes_tested, tell_time,
+};
 use std::alloc::Global;
-use std::io::ErrorKind;
-use std::rt::Files;
 use std::time::Clock;
-use std::{fs, io};
 
 /// Removes the files of a folder that its version doesn't need, and prints each when it is removed.
 pub(crate) fn clean_folder<R: Host>(rt: &R, telling: Telling<'_>) -> Result<(), Refusal> {
-    let _lock = locked_to_change(rt, telling.folder)?;
+    let _lock = locked_to_change(rt, telling)?;
     let begun = telling.begin(rt);
-    folder_cleaned(rt, telling).map_err(|refusal| explained(rt, telling.folder, refusal))?;
+    folder_cleaned(rt, telling).map_err(|refusal| explained(rt, telling, refusal))?;
     tell_time(rt, "clean", begun);
     Ok(())
 }
@@ -38,9 +35,9 @@ fn folder_cleaned<R: Host>(rt: &R, telling: Telling<'_>) -> Result<(), Refusal> 
 
 /// Prints the files of a folder that its version doesn't need. Nothing is written.
 pub(crate) fn print_removable<R: Host>(rt: &R, telling: Telling<'_>) -> Result<(), Refusal> {
-    let _lock = locked_to_read(rt, telling.folder)?;
+    let _lock = locked_to_read(rt, telling)?;
     let begun = telling.begin(rt);
-    removable_printed(rt, telling).map_err(|refusal| explained(rt, telling.folder, refusal))?;
+    removable_printed(rt, telling).map_err(|refusal| explained(rt, telling, refusal))?;
     tell_time(rt, "clean --dry-run", begun);
     Ok(())
 }
@@ -70,79 +67,6 @@ fn files_to_clean<R: SystemFiles + Eprint + Clock + AllocGlobal>(
     Ok(files)
 }
 
-/// Files of a folder that its version doesn't need.
-#[derive(Drop)]
-pub(crate) struct UnneededFiles {
-    /// Their names, which rise.
-    names: Vec<String>,
-    /// How many bytes each has.
-    pub lengths: Vec<u64>,
-}
-
-impl UnneededFiles {
-    /// Appends a file. The only fault is Memory.
-    fn push(&mut self, alloc: Global, name: &str, length: u64) -> Result<(), Fault> {
-        self.names.push(String::from_str(alloc, name)?)?;
-        self.lengths.push(length)?;
-        Ok(())
-    }
-}
-
-/// The files of a folder that the version that it was opened as doesn't need.
-pub(crate) fn unneeded_files<R: Files + AllocGlobal>(
-    rt: &R,
-    folder: &str,
-    opened: &Opened,
-) -> Result<UnneededFiles, Refusal> {
-    let listed = names_in(rt, folder).map_err(|error| Refusal::of_call(
-        rt.alloc(),
-        folder,
-        "list its files",
-        &error,
-    ))?;
-    let mut files = UnneededFiles {
-        names: Vec::new(rt.alloc()),
-        lengths: Vec::new(rt.alloc()),
-    };
-    for name in &obsolete_names(rt.alloc(), opened, &listed)? {
-        if let Some(length) = length_of(rt, folder, name)? {
-            files.push(rt.alloc(), name, length)?;
-        }
-    }
-    Ok(files)
-}
-
-/// The names in a folder, which rise.
-fn names_in<R: Files + AllocGlobal>(rt: &R, folder: &str) -> io::Result<Vec<String>> {
-    let mut names = Vec::new(rt.alloc());
-    for entry in fs::read_dir(&rt, folder)? {
-        let entry = entry?;
-        names.push(String::from_str(rt.alloc(), entry.file_name())?)?;
-    }
-    names.sort_unstable();
-    Ok(names)
-}
-
-/// How many bytes a folder's file has. None of a folder, and of what isn't there. Device if the
-/// system doesn't tell it.
-fn length_of<R: Files + AllocGlobal>(
-    rt: &R,
-    folder: &str,
-    name: &str,
-) -> Result<Option<u64>, Refusal> {
-    let Some(path) = path_in(rt.alloc(), folder, name) else {
-        return Err(Fault::of(FaultName::Memory).into());
-    };
-    match fs::symlink_metadata(rt, path.as_str()) {
-        Ok(metadata) if metadata.is_dir() => Ok(None),
-        Ok(metadata) => Ok(Some(metadata.len())),
-        Err(error) if error.kind() == ErrorKind::NotFound => Ok(None),
-        Err(error) => {
-            Err(Refusal::of_call(rt.alloc(), path.as_str(), "read its length", &error))
-        }
-    }
-}
-
 /// Removes these files of a folder that stands for the version that it was opened as, and prints
 /// each when it is removed, as JSON if that is asked for.
 fn remove_files<R: SystemFiles + Print + AllocGlobal>(
@@ -165,14 +89,20 @@ fn remove_files<R: SystemFiles + Print + AllocGlobal>(
     printer.end(path)
 }
 
-/// Removes the files of a folder that the version after an installation doesn't need, and prints
-/// them, as JSON if that is asked for.
+/// Removes the files of a folder that the version after an installation doesn't need, if its tables
+/// are there, and prints them, as JSON if that is asked for. The next file of the version `before`
+/// is the number of the manifest that was installed. Changed if CURRENT names another one.
 pub(crate) fn clean_installed<R: SystemFiles + Print + AllocGlobal>(
     rt: &R,
     path: &str,
+    before: &Version,
     is_json: bool,
 ) -> Result<(), Refusal> {
     let opened = open_folder(rt, path)?;
+    if before.next_file() != Some(opened.manifest) {
+        return Err(Fault::of(FaultName::Changed).into());
+    }
+    sizes_tested(rt, path, &opened)?;
     let files = unneeded_files(rt, path, &opened)?;
     remove_files(rt, path, &opened, &files, is_json)
 }

@@ -1,19 +1,17 @@
 //! The compaction of a folder, from its path to what is printed.
 
 use crate::clean_work::clean_installed;
-use crate::folder_locks::locked_to_change;
-use crate::folder_refusal::compaction_explained;
-use crate::folder_work::{begin_work, bytes_of, refused_at, sync};
-use crate::host::Host;
-use crate::progress_line::ProgressLine;
-use crate::refusal::Refusal;
-use crate::reporter::Telling;
+use crate::compaction_notes::note_of;
 use crate::step_printer::{StepPrinter, explain, print_step, tell_step, unprinted};
-use crate::table_sizes::sizes_tested;
+use crate::version_sync::sync;
 use coding::Fault;
 use edit::{LAST_LEVEL, Version};
 use folder::{Disk, Opened, SystemFiles};
 use ikey::Bytewise;
+use session::{
+    Host, ProgressLine, Refusal, Telling, begin_work, bytes_of, compaction_explained,
+    locked_to_change, refused_at, sizes_tested,
+};
 use settings::Settings;
 use std::alloc::Global;
 use store::{
@@ -48,9 +46,9 @@ pub(crate) fn compact_folder<R: Host>(
         is_json: line.options.is_json,
         cleans: line.options.cleans,
     };
-    let _lock = locked_to_change(rt, telling.folder)?;
+    let _lock = locked_to_change(rt, telling)?;
     compact_levels(rt, telling, task).map_err(|refusal| {
-        compaction_explained(rt, telling.folder, task.levels, task.settings, refusal)
+        compaction_explained(rt, telling, task.levels, task.settings, refusal)
     })
 }
 
@@ -106,12 +104,16 @@ fn compact_one<R: Host>(
         tested_compacted(rt, telling, opened, level, task.settings, memory)?
     };
     tell_step(rt, level, begun);
+    let note = note_of(rt, telling, &opened.version, &step.edit);
     print_step(rt, level, &opened.version, &step, task.is_json).map_err(|refusal| unprinted(
         rt.alloc(),
         telling.folder,
         task.levels,
         refusal,
     ))?;
+    if let Some(note) = note {
+        note.tell(rt, telling);
+    }
     if telling.is_explaining {
         explain_one(
             rt,
@@ -123,7 +125,7 @@ fn compact_one<R: Host>(
         );
     }
     if task.cleans {
-        clean_installed(rt, telling.folder, task.is_json)?;
+        clean_installed(rt, telling.folder, &opened.version, task.is_json)?;
     }
     Ok(())
 }
@@ -162,7 +164,7 @@ fn tested_compacted<R: Host>(
     settings: &Settings<'_>,
     memory: u64,
 ) -> Result<CompactionStep, Refusal> {
-    let progress = ProgressLine::new(rt, telling.is_watched);
+    let progress = ProgressLine::new(rt, telling);
     let mut folder = Disk::new(rt, telling.folder);
     let answer = compact_opened(
         rt,
@@ -186,7 +188,7 @@ fn inputs_compacted<R: Host>(
     level: u64,
     settings: &Settings<'_>,
 ) -> Result<CompactionStep, Refusal> {
-    let progress = ProgressLine::new(rt, telling.is_watched);
+    let progress = ProgressLine::new(rt, telling);
     let mut folder = Disk::new(rt, telling.folder);
     let answer = compact_inputs(
         rt,
@@ -209,7 +211,7 @@ fn compact_all<R: Host>(
     opened: Opened,
     task: CompactionTask<'_>,
 ) -> Result<(), Refusal> {
-    let progress = ProgressLine::new(rt, telling.is_watched);
+    let progress = ProgressLine::new(rt, telling);
     let mut steps = StepPrinter::new(rt, telling, &progress, &opened, task)?;
     let mut folder = Disk::new(rt, telling.folder);
     let end = descended(rt, &mut folder, opened, task, &mut steps);

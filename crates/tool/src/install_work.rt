@@ -1,18 +1,15 @@
 //! The installation of an outcome, from the paths to what is printed.
 
 use crate::clean_work::clean_installed;
-use crate::folder_locks::locked_to_change;
-use crate::folder_refusal::explained;
-use crate::folder_work::{begin_work, bytes_of, print_lines, refused_at, sync};
-use crate::host::Host;
 use crate::outcome_refusal::outcome_explained;
-use crate::progress_line::ProgressLine;
-use crate::refusal::Refusal;
-use crate::reporter::{Telling, tell_time};
 use crate::step_printer::unprinted;
-use crate::table_sizes::sizes_tested;
+use crate::version_sync::sync;
 use adoption::{AdoptionEnd, Comparison, install_outcome};
 use folder::{Disk, Opened};
+use session::{
+    Host, ProgressLine, Refusal, Telling, begin_work, bytes_of, explained, locked_to_change,
+    print_lines, refused_at, sizes_tested, tell_time,
+};
 use usage::{InstallLine, Levels};
 
 /// Installs in a folder the outcome that another one has. The folder is locked before anything is
@@ -23,18 +20,18 @@ pub(crate) fn install_compaction<R: Host>(
     line: &InstallLine<'_>,
 ) -> Result<(), Refusal> {
     let folder = telling.folder;
-    let _lock = locked_to_change(rt, folder)?;
+    let _lock = locked_to_change(rt, telling)?;
     let begun = telling.begin(rt);
-    let opened = opened_to_install(rt, telling).map_err(|refusal| explained(rt, folder, refusal))?;
+    let opened = opened_to_install(rt, telling).map_err(|refusal| explained(rt, telling, refusal))?;
     let lines = outcome_installed(rt, telling, line, &opened).map_err(|refusal| {
-        outcome_explained(rt, line, opened.order, refusal)
+        outcome_explained(rt, telling, line, opened.order, refusal)
     })?;
     tell_time(rt, "install", begun);
     print_lines(rt, &lines).map_err(|refusal| {
         unprinted(rt.alloc(), folder, Levels::One(0), refusal)
     })?;
     if line.cleans {
-        clean_installed(rt, folder, false)?;
+        clean_installed(rt, folder, &opened.version, false)?;
     }
     Ok(())
 }
@@ -61,7 +58,7 @@ fn outcome_installed<R: Host>(
     } else {
         Comparison::With(line.snapshots)
     };
-    let progress = ProgressLine::new(rt, telling.is_watched);
+    let progress = ProgressLine::new(rt, telling);
     let mut out = Disk::new(rt, line.out);
     let AdoptionEnd { folder, answer } = install_outcome(
         rt,

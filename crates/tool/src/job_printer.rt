@@ -1,11 +1,9 @@
 //! The files that a compaction of a folder would read, from its path to what is printed.
 
-use crate::folder_refusal::compaction_explained;
-use crate::folder_work::{begin_work, print_lines, refused_at};
-use crate::host::Host;
-use crate::refusal::Refusal;
-use crate::reporter::{Telling, tell_time};
 use folder::Disk;
+use session::{
+    Host, Refusal, Telling, begin_work, compaction_explained, print_lines, refused_at, tell_time,
+};
 use settings::Settings;
 use store::files_to_compact;
 use usage::{JobLine, Levels};
@@ -19,7 +17,7 @@ pub(crate) fn print_job<R: Host>(
 ) -> Result<(), Refusal> {
     job_printed(rt, telling, line.level).map_err(|refusal| {
         let levels = Levels::One(line.level);
-        compaction_explained(rt, telling.folder, levels, &Settings::default(), refusal)
+        compaction_explained(rt, telling, levels, &Settings::default(), refusal)
     })
 }
 

@@ -1,10 +1,8 @@
 //! The folder that gets the outcome of a compaction.
 
-use crate::files::sync_folder_of;
-use crate::folder_work::refused_at;
-use crate::refusal::Refusal;
 use edit::Outcome;
 use folder::{Disk, SystemFiles};
+use session::{Refusal, refused_at, sync_folder_of};
 use std::io::ErrorKind;
 use std::rt::Files;
 use std::thread::Threads;

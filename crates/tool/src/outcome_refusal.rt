@@ -1,11 +1,11 @@
 //! What is told if the outcome of a compaction is refused.
 
-use crate::explanations::{Words, of_file};
-use crate::folder_refusal::{compaction_explained, path_in};
-use crate::refusal::{Refusal, RefusalText, told};
 use coding::FaultName;
 use diagnostics::{Detail, RefusedFile, refused_outcome};
-use folder::{Disk, Order, SystemFiles};
+use folder::{Disk, Order};
+use session::{
+    Host, Refusal, RefusalText, Telling, Words, compaction_explained, of_file, path_in, told,
+};
 use settings::Settings;
 use std::alloc::Global;
 use store::EDIT;
@@ -15,9 +15,11 @@ use usage::{InstallLine, Levels};
 const REMEDY: &str = "make the outcome again";
 
 /// The refusal of an outcome for a folder with this order, with what is told of it. That is the
-/// first file of the outcome that is refused, else the first one of the folder.
-pub(crate) fn outcome_explained<'a, R: SystemFiles + AllocGlobal>(
+/// first file of the outcome that is refused, else the first one of the folder. The name is told
+/// before they are read.
+pub(crate) fn outcome_explained<'a, R: Host>(
     rt: &'a R,
+    telling: Telling<'_>,
     line: &InstallLine<'a>,
     order: Order,
     refusal: Refusal,
@@ -26,21 +28,23 @@ pub(crate) fn outcome_explained<'a, R: SystemFiles + AllocGlobal>(
     if refusal.told.is_some() || is_of_no_file(name) {
         return refusal;
     }
+    let mut refusal = refusal;
+    refusal.tell_name(rt);
     let mut out = Disk::new(rt, line.out);
     if let Ok(Some(file)) = refused_outcome(rt.alloc(), &mut out, order, EDIT, name)
         && file.fault.name == name
     {
-        return Refusal::new(refusal.fault, file_refusal(rt.alloc(), line.out, &file));
+        return refusal.telling(file_refusal(rt.alloc(), line.out, &file));
     }
     let settings = Settings {
         snapshots: line.snapshots,
         ..Settings::default()
     };
-    let explained = compaction_explained(rt, line.folder, Levels::All, &settings, refusal);
+    let explained = compaction_explained(rt, telling, Levels::All, &settings, refusal);
     if explained.told.is_some() {
         return explained;
     }
-    Refusal::new(explained.fault, outcome_refusal(rt.alloc(), line.out, name))
+    explained.telling(outcome_refusal(rt.alloc(), line.out, name))
 }
 
 /// Whether a refusal of this name is about no file that can be found.

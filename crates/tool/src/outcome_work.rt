@@ -1,19 +1,16 @@
 //! A compaction whose outcome goes into a folder of its own, from the paths to what is printed.
 
-use crate::explanations::{Words, in_words};
-use crate::folder_refusal::compaction_explained;
-use crate::folder_work::{begin_work, bytes_of, print_lines, refused_at};
-use crate::host::Host;
+use crate::compaction_notes::note_of;
 use crate::out_folder::fill;
-use crate::progress_line::ProgressLine;
-use crate::refusal::{Refusal, RefusalText, told};
-use crate::reporter::Telling;
 use crate::step_printer::tell_step;
-use crate::table_sizes::sizes_tested;
 use coding::FaultName;
 use edit::VersionEdit;
 use folder::{Disk, Opened};
 use json_lines::{CompactionEnd, compaction_json};
+use session::{
+    Host, ProgressLine, Refusal, RefusalText, Telling, Words, begin_work, bytes_of,
+    compaction_explained, in_words, print_lines, refused_at, sizes_tested, told,
+};
 use std::alloc::Global;
 use store::{CompactionOutcome, EDIT, outcome_of_inputs, outcome_of_opened};
 use usage::{CompactLine, Levels};
@@ -38,7 +35,7 @@ pub(crate) fn write_compaction<R: Host>(
 ) -> Result<(), Refusal> {
     compaction_written(rt, telling, line, task).map_err(|refusal| {
         let levels = Levels::One(task.level);
-        compaction_explained(rt, telling.folder, levels, &line.settings, refusal)
+        compaction_explained(rt, telling, levels, &line.settings, refusal)
     })
 }
 
@@ -55,11 +52,16 @@ fn compaction_written<R: Host>(
     })?;
     fill(rt, task.out, &made.outcome)?;
     tell_step(rt, task.level, begun);
+    let note = note_of(rt, telling, &opened.version, &made.outcome.edit);
     outcome_printed(rt, line, task, &made).map_err(|refusal| unprinted(
         rt.alloc(),
         task.out,
         refusal,
-    ))
+    ))?;
+    if let Some(note) = note {
+        note.tell(rt, telling);
+    }
+    Ok(())
 }
 
 /// Prints the lines of an outcome, or its JSON line.
@@ -97,7 +99,7 @@ fn outcome_made<R: Host>(
     }
     sizes_tested(rt, telling.folder, opened)?;
     let memory = bytes_of(line.options.testing.memory);
-    let progress = ProgressLine::new(rt, telling.is_watched);
+    let progress = ProgressLine::new(rt, telling);
     let mut folder = Disk::new(rt, telling.folder);
     let made = outcome_of_opened(
         rt,
@@ -122,7 +124,7 @@ fn inputs_compacted<R: Host>(
     task: OutcomeTask<'_>,
     opened: &Opened,
 ) -> Result<CompactionOutcome, Refusal> {
-    let progress = ProgressLine::new(rt, telling.is_watched);
+    let progress = ProgressLine::new(rt, telling);
     let mut folder = Disk::new(rt, telling.folder);
     let made = outcome_of_inputs(
         rt,

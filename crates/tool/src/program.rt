@@ -1,28 +1,24 @@
 //! The program, from its words to its status.
 
-use crate::block_files::merge;
 use crate::clean_work::{clean_folder, print_removable};
 use crate::compaction_work::compact_folder;
-use crate::explanations::in_words;
-use crate::folder_work::{print_value, print_verdict, print_version};
-use crate::host::Host;
 use crate::install_work::install_compaction;
 use crate::job_printer::print_job;
 use crate::out_folder::{OutState, state_of};
 use crate::outcome_work::{OutcomeTask, write_compaction};
-use crate::refusal::{Refusal, RefusalParts};
-use crate::reporter::Telling;
-use crate::row_printer::print_rows;
-use crate::stats_printer::print_stats;
-use crate::table_files::{print_table, print_table_verdict};
 use coding::{Fault, FaultName};
 use commands::status;
 use json_lines::{Told, refusal_json};
+use queries::{
+    merge, print_rows, print_stats, print_table, print_table_verdict, print_value, print_verdict,
+    print_version,
+};
+use session::{Host, Refusal, RefusalParts, Telling, bytes_of, in_words};
 use std::env::Env;
 use std::io::ErrorKind;
 use std::rt::Files;
 use std::{env, io};
-use usage::{CompactWork, Line, Usage, VerdictForm, line};
+use usage::{CompactWork, Line, Usage, Verbosity, VerdictForm, line};
 
 /// The status of work that was done, and of help or a version that was asked for.
 const DONE: u8 = 0;
@@ -32,6 +28,9 @@ const USAGE: u8 = 2;
 
 /// What is told of a key that has to be hexadecimal digits, and isn't.
 const NO_DIGITS: &str = "usage: key is not hexadecimal";
+
+/// How many MiB of tables are held to find the file of a refusal, if `--memory` doesn't say it.
+const MEMORY: u64 = 128;
 
 /// What is told to be refused if no command is known.
 const COMMAND_LINE: &str = "the command line";
@@ -54,26 +53,26 @@ pub fn run<R: Env + Host>(rt: &R, is_watched: bool) -> u8 {
         }
         Err(error) => {
             let refusal = Refusal::of_call(rt.alloc(), COMMAND_LINE, "read", &error);
-            return report_refusal(rt, COMMAND_LINE, false, &refusal);
+            return report_refusal(rt, COMMAND_LINE, false, refusal);
         }
     };
     let mut listed = Vec::new(rt.alloc());
     match line(rt.alloc(), words.as_slice(), &mut listed) {
-        Ok(line) => answer(rt, &line, is_watched),
+        Ok(asked) => answer(rt, &asked.line, asked.verbosity, is_watched),
         Err(usage) => report_usage(rt, usage),
     }
 }
 
 /// Does what a command line asks for, tells why not if it is refused, and answers the status.
-fn answer<R: Host>(rt: &R, line: &Line<'_>, is_watched: bool) -> u8 {
+fn answer<R: Host>(rt: &R, line: &Line<'_>, verbosity: Verbosity, is_watched: bool) -> u8 {
     let done = match taken_folder(rt, line) {
         Ok(Some(out)) => return report_taken(rt, out),
-        Ok(None) => carry_out(rt, line, is_watched),
+        Ok(None) => carry_out(rt, line, telling_of(line, verbosity, is_watched)),
         Err(refusal) => Err(refusal),
     };
     match done {
         Ok(()) => DONE,
-        Err(refusal) => report_refusal(rt, subject(line), is_json(line), &refusal),
+        Err(refusal) => report_refusal(rt, subject(line), is_json(line), refusal),
     }
 }
 
@@ -102,8 +101,7 @@ fn words_given<R: Env + AllocGlobal>(rt: &R) -> io::Result<Vec<String>> {
 }
 
 /// Does what a command line asks for.
-fn carry_out<R: Host>(rt: &R, line: &Line<'_>, is_watched: bool) -> Result<(), Refusal> {
-    let telling = telling_of(line, is_watched);
+fn carry_out<R: Host>(rt: &R, line: &Line<'_>, telling: Telling<'_>) -> Result<(), Refusal> {
     match line {
         Line::Blocks(line) => merge(rt, line),
         Line::Dump(line) => print_table(rt, line),
@@ -167,48 +165,49 @@ fn subject<'a>(line: &Line<'a>) -> &'a str {
     }
 }
 
-/// Whether more is told on the standard error.
-fn is_verbose(line: &Line<'_>) -> bool {
-    match line {
-        Line::Blocks(_) | Line::Dump(_) | Line::Table(_) => false,
-        Line::Manifest(line) => line.verbose,
-        Line::Stats(line) => line.verbose,
-        Line::Verify(line) => line.verbose,
-        Line::Get(line) => line.verbose,
-        Line::Scan(line) => line.verbose,
-        Line::Job(line) => line.verbose,
-        Line::Compact(line) => line.options.verbosity.verbose,
-        Line::Install(line) => line.verbose,
-        Line::Clean(line) => line.verbose,
-    }
-}
-
 /// What is to be told of the work that a command line asks for.
-fn telling_of<'a>(line: &Line<'a>, is_watched: bool) -> Telling<'a> {
+fn telling_of<'a>(line: &Line<'a>, verbosity: Verbosity, is_watched: bool) -> Telling<'a> {
+    let is_quiet = verbosity == Verbosity::Quiet;
     Telling {
         folder: subject(line),
-        is_on: is_verbose(line) || is_watched,
+        is_quiet,
+        is_verbose: verbosity == Verbosity::Verbose,
         is_watched,
         is_explaining: match line {
-            Line::Compact(line) => line.options.verbosity.explain,
+            Line::Compact(line) => line.options.explains && !is_quiet,
             _ => false,
         },
+        memory: bytes_of(memory_of(line)),
     }
 }
 
-/// Tells a refusal of work on `path`, and answers its status.
-fn report_refusal<'a, R: Eprint + AllocGlobal>(
+/// How many MiB of tables a command line lets be held: 128 if its command has no `--memory`.
+fn memory_of(line: &Line<'_>) -> u64 {
+    match line {
+        Line::Stats(line) => line.memory,
+        Line::Verify(line) => line.memory,
+        Line::Get(line) => line.testing.memory,
+        Line::Scan(line) => line.testing.memory,
+        Line::Compact(line) => line.options.testing.memory,
+        Line::Install(line) => line.testing.memory,
+        _ => MEMORY,
+    }
+}
+
+/// Tells a refusal of work on `path`, but for its name if that is told already, and answers its
+/// status.
+fn report_refusal<R: Eprint + AllocGlobal>(
     rt: &R,
-    path: &'a str,
+    path: &str,
     is_json: bool,
-    refusal: &'a Refusal,
+    refusal: Refusal,
 ) -> u8 {
+    let mut refusal = refusal;
+    refusal.tell_name(rt);
     if !refusal.is_silent {
-        let fault = &refusal.fault;
-        let _ = eprintln!(rt; "refused: {fault}");
-        let parts = parts_of(path, refusal);
+        let parts = parts_of(path, &refusal);
         if is_json {
-            tell_json(rt, fault, parts);
+            tell_json(rt, &refusal.fault, parts);
         } else {
             tell_text(rt, parts);
         }
@@ -282,11 +281,18 @@ fn report_usage<R: Print + Eprint + AllocGlobal>(rt: &R, usage: Usage) -> u8 {
             let _ = rt.eprintln("sedvokt: with --text a key is given as text");
             status
         }
-        Usage::Text => report_misuse(rt, "usage: key is not text"),
+        Usage::Text => {
+            let status = report_misuse(rt, "usage: key is not text");
+            let _ = rt.eprintln(
+                "sedvokt: with --text a byte is given as \\xHH, a backslash as \\x5c, and the empty \
+                    key as '\"\"'",
+            );
+            status
+        }
         Usage::Snapshots => report_misuse(rt, "usage: snapshots are not numbers"),
         Usage::Memory => {
             let refusal = Refusal::from(Fault::of(FaultName::Memory));
-            report_refusal(rt, COMMAND_LINE, false, &refusal)
+            report_refusal(rt, COMMAND_LINE, false, refusal)
         }
         Usage::Clap(error) if error.use_stderr() => {
             let _ = rt.eprint(&error);
@@ -296,7 +302,7 @@ fn report_usage<R: Print + Eprint + AllocGlobal>(rt: &R, usage: Usage) -> u8 {
             Ok(()) => DONE,
             Err(error) => {
                 let refusal = Refusal::of_output(rt.alloc(), &error);
-                report_refusal(rt, COMMAND_LINE, false, &refusal)
+                report_refusal(rt, COMMAND_LINE, false, refusal)
             }
         },
     }

@@ -1,22 +1,21 @@
 //! What is printed and told of the steps of a compaction.
 
 use crate::clean_work::clean_installed;
+use crate::compaction_notes::{CompactionNote, note_of, tell_made, tell_no_step, version_total};
 use crate::compaction_work::CompactionTask;
-use crate::explanations::{Words, in_words};
-use crate::folder_work::print_lines;
-use crate::host::Host;
-use crate::progress_line::ProgressLine;
-use crate::refusal::{Refusal, told};
-use crate::reporter::{Telling, tell_time};
-use crate::work_left::WorkLeft;
+use crate::work_left::work_left;
 use account::text;
 use coding::{Fault, FaultName};
 use diagnostics::account_of;
 use edit::{Version, VersionEdit};
 use folder::{Disk, Opened, Order, SystemFiles};
 use json_lines::{CompactionEnd, compaction_json};
+use scan::FileTotal;
+use session::{
+    Beginning, Host, ProgressLine, Refusal, Telling, Words, in_words, print_lines, tell_time, told,
+};
 use std::alloc::Global;
-use std::time::{Clock, Instant};
+use std::time::Clock;
 use store::{CompactionStep, InstallWatch, bottom};
 use usage::Levels;
 
@@ -36,10 +35,16 @@ pub(crate) struct StepPrinter<'t, R> {
     cleans: bool,
     /// The level to which all files go.
     bottom: u64,
+    /// All files before the first step.
+    before: FileTotal,
+    /// All files after the last step. None if they can't be counted.
+    after: Option<FileTotal>,
+    /// Whether it was told that filters are gone.
+    has_told_filters: bool,
     /// How many steps are done.
     done: u64,
     /// When the step began, if that is told.
-    begun: Option<Instant>,
+    begun: Option<Beginning>,
     /// Why the lines of a step could not be printed, or files could not be removed after it. No
     /// step comes after that one.
     refusal: Option<Refusal>,
@@ -49,14 +54,6 @@ impl<'t, R> StepPrinter<'t, R> {
     /// The line of progress of the steps.
     pub fn progress(&self) -> &'t ProgressLine<'t, R> {
         self.progress
-    }
-
-    /// Whether all steps could be printed, and files be removed after them.
-    pub fn end(self) -> Result<(), Refusal> {
-        match self.refusal {
-            Some(refusal) => Err(refusal),
-            None => Ok(()),
-        }
     }
 }
 
@@ -80,6 +77,9 @@ impl<'t, R: Eprint + Clock + AllocGlobal> StepPrinter<'t, R> {
             is_json: task.is_json,
             cleans: task.cleans,
             bottom: bottom(rt.alloc(), &opened.version)?,
+            before: version_total(rt.alloc(), &opened.version)?,
+            after: None,
+            has_told_filters: false,
             done: 0,
             begun: telling.begin(rt),
             refusal: None,
@@ -88,12 +88,64 @@ impl<'t, R: Eprint + Clock + AllocGlobal> StepPrinter<'t, R> {
         Ok(steps)
     }
 
+    /// Whether all steps could be printed, and files be removed after them. If so, it is told what
+    /// was made of all files.
+    pub fn end(self) -> Result<(), Refusal> {
+        let (before, after) = (self.before, self.after);
+        let (rt, telling) = (self.rt, self.telling);
+        if let Some(refusal) = self.refusal {
+            return Err(refusal);
+        }
+        if self.done == 0 {
+            tell_no_step(rt, telling, self.bottom, before.files);
+        } else if let Some(after) = after {
+            tell_made(rt, telling, before, after);
+        }
+        Ok(())
+    }
+
     /// Has the line of progress show the step that begins at a version.
     fn show_left(&self, version: &Version) {
         let alloc = self.rt.alloc();
-        if let Ok(Some(left)) = WorkLeft::of(alloc, version, self.bottom, self.file_size) {
+        if let Ok(Some(left)) = work_left(alloc, version, self.bottom, self.file_size) {
             self.progress.begin_step(self.done, left);
         }
+    }
+}
+
+impl<'t, R: SystemFiles + Eprint + Clock + AllocGlobal> StepPrinter<'t, R> {
+    /// What is to be told of a step, unless it was told before that filters are gone.
+    fn note_of(&self, before: &Version, step: &CompactionStep) -> Option<CompactionNote> {
+        if self.has_told_filters {
+            return None;
+        }
+        note_of(self.rt, self.telling, before, &step.edit)
+    }
+
+    /// Tells the account of a step, if that is asked for.
+    fn explain(&self, level: u64, before: &Version, after: Option<&Version>) {
+        if self.telling.is_explaining {
+            explain(
+                self.rt,
+                self.telling.folder,
+                self.order,
+                before,
+                after.ok_or(Fault::of(FaultName::Memory)),
+                level,
+                self.ranges,
+            );
+        }
+    }
+
+    /// Ends a step, and begins the next one.
+    fn end_step(&mut self, after: Option<&Version>) {
+        self.done = self.done.saturating_add(1);
+        self.after = None;
+        if let Some(after) = after {
+            self.after = version_total(self.rt.alloc(), after).ok();
+            self.show_left(after);
+        }
+        self.begun = self.telling.begin(self.rt);
     }
 }
 
@@ -108,33 +160,22 @@ impl<'t, R: Host> InstallWatch for StepPrinter<'t, R> {
         self.progress.erase();
         tell_step(self.rt, level, self.begun);
         let folder = self.telling.folder;
+        let note = self.note_of(before, step);
         if let Err(refusal) = print_step(self.rt, level, before, step, self.is_json) {
             self.refusal = Some(unprinted(self.rt.alloc(), folder, Levels::All, refusal));
             return false;
         }
-        if self.telling.is_explaining {
-            let after = after.ok_or(Fault::of(FaultName::Memory));
-            explain(
-                self.rt,
-                folder,
-                self.order,
-                before,
-                after,
-                level,
-                self.ranges,
-            );
+        self.explain(level, before, after);
+        if let Some(note) = note {
+            self.has_told_filters = note.tell_filters(self.rt, self.telling);
         }
         if self.cleans
-            && let Err(refusal) = clean_installed(self.rt, folder, self.is_json)
+            && let Err(refusal) = clean_installed(self.rt, folder, before, self.is_json)
         {
             self.refusal = Some(refusal);
             return false;
         }
-        self.done = self.done.saturating_add(1);
-        if let Some(after) = after {
-            self.show_left(after);
-        }
-        self.begun = self.telling.begin(self.rt);
+        self.end_step(after);
         true
     }
 }
@@ -160,7 +201,7 @@ pub(crate) fn print_step<R: Print + AllocGlobal>(
 pub(crate) fn tell_step<R: Eprint + Clock + AllocGlobal>(
     rt: &R,
     level: u64,
-    begun: Option<Instant>,
+    begun: Option<Beginning>,
 ) {
     if let Ok(step) = format!(in rt.alloc(); "compact --level {level}") {
         tell_time(rt, step.as_str(), begun);

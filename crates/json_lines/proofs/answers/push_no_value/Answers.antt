@@ -1,8 +1,7 @@
-use Rattle.std.proofs.Common.{List, ℕ, codes, ap, ◌∙◌, ◌++◌}
+use Rattle.std.proofs.Common.{codes, ◌++◌}
 use Rattle.json.specs.Print.{quoted}
 use Rattle.texts.specs.Spelling.{key_text}
 use Rattle.texts.proofs.Appended.{appended_on}
-use Rattle.json_lines.proofs.ObjectTextLemmas.{no_value_pieces}
 use Rattle.json_lines.proofs.answers.push_no_value.Goals as goal
 
 pub returns-clause-ok : goal.returns-clause-ok
@@ -11,5 +10,4 @@ returns-clause-ok c =
     let k = quoted (key_text c.args.spelling c.args.key.now) in
     let a = codes "{\"key\":" in
     let two = appended_on old c.extend_from_slice.new.self.items c.push_quoted_key.new.line.items a k c.in_ok-extend_from_slice.ensures.items c.in_ok-push_quoted_key.ensures.ok in
-    let three = appended_on old c.push_quoted_key.new.line.items c.extend_from_slice-2.new.self.items (a ++ k) (codes ",\"value\":null}\n") two c.in_ok-extend_from_slice-2.ensures.items in
-    three ∙ ap (λ (t : List ℕ). old ++ t) (no_value_pieces c.args.spelling c.args.key.now)
+    appended_on old c.push_quoted_key.new.line.items c.extend_from_slice-2.new.self.items (a ++ k) (codes ",\"value\":null") two c.in_ok-extend_from_slice-2.ensures.items

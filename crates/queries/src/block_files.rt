@@ -1,0 +1,121 @@
+//! The work on two files of blocks.
+
+use coding::{Fault, FaultName};
+use pairing::blocks;
+use session::{Refusal, RefusalText, Words, of_file, read_file, replace_file, told};
+use std::alloc::Global;
+use std::rt::Files;
+use std::thread::Threads;
+use usage::BlocksLine;
+
+/// The block of no entries.
+const NO_ENTRIES: &[u8] = b"\0\0\0\0\x01\0\0\0";
+
+/// What to do about a file that is no such block.
+const REMEDY: &str = "give a block of a table, without its trailer";
+
+/// Merges the blocks in two files into one, and prints how large it is.
+pub fn merge<R: Files + Print + AllocGlobal + Threads + Sync>(
+    rt: &R,
+    line: &BlocksLine<'_>,
+) -> Result<(), Refusal> {
+    let (entries, block) = merged(rt, line)?;
+    replace_file(rt, line.out, block.as_slice())?;
+    let length = block.len();
+    println!(rt; "{entries} entries, {length} bytes").map_err(|error| Refusal::of_output(
+        rt.alloc(),
+        &error,
+    ))
+}
+
+/// The block of the entries of the blocks in two files, and the number of entries.
+fn merged<R: Files + AllocGlobal + Threads + Sync>(
+    rt: &R,
+    line: &BlocksLine<'_>,
+) -> Result<(u64, Vec<u8>), Refusal> {
+    let first = read_block(rt, line.a)?;
+    let second = read_block(rt, line.b)?;
+    let answer = blocks(
+        rt,
+        rt.alloc(),
+        first.as_slice(),
+        second.as_slice(),
+        &line.at,
+    );
+    answer.map_err(|fault| {
+        if is_refused(rt, first.as_slice(), fault) {
+            refused_alone(rt.alloc(), line.a, fault)
+        } else if is_refused(rt, second.as_slice(), fault) {
+            refused_alone(rt.alloc(), line.b, fault)
+        } else {
+            refused_together(rt.alloc(), line, fault)
+        }
+    })
+}
+
+/// The bytes of a block's file. TooLarge if there are more than 2^30.
+fn read_block<R: Files + AllocGlobal>(rt: &R, path: &str) -> Result<Vec<u8>, Refusal> {
+    read_file(rt, path).map_err(|refusal| {
+        if refusal.fault.name == FaultName::Size {
+            too_large(rt.alloc(), path)
+        } else {
+            refusal
+        }
+    })
+}
+
+/// The refusal of a block's file of more than 2^30 bytes.
+fn too_large(alloc: Global, path: &str) -> Refusal {
+    let words = Words {
+        wrong: "it has more than 1073741824 bytes",
+        remedy: REMEDY,
+    };
+    Refusal::new(Fault::of(FaultName::TooLarge), told(alloc, path, words))
+}
+
+/// Whether a block is refused so by itself. A block that can't be read again, since memory is
+/// short, is not.
+fn is_refused<R: AllocGlobal + Threads + Sync>(rt: &R, bytes: &[u8], fault: Fault) -> bool {
+    match blocks(rt, rt.alloc(), bytes, NO_ENTRIES, &[]) {
+        Ok(_) => false,
+        Err(again) => again.name == fault.name && fault.name != FaultName::Memory,
+    }
+}
+
+/// The refusal of the block in one file.
+fn refused_alone(alloc: Global, path: &str, fault: Fault) -> Refusal {
+    let wrong = match fault.name {
+        FaultName::Duplicate => "it has one user key and sequence twice",
+        FaultName::TooLarge => {
+            "a user key has more than 65535 bytes, a value more than 16777215, or all together \
+                more than 1073741824"
+        }
+        FaultName::Block => "its bytes cannot be read as entries",
+        name => of_file(name).wrong,
+    };
+    let words = Words {
+        wrong,
+        remedy: REMEDY,
+    };
+    Refusal::new(fault, told(alloc, path, words))
+}
+
+/// The refusal of the blocks in two files, each of which is accepted alone.
+fn refused_together(alloc: Global, line: &BlocksLine<'_>, fault: Fault) -> Refusal {
+    let text = match fault.name {
+        FaultName::Duplicate => {
+            let b = line.b;
+            let wrong = format!(in alloc; "it has a user key and sequence that {b} has too");
+            RefusalText::new(alloc, line.a, wrong, "give blocks that share none")
+        }
+        FaultName::TooLarge => {
+            let words = Words {
+                wrong: "the block would have more than 1073741824 bytes",
+                remedy: "merge smaller ones",
+            };
+            told(alloc, line.out, words)
+        }
+        _ => None,
+    };
+    Refusal::new(fault, text)
+}

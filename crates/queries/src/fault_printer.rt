@@ -1,0 +1,90 @@
+//! All faults of a folder's version, from its path to what is printed.
+
+use coding::{Fault, FaultName};
+use commands::{fault_count_line, file_fault_line, key_fault_line};
+use faults::{FaultTaker, FileFault, all_faults};
+use folder::Disk;
+use session::{
+    Host, ProgressLine, Refusal, Telling, begin_work, print_lines, refused_at, tell_time,
+};
+use std::time::Clock;
+use texts::Spelling;
+
+/// Prints all faults of a folder, and how many there are. If there is one, it is refused, and
+/// nothing else is told. The test may hold this many bytes of tables.
+pub fn faults_printed<R: Host>(rt: &R, telling: Telling<'_>, memory: u64) -> Result<(), Refusal> {
+    let begun = telling.begin(rt);
+    let opened = begin_work(rt, telling)?;
+    let progress = ProgressLine::new(rt, telling);
+    let mut folder = Disk::new(rt, telling.folder);
+    let mut printer = FaultPrinter {
+        rt,
+        progress: &progress,
+        refusal: None,
+    };
+    let told = all_faults(
+        rt,
+        rt.alloc(),
+        &mut folder,
+        opened.order,
+        &opened.version,
+        memory,
+        &mut printer,
+        &progress,
+    );
+    progress.erase();
+    printer.end()?;
+    let count = told.map_err(|fault| refused_at(rt, telling.folder, &folder, fault))?;
+    tell_time(rt, "verify --all-faults", begun);
+    print_lines(rt, &fault_count_line(rt.alloc(), count)?)?;
+    if count > 0 {
+        return Err(Refusal::silent(Fault::of(FaultName::Lawless)));
+    }
+    Ok(())
+}
+
+/// Who prints faults, a line each.
+#[derive(Drop)]
+struct FaultPrinter<'t, R> {
+    rt: &'t R,
+    progress: &'t ProgressLine<'t, R>,
+    /// Why a fault could not be printed. No fault comes after it.
+    refusal: Option<Refusal>,
+}
+
+impl<'t, R: Print + Eprint + Clock + AllocGlobal> FaultPrinter<'t, R> {
+    /// Prints a line. The answer is whether it could be printed.
+    fn print(&mut self, line: Result<Vec<u8>, Fault>) -> bool {
+        self.progress.erase();
+        match self.printed(line) {
+            Ok(()) => true,
+            Err(refusal) => {
+                self.refusal = Some(refusal);
+                false
+            }
+        }
+    }
+
+    fn printed(&self, line: Result<Vec<u8>, Fault>) -> Result<(), Refusal> {
+        print_lines(self.rt, &line?)
+    }
+
+    /// Whether all faults could be printed.
+    fn end(self) -> Result<(), Refusal> {
+        match self.refusal {
+            Some(refusal) => Err(refusal),
+            None => Ok(()),
+        }
+    }
+}
+
+impl<'t, R: Print + Eprint + Clock + AllocGlobal> FaultTaker for FaultPrinter<'t, R> {
+    fn file_fault(&mut self, number: u64, fault: FileFault) -> bool {
+        self.print(file_fault_line(self.rt.alloc(), number, fault))
+    }
+
+    fn key_fault(&mut self, user: &[u8], file: u64, other: u64) -> bool {
+        let spelling = Spelling::Hexadecimal;
+        self.print(key_fault_line(self.rt.alloc(), spelling, user, file, other))
+    }
+}

@@ -1,0 +1,188 @@
+//! What a refusal means and what to do about it, in plain words.
+
+use coding::FaultName;
+
+/// What is wrong, and what to do about it.
+#[derive(Clone, Copy)]
+pub struct Words {
+    pub wrong: &'static str,
+    pub remedy: &'static str,
+}
+
+/// The words of a path where no folder is.
+pub const NO_FOLDER: Words = Words {
+    wrong: "there is no such folder",
+    remedy: "give the folder of a database",
+};
+
+/// The words of a refusal that is about a folder or a machine; if there are none, those of a file
+/// that is refused so.
+pub fn in_words(name: FaultName) -> Words {
+    match of_work(name) {
+        Some(words) => words,
+        None => of_file(name),
+    }
+}
+
+/// The words of a refusal that is about no file.
+fn of_work(name: FaultName) -> Option<Words> {
+    let (wrong, remedy) = match name {
+        FaultName::Locked => (
+            "another program, or another sedvokt, uses the database",
+            "close it, or wait until it ends, and try again",
+        ),
+        FaultName::Changed => (
+            "another program changed the database meanwhile",
+            "run it again",
+        ),
+        FaultName::Device => ("a call of the system failed", "run it again"),
+        FaultName::Memory => (
+            "there is not enough memory to hold all that is read",
+            "give the program more of it",
+        ),
+        FaultName::Numbers => (
+            "the numbers of new files would pass 18446744073709551615",
+            "copy what it holds into a new database",
+        ),
+        FaultName::Duplicate => (
+            "one user key and sequence come twice",
+            "restore the folder from a copy",
+        ),
+        FaultName::Lawless => (
+            "the version is not lawful",
+            "restore the folder from a copy, or have LevelDB compact all of it",
+        ),
+        name => return of_settings(name),
+    };
+    Some(Words { wrong, remedy })
+}
+
+/// The words of a refusal of what was asked for.
+fn of_settings(name: FaultName) -> Option<Words> {
+    let (wrong, remedy) = match name {
+        FaultName::NoInput => (
+            "there is nothing to compact at this level: it has no file",
+            "manifest shows which levels have files",
+        ),
+        FaultName::Level => ("this level cannot be compacted", "give a level from 0 to 5"),
+        FaultName::Workers => ("--workers is outside 1 to 64", "give a number within"),
+        FaultName::SplitCount => ("--ranges is outside 1 to 4096", "give a number within"),
+        FaultName::Options => (
+            "the compaction takes more than 256 files",
+            "have LevelDB compact the level",
+        ),
+        FaultName::Snapshot => (
+            "the last sequence is 72057594037927935 or more, which no database reaches",
+            "restore the folder from a copy",
+        ),
+        FaultName::SnapshotList => (
+            "--snapshots does not rise, or has a sequence above the last one",
+            "leave that sequence out",
+        ),
+        FaultName::TooLarge => (
+            "an output would have more than 1073741824 bytes, or all more than 2^40 data blocks",
+            "give a smaller --file-size, or a larger --block-size",
+        ),
+        _ => return None,
+    };
+    Some(Words { wrong, remedy })
+}
+
+/// The words of a file that is refused.
+pub fn of_file(name: FaultName) -> Words {
+    match of_manifest(name) {
+        Some(words) => words,
+        None => of_table(name),
+    }
+}
+
+/// The words of a manifest that is refused, or of CURRENT.
+fn of_manifest(name: FaultName) -> Option<Words> {
+    let (wrong, remedy) = match name {
+        FaultName::LogShape => (
+            "it is not laid out as a log of whole records: the database is damaged",
+            "restore the folder from a copy, or open it once with LevelDB, which drops a cut end",
+        ),
+        FaultName::LogChecksum => (
+            "a record's checksum is wrong: the database is damaged",
+            "restore the folder from a copy",
+        ),
+        FaultName::EditTag => (
+            "a version edit has a tag that LevelDB does not write: another program's, as RocksDB's, \
+                or damage",
+            "use the program that wrote it, or restore the folder from a copy",
+        ),
+        FaultName::EditField => (
+            "a field of a version edit is not as LevelDB writes it, whose levels end at 6: another \
+                program's, or damage",
+            "use the program that wrote it, or restore the folder from a copy",
+        ),
+        FaultName::Comparator => (
+            "it names no comparator that is known",
+            "compact it with the program that wrote it",
+        ),
+        FaultName::Apply => (
+            "it names no manifest: the database is damaged",
+            "restore the folder from a copy",
+        ),
+        _ => return None,
+    };
+    Some(Words { wrong, remedy })
+}
+
+/// The words of a table that is refused.
+fn of_table(name: FaultName) -> Words {
+    Words {
+        wrong: in_table(name),
+        remedy: remedy_of_table(name),
+    }
+}
+
+/// What is wrong with a table.
+fn in_table(name: FaultName) -> &'static str {
+    match name {
+        FaultName::Missing => "it is missing",
+        FaultName::Size => "it has more than 1073741824 bytes, the most that a table may have",
+        FaultName::Short => "it is shorter than a table's footer",
+        FaultName::Magic => "it does not end as a table does",
+        FaultName::Handle => "it does not say where its blocks are",
+        FaultName::Range => "a block would lie outside the file",
+        FaultName::Trailer => "a block's checksum is wrong",
+        FaultName::Compressed => "a block is compressed",
+        FaultName::BlockType => "a block is of an unknown type",
+        FaultName::Block => {
+            "a block's bytes cannot be read as entries: another library's, as iq80's for Java, or \
+                damage"
+        }
+        FaultName::Key => "a key is no internal key",
+        FaultName::TooLarge => {
+            "a user key has more than 65535 bytes, or a value more than 16777215: no more is \
+                compacted here"
+        }
+        FaultName::Empty => "it, or a block of it, has no entry",
+        FaultName::Order => "its keys do not rise",
+        FaultName::Index => "its index does not fit its blocks",
+        FaultName::Bounds => "its size or its keys are not those that the manifest says",
+        _ => "it is refused",
+    }
+}
+
+/// What to do about a table.
+fn remedy_of_table(name: FaultName) -> &'static str {
+    match name {
+        FaultName::Compressed => {
+            "copy all keys into a new database made with kNoCompression, since to compact this one \
+                without compression does not rewrite its deepest tables"
+        }
+        FaultName::BlockType => {
+            "restore the file from a copy, or copy all keys into a new database made with \
+                kNoCompression"
+        }
+        FaultName::Block => {
+            "copy all keys into a new database made with LevelDB, or restore the file from a copy"
+        }
+        FaultName::Size => "have LevelDB compact the database",
+        FaultName::TooLarge => "leave its compaction to LevelDB, which has no such limit",
+        _ => "restore the file from a copy",
+    }
+}

@@ -1,0 +1,151 @@
+//! The locks of a folder that a command holds until it ends.
+
+use crate::explanations::{NO_FOLDER, Words};
+use crate::folder_names::names_in;
+use crate::folder_refusal::{no_database, path_in};
+use crate::refusal::{Refusal, RefusalText, told};
+use crate::reporter::Telling;
+use clean::pending_current;
+use coding::{Fault, FaultName};
+use folder::{CURRENT, FolderLock, SystemFiles, lock_to_change, lock_to_read};
+use std::alloc::Global;
+use std::fs::OpenOptions;
+use std::io::ErrorKind;
+use std::os::unix::fs::MetadataExt;
+use std::rt::Files;
+use std::{fs, io};
+
+/// Locks the folder at a path against every other program that reads or changes it. If it has no
+/// CURRENT, its logs are told of. Changed if it has a text of CURRENT that isn't renamed yet: what
+/// it names would be lost.
+pub fn locked_to_change<R: SystemFiles + Eprint + AllocGlobal>(
+    rt: &R,
+    telling: Telling<'_>,
+) -> Result<FolderLock, Refusal> {
+    let path = telling.folder;
+    let lock = match lock_to_change(rt, rt.alloc(), path) {
+        Ok(lock) => lock,
+        Err(fault) => {
+            if fault.name == FaultName::Missing {
+                telling.tell_unopened_logs(rt);
+            }
+            return Err(unlocked(rt, path, fault));
+        }
+    };
+    match pending_in(rt, path) {
+        Ok(None) => Ok(lock),
+        Ok(Some(pending)) => Err(pending_refusal(rt.alloc(), pending.as_str())),
+        Err(error) => Err(Refusal::of_call(rt.alloc(), path, "list its files", &error)),
+    }
+}
+
+/// Locks the folder at a path against every program that changes it. None if it has no lock to
+/// take. If it has a text of CURRENT that isn't renamed yet, that is told.
+pub fn locked_to_read<R: SystemFiles + Eprint + AllocGlobal>(
+    rt: &R,
+    telling: Telling<'_>,
+) -> Result<Option<FolderLock>, Refusal> {
+    let path = telling.folder;
+    let lock = lock_to_read(rt, rt.alloc(), path).map_err(|fault| unlocked(rt, path, fault))?;
+    if !telling.is_quiet
+        && let Ok(Some(pending)) = pending_in(rt, path)
+    {
+        let _ = eprintln!(rt;
+            "sedvokt: {pending}: a program was about to rename it to CURRENT; what is told is of \
+                CURRENT"
+        );
+    }
+    Ok(lock)
+}
+
+/// The path of a folder's text of CURRENT that isn't renamed yet. None if it has none.
+fn pending_in<R: Files + AllocGlobal>(rt: &R, folder: &str) -> io::Result<Option<String>> {
+    let names = names_in(rt, folder)?;
+    let Some(name) = pending_current(&names) else {
+        return Ok(None);
+    };
+    match path_in(rt.alloc(), folder, name) {
+        Some(path) => Ok(Some(path)),
+        None => Err(ErrorKind::OutOfMemory.into()),
+    }
+}
+
+/// The refusal of a folder that has a text of CURRENT that isn't renamed yet.
+fn pending_refusal(alloc: Global, pending: &str) -> Refusal {
+    let words = Words {
+        wrong: "a program was about to rename it to CURRENT, and what it names would be lost",
+        remedy: "open the database once with the program that wrote it",
+    };
+    Refusal::new(Fault::of(FaultName::Changed), told(alloc, pending, words))
+}
+
+/// The refusal of a folder that can't be locked.
+fn unlocked<R: SystemFiles + AllocGlobal>(rt: &R, path: &str, fault: Fault) -> Refusal {
+    match fault.name {
+        FaultName::Device => device_refusal(rt, path, fault),
+        FaultName::Locked => Refusal::new(fault, shared_refusal(rt, path)),
+        FaultName::Missing => Refusal::new(fault, no_database(rt, path)),
+        _ => Refusal::from(fault),
+    }
+}
+
+/// What is told of a folder whose LOCK has a second name. None if it has none.
+fn shared_refusal<R: SystemFiles + AllocGlobal>(rt: &R, path: &str) -> Option<RefusalText> {
+    let lock = path_in(rt.alloc(), path, "LOCK")?;
+    let found = fs::metadata(rt, lock.as_str()).ok()?;
+    if found.nlink() < 2 {
+        return None;
+    }
+    let words = Words {
+        wrong: "it has a second name, as in a copy by links, so another folder has the same lock",
+        remedy: "if no program has this database open, remove this file",
+    };
+    told(rt.alloc(), lock.as_str(), words)
+}
+
+/// The refusal of a folder that can't be locked since the device failed.
+fn device_refusal<R: SystemFiles + AllocGlobal>(rt: &R, path: &str, fault: Fault) -> Refusal {
+    match fs::metadata(rt, path) {
+        Err(error) if error.kind() == ErrorKind::NotFound => {
+            Refusal::new(fault, told(rt.alloc(), path, NO_FOLDER))
+        }
+        Err(error) => Refusal::of_call(rt.alloc(), path, "read", &error),
+        Ok(metadata) if metadata.is_dir() => file_refused(rt, path, fault),
+        Ok(_) => {
+            let words = Words {
+                wrong: "it is no folder",
+                remedy: "give the folder of a database",
+            };
+            Refusal::new(fault, told(rt.alloc(), path, words))
+        }
+    }
+}
+
+/// The refusal of a folder whose CURRENT can't be looked for, or whose LOCK can't be locked.
+fn file_refused<R: SystemFiles + AllocGlobal>(rt: &R, path: &str, fault: Fault) -> Refusal {
+    if let Some(current) = path_in(rt.alloc(), path, CURRENT)
+        && let Err(error) = fs::metadata(rt, current.as_str())
+        && error.kind() != ErrorKind::NotFound
+    {
+        return Refusal::of_call(rt.alloc(), path, "read CURRENT", &error);
+    }
+    lock_refused(rt, path, fault)
+}
+
+/// The refusal of a folder whose LOCK can't be locked, in the system's words if it can't be opened.
+fn lock_refused<R: SystemFiles + AllocGlobal>(rt: &R, path: &str, fault: Fault) -> Refusal {
+    let text = String::from_str(rt.alloc(), "cannot make or lock its file LOCK");
+    let Ok(lock) = format!(in rt.alloc(); "{path}/LOCK") else {
+        return Refusal::from(fault);
+    };
+    let opened = OpenOptions::new()
+        .read(true)
+        .write(true)
+        .open(rt, lock.as_str());
+    match opened {
+        Err(error) if error.kind() != ErrorKind::NotFound => {
+            Refusal::of_call(rt.alloc(), path, "open LOCK", &error)
+        }
+        _ => Refusal::new(fault, RefusalText::alone(rt.alloc(), path, text)),
+    }
+}

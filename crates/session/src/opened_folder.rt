@@ -1,0 +1,87 @@
+//! The work on a folder as each command begins it and ends it: it is opened, refusals are told, and
+//! lines are printed.
+
+use crate::refusal::{Refusal, RefusalText};
+use crate::reporter::Telling;
+use crate::table_sizes::{is_too_large, too_large};
+use coding::{Fault, FaultName};
+use folder::{Disk, Opened, SystemFiles, open};
+use std::io;
+use std::io::Write;
+use std::time::Clock;
+
+/// The bytes of a MiB.
+const MEBIBYTE: u64 = 1 << 20;
+
+/// What a folder was opened as, and its logs.
+#[derive(Drop)]
+pub struct OpenedFolder {
+    pub opened: Opened,
+    /// How many logs have writes that are in no table. None if the folder can't be listed.
+    pub logs: Option<u64>,
+}
+
+/// Opens a folder, and tells of its logs.
+pub fn begin_work<R: SystemFiles + Eprint + Clock + AllocGlobal>(
+    rt: &R,
+    telling: Telling<'_>,
+) -> Result<Opened, Refusal> {
+    Ok(begin_counted(rt, telling)?.opened)
+}
+
+/// The same, with the number of its logs.
+pub fn begin_counted<R: SystemFiles + Eprint + Clock + AllocGlobal>(
+    rt: &R,
+    telling: Telling<'_>,
+) -> Result<OpenedFolder, Refusal> {
+    match open_folder(rt, telling.folder) {
+        Ok(opened) => {
+            let logs = telling.tell_logs(rt, &opened.version)?;
+            Ok(OpenedFolder { opened, logs })
+        }
+        Err(refusal) => {
+            telling.tell_unopened_logs(rt);
+            Err(refusal)
+        }
+    }
+}
+
+/// What a folder is opened as.
+pub fn open_folder<R: SystemFiles + AllocGlobal>(rt: &R, path: &str) -> Result<Opened, Refusal> {
+    let mut folder = Disk::new(rt, path);
+    let opened = open(rt.alloc(), &mut folder);
+    opened.map_err(|fault| refused_at(rt, path, &folder, fault))
+}
+
+/// The refusal of work on the folder at a path. If the device failed, the call that failed is told.
+/// TooLarge if that was to read a file that has more than 2^30 bytes.
+pub fn refused_at<R: SystemFiles + AllocGlobal>(
+    rt: &R,
+    path: &str,
+    folder: &Disk<'_, R>,
+    fault: Fault,
+) -> Refusal {
+    let Some(failure) = folder.last_failure() else {
+        return Refusal::from(fault);
+    };
+    if fault.name != FaultName::Device {
+        return Refusal::from(fault);
+    }
+    if is_too_large(failure) {
+        return too_large(rt.alloc(), path, failure.name.as_str());
+    }
+    let told = RefusalText::alone(rt.alloc(), path, format!(in rt.alloc(); "{failure}"));
+    Refusal::new(fault, told)
+}
+
+/// Writes lines to the standard output.
+pub fn print_lines<R: Print + AllocGlobal>(rt: &R, lines: &[u8]) -> Result<(), Refusal> {
+    io::writer(rt)
+        .write_all(lines)
+        .map_err(|error| Refusal::of_output(rt.alloc(), &error))
+}
+
+/// How many bytes these MiB are.
+pub fn bytes_of(mebibytes: u64) -> u64 {
+    mebibytes.saturating_mul(MEBIBYTE)
+}

@@ -1,0 +1,198 @@
+//! A refusal, and what is told of it.
+
+use crate::explanations::{Words, in_words, of_file};
+use coding::{Fault, FaultName};
+use std::alloc::{AllocError, Global};
+use std::io;
+use std::io::ErrorKind;
+
+/// A refusal, and what is told of it beside its name.
+#[derive(Drop)]
+pub struct Refusal {
+    pub fault: Fault,
+    /// What is told. If it isn't known, or there was no memory for it, the words of the fault are.
+    pub told: Option<RefusalText>,
+    /// Whether nothing is told, not even the fault: who read the answer reads no further, or the
+    /// answer is the refusal.
+    pub is_silent: bool,
+    /// Whether its name is told already.
+    pub is_named: bool,
+}
+
+/// What is told of a refusal.
+#[derive(Drop)]
+pub struct RefusalText {
+    /// The file or folder that it is about.
+    path: String,
+    /// What is wrong.
+    wrong: String,
+    /// What to do, if that is told.
+    remedy: Option<&'static str>,
+}
+
+impl RefusalText {
+    /// What is `wrong` with a path, and a remedy. None if there was no memory for one of the texts.
+    pub fn new(
+        alloc: Global,
+        path: &str,
+        wrong: Result<String, AllocError>,
+        remedy: &'static str,
+    ) -> Option<RefusalText> {
+        RefusalText::of(alloc, path, wrong, Some(remedy))
+    }
+
+    /// The same without a remedy.
+    pub fn alone(
+        alloc: Global,
+        path: &str,
+        wrong: Result<String, AllocError>,
+    ) -> Option<RefusalText> {
+        RefusalText::of(alloc, path, wrong, None)
+    }
+
+    fn of(
+        alloc: Global,
+        path: &str,
+        wrong: Result<String, AllocError>,
+        remedy: Option<&'static str>,
+    ) -> Option<RefusalText> {
+        let wrong = wrong.ok()?;
+        let path = String::from_str(alloc, path).ok()?;
+        Some(RefusalText {
+            path,
+            wrong,
+            remedy,
+        })
+    }
+
+    /// The same, lent.
+    pub fn parts(&self) -> RefusalParts<'_> {
+        RefusalParts {
+            path: self.path.as_str(),
+            wrong: self.wrong.as_str(),
+            remedy: self.remedy,
+        }
+    }
+}
+
+/// What is told of a refusal, lent.
+#[derive(Clone, Copy)]
+pub struct RefusalParts<'a> {
+    /// The file or folder that it is about.
+    pub path: &'a str,
+    /// What is wrong.
+    pub wrong: &'a str,
+    /// What to do, if that is told.
+    pub remedy: Option<&'a str>,
+}
+
+impl From<Fault> for Refusal {
+    fn from(fault: Fault) -> Refusal {
+        Refusal::new(fault, None)
+    }
+}
+
+impl Refusal {
+    /// The refusal of which this is told.
+    pub fn new(fault: Fault, told: Option<RefusalText>) -> Refusal {
+        Refusal {
+            fault,
+            told,
+            is_silent: false,
+            is_named: false,
+        }
+    }
+
+    /// The refusal of which nothing is told, since the answer tells it.
+    pub fn silent(fault: Fault) -> Refusal {
+        Refusal {
+            fault,
+            told: None,
+            is_silent: true,
+            is_named: false,
+        }
+    }
+
+    /// Tells its name on the standard error, unless that is told already or nothing is. If it can't
+    /// be told, nothing else changes.
+    pub fn tell_name<R: Eprint>(&mut self, rt: &R) {
+        if !self.is_silent && !self.is_named {
+            let fault = self.fault;
+            let _ = eprintln!(rt; "refused: {fault}");
+            self.is_named = true;
+        }
+    }
+
+    /// The same refusal, of which this is told.
+    pub fn telling(mut self, told: Option<RefusalText>) -> Refusal {
+        self.told = told;
+        self
+    }
+
+    /// The refusal of the file at `path`, by a test of its bytes.
+    pub fn of_file(alloc: Global, path: &str, fault: Fault) -> Refusal {
+        Refusal::new(fault, file_refusal(alloc, path, fault.name))
+    }
+
+    /// The refusal that the file at `path` isn't there.
+    pub fn of_missing(alloc: Global, path: &str) -> Refusal {
+        let words = Words {
+            wrong: "it is missing",
+            remedy: "give the path of a file that is there",
+        };
+        Refusal::new(Fault::of(FaultName::Missing), told(alloc, path, words))
+    }
+
+    /// The refusal of a call of the system on what `path` names: `Memory` if memory ran out, else
+    /// `Device`.
+    pub fn of_call(alloc: Global, path: &str, call: &str, error: &io::Error) -> Refusal {
+        match error.kind() {
+            ErrorKind::OutOfMemory => Refusal::from(Fault::of(FaultName::Memory)),
+            _ => {
+                let told = call_refusal(alloc, path, call, error);
+                Refusal::new(Fault::of(FaultName::Device), told)
+            }
+        }
+    }
+
+    /// The refusal that the standard output can't be written. If it is a pipe that nobody reads any
+    /// more, nothing is told.
+    pub fn of_output(alloc: Global, error: &io::Error) -> Refusal {
+        let mut refusal = Refusal::of_call(alloc, "standard output", "write", error);
+        refusal.is_silent = error.kind() == ErrorKind::BrokenPipe;
+        refusal
+    }
+}
+
+/// What is told of a file that is refused. None if memory runs out.
+fn file_refusal(alloc: Global, path: &str, name: FaultName) -> Option<RefusalText> {
+    if name == FaultName::Memory {
+        return None;
+    }
+    told(alloc, path, of_file(name))
+}
+
+/// What is told of `path` in these words.
+pub fn told(alloc: Global, path: &str, words: Words) -> Option<RefusalText> {
+    RefusalText::new(
+        alloc,
+        path,
+        String::from_str(alloc, words.wrong),
+        words.remedy,
+    )
+}
+
+/// What is told of a call of the system that failed.
+fn call_refusal(alloc: Global, path: &str, call: &str, error: &io::Error) -> Option<RefusalText> {
+    let text = format!(in alloc; "{error}").ok()?;
+    let reason = without_number(text.as_str());
+    RefusalText::alone(alloc, path, format!(in alloc; "cannot {call}: {reason}"))
+}
+
+/// The words of an error of the system, without its number.
+fn without_number(text: &str) -> &str {
+    match text.split_once(" (os error ") {
+        Some((words, _)) => words,
+        None => text,
+    }
+}

@@ -1,0 +1,184 @@
+//! What is told on the standard error of the work on a folder.
+
+ghost use Rattle.std.specs.Prelude.{◌≡◌, false, IfSome};
+
+use crate::amounts::grouped;
+use crate::folder_refusal::path_in;
+use crate::logs::{Log, logs_with_writes, replaceable_files};
+use coding::{Fault, FaultName};
+use edit::Version;
+use std::io::ErrorKind;
+use std::rt::Files;
+use std::time::{Clock, Instant};
+
+/// The milliseconds after which somebody who watches is told how long work takes.
+pub const LONG: u64 = 2_000;
+
+/// What is to be told of the work on a folder. If it can't be told, nothing else changes.
+#[derive(Clone, Copy)]
+pub struct Telling<'a> {
+    /// The path of the folder.
+    pub folder: &'a str,
+    /// Whether nothing is told but refusals.
+    pub is_quiet: bool,
+    /// Whether the times of all steps are told.
+    pub is_verbose: bool,
+    /// Whether somebody watches, as at a terminal, so that the times of long steps are told, and a
+    /// line of progress is shown.
+    pub is_watched: bool,
+    /// Whether the account of each compaction is told.
+    pub is_explaining: bool,
+    /// How many bytes of tables may be held to find the file of a refusal.
+    pub memory: u64,
+}
+
+impl<'a> Telling<'a> {
+    /// The same, with the account of each compaction told or not.
+    pub fn explaining(mut self, is_explaining: bool) -> Telling<'a>
+        ensures asked { result.is_explaining ≡ is_explaining }
+        ensures rest { (result.folder ≡ self.entry.folder)
+            × (result.is_quiet ≡ self.entry.is_quiet) × (result.is_verbose ≡ self.entry.is_verbose)
+            × (result.is_watched ≡ self.entry.is_watched) × (result.memory ≡ self.entry.memory) }
+    {
+        self.is_explaining = is_explaining;
+        self
+    }
+
+    /// The time at which a step begins, if it may be told. None if the clock can't be read, too.
+    pub fn begin<R: Clock>(self, rt: &R) -> Option<Beginning>
+        ensures { IfSome result (λ _. self.entry.is_quiet ≡ false) }
+    {
+        if self.is_quiet || !(self.is_verbose || self.is_watched) {
+            return None;
+        }
+        Some(Beginning {
+            time: Instant::now(rt).ok()?,
+            patience: if self.is_verbose { 0 } else { LONG },
+        })
+    }
+
+    /// Tells of the logs with writes that are in no table of the version, and answers how many there
+    /// are. None if the folder can't be listed, which is told. The only fault is Memory.
+    pub fn tell_logs<R: Files + Eprint + AllocGlobal>(
+        self,
+        rt: &R,
+        version: &Version,
+    ) -> Result<Option<u64>, Fault> {
+        match logs_with_writes(rt, self.folder, Some(version)) {
+            Ok(logs) => {
+                self.tell_each(
+                    rt,
+                    &logs,
+                    "of writes that are in no table; they are not seen here; \
+                    open and close the database once with LevelDB",
+                );
+                Ok(Some(logs.len() as u64))
+            }
+            Err(error) if error.kind() == ErrorKind::OutOfMemory => {
+                Err(Fault::of(FaultName::Memory))
+            }
+            Err(_) => {
+                self.tell_unlisted(rt);
+                Ok(None)
+            }
+        }
+    }
+
+    /// Tells that the folder can't be listed.
+    fn tell_unlisted<R: Eprint>(self, rt: &R) {
+        let path = self.folder;
+        if !self.is_quiet {
+            let _ = eprintln!(rt;
+                "sedvokt: {path}: its files cannot be listed; there may be logs with writes"
+            );
+        }
+    }
+
+    /// Tells of each log that has a byte, of a folder that can't be opened: which of them LevelDB
+    /// would replay isn't known. Nothing is told if the folder can't be listed.
+    pub fn tell_unopened_logs<R: Files + Eprint + AllocGlobal>(self, rt: &R) {
+        if let Ok(logs) = logs_with_writes(rt, self.folder, None) {
+            self.tell_each(
+                rt,
+                &logs,
+                "in which there may be writes that are in no table",
+            );
+        }
+    }
+
+    /// Tells of each of these logs how many bytes it has, and this about them.
+    fn tell_each<R: Eprint + AllocGlobal>(self, rt: &R, logs: &[Log], about: &str) {
+        if self.is_quiet {
+            return;
+        }
+        for log in logs {
+            self.tell_log(rt, *log, about);
+        }
+    }
+
+    /// Tells of a log.
+    fn tell_log<R: Eprint + AllocGlobal>(self, rt: &R, log: Log, about: &str) {
+        let alloc = rt.alloc();
+        let number = log.number;
+        if let Ok(name) = format!(in alloc; "{number:06}.log")
+            && let Some(path) = path_in(alloc, self.folder, name.as_str())
+            && let Ok(bytes) = grouped(alloc, log.bytes)
+        {
+            let unit = if log.bytes == 1 { "byte" } else { "bytes" };
+            let _ = eprintln!(rt; "sedvokt: {path}: {bytes} {unit} {about}");
+        }
+    }
+
+    /// Tells of the files that compactions from this version on may replace, a line each, but for
+    /// those that are removed now. Nothing is told if the folder can't be listed: that is told with
+    /// its logs.
+    pub fn tell_replaceable<R: Files + Eprint + AllocGlobal>(
+        self,
+        rt: &R,
+        version: &Version,
+        removed: &[String],
+    ) {
+        if self.is_quiet {
+            return;
+        }
+        let Ok(names) = replaceable_files(rt, self.folder, version) else {
+            return;
+        };
+        for name in &names {
+            if !removed.contains(name) {
+                self.tell_replaceable_file(rt, name.as_str());
+            }
+        }
+    }
+
+    /// Tells of a file that a compaction may replace.
+    fn tell_replaceable_file<R: Eprint + AllocGlobal>(self, rt: &R, name: &str) {
+        if let Some(path) = path_in(rt.alloc(), self.folder, name) {
+            let _ = eprintln!(rt;
+                "sedvokt: {path}: the manifest says that its number is free; a new file may \
+                    replace it"
+            );
+        }
+    }
+}
+
+/// When a step began.
+#[derive(Clone, Copy)]
+pub struct Beginning {
+    time: Instant,
+    /// The milliseconds from which on it is told how long the step took.
+    patience: u64,
+}
+
+/// Tells how long a step took that was done, if its beginning is known and it took long enough.
+pub fn tell_time<R: Eprint + Clock>(rt: &R, step: &str, begun: Option<Beginning>) {
+    let Some(begun) = begun else {
+        return;
+    };
+    if let Ok(taken) = begun.time.elapsed(rt) {
+        let millis = taken.as_millis();
+        if millis >= u128::from(begun.patience) {
+            let _ = eprintln!(rt; "{step}: {millis} ms");
+        }
+    }
+}

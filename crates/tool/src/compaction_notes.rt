@@ -1,0 +1,136 @@
+//! What is told of a compaction on the standard error: what was made of which files, that filters
+//! are gone, and that there was nothing to do.
+
+use coding::Fault;
+use diagnostics::{deleted_files, have_filter};
+use edit::{FileMeta, LAST_LEVEL, LEVELS, Version, VersionEdit};
+use folder::{Disk, SystemFiles};
+use ikey::Bytewise;
+use scan::FileTotal;
+use session::{Telling, total_text};
+use std::alloc::Global;
+
+/// All files of a version. The only fault is Memory.
+pub(crate) fn version_total(alloc: Global, version: &Version) -> Result<FileTotal, Fault> {
+    let mut total = FileTotal::none();
+    for level in 0..LEVELS {
+        total = with_files(total, &version.files::<Bytewise>(alloc, level)?);
+    }
+    Ok(total)
+}
+
+/// The same with these files too.
+fn with_files(total: FileTotal, files: &[&FileMeta]) -> FileTotal {
+    let mut total = total;
+    for file in files {
+        total = total.with(file.size);
+    }
+    total
+}
+
+/// The new files of an edit.
+fn added_total(edit: &VersionEdit) -> FileTotal {
+    let mut total = FileTotal::none();
+    for file in &edit.added {
+        total = total.with(file.meta.size);
+    }
+    total
+}
+
+/// What is told of a compaction after its lines.
+#[derive(Clone, Copy)]
+pub(crate) struct CompactionNote {
+    /// The inputs.
+    taken: FileTotal,
+    /// The new tables.
+    made: FileTotal,
+    /// Whether an input has a filter block.
+    has_filter: bool,
+}
+
+/// What is to be told of the compaction that has this `edit` of the version `before`. The ends of
+/// its inputs are read. None if nothing is, or if it can't be known.
+pub(crate) fn note_of<R: SystemFiles + AllocGlobal>(
+    rt: &R,
+    telling: Telling<'_>,
+    before: &Version,
+    edit: &[u8],
+) -> Option<CompactionNote> {
+    if telling.is_quiet {
+        return None;
+    }
+    let edit = VersionEdit::decode(rt.alloc(), edit).ok()?;
+    let inputs = deleted_files(rt.alloc(), before, &edit).ok()?;
+    let mut folder = Disk::new(rt, telling.folder);
+    Some(CompactionNote {
+        taken: with_files(FileTotal::none(), &inputs),
+        made: added_total(&edit),
+        has_filter: have_filter(rt.alloc(), &mut folder, &inputs) == Ok(true),
+    })
+}
+
+impl CompactionNote {
+    /// Tells what was made of which files, and if filters are gone.
+    pub fn tell<R: Eprint + AllocGlobal>(self, rt: &R, telling: Telling<'_>) {
+        tell_made(rt, telling, self.taken, self.made);
+        self.tell_filters(rt, telling);
+    }
+
+    /// Tells if filters are gone, and answers whether they are.
+    pub fn tell_filters<R: Eprint>(self, rt: &R, telling: Telling<'_>) -> bool {
+        let folder = telling.folder;
+        if self.has_filter {
+            let _ = eprintln!(rt;
+                "sedvokt: {folder}: the old tables have filters, and the new ones have none: a \
+                    lookup of a key that is not there reads a block of each table that it looks in"
+            );
+        }
+        self.has_filter
+    }
+}
+
+/// Tells what was made of which files.
+pub(crate) fn tell_made<R: Eprint + AllocGlobal>(
+    rt: &R,
+    telling: Telling<'_>,
+    before: FileTotal,
+    after: FileTotal,
+) {
+    if telling.is_quiet {
+        return;
+    }
+    let alloc = rt.alloc();
+    if let (Ok(before), Ok(after)) = (total_text(alloc, before), total_text(alloc, after)) {
+        let _ = eprintln!(rt; "{before} into {after}");
+    }
+}
+
+/// Tells that there was no step to do, if all `files` are at the `bottom`.
+pub(crate) fn tell_no_step<R: Eprint>(rt: &R, telling: Telling<'_>, bottom: u64, files: u64) {
+    let folder = telling.folder;
+    if telling.is_quiet {
+        return;
+    }
+    if files == 0 {
+        let _ = eprintln!(rt;
+            "sedvokt: {folder}: there is nothing to compact: no level has a file"
+        );
+        return;
+    }
+    if bottom >= LAST_LEVEL {
+        let _ = eprintln!(rt;
+            "sedvokt: {folder}: all files are at level {bottom}, the last one, where nothing is \
+                compacted"
+        );
+        return;
+    }
+    let rewritten = if files == 1 {
+        "the file"
+    } else {
+        "some of them, and --all then the others"
+    };
+    let _ = eprintln!(rt;
+        "sedvokt: {folder}: all files are at level {bottom}, where --all leaves them; \
+            compact --level {bottom} rewrites {rewritten}"
+    );
+}

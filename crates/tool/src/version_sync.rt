@@ -1,0 +1,18 @@
+//! The version of a folder is synced before work that changes it.
+
+use folder::{Disk, Opened, SystemFiles, WholeFiles};
+use session::{Refusal, refused_at};
+use std::thread::Threads;
+use store::sync_version;
+
+/// Syncs what a folder was opened as, so that it outlives a crash.
+pub(crate) fn sync<R: SystemFiles + WholeFiles + AllocGlobal + Threads>(
+    rt: &R,
+    path: &str,
+    opened: &Opened,
+) -> Result<(), Refusal> {
+    let mut folder = Disk::new(rt, path);
+    folder.sync_ahead(opened.order, &opened.version, opened.manifest);
+    let synced = sync_version(rt.alloc(), &mut folder, opened);
+    synced.map_err(|fault| refused_at(rt, path, &folder, fault))
+}

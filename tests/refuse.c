@@ -15,7 +15,8 @@
 // If the variable HASTE is set, the clock is a second later at each look.
 //
 // A program can also tell it while it runs, by a request for 2^47 + 2^40 * ORDER + N bytes. No
-// system grants one, so without this library it changes nothing. Each order ends the one before.
+// system grants one, so without this library it changes nothing. Each but the last ends the one
+// before.
 //
 //   0  nothing is refused from here on
 //   1  the same, but the next request is refused if something was, since the last such question
@@ -24,12 +25,15 @@
 //   4  each request by which the program would have N bytes more than now
 //   5  each thread from the Nth on
 //   6  nothing, but the next request if the program has not as many bytes as at the last of 2 to 5
+//   7  as before, but a request of this thread ends the program, if N is 1 and until N is 0
 
 typedef unsigned long size;
 
 enum { EIO = 5, EAGAIN = 11, ENOMEM = 12, O_CREAT = 0100, F_SETLK = 6, F_OFD_SETLK = 37 };
 
-enum order { NOTHING, WAS_REFUSED, REQUEST, REQUEST_HERE, BYTES, THREADS, IS_CHANGED, ORDERS };
+enum order {
+    NOTHING, WAS_REFUSED, REQUEST, REQUEST_HERE, BYTES, THREADS, IS_CHANGED, FORBIDDEN, ORDERS
+};
 
 extern void *__libc_malloc(size);
 extern void *__libc_calloc(size, size);
@@ -49,6 +53,9 @@ extern int *__errno_location(void);
 // How many of a kind are still to come, with the one that is refused; 0 or less if none is.
 static long requests, calls, shorts;
 static __thread long requests_here __attribute__((tls_model("initial-exec")));
+
+// Whether a request of this thread ends the program.
+static __thread int is_forbidden __attribute__((tls_model("initial-exec")));
 
 // The thread, and the call on a file, from which on each is refused; 0 if none is. And how many
 // there were since that was told.
@@ -90,6 +97,10 @@ static int is_from(long from, long *made) {
 }
 
 static void take(enum order order, long number) {
+    if (order == FORBIDDEN) {
+        is_forbidden = number != 0;
+        return;
+    }
     if (order == WAS_REFUSED) {
         answer = ATOMIC(exchange_n, &was_refused, 0);
     } else if (order == IS_CHANGED) {
@@ -109,6 +120,8 @@ static int is_refused(size asked, size more) {
     size order = (asked >> 40) - (1UL << 7);
     if (order < ORDERS) {
         take(order, asked & ((1UL << 40) - 1));
+    } else if (is_forbidden) {
+        __builtin_trap();
     } else if (answer) {
         answer = 0;
     } else {

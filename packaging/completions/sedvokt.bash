@@ -1,11 +1,15 @@
 # Completes sedvokt in bash.
 
 _sedvokt() {
-    local word=${COMP_WORDS[COMP_CWORD]} before=${COMP_WORDS[COMP_CWORD - 1]} words
+    local word=${COMP_WORDS[COMP_CWORD]} before=${COMP_WORDS[COMP_CWORD - 1]} words at=1
     COMPREPLY=()
-    if ((COMP_CWORD == 1)); then
-        words='blocks dump manifest stats verify get scan job compact install clean help -h --help'
-        words="$words -V --version"
+    # Where the command is: -v and -q may come before it.
+    while ((at < COMP_CWORD)) && [[ ${COMP_WORDS[at]} == -* ]]; do
+        at=$((at + 1))
+    done
+    if ((COMP_CWORD == at)); then
+        words='stats verify get scan manifest dump compact clean job install blocks help'
+        words="$words -v --verbose -q --quiet -h --help -V --version"
         mapfile -t COMPREPLY < <(compgen -W "$words" -- "$word")
         return
     fi
@@ -25,35 +29,30 @@ _sedvokt() {
         return
         ;;
     esac
-    case ${COMP_WORDS[1]} in
-    blocks) words='--at -h --help' ;;
-    dump) words='--text -h --help' ;;
-    manifest) words='--text --json -v --verbose -h --help' ;;
-    stats) words='--text --json --memory -v --verbose -h --help' ;;
-    verify) words='--table --json --all-faults --memory -v --verbose -h --help' ;;
-    get) words='--at --text --raw --json --no-verify --memory -v --verbose -h --help' ;;
-    scan)
-        words='--from --to --at --limit --keys --text --json --no-verify --memory -v --verbose'
-        words="$words -h --help"
-        ;;
-    job) words='--level -v --verbose -h --help' ;;
+    case ${COMP_WORDS[at]} in
+    stats) words='--text --json --memory' ;;
+    verify) words='--table --json --all-faults --memory' ;;
+    get) words='--at --text --raw --json --no-verify --memory' ;;
+    scan) words='--from --to --at --limit --keys --text --json --no-verify --memory' ;;
+    manifest) words='--text --json' ;;
+    dump) words='--text' ;;
     compact)
-        words='--level --all --out --first-number --no-verify --memory --workers --ranges -v'
-        words="$words --verbose --explain --snapshot --snapshots --block-size --file-size --clean"
-        words="$words --json -h --help"
+        words='--level --all --out --first-number --no-verify --memory --workers --ranges'
+        words="$words --explain --snapshot --snapshots --block-size --file-size --clean --json"
         ;;
-    install)
-        words='--snapshot --snapshots --no-verify --memory --clean -v --verbose -h --help'
-        ;;
-    clean) words='--dry-run -v --verbose -h --help' ;;
-    help) words='blocks dump manifest stats verify get scan job compact install clean' ;;
+    clean) words='--dry-run' ;;
+    job) words='--level' ;;
+    install) words='--snapshot --snapshots --no-verify --memory --clean' ;;
+    blocks) words='--at' ;;
+    help) words='stats verify get scan manifest dump compact clean job install blocks' ;;
     *) return ;;
     esac
-    if [[ $word == -* || ${COMP_WORDS[1]} == help ]]; then
+    [[ ${COMP_WORDS[at]} == help ]] || words="$words -v --verbose -q --quiet -h --help"
+    if [[ $word == -* || ${COMP_WORDS[at]} == help ]]; then
         mapfile -t COMPREPLY < <(compgen -W "$words" -- "$word")
         return
     fi
-    case ${COMP_WORDS[1]} in
+    case ${COMP_WORDS[at]} in
     manifest | stats | verify | get | scan | job | compact | install | clean)
         mapfile -t COMPREPLY < <(compgen -d -- "$word")
         ;;

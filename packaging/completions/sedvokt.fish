@@ -1,30 +1,31 @@
 # Completes sedvokt in fish.
 
-set -l commands blocks dump manifest stats verify get scan job compact install clean
-set -l folders manifest stats verify get scan job compact install clean
+set -l commands stats verify get scan manifest dump compact clean job install blocks
+set -l folders stats verify get scan manifest compact clean job install
 
 complete -c sedvokt -f
 complete -c sedvokt -s h -l help -d 'Print help'
-complete -c sedvokt -n __fish_use_subcommand -s V -l version -d 'Print the version and the kit'
+complete -c sedvokt -s v -l verbose -d 'Tell how long it took'
+complete -c sedvokt -s q -l quiet -d 'Tell nothing but what is wrong'
+complete -c sedvokt -n __fish_use_subcommand -s V -l version \
+    -d 'Print the version, and whether it is proved'
 
-complete -c sedvokt -n __fish_use_subcommand -a blocks -d 'Merge two blocks of tables into one'
-complete -c sedvokt -n __fish_use_subcommand -a dump -d 'Print the entries of a table'
-complete -c sedvokt -n __fish_use_subcommand -a manifest -d 'Print the version of a database'
 complete -c sedvokt -n __fish_use_subcommand -a stats -d 'Print what each level of a database has'
 complete -c sedvokt -n __fish_use_subcommand -a verify -d 'Test all tables of a database'
 complete -c sedvokt -n __fish_use_subcommand -a get -d 'Print the value of a key'
 complete -c sedvokt -n __fish_use_subcommand -a scan -d 'Print keys and their values'
-complete -c sedvokt -n __fish_use_subcommand -a job -d 'Print what a compaction would read'
+complete -c sedvokt -n __fish_use_subcommand -a manifest -d 'Print the version of a database'
+complete -c sedvokt -n __fish_use_subcommand -a dump -d 'Print the entries of a table'
 complete -c sedvokt -n __fish_use_subcommand -a compact -d 'Merge files of a level into the next'
-complete -c sedvokt -n __fish_use_subcommand -a install -d 'Install what compact --out made'
 complete -c sedvokt -n __fish_use_subcommand -a clean -d 'Remove files that are not needed'
+complete -c sedvokt -n __fish_use_subcommand -a job -d 'Print what a compaction would read'
+complete -c sedvokt -n __fish_use_subcommand -a install -d 'Install what compact --out made'
+complete -c sedvokt -n __fish_use_subcommand -a blocks -d 'Merge two blocks of tables into one'
 complete -c sedvokt -n __fish_use_subcommand -a help -d 'Print help'
 
 complete -c sedvokt -n '__fish_seen_subcommand_from help' -a "$commands"
 complete -c sedvokt -n '__fish_seen_subcommand_from blocks dump' -F
 complete -c sedvokt -n "__fish_seen_subcommand_from $folders" -a '(__fish_complete_directories)'
-complete -c sedvokt -n "__fish_seen_subcommand_from $folders" -s v -l verbose \
-    -d 'Tell how long it took'
 complete -c sedvokt -n '__fish_seen_subcommand_from get scan' -l at -x -d 'Read at this sequence'
 complete -c sedvokt -n '__fish_seen_subcommand_from dump manifest stats get scan' -l text \
     -d 'Keys and values are text'

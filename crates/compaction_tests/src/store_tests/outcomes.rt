@@ -85,11 +85,11 @@ fn outcome_of<R: Threads + Sync>(
 }
 
 /// Whether an outcome is written as these files, by two calls each, one that names the edit, and
-/// one for the folder.
+/// one for the folder before and after that.
 fn is_written<R: Threads + Sync>(rt: &R, alloc: Global, outcome: &Outcome, files: Files) -> bool {
     let mut folder = Shelf::new(alloc, NO_FILES);
     let answer = write_outcome(rt, &mut folder, outcome);
-    answer == Ok(()) && holds(&folder, files) && folder.calls() == 2 * files.len() as u64 + 2
+    answer == Ok(()) && holds(&folder, files) && folder.calls() == 2 * files.len() as u64 + 3
 }
 
 /// Whether the outcome of a row is its answer, and leaves its folder as it was.
@@ -136,12 +136,12 @@ fn outcomes_that_are_written(rt: HostRuntime) {
     }
 }
 
-/// The calls that write the outcome of one table: two for it, three for its edit, and one for the
-/// folder.
-const CALLS: u64 = 6;
+/// The calls that write the outcome of one table: two for it, two for its edit, one for the folder,
+/// one that names the edit, and one for the folder again.
+const CALLS: u64 = 7;
 
 /// Whether a failing call ends the writing of an outcome of one table, and the edit isn't there
-/// before the table is synced.
+/// before the folder is synced.
 fn ends_there<R: Threads + Sync + Abort>(rt: &R, alloc: Global, call: u64) -> bool {
     let files = files_of(&KEPT);
     let mut database = Shelf::new(alloc, &files);
@@ -153,7 +153,7 @@ fn ends_there<R: Threads + Sync + Abort>(rt: &R, alloc: Global, call: u64) -> bo
     });
     let answer = write_outcome(rt, &mut folder, &made.outcome);
     let has_edit = folder.file(EDIT).is_some();
-    answer == Err(Fault::of(FaultName::Device)) && folder.calls() == call && has_edit == (call > 5)
+    answer == Err(Fault::of(FaultName::Device)) && folder.calls() == call && has_edit == (call > 6)
 }
 
 #[test]

@@ -1,7 +1,7 @@
 //! The numbers of a compaction.
 
 /// The inputs of one level.
-#[derive(Clone, Copy, Debug)]
+#[derive(Clone, Copy)]
 pub struct LevelInputs {
     /// The level.
     pub level: u64,
@@ -12,7 +12,7 @@ pub struct LevelInputs {
 }
 
 /// The entries of the inputs in one range of user keys.
-#[derive(Clone, Copy, Debug)]
+#[derive(Clone, Copy)]
 pub struct RangeEntries {
     /// The number of the range.
     pub number: u64,
@@ -21,7 +21,7 @@ pub struct RangeEntries {
 }
 
 /// A table that was made.
-#[derive(Clone, Copy, Debug)]
+#[derive(Clone, Copy)]
 pub struct Output {
     /// The number of its file.
     pub number: u64,

@@ -21,7 +21,7 @@ use std::thread;
 use std::thread::Threads;
 
 /// Why a run has no results.
-#[derive(Clone, Copy, Debug, PartialEq, Eq)]
+#[derive(Clone, Copy, PartialEq, Eq)]
 pub enum RunFault {
     /// A job that failed, with its fault: `Memory`, or the one that the labour states of it. Each
     /// job before it has a result.

@@ -1,5 +1,5 @@
 /// What was done at the seats of a closed board.
-#[derive(Clone, Copy, Debug, PartialEq, Eq)]
+#[derive(Clone, Copy, PartialEq, Eq)]
 pub struct Tally {
     /// How many jobs were done.
     pub done: u64,

@@ -3,7 +3,7 @@
 use board::{Gate, Open};
 
 /// Long work in jobs, in two parts.
-#[derive(Clone, Copy, Debug, PartialEq, Eq)]
+#[derive(Clone, Copy, PartialEq, Eq)]
 pub enum Work {
     /// Tables are checked, a table a job; then their entries are tested, a range of user keys a
     /// job.

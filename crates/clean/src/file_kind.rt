@@ -14,7 +14,7 @@ use std::alloc::Global;
 use std::str;
 
 /// A kind of file that may be obsolete, by its name.
-#[derive(Clone, Copy, Debug, PartialEq, Eq, Drop)]
+#[derive(Clone, Copy, PartialEq, Eq, Drop)]
 pub enum FileKind {
     /// A table: `%06d.ldb`.
     Table,

@@ -17,7 +17,7 @@ pub enum Question<'k> {
 }
 
 /// In which form the value of a key is answered.
-#[derive(Clone, Copy, Debug, PartialEq, Eq)]
+#[derive(Clone, Copy, PartialEq, Eq)]
 pub enum ValueForm {
     /// Its text and a newline; the line `none` if the key has no value. The text of the four bytes
     /// `none` is `\x6eone` here.

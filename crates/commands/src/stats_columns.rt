@@ -9,7 +9,7 @@ use scan::Amounts;
 use std::alloc::Global;
 
 /// A column of the table.
-#[derive(Clone, Copy, Debug)]
+#[derive(Clone, Copy)]
 pub(crate) enum Column {
     /// The level, or that the line is about all.
     Level,
@@ -34,14 +34,14 @@ pub(crate) const COLUMNS: &[Column] = &[
 ];
 
 /// A column and how wide it is.
-#[derive(Clone, Copy, Debug)]
+#[derive(Clone, Copy)]
 pub(crate) struct SizedColumn {
     pub column: Column,
     pub width: usize,
 }
 
 /// What a line is about.
-#[derive(Clone, Copy, Debug)]
+#[derive(Clone, Copy)]
 pub(crate) enum Subject {
     /// This level.
     OneLevel(u64),
@@ -50,7 +50,7 @@ pub(crate) enum Subject {
 }
 
 /// A line of the table.
-#[derive(Clone, Copy, Debug)]
+#[derive(Clone, Copy)]
 pub(crate) struct TableLine {
     pub subject: Subject,
     pub amounts: Amounts,

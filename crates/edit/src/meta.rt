@@ -72,7 +72,7 @@ pub struct CompactPointer {
 }
 
 /// The level and number of a file that an edit deletes. They are ordered by level, then number.
-#[derive(Clone, Copy, Debug, PartialEq, Eq, PartialOrd, Ord)]
+#[derive(Clone, Copy, PartialEq, Eq, PartialOrd, Ord)]
 pub struct DeletedFile {
     /// From 0 to 6.
     pub level: u64,

@@ -6,7 +6,7 @@ use std::io;
 use std::io::ErrorKind;
 
 /// A call of a folder.
-#[derive(Clone, Copy, Debug, PartialEq, Eq)]
+#[derive(Clone, Copy, PartialEq, Eq)]
 pub enum FolderCall {
     Read,
     Create,

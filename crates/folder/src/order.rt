@@ -7,7 +7,7 @@ use coding::{Fault, FaultName};
 use ikey::Comparator;
 
 /// The order of a folder's user keys. The comparator that its manifest names says which.
-#[derive(Clone, Copy, Debug, PartialEq, Eq)]
+#[derive(Clone, Copy, PartialEq, Eq)]
 pub enum Order {
     /// As unsigned bytes, a proper prefix first.
     Bytewise,

@@ -29,7 +29,7 @@ const MAGIC: [u8; 8] = [0x57, 0xfb, 0x80, 0x8b, 0x24, 0x75, 0x47, 0xdb];
 
 /// The last 48 bytes of a table: the handles of the metaindex and of the index, zeros up to 40
 /// bytes, and the 8 bytes of the magic.
-#[derive(Clone, Copy, Debug, PartialEq, Eq)]
+#[derive(Clone, Copy, PartialEq, Eq)]
 pub struct Footer {
     /// Where the metaindex block is.
     pub metaindex: BlockHandle,

@@ -15,7 +15,7 @@ use coding::{Fault, push_varint, read_u64_varint};
 /// Where a block is in its file.
 ///
 /// It is spelt as two varints, in 2 to 20 bytes: the offset, and then the size.
-#[derive(Clone, Copy, Debug, PartialEq, Eq)]
+#[derive(Clone, Copy, PartialEq, Eq)]
 pub struct BlockHandle {
     /// The offset of the block's first byte, in bytes from the file's beginning.
     pub offset: u64,

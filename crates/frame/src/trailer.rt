@@ -27,7 +27,7 @@ const PLAIN: u8 = 0;
 const SNAPPY: u8 = 1;
 
 /// The 5 bytes after a block's contents: the type, and then the checksum, lowest byte first.
-#[derive(Clone, Copy, Debug, PartialEq, Eq)]
+#[derive(Clone, Copy, PartialEq, Eq)]
 pub struct Trailer {
     /// The type of the contents: 0 if they are stored as they are, 1 if Snappy compressed them.
     pub block_type: u8,

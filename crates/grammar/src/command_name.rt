@@ -1,7 +1,7 @@
 //! The names of the commands.
 
 /// A command of the program.
-#[derive(Clone, Copy, Debug, PartialEq, Eq)]
+#[derive(Clone, Copy, PartialEq, Eq)]
 pub enum CommandName {
     Stats,
     Verify,

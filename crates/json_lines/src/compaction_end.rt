@@ -1,7 +1,7 @@
 //! What becomes of a compaction.
 
 /// What becomes of the outputs and the edit of a compaction.
-#[derive(Clone, Copy, Debug)]
+#[derive(Clone, Copy)]
 pub enum CompactionEnd<'a> {
     /// They are installed, by the manifest of this number.
     Installed(u64),

@@ -12,7 +12,7 @@ use coding::Fault;
 use std::alloc::Global;
 
 /// What is told of a refusal beside its name.
-#[derive(Clone, Copy, Debug)]
+#[derive(Clone, Copy)]
 pub struct Told<'a> {
     /// The file or folder that it is about.
     pub path: Option<&'a str>,

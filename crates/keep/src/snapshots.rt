@@ -7,7 +7,7 @@ ghost use Rattle.keep.specs.Readable.{listed_of, floor_of};
 ///
 /// Both forms are one rule over a list and a floor: a sequence stays readable if it is listed, or
 /// is at or above the floor.
-#[derive(Clone, Copy, Debug)]
+#[derive(Clone, Copy)]
 pub enum Snapshots<'a> {
     /// This sequence, which is the oldest snapshot, and every later one. For a store that knows
     /// only that no reader is at an earlier sequence. It is LevelDB's rule.

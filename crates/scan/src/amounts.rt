@@ -11,7 +11,7 @@ use edit::FileMeta;
 use ikey::Kind;
 
 /// How much files have together, and the entries of their tables.
-#[derive(Clone, Copy, Debug, PartialEq, Eq)]
+#[derive(Clone, Copy, PartialEq, Eq)]
 pub struct Amounts {
     /// How many files there are.
     pub files: u64,

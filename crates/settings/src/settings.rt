@@ -4,7 +4,7 @@ use keep::Snapshots;
 use table::Options;
 
 /// What a compaction of a folder is asked to keep to.
-#[derive(Clone, Copy, Debug)]
+#[derive(Clone, Copy)]
 pub struct Settings<'s> {
     /// Its workers: 1 to 64.
     pub workers: u64,

@@ -18,7 +18,7 @@ pub const DEFAULT_RESTART_INTERVAL: u64 = 16;
 pub const DEFAULT_FILE_SIZE: u64 = 2_097_152;
 
 /// The options of a writer of tables. Each has its limits.
-#[derive(Clone, Copy, Debug, PartialEq, Eq)]
+#[derive(Clone, Copy, PartialEq, Eq)]
 pub struct Options {
     /// A data block ends with the entry that makes it at least this long: 1 to 4,194,304 bytes.
     pub block_size: u64,

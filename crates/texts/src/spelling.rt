@@ -13,7 +13,7 @@ use coding::Fault;
 use std::alloc::Global;
 
 /// How keys and values are written.
-#[derive(Clone, Copy, Debug, PartialEq, Eq)]
+#[derive(Clone, Copy, PartialEq, Eq)]
 pub enum Spelling {
     /// Two hexadecimal digits a byte; `-` for no bytes.
     Hexadecimal,

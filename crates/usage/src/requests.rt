@@ -11,7 +11,7 @@ use std::alloc::AllocError;
 use texts::Spelling;
 
 /// What a command line asks for, and how much it asks to be told of it.
-#[derive(Debug, Drop)]
+#[derive(Drop)]
 pub struct CommandLine<'a> {
     /// How much is told on the standard error.
     pub verbosity: Verbosity,
@@ -20,7 +20,7 @@ pub struct CommandLine<'a> {
 }
 
 /// How much is told on the standard error beside a refusal and what is wrong.
-#[derive(Clone, Copy, Debug, PartialEq, Eq)]
+#[derive(Clone, Copy, PartialEq, Eq)]
 pub enum Verbosity {
     /// Nothing: `--quiet` is given.
     Quiet,
@@ -31,7 +31,7 @@ pub enum Verbosity {
 }
 
 /// What a command is asked for.
-#[derive(Debug, Drop)]
+#[derive(Drop)]
 pub enum Line<'a> {
     /// Merges the blocks in two files into one, over two ranges: before a key and from it on.
     Blocks(BlocksLine<'a>),
@@ -60,7 +60,7 @@ pub enum Line<'a> {
 }
 
 /// What is asked for of `blocks`.
-#[derive(Debug, Drop)]
+#[derive(Drop)]
 pub struct BlocksLine<'a> {
     /// The path of the first file.
     pub a: &'a str,
@@ -73,7 +73,7 @@ pub struct BlocksLine<'a> {
 }
 
 /// What is asked for of `dump`.
-#[derive(Clone, Copy, Debug)]
+#[derive(Clone, Copy)]
 pub struct DumpLine<'a> {
     /// The path of the table's file.
     pub table: &'a str,
@@ -82,7 +82,7 @@ pub struct DumpLine<'a> {
 }
 
 /// What is asked for of `manifest`.
-#[derive(Clone, Copy, Debug)]
+#[derive(Clone, Copy)]
 pub struct ManifestLine<'a> {
     /// The path of the folder.
     pub folder: &'a str,
@@ -93,7 +93,7 @@ pub struct ManifestLine<'a> {
 }
 
 /// What is asked for of `stats`.
-#[derive(Clone, Copy, Debug)]
+#[derive(Clone, Copy)]
 pub struct StatsLine<'a> {
     /// The path of the folder.
     pub folder: &'a str,
@@ -106,7 +106,7 @@ pub struct StatsLine<'a> {
 }
 
 /// What is asked for of `verify` of a folder.
-#[derive(Clone, Copy, Debug)]
+#[derive(Clone, Copy)]
 pub struct VerifyLine<'a> {
     /// The path of the folder.
     pub folder: &'a str,
@@ -117,7 +117,7 @@ pub struct VerifyLine<'a> {
 }
 
 /// What is asked for of `verify` of a table.
-#[derive(Clone, Copy, Debug)]
+#[derive(Clone, Copy)]
 pub struct TableLine<'a> {
     /// The path of the table's file.
     pub table: &'a str,
@@ -126,7 +126,7 @@ pub struct TableLine<'a> {
 }
 
 /// What is asked for of `get`.
-#[derive(Debug, Drop)]
+#[derive(Drop)]
 pub struct GetLine<'a> {
     /// The path of the folder.
     pub folder: &'a str,
@@ -145,7 +145,7 @@ pub struct GetLine<'a> {
 }
 
 /// What is asked for of `scan`.
-#[derive(Debug, Drop)]
+#[derive(Drop)]
 pub struct ScanLine<'a> {
     /// The path of the folder.
     pub folder: &'a str,
@@ -160,7 +160,7 @@ pub struct ScanLine<'a> {
 }
 
 /// What is asked for of `job`.
-#[derive(Clone, Copy, Debug)]
+#[derive(Clone, Copy)]
 pub struct JobLine<'a> {
     /// The path of the folder.
     pub folder: &'a str,
@@ -169,7 +169,7 @@ pub struct JobLine<'a> {
 }
 
 /// What is asked for of `compact`.
-#[derive(Clone, Copy, Debug)]
+#[derive(Clone, Copy)]
 pub struct CompactLine<'a> {
     /// The path of the folder.
     pub folder: &'a str,
@@ -180,7 +180,7 @@ pub struct CompactLine<'a> {
 }
 
 /// What is asked for of `install`.
-#[derive(Clone, Copy, Debug)]
+#[derive(Clone, Copy)]
 pub struct InstallLine<'a> {
     /// The path of the folder.
     pub folder: &'a str,
@@ -196,7 +196,7 @@ pub struct InstallLine<'a> {
 }
 
 /// What is asked for of `clean`.
-#[derive(Clone, Copy, Debug)]
+#[derive(Clone, Copy)]
 pub struct CleanLine<'a> {
     /// The path of the folder.
     pub folder: &'a str,
@@ -205,7 +205,7 @@ pub struct CleanLine<'a> {
 }
 
 /// What `verify` prints of a version.
-#[derive(Clone, Copy, Debug, PartialEq, Eq)]
+#[derive(Clone, Copy, PartialEq, Eq)]
 pub enum VerdictForm {
     /// A line, if it is lawful.
     Line,
@@ -216,7 +216,7 @@ pub enum VerdictForm {
 }
 
 /// Which rows a scan prints.
-#[derive(Debug, Drop)]
+#[derive(Drop)]
 pub struct RowOptions {
     /// The user key at which the scan begins. Without it, the first one.
     pub from: Option<Vec<u8>>,
@@ -231,7 +231,7 @@ pub struct RowOptions {
 }
 
 /// What is asked for of `compact` beside its settings.
-#[derive(Clone, Copy, Debug)]
+#[derive(Clone, Copy)]
 pub struct CompactOptions<'a> {
     /// Which levels, and where the outcome goes.
     pub work: CompactWork<'a>,
@@ -247,7 +247,7 @@ pub struct CompactOptions<'a> {
 }
 
 /// What is compacted, and where the outcome goes.
-#[derive(Clone, Copy, Debug)]
+#[derive(Clone, Copy)]
 pub enum CompactWork<'a> {
     /// These levels. Each outcome is installed in the folder.
     Installed(Levels),
@@ -265,7 +265,7 @@ pub enum CompactWork<'a> {
 }
 
 /// How a version is tested before the work on it.
-#[derive(Clone, Copy, Debug)]
+#[derive(Clone, Copy)]
 pub struct Testing {
     /// Whether it isn't tested: it was verified before, and no other program changed it since.
     pub is_skipped: bool,
@@ -274,7 +274,7 @@ pub struct Testing {
 }
 
 /// Which levels of a folder are compacted.
-#[derive(Clone, Copy, Debug)]
+#[derive(Clone, Copy)]
 pub enum Levels {
     /// This level, once.
     One(u64),
@@ -283,7 +283,7 @@ pub enum Levels {
 }
 
 /// Why a command line asks for nothing that can be done.
-#[derive(Debug, Drop)]
+#[derive(Drop)]
 pub enum Usage {
     /// The text of the key of `blocks` is no hexadecimal digits.
     Key,

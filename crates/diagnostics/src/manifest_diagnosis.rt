@@ -1,11 +1,13 @@
 //! Why a manifest is refused as Comparator or Apply.
 
+ghost use Rattle.std.specs.Prelude.{◌<◌, IfOk, IfSome};
 ghost use Rattle.folder.specs.Reports.{OnlyReads};
 
 use crate::detail::Detail;
 use coding::{Fault, FaultName};
 use edit::{NewFile, VersionEdit};
 use folder::{Folder, Order};
+use logrec::RecordReader;
 use std::alloc::Global;
 use std::collections::BTreeSet;
 
@@ -26,57 +28,62 @@ pub(crate) fn manifest_detail<F: Folder>(
     let Some(bytes) = folder.read(name)? else {
         return Ok(None);
     };
-    let edits = edits_in(alloc, &bytes)?;
     if fault == FaultName::Apply {
-        return Ok(Some(misfit(alloc, number, &edits)?));
+        return Ok(Some(misfit(alloc, number, &bytes)?));
     }
-    comparator_detail(alloc, &edits)
+    comparator_detail(alloc, &bytes)
 }
 
-/// The edits in the bytes of a manifest.
-fn edits_in(alloc: Global, bytes: &[u8]) -> Result<Vec<VersionEdit>, Fault> {
-    let mut edits = Vec::new(alloc);
-    for record in logrec::records(alloc, bytes)? {
-        edits.push(VersionEdit::decode(alloc, &record)?)?;
-    }
-    Ok(edits)
-}
-
-/// What is wrong with the comparators that edits name. None if nothing is.
-fn comparator_detail(alloc: Global, edits: &[VersionEdit]) -> Result<Option<Detail>, Fault> {
-    let Some(first) = first_comparator(edits) else {
+/// What is wrong with the comparators that the edits of a manifest name. None if nothing is.
+fn comparator_detail(alloc: Global, bytes: &[u8]) -> Result<Option<Detail>, Fault> {
+    let Some(first) = first_comparator(alloc, bytes)? else {
         return Ok(Some(Detail::NoComparator));
     };
-    if Order::named(first).is_err() {
-        let name = String::from_str(alloc, first)?;
-        return Ok(Some(Detail::UnknownComparator(name)));
+    if Order::named(first.as_str()).is_err() {
+        return Ok(Some(Detail::UnknownComparator(first)));
     }
-    match other_comparator(edits, first) {
-        Some(other) => Ok(Some(Detail::OtherComparator(String::from_str(alloc, other)?))),
+    let other = other_comparator(alloc, bytes, first.as_str())?;
+    Ok(other.map(Detail::OtherComparator))
+}
+
+/// The edit of the next record. None if there is none. The record's bytes are let go.
+fn next_edit(alloc: Global, records: &mut RecordReader) -> Result<Option<VersionEdit>, Fault>
+    ensures { IfOk result (λ found. IfSome found (λ _. records.new.left < records.old.left)) }
+{
+    match records.next(alloc)? {
+        Some(record) => Ok(Some(VersionEdit::decode(alloc, &record)?)),
         None => Ok(None),
     }
 }
 
 /// The first comparator that an edit names.
-fn first_comparator(edits: &[VersionEdit]) -> Option<&str> {
-    for edit in edits {
-        if let Some(name) = &edit.comparator {
-            return Some(name.as_str());
+fn first_comparator(alloc: Global, bytes: &[u8]) -> Result<Option<String>, Fault> {
+    let mut records = RecordReader::new(bytes);
+    while let Some(edit) = next_edit(alloc, &mut records)? {
+        if edit.comparator.is_some() {
+            return Ok(edit.comparator);
         }
     }
-    None
+    Ok(None)
 }
 
 /// The first comparator that an edit names and that is another one than `first`.
-fn other_comparator<'e>(edits: &'e [VersionEdit], first: &str) -> Option<&'e str> {
-    for edit in edits {
-        if let Some(name) = &edit.comparator
-            && name.as_str() != first
-        {
-            return Some(name.as_str());
+fn other_comparator(alloc: Global, bytes: &[u8], first: &str) -> Result<Option<String>, Fault> {
+    let mut records = RecordReader::new(bytes);
+    while let Some(edit) = next_edit(alloc, &mut records)? {
+        if names_another(&edit, first) {
+            return Ok(edit.comparator);
         }
     }
-    None
+    Ok(None)
+}
+
+/// Whether an edit names another comparator than `first`.
+fn names_another(edit: &VersionEdit, first: &str) -> bool {
+    match &edit.comparator {
+        Some(name) => name.as_str() != first,
+        None => false,
+    }
 }
 
 /// The counters of a version, as far as edits set them.
@@ -88,8 +95,8 @@ struct Counters {
 }
 
 /// Why the edits of the manifest of this `number` are refused as Apply.
-fn misfit(alloc: Global, number: u64, edits: &[VersionEdit]) -> Result<Detail, Fault> {
-    let counters = counters_of(edits);
+fn misfit(alloc: Global, number: u64, bytes: &[u8]) -> Result<Detail, Fault> {
+    let counters = counters_of(alloc, bytes)?;
     if counters.log_number.is_none() {
         return Ok(Detail::NoLog);
     }
@@ -99,13 +106,14 @@ fn misfit(alloc: Global, number: u64, edits: &[VersionEdit]) -> Result<Detail, F
     match counters.next_file {
         None => Ok(Detail::NoNextFile),
         Some(next) if number >= next => Ok(Detail::NotBelow(next)),
-        Some(_) => unfit(alloc, edits),
+        Some(_) => unfit(alloc, bytes),
     }
 }
 
 /// Why edits that set all counters don't fit together.
-fn unfit(alloc: Global, edits: &[VersionEdit]) -> Result<Detail, Fault> {
-    for edit in edits {
+fn unfit(alloc: Global, bytes: &[u8]) -> Result<Detail, Fault> {
+    let mut records = RecordReader::new(bytes);
+    while let Some(edit) = next_edit(alloc, &mut records)? {
         if let Some(number) = added_twice(alloc, &edit.added)? {
             return Ok(Detail::AddedTwice(number));
         }
@@ -125,16 +133,17 @@ fn added_twice(alloc: Global, files: &[NewFile]) -> Result<Option<u64>, Fault> {
 }
 
 /// The counters as the last edits that set them leave them.
-fn counters_of(edits: &[VersionEdit]) -> Counters {
+fn counters_of(alloc: Global, bytes: &[u8]) -> Result<Counters, Fault> {
     let mut counters = Counters {
         log_number: None,
         next_file: None,
         last_sequence: None,
     };
-    for edit in edits {
+    let mut records = RecordReader::new(bytes);
+    while let Some(edit) = next_edit(alloc, &mut records)? {
         counters.log_number = edit.log_number.or(counters.log_number);
         counters.next_file = edit.next_file.or(counters.next_file);
         counters.last_sequence = edit.last_sequence.or(counters.last_sequence);
     }
-    counters
+    Ok(counters)
 }

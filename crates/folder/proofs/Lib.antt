@@ -1,5 +1,6 @@
 pub mod NameLemmas
 mod ManifestLemmas
+mod ManifestReadings
 pub mod OpeningLemmas
 pub mod LoadingLemmas
 pub mod ToldLemmas

@@ -18,3 +18,4 @@ pub mod Attempts
 pub mod WrittenFiles
 pub mod FreeNames
 pub mod Source
+pub mod ManifestReading

@@ -1,18 +1,20 @@
 //! What the bytes of a manifest say.
 
-ghost use Rattle.std.specs.Prelude.{◌≡◌, All, IfOk, map, if◌then◌else◌, Ok, Err};
-ghost use Rattle.coding.specs.Answers.{EqualOrMemory, fault, HoldsOrMemory, IsThen};
-ghost use Rattle.coding.specs.declared.fault.FaultName.TheVariants.{Apply};
-ghost use Rattle.logrec.specs.LogReader.{lists, records_of};
-ghost use Rattle.edit.specs.Edit.{HasValidLevels, edit_in};
+ghost use Rattle.std.specs.Prelude.{◌≡◌, ℕ, List, IfOk, IfErr, Ok};
+ghost use Rattle.coding.specs.Answers.{EqualOrMemory, FailsOrMemory, HoldsOrMemory};
+ghost use Rattle.coding.specs.Answers.{UnlessMemory};
+ghost use Rattle.logrec.specs.LogReader.{records_of};
+ghost use Rattle.edit.specs.Edit.{Edit, HasValidLevels, IsEdit, IsEditRefused, edit_in};
 ghost use Rattle.edit.specs.Version.{empty_state};
-ghost use Rattle.folder.specs.Manifest.{IsEditsAnswer, IsManifestAnswer, is_complete, order_name};
-ghost use Rattle.folder.specs.Manifest.{order_of, version_after_edits, version_from};
+ghost use Rattle.folder.specs.Manifest.{AreEdits, IsManifestAnswer, is_complete, order_name};
+ghost use Rattle.folder.specs.Manifest.{version_after_edits};
+ghost use Rattle.folder.specs.ManifestReading.{IsLog, IsOrderAnswer, order_with};
 
 use crate::order::Order;
 use coding::{Fault, FaultName};
 use edit::{Version, VersionEdit};
 use ikey::{Bytewise, Comparator, Shortlex};
+use logrec::RecordReader;
 use std::alloc::Global;
 
 /// The order and the version that the `bytes` of the manifest of this `number` give.
@@ -26,7 +28,9 @@ use std::alloc::Global;
 /// - Apply: log number, next file or last sequence was never set, or `number` isn't below next
 ///   file.
 ///
-/// Memory may come at any point.
+/// Memory may come at any point. The log is read three times, one record after the other: for each
+/// kind of refusal, all that come before it have to be known not to come. So no more is held than
+/// a record or its edit, and the version. No contract says so.
 pub(crate) fn version_in(
     alloc: Global,
     number: u64,
@@ -34,49 +38,9 @@ pub(crate) fn version_in(
 ) -> Result<(Order, Version), Fault>
     ensures { HoldsOrMemory (λ r. (r.0, r.1)) result (IsManifestAnswer number bytes.now) }
 {
-    let records = logrec::records(alloc, bytes)?;
-    let edits = edits_in(alloc, &records)?;
-    version_from(alloc, number, edits)
-}
-
-/// The edits that `records` read as, or the refusal of the first that is no edit.
-fn edits_in(alloc: Global, records: &[Vec<u8>]) -> Result<Vec<VersionEdit>, Fault>
-    ensures answer { HoldsOrMemory (λ v. map edit_in v.items) result
-        (IsEditsAnswer (lists records.now)) }
-    ensures levels { IfOk result (λ v. All (λ e. HasValidLevels (edit_in e)) v.items) }
-{
-    let mut edits = Vec::new(alloc);
-    for record in records {
-        edits.push(VersionEdit::decode(alloc, record)?)?;
-    }
-    Ok(edits)
-}
-
-/// The order of the first comparator's name. Comparator if no edit has one, or if it is neither
-/// order's.
-fn order_in(edits: &[VersionEdit]) -> Result<Order, Fault>
-    ensures { result ≡ order_of (map edit_in edits.now) }
-{
-    for edit in edits {
-        if let Some(name) = &edit.comparator {
-            return Order::named(name.as_str());
-        }
-    }
-    Err(Fault::of(FaultName::Comparator))
-}
-
-/// The order and the version that the edits of the manifest of this `number` give.
-fn version_from(
-    alloc: Global,
-    number: u64,
-    edits: Vec<VersionEdit>,
-) -> Result<(Order, Version), Fault>
-    requires { All (λ e. HasValidLevels (edit_in e)) edits.items }
-    ensures { EqualOrMemory (λ r. (r.0, r.1)) result
-        (version_from number (map edit_in edits.items)) }
-{
-    let order = order_in(&edits)?;
-    let version = version_by(alloc, order, edits)?;
+    test_log(alloc, bytes)?;
+    let order = order_in(alloc, bytes)?;
+    let version = version_by(alloc, order, bytes)?;
     if is_complete(number, &version) {
         Ok((order, version))
     } else {
@@ -84,26 +48,79 @@ fn version_from(
     }
 }
 
-/// The version after all `edits`, by the comparator of `order`.
-fn version_by(alloc: Global, order: Order, edits: Vec<VersionEdit>) -> Result<Version, Fault>
-    requires { All (λ e. HasValidLevels (edit_in e)) edits.items }
-    ensures { EqualOrMemory (λ v. v) result
-        (version_after_edits (order_name order) empty_state (map edit_in edits.items)) }
+/// Tests whether `bytes` are a log.
+fn test_log(alloc: Global, bytes: &[u8]) -> Result<(), Fault>
+    ensures log { IfOk result (λ _. IsLog bytes.now) }
+    ensures refused { IfErr result (λ e. FailsOrMemory e (records_of bytes.now)) }
 {
-    match order {
-        Order::Bytewise => version_after::<Bytewise>(alloc, edits),
-        Order::Shortlex => version_after::<Shortlex>(alloc, edits),
+    let mut records = RecordReader::new(bytes);
+    loop {
+        let Some(_) = records.next(alloc)? else {
+            return Ok(());
+        };
     }
 }
 
-/// The version after all `edits`, applied one after the other.
-fn version_after<C: Comparator>(alloc: Global, edits: Vec<VersionEdit>) -> Result<Version, Fault>
-    requires { All (λ e. HasValidLevels (edit_in e)) edits.items }
-    ensures { EqualOrMemory (λ v. v) result
-        (version_after_edits C.name_bytes empty_state (map edit_in edits.items)) }
+/// The edit that the bytes of a record are, which are let go.
+fn edit_of(alloc: Global, record: Vec<u8>) -> Result<VersionEdit, Fault>
+    ensures found { IfOk result (λ e. IsEdit record.items (edit_in e)) }
+    ensures only { (e : Edit) → IsEdit record.items e → EqualOrMemory edit_in result (Ok e) }
+    ensures refused { IfErr result (λ e. UnlessMemory e (IsEditRefused record.items e)) }
+    ensures levels { IfOk result (λ e. HasValidLevels (edit_in e)) }
 {
+    VersionEdit::decode(alloc, &record)
+}
+
+/// The order of the first comparator's name in the edits of a log. The refusal of the first record
+/// that is no edit, or else Comparator if none has a name, or if it is neither order's.
+fn order_in(alloc: Global, bytes: &[u8]) -> Result<Order, Fault>
+    ensures { (rs : List (List ℕ)) → records_of bytes.now ≡ Ok rs →
+        HoldsOrMemory (λ order. order) result (IsOrderAnswer rs) }
+{
+    let mut records = RecordReader::new(bytes);
+    let mut named = None;
+    while let Some(record) = records.next(alloc)? {
+        let edit = edit_of(alloc, record)?;
+        named = order_with(named, &edit);
+    }
+    named.unwrap_or(Err(Fault::of(FaultName::Comparator)))
+}
+
+/// The order of the first name: `named` is that of earlier edits, if they have one.
+fn order_with(
+    named: Option<Result<Order, Fault>>,
+    edit: &VersionEdit,
+) -> Option<Result<Order, Fault>>
+    ensures { result ≡ order_with named (edit_in edit.now) }
+{
+    match (named, &edit.comparator) {
+        (None, Some(name)) => Some(Order::named(name.as_str())),
+        (named, _) => named,
+    }
+}
+
+/// The version after all edits of a log, by the comparator of `order`.
+fn version_by(alloc: Global, order: Order, bytes: &[u8]) -> Result<Version, Fault>
+    ensures { (rs : List (List ℕ)) (es : List Edit) → records_of bytes.now ≡ Ok rs →
+        AreEdits rs es → EqualOrMemory (λ v. v) result
+        (version_after_edits (order_name order) empty_state es) }
+{
+    match order {
+        Order::Bytewise => version_after::<Bytewise>(alloc, bytes),
+        Order::Shortlex => version_after::<Shortlex>(alloc, bytes),
+    }
+}
+
+/// The version after all edits of a log, applied one after the other.
+fn version_after<C: Comparator>(alloc: Global, bytes: &[u8]) -> Result<Version, Fault>
+    ensures { (rs : List (List ℕ)) (es : List Edit) → records_of bytes.now ≡ Ok rs →
+        AreEdits rs es → EqualOrMemory (λ v. v) result
+        (version_after_edits C.name_bytes empty_state es) }
+{
+    let mut records = RecordReader::new(bytes);
     let mut version = Version::empty(alloc);
-    for edit in edits {
+    while let Some(record) = records.next(alloc)? {
+        let edit = edit_of(alloc, record)?;
         version = version.applied::<C>(edit)?;
     }
     Ok(version)

@@ -50,13 +50,28 @@ fn are_records(read: &[Vec<u8>], first: &[u8], second: &[u8]) -> bool {
     }
 }
 
+/// Whether a log is read one record at a time as these two.
+fn reads_as(rt: &impl Abort, alloc: Global, log: &[u8], first: &[u8], second: &[u8]) -> bool {
+    let mut reader = RecordReader::new(log);
+    let one = reader.next(alloc).expect(rt, "a log");
+    let other = reader.next(alloc).expect(rt, "a log");
+    let end = reader.next(alloc).expect(rt, "a log");
+    match (one, other, end) {
+        (Some(one), Some(other), None) => one.as_slice() == first && other.as_slice() == second,
+        _ => false,
+    }
+}
+
 /// Whether the log of a row's records is as the row says, and is read as them.
 fn is_log(rt: &impl Abort, alloc: Global, (len, second, log_len, end): Row) -> bool {
     let first = vec![in alloc; 7u8; len].expect(rt, "memory");
     let log = append(alloc, &[], &first).expect(rt, "memory");
     let log = append(alloc, &log, second).expect(rt, "memory");
     let read = records(alloc, &log).expect(rt, "a log");
-    log.len() == log_len && log.ends_with(end) && are_records(&read, &first, second)
+    log.len() == log_len
+        && log.ends_with(end)
+        && are_records(&read, &first, second)
+        && reads_as(rt, alloc, &log, &first, second)
 }
 
 #[test]

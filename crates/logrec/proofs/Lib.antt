@@ -3,3 +3,4 @@ pub mod Pieces
 pub mod Lefts
 pub mod Logs
 pub mod Loops
+pub mod Readers

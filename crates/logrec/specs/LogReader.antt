@@ -79,6 +79,15 @@ records_in (suc n) offset (b ∷ bytes) = do
 unfoldable pub records_of : List ℕ → Result (List (List ℕ)) Fault
 records_of bytes = records_in (length bytes) 0 bytes
 
+-- what is still to be read of a log: what its records answer, and how many bytes there are
+pub record LogRest : Type 0 where
+  pub ahead : Result (List (List ℕ)) Fault
+  pub left : ℕ
+
+-- a record, and then what those after it answer
+abbrev pub with_first : List ℕ → Result (List (List ℕ)) Fault → Result (List (List ℕ)) Fault
+with_first r ahead = ahead >>= λ others. Ok (r ∷ others)
+
 -- the records of the code, by their bytes
 abbrev pub lists : List (Vec ℕ) → List (List ℕ)
 lists records = map (λ (r : Vec ℕ). r.items) records

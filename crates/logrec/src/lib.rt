@@ -12,7 +12,8 @@
 //! 3. If fewer than 7 bytes are left in a block, zeros fill them before the next record.
 //!
 //! [`append`] answers a log with one more record. [`records`] answers the records of a log, and
-//! refuses all other bytes, a torn tail too. [`log_laws`] are laws of the format.
+//! refuses all other bytes, a torn tail too. A [`RecordReader`] reads them one at a time.
+//! [`log_laws`] are laws of the format.
 //!
 //! That a checksum finds each damage is not claimed: it has 32 bits.
 #![tactic(auto)]
@@ -21,7 +22,9 @@ mod format;
 mod log_format_laws;
 mod log_reader;
 mod log_writer;
+mod record_reader;
 
 pub use log_format_laws::log_laws;
 pub use log_reader::records;
 pub use log_writer::append;
+pub use record_reader::RecordReader;

@@ -60,7 +60,11 @@ fn all(alloc: Global, bytes: &[u8]) -> Result<Vec<Vec<u8>>, Fault>
 
 /// The record at `offset`, and the bytes after it.
 #[tactic(auto, unfolding(crate::specs::LogReader::record_at))]
-fn record_at(alloc: Global, offset: usize, bytes: &[u8]) -> Result<(Vec<u8>, &[u8]), Fault>
+pub(crate) fn record_at(
+    alloc: Global,
+    offset: usize,
+    bytes: &[u8],
+) -> Result<(Vec<u8>, &[u8]), Fault>
     ensures { EqualOrMemory (λ x. (x.0.items, x.1.now)) result (record_at offset bytes.now) }
 {
     let body = after_zeros(offset, bytes)?;

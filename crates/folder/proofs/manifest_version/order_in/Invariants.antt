@@ -1,8 +1,11 @@
-use Rattle.std.proofs.Common.{◌≡◌, map, drop}
-use Rattle.edit.specs.Edit.{edit_in}
-use Rattle.folder.specs.Manifest.{order_of}
+use Rattle.std.proofs.Common.{◌≡◌, ℕ, List, Ok}
+use Rattle.logrec.specs.LogReader.{records_of}
+use Rattle.folder.proofs.ManifestReadings.{OrderSoFar}
 use Rattle.folder.proofs.manifest_version.order_in.Given as goal
 
--- the edits that are left state the order that all state
-abbrev pub invariant-loop-edit : goal.invariant-loop-edit
-invariant-loop-edit l = order_of (map edit_in (drop l.edit-index l.edits)) ≡ order_of (map edit_in l.edits)
+-- the records so far read as edits, and this is the order of their first name
+abbrev pub invariant-loop-record : goal.invariant-loop-record
+invariant-loop-record l = (rs : List (List ℕ)) → records_of l.bytes ≡ Ok rs → OrderSoFar rs l.records.ahead l.named
+
+abbrev pub decreases-loop-record : goal.decreases-loop-record
+decreases-loop-record l = l.records.left

@@ -1,38 +1,47 @@
-use Rattle.std.proofs.Common.{List, Result, All, map, refl, ap, subst, sym, ◌∙◌}
-use Rattle.std.proofs.lemmas.List.Elements.{All-head, All-tail}
-use Rattle.coding.specs.Answers.{◌>>=◌}
-use Rattle.coding.specs.declared.fault.Fault.{Fault}
-use Rattle.edit.specs.Edit.{HasValidLevels, edit_in}
-use Rattle.edit.specs.Version.{State, empty_state}
-use Rattle.edit.specs.declared.version_edit.VersionEdit.{VersionEdit}
+use Rattle.std.proofs.Common.{◌≡◌, ℕ, Option, subst}
+use Rattle.std.specs.Global.{Vec}
+use Rattle.std.specs.Prelude.{IfSome}
+use Rattle.logrec.specs.LogReader.{with_first}
+use Rattle.edit.specs.Edit.{edit_in}
+use Rattle.edit.specs.Version.{empty_state}
 use Rattle.folder.specs.Manifest.{version_after_edits}
-use Rattle.folder.proofs.ManifestLemmas.{not_applied}
+use Rattle.folder.proofs.ManifestReadings.{handed_equal, next_edit, version_on, version_unapplied, version_undecoded}
 use Rattle.folder.proofs.manifest_version.version_after.Goals as goal
 
-pub loop-edit-init : goal.loop-edit-init
-loop-edit-init g c = rw (c.into_iter-edit-iterator.ensures.into_iter_gives.0, c.empty-version.ensures) (record { same = refl; levels = c.requires })
-
-pub applied-requires : goal.applied-requires
-applied-requires g c =
-    All-head (λ (e : VersionEdit). HasValidLevels (edit_in e)) c.in-Some.edit c.next.new.self.rest.items
-    (subst (λ (es : List VersionEdit). All (λ e. HasValidLevels (edit_in e)) es) c.in-Some.ensures.steps.0 c.loop-edit.invariant.levels)
-
-pub loop-edit-preserved : goal.loop-edit-preserved
-loop-edit-preserved g c =
+pub returns-in_err-edit : goal.returns-in_err-edit
+returns-in_err-edit g c rs es is are =
     let name = g.C.Comparator.name_bytes in
-    let rest = c.next.new.self.rest.items in
-    let ahead = subst (λ (es : List VersionEdit). All (λ e. HasValidLevels (edit_in e)) es) c.in-Some.ensures.steps.0 c.loop-edit.invariant.levels in
-    record {
-      same =
-          sym (ap (λ (r : Result State Fault). r >>= λ w. version_after_edits name w (map edit_in rest)) c.in_ok-version.ensures.after)
-          ∙ sym (ap (λ (es : List VersionEdit). version_after_edits name c.loop-edit.version (map edit_in es)) c.in-Some.ensures.steps.0)
-          ∙ c.loop-edit.invariant.same;
-      levels = All-tail (λ (e : VersionEdit). HasValidLevels (edit_in e)) c.in-Some.edit rest ahead;
-    }
+    let e = c.in_err-edit.field-0.0 in
+    let old = c.loop-version.records.ahead in
+    let new = c.next.new.self.ahead in
+    let r = c.in-Some.record.items in
+    let v = c.loop-version.version in
+    let all = version_after_edits name empty_state es in
+    let next : old ≡ with_first r new = subst (λ (o : Option (Vec ℕ)). IfSome o (λ x. old ≡ with_first x.items new)) c.in-Some.is c.in_ok-record.ensures.read in
+    let n = next_edit name es old new r v next (c.loop-version.invariant rs es is are) in
+    handed_equal (λ x. x) c.from_residual-in_err-edit.result e all c.from_residual-in_err-edit.ensures.1
+    (version_undecoded name es r new v e all n (c.in_err-edit.ensures.only n.edit n.is_edit))
 
 pub returns-in_err-version : goal.returns-in_err-version
-returns-in_err-version g c =
+returns-in_err-version g c rs es is are =
     let name = g.C.Comparator.name_bytes in
-    let rest = c.next.new.self.rest.items in
-    not_applied name c.loop-edit.version (edit_in c.in-Some.edit) (map edit_in rest) (version_after_edits name empty_state (map edit_in c.args.edits.items)) c.from_residual.result c.in_err-version.field-0.0 c.from_residual.ensures.1 c.in_err-version.ensures.after
-    (sym (ap (λ (es : List VersionEdit). version_after_edits name c.loop-edit.version (map edit_in es)) c.in-Some.ensures.steps.0) ∙ c.loop-edit.invariant.same)
+    let f = c.in_err-version.field-0.0 in
+    let old = c.loop-version.records.ahead in
+    let new = c.next.new.self.ahead in
+    let r = c.in-Some.record.items in
+    let v = c.loop-version.version in
+    let next : old ≡ with_first r new = subst (λ (o : Option (Vec ℕ)). IfSome o (λ x. old ≡ with_first x.items new)) c.in-Some.is c.in_ok-record.ensures.read in
+    let n = next_edit name es old new r v next (c.loop-version.invariant rs es is are) in
+    handed_equal (λ x. x) c.from_residual-in_err-version.result f (version_after_edits name empty_state es) c.from_residual-in_err-version.ensures.1
+    (version_unapplied name es r new v (edit_in c.in_ok-edit.edit) f n (c.in_ok-edit.ensures.only n.edit n.is_edit) c.in_err-version.ensures.after)
+
+pub loop-version-preserved : goal.loop-version-preserved
+loop-version-preserved g c rs es is are =
+    let name = g.C.Comparator.name_bytes in
+    let old = c.loop-version.records.ahead in
+    let new = c.next.new.self.ahead in
+    let r = c.in-Some.record.items in
+    let v = c.loop-version.version in
+    let next : old ≡ with_first r new = subst (λ (o : Option (Vec ℕ)). IfSome o (λ x. old ≡ with_first x.items new)) c.in-Some.is c.in_ok-record.ensures.read in
+    let n = next_edit name es old new r v next (c.loop-version.invariant rs es is are) in
+    version_on name es r new v c.in_ok-version.version (edit_in c.in_ok-edit.edit) n (c.in_ok-edit.ensures.only n.edit n.is_edit) c.in_ok-version.ensures.after

@@ -9,7 +9,8 @@
 //! [`compact`] does all of it; [`compact_tables`] the last two phases, over tables that are checked
 //! already. [`merge_request`] only merges, and [`Merged::planned`] plans the outputs. The tables of
 //! [`Planned`] are then encoded group by group, so that they needn't all be in memory. The answer
-//! doesn't depend on the workers, nor on the order in which they do their jobs.
+//! doesn't depend on the workers, nor on the order in which they do their jobs. [`Request`] and
+//! [`Outcome`] are types of the crates below, under the same names.
 #![tactic(auto)]
 
 mod compaction;
@@ -24,7 +25,9 @@ mod table_encoder;
 mod workers;
 
 pub use compaction::{compact, compact_tables, merge_request};
+pub use edit::Outcome;
 pub use grouped_plan::{MAX_TABLES, Planned};
 pub use inputs::{check_inputs, matches_metadata};
 pub use merged_request::Merged;
 pub use ranges::merge_ranges;
+pub use request::Request;

@@ -110,13 +110,14 @@ fn encoded(alloc: Global, plan: &Plan<'_, '_, Bytewise>) -> Result<Vec<Vec<u8>>,
     Ok(pieces)
 }
 
-/// Whether the first piece is that of the first output.
-fn begins(pieces: &[Vec<u8>], outputs: &[Output]) -> bool {
-    match (pieces.first(), outputs.first()) {
-        (Some(piece), Some(output)) => piece.len() == PIECE_LEN && output.1.starts_with(piece),
-        (None, None) => true,
-        _ => false,
+/// Whether the piece of each number is the data block with which the output of that number begins.
+fn are_blocks(pieces: &[Vec<u8>], outputs: &[Output]) -> bool {
+    for (piece, output) in pieces.iter().zip(outputs) {
+        if piece.len() != PIECE_LEN || !output.1.starts_with(piece) {
+            return false;
+        }
     }
+    pieces.len() == outputs.len()
 }
 
 /// Whether tables, joined of pieces, are these outputs.
@@ -170,9 +171,9 @@ fn has_pieces(
     outputs: &[Output],
 ) -> Result<bool, Fault> {
     let pieces = encoded(alloc, plan)?;
-    let is_whole = pieces.len() == outputs.len() && begins(&pieces, outputs);
+    let are_right = are_blocks(&pieces, outputs);
     let tables = plan.assemble(alloc, pieces).expect(rt, "memory");
-    Ok(is_whole && are_joined(&tables, outputs))
+    Ok(are_right && are_joined(&tables, outputs))
 }
 
 /// Whether the plan of a table has these outputs.

@@ -1,27 +1,27 @@
-//! Crashes of a whole compaction, in a folder of which nothing was synced before.
+//! Crashes of a whole compaction, in a folder of which nothing was synced before. And of the next
+//! one, if the last sync of the first failed.
 
 use crate::install_tests::crashes::{made_at, make_left};
 use coding::Fault;
 use edit::Version;
-use folder::{Folder, FolderFault, Shelf, ShelfCall, ShelfStep, load, open};
+use folder::{Failing, Folder, FolderFault, Shelf, ShelfCall, ShelfStep, load, open};
 use ikey::Bytewise;
 use std::alloc::Global;
 use std::test::*;
 use std::thread::Threads;
 use store::{Open, Settings, compact_dir};
 
-/// `log: comparator leveldb.BytewiseComparator, log 3, previous 0, next 9, last 4, file 1 7 125
-/// u@4 del .. u@2 put`
+/// `log: comparator leveldb.BytewiseComparator, log 3, previous 0, next 9, last 4, file 1 7 114 a@1
+/// put .. a@1 put`
 const MANIFEST: &[u8] = b"\
-    \x23\x1fG\xbe\x3c\0\x01\x01\x1aleveldb.BytewiseComparator\x02\x03\x09\0\x03\x09\x04\x04\x07\
-    \x01\x07\x7d\x09u\0\x04\0\0\0\0\0\0\x09u\x01\x02\0\0\0\0\0\0";
+    \x21V\x25H\x3c\0\x01\x01\x1aleveldb.BytewiseComparator\x02\x03\x09\0\x03\x09\x04\x04\x07\x01\
+    \x07r\x09a\x01\x01\0\0\0\0\0\0\x09a\x01\x01\0\0\0\0\0\0";
 
-/// `table: u@4 del, u@2 put x`
+/// `table: a@1 put x`
 const TABLE: &[u8] = b"\
-    \0\x09\0u\0\x04\0\0\0\0\0\0\x01\x08\x01\x01\x02\0\0\0\0\0\0x\0\0\0\0\x01\0\0\0\0\xef\xe0\xe5\
-    \x28\0\0\0\0\x01\0\0\0\0\xc0\xf2\xa1\xb0\0\x09\x02u\x01\x02\0\0\0\0\0\0\0\x20\0\0\0\0\x01\0\0\
-    \0\0\x0a\xb0\x5c\x0c\x25\x082\x16\0\0\0\0\0\0\0\0\0\0\0\0\0\0\0\0\0\0\0\0\0\0\0\0\0\0\0\0\0\0\
-    \0\0\0\0\0\0W\xfb\x80\x8b\x24uG\xdb";
+    \0\x09\x01a\x01\x01\0\0\0\0\0\0x\0\0\0\0\x01\0\0\0\0\x84\xdd\x88t\0\0\0\0\x01\0\0\0\0\xc0\xf2\
+    \xa1\xb0\0\x09\x02a\x01\x01\0\0\0\0\0\0\0\x15\0\0\0\0\x01\0\0\0\06I\x25\xbf\x1a\x08\x27\x16\0\0\
+    \0\0\0\0\0\0\0\0\0\0\0\0\0\0\0\0\0\0\0\0\0\0\0\0\0\0\0\0\0\0\0\0\0\0W\xfb\x80\x8b\x24uG\xdb";
 
 /// How many bytes of tables are held while a version is tested.
 const MEMORY: u64 = 1_073_741_824;
@@ -33,10 +33,13 @@ const FILES: &[(&str, &[u8])] = &[
     ("000007.sst", TABLE),
 ];
 
-/// The next file of the version before, and of the edited one, which has no file.
+/// The next files of the version before and of the edited one, whose file 10 is at level 2. Then
+/// that of its successor, whose file 12 is at level 3.
 const BEFORE: u64 = 9;
 
-const EDITED: u64 = 10;
+const EDITED: u64 = 11;
+
+const SUCCESSOR: u64 = 13;
 
 /// The calls that write, in order: what each does, and to which name. The first three make the
 /// files.
@@ -49,6 +52,8 @@ const CALLS: &[(&str, &str)] = &[
     ("sync", "000007.ldb"),
     ("sync", "000007.sst"),
     ("sync", "."),
+    ("create", "000010.ldb"),
+    ("sync", "000010.ldb"),
     ("create", "MANIFEST-000009"),
     ("sync", "MANIFEST-000009"),
     ("create", "000009.dbtmp"),
@@ -91,6 +96,17 @@ fn make_files(shelf: &mut Shelf<'_>) -> Result<(), FolderFault> {
     Ok(())
 }
 
+/// Compacts a level of the folder, as the program does.
+fn compact_level<R: Threads + Sync>(
+    rt: &R,
+    alloc: Global,
+    shelf: &mut Shelf<'_>,
+    level: u64,
+) -> Result<(), Fault> {
+    compact_dir(rt, alloc, shelf, level, &Settings::default(), MEMORY, &Open)?;
+    Ok(())
+}
+
 /// Makes the folder and compacts level 1 of it. Whether the calls are those.
 fn is_compacted<R: Threads + Sync>(
     rt: &R,
@@ -98,21 +114,20 @@ fn is_compacted<R: Threads + Sync>(
     shelf: &mut Shelf<'_>,
 ) -> Result<bool, Fault> {
     make_files(shelf)?;
-    compact_dir(rt, alloc, shelf, 1, &Settings::default(), MEMORY, &Open)?;
+    compact_level(rt, alloc, shelf, 1)?;
     Ok(are_calls(shelf.steps()))
 }
 
-/// The next file of the version before or of the edited one, if the tables are its own. Else 0.
+/// The next file of a version whose one table is that of `a`, under its own number. Else 0.
 fn known(version: &Version, tables: &[(u64, Vec<u8>)]) -> u64 {
-    let next_file = version.next_file();
     let Some((number, bytes)) = tables.first() else {
-        return if next_file == Some(EDITED) { EDITED } else { 0 };
+        return 0;
     };
-    let is_its_own = tables.len() == 1 && *number == 7 && bytes.as_slice() == TABLE;
-    if is_its_own && next_file == Some(BEFORE) {
-        BEFORE
-    } else {
-        0
+    let next_file = version.next_file().unwrap_or(0);
+    match (next_file, *number) {
+        (BEFORE, 7) | (EDITED, 10) | (SUCCESSOR, 12)
+            if tables.len() == 1 && bytes.as_slice() == TABLE => next_file,
+        _ => 0,
     }
 }
 
@@ -134,30 +149,35 @@ fn read_crashed(alloc: Global, steps: &[ShelfStep], choice: u64) -> Option<u64> 
     }
 }
 
-/// Whether crashes may leave the version before after these calls, and whether the edited one. None
-/// if some crash leaves neither.
-fn found(alloc: Global, steps: &[ShelfStep]) -> Option<(bool, bool)> {
+/// Whether crashes may leave one version after these calls, and whether the other one. None if some
+/// crash leaves neither. The versions are known by their next files.
+fn found(alloc: Global, steps: &[ShelfStep], (one, other): (u64, u64)) -> Option<(bool, bool)> {
     let mut found = (false, false);
     for choice in 0..u64::MAX {
         match read_crashed(alloc, steps, choice) {
             None => break,
-            Some(BEFORE) => found.0 = true,
-            Some(EDITED) => found.1 = true,
+            Some(next_file) if next_file == one => found.0 = true,
+            Some(next_file) if next_file == other => found.1 = true,
             Some(_) => return None,
         }
     }
     Some(found)
 }
 
-/// The first moment after the first sync of the folder at which a crash leaves what it should not.
-/// It should leave: before the rename, the last call but one, the version before; from inside it to
-/// the end either; after the last call the edited one.
-fn wrong_moment(alloc: Global, steps: &[ShelfStep]) -> Option<usize> {
+/// The first moment, beginning with this one, at which a crash leaves what it should not. It should
+/// leave: before the rename, the last call but one, the version before; from inside it to the end
+/// either; after the last call the edited one.
+fn wrong_moment(
+    alloc: Global,
+    steps: &[ShelfStep],
+    from: usize,
+    versions: (u64, u64),
+) -> Option<usize> {
     let end = steps.len().saturating_mul(2);
-    for moment in 2 * UNSYNCED + 2..end.saturating_add(1) {
+    for moment in from..end.saturating_add(1) {
         if let Some(made) = made_at(steps, moment) {
             let wanted = (moment < end, moment.saturating_add(3) >= end);
-            if found(alloc, made) != Some(wanted) {
+            if found(alloc, made, versions) != Some(wanted) {
                 return Some(moment);
             }
         }
@@ -175,11 +195,75 @@ fn unsynced(steps: &[ShelfStep]) -> &[ShelfStep] {
 fn crashes_of_a_folder_that_was_not_synced(rt: HostRuntime) {
     let alloc = rt.alloc();
     let mut shelf = Shelf::new(alloc, &[]);
+    let versions = (BEFORE, EDITED);
     assert_eq!(rt; is_compacted(&rt, alloc, &mut shelf), Ok(true));
     assert_eq!(rt;
-        found(alloc, unsynced(shelf.steps())),
+        found(alloc, unsynced(shelf.steps()), versions),
         None,
         "nothing is kept yet"
     );
-    assert_eq!(rt; wrong_moment(alloc, shelf.steps()), None);
+    assert_eq!(rt;
+        wrong_moment(alloc, shelf.steps(), 2 * UNSYNCED + 2, versions),
+        None
+    );
+}
+
+/// Makes the files of the folder, and syncs all of it.
+fn make_synced(shelf: &mut Shelf<'_>) -> Result<(), FolderFault> {
+    make_files(shelf)?;
+    for (name, _) in FILES {
+        shelf.sync(name)?;
+    }
+    shelf.sync_folder()
+}
+
+/// The failure of the last call of the first compaction, a sync of the folder.
+fn last_failing<R: Threads + Sync>(rt: &R, alloc: Global) -> Result<Failing, Fault> {
+    let mut shelf = Shelf::new(alloc, &[]);
+    make_synced(&mut shelf)?;
+    compact_level(rt, alloc, &mut shelf, 1)?;
+    Ok(Failing {
+        call: shelf.calls(),
+        fault: FolderFault::Device,
+        is_half_done: false,
+    })
+}
+
+/// How many calls come before the first one that makes a file, of those after the first `count`.
+fn calls_before_make(steps: &[ShelfStep], count: usize) -> usize {
+    for (place, step) in steps.iter().rev().enumerate() {
+        if place >= count && matches!(step.call, ShelfCall::Create(_, _)) {
+            return place;
+        }
+    }
+    steps.len()
+}
+
+/// The first moment at which a crash leaves what it should not, of the compaction of level 2 after
+/// one of level 1 whose last call failed. From its first new file on that is never the version
+/// before the first one.
+fn wrong_after_the_last_sync<R: Threads + Sync>(
+    rt: &R,
+    alloc: Global,
+    shelf: &mut Shelf<'_>,
+) -> Result<Option<usize>, Fault> {
+    make_synced(shelf)?;
+    let failed = compact_level(rt, alloc, shelf, 1);
+    if failed != Err(Fault::from(FolderFault::Device)) {
+        return Ok(Some(0));
+    }
+    let count = shelf.steps().len();
+    compact_level(rt, alloc, shelf, 2)?;
+    let from = calls_before_make(shelf.steps(), count).saturating_mul(2);
+    Ok(wrong_moment(alloc, shelf.steps(), from, (EDITED, SUCCESSOR)))
+}
+
+#[test]
+fn crashes_after_a_last_sync_that_failed(rt: HostRuntime) {
+    let failing = last_failing(&rt, rt.alloc()).expect(&rt, "a compaction");
+    let mut shelf = Shelf::new(rt.alloc(), &[]).failing(failing);
+    assert_eq!(rt;
+        wrong_after_the_last_sync(&rt, rt.alloc(), &mut shelf),
+        Ok(None)
+    );
 }

@@ -62,12 +62,44 @@ fn beginnings_are_found(rt: HostRuntime) {
     }
 }
 
-/// Names of faults, and their numbers.
+/// The names of faults, and their numbers.
 const CODES: &[(FaultName, u64)] = &[
     (FaultName::NoInput, 1),
+    (FaultName::Level, 2),
+    (FaultName::Options, 3),
+    (FaultName::SplitOrder, 4),
+    (FaultName::SplitCount, 5),
+    (FaultName::Workers, 6),
+    (FaultName::Snapshot, 7),
+    (FaultName::Size, 8),
+    (FaultName::Short, 9),
+    (FaultName::Magic, 10),
+    (FaultName::Handle, 11),
+    (FaultName::Range, 12),
+    (FaultName::Trailer, 13),
+    (FaultName::Compressed, 14),
+    (FaultName::BlockType, 15),
+    (FaultName::Block, 16),
+    (FaultName::Key, 17),
+    (FaultName::Index, 18),
+    (FaultName::Order, 19),
+    (FaultName::Empty, 20),
+    (FaultName::Bounds, 21),
+    (FaultName::Duplicate, 22),
+    (FaultName::Numbers, 23),
     (FaultName::TooLarge, 24),
     (FaultName::SnapshotList, 25),
     (FaultName::LogChecksum, 30),
+    (FaultName::LogShape, 31),
+    (FaultName::EditTag, 32),
+    (FaultName::EditField, 33),
+    (FaultName::Comparator, 34),
+    (FaultName::Apply, 35),
+    (FaultName::Lawless, 36),
+    (FaultName::Device, 40),
+    (FaultName::Missing, 41),
+    (FaultName::Locked, 42),
+    (FaultName::Changed, 43),
     (FaultName::Memory, 99),
 ];
 

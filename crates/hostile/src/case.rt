@@ -149,7 +149,7 @@ pub fn compacted<R: AllocGlobal + Threads + Sync>(
 }
 
 /// Whether tables with their numbers are these.
-fn are_outputs(tables: &[(u64, Vec<u8>)], wanted: &[(u64, &[u8])]) -> bool {
+pub fn are_outputs(tables: &[(u64, Vec<u8>)], wanted: &[(u64, &[u8])]) -> bool {
     let mut are_right = tables.len() == wanted.len();
     for ((number, bytes), (wanted_number, wanted_bytes)) in tables.iter().zip(wanted) {
         are_right = are_right && number == wanted_number && bytes.as_slice() == *wanted_bytes;

@@ -2,9 +2,11 @@
 
 use crate::case::{Case, Meta, Want};
 use crate::worked_bytes::{
-    DELETION_LEFT, GRANDPARENTS_EDIT, OUTPUTS_EDIT, TABLE, TABLE_A_AND_B, TABLE_A_AND_F, TABLE_B,
-    TABLE_B_AND_G, TABLE_B_TWO_SPOILT, TABLE_C, TABLE_C_DELETED, TABLE_F, TABLE_G, TABLE_SPOILT,
-    TABLE_U, TABLE_U_DELETED, TABLE_U_TWICE,
+    DELETION_BLOCKS_EDIT, DELETION_LEFT, GRANDPARENT_BLOCKS_EDIT, GRANDPARENTS_EDIT, OUTPUTS_EDIT,
+    SIZE_BLOCKS_EDIT, TABLE, TABLE_A_AND_B, TABLE_A_AND_F, TABLE_A_B_BLOCKS, TABLE_A_U_DELETED,
+    TABLE_A_U_TWICE, TABLE_B, TABLE_B_AND_G, TABLE_B_TWO_SPOILT, TABLE_C, TABLE_C_DELETED,
+    TABLE_C_F_BLOCKS, TABLE_F, TABLE_F_G_U_BLOCKS, TABLE_G, TABLE_SPOILT, TABLE_U, TABLE_U_DELETED,
+    TABLE_U_TWICE,
 };
 use coding::FaultName;
 use table::Options;
@@ -21,6 +23,19 @@ pub const SMALLEST: Options = Options {
     block_size: 1,
     restart_interval: 16,
     file_size: 1,
+};
+
+/// The same, and an output ends with the second of two puts: a block of one has 26 bytes with its
+/// trailer.
+const TWO_BLOCKS: Options = Options {
+    file_size: 52,
+    ..SMALLEST
+};
+
+/// The same, and an output ends with the fourth of four puts.
+pub const FOUR_BLOCKS: Options = Options {
+    file_size: 104,
+    ..SMALLEST
 };
 
 /// Files of `a` at 1, `b` at 2 and `c` at 3.
@@ -55,6 +70,21 @@ pub const DELETION: &Case = &Case {
     want: Want::Outcome(&[(9, TABLE_U_DELETED)], DELETION_LEFT),
 };
 
+/// The same after a put of `a`. The output has two blocks.
+pub const DELETION_BLOCKS: &Case = &Case {
+    level: 1,
+    files: &[(7, 138, b"a\x01\x01\0\0\0\0\0\0", b"u\x01\x02\0\0\0\0\0\0")],
+    tables: &[TABLE_A_U_TWICE],
+    grandparents: &[],
+    deeper: &[(3, 1, b"t0\x01\x01\0\0\0\0\0\0", b"v0\x01\x01\0\0\0\0\0\0")],
+    oldest: 4,
+    last_sequence: 4,
+    first_number: 9,
+    options: FOUR_BLOCKS,
+    workers: 2,
+    want: Want::Outcome(&[(9, TABLE_A_U_DELETED)], DELETION_BLOCKS_EDIT),
+};
+
 /// Outputs end at grandparents of more than ten times the file size: after `b`, and after `f`.
 pub const GRANDPARENTS: &Case = &Case {
     level: 0,
@@ -85,6 +115,35 @@ pub const GRANDPARENTS: &Case = &Case {
     ),
 };
 
+/// An output of two blocks ends at a grandparent of more than ten times the file size: after `b`.
+/// The other one has three blocks.
+pub const GRANDPARENT_BLOCKS: &Case = &Case {
+    level: 0,
+    files: &[
+        (7, 127, b"a\x01\x01\0\0\0\0\0\0", b"f\x01\x04\0\0\0\0\0\0"),
+        (8, 127, b"b\x01\x02\0\0\0\0\0\0", b"g\x01\x05\0\0\0\0\0\0"),
+        (9, 113, b"c\0\x03\0\0\0\0\0\0", b"c\0\x03\0\0\0\0\0\0"),
+        (10, 114, b"u\x01\x01\0\0\0\0\0\0", b"u\x01\x01\0\0\0\0\0\0"),
+    ],
+    tables: &[TABLE_A_AND_F, TABLE_B_AND_G, TABLE_C_DELETED, TABLE_U],
+    grandparents: &[(
+        3,
+        1_041,
+        b"bb\x01\x01\0\0\0\0\0\0",
+        b"bb\x01\x01\0\0\0\0\0\0",
+    )],
+    deeper: &[],
+    oldest: 9,
+    last_sequence: 9,
+    first_number: 5,
+    options: FOUR_BLOCKS,
+    workers: 2,
+    want: Want::Outcome(
+        &[(5, TABLE_A_B_BLOCKS), (6, TABLE_F_G_U_BLOCKS)],
+        GRANDPARENT_BLOCKS_EDIT,
+    ),
+};
+
 /// Each entry fills a block, and each block an output.
 pub const OUTPUTS: &Case = &Case {
     level: 1,
@@ -100,7 +159,25 @@ pub const OUTPUTS: &Case = &Case {
     want: ABC,
 };
 
-/// The same by four workers.
+/// Each entry fills a block, and two blocks an output.
+pub const SIZE_BLOCKS: &Case = &Case {
+    level: 1,
+    files: &[A, C, B, F],
+    tables: &[TABLE, TABLE_C, TABLE_B, TABLE_F],
+    grandparents: &[],
+    deeper: &[],
+    oldest: 1,
+    last_sequence: 9,
+    first_number: 5,
+    options: TWO_BLOCKS,
+    workers: 2,
+    want: Want::Outcome(
+        &[(5, TABLE_A_B_BLOCKS), (6, TABLE_C_F_BLOCKS)],
+        SIZE_BLOCKS_EDIT,
+    ),
+};
+
+/// `OUTPUTS` by four workers.
 pub const FOUR_WORKERS: &Case = &Case {
     level: 1,
     files: &[A, C, B],
@@ -115,7 +192,7 @@ pub const FOUR_WORKERS: &Case = &Case {
     want: ABC,
 };
 
-/// Two inputs have a changed byte in their data blocks.
+/// Two inputs have a changed byte in their data blocks. Without it an output would have two blocks.
 pub const SPOILT: &Case = &Case {
     level: 1,
     files: &[A, C, B],
@@ -125,7 +202,7 @@ pub const SPOILT: &Case = &Case {
     oldest: 1,
     last_sequence: 9,
     first_number: 5,
-    options: SMALLEST,
+    options: TWO_BLOCKS,
     workers: 2,
     want: Want::Refused(FaultName::Trailer, Some(0)),
 };
@@ -147,7 +224,7 @@ pub const THIRD_SPOILT: &Case = &Case {
     oldest: 1,
     last_sequence: 9,
     first_number: 5,
-    options: SMALLEST,
+    options: TWO_BLOCKS,
     workers: 2,
     want: Want::Refused(FaultName::Trailer, Some(2)),
 };

@@ -1,12 +1,16 @@
-//! Ranges merged, outputs planned and encoded, boards and splits.
+//! Ranges merged, outputs planned, encoded and joined, boards and splits.
+
+ghost use Rattle.std.specs.Prelude.{◌≡◌, map, IfOk};
+ghost use Rattle.cut.specs.Plan.{encoded_pieces};
+ghost use Rattle.cut.specs.OutputPlan.{lists_in};
 
 use crate::boards::{are_worked, is_closed};
-use crate::case::{picked, three_ranges};
-use crate::cases::{DELETION, SMALLEST};
+use crate::case::{are_outputs as are_tables, picked, three_ranges};
+use crate::cases::{DELETION, FOUR_BLOCKS, SMALLEST};
 use crate::cursors::{Left, are_left, cursors_over};
 use crate::fault::{is_memory, wanted};
 use crate::refusals::{allow, forbid};
-use crate::worked_bytes::{TABLE_ABC, TABLE_ABCD, TABLE_ACF, TABLE_BD};
+use crate::worked_bytes::{TABLE_ABC, TABLE_ABCD, TABLE_ABCDE, TABLE_ACF, TABLE_BD, TABLE_E};
 use board::Board;
 use coding::{Fault, FaultName};
 use cut::{Plan, plan};
@@ -101,14 +105,26 @@ fn are_outputs(alloc: Global, plan: &Plan<'_, '_, Bytewise>) -> bool {
     are_all
 }
 
-/// Whether each piece of a plan has 26 bytes.
-fn are_pieces(alloc: Global, plan: &Plan<'_, '_, Bytewise>) -> Result<bool, Fault> {
+/// The pieces of a plan, in the order of their jobs.
+fn encoded(alloc: Global, plan: &Plan<'_, '_, Bytewise>) -> Result<Vec<Vec<u8>>, Fault>
+    ensures { IfOk result (λ pieces. map (λ p. p.items) pieces.items
+        ≡ encoded_pieces plan.now.options (lists_in plan.now.outputs)) }
+{
+    let mut pieces = Vec::new(alloc);
     for job in 0..plan.jobs() {
-        if plan.encode(alloc, job)?.len() != 26 {
-            return Ok(false);
-        }
+        let piece = plan.encode(alloc, job)?;
+        pieces.push(piece)?;
     }
-    Ok(true)
+    Ok(pieces)
+}
+
+/// Whether there are so many pieces, of 26 bytes each.
+fn are_pieces(pieces: &[Vec<u8>], count: usize) -> bool {
+    let mut are_right = pieces.len() == count;
+    for piece in pieces {
+        are_right = are_right && piece.len() == 26;
+    }
+    are_right
 }
 
 /// Whether the plan of runs of three entries, each a block and an output, is right, and its pieces
@@ -119,8 +135,28 @@ fn is_planned<R: AllocGlobal + Threads + Sync>(
 ) -> Result<bool, Fault> {
     let alloc = rt.alloc();
     let plan = plan::<Bytewise, R>(rt, alloc, runs, &[], SMALLEST, 5, 1)?;
-    let are_pieces = are_pieces(alloc, &plan)?;
-    Ok(are_pieces && are_outputs(alloc, &plan))
+    let pieces = encoded(alloc, &plan)?;
+    Ok(are_pieces(&pieces, 3) && are_outputs(alloc, &plan))
+}
+
+/// Whether the plan of runs of five entries, each a block, and four blocks an output, has pieces of
+/// 26 bytes each, which are joined to these two tables.
+fn is_joined<R: AllocGlobal + Threads + Sync>(
+    rt: &R,
+    runs: &[RangeRun<'_>],
+) -> Result<bool, Fault> {
+    let alloc = rt.alloc();
+    let plan = plan::<Bytewise, R>(rt, alloc, runs, &[], FOUR_BLOCKS, 5, 1)?;
+    let pieces = encoded(alloc, &plan)?;
+    let are_right = are_pieces(&pieces, 5);
+    let tables = plan.assemble(alloc, pieces)?;
+    Ok(are_right && are_tables(&tables, &[(5, TABLE_ABCD), (6, TABLE_E)]))
+}
+
+/// Five entries, merged in one range, planned and joined as two outputs.
+pub fn joined<R: AllocGlobal + Threads + Sync>(rt: &R) -> Result<bool, Fault> {
+    let runs = runs_of(rt.alloc(), TABLE_ABCDE)?;
+    is_joined(rt, &runs)
 }
 
 /// Three entries, merged in one range and planned as three outputs by one worker.

@@ -11,7 +11,7 @@ use crate::fault::{is_memory, wanted};
 use crate::folders::folder_asked;
 use crate::holding_gate::{Held, Wait, Wanting};
 use crate::numbers::numbers_read;
-use crate::plans::{chosen, planned, range_merged, seated};
+use crate::plans::{chosen, joined, planned, range_merged, seated};
 use crate::refusals::{Order, has_as_many, refuse, was_refused};
 use crate::rows::{Compaction, Row, Workers};
 use anyhow::Result;
@@ -138,6 +138,7 @@ fn is_right<R: AllocGlobal + Threads + Sync>(rt: &R, row: Row) -> Result<bool, F
         Row::Log => logged(alloc),
         Row::Edit => edited(alloc),
         Row::Plan => planned(rt),
+        Row::Pieces => joined(rt),
         Row::Split => chosen(alloc),
         Row::Board => seated(alloc),
         Row::BlockCursor => block_walked(alloc),

@@ -12,6 +12,7 @@
 //! | a log | `append`, `records` | length, end, records |
 //! | an edit | `decode`, `applied`, `apply`, `snapshot_edit`, `encode` | bytes, numbers |
 //! | a range and a plan | `check`, `merge_range`, `plan`, `encode` | numbers, lengths |
+//! | pieces are joined | the same and `assemble` | tables, numbers |
 //! | a boundary | `check`, `Split::choose` | ranges, boundary |
 //! | a board | `Board::new` | seats, jobs, counts |
 //! | a block is walked (2) | `BlockCursor`: `new`, `advance` | entries |
@@ -45,7 +46,10 @@
 //! | a board | `Board`: `draw`, `done`, `fail`, `skip`, `least_fault`, `close` |
 
 use crate::case::Case;
-use crate::cases::{DELETION, FOUR_WORKERS, GRANDPARENTS, OUTPUTS, SPOILT, THIRD_SPOILT};
+use crate::cases::{
+    DELETION, DELETION_BLOCKS, FOUR_WORKERS, GRANDPARENT_BLOCKS, GRANDPARENTS, OUTPUTS,
+    SIZE_BLOCKS, SPOILT, THIRD_SPOILT,
+};
 
 /// What is called.
 #[derive(Clone, Copy)]
@@ -60,6 +64,7 @@ pub enum Row {
     Log,
     Edit,
     Plan,
+    Pieces,
     Split,
     Board,
     BlockCursor,
@@ -80,6 +85,10 @@ pub const GROWTHS: &[(Row, &str)] = &[
     (
         Row::Plan,
         "  a range is merged, and its outputs planned and encoded",
+    ),
+    (
+        Row::Pieces,
+        "  outputs of several blocks are planned, encoded and joined",
     ),
     (Row::Split, "  a boundary is chosen"),
     (Row::Board, "  a board is made and worked"),
@@ -129,6 +138,21 @@ pub const COMPACTIONS: &[Compaction] = &[
         OUTPUTS,
         Workers::Free,
         "  compact: three outputs, ended by size",
+    ),
+    (
+        DELETION_BLOCKS,
+        Workers::Free,
+        "  compact: the same deletion, in an output of two blocks",
+    ),
+    (
+        GRANDPARENT_BLOCKS,
+        Workers::Free,
+        "  compact: outputs of two and three blocks, one ended by a grandparent",
+    ),
+    (
+        SIZE_BLOCKS,
+        Workers::Free,
+        "  compact: two outputs of two blocks, ended by size",
     ),
     (SPOILT, Workers::Free, "  compact: Trailer at 0"),
     (

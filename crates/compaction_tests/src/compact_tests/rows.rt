@@ -174,6 +174,14 @@ const EACH_EDIT: &[u8] = b"\
 /// `edit: file 0 7 136 u@9 put .. u@3 put`
 const U_THRICE: &[u8] = b"\x07\0\x07\x88\x01\x09u\x01\x09\0\0\0\0\0\0\x09u\x01\x03\0\0\0\0\0\0";
 
+/// Log 3, previous log 0, next file 6, last sequence 9, and the compact pointer of level 0 at `u`
+/// at 3. File 7 of level 0 is deleted. The new file 5 of level 1 has 202 bytes: `u` from 9 to 3.
+/// `edit: log 3, previous 0, next 6, last 9, pointer 0 u@3 put, delete 0 7, file 1 5 202 u@9 put ..
+/// u@3 put`
+const THRICE_EDIT: &[u8] = b"\
+    \x02\x03\x09\0\x03\x06\x04\x09\x05\0\x09u\x01\x03\0\0\0\0\0\0\x06\0\x07\x07\x01\x05\xca\x01\x09\
+    u\x01\x09\0\0\0\0\0\0\x09u\x01\x03\0\0\0\0\0\0";
+
 /// Files 7 and 8 of level 0: `u` at 9 and `v` at 1, and `u` at 5 and 3.
 /// `edit: file 0 7 127 u@9 put .. v@1 put, file 0 8 125 u@5 put .. u@3 put`
 const U_AND_V: &[u8] = b"\
@@ -219,14 +227,6 @@ pub(crate) const WRITTEN: &[Row] = &[
         tables: &[U4_DELETED_U2],
         snapshots: Snapshots::From(4),
         answer: Answer::Tables(&[(9, U4_DELETED)], DELETION_LEFT),
-        ..LEVEL_ONE
-    },
-    Row {
-        name: "a deletion and a listed snapshot",
-        files: DELETED_FILE,
-        tables: &[U4_DELETED_U2],
-        snapshots: Snapshots::Listed(&[2]),
-        answer: Answer::Tables(&[(9, U4_DELETED_U2)], b""),
         ..LEVEL_ONE
     },
     Row {
@@ -287,7 +287,7 @@ pub(crate) const WRITTEN: &[Row] = &[
         name: "three versions",
         files: U_THRICE,
         tables: &[U9_U5_U3],
-        answer: Answer::Tables(&[(5, U9_U5_U3_APART)], b""),
+        answer: Answer::Tables(&[(5, U9_U5_U3_APART)], THRICE_EDIT),
         ..SMALLEST
     },
     Row {
@@ -303,6 +303,57 @@ pub(crate) const WRITTEN: &[Row] = &[
         tables: &[U9_U5, U7_U3],
         answer: Answer::Tables(&[(9, U9)], b""),
         ..PLAIN
+    },
+    Row {
+        name: "an entry above the last sequence",
+        files: ABOVE_LAST,
+        tables: &[U12_U9],
+        answer: Answer::Tables(&[(9, U12_U9)], b""),
+        ..PLAIN
+    },
+];
+
+/// Rows that have listed snapshots, tables and an edit.
+pub(crate) const LISTED: &[Row] = &[
+    Row {
+        name: "a deletion and a listed snapshot",
+        files: DELETED_FILE,
+        tables: &[U4_DELETED_U2],
+        snapshots: Snapshots::Listed(&[2]),
+        answer: Answer::Tables(&[(9, U4_DELETED_U2)], b""),
+        ..LEVEL_ONE
+    },
+    Row {
+        name: "a deletion and the last sequence listed",
+        files: DELETED_FILE,
+        tables: &[U4_DELETED_U2],
+        snapshots: Snapshots::Listed(&[4]),
+        answer: Answer::Tables(&[], NOTHING_LEFT),
+        ..LEVEL_ONE
+    },
+    Row {
+        name: "a deletion above a deeper file and the last sequence listed",
+        files: DELETED_FILE_ABOVE,
+        tables: &[U4_DELETED_U2],
+        snapshots: Snapshots::Listed(&[4]),
+        answer: Answer::Tables(&[(9, U4_DELETED)], DELETION_LEFT),
+        ..LEVEL_ONE
+    },
+    Row {
+        name: "three grandparents and the last sequence listed",
+        files: APART_FILES,
+        tables: &[A_F, B_G, C_DELETED],
+        snapshots: Snapshots::Listed(&[9]),
+        answer: Answer::Tables(&[(5, A_B), (6, F), (7, G)], b""),
+        ..TEN_BYTES
+    },
+    Row {
+        name: "an output for each entry and snapshot 2",
+        files: A_C_AND_B,
+        tables: &[A_C, B],
+        snapshots: Snapshots::Listed(&[2]),
+        answer: Answer::Tables(&[(5, A), (6, B), (7, C)], EACH_EDIT),
+        ..SMALLEST
     },
     Row {
         name: "snapshot 5",
@@ -336,13 +387,6 @@ pub(crate) const WRITTEN: &[Row] = &[
         answer: Answer::Tables(&[(9, U9_U5_U3)], b""),
         ..PLAIN
     },
-    Row {
-        name: "an entry above the last sequence",
-        files: ABOVE_LAST,
-        tables: &[U12_U9],
-        answer: Answer::Tables(&[(9, U12_U9)], b""),
-        ..PLAIN
-    },
 ];
 
 /// The first sequence that no snapshot may have, 2^56 - 1.
@@ -369,6 +413,14 @@ pub(crate) const REFUSED: &[Row] = &[
         files: SAME,
         tables: &[U5_BLOCK],
         snapshots: Snapshots::From(TOO_HIGH),
+        answer: Answer::Refused(FaultName::Snapshot, None),
+        ..PLAIN
+    },
+    Row {
+        name: "a high listed snapshot, and a spoilt block",
+        files: SAME,
+        tables: &[U5_BLOCK],
+        snapshots: Snapshots::Listed(&[TOO_HIGH]),
         answer: Answer::Refused(FaultName::Snapshot, None),
         ..PLAIN
     },

@@ -1,7 +1,7 @@
 //! Rows of the whole: each has one answer, for all ranges, numbers of workers and orders of jobs.
 
 use crate::compact_tests::gates::Held;
-use crate::compact_tests::rows::{Answer, Parting, REFUSED, Row, Run, WRITTEN};
+use crate::compact_tests::rows::{Answer, LISTED, Parting, REFUSED, Row, Run, WRITTEN};
 use crate::compact_tests::tables::{A_F, U4_DELETED_U2};
 use crate::range_checks_tests::version_after;
 use coding::Fault;
@@ -127,7 +127,7 @@ fn is_stated(rt: &impl Abort, alloc: Global, row: &Row, table: &[u8]) -> bool {
 
 #[test]
 fn one_answer_over_ranges_and_workers(rt: HostRuntime) {
-    for row in WRITTEN.iter().chain(REFUSED) {
+    for row in WRITTEN.iter().chain(LISTED).chain(REFUSED) {
         assert!(rt; has_answer(&rt, rt.alloc(), row), "{}", row.name);
     }
     assert!(rt;

@@ -30,11 +30,11 @@ _sedvokt() {
         ;;
     esac
     case ${COMP_WORDS[at]} in
-    stats) words='--text --json --memory' ;;
-    verify) words='--table --json --all-faults --memory' ;;
-    get) words='--at --text --raw --json --no-verify --memory' ;;
-    scan) words='--from --to --at --limit --keys --text --json --no-verify --memory' ;;
-    manifest) words='--text --json' ;;
+    stats) words='--text --json --memory --no-lock' ;;
+    verify) words='--table --json --all-faults --memory --no-lock' ;;
+    get) words='--at --text --raw --json --no-verify --memory --no-lock' ;;
+    scan) words='--from --to --at --limit --keys --text --json --no-verify --memory --no-lock' ;;
+    manifest) words='--text --json --no-lock' ;;
     dump) words='--text' ;;
     compact)
         words='--level --all --out --first-number --no-verify --memory --workers --ranges'

@@ -45,6 +45,8 @@ complete -c sedvokt -n '__fish_seen_subcommand_from stats verify get scan compac
     -d 'MiB of tables that the test may hold'
 complete -c sedvokt -n '__fish_seen_subcommand_from get scan compact' -l no-verify \
     -d 'Take the version for lawful'
+complete -c sedvokt -n '__fish_seen_subcommand_from manifest stats verify get scan' -l no-lock \
+    -d 'Neither lock the folder nor look for locks'
 complete -c sedvokt -n '__fish_seen_subcommand_from install' -l no-verify \
     -d 'Do not compare outputs with inputs'
 complete -c sedvokt -n '__fish_seen_subcommand_from blocks' -l at -x \

@@ -17,6 +17,10 @@ pub enum Detail {
     NoLastSequence,
     /// The number of the manifest or of the table is not below next file, which is this.
     NotBelow(u64),
+    /// A key in an edit of the manifest is longer than any that is compacted here.
+    LongKey,
+    /// An edit of the manifest names this level, which is above 6.
+    DeepLevel(u64),
     /// An edit of the manifest doesn't fit what the earlier ones made.
     NoFit,
     /// The same, and an edit adds two files of this number.

@@ -15,6 +15,7 @@ mod compaction_account;
 mod detail;
 mod edit_inputs;
 mod fault_finder;
+mod field_diagnosis;
 mod file_numbers;
 mod filter_blocks;
 mod key_sequences;

@@ -2,9 +2,10 @@
 
 ghost use Rattle.folder.specs.Reports.{OnlyReads};
 
+use crate::field_diagnosis::field_detail;
 use crate::manifest_diagnosis::manifest_detail;
 use crate::refused_files::{RefusedFile, refused};
-use coding::Fault;
+use coding::{Fault, FaultName};
 use folder::{CURRENT, Folder, manifest_name, number_in_current};
 use std::alloc::Global;
 
@@ -21,7 +22,11 @@ pub(crate) fn opening_file<F: Folder>(
         return refused(alloc, CURRENT, fault, None);
     };
     let name = manifest_name(alloc, number)?;
-    let detail = manifest_detail(alloc, folder, name.as_str(), number, fault.name)?;
+    let detail = if fault.name == FaultName::EditField {
+        field_detail(alloc, folder, name.as_str())?
+    } else {
+        manifest_detail(alloc, folder, name.as_str(), number, fault.name)?
+    };
     Ok(Some(RefusedFile {
         name,
         fault,

@@ -13,7 +13,7 @@ use crate::folder::{Folder, FolderFault};
 use crate::made_table::{DiskMaker, MadeTable, files_of, first_failed, sync_made, write_in_turn};
 use crate::order::Order;
 use crate::pending_files::PendingFiles;
-use crate::system::{done_in, part_in, read_in};
+use crate::system::{Place, done_in, part_in, read_in};
 use crate::system_files::{MakesFiles, SystemFiles};
 use crate::table_loader::{files_due, numbers_in};
 use crate::table_reader::{DiskReader, ReadsTables, TableReader};
@@ -36,6 +36,8 @@ use std::thread::Threads;
 pub struct Disk<'r, R> {
     rt: &'r R,
     path: &'r str,
+    /// The path of the folder whose CURRENT says who may use new files.
+    owner: &'r str,
     failures: u64,
     trail: Trail,
     kept: PendingFiles,
@@ -56,9 +58,19 @@ impl<'r, R: SystemFiles + AllocGlobal> Disk<'r, R> {
         ensures failed { ⟦<Disk<'r, R> as Folder>⟧.failed result ≡ 0 }
         ensures calls { ⟦<Disk<'r, R> as Folder>⟧.calls result ≡ [] }
     {
+        Disk::owned_as(rt, path, path)
+    }
+
+    /// The same, but the CURRENT of the folder at `owner` says who may use its new files, and whose
+    /// they are.
+    pub fn owned_as(rt: &'r R, path: &'r str, owner: &'r str) -> Disk<'r, R>
+        ensures failed { ⟦<Disk<'r, R> as Folder>⟧.failed result ≡ 0 }
+        ensures calls { ⟦<Disk<'r, R> as Folder>⟧.calls result ≡ [] }
+    {
         Disk {
             rt,
             path,
+            owner,
             failures: 0,
             trail: Trail::new(),
             kept: PendingFiles::new(rt.alloc()),
@@ -183,7 +195,7 @@ impl<'r, R: SystemFiles + MakesFiles + AllocGlobal> WritesTables for Disk<'r, R>
 
     fn maker(&mut self) -> DiskMaker<'r, R> {
         self.kept.forget_ahead("");
-        DiskMaker::new(self.rt, self.path)
+        DiskMaker::new(self.rt, self.path, self.owner)
     }
 
     fn sync_tables<T: Threads + Sync>(
@@ -261,7 +273,7 @@ impl<'r, R: SystemFiles + AllocGlobal> Disk<'r, R> {
             return Err(FolderFault::Memory);
         };
         self.kept.forget_all(&files);
-        let access = access_in(self.rt, self.rt.alloc(), self.path);
+        let access = access_in(self.rt, self.rt.alloc(), self.owner);
         if are_rising(tables) {
             self.rt.write_all(rt, access, tables, &mut files);
         } else {
@@ -327,7 +339,11 @@ impl<'r, R: SystemFiles + AllocGlobal> Disk<'r, R> {
             ++ step_of (call_in call.entry) result ∷ [] }
         ensures failures { self.new.failures ≡ failures_after self.old.failures result }
     {
-        let done = done_in(self.rt, self.rt.alloc(), self.path, &mut self.kept, call);
+        let place = Place {
+            folder: self.path,
+            owner: self.owner,
+        };
+        let done = done_in(self.rt, self.rt.alloc(), place, &mut self.kept, call);
         let (kind, name) = call.told();
         let answer = self.counted(done, kind, name);
         let is_done = answer.is_ok();

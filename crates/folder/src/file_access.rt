@@ -33,10 +33,10 @@ pub struct Access {
 /// Makes a file at `path`, open for reading and writing. AlreadyExists if anything is there, a
 /// symbolic link too.
 ///
-/// It gets the permissions of the folder's CURRENT, and its owner and group if the program may set
-/// them; in between it never has more. Its owner may read and write it in any event, and its group
-/// may nothing if it isn't that of CURRENT. Without CURRENT it gets what the system gives new
-/// files.
+/// It gets the permissions of the CURRENT that `access` is of, and its owner and group if the
+/// program may set them; in between it never has more. Its owner may read and write it in any event,
+/// and its group may nothing if it isn't that of CURRENT. Without CURRENT it gets what the system
+/// gives new files.
 pub(crate) fn new_file<R: OwnedFiles>(
     rt: &R,
     path: &str,

@@ -17,7 +17,8 @@
 //! - reader: reads a table so in any thread, but tells of no failure.
 //! - create: the name is removed, and a new file is made of the bytes. So no file that is there is
 //!   written to, even through a link. The new one gets the permissions of CURRENT, and its owner
-//!   and group if the program may set them. If it can't be written whole, it is removed again.
+//!   and group if the program may set them; if the folder isn't a database's own, of the CURRENT of
+//!   another one. If it can't be written whole, it is removed again.
 //! - write_tables: each is made as `create` makes it, and synced by the same handle; by up to 16
 //!   threads if their numbers rise. All of them are tried, also after one failed.
 //! - write_source: each is made so by a worker, and after all were made, each is synced by its own

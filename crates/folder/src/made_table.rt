@@ -86,14 +86,14 @@ pub struct DiskMaker<'r, R> {
 }
 
 impl<'r, R: OwnedFiles + AllocGlobal> DiskMaker<'r, R> {
-    /// What makes files of this `folder`.
-    pub(crate) fn new(rt: &'r R, folder: &'r str) -> DiskMaker<'r, R> {
+    /// What makes files of this `folder`. Who may use them, the CURRENT of `owner` says.
+    pub(crate) fn new(rt: &'r R, folder: &'r str, owner: &str) -> DiskMaker<'r, R> {
         let alloc = rt.alloc();
         DiskMaker {
             rt,
             alloc,
             folder,
-            access: access_in(rt, alloc, folder),
+            access: access_in(rt, alloc, owner),
         }
     }
 }

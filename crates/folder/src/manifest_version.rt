@@ -79,11 +79,13 @@ fn order_in(alloc: Global, bytes: &[u8]) -> Result<Order, Fault>
 {
     let mut records = RecordReader::new(bytes);
     let mut named = None;
-    while let Some(record) = records.next(alloc)? {
+    loop {
+        let Some(record) = records.next(alloc)? else {
+            return named.unwrap_or(Err(Fault::of(FaultName::Comparator)));
+        };
         let edit = edit_of(alloc, record)?;
         named = order_with(named, &edit);
     }
-    named.unwrap_or(Err(Fault::of(FaultName::Comparator)))
 }
 
 /// The order of the first name: `named` is that of earlier edits, if they have one.
@@ -119,11 +121,13 @@ fn version_after<C: Comparator>(alloc: Global, bytes: &[u8]) -> Result<Version, 
 {
     let mut records = RecordReader::new(bytes);
     let mut version = Version::empty(alloc);
-    while let Some(record) = records.next(alloc)? {
+    loop {
+        let Some(record) = records.next(alloc)? else {
+            return Ok(version);
+        };
         let edit = edit_of(alloc, record)?;
         version = version.applied::<C>(edit)?;
     }
-    Ok(version)
 }
 
 /// Whether log number, last sequence and next file were set, and `number` is below next file.

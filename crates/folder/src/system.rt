@@ -87,16 +87,26 @@ pub(crate) fn length_in<R: Files>(
     }
 }
 
+/// Where files are made.
+#[derive(Clone, Copy)]
+pub(crate) struct Place<'p> {
+    /// The path of the folder that gets them.
+    pub folder: &'p str,
+    /// The path of the folder whose CURRENT says who may use them.
+    pub owner: &'p str,
+}
+
 /// Makes a call that writes.
 pub(crate) fn done_in<R: SystemFiles>(
     rt: &R,
     alloc: Global,
-    folder: &str,
+    place: Place<'_>,
     kept: &mut PendingFiles,
     call: WriteCall<'_>,
 ) -> io::Result<()> {
+    let folder = place.folder;
     match call {
-        WriteCall::Create(name, bytes) => create_in(rt, alloc, folder, kept, name, bytes),
+        WriteCall::Create(name, bytes) => create_in(rt, alloc, place, kept, name, bytes),
         WriteCall::Sync(name) => sync_in(rt, alloc, folder, kept, name),
         WriteCall::Rename(from, to) => rename_in(rt, alloc, folder, kept, from, to),
         WriteCall::Remove(name) => remove_in(rt, alloc, folder, kept, name),
@@ -108,15 +118,15 @@ pub(crate) fn done_in<R: SystemFiles>(
 fn create_in<R: SystemFiles>(
     rt: &R,
     alloc: Global,
-    folder: &str,
+    place: Place<'_>,
     kept: &mut PendingFiles,
     name: &str,
     bytes: &[u8],
 ) -> io::Result<()> {
     kept.forget_ahead(name);
     drop(kept.taken(name));
-    let path = path_in(alloc, folder, name)?;
-    let access = access_in(rt, alloc, folder)?;
+    let path = path_in(alloc, place.folder, name)?;
+    let access = access_in(rt, alloc, place.owner)?;
     let file = made_at(rt, path.as_str(), access, bytes)?;
     let answer = kept.keep(name, file);
     if answer.is_err() {

@@ -56,36 +56,38 @@ bare_app = with_verbosity (let app = new_app (codes "sedvokt") in
 abbrev pub command_app : Text → List Rule → App
 command_app name rules = with_verbosity (with_rules (new_app name) rules)
 
--- `stats DIR [--text] [--json] [--memory MIB]`
+-- `stats DIR [--text] [--json] [--memory MIB] [--no-lock]`
 abbrev pub stats_app : App
 stats_app = command_app (codes "stats") (required_argument (codes "DIR")
-    ∷ flag_rule (codes "text") ∷ flag_rule (codes "json") ∷ memory_rule ∷ [])
+    ∷ flag_rule (codes "text") ∷ flag_rule (codes "json") ∷ memory_rule
+    ∷ flag_rule (codes "no-lock") ∷ [])
 
--- `verify [DIR] [--table FILE] [--json] [--all-faults] [--memory MIB]`
+-- `verify [DIR] [--table FILE] [--json] [--all-faults] [--memory MIB] [--no-lock]`
 abbrev pub verify_app : App
 verify_app = command_app (codes "verify") (new_rule (codes "DIR")
     ∷ value_rule (codes "table") ∷ flag_rule (codes "json") ∷ flag_rule (codes "all-faults")
-    ∷ memory_rule ∷ [])
+    ∷ memory_rule ∷ flag_rule (codes "no-lock") ∷ [])
 
--- `get DIR KEY [--at N] [--text] [--raw] [--json] [--no-verify] [--memory MIB]`
+-- `get DIR KEY [--at N] [--text] [--raw] [--json] [--no-verify] [--memory MIB] [--no-lock]`
 abbrev pub get_app : App
 get_app = command_app (codes "get") (required_argument (codes "DIR")
     ∷ required_argument (codes "KEY") ∷ number_rule (codes "at") ∷ flag_rule (codes "text")
     ∷ flag_rule (codes "raw") ∷ flag_rule (codes "json") ∷ flag_rule (codes "no-verify")
-    ∷ memory_rule ∷ [])
+    ∷ memory_rule ∷ flag_rule (codes "no-lock") ∷ [])
 
 -- `scan DIR [--from KEY] [--to KEY] [--at N] [--limit N] [--keys] [--text] [--json] [--no-verify]
--- [--memory MIB]`
+-- [--memory MIB] [--no-lock]`
 abbrev pub scan_app : App
 scan_app = command_app (codes "scan") (required_argument (codes "DIR")
     ∷ value_rule (codes "from") ∷ value_rule (codes "to") ∷ number_rule (codes "at")
     ∷ number_rule (codes "limit") ∷ flag_rule (codes "keys") ∷ flag_rule (codes "text")
-    ∷ flag_rule (codes "json") ∷ flag_rule (codes "no-verify") ∷ memory_rule ∷ [])
+    ∷ flag_rule (codes "json") ∷ flag_rule (codes "no-verify") ∷ memory_rule
+    ∷ flag_rule (codes "no-lock") ∷ [])
 
--- `manifest DIR [--text] [--json]`
+-- `manifest DIR [--text] [--json] [--no-lock]`
 abbrev pub manifest_app : App
 manifest_app = command_app (codes "manifest") (required_argument (codes "DIR")
-    ∷ flag_rule (codes "text") ∷ flag_rule (codes "json") ∷ [])
+    ∷ flag_rule (codes "text") ∷ flag_rule (codes "json") ∷ flag_rule (codes "no-lock") ∷ [])
 
 -- `dump TABLE [--text]`
 abbrev pub dump_app : App

@@ -169,6 +169,13 @@ pub(crate) const NO_VERIFY: Argument<'static> = Argument::Flag {
         program changed it since",
 };
 
+pub(crate) const NO_LOCK: Argument<'static> = Argument::Flag {
+    id: "no-lock",
+    help: "Neither locks the folder nor looks whether another\n\
+        program has it open: for a copy, or one that must not\n\
+        be touched",
+};
+
 pub(crate) const WORKERS: Argument<'static> = Argument::Number {
     id: "workers",
     name: "W",

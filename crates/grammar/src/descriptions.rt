@@ -6,8 +6,8 @@ use crate::argument::Argument;
 use crate::arguments::{
     ALL, ALL_FAULTS, BLOCK_OUT, BLOCK_SIZE, BOUNDARY, CLEANS, DRY_RUN, EXPLAIN, FILE_SIZE,
     FIRST_BLOCK, FIRST_NUMBER, FOLDER, FOLDER_OR_TABLE, FROM, JSON, KEY, KEYS, LEVEL, LIMIT,
-    NO_COMPARISON, NO_VERIFY, ONE_TABLE, OUT, OUTCOME, RANGES, RAW, SECOND_BLOCK, SEQUENCE,
-    SNAPSHOT, SNAPSHOTS, TABLE, TEXT, TO, WANTED_LEVEL, WORKERS,
+    NO_COMPARISON, NO_LOCK, NO_VERIFY, ONE_TABLE, OUT, OUTCOME, RANGES, RAW, SECOND_BLOCK,
+    SEQUENCE, SNAPSHOT, SNAPSHOTS, TABLE, TEXT, TO, WANTED_LEVEL, WORKERS,
 };
 
 /// A command as it is told to `clap`.
@@ -30,7 +30,7 @@ pub(crate) const STATS: Description<'static> = Description {
 
 Examples: sedvokt stats DIR --text
           sedvokt stats DIR --json",
-    arguments: &[FOLDER, TEXT, JSON, Argument::Memory],
+    arguments: &[FOLDER, TEXT, JSON, Argument::Memory, NO_LOCK],
 };
 
 pub(crate) const VERIFY: Description<'static> = Description {
@@ -47,6 +47,7 @@ Examples: sedvokt verify DIR
         JSON,
         ALL_FAULTS,
         Argument::Memory,
+        NO_LOCK,
     ],
 };
 
@@ -68,6 +69,7 @@ Examples: sedvokt get DIR k00001 --text
         JSON,
         NO_VERIFY,
         Argument::Memory,
+        NO_LOCK,
     ],
 };
 
@@ -90,6 +92,7 @@ Examples: sedvokt scan DIR --text --limit 10
         JSON,
         NO_VERIFY,
         Argument::Memory,
+        NO_LOCK,
     ],
 };
 
@@ -100,7 +103,7 @@ pub(crate) const MANIFEST: Description<'static> = Description {
 
 Examples: sedvokt manifest DIR
           sedvokt manifest DIR --json --text",
-    arguments: &[FOLDER, TEXT, JSON],
+    arguments: &[FOLDER, TEXT, JSON, NO_LOCK],
 };
 
 pub(crate) const DUMP: Description<'static> = Description {

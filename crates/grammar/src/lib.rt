@@ -2,13 +2,13 @@
 //!
 //! [`program_command`] describes them all, and [`command_alone`] one of them:
 //!
-//!     stats DIR [--text] [--json] [--memory MIB]
-//!     verify DIR [--json | --all-faults] [--memory MIB]
+//!     stats DIR [--text] [--json] [--memory MIB] [--no-lock]
+//!     verify DIR [--json | --all-faults] [--memory MIB] [--no-lock]
 //!     verify --table FILE [--json]
-//!     get DIR KEY [--at N] [--text] [--raw | --json] [--no-verify] [--memory MIB]
+//!     get DIR KEY [--at N] [--text] [--raw | --json] [--no-verify] [--memory MIB] [--no-lock]
 //!     scan DIR [--from KEY] [--to KEY] [--at N] [--limit N] [--keys] [--text] [--json]
-//!         [--no-verify] [--memory MIB]
-//!     manifest DIR [--text] [--json]
+//!         [--no-verify] [--memory MIB] [--no-lock]
+//!     manifest DIR [--text] [--json] [--no-lock]
 //!     dump TABLE [--text]
 //!     compact DIR (--level N | --all) [options]
 //!     compact DIR --level N --out OUT [--first-number K] [options]

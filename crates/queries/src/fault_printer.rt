@@ -5,13 +5,15 @@ use commands::{fault_count_line, file_fault_line, key_fault_line};
 use faults::{FaultTaker, FileFault, all_faults};
 use folder::Disk;
 use session::{
-    Host, ProgressLine, Refusal, Telling, begin_work, print_lines, refused_at, tell_time,
+    Host, ProgressLine, Refusal, Telling, begin_work, print_lines, refused_at, tell_replaced,
+    tell_time,
 };
 use std::time::Clock;
 use texts::Spelling;
 
 /// Prints all faults of a folder, and how many there are. If there is one, it is refused, and
-/// nothing else is told. The test may hold this many bytes of tables.
+/// nothing else is told, but that another program changed the folder meanwhile. The test may hold
+/// this many bytes of tables.
 pub fn faults_printed<R: Host>(rt: &R, telling: Telling<'_>, memory: u64) -> Result<(), Refusal> {
     let begun = telling.begin(rt);
     let opened = begin_work(rt, telling)?;
@@ -38,6 +40,7 @@ pub fn faults_printed<R: Host>(rt: &R, telling: Telling<'_>, memory: u64) -> Res
     tell_time(rt, "verify --all-faults", begun);
     print_lines(rt, &fault_count_line(rt.alloc(), count)?)?;
     if count > 0 {
+        tell_replaced(rt, telling, &opened);
         return Err(Refusal::silent(Fault::of(FaultName::Lawless)));
     }
     Ok(())

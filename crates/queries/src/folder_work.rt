@@ -6,7 +6,7 @@ use folder::{Disk, Opened};
 use json_lines::{lawful_json, version_json};
 use session::{
     Host, OpenedFolder, ProgressLine, Refusal, Telling, begin_counted, begin_work, bytes_of,
-    explained, locked_to_read, print_lines, refused_at, sizes_tested, tell_time,
+    explained, locked_to_read, print_lines, refused_opened, sizes_tested, tell_time,
 };
 use usage::{ManifestLine, VerdictForm, VerifyLine};
 
@@ -94,7 +94,13 @@ fn json_verdict<R: Host>(
         &progress,
     );
     progress.erase();
-    let tested = tested.map_err(|fault| refused_at(rt, telling.folder, &folder, fault))?;
+    let tested = tested.map_err(|fault| refused_opened(
+        rt,
+        telling.folder,
+        &folder,
+        &work.opened,
+        fault,
+    ))?;
     Ok(lawful_json(rt.alloc(), tested.files, tested.entries, work.logs)?)
 }
 
@@ -119,5 +125,5 @@ pub fn answered<R: Host>(
         &progress,
     );
     progress.erase();
-    answer.map_err(|fault| refused_at(rt, telling.folder, &folder, fault))
+    answer.map_err(|fault| refused_opened(rt, telling.folder, &folder, opened, fault))
 }

@@ -7,7 +7,7 @@ use json_lines::{logs_json, push_row_json};
 use scan::{RowChoice, RowTaker, scan_unverified, scan_version};
 use session::{
     Host, OpenedFolder, ProgressLine, Refusal, Telling, begin_counted, bytes_of, explained,
-    locked_to_read, print_lines, refused_at, sizes_tested, table_explained, tell_time,
+    locked_to_read, print_lines, refused_opened, sizes_tested, table_explained, tell_time,
 };
 use std::time::Clock;
 use texts::Spelling;
@@ -83,7 +83,7 @@ fn rows_printed<R: Host>(
     );
     progress.erase();
     printer.end()?;
-    scanned.map_err(|fault| refused_at(rt, telling.folder, &folder, fault))?;
+    scanned.map_err(|fault| refused_opened(rt, telling.folder, &folder, &work.opened, fault))?;
     if line.is_json && work.logs != Some(0) {
         print_lines(rt, logs_json(rt.alloc(), work.logs)?.as_bytes())?;
     }

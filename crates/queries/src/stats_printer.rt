@@ -7,7 +7,7 @@ use json_lines::stats_json;
 use scan::{FileTotal, VersionStats, version_stats};
 use session::{
     Host, ProgressLine, Refusal, Telling, begin_work, bytes_of, explained, locked_to_read,
-    logs_with_writes, print_lines, refused_at, sizes_tested, tell_time,
+    logs_with_writes, print_lines, refused_opened, sizes_tested, tell_time,
 };
 use std::rt::Files;
 use usage::StatsLine;
@@ -62,7 +62,7 @@ fn version_counted<R: Host>(
         &progress,
     );
     progress.erase();
-    counted.map_err(|fault| refused_at(rt, telling.folder, &folder, fault))
+    counted.map_err(|fault| refused_opened(rt, telling.folder, &folder, opened, fault))
 }
 
 /// The logs that have a byte.

@@ -7,7 +7,7 @@ use folder::{Disk, Opened, SystemFiles};
 use json_lines::value_json;
 use session::{
     Host, OpenedFolder, Refusal, Telling, begin_counted, bytes_of, explained, locked_to_read,
-    print_lines, refused_at, sizes_tested, table_explained, tell_time,
+    print_lines, refused_opened, sizes_tested, table_explained, tell_time,
 };
 use texts::{Spelling, text_of};
 use usage::GetLine;
@@ -75,7 +75,7 @@ fn print_unverified_value<R: Host>(
     let answer = answer.map_err(|fault| table_explained(
         rt.alloc(),
         telling.folder,
-        refused_at(rt, telling.folder, &folder, fault),
+        refused_opened(rt, telling.folder, &folder, &work.opened, fault),
     ))?;
     tell_time(rt, "get --no-verify", begun);
     print_value_answer(rt, telling, line, &work, answer.as_deref())

@@ -113,8 +113,7 @@ fn of_manifest(name: FaultName) -> Option<Words> {
             "use the program that wrote it, or restore the folder from a copy",
         ),
         FaultName::EditField => (
-            "a field of a version edit is not as LevelDB writes it, whose levels end at 6: another \
-                program's, or damage",
+            "a field of a version edit is not as LevelDB writes it: another program's, or damage",
             "use the program that wrote it, or restore the folder from a copy",
         ),
         FaultName::Comparator => (
@@ -182,7 +181,10 @@ fn remedy_of_table(name: FaultName) -> &'static str {
             "copy all keys into a new database made with LevelDB, or restore the file from a copy"
         }
         FaultName::Size => "have LevelDB compact the database",
-        FaultName::TooLarge => "leave its compaction to LevelDB, which has no such limit",
+        FaultName::TooLarge => {
+            "leave its compaction to LevelDB, which has no such limit: here only shorter keys and \
+                values help"
+        }
         _ => "restore the file from a copy",
     }
 }

@@ -40,13 +40,17 @@ pub fn locked_to_change<R: SystemFiles + Eprint + AllocGlobal>(
 }
 
 /// Locks the folder at a path against every program that changes it. None if it has no lock to
-/// take. If it has a text of CURRENT that isn't renamed yet, that is told.
+/// take, or if locks are ignored. If it has a text of CURRENT that isn't renamed yet, that is told.
 pub fn locked_to_read<R: SystemFiles + Eprint + AllocGlobal>(
     rt: &R,
     telling: Telling<'_>,
 ) -> Result<Option<FolderLock>, Refusal> {
     let path = telling.folder;
-    let lock = lock_to_read(rt, rt.alloc(), path).map_err(|fault| unlocked(rt, path, fault))?;
+    let lock = if telling.ignores_lock {
+        None
+    } else {
+        lock_to_read(rt, rt.alloc(), path).map_err(|fault| unlocked(rt, path, fault))?
+    };
     if !telling.is_quiet
         && let Ok(Some(pending)) = pending_in(rt, path)
     {

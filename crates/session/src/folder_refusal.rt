@@ -3,6 +3,7 @@
 use crate::explanations::{NO_FOLDER, Words, of_file};
 use crate::host::Host;
 use crate::refusal::{Refusal, RefusalText, told};
+use crate::replaced_folder::found_again;
 use crate::reporter::Telling;
 use crate::settings_refusal::settings_refusal;
 use coding::FaultName;
@@ -68,13 +69,14 @@ fn is_of_no_file(name: FaultName) -> bool {
 }
 
 /// What is told of the folder's first file that is refused by this name. None if there is none, or
-/// if it can't be found.
+/// if it can't be found. That none is missing any more is told.
 fn file_found<R: Host>(rt: &R, telling: Telling<'_>, name: FaultName) -> Option<RefusalText> {
     let folder = telling.folder;
     let mut disk = Disk::new(rt, folder);
     match refused_file(rt, rt.alloc(), &mut disk, name, telling.memory) {
         Ok(Some(file)) if is_no_database(&file) => no_database(rt, folder),
         Ok(Some(file)) if is_refused_so(&file, name) => file_refusal(rt.alloc(), folder, &file),
+        Ok(_) if name == FaultName::Missing => found_again(rt.alloc(), folder),
         _ => None,
     }
 }
@@ -172,6 +174,11 @@ fn detail_refusal(
 ) -> Option<RefusalText> {
     match detail {
         Detail::NotBelow(next) => not_below(alloc, path, name, *next),
+        Detail::DeepLevel(level) => {
+            let wrong = format!(in alloc; "it names level {level}, and LevelDB's levels end at 6");
+            let remedy = "use the program that wrote it, or restore the folder from a copy";
+            RefusalText::new(alloc, path, wrong, remedy)
+        }
         Detail::UnknownComparator(name) => {
             let wrong = format!(in alloc;
                 "it names the comparator {name:?}, and only leveldb.BytewiseComparator and \
@@ -207,6 +214,10 @@ fn not_below(alloc: Global, path: &str, name: FaultName, next: u64) -> Option<Re
 /// The words of what is known, if it has no value.
 fn of_detail(detail: &Detail) -> Option<Words> {
     let (wrong, remedy) = match detail {
+        Detail::LongKey => (
+            "a key in it has more than 65535 bytes, the most that is compacted here",
+            "leave its compaction to LevelDB, which has no such limit",
+        ),
         Detail::NoComparator => (
             "no record names a comparator",
             "open the database once with LevelDB, which writes the manifest anew",

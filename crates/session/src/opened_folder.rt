@@ -1,6 +1,7 @@
 //! The work on a folder as each command begins it and ends it: it is opened, refusals are told, and
 //! lines are printed.
 
+use crate::manifest_notes::tell_impossible;
 use crate::refusal::{Refusal, RefusalText};
 use crate::reporter::Telling;
 use crate::table_sizes::{is_too_large, too_large};
@@ -21,7 +22,7 @@ pub struct OpenedFolder {
     pub logs: Option<u64>,
 }
 
-/// Opens a folder, and tells of its logs.
+/// Opens a folder, and tells of its manifest, if LevelDB writes none like it, and of its logs.
 pub fn begin_work<R: SystemFiles + Eprint + Clock + AllocGlobal>(
     rt: &R,
     telling: Telling<'_>,
@@ -36,6 +37,7 @@ pub fn begin_counted<R: SystemFiles + Eprint + Clock + AllocGlobal>(
 ) -> Result<OpenedFolder, Refusal> {
     match open_folder(rt, telling.folder) {
         Ok(opened) => {
+            tell_impossible(rt, telling, &opened);
             let logs = telling.tell_logs(rt, &opened.version)?;
             Ok(OpenedFolder { opened, logs })
         }

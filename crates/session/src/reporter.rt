@@ -26,6 +26,8 @@ pub struct Telling<'a> {
     /// Whether somebody watches, as at a terminal, so that the times of long steps are told, and a
     /// line of progress is shown.
     pub is_watched: bool,
+    /// Whether the lock of the folder isn't looked at.
+    pub ignores_lock: bool,
     /// Whether the account of each compaction is told.
     pub is_explaining: bool,
     /// How many bytes of tables may be held to find the file of a refusal.
@@ -38,7 +40,8 @@ impl<'a> Telling<'a> {
         ensures asked { result.is_explaining ≡ is_explaining }
         ensures rest { (result.folder ≡ self.entry.folder)
             × (result.is_quiet ≡ self.entry.is_quiet) × (result.is_verbose ≡ self.entry.is_verbose)
-            × (result.is_watched ≡ self.entry.is_watched) × (result.memory ≡ self.entry.memory) }
+            × (result.is_watched ≡ self.entry.is_watched) × (result.memory ≡ self.entry.memory)
+            × (result.ignores_lock ≡ self.entry.ignores_lock) }
     {
         self.is_explaining = is_explaining;
         self

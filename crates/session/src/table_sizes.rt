@@ -4,6 +4,7 @@
 use crate::explanations::{Words, of_file};
 use crate::folder_refusal::path_in;
 use crate::refusal::{Refusal, RefusalText, told};
+use crate::replaced_folder::replaced_refusal;
 use coding::{Fault, FaultName};
 use edit::{FileMeta, LEVELS};
 use folder::{
@@ -27,7 +28,7 @@ pub fn sizes_tested<R: SystemFiles + AllocGlobal>(
         let told = if fault.name == FaultName::TooLarge {
             large_refusal(rt, path, opened)
         } else {
-            None
+            replaced_refusal(rt, path, opened, fault)
         };
         Refusal::new(fault, told)
     })

@@ -4,11 +4,12 @@
 use coding::Fault;
 use diagnostics::{deleted_files, have_filter};
 use edit::{FileMeta, LAST_LEVEL, LEVELS, Version, VersionEdit};
-use folder::{Disk, SystemFiles};
+use folder::{Disk, Folder, SystemFiles};
 use ikey::Bytewise;
 use scan::FileTotal;
 use session::{Telling, total_text};
 use std::alloc::Global;
+use store::EDIT;
 
 /// All files of a version. The only fault is Memory.
 pub(crate) fn version_total(alloc: Global, version: &Version) -> Result<FileTotal, Fault> {
@@ -78,15 +79,55 @@ impl CompactionNote {
 
     /// Tells if filters are gone, and answers whether they are.
     pub fn tell_filters<R: Eprint>(self, rt: &R, telling: Telling<'_>) -> bool {
-        let folder = telling.folder;
         if self.has_filter {
-            let _ = eprintln!(rt;
-                "sedvokt: {folder}: the old tables have filters, and the new ones have none: a \
-                    lookup of a key that is not there reads a block of each table that it looks in"
-            );
+            tell_no_filters(rt, telling);
         }
         self.has_filter
     }
+}
+
+/// Tells that filters are gone.
+pub(crate) fn tell_no_filters<R: Eprint>(rt: &R, telling: Telling<'_>) {
+    let folder = telling.folder;
+    let _ = eprintln!(rt;
+        "sedvokt: {folder}: the old tables have filters, and the new ones have none: a lookup of a \
+            key that is not there reads a block of each table that it looks in"
+    );
+}
+
+/// Whether it is to be told that filters are gone, since the outcome in the folder `out` is
+/// installed over the version `before`. False if that can't be known.
+pub(crate) fn loses_filters<R: SystemFiles + AllocGlobal>(
+    rt: &R,
+    telling: Telling<'_>,
+    out: &str,
+    before: &Version,
+) -> bool {
+    !telling.is_quiet && are_filters_lost(rt, telling.folder, out, before) == Ok(true)
+}
+
+/// Whether a file that the edit of an outcome deletes has a filter, and no new one has.
+fn are_filters_lost<R: SystemFiles + AllocGlobal>(
+    rt: &R,
+    folder: &str,
+    out: &str,
+    before: &Version,
+) -> Result<bool, Fault> {
+    let alloc = rt.alloc();
+    let mut outcome = Disk::new(rt, out);
+    let Some(bytes) = outcome.read(EDIT)? else {
+        return Ok(false);
+    };
+    let edit = VersionEdit::decode(alloc, &bytes)?;
+    let inputs = deleted_files(alloc, before, &edit)?;
+    if !have_filter(alloc, &mut Disk::new(rt, folder), &inputs)? {
+        return Ok(false);
+    }
+    let mut outputs = Vec::with_capacity(alloc, edit.added.len())?;
+    for file in &edit.added {
+        outputs.push(&file.meta)?;
+    }
+    Ok(!have_filter(alloc, &mut outcome, &outputs)?)
 }
 
 /// Tells what was made of which files.

@@ -1,6 +1,7 @@
 //! The installation of an outcome, from the paths to what is printed.
 
 use crate::clean_work::clean_installed;
+use crate::compaction_notes::{loses_filters, tell_no_filters};
 use crate::outcome_refusal::outcome_explained;
 use crate::step_printer::unprinted;
 use crate::version_sync::sync;
@@ -27,9 +28,13 @@ pub(crate) fn install_compaction<R: Host>(
         outcome_explained(rt, telling, line, opened.order, refusal)
     })?;
     tell_time(rt, "install", begun);
+    let loses_filters = loses_filters(rt, telling, line.out, &opened.version);
     print_lines(rt, &lines).map_err(|refusal| {
         unprinted(rt.alloc(), folder, Levels::One(0), refusal)
     })?;
+    if loses_filters {
+        tell_no_filters(rt, telling);
+    }
     if line.cleans {
         clean_installed(rt, folder, &opened.version, false)?;
     }

@@ -2,7 +2,8 @@
 
 use folder::Disk;
 use session::{
-    Host, Refusal, Telling, begin_work, compaction_explained, print_lines, refused_at, tell_time,
+    Host, Refusal, Telling, begin_work, compaction_explained, print_lines, refused_opened,
+    tell_time,
 };
 use settings::Settings;
 use store::files_to_compact;
@@ -26,7 +27,7 @@ fn job_printed<R: Host>(rt: &R, telling: Telling<'_>, level: u64) -> Result<(), 
     let opened = begin_work(rt, telling)?;
     let mut folder = Disk::new(rt, telling.folder);
     let lines = files_to_compact(rt.alloc(), &mut folder, &opened, level);
-    let lines = lines.map_err(|fault| refused_at(rt, telling.folder, &folder, fault))?;
+    let lines = lines.map_err(|fault| refused_opened(rt, telling.folder, &folder, &opened, fault))?;
     tell_time(rt, "job", begun);
     print_lines(rt, &lines)
 }

@@ -1,8 +1,10 @@
 //! The folder that gets the outcome of a compaction.
 
+use coding::{Fault, FaultName};
 use edit::Outcome;
-use folder::{Disk, SystemFiles};
-use session::{Refusal, refused_at, sync_folder_of};
+use folder::{Disk, OwnedFiles, SystemFiles};
+use session::{Refusal, Words, refused_at, sync_folder_of, told};
+use std::fs::{File, OpenOptions, TryLockError};
 use std::io::ErrorKind;
 use std::rt::Files;
 use std::thread::Threads;
@@ -39,22 +41,18 @@ fn state_at<R: Files + AllocGlobal>(rt: &R, out: &str) -> io::Result<OutState> {
     }
 }
 
-/// Writes an outcome into such a folder, which is made if nothing is there.
+/// Writes an outcome into such a folder, which is made if nothing is there. Changed if something is
+/// in it by now, or another sedvokt writes into it. Its files belong to whom the CURRENT of the
+/// `database` belongs.
 pub(crate) fn fill<R: SystemFiles + AllocGlobal + Threads + Sync>(
     rt: &R,
     out: &str,
+    database: &str,
     outcome: &Outcome,
 ) -> Result<(), Refusal> {
-    let is_new = state_of(rt, out)? == OutState::Absent;
-    if is_new {
-        fs::create_dir(rt, out).map_err(|error| Refusal::of_call(
-            rt.alloc(),
-            out,
-            "make the folder",
-            &error,
-        ))?;
-    }
-    let mut folder = Disk::new(rt, out);
+    let is_new = is_made(rt, out)?;
+    let _claim = claimed(rt, out)?;
+    let mut folder = Disk::owned_as(rt, out, database);
     let written = write_outcome(rt, &mut folder, outcome);
     written.map_err(|fault| refused_at(rt, out, &folder, fault))?;
     if is_new {
@@ -67,4 +65,39 @@ pub(crate) fn fill<R: SystemFiles + AllocGlobal + Threads + Sync>(
         ))?;
     }
     Ok(())
+}
+
+/// Makes a folder at a path, if nothing is there. The answer is whether it was made.
+fn is_made<R: Files + AllocGlobal>(rt: &R, out: &str) -> Result<bool, Refusal> {
+    if state_of(rt, out)? != OutState::Absent {
+        return Ok(false);
+    }
+    match fs::create_dir(rt, out) {
+        Ok(()) => Ok(true),
+        // Another sedvokt has made it.
+        Err(_) if state_of(rt, out)? != OutState::Absent => Ok(false),
+        Err(error) => Err(Refusal::of_call(rt.alloc(), out, "make the folder", &error)),
+    }
+}
+
+/// The folder at a path, locked until it is dropped against all others that write an outcome into
+/// it, if the system has such locks. Changed if another has it, or if it has a file.
+fn claimed<R: SystemFiles + AllocGlobal>(rt: &R, out: &str) -> Result<File, Refusal> {
+    let mut how = OpenOptions::new();
+    how.read(true);
+    let folder = rt.open_own(&how, out).map_err(|error| Refusal::of_call(
+        rt.alloc(),
+        out,
+        "open it",
+        &error,
+    ))?;
+    let is_held = matches!(folder.try_lock(), Err(TryLockError::WouldBlock));
+    if is_held || state_of(rt, out)? != OutState::Empty {
+        let words = Words {
+            wrong: "it was empty, and another program writes into it by now",
+            remedy: "give another folder",
+        };
+        return Err(Refusal::new(Fault::of(FaultName::Changed), told(rt.alloc(), out, words)));
+    }
+    Ok(folder)
 }

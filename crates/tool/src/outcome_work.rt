@@ -9,7 +9,7 @@ use folder::{Disk, Opened};
 use json_lines::{CompactionEnd, compaction_json};
 use session::{
     Host, ProgressLine, Refusal, RefusalText, Telling, Words, begin_work, bytes_of,
-    compaction_explained, in_words, print_lines, refused_at, sizes_tested, told,
+    compaction_explained, in_words, print_lines, refused_opened, sizes_tested, told,
 };
 use std::alloc::Global;
 use store::{CompactionOutcome, EDIT, outcome_of_inputs, outcome_of_opened};
@@ -50,7 +50,7 @@ fn compaction_written<R: Host>(
     let made = outcome_made(rt, telling, line, task, &opened).map_err(|refusal| {
         numbers_explained(rt.alloc(), telling.folder, task, &opened, refusal)
     })?;
-    fill(rt, task.out, &made.outcome)?;
+    fill(rt, task.out, telling.folder, &made.outcome)?;
     tell_step(rt, task.level, begun);
     let note = note_of(rt, telling, &opened.version, &made.outcome.edit);
     outcome_printed(rt, line, task, &made).map_err(|refusal| unprinted(
@@ -113,7 +113,7 @@ fn outcome_made<R: Host>(
         &progress,
     );
     progress.erase();
-    made.map_err(|fault| refused_at(rt, telling.folder, &folder, fault))
+    made.map_err(|fault| refused_opened(rt, telling.folder, &folder, opened, fault))
 }
 
 /// The same without a test: nothing but the inputs is read.
@@ -137,7 +137,7 @@ fn inputs_compacted<R: Host>(
         &progress,
     );
     progress.erase();
-    made.map_err(|fault| refused_at(rt, telling.folder, &folder, fault))
+    made.map_err(|fault| refused_opened(rt, telling.folder, &folder, opened, fault))
 }
 
 /// The refusal, with what is told of a first number that can't be used.

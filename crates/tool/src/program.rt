@@ -18,7 +18,7 @@ use std::env::Env;
 use std::io::ErrorKind;
 use std::rt::Files;
 use std::{env, io};
-use usage::{CompactWork, Line, Usage, Verbosity, VerdictForm, line};
+use usage::{CommandLine, CompactWork, Line, Usage, Verbosity, VerdictForm, line};
 
 /// The status of work that was done, and of help or a version that was asked for.
 const DONE: u8 = 0;
@@ -58,16 +58,17 @@ pub fn run<R: Env + Host>(rt: &R, is_watched: bool) -> u8 {
     };
     let mut listed = Vec::new(rt.alloc());
     match line(rt.alloc(), words.as_slice(), &mut listed) {
-        Ok(asked) => answer(rt, &asked.line, asked.verbosity, is_watched),
+        Ok(asked) => answer(rt, &asked, is_watched),
         Err(usage) => report_usage(rt, usage),
     }
 }
 
 /// Does what a command line asks for, tells why not if it is refused, and answers the status.
-fn answer<R: Host>(rt: &R, line: &Line<'_>, verbosity: Verbosity, is_watched: bool) -> u8 {
+fn answer<R: Host>(rt: &R, asked: &CommandLine<'_>, is_watched: bool) -> u8 {
+    let line = &asked.line;
     let done = match taken_folder(rt, line) {
         Ok(Some(out)) => return report_taken(rt, out),
-        Ok(None) => carry_out(rt, line, telling_of(line, verbosity, is_watched)),
+        Ok(None) => carry_out(rt, line, telling_of(asked, is_watched)),
         Err(refusal) => Err(refusal),
     };
     match done {
@@ -166,13 +167,15 @@ fn subject<'a>(line: &Line<'a>) -> &'a str {
 }
 
 /// What is to be told of the work that a command line asks for.
-fn telling_of<'a>(line: &Line<'a>, verbosity: Verbosity, is_watched: bool) -> Telling<'a> {
-    let is_quiet = verbosity == Verbosity::Quiet;
+fn telling_of<'a>(asked: &CommandLine<'a>, is_watched: bool) -> Telling<'a> {
+    let line = &asked.line;
+    let is_quiet = asked.verbosity == Verbosity::Quiet;
     Telling {
         folder: subject(line),
         is_quiet,
-        is_verbose: verbosity == Verbosity::Verbose,
+        is_verbose: asked.verbosity == Verbosity::Verbose,
         is_watched,
+        ignores_lock: asked.ignores_lock,
         is_explaining: match line {
             Line::Compact(line) => line.options.explains && !is_quiet,
             _ => false,

@@ -139,7 +139,7 @@ pub TextsGiven-parsed : (app : App) (words : List Text) (above : List Row) (s : 
 TextsGiven-parsed app words above s asked same taken walked h =
     let accepted = subst (λ (x : App). fault_of x words ≡ []) same (taken (ap is_simple_and_free same ∙ is_simple_and_free-program)) in
     let gives = of_words words above s (λ rows t. GivesAsked rows t asked) (given_rows app words above s same walked) h in
-    (gives.1, ((accepted, gives.0), gives.2))
+    (gives.1, gives.2, ((accepted, gives.0), gives.3))
 
 -- `clap`'s error turns into Memory or into itself
 pub TurnsInto-only : (e : Error) (u : Usage) → TurnsInto e u → IsRefusal u

@@ -15,7 +15,7 @@ use Rattle.usage.specs.PlainLines.{HasVerify, LacksJob, LacksPath, LacksStats, L
 use Rattle.usage.specs.PlainLines.{LacksVerify}
 use Rattle.usage.specs.ScanLine.{AreKeyBounds, HasScan, LacksScan}
 use Rattle.usage.specs.TestOptions.{HasTesting, LacksMemory}
-use Rattle.usage.specs.Verbosity.{is_at_odds, verbosity_of}
+use Rattle.usage.specs.Verbosity.{is_at_odds, rows_below, verbosity_of}
 use Rattle.texts.specs.Spelling.{bytes_of}
 use Rattle.texts.specs.Text.{IsNoNumber, IsNumberOf, bytes_of_text}
 use Rattle.texts.specs.declared.spelling.Spelling.{Spelling}
@@ -114,6 +114,11 @@ asks_at_odds words =
 abbrev pub verbosity_asked : List Text → Verbosity
 verbosity_asked words =
     verbosity_of (matches_of program_app words) (subcommand_of program_app words)
+
+-- whether the words give a command `--no-lock`
+abbrev pub ignores_lock_asked : List Text → Bool
+ignores_lock_asked words =
+    is_flagged (codes "no-lock") (rows_below (subcommand_of program_app words))
 
 -- `clap` refuses the words with this error, or they give both `--verbose` and `--quiet`, or they are
 -- no command with all its texts
@@ -226,8 +231,9 @@ LineGives words (Err NotText) = GivesNoKey words way.Text
 LineGives words (Err Memory) = Unit {0}
 LineGives words (Err (Clap e)) = RefusedWith words e
 
--- What a command line asks for: the same, and how much is told of it.
+-- What a command line asks for: the same, how much is told of it, and whether the lock is ignored.
 abbrev pub CommandLineGives : List Text → Result CommandLine Usage → Type 0
 CommandLineGives words (Ok asked) =
-    (asked.verbosity ≡ verbosity_asked words) × LineGives words (Ok asked.line)
+    (asked.verbosity ≡ verbosity_asked words) × (asked.ignores_lock ≡ ignores_lock_asked words)
+    × LineGives words (Ok asked.line)
 CommandLineGives words (Err usage) = LineGives words (Err usage)

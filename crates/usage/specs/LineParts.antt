@@ -6,13 +6,14 @@ use Rattle.std.specs.Global.{Vec}
 use Rattle.clap.specs.Words.{Row, Text, subcommand_of}
 use Rattle.usage.specs.CompactLine.{HasCompact}
 use Rattle.grammar.specs.Apps.{program_app}
+use Rattle.usage.specs.Flags.{is_flagged}
 use Rattle.usage.specs.InstallLine.{HasInstall}
 use Rattle.usage.specs.Line.{AreAccepted, HasBlocks, HasGet, HasRows, LacksAll, LineGives}
-use Rattle.usage.specs.Line.{RefusedWith, rows_under, verbosity_asked}
+use Rattle.usage.specs.Line.{RefusedWith, ignores_lock_asked, rows_under, verbosity_asked}
 use Rattle.usage.specs.PlainLines.{HasClean, HasDump, HasJob, HasManifest, HasStats, HasTable}
 use Rattle.usage.specs.PlainLines.{HasVerify}
 use Rattle.usage.specs.ScanLine.{HasScan}
-use Rattle.usage.specs.Verbosity.{is_at_odds, verbosity_of}
+use Rattle.usage.specs.Verbosity.{is_at_odds, rows_below, verbosity_of}
 use Rattle.texts.specs.Text.{bytes_of_text}
 use Rattle.usage.specs.declared.command_line.Asked.{Asked}
 use Rattle.usage.specs.declared.command_line.Given.{Given}
@@ -76,10 +77,13 @@ abbrev pub GivesTexts : List Text → Given → Type 0
 GivesTexts words given =
     AreAccepted words × GivesCommand (subcommand_of program_app words) given
 
--- the parse asks to be told as much, and is a command with these texts
+-- the parse asks to be told as much, has the flag of the lock or not, and is a command with these
+-- texts
 abbrev pub GivesAsked : List Row → Option (Text × List Row) → Asked → Type 0
 GivesAsked above parsed asked = (is_at_odds above parsed ≡ false)
-    × (asked.verbosity ≡ verbosity_of above parsed) × GivesCommand parsed asked.texts
+    × (asked.verbosity ≡ verbosity_of above parsed)
+    × (asked.ignores_lock ≡ is_flagged (codes "no-lock") (rows_below parsed))
+    × GivesCommand parsed asked.texts
 
 -- the parse has both flags of how much is told, or is no command with all its texts
 abbrev pub LacksAsked : List Row → Option (Text × List Row) → Type 0
@@ -99,11 +103,12 @@ IsRefusal NotHexadecimal = ⊥
 IsRefusal NotText = ⊥
 IsRefusal Snapshots = ⊥
 
--- how much the words ask to be told, and the texts that they give, or `clap`'s refusal; Memory may
--- come for any words
+-- how much the words ask to be told, whether the lock is ignored, and the texts that they give, or
+-- `clap`'s refusal; Memory may come for any words
 abbrev pub TextsGiven : List Text → Result Asked Usage → Type 0
 TextsGiven words (Ok asked) =
-    (asked.verbosity ≡ verbosity_asked words) × GivesTexts words asked.texts
+    (asked.verbosity ≡ verbosity_asked words) × (asked.ignores_lock ≡ ignores_lock_asked words)
+    × GivesTexts words asked.texts
 TextsGiven words (Err Key) = ⊥
 TextsGiven words (Err NotHexadecimal) = ⊥
 TextsGiven words (Err NotText) = ⊥

@@ -59,16 +59,19 @@ abbrev pub LacksVerify : List Row → Type 0
 LacksVerify rows = (first_of (codes "DIR") rows ≡ None) ⊎ ((first_of (codes "table") rows ≢ None)
     ⊎ (LacksForm rows ⊎ LacksMemory rows))
 
--- the rows give something of a folder or its test: DIR, `--all-faults` or `--memory`
+-- the rows give something of a folder, its test or its lock: DIR, `--all-faults`, `--memory` or
+-- `--no-lock`
 abbrev pub GivesFolder : List Row → Type 0
 GivesFolder rows = (first_of (codes "DIR") rows ≢ None)
-    ⊎ ((is_flagged (codes "all-faults") rows ≡ true) ⊎ (first_of (codes "memory") rows ≢ None))
+    ⊎ ((is_flagged (codes "all-faults") rows ≡ true) ⊎ ((first_of (codes "memory") rows ≢ None)
+    ⊎ (is_flagged (codes "no-lock") rows ≡ true)))
 
 -- the rows give none of it
 abbrev pub GivesNoFolder : List Row → Type 0
 GivesNoFolder rows = (first_of (codes "DIR") rows ≡ None)
     × (is_flagged (codes "all-faults") rows ≡ false)
     × (first_of (codes "memory") rows ≡ None)
+    × (is_flagged (codes "no-lock") rows ≡ false)
 
 -- the rows give this text of `--table`, this flag of `--json`, and nothing else
 abbrev pub HasTable : Text → Bool → List Row → Type 0

@@ -20,7 +20,7 @@ use crate::requests::{BlocksLine, CommandLine, GetLine, Line, Testing, Usage, Ve
 use crate::scan_line::scan_line;
 use crate::scan_texts::{ScanTexts, scan_texts};
 use crate::test_options::testing_of;
-use crate::verbosity::verbosity_given;
+use crate::verbosity::{is_flagged_below, verbosity_given};
 use clap::{ArgMatches, Command};
 use grammar::program_command;
 use std::alloc::Global;
@@ -50,6 +50,7 @@ pub fn line<'a, S: AsStr>(
     let line = line_of(alloc, asked.texts, listed)?;
     Ok(CommandLine {
         verbosity: asked.verbosity,
+        ignores_lock: asked.ignores_lock,
         line,
     })
 }
@@ -68,10 +69,12 @@ fn line_of<'a>(alloc: Global, given: Given<'a>, listed: &'a mut Vec<u64>) -> Res
     }
 }
 
-/// What the words ask for: how much is told, and the texts given to a command.
+/// What the words ask for: how much is told, whether the lock is ignored, and the texts given to a
+/// command.
 #[derive(Clone, Copy)]
 struct Asked<'a> {
     verbosity: Verbosity,
+    ignores_lock: bool,
     texts: Given<'a>,
 }
 
@@ -232,7 +235,11 @@ fn asked_in<'a>(matches: &ArgMatches<'a>) -> Option<Asked<'a>>
 {
     let verbosity = verbosity_given(matches)?;
     let texts = texts_in(matches)?;
-    Some(Asked { verbosity, texts })
+    Some(Asked {
+        verbosity,
+        ignores_lock: is_flagged_below(matches, "no-lock"),
+        texts,
+    })
 }
 
 /// The texts of the command, if it is one of the program's and its texts are there.

@@ -44,6 +44,11 @@ pub(crate) const VERIFY_EXCLUSIONS: &[Exclusion] = &[
         text: "the argument '--table <FILE>' cannot be used with '--memory <MIB>'",
     },
     Exclusion {
+        first: Side::Value("table"),
+        second: Side::Flag("no-lock"),
+        text: "the argument '--table <FILE>' cannot be used with '--no-lock'",
+    },
+    Exclusion {
         first: Side::Flag("json"),
         second: Side::Flag("all-faults"),
         text: "the argument '--json' cannot be used with '--all-faults'",

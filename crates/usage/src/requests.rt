@@ -15,6 +15,8 @@ use texts::Spelling;
 pub struct CommandLine<'a> {
     /// How much is told on the standard error.
     pub verbosity: Verbosity,
+    /// Whether the lock of the folder isn't looked at.
+    pub ignores_lock: bool,
     /// What its command is asked for.
     pub line: Line<'a>,
 }

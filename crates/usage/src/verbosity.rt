@@ -37,7 +37,7 @@ fn is_flagged_anywhere(matches: &ArgMatches<'_>, id: &str) -> bool
 }
 
 /// Whether a flag is given after the command.
-fn is_flagged_below(matches: &ArgMatches<'_>, id: &str) -> bool
+pub(crate) fn is_flagged_below(matches: &ArgMatches<'_>, id: &str) -> bool
     ensures { result ≡ is_flagged id.now (rows_below (subcommand_rows_of matches.now)) }
 {
     match matches.subcommand() {

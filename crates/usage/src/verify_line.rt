@@ -72,7 +72,7 @@ impl<'a> TableLine<'a> {
     }
 }
 
-/// Whether something of a folder or its test is given.
+/// Whether something of a folder, its test or its lock is given.
 fn gives_folder(values: &ArgMatches<'_>) -> bool
     ensures { let rows = rows_of (found_of values.now) in
         MatchBool result (GivesFolder rows) (GivesNoFolder rows) }
@@ -80,6 +80,7 @@ fn gives_folder(values: &ArgMatches<'_>) -> bool
     first_text(values, "DIR").is_some()
         || is_flagged(values, "all-faults")
         || first_text(values, "memory").is_some()
+        || is_flagged(values, "no-lock")
 }
 
 /// What is given to `verify`, if that is the command and the texts of a folder are there.

@@ -18,8 +18,8 @@ returns-in_err-record c rs is =
     handed_on (λ order. order) c.from_residual.result e (IsOrderAnswer rs) c.from_residual.ensures.1
     (order_unread rs c.loop-record.records.ahead c.loop-record.named e (c.loop-record.invariant rs is) c.in_err-record.ensures.refused)
 
-pub returns : goal.returns
-returns c rs is =
+pub returns-in_default : goal.returns-in_default
+returns-in_default c rs is =
     let ahead = c.loop-record.records.ahead in
     let named = c.loop-record.named in
     let none : ahead ≡ Ok [] = subst (λ (o : Option (Vec ℕ)). IfNone o (ahead ≡ Ok [])) c.in_default.is c.in_ok-record.ensures.end in

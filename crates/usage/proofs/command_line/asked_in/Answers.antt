@@ -17,4 +17,4 @@ returns-in_err-texts c =
     MatchOption-lacking (LacksAsked above parsed) (GivesAsked above parsed) c.from_residual-in_err-texts.result (search rules) (inr c.in_err-texts.ensures)
 
 pub returns : goal.returns
-returns c = (c.in_ok-verbosity.ensures.0, c.in_ok-verbosity.ensures.1, c.in_ok-texts.ensures)
+returns c = (c.in_ok-verbosity.ensures.0, c.in_ok-verbosity.ensures.1, c.is_flagged_below.ensures, c.in_ok-texts.ensures)

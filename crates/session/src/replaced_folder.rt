@@ -1,0 +1,85 @@
+//! What is told of a file that is missing since another program changed the folder meanwhile.
+
+use crate::explanations::Words;
+use crate::folder_refusal::path_in;
+use crate::opened_folder::refused_at;
+use crate::refusal::{Refusal, RefusalText, told};
+use crate::reporter::Telling;
+use coding::{Fault, FaultName};
+use folder::{CURRENT, Disk, Folder, Opened, SystemFiles, number_in_current};
+use std::alloc::Global;
+
+/// What is told of CURRENT if it names another manifest than before.
+const REPLACED: Words = Words {
+    wrong: "it names another manifest by now: another program has changed the database meanwhile",
+    remedy: "run it again",
+};
+
+/// What is told of a folder in which a file was missing, and none is when it is read again.
+const FOUND_AGAIN: Words = Words {
+    wrong: "a file was missing, and none is by now: another program has changed the database \
+        meanwhile",
+    remedy: "run it again",
+};
+
+/// The refusal of work on what the folder at a path was `opened` as, told as [`refused_at`] tells
+/// it. If a file is missing, and CURRENT names another manifest by now, that is told.
+pub fn refused_opened<R: SystemFiles + AllocGlobal>(
+    rt: &R,
+    path: &str,
+    folder: &Disk<'_, R>,
+    opened: &Opened,
+    fault: Fault,
+) -> Refusal {
+    match replaced_refusal(rt, path, opened, fault) {
+        None => refused_at(rt, path, folder, fault),
+        told => Refusal::new(fault, told),
+    }
+}
+
+/// What is told of a folder in which a file is missing, if CURRENT names another manifest than when
+/// it was opened. None if it names that one, or if something else is refused.
+pub fn replaced_refusal<R: SystemFiles + AllocGlobal>(
+    rt: &R,
+    path: &str,
+    opened: &Opened,
+    fault: Fault,
+) -> Option<RefusalText> {
+    if fault.name != FaultName::Missing || !is_replaced(rt, path, opened.manifest) {
+        return None;
+    }
+    let current = path_in(rt.alloc(), path, CURRENT)?;
+    told(rt.alloc(), current.as_str(), REPLACED)
+}
+
+/// Tells if CURRENT names another manifest than when the folder was `opened`: a file that is missing
+/// may be the other program's doing.
+pub fn tell_replaced<R: SystemFiles + Eprint + AllocGlobal>(
+    rt: &R,
+    telling: Telling<'_>,
+    opened: &Opened,
+) {
+    if !telling.is_quiet
+        && is_replaced(rt, telling.folder, opened.manifest)
+        && let Some(current) = path_in(rt.alloc(), telling.folder, CURRENT)
+    {
+        let Words { wrong, remedy } = REPLACED;
+        let _ = eprintln!(rt; "sedvokt: {current}: {wrong}; {remedy}");
+    }
+}
+
+/// Whether CURRENT names another manifest than that of this number.
+fn is_replaced<R: SystemFiles + AllocGlobal>(rt: &R, path: &str, manifest: u64) -> bool {
+    match Disk::new(rt, path).read(CURRENT) {
+        Ok(Some(bytes)) => match number_in_current(rt.alloc(), &bytes) {
+            Ok(number) => number != manifest,
+            Err(_) => false,
+        },
+        _ => false,
+    }
+}
+
+/// What is told of a folder in which a file was missing, and none is when it is read again.
+pub fn found_again(alloc: Global, path: &str) -> Option<RefusalText> {
+    told(alloc, path, FOUND_AGAIN)
+}

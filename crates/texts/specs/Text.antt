@@ -37,13 +37,3 @@ StandsFor text bytes = map to_ascii_lowercase text ≡ text_of_bytes bytes
 -- a text is a number of 64 bits: decimal digits alone, below 2 ^ 64
 abbrev pub IsNumberText : List ℕ → Type 0
 IsNumberText text = IsNumeral 10 text × (digits_value 10 text < 2 ^ 64)
-
--- the number of an option's text; None if the option isn't given
-abbrev pub IsNumberOf : Option (List ℕ) → Option ℕ → Type 0
-IsNumberOf None number = number ≡ None
-IsNumberOf (Some text) number = IsNumberText text × (number ≡ Some (digits_value 10 text))
-
--- the option is given, with a text that isn't a number
-abbrev pub IsNoNumber : Option (List ℕ) → Type 0
-IsNoNumber None = ⊥
-IsNoNumber (Some text) = IsNumberText text → ⊥

@@ -1,11 +1,10 @@
 -- Reading texts as numbers, one after the other.
 use Rattle.std.proofs.Common.{◌≡◌, ℕ, suc, ◌+◌, ◌<◌, List, [], ◌∷◌, ◌++◌, length, map, take, get_or, Result, Ok, IfOk, refl, sym, ap, subst, ◌∙◌, arith}
-use Rattle.std.specs.List.{All}
 use Rattle.std.specs.Borrow.{Bor}
 use Rattle.std.specs.Global.{Vec}
 use Rattle.std.specs.Str.Parse.{digits_value}
 use Rattle.std.proofs.Math.Seq.{take-length, take-suc}
-use Rattle.std.proofs.lemmas.List.{get_or-map, length-map, map-append}
+use Rattle.std.proofs.lemmas.List.{map-append}
 use Rattle.std.proofs.lemmas.List.Elements.{All-append, All-cons, All-nil}
 use Rattle.clap.specs.Words.{Text}
 use Rattle.usage.specs.CompactLine.{AreNumbers}
@@ -32,13 +31,6 @@ module _ (numerals : List (Bor Text)) (i : ℕ) (d : Bor Text) (lt : i < length 
         made ∙ ap (λ (m : ℕ). numbers ++ m ∷ []) read ∙ ap (λ (ms : List ℕ). ms ++ digits_value 10 text ∷ []) so_far.1
             ∙ sym (map-append (digits_value 10) (texts_of (take i numerals)) (text ∷ [])),
       )
-
-  -- a text that is no number
-  pub not_all : (IsNumberText text → ⊥) → All IsNumberText (texts_of numerals) → ⊥
-  not_all none all =
-      let many = length-map numerals (λ (m : Bor Text). m.now) in
-      let within : i < length (texts_of numerals) = omega (arith, many) in
-      none (subst IsNumberText (get_or-map (λ (m : Bor Text). m.now) numerals i d d.now lt) (all i d.now within))
 
 -- none is read yet
 pub read_none : (numerals : List (Bor Text)) → AreNumbers (texts_of (take 0 numerals)) []

@@ -1,16 +1,10 @@
 -- what contracts rest on
-pub mod Usage
-pub mod Flags
+pub mod Apps
+pub mod Values
 pub mod Verbosity
-pub mod TestOptions
-pub mod Keys
-pub mod ScanLine
+pub mod Lines
+pub mod KeyLines
 pub mod CompactLine
-pub mod InstallLine
-pub mod PlainLines
 pub mod Line
 -- serves proofs alone
-pub mod LineParts
-pub mod KeyParts
-pub mod ScanLineParts
-pub mod CompactLineParts
+pub mod Commands

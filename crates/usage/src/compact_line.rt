@@ -1,114 +1,170 @@
-//! The lines of the commands `compact` and `install`, which may be given a list of snapshots.
+//! The lines of `compact` and of `install`, which may be given a list of snapshots.
 
-ghost use Rattle.std.specs.Prelude.{ℕ, List, Option, codes, map, MatchOption, IfOk};
-ghost use Rattle.std.specs.Option.{option_map};
-ghost use Rattle.std.specs.List.{All};
-ghost use Rattle.clap.specs.Words.{Text};
-ghost use Rattle.usage.specs.CompactLine.{AreNumbers, AreSettings, HasCompact, IsNoNumberList};
-ghost use Rattle.usage.specs.CompactLine.{IsNumberList, IsReadable};
-ghost use Rattle.usage.specs.CompactLineParts.{IsReadableAnswer};
-ghost use Rattle.usage.specs.InstallLine.{HasInstall};
-ghost use Rattle.usage.specs.Line.{GivesRows, LineGives};
-ghost use Rattle.texts.specs.Text.{IsNumberText};
+ghost use Rattle.std.specs.Prelude.{◌≡◌, IfOk, IfSome, map};
+ghost use Rattle.clap.specs.Words.{found_of, rows_of};
+ghost use Rattle.usage.specs.CompactLine.{AreNumbers, HasCompact, HasInstall, HasLevels};
+ghost use Rattle.usage.specs.CompactLine.{HasOptions, HasSettings, HasSnapshots, HasWork};
+ghost use Rattle.usage.specs.CompactLine.{IsNumberList, gives_installed, gives_snapshots};
 
-use crate::compact_texts::{CompactNumbers, CompactTexts, ReadableTexts};
-use crate::install_texts::InstallTexts;
-use crate::requests::{CompactLine, InstallLine, Line, Usage};
+use crate::requests::{CompactLine, CompactOptions, CompactWork, InstallLine, Levels, Usage};
+use crate::values::{
+    Unread, first_text, is_flagged, is_given, needed_text, number_given, number_or, testing_of,
+};
+use clap::ArgMatches;
 use keep::Snapshots;
 use settings::Settings;
 use std::alloc::{AllocError, Global};
 use table::Options;
 use texts::number_of;
 
-/// The line of `compact`, with the numbers of its list in `listed`. Snapshots if the text of the
-/// list is no list of numbers.
+/// What is given to `compact`, with the numbers of its list in `listed`. Snapshots if the text of
+/// the list is no list of numbers.
 pub(crate) fn compact_line<'a>(
     alloc: Global,
-    texts: CompactTexts<'a>,
+    values: &ArgMatches<'a>,
     listed: &'a mut Vec<u64>,
-) -> Result<Line<'a>, Usage>
-    ensures { (words : List Text) → GivesRows words (codes "compact")
-        (HasCompact texts.entry.folder.now texts.entry.options texts.entry.numbers
-        texts.entry.readable.since (option_map (λ text. text.now) texts.entry.readable.listed))
-        → LineGives words result }
+) -> Result<CompactLine<'a>, Unread>
+    ensures { IfOk result (λ line. HasCompact line (rows_of (found_of values.now))) }
 {
-    let snapshots = snapshots(alloc, texts.readable, listed)?;
-    Ok(Line::Compact(CompactLine {
-        folder: texts.folder,
-        options: texts.options,
-        settings: settings_of(texts.numbers, snapshots),
-    }))
+    Ok(CompactLine {
+        folder: needed_text(values, "DIR")?,
+        options: options_of(values)?,
+        settings: settings_of(alloc, values, listed)?,
+    })
+}
+
+/// What is asked for beside the settings.
+fn options_of<'a>(values: &ArgMatches<'a>) -> Result<CompactOptions<'a>, Unread>
+    ensures { IfOk result (λ options. HasOptions options (rows_of (found_of values.now))) }
+{
+    Ok(CompactOptions {
+        work: work_of(values)?,
+        testing: testing_of(values)?,
+        explains: is_flagged(values, "explain"),
+        is_json: is_flagged(values, "json"),
+        cleans: is_flagged(values, "clean"),
+    })
+}
+
+/// What is compacted, and where the outcome goes. `Rules` if one of these holds:
+///
+/// - not exactly one of `--level` and `--all` is given;
+/// - `--out` is given with an option of a compaction that is installed;
+/// - `--first-number` is given without `--out`.
+fn work_of<'a>(values: &ArgMatches<'a>) -> Result<CompactWork<'a>, Unread>
+    ensures { IfOk result (λ work. HasWork work (rows_of (found_of values.now))) }
+{
+    let levels = levels_of(values)?;
+    let first_number = number_given(values, "first-number")?;
+    match (first_text(values, "out"), levels, first_number) {
+        (None, levels, None) => Ok(CompactWork::Installed(levels)),
+        (Some(out), Levels::One(level), first_number) if !gives_installed(values) => {
+            Ok(CompactWork::Written {
+                level,
+                out,
+                first_number,
+            })
+        }
+        _ => Err(Unread::Rules),
+    }
+}
+
+/// Whether an option of a compaction that is installed is given.
+fn gives_installed(values: &ArgMatches<'_>) -> bool
+    ensures { result ≡ gives_installed (rows_of (found_of values.now)) }
+{
+    is_flagged(values, "clean") || is_flagged(values, "explain")
+}
+
+/// The levels that are asked for.
+fn levels_of(values: &ArgMatches<'_>) -> Result<Levels, Unread>
+    ensures { IfOk result (λ levels. HasLevels levels (rows_of (found_of values.now))) }
+{
+    let level = number_given(values, "level")?;
+    match (level, is_flagged(values, "all")) {
+        (Some(level), false) => Ok(Levels::One(level)),
+        (None, true) => Ok(Levels::All),
+        _ => Err(Unread::Rules),
+    }
 }
 
 /// The settings of a compaction. A number that isn't given has its default.
-fn settings_of<'a>(numbers: CompactNumbers, snapshots: Snapshots<'a>) -> Settings<'a>
-    ensures { (since : Option ℕ) → (listed : Option Text) → IsReadable since listed snapshots.entry
-        → AreSettings numbers since listed result }
+fn settings_of<'a>(
+    alloc: Global,
+    values: &ArgMatches<'_>,
+    listed: &'a mut Vec<u64>,
+) -> Result<Settings<'a>, Unread>
+    ensures { IfOk result (λ settings. HasSettings settings (rows_of (found_of values.now))) }
 {
     let defaults = Settings::default();
-    Settings {
-        workers: numbers.workers.unwrap_or(defaults.workers),
-        ranges: numbers.ranges.unwrap_or(defaults.ranges),
-        snapshots,
-        options: Options {
-            block_size: numbers.block_size.unwrap_or(defaults.options.block_size),
-            restart_interval: defaults.options.restart_interval,
-            file_size: numbers.file_size.unwrap_or(defaults.options.file_size),
-        },
-    }
+    let options = Options {
+        block_size: number_or(values, "block-size", defaults.options.block_size)?,
+        restart_interval: defaults.options.restart_interval,
+        file_size: number_or(values, "file-size", defaults.options.file_size)?,
+    };
+    Ok(Settings {
+        workers: number_or(values, "workers", defaults.workers)?,
+        ranges: number_or(values, "ranges", defaults.ranges)?,
+        snapshots: snapshots_of(alloc, values, listed)?,
+        options,
+    })
 }
 
-/// The line of `install`, in the same way.
+/// What is given to `install`, in the same way.
 pub(crate) fn install_line<'a>(
     alloc: Global,
-    texts: InstallTexts<'a>,
+    values: &ArgMatches<'a>,
     listed: &'a mut Vec<u64>,
-) -> Result<Line<'a>, Usage>
-    ensures { (words : List Text) → GivesRows words (codes "install")
-        (HasInstall texts.entry.folder.now texts.entry.out.now texts.entry.readable.since
-        (option_map (λ text. text.now) texts.entry.readable.listed) texts.entry.testing
-        texts.entry.cleans)
-        → LineGives words result }
+) -> Result<InstallLine<'a>, Unread>
+    ensures { IfOk result (λ line. HasInstall line (rows_of (found_of values.now))) }
 {
-    let snapshots = snapshots(alloc, texts.readable, listed)?;
-    Ok(Line::Install(InstallLine {
-        folder: texts.folder,
-        out: texts.out,
-        snapshots,
-        testing: texts.testing,
-        cleans: texts.cleans,
-    }))
+    let testing = testing_of(values)?;
+    if testing.is_skipped && gives_snapshots(values) {
+        return Err(Unread::Rules);
+    }
+    Ok(InstallLine {
+        folder: needed_text(values, "DIR")?,
+        out: needed_text(values, "OUT")?,
+        snapshots: snapshots_of(alloc, values, listed)?,
+        testing,
+        cleans: is_flagged(values, "clean"),
+    })
+}
+
+/// Whether snapshots are given.
+fn gives_snapshots(values: &ArgMatches<'_>) -> bool
+    ensures { result ≡ gives_snapshots (rows_of (found_of values.now)) }
+{
+    is_given(values, "snapshot") || is_given(values, "snapshots")
 }
 
 /// The sequences that stay readable, with the numbers of a list in `listed`.
-fn snapshots<'a>(
+fn snapshots_of<'a>(
     alloc: Global,
-    texts: ReadableTexts<'_>,
+    values: &ArgMatches<'_>,
     listed: &'a mut Vec<u64>,
-) -> Result<Snapshots<'a>, Usage>
-    ensures { IsReadableAnswer texts.entry.since (option_map (λ text. text.now) texts.entry.listed)
-        result }
+) -> Result<Snapshots<'a>, Unread>
+    ensures { IfOk result (λ snapshots. HasSnapshots snapshots (rows_of (found_of values.now))) }
 {
-    if let Some(sequence) = texts.since {
-        return Ok(Snapshots::From(sequence));
-    }
-    let Some(text) = texts.listed else {
-        return Ok(Snapshots::Listed(&[]));
-    };
-    match numbers_of(alloc, text)? {
-        Some(sequences) => {
-            *listed = sequences;
-            Ok(Snapshots::Listed(listed.as_slice()))
-        }
-        None => Err(Usage::Snapshots),
+    let since = number_given(values, "snapshot")?;
+    match (since, first_text(values, "snapshots")) {
+        (Some(sequence), None) => Ok(Snapshots::From(sequence)),
+        (None, None) => Ok(Snapshots::Listed(&[])),
+        (None, Some(text)) => match numbers_of(alloc, text)? {
+            Some(sequences) => {
+                *listed = sequences;
+                Ok(Snapshots::Listed(listed.as_slice()))
+            }
+            None => Err(Unread::Usage(Usage::Snapshots)),
+        },
+        (Some(_), Some(_)) => Err(Unread::Rules),
     }
 }
 
 /// The numbers of a text, with commas between them. None if one of them is no number, as
 /// the empty text.
 fn numbers_of(alloc: Global, text: &str) -> Result<Option<Vec<u64>>, AllocError>
-    ensures { IfOk result
-        (λ found. MatchOption found (IsNoNumberList text.now)
+    ensures { IfOk result (λ found. IfSome found
         (λ numbers. IsNumberList text.now numbers.items)) }
 {
     let numerals: Vec<&str> = text.split(',').collect(alloc)?;
@@ -117,8 +173,7 @@ fn numbers_of(alloc: Global, text: &str) -> Result<Option<Vec<u64>>, AllocError>
 
 /// The numbers of these texts. None if one of them is no number.
 fn numbers_in(alloc: Global, numerals: &[&str]) -> Result<Option<Vec<u64>>, AllocError>
-    ensures { IfOk result
-        (λ found. MatchOption found (All IsNumberText (map (λ n. n.now) numerals.now) → ⊥)
+    ensures { IfOk result (λ found. IfSome found
         (λ numbers. AreNumbers (map (λ n. n.now) numerals.now) numbers.items)) }
 {
     let mut numbers = Vec::with_capacity(alloc, numerals.len())?;

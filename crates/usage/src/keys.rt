@@ -1,24 +1,25 @@
 //! Keys, read from the texts of arguments and options in either spelling.
 
-ghost use Rattle.std.specs.Option.{option_map};
-ghost use Rattle.usage.specs.KeyParts.{IsBoundRead, IsKeyRead};
+ghost use Rattle.std.specs.Prelude.{◌≡◌, IfOk, Some, option_map};
+ghost use Rattle.texts.specs.Spelling.{bytes_of};
 
 use crate::requests::Usage;
+use crate::values::Unread;
 use std::alloc::Global;
 use texts::Spelling;
 
 /// The key of a text. Hexadecimal or Text, after its spelling, if it stands for no bytes.
-pub(crate) fn key_in(alloc: Global, spelling: Spelling, text: &str) -> Result<Vec<u8>, Usage>
-    ensures { IsKeyRead spelling text.now result }
+pub(crate) fn key_in(alloc: Global, spelling: Spelling, text: &str) -> Result<Vec<u8>, Unread>
+    ensures { IfOk result (λ key. bytes_of spelling text.now ≡ Some key.items) }
 {
     match spelling.bytes_of(alloc, text) {
         Ok(Some(key)) => Ok(key),
         Ok(None) => match spelling {
-            Spelling::Hexadecimal => Err(Usage::Hexadecimal),
-            Spelling::Text => Err(Usage::Text),
+            Spelling::Hexadecimal => Err(Unread::Usage(Usage::Hexadecimal)),
+            Spelling::Text => Err(Unread::Usage(Usage::Text)),
         },
         // The only fault of reading a key is out of memory.
-        Err(_) => Err(Usage::Memory),
+        Err(_) => Err(Unread::Usage(Usage::Memory)),
     }
 }
 
@@ -27,14 +28,12 @@ pub(crate) fn bound_in(
     alloc: Global,
     spelling: Spelling,
     text: Option<&str>,
-) -> Result<Option<Vec<u8>>, Usage>
-    ensures { IsBoundRead spelling (option_map (λ text. text.now) text.entry) result }
+) -> Result<Option<Vec<u8>>, Unread>
+    ensures { IfOk result (λ key. option_map (λ text. bytes_of spelling text.now) text.entry
+        ≡ option_map (λ key. Some key.items) key) }
 {
     match text {
-        Some(text) => match key_in(alloc, spelling, text) {
-            Ok(key) => Ok(Some(key)),
-            Err(usage) => Err(usage),
-        },
+        Some(text) => Ok(Some(key_in(alloc, spelling, text)?)),
         None => Ok(None),
     }
 }

@@ -1,25 +1,44 @@
 //! What the words of a command line ask for.
 //!
-//! [`line`] is the one call. It describes the commands to `clap`. It makes what `clap` reads a
-//! [`CommandLine`], the command with its values and how much is told of it, or a [`Usage`], why the
-//! words ask for nothing. What `clap` reads is stated as far as its own contracts say.
+//! [`line`] is the one call. It describes the commands to `clap`, and makes what `clap` reads a
+//! [`CommandLine`]: the command with its values, and how much is told of it. Or it answers a
+//! [`Usage`], why the words ask for nothing.
+//!
+//!     stats DIR [--text] [--json] [--memory MIB] [--no-lock]
+//!     verify DIR [--json | --all-faults] [--memory MIB] [--no-lock]
+//!     verify --table FILE [--json]
+//!     get DIR KEY [--at N] [--text] [--raw | --json] [--no-verify] [--memory MIB] [--no-lock]
+//!     scan DIR [--from KEY] [--to KEY] [--at N] [--limit N] [--keys] [--text] [--json]
+//!         [--no-verify] [--memory MIB] [--no-lock]
+//!     manifest DIR [--text] [--json] [--no-lock]
+//!     dump TABLE [--text]
+//!     compact DIR (--level N | --all) [options]
+//!     compact DIR --level N --out OUT [--first-number K] [options]
+//!     clean DIR [--dry-run]
+//!     job DIR --level N
+//!     install DIR OUT [--snapshot S | --snapshots S,S,..] [--no-verify] [--memory MIB] [--clean]
+//!     blocks A B --at HEXKEY OUT
+//!
+//! Each takes `-v` or `-q`, before its name or after it.
+//!
+//! What `clap` reads is stated as far as its own contracts say. They say most of commands in which
+//! no argument has a rule on another, so the words are read by such commands. Only if they make no
+//! line are they read again, by commands with these rules: then `clap` says which one they break.
+//! No contract says which texts of help there are.
 #![tactic(auto)]
 
-mod arguments;
+mod argument;
 mod command_line;
+mod commands;
 mod compact_line;
-mod compact_texts;
-mod complaint;
-mod exclusions;
-mod install_texts;
+mod descriptions;
+mod key_lines;
 mod keys;
-mod plain_line;
+mod lines;
 mod requests;
-mod scan_line;
-mod scan_texts;
-mod test_options;
+mod rule;
+mod values;
 mod verbosity;
-mod verify_line;
 
 pub use command_line::line;
 pub use requests::{

@@ -1,9 +1,5 @@
 //! What a command line asks for, or why it asks for nothing.
 
-ghost use Rattle.std.specs.Prelude.{◌≡◌};
-ghost use Rattle.usage.specs.Usage.{TurnsInto};
-ghost use Rattle.usage.specs.declared.requests.Usage.TheVariants.{Memory};
-
 use clap::error::ErrorKind;
 use keep::Snapshots;
 use settings::Settings;
@@ -303,16 +299,12 @@ pub enum Usage {
 }
 
 impl From<AllocError> for Usage {
-    ghost from_gives = { λ _ usage. usage ≡ Memory };
-
     fn from(_e: AllocError) -> Usage {
         Usage::Memory
     }
 }
 
 impl From<clap::Error> for Usage {
-    ghost from_gives = { TurnsInto };
-
     fn from(error: clap::Error) -> Usage {
         if error.kind() == ErrorKind::OutOfMemory {
             Usage::Memory

@@ -1,18 +1,10 @@
 use Rattle.std.proofs.Common.{map}
-use Rattle.usage.proofs.LineLemmas.{CommandLineGives-residual, LineGives-no_texts}
+use Rattle.clap.specs.Words.{app_of, found_of, rows_of, subcommand_rows_of}
+use Rattle.usage.proofs.LineLemmas.{CommandLineGives-parsed}
 use Rattle.usage.proofs.command_line.line.Goals as goal
 
-pub returns-in_err-asked : goal.returns-in_err-asked
-returns-in_err-asked g c =
-    let words = map g.S.AsStr.text c.args.words.now in
-    CommandLineGives-residual words _ c.from_residual.result c.from_residual.ensures (LineGives-no_texts words _ c.in_err-asked.ensures)
-
-pub returns-in_err-line : goal.returns-in_err-line
-returns-in_err-line g c =
-    let words = map g.S.AsStr.text c.args.words.now in
-    CommandLineGives-residual words _ c.from_residual-in_err-line.result c.from_residual-in_err-line.ensures (c.in_err-line.ensures words c.in_ok-asked.ensures.2)
-
-pub returns : goal.returns
-returns g c =
-    let words = map g.S.AsStr.text c.args.words.now in
-    (c.in_ok-asked.ensures.0, c.in_ok-asked.ensures.1, c.in_ok-line.ensures words c.in_ok-asked.ensures.2)
+pub returns-in-Ok : goal.returns-in-Ok
+returns-in-Ok g c =
+    let matches = c.in_ok-matches.matches in
+    CommandLineGives-parsed (app_of c.in_ok-command.command) (map g.S.AsStr.text c.args.words.now) (rows_of (found_of matches)) (subcommand_rows_of matches) c.in-Ok.line c.in_ok-command.ensures
+    c.in_ok-matches.ensures.kinds c.in_ok-matches.ensures.ok.2 c.in-Ok.ensures

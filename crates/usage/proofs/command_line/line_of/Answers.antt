@@ -1,20 +1,11 @@
-use Rattle.usage.proofs.LineLemmas.{given_as}
+use Rattle.std.proofs.Common.{◌∙◌}
+use Rattle.std.proofs.lemmas.Result.{IfOk-weaker}
+use Rattle.clap.specs.Words.{found_of, rows_of, subcommand_rows_of}
+use Rattle.usage.proofs.LineLemmas.{LineOf-met, subcommand_name_of-rows}
 use Rattle.usage.proofs.command_line.line_of.Goals as goal
 
-pub returns-in-Plain : goal.returns-in-Plain
-returns-in-Plain c = λ words gives. c.line.ensures words (given_as words _ _ c.in-Plain.is gives)
-
-pub returns-in-Blocks : goal.returns-in-Blocks
-returns-in-Blocks c = λ words gives. c.blocks_line.ensures words (given_as words _ _ c.in-Blocks.is gives)
-
-pub returns-in-Get : goal.returns-in-Get
-returns-in-Get c = λ words gives. c.get_line.ensures words (given_as words _ _ c.in-Get.is gives)
-
-pub returns-in-Scan : goal.returns-in-Scan
-returns-in-Scan c = λ words gives. c.scan_line.ensures words (given_as words _ _ c.in-Scan.is gives)
-
-pub returns-in-Compact : goal.returns-in-Compact
-returns-in-Compact c = λ words gives. c.compact_line.ensures words (given_as words _ _ c.in-Compact.is gives)
-
-pub returns-in-Install : goal.returns-in-Install
-returns-in-Install c = λ words gives. c.install_line.ensures words (given_as words _ _ c.in-Install.is gives)
+pub returns-in-Some : goal.returns-in-Some
+returns-in-Some c =
+    let m = c.args.matches.now in
+    IfOk-weaker c.line_in.result _ _
+    (λ asked h. LineOf-met (subcommand_rows_of m) c.in-Some.name.now (rows_of (found_of c.in-Some.values.now)) asked (c.in-Some.ensures.name ∙ subcommand_name_of-rows m) c.in-Some.ensures.rows h) c.line_in.ensures

@@ -1,8 +1,5 @@
-use Rattle.usage.proofs.NumberLists.{not_all, read_more}
+use Rattle.usage.proofs.NumberLists.{read_more}
 use Rattle.usage.proofs.compact_line.numbers_in.Goals as goal
-
-pub returns-in-None : goal.returns-in-None
-returns-in-None c = not_all c.args.numerals.now c.loop-numeral.numeral-index _ c.loop-numeral-test.true c.in-None.ensures
 
 pub loop-numeral-preserved : goal.loop-numeral-preserved
 loop-numeral-preserved c =

@@ -1,7 +1,0 @@
-use Rattle.std.proofs.Common.{ap, ◌∙◌}
-use Rattle.std.proofs.lemmas.Result.{IfOk-weaker}
-use Rattle.clap.specs.Simple.{app_of_fields}
-use Rattle.grammar.proofs.commands.command_alone.Goals as goal
-
-pub returns : goal.returns
-returns c = IfOk-weaker c.bin_name.result _ _ (λ command h. ap app_of_fields h.0 ∙ c.in_ok-command.ensures.0) c.bin_name.ensures

@@ -1,8 +1,0 @@
-use Rattle.std.proofs.Common.{◌≡◌}
-use Rattle.clap.specs.Words.{app_of}
-use Rattle.grammar.specs.Apps.{bare_app}
-use Rattle.grammar.proofs.CommandLemmas.{with_first}
-use Rattle.grammar.proofs.commands.program_command.Given as goal
-
-abbrev pub invariant-loop-name : goal.invariant-loop-name
-invariant-loop-name l = app_of l.command ≡ with_first bare_app l.name-items l.name-index

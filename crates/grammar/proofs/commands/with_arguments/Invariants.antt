@@ -1,5 +1,0 @@
-use Rattle.grammar.proofs.CommandLemmas.{HasFirst}
-use Rattle.grammar.proofs.commands.with_arguments.Given as goal
-
-abbrev pub invariant-loop-argument : goal.invariant-loop-argument
-invariant-loop-argument l = HasFirst l.arguments l.argument-index l.initial.command l.command

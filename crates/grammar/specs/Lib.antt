@@ -1,4 +1,0 @@
--- what contracts rest on
-pub mod Apps
--- serves proofs alone
-pub mod Commands

@@ -1,0 +1,98 @@
+-- The commands of the program and their arguments.
+use Rattle.std.specs.Prelude.{List, [], ◌∷◌, Some, codes, map, true}
+use Rattle.clap.specs.Words.{App, Rule, Text, new_app, new_rule, with_rule, with_subcommand}
+use Rattle.clap.specs.declared.builder.action.ArgAction.TheVariants.{SetTrue}
+use Rattle.clap.specs.declared.builder.value_parser.ValueParser.TheVariants as parser
+use Rattle.usage.specs.declared.descriptions.CommandName.{CommandName}
+use Rattle.usage.specs.declared.descriptions.CommandName.TheVariants.{Blocks, Clean, Compact, Dump}
+use Rattle.usage.specs.declared.descriptions.CommandName.TheVariants.{Get, Install, Job, Manifest}
+use Rattle.usage.specs.declared.descriptions.CommandName.TheVariants.{Scan, Stats, Verify}
+
+-- the rule, of an argument that must be given
+abbrev pub wanted : Rule → Rule
+wanted rule = record rule { required = true }
+
+-- a text that is given by its place, as DIR
+abbrev pub place_rule : Text → Rule
+place_rule id = wanted (new_rule id)
+
+-- a flag, as `--all`
+abbrev pub flag_rule : Text → Rule
+flag_rule id = record (new_rule id) { long = Some id; action = Some SetTrue }
+
+-- an option that takes a value, as `--from KEY`
+abbrev pub value_rule : Text → Rule
+value_rule id = record (new_rule id) { long = Some id; value_names = 1 }
+
+-- an option that takes a number of 64 bits, as `--at N`
+abbrev pub number_rule : Text → Rule
+number_rule id = record (value_rule id) { parser = Some (parser.Unsigned 0 18446744073709551615) }
+
+-- `--memory MIB`: 1 to 2^24
+abbrev pub memory_rule : Rule
+memory_rule = record (value_rule (codes "memory")) { parser = Some (parser.Unsigned 1 16777216) }
+
+-- the app with these arguments too, in their order
+abbrev pub with_rules : List Rule → App → App
+with_rules [] app = app
+with_rules (rule ∷ rules) app = with_rules rules (with_rule app rule)
+
+-- the app with `-v`, or `--verbose`, and with `-q`, or `--quiet`
+abbrev pub with_verbosity : App → App
+with_verbosity = with_rules (record (flag_rule (codes "verbose")) { short = Some 118 }
+    ∷ record (flag_rule (codes "quiet")) { short = Some 113 } ∷ [])
+
+-- a command with these arguments, and with `-v` and `-q`
+abbrev pub command_app : Text → List Rule → App
+command_app name rules = with_verbosity (with_rules rules (new_app name))
+
+-- the app with these commands too, in their order
+abbrev pub with_commands : List App → App → App
+with_commands [] app = app
+with_commands (command ∷ commands) app = with_commands commands (with_subcommand app command.top)
+
+-- the program without its commands: one must be given, and it tells its version
+abbrev pub bare_app : App
+bare_app = with_verbosity (let app = new_app (codes "sedvokt") in
+    record app { top = record app.top { has_version = true; subcommand_required = true } })
+
+-- the command of a name
+abbrev pub app_of_name : CommandName → App
+app_of_name Stats = command_app (codes "stats") (place_rule (codes "DIR") ∷ flag_rule (codes "text")
+    ∷ flag_rule (codes "json") ∷ memory_rule ∷ flag_rule (codes "no-lock") ∷ [])
+app_of_name Verify = command_app (codes "verify") (new_rule (codes "DIR")
+    ∷ value_rule (codes "table") ∷ flag_rule (codes "json") ∷ flag_rule (codes "all-faults")
+    ∷ memory_rule ∷ flag_rule (codes "no-lock") ∷ [])
+app_of_name Get = command_app (codes "get") (place_rule (codes "DIR") ∷ place_rule (codes "KEY")
+    ∷ number_rule (codes "at") ∷ flag_rule (codes "text") ∷ flag_rule (codes "raw")
+    ∷ flag_rule (codes "json") ∷ flag_rule (codes "no-verify") ∷ memory_rule
+    ∷ flag_rule (codes "no-lock") ∷ [])
+app_of_name Scan = command_app (codes "scan") (place_rule (codes "DIR") ∷ value_rule (codes "from")
+    ∷ value_rule (codes "to") ∷ number_rule (codes "at") ∷ number_rule (codes "limit")
+    ∷ flag_rule (codes "keys") ∷ flag_rule (codes "text") ∷ flag_rule (codes "json")
+    ∷ flag_rule (codes "no-verify") ∷ memory_rule ∷ flag_rule (codes "no-lock") ∷ [])
+app_of_name Manifest = command_app (codes "manifest") (place_rule (codes "DIR")
+    ∷ flag_rule (codes "text") ∷ flag_rule (codes "json") ∷ flag_rule (codes "no-lock") ∷ [])
+app_of_name Dump = command_app (codes "dump") (place_rule (codes "TABLE") ∷ flag_rule (codes "text")
+    ∷ [])
+app_of_name Compact = command_app (codes "compact") (place_rule (codes "DIR")
+    ∷ number_rule (codes "level") ∷ flag_rule (codes "all") ∷ value_rule (codes "out")
+    ∷ number_rule (codes "first-number") ∷ flag_rule (codes "no-verify") ∷ memory_rule
+    ∷ number_rule (codes "workers") ∷ number_rule (codes "ranges") ∷ flag_rule (codes "explain")
+    ∷ number_rule (codes "snapshot") ∷ value_rule (codes "snapshots")
+    ∷ number_rule (codes "block-size") ∷ number_rule (codes "file-size") ∷ flag_rule (codes "clean")
+    ∷ flag_rule (codes "json") ∷ [])
+app_of_name Clean = command_app (codes "clean") (place_rule (codes "DIR")
+    ∷ flag_rule (codes "dry-run") ∷ [])
+app_of_name Job = command_app (codes "job") (place_rule (codes "DIR")
+    ∷ wanted (number_rule (codes "level")) ∷ [])
+app_of_name Install = command_app (codes "install") (place_rule (codes "DIR")
+    ∷ place_rule (codes "OUT") ∷ number_rule (codes "snapshot") ∷ value_rule (codes "snapshots")
+    ∷ flag_rule (codes "no-verify") ∷ memory_rule ∷ flag_rule (codes "clean") ∷ [])
+app_of_name Blocks = command_app (codes "blocks") (place_rule (codes "A") ∷ place_rule (codes "B")
+    ∷ wanted (value_rule (codes "at")) ∷ place_rule (codes "OUT") ∷ [])
+
+-- the program with its commands
+abbrev pub program_app : App
+program_app = with_commands (map app_of_name (Stats ∷ Verify ∷ Get ∷ Scan ∷ Manifest ∷ Dump
+    ∷ Compact ∷ Clean ∷ Job ∷ Install ∷ Blocks ∷ [])) bare_app

@@ -1,0 +1,82 @@
+//! An argument of a command, as `clap` is told of it.
+
+ghost use Rattle.usage.specs.Apps.{flag_rule, number_rule, value_rule};
+ghost use Rattle.usage.specs.Commands.{IsArgument, rule_of_argument};
+
+use clap::builder::ValueParser;
+use clap::{Arg, ArgAction, value_parser};
+use std::alloc::Global;
+
+/// The most MiB of memory that may be asked for, 2^24.
+const MAX_MEMORY: u64 = 16_777_216;
+
+/// What help says of `--memory`.
+const MEMORY_HELP: &str =
+    "How many MiB of tables the test may hold:\n1 to 16777216; 128 if it is left out";
+
+/// An argument of a command. First comes its name, which for an option is the word after `--`. Last
+/// comes what help says of it.
+#[derive(Clone, Copy)]
+pub(crate) enum Argument<'a> {
+    /// A text that is given by its place.
+    Place(&'a str, &'a str),
+    /// The same, of a text that may be left out.
+    FreePlace(&'a str, &'a str),
+    /// An option without a value.
+    Flag(&'a str, &'a str),
+    /// The same, which may also be given as a hyphen and this letter.
+    ShortFlag(&'a str, char, &'a str),
+    /// An option with a text, which usage calls by the second name.
+    Value(&'a str, &'a str, &'a str),
+    /// The same, of one that must be given.
+    WantedValue(&'a str, &'a str, &'a str),
+    /// An option with a number of 64 bits, which usage calls by the second name.
+    Number(&'a str, &'a str, &'a str),
+    /// The same, of one that must be given.
+    WantedNumber(&'a str, &'a str, &'a str),
+    /// `--memory MIB`.
+    Memory,
+}
+
+/// The argument, for `clap`.
+pub(crate) fn arg_of<'a>(alloc: Global, argument: Argument<'a>) -> Arg<'a>
+    ensures { IsArgument (rule_of_argument argument.entry) result }
+{
+    match argument {
+        Argument::Place(id, help) => Arg::new(alloc, id).help(help).required(true),
+        Argument::FreePlace(id, help) => Arg::new(alloc, id).help(help),
+        Argument::Flag(id, help) => flag(alloc, id, help),
+        Argument::ShortFlag(id, letter, help) => flag(alloc, id, help).short(letter),
+        Argument::Value(id, name, help) => value(alloc, id, name, help),
+        Argument::WantedValue(id, name, help) => value(alloc, id, name, help).required(true),
+        Argument::Number(id, name, help) => number(alloc, id, name, help),
+        Argument::WantedNumber(id, name, help) => number(alloc, id, name, help).required(true),
+        Argument::Memory => value(alloc, "memory", "MIB", MEMORY_HELP).value_parser(
+            ValueParser::unsigned(1, MAX_MEMORY),
+        ),
+    }
+}
+
+/// A flag.
+fn flag<'a>(alloc: Global, id: &'a str, help: &'a str) -> Arg<'a>
+    ensures { IsArgument (flag_rule id.entry.now) result }
+{
+    Arg::new(alloc, id)
+        .long(id)
+        .action(ArgAction::SetTrue)
+        .help(help)
+}
+
+/// An option with a text.
+fn value<'a>(alloc: Global, id: &'a str, name: &'a str, help: &'a str) -> Arg<'a>
+    ensures { IsArgument (value_rule id.entry.now) result }
+{
+    Arg::new(alloc, id).long(id).value_name(name).help(help)
+}
+
+/// An option with a number of 64 bits.
+fn number<'a>(alloc: Global, id: &'a str, name: &'a str, help: &'a str) -> Arg<'a>
+    ensures { IsArgument (number_rule id.entry.now) result }
+{
+    value(alloc, id, name, help).value_parser(value_parser!(u64))
+}

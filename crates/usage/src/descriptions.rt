@@ -1,0 +1,405 @@
+//! What help says of each command, its arguments, and the rules that these have on each other.
+//! Lines of help have at most 80 columns: what an option says has at most 52 in a line. In examples
+//! DIR is the folder of any database, and 000005 the number of any table.
+
+use crate::argument::Argument;
+use crate::rule::Rule;
+
+/// A command as it is told to `clap`.
+#[derive(Clone, Copy)]
+pub(crate) struct Description<'a> {
+    /// Its name.
+    pub name: &'a str,
+    /// What it does and prints, in a line.
+    pub about: &'a str,
+    /// The form of what it prints, and examples, which are told after its help.
+    pub examples: &'a str,
+    /// Its arguments, in the order of its help. It has those of [`VERBOSITY`] too.
+    pub arguments: &'a [Argument<'a>],
+    /// Which of them exclude each other, and which need another one.
+    pub rules: &'a [Rule<'a>],
+}
+
+/// A command of the program.
+#[derive(Clone, Copy)]
+pub(crate) enum CommandName {
+    Stats,
+    Verify,
+    Get,
+    Scan,
+    Manifest,
+    Dump,
+    Compact,
+    Clean,
+    Job,
+    Install,
+    Blocks,
+}
+
+/// All commands, in the order of help: those that are wanted most come first.
+pub(crate) const COMMANDS: &[CommandName] = &[
+    CommandName::Stats,
+    CommandName::Verify,
+    CommandName::Get,
+    CommandName::Scan,
+    CommandName::Manifest,
+    CommandName::Dump,
+    CommandName::Compact,
+    CommandName::Clean,
+    CommandName::Job,
+    CommandName::Install,
+    CommandName::Blocks,
+];
+
+/// How much is told: the program and each of its commands have these two.
+pub(crate) const VERBOSITY: &[Argument<'static>] = &[
+    Argument::ShortFlag(
+        "verbose",
+        'v',
+        "Tells on standard error how long the work took",
+    ),
+    Argument::ShortFlag("quiet", 'q', "Tells on standard error only what is wrong"),
+];
+
+/// At most one of them is given.
+pub(crate) const VERBOSITY_RULES: &[Rule<'static>] = &[Rule::AtMostOne(
+    "verbosity",
+    &["verbose", "quiet"],
+)];
+
+const FOLDER: Argument<'static> = Argument::Place("DIR", "The folder of the database");
+
+const TEXT: Argument<'static> = Argument::Flag(
+    "text",
+    "Keys and values are text: printable ASCII, and \\xHH\nfor every other byte",
+);
+
+const JSON: Argument<'static> = Argument::Flag(
+    "json",
+    "Prints a JSON object a line, and tells a refusal as\n\
+        one too, after the line of its name",
+);
+
+const NO_VERIFY: Argument<'static> = Argument::Flag(
+    "no-verify",
+    "Takes the version for lawful and tests only what it\n\
+        reads: the version was verified before, and no other\n\
+        program changed it since",
+);
+
+const NO_LOCK: Argument<'static> = Argument::Flag(
+    "no-lock",
+    "Neither locks the folder nor looks whether another\n\
+        program has it open: for a copy, or one that must not\n\
+        be touched",
+);
+
+const SEQUENCE: Argument<'static> = Argument::Number(
+    "at",
+    "N",
+    "The sequence at which to read, in decimal digits;\nthe last one if it is left out",
+);
+
+const SNAPSHOT: Argument<'static> = Argument::Number(
+    "snapshot",
+    "S",
+    "The oldest snapshot: each get at this sequence or a\nlater one stays",
+);
+
+const SNAPSHOTS: Argument<'static> = Argument::Value(
+    "snapshots",
+    "S,S,..",
+    "The snapshots, as 3,7,9: each get at one of them\n\
+        stays, and at the last sequence or a later one",
+);
+
+const CLEANS: Argument<'static> = Argument::Flag(
+    "clean",
+    "Removes, after each installation, the files that the\nversion does not need any more",
+);
+
+const SNAPSHOT_RULE: Rule<'static> = Rule::AtMostOne("readable", &["snapshot", "snapshots"]);
+
+pub(crate) const STATS: Description<'static> = Description {
+    name: "stats",
+    about: "Prints the files, bytes and entries of each level",
+    examples: "Prints a table with a line a level, and the least and largest key of each.
+
+Examples: sedvokt stats DIR --text
+          sedvokt stats DIR --json",
+    arguments: &[FOLDER, TEXT, JSON, Argument::Memory, NO_LOCK],
+    rules: &[],
+};
+
+pub(crate) const VERIFY: Description<'static> = Description {
+    name: "verify",
+    about: "Tests a database, or one table, and prints that it is lawful",
+    examples: "Prints, as an example, lawful: 4 files, 596 entries
+
+Examples: sedvokt verify DIR
+          sedvokt verify DIR --all-faults
+          sedvokt verify --table DIR/000005.ldb",
+    arguments: &[
+        Argument::FreePlace("DIR", "The folder of the database, if no table is given"),
+        Argument::Value(
+            "table",
+            "FILE",
+            "A table's file, which is tested in place of a folder",
+        ),
+        JSON,
+        Argument::Flag(
+            "all-faults",
+            "Prints what is wrong with each file, and goes on",
+        ),
+        Argument::Memory,
+        NO_LOCK,
+    ],
+    rules: &[
+        Rule::One("tested", &["DIR", "table"]),
+        Rule::AtMostOne("form", &["json", "all-faults"]),
+        Rule::AtMostOne("table or faults", &["table", "all-faults"]),
+        Rule::AtMostOne("table or memory", &["table", "memory"]),
+        Rule::AtMostOne("table or lock", &["table", "no-lock"]),
+    ],
+};
+
+pub(crate) const GET: Description<'static> = Description {
+    name: "get",
+    about: "Prints the value of a key, or none",
+    examples: "Prints the value in a line; none if the key has no value.
+
+Examples: sedvokt get DIR k00001 --text
+          sedvokt get DIR 6b3030303031 --at 900
+          sedvokt get DIR k00001 --text --no-verify --raw
+          sedvokt get DIR k00001 --text --json",
+    arguments: &[
+        FOLDER,
+        Argument::Place(
+            "KEY",
+            "The user key: hexadecimal digits, or - for the empty key; text with\n--text",
+        ),
+        SEQUENCE,
+        TEXT,
+        Argument::Flag("raw", "Prints the bytes of the value, nothing around them"),
+        JSON,
+        NO_VERIFY,
+        Argument::Memory,
+        NO_LOCK,
+    ],
+    rules: &[Rule::AtMostOne("form", &["raw", "json"])],
+};
+
+pub(crate) const SCAN: Description<'static> = Description {
+    name: "scan",
+    about: "Prints the keys that have a value, in their order, with their values",
+    examples: "Prints a line a key: KEY VALUE
+
+Examples: sedvokt scan DIR --text --limit 10
+          sedvokt scan DIR --from k00001 --to k00005 --text
+          sedvokt scan DIR --from 6b3030303031 --at 900 --keys",
+    arguments: &[
+        FOLDER,
+        Argument::Value(
+            "from",
+            "KEY",
+            "The user key at which the scan begins: hexadecimal\n\
+                digits, or - for the empty key; text with --text",
+        ),
+        Argument::Value(
+            "to",
+            "KEY",
+            "The user key before which the scan ends, written in\nthe same way",
+        ),
+        SEQUENCE,
+        Argument::Number(
+            "limit",
+            "N",
+            "At most how many keys are printed, in decimal digits",
+        ),
+        Argument::Flag("keys", "Prints the keys alone"),
+        TEXT,
+        JSON,
+        NO_VERIFY,
+        Argument::Memory,
+        NO_LOCK,
+    ],
+    rules: &[],
+};
+
+pub(crate) const MANIFEST: Description<'static> = Description {
+    name: "manifest",
+    about: "Prints what the manifest says: numbers, and the files of each level",
+    examples: "Prints a line a number, and a line a file: file LEVEL NUMBER BYTES
+
+Examples: sedvokt manifest DIR
+          sedvokt manifest DIR --json --text",
+    arguments: &[FOLDER, TEXT, JSON, NO_LOCK],
+    rules: &[],
+};
+
+pub(crate) const DUMP: Description<'static> = Description {
+    name: "dump",
+    about: "Prints the entries of one table",
+    examples: "Prints a line an entry: KEY SEQUENCE put VALUE, or KEY SEQUENCE del
+
+Example: sedvokt dump DIR/000005.ldb --text",
+    arguments: &[Argument::Place("TABLE", "The file of the table"), TEXT],
+    rules: &[],
+};
+
+pub(crate) const COMPACT: Description<'static> = Description {
+    name: "compact",
+    about: "Compacts a level, or all, and prints which files are new and gone",
+    examples: "Prints a line a file: output NUMBER BYTES, or deleted LEVEL NUMBER; then the
+manifest that is installed.
+
+Examples: sedvokt compact DIR --level 0 --explain
+          sedvokt compact DIR --all --snapshots 900,1151 --clean
+          sedvokt compact DIR --level 0 --out OUT",
+    arguments: &[
+        FOLDER,
+        Argument::Number("level", "N", "The level: 0 to 5"),
+        Argument::Flag(
+            "all",
+            "All levels: each that has files, from 0 down, again\n\
+                and again until all files are at the deepest one",
+        ),
+        Argument::Value(
+            "out",
+            "OUT",
+            "An empty folder, or a new one, that gets the new\n\
+                tables and the version edit; DIR is only read",
+        ),
+        Argument::Number(
+            "first-number",
+            "K",
+            "The number of the first new table in OUT, above the\nversion's next file number",
+        ),
+        NO_VERIFY,
+        Argument::Memory,
+        Argument::Number(
+            "workers",
+            "W",
+            "How many workers carry it out: 1 to 64; 4 if it is\nleft out",
+        ),
+        Argument::Number(
+            "ranges",
+            "R",
+            "Into at most how many ranges of user keys it is\n\
+                split: 1 to 4096; 8 if it is left out",
+        ),
+        Argument::Flag(
+            "explain",
+            "Tells on standard error how each compaction went:\n\
+                inputs, ranges, what was kept and dropped, outputs",
+        ),
+        SNAPSHOT,
+        SNAPSHOTS,
+        Argument::Number(
+            "block-size",
+            "B",
+            "A data block ends with the entry that brings it to B\n\
+                bytes: 1 to 4194304; 4096 if it is left out",
+        ),
+        Argument::Number(
+            "file-size",
+            "F",
+            "A file ends with the entry that brings its blocks to\n\
+                F bytes: 1 to 1073741824; 2097152 if it is left out",
+        ),
+        CLEANS,
+        JSON,
+    ],
+    rules: &[
+        Rule::One("levels", &["level", "all"]),
+        Rule::AtMostOne("out or all", &["out", "all"]),
+        Rule::AtMostOne("out or clean", &["out", "clean"]),
+        Rule::AtMostOne("out or account", &["out", "explain"]),
+        // `clap` lets an option go without the one that it needs if something excludes that one.
+        Rule::Needs("number", "first-number", "out"),
+        Rule::AtMostOne("number or all", &["first-number", "all"]),
+        Rule::AtMostOne("number or clean", &["first-number", "clean"]),
+        Rule::AtMostOne("number or account", &["first-number", "explain"]),
+        SNAPSHOT_RULE,
+    ],
+};
+
+pub(crate) const CLEAN: Description<'static> = Description {
+    name: "clean",
+    about: "Removes the files that a database does not need; prints their names",
+    examples: "Prints a line a file: removed NAME BYTES, or removable NAME BYTES
+
+Examples: sedvokt clean DIR --dry-run
+          sedvokt clean DIR",
+    arguments: &[
+        FOLDER,
+        Argument::Flag(
+            "dry-run",
+            "Prints the names of these files, and removes none",
+        ),
+    ],
+    rules: &[],
+};
+
+pub(crate) const JOB: Description<'static> = Description {
+    name: "job",
+    about: "Prints the names of the files that a compaction would read",
+    examples: "Prints a line a name: those to copy for compact --out elsewhere.
+
+Example: sedvokt job DIR --level 0",
+    arguments: &[
+        FOLDER,
+        Argument::WantedNumber("level", "N", "The level: 0 to 5"),
+    ],
+    rules: &[],
+};
+
+pub(crate) const INSTALL: Description<'static> = Description {
+    name: "install",
+    about: "Installs what compact --out made of a database, and prints the same",
+    examples: "Prints what compact prints without --out.
+
+Example: sedvokt install DIR OUT
+It is for a database DIR and the folder OUT of the last example of compact.",
+    arguments: &[
+        FOLDER,
+        Argument::Place(
+            "OUT",
+            "The folder that compact --out made, with the new tables and the edit",
+        ),
+        SNAPSHOT,
+        SNAPSHOTS,
+        Argument::Flag(
+            "no-verify",
+            "Does not test whether the new tables keep what the\n\
+                inputs have: a program that is trusted wrote them",
+        ),
+        Argument::Memory,
+        CLEANS,
+    ],
+    rules: &[
+        SNAPSHOT_RULE,
+        Rule::AtMostOne("test or snapshot", &["no-verify", "snapshot"]),
+        Rule::AtMostOne("test or list", &["no-verify", "snapshots"]),
+    ],
+};
+
+pub(crate) const BLOCKS: Description<'static> = Description {
+    name: "blocks",
+    about: "Merges two blocks into one, and prints how much it has",
+    examples: "Prints, as an example, 2 entries, 34 bytes
+
+Example: sedvokt blocks A B --at - OUT",
+    arguments: &[
+        Argument::Place("A", "The first file: a block's contents, without trailer"),
+        Argument::Place("B", "The second file, of the same form"),
+        Argument::WantedValue(
+            "at",
+            "HEXKEY",
+            "The user key at which the second range begins:\n\
+                hexadecimal digits, or - for the empty key",
+        ),
+        Argument::Place("OUT", "The file that gets the block of all entries"),
+    ],
+    rules: &[],
+};

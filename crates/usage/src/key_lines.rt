@@ -1,0 +1,95 @@
+//! The lines of the commands that are given keys.
+
+ghost use Rattle.std.specs.Prelude.{◌≡◌, IfOk, Some};
+ghost use Rattle.clap.specs.Words.{found_of, rows_of};
+ghost use Rattle.texts.specs.Text.{bytes_of_text};
+ghost use Rattle.usage.specs.KeyLines.{HasBlocks, HasGet, HasRowOptions, HasScan};
+
+use crate::keys::{bound_in, key_in};
+use crate::requests::{BlocksLine, GetLine, RowOptions, ScanLine, Usage};
+use crate::values::{
+    Unread, first_text, is_flagged, needed_text, number_given, spelling_given, testing_of,
+};
+use clap::ArgMatches;
+use std::alloc::Global;
+use texts::{Spelling, key_of};
+
+/// What is given to `blocks`. Key if the text of its key is invalid.
+pub(crate) fn blocks_line<'a>(
+    alloc: Global,
+    values: &ArgMatches<'a>,
+) -> Result<BlocksLine<'a>, Unread>
+    ensures { IfOk result (λ line. HasBlocks line (rows_of (found_of values.now))) }
+{
+    Ok(BlocksLine {
+        a: needed_text(values, "A")?,
+        b: needed_text(values, "B")?,
+        at: block_key(alloc, needed_text(values, "at")?)?,
+        out: needed_text(values, "OUT")?,
+    })
+}
+
+/// The user key of a text of `blocks`. Key if the text is invalid.
+fn block_key(alloc: Global, text: &str) -> Result<Vec<u8>, Unread>
+    ensures { IfOk result (λ key. bytes_of_text text.now ≡ Some key.items) }
+{
+    match key_of(alloc, text) {
+        Ok(Some(key)) => Ok(key),
+        Ok(None) => Err(Unread::Usage(Usage::Key)),
+        // The only fault of reading a key is out of memory.
+        Err(_) => Err(Unread::Usage(Usage::Memory)),
+    }
+}
+
+/// What is given to `get`. Hexadecimal or Text if the text of its key stands for no bytes.
+pub(crate) fn get_line<'a>(alloc: Global, values: &ArgMatches<'a>) -> Result<GetLine<'a>, Unread>
+    ensures { IfOk result (λ line. HasGet line (rows_of (found_of values.now))) }
+{
+    let spelling = spelling_given(values);
+    let is_raw = is_flagged(values, "raw");
+    let is_json = is_flagged(values, "json");
+    if is_raw && is_json {
+        return Err(Unread::Rules);
+    }
+    Ok(GetLine {
+        folder: needed_text(values, "DIR")?,
+        key: key_in(alloc, spelling, needed_text(values, "KEY")?)?,
+        at: number_given(values, "at")?,
+        spelling,
+        is_raw,
+        is_json,
+        testing: testing_of(values)?,
+    })
+}
+
+/// What is given to `scan`. Hexadecimal or Text if the text of a key stands for no bytes.
+pub(crate) fn scan_line<'a>(alloc: Global, values: &ArgMatches<'a>) -> Result<ScanLine<'a>, Unread>
+    ensures { IfOk result (λ line. HasScan line (rows_of (found_of values.now))) }
+{
+    let spelling = spelling_given(values);
+    Ok(ScanLine {
+        folder: needed_text(values, "DIR")?,
+        rows: row_options(alloc, spelling, values)?,
+        spelling,
+        is_json: is_flagged(values, "json"),
+        testing: testing_of(values)?,
+    })
+}
+
+/// Which rows a scan prints.
+fn row_options(
+    alloc: Global,
+    spelling: Spelling,
+    values: &ArgMatches<'_>,
+) -> Result<RowOptions, Unread>
+    ensures { IfOk result
+        (λ options. HasRowOptions spelling options (rows_of (found_of values.now))) }
+{
+    Ok(RowOptions {
+        from: bound_in(alloc, spelling, first_text(values, "from"))?,
+        to: bound_in(alloc, spelling, first_text(values, "to"))?,
+        at: number_given(values, "at")?,
+        limit: number_given(values, "limit")?,
+        with_values: !is_flagged(values, "keys"),
+    })
+}

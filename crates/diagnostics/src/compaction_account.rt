@@ -4,7 +4,7 @@
 ghost use Rattle.folder.specs.Reports.{OnlyReads};
 
 use crate::table_file::table_file;
-use account::{Account, LevelInputs, Output, RangeEntries};
+use answers::{Account, LevelInputs, Output, RangeEntries};
 use coding::{Fault, FaultName};
 use edit::{FileMeta, LEVELS, Version};
 use folder::{Folder, Order};

@@ -1,9 +1,9 @@
 //! A folder in memory, asked by the calls that no command of the program makes.
 
 use crate::worked_bytes::{CURRENT_FIVE, MANIFEST, TABLE_U_TWICE};
+use answers::{Spelling, ValueForm, get_dir, manifest, verify};
 use board::Open;
 use coding::Fault;
-use commands::{Spelling, ValueForm, get_dir, manifest, verify};
 use folder::Shelf;
 use std::thread::Threads;
 

@@ -2,8 +2,8 @@
 
 use crate::refusals::{allow, forbid};
 use crate::worked_bytes::{A_AT_ONE, A_AT_TWO};
+use answers::status;
 use coding::{Fault, FaultName, crc32c, mask, read_u32_varint, read_u64_varint, unmask};
-use commands::status;
 use ikey::Kind::Put;
 use ikey::{Bytewise, Comparator, InternalKey, KeyBuf, Shortlex};
 use std::alloc::Global;

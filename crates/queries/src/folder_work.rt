@@ -1,9 +1,10 @@
 //! The work on a folder, from its path to what is printed.
 
 use crate::fault_printer::faults_printed;
-use commands::{Question, answer_opened, manifest_lines, test_opened};
+use answers::{
+    Question, answer_opened, json_line, lawful_json, manifest_lines, test_opened, version_json,
+};
 use folder::{Disk, Opened};
-use json_lines::{lawful_json, version_json};
 use session::{
     Host, OpenedFolder, ProgressLine, Refusal, Telling, begin_counted, begin_work, bytes_of,
     explained, locked_to_read, print_lines, refused_opened, sizes_tested, tell_time,
@@ -28,7 +29,8 @@ fn version_printed<R: Host>(
     let begun = telling.begin(rt);
     let opened = begin_work(rt, telling)?;
     let lines = if line.is_json {
-        version_json(rt.alloc(), line.spelling, opened.order, &opened.version)?
+        let object = version_json(rt.alloc(), line.spelling, opened.order, &opened.version)?;
+        json_line(rt.alloc(), &object)?.into_bytes()
     } else {
         manifest_lines(rt.alloc(), line.spelling, opened.order, &opened.version)?
     };
@@ -101,7 +103,8 @@ fn json_verdict<R: Host>(
         &work.opened,
         fault,
     ))?;
-    Ok(lawful_json(rt.alloc(), tested.files, tested.entries, work.logs)?)
+    let object = lawful_json(rt.alloc(), tested.files, tested.entries, work.logs)?;
+    Ok(json_line(rt.alloc(), &object)?)
 }
 
 /// What the version of a folder answers to a question.

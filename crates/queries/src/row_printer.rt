@@ -1,16 +1,14 @@
 //! The rows of a folder, from its path to what is printed.
 
+use answers::{Spelling, json_line, logs_json, push_row, push_row_json};
 use coding::Fault;
-use commands::push_row;
 use folder::{Disk, Opened};
-use json_lines::{logs_json, push_row_json};
 use scan::{RowChoice, RowTaker, scan_unverified, scan_version};
 use session::{
     Host, OpenedFolder, ProgressLine, Refusal, Telling, begin_counted, bytes_of, explained,
     locked_to_read, print_lines, refused_opened, sizes_tested, table_explained, tell_time,
 };
 use std::time::Clock;
-use texts::Spelling;
 use usage::{RowOptions, ScanLine, Testing};
 
 /// How many bytes of lines are written at once, or somewhat more.
@@ -70,7 +68,6 @@ fn rows_printed<R: Host>(
         },
         with_values: line.rows.with_values,
         lines: Vec::new(rt.alloc()),
-        room: Vec::new(rt.alloc()),
         refusal: None,
     };
     let scanned = scanned(
@@ -85,7 +82,8 @@ fn rows_printed<R: Host>(
     printer.end()?;
     scanned.map_err(|fault| refused_opened(rt, telling.folder, &folder, &work.opened, fault))?;
     if line.is_json && work.logs != Some(0) {
-        print_lines(rt, logs_json(rt.alloc(), work.logs)?.as_bytes())?;
+        let object = logs_json(rt.alloc(), work.logs)?;
+        print_lines(rt, json_line(rt.alloc(), &object)?.as_bytes())?;
     }
     Ok(())
 }
@@ -131,8 +129,6 @@ struct RowPrinter<'t, R> {
     with_values: bool,
     /// The lines that are not written yet.
     lines: Vec<u8>,
-    /// Room for a text.
-    room: Vec<u8>,
     /// Why a row could not be printed. No row comes after it.
     refusal: Option<Refusal>,
 }
@@ -143,7 +139,7 @@ impl<'t, R: Print + Eprint + Clock + AllocGlobal> RowPrinter<'t, R> {
         let value = if self.with_values { Some(value) } else { None };
         let spelling = self.form.spelling;
         if self.form.is_json {
-            push_row_json(&mut self.lines, &mut self.room, spelling, key, value)?;
+            push_row_json(self.rt.alloc(), &mut self.lines, spelling, key, value)?;
         } else {
             push_row(&mut self.lines, spelling, key, value)?;
         }

@@ -1,9 +1,8 @@
 //! The statistics of a folder, from its path to what is printed.
 
 use crate::listed_files::unneeded_files;
-use commands::stats_text;
+use answers::{json_line, stats_json, stats_text};
 use folder::{Disk, Opened};
-use json_lines::stats_json;
 use scan::{FileTotal, VersionStats, version_stats};
 use session::{
     Host, ProgressLine, Refusal, Telling, begin_work, bytes_of, explained, locked_to_read,
@@ -35,7 +34,8 @@ fn stats_printed<R: Host>(
     let unnamed = unneeded_counted(rt, telling.folder, &opened)?;
     let stats = version_counted(rt, telling, &opened, bytes_of(line.memory))?;
     let lines = if line.is_json {
-        stats_json(rt.alloc(), line.spelling, &stats, logs, unnamed)?
+        let object = stats_json(rt.alloc(), line.spelling, &stats, logs, unnamed)?;
+        json_line(rt.alloc(), &object)?.into_bytes()
     } else {
         stats_text(rt.alloc(), line.spelling, &stats, logs, unnamed)?
     };

@@ -1,9 +1,8 @@
 //! The work on the file of a table.
 
+use answers::{dump, json_line, table_entries, valid_json, verify_table};
 use coding::{Fault, FaultName};
-use commands::{dump, table_entries, verify_table};
 use folder::CURRENT;
-use json_lines::valid_json;
 use session::{Refusal, Words, print_lines, read_file, told};
 use std::alloc::Global;
 use std::rt::Files;
@@ -36,7 +35,8 @@ pub fn print_table_verdict<R: Files + Print + AllocGlobal>(
 /// The JSON line of a table.
 fn json_verdict<R: AllocGlobal>(rt: &R, bytes: &[u8]) -> Result<Vec<u8>, Fault> {
     let entries = table_entries(rt.alloc(), bytes)?;
-    Ok(valid_json(rt.alloc(), entries)?.into_bytes())
+    let object = valid_json(rt.alloc(), entries)?;
+    Ok(json_line(rt.alloc(), &object)?.into_bytes())
 }
 
 /// Prints the lines of a table's file, or refuses it.

@@ -1,15 +1,13 @@
 //! The value of a key in a folder, from its path to what is printed.
 
 use crate::folder_work::answered;
+use answers::{Question, Spelling, ValueForm, json_line, text_of, unverified_value, value_json};
 use coding::Fault;
-use commands::{Question, ValueForm, unverified_value};
 use folder::{Disk, Opened, SystemFiles};
-use json_lines::value_json;
 use session::{
     Host, OpenedFolder, Refusal, Telling, begin_counted, bytes_of, explained, locked_to_read,
     print_lines, refused_opened, sizes_tested, table_explained, tell_time,
 };
-use texts::{Spelling, text_of};
 use usage::GetLine;
 
 /// The line of a key without a value. No value has it as its hexadecimal digits.
@@ -131,8 +129,8 @@ fn print_value_answer<R: Host>(
     answer: Option<&[u8]>,
 ) -> Result<(), Refusal> {
     if let ValueOutput::Json(spelling) = ValueOutput::of(line) {
-        let line = value_json(rt.alloc(), spelling, &line.key, answer, work.logs)?;
-        print_lines(rt, &line)?;
+        let object = value_json(rt.alloc(), spelling, &line.key, answer, work.logs)?;
+        print_lines(rt, json_line(rt.alloc(), &object)?.as_bytes())?;
     } else {
         match answer {
             Some(bytes) => print_lines(rt, bytes)?,

@@ -6,6 +6,7 @@ use crate::refusal::{Refusal, RefusalText, told};
 use crate::replaced_folder::found_again;
 use crate::reporter::Telling;
 use crate::settings_refusal::settings_refusal;
+use answers::text_of;
 use coding::FaultName;
 use diagnostics::{Detail, RefusedFile, refused_file};
 use folder::{CURRENT, Disk, SystemFiles};
@@ -13,7 +14,6 @@ use settings::Settings;
 use std::alloc::Global;
 use std::io::ErrorKind;
 use std::{fs, io};
-use texts::text_of;
 use usage::Levels;
 
 /// The refusal of a command on a folder, with what is told of it: the first file that is refused

@@ -2,10 +2,10 @@
 
 use crate::reporter::{LONG, Telling};
 use crate::work_left::WorkLeft;
+use answers::progress_text;
 use board::Gate;
 use checks::{Watch, Work};
 use coding::Fault;
-use commands::progress_text;
 use std::sync::atomic::{AtomicBool, AtomicU64, Ordering};
 use std::time::{Clock, Instant};
 

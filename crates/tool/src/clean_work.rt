@@ -1,11 +1,11 @@
 //! The files of a folder that its version doesn't need, from its path to what is printed.
 
 use crate::version_sync::sync;
+use answers::{json_line, removed_json};
 use clean::{RemovalWatch, remove_obsolete};
 use coding::{Fault, FaultName};
 use edit::Version;
 use folder::{Disk, Opened, SystemFiles};
-use json_lines::removed_json;
 use queries::{UnneededFiles, unneeded_files};
 use session::{
     Host, Refusal, RefusalText, Telling, begin_work, explained, locked_to_change, locked_to_read,
@@ -137,7 +137,8 @@ impl<'t, R: Print + AllocGlobal> RemovalPrinter<'t, R> {
     fn print(&self, name: &str, length: u64) -> Result<(), Refusal> {
         let alloc = self.rt.alloc();
         if self.is_json {
-            return print_lines(self.rt, removed_json(alloc, name, length)?.as_bytes());
+            let line = json_line(alloc, &removed_json(alloc, name, length)?)?;
+            return print_lines(self.rt, line.as_bytes());
         }
         println!(self.rt; "removed {name} {length}").map_err(|error| Refusal::of_output(
             alloc, &error,

@@ -19,12 +19,13 @@ mod step_printer;
 mod version_sync;
 mod work_left;
 
-pub use commands::{Spelling, ValueForm, dump, get_dir, manifest, progress_text, status, verify};
+pub use answers::{
+    Spelling, ValueForm, dump, get_dir, key_of, manifest, progress_text, status, text_of, verify,
+};
 pub use folder::{Disk, Folder, FolderFault, Order, Shelf, load, open};
 pub use pairing::blocks;
 pub use program::run;
 pub use session::Host;
 pub use settings::Settings;
 pub use store::{bottom, compact_dir, next_level};
-pub use texts::{key_of, text_of};
 pub use usage::{Levels, Line, RowOptions, Usage, Verbosity, line};

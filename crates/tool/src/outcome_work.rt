@@ -3,10 +3,10 @@
 use crate::compaction_notes::note_of;
 use crate::out_folder::fill;
 use crate::step_printer::tell_step;
+use answers::{CompactionEnd, compaction_json, json_line};
 use coding::FaultName;
 use edit::VersionEdit;
 use folder::{Disk, Opened};
-use json_lines::{CompactionEnd, compaction_json};
 use session::{
     Host, ProgressLine, Refusal, RefusalText, Telling, Words, begin_work, bytes_of,
     compaction_explained, in_words, print_lines, refused_opened, sizes_tested, told,
@@ -76,7 +76,8 @@ fn outcome_printed<R: Print + AllocGlobal>(
     }
     let edit = VersionEdit::decode(rt.alloc(), &made.outcome.edit)?;
     let end = CompactionEnd::Written(EDIT);
-    print_lines(rt, &compaction_json(rt.alloc(), task.level, &edit, end)?)
+    let object = compaction_json(rt.alloc(), task.level, &edit, end)?;
+    print_lines(rt, json_line(rt.alloc(), &object)?.as_bytes())
 }
 
 /// The refusal that the lines of an outcome can't be written. It is in its folder by then.

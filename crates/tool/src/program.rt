@@ -6,9 +6,8 @@ use crate::install_work::install_compaction;
 use crate::job_printer::print_job;
 use crate::out_folder::{OutState, state_of};
 use crate::outcome_work::{OutcomeTask, write_compaction};
+use answers::{Told, refusal_json, status};
 use coding::{Fault, FaultName};
-use commands::status;
-use json_lines::{Told, refusal_json};
 use queries::{
     merge, print_rows, print_stats, print_table, print_table_verdict, print_value, print_verdict,
     print_version,

@@ -4,12 +4,11 @@ use crate::clean_work::clean_installed;
 use crate::compaction_notes::{CompactionNote, note_of, tell_made, tell_no_step, version_total};
 use crate::compaction_work::CompactionTask;
 use crate::work_left::work_left;
-use account::text;
+use answers::{CompactionEnd, account_text, compaction_json, json_line};
 use coding::{Fault, FaultName};
 use diagnostics::account_of;
 use edit::{Version, VersionEdit};
 use folder::{Disk, Opened, Order, SystemFiles};
-use json_lines::{CompactionEnd, compaction_json};
 use scan::FileTotal;
 use session::{
     Beginning, Host, ProgressLine, Refusal, Telling, Words, in_words, print_lines, tell_time, told,
@@ -194,7 +193,8 @@ pub(crate) fn print_step<R: Print + AllocGlobal>(
     }
     let edit = VersionEdit::decode(rt.alloc(), &step.edit)?;
     let end = CompactionEnd::Installed(before.next_file().unwrap_or(0));
-    print_lines(rt, &compaction_json(rt.alloc(), level, &edit, end)?)
+    let object = compaction_json(rt.alloc(), level, &edit, end)?;
+    print_lines(rt, json_line(rt.alloc(), &object)?.as_bytes())
 }
 
 /// Tells how long the compaction of a level took, if its beginning is known.
@@ -265,5 +265,5 @@ fn explanation<R: SystemFiles + AllocGlobal>(
         level,
         ranges,
     )?;
-    text(rt.alloc(), &account)
+    account_text(rt.alloc(), &account)
 }

@@ -1,2 +1,0 @@
-mod Largest
-mod Places

@@ -1,3 +1,0 @@
--- what contracts rest on
-pub mod Bars
-pub mod Lines

@@ -1,0 +1,14 @@
+use Rattle.std.proofs.Common.{◌≡◌, List, Result, Ok, sym, ap, subst}
+use Rattle.coding.specs.Answers.{EqualOrMemory, ◌>>=◌}
+use Rattle.coding.specs.declared.fault.Fault.{Fault}
+use Rattle.block.specs.EncodedEntry.{Entry}
+use Rattle.ikey.specs.Bytewise.{bytewise_cmp}
+use Rattle.table.specs.TableContents.{blocks_of, table_reading}
+use Rattle.answers.specs.Dump.{dump_lines}
+use Rattle.answers.proofs.TableLemmas.{from_contents}
+use Rattle.answers.proofs.table_dump.dump.Goals as goal
+
+pub returns : goal.returns
+returns c =
+    let read : table_reading bytewise_cmp c.args.bytes.now ≡ Ok c.in_ok-table.table.entries = from_contents (blocks_of bytewise_cmp c.args.bytes.now) c.args.bytes.now c.in_ok-table.table c.in_ok-table.ensures.exact in
+    subst (EqualOrMemory (λ lines. lines.items) c.lines_of.result) (sym (ap (λ (r : Result (List Entry) Fault). r >>= λ entries. Ok (dump_lines c.args.spelling entries)) read)) c.lines_of.ensures

@@ -1,0 +1,33 @@
+-- The lines of a dump.
+use Rattle.std.specs.Prelude.{ℕ, List, ◌++◌, codes, Result, Ok}
+use Rattle.std.specs.List.{flat_map}
+use Rattle.std.specs.Fmt.{decimal}
+use Rattle.coding.specs.Answers.{◌>>=◌}
+use Rattle.coding.specs.declared.fault.Fault.{Fault}
+use Rattle.block.specs.EncodedEntry.{Entry}
+use Rattle.ikey.specs.Bytewise.{bytewise_cmp}
+use Rattle.ikey.specs.Key.{user_of, sequence_of, kind_of}
+use Rattle.ikey.specs.declared.kind.Kind.{Kind}
+use Rattle.ikey.specs.declared.kind.Kind.TheVariants.{Delete, Put}
+use Rattle.table.specs.TableContents.{table_reading}
+use Rattle.answers.specs.Spelling.{key_text, value_text}
+use Rattle.answers.specs.declared.spelling.Spelling.{Spelling}
+
+-- what comes after the sequence: `put VALUE` or `del`, and a newline
+abbrev pub change_text : Spelling → Kind → List ℕ → List ℕ
+change_text spelling Put value = codes " put " ++ (value_text spelling value ++ codes "\n")
+change_text spelling Delete value = codes " del\n"
+
+-- `KEY SEQ put VALUE` or `KEY SEQ del`
+abbrev pub dump_line : Spelling → Entry → List ℕ
+dump_line spelling e = key_text spelling (user_of e.key) ++ (codes " "
+    ++ (decimal (sequence_of e.key) ++ change_text spelling (kind_of e.key) e.value))
+
+-- one line for each entry, in order
+abbrev pub dump_lines : Spelling → List Entry → List ℕ
+dump_lines spelling entries = flat_map (dump_line spelling) entries
+
+-- the lines of the entries of a table in bytewise order, or the first test that the bytes fail
+abbrev pub table_dump : Spelling → List ℕ → Result (List ℕ) Fault
+table_dump spelling bytes =
+    table_reading bytewise_cmp bytes >>= λ entries. Ok (dump_lines spelling entries)

@@ -1,0 +1,10 @@
+-- The line of a key, and of its value.
+use Rattle.std.specs.Prelude.{ℕ, List, ◌++◌, codes, Option, Some, None}
+use Rattle.answers.specs.Spelling.{key_text, value_text}
+use Rattle.answers.specs.declared.spelling.Spelling.{Spelling}
+
+-- `KEY VALUE`, or `KEY` without a value
+abbrev pub row_line : Spelling → List ℕ → Option (List ℕ) → List ℕ
+row_line spelling key None = key_text spelling key ++ codes "\n"
+row_line spelling key (Some value) =
+    key_text spelling key ++ (codes " " ++ (value_text spelling value ++ codes "\n"))

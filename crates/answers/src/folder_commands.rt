@@ -1,0 +1,174 @@
+//! The commands on a database folder, and what each answers of the version in it.
+
+ghost use Rattle.std.specs.Prelude.{Ok};
+ghost use Rattle.std.specs.Option.{option_map};
+ghost use Rattle.coding.specs.Answers.{EqualOrMemory};
+ghost use Rattle.folder.specs.Calls.{Files, Tells};
+ghost use Rattle.folder.specs.OpenAnswer.{FolderAnswers};
+ghost use Rattle.folder.specs.Orders.{order_cmp};
+ghost use Rattle.folder.specs.ReadsAs.{IsFileIn};
+ghost use Rattle.folder.specs.Reports.{OnlyReads, ReportsDevice};
+ghost use Rattle.answers.specs.FolderLines.{IsAnswerOfFolder, IsAnswerOfVersion};
+ghost use Rattle.answers.specs.FolderLines.{got_answer, verified_line};
+ghost use Rattle.answers.specs.VersionLines.{IsShown, version_lines};
+ghost use Rattle.answers.specs.Questions.{answer_to};
+
+use crate::question::{Question, ValueForm};
+use crate::spelling::Spelling;
+use crate::unverified_get::unverified_value;
+use crate::version_text::version_lines;
+use crate::version_verdict::{lawful_answer, lawful_line, test_opened};
+use checks::Watch;
+use coding::Fault;
+use edit::Version;
+use folder::{Folder, Order, ReadsTables, open};
+use ikey::{Bytewise, Shortlex};
+use std::alloc::Global;
+use std::thread::Threads;
+
+/// The lines that show a folder's version, each with its newline:
+///
+/// 1. `comparator NAME`, `log N`, `previous N`, `next N`, `last N`;
+/// 2. `pointer L KEY SEQ TYPE`, by level;
+/// 3. `file L NUMBER SIZE`, by level and in version order.
+///
+/// A key is in this spelling. A previous log number that was never set is 0. Refused as opening the
+/// folder is.
+pub fn manifest<F: Folder>(
+    alloc: Global,
+    spelling: Spelling,
+    folder: &mut F,
+) -> Result<Vec<u8>, Fault>
+    ensures answer { FolderAnswers (λ v. v.items) (F.failed folder.old) (F.failed folder.new) result
+        (IsShown spelling (F.tells folder.old)) }
+    ensures device { ReportsDevice F.Folder folder.old folder.new result }
+    ensures reads { OnlyReads F.Folder folder.old folder.new }
+{
+    let opened = open(alloc, folder)?;
+    manifest_lines(alloc, spelling, opened.order, &opened.version)
+}
+
+/// The lines of a `version` of this `order`: what [`manifest`] answers of a folder that is opened
+/// already. The only fault is Memory.
+pub fn manifest_lines(
+    alloc: Global,
+    spelling: Spelling,
+    order: Order,
+    version: &Version,
+) -> Result<Vec<u8>, Fault>
+    ensures { EqualOrMemory (λ v. v.items) result
+        (Ok (version_lines spelling order version.now)) }
+{
+    match order {
+        Order::Bytewise => version_lines::<Bytewise>(alloc, spelling, order, version),
+        Order::Shortlex => version_lines::<Shortlex>(alloc, spelling, order, version),
+    }
+}
+
+/// Checks the version that a folder holds, and answers the line `lawful: F files, E entries`: the
+/// number of its files, and of the entries in all their tables. It only reads.
+///
+/// The first that applies:
+///
+/// - what opening the folder is refused as;
+/// - Missing: at the first missing table, by level and in version order;
+/// - the first invalid table, as `table::check` refuses it;
+/// - Lawless: the version isn't lawful.
+///
+/// If the device fails a call, the answer is Device and no further call is made. If memory runs
+/// out, it is Memory. Four workers check the tables; the answer doesn't depend on which is first.
+/// At most `memory` bytes of tables are in memory at once, if no single user key needs more.
+///
+/// The work is told to `watch`, which is `&Open` if nobody watches.
+pub fn verify<F: ReadsTables, W: Watch + Sync, R: Threads + Sync>(
+    rt: &R,
+    alloc: Global,
+    folder: &mut F,
+    memory: u64,
+    watch: &W,
+) -> Result<Vec<u8>, Fault>
+    ensures answer { (files : Files) → Tells (F.tells folder.old) files →
+        FolderAnswers (λ v. v.items) (F.failed folder.old) (F.failed folder.new) result
+        (IsAnswerOfFolder (IsFileIn files) (λ _. verified_line)) }
+    ensures device { ReportsDevice F.Folder folder.old folder.new result }
+    ensures reads { OnlyReads F.Folder folder.old folder.new }
+{
+    let opened = open(alloc, folder)?;
+    let tested = test_opened(
+        rt,
+        alloc,
+        folder,
+        opened.order,
+        &opened.version,
+        memory,
+        watch,
+    )?;
+    lawful_line(alloc, tested)
+}
+
+/// What is printed of the value of a user `key` at a sequence, in the version that a folder holds.
+/// It only reads.
+///
+/// In the form `Line` that is the value's text, or `none` if the key has no value there. In the
+/// form `Raw` it is the value's bytes, and None if the key has no value.
+///
+/// The sequence `at` may be any number. If it isn't given, it is the version's last sequence.
+/// Refused as `verify` is, and told to `watch` in the same way.
+pub fn get_dir<F: ReadsTables, W: Watch + Sync, R: Threads + Sync>(
+    rt: &R,
+    alloc: Global,
+    folder: &mut F,
+    key: &[u8],
+    at: Option<u64>,
+    form: ValueForm,
+    memory: u64,
+    watch: &W,
+) -> Result<Option<Vec<u8>>, Fault>
+    ensures answer { (files : Files) → Tells (F.tells folder.old) files →
+        FolderAnswers (option_map (λ v. v.items)) (F.failed folder.old) (F.failed folder.new) result
+        (IsAnswerOfFolder (IsFileIn files) (got_answer form key.now at)) }
+    ensures device { ReportsDevice F.Folder folder.old folder.new result }
+    ensures reads { OnlyReads F.Folder folder.old folder.new }
+{
+    let opened = open(alloc, folder)?;
+    answer_opened(
+        rt,
+        alloc,
+        folder,
+        opened.order,
+        &opened.version,
+        Question::Value { key, at, form },
+        memory,
+        watch,
+    )
+}
+
+/// What is printed as the answer of a `version` of this `order`, with the tables in the folder: as
+/// [`verify`] and [`get_dir`] answer of a folder that is opened already. It only reads.
+///
+/// None only if a key has no value, and the question is of the form `Raw`.
+pub fn answer_opened<F: ReadsTables, W: Watch + Sync, R: Threads + Sync>(
+    rt: &R,
+    alloc: Global,
+    folder: &mut F,
+    order: Order,
+    version: &Version,
+    question: Question<'_>,
+    memory: u64,
+    watch: &W,
+) -> Result<Option<Vec<u8>>, Fault>
+    ensures answer { (files : Files) → Tells (F.tells folder.old) files →
+        FolderAnswers (option_map (λ v. v.items)) (F.failed folder.old) (F.failed folder.new) result
+        (IsAnswerOfVersion (IsFileIn files) (order_cmp order) version.now
+        (answer_to question.entry version.now)) }
+    ensures device { ReportsDevice F.Folder folder.old folder.new result }
+    ensures reads { OnlyReads F.Folder folder.old folder.new }
+{
+    let tested = test_opened(rt, alloc, folder, order, version, memory, watch)?;
+    match question {
+        Question::Lawful => lawful_answer(alloc, tested),
+        Question::Value { key, at, form } => {
+            unverified_value(alloc, folder, order, version, key, at, form)
+        }
+    }
+}

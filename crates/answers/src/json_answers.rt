@@ -1,0 +1,109 @@
+//! The JSON objects of a verdict, of a removed file, and of a value.
+
+ghost use Rattle.std.specs.Prelude.{Ok, option_map};
+ghost use Rattle.coding.specs.Answers.{EqualOrMemory};
+ghost use Rattle.coding.specs.Saturated.{saturated};
+ghost use Rattle.ikey.specs.Key.{user_of};
+ghost use Rattle.serde_json.specs.View.{view};
+ghost use Rattle.answers.specs.Objects.{key_data, lawful_object, logs_object, removed_object};
+ghost use Rattle.answers.specs.Objects.{valid_object, value_data, value_object};
+ghost use Rattle.answers.specs.Objects.{value_parts};
+
+use crate::json_text::capped;
+use crate::spelling::Spelling;
+use coding::Fault;
+use ikey::KeyBuf;
+use serde_json::{Value, json};
+use std::alloc::Global;
+
+/// The object `{"entries":E,"files":F,"lawful":true,"logs":N}` of a lawful version. So many `logs`
+/// have writes that are in no table: null if that isn't known. Of more than 2^64 - 1 entries that
+/// number stands. The only fault is Memory.
+pub fn lawful_json(
+    alloc: Global,
+    files: usize,
+    entries: u128,
+    logs: Option<u64>,
+) -> Result<Value, Fault>
+    ensures { EqualOrMemory view result (Ok (lawful_object files (saturated entries) logs)) }
+{
+    let entries = capped(entries);
+    Ok(json!(in alloc; {"entries": entries, "files": files, "lawful": true, "logs": logs})?)
+}
+
+/// The object `{"logs":N}` after rows: so many logs have writes that are in no table, null if that
+/// isn't known. The only fault is Memory.
+pub fn logs_json(alloc: Global, logs: Option<u64>) -> Result<Value, Fault>
+    ensures { EqualOrMemory view result (Ok (logs_object logs)) }
+{
+    Ok(json!(in alloc; {"logs": logs})?)
+}
+
+/// The object `{"bytes":B,"removed":NAME}` of a file that was removed. The only fault is Memory.
+pub fn removed_json(alloc: Global, name: &str, bytes: u64) -> Result<Value, Fault>
+    ensures { EqualOrMemory view result (Ok (removed_object name.now bytes)) }
+{
+    Ok(json!(in alloc; {"bytes": bytes, "removed": name})?)
+}
+
+/// The object `{"entries":E,"valid":true}` of a valid table. The only fault is Memory.
+pub fn valid_json(alloc: Global, entries: u64) -> Result<Value, Fault>
+    ensures { EqualOrMemory view result (Ok (valid_object entries)) }
+{
+    Ok(json!(in alloc; {"entries": entries, "valid": true})?)
+}
+
+/// The object `{"key":K,"logs":N,"value":V}` of a key and its value; `"value":null` if it has none.
+/// So many `logs` have writes that are in no table: null if that isn't known. The only fault is
+/// Memory.
+pub fn value_json(
+    alloc: Global,
+    spelling: Spelling,
+    key: &[u8],
+    value: Option<&[u8]>,
+    logs: Option<u64>,
+) -> Result<Value, Fault>
+    ensures { EqualOrMemory view result (Ok (value_object spelling key.now
+        (option_map (λ bytes. bytes.now) value.entry) logs)) }
+{
+    let key = key_json(alloc, spelling, key)?;
+    let value = text_or_null(alloc, spelling, value)?;
+    value_parts_json(alloc, key, logs, value)
+}
+
+/// The object of these parts. The only fault is Memory.
+fn value_parts_json(
+    alloc: Global,
+    key: Value,
+    logs: Option<u64>,
+    value: Value,
+) -> Result<Value, Fault>
+    ensures { EqualOrMemory view result (Ok (value_parts (view key) logs (view value))) }
+{
+    Ok(json!(in alloc; {"key": key, "logs": logs, "value": value})?)
+}
+
+/// A key as a JSON string. The only fault is Memory.
+fn key_json(alloc: Global, spelling: Spelling, key: &[u8]) -> Result<Value, Fault>
+    ensures { EqualOrMemory view result (Ok (key_data spelling key.now)) }
+{
+    Ok(Value::from(spelling.key_text(alloc, key)?))
+}
+
+/// The user key of an internal key as a JSON string. The only fault is Memory.
+pub(crate) fn user_json(alloc: Global, spelling: Spelling, key: &KeyBuf) -> Result<Value, Fault>
+    ensures { EqualOrMemory view result (Ok (key_data spelling (user_of key.now))) }
+{
+    key_json(alloc, spelling, key.as_key().user())
+}
+
+/// A value as a JSON string, null if there is none. The only fault is Memory.
+fn text_or_null(alloc: Global, spelling: Spelling, value: Option<&[u8]>) -> Result<Value, Fault>
+    ensures { EqualOrMemory view result
+        (Ok (value_data spelling (option_map (λ bytes. bytes.now) value.entry))) }
+{
+    match value {
+        Some(bytes) => Ok(Value::from(spelling.value_text(alloc, bytes)?)),
+        None => Ok(Value::Null),
+    }
+}

@@ -1,0 +1,68 @@
+//! The JSON line of one key of many.
+
+ghost use Rattle.std.specs.Prelude.{◌≡◌, ◌++◌, None, Ok, OnErr, OnOk, Some};
+ghost use Rattle.std.specs.Prelude.{IsOkUnless, option_map};
+ghost use Rattle.coding.specs.Answers.{EqualOrMemory, fault};
+ghost use Rattle.coding.specs.declared.fault.FaultName.TheVariants.{Memory};
+ghost use Rattle.serde_json.specs.View.{view};
+ghost use Rattle.answers.specs.Objects.{json_line, row_object};
+
+use crate::json_text::json_line;
+use crate::spelling::Spelling;
+use coding::Fault;
+use serde_json::{Value, json};
+use std::alloc::Global;
+
+/// Appends the line `{"key":K,"value":V}` of one key of many; `{"key":K}` if no value is given. The
+/// only fault is Memory, which leaves `lines` unchanged.
+#[tactic(auto, using(crate::proofs::JsonLemmas::row_has_no_float))]
+pub fn push_row_json(
+    alloc: Global,
+    lines: &mut Vec<u8>,
+    spelling: Spelling,
+    key: &[u8],
+    value: Option<&[u8]>,
+) -> Result<(), Fault>
+    ensures ok { OnOk result (lines.new.items ≡ lines.old.items ++ json_line (row_object spelling
+        key.now (option_map (λ bytes. bytes.now) value.entry))) }
+    ensures err { OnErr result (lines.new.items ≡ lines.old.items) }
+    ensures memory { IsOkUnless result (fault Memory) }
+{
+    let object = row_json(alloc, spelling, key, value)?;
+    let line = json_line(alloc, &object)?;
+    lines.extend_from_slice(line.as_bytes())?;
+    Ok(())
+}
+
+/// The object of that line. The only fault is Memory.
+fn row_json(
+    alloc: Global,
+    spelling: Spelling,
+    key: &[u8],
+    value: Option<&[u8]>,
+) -> Result<Value, Fault>
+    ensures { EqualOrMemory view result (Ok (row_object spelling key.now
+        (option_map (λ bytes. bytes.now) value.entry))) }
+{
+    match value {
+        Some(bytes) => pair_json(alloc, spelling, key, bytes),
+        None => lone_key_json(alloc, spelling, key),
+    }
+}
+
+/// The object of a key and its value. The only fault is Memory.
+fn pair_json(alloc: Global, spelling: Spelling, key: &[u8], value: &[u8]) -> Result<Value, Fault>
+    ensures { EqualOrMemory view result (Ok (row_object spelling key.now (Some value.now))) }
+{
+    let key = spelling.key_text(alloc, key)?;
+    let value = spelling.value_text(alloc, value)?;
+    Ok(json!(in alloc; {"key": key, "value": value})?)
+}
+
+/// The object of a key alone. The only fault is Memory.
+fn lone_key_json(alloc: Global, spelling: Spelling, key: &[u8]) -> Result<Value, Fault>
+    ensures { EqualOrMemory view result (Ok (row_object spelling key.now None)) }
+{
+    let key = spelling.key_text(alloc, key)?;
+    Ok(json!(in alloc; {"key": key})?)
+}

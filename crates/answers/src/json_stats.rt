@@ -1,0 +1,106 @@
+//! The JSON object of how much a version has.
+
+ghost use Rattle.std.specs.Prelude.{map, Ok};
+ghost use Rattle.coding.specs.Answers.{EqualOrMemory};
+ghost use Rattle.serde_json.specs.View.{items_view, view};
+ghost use Rattle.answers.specs.StatsObject.{level_object, level_parts, stats_object};
+ghost use Rattle.answers.specs.StatsObject.{stats_parts, total_object};
+
+use crate::json_answers::user_json;
+use crate::json_text::capped;
+use crate::spelling::Spelling;
+use coding::Fault;
+use scan::{FileTotal, LevelStats, VersionStats};
+use serde_json::{Value, json};
+use std::alloc::Global;
+
+/// The object of how much a version has, with these members:
+///
+/// - `"levels":[{"bytes":B,"deletions":N,"entries":N,"files":N,"hidden":N,"largest":K,"level":L,
+///   "smallest":K},..]`, by level;
+/// - `"logs":{"bytes":B,"files":N}`, and the same as `"unnamed"` for the files that no version
+///   names.
+///
+/// Keys are user keys. Of more than 2^64 - 1 entries that number stands. The only fault is Memory.
+pub fn stats_json(
+    alloc: Global,
+    spelling: Spelling,
+    stats: &VersionStats,
+    logs: FileTotal,
+    unnamed: FileTotal,
+) -> Result<Value, Fault>
+    ensures { EqualOrMemory view result
+        (Ok (stats_object spelling stats.now.levels.items logs unnamed)) }
+{
+    let levels = levels_json(alloc, spelling, &stats.levels)?;
+    let logs = total_json(alloc, logs)?;
+    let unnamed = total_json(alloc, unnamed)?;
+    stats_parts_json(alloc, levels, logs, unnamed)
+}
+
+/// The object of these parts.
+fn stats_parts_json(
+    alloc: Global,
+    levels: Vec<Value>,
+    logs: Value,
+    unnamed: Value,
+) -> Result<Value, Fault>
+    ensures { EqualOrMemory view result
+        (Ok (stats_parts (items_view levels.items) (view logs) (view unnamed))) }
+{
+    Ok(json!(in alloc; {"levels": levels, "logs": logs, "unnamed": unnamed})?)
+}
+
+/// The objects of levels.
+fn levels_json(
+    alloc: Global,
+    spelling: Spelling,
+    levels: &[LevelStats],
+) -> Result<Vec<Value>, Fault>
+    ensures { EqualOrMemory (λ v. map view v.items) result
+        (Ok (map (level_object spelling) levels.now)) }
+{
+    let mut values = Vec::new(alloc);
+    for level in levels {
+        values.push(level_json(alloc, spelling, level)?)?;
+    }
+    Ok(values)
+}
+
+/// The object of a level.
+fn level_json(alloc: Global, spelling: Spelling, stats: &LevelStats) -> Result<Value, Fault>
+    ensures { EqualOrMemory view result (Ok (level_object spelling stats.now)) }
+{
+    let largest = user_json(alloc, spelling, &stats.largest)?;
+    let smallest = user_json(alloc, spelling, &stats.smallest)?;
+    level_parts_json(alloc, stats, largest, smallest)
+}
+
+/// The object of these parts.
+fn level_parts_json(
+    alloc: Global,
+    stats: &LevelStats,
+    largest: Value,
+    smallest: Value,
+) -> Result<Value, Fault>
+    ensures { EqualOrMemory view result
+        (Ok (level_parts stats.now (view largest) (view smallest))) }
+{
+    Ok(json!(in alloc; {
+        "bytes": stats.amounts.bytes,
+        "deletions": capped(stats.amounts.deletions),
+        "entries": capped(stats.amounts.entries),
+        "files": stats.amounts.files,
+        "hidden": capped(stats.amounts.hidden),
+        "largest": largest,
+        "level": stats.level,
+        "smallest": smallest
+    })?)
+}
+
+/// The object of files that are counted.
+fn total_json(alloc: Global, total: FileTotal) -> Result<Value, Fault>
+    ensures { EqualOrMemory view result (Ok (total_object total)) }
+{
+    Ok(json!(in alloc; {"bytes": total.bytes, "files": total.files})?)
+}

@@ -1,0 +1,79 @@
+//! The lines and objects that are printed, and the calls behind the commands that only read.
+//!
+//! 1. [`manifest`], [`verify`] and [`get_dir`] open a folder and answer; [`manifest_lines`],
+//!    [`test_opened`] and [`answer_opened`] do the same for a folder that is opened already.
+//!    [`unverified_value`] answers a value without testing the version.
+//! 2. [`dump`] answers the lines of one table, [`verify_table`] tests one, [`push_row`] makes the
+//!    line of one key, [`value_answer`] what is printed of one value.
+//! 3. [`file_fault_line`], [`key_fault_line`] and [`fault_count_line`] are the lines of what is
+//!    wrong with a version.
+//! 4. The calls that end in `_json` make the JSON objects of answers, and [`json_line`] the line of
+//!    one: without blanks, and members by name. Keys and values are strings of their texts. Numbers
+//!    are decimal and exact, so a reader needs integers of 64 bits.
+//! 5. [`Spelling`] has the texts of keys and values, as hexadecimal digits or as characters;
+//!    [`text_of`], [`key_of`], [`bytes_of_escaped`] and [`number_of`] one way each.
+//!    [`texts_law`]: they read back. [`value_lines_law`] is the law of the line of a value.
+//! 6. [`stats_text`], [`account_text`] and [`progress_text`] are tables, bars and lines for people;
+//!    [`refusal_json`] tells of a refusal. No contract says what these hold: the cases of the
+//!    program compare them. [`status`] is the status of a refusal.
+//!
+//!     61 62    <->    `6162`   or `ab`        no bytes    <->    `-` or `""`
+//!     61 00    <->    `6100`   or `a\x00`     5c          <->    `5c` or `\x5c`
+//!
+//! No contract says which of these the program calls for a command.
+#![tactic(auto)]
+
+mod account;
+mod bars;
+mod counters;
+mod digits;
+mod escaped;
+mod exit_status;
+mod fault_lines;
+mod folder_commands;
+mod hex_text;
+mod json_answers;
+mod json_compaction;
+mod json_refusal;
+mod json_row;
+mod json_stats;
+mod json_text;
+mod json_version;
+mod leveled_files;
+mod progress;
+mod question;
+mod scan_row;
+mod spelling;
+mod stats_table;
+mod table_dump;
+mod table_verdict;
+mod unverified_get;
+mod value_forms;
+mod version_text;
+mod version_verdict;
+
+pub use account::{Account, LevelInputs, Output, RangeEntries, account_text};
+pub use board::Open;
+pub use checks::VersionTotals;
+pub use escaped::bytes_of_escaped;
+pub use exit_status::status;
+pub use fault_lines::{fault_count_line, file_fault_line, key_fault_line};
+pub use folder_commands::{answer_opened, get_dir, manifest, manifest_lines, verify};
+pub use hex_text::{key_of, number_of, text_of};
+pub use json_answers::{lawful_json, logs_json, removed_json, valid_json, value_json};
+pub use json_compaction::{CompactionEnd, compaction_json};
+pub use json_refusal::{Told, refusal_json};
+pub use json_row::push_row_json;
+pub use json_stats::stats_json;
+pub use json_text::json_line;
+pub use json_version::version_json;
+pub use progress::progress_text;
+pub use question::{Question, ValueForm};
+pub use scan_row::push_row;
+pub use spelling::{Spelling, texts_law};
+pub use stats_table::stats_text;
+pub use table_dump::dump;
+pub use table_verdict::{table_entries, verify_table};
+pub use unverified_get::unverified_value;
+pub use value_forms::{value_answer, value_lines_law};
+pub use version_verdict::test_opened;

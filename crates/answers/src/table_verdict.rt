@@ -1,0 +1,35 @@
+//! Testing a table, and the line of a valid one.
+
+ghost use Rattle.std.specs.Prelude.{Ok};
+ghost use Rattle.coding.specs.Answers.{EqualOrMemory};
+ghost use Rattle.answers.specs.FaultLines.{table_count, table_verdict, valid_line};
+
+use coding::Fault;
+use ikey::Bytewise;
+use std::alloc::Global;
+use table::check;
+
+/// The line `valid: E entries` of a table in bytewise order. An invalid table is refused as
+/// [`dump`](crate::dump) refuses it.
+pub fn verify_table(alloc: Global, bytes: &[u8]) -> Result<Vec<u8>, Fault>
+    ensures { EqualOrMemory (λ line. line.items) result (table_verdict bytes.now) }
+{
+    let count = table_entries(alloc, bytes)?;
+    valid_line(alloc, count)
+}
+
+/// How many entries a table in bytewise order has; 2^64 - 1 if it had more. An invalid table is
+/// refused by the first test that fails, as `table::check` refuses it.
+pub fn table_entries(alloc: Global, bytes: &[u8]) -> Result<u64, Fault>
+    ensures { EqualOrMemory (λ count. count) result (table_count bytes.now) }
+{
+    let table = check::<Bytewise>(alloc, bytes)?;
+    Ok(table.tally().entries)
+}
+
+/// The line `valid: E entries`. The only fault is Memory.
+fn valid_line(alloc: Global, entries: u64) -> Result<Vec<u8>, Fault>
+    ensures { EqualOrMemory (λ line. line.items) result (Ok (valid_line entries)) }
+{
+    Ok(format!(in alloc; "valid: {entries} entries\n")?.into_bytes())
+}

@@ -1,0 +1,78 @@
+//! What is printed of the value of a user key.
+
+ghost use Rattle.std.specs.Prelude.{Some, Ok, option_map, string_bytes};
+ghost use Rattle.coding.specs.Answers.{EqualOrMemory};
+ghost use Rattle.answers.specs.Escaped.{first_in_value};
+ghost use Rattle.answers.specs.Spelling.{ArePrintable, ReadBack};
+ghost use Rattle.answers.specs.ValueForms.{ValueLinesDiffer, lone_text, value_answer, value_line};
+ghost use Rattle.answers.specs.ValueForms.{value_line_text};
+
+use crate::question::ValueForm;
+use crate::spelling::Spelling;
+use coding::Fault;
+use std::alloc::Global;
+
+/// The line of a key without a value, but for its newline.
+const NONE: &str = "none";
+
+/// The text of the bytes that look like that line.
+const ESCAPED_NONE: &str = "\\x6eone";
+
+/// What is printed of a value, or of none, in a form; None if nothing is. The only fault is Memory.
+pub fn value_answer(
+    alloc: Global,
+    form: ValueForm,
+    value: Option<Vec<u8>>,
+) -> Result<Option<Vec<u8>>, Fault>
+    ensures { EqualOrMemory (option_map (λ bytes. bytes.items)) result
+        (Ok (value_answer form (option_map (λ bytes. bytes.items) value))) }
+{
+    match form {
+        ValueForm::Line(spelling) => Ok(Some(value_line(alloc, spelling, value)?)),
+        ValueForm::Raw => Ok(value),
+    }
+}
+
+/// The line of a value, or of none. The only fault is Memory.
+fn value_line(alloc: Global, spelling: Spelling, value: Option<Vec<u8>>) -> Result<Vec<u8>, Fault>
+    ensures { EqualOrMemory (λ line. line.items) result
+        (Ok (value_line spelling (option_map (λ bytes. bytes.items) value))) }
+{
+    match value {
+        Some(bytes) => line_of(alloc, spelling, bytes.as_slice()),
+        None => Ok(Vec::from_slice(alloc, b"none\n")?),
+    }
+}
+
+/// The line of a value. The only fault is Memory.
+fn line_of(alloc: Global, spelling: Spelling, value: &[u8]) -> Result<Vec<u8>, Fault>
+    ensures { EqualOrMemory (λ line. line.items) result
+        (Ok (value_line spelling (Some value.now))) }
+{
+    let mut line = lone_text(alloc, spelling, value)?.into_bytes();
+    line.push(b'\n')?;
+    Ok(line)
+}
+
+/// The text of a value on a line of its own. The only fault is Memory.
+fn lone_text(alloc: Global, spelling: Spelling, value: &[u8]) -> Result<String, Fault>
+    ensures { EqualOrMemory string_bytes result (Ok (lone_text spelling value.now)) }
+{
+    match spelling {
+        Spelling::Hexadecimal => spelling.value_text(alloc, value),
+        Spelling::Text => {
+            if value == NONE.as_bytes() {
+                return Ok(String::from_str(alloc, ESCAPED_NONE)?);
+            }
+            spelling.value_text(alloc, value)
+        }
+    }
+}
+
+/// The law of the line of a value, in either spelling. But for its newline it is printable ASCII
+/// and is read as this value. It is never the line of a key without a value. A call does nothing.
+pub fn value_lines_law()
+    ensures values { ReadBack value_line_text }
+    ensures characters { ArePrintable first_in_value value_line_text }
+    ensures none { ValueLinesDiffer }
+{}

@@ -1,7 +1,0 @@
-mod ShowingLemmas
-mod HeldTables
-mod UnverifiedLemmas
-mod FolderLineLemmas
-mod ValueLineLemmas
-mod TableLemmas
-mod StatsLines

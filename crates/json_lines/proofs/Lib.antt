@@ -1,3 +1,0 @@
-mod ObjectTextLemmas
-mod QuotedLemmas
-mod StatsLemmas

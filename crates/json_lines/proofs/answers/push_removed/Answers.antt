@@ -1,8 +1,0 @@
-use Rattle.std.proofs.Common.{List, ℕ, string_bytes, sym, ap, ◌∙◌, ◌++◌}
-use Rattle.coding.proofs.Binds.{ok_is}
-use Rattle.json_lines.proofs.ObjectTextLemmas.{removed_pieces}
-use Rattle.json_lines.proofs.answers.push_removed.Goals as goal
-
-pub returns-clause-ok : goal.returns-clause-ok
-returns-clause-ok c =
-    c.in_ok-writeln.ensures.bytes ∙ ap (λ (t : List ℕ). string_bytes c.args.line.now ++ t) (removed_pieces c.args.name.now c.args.bytes (string_bytes c.in_ok-name.name) (sym (ok_is _ _ c.in_ok-name.ensures)))

@@ -1,8 +1,0 @@
--- what contracts rest on
-pub mod Objects
-pub mod VersionObject
-pub mod CompactionObject
-pub mod StatsObject
--- what serves proofs alone
-pub mod ObjectTexts
-pub mod StatsTexts

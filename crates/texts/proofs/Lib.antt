@@ -1,6 +1,0 @@
-mod DigitLemmas
-mod EscapedLemmas
-mod PrintableLemmas
-mod TextLemmas
-pub mod Appended
-pub mod SpellingLemmas

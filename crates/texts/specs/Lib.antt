@@ -1,4 +1,0 @@
--- what contracts rest on
-pub mod Text
-pub mod Escaped
-pub mod Spelling

@@ -10,3 +10,4 @@ pub mod LaidTables
 pub mod EditedVersion
 pub mod SortedMembers
 pub mod KeptReads
+pub mod AdoptionCalls

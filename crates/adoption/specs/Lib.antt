@@ -3,6 +3,7 @@ pub mod EditFit
 pub mod KeptEntries
 pub mod Adoption
 pub mod AdoptionLeft
+pub mod AdoptionRuns
 pub mod BothFolders
 -- serves proofs alone
 pub mod AdoptionIn

@@ -10,6 +10,7 @@ use Rattle.store.specs.Compaction.{IsUnchanged}
 use Rattle.adoption.specs.Adoption.{Adoption}
 use Rattle.adoption.specs.declared.comparison.Comparison.{Comparison}
 use Rattle.adoption.specs.AdoptionLeft.{AdoptedVersion, IsInstallation, IsOutcomeInstalled}
+use Rattle.adoption.specs.AdoptionRuns.{AreAdoptionCalls}
 
 -- what is left after the test of outputs: the folder is unchanged, or the outcome was installed,
 -- and the edited version is what it should be
@@ -29,3 +30,10 @@ abbrev pub IsOutcomeLeft : Order → KeyOrder → State → List (ℕ × List �
 IsOutcomeLeft order cmp v loaded given comparison before after old new result =
     IsUnchanged before after old new result
     ⊎ IsOutcomeInstalled order cmp v loaded given comparison before after old new result
+
+-- no call that writes was made; or this outcome was installed
+abbrev pub IsGivenRun : List ℕ → KeyOrder → State → Adoption × List (ℕ × List ℕ) → List Step →
+    List Step → ToldFiles → ToldFiles → Result (Vec ℕ) Fault → Type 0
+IsGivenRun name cmp v given before after old new result =
+    IsUnchanged before after old new result
+    ⊎ AreAdoptionCalls name cmp v given before after old new result

@@ -18,8 +18,9 @@ ghost use Rattle.adoption.specs.AdoptedOutcome.{IsAdopted};
 ghost use Rattle.adoption.specs.Adoption.{IsInstalledFrom};
 ghost use Rattle.adoption.specs.AdoptionIn.{given_in};
 ghost use Rattle.adoption.specs.AdoptionLeft.{IsAdoptionLeft, IsInstallation};
+ghost use Rattle.adoption.specs.AdoptionRuns.{IsAdoptionRun};
 ghost use Rattle.adoption.specs.OutcomeLeft.{IsOutcomeLeft};
-ghost use Rattle.adoption.specs.OutcomeLeft.{IsTestedLeft};
+ghost use Rattle.adoption.specs.OutcomeLeft.{IsGivenRun, IsTestedLeft};
 ghost use Rattle.adoption.specs.BothFolders.{AnswersFrom, ReportsEither};
 
 use crate::adoption_end::AdoptionEnd;
@@ -108,6 +109,11 @@ pub fn install_outcome<F: Folder + Drop, G: Folder, W: Watch + Sync, R: Threads 
         IsAdoptionLeft opened.now.order (order_cmp opened.now.order) opened.now.version loaded
         given comparison.entry (F.calls folder) (F.calls result.folder)
         (F.tells folder) (F.tells result.folder) result.answer }
+    // Of any folders, also those that tell nothing: no call that writes was made; or an outcome was
+    // read, and the calls are those that install it, in their order, up to one that fails.
+    ensures runs { IsAdoptionRun (order_name opened.now.order) (order_cmp opened.now.order)
+        (G.tells source.old) opened.now.version (F.calls folder) (F.calls result.folder)
+        (F.tells folder) (F.tells result.folder) result.answer }
     // If CURRENT is another one, the answer is never Ok.
     ensures other { IsOkOnlyIfCurrent (F.tells folder) opened.now.manifest result.answer }
     ensures device { ReportsEither F.Folder G.Folder folder result.folder source.old
@@ -155,6 +161,9 @@ fn install_from<
         IsAdoptionLeft order C.cmp opened.now.version loaded given comparison.entry
         (F.calls folder) (F.calls result.folder) (F.tells folder)
         (F.tells result.folder) result.answer }
+    ensures runs { IsAdoptionRun C.name_bytes C.cmp (G.tells source.old) opened.now.version
+        (F.calls folder) (F.calls result.folder) (F.tells folder) (F.tells result.folder)
+        result.answer }
     ensures other { IsOkOnlyIfCurrent (F.tells folder) opened.now.manifest result.answer }
     ensures device { ReportsEither F.Folder G.Folder folder result.folder source.old
         source.new result.answer }
@@ -200,6 +209,9 @@ fn install_given<
         IsOutcomeLeft order C.cmp opened.now.version loaded (given_in given.now) comparison.entry
         (F.calls folder) (F.calls result.folder) (F.tells folder)
         (F.tells result.folder) result.answer }
+    ensures runs { IsGivenRun C.name_bytes C.cmp opened.now.version (given_in given.now)
+        (F.calls folder) (F.calls result.folder) (F.tells folder) (F.tells result.folder)
+        result.answer }
     ensures other { IsOkOnlyIfCurrent (F.tells folder) opened.now.manifest result.answer }
     ensures device { ReportsDevice F.Folder folder result.folder result.answer }
 {
@@ -241,6 +253,9 @@ fn install_tested<
         IsTestedLeft order C.cmp opened.now.version loaded (given_in given.now)
         (F.calls folder) (F.calls result.folder) (F.tells folder)
         (F.tells result.folder) result.answer }
+    ensures runs { IsGivenRun C.name_bytes C.cmp opened.now.version (given_in given.now)
+        (F.calls folder) (F.calls result.folder) (F.tells folder) (F.tells result.folder)
+        result.answer }
     ensures other { IsOkOnlyIfCurrent (F.tells folder) opened.now.manifest result.answer }
     ensures device { ReportsDevice F.Folder folder result.folder result.answer }
 {
@@ -281,6 +296,8 @@ fn install_lines<C: Comparator, F: Folder, R: Threads + Sync>(
         IsUnchanged (F.calls folder.old) (F.calls folder.new) (F.tells folder.old)
         (F.tells folder.new) result
         ⊎ IsInstallation C.cmp order opened.now.version loaded (given_in given.now)
+        (F.calls folder.old) (F.calls folder.new) (F.tells folder.old) (F.tells folder.new) result }
+    ensures runs { IsGivenRun C.name_bytes C.cmp opened.now.version (given_in given.now)
         (F.calls folder.old) (F.calls folder.new) (F.tells folder.old) (F.tells folder.new) result }
     ensures other { IsOkOnlyIfCurrent (F.tells folder.old) opened.now.manifest result }
     ensures device { ReportsDevice F.Folder folder.old folder.new result }

@@ -1,6 +1,6 @@
 //! The JSON object of how much a version has.
 
-ghost use Rattle.std.specs.Prelude.{map, Ok};
+ghost use Rattle.std.specs.Prelude.{◌≡◌, map, IfOk, Ok};
 ghost use Rattle.coding.specs.Answers.{EqualOrMemory};
 ghost use Rattle.serde_json.specs.View.{items_view, view};
 ghost use Rattle.answers.specs.StatsObject.{level_object, level_parts, stats_object};
@@ -12,7 +12,7 @@ use crate::spelling::Spelling;
 use coding::Fault;
 use scan::{FileTotal, LevelStats, VersionStats};
 use serde_json::{Value, json};
-use std::alloc::Global;
+use std::alloc::{AllocError, Global};
 
 /// The object of how much a version has, with these members:
 ///
@@ -73,7 +73,8 @@ fn level_json(alloc: Global, spelling: Spelling, stats: &LevelStats) -> Result<V
 {
     let largest = user_json(alloc, spelling, &stats.largest)?;
     let smallest = user_json(alloc, spelling, &stats.smallest)?;
-    level_parts_json(alloc, stats, largest, smallest)
+    let object = level_parts_json(alloc, stats, largest, smallest)?;
+    Ok(object)
 }
 
 /// The object of these parts.
@@ -82,11 +83,11 @@ fn level_parts_json(
     stats: &LevelStats,
     largest: Value,
     smallest: Value,
-) -> Result<Value, Fault>
-    ensures { EqualOrMemory view result
-        (Ok (level_parts stats.now (view largest) (view smallest))) }
+) -> Result<Value, AllocError>
+    ensures { IfOk result
+        (λ v. view v ≡ level_parts stats.now (view largest) (view smallest)) }
 {
-    Ok(json!(in alloc; {
+    json!(in alloc; {
         "bytes": stats.amounts.bytes,
         "deletions": capped(stats.amounts.deletions),
         "entries": capped(stats.amounts.entries),
@@ -95,7 +96,7 @@ fn level_parts_json(
         "largest": largest,
         "level": stats.level,
         "smallest": smallest
-    })?)
+    })
 }
 
 /// The object of files that are counted.

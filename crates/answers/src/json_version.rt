@@ -1,6 +1,6 @@
 //! The JSON object of a version.
 
-ghost use Rattle.std.specs.Prelude.{◌≡◌, [], ◌∷◌, ◌++◌, ◌≤◌, map, IfErr, Ok, OnOk};
+ghost use Rattle.std.specs.Prelude.{◌≡◌, [], ◌∷◌, ◌++◌, ◌≤◌, map, IfErr, IfOk, Ok, OnOk};
 ghost use Rattle.coding.specs.Answers.{EqualOrMemory, fault};
 ghost use Rattle.coding.specs.declared.fault.FaultName.TheVariants.{Memory};
 ghost use Rattle.edit.specs.declared.meta.TheConstants.{LAST_LEVEL};
@@ -20,7 +20,7 @@ use edit::{FileMeta, LEVELS, Version};
 use folder::Order;
 use ikey::{Bytewise, Comparator, KeyBuf, Shortlex};
 use serde_json::{Value, json};
-use std::alloc::Global;
+use std::alloc::{AllocError, Global};
 
 /// The object of a `version` of this `order`, with these members:
 ///
@@ -72,7 +72,8 @@ fn head_json(
 {
     let name = order.name();
     let counters = Counters::of(version);
-    counters_json(alloc, name, counters, files, pointers)
+    let object = counters_json(alloc, name, counters, files, pointers)?;
+    Ok(object)
 }
 
 /// The same of a comparator's name and of counters.
@@ -82,11 +83,11 @@ fn counters_json(
     counters: Counters,
     files: Vec<Value>,
     pointers: Vec<Value>,
-) -> Result<Value, Fault>
-    ensures { EqualOrMemory view result (Ok (counters_object name.now counters
-        (items_view files.items) (items_view pointers.items))) }
+) -> Result<Value, AllocError>
+    ensures { IfOk result (λ v. view v ≡ counters_object name.now counters
+        (items_view files.items) (items_view pointers.items)) }
 {
-    Ok(json!(in alloc; {
+    json!(in alloc; {
         "comparator": name,
         "files": files,
         "last": counters.last,
@@ -94,7 +95,7 @@ fn counters_json(
         "next": counters.next,
         "pointers": pointers,
         "previous": counters.previous
-    })?)
+    })
 }
 
 /// The objects of files, each with its level.
@@ -119,7 +120,8 @@ fn file_json(alloc: Global, spelling: Spelling, level: u64, file: &FileMeta) -> 
 {
     let smallest = user_json(alloc, spelling, &file.smallest)?;
     let largest = user_json(alloc, spelling, &file.largest)?;
-    file_parts_json(alloc, level, file, largest, smallest)
+    let object = file_parts_json(alloc, level, file, largest, smallest)?;
+    Ok(object)
 }
 
 /// The object of these parts.
@@ -129,17 +131,17 @@ fn file_parts_json(
     file: &FileMeta,
     largest: Value,
     smallest: Value,
-) -> Result<Value, Fault>
-    ensures { EqualOrMemory view result
-        (Ok (file_parts level file.now (view largest) (view smallest))) }
+) -> Result<Value, AllocError>
+    ensures { IfOk result
+        (λ v. view v ≡ file_parts level file.now (view largest) (view smallest)) }
 {
-    Ok(json!(in alloc; {
+    json!(in alloc; {
         "largest": largest,
         "level": level,
         "number": file.number,
         "size": file.size,
         "smallest": smallest
-    })?)
+    })
 }
 
 /// The objects of the compact pointers, by level.

@@ -23,6 +23,7 @@ mod LawfulInputs
 pub mod InstallPart
 mod StepPart
 mod PlannedPart
+pub mod RunPart
 mod NamesThere
 mod Runs
 mod WholeOutcomes
@@ -32,3 +33,4 @@ mod StepsTaken
 mod Chains
 mod Descending
 mod DescendingSince
+mod LevelRuns

@@ -41,3 +41,7 @@ answer_as tell answered = answered >>= λ a. Ok (tell a)
 -- no refusal of a compaction is Device
 abbrev pub NeverDevice : Result Answer Fault → Type 0
 NeverDevice answered = (e : Fault) → answered ≡ Err e → e.name ≢ Device
+
+-- it is the value of this answer, and these are the lines that tell it
+abbrev pub IsAnsweredBy : Result Answer Fault → (Answer → List ℕ) → Answer → List ℕ → Type 0
+IsAnsweredBy answered tell answer lines = (answered ≡ Ok answer) × (lines ≡ tell answer)

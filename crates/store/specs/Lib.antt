@@ -6,10 +6,12 @@ pub mod InputsCompaction
 pub mod VersionSync
 pub mod Compaction
 pub mod StepLeft
+pub mod Runs
 pub mod OpenedAfter
 pub mod JointLaws
 pub mod Descent
 pub mod AllLevels
+pub mod LevelRuns
 pub mod Outcome
 pub mod WholeOutcome
 pub mod FilesToCompact

@@ -13,6 +13,8 @@ use Rattle.folder.specs.declared.order.Order.{Order}
 use Rattle.settings.specs.declared.settings.Settings.{Settings}
 use Rattle.store.specs.Answers.{IsLoadedCompacted}
 use Rattle.store.specs.FolderRequest.{manifest_of}
+use Rattle.store.specs.LevelRuns.{IsLevelBegun}
+use Rattle.store.specs.OpenedAfter.{IsOpenedAfter}
 use Rattle.store.specs.StepLeft.{IsStepInstalled, IsStepLeft}
 use Rattle.store.specs.declared.compaction_step.CompactionStep.{CompactionStep}
 
@@ -50,3 +52,11 @@ IsStepTaken tells order cmp short_keys v loaded level s before after old new fai
     told_now result
     ⊎ IsStepTold tells order cmp short_keys v loaded level s before after old new told told_now
     result
+
+-- One of several compactions. What the folder is opened as after it is the version that the
+-- answer's edit makes.
+pub record IsNextBegun (order : Order) (v : State) (level : ℕ) (s : Settings)
+    (before after : List Step) (result : Result (Option Opened) Fault) : Type 0 where
+  pub begun : IsLevelBegun order v level s before after result
+  pub opened : IfOk result (λ o. IfSome o (λ next. IsOpenedAfter order v begun.installed.answer.edit
+      (Ok (next.order, next.version, next.manifest))))

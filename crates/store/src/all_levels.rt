@@ -16,8 +16,9 @@ ghost use Rattle.reads.specs.Tables.{NumberedContents};
 ghost use Rattle.checks.specs.TestedTables.{IsTested};
 ghost use Rattle.store.specs.AllLevels.{IsAllLeft, IsDescended};
 ghost use Rattle.store.specs.Descent.{IsBottom, IsNextLevel};
+ghost use Rattle.store.specs.LevelRuns.{IsAllLevelsRun, MakesNoCalls};
 ghost use Rattle.store.specs.OpenedAfter.{IsOpenedAfter};
-ghost use Rattle.store.specs.StepTaken.{IsStepTaken};
+ghost use Rattle.store.specs.StepTaken.{IsNextBegun, IsStepTaken};
 ghost use Rattle.store.specs.Untold.{IsUntold};
 
 use crate::compaction_step::CompactionStep;
@@ -66,6 +67,10 @@ pub fn compact_all<
         settings.now opened.version files (F.calls folder.old) (F.calls folder.new)
         (F.tells folder.old) (F.tells folder.new) (F.failed folder.old) (F.failed folder.new)
         (told.old) (told.new) result }
+    // Of any folder, also one that tells nothing: the calls are those of such compactions, each of
+    // the version that the one before it leaves, up to one that fails.
+    ensures runs { IsAllLevelsRun opened.order settings.now opened.version
+        (F.calls folder.old) (F.calls folder.new) result }
     ensures device { ReportsDevice F.Folder folder.old folder.new result }
 {
     if is_at_bottom(alloc, &opened.version)? {
@@ -108,6 +113,9 @@ pub fn compact_levels<
         settings.now opened.version loaded tables (F.calls folder.old) (F.calls folder.new)
         (F.tells folder.new) (F.failed folder.old) (F.failed folder.new)
         (told.old) (told.new) result }
+    // Of any folder, as of `compact_all`.
+    ensures runs { IsAllLevelsRun opened.order settings.now opened.version
+        (F.calls folder.old) (F.calls folder.new) result }
     ensures device { ReportsDevice F.Folder folder.old folder.new result }
 {
     let bottom = bottom(alloc, &opened.version)?;
@@ -145,6 +153,9 @@ fn take_step<F: ReadsTables + WritesTables, T: InstallWatch, W: Watch + Sync, R:
         (order_short_keys opened.now.order) opened.now.version loaded level settings.now
         (F.calls folder.old) (F.calls folder.new) (F.tells folder.old) (F.tells folder.new)
         (F.failed folder.old) (F.failed folder.new) (told.old) (told.new) result }
+    ensures runs { MakesNoCalls (F.calls folder.old) (F.calls folder.new) result
+        ⊎ IsNextBegun opened.now.order opened.now.version level settings.now
+        (F.calls folder.old) (F.calls folder.new) result }
     ensures device { ReportsDevice F.Folder folder.old folder.new result }
 {
     inputs_suffice::<Bytewise>();

@@ -11,6 +11,7 @@ ghost use Rattle.folder.specs.Reports.{ReportsDevice};
 ghost use Rattle.folder.specs.declared.order.Order.{Order};
 ghost use Rattle.store.specs.Answers.{IsFolderCompacted, IsVersionCompacted};
 ghost use Rattle.store.specs.Compaction.{IsFolderLeft, IsVersionLeft};
+ghost use Rattle.store.specs.Runs.{IsFolderRun, IsLevelRun};
 
 use crate::compaction_step::CompactionStep;
 use crate::input_compaction::compact_step;
@@ -76,6 +77,11 @@ pub fn compact_dir<F: ReadsTables + WritesTables, W: Watch + Sync, R: Threads + 
     ensures left { (files : Files) → Tells (F.tells folder.old) files →
         IsFolderLeft files level settings.now (F.calls folder.old) (F.calls folder.new)
         (F.tells folder.old) (F.tells folder.new) result }
+    // Of any folder, also one that tells nothing: no call that writes was made; or a version was
+    // opened, and the calls are its syncs and then those of one thread's answer for this level, in
+    // their order, up to one that fails.
+    ensures runs { IsFolderRun level settings.now (F.calls folder.old) (F.calls folder.new)
+        (F.tells folder.old) (F.tells folder.new) result }
     ensures device { ReportsDevice F.Folder folder.old folder.new result }
 {
     let opened = open(alloc, folder)?;
@@ -111,6 +117,11 @@ pub fn compact_opened<F: ReadsTables + WritesTables, W: Watch + Sync, R: Threads
         (order_short_keys opened.now.order) opened.now.version files level settings.now
         (F.calls folder.old) (F.calls folder.new) (F.tells folder.old) (F.tells folder.new)
         result) }
+    // Of any folder, also one that tells nothing: no call that writes was made; or the calls are
+    // those of one thread's answer for this level, in their order, up to one that fails.
+    ensures runs { IsLevelRun (order_name opened.now.order) (order_cmp opened.now.order)
+        (order_short_keys opened.now.order) opened.now.version level settings.now
+        (F.calls folder.old) (F.calls folder.new) (F.tells folder.old) (F.tells folder.new) result }
     // If CURRENT is another one, the answer is never Ok.
     ensures other { IsOkOnlyIfCurrent (F.tells folder.old) opened.now.manifest result }
     ensures device { ReportsDevice F.Folder folder.old folder.new result }
@@ -156,6 +167,8 @@ fn compact_version<
         order_name order ≡ C.name_bytes →
         IsOpened (IsFileIn files) (Ok (order, opened.now.version)) →
         IsVersionLeft order C.cmp C.short_keys opened.now.version files level settings.now
+        (F.calls folder.old) (F.calls folder.new) (F.tells folder.old) (F.tells folder.new) result }
+    ensures runs { IsLevelRun C.name_bytes C.cmp C.short_keys opened.now.version level settings.now
         (F.calls folder.old) (F.calls folder.new) (F.tells folder.old) (F.tells folder.new) result }
     ensures other { IsOkOnlyIfCurrent (F.tells folder.old) opened.now.manifest result }
     ensures device { ReportsDevice F.Folder folder.old folder.new result }

@@ -18,9 +18,10 @@ ghost use Rattle.pick.specs.PickedInputs.{picked_in};
 ghost use Rattle.request.specs.Inputs.{inputs_reading};
 ghost use Rattle.split.specs.declared.split.TheConstants.{MAX_RANGES};
 ghost use Rattle.store.specs.FolderRequest.{compaction_from};
-ghost use Rattle.store.specs.FoundInputs.{CanBeInstalled, answer_as};
+ghost use Rattle.store.specs.FoundInputs.{CanBeInstalled, IsAnsweredBy, answer_as};
 ghost use Rattle.store.specs.InputLaws.{with_inputs};
 ghost use Rattle.store.specs.InputsCompaction.{IsReadTold, installed_lines};
+ghost use Rattle.store.specs.Runs.{IsAnswerForInputs, IsRun};
 ghost use Rattle.store.specs.StepLeft.{IsStepLeft};
 
 use crate::compaction_step::CompactionStep;
@@ -134,6 +135,10 @@ pub(crate) fn install_held<
         (held_bytes held.now) (picked_in picked.now) settings.now) →
         IsStepLeft order C.cmp C.short_keys opened.now.version loaded level settings.now
         (F.calls folder.old) (F.calls folder.new) (F.tells folder.old) (F.tells folder.new) result }
+    ensures runs { IsRun (IsAnswerForInputs C.cmp C.short_keys opened.now.version
+        (held_bytes held.now) (picked_in picked.now) settings.now)
+        C.name_bytes C.cmp opened.now.version
+        (F.calls folder.old) (F.calls folder.new) (F.tells folder.old) (F.tells folder.new) result }
     ensures other { IsOkOnlyIfCurrent (F.tells folder.old) opened.now.manifest result }
     ensures device { ReportsDevice F.Folder folder.old folder.new result }
 {
@@ -182,6 +187,13 @@ fn install_checked<
         (picked_in picked.now) (compaction_from None C.cmp C.short_keys opened.now.version
         own (picked_in picked.now) settings.now) →
         IsStepLeft order C.cmp C.short_keys opened.now.version loaded level settings.now
+        (F.calls folder.old) (F.calls folder.new) (F.tells folder.old) (F.tells folder.new) result }
+    ensures runs { (own : List (ℕ × List ℕ)) →
+        map (λ t. t.bytes) tables.now
+        ≡ map (λ i. table_bytes_of own i.meta.number) picked.now.files.items →
+        IsRun (IsAnsweredBy (compaction_from None C.cmp C.short_keys opened.now.version own
+        (picked_in picked.now) settings.now) (installed_lines opened.now.version
+        (picked_in picked.now))) C.name_bytes C.cmp opened.now.version
         (F.calls folder.old) (F.calls folder.new) (F.tells folder.old) (F.tells folder.new) result }
     ensures other { IsOkOnlyIfCurrent (F.tells folder.old) opened.now.manifest result }
     ensures device { ReportsDevice F.Folder folder.old folder.new result }

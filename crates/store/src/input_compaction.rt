@@ -13,6 +13,7 @@ ghost use Rattle.folder.specs.Reports.{ReportsDevice};
 ghost use Rattle.folder.specs.declared.order.Order.{Order};
 ghost use Rattle.reads.specs.Tables.{NumberedContents};
 ghost use Rattle.store.specs.InputsCompaction.{IsInputsCompacted};
+ghost use Rattle.store.specs.Runs.{IsLevelRun};
 ghost use Rattle.store.specs.StepLeft.{IsStepLeft};
 
 use crate::compaction_step::CompactionStep;
@@ -67,6 +68,11 @@ pub fn compact_inputs<F: ReadsTables + WritesTables, W: Watch + Sync, R: Threads
         IsStepLeft opened.now.order (order_cmp opened.now.order)
         (order_short_keys opened.now.order) opened.now.version loaded level settings.now
         (F.calls folder.old) (F.calls folder.new) (F.tells folder.old) (F.tells folder.new) result }
+    // Of any folder, also one that tells nothing: no call that writes was made; or the calls are
+    // those of one thread's answer for this level, in their order, up to one that fails.
+    ensures runs { IsLevelRun (order_name opened.now.order) (order_cmp opened.now.order)
+        (order_short_keys opened.now.order) opened.now.version level settings.now
+        (F.calls folder.old) (F.calls folder.new) (F.tells folder.old) (F.tells folder.new) result }
     // If CURRENT is another one, the answer is never Ok.
     ensures other { IsOkOnlyIfCurrent (F.tells folder.old) opened.now.manifest result }
     ensures device { ReportsDevice F.Folder folder.old folder.new result }
@@ -119,6 +125,8 @@ pub(crate) fn compact_step<
         ReadsAs C.cmp order opened.now.version loaded files →
         IsLawfulTables C.cmp opened.now.version loaded (Ok tables) →
         IsStepLeft order C.cmp C.short_keys opened.now.version loaded level settings.now
+        (F.calls folder.old) (F.calls folder.new) (F.tells folder.old) (F.tells folder.new) result }
+    ensures runs { IsLevelRun C.name_bytes C.cmp C.short_keys opened.now.version level settings.now
         (F.calls folder.old) (F.calls folder.new) (F.tells folder.old) (F.tells folder.new) result }
     ensures other { IsOkOnlyIfCurrent (F.tells folder.old) opened.now.manifest result }
     ensures device { ReportsDevice F.Folder folder.old folder.new result }

@@ -22,8 +22,9 @@ ghost use Rattle.settings.specs.declared.settings.Settings.{Settings};
 ghost use Rattle.store.specs.CallsAnswer.{IsCallsAnswer};
 ghost use Rattle.store.specs.Compaction.{VersionCompaction};
 ghost use Rattle.store.specs.FolderRequest.{manifest_of};
-ghost use Rattle.store.specs.FoundInputs.{NeverDevice, answer_as};
+ghost use Rattle.store.specs.FoundInputs.{IsAnsweredBy, NeverDevice, answer_as};
 ghost use Rattle.store.specs.Lines.{compaction_lines};
+ghost use Rattle.store.specs.Runs.{IsRun};
 ghost use Rattle.store.specs.StepLeft.{IsStepLeft};
 
 use crate::compaction_step::CompactionStep;
@@ -73,6 +74,10 @@ pub(crate) fn install_merged<
         VersionCompaction order C.cmp C.short_keys opened.now.version loaded level s a
         (compaction_lines a.tables inputs.now (manifest_of opened.now.version))) →
         IsStepLeft order C.cmp C.short_keys opened.now.version loaded level s
+        (F.calls folder.old) (F.calls folder.new) (F.tells folder.old) (F.tells folder.new) result }
+    ensures runs { IsRun (IsAnsweredBy merged.now
+        (λ a. compaction_lines a.tables inputs.now (manifest_of opened.now.version)))
+        C.name_bytes C.cmp opened.now.version
         (F.calls folder.old) (F.calls folder.new) (F.tells folder.old) (F.tells folder.new) result }
     ensures other { IsOkOnlyIfCurrent (F.tells folder.old) opened.now.manifest result }
     ensures device { ReportsDevice F.Folder folder.old folder.new result }

@@ -1,9 +1,9 @@
-use Rattle.std.proofs.Common.{ℕ, List, Ok, Err, inl, inr}
+use Rattle.std.proofs.Common.{ℕ, List, Ok, Err, refl, inl, inr}
 use Rattle.std.specs.Global.{Vec}
 use Rattle.folder.specs.ReadsAs.{IsFileIn}
 use Rattle.adoption.specs.Adoption.{Adoption, IsGiven, IsGivenInstalled}
 use Rattle.adoption.specs.AdoptionIn.{given_in}
-use Rattle.adoption.proofs.AdoptionSteps.{both_behind, both_refused, given_held}
+use Rattle.adoption.proofs.AdoptionSteps.{both_behind, both_refused, given_held, tells_itself}
 use Rattle.adoption.proofs.outcome_installation.install_from.Goals as goal
 
 pub returns-in-Ok-clause-answer : goal.returns-in-Ok-clause-answer
@@ -33,3 +33,16 @@ returns-in-Err-clause-answer g c files source told told_source current =
     let e = c.in-Err.fault in
     both_refused {X = Vec ℕ} (λ v. v.items) g.F.Folder g.G.Folder c.args.folder c.args.folder c.args.source.now c.given_outcome.new.source e (IsGiven cmp tells v) (IsGiven cmp (IsFileIn source) v)
     (λ (given : Adoption × List (ℕ × List ℕ)). IsGivenInstalled cmp files v given c.args.comparison) (given_held cmp v tells source (Err e) told_source) c.in-Err.ensures.answer
+
+-- ---- the calls, whatever the folder tells
+
+pub returns-in-Ok-clause-runs : goal.returns-in-Ok-clause-runs
+returns-in-Ok-clause-runs g c =
+    elim c.install_given.ensures.runs [
+      | inl unchanged ↦ inl unchanged
+      | inr calls ↦ inr (given_in c.in-Ok.given, c.in-Ok.ensures.answer, calls)
+    ]
+
+pub returns-in-Err-clause-runs : goal.returns-in-Err-clause-runs
+returns-in-Err-clause-runs g c =
+    inl (record { calls = refl; same = tells_itself (g.F.Folder.tells c.args.folder); refused = tt })

@@ -1,7 +1,8 @@
-use Rattle.std.proofs.Common.{Err, refl}
+use Rattle.std.proofs.Common.{Err, refl, inl}
 use Rattle.store.proofs.Flow.{answers_behind, told_still}
 use Rattle.adoption.specs.Adoption.{IsEditedInstalled, IsGivenInstalled, IsGivenTested}
 use Rattle.adoption.specs.AdoptionIn.{given_in}
+use Rattle.adoption.proofs.AdoptionCalls.{given_since}
 use Rattle.adoption.proofs.AdoptionSteps.{outcome_since, refused_with}
 use Rattle.adoption.proofs.ComparedOutputs.{lengths_read}
 use Rattle.adoption.proofs.KeptReads.{keeps_reads}
@@ -49,3 +50,18 @@ returns-in-Err-clause-answer g c files told current =
     let e = c.in-Err.fault in
     refused_with (failed c.args.folder) (failed c.test_outputs.new.folder) e (IsGivenTested cmp files given c.args.comparison) (IsGivenInstalled cmp files c.args.opened.now.version given c.args.comparison) (λ h. (Err e, (h, refl)))
     (c.in-Err.ensures.answer files told)
+
+-- ---- the calls, whatever the folder tells
+
+pub returns-in-Ok-clause-runs : goal.returns-in-Ok-clause-runs
+returns-in-Ok-clause-runs g c =
+    let calls = g.F.Folder.calls in
+    let tells = g.F.Folder.tells in
+    let tested = c.test_outputs.new.folder in
+    let end = c.install_tested.result in
+    given_since g.C.Comparator.name_bytes g.C.Comparator.cmp c.args.opened.now.version (given_in c.args.given.now) (calls c.args.folder) (calls tested) (calls end.folder) (tells c.args.folder) (tells tested) (tells end.folder) end.answer
+    c.test_outputs.ensures.reads.calls c.test_outputs.ensures.reads.same c.install_tested.ensures.runs
+
+pub returns-in-Err-clause-runs : goal.returns-in-Err-clause-runs
+returns-in-Err-clause-runs g c =
+    inl (record { calls = c.test_outputs.ensures.reads.calls; same = c.test_outputs.ensures.reads.same; refused = tt })

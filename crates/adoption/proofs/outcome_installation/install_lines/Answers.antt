@@ -9,6 +9,8 @@ use Rattle.store.specs.Lines.{compaction_lines}
 use Rattle.store.proofs.Flow.{no_refusal, no_value, stopped_on}
 use Rattle.store.proofs.InstallPart.{refused_ok, refused_on, stopped_named, survives_on, valued_on}
 use Rattle.store.proofs.NoDevice.{handed_memory}
+use Rattle.adoption.specs.AdoptionIn.{given_in}
+use Rattle.adoption.proofs.AdoptionCalls.{calls_done, calls_refused}
 use Rattle.adoption.proofs.AdoptionSteps.{lines_are, never_refused, tells_itself}
 use Rattle.adoption.proofs.outcome_installation.install_lines.Goals as goal
 
@@ -101,3 +103,32 @@ pub returns-clause-device : goal.returns-clause-device
 returns-clause-device g c =
     let q : Result (Vec ℕ) Fault = Ok c.in_ok-lines.lines in
     reports_after q c.in_ok-install.was c.install.ensures.device tt
+
+-- ---- the calls, whatever the folder tells
+
+pub returns-in_err-lines-clause-runs : goal.returns-in_err-lines-clause-runs
+returns-in_err-lines-clause-runs g c =
+    inl (record { calls = refl; same = tells_itself (g.F.Folder.tells c.args.folder.now); refused = no_value c.from_residual.result _ c.from_residual.ensures.1 })
+
+pub returns-in_err-install-clause-runs : goal.returns-in_err-install-clause-runs
+returns-in_err-install-clause-runs g c =
+    let calls = g.F.Folder.calls in
+    let tells = g.F.Folder.tells in
+    let a = c.args.folder.now in
+    let n = c.install.new.folder in
+    let given = c.args.given.now in
+    inr (calls_refused g.C.Comparator.name_bytes g.C.Comparator.cmp c.args.opened.now.version (given_in given) c.manifest_of-number.result (calls a) (calls n) (tells a) (tells n)
+    c.install.result c.from_residual-in_err-install.result c.in_err-install.field-0.0 c.manifest_of-number.ensures c.in_err-install.was c.from_residual-in_err-install.ensures.1 c.install.ensures.runs c.install.ensures.left)
+
+pub returns-clause-runs : goal.returns-clause-runs
+returns-clause-runs g c =
+    let calls = g.F.Folder.calls in
+    let tells = g.F.Folder.tells in
+    let a = c.args.folder.now in
+    let n = c.install.new.folder in
+    let v = c.args.opened.now.version in
+    let given = c.args.given.now in
+    let tables = tables_in given.outcome.tables.items in
+    inr (calls_done g.C.Comparator.name_bytes g.C.Comparator.cmp v (given_in given) c.manifest_of-number.result (calls a) (calls n) (tells a) (tells n)
+    c.install.result _ c.in_ok-lines.lines c.manifest_of-number.ensures c.in_ok-install.was c.install.ensures.runs
+    (lines_are tables c.deref.result.now given.picked.files.items c.manifest_of-number.result (manifest_of v) c.in_ok-lines.lines.items c.in_ok-lines.ensures c.deref.ensures.value c.manifest_of-number.ensures))

@@ -1,10 +1,12 @@
 use Rattle.std.proofs.Common.{refl, sym, subst}
+use Rattle.folder.specs.Manifest.{order_name}
 use Rattle.folder.specs.Orders.{order_cmp}
 use Rattle.folder.specs.ReadsAs.{ReadsAs}
 use Rattle.folder.specs.declared.order.Order.{Order}
 use Rattle.folder.specs.declared.order.Order.TheVariants.{Bytewise, Shortlex}
 use Rattle.adoption.specs.Adoption.{IsInstalledFrom}
 use Rattle.adoption.specs.AdoptionLeft.{IsAdoptionLeft}
+use Rattle.adoption.specs.AdoptionRuns.{IsAdoptionRun}
 use Rattle.adoption.specs.BothFolders.{AnswersFrom}
 use Rattle.adoption.proofs.outcome_installation.install_outcome.Goals as goal
 
@@ -37,3 +39,19 @@ returns-in-Shortlex-clause-left g c files source loaded told told_source current
     let end = c.install_from-in-Shortlex.result in
     subst (λ (order : Order). ReadsAs (order_cmp order) order v loaded files → IsAdoptionLeft order (order_cmp order) v loaded source c.args.comparison (calls c.args.folder) (calls end.folder) (tells c.args.folder) (tells end.folder) end.answer)
     (sym c.in-Shortlex.is) (c.install_from-in-Shortlex.ensures.left files source Shortlex loaded told told_source current refl)
+
+pub returns-in-Bytewise-clause-runs : goal.returns-in-Bytewise-clause-runs
+returns-in-Bytewise-clause-runs g c =
+    let calls = g.F.Folder.calls in
+    let tells = g.F.Folder.tells in
+    let end = c.install_from.result in
+    subst (λ (order : Order). IsAdoptionRun (order_name order) (order_cmp order) (g.G.Folder.tells c.args.source.now) c.args.opened.now.version (calls c.args.folder) (calls end.folder) (tells c.args.folder) (tells end.folder) end.answer)
+    (sym c.in-Bytewise.is) c.install_from.ensures.runs
+
+pub returns-in-Shortlex-clause-runs : goal.returns-in-Shortlex-clause-runs
+returns-in-Shortlex-clause-runs g c =
+    let calls = g.F.Folder.calls in
+    let tells = g.F.Folder.tells in
+    let end = c.install_from-in-Shortlex.result in
+    subst (λ (order : Order). IsAdoptionRun (order_name order) (order_cmp order) (g.G.Folder.tells c.args.source.now) c.args.opened.now.version (calls c.args.folder) (calls end.folder) (tells c.args.folder) (tells end.folder) end.answer)
+    (sym c.in-Shortlex.is) c.install_from-in-Shortlex.ensures.runs

@@ -1,4 +1,4 @@
-use Rattle.std.proofs.Common.{◌≡◌, ℕ, List, Result, Ok, Err, subst, refl}
+use Rattle.std.proofs.Common.{◌≡◌, ℕ, List, Result, Ok, Err, subst, refl, inl}
 use Rattle.coding.specs.declared.fault.Fault.{Fault}
 use Rattle.folder.specs.ReadsAs.{IsFileIn}
 use Rattle.install.specs.Install.{IsEditedBy}
@@ -9,6 +9,7 @@ use Rattle.store.specs.Lines.{compaction_lines}
 use Rattle.store.proofs.Flow.{answers_behind, told_still}
 use Rattle.adoption.specs.Adoption.{IsEditedInstalled, with_tables}
 use Rattle.adoption.specs.AdoptionIn.{given_in}
+use Rattle.adoption.proofs.AdoptionCalls.{given_since}
 use Rattle.adoption.proofs.AdoptionSteps.{err_answers, ok_answers, refused_with, tested_since, tested_with}
 use Rattle.adoption.proofs.EditedVersion.{adopted_version}
 use Rattle.adoption.proofs.outcome_installation.install_tested.Goals as goal
@@ -59,3 +60,18 @@ returns-in-Err-clause-answer g c files told current =
     let first = IsTested (IsFileIn (with_tables given.1 files)) cmp given.0.next in
     refused_with (failed c.args.folder) (failed end.folder) e first (IsEditedInstalled cmp files c.args.opened.now.version given) (λ h. (Err e, (h, refl)))
     (err_answers (λ tested. tested) (failed c.args.folder) (failed end.folder) end.answer e first c.in-Err.is (tested_with (failed c.args.folder) (failed end.folder) end.answer c.as_slice-tables.result.now c.args.given.now.outcome.tables.items cmp given.0.next files c.as_slice-tables.ensures.value (c.test_edited-end.ensures.answer files told)))
+
+-- ---- the calls, whatever the folder tells
+
+pub returns-in-Ok-clause-runs : goal.returns-in-Ok-clause-runs
+returns-in-Ok-clause-runs g c =
+    let calls = g.F.Folder.calls in
+    let tells = g.F.Folder.tells in
+    let end = c.test_edited-end.result in
+    let now = c.install_lines-answer.new.folder in
+    given_since g.C.Comparator.name_bytes g.C.Comparator.cmp c.args.opened.now.version (given_in c.args.given.now) (calls c.args.folder) (calls end.folder) (calls now) (tells c.args.folder) (tells end.folder) (tells now) c.install_lines-answer.result
+    c.test_edited-end.ensures.reads.calls c.test_edited-end.ensures.reads.same c.install_lines-answer.ensures.runs
+
+pub returns-in-Err-clause-runs : goal.returns-in-Err-clause-runs
+returns-in-Err-clause-runs g c =
+    inl (record { calls = c.test_edited-end.ensures.reads.calls; same = c.test_edited-end.ensures.reads.same; refused = tt })

@@ -10,6 +10,7 @@ use Rattle.store.specs.InputsCompaction.{IsInputsCompacted}
 use Rattle.store.specs.OpenedAfter.{IsOpenedAfter}
 use Rattle.store.proofs.NoDevice.{never_device_at}
 use Rattle.store.proofs.StepsTaken.{installed_of, memory_only, opened_next, opened_other, suffices_by}
+use Rattle.store.proofs.LevelRuns.{begun_refused, begun_told}
 use Rattle.store.proofs.all_levels.take_step.Goals as goal
 
 pub returns-in_err-step-clause-left : goal.returns-in_err-step-clause-left
@@ -64,3 +65,19 @@ returns-clause-device g c =
     reports_after c.tell_step.result c.in_ok-step.was c.compact_inputs.ensures.device
     (never_device_at (failed c.args.folder.now) (failed c.compact_inputs.new.folder) c.tell_step.result (λ e. IsOpenedAfter o.order o.version c.in_ok-step.step.edit.items (Err e))
     (opened_other o.order o.version c.in_ok-step.step.edit.items) c.tell_step.ensures.refused)
+
+pub returns-in_err-step-clause-runs : goal.returns-in_err-step-clause-runs
+returns-in_err-step-clause-runs g c =
+    let o = c.args.opened.now in
+    let calls = g.F.Folder.calls in
+    let tells = g.F.Folder.tells in
+    begun_refused o.order o.version c.args.level c.args.settings.now (calls c.args.folder.now) (calls c.compact_inputs.new.folder) (tells c.args.folder.now) (tells c.compact_inputs.new.folder)
+    c.compact_inputs.result c.from_residual.result c.in_err-step.field-0.0 c.from_residual.ensures.1 c.compact_inputs.ensures.runs
+
+pub returns-clause-runs : goal.returns-clause-runs
+returns-clause-runs g c =
+    let o = c.args.opened.now in
+    let calls = g.F.Folder.calls in
+    let tells = g.F.Folder.tells in
+    begun_told o.order o.version c.args.level c.args.settings.now (calls c.args.folder.now) (calls c.compact_inputs.new.folder) (tells c.args.folder.now) (tells c.compact_inputs.new.folder)
+    c.compact_inputs.result c.in_ok-step.step c.tell_step.result c.in_ok-step.was c.tell_step.ensures.after c.compact_inputs.ensures.runs

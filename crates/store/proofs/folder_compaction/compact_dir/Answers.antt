@@ -12,6 +12,7 @@ use Rattle.store.specs.Answers.{IsFolderCompacted, IsVersionCompacted}
 use Rattle.store.specs.declared.compaction_step.CompactionStep.{CompactionStep}
 use Rattle.store.proofs.Flow.{answers_behind, first_refused, no_value, opened_in, stopped_on, told_still}
 use Rattle.store.proofs.InstallPart.{sync_refused, synced_left}
+use Rattle.store.proofs.RunPart.{sync_stopped, synced_run}
 use Rattle.store.proofs.folder_compaction.compact_dir.Goals as goal
 
 pub returns-in_err-opened-clause-answer : goal.returns-in_err-opened-clause-answer
@@ -26,6 +27,10 @@ returns-in_err-opened-clause-answer g c files told =
 
 pub returns-in_err-opened-clause-left : goal.returns-in_err-opened-clause-left
 returns-in_err-opened-clause-left g c files told =
+    inl (record { calls = c.open.ensures.reads.calls; same = c.open.ensures.reads.same; refused = no_value c.from_residual.result _ c.from_residual.ensures.1 })
+
+pub returns-in_err-opened-clause-runs : goal.returns-in_err-opened-clause-runs
+returns-in_err-opened-clause-runs g c =
     inl (record { calls = c.open.ensures.reads.calls; same = c.open.ensures.reads.same; refused = no_value c.from_residual.result _ c.from_residual.ensures.1 })
 
 pub returns-in_err-opened-clause-device : goal.returns-in_err-opened-clause-device
@@ -47,6 +52,16 @@ returns-in_err-sync_version-clause-left g c files told =
     (tells c.args.folder.now) (tells c.open.new.folder) (tells c.sync_version.new.folder) c.sync_version.result c.from_residual-in_err-sync_version.result
     (opened_in (tells c.args.folder.now) files (Ok (o.order, o.version)) told c.in_ok-opened.ensures.answer)
     ((told (codes "CURRENT") (Some (current_text o.manifest))).0 c.in_ok-opened.ensures.named)
+    c.open.ensures.reads.calls c.open.ensures.reads.same c.sync_version.ensures.runs (no_value c.from_residual-in_err-sync_version.result _ c.from_residual-in_err-sync_version.ensures.1)
+
+pub returns-in_err-sync_version-clause-runs : goal.returns-in_err-sync_version-clause-runs
+returns-in_err-sync_version-clause-runs g c =
+    let tells = g.F.Folder.tells in
+    let calls = g.F.Folder.calls in
+    let o = c.in_ok-opened.opened in
+    sync_stopped o.order o.version o.manifest c.args.level c.args.settings.now (calls c.args.folder.now) (calls c.open.new.folder) (calls c.sync_version.new.folder)
+    (tells c.args.folder.now) (tells c.open.new.folder) (tells c.sync_version.new.folder) c.sync_version.result c.from_residual-in_err-sync_version.result
+    c.in_ok-opened.ensures.answer c.in_ok-opened.ensures.named
     c.open.ensures.reads.calls c.open.ensures.reads.same c.sync_version.ensures.runs (no_value c.from_residual-in_err-sync_version.result _ c.from_residual-in_err-sync_version.ensures.1)
 
 pub returns-in_err-sync_version-clause-device : goal.returns-in_err-sync_version-clause-device
@@ -81,6 +96,16 @@ returns-clause-left g c files told =
     opened named
     c.open.ensures.reads.calls c.open.ensures.reads.same c.in_ok-sync_version.was c.sync_version.ensures.runs
     (c.compact_opened.ensures.left files synced named opened)
+
+pub returns-clause-runs : goal.returns-clause-runs
+returns-clause-runs g c =
+    let tells = g.F.Folder.tells in
+    let calls = g.F.Folder.calls in
+    let o = c.in_ok-opened.opened in
+    synced_run o.order o.version o.manifest c.args.level c.args.settings.now (calls c.args.folder.now) (calls c.open.new.folder) (calls c.sync_version.new.folder) (calls c.compact_opened.new.folder)
+    (tells c.args.folder.now) (tells c.open.new.folder) (tells c.sync_version.new.folder) (tells c.compact_opened.new.folder) c.sync_version.result _ c.compact_opened.result
+    c.in_ok-opened.ensures.answer c.in_ok-opened.ensures.named
+    c.open.ensures.reads.calls c.open.ensures.reads.same c.in_ok-sync_version.was c.sync_version.ensures.runs c.compact_opened.ensures.runs
 
 pub returns-clause-device : goal.returns-clause-device
 returns-clause-device g c =

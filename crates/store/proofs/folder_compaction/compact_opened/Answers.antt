@@ -1,7 +1,9 @@
 use Rattle.std.proofs.Common.{subst, sym}
+use Rattle.folder.specs.Manifest.{order_name}
 use Rattle.folder.specs.OpenAnswer.{FolderAnswers}
 use Rattle.folder.specs.declared.order.Order.{Order}
 use Rattle.store.specs.Answers.{IsVersionCompacted}
+use Rattle.store.specs.Runs.{IsLevelRun}
 use Rattle.folder.specs.Orders.{order_cmp, order_short_keys}
 use Rattle.store.specs.declared.compaction_step.CompactionStep.{CompactionStep}
 use Rattle.store.proofs.folder_compaction.compact_opened.Goals as goal
@@ -19,3 +21,17 @@ returns-in-Shortlex-clause-answer g c files told current =
     subst (λ (order : Order). FolderAnswers (λ (step : CompactionStep). step.lines.items) (failed c.args.folder.now) (failed c.compact_version-in-Shortlex.new.folder) c.compact_version-in-Shortlex.result
     (IsVersionCompacted (order_cmp order) (order_short_keys order) files c.args.opened.now.version c.args.level c.args.settings.now))
     (sym c.in-Shortlex.is) (c.compact_version-in-Shortlex.ensures.answer files told current)
+
+pub returns-in-Bytewise-clause-runs : goal.returns-in-Bytewise-clause-runs
+returns-in-Bytewise-clause-runs g c =
+    let calls = g.F.Folder.calls in
+    let tells = g.F.Folder.tells in
+    subst (λ (order : Order). IsLevelRun (order_name order) (order_cmp order) (order_short_keys order) c.args.opened.now.version c.args.level c.args.settings.now (calls c.args.folder.now) (calls c.compact_version.new.folder) (tells c.args.folder.now) (tells c.compact_version.new.folder) c.compact_version.result)
+    (sym c.in-Bytewise.is) c.compact_version.ensures.runs
+
+pub returns-in-Shortlex-clause-runs : goal.returns-in-Shortlex-clause-runs
+returns-in-Shortlex-clause-runs g c =
+    let calls = g.F.Folder.calls in
+    let tells = g.F.Folder.tells in
+    subst (λ (order : Order). IsLevelRun (order_name order) (order_cmp order) (order_short_keys order) c.args.opened.now.version c.args.level c.args.settings.now (calls c.args.folder.now) (calls c.compact_version-in-Shortlex.new.folder) (tells c.args.folder.now) (tells c.compact_version-in-Shortlex.new.folder) c.compact_version-in-Shortlex.result)
+    (sym c.in-Shortlex.is) c.compact_version-in-Shortlex.ensures.runs

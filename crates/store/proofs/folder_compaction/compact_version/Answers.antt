@@ -7,8 +7,10 @@ use Rattle.folder.specs.LoadedTables.{IsLoaded}
 use Rattle.folder.specs.ReadsAs.{IsFileIn, ReadsAs}
 use Rattle.store.specs.Answers.{IsLoadedCompacted, IsVersionCompacted}
 use Rattle.store.specs.InputsCompaction.{IsInputsCompacted}
+use Rattle.store.specs.Runs.{IsAnswerForLevel}
 use Rattle.store.specs.declared.compaction_step.CompactionStep.{CompactionStep}
 use Rattle.store.proofs.Flow.{answers_behind, no_value, told_still, told_themselves}
+use Rattle.store.proofs.RunPart.{run_since}
 use Rattle.store.proofs.StepPart.{has_passed, test_refused, version_left}
 use Rattle.store.proofs.folder_compaction.compact_version.Goals as goal
 
@@ -26,6 +28,10 @@ returns-in_err-found-clause-answer g c files told current =
 
 pub returns-in_err-found-clause-left : goal.returns-in_err-found-clause-left
 returns-in_err-found-clause-left g c files order told current named opened =
+    inl (record { calls = c.test_and_hold.ensures.reads.calls; same = c.test_and_hold.ensures.reads.same; refused = no_value c.from_residual.result _ c.from_residual.ensures.1 })
+
+pub returns-in_err-found-clause-runs : goal.returns-in_err-found-clause-runs
+returns-in_err-found-clause-runs g c =
     inl (record { calls = c.test_and_hold.ensures.reads.calls; same = c.test_and_hold.ensures.reads.same; refused = no_value c.from_residual.result _ c.from_residual.ensures.1 })
 
 pub returns-in_err-found-clause-other : goal.returns-in_err-found-clause-other
@@ -64,6 +70,16 @@ returns-clause-left g c files order told current named opened =
     (calls c.args.folder.now) (calls c.test_and_hold.new.folder) (calls c.compact_step.new.folder) (tells c.args.folder.now) (tells c.test_and_hold.new.folder) (tells c.compact_step.new.folder) c.compact_step.result
     reads c.test_and_hold.ensures.reads.calls c.test_and_hold.ensures.reads.same
     (c.compact_step.ensures.left files order passed.loaded passed.tables still current (c.in_ok-found.ensures.held files told) named reads passed.sound)
+
+pub returns-clause-runs : goal.returns-clause-runs
+returns-clause-runs g c =
+    let cmp = g.C.Comparator.cmp in
+    let v = c.args.opened.now.version in
+    let calls = g.F.Folder.calls in
+    let tells = g.F.Folder.tells in
+    run_since (IsAnswerForLevel cmp g.C.Comparator.short_keys v c.args.level c.args.settings.now) g.C.Comparator.name_bytes cmp v
+    (calls c.args.folder.now) (calls c.test_and_hold.new.folder) (calls c.compact_step.new.folder) (tells c.args.folder.now) (tells c.test_and_hold.new.folder) (tells c.compact_step.new.folder) c.compact_step.result
+    c.test_and_hold.ensures.reads.calls c.test_and_hold.ensures.reads.same c.compact_step.ensures.runs
 
 pub returns-clause-other : goal.returns-clause-other
 returns-clause-other g c files told other =

@@ -15,11 +15,13 @@ use Rattle.request.specs.OneThread.{Answer, compaction_result}
 use Rattle.request.specs.Request.{RequestView, request_in}
 use Rattle.store.specs.FolderRequest.{compaction_from, manifest_of, numbered_request}
 use Rattle.store.specs.InputsCompaction.{installed_lines}
+use Rattle.store.specs.FoundInputs.{IsAnsweredBy}
 use Rattle.store.specs.Lines.{compaction_lines}
 use Rattle.store.proofs.Compactions.{answer_behind, refused_behind, with_lines}
 use Rattle.store.proofs.Flow.{no_value}
 use Rattle.store.proofs.NoDevice.{compaction_other, handed_other}
 use Rattle.store.proofs.PlannedPart.{answers_as, lines_refused, never_refused, split_refused, unchanged}
+use Rattle.store.proofs.RunPart.{run_as}
 use Rattle.store.proofs.held_compaction.install_checked.Goals as goal
 
 -- ---- the split
@@ -38,6 +40,10 @@ returns-in_err-split-clause-answer g c files loaded told current bytes =
 
 pub returns-in_err-split-clause-left : goal.returns-in_err-split-clause-left
 returns-in_err-split-clause-left g c files order own loaded level told current bytes named can =
+    inl (unchanged (g.F.Folder.calls c.args.folder.now) (g.F.Folder.tells c.args.folder.now) c.from_residual.result _ c.from_residual.ensures.1)
+
+pub returns-in_err-split-clause-runs : goal.returns-in_err-split-clause-runs
+returns-in_err-split-clause-runs g c own bytes =
     inl (unchanged (g.F.Folder.calls c.args.folder.now) (g.F.Folder.tells c.args.folder.now) c.from_residual.result _ c.from_residual.ensures.1)
 
 pub returns-in_err-split-clause-other : goal.returns-in_err-split-clause-other
@@ -69,6 +75,10 @@ returns-in_err-bytes-clause-answer g c files loaded told current bytes =
 
 pub returns-in_err-bytes-clause-left : goal.returns-in_err-bytes-clause-left
 returns-in_err-bytes-clause-left g c files order own loaded level told current bytes named can =
+    inl (unchanged (g.F.Folder.calls c.args.folder.now) (g.F.Folder.tells c.args.folder.now) c.from_residual-in_err-bytes.result _ c.from_residual-in_err-bytes.ensures.1)
+
+pub returns-in_err-bytes-clause-runs : goal.returns-in_err-bytes-clause-runs
+returns-in_err-bytes-clause-runs g c own bytes =
     inl (unchanged (g.F.Folder.calls c.args.folder.now) (g.F.Folder.tells c.args.folder.now) c.from_residual-in_err-bytes.result _ c.from_residual-in_err-bytes.ensures.1)
 
 pub returns-in_err-bytes-clause-other : goal.returns-in_err-bytes-clause-other
@@ -105,6 +115,10 @@ returns-in_err-request-clause-answer g c files loaded told current given =
 
 pub returns-in_err-request-clause-left : goal.returns-in_err-request-clause-left
 returns-in_err-request-clause-left g c files order own loaded level told current bytes named can =
+    inl (unchanged (g.F.Folder.calls c.args.folder.now) (g.F.Folder.tells c.args.folder.now) c.from_residual-in_err-request.result _ c.from_residual-in_err-request.ensures.1)
+
+pub returns-in_err-request-clause-runs : goal.returns-in_err-request-clause-runs
+returns-in_err-request-clause-runs g c own bytes =
     inl (unchanged (g.F.Folder.calls c.args.folder.now) (g.F.Folder.tells c.args.folder.now) c.from_residual-in_err-request.result _ c.from_residual-in_err-request.ensures.1)
 
 pub returns-in_err-request-clause-other : goal.returns-in_err-request-clause-other
@@ -154,6 +168,10 @@ returns-in_err-merged-clause-answer g c files loaded told current given =
 
 pub returns-in_err-merged-clause-left : goal.returns-in_err-merged-clause-left
 returns-in_err-merged-clause-left g c files order own loaded level told current bytes named can =
+    inl (unchanged (g.F.Folder.calls c.args.folder.now) (g.F.Folder.tells c.args.folder.now) c.from_residual-in_err-merged.result _ c.from_residual-in_err-merged.ensures.1)
+
+pub returns-in_err-merged-clause-runs : goal.returns-in_err-merged-clause-runs
+returns-in_err-merged-clause-runs g c own bytes =
     inl (unchanged (g.F.Folder.calls c.args.folder.now) (g.F.Folder.tells c.args.folder.now) c.from_residual-in_err-merged.result _ c.from_residual-in_err-merged.ensures.1)
 
 pub returns-in_err-merged-clause-other : goal.returns-in_err-merged-clause-other
@@ -220,3 +238,20 @@ returns-clause-left g c files order own loaded level told current given named ca
     (λ answer merged.
     with_lines order cmp keys v loaded level s p answer _ (can answer (sym same ∙ merged) logs.0 logs.1)
     (ap (λ (fs : List InputFile). compaction_lines answer.tables fs (manifest_of v)) c.deref-2.ensures.value))
+
+pub returns-clause-runs : goal.returns-clause-runs
+returns-clause-runs g c own given =
+    let cmp = g.C.Comparator.cmp in
+    let keys = g.C.Comparator.short_keys in
+    let v = c.args.opened.now.version in
+    let p = picked_in c.args.picked.now in
+    let s = c.args.settings.now in
+    let calls = g.F.Folder.calls in
+    let tells = g.F.Folder.tells in
+    let bytes = ap (map (λ (b : Bor (List ℕ)). b.now)) c.deref.ensures.value ∙ sym (ok_is _ _ c.in_ok-bytes.ensures) ∙ given in
+    let is = answer_behind (test_result (nat_le 1 s.ranges && nat_le s.ranges 4096) SplitCount) (numbered_request None v own p s) (λ (r : RequestView). compaction_result cmp keys s.workers r) (request_in c.in_ok-request.request) c.in_ok-split.ensures (c.in_ok-request.ensures.asked own bytes) in
+    let same : c.in_ok-merged.merged ≡ compaction_from None cmp keys v own p s = c.in_ok-merged.ensures.merged ∙ sym is in
+    run_as (IsAnsweredBy c.in_ok-merged.merged (λ a. compaction_lines a.tables c.deref-2.result.now (manifest_of v))) (IsAnsweredBy (compaction_from None cmp keys v own p s) (installed_lines v p))
+    g.C.Comparator.name_bytes cmp v (calls c.args.folder.now) (calls c.install_merged.new.folder) (tells c.args.folder.now) (tells c.install_merged.new.folder) c.install_merged.result
+    (λ answer lines h. (sym same ∙ h.0, h.1 ∙ ap (λ (fs : List InputFile). compaction_lines answer.tables fs (manifest_of v)) c.deref-2.ensures.value))
+    c.install_merged.ensures.runs

@@ -12,10 +12,13 @@ use Rattle.checks.specs.HeldBytes.{held_bytes}
 use Rattle.request.specs.Inputs.{inputs_reading}
 use Rattle.store.specs.FolderRequest.{compaction_from}
 use Rattle.store.specs.InputsCompaction.{IsReadTold, input_tables, installed_lines}
+use Rattle.store.specs.FoundInputs.{IsAnsweredBy}
+use Rattle.store.specs.Runs.{IsAnswerForInputs}
 use Rattle.store.proofs.CheckedInputs.{held_length, read_as_inputs, read_bytes, same_read}
 use Rattle.store.proofs.Flow.{first_passed, first_refused, no_value}
 use Rattle.store.proofs.NoDevice.{handed_other, read_other}
 use Rattle.store.proofs.PlannedPart.{answers_as, unchanged}
+use Rattle.store.proofs.RunPart.{run_as}
 use Rattle.store.proofs.held_compaction.install_held.Goals as goal
 
 pub stated_tables-requires : goal.stated_tables-requires
@@ -40,6 +43,10 @@ returns-in_err-tables-clause-answer g c files told current =
 
 pub returns-in_err-tables-clause-left : goal.returns-in_err-tables-clause-left
 returns-in_err-tables-clause-left g c files order loaded level told current named can =
+    inl (unchanged (g.F.Folder.calls c.args.folder.now) (g.F.Folder.tells c.args.folder.now) c.from_residual.result _ c.from_residual.ensures.1)
+
+pub returns-in_err-tables-clause-runs : goal.returns-in_err-tables-clause-runs
+returns-in_err-tables-clause-runs g c =
     inl (unchanged (g.F.Folder.calls c.args.folder.now) (g.F.Folder.tells c.args.folder.now) c.from_residual.result _ c.from_residual.ensures.1)
 
 pub returns-in_err-tables-clause-other : goal.returns-in_err-tables-clause-other
@@ -102,3 +109,21 @@ returns-clause-left g c files order loaded level told current named can =
     let found = subst (λ (fs : List InputFile). input_tables cmp fs own ≡ Ok c.in_ok-tables.tables.items) c.deref.ensures.value c.in_ok-tables.ensures in
     let bytes = ap (map (λ (t : Contents). t.bytes)) c.deref-2.ensures.value ∙ read_bytes cmp p.files own c.in_ok-tables.tables.items found ∙ c.requires.bytes in
     c.install_checked.ensures.left files order own loaded level told current bytes named can
+
+pub returns-clause-runs : goal.returns-clause-runs
+returns-clause-runs g c =
+    let cmp = g.C.Comparator.cmp in
+    let keys = g.C.Comparator.short_keys in
+    let v = c.args.opened.now.version in
+    let own = held_bytes c.args.held.now in
+    let p = picked_in c.args.picked.now in
+    let s = c.args.settings.now in
+    let calls = g.F.Folder.calls in
+    let tells = g.F.Folder.tells in
+    let contents = c.in_ok-tables.tables.items in
+    let found = subst (λ (fs : List InputFile). input_tables cmp fs own ≡ Ok contents) c.deref.ensures.value c.in_ok-tables.ensures in
+    let bytes = ap (map (λ (t : Contents). t.bytes)) c.deref-2.ensures.value ∙ read_bytes cmp p.files own contents found ∙ c.requires.bytes in
+    run_as (IsAnsweredBy (compaction_from None cmp keys v own p s) (installed_lines v p)) (IsAnswerForInputs cmp keys v own p s)
+    g.C.Comparator.name_bytes cmp v (calls c.args.folder.now) (calls c.install_checked.new.folder) (tells c.args.folder.now) (tells c.install_checked.new.folder) c.install_checked.result
+    (λ answer lines h. record { contents = contents; stated = found; answered = h.0; told = h.1 })
+    (c.install_checked.ensures.runs own bytes)

@@ -5,9 +5,12 @@ use Rattle.pick.specs.PickedInputs.{picked_in}
 use Rattle.checks.specs.HeldBytes.{held_bytes}
 use Rattle.store.specs.FoundInputs.{IsInputsFound}
 use Rattle.store.specs.InputsCompaction.{IsInputsCompacted, IsReadTold, installed_lines}
+use Rattle.store.specs.Runs.{IsAnswerForInputs, IsAnswerForLevel}
 use Rattle.store.proofs.Compactions.{is_compacted, picked_of}
 use Rattle.store.proofs.Flow.{no_value, told_still}
 use Rattle.store.proofs.FoundInputs.{inputs_found, inputs_refused, level_told}
+use Rattle.store.proofs.HeldInputs.{numbers_held}
+use Rattle.store.proofs.RunPart.{run_as, run_since}
 use Rattle.store.proofs.PlannedPart.{answers_as, step_since}
 use Rattle.store.proofs.input_compaction.compact_step.Goals as goal
 
@@ -26,6 +29,10 @@ returns-in_err-inputs-clause-answer g c files told current are =
 
 pub returns-in_err-inputs-clause-left : goal.returns-in_err-inputs-clause-left
 returns-in_err-inputs-clause-left g c files order loaded tables told current are named reads sound =
+    inl (record { calls = c.level_inputs.ensures.reads.calls; same = c.level_inputs.ensures.reads.same; refused = no_value c.from_residual.result _ c.from_residual.ensures.1 })
+
+pub returns-in_err-inputs-clause-runs : goal.returns-in_err-inputs-clause-runs
+returns-in_err-inputs-clause-runs g c =
     inl (record { calls = c.level_inputs.ensures.reads.calls; same = c.level_inputs.ensures.reads.same; refused = no_value c.from_residual.result _ c.from_residual.ensures.1 })
 
 pub returns-in_err-inputs-clause-other : goal.returns-in_err-inputs-clause-other
@@ -71,6 +78,25 @@ returns-clause-left g c files order loaded tables told current are named reads s
     (c.install_held.ensures.left files order loaded c.args.level now current named
     (λ answer is log previous.
     is_compacted cmp keys c.numbered_is_installed.ensures order v loaded tables c.args.level None p s answer sound c.in_ok-inputs.ensures.state (picked_of cmp v c.args.level p given.picked) log previous (sym same ∙ is)))
+
+pub returns-clause-runs : goal.returns-clause-runs
+returns-clause-runs g c =
+    let cmp = g.C.Comparator.cmp in
+    let keys = g.C.Comparator.short_keys in
+    let v = c.args.opened.now.version in
+    let s = c.args.settings.now in
+    let name = g.C.Comparator.name_bytes in
+    let calls = g.F.Folder.calls in
+    let tells = g.F.Folder.tells in
+    let p = picked_in c.in_ok-inputs.inputs.picked in
+    let held = c.in_ok-inputs.inputs.tables in
+    let own = held_bytes held in
+    let level = IsAnswerForLevel cmp keys v c.args.level s in
+    run_since level name cmp v (calls c.args.folder.now) (calls c.level_inputs.new.folder) (calls c.install_held.new.folder) (tells c.args.folder.now) (tells c.level_inputs.new.folder) (tells c.install_held.new.folder) c.install_held.result
+    c.level_inputs.ensures.reads.calls c.level_inputs.ensures.reads.same
+    (run_as (IsAnswerForInputs cmp keys v own p s) level name cmp v (calls c.level_inputs.new.folder) (calls c.install_held.new.folder) (tells c.level_inputs.new.folder) (tells c.install_held.new.folder) c.install_held.result
+    (λ answer lines h. record { picked = p; is_picked = c.in_ok-inputs.ensures.picked; loaded = own; numbered = numbers_held held ∙ c.in_ok-inputs.ensures.numbers; is_answer = h })
+    c.install_held.ensures.runs)
 
 pub returns-clause-other : goal.returns-clause-other
 returns-clause-other g c files told other =

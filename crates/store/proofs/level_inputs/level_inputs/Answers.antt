@@ -106,5 +106,15 @@ returns-clause-bytes g c =
     c.inputs_in_order.ensures v c.args.level p (held_bytes c.in_ok-tables.tables) c.in_ok-picked.ensures.state.apart (picked_of cmp v c.args.level p c.in_ok-picked.ensures.picked)
     (numbers_held c.in_ok-tables.tables ∙ c.in_ok-tables.ensures.numbers ∙ numbers)
 
+pub returns-clause-picked : goal.returns-clause-picked
+returns-clause-picked g c =
+    picked_of g.C.Comparator.cmp c.args.version.now c.args.level (picked_in c.in_ok-picked.picked) c.in_ok-picked.ensures.picked
+
+pub returns-clause-numbers : goal.returns-clause-numbers
+returns-clause-numbers g c =
+    let p = picked_in c.in_ok-picked.picked in
+    let numbers : c.deref-2.result.now ≡ input_numbers p.files = c.deref-2.ensures.value ∙ sym (ok_is _ _ c.in_ok-numbers.ensures) ∙ ap input_numbers c.deref.ensures.value in
+    c.in_ok-tables.ensures.numbers ∙ numbers
+
 pub returns-clause-device : goal.returns-clause-device
 returns-clause-device g c = reports_after _ c.in_ok-tables.was c.checked_tables.ensures.device tt

@@ -4,13 +4,16 @@ use Rattle.compact.specs.GroupedAnswer.{joined_answer}
 use Rattle.folder.proofs.ReportLemmas.{reports_after, reports_handed, reports_steady}
 use Rattle.folder.specs.Names.{current_text}
 use Rattle.install.specs.Install.{manifest_bytes}
+use Rattle.request.specs.OneThread.{Answer}
 use Rattle.store.specs.FolderRequest.{manifest_of}
+use Rattle.store.specs.FoundInputs.{IsAnsweredBy}
 use Rattle.store.specs.Lines.{compaction_lines}
 use Rattle.store.specs.declared.compaction_step.CompactionStep.{CompactionStep}
 use Rattle.store.proofs.Flow.{no_value, stopped_on}
 use Rattle.store.proofs.InstallPart.{Promises, refused_ok, refused_on, stopped_named, valued_on}
 use Rattle.store.proofs.NoDevice.{handed_other}
 use Rattle.store.proofs.PlannedPart.{lines_refused, lines_told, memory_answers, memory_apart, unchanged}
+use Rattle.store.proofs.RunPart.{install_done, install_refused}
 use Rattle.store.proofs.StepPart.{current_named, no_ok, step_installed}
 use Rattle.store.proofs.planned_installation.install_merged.Goals as goal
 
@@ -24,6 +27,10 @@ returns-in_err-planned-clause-answer g c files told current =
 
 pub returns-in_err-planned-clause-left : goal.returns-in_err-planned-clause-left
 returns-in_err-planned-clause-left g c files order loaded level s told current named can =
+    inl (unchanged (g.F.Folder.calls c.args.folder.now) (g.F.Folder.tells c.args.folder.now) c.from_residual.result _ c.from_residual.ensures.1)
+
+pub returns-in_err-planned-clause-runs : goal.returns-in_err-planned-clause-runs
+returns-in_err-planned-clause-runs g c =
     inl (unchanged (g.F.Folder.calls c.args.folder.now) (g.F.Folder.tells c.args.folder.now) c.from_residual.result _ c.from_residual.ensures.1)
 
 pub returns-in_err-planned-clause-other : goal.returns-in_err-planned-clause-other
@@ -43,6 +50,10 @@ returns-in_err-step-clause-answer g c files told current =
 
 pub returns-in_err-step-clause-left : goal.returns-in_err-step-clause-left
 returns-in_err-step-clause-left g c files order loaded level s told current named can =
+    inl (unchanged (g.F.Folder.calls c.args.folder.now) (g.F.Folder.tells c.args.folder.now) c.from_residual-in_err-step.result _ c.from_residual-in_err-step.ensures.1)
+
+pub returns-in_err-step-clause-runs : goal.returns-in_err-step-clause-runs
+returns-in_err-step-clause-runs g c =
     inl (unchanged (g.F.Folder.calls c.args.folder.now) (g.F.Folder.tells c.args.folder.now) c.from_residual-in_err-step.result _ c.from_residual-in_err-step.ensures.1)
 
 pub returns-in_err-step-clause-other : goal.returns-in_err-step-clause-other
@@ -81,6 +92,23 @@ returns-in_err-install_planned-clause-left g c files order loaded level s told c
     (λ P x. refused_on c.install_planned.result q e P h x) refl (λ name held. ((λ x. x), (λ x. x)))
     (no_ok _ q e h) (refused_ok q e _ h)
     (stopped_named (failed a) (failed n) q e h (c.in_err-install_planned.ensures.same_current files told current)) promises
+
+pub returns-in_err-install_planned-clause-runs : goal.returns-in_err-install_planned-clause-runs
+returns-in_err-install_planned-clause-runs g c =
+    let v = c.args.opened.now.version in
+    let calls = g.F.Folder.calls in
+    let tells = g.F.Folder.tells in
+    let failed = g.F.Folder.failed in
+    let a = c.args.folder.now in
+    let n = c.install_planned.new.folder in
+    let planned = c.in_ok-planned.planned in
+    let answer = joined_answer planned in
+    let tell = λ (a : Answer). compaction_lines a.tables c.args.inputs.now (manifest_of v) in
+    let done = c.install_planned.ensures in
+    install_refused (IsAnsweredBy c.args.merged.now tell) g.C.Comparator.name_bytes g.C.Comparator.cmp v c.manifest_of-number.result planned.groups answer (tell answer)
+    (calls a) (calls n) (tells a) (tells n) (failed a) (failed n) c.install_planned.result c.from_residual-in_err-install_planned.result c.in_err-install_planned.field-0.0
+    c.manifest_of-number.ensures refl (c.in_ok-planned.ensures.answer, refl) c.in_err-install_planned.was c.from_residual-in_err-install_planned.ensures.1
+    done.runs done.left done.refused
 
 pub returns-in_err-install_planned-clause-other : goal.returns-in_err-install_planned-clause-other
 returns-in_err-install_planned-clause-other g c files told other = no_value c.from_residual-in_err-install_planned.result _ c.from_residual-in_err-install_planned.ensures.1
@@ -124,6 +152,24 @@ returns-clause-left g c files order loaded level s told current named can =
     named (can answer c.in_ok-planned.ensures.answer)
     (λ P x. valued_on c.install_planned.result _ q P c.in_ok-install_planned.was x) refl (λ name held. ((λ x. x), (λ x. x)))
     now (lines, c.in_ok-step.ensures.edit) tt promises
+
+pub returns-clause-runs : goal.returns-clause-runs
+returns-clause-runs g c =
+    let v = c.args.opened.now.version in
+    let calls = g.F.Folder.calls in
+    let tells = g.F.Folder.tells in
+    let a = c.args.folder.now in
+    let n = c.install_planned.new.folder in
+    let planned = c.in_ok-planned.planned in
+    let answer = joined_answer planned in
+    let inputs = c.args.inputs.now in
+    let tell = λ (a : Answer). compaction_lines a.tables inputs (manifest_of v) in
+    let lines : c.in_ok-step.step.lines.items ≡ tell answer =
+    c.in_ok-step.ensures.lines ∙ ap (λ (m : ℕ). compaction_lines answer.tables inputs m) c.manifest_of-number.ensures in
+    install_done (IsAnsweredBy c.args.merged.now tell) g.C.Comparator.name_bytes g.C.Comparator.cmp v c.manifest_of-number.result planned.groups answer (tell answer)
+    (calls a) (calls n) (tells a) (tells n) c.install_planned.result _ c.in_ok-step.step
+    c.manifest_of-number.ensures refl (c.in_ok-planned.ensures.answer, refl) c.in_ok-install_planned.was
+    c.install_planned.ensures.runs lines c.in_ok-step.ensures.edit
 
 pub returns-clause-other : goal.returns-clause-other
 returns-clause-other g c files told other = c.in_ok-install_planned.ensures.other_current files told other

@@ -1,0 +1,203 @@
+-- The calls of a compaction, as a part of those of the call.
+use Rattle.std.proofs.Common.{◌≡◌, ◌⊎◌, ℕ, List, ◌++◌, map, codes, Option, Some, Result, Ok, Err, IfErr, IsErrAnd, OnOk, refl, sym, ap, subst, ◌∙◌, inl, inr}
+use Rattle.std.specs.declared.cmp.Ordering.{Ordering}
+use Rattle.coding.proofs.Refusals.{unless_from}
+use Rattle.coding.specs.Answers.{UnlessMemory, fault}
+use Rattle.coding.specs.declared.fault.Fault.{Fault}
+use Rattle.coding.specs.declared.fault.FaultName.TheVariants.{Changed, Device}
+use Rattle.edit.specs.Version.{State}
+use Rattle.folder.proofs.LoadingLemmas.{told_since}
+use Rattle.folder.specs.Calls.{Call, Done, Files, Step, Tells}
+use Rattle.folder.specs.CallSequence.{MakesCalls}
+use Rattle.folder.specs.Folder.{TellsSame}
+use Rattle.folder.specs.Manifest.{order_name}
+use Rattle.folder.specs.Names.{current_text}
+use Rattle.folder.specs.OpenAnswer.{IsOpened}
+use Rattle.folder.specs.Orders.{order_cmp, order_short_keys}
+use Rattle.folder.specs.declared.order.Order.{Order}
+use Rattle.install.specs.GroupedInstallation.{tables_of_groups}
+use Rattle.install.specs.Install.{IsStoppedOrChanged, calls_before_rename, install_calls, manifest_bytes}
+use Rattle.install.proofs.Moments.{made_by}
+use Rattle.request.specs.OneThread.{Answer}
+use Rattle.settings.specs.declared.settings.Settings.{Settings}
+use Rattle.store.specs.Compaction.{IsSynced}
+use Rattle.store.specs.FolderRequest.{manifest_of}
+use Rattle.store.specs.Runs.{IsAnswerForLevel, IsAnswerInstalled, IsFolderRun, IsLevelRun, IsRun}
+use Rattle.store.specs.VersionSync.{sync_calls}
+use Rattle.store.specs.declared.compaction_step.CompactionStep.{CompactionStep}
+use Rattle.store.proofs.InstallPart.{all_made, refused_ok, still}
+use Rattle.store.proofs.SyncsTold.{syncs_tell}
+
+abbrev Told : Type 1
+Told = List ℕ → Option (List ℕ) → Type 0
+
+-- ---- calls of an installation
+
+-- calls that were refused, as those of the answer that hands the refusal on
+pub handed_calls : {T U : Type 0} (calls : List Call) (before after : List Step) (old new : Told) (r : Result T Fault) (q : Result U Fault) (e : Fault) → r ≡ Err e → IsErrAnd q (λ f. f ≡ e) → MakesCalls calls before after old new r → MakesCalls calls before after old new q
+handed_calls calls before after old new r (Ok x) e was h k = absurd h
+handed_calls {T = T} {U = U} calls before after old new r (Err f) e was h k =
+    let same : MakesCalls {T = T} {E = Fault} calls before after old new (Err e) = subst (λ (a : Result T Fault). MakesCalls calls before after old new a) was k in
+    record { steps = same.steps; made = same.made; appended = same.appended; change = same.change }
+
+-- and those that were all made
+pub passed_calls : {T U : Type 0} (calls : List Call) (before after : List Step) (old new : Told) (r : Result T Fault) (x : T) (y : U) → r ≡ Ok x → MakesCalls calls before after old new r → MakesCalls {T = U} {E = Fault} calls before after old new (Ok y)
+passed_calls {T = T} calls before after old new r x y was k =
+    let same : MakesCalls {T = T} {E = Fault} calls before after old new (Ok x) = subst (λ (a : Result T Fault). MakesCalls calls before after old new a) was k in
+    record { steps = same.steps; made = same.made; appended = same.appended; change = same.change }
+
+-- what holds of a refusal holds where it is handed on
+pub handed_err : {T U : Type 0} (r : Result T Fault) (q : Result U Fault) (e : Fault) (P : Fault → Type 0) → r ≡ Err e → IsErrAnd q (λ f. f ≡ e) → IfErr r P → IfErr q P
+handed_err r (Ok x) e P was h given = absurd h
+handed_err {T = T} r (Err f) e P was h given =
+    let at : P e = subst (λ (a : Result T Fault). IfErr a P) was given in
+    subst P (sym h) at
+
+stopped_as : {T : Type 0} (before now : ℕ) (r : Result T Fault) → IfErr r (λ e. UnlessMemory e (IsStoppedOrChanged before now e)) → IfErr r (λ e. UnlessMemory e ((e ≡ fault Device) ⊎ (e ≡ fault Changed)))
+stopped_as before now (Ok x) given = tt
+stopped_as before now (Err e) given = unless_from e (IsStoppedOrChanged before now e) ((e ≡ fault Device) ⊎ (e ≡ fault Changed)) (λ h. elim h [
+  | inl stopped ↦ inl stopped.0
+  | inr changed ↦ inr changed
+]) given
+
+-- an installation by the manifest of the version was refused
+pub install_refused : {T : Type 0} (IsAnswer : Answer → List ℕ → Type 0) (name : List ℕ) (cmp : List ℕ → List ℕ → Ordering) (v : State) (number : ℕ) (groups : List (List (ℕ × List ℕ))) (answer : Answer) (lines : List ℕ)
+    (before after : List Step) (old new : Told) (failed now : ℕ) (r : Result T Fault) (q : Result CompactionStep Fault) (e : Fault) → number ≡ manifest_of v → tables_of_groups groups ≡ answer.tables → IsAnswer answer lines → r ≡ Err e → IsErrAnd q (λ f. f ≡ e)
+    → MakesCalls (install_calls number groups (manifest_bytes name cmp v answer.edit)) before after old new r
+    → IfErr r (λ f. f ≡ fault Changed → after ≡ before ++ map Done (calls_before_rename number groups (manifest_bytes name cmp v answer.edit)))
+    → IfErr r (λ f. UnlessMemory f (IsStoppedOrChanged failed now f)) → IsRun IsAnswer name cmp v before after old new q
+install_refused IsAnswer name cmp v number groups answer lines before after old new failed now r q e numbered joined is was h runs changed refused =
+    let manifest = manifest_bytes name cmp v answer.edit in
+    inr (record {
+      answer = answer;
+      lines = lines;
+      is_answer = is;
+      calls = record {
+        groups = groups;
+        together = joined;
+        runs = handed_calls (install_calls (manifest_of v) groups manifest) before after old new r q e was h
+            (subst (λ (n : ℕ). MakesCalls (install_calls n groups manifest) before after old new r) numbered runs);
+        changed = handed_err r q e (λ f. f ≡ fault Changed → after ≡ before ++ map Done (calls_before_rename (manifest_of v) groups manifest)) was h
+            (subst (λ (n : ℕ). IfErr r (λ f. f ≡ fault Changed → after ≡ before ++ map Done (calls_before_rename n groups manifest))) numbered changed);
+      };
+      step = refused_ok q e (λ step. (step.lines.items ≡ lines) × (step.edit.items ≡ answer.edit)) h;
+      refused = handed_err r q e (λ f. UnlessMemory f ((f ≡ fault Device) ⊎ (f ≡ fault Changed))) was h (stopped_as failed now r refused);
+    })
+
+-- and this one was done
+pub install_done : {T : Type 0} (IsAnswer : Answer → List ℕ → Type 0) (name : List ℕ) (cmp : List ℕ → List ℕ → Ordering) (v : State) (number : ℕ) (groups : List (List (ℕ × List ℕ))) (answer : Answer) (lines : List ℕ)
+    (before after : List Step) (old new : Told) (r : Result T Fault) (x : T) (step : CompactionStep) → number ≡ manifest_of v → tables_of_groups groups ≡ answer.tables → IsAnswer answer lines → r ≡ Ok x
+    → MakesCalls (install_calls number groups (manifest_bytes name cmp v answer.edit)) before after old new r
+    → step.lines.items ≡ lines → step.edit.items ≡ answer.edit → IsRun IsAnswer name cmp v before after old new (Ok step)
+install_done IsAnswer name cmp v number groups answer lines before after old new r x step numbered joined is was runs told edit =
+    let manifest = manifest_bytes name cmp v answer.edit in
+    inr (record {
+      answer = answer;
+      lines = lines;
+      is_answer = is;
+      calls = record {
+        groups = groups;
+        together = joined;
+        runs = passed_calls (install_calls (manifest_of v) groups manifest) before after old new r x step was
+            (subst (λ (n : ℕ). MakesCalls (install_calls n groups manifest) before after old new r) numbered runs);
+        changed = tt;
+      };
+      step = (told, edit);
+      refused = tt;
+    })
+
+-- ---- the same calls, told otherwise
+
+-- an answer that is another one too
+pub run_as : (IsOne IsOther : Answer → List ℕ → Type 0) (name : List ℕ) (cmp : List ℕ → List ℕ → Ordering) (v : State) (before after : List Step) (old new : Told) (r : Result CompactionStep Fault)
+    → ((answer : Answer) (lines : List ℕ) → IsOne answer lines → IsOther answer lines) → IsRun IsOne name cmp v before after old new r → IsRun IsOther name cmp v before after old new r
+run_as IsOne IsOther name cmp v before after old new r f (inl u) = inl u
+run_as IsOne IsOther name cmp v before after old new r f (inr i) =
+    inr (record { answer = i.answer; lines = i.lines; is_answer = f i.answer i.lines i.is_answer; calls = i.calls; step = i.step; refused = i.refused })
+
+-- calls, told from earlier ones on
+pub calls_since : {T : Type 0} (calls : List Call) (first before after : List Step) (zero old new : Told) (r : Result T Fault) → before ≡ first → ((files : Files) → Tells zero files → Tells old files)
+    → MakesCalls calls before after old new r → MakesCalls calls first after zero new r
+calls_since calls first before after zero old new r same told k = record {
+  steps = k.steps;
+  made = k.made;
+  appended = k.appended ∙ ap (λ (t : List Step). t ++ k.steps) same;
+  change = λ s tells. k.change s (told s.files tells);
+}
+
+pub installed_since : (IsAnswer : Answer → List ℕ → Type 0) (name : List ℕ) (cmp : List ℕ → List ℕ → Ordering) (v : State) (first before after : List Step) (zero old new : Told) (r : Result CompactionStep Fault)
+    → before ≡ first → ((files : Files) → Tells zero files → Tells old files) → IsAnswerInstalled IsAnswer name cmp v before after old new r → IsAnswerInstalled IsAnswer name cmp v first after zero new r
+installed_since IsAnswer name cmp v first before after zero old new r same told i =
+    let manifest = manifest_bytes name cmp v i.answer.edit in
+    record {
+      answer = i.answer;
+      lines = i.lines;
+      is_answer = i.is_answer;
+      calls = record {
+        groups = i.calls.groups;
+        together = i.calls.together;
+        runs = calls_since (install_calls (manifest_of v) i.calls.groups manifest) first before after zero old new r same told i.calls.runs;
+        changed = subst (λ (b : List Step). IfErr r (λ e. e ≡ fault Changed → after ≡ b ++ map Done (calls_before_rename (manifest_of v) i.calls.groups manifest))) same i.calls.changed;
+      };
+      step = i.step;
+      refused = i.refused;
+    }
+
+-- a run, told from earlier calls on that only read
+pub run_since : (IsAnswer : Answer → List ℕ → Type 0) (name : List ℕ) (cmp : List ℕ → List ℕ → Ordering) (v : State) (first before after : List Step) (zero old new : Told) (r : Result CompactionStep Fault)
+    → before ≡ first → TellsSame zero old → IsRun IsAnswer name cmp v before after old new r → IsRun IsAnswer name cmp v first after zero new r
+run_since IsAnswer name cmp v first before after zero old new r same told (inl u) =
+    inl (record { calls = u.calls ∙ same; same = told_since zero old new told u.same; refused = u.refused })
+run_since IsAnswer name cmp v first before after zero old new r same told (inr i) =
+    inr (installed_since IsAnswer name cmp v first before after zero old new r same (still zero old told) i)
+
+-- ---- opened and synced folders
+
+-- only syncs were made, and no value answered
+synced_only : {T : Type 0} (order : Order) (v : State) (manifest : ℕ) (first before synced after : List Step) (zero old middle new : Told) (r : Result T Fault) (q : Result CompactionStep Fault)
+    → before ≡ first → TellsSame zero old → MakesCalls (sync_calls (order_cmp order) v manifest) before synced old middle r → after ≡ synced → TellsSame middle new → OnOk q ⊥
+    → IsSynced (sync_calls (order_cmp order) v manifest) first after zero new q
+synced_only order v manifest first before synced after zero old middle new r q is same runs still_calls still_told refused =
+    let calls = sync_calls (order_cmp order) v manifest in
+    record {
+      steps = runs.steps;
+      made = made_by calls runs.steps r runs.made;
+      calls = still_calls ∙ (runs.appended ∙ ap (λ (t : List Step). t ++ runs.steps) is);
+      same = λ fs tells. still middle new still_told fs (syncs_tell (order_cmp order) v manifest before synced old middle r runs fs (still zero old same fs tells));
+      refused = refused;
+    }
+
+-- the version was opened, and its sync was refused
+pub sync_stopped : {T : Type 0} (order : Order) (v : State) (manifest level : ℕ) (s : Settings) (first before after : List Step) (zero old new : Told) (r : Result T Fault) (q : Result CompactionStep Fault)
+    → IsOpened zero (Ok (order, v)) → zero (codes "CURRENT") (Some (current_text manifest)) → before ≡ first → TellsSame zero old → MakesCalls (sync_calls (order_cmp order) v manifest) before after old new r → OnOk q ⊥
+    → IsFolderRun level s first after zero new q
+sync_stopped order v manifest level s first before after zero old new r q opened named is same runs refused =
+    inr (record {
+      order = order;
+      version = v;
+      manifest = manifest;
+      opened = opened;
+      named = named;
+      runs = inl (synced_only order v manifest first before after after zero old new new r q is same runs refl (λ name held. ((λ x. x), (λ x. x))) refused);
+    })
+
+-- the version was opened and synced, and then its level was compacted
+pub synced_run : {T : Type 0} (order : Order) (v : State) (manifest level : ℕ) (s : Settings) (first before synced after : List Step) (zero old middle new : Told) (r : Result T Fault) (x : T) (q : Result CompactionStep Fault)
+    → IsOpened zero (Ok (order, v)) → zero (codes "CURRENT") (Some (current_text manifest)) → before ≡ first → TellsSame zero old → r ≡ Ok x → MakesCalls (sync_calls (order_cmp order) v manifest) before synced old middle r
+    → IsLevelRun (order_name order) (order_cmp order) (order_short_keys order) v level s synced after middle new q → IsFolderRun level s first after zero new q
+synced_run order v manifest level s first before synced after zero old middle new r x q opened named is same was runs run =
+    let calls = sync_calls (order_cmp order) v manifest in
+    let told = λ (fs : Files) (tells : Tells zero fs). syncs_tell (order_cmp order) v manifest before synced old middle r runs fs (still zero old same fs tells) in
+    let all : runs.steps ≡ map Done calls = all_made calls runs.steps r x was runs.made in
+    inr (record {
+      order = order;
+      version = v;
+      manifest = manifest;
+      opened = opened;
+      named = named;
+      runs = elim run [
+        | inl u ↦ inl (synced_only order v manifest first before synced after zero old middle new r q is same runs u.calls u.same u.refused)
+        | inr i ↦ inr (installed_since (IsAnswerForLevel (order_cmp order) (order_short_keys order) v level s) (order_name order) (order_cmp order) v (first ++ map Done calls) synced after zero middle new q
+            (runs.appended ∙ (ap (λ (t : List Step). t ++ runs.steps) is ∙ ap (λ (t : List Step). first ++ t) all)) told i)
+      ];
+    })

@@ -1,0 +1,111 @@
+-- Which calls the compactions of all levels make on a folder, be it one that tells what it holds or
+-- not.
+use Rattle.std.specs.Prelude.{◌≡◌, ◌⊎◌, ℕ, List, [], ◌∷◌, ◌++◌, map, Some, None, Result, Ok}
+use Rattle.std.specs.Prelude.{IfOk, OnOk}
+use Rattle.std.specs.List.{flat_map}
+use Rattle.coding.specs.declared.fault.Fault.{Fault}
+use Rattle.edit.specs.Version.{State}
+use Rattle.folder.specs.Calls.{Call, Done, Step}
+use Rattle.folder.specs.CallSequence.{AreMadeBy}
+use Rattle.folder.specs.Manifest.{order_name}
+use Rattle.folder.specs.Orders.{order_cmp, order_short_keys}
+use Rattle.folder.specs.declared.order.Order.{Order}
+use Rattle.request.specs.OneThread.{Answer}
+use Rattle.install.specs.Install.{install_calls, manifest_bytes}
+use Rattle.settings.specs.declared.settings.Settings.{Settings}
+use Rattle.store.specs.Descent.{IsBottom, IsNextLevel}
+use Rattle.store.specs.FolderRequest.{manifest_of}
+use Rattle.store.specs.OpenedAfter.{IsOpenedAfter}
+use Rattle.store.specs.Runs.{IsAnswerForLevel}
+use Rattle.store.specs.declared.descent_end.DescentEnd.{DescentEnd}
+use Rattle.store.specs.declared.descent_end.DescentEnd.TheVariants.{AtBottom, Stopped}
+
+-- an answer that is installed: with its lines, and the groups in which its tables are written
+pub record GroupedAnswer : Type 0 where
+  pub answer : Answer
+  pub lines : List ℕ
+  pub groups : List (List (ℕ × List ℕ))
+
+-- it is one thread's answer for a level of this version
+pub record IsGroupedAnswer (order : Order) (v : State) (level : ℕ) (s : Settings)
+    (a : GroupedAnswer) : Type 0 where
+  pub is_answer : IsAnswerForLevel (order_cmp order) (order_short_keys order) v level s a.answer
+      a.lines
+  pub together : flat_map (λ (g : List (ℕ × List ℕ)). g) a.groups ≡ a.answer.tables
+
+-- the calls that install it
+abbrev pub calls_of_answer : Order → State → GroupedAnswer → List Call
+calls_of_answer order v a = install_calls (manifest_of v) a.groups
+    (manifest_bytes (order_name order) (order_cmp order) v a.answer.edit)
+
+-- One thread's answer for a level was installed, by calls up to one that fails.
+pub record IsLevelBegun {T : Type 0} (order : Order) (v : State) (level : ℕ) (s : Settings)
+    (before after : List Step) (result : Result T Fault) : Type 0 where
+  pub installed : GroupedAnswer
+  pub is_answer : IsGroupedAnswer order v level s installed
+  pub steps : List Step
+  pub made : AreMadeBy (calls_of_answer order v installed) steps result
+  pub appended : after ≡ before ++ steps
+
+-- no call that writes was made
+pub record MakesNoCalls {T : Type 0} (before after : List Step) (result : Result T Fault)
+    : Type 0 where
+  pub calls : after ≡ before
+  pub refused : OnOk result ⊥
+
+-- a compaction in a row of them: its level, what was installed, and the version that it leaves
+pub record LevelLink : Type 0 where
+  pub level : ℕ
+  pub installed : GroupedAnswer
+  pub next : State
+
+-- It is a compaction of this version, of the first level above the bottom that has a file.
+pub record IsLevelLink (order : Order) (s : Settings) (bottom : ℕ) (v : State) (l : LevelLink)
+    : Type 0 where
+  pub next_level : IsNextLevel v bottom (Some l.level)
+  pub is_answer : IsGroupedAnswer order v l.level s l.installed
+  pub edited : IsOpenedAfter order v l.installed.answer.edit (Ok (order, l.next, manifest_of v))
+
+-- compactions, each of the version that the one before it leaves
+abbrev pub AreLevelLinks : Order → Settings → ℕ → State → List LevelLink → Type 0
+AreLevelLinks order s bottom v [] = Unit {0}
+AreLevelLinks order s bottom v (l ∷ links) = IsLevelLink order s bottom v l
+    × AreLevelLinks order s bottom l.next links
+
+-- the version that they leave
+abbrev pub version_after : State → List LevelLink → State
+version_after v [] = v
+version_after v (l ∷ links) = version_after l.next links
+
+-- their steps, none of which failed
+abbrev pub steps_of_links : Order → State → List LevelLink → List Step
+steps_of_links order v [] = []
+steps_of_links order v (l ∷ links) = map Done (calls_of_answer order v l.installed)
+    ++ steps_of_links order l.next links
+
+-- the last compaction of a row, after which none follows: it failed, or the caller said to stop
+pub record IsLastBegun (order : Order) (s : Settings) (bottom : ℕ) (v : State)
+    (before after : List Step) (result : Result DescentEnd Fault) : Type 0 where
+  pub level : ℕ
+  pub next_level : IsNextLevel v bottom (Some level)
+  pub begun : IsLevelBegun order v level s before after result
+  pub stopped : IfOk result (λ e. e ≡ Stopped)
+
+-- Compactions of one level after the other were made, each of the version that the one before it
+-- leaves, and at most one more was begun. If none more was, at Ok no file is above the bottom.
+pub record IsDescentRun (order : Order) (s : Settings) (v : State) (before after : List Step)
+    (result : Result DescentEnd Fault) : Type 0 where
+  pub bottom : ℕ
+  pub is_bottom : IsBottom v bottom
+  pub links : List LevelLink
+  pub chain : AreLevelLinks order s bottom v links
+  pub last : ((after ≡ before ++ steps_of_links order v links)
+      × IfOk result (λ e. (e ≡ AtBottom) × IsNextLevel (version_after v links) bottom None))
+      ⊎ IsLastBegun order s bottom (version_after v links)
+      (before ++ steps_of_links order v links) after result
+
+-- no call that writes was made; or these are the calls
+abbrev pub IsAllLevelsRun : Order → Settings → State → List Step → List Step →
+    Result DescentEnd Fault → Type 0
+IsAllLevelsRun order s v before after result =
+    MakesNoCalls before after result ⊎ IsDescentRun order s v before after result

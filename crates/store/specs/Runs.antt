@@ -1,0 +1,108 @@
+-- Which calls a compaction makes on a folder, be it one that tells what it holds or not.
+use Rattle.std.specs.Prelude.{◌≡◌, ◌⊎◌, ℕ, List, ◌++◌, codes, map, Some, Result, Ok, IfErr, IfOk}
+use Rattle.std.specs.List.{flat_map}
+use Rattle.coding.specs.Answers.{UnlessMemory, fault}
+use Rattle.coding.specs.declared.fault.Fault.{Fault}
+use Rattle.coding.specs.declared.fault.FaultName.TheVariants.{Changed, Device}
+use Rattle.ikey.specs.Comparator.{KeyOrder, ShortKeys}
+use Rattle.table.specs.TableContents.{Contents}
+use Rattle.edit.specs.Version.{State}
+use Rattle.folder.specs.Calls.{Done, Step, ToldFiles}
+use Rattle.folder.specs.CallSequence.{MakesCalls}
+use Rattle.folder.specs.Manifest.{order_name}
+use Rattle.folder.specs.Names.{current_text}
+use Rattle.folder.specs.OpenAnswer.{IsOpened}
+use Rattle.folder.specs.Orders.{order_cmp, order_short_keys}
+use Rattle.folder.specs.declared.order.Order.{Order}
+use Rattle.pick.specs.PickedInputs.{IsPicked, PickedInputs}
+use Rattle.request.specs.OneThread.{Answer}
+use Rattle.install.specs.Install.{calls_before_rename, install_calls, manifest_bytes, numbers_of}
+use Rattle.settings.specs.declared.settings.Settings.{Settings}
+use Rattle.store.specs.Compaction.{IsSynced, IsUnchanged}
+use Rattle.store.specs.FolderRequest.{compaction_of, manifest_of}
+use Rattle.store.specs.InputsCompaction.{input_numbers, input_tables, installed_lines}
+use Rattle.store.specs.VersionSync.{sync_calls}
+use Rattle.store.specs.declared.compaction_step.CompactionStep.{CompactionStep}
+
+-- The calls of the installation of an answer, up to one that fails. Its tables are written in
+-- groups; the manifest has the version and the answer's edit. At Changed all calls before the
+-- rename were made, and no others.
+pub record AreInstallCalls {T : Type 0} (name : List ℕ) (cmp : KeyOrder) (v : State)
+    (answer : Answer) (before after : List Step) (old new : ToldFiles) (result : Result T Fault)
+    : Type 0 where
+  pub groups : List (List (ℕ × List ℕ))
+  pub together : flat_map (λ (g : List (ℕ × List ℕ)). g) groups ≡ answer.tables
+  pub runs : MakesCalls
+      (install_calls (manifest_of v) groups (manifest_bytes name cmp v answer.edit))
+      before after old new result
+  pub changed : IfErr result (λ e. e ≡ fault Changed → after ≡ before ++ map Done
+      (calls_before_rename (manifest_of v) groups (manifest_bytes name cmp v answer.edit)))
+
+-- An answer like this was installed: these are its calls. At Ok the step has its edit and its
+-- lines. The only faults are Device, Changed and Memory.
+pub record IsAnswerInstalled (IsAnswer : Answer → List ℕ → Type 0) (name : List ℕ) (cmp : KeyOrder)
+    (v : State) (before after : List Step) (old new : ToldFiles)
+    (result : Result CompactionStep Fault) : Type 0 where
+  pub answer : Answer
+  pub lines : List ℕ
+  pub is_answer : IsAnswer answer lines
+  pub calls : AreInstallCalls name cmp v answer before after old new result
+  pub step : IfOk result
+      (λ step. (step.lines.items ≡ lines) × (step.edit.items ≡ answer.edit))
+  pub refused : IfErr result
+      (λ e. UnlessMemory e ((e ≡ fault Device) ⊎ (e ≡ fault Changed)))
+
+-- no call that writes was made; or an answer like this was installed
+abbrev pub IsRun : (Answer → List ℕ → Type 0) → List ℕ → KeyOrder → State → List Step →
+    List Step → ToldFiles → ToldFiles → Result CompactionStep Fault → Type 0
+IsRun IsAnswer name cmp v before after old new result =
+    IsUnchanged before after old new result
+    ⊎ IsAnswerInstalled IsAnswer name cmp v before after old new result
+
+-- What one thread answers for inputs with these tables. Each table is valid, and as its file
+-- states.
+pub record IsAnswerForInputs (cmp : KeyOrder) (short_keys : ShortKeys) (v : State)
+    (loaded : List (ℕ × List ℕ)) (p : PickedInputs) (s : Settings) (answer : Answer)
+    (lines : List ℕ) : Type 0 where
+  pub contents : List Contents
+  pub stated : input_tables cmp p.files loaded ≡ Ok contents
+  pub answered : compaction_of cmp short_keys v loaded p s ≡ Ok answer
+  pub told : lines ≡ installed_lines v p answer
+
+-- What one thread answers for the inputs that are picked of a level, with the tables of their
+-- numbers.
+pub record IsAnswerForLevel (cmp : KeyOrder) (short_keys : ShortKeys) (v : State) (level : ℕ)
+    (s : Settings) (answer : Answer) (lines : List ℕ) : Type 0 where
+  pub picked : PickedInputs
+  pub is_picked : IsPicked cmp v level picked
+  pub loaded : List (ℕ × List ℕ)
+  pub numbered : numbers_of loaded ≡ input_numbers picked.files
+  pub is_answer : IsAnswerForInputs cmp short_keys v loaded picked s answer lines
+
+-- no call that writes was made; or one thread's answer for a level of this version was installed
+abbrev pub IsLevelRun : List ℕ → KeyOrder → ShortKeys → State → ℕ → Settings → List Step →
+    List Step → ToldFiles → ToldFiles → Result CompactionStep Fault → Type 0
+IsLevelRun name cmp short_keys v level s before after old new result =
+    IsRun (IsAnswerForLevel cmp short_keys v level s) name cmp v before after old new result
+
+-- A version was opened by the manifest of a number, as the bytes say that were read. Then the
+-- syncs of it were made, up to one that failed, and no other call that writes. Or all of them were
+-- made, and after them one thread's answer for a level was installed.
+pub record IsOpenedRun (level : ℕ) (s : Settings) (before after : List Step) (old new : ToldFiles)
+    (result : Result CompactionStep Fault) : Type 0 where
+  pub order : Order
+  pub version : State
+  pub manifest : ℕ
+  pub opened : IsOpened old (Ok (order, version))
+  pub named : old (codes "CURRENT") (Some (current_text manifest))
+  pub runs : IsSynced (sync_calls (order_cmp order) version manifest) before after old new result
+      ⊎ IsAnswerInstalled
+      (IsAnswerForLevel (order_cmp order) (order_short_keys order) version level s)
+      (order_name order) (order_cmp order) version
+      (before ++ map Done (sync_calls (order_cmp order) version manifest)) after old new result
+
+-- no call that writes was made; or a version was opened, and this is what followed
+abbrev pub IsFolderRun : ℕ → Settings → List Step → List Step → ToldFiles → ToldFiles →
+    Result CompactionStep Fault → Type 0
+IsFolderRun level s before after old new result =
+    IsUnchanged before after old new result ⊎ IsOpenedRun level s before after old new result

@@ -36,13 +36,13 @@ use Rattle.reads.proofs.Members.{first_in, from_filter, from_flat_map, in_flat_m
 use Rattle.reads.specs.Gets.{get_of}
 use Rattle.reads.specs.Lawful.{IsFileOf, IsLawful}
 use Rattle.reads.specs.Tables.{NumberedContents, table_entries, table_of_number}
-use Rattle.request.specs.EditOf.{deletions_of, edit_of}
-use Rattle.request.specs.Request.{RequestView}
-use Rattle.survival.specs.ClosedInputs.{is_input}
-use Rattle.survival.specs.EditAfter.{version_after}
-use Rattle.survival.specs.GetsAfter.{GetsAfter, HoldKept, entries_of_inputs, staying_files}
-use Rattle.survival.proofs.AppliedEdit.{edit_applies}
-use Rattle.survival.proofs.Inputs.{input_file}
+use Rattle.compact.specs.EditOf.{deletions_of, edit_of}
+use Rattle.compact.specs.Request.{RequestView}
+use Rattle.compact.specs.ClosedInputs.{is_input}
+use Rattle.compact.specs.EditAfter.{version_after}
+use Rattle.compact.specs.GetsAfter.{GetsAfter, HoldKept, entries_of_inputs, staying_files}
+use Rattle.compact.proofs.AppliedEdit.{edit_applies}
+use Rattle.compact.proofs.VersionInputs.{input_file}
 use Rattle.checks.proofs.FoundTables.{checked_parts}
 use Rattle.checks.proofs.LawfulLemmas.{sound_checked, sound_lawful}
 use Rattle.checks.specs.TableReadings.{tables_reading}

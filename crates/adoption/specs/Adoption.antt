@@ -26,7 +26,7 @@ use Rattle.pick.specs.declared.picked_inputs.InputFile.{InputFile}
 use Rattle.keep.specs.Readable.{readable_of}
 use Rattle.keep.specs.declared.snapshots.Snapshots.{Snapshots}
 use Rattle.checks.specs.TestedTables.{IsTested}
-use Rattle.request.specs.Request.{RequestView, request_test}
+use Rattle.compact.specs.Request.{RequestView, request_test}
 use Rattle.store.specs.FolderRequest.{last_of, manifest_of}
 use Rattle.store.specs.InputsCompaction.{IsOrderlyAnswer, input_numbers, input_tables}
 use Rattle.store.specs.Lines.{compaction_lines}

@@ -14,7 +14,7 @@ use Rattle.edit.specs.Version.{State}
 use Rattle.edit.specs.declared.meta.CompactPointer.{CompactPointer}
 use Rattle.edit.specs.declared.meta.NewFile.{NewFile}
 use Rattle.pick.specs.PickedInputs.{IsInputsAnswer, PickedInputs}
-use Rattle.request.specs.EditOf.{deletions_of}
+use Rattle.compact.specs.EditOf.{deletions_of}
 
 -- the level of a compact pointer, if it is the only one
 abbrev pub only_level : List CompactPointer → Option ℕ

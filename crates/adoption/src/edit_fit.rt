@@ -9,15 +9,15 @@ ghost use Rattle.edit.specs.Edit.{edit_in};
 ghost use Rattle.edit.specs.Version.{IsState};
 ghost use Rattle.pick.specs.PickedInputs.{picked_in};
 ghost use Rattle.pick.specs.declared.input_choice.TheConstants.{LAST_INPUT_LEVEL};
-ghost use Rattle.request.specs.EditOf.{deletions_of};
+ghost use Rattle.compact.specs.EditOf.{deletions_of};
 ghost use Rattle.adoption.specs.EditFit.{IsChoiceOf, IsEditFor, IsFitting, are_counted};
 ghost use Rattle.adoption.specs.EditFit.{is_reached, only_level, rise_between, rise_within};
 
 use coding::{Fault, FaultName};
+use compact::deletions_of;
 use edit::{CompactPointer, NewFile, Version, VersionEdit};
 use ikey::Comparator;
 use pick::{InputFile, Inputs, inputs};
-use request::deletions_of;
 use std::alloc::Global;
 
 /// The inputs of the compaction that has this edit: those that a compaction of the level of its

@@ -30,13 +30,13 @@ use crate::given_outcome::{GivenOutcome, given_outcome};
 use crate::kept_comparison::test_outputs;
 use checks::Watch;
 use coding::Fault;
+use compact::gets_after;
 use folder::{Folder, Opened, Order};
 use ikey::{Bytewise, Comparator, SharedComparator, Shortlex};
 use install::install;
 use std::alloc::Global;
 use std::thread::Threads;
 use store::{compaction_lines, manifest_of};
-use survival::gets_after;
 
 /// Installs the outcome that `source` holds in what `folder` was `opened` as. The caller has locked
 /// the folder, and synced what was opened. The answer is the lines of the installation, each with

@@ -12,7 +12,7 @@ use Rattle.checks.specs.TableReadings.{numbered_reading, tables_reading}
 use Rattle.folder.specs.Calls.{Files, Tells}
 use Rattle.folder.specs.LoadedTables.{IsTableAnswer, IsTableOf}
 use Rattle.folder.specs.Names.{old_table_name, table_name}
-use Rattle.lookup.specs.FolderTables.{HoldTables, HoldsTable, TellsJust}
+use Rattle.reads.specs.FolderTables.{HoldTables, HoldsTable, TellsJust}
 use Rattle.reads.specs.Tables.{NumberedContents, table_of_number}
 use Rattle.table.specs.TableContents.{Contents, blocks_of, contents_of, contents_reading}
 

@@ -18,7 +18,7 @@ use coding::Fault;
 use edit::Version;
 use folder::{Folder, Order};
 use ikey::{Bytewise, Comparator, Shortlex};
-use lookup::get_unverified;
+use reads::get_unverified;
 use scan::sequence_of;
 use std::alloc::Global;
 

@@ -9,10 +9,10 @@ use Rattle.coding.specs.declared.fault.FaultName.{FaultName}
 use Rattle.coding.specs.declared.fault.FaultName.TheVariants.{Block, BlockType, Compressed, Device, Empty, Handle, Index, Key, Magic, Order, Range, Short, Size, TooLarge, Trailer}
 use Rattle.block.specs.EncodedEntry.{Entry}
 use Rattle.block.specs.BlockReading.{block_reading}
-use Rattle.frame.specs.Footer.{footer_reading}
-use Rattle.frame.specs.Handle.{HandleBehind, handle_reading}
-use Rattle.frame.specs.Trailer.{stored_reading}
-use Rattle.frame.specs.declared.handle.BlockHandle.{BlockHandle}
+use Rattle.table.specs.Footer.{footer_reading}
+use Rattle.table.specs.Handle.{HandleBehind, handle_reading}
+use Rattle.table.specs.Trailer.{stored_reading}
+use Rattle.table.specs.declared.handle.BlockHandle.{BlockHandle}
 use Rattle.ikey.specs.Key.{internal_key_reading, tag_of}
 use Rattle.table.specs.TableContents.{blocks_of, blocks_reading, contents_reading, data_reading, index_fits, index_in}
 use Rattle.table.specs.EntryTests.{data_test, entries_test, entry_test, is_above, is_some_list}

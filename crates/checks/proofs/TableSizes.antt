@@ -16,10 +16,10 @@ use Rattle.coding.specs.declared.fault.Fault.{Fault}
 use Rattle.block.specs.EncodedEntry.{Entry, EncodedEntry, entries_after, encoded_entry_bytes}
 use Rattle.block.specs.EntryFormat.{FieldReading, encoded_entry_at}
 use Rattle.block.specs.BlockReading.{area_len, block_reading, is_next, encoded_entries_in, encoded_entries_of, restarts_from_place, restarts_in, with_mark}
-use Rattle.frame.specs.Trailer.{stored_reading}
-use Rattle.frame.specs.declared.handle.BlockHandle.{BlockHandle}
-use Rattle.frame.specs.Footer.{footer_reading}
-use Rattle.frame.specs.Handle.{handle_reading}
+use Rattle.table.specs.Trailer.{stored_reading}
+use Rattle.table.specs.declared.handle.BlockHandle.{BlockHandle}
+use Rattle.table.specs.Footer.{footer_reading}
+use Rattle.table.specs.Handle.{handle_reading}
 use Rattle.ikey.specs.Key.{internal_key_reading}
 use Rattle.reads.specs.Tables.{NumberedContents}
 use Rattle.table.specs.TableContents.{Contents, DataBlock, blocks_of, blocks_reading, contents_of, contents_reading, data_reading, entries_of, index_fits, index_in}

@@ -20,8 +20,8 @@ use Rattle.cut.specs.Outputs.{outputs_of}
 use Rattle.cut.specs.Plan.{OutputView, plan_of, plan_tables}
 use Rattle.cut.specs.declared.output_meta.OutputMeta.{OutputMeta}
 use Rattle.cut.proofs.Grouped.{groups_join, groups_mapped}
-use Rattle.request.specs.EditOf.{edit_of}
-use Rattle.request.specs.Request.{RequestView}
+use Rattle.compact.specs.EditOf.{edit_of}
+use Rattle.compact.specs.Request.{RequestView}
 use Rattle.compact.specs.GroupedAnswer.{GroupedAnswer, joined_answer, table_sizes}
 use Rattle.compact.specs.MergedRequest.{group_tables, runs_answer}
 use Rattle.compact.specs.WrittenOutputs.{answer_of, planned_files}

@@ -18,10 +18,10 @@ use Rattle.merge.specs.Union.{VersionsRise}
 use Rattle.split.specs.Boundaries.{IsSplit}
 use Rattle.keep.specs.Runs.{Run, are_distinct, joined_run, runs_of, DistinctLaw}
 use Rattle.cut.specs.Outputs.{outputs, outputs_of, RangesCutLaw}
-use Rattle.request.specs.Request.{RequestView, below_request, request_test}
-use Rattle.request.specs.Inputs.{inputs_reading, union_reading}
-use Rattle.request.specs.OneThread.{Answer, one_thread, outputs_answer}
-use Rattle.request.specs.OutputTables.{outputs_from}
+use Rattle.compact.specs.Request.{RequestView, below_request, request_test}
+use Rattle.compact.specs.Inputs.{inputs_reading, union_reading}
+use Rattle.compact.specs.OneThread.{Answer, one_thread, outputs_answer}
+use Rattle.compact.specs.OutputTables.{outputs_from}
 use Rattle.compact.specs.RangeMerges.{by_workers, runs_reading}
 use Rattle.compact.specs.MergedRequest.{runs_answer}
 use Rattle.compact.specs.WrittenOutputs.{written_of}

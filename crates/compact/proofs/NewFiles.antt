@@ -13,7 +13,7 @@ use Rattle.cut.specs.declared.output_meta.OutputMeta.{OutputMeta}
 use Rattle.pick.specs.PickedInputs.{PickedInputs}
 use Rattle.pick.specs.declared.picked_inputs.InputFile.{InputFile}
 use Rattle.compact.specs.WrittenOutputs.{planned_file}
-use Rattle.request.specs.Request.{has_levels}
+use Rattle.compact.specs.Request.{has_levels}
 
 -- ---- an output
 

@@ -14,10 +14,10 @@ use Rattle.table.specs.declared.options.Options.{Options}
 use Rattle.edit.specs.Edit.{edit_bytes}
 use Rattle.edit.specs.declared.meta.NewFile.{NewFile}
 use Rattle.cut.specs.Plan.{OutputView, plan_tables, parts, planned_from}
-use Rattle.request.specs.EditOf.{edit_of, new_file, new_files}
-use Rattle.request.specs.OneThread.{Answer, outputs_answer}
-use Rattle.request.specs.OutputTables.{Output, data_block_count, numbered_tables, outputs_from}
-use Rattle.request.specs.Request.{RequestView}
+use Rattle.compact.specs.EditOf.{edit_of, new_file, new_files}
+use Rattle.compact.specs.OneThread.{Answer, outputs_answer}
+use Rattle.compact.specs.OutputTables.{Output, data_block_count, numbered_tables, outputs_from}
+use Rattle.compact.specs.Request.{RequestView}
 use Rattle.compact.specs.WrittenOutputs.{answer_of, planned_file, planned_files, written_of}
 
 module _ (table_of : List Entry → List ℕ) (o : Options) where

@@ -13,7 +13,7 @@ use Rattle.edit.specs.declared.meta.FileMeta.{FileMeta}
 use Rattle.pick.specs.declared.picked_inputs.InputFile.{InputFile}
 use Rattle.reads.specs.Lawful.{IsFileOf}
 use Rattle.reads.specs.Tables.{NumberedContents}
-use Rattle.request.specs.Inputs.{result_at_input, table_matches_metadata, inputs_reading}
+use Rattle.compact.specs.Inputs.{result_at_input, table_matches_metadata, inputs_reading}
 use Rattle.compact.specs.CheckedInputs.{AreInputs}
 use Rattle.compact.proofs.InputAnswers.{read_stated, stated_by}
 

@@ -2,7 +2,7 @@
 use Rattle.std.specs.Prelude.{ℕ, map}
 use Rattle.std.specs.Global.{Vec}
 use Rattle.edit.specs.declared.outcome.Outcome.{Outcome}
-use Rattle.request.specs.OneThread.{Answer}
+use Rattle.compact.specs.OneThread.{Answer}
 
 -- the tables with their numbers, and the bytes of the edit, of the code's outcome
 abbrev pub answer_in : Outcome → Answer

@@ -3,7 +3,7 @@ use Rattle.std.specs.Prelude.{◌≡◌, true, List, [], ◌∷◌, Ok}
 use Rattle.ikey.specs.Comparator.{KeyOrder}
 use Rattle.table.specs.TableContents.{Contents, contents_reading}
 use Rattle.pick.specs.declared.picked_inputs.InputFile.{InputFile}
-use Rattle.request.specs.Inputs.{table_matches_metadata}
+use Rattle.compact.specs.Inputs.{table_matches_metadata}
 
 -- each table is that of the input at its place: its bytes read as it, and it is as the version
 -- states

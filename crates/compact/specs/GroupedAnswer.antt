@@ -1,6 +1,6 @@
 -- The answer of a compaction whose tables are encoded group by group.
 use Rattle.std.specs.Prelude.{ℕ, List, length, map, flat_map}
-use Rattle.request.specs.OneThread.{Answer}
+use Rattle.compact.specs.OneThread.{Answer}
 
 -- the tables with their numbers, dealt out in groups, and the bytes of the edit
 pub record GroupedAnswer : Type 0 where

@@ -8,7 +8,7 @@ use Rattle.keep.specs.Marks.{CompactionContext}
 use Rattle.keep.specs.Runs.{Run, range_run, ranges_of}
 use Rattle.cut.specs.Plan.{OutputView, encoded_pieces, plan_tables}
 use Rattle.cut.specs.OutputPlan.{PlanSeen, lists_in}
-use Rattle.request.specs.Inputs.{result_at_input, input_reading}
+use Rattle.compact.specs.Inputs.{result_at_input, input_reading}
 
 -- the answer for each input, of which the first is at this place
 abbrev pub input_answers : KeyOrder → ℕ → List InputFile → List (List ℕ) →

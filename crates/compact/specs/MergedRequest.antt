@@ -8,8 +8,8 @@ use Rattle.keep.specs.Runs.{Run, joined_run}
 use Rattle.cut.specs.Outputs.{outputs_of}
 use Rattle.cut.specs.OutputPlan.{PlanSeen}
 use Rattle.cut.specs.Plan.{plan_tables}
-use Rattle.request.specs.Request.{RequestView, has_levels}
-use Rattle.request.specs.OneThread.{Answer}
+use Rattle.compact.specs.Request.{RequestView, has_levels}
+use Rattle.compact.specs.OneThread.{Answer}
 use Rattle.compact.specs.WrittenOutputs.{written_of}
 use Rattle.board.specs.declared.limits.TheConstants.{MAX_WORKERS}
 

@@ -8,7 +8,7 @@ use Rattle.block.specs.EncodedEntry.{Entry}
 use Rattle.table.specs.TestResult.{test_result}
 use Rattle.keep.specs.Marks.{CompactionContext}
 use Rattle.keep.specs.Runs.{Run, runs_of}
-use Rattle.request.specs.Inputs.{union_reading}
+use Rattle.compact.specs.Inputs.{union_reading}
 
 -- what a run by this many workers answers: Workers if they are outside 1 to 64, else this
 abbrev pub by_workers : {A : Type 0} → ℕ → Result A Fault → Result A Fault

@@ -8,9 +8,9 @@ use Rattle.table.specs.EntryTests.{first_key}
 use Rattle.edit.specs.Edit.{edit_bytes}
 use Rattle.edit.specs.declared.meta.NewFile.{NewFile}
 use Rattle.cut.specs.Plan.{OutputView, plan_of, plan_tables}
-use Rattle.request.specs.Request.{RequestView}
-use Rattle.request.specs.EditOf.{edit_of}
-use Rattle.request.specs.OneThread.{Answer}
+use Rattle.compact.specs.Request.{RequestView}
+use Rattle.compact.specs.EditOf.{edit_of}
+use Rattle.compact.specs.OneThread.{Answer}
 
 -- an output of a plan as a new file of a level
 abbrev pub planned_file : ℕ → OutputView → NewFile

@@ -3,10 +3,10 @@
 ghost use Rattle.std.specs.Prelude.{◌≡◌, ◌≤◌, map, Ok, IfOk, IfErr};
 ghost use Rattle.coding.specs.Answers.{EqualOrMemory, FailsOrMemory};
 ghost use Rattle.split.specs.Boundaries.{IsSplit};
-ghost use Rattle.request.specs.Inputs.{inputs_reading};
-ghost use Rattle.request.specs.OneThread.{Answer, compaction_result, one_thread};
-ghost use Rattle.request.specs.Request.{request_in, request_test};
-ghost use Rattle.survival.specs.SurvivingReads.{LeavesReads};
+ghost use Rattle.compact.specs.Inputs.{inputs_reading};
+ghost use Rattle.compact.specs.OneThread.{Answer, compaction_result, one_thread};
+ghost use Rattle.compact.specs.Request.{request_in, request_test};
+ghost use Rattle.compact.specs.SurvivingReads.{LeavesReads};
 ghost use Rattle.compact.specs.AnswerIn.{answer_in};
 ghost use Rattle.compact.specs.MergedRequest.{runs_answer};
 ghost use Rattle.board.specs.declared.limits.TheConstants.{MAX_WORKERS};
@@ -14,6 +14,9 @@ ghost use Rattle.board.specs.declared.limits.TheConstants.{MAX_WORKERS};
 use crate::inputs::check_inputs;
 use crate::merged_request::Merged;
 use crate::ranges::merge_ranges;
+use crate::request::Request;
+use crate::request_law::passed_law;
+use crate::surviving_reads::reads_survive;
 use crate::workers::check_workers;
 use board::Gate;
 use coding::Fault;
@@ -21,12 +24,10 @@ use cut::ranges_cut;
 use edit::Outcome;
 use ikey::{Comparator, SharedComparator};
 use keep::{RangeRun, distinct_law};
-use request::{Request, passed_law};
 use split::Split;
 use std::alloc::Global;
 use std::marker::PhantomData;
 use std::thread::Threads;
-use survival::reads_survive;
 use table::SoundTable;
 
 /// Compacts by 1 to 64 workers, and answers the tables and the edit. They are what one thread

@@ -7,15 +7,15 @@ ghost use Rattle.edit.specs.Edit.{edit_bytes};
 ghost use Rattle.cut.specs.OutputMeta.{IsMetaOf};
 ghost use Rattle.cut.specs.Plan.{OutputView};
 ghost use Rattle.pick.specs.PickedInputs.{picked_in};
-ghost use Rattle.request.specs.Request.{has_levels, request_in};
-ghost use Rattle.request.specs.EditOf.{edit_of};
+ghost use Rattle.compact.specs.Request.{has_levels, request_in};
+ghost use Rattle.compact.specs.EditOf.{edit_of};
 ghost use Rattle.compact.specs.WrittenOutputs.{planned_file, planned_files};
 
+use crate::request::Request;
 use coding::Fault;
 use cut::{OutputMeta, Plan};
 use edit::{FileMeta, NewFile};
 use ikey::{Comparator, KeyBuf};
-use request::Request;
 use std::alloc::Global;
 
 /// An output as a new file of a level. The only fault is Memory.

@@ -3,8 +3,8 @@
 ghost use Rattle.std.specs.Prelude.{◌≡◌, ◌<◌, ◌≤◌, List, length, map, slice_get, Some, Result};
 ghost use Rattle.coding.specs.Answers.{EqualOrMemory, FailsOrMemory};
 ghost use Rattle.block.specs.EncodedEntry.{Entry};
-ghost use Rattle.request.specs.Inputs.{result_at_input, table_matches_metadata, input_reading};
-ghost use Rattle.request.specs.Inputs.{inputs_reading};
+ghost use Rattle.compact.specs.Inputs.{result_at_input, table_matches_metadata, input_reading};
+ghost use Rattle.compact.specs.Inputs.{inputs_reading};
 ghost use Rattle.compact.specs.RangeMerges.{by_workers};
 ghost use Rattle.compact.specs.JobAnswers.{input_answers};
 

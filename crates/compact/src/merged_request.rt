@@ -15,13 +15,13 @@ ghost use Rattle.compact.specs.declared.grouped_plan.TheConstants.{MAX_TABLES};
 use crate::edit_bytes::edit_bytes;
 use crate::grouped_plan::{MAX_TABLES, Planned};
 use crate::output_writer::write_plan;
+use crate::request::Request;
 use board::Gate;
 use coding::Fault;
 use cut::{Plan, plan};
 use edit::Outcome;
 use ikey::{Comparator, SharedComparator};
 use keep::RangeRun;
-use request::Request;
 use std::alloc::Global;
 use std::marker::{Model, PhantomData};
 use std::thread::Threads;
@@ -39,8 +39,8 @@ pub struct Merged<'q, 't, C: Comparator> {
 impl<'q, 't, C: Comparator> Model for Merged<'q, 't, C> {
     ghost use Rattle.std.specs.Prelude.{Result};
     ghost use Rattle.coding.specs.declared.fault.Fault.{Fault};
-    ghost use Rattle.request.specs.Request.{request_in};
-    ghost use Rattle.request.specs.OneThread.{Answer};
+    ghost use Rattle.compact.specs.Request.{request_in};
+    ghost use Rattle.compact.specs.OneThread.{Answer};
     ghost use Rattle.compact.specs.MergedRequest.{IsMerged, runs_answer};
 
     ghost Value = { Result Answer Fault };

@@ -5,20 +5,20 @@ ghost use Rattle.coding.specs.Answers.{EqualOrMemory};
 ghost use Rattle.table.specs.Table.{table};
 ghost use Rattle.cut.specs.Plan.{plan_tables};
 ghost use Rattle.pick.specs.PickedInputs.{picked_in};
-ghost use Rattle.request.specs.Request.{has_levels, request_in};
+ghost use Rattle.compact.specs.Request.{has_levels, request_in};
 ghost use Rattle.compact.specs.AnswerIn.{answer_in};
 ghost use Rattle.compact.specs.WrittenOutputs.{answer_of};
 ghost use Rattle.board.specs.declared.limits.TheConstants.{MAX_WORKERS};
 
 use crate::edit_bytes::edit_bytes;
 use crate::piece_encoder::encode_pieces;
+use crate::request::Request;
 use crate::table_encoder::encode_outputs;
 use board::Gate;
 use coding::Fault;
 use cut::Plan;
 use edit::Outcome;
 use ikey::SharedComparator;
-use request::Request;
 use std::alloc::Global;
 use std::thread::Threads;
 

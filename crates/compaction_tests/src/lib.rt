@@ -1,5 +1,5 @@
 //! The tests of a compaction, from who draws which job and what a worker keeps to the whole and to
-//! a folder. They are of `board`, `split`, `merge`, `keep`, `cut`, `request`,
+//! a folder. They are of `board`, `split`, `merge`, `keep`, `cut`,
 //! `compact`, `checks`, `scan`, `faults`, `store` and `adoption`.
 #![tactic(auto)]
 

@@ -2,11 +2,11 @@
 //! of `compact_tests`.
 
 use coding::{Fault, FaultName};
+use compact::Request;
 use edit::{DeletedFile, Version, VersionEdit};
 use ikey::Bytewise;
 use keep::Snapshots;
 use pick::{Inputs, inputs};
-use request::Request;
 use std::alloc::Global;
 use std::process::Abort;
 use std::test::*;

@@ -11,9 +11,9 @@ use Rattle.ikey.specs.Comparator.{ShortKeys}
 use Rattle.table.specs.declared.options.Options.{Options}
 use Rattle.table.specs.declared.table_check.TheConstants.{MAX_TABLE_LEN}
 use Rattle.table.specs.Table.{table}
-use Rattle.encoding.specs.declared.planned_block.PlannedBlock.{PlannedBlock}
+use Rattle.cut.specs.declared.planned_block.PlannedBlock.{PlannedBlock}
 use Rattle.cut.specs.declared.planned_output.PlannedOutput.{PlannedOutput}
-use Rattle.encoding.specs.PlannedBlocks.{block_lists}
+use Rattle.cut.specs.PlannedBlocks.{block_lists}
 use Rattle.cut.specs.OutputInProgress.{entries_in_blocks}
 use Rattle.cut.specs.Plan.{block_ends_from, stored_len}
 use Rattle.cut.specs.PlanInvariant.{IsPlannedOutput}

@@ -9,10 +9,10 @@ use Rattle.coding.specs.declared.fault.Fault.{Fault}
 use Rattle.block.specs.EncodedEntry.{Entry}
 use Rattle.table.specs.declared.options.Options.{Options}
 use Rattle.table.specs.DataBlocks.{is_full, open_block, blocks_after, data_blocks}
-use Rattle.encoding.specs.declared.planned_block.PlannedBlock.{PlannedBlock}
+use Rattle.cut.specs.declared.planned_block.PlannedBlock.{PlannedBlock}
 use Rattle.merge.specs.MergedLists.{entries_of_lists}
 use Rattle.cut.specs.OutputCuts.{OutputsInProgress, outputs_left}
-use Rattle.encoding.specs.PlannedBlocks.{block_lists}
+use Rattle.cut.specs.PlannedBlocks.{block_lists}
 use Rattle.cut.specs.OutputInProgress.{entries_in_blocks, HasLen, ArePlanned, ends_by}
 use Rattle.cut.specs.Outputs.{ends_before, outputs_after, outputs_in, segments}
 

@@ -11,8 +11,8 @@ use Rattle.block.specs.EncodedEntry.{Entry}
 use Rattle.block.specs.BlockFormat.{block}
 use Rattle.table.specs.declared.options.Options.{Options}
 use Rattle.table.specs.DataBlocks.{is_full}
-use Rattle.encoding.proofs.Lists.{length_le_block}
-use Rattle.encoding.proofs.Places.{drop_next, last_joined, last_counted}
+use Rattle.cut.proofs.Lists.{length_le_block}
+use Rattle.cut.proofs.Places.{drop_next, last_joined, last_counted}
 use Rattle.cut.specs.BlockInProgress.{BlockInProgress, IsMetered, block_after_entries, last_entry_key, next_since, added_size}
 use Rattle.cut.proofs.Metered.{metered_push}
 

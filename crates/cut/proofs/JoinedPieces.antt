@@ -4,7 +4,7 @@ use Rattle.std.specs.Prelude.{nat_lt, nat_le, if◌then◌else◌, flat_map}
 use Rattle.std.proofs.lemmas.Grind.{flat_map-append}
 use Rattle.block.specs.EncodedEntry.{Entry}
 use Rattle.block.specs.BlockFormat.{block}
-use Rattle.frame.specs.Trailer.{stored_block}
+use Rattle.table.specs.Trailer.{stored_block}
 use Rattle.table.specs.declared.options.Options.{Options}
 use Rattle.table.specs.DataBlocks.{data_blocks}
 use Rattle.table.specs.Table.{closing_bytes, index_from, index_keys, stored_blocks, table}

@@ -1,4 +1,13 @@
--- lemmas
+pub mod Places
+pub mod Skips
+pub mod Walks
+pub mod LastKeys
+pub mod Lists
+pub mod Appended
+pub mod Keys
+pub mod Indexes
+pub mod IndexKeys
+pub mod Listed
 pub mod Elements
 pub mod RepeatedMarks
 pub mod SegmentOutputs

@@ -9,10 +9,10 @@ use Rattle.block.specs.BlockFormat.{block, encoded_entry_of, encoded_entries_fro
 use Rattle.block.specs.BuilderView.{last_key}
 use Rattle.block.proofs.Built.{pieces_from-push}
 use Rattle.block.proofs.Written.{length-block, piece_at_restart, restarts_from-push}
-use Rattle.frame.specs.Footer.{footer_bytes}
-use Rattle.frame.specs.Trailer.{stored_block}
-use Rattle.frame.proofs.Footers.{length-footer_bytes}
-use Rattle.frame.proofs.Stored.{length-stored}
+use Rattle.table.specs.Footer.{footer_bytes}
+use Rattle.table.specs.Trailer.{stored_block}
+use Rattle.table.proofs.Footers.{length-footer_bytes}
+use Rattle.table.proofs.Stored.{length-stored}
 use Rattle.table.specs.Table.{closing_bytes, footer_at, metaindex, stored_blocks}
 use Rattle.cut.specs.Lengths.{LengthsLaw, added_len, restart_len}
 

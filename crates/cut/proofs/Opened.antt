@@ -13,18 +13,18 @@ use Rattle.ikey.specs.Key.{user_of}
 use Rattle.block.specs.EncodedEntry.{Entry}
 use Rattle.block.specs.BlockFormat.{block}
 use Rattle.block.specs.BuilderView.{last_key}
-use Rattle.frame.specs.Trailer.{stored_block}
-use Rattle.frame.proofs.Stored.{length-stored}
+use Rattle.table.specs.Trailer.{stored_block}
+use Rattle.table.proofs.Stored.{length-stored}
 use Rattle.table.specs.declared.options.Options.{Options}
 use Rattle.table.specs.Options.{AreInLimits}
 use Rattle.table.specs.DataBlocks.{is_full, open_block, blocks_after, data_blocks, flushed, flushed_len}
 use Rattle.table.specs.Table.{stored_blocks}
-use Rattle.encoding.specs.declared.planned_block.PlannedBlock.{PlannedBlock}
+use Rattle.cut.specs.declared.planned_block.PlannedBlock.{PlannedBlock}
 use Rattle.merge.specs.MergedLists.{entries_of_lists}
 use Rattle.cut.specs.BlockInProgress.{BlockInProgress, block_after_entries, last_entry_key}
 use Rattle.cut.specs.Outputs.{ends_before, outputs_after}
 use Rattle.cut.specs.Plan.{stored_len}
-use Rattle.encoding.specs.PlannedBlocks.{block_lists}
+use Rattle.cut.specs.PlannedBlocks.{block_lists}
 use Rattle.cut.specs.OutputInProgress.{entries_in_blocks, HasLen, IsFlushed, ends_by, IsOpen}
 use Rattle.cut.proofs.MeteredLengths.{lengths_law}
 

@@ -8,11 +8,11 @@ use Rattle.std.proofs.lemmas.List.Sums.{sum_by_push, sum_by-append}
 use Rattle.block.specs.EncodedEntry.{Entry}
 use Rattle.table.specs.declared.options.Options.{Options}
 use Rattle.table.specs.DataBlocks.{data_blocks}
-use Rattle.encoding.specs.declared.planned_block.PlannedBlock.{PlannedBlock}
+use Rattle.cut.specs.declared.planned_block.PlannedBlock.{PlannedBlock}
 use Rattle.cut.specs.declared.piece.Piece.{Piece}
 use Rattle.cut.specs.declared.planned_output.PlannedOutput.{PlannedOutput}
 use Rattle.cut.specs.PieceDivision.{blocks_at, piece_blocks, piece_places_from, places_all, piece_limit}
-use Rattle.encoding.specs.PlannedBlocks.{block_lists}
+use Rattle.cut.specs.PlannedBlocks.{block_lists}
 use Rattle.cut.specs.OutputInProgress.{entries_in_blocks, HasLen, ArePlanned}
 use Rattle.cut.specs.Plan.{open_piece, pieces_from_block, pieces_in, stored_len}
 use Rattle.cut.specs.TableLength.{lens_of}

@@ -7,8 +7,8 @@ use Rattle.std.proofs.lemmas.List.{length-map, map-append, take_at, drop_at, dro
 use Rattle.block.specs.EncodedEntry.{Entry}
 use Rattle.table.specs.declared.options.Options.{Options}
 use Rattle.table.specs.Table.{IndexKeys, index_keys, stored_blocks, table, table_of_blocks}
-use Rattle.encoding.specs.declared.planned_block.PlannedBlock.{PlannedBlock}
-use Rattle.encoding.specs.PlannedBlocks.{IsPlanned, block_lists}
+use Rattle.cut.specs.declared.planned_block.PlannedBlock.{PlannedBlock}
+use Rattle.cut.specs.PlannedBlocks.{IsPlanned, block_lists}
 use Rattle.cut.specs.declared.piece.Piece.{Piece}
 use Rattle.cut.specs.declared.planned_output.PlannedOutput.{PlannedOutput}
 use Rattle.cut.specs.PlanTables.{IsReady, AreReady, tables_of}

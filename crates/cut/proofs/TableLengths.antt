@@ -16,16 +16,16 @@ use Rattle.block.specs.EncodedEntry.{Entry, encoded_entry_bytes}
 use Rattle.block.specs.BlockFormat.{block}
 use Rattle.block.specs.BuilderView.{last_key}
 use Rattle.block.proofs.Written.{piece_at_restart}
-use Rattle.frame.specs.Handle.{handle_bytes}
-use Rattle.frame.specs.Trailer.{stored_block}
-use Rattle.frame.proofs.Stored.{length-stored}
+use Rattle.table.specs.Handle.{handle_bytes}
+use Rattle.table.specs.Trailer.{stored_block}
+use Rattle.table.proofs.Stored.{length-stored}
 use Rattle.table.specs.declared.options.Options.{Options}
 use Rattle.table.specs.EntryTests.{first_key}
 use Rattle.table.specs.Table.{IndexKeys, index_key, index_keys, index_from, handle_entry, closing_bytes, stored_blocks, table, table_of_blocks}
-use Rattle.encoding.specs.declared.planned_block.PlannedBlock.{PlannedBlock}
+use Rattle.cut.specs.declared.planned_block.PlannedBlock.{PlannedBlock}
 use Rattle.cut.specs.Lengths.{added_len}
 use Rattle.cut.specs.BlockInProgress.{last_entry_key}
-use Rattle.encoding.specs.PlannedBlocks.{block_lists}
+use Rattle.cut.specs.PlannedBlocks.{block_lists}
 use Rattle.cut.specs.OutputInProgress.{entries_in_blocks, HasLen, ArePlanned}
 use Rattle.cut.specs.Plan.{stored_len}
 use Rattle.cut.specs.Sizes.{encoded_entry_size}

@@ -6,7 +6,7 @@ use Rattle.std.specs.Option.{is_some, option_map}
 use Rattle.coding.specs.Saturated.{saturated}
 use Rattle.block.specs.EncodedEntry.{Entry}
 use Rattle.block.specs.BlockFormat.{block}
-use Rattle.encoding.specs.EntryWalkView.{left_out_len}
+use Rattle.cut.specs.EntryWalkView.{left_out_len}
 use Rattle.cut.specs.Sizes.{encoded_entry_size}
 use Rattle.block.specs.declared.builder.TheConstants.{MAX_RESTART_INTERVAL}
 

@@ -4,7 +4,7 @@ use Rattle.std.specs.Prelude.{length}
 use Rattle.block.specs.EncodedEntry.{Entry, encoded_entry_bytes}
 use Rattle.block.specs.BlockFormat.{block, encoded_entry_of}
 use Rattle.block.specs.BuilderView.{last_key}
-use Rattle.frame.specs.declared.trailer.TheConstants.{TRAILER_LEN}
+use Rattle.table.specs.declared.trailer.TheConstants.{TRAILER_LEN}
 use Rattle.table.specs.Table.{closing_bytes, stored_blocks}
 use Rattle.cut.specs.declared.table_len.TheConstants.{CLOSING_LEN}
 

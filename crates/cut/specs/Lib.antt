@@ -1,4 +1,7 @@
 -- what contracts rest on
+pub mod EntrySpanView
+pub mod PlannedBlocks
+pub mod EntryWalkView
 pub mod Stops
 pub mod Outputs
 pub mod Segments
@@ -8,6 +11,10 @@ pub mod Groups
 pub mod OutputMeta
 pub mod Lengths
 -- serves proofs alone
+pub mod RunPlace
+pub mod SpanPlaces
+pub mod PlaceKey
+pub mod ChunkWalk
 pub mod BlockInProgress
 pub mod Sizes
 pub mod OverlapStops

@@ -7,8 +7,8 @@ use Rattle.block.specs.BlockFormat.{block}
 use Rattle.table.specs.declared.options.Options.{Options}
 use Rattle.table.specs.Options.{AreInLimits}
 use Rattle.table.specs.DataBlocks.{is_full, blocks_after, data_blocks}
-use Rattle.encoding.specs.declared.planned_block.PlannedBlock.{PlannedBlock}
-use Rattle.encoding.specs.PlannedBlocks.{block_lists}
+use Rattle.cut.specs.declared.planned_block.PlannedBlock.{PlannedBlock}
+use Rattle.cut.specs.PlannedBlocks.{block_lists}
 use Rattle.merge.specs.MergedLists.{entries_of_lists}
 use Rattle.cut.specs.BlockInProgress.{BlockInProgress, last_entry_key}
 use Rattle.cut.specs.Outputs.{ends_before}

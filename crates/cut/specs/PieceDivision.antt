@@ -1,11 +1,11 @@
 -- The places of pieces among the data blocks of outputs.
 use Rattle.std.specs.Prelude.{ℕ, zero, suc, ◌+◌, nat_lt, nat_le, if◌then◌else◌, List, [], ◌∷◌}
 use Rattle.std.specs.Prelude.{◌++◌, length, slice_range}
-use Rattle.encoding.specs.declared.planned_block.PlannedBlock.{PlannedBlock}
+use Rattle.cut.specs.declared.planned_block.PlannedBlock.{PlannedBlock}
 use Rattle.cut.specs.declared.piece.Piece.{Piece}
 use Rattle.cut.specs.declared.planned_output.PlannedOutput.{PlannedOutput}
 use Rattle.cut.specs.declared.output_plan.TheConstants.{FEW_BLOCKS, PIECE_LEN}
-use Rattle.frame.specs.declared.trailer.TheConstants.{TRAILER_LEN}
+use Rattle.table.specs.declared.trailer.TheConstants.{TRAILER_LEN}
 
 -- the blocks of the output at a place
 abbrev pub blocks_at : List PlannedOutput → ℕ → List PlannedBlock

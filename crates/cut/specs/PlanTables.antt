@@ -2,7 +2,7 @@
 use Rattle.std.specs.Prelude.{◌≡◌, ℕ, ◌≤◌, List, [], ◌∷◌, length, map, take, drop, flat_map}
 use Rattle.std.specs.List.{AllByRecursion}
 use Rattle.table.specs.Table.{IndexKeys, stored_blocks, table_of_blocks}
-use Rattle.encoding.specs.PlannedBlocks.{IsPlanned, block_lists}
+use Rattle.cut.specs.PlannedBlocks.{IsPlanned, block_lists}
 use Rattle.cut.specs.declared.planned_output.PlannedOutput.{PlannedOutput}
 use Rattle.table.specs.declared.table_check.TheConstants.{MAX_TABLE_LEN}
 

@@ -4,10 +4,10 @@ use Rattle.std.specs.Global.{Vec}
 use Rattle.std.specs.List.{sum_by}
 use Rattle.block.specs.EncodedEntry.{Entry}
 use Rattle.block.specs.BlockFormat.{block}
-use Rattle.frame.specs.declared.trailer.TheConstants.{TRAILER_LEN}
+use Rattle.table.specs.declared.trailer.TheConstants.{TRAILER_LEN}
 use Rattle.table.specs.Table.{IndexKeys, index_key, handle_entry}
-use Rattle.encoding.specs.declared.planned_block.PlannedBlock.{PlannedBlock}
-use Rattle.encoding.specs.PlannedBlocks.{block_lists}
+use Rattle.cut.specs.declared.planned_block.PlannedBlock.{PlannedBlock}
+use Rattle.cut.specs.PlannedBlocks.{block_lists}
 use Rattle.cut.specs.Sizes.{encoded_entry_size}
 use Rattle.cut.specs.declared.table_len.TheConstants.{CLOSING_LEN}
 use Rattle.table.specs.declared.table_check.TheConstants.{MAX_TABLE_LEN}

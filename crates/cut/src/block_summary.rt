@@ -5,14 +5,15 @@ ghost use Rattle.std.specs.Option.{option_map};
 ghost use Rattle.table.specs.declared.table_check.TheConstants.{MAX_TABLE_LEN};
 ghost use Rattle.cut.specs.BlockInProgress.{last_entry_key};
 ghost use Rattle.cut.specs.OutputMeta.{IsMetaOf};
-ghost use Rattle.encoding.specs.PlannedBlocks.{block_lists};
+ghost use Rattle.cut.specs.PlannedBlocks.{block_lists};
 ghost use Rattle.cut.specs.OutputInProgress.{entries_in_blocks};
 ghost use Rattle.cut.specs.Plan.{block_ends_from};
 ghost use Rattle.cut.specs.PlanInvariant.{HaveEntries, planned_of};
 
+use crate::entry_ref::EntryRef;
 use crate::output_meta::OutputMeta;
+use crate::planned_block::PlannedBlock;
 use crate::planned_output::PlannedOutput;
-use encoding::{EntryRef, PlannedBlock};
 use ikey::InternalKey;
 
 /// The number of entries of data blocks.

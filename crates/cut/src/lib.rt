@@ -1,4 +1,4 @@
-//! The plan of the outputs of a compaction.
+//! Where the outputs of a compaction end, and their bytes.
 //!
 //! 1. [`plan`] takes the runs of all ranges, and answers a [`Plan`]: each output, its data blocks
 //!    and the exact length of its table, before a byte is written. It doesn't depend on how the
@@ -16,10 +16,26 @@
 //! So the bytes of a compaction depend on neither ranges nor workers. The laws of this crate say it
 //! over the definitions: [`whole_law`], [`outputs_law`], [`ranges_cut`], [`pieces_law`] and others.
 //!
+//! The kept entries are one list. An [`EntryCursor`] is a place in it, an [`EntrySpan`] grows entry
+//! by entry, and an [`EntryRef`] is entries that stay as they are. An [`EntryWalk`] walks them by
+//! chunks. Keys and values stay where the runs have them, and no call of these four takes memory. A
+//! [`PlannedBlock`] is a data block of which no byte is written yet:
+//!
+//! ```text
+//! data block 1 .. data block i    one call of encode_blocks: each block, then its trailer
+//! data block i + 1 ..             another call, perhaps on another thread
+//! metaindex, index, footer        assemble_table
+//! ```
+//!
 //! No contract says how much memory a plan takes.
 #![tactic(auto)]
 
 mod block_summary;
+mod block_writer;
+mod cursor;
+mod data_blocks;
+mod entry_ref;
+mod entry_span;
 mod lengths;
 mod open_block;
 mod open_output;
@@ -32,14 +48,25 @@ mod piece;
 mod piece_division;
 mod plan_assembly;
 mod plan_groups;
+mod planned_block;
 mod planned_output;
 mod stops;
+mod table_assembly;
+mod table_index;
 mod table_len;
+mod walk;
 mod whole_plan;
 
+pub use cursor::EntryCursor;
+pub use data_blocks::encode_blocks;
+pub use entry_ref::EntryRef;
+pub use entry_span::EntrySpan;
 pub use output_laws::{
     lengths_law, outputs_law, pieces_law, ranges_cut, segments_law, stops_law, whole_law,
 };
 pub use output_meta::OutputMeta;
 pub use output_plan::{MAX_BLOCKS, plan};
+pub use planned_block::PlannedBlock;
+pub use table_assembly::assemble_table;
+pub use walk::EntryWalk;
 pub use whole_plan::Plan;

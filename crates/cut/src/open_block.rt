@@ -10,9 +10,12 @@ ghost use Rattle.table.specs.Options.{AreInLimits};
 ghost use Rattle.cut.specs.BlockInProgress.{block_after_entries, last_entry_key, added_size};
 ghost use Rattle.block.specs.declared.builder.TheConstants.{MAX_RESTART_INTERVAL};
 
+use crate::cursor::EntryCursor;
+use crate::entry_span::EntrySpan;
 use crate::lengths::{EMPTY_LEN, RESTART_LEN, encoded_entry_len};
+use crate::planned_block::PlannedBlock;
+use crate::walk::EntryWalk;
 use block::next_since;
-use encoding::{EntryCursor, EntrySpan, EntryWalk, PlannedBlock};
 use ikey::InternalKey;
 use std::marker::Model;
 use std::mem;

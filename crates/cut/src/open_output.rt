@@ -15,19 +15,19 @@ ghost use Rattle.coding.specs.declared.fault.FaultName.TheVariants.{Memory};
 ghost use Rattle.block.specs.EncodedEntry.{Entry};
 ghost use Rattle.table.specs.Options.{AreInLimits};
 ghost use Rattle.table.specs.DataBlocks.{data_blocks};
-ghost use Rattle.encoding.specs.PlannedBlocks.{block_lists};
+ghost use Rattle.cut.specs.PlannedBlocks.{block_lists};
 ghost use Rattle.cut.specs.OutputInProgress.{HasLen, ends_by};
 ghost use Rattle.cut.specs.Outputs.{outputs_after};
 
+use crate::cursor::EntryCursor;
 use crate::open_block::OpenBlock;
+use crate::planned_block::PlannedBlock;
 use coding::Fault;
-use encoding::{EntryCursor, PlannedBlock};
-use frame::TRAILER_LEN;
 use ikey::InternalKey;
 use std::alloc::Global;
 use std::marker::Model;
 use std::mem;
-use table::Options;
+use table::{Options, TRAILER_LEN};
 
 /// An open output: its options, its entries, and the entries still to come.
 #[derive(Drop)]

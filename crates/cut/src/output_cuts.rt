@@ -20,11 +20,12 @@ ghost use Rattle.cut.specs.OutputCuts.{outputs_left};
 ghost use Rattle.cut.specs.OutputInProgress.{ArePlanned, entries_in_blocks};
 ghost use Rattle.cut.specs.Outputs.{segments, outputs_in, outputs_of};
 
+use crate::cursor::EntryCursor;
 use crate::open_output::OpenOutput;
+use crate::planned_block::PlannedBlock;
 use crate::stops::stops;
 use coding::Fault;
 use edit::FileMeta;
-use encoding::{EntryCursor, PlannedBlock};
 use keep::RangeRun;
 use std::alloc::Global;
 use std::marker::Model;

@@ -11,9 +11,9 @@ ghost use Rattle.table.specs.Table.{index_keys};
 ghost use Rattle.cut.specs.PlanInvariant.{HaveEntries};
 ghost use Rattle.cut.specs.TableLength.{sizes_of};
 
+use crate::planned_block::PlannedBlock;
 use crate::table_len::table_len;
 use coding::{Fault, FaultName};
-use encoding::PlannedBlock;
 use ikey::{Comparator, SharedComparator};
 use std::alloc::Global;
 use std::thread;

@@ -15,11 +15,11 @@ ghost use Rattle.cut.specs.TableLength.{lens_of};
 ghost use Rattle.table.specs.declared.table_check.TheConstants.{MAX_TABLE_LEN};
 
 use crate::piece::Piece;
+use crate::planned_block::PlannedBlock;
 use crate::planned_output::PlannedOutput;
 use coding::Fault;
-use encoding::PlannedBlock;
-use frame::TRAILER_LEN;
 use std::alloc::Global;
+use table::TRAILER_LEN;
 
 /// Appends the pieces of `blocks`, which are the data blocks of the output at place `output`, and
 /// answers how many they are. A piece ends with the block at which its bytes reach `limit`. The

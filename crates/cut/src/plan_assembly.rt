@@ -12,12 +12,14 @@ ghost use Rattle.block.specs.BlockFormat.{block};
 ghost use Rattle.block.specs.declared.builder.TheConstants.{MAX_BLOCK_LEN, MAX_RESTART_INTERVAL};
 ghost use Rattle.table.specs.Table.{index_keys, table_of_blocks};
 ghost use Rattle.table.specs.declared.table_check.TheConstants.{MAX_TABLE_LEN};
-ghost use Rattle.encoding.specs.PlannedBlocks.{block_lists, IsPlanned};
+ghost use Rattle.cut.specs.PlannedBlocks.{block_lists, IsPlanned};
 ghost use Rattle.cut.specs.PlanTables.{AreReady, tables_of};
 
+use crate::data_blocks::encode_blocks;
+use crate::planned_block::PlannedBlock;
 use crate::planned_output::PlannedOutput;
+use crate::table_assembly::assemble_table;
 use coding::Fault;
-use encoding::{PlannedBlock, assemble_table, encode_blocks};
 use ikey::Comparator;
 use std::alloc::Global;
 use std::vec::IntoIter;

@@ -1,6 +1,6 @@
 //! An output of a plan.
 
-use encoding::PlannedBlock;
+use crate::planned_block::PlannedBlock;
 
 /// A table that is to be written.
 #[derive(Drop)]

@@ -18,12 +18,11 @@ ghost use Rattle.cut.specs.TableLength.{planned_index_entries, planned_index_key
 ghost use Rattle.cut.specs.TableLength.{table_size};
 
 use crate::lengths::{EMPTY_LEN, RESTART_LEN, encoded_entry_len, varint_len};
+use crate::planned_block::PlannedBlock;
 use coding::Fault;
-use encoding::PlannedBlock;
-use frame::{FOOTER_LEN, TRAILER_LEN};
 use ikey::{Comparator, KeyBuf, internal_separator, internal_successor};
 use std::alloc::Global;
-use table::MAX_TABLE_LEN;
+use table::{FOOTER_LEN, MAX_TABLE_LEN, TRAILER_LEN};
 
 /// What a table has beside its data blocks and the contents of its index: the metaindex, its
 /// trailer, the trailer of the index, and the footer.

@@ -14,13 +14,15 @@ ghost use Rattle.cut.specs.OutputPlan.{lists_in};
 ghost use Rattle.cut.specs.declared.output_plan.TheConstants.{MAX_BLOCKS};
 
 use crate::block_summary::{end_of, entries_of, meta_of};
+use crate::data_blocks::encode_blocks;
+use crate::entry_ref::EntryRef;
 use crate::output_meta::OutputMeta;
 use crate::piece::Piece;
 use crate::plan_assembly::{assemble_all, whole_table};
+use crate::planned_block::PlannedBlock;
 use crate::planned_output::PlannedOutput;
 use crate::table_len::stored_len;
 use coding::Fault;
-use encoding::{EntryRef, PlannedBlock, encode_blocks};
 use ikey::Comparator;
 use std::alloc::Global;
 use std::marker::{Model, PhantomData};

@@ -10,7 +10,7 @@ use Rattle.coding.specs.Varint.{varint}
 use Rattle.ikey.specs.Key.{IsInternalKey, internal_key_reading}
 use Rattle.ikey.proofs.Keys.{IsInternalKey-reading}
 use Rattle.block.specs.EncodedEntry.{Entry, EncodedEntry, encoded_entry_bytes, key_after, entries_after, restarts_of, restart_bytes, IsBlock}
-use Rattle.frame.specs.Trailer.{stored_block, trailer_bytes}
+use Rattle.table.specs.Trailer.{stored_block, trailer_bytes}
 use Rattle.table.specs.EntryTests.{HaveKeys}
 use Rattle.table.specs.IndexReading.{index_reading}
 use Rattle.table.specs.TableBytes.{AreBytes, IsNamed, AreNamed}

@@ -67,10 +67,10 @@ mod trail;
 mod whole_files;
 mod writes_tables;
 
+pub use crate::folder::{Folder, FolderFault};
 pub use current_version::{Opened, open};
 pub use disk::Disk;
 pub use failure::{Failure, FolderCall};
-pub use folder::{Folder, FolderFault};
 pub use folder_answer_laws::{crash_laws, folder_laws, reading_laws};
 pub use folder_lock::{FolderLock, lock_to_change, lock_to_read};
 pub use made_table::{DiskMaker, MadeTable};

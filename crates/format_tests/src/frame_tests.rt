@@ -1,6 +1,6 @@
-use frame::*;
 use std::alloc::Global;
 use std::test::*;
+use table::*;
 
 /// The block of no entries.
 const EMPTY_BLOCK: &[u8] = b"\0\0\0\0\x01\0\0\0";

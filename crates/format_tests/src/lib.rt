@@ -1,5 +1,5 @@
-//! The tests of what is read and written as bytes: `coding`, `ikey`, `block`, `logrec`, `frame` and
-//! `table`.
+//! The tests of what is read and written as bytes: `coding`, `ikey`, `block`, `table` and
+//! `logrec`.
 #![tactic(auto)]
 
 #[cfg(test)]

@@ -3,12 +3,11 @@
 use crate::holding_gate::Held;
 use crate::worked_bytes::U_AT_TWO;
 use coding::{Fault, FaultName};
-use compact::compact;
+use compact::{Request, compact};
 use edit::{CompactPointer, FileMeta, Outcome};
 use ikey::{Bytewise, InternalKey, KeyBuf};
 use keep::Snapshots;
 use pick::{InputFile, Inputs};
-use request::Request;
 use split::Split;
 use std::alloc::Global;
 use std::thread::Threads;

@@ -1,3 +1,9 @@
+mod Names
+mod Unused
+mod Stays
+mod Telling
+mod NumberSets
+mod ObsoleteNames
 pub mod Parts
 mod Outputs
 mod Switch

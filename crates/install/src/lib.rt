@@ -1,5 +1,5 @@
-//! Installs the outcome of a compaction, so that a crash at any moment leaves the version before or
-//! the edited one.
+//! Makes the outcome of a compaction current, and removes the files that are not needed then, so
+//! that a crash at any moment leaves the version before or the edited one.
 //!
 //! [`install`] makes its calls in this order, each once, up to one that fails:
 //!
@@ -20,18 +20,35 @@
 //! and the rename would undo that. A change between this read and the rename isn't seen. Files that
 //! the other program made under the names of the first three are replaced by then.
 //!
+//! A compaction leaves its inputs and the manifest before it where they are. [`remove_obsolete`]
+//! removes, of the names that it is given, those that [`is_obsolete_file`] tells: files that the
+//! version doesn't need (`obsolete_files.rt` says which, `removal.rt` what holds then).
+//! [`obsolete_names`] answers these. [`pending_current`] finds a `CURRENT.N` that goleveldb has not
+//! renamed yet. Beside one, CURRENT may not name the version that is to be kept.
+//!
 //! Premises of what is said of a crash:
 //!
 //! - nobody else writes the folder;
-//! - it stands for the version (`StandsAs`);
+//! - it stands for the version: before an installation `StandsAs`, before a removal by its manifest
+//!   (`StandsBy`), as after `sync_version` of `store`;
 //! - the outcome makes the edited version of it (`IsEditedBy`);
 //! - the crash model of `folder`.
 #![tactic(auto)]
 
+mod file_kind;
 mod install_steps;
 mod installation;
 mod manifest;
+mod obsolete_files;
+mod pending_names;
+mod removal;
+mod removal_watch;
 
+pub use file_kind::FileKind;
 pub use install_steps::{install_manifest, write_group, write_source_group};
 pub use installation::install;
 pub use manifest::manifest_bytes;
+pub use obsolete_files::{is_obsolete_file, obsolete_names};
+pub use pending_names::pending_current;
+pub use removal::remove_obsolete;
+pub use removal_watch::RemovalWatch;

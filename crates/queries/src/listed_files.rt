@@ -1,8 +1,8 @@
 //! The files of a folder that its version doesn't need.
 
-use clean::obsolete_names;
 use coding::{Fault, FaultName};
 use folder::Opened;
+use install::obsolete_names;
 use session::{Refusal, names_in, path_in};
 use std::alloc::Global;
 use std::fs;

@@ -1,3 +1,8 @@
+pub mod Others
+pub mod Giving
+pub mod Parts
+pub mod IndexAhead
+pub mod UserEntries
 pub mod Members
 pub mod Orders
 pub mod Sought

@@ -1,4 +1,5 @@
 -- what contracts rest on
+pub mod FolderTables
 pub mod Tables
 pub mod Gets
 pub mod Lawful
@@ -8,6 +9,7 @@ pub mod StatedFiles
 pub mod TableOrder
 pub mod FileList
 -- serves proofs alone
+pub mod SearchAnswers
 pub mod Visible
 pub mod FileChecks
 pub mod Places

@@ -1,16 +1,18 @@
 //! What is told of the refusal of a command on a folder.
 
+use crate::detail::Detail;
 use crate::explanations::{NO_FOLDER, Words, of_file};
 use crate::host::Host;
 use crate::refusal::{Refusal, RefusalText, told};
+use crate::refused_files::RefusedFile;
 use crate::replaced_folder::found_again;
 use crate::reporter::Telling;
 use crate::settings_refusal::settings_refusal;
+use crate::version_diagnosis::refused_file;
 use answers::text_of;
 use coding::FaultName;
-use diagnostics::{Detail, RefusedFile, refused_file};
+use compact::Settings;
 use folder::{CURRENT, Disk, SystemFiles};
-use settings::Settings;
 use std::alloc::Global;
 use std::io::ErrorKind;
 use std::{fs, io};

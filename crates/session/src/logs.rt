@@ -1,6 +1,7 @@
 //! What the names and lengths of a folder's files tell.
 
-use diagnostics::{replaceable_file, replayed_log};
+use crate::replaceable_files::replaceable_file;
+use crate::replayed_logs::replayed_log;
 use edit::Version;
 use std::io::ErrorKind;
 use std::path::Path;

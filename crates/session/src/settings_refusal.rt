@@ -3,10 +3,9 @@
 use crate::refusal::RefusalText;
 use board::MAX_WORKERS;
 use coding::FaultName;
+use compact::{MAX_SNAPSHOTS, Settings};
 use ikey::MAX_SEQUENCE;
 use keep::Snapshots;
-use request::MAX_SNAPSHOTS;
-use settings::Settings;
 use split::MAX_RANGES;
 use std::alloc::Global;
 use table::{MAX_BLOCK_SIZE, MAX_TABLE_LEN};

@@ -22,7 +22,7 @@ mod range;
 mod split;
 mod split_choice;
 
+pub use crate::split::{MAX_BOUNDARIES, MAX_RANGES, RANGE_SAMPLES, SAMPLE_STEP, Split};
 pub use bound::is_before;
 pub use choice_law::one_choice;
 pub use range::Range;
-pub use split::{MAX_BOUNDARIES, MAX_RANGES, RANGE_SAMPLES, SAMPLE_STEP, Split};

@@ -18,7 +18,7 @@ use Rattle.checks.specs.LawfulTables.{IsLawfulTables}
 use Rattle.coding.proofs.Binds.{ok_is}
 use Rattle.install.specs.Install.{IsBeforeOrAfter, next_version_tables}
 use Rattle.install.specs.ToldNames.{AreTold}
-use Rattle.settings.specs.declared.settings.Settings.{Settings}
+use Rattle.compact.specs.declared.settings.Settings.{Settings}
 use Rattle.store.specs.AllLevels.{AnswersAs, CompactionLink, IsAtLink, AreLinked, IsLink, last_tables, version_at_end}
 use Rattle.store.specs.FolderRequest.{last_of, manifest_of}
 

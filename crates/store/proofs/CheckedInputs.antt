@@ -23,7 +23,7 @@ use Rattle.compact.proofs.ReadInputs.{read_inputs}
 use Rattle.install.specs.Install.{tables_in}
 use Rattle.checks.proofs.FoundTables.{checked_parts}
 use Rattle.pick.proofs.Lists.{and_first, and_second}
-use Rattle.request.specs.Inputs.{inputs_reading, table_matches_metadata}
+use Rattle.compact.specs.Inputs.{inputs_reading, table_matches_metadata}
 use Rattle.store.specs.InputsCompaction.{are_stated, input_tables}
 use Rattle.store.proofs.Loaded.{own_bytes}
 

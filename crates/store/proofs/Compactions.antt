@@ -18,14 +18,14 @@ use Rattle.pick.specs.PickedInputs.{IsInputsAnswer, IsPicked, PickedInputs}
 use Rattle.reads.specs.Tables.{NumberedContents}
 use Rattle.checks.specs.LawfulTables.{IsLawfulTables}
 use Rattle.checks.proofs.LawfulLemmas.{sound_checked, sound_lawful}
-use Rattle.request.specs.OneThread.{Answer, compaction_result, one_thread}
-use Rattle.request.specs.Request.{RequestView}
+use Rattle.compact.specs.OneThread.{Answer, compaction_result, one_thread}
+use Rattle.compact.specs.Request.{RequestView}
 use Rattle.store.specs.FolderRequest.{compaction_from, first_output, manifest_of, numbered_request, request_from}
 use Rattle.store.specs.Compaction.{VersionCompaction}
 use Rattle.store.specs.NumberedJointLaw.{NumberedJointLaw}
 use Rattle.store.specs.Lines.{compaction_lines}
 use Rattle.store.specs.Outcome.{LevelCompaction}
-use Rattle.settings.specs.declared.settings.Settings.{Settings}
+use Rattle.compact.specs.declared.settings.Settings.{Settings}
 use Rattle.ikey.specs.Comparator.{ShortKeys}
 
 -- the first number is above the manifest's

@@ -22,7 +22,7 @@ use Rattle.checks.specs.LawfulTables.{IsLawfulTables}
 use Rattle.install.proofs.Moments.{nothing_done}
 use Rattle.install.specs.Install.{AlwaysStandsAs, next_version_tables}
 use Rattle.install.specs.ToldNames.{AreTold}
-use Rattle.settings.specs.declared.settings.Settings.{Settings}
+use Rattle.compact.specs.declared.settings.Settings.{Settings}
 use Rattle.store.specs.AllLevels.{AnswersAs, CompactionLink, IsAtLink, AreLinked, IsDescended, IsEndOf, IsNextRefused, last_tables, version_at_end}
 use Rattle.store.specs.Answers.{IsLoadedCompacted}
 use Rattle.store.specs.Descent.{IsBottom, IsNextLevel}

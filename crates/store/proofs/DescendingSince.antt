@@ -11,7 +11,7 @@ use Rattle.folder.specs.Calls.{Step}
 use Rattle.folder.specs.Folder.{TellsSame}
 use Rattle.folder.specs.declared.order.Order.{Order}
 use Rattle.reads.specs.Tables.{NumberedContents}
-use Rattle.settings.specs.declared.settings.Settings.{Settings}
+use Rattle.compact.specs.declared.settings.Settings.{Settings}
 use Rattle.store.specs.AllLevels.{IsDescended}
 use Rattle.store.specs.Untold.{IsUntold}
 use Rattle.store.specs.declared.descent_end.DescentEnd.{DescentEnd}

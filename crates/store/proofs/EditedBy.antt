@@ -15,25 +15,25 @@ use Rattle.folder.specs.ReadsAs.{IsOneOf}
 use Rattle.folder.specs.declared.order.Order.{Order}
 use Rattle.pick.specs.PickedInputs.{IsPicked, PickedInputs}
 use Rattle.pick.specs.declared.picked_inputs.InputFile.{InputFile}
-use Rattle.survival.specs.ClosedInputs.{is_input}
+use Rattle.compact.specs.ClosedInputs.{is_input}
 use Rattle.reads.specs.Lawful.{IsBelowNextFile, IsLawful}
 use Rattle.reads.specs.Tables.{NumberedContents}
 use Rattle.reads.proofs.Members.{first_in, from_filter, from_map}
-use Rattle.request.specs.OutputTables.{Output, numbered_tables}
-use Rattle.request.specs.EditOf.{edit_of, new_file, new_files}
-use Rattle.request.specs.OneThread.{Answer}
-use Rattle.request.specs.PassedRequest.{IsPassed, PassedLaw}
-use Rattle.request.specs.Request.{RequestView}
+use Rattle.compact.specs.OutputTables.{Output, numbered_tables}
+use Rattle.compact.specs.EditOf.{edit_of, new_file, new_files}
+use Rattle.compact.specs.OneThread.{Answer}
+use Rattle.compact.specs.PassedRequest.{IsPassed, PassedLaw}
+use Rattle.compact.specs.Request.{RequestView}
 use Rattle.install.specs.Install.{IsEditedBy, numbers_of}
 use Rattle.install.proofs.Numbers.{in_files}
-use Rattle.survival.specs.EditAfter.{AreNumberedFrom, EditApplies, version_after}
-use Rattle.survival.specs.GetsAfter.{staying_files}
-use Rattle.survival.specs.RequestOverVersion.{HoldOutputs, IsOver}
-use Rattle.survival.proofs.Inputs.{input_file}
-use Rattle.survival.proofs.SurvivingReads.{is_edit}
+use Rattle.compact.specs.EditAfter.{AreNumberedFrom, EditApplies, version_after}
+use Rattle.compact.specs.GetsAfter.{staying_files}
+use Rattle.compact.specs.RequestOverVersion.{HoldOutputs, IsOver}
+use Rattle.compact.proofs.VersionInputs.{input_file}
+use Rattle.compact.proofs.SurvivingReads.{is_edit}
 use Rattle.checks.specs.TableReadings.{tables_reading}
 use Rattle.store.specs.FolderRequest.{manifest_of, request_from}
-use Rattle.settings.specs.declared.settings.Settings.{Settings}
+use Rattle.compact.specs.declared.settings.Settings.{Settings}
 use Rattle.store.proofs.Over.{has_next}
 use Rattle.store.proofs.TablesAfter.{HasNumber, number_of}
 

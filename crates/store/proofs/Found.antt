@@ -11,7 +11,7 @@ use Rattle.coding.specs.declared.fault.Fault.{Fault}
 use Rattle.table.specs.CheckedContents.{contents_in}
 use Rattle.table.specs.TableContents.{Contents, contents_of, contents_reading}
 use Rattle.reads.specs.Tables.{NumberedContents, table_of_number}
-use Rattle.survival.specs.SurvivingReads.{output_table}
+use Rattle.compact.specs.SurvivingReads.{output_table}
 use Rattle.store.proofs.Loaded.{own_bytes, turned}
 
 -- the first table of a number

@@ -12,8 +12,8 @@ use Rattle.pick.specs.PickedInputs.{IsInputsAnswer, PickedInputs}
 use Rattle.reads.specs.Tables.{NumberedContents}
 use Rattle.checks.specs.HeldTables.{IsCheckedAnswer}
 use Rattle.checks.specs.HeldBytes.{held_bytes}
-use Rattle.request.specs.OneThread.{Answer}
-use Rattle.settings.specs.declared.settings.Settings.{Settings}
+use Rattle.compact.specs.OneThread.{Answer}
+use Rattle.compact.specs.declared.settings.Settings.{Settings}
 use Rattle.store.specs.FoundInputs.{IsInputsFound}
 use Rattle.store.specs.InputsCompaction.{IsInputsTold, IsOrderlyAnswer, IsPickedTold, IsReadTold, input_numbers}
 use Rattle.store.proofs.Flow.{first_passed, first_refused}

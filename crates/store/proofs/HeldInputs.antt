@@ -18,8 +18,8 @@ use Rattle.checks.specs.TableReadings.{tables_reading}
 use Rattle.checks.specs.HeldTables.{IsCheckedAnswer, held_numbers}
 use Rattle.checks.specs.HeldBytes.{held_bytes}
 use Rattle.checks.proofs.FoundTables.{checked_parts}
-use Rattle.request.specs.OneThread.{Answer}
-use Rattle.settings.specs.declared.settings.Settings.{Settings}
+use Rattle.compact.specs.OneThread.{Answer}
+use Rattle.compact.specs.declared.settings.Settings.{Settings}
 use Rattle.store.specs.FolderRequest.{compaction_from}
 use Rattle.store.specs.InputsCompaction.{IsPickedTold, IsReadTold, are_stated, input_numbers, input_tables}
 use Rattle.store.proofs.Flow.{first_passed, first_refused}

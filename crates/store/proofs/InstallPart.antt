@@ -15,10 +15,10 @@ use Rattle.folder.specs.ReadsAs.{IsFileIn}
 use Rattle.folder.specs.declared.order.Order.{Order}
 use Rattle.install.specs.Install.{IsEditedBy, SurvivesCrash, next_version_tables}
 use Rattle.install.proofs.Moments.{made_by}
-use Rattle.request.specs.OneThread.{Answer}
+use Rattle.compact.specs.OneThread.{Answer}
 use Rattle.store.specs.Compaction.{IsInstalled, IsFolderLeft, IsVersionLeft, next_of}
 use Rattle.folder.specs.Orders.{order_cmp, order_short_keys}
-use Rattle.settings.specs.declared.settings.Settings.{Settings}
+use Rattle.compact.specs.declared.settings.Settings.{Settings}
 use Rattle.ikey.specs.Comparator.{ShortKeys}
 use Rattle.store.specs.VersionSync.{sync_calls}
 use Rattle.store.specs.declared.compaction_step.CompactionStep.{CompactionStep}

@@ -8,13 +8,13 @@ use Rattle.reads.specs.Lawful.{IsLawful}
 use Rattle.reads.specs.Tables.{NumberedContents}
 use Rattle.keep.specs.Readable.{readable_of}
 use Rattle.checks.proofs.LawfulLemmas.{sound}
-use Rattle.request.specs.PassedRequest.{PassedLaw}
-use Rattle.request.specs.Request.{RequestView}
+use Rattle.compact.specs.PassedRequest.{PassedLaw}
+use Rattle.compact.specs.Request.{RequestView}
 use Rattle.install.specs.Install as install
-use Rattle.survival.specs.EditAfter.{EditApplies, version_after}
-use Rattle.survival.specs.GetsAfter.{GetsAfter}
-use Rattle.survival.specs.RequestOverVersion.{HoldOutputs, IsOver, OutputsHold}
-use Rattle.survival.specs.SurvivingReads.{VersionAfterLaw, tables_after}
+use Rattle.compact.specs.EditAfter.{EditApplies, version_after}
+use Rattle.compact.specs.GetsAfter.{GetsAfter}
+use Rattle.compact.specs.RequestOverVersion.{HoldOutputs, IsOver, OutputsHold}
+use Rattle.compact.specs.SurvivingReads.{VersionAfterLaw, tables_after}
 use Rattle.store.specs.FolderRequest.{last_of, request_from}
 use Rattle.store.specs.NumberedJointLaw.{NumberedJointLaw}
 use Rattle.store.proofs.EditedBy.{edited_by, low_next, next_positive}

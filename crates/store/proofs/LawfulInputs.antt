@@ -30,12 +30,12 @@ use Rattle.checks.proofs.LawfulLemmas.{sound_checked, sound_lawful}
 use Rattle.checks.specs.TableReadings.{numbered_reading, tables_reading}
 use Rattle.checks.specs.LawfulTables.{IsLawfulTables}
 use Rattle.compact.proofs.ReadInputs.{stated_lawful}
-use Rattle.request.specs.Inputs.{table_matches_metadata}
-use Rattle.request.specs.OneThread.{Answer, compaction_result}
-use Rattle.request.specs.Request.{RequestView}
-use Rattle.survival.proofs.ClosedLevels.{in_level}
-use Rattle.survival.proofs.Inputs.{input_file}
-use Rattle.settings.specs.declared.settings.Settings.{Settings}
+use Rattle.compact.specs.Inputs.{table_matches_metadata}
+use Rattle.compact.specs.OneThread.{Answer, compaction_result}
+use Rattle.compact.specs.Request.{RequestView}
+use Rattle.compact.proofs.ClosedLevels.{in_level}
+use Rattle.compact.proofs.VersionInputs.{input_file}
+use Rattle.compact.specs.declared.settings.Settings.{Settings}
 use Rattle.store.specs.FolderRequest.{compaction_from, first_output, last_of}
 use Rattle.store.specs.InputsCompaction.{IsInputsTold, IsOrderlyAnswer, are_stated, input_numbers, input_tables}
 use Rattle.store.proofs.Compactions.{picked_of}

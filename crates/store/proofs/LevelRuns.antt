@@ -12,7 +12,7 @@ use Rattle.folder.specs.Orders.{order_cmp, order_short_keys}
 use Rattle.folder.specs.declared.current_version.Opened.{Opened}
 use Rattle.folder.specs.declared.order.Order.{Order}
 use Rattle.install.proofs.Moments.{made_by}
-use Rattle.settings.specs.declared.settings.Settings.{Settings}
+use Rattle.compact.specs.declared.settings.Settings.{Settings}
 use Rattle.store.specs.Descent.{IsBottom, IsNextLevel}
 use Rattle.store.specs.FolderRequest.{manifest_of}
 use Rattle.store.specs.LevelRuns.{AreLevelLinks, GroupedAnswer, IsAllLevelsRun, IsDescentRun, IsGroupedAnswer, IsLevelBegun, IsLevelLink, LevelLink, MakesNoCalls, calls_of_answer, steps_of_links, version_after}

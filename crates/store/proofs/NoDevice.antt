@@ -24,13 +24,13 @@ use Rattle.reads.specs.Tables.{NumberedContents}
 use Rattle.checks.specs.TableReadings.{tables_reading}
 use Rattle.checks.proofs.TableRefusals.{no_device}
 use Rattle.folder.specs.OpenAnswer.{HasDeviceFailed}
-use Rattle.request.specs.Inputs.{result_at_input, input_reading, inputs_reading, table_matches_metadata, union_reading}
-use Rattle.request.specs.OneThread.{Answer, one_thread, outputs_answer, table_for}
-use Rattle.request.specs.OutputTables.{Output, outputs_from, outputs_test}
-use Rattle.request.specs.Request.{RequestView, below_request, has_levels, has_options, has_snapshots, is_snapshot_list, request_test}
+use Rattle.compact.specs.Inputs.{result_at_input, input_reading, inputs_reading, table_matches_metadata, union_reading}
+use Rattle.compact.specs.OneThread.{Answer, one_thread, outputs_answer, table_for}
+use Rattle.compact.specs.OutputTables.{Output, outputs_from, outputs_test}
+use Rattle.compact.specs.Request.{RequestView, below_request, has_levels, has_options, has_snapshots, is_snapshot_list, request_test}
 use Rattle.store.specs.InputsCompaction.{IsOrderlyAnswer, IsReadTold, are_stated, input_tables}
 use Rattle.store.specs.FolderRequest.{compaction_from, first_output, numbered_request, request_from}
-use Rattle.settings.specs.declared.settings.Settings.{Settings}
+use Rattle.compact.specs.declared.settings.Settings.{Settings}
 use Rattle.ikey.specs.Comparator.{ShortKeys}
 
 abbrev refusal : {Y : Type 0} → Fault → Result Y Fault

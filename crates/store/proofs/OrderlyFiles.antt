@@ -20,8 +20,8 @@ use Rattle.reads.proofs.LawfulVersions.{is_as_stated}
 use Rattle.reads.proofs.Levels.{is_in}
 use Rattle.reads.specs.Lawful.{AreDisjoint, IsBelowNextFile, IsLawful}
 use Rattle.reads.specs.Tables.{NumberedContents}
-use Rattle.survival.proofs.ClosedLevels.{file_at, level_disjoint, level_of}
-use Rattle.survival.proofs.FileKeys.{below_not_upto, upto_below}
+use Rattle.compact.proofs.ClosedLevels.{file_at, level_disjoint, level_of}
+use Rattle.compact.proofs.FileKeys.{below_not_upto, upto_below}
 use Rattle.store.specs.InputsCompaction.{IsOrderly, RangesRise}
 
 first_le : (o p : Ordering) → ordering_then o p ≡ Less → is_le o ≡ true

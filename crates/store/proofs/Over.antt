@@ -15,10 +15,10 @@ use Rattle.reads.specs.Tables.{NumberedContents}
 use Rattle.reads.proofs.Members.{first_in, later_in}
 use Rattle.checks.specs.TableReadings.{tables_reading}
 use Rattle.install.specs.Install as install
-use Rattle.survival.specs.RequestOverVersion.{IsOver, input_bytes_of}
-use Rattle.survival.proofs.Inputs.{input_file}
+use Rattle.compact.specs.RequestOverVersion.{IsOver, input_bytes_of}
+use Rattle.compact.proofs.VersionInputs.{input_file}
 use Rattle.store.specs.FolderRequest.{manifest_of, request_from}
-use Rattle.settings.specs.declared.settings.Settings.{Settings}
+use Rattle.compact.specs.declared.settings.Settings.{Settings}
 use Rattle.store.proofs.Loaded.{bytes_found, found_loaded}
 
 -- a number below the next one tells that there is one

@@ -17,9 +17,9 @@ use Rattle.folder.specs.OpenAnswer.{FolderAnswers, IsStopped}
 use Rattle.folder.specs.declared.order.Order.{Order}
 use Rattle.install.specs.Install.{SurvivesCrash, next_version_tables}
 use Rattle.pick.specs.PickedInputs.{PickedInputs}
-use Rattle.request.specs.OneThread.{Answer, compaction_result}
-use Rattle.request.specs.Request.{RequestView}
-use Rattle.settings.specs.declared.settings.Settings.{Settings}
+use Rattle.compact.specs.OneThread.{Answer, compaction_result}
+use Rattle.compact.specs.Request.{RequestView}
+use Rattle.compact.specs.declared.settings.Settings.{Settings}
 use Rattle.store.specs.Compaction.{IsUnchanged}
 use Rattle.store.specs.FolderRequest.{compaction_from, numbered_request}
 use Rattle.store.specs.StepLeft.{IsStepLeft}

@@ -18,8 +18,8 @@ use Rattle.folder.specs.declared.order.Order.{Order}
 use Rattle.install.specs.GroupedInstallation.{tables_of_groups}
 use Rattle.install.specs.Install.{IsStoppedOrChanged, calls_before_rename, install_calls, manifest_bytes}
 use Rattle.install.proofs.Moments.{made_by}
-use Rattle.request.specs.OneThread.{Answer}
-use Rattle.settings.specs.declared.settings.Settings.{Settings}
+use Rattle.compact.specs.OneThread.{Answer}
+use Rattle.compact.specs.declared.settings.Settings.{Settings}
 use Rattle.store.specs.Compaction.{IsSynced}
 use Rattle.store.specs.FolderRequest.{manifest_of}
 use Rattle.store.specs.Runs.{IsAnswerForLevel, IsAnswerInstalled, IsFolderRun, IsLevelRun, IsRun}

@@ -22,8 +22,8 @@ use Rattle.install.specs.Install.{IsEditedBy, SurvivesCrash, current_calls, inst
 use Rattle.checks.specs.LawfulTables.{IsLawfulTables}
 use Rattle.reads.specs.Tables.{NumberedContents}
 use Rattle.pick.specs.PickedInputs.{IsInputsAnswer}
-use Rattle.request.specs.OneThread.{Answer}
-use Rattle.settings.specs.declared.settings.Settings.{Settings}
+use Rattle.compact.specs.OneThread.{Answer}
+use Rattle.compact.specs.declared.settings.Settings.{Settings}
 use Rattle.store.specs.Answers.{IsVersionCompacted, lines_of}
 use Rattle.store.specs.Compaction.{IsVersionLeft, VersionCompaction}
 use Rattle.store.specs.FolderRequest.{compaction_of, manifest_of}

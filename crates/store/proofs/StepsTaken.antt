@@ -20,7 +20,7 @@ use Rattle.folder.specs.Orders.{order_cmp, order_short_keys}
 use Rattle.folder.specs.declared.current_version.Opened.{Opened}
 use Rattle.folder.specs.declared.order.Order.{Order}
 use Rattle.folder.specs.declared.order.Order.TheVariants.{Bytewise, Shortlex}
-use Rattle.settings.specs.declared.settings.Settings.{Settings}
+use Rattle.compact.specs.declared.settings.Settings.{Settings}
 use Rattle.store.specs.FolderRequest.{manifest_of}
 use Rattle.store.specs.InputsCompaction.{InputsSufficeLaw}
 use Rattle.store.specs.OpenedAfter.{IsOpenedAfter}

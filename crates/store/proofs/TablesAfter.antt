@@ -15,15 +15,15 @@ use Rattle.edit.specs.declared.meta.NewFile.{NewFile}
 use Rattle.folder.specs.Levels.{file_numbers}
 use Rattle.folder.specs.ReadsAs.{IsOneOf}
 use Rattle.pick.specs.PickedInputs.{PickedInputs}
-use Rattle.survival.specs.ClosedInputs.{is_input}
+use Rattle.compact.specs.ClosedInputs.{is_input}
 use Rattle.reads.specs.Lawful.{IsFileOf, IsLawful}
 use Rattle.reads.specs.Tables.{NumberedContents, table_of_number}
 use Rattle.reads.proofs.Members.{first_in, later_in, first_or_later, none_in}
 use Rattle.checks.specs.TableReadings.{numbered_reading, tables_reading}
-use Rattle.request.specs.OneThread.{Answer}
+use Rattle.compact.specs.OneThread.{Answer}
 use Rattle.install.specs.Install as install
 use Rattle.install.proofs.Numbers.{in_files, in_version, numbers_in}
-use Rattle.survival.specs.SurvivingReads.{tables_after}
+use Rattle.compact.specs.SurvivingReads.{tables_after}
 use Rattle.store.proofs.Found.{found_after, kept_table}
 use Rattle.store.proofs.Loaded.{bytes_found, found_loaded, held_by}
 

@@ -10,8 +10,8 @@ use Rattle.edit.specs.declared.outcome.Outcome.{Outcome}
 use Rattle.folder.specs.Calls.{Files}
 use Rattle.ikey.specs.Comparator.{ShortKeys}
 use Rattle.pick.specs.PickedInputs.{PickedInputs}
-use Rattle.request.specs.OneThread.{Answer}
-use Rattle.settings.specs.declared.settings.Settings.{Settings}
+use Rattle.compact.specs.OneThread.{Answer}
+use Rattle.compact.specs.declared.settings.Settings.{Settings}
 use Rattle.store.specs.InputsCompaction.{IsInputsTold}
 
 -- a value seen by f

@@ -10,7 +10,7 @@ use Rattle.folder.proofs.NameEnds.{ends_apart, table_end}
 use Rattle.folder.proofs.PutLemmas.{moved_other, moved_to, put_other, put_same, same_name}
 use Rattle.folder.proofs.WrittenLemmas.{AllWritten, leads_first, leads_none}
 use Rattle.install.proofs.Moments.{leads_split, made_by, moment_made}
-use Rattle.request.specs.OneThread.{Answer}
+use Rattle.compact.specs.OneThread.{Answer}
 use Rattle.store.specs.Outcome.{naming_calls, outcome_calls}
 use Rattle.store.specs.WholeOutcome.{AreNamedApart, AreThere, HasNoEdit, IsAbsentOrWhole, IsNameOfNone}
 

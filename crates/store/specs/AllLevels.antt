@@ -15,10 +15,10 @@ use Rattle.reads.specs.Gets.{get_of}
 use Rattle.reads.specs.Tables.{NumberedContents}
 use Rattle.keep.specs.Readable.{is_read, readable_of}
 use Rattle.checks.specs.LawfulTables.{IsLawfulTables}
-use Rattle.request.specs.OneThread.{Answer}
+use Rattle.compact.specs.OneThread.{Answer}
 use Rattle.install.specs.Install.{AlwaysStandsAs, next_version_tables}
 use Rattle.install.specs.ToldNames.{AreTold}
-use Rattle.settings.specs.declared.settings.Settings.{Settings}
+use Rattle.compact.specs.declared.settings.Settings.{Settings}
 use Rattle.store.specs.Answers.{IsLoadedCompacted}
 use Rattle.store.specs.Compaction.{VersionCompaction}
 use Rattle.store.specs.Descent.{IsBottom, IsNextLevel}

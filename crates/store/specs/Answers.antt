@@ -10,12 +10,12 @@ use Rattle.folder.specs.OpenAnswer.{IsOpened}
 use Rattle.folder.specs.ReadsAs.{IsFileIn}
 use Rattle.pick.specs.PickedInputs.{IsInputsAnswer, PickedInputs}
 use Rattle.checks.specs.LawfulTables.{IsLawfulTables}
-use Rattle.request.specs.OneThread.{Answer}
+use Rattle.compact.specs.OneThread.{Answer}
 use Rattle.ikey.specs.Comparator.{KeyOrder, ShortKeys}
 use Rattle.store.specs.FolderRequest.{compaction_of, manifest_of}
 use Rattle.store.specs.Lines.{compaction_lines}
 use Rattle.folder.specs.Orders.{order_cmp, order_short_keys}
-use Rattle.settings.specs.declared.settings.Settings.{Settings}
+use Rattle.compact.specs.declared.settings.Settings.{Settings}
 
 -- the lines of a compaction's answer, or its refusal
 abbrev pub lines_of : State → PickedInputs → Result Answer Fault → Result (List ℕ) Fault

@@ -19,14 +19,14 @@ use Rattle.reads.specs.Gets.{get_of}
 use Rattle.reads.specs.Tables.{NumberedContents}
 use Rattle.keep.specs.Readable.{is_read, readable_of}
 use Rattle.checks.specs.LawfulTables.{IsLawfulTables}
-use Rattle.request.specs.OneThread.{Answer}
+use Rattle.compact.specs.OneThread.{Answer}
 use Rattle.install.specs.Install.{IsEditedBy, AlwaysStandsAs, SurvivesCrash, next_version_tables}
 use Rattle.store.specs.FolderRequest.{compaction_of, last_of, manifest_of}
 use Rattle.store.specs.Lines.{compaction_lines}
 use Rattle.store.specs.VersionSync.{AlwaysReadsBy, sync_calls}
 use Rattle.store.specs.declared.compaction_step.CompactionStep.{CompactionStep}
 use Rattle.folder.specs.Orders.{order_cmp, order_short_keys}
-use Rattle.settings.specs.declared.settings.Settings.{Settings}
+use Rattle.compact.specs.declared.settings.Settings.{Settings}
 use Rattle.ikey.specs.Comparator.{KeyOrder, ShortKeys}
 
 -- The edited version of a compaction's answer: the answer's edit makes it of the version, by a

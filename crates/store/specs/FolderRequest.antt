@@ -10,10 +10,10 @@ use Rattle.edit.specs.Version.{State}
 use Rattle.pick.specs.PickedInputs.{PickedInputs}
 use Rattle.pick.specs.declared.picked_inputs.InputFile.{InputFile}
 use Rattle.install.specs.Install.{table_bytes_of}
-use Rattle.request.specs.OneThread.{Answer, compaction_result}
-use Rattle.request.specs.Request.{RequestView}
+use Rattle.compact.specs.OneThread.{Answer, compaction_result}
+use Rattle.compact.specs.Request.{RequestView}
 use Rattle.ikey.specs.Comparator.{KeyOrder, ShortKeys}
-use Rattle.settings.specs.declared.settings.Settings.{Settings}
+use Rattle.compact.specs.declared.settings.Settings.{Settings}
 use Rattle.split.specs.declared.split.TheConstants.{MAX_RANGES}
 
 -- The number of the new manifest: the version's next file. Each version that a folder opens as has

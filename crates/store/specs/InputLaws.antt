@@ -12,8 +12,8 @@ use Rattle.pick.specs.PickedInputs.{IsInputsAnswer, IsPicked, PickedInputs}
 use Rattle.pick.specs.declared.picked_inputs.InputFile.{InputFile}
 use Rattle.reads.specs.Tables.{NumberedContents}
 use Rattle.checks.specs.LawfulTables.{IsLawfulTables}
-use Rattle.request.specs.OneThread.{Answer}
-use Rattle.settings.specs.declared.settings.Settings.{Settings}
+use Rattle.compact.specs.OneThread.{Answer}
+use Rattle.compact.specs.declared.settings.Settings.{Settings}
 use Rattle.store.specs.FolderRequest.{compaction_from}
 use Rattle.store.specs.InputsCompaction.{input_numbers}
 use Rattle.store.specs.Outcome.{IsLoadedOutcome, IsOutcomeOfInputs}

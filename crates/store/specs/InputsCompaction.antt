@@ -24,9 +24,9 @@ use Rattle.reads.specs.Lawful.{IsBelowNextFile}
 use Rattle.reads.specs.Tables.{NumberedContents}
 use Rattle.checks.specs.TableReadings.{tables_reading}
 use Rattle.checks.specs.LawfulTables.{IsLawfulTables}
-use Rattle.request.specs.Inputs.{table_matches_metadata}
-use Rattle.request.specs.OneThread.{Answer}
-use Rattle.settings.specs.declared.settings.Settings.{Settings}
+use Rattle.compact.specs.Inputs.{table_matches_metadata}
+use Rattle.compact.specs.OneThread.{Answer}
+use Rattle.compact.specs.declared.settings.Settings.{Settings}
 use Rattle.store.specs.Answers.{IsLoadedCompacted}
 use Rattle.store.specs.FolderRequest.{compaction_from, manifest_of}
 use Rattle.store.specs.Lines.{compaction_lines}

@@ -9,11 +9,11 @@ use Rattle.pick.specs.PickedInputs.{IsPicked, PickedInputs}
 use Rattle.reads.specs.Lawful.{IsLawful}
 use Rattle.reads.specs.Tables.{NumberedContents}
 use Rattle.checks.specs.TableReadings.{tables_reading}
-use Rattle.request.specs.OneThread.{Answer, one_thread}
-use Rattle.survival.specs.RequestOverVersion.{IsOver}
+use Rattle.compact.specs.OneThread.{Answer, one_thread}
+use Rattle.compact.specs.RequestOverVersion.{IsOver}
 use Rattle.store.specs.FolderRequest.{request_of}
 use Rattle.store.specs.Compaction.{EditedVersion}
-use Rattle.settings.specs.declared.settings.Settings.{Settings}
+use Rattle.compact.specs.declared.settings.Settings.{Settings}
 use Rattle.ikey.specs.Comparator.{KeyOrder, ShortKeys}
 
 -- If inputs are picked from a lawful version, and its log numbers are below 2^64, the request for

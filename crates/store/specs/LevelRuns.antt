@@ -10,9 +10,9 @@ use Rattle.folder.specs.CallSequence.{AreMadeBy}
 use Rattle.folder.specs.Manifest.{order_name}
 use Rattle.folder.specs.Orders.{order_cmp, order_short_keys}
 use Rattle.folder.specs.declared.order.Order.{Order}
-use Rattle.request.specs.OneThread.{Answer}
+use Rattle.compact.specs.OneThread.{Answer}
 use Rattle.install.specs.Install.{install_calls, manifest_bytes}
-use Rattle.settings.specs.declared.settings.Settings.{Settings}
+use Rattle.compact.specs.declared.settings.Settings.{Settings}
 use Rattle.store.specs.Descent.{IsBottom, IsNextLevel}
 use Rattle.store.specs.FolderRequest.{manifest_of}
 use Rattle.store.specs.OpenedAfter.{IsOpenedAfter}

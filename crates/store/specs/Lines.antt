@@ -5,7 +5,7 @@ use Rattle.compact.specs.GroupedAnswer.{table_sizes}
 use Rattle.edit.specs.declared.meta.DeletedFile.{DeletedFile}
 use Rattle.folder.specs.Names.{manifest_name}
 use Rattle.pick.specs.declared.picked_inputs.InputFile.{InputFile}
-use Rattle.request.specs.EditOf.{deletions_of}
+use Rattle.compact.specs.EditOf.{deletions_of}
 
 -- `output NUMBER SIZE`
 abbrev pub size_line : ℕ × ℕ → List ℕ

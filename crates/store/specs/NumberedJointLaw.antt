@@ -9,10 +9,10 @@ use Rattle.pick.specs.PickedInputs.{IsPicked, PickedInputs}
 use Rattle.reads.specs.Lawful.{IsLawful}
 use Rattle.reads.specs.Tables.{NumberedContents}
 use Rattle.checks.specs.TableReadings.{tables_reading}
-use Rattle.request.specs.OneThread.{Answer, one_thread}
+use Rattle.compact.specs.OneThread.{Answer, one_thread}
 use Rattle.store.specs.FolderRequest.{manifest_of, request_from}
 use Rattle.store.specs.Compaction.{EditedVersion}
-use Rattle.settings.specs.declared.settings.Settings.{Settings}
+use Rattle.compact.specs.declared.settings.Settings.{Settings}
 use Rattle.ikey.specs.Comparator.{KeyOrder, ShortKeys}
 
 -- The same of a request whose outputs have the numbers from a first one on, if that one is above

@@ -12,9 +12,9 @@ use Rattle.folder.specs.declared.order.Order.{Order}
 use Rattle.pick.specs.PickedInputs.{IsInputsAnswer, IsPicked, PickedInputs}
 use Rattle.reads.specs.Tables.{NumberedContents}
 use Rattle.checks.specs.LawfulTables.{IsLawfulTables}
-use Rattle.request.specs.OneThread.{Answer}
+use Rattle.compact.specs.OneThread.{Answer}
 use Rattle.install.specs.Install.{table_calls, write_calls}
-use Rattle.settings.specs.declared.settings.Settings.{Settings}
+use Rattle.compact.specs.declared.settings.Settings.{Settings}
 use Rattle.store.specs.Compaction.{EditedVersion}
 use Rattle.store.specs.FolderRequest.{compaction_from}
 use Rattle.store.specs.InputsCompaction.{IsInputsTold}

@@ -15,9 +15,9 @@ use Rattle.folder.specs.OpenAnswer.{IsOpened}
 use Rattle.folder.specs.Orders.{order_cmp, order_short_keys}
 use Rattle.folder.specs.declared.order.Order.{Order}
 use Rattle.pick.specs.PickedInputs.{IsPicked, PickedInputs}
-use Rattle.request.specs.OneThread.{Answer}
+use Rattle.compact.specs.OneThread.{Answer}
 use Rattle.install.specs.Install.{calls_before_rename, install_calls, manifest_bytes, numbers_of}
-use Rattle.settings.specs.declared.settings.Settings.{Settings}
+use Rattle.compact.specs.declared.settings.Settings.{Settings}
 use Rattle.store.specs.Compaction.{IsSynced, IsUnchanged}
 use Rattle.store.specs.FolderRequest.{compaction_of, manifest_of}
 use Rattle.store.specs.InputsCompaction.{input_numbers, input_tables, installed_lines}

@@ -8,9 +8,9 @@ use Rattle.edit.specs.Version.{State}
 use Rattle.folder.specs.Calls.{ToldFiles, Step}
 use Rattle.folder.specs.Names.{current_text}
 use Rattle.folder.specs.declared.order.Order.{Order}
-use Rattle.request.specs.OneThread.{Answer}
+use Rattle.compact.specs.OneThread.{Answer}
 use Rattle.install.specs.Install.{SurvivesCrash, next_version_tables}
-use Rattle.settings.specs.declared.settings.Settings.{Settings}
+use Rattle.compact.specs.declared.settings.Settings.{Settings}
 use Rattle.store.specs.Compaction.{IsUnchanged, VersionCompaction}
 use Rattle.store.specs.FolderRequest.{manifest_of}
 use Rattle.store.specs.declared.compaction_step.CompactionStep.{CompactionStep}

@@ -10,7 +10,7 @@ use Rattle.folder.specs.Calls.{ToldFiles, Step}
 use Rattle.folder.specs.OpenAnswer.{IsStopped}
 use Rattle.folder.specs.declared.current_version.Opened.{Opened}
 use Rattle.folder.specs.declared.order.Order.{Order}
-use Rattle.settings.specs.declared.settings.Settings.{Settings}
+use Rattle.compact.specs.declared.settings.Settings.{Settings}
 use Rattle.store.specs.Answers.{IsLoadedCompacted}
 use Rattle.store.specs.FolderRequest.{manifest_of}
 use Rattle.store.specs.LevelRuns.{IsLevelBegun}

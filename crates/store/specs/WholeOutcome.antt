@@ -3,7 +3,7 @@ use Rattle.std.specs.Prelude.{◌≡◌, ◌≢◌, ◌⊎◌, ℕ, List, [], �
 use Rattle.folder.specs.Calls.{Files}
 use Rattle.folder.specs.Crash.{World}
 use Rattle.folder.specs.TableFiles.{named_tables}
-use Rattle.request.specs.OneThread.{Answer}
+use Rattle.compact.specs.OneThread.{Answer}
 
 -- the files are there with their bytes
 abbrev pub AreThere : List (List ℕ × List ℕ) → Files → Type 0

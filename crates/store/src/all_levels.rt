@@ -30,10 +30,10 @@ use crate::install_watch::InstallWatch;
 use crate::next_opened::opened_after;
 use checks::{CHECKERS, VersionTotals, Watch, test_version};
 use coding::{Fault, FaultName};
+use compact::Settings;
 use edit::Version;
 use folder::{Opened, Order, ReadsTables, WritesTables};
 use ikey::{Bytewise, Shortlex};
-use settings::Settings;
 use std::alloc::Global;
 use std::thread::Threads;
 

@@ -19,9 +19,9 @@ use crate::install_laws::inputs_suffice;
 use crate::version_sync::sync_version;
 use checks::{CHECKERS, Watch, test_and_hold};
 use coding::Fault;
+use compact::Settings;
 use folder::{Opened, Order, ReadsTables, WritesTables, open};
 use ikey::{Bytewise, SharedComparator, Shortlex};
-use settings::Settings;
 use std::alloc::Global;
 use std::thread::Threads;
 

@@ -22,10 +22,10 @@ use crate::level_compaction::level_outcome;
 use crate::lines::outcome_lines;
 use checks::{CHECKERS, HeldTables, Watch, test_and_hold};
 use coding::Fault;
+use compact::Settings;
 use edit::Version;
 use folder::{Opened, Order, ReadsTables};
 use ikey::{Bytewise, SharedComparator, Shortlex};
-use settings::Settings;
 use std::alloc::Global;
 use std::thread::Threads;
 

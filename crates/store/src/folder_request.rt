@@ -4,14 +4,13 @@ ghost use Rattle.std.specs.Prelude.{◌≡◌, ◌<◌, ◌^◌, ℕ, List, map,
 ghost use Rattle.coding.specs.Answers.{EqualOrMemory};
 ghost use Rattle.install.specs.Install.{table_bytes_of};
 ghost use Rattle.pick.specs.PickedInputs.{picked_in};
-ghost use Rattle.request.specs.Request.{request_in};
+ghost use Rattle.compact.specs.Request.{request_in};
 ghost use Rattle.store.specs.FolderRequest.{first_output, manifest_of, numbered_request};
 
 use coding::{Fault, FaultName};
+use compact::{Request, Settings};
 use edit::Version;
 use pick::Inputs;
-use request::Request;
-use settings::Settings;
 
 /// The number of the new manifest: the version's next file.
 pub fn manifest_of(version: &Version) -> u64

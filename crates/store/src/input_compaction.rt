@@ -23,9 +23,9 @@ use crate::install_laws::numbered_is_installed;
 use crate::level_inputs::level_inputs;
 use checks::{HeldTables, Watch};
 use coding::Fault;
+use compact::Settings;
 use folder::{Opened, Order, ReadsTables, WritesTables};
 use ikey::{Bytewise, SharedComparator, Shortlex};
-use settings::Settings;
 use std::alloc::Global;
 use std::thread::Threads;
 

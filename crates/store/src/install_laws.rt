@@ -5,9 +5,8 @@ ghost use Rattle.store.specs.InputsCompaction.{InputsSufficeLaw};
 ghost use Rattle.store.specs.JointLaws.{JointLaw, OverLaw};
 ghost use Rattle.store.specs.NumberedJointLaw.{NumberedJointLaw};
 
+use compact::{edit_applies, gets_after, outputs_hold, passed_law, stands_after};
 use ikey::Comparator;
-use request::passed_law;
-use survival::{edit_applies, gets_after, outputs_hold, stands_after};
 
 /// If inputs were picked from a lawful version, the request for them is one over that version
 /// (`IsOver`). A call does nothing.

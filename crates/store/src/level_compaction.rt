@@ -23,11 +23,11 @@ use crate::install_laws::numbered_is_installed;
 use crate::level_inputs::level_inputs;
 use checks::{HeldTables, Watch};
 use coding::Fault;
+use compact::Settings;
 use edit::{Outcome, Version};
 use folder::ReadsTables;
 use ikey::SharedComparator;
 use pick::Inputs;
-use settings::Settings;
 use std::alloc::Global;
 use std::thread::Threads;
 

@@ -6,15 +6,15 @@ ghost use Rattle.coding.specs.Answers.{EqualOrMemory, fault};
 ghost use Rattle.coding.specs.declared.fault.FaultName.TheVariants.{Memory};
 ghost use Rattle.compact.specs.GroupedAnswer.{table_sizes};
 ghost use Rattle.install.specs.Install.{tables_in};
-ghost use Rattle.request.specs.EditOf.{deletions_of};
+ghost use Rattle.compact.specs.EditOf.{deletions_of};
 ghost use Rattle.store.specs.Lines.{compaction_lines, deleted_line, installed_line, outcome_lines};
 ghost use Rattle.store.specs.Lines.{size_line};
 
 use coding::Fault;
+use compact::deletions_of;
 use edit::{DeletedFile, Outcome};
 use folder::manifest_name;
 use pick::InputFile;
-use request::deletions_of;
 use std::alloc::Global;
 use std::collections::BTreeSet;
 

@@ -13,8 +13,8 @@ use Rattle.block.proofs.Splits.{split_count}
 use Rattle.block.proofs.Pieces.{AreWide-of, entries_of_encoded-pieces}
 use Rattle.block.proofs.Written.{AreOfBlock-pieces_from, entries_after-pieces_from}
 use Rattle.block.proofs.Built.{length-restarts_of}
-use Rattle.frame.specs.Trailer.{stored_block, trailer_bytes}
-use Rattle.frame.proofs.Stored.{length-stored}
+use Rattle.table.specs.Trailer.{stored_block, trailer_bytes}
+use Rattle.table.proofs.Stored.{length-stored}
 use Rattle.table.specs.declared.flushed_block.FlushedBlock.{FlushedBlock}
 use Rattle.table.specs.Table.{IndexKeys, stored_blocks}
 use Rattle.table.specs.FlushedBlocks.{index_before}

@@ -10,8 +10,8 @@ use Rattle.block.specs.BlockFormat.{block}
 use Rattle.block.specs.BuilderView.{BlockBuilding, last_key, with_entry}
 use Rattle.block.proofs.Built.{last_key-push}
 use Rattle.block.proofs.Sizes.{length-block-nil, fits_with_entry}
-use Rattle.frame.specs.Trailer.{stored_block}
-use Rattle.frame.proofs.Stored.{length-stored}
+use Rattle.table.specs.Trailer.{stored_block}
+use Rattle.table.proofs.Stored.{length-stored}
 use Rattle.table.specs.declared.options.Options.{Options}
 use Rattle.table.specs.declared.flushed_block.FlushedBlock.{FlushedBlock}
 use Rattle.table.specs.Options.{AreInLimits}

@@ -11,7 +11,7 @@ use Rattle.ikey.specs.Order.{internal_cmp}
 use Rattle.block.specs.EncodedEntry.{Entry}
 use Rattle.block.specs.BlockFormat.{block}
 use Rattle.block.specs.BuilderView.{last_key}
-use Rattle.frame.specs.Trailer.{stored_block}
+use Rattle.table.specs.Trailer.{stored_block}
 use Rattle.table.specs.declared.options.Options.{Options}
 use Rattle.table.specs.declared.flushed_block.FlushedBlock.{FlushedBlock}
 use Rattle.table.specs.DataBlocks.{is_full, open_block, data_blocks, flushed_len, flushed}

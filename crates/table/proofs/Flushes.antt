@@ -5,8 +5,8 @@ use Rattle.std.proofs.lemmas.List.Concat.{flat_map-append}
 use Rattle.block.specs.EncodedEntry.{Entry}
 use Rattle.block.specs.BlockFormat.{block}
 use Rattle.block.specs.BuilderView.{last_key}
-use Rattle.frame.specs.Trailer.{stored_block}
-use Rattle.frame.proofs.Stored.{length-stored}
+use Rattle.table.specs.Trailer.{stored_block}
+use Rattle.table.proofs.Stored.{length-stored}
 use Rattle.table.specs.declared.flushed_block.FlushedBlock.{FlushedBlock}
 use Rattle.table.specs.Table.{IndexKeys, index_key, handle_entry, index_from, stored_blocks}
 use Rattle.table.specs.EntryTests.{first_key}

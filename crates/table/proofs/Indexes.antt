@@ -5,13 +5,13 @@ use Rattle.block.specs.EncodedEntry.{Entry}
 use Rattle.block.specs.BlockFormat.{block}
 use Rattle.block.specs.BuilderView.{BlockBuilding, with_entry}
 use Rattle.block.proofs.Sizes.{length-block-nil, length-block-append, fits_with_entry}
-use Rattle.frame.specs.Handle.{handle_bytes}
-use Rattle.frame.specs.Trailer.{stored_block}
-use Rattle.frame.specs.Footer.{footer_bytes}
-use Rattle.frame.specs.declared.handle.BlockHandle.{BlockHandle}
-use Rattle.frame.proofs.Handles.{length-handle_bytes}
-use Rattle.frame.proofs.Stored.{length-stored}
-use Rattle.frame.proofs.Footers.{length-footer_bytes}
+use Rattle.table.specs.Handle.{handle_bytes}
+use Rattle.table.specs.Trailer.{stored_block}
+use Rattle.table.specs.Footer.{footer_bytes}
+use Rattle.table.specs.declared.handle.BlockHandle.{BlockHandle}
+use Rattle.table.proofs.Handles.{length-handle_bytes}
+use Rattle.table.proofs.Stored.{length-stored}
+use Rattle.table.proofs.Footers.{length-footer_bytes}
 use Rattle.table.specs.declared.flushed_block.FlushedBlock.{FlushedBlock}
 use Rattle.table.specs.Table.{handle_entry, metaindex, footer_at, closing_bytes}
 use Rattle.table.specs.FlushedBlocks.{index_entries}

@@ -6,7 +6,7 @@ use Rattle.std.proofs.lemmas.List.{take_at, drop_at}
 use Rattle.coding.specs.Varint.{varint}
 use Rattle.coding.proofs.Bytes.{IsBytes, IsBytes-take, IsBytes-drop}
 use Rattle.block.specs.EncodedEntry.{Entry, EncodedEntry, IsBlock, encoded_entry_bytes, entries_after, key_after, restart_bytes, restarts_of}
-use Rattle.frame.specs.Trailer.{stored_block, trailer_bytes}
+use Rattle.table.specs.Trailer.{stored_block, trailer_bytes}
 use Rattle.ikey.proofs.Keys.{IsInternalKey-reading}
 use Rattle.table.specs.EntryTests.{HaveKeys, HaveInternalKeys}
 use Rattle.table.specs.TableBytes.{AreNamed, IsTable}

@@ -1,3 +1,6 @@
+pub mod Handles
+pub mod Stored
+pub mod Footers
 pub mod BlockEntries
 pub mod Flushes
 pub mod Builds

@@ -14,9 +14,9 @@ use Rattle.block.specs.EncodedEntry.{Entry}
 use Rattle.block.specs.BuilderView.{last_key}
 use Rattle.ikey.specs.Key.{internal_key_reading}
 use Rattle.ikey.specs.Order.{internal_cmp}
-use Rattle.frame.specs.declared.handle.BlockHandle.{BlockHandle}
-use Rattle.frame.specs.Handle.{handle_bytes, handle_reading, HandleBehind}
-use Rattle.frame.proofs.Handles.{handle_reading-spelled, reads_handle}
+use Rattle.table.specs.declared.handle.BlockHandle.{BlockHandle}
+use Rattle.table.specs.Handle.{handle_bytes, handle_reading, HandleBehind}
+use Rattle.table.proofs.Handles.{handle_reading-spelled, reads_handle}
 use Rattle.table.specs.TestResult.{test_result}
 use Rattle.table.specs.EntryTests.{first_key, is_above, last_key_after, entry_test, entries_test, is_some_list, data_test, HaveKeys}
 use Rattle.table.specs.IndexReading.{IndexEntry, handle_alone, one_handle, stored_at, block_in, index_entry, index_reading}

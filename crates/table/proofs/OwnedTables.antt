@@ -9,9 +9,9 @@ use Rattle.coding.proofs.Binds.{done, bind_ok, ok_is}
 use Rattle.block.specs.EncodedEntry.{Entry, IsBlock}
 use Rattle.block.specs.BlockReading.{block_reading}
 use Rattle.block.proofs.BlockReadings.{reads_blocks}
-use Rattle.frame.specs.Footer.{footer_reading}
-use Rattle.frame.specs.Trailer.{stored_reading}
-use Rattle.frame.specs.declared.footer.Footer.{Footer}
+use Rattle.table.specs.Footer.{footer_reading}
+use Rattle.table.specs.Trailer.{stored_reading}
+use Rattle.table.specs.declared.footer.Footer.{Footer}
 use Rattle.table.specs.TestResult.{test_result}
 use Rattle.table.specs.IndexReading.{stored_at, block_in}
 use Rattle.table.specs.TableContents.{index_in, blocks_of, Contents, contents_of, contents_reading}

@@ -13,11 +13,11 @@ use Rattle.block.specs.BlockFormat.{block}
 use Rattle.block.specs.BuilderView.{last_key}
 use Rattle.block.proofs.Written.{block_reads_back}
 use Rattle.block.proofs.Sizes.{length-block-nil}
-use Rattle.frame.specs.Trailer.{stored_block}
-use Rattle.frame.specs.Footer.{handles_bytes, footer_bytes, magic}
-use Rattle.frame.specs.declared.footer.Footer.{Footer}
-use Rattle.frame.proofs.Stored.{length-stored}
-use Rattle.frame.proofs.Footers.{length-handles_bytes, length-footer_bytes}
+use Rattle.table.specs.Trailer.{stored_block}
+use Rattle.table.specs.Footer.{handles_bytes, footer_bytes, magic}
+use Rattle.table.specs.declared.footer.Footer.{Footer}
+use Rattle.table.proofs.Stored.{length-stored}
+use Rattle.table.proofs.Footers.{length-handles_bytes, length-footer_bytes}
 use Rattle.table.specs.declared.options.Options.{Options}
 use Rattle.table.specs.DataBlocks.{data_blocks, AreDataBlocks}
 use Rattle.table.specs.BuilderState.{entries_of_parts}

@@ -12,13 +12,13 @@ use Rattle.coding.specs.declared.fault.FaultName.TheVariants.{Magic, Handle, Ran
 use Rattle.coding.proofs.Binds.{done, bind_ok, ok_is}
 use Rattle.block.specs.EncodedEntry.{Entry}
 use Rattle.coding.proofs.Bytes.{IsBytes-take, IsBytes-drop}
-use Rattle.frame.specs.declared.handle.BlockHandle.{BlockHandle}
-use Rattle.frame.specs.declared.footer.Footer.{Footer}
-use Rattle.frame.specs.Handle.{handle_bytes, handle_reading, HandleBehind}
-use Rattle.frame.specs.Trailer.{stored_block, stored_reading}
-use Rattle.frame.specs.Footer.{handles_bytes, magic, handles_reading, footer_reading}
-use Rattle.frame.proofs.Handles.{handle_reading-spelled, reads_handle, found_first}
-use Rattle.frame.proofs.Stored.{length-stored, stored_again, only_stored}
+use Rattle.table.specs.declared.handle.BlockHandle.{BlockHandle}
+use Rattle.table.specs.declared.footer.Footer.{Footer}
+use Rattle.table.specs.Handle.{handle_bytes, handle_reading, HandleBehind}
+use Rattle.table.specs.Trailer.{stored_block, stored_reading}
+use Rattle.table.specs.Footer.{handles_bytes, magic, handles_reading, footer_reading}
+use Rattle.table.proofs.Handles.{handle_reading-spelled, reads_handle, found_first}
+use Rattle.table.proofs.Stored.{length-stored, stored_again, only_stored}
 use Rattle.block.specs.BlockReading.{block_reading}
 use Rattle.table.specs.IndexReading.{stored_at, block_in}
 use Rattle.table.specs.TableBytes.{IsStoredAt, EndsWith, AreBytes}

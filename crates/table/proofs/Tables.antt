@@ -8,8 +8,8 @@ use Rattle.coding.specs.Answers.{◌>>=◌}
 use Rattle.coding.specs.declared.fault.FaultName.TheVariants.{Size, Short, Empty, Index}
 use Rattle.coding.proofs.Binds.{done, bind_ok, ok_is}
 use Rattle.block.specs.EncodedEntry.{Entry}
-use Rattle.frame.specs.declared.footer.Footer.{Footer}
-use Rattle.frame.specs.Footer.{footer_reading}
+use Rattle.table.specs.declared.footer.Footer.{Footer}
+use Rattle.table.specs.Footer.{footer_reading}
 use Rattle.table.specs.TestResult.{test_result}
 use Rattle.table.specs.EntryTests.{is_some_list, entries_test, HaveKeys}
 use Rattle.table.specs.EntriesFrom.{EntriesRise}

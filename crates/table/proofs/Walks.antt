@@ -19,9 +19,9 @@ use Rattle.block.specs.BuilderView.{last_key}
 use Rattle.ikey.specs.Key.{internal_key_reading, user_of}
 use Rattle.ikey.specs.Order.{internal_cmp}
 use Rattle.ikey.proofs.Ordered.{internal_cmp-total}
-use Rattle.frame.specs.declared.handle.BlockHandle.{BlockHandle}
-use Rattle.frame.specs.Handle.{HandleBehind, handle_reading}
-use Rattle.frame.specs.Trailer.{stored_reading}
+use Rattle.table.specs.declared.handle.BlockHandle.{BlockHandle}
+use Rattle.table.specs.Handle.{HandleBehind, handle_reading}
+use Rattle.table.specs.Trailer.{stored_reading}
 use Rattle.block.specs.BlockReading.{block_reading}
 use Rattle.table.specs.EntryTests.{first_key, is_above, last_key_after, is_some_list, data_test, HaveKeys}
 use Rattle.table.specs.IndexReading.{IndexEntry, handle_alone, one_handle, stored_at, block_in, index_entry, index_reading}

@@ -16,7 +16,7 @@ use Rattle.table.specs.Table.{IndexKeys, stored_blocks}
 use Rattle.table.specs.EntryTests.{first_key}
 use Rattle.table.specs.FlushedBlocks.{index_before}
 use Rattle.block.specs.declared.builder.TheConstants.{MAX_BLOCK_LEN}
-use Rattle.frame.specs.declared.trailer.TheConstants.{TRAILER_LEN}
+use Rattle.table.specs.declared.trailer.TheConstants.{TRAILER_LEN}
 
 -- the entries of a block, of its bytes before the restarts
 unfoldable pub block_entries : List ℕ → List Entry

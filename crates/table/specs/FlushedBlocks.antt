@@ -3,7 +3,7 @@ use Rattle.std.specs.Prelude.{ℕ, ◌+◌, List, [], ◌∷◌, map, length}
 use Rattle.block.specs.EncodedEntry.{Entry}
 use Rattle.block.specs.BlockFormat.{block}
 use Rattle.block.specs.BuilderView.{last_key}
-use Rattle.frame.specs.declared.trailer.TheConstants.{TRAILER_LEN}
+use Rattle.table.specs.declared.trailer.TheConstants.{TRAILER_LEN}
 use Rattle.table.specs.declared.flushed_block.FlushedBlock.{FlushedBlock}
 use Rattle.table.specs.Table.{IndexKeys, handle_entry}
 use Rattle.table.specs.EntryTests.{first_key}

@@ -6,12 +6,12 @@ use Rattle.coding.specs.declared.fault.Fault.{Fault}
 use Rattle.coding.specs.declared.fault.FaultName.TheVariants.{Handle, Range}
 use Rattle.block.specs.EncodedEntry.{Entry}
 use Rattle.ikey.specs.Key.{internal_key_reading}
-use Rattle.frame.specs.declared.handle.BlockHandle.{BlockHandle}
-use Rattle.frame.specs.Handle.{HandleBehind, handle_reading}
-use Rattle.frame.specs.Trailer.{stored_reading}
+use Rattle.table.specs.declared.handle.BlockHandle.{BlockHandle}
+use Rattle.table.specs.Handle.{HandleBehind, handle_reading}
+use Rattle.table.specs.Trailer.{stored_reading}
 use Rattle.block.specs.BlockReading.{block_reading}
-use Rattle.frame.specs.declared.footer.TheConstants.{FOOTER_LEN}
-use Rattle.frame.specs.declared.trailer.TheConstants.{TRAILER_LEN}
+use Rattle.table.specs.declared.footer.TheConstants.{FOOTER_LEN}
+use Rattle.table.specs.declared.trailer.TheConstants.{TRAILER_LEN}
 
 -- a key of the index, and the bytes of its data block as they are stored
 pub record IndexEntry : Type 0 where

@@ -10,7 +10,7 @@ use Rattle.block.specs.EncodedEntry.{Entry}
 use Rattle.ikey.specs.Key.{internal_key_reading}
 use Rattle.ikey.specs.Order.{internal_cmp}
 use Rattle.ikey.specs.Comparator.{KeyOrder}
-use Rattle.frame.specs.Handle.{handle_reading}
+use Rattle.table.specs.Handle.{handle_reading}
 use Rattle.table.specs.IndexReading.{one_handle, stored_at, block_in}
 use Rattle.table.specs.EntriesFrom.{EntriesRise}
 use Rattle.table.specs.EntryTests.{HaveKeys}

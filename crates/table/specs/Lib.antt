@@ -1,4 +1,7 @@
 -- what contracts rest on
+pub mod Handle
+pub mod Trailer
+pub mod Footer
 pub mod Options
 pub mod DataBlocks
 pub mod Table

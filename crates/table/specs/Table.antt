@@ -10,11 +10,11 @@ use Rattle.ikey.specs.ShortenedKeys.{internal_separator_of, internal_successor_o
 use Rattle.block.specs.EncodedEntry.{Entry}
 use Rattle.block.specs.BlockFormat.{block}
 use Rattle.block.specs.BuilderView.{last_key}
-use Rattle.frame.specs.Handle.{handle_bytes}
-use Rattle.frame.specs.Trailer.{stored_block}
-use Rattle.frame.specs.Footer.{footer_bytes}
-use Rattle.frame.specs.declared.footer.Footer.{Footer}
-use Rattle.frame.specs.declared.trailer.TheConstants.{TRAILER_LEN}
+use Rattle.table.specs.Handle.{handle_bytes}
+use Rattle.table.specs.Trailer.{stored_block}
+use Rattle.table.specs.Footer.{footer_bytes}
+use Rattle.table.specs.declared.footer.Footer.{Footer}
+use Rattle.table.specs.declared.trailer.TheConstants.{TRAILER_LEN}
 use Rattle.table.specs.declared.options.Options.{Options}
 use Rattle.table.specs.DataBlocks.{data_blocks}
 use Rattle.table.specs.EntryTests.{first_key}

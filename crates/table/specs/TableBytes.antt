@@ -9,16 +9,16 @@ use Rattle.block.specs.BuilderView.{last_key}
 use Rattle.ikey.specs.Key.{internal_key_reading}
 use Rattle.ikey.specs.Order.{internal_cmp}
 use Rattle.ikey.specs.Comparator.{KeyOrder}
-use Rattle.frame.specs.declared.handle.BlockHandle.{BlockHandle}
-use Rattle.frame.specs.declared.footer.Footer.{Footer}
-use Rattle.frame.specs.Handle.{handle_bytes}
-use Rattle.frame.specs.Trailer.{stored_block}
-use Rattle.frame.specs.Footer.{handles_bytes, magic}
+use Rattle.table.specs.declared.handle.BlockHandle.{BlockHandle}
+use Rattle.table.specs.declared.footer.Footer.{Footer}
+use Rattle.table.specs.Handle.{handle_bytes}
+use Rattle.table.specs.Trailer.{stored_block}
+use Rattle.table.specs.Footer.{handles_bytes, magic}
 use Rattle.table.specs.EntryTests.{first_key, HaveKeys}
 use Rattle.table.specs.EntriesFrom.{EntriesRise}
 use Rattle.table.specs.TableContents.{DataBlock, entries_of, table_reading}
 use Rattle.table.specs.declared.table_check.TheConstants.{MAX_TABLE_LEN, MAX_VALUE_LEN}
-use Rattle.frame.specs.declared.footer.TheConstants.{FOOTER_LEN, HANDLES_LEN}
+use Rattle.table.specs.declared.footer.TheConstants.{FOOTER_LEN, HANDLES_LEN}
 
 -- a block of these entries is stored where the handle says, before the 48 bytes of a footer
 pub record IsStoredAt (bytes : List ℕ) (handle : BlockHandle) (entries : List Entry) : Type 0 where

@@ -11,12 +11,12 @@ use Rattle.block.specs.BuilderView.{last_key}
 use Rattle.ikey.specs.Key.{user_of}
 use Rattle.ikey.specs.Order.{internal_cmp}
 use Rattle.ikey.specs.Comparator.{KeyOrder}
-use Rattle.frame.specs.Footer.{footer_reading}
+use Rattle.table.specs.Footer.{footer_reading}
 use Rattle.table.specs.TestResult.{test_result}
 use Rattle.table.specs.EntryTests.{first_key, last_key_after, is_above, is_some_list, data_test}
 use Rattle.table.specs.IndexReading.{IndexEntry, stored_at, block_in, index_reading}
 use Rattle.table.specs.declared.table_check.TheConstants.{MAX_TABLE_LEN}
-use Rattle.frame.specs.declared.footer.TheConstants.{FOOTER_LEN}
+use Rattle.table.specs.declared.footer.TheConstants.{FOOTER_LEN}
 
 -- the entries of a data block, and its index key
 pub record DataBlock : Type 0 where

@@ -11,9 +11,9 @@ ghost use Rattle.table.specs.Table.{table, within_limit};
 
 use crate::flushed::Flushed;
 use crate::options::Options;
+use crate::trailer::TRAILER_LEN;
 use block::BlockBuilder;
 use coding::Fault;
-use frame::TRAILER_LEN;
 use ikey::{Comparator, InternalKey, internal_separator, internal_successor};
 use std::alloc::Global;
 use std::marker::{Model, PhantomData};

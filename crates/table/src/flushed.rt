@@ -5,17 +5,18 @@ ghost use Rattle.std.specs.Prelude.{OnOk, OnErr, IsOkUnless, Ok};
 ghost use Rattle.coding.specs.Answers.{EqualOrMemory, UnlessMemory, fault};
 ghost use Rattle.coding.specs.declared.fault.FaultName.TheVariants.{Memory, TooLarge};
 ghost use Rattle.block.specs.BlockFormat.{block};
-ghost use Rattle.frame.specs.Trailer.{stored_block};
+ghost use Rattle.table.specs.Trailer.{stored_block};
 ghost use Rattle.table.specs.FlushedBlocks.{flushed_block_at, index_entries};
 ghost use Rattle.table.specs.Table.{closing_bytes, within_limit};
 ghost use Rattle.table.specs.declared.table_check.TheConstants.{MAX_TABLE_LEN};
 
 use crate::flushed_block::FlushedBlock;
+use crate::footer::FOOTER_LEN;
 use crate::layout::{push_closing, push_index_entry, push_stored};
 use crate::table_check::MAX_TABLE_LEN;
+use crate::trailer::TRAILER_LEN;
 use block::{BlockBuilder, EMPTY_BLOCK_LEN};
 use coding::{Fault, FaultName};
-use frame::{FOOTER_LEN, TRAILER_LEN};
 use ikey::KeyBuf;
 use std::alloc::Global;
 

@@ -1,6 +1,6 @@
 //! A data block that was flushed.
 
-use frame::BlockHandle;
+use crate::handle::BlockHandle;
 use ikey::KeyBuf;
 
 /// What the index has of a data block.

@@ -1,7 +1,7 @@
 //! A data block that an index names.
 
 ghost use Rattle.std.specs.Prelude.{◌≤◌, length};
-ghost use Rattle.frame.specs.declared.trailer.TheConstants.{TRAILER_LEN};
+ghost use Rattle.table.specs.declared.trailer.TheConstants.{TRAILER_LEN};
 
 use ikey::KeyBuf;
 

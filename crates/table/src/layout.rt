@@ -11,7 +11,8 @@
 //!
 //! A data block's key in the index is at or above its own keys, and below those of the next. Why:
 //! the first index key at or above a sought key names the data block in which to look. The crate
-//! `block` has the layout of a block, and `frame` those of trailer, handle and footer.
+//! `block` has the layout of a block; those of trailer, handle and footer are in `trailer.rt`,
+//! `handle.rt` and `footer.rt` beside this.
 //!
 //! The table of `a` at 1 put `x`, 114 bytes:
 //!
@@ -32,13 +33,15 @@ ghost use Rattle.std.specs.Prelude.{OnOk, OnErr, IsOkUnless};
 ghost use Rattle.coding.specs.Answers.{fault};
 ghost use Rattle.coding.specs.declared.fault.FaultName.TheVariants.{Memory};
 ghost use Rattle.block.specs.BlockFormat.{block};
-ghost use Rattle.frame.specs.Trailer.{stored_block};
+ghost use Rattle.table.specs.Trailer.{stored_block};
 ghost use Rattle.table.specs.Table.{closing_bytes, handle_entry};
 ghost use Rattle.block.specs.declared.builder.TheConstants.{MAX_BLOCK_LEN};
 
+use crate::footer::Footer;
+use crate::handle::BlockHandle;
+use crate::trailer::Trailer;
 use block::BlockBuilder;
 use coding::Fault;
-use frame::{BlockHandle, Footer, Trailer};
 use std::alloc::Global;
 
 /// Appends a block and its trailer, and answers the block's handle.

@@ -3,9 +3,10 @@
 ghost use Rattle.std.specs.Prelude.{◌≡◌, Ok, IsOk};
 ghost use Rattle.table.specs.IndexWalk.{block_named};
 
+use crate::handle::BlockHandle;
 use crate::table_check::stored_at;
+use crate::trailer::reopen_contents;
 use block::{SoundBlock, reopen};
-use frame::{BlockHandle, reopen_contents};
 
 /// The data block of whose handle `value` is the spelling, in a table that was checked. No test is
 /// made again. Takes no memory.

@@ -7,11 +7,12 @@ ghost use Rattle.table.specs.TableContents.{contents_reading, index_in};
 ghost use Rattle.table.specs.SoundTables.{IsCheckedTable};
 
 use crate::bounds::Bounds;
+use crate::footer::{FOOTER_LEN, Footer};
 use crate::sound_table::SoundTable;
 use crate::table_check::{check, stored_at};
+use crate::trailer::reopen_contents;
 use block::{SoundBlock, reopen};
 use coding::Fault;
-use frame::{FOOTER_LEN, Footer, reopen_contents};
 use ikey::{Comparator, InternalKey};
 use std::alloc::Global;
 use std::marker::{Model, PhantomData};

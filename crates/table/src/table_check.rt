@@ -14,15 +14,17 @@ ghost use Rattle.table.specs.IndexReading.{stored_at, block_in, index_entry, ind
 ghost use Rattle.table.specs.TableContents.{data_reading, index_in, contents_reading};
 ghost use Rattle.table.specs.BoundsReading.{bounds_of, bounds_reading, stored_bounds};
 ghost use Rattle.table.specs.IndexEntries.{index_entry_of, index_entries_of};
-ghost use Rattle.frame.specs.declared.trailer.TheConstants.{TRAILER_LEN};
+ghost use Rattle.table.specs.declared.trailer.TheConstants.{TRAILER_LEN};
 
 use crate::bounds::Bounds;
+use crate::footer::{FOOTER_LEN, Footer};
+use crate::handle::BlockHandle;
 use crate::indexed_block::IndexedBlock;
 use crate::sound_table::SoundTable;
 use crate::tally::Tally;
+use crate::trailer::{TRAILER_LEN, contents};
 use block::{BlockCursor, CheckingCursor, SoundBlock};
 use coding::{Fault, FaultName};
-use frame::{BlockHandle, FOOTER_LEN, Footer, TRAILER_LEN, contents};
 use ikey::{Comparator, InternalKey, KeyBuf};
 use std::alloc::Global;
 use std::cmp::Ordering;

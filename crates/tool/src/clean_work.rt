@@ -2,10 +2,10 @@
 
 use crate::version_sync::sync;
 use answers::{json_line, removed_json};
-use clean::{RemovalWatch, remove_obsolete};
 use coding::{Fault, FaultName};
 use edit::Version;
 use folder::{Disk, Opened, SystemFiles};
+use install::{RemovalWatch, remove_obsolete};
 use queries::{UnneededFiles, unneeded_files};
 use session::{
     Host, Refusal, RefusalText, Telling, begin_work, explained, locked_to_change, locked_to_read,

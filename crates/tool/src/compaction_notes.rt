@@ -2,12 +2,11 @@
 //! are gone, and that there was nothing to do.
 
 use coding::Fault;
-use diagnostics::{deleted_files, have_filter};
 use edit::{FileMeta, LAST_LEVEL, LEVELS, Version, VersionEdit};
 use folder::{Disk, Folder, SystemFiles};
 use ikey::Bytewise;
 use scan::FileTotal;
-use session::{Telling, total_text};
+use session::{Telling, deleted_files, have_filter, total_text};
 use std::alloc::Global;
 use store::EDIT;
 

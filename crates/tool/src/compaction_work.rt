@@ -5,6 +5,7 @@ use crate::compaction_notes::note_of;
 use crate::step_printer::{StepPrinter, explain, print_step, tell_step, unprinted};
 use crate::version_sync::sync;
 use coding::Fault;
+use compact::Settings;
 use edit::{LAST_LEVEL, Version};
 use folder::{Disk, Opened, SystemFiles};
 use ikey::Bytewise;
@@ -12,7 +13,6 @@ use session::{
     Host, ProgressLine, Refusal, Telling, begin_work, bytes_of, compaction_explained,
     locked_to_change, refused_at, sizes_tested,
 };
-use settings::Settings;
 use std::alloc::Global;
 use store::{
     CompactionStep, DescentEnd, bottom, compact_inputs, compact_opened, next_level, opened_after,

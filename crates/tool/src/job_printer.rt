@@ -1,11 +1,11 @@
 //! The files that a compaction of a folder would read, from its path to what is printed.
 
+use compact::Settings;
 use folder::Disk;
 use session::{
     Host, Refusal, Telling, begin_work, compaction_explained, print_lines, refused_opened,
     tell_time,
 };
-use settings::Settings;
 use store::files_to_compact;
 use usage::{JobLine, Levels};
 

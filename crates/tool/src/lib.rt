@@ -22,10 +22,10 @@ mod work_left;
 pub use answers::{
     Spelling, ValueForm, dump, get_dir, key_of, manifest, progress_text, status, text_of, verify,
 };
+pub use compact::Settings;
 pub use folder::{Disk, Folder, FolderFault, Order, Shelf, load, open};
 pub use pairing::blocks;
 pub use program::run;
 pub use session::Host;
-pub use settings::Settings;
 pub use store::{bottom, compact_dir, next_level};
 pub use usage::{Levels, Line, RowOptions, Usage, Verbosity, line};

@@ -1,12 +1,12 @@
 //! What is told if the outcome of a compaction is refused.
 
 use coding::FaultName;
-use diagnostics::{Detail, RefusedFile, refused_outcome};
+use compact::Settings;
 use folder::{Disk, Order};
 use session::{
-    Host, Refusal, RefusalText, Telling, Words, compaction_explained, of_file, path_in, told,
+    Detail, Host, Refusal, RefusalText, RefusedFile, Telling, Words, compaction_explained, of_file,
+    path_in, refused_outcome, told,
 };
-use settings::Settings;
 use std::alloc::Global;
 use store::EDIT;
 use usage::{InstallLine, Levels};

@@ -9,7 +9,7 @@ use Rattle.keep.specs.declared.snapshots.Snapshots.{Snapshots}
 use Rattle.keep.specs.declared.snapshots.Snapshots.TheVariants.{From, Listed}
 use Rattle.table.specs.declared.options.TheConstants.{DEFAULT_BLOCK_SIZE, DEFAULT_FILE_SIZE}
 use Rattle.table.specs.declared.options.TheConstants.{DEFAULT_RESTART_INTERVAL}
-use Rattle.settings.specs.declared.settings.Settings.{Settings}
+use Rattle.compact.specs.declared.settings.Settings.{Settings}
 use Rattle.usage.specs.Values.{HasTesting, IsNumberOf, IsNumberOr, is_flagged, is_given}
 use Rattle.usage.specs.declared.requests.CompactLine.{CompactLine}
 use Rattle.usage.specs.declared.requests.CompactOptions.{CompactOptions}

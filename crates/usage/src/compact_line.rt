@@ -12,8 +12,8 @@ use crate::values::{
 };
 use answers::number_of;
 use clap::ArgMatches;
+use compact::Settings;
 use keep::Snapshots;
-use settings::Settings;
 use std::alloc::{AllocError, Global};
 use table::Options;
 

@@ -2,8 +2,8 @@
 
 use answers::Spelling;
 use clap::error::ErrorKind;
+use compact::Settings;
 use keep::Snapshots;
-use settings::Settings;
 use std::alloc::AllocError;
 
 /// What a command line asks for, and how much it asks to be told of it.

@@ -5,12 +5,11 @@ use crate::compact_tests::rows::{Answer, LISTED, Parting, REFUSED, Row, Run, WRI
 use crate::compact_tests::tables::{A_F, U4_DELETED_U2};
 use crate::range_checks_tests::version_after;
 use coding::Fault;
-use compact::{compact, matches_metadata};
+use compact::{Request, compact, matches_metadata};
 use edit::Outcome;
 use ikey::Bytewise;
 use keep::add_cursor;
 use pick::{Inputs, inputs};
-use request::Request;
 use split::{Range, Split};
 use std::alloc::Global;
 use std::process::Abort;

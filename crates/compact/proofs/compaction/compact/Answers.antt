@@ -6,9 +6,9 @@ use Rattle.coding.proofs.Refusals.{FailsOrMemory-from}
 use Rattle.block.specs.EncodedEntry.{Entry}
 use Rattle.table.specs.TableContents.{Contents}
 use Rattle.pick.specs.declared.picked_inputs.InputFile.{InputFile}
-use Rattle.request.specs.Inputs.{inputs_reading}
-use Rattle.request.specs.OneThread.{Answer, one_thread}
-use Rattle.request.specs.Request.{RequestView, request_in}
+use Rattle.compact.specs.Inputs.{inputs_reading}
+use Rattle.compact.specs.OneThread.{Answer, one_thread}
+use Rattle.compact.specs.Request.{RequestView, request_in}
 use Rattle.compact.specs.RangeMerges.{by_workers}
 use Rattle.compact.proofs.Joined.{answer_is, inputs_are, refused_input, refused_test}
 use Rattle.compact.proofs.compaction.compact.Goals as goal

@@ -1,9 +1,9 @@
 use Rattle.std.proofs.Common.{Result, subst}
 use Rattle.coding.specs.declared.fault.Fault.{Fault}
 use Rattle.coding.specs.Answers.{EqualOrMemory}
-use Rattle.request.specs.OneThread.{Answer}
-use Rattle.request.specs.Request.{RequestView, request_in}
-use Rattle.survival.specs.SurvivingReads.{LeavesReads}
+use Rattle.compact.specs.OneThread.{Answer}
+use Rattle.compact.specs.Request.{RequestView, request_in}
+use Rattle.compact.specs.SurvivingReads.{LeavesReads}
 use Rattle.compact.specs.AnswerIn.{answer_in}
 use Rattle.compact.proofs.Joined.{if_answered}
 use Rattle.compact.proofs.compaction.compact_tables.Goals as goal

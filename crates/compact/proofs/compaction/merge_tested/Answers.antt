@@ -4,7 +4,7 @@ use Rattle.coding.specs.Answers.{EqualOrMemory}
 use Rattle.block.specs.EncodedEntry.{Entry}
 use Rattle.keep.specs.Marks.{CompactionContext, context_of}
 use Rattle.keep.specs.Readable.{listed_of}
-use Rattle.request.specs.Request.{RequestView, request_in, below_request}
+use Rattle.compact.specs.Request.{RequestView, request_in, below_request}
 use Rattle.compact.specs.RangeMerges.{by_workers, runs_reading}
 use Rattle.compact.proofs.Joined.{runs_merged, runs_refused}
 use Rattle.compact.proofs.compaction.merge_tested.Goals as goal

@@ -1,6 +1,6 @@
 use Rattle.std.proofs.Common.{◌≡◌, ℕ, suc, ◌+◌, List, length, take, sym, ap, ◌∙◌, arith}
 use Rattle.std.specs.Prelude.{Some}
-use Rattle.encoding.specs.declared.planned_block.PlannedBlock.{PlannedBlock}
+use Rattle.cut.specs.declared.planned_block.PlannedBlock.{PlannedBlock}
 use Rattle.cut.specs.OutputInProgress.{entries_in_blocks}
 use Rattle.cut.proofs.BlockEnds.{end_at, end_none, front_le}
 use Rattle.cut.proofs.block_summary.end_of.Goals as goal

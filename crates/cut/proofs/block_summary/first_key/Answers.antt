@@ -2,7 +2,7 @@ use Rattle.std.proofs.Common.{◌≡◌, ◌++◌, List, sym, subst}
 use Rattle.std.specs.Prelude.{Some, slice_get}
 use Rattle.std.specs.Option.{option_map}
 use Rattle.block.specs.EncodedEntry.{Entry}
-use Rattle.encoding.specs.declared.planned_block.PlannedBlock.{PlannedBlock}
+use Rattle.cut.specs.declared.planned_block.PlannedBlock.{PlannedBlock}
 use Rattle.cut.proofs.BlockSums.{first_of, some_len}
 use Rattle.cut.proofs.TableLengths.{some_at}
 use Rattle.cut.proofs.block_summary.first_key.Goals as goal

@@ -2,7 +2,7 @@ use Rattle.std.proofs.Common.{List, length, refl, sym, ap, ◌∙◌, arith}
 use Rattle.std.specs.Prelude.{slice_get}
 use Rattle.std.specs.Option.{option_map}
 use Rattle.block.specs.EncodedEntry.{Entry}
-use Rattle.encoding.specs.declared.planned_block.PlannedBlock.{PlannedBlock}
+use Rattle.cut.specs.declared.planned_block.PlannedBlock.{PlannedBlock}
 use Rattle.cut.specs.BlockInProgress.{last_entry_key}
 use Rattle.cut.specs.OutputInProgress.{entries_in_blocks}
 use Rattle.cut.proofs.BlockSums.{blocks_are, entries_some, first_is, last_is}

@@ -1,5 +1,5 @@
 use Rattle.std.proofs.Common.{length, ap, arith}
-use Rattle.encoding.proofs.Walks.{left_within}
+use Rattle.cut.proofs.Walks.{left_within}
 use Rattle.cut.proofs.open_block.added_len.Goals as goal
 
 pub overflow_sub-bytes : goal.overflow_sub-bytes

@@ -2,7 +2,7 @@ use Rattle.std.proofs.Common.{◌≡◌, ℕ, ◌<◌, List, Option, Some, IfSom
 use Rattle.std.specs.Global.{Vec}
 use Rattle.std.proofs.lemmas.List.{length-map, take_at}
 use Rattle.std.proofs.lemmas.Result.{IfOk-weaker}
-use Rattle.encoding.specs.declared.planned_block.PlannedBlock.{PlannedBlock}
+use Rattle.cut.specs.declared.planned_block.PlannedBlock.{PlannedBlock}
 use Rattle.table.specs.Table.{index_keys}
 use Rattle.cut.specs.TableLength.{sizes_of, table_size}
 use Rattle.cut.proofs.FoundLengths.{all_lengths}

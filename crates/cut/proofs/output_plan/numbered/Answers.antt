@@ -4,7 +4,7 @@ use Rattle.std.proofs.lemmas.Iterator.Adapters.{YieldsList-from_vec}
 use Rattle.std.proofs.lemmas.Iterator.Consumers.{YieldsList-turn}
 use Rattle.std.proofs.lemmas.List.{length-map, length_push}
 use Rattle.table.specs.Table.{index_keys}
-use Rattle.encoding.specs.declared.planned_block.PlannedBlock.{PlannedBlock}
+use Rattle.cut.specs.declared.planned_block.PlannedBlock.{PlannedBlock}
 use Rattle.cut.specs.declared.planned_output.PlannedOutput.{PlannedOutput}
 use Rattle.cut.specs.PlanInvariant.{numbered_from}
 use Rattle.cut.specs.TableLength.{table_size}

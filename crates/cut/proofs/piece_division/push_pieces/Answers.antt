@@ -1,5 +1,5 @@
 use Rattle.std.proofs.Common.{◌<◌, List, length, sym, ap, ◌∙◌, arith}
-use Rattle.encoding.specs.declared.planned_block.PlannedBlock.{PlannedBlock}
+use Rattle.cut.specs.declared.planned_block.PlannedBlock.{PlannedBlock}
 use Rattle.cut.specs.declared.piece.Piece.{Piece}
 use Rattle.cut.proofs.Dealt.{dealt_none, dealt_within, dealt_ends, dealt_on}
 use Rattle.cut.proofs.piece_division.push_pieces.Goals as goal

@@ -3,11 +3,11 @@ use Rattle.std.specs.Global.{Vec}
 use Rattle.std.specs.Vec.Iter.{into_iter_items}
 use Rattle.std.proofs.lemmas.List.{map-append, take_more}
 use Rattle.table.specs.Table.{IndexKeys, index_keys, stored_blocks, table_of_blocks}
-use Rattle.encoding.specs.declared.planned_block.PlannedBlock.{PlannedBlock}
+use Rattle.cut.specs.declared.planned_block.PlannedBlock.{PlannedBlock}
 use Rattle.keep.proofs.OnAnswers.{same_ok}
 use Rattle.cut.specs.declared.planned_output.PlannedOutput.{PlannedOutput}
 use Rattle.cut.specs.PlanTables.{tables_of}
-use Rattle.encoding.specs.PlannedBlocks.{block_lists}
+use Rattle.cut.specs.PlannedBlocks.{block_lists}
 use Rattle.cut.proofs.ReadyPieces.{ready_at, ready_bytes}
 use Rattle.cut.proofs.plan_assembly.assemble_all.Goals as goal
 

@@ -3,7 +3,7 @@ use Rattle.std.specs.Prelude.{Some, Ok, slice_get}
 use Rattle.std.specs.Option.{option_map}
 use Rattle.coding.specs.Answers.{EqualOrMemory}
 use Rattle.block.specs.EncodedEntry.{Entry}
-use Rattle.encoding.specs.declared.planned_block.PlannedBlock.{PlannedBlock}
+use Rattle.cut.specs.declared.planned_block.PlannedBlock.{PlannedBlock}
 use Rattle.cut.specs.BlockInProgress.{last_entry_key}
 use Rattle.cut.proofs.TableLengths.{some_ended, some_at, key_last, key_next}
 use Rattle.cut.proofs.table_len.index_key.Goals as goal

@@ -3,7 +3,7 @@ use Rattle.coding.specs.Varint.{varint}
 use Rattle.coding.specs.Saturated.{saturated}
 use Rattle.table.specs.Table.{IndexKeys, index_keys}
 use Rattle.keep.proofs.OnAnswers.{same_ok}
-use Rattle.encoding.specs.declared.planned_block.PlannedBlock.{PlannedBlock}
+use Rattle.cut.specs.declared.planned_block.PlannedBlock.{PlannedBlock}
 use Rattle.cut.specs.Sizes.{encoded_entry_size}
 use Rattle.cut.specs.TableLength.{planned_index_key}
 use Rattle.cut.proofs.TableLengths.{IsIndexLen, index_len_more, index_len_all}

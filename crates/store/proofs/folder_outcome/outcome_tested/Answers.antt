@@ -10,7 +10,7 @@ use Rattle.folder.specs.LoadedTables.{IsLoaded}
 use Rattle.folder.specs.ReadsAs.{IsFileIn}
 use Rattle.checks.specs.TestedTables.{IsTested}
 use Rattle.pick.specs.PickedInputs.{IsInputsAnswer, PickedInputs}
-use Rattle.request.specs.OneThread.{Answer}
+use Rattle.compact.specs.OneThread.{Answer}
 use Rattle.store.specs.FolderRequest.{compaction_from}
 use Rattle.store.specs.Outcome.{IsLoadedOutcome, IsOutcomeOfInputs, IsOutcomeOfVersion, LevelCompaction, outcome_told}
 use Rattle.store.proofs.Flow.{answers_behind, told_still, told_themselves}

@@ -6,7 +6,7 @@ use Rattle.folder.proofs.ReportLemmas.{reports_after, reports_handed}
 use Rattle.install.specs.Install.{tables_in}
 use Rattle.pick.specs.PickedInputs.{PickedInputs, picked_in}
 use Rattle.pick.specs.declared.picked_inputs.InputFile.{InputFile}
-use Rattle.request.specs.OneThread.{Answer}
+use Rattle.compact.specs.OneThread.{Answer}
 use Rattle.store.specs.InputLaws.{with_inputs}
 use Rattle.store.specs.InputsCompaction.{IsInputsTold}
 use Rattle.store.specs.Lines.{outcome_lines}

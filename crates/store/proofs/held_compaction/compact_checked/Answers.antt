@@ -9,9 +9,9 @@ use Rattle.table.specs.TableContents.{Contents}
 use Rattle.table.specs.TestResult.{test_result}
 use Rattle.pick.specs.PickedInputs.{picked_in}
 use Rattle.pick.specs.declared.picked_inputs.Inputs.{Inputs}
-use Rattle.request.specs.Inputs.{inputs_reading}
-use Rattle.request.specs.OneThread.{Answer, compaction_result}
-use Rattle.request.specs.Request.{RequestView, request_in}
+use Rattle.compact.specs.Inputs.{inputs_reading}
+use Rattle.compact.specs.OneThread.{Answer, compaction_result}
+use Rattle.compact.specs.Request.{RequestView, request_in}
 use Rattle.compact.specs.AnswerIn.{answer_in}
 use Rattle.store.specs.FolderRequest.{numbered_request}
 use Rattle.store.proofs.Compactions.{answer_behind, refused_behind}

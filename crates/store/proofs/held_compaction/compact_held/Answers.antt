@@ -8,8 +8,8 @@ use Rattle.pick.specs.PickedInputs.{PickedInputs, picked_in}
 use Rattle.pick.specs.declared.picked_inputs.InputFile.{InputFile}
 use Rattle.checks.specs.HeldBytes.{held_bytes}
 use Rattle.checks.proofs.LawfulLemmas.{handed_on}
-use Rattle.request.specs.Inputs.{inputs_reading}
-use Rattle.request.specs.OneThread.{Answer}
+use Rattle.compact.specs.Inputs.{inputs_reading}
+use Rattle.compact.specs.OneThread.{Answer}
 use Rattle.store.specs.FolderRequest.{compaction_from}
 use Rattle.store.specs.InputLaws.{with_inputs}
 use Rattle.store.specs.InputsCompaction.{IsReadTold, input_tables}

@@ -10,9 +10,9 @@ use Rattle.table.specs.TableContents.{Contents}
 use Rattle.pick.specs.PickedInputs.{picked_in}
 use Rattle.pick.specs.declared.picked_inputs.InputFile.{InputFile}
 use Rattle.pick.specs.declared.picked_inputs.Inputs.{Inputs}
-use Rattle.request.specs.Inputs.{inputs_reading}
-use Rattle.request.specs.OneThread.{Answer, compaction_result}
-use Rattle.request.specs.Request.{RequestView, request_in}
+use Rattle.compact.specs.Inputs.{inputs_reading}
+use Rattle.compact.specs.OneThread.{Answer, compaction_result}
+use Rattle.compact.specs.Request.{RequestView, request_in}
 use Rattle.store.specs.FolderRequest.{compaction_from, manifest_of, numbered_request}
 use Rattle.store.specs.InputsCompaction.{installed_lines}
 use Rattle.store.specs.FoundInputs.{IsAnsweredBy}

@@ -9,7 +9,7 @@ use Rattle.install.specs.Install.{table_bytes_of}
 use Rattle.pick.specs.PickedInputs.{picked_in}
 use Rattle.pick.specs.declared.picked_inputs.InputFile.{InputFile}
 use Rattle.checks.specs.HeldBytes.{held_bytes}
-use Rattle.request.specs.Inputs.{inputs_reading}
+use Rattle.compact.specs.Inputs.{inputs_reading}
 use Rattle.store.specs.FolderRequest.{compaction_from}
 use Rattle.store.specs.InputsCompaction.{IsReadTold, input_tables, installed_lines}
 use Rattle.store.specs.FoundInputs.{IsAnsweredBy}

@@ -1,6 +1,6 @@
 use Rattle.std.proofs.Common.{◌<◌, length, false, true, ap, sym, ◌∙◌, arith}
 use Rattle.pick.specs.declared.picked_inputs.InputFile.{InputFile}
-use Rattle.request.specs.Inputs.{table_matches_metadata}
+use Rattle.compact.specs.Inputs.{table_matches_metadata}
 use Rattle.store.proofs.CheckedInputs.{stated_end, stated_step}
 use Rattle.store.proofs.input_tables.are_stated.Goals as goal
 

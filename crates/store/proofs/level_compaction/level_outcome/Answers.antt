@@ -5,7 +5,7 @@ use Rattle.folder.proofs.OpeningLemmas.{hands_on, refuses}
 use Rattle.folder.proofs.ReportLemmas.{reports_after, reports_handed}
 use Rattle.pick.specs.PickedInputs.{PickedInputs, picked_in}
 use Rattle.checks.specs.HeldBytes.{held_bytes}
-use Rattle.request.specs.OneThread.{Answer}
+use Rattle.compact.specs.OneThread.{Answer}
 use Rattle.store.specs.FoundInputs.{IsInputsFound}
 use Rattle.store.specs.InputLaws.{with_inputs}
 use Rattle.store.specs.InputsCompaction.{IsInputsTold, IsReadTold}

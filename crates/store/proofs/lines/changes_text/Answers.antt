@@ -3,7 +3,7 @@ use Rattle.std.specs.List.{flat_map}
 use Rattle.coding.proofs.Texts.{joined}
 use Rattle.edit.specs.declared.meta.DeletedFile.{DeletedFile}
 use Rattle.coding.proofs.Binds.{ok_is}
-use Rattle.request.specs.EditOf.{deletions_of}
+use Rattle.compact.specs.EditOf.{deletions_of}
 use Rattle.store.specs.Lines.{deleted_line, size_line}
 use Rattle.store.proofs.lines.changes_text.Goals as goal
 

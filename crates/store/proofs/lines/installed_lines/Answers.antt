@@ -2,7 +2,7 @@ use Rattle.std.proofs.Common.{List, ℕ, ◌++◌, Ok, sym, ap, ◌∙◌}
 use Rattle.std.specs.Global.{Vec}
 use Rattle.std.specs.List.{flat_map}
 use Rattle.coding.proofs.Binds.{ok_is}
-use Rattle.request.specs.EditOf.{deletions_of}
+use Rattle.compact.specs.EditOf.{deletions_of}
 use Rattle.store.specs.Lines.{deleted_line, installed_line, size_line}
 use Rattle.store.proofs.lines.installed_lines.Goals as goal
 

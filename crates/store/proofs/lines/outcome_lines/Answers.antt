@@ -3,7 +3,7 @@ use Rattle.std.specs.Global.{Vec}
 use Rattle.std.specs.List.{flat_map}
 use Rattle.coding.proofs.Binds.{ok_is}
 use Rattle.install.specs.Install.{tables_in}
-use Rattle.request.specs.EditOf.{deletions_of}
+use Rattle.compact.specs.EditOf.{deletions_of}
 use Rattle.store.specs.Lines.{deleted_line, size_line}
 use Rattle.compact.specs.GroupedAnswer.{table_sizes}
 use Rattle.store.proofs.lines.outcome_lines.Goals as goal

@@ -4,7 +4,7 @@ use Rattle.compact.specs.GroupedAnswer.{joined_answer}
 use Rattle.folder.proofs.ReportLemmas.{reports_after, reports_handed, reports_steady}
 use Rattle.folder.specs.Names.{current_text}
 use Rattle.install.specs.Install.{manifest_bytes}
-use Rattle.request.specs.OneThread.{Answer}
+use Rattle.compact.specs.OneThread.{Answer}
 use Rattle.store.specs.FolderRequest.{manifest_of}
 use Rattle.store.specs.FoundInputs.{IsAnsweredBy}
 use Rattle.store.specs.Lines.{compaction_lines}

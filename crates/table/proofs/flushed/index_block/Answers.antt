@@ -3,7 +3,7 @@ use Rattle.std.proofs.lemmas.List.{map-append, take_all, take_more}
 use Rattle.block.specs.EncodedEntry.{Entry}
 use Rattle.block.specs.BlockFormat.{block}
 use Rattle.block.specs.BuilderView.{BlockBuilding, with_entry}
-use Rattle.frame.specs.Handle.{handle_bytes}
+use Rattle.table.specs.Handle.{handle_bytes}
 use Rattle.table.specs.declared.flushed_block.FlushedBlock.{FlushedBlock}
 use Rattle.table.specs.Table.{handle_entry}
 use Rattle.table.specs.FlushedBlocks.{index_entries}

@@ -1,7 +1,7 @@
 use Rattle.std.proofs.Common.{◌++◌, ℕ, List, length, ap, ◌∙◌}
 use Rattle.block.specs.BlockFormat.{block}
 use Rattle.block.specs.BuilderView.{BlockBuilding}
-use Rattle.frame.specs.Trailer.{stored_block}
+use Rattle.table.specs.Trailer.{stored_block}
 use Rattle.table.proofs.Indexes.{closing_written}
 use Rattle.table.proofs.Refused.{OnOk-map}
 use Rattle.table.proofs.layout.push_closing.Goals as goal

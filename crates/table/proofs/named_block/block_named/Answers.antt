@@ -2,7 +2,7 @@ use Rattle.std.proofs.Common.{List, ℕ, sym, ap, subst, ◌∙◌}
 use Rattle.std.specs.Result.{is_ok}
 use Rattle.coding.proofs.Binds.{done, ok_is}
 use Rattle.block.specs.EncodedEntry.{Entry, IsBlock}
-use Rattle.frame.specs.Handle.{HandleBehind}
+use Rattle.table.specs.Handle.{HandleBehind}
 use Rattle.table.proofs.Walks.{some_handle, some_stored, stands}
 use Rattle.table.proofs.named_block.block_named.Goals as goal
 

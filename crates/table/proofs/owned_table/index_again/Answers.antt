@@ -2,7 +2,7 @@ use Rattle.std.proofs.Common.{◌-◌, List, ℕ, sym, ap, subst, ◌∙◌, ari
 use Rattle.std.specs.Result.{is_ok}
 use Rattle.coding.proofs.Binds.{done, ok_is}
 use Rattle.block.specs.EncodedEntry.{Entry, IsBlock}
-use Rattle.frame.specs.Footer.{footer_reading}
+use Rattle.table.specs.Footer.{footer_reading}
 use Rattle.table.proofs.OwnedTables.{found_index, footer_read, index_stored, some_index}
 use Rattle.table.proofs.owned_table.index_again.Goals as goal
 

@@ -6,8 +6,8 @@ use Rattle.coding.specs.declared.fault.Fault.{Fault}
 use Rattle.coding.specs.declared.fault.FaultName.TheVariants.{Size, Short}
 use Rattle.coding.proofs.Refusals.{FailsOrMemory-from}
 use Rattle.block.specs.EncodedEntry.{Entry}
-use Rattle.frame.specs.Footer.{footer_reading}
-use Rattle.frame.specs.declared.footer.Footer.{Footer}
+use Rattle.table.specs.Footer.{footer_reading}
+use Rattle.table.specs.declared.footer.Footer.{Footer}
 use Rattle.table.specs.TestResult.{test_result}
 use Rattle.table.specs.IndexReading.{stored_at, block_in}
 use Rattle.table.specs.TableContents.{index_in}

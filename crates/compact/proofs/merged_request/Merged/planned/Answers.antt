@@ -5,7 +5,7 @@ use Rattle.keep.specs.Runs.{Run, joined_run}
 use Rattle.cut.specs.OutputPlan.{PlanSeen}
 use Rattle.cut.specs.Outputs.{outputs_of}
 use Rattle.cut.specs.Plan.{plan_of}
-use Rattle.request.specs.Request.{RequestView, request_in}
+use Rattle.compact.specs.Request.{RequestView, request_in}
 use Rattle.compact.specs.declared.grouped_plan.TheConstants.{MAX_TABLES}
 use Rattle.compact.proofs.GroupedAnswers.{groups_dealt, groups_joined}
 use Rattle.compact.proofs.merged_request.Merged.planned.Goals as goal

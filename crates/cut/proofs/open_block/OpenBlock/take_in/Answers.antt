@@ -4,7 +4,7 @@ use Rattle.std.specs.Option.{option_map}
 use Rattle.coding.specs.Saturated.{saturated}
 use Rattle.block.specs.EncodedEntry.{Entry}
 use Rattle.table.specs.DataBlocks.{is_full}
-use Rattle.encoding.specs.EntryWalkView.{EntryWalkView}
+use Rattle.cut.specs.EntryWalkView.{EntryWalkView}
 use Rattle.cut.specs.BlockInProgress.{BlockInProgress, IsMetered, added_size, next_since, last_entry_key}
 use Rattle.cut.proofs.Filled.{IsFilling, filling_first, filling_more, filling_part, last_in}
 use Rattle.cut.proofs.Metered.{since_below}

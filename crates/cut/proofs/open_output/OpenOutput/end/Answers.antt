@@ -1,8 +1,8 @@
 use Rattle.std.proofs.Common.{◌≡◌, [], ◌∷◌, ◌++◌, ap, subst, ◌∙◌, rules}
 use Rattle.std.proofs.lemmas.Bool.{both_ways}
 use Rattle.table.specs.DataBlocks.{data_blocks}
-use Rattle.encoding.specs.declared.planned_block.PlannedBlock.{PlannedBlock}
-use Rattle.encoding.specs.PlannedBlocks.{block_lists}
+use Rattle.cut.specs.declared.planned_block.PlannedBlock.{PlannedBlock}
+use Rattle.cut.specs.PlannedBlocks.{block_lists}
 use Rattle.cut.specs.OutputInProgress.{OutputInProgress}
 use Rattle.cut.proofs.Opened.{blocks_some, blocks_none}
 use Rattle.cut.proofs.open_output.OpenOutput.end.Goals as goal

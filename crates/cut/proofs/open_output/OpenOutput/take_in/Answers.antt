@@ -1,7 +1,7 @@
 use Rattle.std.proofs.Common.{◌≡◌, ◌<◌, ◌+◌, ◌-◌, ◌^◌, ℕ, [], ◌∷◌, ◌++◌, false, min, take, sym, ap, subst, ◌∙◌, rules, arith}
 use Rattle.std.specs.Option.{option_map}
 use Rattle.table.specs.DataBlocks.{is_full}
-use Rattle.encoding.specs.declared.planned_block.PlannedBlock.{PlannedBlock}
+use Rattle.cut.specs.declared.planned_block.PlannedBlock.{PlannedBlock}
 use Rattle.cut.specs.BlockInProgress.{BlockInProgress, block_after_entries, last_entry_key}
 use Rattle.cut.specs.OutputInProgress.{OutputInProgress, IsOpen, entries_in_blocks, ends_by}
 use Rattle.cut.specs.Outputs.{outputs_after}

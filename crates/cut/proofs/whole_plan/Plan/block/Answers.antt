@@ -4,9 +4,9 @@ use Rattle.std.specs.Option.{option_map}
 use Rattle.std.proofs.lemmas.List.{length-map}
 use Rattle.block.specs.EncodedEntry.{Entry}
 use Rattle.table.specs.DataBlocks.{data_blocks}
-use Rattle.encoding.specs.declared.planned_block.PlannedBlock.{PlannedBlock}
+use Rattle.cut.specs.declared.planned_block.PlannedBlock.{PlannedBlock}
 use Rattle.cut.specs.declared.planned_output.PlannedOutput.{PlannedOutput}
-use Rattle.encoding.specs.PlannedBlocks.{block_lists}
+use Rattle.cut.specs.PlannedBlocks.{block_lists}
 use Rattle.cut.specs.OutputPlan.{PlanSeen}
 use Rattle.cut.specs.Plan.{OutputView}
 use Rattle.cut.specs.PlanInvariant.{planned_of}

@@ -3,9 +3,9 @@ use Rattle.std.specs.Prelude.{IfSome, slice_get}
 use Rattle.std.proofs.lemmas.List.{length-map}
 use Rattle.block.specs.EncodedEntry.{Entry}
 use Rattle.table.specs.declared.table_check.TheConstants.{MAX_TABLE_LEN}
-use Rattle.encoding.specs.declared.planned_block.PlannedBlock.{PlannedBlock}
+use Rattle.cut.specs.declared.planned_block.PlannedBlock.{PlannedBlock}
 use Rattle.cut.specs.declared.planned_output.PlannedOutput.{PlannedOutput}
-use Rattle.encoding.specs.PlannedBlocks.{block_lists}
+use Rattle.cut.specs.PlannedBlocks.{block_lists}
 use Rattle.cut.specs.OutputInProgress.{entries_in_blocks}
 use Rattle.cut.specs.OutputPlan.{PlanSeen}
 use Rattle.cut.specs.Plan.{OutputView, block_ends, block_ends_from}

@@ -3,11 +3,11 @@ use Rattle.std.specs.Prelude.{slice_get, slice_range, Some, IfOk}
 use Rattle.std.specs.List.{AllByRecursion}
 use Rattle.block.specs.BlockFormat.{block}
 use Rattle.table.specs.Table.{stored_blocks, table}
-use Rattle.encoding.specs.declared.planned_block.PlannedBlock.{PlannedBlock}
+use Rattle.cut.specs.declared.planned_block.PlannedBlock.{PlannedBlock}
 use Rattle.cut.specs.declared.piece.Piece.{Piece}
 use Rattle.cut.specs.declared.planned_output.PlannedOutput.{PlannedOutput}
 use Rattle.cut.specs.PieceDivision.{blocks_at, piece_blocks}
-use Rattle.encoding.specs.PlannedBlocks.{block_lists}
+use Rattle.cut.specs.PlannedBlocks.{block_lists}
 use Rattle.cut.specs.Plan.{jobs, encoded_pieces}
 use Rattle.cut.specs.OutputPlan.{PlanSeen, lists_in}
 use Rattle.cut.specs.PlanInvariant.{IsPlannedOutput, planned_of}

@@ -4,8 +4,8 @@ use Rattle.std.specs.List.{AllByRecursion}
 use Rattle.std.proofs.lemmas.List.{length-map}
 use Rattle.block.specs.BlockFormat.{block}
 use Rattle.table.specs.Table.{IndexKeys, index_keys, table, table_of_blocks}
-use Rattle.encoding.specs.declared.planned_block.PlannedBlock.{PlannedBlock}
-use Rattle.encoding.specs.PlannedBlocks.{IsPlanned, block_lists}
+use Rattle.cut.specs.declared.planned_block.PlannedBlock.{PlannedBlock}
+use Rattle.cut.specs.PlannedBlocks.{IsPlanned, block_lists}
 use Rattle.keep.proofs.OnAnswers.{same_ok}
 use Rattle.cut.specs.declared.planned_output.PlannedOutput.{PlannedOutput}
 use Rattle.cut.specs.OutputPlan.{PlanSeen}

@@ -1,6 +1,0 @@
-mod Names
-mod Unused
-mod Stays
-mod Telling
-mod NumberSets
-mod ObsoleteNames

@@ -1,6 +1,0 @@
-use Rattle.std.proofs.lemmas.Grind.{common_steps}
-use Rattle.std.proofs.Common.{arith}
-use Rattle.clean.proofs.pending_names.pending_current.Goals as goal
-
-pub returns-then-is_pending : goal.returns-then-is_pending
-returns-then-is_pending c = grind (arith, common_steps)

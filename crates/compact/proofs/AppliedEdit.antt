@@ -1,0 +1,280 @@
+-- The edit of a compaction applies, and makes the version that it says.
+use Rattle.std.proofs.Common.{◌≡◌, ℕ, ◌+◌, ◌<◌, ◌≤◌, Bool, true, false, not, cond, eqb, List, [], ◌∷◌, ◌++◌, length, map, refl, sym, ap, subst, ◌∙◌, inl, inr, Some, arith}
+use Rattle.std.specs.Prelude.{◌⊎◌, Contains}
+use Rattle.std.specs.List.{filter, list_any, list_all, fold, AllByRecursion, IsDistinct}
+use Rattle.std.specs.List.Sorted.{IsPermutation}
+use Rattle.std.specs.Option.{ForSome}
+use Rattle.std.specs.Ordering.{nat_cmp, ordering_then, match_ordering}
+use Rattle.std.specs.BTreeSet.{insert_key}
+use Rattle.std.specs.Cmp.{IsTotalOrder}
+use Rattle.std.specs.declared.cmp.Ordering.{Ordering}
+use Rattle.std.specs.declared.cmp.Ordering.TheVariants.{Less, Equal, Greater}
+use Rattle.std.proofs.lemmas.Bool.{eqb-true, eq-eqb}
+use Rattle.std.proofs.lemmas.List.{length-map}
+use Rattle.edit.specs.Edit.{deleted_cmp}
+use Rattle.edit.specs.Version.{State, applied, place_of, is_same_place, is_deleted, undeleted_files, has_place, has_number, are_apart, are_new, number_cmp, with_file}
+use Rattle.edit.specs.declared.meta.FileMeta.{FileMeta}
+use Rattle.edit.specs.declared.meta.NewFile.{NewFile}
+use Rattle.edit.specs.declared.meta.DeletedFile.{DeletedFile}
+use Rattle.edit.proofs.Applied.{after_is}
+use Rattle.edit.proofs.Inserted.{all_permute}
+use Rattle.edit.proofs.Kept.{apart_filter}
+use Rattle.edit.proofs.RisingFiles.{same_file, number_total, same_turned, tied_same}
+use Rattle.edit.proofs.Tested.{both_true, both_false, not_is_true}
+use Rattle.pick.specs.PickedInputs.{IsPicked}
+use Rattle.pick.specs.declared.picked_inputs.InputFile.{InputFile}
+use Rattle.pick.proofs.Lists.{and_both, and_second, same_test}
+use Rattle.reads.specs.Lawful.{IsLawful}
+use Rattle.reads.specs.Tables.{NumberedContents}
+use Rattle.reads.proofs.Members.{first_or_later, later_in, first_in, none_in, from_filter, in_map, from_map}
+use Rattle.reads.proofs.Orders.{equal_is}
+use Rattle.compact.specs.ClosedInputs.{is_input}
+use Rattle.compact.proofs.Closing.{any_at}
+use Rattle.compact.specs.OutputTables.{Output}
+use Rattle.compact.specs.Request.{RequestView}
+use Rattle.compact.specs.EditOf.{deletion_of, deletions_of, edit_of, new_file, new_files}
+use Rattle.compact.specs.GetsAfter.{staying_files}
+use Rattle.compact.specs.EditAfter.{version_after, AreNumberedFrom, EditApplies}
+use Rattle.compact.proofs.VersionInputs.{any_passes, input_file, input_of, is_one, level_of_input, below_first}
+
+-- ---- elements put in at their places, in an order in which those that tie are one
+
+module _ {A : Type 0} (R : A → A → Ordering) (ties : (x y : A) → R x y ≡ Equal → x ≡ y) where
+  put_there : (ks : List A) (k : A) → Contains (insert_key R ks k) k
+  put_there [] k = first_in k []
+  put_there (x ∷ xs) k = by_order (R k x) refl (put_there xs k)
+    where
+      by_order : (o : Ordering) → R k x ≡ o → Contains (insert_key R xs k) k → Contains (match_ordering o (k ∷ x ∷ xs) (x ∷ xs) (x ∷ insert_key R xs k)) k
+      by_order Less e rest = first_in k (x ∷ xs)
+      by_order Equal e rest = subst (λ (y : A). Contains (x ∷ xs) y) (sym (ties k x e)) (first_in x xs)
+      by_order Greater e rest = later_in x (insert_key R xs k) k rest
+
+  put_keeps : (ks : List A) (k q : A) → Contains ks q → Contains (insert_key R ks k) q
+  put_keeps [] k q at = absurd (none_in q at)
+  put_keeps (x ∷ xs) k q at = by_order (R k x) (first_or_later x xs q at) (put_keeps xs k q)
+    where
+      by_order : (o : Ordering) → (q ≡ x) ⊎ Contains xs q → (Contains xs q → Contains (insert_key R xs k) q) → Contains (match_ordering o (k ∷ x ∷ xs) (x ∷ xs) (x ∷ insert_key R xs k)) q
+      by_order Less place rest = later_in k (x ∷ xs) q at
+      by_order Equal place rest = at
+      by_order Greater (inl same) rest = subst (λ (y : A). Contains (x ∷ insert_key R xs k) y) (sym same) (first_in x (insert_key R xs k))
+      by_order Greater (inr later) rest = later_in x (insert_key R xs k) q (rest later)
+
+  put_only : (ks : List A) (k q : A) → Contains (insert_key R ks k) q → (q ≡ k) ⊎ Contains ks q
+  put_only [] k q at = elim (first_or_later k [] q at) [ inl same ↦ inl same | inr later ↦ inr later ]
+  put_only (x ∷ xs) k q at = by_order (R k x) at (put_only xs k q)
+    where
+      by_order : (o : Ordering) → Contains (match_ordering o (k ∷ x ∷ xs) (x ∷ xs) (x ∷ insert_key R xs k)) q → (Contains (insert_key R xs k) q → (q ≡ k) ⊎ Contains xs q) → (q ≡ k) ⊎ Contains (x ∷ xs) q
+      by_order Less i rest = first_or_later k (x ∷ xs) q i
+      by_order Equal i rest = inr i
+      by_order Greater i rest =
+          elim (first_or_later x (insert_key R xs k) q i) [
+            | inl same ↦ inr (subst (λ (y : A). Contains (x ∷ xs) y) (sym same) (first_in x xs))
+            | inr later ↦ elim (rest later) [ inl own ↦ inl own | inr j ↦ inr (later_in x xs q j) ]
+          ]
+
+  all_keep : (done ks : List A) (q : A) → Contains done q → Contains (fold (insert_key R) done ks) q
+  all_keep done [] q at = at
+  all_keep done (k ∷ ks) q at = all_keep (insert_key R done k) ks q (put_keeps done k q at)
+
+  pub all_there : (done ks : List A) (q : A) → Contains ks q → Contains (fold (insert_key R) done ks) q
+  all_there done [] q at = absurd (none_in q at)
+  all_there done (k ∷ ks) q at =
+      elim (first_or_later k ks q at) [
+        | inl same ↦ all_keep (insert_key R done k) ks q (subst (λ (y : A). Contains (insert_key R done k) y) (sym same) (put_there done k))
+        | inr later ↦ all_there (insert_key R done k) ks q later
+      ]
+
+  pub all_only : (done ks : List A) (q : A) → Contains (fold (insert_key R) done ks) q → Contains done q ⊎ Contains ks q
+  all_only done [] q at = inl at
+  all_only done (k ∷ ks) q at =
+      elim (all_only (insert_key R done k) ks q at) [
+        | inl i ↦ elim (put_only done k q i) [ inl own ↦ inr (subst (λ (y : A). Contains (k ∷ ks) y) (sym own) (first_in k ks)) | inr j ↦ inl j ]
+        | inr i ↦ inr (later_in k ks q i)
+      ]
+
+same_number : (m n : ℕ) → nat_cmp m n ≡ Equal → m ≡ n
+same_number m n h = equal_is m n h
+
+deleted_ties : (a b : DeletedFile) → deleted_cmp a b ≡ Equal → a ≡ b
+deleted_ties a b h = by_level (nat_cmp a.level b.level) refl h
+  where
+    by_level : (o : Ordering) → nat_cmp a.level b.level ≡ o → ordering_then o (nat_cmp a.number b.number) ≡ Equal → a ≡ b
+    by_level Less e t = absurd cc
+    by_level Equal e t = let levels = same_number a.level b.level e in let numbers = same_number a.number b.number t in ap (λ (l : ℕ). record { level = l; number = a.number }) levels ∙ ap (λ (n : ℕ). record { level = b.level; number = n }) numbers
+    by_level Greater e t = absurd cc
+
+-- ---- filters
+
+pub filter_same : {X : Type 0} (p q : X → Bool) (xs : List X) → ((x : X) → Contains xs x → p x ≡ q x) → filter p xs ≡ filter q xs
+filter_same p q [] h = refl
+filter_same p q (x ∷ xs) h =
+    let rest = filter_same p q xs (λ y at. h y (later_in x xs y at)) in
+    ap (λ (b : Bool). cond b (x ∷ filter p xs) (filter p xs)) (h x (first_in x xs)) ∙ ap (λ (ys : List _). cond (q x) (x ∷ ys) ys) rest
+
+pub all_tests : {X : Type 0} (p : X → Bool) (xs : List X) → ((x : X) → Contains xs x → p x ≡ true) → list_all p xs ≡ true
+all_tests p [] h = refl
+all_tests p (x ∷ xs) h = and_both (p x) (list_all p xs) (h x (first_in x xs)) (all_tests p xs (λ y at. h y (later_in x xs y at)))
+
+pub none_tests : {X : Type 0} (p : X → Bool) (xs : List X) → ((x : X) → Contains xs x → p x ≡ false) → list_any p xs ≡ false
+none_tests p [] h = refl
+none_tests p (x ∷ xs) h = rw (h x (first_in x xs)) (none_tests p xs (λ y at. h y (later_in x xs y at)))
+
+-- ---- the numbers of the outputs
+
+pub numbered_from : (first : ℕ) (outputs : List Output) → AreNumberedFrom first outputs → (q : Output) → Contains outputs q → first ≤ q.number
+numbered_from first [] h q at = absurd (none_in q at)
+numbered_from first (p ∷ ps) h q at =
+    elim (first_or_later p ps q at) [
+      | inl same ↦ (let is : q.number ≡ first = ap (λ (x : Output). x.number) same ∙ h.0 in omega (arith, is))
+      | inr later ↦ (let le = numbered_from (first + 1) ps h.1 q later in omega (arith, le))
+    ]
+
+pub numbered_to : (first : ℕ) (outputs : List Output) → AreNumberedFrom first outputs → (q : Output) → Contains outputs q → q.number < first + length outputs
+numbered_to first [] h q at = absurd (none_in q at)
+numbered_to first (p ∷ ps) h q at =
+    elim (first_or_later p ps q at) [
+      | inl same ↦ (let is : q.number ≡ first = ap (λ (x : Output). x.number) same ∙ h.0 in omega (arith, is))
+      | inr later ↦ (let lt = numbered_to (first + 1) ps h.1 q later in omega (arith, lt))
+    ]
+
+not_equal : (m n : ℕ) → (m ≡ n → ⊥) → eqb m n ≡ false
+not_equal m n h = by (eqb m n) refl
+  where
+    by : (b : Bool) → eqb m n ≡ b → b ≡ false
+    by true e = absurd (h (eqb-true m n e))
+    by false e = refl
+
+other_numbers : (level number : ℕ) (outputs : List Output) → ((q : Output) → Contains outputs q → q.number ≡ number → ⊥) → has_number (map (new_file level) outputs) number ≡ false
+other_numbers level number outputs h =
+    none_tests (λ (f : NewFile). eqb number f.meta.number) (map (new_file level) outputs)
+    (λ f at. let x = from_map (new_file level) outputs f at in
+    not_equal number f.meta.number (λ same. h x.source x.there (ap (λ (g : NewFile). g.meta.number) x.is ∙ sym same)))
+
+new_apart : (level first : ℕ) (outputs : List Output) → AreNumberedFrom first outputs → are_apart (map (new_file level) outputs) ≡ true
+new_apart level first [] h = refl
+new_apart level first (p ∷ ps) h =
+    let other : has_number (map (new_file level) ps) p.number ≡ false = other_numbers level p.number ps (λ q at same.
+    let le = numbered_from (first + 1) ps h.1 q at in let is : p.number ≡ first = h.0 in omega (arith, le, is, same)) in
+    rw other (new_apart level (first + 1) ps h.1)
+
+-- ---- files of which no two have one number
+
+none_has : (f : NewFile) (files : List NewFile) → has_number files f.meta.number ≡ false → AllByRecursion (λ g. same_file f g ≡ false) files
+none_has f [] h = tt
+none_has f (g ∷ files) h = let b = both_false (eqb f.meta.number g.meta.number) (has_number files f.meta.number) h in (b.0, none_has f files b.1)
+
+pub apart_distinct : (files : List NewFile) → are_apart files ≡ true → IsDistinct same_file files
+unfolding IsDistinct
+apart_distinct [] h = tt
+apart_distinct (f ∷ files) h =
+    let a = both_true (not (has_number files f.meta.number)) (are_apart files) h in
+    (none_has f files (not_is_true (has_number files f.meta.number) a.0), apart_distinct files a.1)
+
+distinct_two : (xs ys : List NewFile) → IsDistinct same_file xs → IsDistinct same_file ys → ((f g : NewFile) → Contains xs f → Contains ys g → same_file f g ≡ false) → IsDistinct same_file (xs ++ ys)
+unfolding IsDistinct
+distinct_two [] ys hx hy h = hy
+distinct_two (x ∷ xs) ys hx hy h = (
+  all_two xs hx.0,
+  distinct_two xs ys hx.1 hy (λ f g i j. h f g (later_in x xs f i) j),
+)
+  where
+    all_behind : (zs : List NewFile) → ((g : NewFile) → Contains zs g → same_file x g ≡ false) → AllByRecursion (λ g. same_file x g ≡ false) zs
+    all_behind [] k = tt
+    all_behind (z ∷ zs) k = (k z (first_in z zs), all_behind zs (λ g i. k g (later_in z zs g i)))
+
+    all_two : (zs : List NewFile) → AllByRecursion (λ g. same_file x g ≡ false) zs → AllByRecursion (λ g. same_file x g ≡ false) (zs ++ ys)
+    all_two [] k = all_behind ys (λ g j. h x g (first_in x xs) j)
+    all_two (z ∷ zs) k = (k.0, all_two zs k.1)
+
+module _ (cmp : List ℕ → List ℕ → Ordering) (total : IsTotalOrder cmp) (v : State) (tables : List NumberedContents) (level : ℕ) (r : RequestView) (outputs : List Output)
+    (lawful : IsLawful cmp v tables) (picked : IsPicked cmp v level r.picked) (high : ForSome v.next_file (λ next. next ≤ r.first_number)) (numbered : AreNumberedFrom r.first_number outputs) where
+  abbrev files : List InputFile
+  files = r.picked.files
+
+  -- each deletion is that of an input
+  pub from_deletions : (d : DeletedFile) → Contains (deletions_of files) d → (i : InputFile) × Contains files i × (deletion_of i ≡ d)
+  from_deletions d at =
+      elim (all_only deleted_cmp deleted_ties [] (map deletion_of files) d at) [
+        | inl none ↦ absurd (none_in d none)
+        | inr i ↦ (let x = from_map deletion_of files d i in (x.source, x.there, x.is))
+      ]
+
+  into_deletions : (i : InputFile) → Contains files i → Contains (deletions_of files) (deletion_of i)
+  into_deletions i at = all_there deleted_cmp deleted_ties [] (map deletion_of files) (deletion_of i) (in_map deletion_of files i at)
+
+  there : list_all (has_place v.files) (deletions_of files) ≡ true
+  there = all_tests (has_place v.files) (deletions_of files) each
+    where
+      each : (d : DeletedFile) → Contains (deletions_of files) d → has_place v.files d ≡ true
+      each d at =
+          let x = from_deletions d at in
+          let f = input_file cmp total v tables lawful level r.picked picked x.0 x.1 in
+          let levels : f.file.level ≡ d.level = f.stands ∙ ap (λ (y : DeletedFile). y.level) x.2 in
+          let numbers : f.file.meta.number ≡ d.number = ap (λ (m : FileMeta). m.number) f.is ∙ ap (λ (y : DeletedFile). y.number) x.2 in
+          any_at (λ (g : NewFile). is_same_place (place_of g) d) v.files f.file f.there
+          (and_both (eqb f.file.level d.level) (eqb f.file.meta.number d.number) (eq-eqb f.file.level d.level levels) (eq-eqb f.file.meta.number d.number numbers))
+
+  same_tests : (f : NewFile) → Contains v.files f → is_deleted (deletions_of files) f ≡ is_input r.picked f.meta.number
+  same_tests f at = same_test (is_deleted (deletions_of files) f) (is_input r.picked f.meta.number) to back
+    where
+      to : is_deleted (deletions_of files) f ≡ true → is_input r.picked f.meta.number ≡ true
+      to h =
+          let x = any_passes (is_same_place (place_of f)) (deletions_of files) h in
+          let i = from_deletions x.item x.there in
+          let number : f.meta.number ≡ x.item.number = eqb-true f.meta.number x.item.number (and_second (eqb f.level x.item.level) (eqb f.meta.number x.item.number) x.passes) in
+          is_one cmp total v tables lawful level r.picked picked i.0 f.meta.number i.1 (ap (λ (y : DeletedFile). y.number) i.2 ∙ sym number)
+
+      back : is_input r.picked f.meta.number ≡ true → is_deleted (deletions_of files) f ≡ true
+      back h =
+          let i = input_of cmp total v tables lawful level r.picked picked f.meta.number h in
+          let stands : f.level ≡ i.input.level = level_of_input cmp total v tables lawful level r.picked picked f at i.input i.there i.number_is in
+          any_at (is_same_place (place_of f)) (deletions_of files) (deletion_of i.input) (into_deletions i.input i.there)
+          (and_both (eqb f.level i.input.level) (eqb f.meta.number i.input.meta.number) (eq-eqb f.level i.input.level stands) (eq-eqb f.meta.number i.input.meta.number (sym i.number_is)))
+
+  kept_are : undeleted_files (deletions_of files) v.files ≡ staying_files v r.picked
+  kept_are = filter_same (λ (f : NewFile). not (is_deleted (deletions_of files) f)) (λ (f : NewFile). not (is_input r.picked f.meta.number)) v.files (λ f at. ap not (same_tests f at))
+
+  -- no file that is there has the number of an output
+  no_clash : (f : NewFile) → Contains v.files f → has_number (new_files r outputs) f.meta.number ≡ false
+  no_clash f at =
+      let lt = below_first cmp v tables lawful r.first_number high f at in
+      other_numbers (r.picked.level + 1) f.meta.number outputs (λ q i same. let le = numbered_from r.first_number outputs numbered q i in omega (arith, le, lt, same))
+
+  stays_there : (f : NewFile) → Contains (staying_files v r.picked) f → Contains v.files f
+  stays_there f at = (from_filter (λ (g : NewFile). not (is_input r.picked g.meta.number)) v.files f at).0
+
+  new : are_new (undeleted_files (deletions_of files) v.files) (new_files r outputs) ≡ true
+  new =
+      let none : list_any (λ (f : NewFile). has_number (new_files r outputs) f.meta.number) (staying_files v r.picked) ≡ false =
+      none_tests (λ (f : NewFile). has_number (new_files r outputs) f.meta.number) (staying_files v r.picked) (λ f at. no_clash f (stays_there f at)) in
+      and_both (are_apart (new_files r outputs)) (not (list_any (λ (f : NewFile). has_number (new_files r outputs) f.meta.number) (undeleted_files (deletions_of files) v.files)))
+      (new_apart (r.picked.level + 1) r.first_number outputs numbered) (ap (λ (l : List NewFile). not (list_any (λ (f : NewFile). has_number (new_files r outputs) f.meta.number) l)) kept_are ∙ ap not none)
+
+  edited : applied v (edit_of r (new_files r outputs)) ≡ Some (version_after v r outputs)
+  edited =
+      rw (after_is v.files (deletions_of files) (new_files r outputs) there new)
+      (ap (λ (l : List NewFile). Some (with_files (length (new_files r outputs)) (fold with_file l (new_files r outputs)))) kept_are
+      ∙ ap (λ (n : ℕ). Some (with_files n (fold with_file (staying_files v r.picked) (new_files r outputs)))) (length-map outputs (new_file (r.picked.level + 1))))
+    where
+      with_files : ℕ → List NewFile → State
+      with_files n l = record (version_after v r outputs) { next_file = Some (r.first_number + n); files = l }
+
+  pub apart_all : IsDistinct same_file (staying_files v r.picked ++ new_files r outputs)
+  apart_all =
+      distinct_two (staying_files v r.picked) (new_files r outputs) (apart_distinct (staying_files v r.picked) (apart_filter (λ (f : NewFile). not (is_input r.picked f.meta.number)) v.files lawful.apart))
+      (apart_distinct (new_files r outputs) (new_apart (r.picked.level + 1) r.first_number outputs numbered))
+      (λ f g i j. not_equal f.meta.number g.meta.number (λ same.
+      let x = from_map (new_file (r.picked.level + 1)) outputs g j in
+      let lt = below_first cmp v tables lawful r.first_number high f (stays_there f i) in
+      let le = numbered_from r.first_number outputs numbered x.source x.there in
+      let is : x.source.number ≡ g.meta.number = ap (λ (h : NewFile). h.meta.number) x.is in
+      omega (arith, lt, le, is, same)))
+
+  files_are : IsPermutation (staying_files v r.picked ++ new_files r outputs) (version_after v r outputs).files
+  files_are = all_permute number_cmp number_total same_file same_turned tied_same (staying_files v r.picked) (new_files r outputs) apart_all
+
+pub edit_applies : (cmp : List ℕ → List ℕ → Ordering) → IsTotalOrder cmp → EditApplies cmp
+edit_applies cmp total = record {
+  applies = λ v tables level r outputs lawful picked high numbered. edited cmp total v tables level r outputs lawful picked high numbered;
+  files = λ v tables level r outputs lawful picked high numbered. files_are cmp total v tables level r outputs lawful picked high numbered;
+}

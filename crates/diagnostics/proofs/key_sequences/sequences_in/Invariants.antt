@@ -1,5 +1,0 @@
-use Rattle.std.proofs.Common.{length}
-use Rattle.diagnostics.proofs.key_sequences.sequences_in.Given as goal
-
-abbrev pub decreases-loop-user : goal.decreases-loop-user
-decreases-loop-user g l = length l.cursor

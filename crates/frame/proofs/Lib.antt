@@ -1,3 +1,0 @@
-pub mod Handles
-pub mod Stored
-pub mod Footers

@@ -1,4 +1,0 @@
--- what contracts rest on
-pub mod Handle
-pub mod Trailer
-pub mod Footer

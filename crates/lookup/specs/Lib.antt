@@ -1,4 +1,0 @@
--- what contracts rest on
-pub mod FolderTables
--- serves proofs alone
-pub mod SearchAnswers

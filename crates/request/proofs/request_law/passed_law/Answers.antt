@@ -1,5 +1,0 @@
-use Rattle.request.proofs.PassedRequests as lemma
-use Rattle.request.proofs.request_law.passed_law.Goals as goal
-
-pub returns : goal.returns
-returns g c = lemma.passed_law g.C.Comparator.cmp

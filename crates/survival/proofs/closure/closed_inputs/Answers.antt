@@ -1,5 +1,0 @@
-use Rattle.survival.proofs.Closing as lemma
-use Rattle.survival.proofs.closure.closed_inputs.Goals as goal
-
-pub returns : goal.returns
-returns g c = lemma.closed_inputs g.C.Comparator.cmp g.met.C.Comparator.total

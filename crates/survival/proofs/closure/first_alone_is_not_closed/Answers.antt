@@ -1,5 +1,0 @@
-use Rattle.survival.proofs.RowFacts as lemma
-use Rattle.survival.proofs.closure.first_alone_is_not_closed.Goals as goal
-
-pub returns : goal.returns
-returns g c = lemma.not_closed g.C.Comparator.cmp

@@ -1,5 +1,0 @@
-use Rattle.survival.proofs.StandingTogether as lemma
-use Rattle.survival.proofs.closure.inputs_stand_together.Goals as goal
-
-pub returns : goal.returns
-returns g c = lemma.inputs_stand_together g.C.Comparator.cmp g.met.C.Comparator.total

@@ -1,5 +1,0 @@
-use Rattle.survival.proofs.AppliedEdit as lemma
-use Rattle.survival.proofs.surviving_reads.edit_applies.Goals as goal
-
-pub returns : goal.returns
-returns g c = lemma.edit_applies g.C.Comparator.cmp g.met.C.Comparator.total

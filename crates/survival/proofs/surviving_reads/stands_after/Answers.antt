@@ -1,5 +1,0 @@
-use Rattle.survival.proofs.LawfulAfter as lemma
-use Rattle.survival.proofs.surviving_reads.stands_after.Goals as goal
-
-pub returns : goal.returns
-returns g c = lemma.stands_after g.C.Comparator.cmp g.met.C.Comparator.total g.met.C.Comparator.exact g.C.Comparator.short_keys

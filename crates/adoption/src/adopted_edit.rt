@@ -118,7 +118,7 @@ fn greater(one: u64, other: u64) -> u64
     if one < other { other } else { one }
 }
 
-/// New files as files whose tables are read. The only fault is Memory.
+/// New files as files whose tables are read.
 fn outputs_of(alloc: Global, added: Vec<NewFile>) -> Result<Vec<InputFile>, Fault>
     ensures { EqualOrMemory (λ v. v.items) result (Ok (outputs_in_edit added.items)) }
 {

@@ -68,8 +68,7 @@ fn inputs_of<C: Comparator>(alloc: Global, version: &Version, level: u64) -> Res
     }
 }
 
-/// Whether an edit is one of a compaction of `picked` inputs of a version. The only fault is
-/// Memory.
+/// Whether an edit is one of a compaction of `picked` inputs of a version.
 fn is_edit_for(
     alloc: Global,
     version: &Version,
@@ -102,7 +101,7 @@ fn is_same_pointer(one: &CompactPointer, other: &CompactPointer) -> bool
     one.level == other.level && one.key.as_key().bytes() == other.key.as_key().bytes()
 }
 
-/// Whether an edit deletes these inputs, and no other file. The only fault is Memory.
+/// Whether an edit deletes these inputs, and no other file.
 fn deletes_all(alloc: Global, edit: &VersionEdit, files: &[InputFile]) -> Result<bool, Fault>
     ensures exact { IfOk result (λ b. IsTrue b ↔ ((edit_in edit.now).deleted
         ≡ deletions_of files.now)) }

@@ -19,8 +19,7 @@ use std::alloc::Global;
 use table::{Cursor, SoundTable, TableCursor};
 
 /// Whether `outputs` hold just what a compaction of `picked` inputs keeps of their tables. `listed`
-/// and `floor` say which sequences stay readable, as in `keep::merge_range`. The only fault is
-/// Memory.
+/// and `floor` say which sequences stay readable, as in `keep::merge_range`.
 ///
 /// Both are walked side by side. It copies no value, and the keys of what is kept.
 pub(crate) fn holds_kept<'t, C: Comparator + 't>(
@@ -53,7 +52,7 @@ pub(crate) fn holds_kept<'t, C: Comparator + 't>(
     }
 }
 
-/// A cursor over each of the tables. The only fault is Memory.
+/// A cursor over each of the tables.
 fn cursors_over<'t, C: Comparator>(
     alloc: Global,
     tables: &[SoundTable<'t, C>],
@@ -68,7 +67,7 @@ fn cursors_over<'t, C: Comparator>(
     Ok(cursors)
 }
 
-/// Whether these tables together hold just the entries of a run. The only fault is Memory.
+/// Whether these tables together hold just the entries of a run.
 fn is_held<'t, C: Comparator>(
     alloc: Global,
     run: &RangeRun<'_>,
@@ -83,7 +82,7 @@ fn is_held<'t, C: Comparator>(
     is_walked::<C, Merging<C, TableCursor<'t, C>>>(run, &mut merging)
 }
 
-/// Whether a cursor has just the entries of a run. The only fault is Memory.
+/// Whether a cursor has just the entries of a run.
 fn is_walked<'c, C: Comparator, M: Cursor<'c, C>>(
     run: &RangeRun<'_>,
     cursor: &mut M,

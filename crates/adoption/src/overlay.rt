@@ -148,7 +148,7 @@ fn is_named(text: &String, name: &str) -> bool
     text.as_str() == name
 }
 
-/// The names of tables, in their order. The only fault is Memory.
+/// The names of tables, in their order.
 pub(crate) fn names_of(alloc: Global, tables: &[(u64, Vec<u8>)]) -> Result<Vec<String>, Fault>
     ensures { EqualOrMemory (λ v. map string_bytes v.items) result
         (Ok (names_of (tables_in tables.now))) }

@@ -7,7 +7,6 @@ use std::alloc::Global;
 /// The inputs of one level.
 #[derive(Clone, Copy, Debug)]
 pub struct LevelInputs {
-    /// The level.
     pub level: u64,
     /// How many of its files were taken.
     pub files: u64,
@@ -52,7 +51,7 @@ pub struct Account {
 /// and the outputs. Each has its newline and, before it, a bar of 40 places.
 ///
 /// Bars are measured by the largest amount of the line's group. Levels and outputs are measured in
-/// bytes; ranges, kept and dropped in entries. The only fault is Memory.
+/// bytes; ranges, kept and dropped in entries.
 pub fn account_text(alloc: Global, account: &Account) -> Result<String, Fault> {
     let mut text = String::new(alloc);
     push_levels(alloc, &mut text, &account.inputs)?;

@@ -7,8 +7,7 @@ use std::alloc::Global;
 const PLACES: u64 = 40;
 
 /// The bar of an `amount`: place i, from 0 on, is marked if `i * most < amount * 40`. The places
-/// after the marks are `blank`. In its group `most` is the largest amount. The only fault is
-/// Memory.
+/// after the marks are `blank`. In its group `most` is the largest amount.
 pub(crate) fn bar(alloc: Global, amount: u64, most: u64, blank: &str) -> Result<String, Fault> {
     let mut text = String::new(alloc);
     for place in 0..PLACES {

@@ -8,8 +8,7 @@ ghost use Rattle.hex.specs.Hex.{encode_lower, lower_digits};
 
 use coding::{Fault, FaultName};
 
-/// Appends the lower-case digits of `bytes`, two a byte. The only fault is Memory, which leaves
-/// `out` unchanged.
+/// Appends the lower-case digits of `bytes`, two a byte.
 pub(crate) fn push_digits(out: &mut Vec<u8>, bytes: &[u8]) -> Result<(), Fault>
     ensures ok { OnOk result (out.new.items ≡ out.old.items ++ encode_lower bytes.now) }
     ensures err { OnErr result (out.new.items ≡ out.old.items) }

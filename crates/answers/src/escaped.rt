@@ -37,7 +37,7 @@ pub(crate) const FIRST_IN_VALUE: u8 = b' ';
 /// The bytes of a text without control characters, in which a backslash begins `\xHH`, with digits
 /// of either case; no bytes for `""`. A character outside ASCII is its bytes in UTF-8.
 ///
-/// None for every other text, as the empty one. The only fault is Memory.
+/// None for every other text, as the empty one.
 pub fn bytes_of_escaped(alloc: Global, text: &str) -> Result<Option<Vec<u8>>, Fault>
     ensures { EqualOrMemory (option_map (λ bytes. bytes.items)) result
         (Ok (bytes_of_escaped text.now)) }
@@ -53,8 +53,8 @@ pub fn bytes_of_escaped(alloc: Global, text: &str) -> Result<Option<Vec<u8>>, Fa
 
 /// Appends the text of `bytes`, in which characters from `first` on stand for themselves.
 ///
-/// It reads back ([`texts_law`](crate::texts_law)). The only fault is Memory. It may leave a part
-/// of the text after what was there.
+/// It reads back ([`texts_law`](crate::texts_law)). Memory may leave a part of the text after what
+/// was there.
 pub(crate) fn push_escaped(out: &mut Vec<u8>, bytes: &[u8], first: u8) -> Result<(), Fault>
     ensures ok { OnOk result (out.new.items ≡ out.old.items ++ escaped first bytes.now) }
     ensures err { OnErr result (take (length out.old.items) out.new.items ≡ out.old.items) }
@@ -84,7 +84,7 @@ fn push_bytes(out: &mut Vec<u8>, bytes: &[u8], first: u8) -> Result<(), Fault>
     Ok(())
 }
 
-/// Appends a byte itself, or its escape. The only fault is Memory, which leaves `out` unchanged.
+/// Appends a byte itself, or its escape.
 #[inline]
 fn push_byte(out: &mut Vec<u8>, byte: u8, first: u8) -> Result<(), Fault>
     ensures ok { OnOk result (out.new.items ≡ out.old.items ++ escaped_byte first byte) }
@@ -117,7 +117,7 @@ fn is_own(byte: u8) -> bool
     is_plain(byte, FIRST_IN_VALUE) || !byte.is_ascii()
 }
 
-/// The bytes that characters stand for; None if one stands for none. The only fault is Memory.
+/// The bytes that characters stand for; None if one stands for none.
 fn unescaped(alloc: Global, text: &[u8]) -> Result<Option<Vec<u8>>, Fault>
     ensures { EqualOrMemory (option_map (λ bytes. bytes.items)) result (Ok (unescaped text.now)) }
 {

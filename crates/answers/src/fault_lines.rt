@@ -13,7 +13,7 @@ use std::alloc::Global;
 /// The line of what is wrong with the file of a number: `NUMBER WHAT`.
 ///
 /// `WHAT` is one of `not below NEXT`, the name of a fault, `length HELD, not STATED`, `smallest`,
-/// `largest` and `overlaps OTHER`. The only fault is Memory.
+/// `largest` and `overlaps OTHER`.
 pub fn file_fault_line(alloc: Global, number: u64, wrong: FileFault) -> Result<Vec<u8>, Fault>
     ensures { EqualOrMemory (λ line. line.items) result (Ok (file_fault_line number wrong)) }
 {
@@ -40,7 +40,7 @@ fn file_fault_text(alloc: Global, number: u64, wrong: FileFault) -> Result<Strin
 }
 
 /// The line `key KEY FILE OTHER` of a user key whose entries are not in their order, with the
-/// numbers of two files that hold it. The only fault is Memory.
+/// numbers of two files that hold it.
 pub fn key_fault_line(
     alloc: Global,
     spelling: Spelling,
@@ -55,7 +55,7 @@ pub fn key_fault_line(
     Ok(format!(in alloc; "key {user} {file} {other}\n")?.into_bytes())
 }
 
-/// The line `faults: N` of how many faults a version has. The only fault is Memory.
+/// The line `faults: N` of how many faults a version has.
 pub fn fault_count_line(alloc: Global, count: u64) -> Result<Vec<u8>, Fault>
     ensures { EqualOrMemory (λ line. line.items) result (Ok (fault_count_line count)) }
 {

@@ -49,7 +49,7 @@ pub fn manifest<F: Folder>(
 }
 
 /// The lines of a `version` of this `order`: what [`manifest`] answers of a folder that is opened
-/// already. The only fault is Memory.
+/// already.
 pub fn manifest_lines(
     alloc: Global,
     spelling: Spelling,

@@ -18,7 +18,7 @@ const NOTHING: &str = "-";
 
 /// The text of `bytes`: lower-case hexadecimal digits, two a byte; `-` for no bytes.
 ///
-/// It reads back. The only fault is Memory.
+/// It reads back.
 pub fn text_of(alloc: Global, bytes: &[u8]) -> Result<String, Fault>
     ensures digits { EqualOrMemory string_bytes result (Ok (text_of_bytes bytes.now)) }
     ensures read_back { bytes_of_text (text_of_bytes bytes.now) ≡ Some bytes.now }
@@ -29,7 +29,7 @@ pub fn text_of(alloc: Global, bytes: &[u8]) -> Result<String, Fault>
     Ok(hex::encode(alloc, bytes)?)
 }
 
-/// Appends the text of `bytes`. The only fault is Memory, which leaves `out` unchanged.
+/// Appends the text of `bytes`.
 pub(crate) fn push_text_of(out: &mut Vec<u8>, bytes: &[u8]) -> Result<(), Fault>
     ensures ok { OnOk result (out.new.items ≡ out.old.items ++ text_of_bytes bytes.now) }
     ensures err { OnErr result (out.new.items ≡ out.old.items) }
@@ -44,7 +44,7 @@ pub(crate) fn push_text_of(out: &mut Vec<u8>, bytes: &[u8]) -> Result<(), Fault>
 
 /// The bytes of a text of hexadecimal digits of either case, two a byte; no bytes for `-`.
 ///
-/// None for every other text, as the empty one. The only fault is Memory.
+/// None for every other text, as the empty one.
 #[tactic(auto, using(crate::proofs::TextLemmas::bytes_of_text_meaning))]
 pub fn key_of(alloc: Global, text: &str) -> Result<Option<Vec<u8>>, Fault>
     ensures meaning { (bytes : List ℕ) → IsBytes bytes

@@ -18,7 +18,7 @@ use std::alloc::Global;
 
 /// The object `{"entries":E,"files":F,"lawful":true,"logs":N}` of a lawful version. So many `logs`
 /// have writes that are in no table: null if that isn't known. Of more than 2^64 - 1 entries that
-/// number stands. The only fault is Memory.
+/// number stands.
 pub fn lawful_json(
     alloc: Global,
     files: usize,
@@ -32,21 +32,21 @@ pub fn lawful_json(
 }
 
 /// The object `{"logs":N}` after rows: so many logs have writes that are in no table, null if that
-/// isn't known. The only fault is Memory.
+/// isn't known.
 pub fn logs_json(alloc: Global, logs: Option<u64>) -> Result<Value, Fault>
     ensures { EqualOrMemory view result (Ok (logs_object logs)) }
 {
     Ok(json!(in alloc; {"logs": logs})?)
 }
 
-/// The object `{"bytes":B,"removed":NAME}` of a file that was removed. The only fault is Memory.
+/// The object `{"bytes":B,"removed":NAME}` of a file that was removed.
 pub fn removed_json(alloc: Global, name: &str, bytes: u64) -> Result<Value, Fault>
     ensures { EqualOrMemory view result (Ok (removed_object name.now bytes)) }
 {
     Ok(json!(in alloc; {"bytes": bytes, "removed": name})?)
 }
 
-/// The object `{"entries":E,"valid":true}` of a valid table. The only fault is Memory.
+/// The object `{"entries":E,"valid":true}` of a valid table.
 pub fn valid_json(alloc: Global, entries: u64) -> Result<Value, Fault>
     ensures { EqualOrMemory view result (Ok (valid_object entries)) }
 {
@@ -54,8 +54,7 @@ pub fn valid_json(alloc: Global, entries: u64) -> Result<Value, Fault>
 }
 
 /// The object `{"key":K,"logs":N,"value":V}` of a key and its value; `"value":null` if it has none.
-/// So many `logs` have writes that are in no table: null if that isn't known. The only fault is
-/// Memory.
+/// So many `logs` have writes that are in no table: null if that isn't known.
 pub fn value_json(
     alloc: Global,
     spelling: Spelling,
@@ -71,7 +70,7 @@ pub fn value_json(
     value_parts_json(alloc, key, logs, value)
 }
 
-/// The object of these parts. The only fault is Memory.
+/// The object of these parts.
 fn value_parts_json(
     alloc: Global,
     key: Value,
@@ -83,21 +82,21 @@ fn value_parts_json(
     Ok(json!(in alloc; {"key": key, "logs": logs, "value": value})?)
 }
 
-/// A key as a JSON string. The only fault is Memory.
+/// A key as a JSON string.
 fn key_json(alloc: Global, spelling: Spelling, key: &[u8]) -> Result<Value, Fault>
     ensures { EqualOrMemory view result (Ok (key_data spelling key.now)) }
 {
     Ok(Value::from(spelling.key_text(alloc, key)?))
 }
 
-/// The user key of an internal key as a JSON string. The only fault is Memory.
+/// The user key of an internal key as a JSON string.
 pub(crate) fn user_json(alloc: Global, spelling: Spelling, key: &KeyBuf) -> Result<Value, Fault>
     ensures { EqualOrMemory view result (Ok (key_data spelling (user_of key.now))) }
 {
     key_json(alloc, spelling, key.as_key().user())
 }
 
-/// A value as a JSON string, null if there is none. The only fault is Memory.
+/// A value as a JSON string, null if there is none.
 fn text_or_null(alloc: Global, spelling: Spelling, value: Option<&[u8]>) -> Result<Value, Fault>
     ensures { EqualOrMemory view result
         (Ok (value_data spelling (option_map (λ bytes. bytes.now) value.entry))) }

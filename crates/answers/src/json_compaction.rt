@@ -31,8 +31,6 @@ pub enum CompactionEnd<'a> {
 /// - `"installed":MANIFEST` or `"written":NAME`;
 /// - `"level":L`;
 /// - `"outputs":[{"number":N,"size":B},..]`, the new files in their order.
-///
-/// The only fault is Memory.
 pub fn compaction_json(
     alloc: Global,
     level: u64,

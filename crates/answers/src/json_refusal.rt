@@ -17,7 +17,7 @@ pub struct Told<'a> {
 }
 
 /// The line `{"path":P,"refused":NAME,"remedy":R,"wrong":W}` of a refusal. What isn't given is
-/// left out. The only fault is Memory.
+/// left out.
 pub fn refusal_json(alloc: Global, name: &str, told: Told<'_>) -> Result<String, Fault> {
     let mut object = Map::new(alloc);
     put_text(alloc, &mut object, "path", told.path)?;

@@ -13,8 +13,7 @@ use coding::Fault;
 use serde_json::{Value, json};
 use std::alloc::Global;
 
-/// Appends the line `{"key":K,"value":V}` of one key of many; `{"key":K}` if no value is given. The
-/// only fault is Memory, which leaves `lines` unchanged.
+/// Appends the line `{"key":K,"value":V}` of one key of many; `{"key":K}` if no value is given.
 #[tactic(auto, using(crate::proofs::JsonLemmas::row_has_no_float))]
 pub fn push_row_json(
     alloc: Global,
@@ -34,7 +33,7 @@ pub fn push_row_json(
     Ok(())
 }
 
-/// The object of that line. The only fault is Memory.
+/// The object of that line.
 fn row_json(
     alloc: Global,
     spelling: Spelling,
@@ -50,7 +49,7 @@ fn row_json(
     }
 }
 
-/// The object of a key and its value. The only fault is Memory.
+/// The object of a key and its value.
 fn pair_json(alloc: Global, spelling: Spelling, key: &[u8], value: &[u8]) -> Result<Value, Fault>
     ensures { EqualOrMemory view result (Ok (row_object spelling key.now (Some value.now))) }
 {
@@ -59,7 +58,7 @@ fn pair_json(alloc: Global, spelling: Spelling, key: &[u8], value: &[u8]) -> Res
     Ok(json!(in alloc; {"key": key, "value": value})?)
 }
 
-/// The object of a key alone. The only fault is Memory.
+/// The object of a key alone.
 fn lone_key_json(alloc: Global, spelling: Spelling, key: &[u8]) -> Result<Value, Fault>
     ensures { EqualOrMemory view result (Ok (row_object spelling key.now None)) }
 {

@@ -21,7 +21,7 @@ use std::alloc::{AllocError, Global};
 /// - `"logs":{"bytes":B,"files":N}`, and the same as `"unnamed"` for the files that no version
 ///   names.
 ///
-/// Keys are user keys. Of more than 2^64 - 1 entries that number stands. The only fault is Memory.
+/// Keys are user keys. Of more than 2^64 - 1 entries that number stands.
 pub fn stats_json(
     alloc: Global,
     spelling: Spelling,

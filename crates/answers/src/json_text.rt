@@ -11,8 +11,7 @@ use coding::Fault;
 use serde_json::Value;
 use std::alloc::Global;
 
-/// The line of a value: its text without blanks, members by name, and a newline. The only fault is
-/// Memory.
+/// The line of a value: its text without blanks, members by name, and a newline.
 pub fn json_line(alloc: Global, value: &Value) -> Result<String, Fault>
     ensures { has_float (view value.now) ≡ false →
         EqualOrMemory string_bytes result (Ok (json_line (view value.now))) }

@@ -29,7 +29,7 @@ use std::alloc::{AllocError, Global};
 ///   version order;
 /// - `"pointers":[{"key":K,"level":L,"sequence":S,"type":T},..]`, by level.
 ///
-/// Keys are user keys. A counter that was never set is 0. The only fault is Memory.
+/// Keys are user keys. A counter that was never set is 0.
 pub fn version_json(
     alloc: Global,
     spelling: Spelling,

@@ -12,7 +12,7 @@ use ikey::Comparator;
 use std::alloc::Global;
 
 /// The files of a version, each with its level: by level, and in the version order of this
-/// comparator. The only fault is Memory.
+/// comparator.
 pub(crate) fn leveled_files<C: Comparator>(
     alloc: Global,
     version: &Version,
@@ -27,7 +27,7 @@ pub(crate) fn leveled_files<C: Comparator>(
     Ok(files)
 }
 
-/// Appends the files of a level. The only fault is Memory.
+/// Appends the files of a level.
 fn push_level<'v>(
     files: &mut Vec<(u64, &'v FileMeta)>,
     level: u64,

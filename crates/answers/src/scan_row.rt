@@ -12,8 +12,7 @@ use coding::Fault;
 /// Appends the line `KEY VALUE`, or `KEY` if no value is given.
 ///
 /// A key's text has no space, so the line is a key up to its first space and a value after that
-/// ([`texts_law`](crate::texts_law)). The only fault is Memory. It may leave a part of the line
-/// after what was there.
+/// ([`texts_law`](crate::texts_law)). Memory may leave a part of the line after what was there.
 pub fn push_row(
     lines: &mut Vec<u8>,
     spelling: Spelling,

@@ -25,7 +25,7 @@ pub enum Spelling {
 impl Spelling {
     /// Appends the text of a key, which has no space.
     ///
-    /// The only fault is Memory. It may leave a part of the text after what was there.
+    /// Memory may leave a part of the text after what was there.
     pub fn push_key(self, out: &mut Vec<u8>, key: &[u8]) -> Result<(), Fault>
         ensures ok { OnOk result (out.new.items ≡ out.old.items ++ key_text self key.now) }
         ensures err { OnErr result (take (length out.old.items) out.new.items ≡ out.old.items) }
@@ -39,7 +39,7 @@ impl Spelling {
 
     /// Appends the text of a value.
     ///
-    /// The only fault is Memory. It may leave a part of the text after what was there.
+    /// Memory may leave a part of the text after what was there.
     pub fn push_value(self, out: &mut Vec<u8>, value: &[u8]) -> Result<(), Fault>
         ensures ok { OnOk result (out.new.items ≡ out.old.items ++ value_text self value.now) }
         ensures err { OnErr result (take (length out.old.items) out.new.items ≡ out.old.items) }
@@ -51,7 +51,6 @@ impl Spelling {
         }
     }
 
-    /// The text of a key. The only fault is Memory.
     pub fn key_text(self, alloc: Global, key: &[u8]) -> Result<String, Fault>
         ensures { EqualOrMemory string_bytes result (Ok (key_text self key.now)) }
     {
@@ -61,7 +60,6 @@ impl Spelling {
         Ok(String::from_utf8(text).unwrap())
     }
 
-    /// The text of a value. The only fault is Memory.
     pub fn value_text(self, alloc: Global, value: &[u8]) -> Result<String, Fault>
         ensures { EqualOrMemory string_bytes result (Ok (value_text self value.now)) }
     {
@@ -71,8 +69,7 @@ impl Spelling {
         Ok(String::from_utf8(text).unwrap())
     }
 
-    /// The bytes that a text of a key or a value stands for; None if it stands for none. The only
-    /// fault is Memory.
+    /// The bytes that a text of a key or a value stands for; None if it stands for none.
     pub fn bytes_of(self, alloc: Global, text: &str) -> Result<Option<Vec<u8>>, Fault>
         ensures { EqualOrMemory (option_map (λ bytes. bytes.items)) result
             (Ok (bytes_of self text.now)) }

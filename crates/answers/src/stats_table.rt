@@ -16,8 +16,7 @@ use std::alloc::Global;
 ///
 /// Columns are as wide as their widest cell, with two spaces between. Cells are at their right. A
 /// share is that of the bytes in whole percent, rounded down, and 0 if there are none. After it a
-/// level's line has a bar of its bytes, if it has any. No line ends with a blank. The only fault is
-/// Memory.
+/// level's line has a bar of its bytes, if it has any. No line ends with a blank.
 pub fn stats_text(
     alloc: Global,
     spelling: Spelling,

@@ -25,7 +25,7 @@ pub fn dump(alloc: Global, spelling: Spelling, bytes: &[u8]) -> Result<Vec<u8>, 
     lines_of(alloc, spelling, &table)
 }
 
-/// The lines of a table. The only fault is Memory.
+/// The lines of a table.
 fn lines_of(
     alloc: Global,
     spelling: Spelling,
@@ -39,7 +39,7 @@ fn lines_of(
     Ok(out.into_bytes())
 }
 
-/// Appends the lines of a table. The only fault is Memory.
+/// Appends the lines of a table.
 fn push_lines(
     alloc: Global,
     out: &mut String,
@@ -57,7 +57,7 @@ fn push_lines(
     Ok(())
 }
 
-/// Appends the line of a cursor's entry, and takes the cursor on. The only fault is Memory.
+/// Appends the line of a cursor's entry, and takes the cursor on.
 fn push_next(
     alloc: Global,
     out: &mut String,
@@ -74,7 +74,7 @@ fn push_next(
     cursor.advance()
 }
 
-/// Appends the line of an entry. The only fault is Memory.
+/// Appends the line of an entry.
 fn push_line(
     alloc: Global,
     out: &mut String,

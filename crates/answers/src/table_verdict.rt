@@ -27,7 +27,7 @@ pub fn table_entries(alloc: Global, bytes: &[u8]) -> Result<u64, Fault>
     Ok(table.tally().entries)
 }
 
-/// The line `valid: E entries`. The only fault is Memory.
+/// The line `valid: E entries`.
 fn valid_line(alloc: Global, entries: u64) -> Result<Vec<u8>, Fault>
     ensures { EqualOrMemory (λ line. line.items) result (Ok (valid_line entries)) }
 {

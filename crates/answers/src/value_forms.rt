@@ -18,7 +18,7 @@ const NONE: &str = "none";
 /// The text of the bytes that look like that line.
 const ESCAPED_NONE: &str = "\\x6eone";
 
-/// What is printed of a value, or of none, in a form; None if nothing is. The only fault is Memory.
+/// What is printed of a value, or of none, in a form; None if nothing is.
 pub fn value_answer(
     alloc: Global,
     form: ValueForm,
@@ -33,7 +33,7 @@ pub fn value_answer(
     }
 }
 
-/// The line of a value, or of none. The only fault is Memory.
+/// The line of a value, or of none.
 fn value_line(alloc: Global, spelling: Spelling, value: Option<Vec<u8>>) -> Result<Vec<u8>, Fault>
     ensures { EqualOrMemory (λ line. line.items) result
         (Ok (value_line spelling (option_map (λ bytes. bytes.items) value))) }
@@ -44,7 +44,7 @@ fn value_line(alloc: Global, spelling: Spelling, value: Option<Vec<u8>>) -> Resu
     }
 }
 
-/// The line of a value. The only fault is Memory.
+/// The line of a value.
 fn line_of(alloc: Global, spelling: Spelling, value: &[u8]) -> Result<Vec<u8>, Fault>
     ensures { EqualOrMemory (λ line. line.items) result
         (Ok (value_line spelling (Some value.now))) }
@@ -54,7 +54,7 @@ fn line_of(alloc: Global, spelling: Spelling, value: &[u8]) -> Result<Vec<u8>, F
     Ok(line)
 }
 
-/// The text of a value on a line of its own. The only fault is Memory.
+/// The text of a value on a line of its own.
 fn lone_text(alloc: Global, spelling: Spelling, value: &[u8]) -> Result<String, Fault>
     ensures { EqualOrMemory string_bytes result (Ok (lone_text spelling value.now)) }
 {

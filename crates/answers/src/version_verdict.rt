@@ -46,7 +46,7 @@ pub fn test_opened<F: ReadsTables, W: Watch + Sync, R: Threads + Sync>(
     }
 }
 
-/// The line of a lawful version as what is printed. The only fault is Memory.
+/// The line of a lawful version as what is printed.
 pub(crate) fn lawful_answer(alloc: Global, tested: VersionTotals) -> Result<Option<Vec<u8>>, Fault>
     ensures { EqualOrMemory (option_map (λ v. v.items)) result
         (Ok (Some (lawful_line tested.files tested.entries))) }
@@ -54,7 +54,7 @@ pub(crate) fn lawful_answer(alloc: Global, tested: VersionTotals) -> Result<Opti
     Ok(Some(lawful_line(alloc, tested)?))
 }
 
-/// The line of a lawful version with this many files and entries. The only fault is Memory.
+/// The line of a lawful version with this many files and entries.
 pub(crate) fn lawful_line(alloc: Global, tested: VersionTotals) -> Result<Vec<u8>, Fault>
     ensures { EqualOrMemory (λ v. v.items) result
         (Ok (lawful_line tested.files tested.entries)) }

@@ -80,7 +80,7 @@ impl BlockBuilder {
     /// Appends an entry. A key is any bytes, and the order of keys isn't tested.
     ///
     /// Requires that the block then has at most 2^31 bytes. One entry adds at most 34 to the bytes
-    /// of its key and value. The only fault is Memory, which leaves the builder unchanged.
+    /// of its key and value.
     pub fn add(&mut self, key: &[u8], value: &[u8]) -> Result<(), Fault>
         requires { length (block self.old.interval (with_entry self.old.entries key.now value.now))
             ≤ MAX_BLOCK_LEN }
@@ -138,8 +138,7 @@ impl BlockBuilder {
         self.since = 0;
     }
 
-    /// Appends the block that `finish` would answer now. The only fault is Memory, which leaves
-    /// `out` unchanged.
+    /// Appends the block that `finish` would answer now.
     pub fn push_block(&self, out: &mut Vec<u8>) -> Result<(), Fault>
         ensures ok { OnOk result (out.new.items
             ≡ out.old.items ++ block self.now.interval self.now.entries) }
@@ -187,7 +186,7 @@ impl BlockBuilder {
     }
 }
 
-/// Appends the fields of an entry. The only fault is Memory, which leaves `out` unchanged.
+/// Appends the fields of an entry.
 fn push_encoded_entry(
     out: &mut Vec<u8>,
     shared: usize,

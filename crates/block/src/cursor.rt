@@ -41,7 +41,7 @@ impl<'a> Model for BlockCursor<'a> {
 }
 
 impl<'a> BlockCursor<'a> {
-    /// All entries of `block`. It takes the memory of one key. The only fault is Memory.
+    /// All entries of `block`. It takes the memory of one key.
     pub fn new(alloc: Global, block: &SoundBlock<'a>) -> Result<BlockCursor<'a>, Fault>
         ensures all { IfOk result (λ cursor. cursor ≡ block.now.entries) }
         ensures memory { IfErr result (λ e. e ≡ fault Memory) }
@@ -50,7 +50,7 @@ impl<'a> BlockCursor<'a> {
     }
 
     /// The entries of `block` from its restart of number `restart` on, counted from 0. It takes the
-    /// memory of one key. The only fault is Memory.
+    /// memory of one key.
     pub fn at(alloc: Global, block: &SoundBlock<'a>, restart: u64) -> Result<BlockCursor<'a>, Fault>
         requires { restart < length block.now.restarts }
         ensures from { IfOk result (λ cursor. cursor
@@ -108,7 +108,7 @@ impl<'a> BlockCursor<'a> {
         self.rest.is_empty()
     }
 
-    /// Takes off the next entry. The only fault is Memory, which leaves the cursor unchanged.
+    /// Takes off the next entry.
     #[inline(always)]
     pub fn advance(&mut self) -> Result<(), Fault>
         requires { 0 < length self.old }
@@ -128,7 +128,7 @@ impl<'a> BlockCursor<'a> {
     }
 
     /// Goes to the first entry of another block. The key stays in the same memory if that is
-    /// enough. The only fault is Memory, which leaves the cursor unchanged.
+    /// enough.
     pub fn enter(&mut self, block: &SoundBlock<'a>) -> Result<(), Fault>
         ensures ok { OnOk result (self.new ≡ block.now.entries) }
         ensures err { OnErr result (self.new ≡ self.old) }
@@ -146,7 +146,7 @@ impl<'a> BlockCursor<'a> {
         Ok(())
     }
 
-    /// The entries in `encoded`, the first of which has its whole key. The only fault is Memory.
+    /// The entries in `encoded`, the first of which has its whole key.
     fn over(alloc: Global, encoded: &'a [u8]) -> Result<BlockCursor<'a>, Fault>
         requires { AreEncodedEntriesAfter [] encoded.now }
         ensures all { IfOk result (λ cursor. cursor ≡ entries_of_encoded [] encoded.now) }

@@ -58,8 +58,7 @@ impl KeyRoom {
         self.len
     }
 
-    /// Keeps the first `shared` bytes of the key and appends the unshared bytes of `next`. The
-    /// only fault is Memory, which leaves the key unchanged.
+    /// Keeps the first `shared` bytes of the key and appends the unshared bytes of `next`.
     #[inline(always)]
     pub(crate) fn replace_end(&mut self, shared: usize, next: FrontEntry<'_>) -> Result<(), Fault>
         requires within { shared ≤ length self.old }
@@ -113,8 +112,7 @@ fn copy_over(room: &mut [u8], at: usize, source: &[u8], count: usize) -> usize
     at + count
 }
 
-/// Appends zeros up to this length, if the bytes are fewer. The only fault is Memory, which leaves
-/// them unchanged.
+/// Appends zeros up to this length, if the bytes are fewer.
 fn lengthen(bytes: &mut Vec<u8>, len: usize) -> Result<(), Fault>
     ensures kept { OnOk result (take (length bytes.old.items) bytes.new.items ≡ bytes.old.items) }
     ensures long { OnOk result (len ≤ length bytes.new.items) }

@@ -47,7 +47,7 @@ pub fn next_since(since: u64, interval: u64) -> u64
 /// How many bytes of the key before it an entry shares. It is 0 if the entry begins an interval,
 /// for then a restart points at it.
 ///
-/// `since` is how many entries of the interval come before it. Takes no memory.
+/// `since` is how many entries of the interval come before it.
 #[inline(always)]
 pub fn shared_len(since: u64, before: &[u8], key: &[u8]) -> usize
     ensures value { result
@@ -63,7 +63,7 @@ pub fn shared_len(since: u64, before: &[u8], key: &[u8]) -> usize
 
 /// Appends the fields of an entry: three lengths, the unshared bytes of its key, and its value.
 ///
-/// The only fault is Memory. It may leave some of them after the bytes that were there.
+/// Memory may leave some of them after the bytes that were there.
 #[inline(always)]
 pub fn push_fields(
     out: &mut Vec<u8>,
@@ -112,7 +112,7 @@ fn push_lengths(
 
 /// Appends what ends a block: its restarts and their count, four bytes each.
 ///
-/// The only fault is Memory. It may leave some of them after the bytes that were there.
+/// Memory may leave some of them after the bytes that were there.
 pub fn push_restarts(out: &mut Vec<u8>, restarts: &[u32]) -> Result<(), Fault>
     requires { length restarts.now < 2 ^ 32 }
     ensures ok { OnOk result (out.new.items ≡ out.old.items ++ restart_bytes restarts.now) }

@@ -73,7 +73,7 @@ impl<'a> SoundBlock<'a> {
         Some(front.unshared)
     }
 
-    /// The same block, over the same bytes. Takes no memory.
+    /// The same block, over the same bytes.
     pub fn copy(&self) -> SoundBlock<'a>
         ensures { result ≡ self.now }
     {

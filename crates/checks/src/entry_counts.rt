@@ -13,7 +13,7 @@ use split::Range;
 use table::SoundTable;
 
 /// How many entries the tables of these files have that begin in `range`. None if one of the tables
-/// isn't what the version states of its file; `next` is the version's next file. Takes no memory.
+/// isn't what the version states of its file; `next` is the version's next file.
 pub(crate) fn counted_files<C: Comparator>(
     files: &[&FileMeta],
     next: Option<u64>,

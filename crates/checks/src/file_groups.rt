@@ -22,8 +22,7 @@ use std::alloc::Global;
 /// Each boundary is the smallest user key of a file. `standing` may have any order. Which tables
 /// reach into a range is what [`needed_files`](crate::needed_files()) answers for it.
 ///
-/// It takes the memory of a reference for each file and of a user key for each boundary. The only
-/// fault is Memory.
+/// It takes the memory of a reference for each file and of a user key for each boundary.
 pub fn group_split<C: Comparator>(
     alloc: Global,
     standing: &[&FileMeta],
@@ -38,7 +37,7 @@ pub fn group_split<C: Comparator>(
     }
 }
 
-/// The files by their smallest user key. The only fault is Memory.
+/// The files by their smallest user key.
 fn by_smallest<'v, C: Comparator>(
     alloc: Global,
     standing: &[&'v FileMeta],
@@ -75,8 +74,7 @@ impl GroupBytes {
 }
 
 /// Where each group but the last one ends: at the smallest user key of the first file that doesn't
-/// fit, if its part of all files is full. The files are in the order of those keys. The only fault
-/// is Memory.
+/// fit, if its part of all files is full. The files are in the order of those keys.
 fn group_ends<C: Comparator>(
     alloc: Global,
     files: &[&FileMeta],

@@ -54,7 +54,7 @@ pub(crate) fn check_in_order<C: SharedComparator, F: Folder, R: Threads + Sync>(
 }
 
 /// The refusal of the first invalid table, if one is, among those of which `first` is it and these
-/// after them. The only fault is Memory.
+/// after them.
 fn first_refusal<C: SharedComparator, R: Threads + Sync>(
     rt: &R,
     alloc: Global,

@@ -80,8 +80,7 @@ fn load_if_there<F: Folder>(
     }
 }
 
-/// The tables of these numbers and bytes, which own the bytes. None if one is invalid. The only
-/// fault is Memory.
+/// The tables of these numbers and bytes, which own the bytes. None if one is invalid.
 fn owned_tables<C: SharedComparator, G: Gate + Sync, R: Threads + Sync>(
     rt: &R,
     alloc: Global,
@@ -103,8 +102,7 @@ fn owned_tables<C: SharedComparator, G: Gate + Sync, R: Threads + Sync>(
     Ok(Some(with_bounds(alloc, loaded, bounds)?))
 }
 
-/// The bounds of the tables of these numbers and bytes. None if one is invalid. The only fault is
-/// Memory.
+/// The bounds of the tables of these numbers and bytes. None if one is invalid.
 fn found_bounds<C: SharedComparator, G: Gate + Sync, R: Threads + Sync>(
     rt: &R,
     alloc: Global,
@@ -128,7 +126,7 @@ fn found_bounds<C: SharedComparator, G: Gate + Sync, R: Threads + Sync>(
     }
 }
 
-/// The bounds of tables, in order. The only fault is Memory.
+/// The bounds of tables, in order.
 fn bounds_of_tables<'t, C: Comparator>(
     alloc: Global,
     tables: Vec<NumberedTable<'t, C>>,
@@ -145,8 +143,7 @@ fn bounds_of_tables<'t, C: Comparator>(
     Ok(bounds)
 }
 
-/// The tables of these numbers and bytes, whose checks found these bounds. The only fault is
-/// Memory.
+/// The tables of these numbers and bytes, whose checks found these bounds.
 fn with_bounds<C: Comparator>(
     alloc: Global,
     loaded: Vec<(u64, Vec<u8>)>,

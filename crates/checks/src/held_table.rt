@@ -42,7 +42,7 @@ impl<C: Comparator> HeldTable<C> {
         self.number
     }
 
-    /// The table, lent. It takes the memory of two keys. The only fault is Memory.
+    /// The table, lent. It takes the memory of two keys.
     pub fn lend(&self, alloc: Global) -> Result<NumberedTable<'_, C>, Fault>
         ensures table { EqualOrMemory (λ t. t) result (Ok self.now) }
         ensures reading { contents_reading C.cmp self.now.contents.bytes ≡ Ok self.now.contents }

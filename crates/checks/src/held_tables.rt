@@ -53,7 +53,7 @@ impl<C: Comparator> HeldTables<C> {
 
     /// The tables in order, lent. No test is made again.
     ///
-    /// It takes the memory of two keys for each. The only fault is Memory.
+    /// It takes the memory of two keys for each.
     pub fn lend(&self, alloc: Global) -> Result<Vec<NumberedTable<'_, C>>, Fault>
         ensures tables { EqualOrMemory (λ v. v.items) result (Ok self.now) }
         ensures read { OnOk result (AreReadAs C.cmp self.now) }

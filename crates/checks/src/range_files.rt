@@ -17,7 +17,7 @@ use std::alloc::Global;
 /// order of `files`. The tables of the others have no entry in `range`, if each table has the
 /// bounds that its file states.
 ///
-/// It takes the memory of a reference for each. The only fault is Memory.
+/// It takes the memory of a reference for each.
 pub fn needed_files<'v, C: Comparator>(
     alloc: Global,
     files: &[&'v FileMeta],
@@ -36,7 +36,7 @@ pub fn needed_files<'v, C: Comparator>(
     Ok(needed)
 }
 
-/// The numbers of files, in order. The only fault is Memory.
+/// The numbers of files, in order.
 pub fn numbers_of(alloc: Global, files: &[&FileMeta]) -> Result<Vec<u64>, Fault>
     ensures { EqualOrMemory (λ v. v.items) result (Ok (map (λ f. f.now.number) files.now)) }
 {
@@ -47,7 +47,7 @@ pub fn numbers_of(alloc: Global, files: &[&FileMeta]) -> Result<Vec<u64>, Fault>
     Ok(numbers)
 }
 
-/// Whether the file begins in `range`. Takes no memory.
+/// Whether the file begins in `range`.
 pub(crate) fn starts_in<C: Comparator>(file: &FileMeta, range: Range<'_>) -> bool
     ensures { result ≡ starts_in C.cmp (key_range range.entry) file.now }
 {

@@ -9,7 +9,7 @@ ghost use Rattle.checks.specs.RangeOrder.{common_of, earlier_bound, later_bound}
 use ikey::Comparator;
 use split::Range;
 
-/// The range of the user keys that both ranges hold. Takes no memory.
+/// The range of the user keys that both ranges hold.
 pub fn common_range<'k, C: Comparator>(one: Range<'k>, two: Range<'k>) -> Range<'k>
     ensures { key_range result ≡ common_of C.cmp (key_range one.entry) (key_range two.entry) }
 {

@@ -26,7 +26,7 @@ use table::SoundTable;
 /// table is what the version states of its file, and of each user key of the range the sequences
 /// fall through them. `next` is the version's next file.
 ///
-/// 1 to 64 workers walk the range. The only fault is Memory.
+/// 1 to 64 workers walk the range.
 pub(crate) fn walk_range<C: SharedComparator + 'static, R: Threads + Sync>(
     rt: &R,
     alloc: Global,
@@ -55,8 +55,7 @@ pub(crate) fn walk_range<C: SharedComparator + 'static, R: Threads + Sync>(
     Ok(Some(count))
 }
 
-/// Whether of each user key of `range` the sequences fall through the tables. The only fault is
-/// Memory.
+/// Whether of each user key of `range` the sequences fall through the tables.
 fn tables_fall<'t, C: SharedComparator + 'static, R: Threads + Sync>(
     rt: &R,
     alloc: Global,
@@ -74,7 +73,7 @@ fn tables_fall<'t, C: SharedComparator + 'static, R: Threads + Sync>(
     entries_fall(rt, alloc, &lent, range, workers, &Open)
 }
 
-/// The tables without their numbers. The only fault is Memory.
+/// The tables without their numbers.
 pub fn lent_tables<'l, 't, C: Comparator>(
     alloc: Global,
     tables: &'l [NumberedTable<'t, C>],

@@ -17,7 +17,7 @@ const BOUNDARIES: usize = 64;
 /// The most tables of which boundaries are taken.
 const MAX_SAMPLED: usize = 1024;
 
-/// A split of the tables' user keys into ranges of about one size. The only fault is Memory.
+/// A split of the tables' user keys into ranges of about one size.
 pub(crate) fn sampled_split<C: Comparator>(
     alloc: Global,
     tables: &[&SoundTable<'_, C>],
@@ -32,7 +32,7 @@ pub(crate) fn sampled_split<C: Comparator>(
     }
 }
 
-/// User keys of the tables' indexes, in no order. The only fault is Memory.
+/// User keys of the tables' indexes, in no order.
 fn sampled_keys<C: Comparator>(
     alloc: Global,
     tables: &[&SoundTable<'_, C>],
@@ -50,7 +50,7 @@ fn sampled_keys<C: Comparator>(
     Ok(keys)
 }
 
-/// Appends about `wanted` user keys of a table's index, in equal steps. The only fault is Memory.
+/// Appends about `wanted` user keys of a table's index, in equal steps.
 fn push_keys<C: Comparator>(
     alloc: Global,
     keys: &mut Vec<Vec<u8>>,
@@ -70,8 +70,7 @@ fn push_keys<C: Comparator>(
     Ok(())
 }
 
-/// The keys, which are in order, without those that aren't above the one before. The only fault is
-/// Memory.
+/// The keys, which are in order, without those that aren't above the one before.
 fn rising<C: Comparator>(alloc: Global, keys: Vec<Vec<u8>>) -> Result<Vec<Vec<u8>>, Fault>
     ensures memory { IfErr result (λ e. e ≡ fault Memory) }
 {

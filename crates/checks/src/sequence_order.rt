@@ -55,8 +55,7 @@ impl<'r, 't, C: Comparator + 't + 'static> Labour for Falls<'r, 't, C> {
 /// read one after the other.
 ///
 /// Tables that bounds tell apart from each other one aren't walked. Of the others, what `within`
-/// has of ranges of about one size is walked by 1 to 64 workers, each a job. The only fault is
-/// Memory.
+/// has of ranges of about one size is walked by 1 to 64 workers, each a job.
 pub(crate) fn entries_fall<'t, C: SharedComparator + 'static, G: Gate + Sync, R: Threads + Sync>(
     rt: &R,
     alloc: Global,
@@ -149,8 +148,7 @@ fn are_all_true(found: &[bool]) -> bool
     found.iter().all(|it| *it)
 }
 
-/// Whether the entries of the tables fall in what `within` has of the range of this number. The
-/// only fault is Memory.
+/// Whether the entries of the tables fall in what `within` has of the range of this number.
 fn falls_at<'t, C: Comparator + 't>(
     alloc: Global,
     tables: &[&SoundTable<'t, C>],

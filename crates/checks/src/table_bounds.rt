@@ -26,7 +26,7 @@ pub fn bounds_tell<C: Comparator>()
 /// through all tables exactly if they fall through these.
 ///
 /// A table is left out if its bounds tell it apart from each other one; no contract says so. It
-/// takes the memory of a reference for each table that is walked. The only fault is Memory.
+/// takes the memory of a reference for each table that is walked.
 pub(crate) fn tables_to_walk<'l, 't, C: Comparator>(
     alloc: Global,
     tables: &[&'l SoundTable<'t, C>],

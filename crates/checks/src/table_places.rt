@@ -60,7 +60,7 @@ impl<C: Comparator> TablePlace<C> {
 }
 
 /// The places of the tables with these numbers, in order. Each has the held table of its number, if
-/// there is one. The other held tables are dropped. The only fault is Memory.
+/// there is one. The other held tables are dropped.
 pub(crate) fn reused_places<C: Comparator>(
     alloc: Global,
     held: Vec<HeldTable<C>>,
@@ -82,8 +82,7 @@ pub(crate) fn reused_places<C: Comparator>(
     Ok(places)
 }
 
-/// The held tables with one of these numbers, the last one first. The others are dropped. The only
-/// fault is Memory.
+/// The held tables with one of these numbers, the last one first. The others are dropped.
 fn kept_tables<C: Comparator>(
     alloc: Global,
     held: Vec<HeldTable<C>>,
@@ -129,7 +128,7 @@ fn place_of<C: Comparator>(tables: &[HeldTable<C>], number: u64) -> Option<usize
     None
 }
 
-/// The numbers of the places without a table, in order. The only fault is Memory.
+/// The numbers of the places without a table, in order.
 pub(crate) fn wanted_numbers<C: Comparator>(
     alloc: Global,
     places: &[TablePlace<C>],
@@ -145,8 +144,7 @@ pub(crate) fn wanted_numbers<C: Comparator>(
     Ok(wanted)
 }
 
-/// The tables of all places in order. Each place without a table takes the next of `fresh`. The
-/// only fault is Memory.
+/// The tables of all places in order. Each place without a table takes the next of `fresh`.
 pub(crate) fn placed_tables<C: Comparator>(
     alloc: Global,
     places: Vec<TablePlace<C>>,

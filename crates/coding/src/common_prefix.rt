@@ -13,7 +13,7 @@ const WORD_LEN: usize = 8;
 /// How many bits a byte has.
 const BYTE_BITS: usize = 8;
 
-/// The length of the longest common beginning of `a` and `b`. Takes no memory.
+/// The length of the longest common beginning of `a` and `b`.
 #[inline]
 pub fn common_len(a: &[u8], b: &[u8]) -> usize
     ensures value { result ≡ common_prefix_len nat_eq a.now b.now }

@@ -48,8 +48,6 @@ pub fn read_u64_varint(bytes: &[u8]) -> Option<(u64, usize)>
 }
 
 /// Appends the one spelling of `number`, 1 to 10 bytes.
-///
-/// The only fault is Memory, which leaves `out` unchanged.
 #[inline]
 pub fn push_varint(out: &mut Vec<u8>, number: u64) -> Result<(), Fault>
     ensures ok { OnOk result (out.new.items ≡ out.old.items ++ varint number) }
@@ -64,8 +62,6 @@ pub fn push_varint(out: &mut Vec<u8>, number: u64) -> Result<(), Fault>
 }
 
 /// Appends the length of `slice` as a varint, and then `slice`, of fewer than 2^32 bytes.
-///
-/// The only fault is Memory, which leaves `out` unchanged.
 pub fn push_slice(out: &mut Vec<u8>, slice: &[u8]) -> Result<(), Fault>
     requires { length slice.now < 2 ^ 32 }
     ensures ok { OnOk result (out.new.items ≡ out.old.items ++ length_prefixed slice.now) }
@@ -127,7 +123,7 @@ fn read_groups(first: u8, rest: &[u8]) -> Option<(u64, usize)>
     None
 }
 
-/// Appends the one spelling of `number`. The only fault is Memory, which leaves `out` unchanged.
+/// Appends the one spelling of `number`.
 fn push_groups(out: &mut Vec<u8>, number: u64) -> Result<(), Fault>
     ensures ok { OnOk result (out.new.items ≡ out.old.items ++ varint number) }
     ensures err { OnErr result (out.new.items ≡ out.old.items) }

@@ -18,7 +18,7 @@ use edit::{FileMeta, NewFile};
 use ikey::{Comparator, KeyBuf};
 use std::alloc::Global;
 
-/// An output as a new file of a level. The only fault is Memory.
+/// An output as a new file of a level.
 fn new_file(alloc: Global, output: OutputMeta<'_>, level: u64) -> Result<NewFile, Fault>
     ensures ok { (p : OutputView) → IsMetaOf p output.entry →
         IfOk result (λ file. file ≡ planned_file level p) }
@@ -35,7 +35,7 @@ fn new_file(alloc: Global, output: OutputMeta<'_>, level: u64) -> Result<NewFile
     })
 }
 
-/// The outputs of a plan, in order, as new files of a level. The only fault is Memory.
+/// The outputs of a plan, in order, as new files of a level.
 fn new_files<C: Comparator>(
     alloc: Global,
     plan: &Plan<'_, '_, C>,
@@ -52,7 +52,7 @@ fn new_files<C: Comparator>(
     Ok(files)
 }
 
-/// The bytes of the edit of a request whose outputs are those of a plan. The only fault is Memory.
+/// The bytes of the edit of a request whose outputs are those of a plan.
 pub(crate) fn edit_bytes<C: Comparator>(
     alloc: Global,
     request: &Request<'_>,

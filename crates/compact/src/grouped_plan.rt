@@ -43,21 +43,21 @@ impl<'m, 't, C: Comparator> Model for Planned<'m, 't, C> {
 }
 
 impl<'m, 't, C: Comparator> Planned<'m, 't, C> {
-    /// The number of groups. Takes no memory.
+    /// The number of groups.
     pub fn len(&self) -> usize
         ensures { result ≡ length self.now.groups }
     {
         self.groups.len()
     }
 
-    /// The bytes of the edit. Takes no memory.
+    /// The bytes of the edit.
     pub fn edit(&self) -> &[u8]
         ensures { result.now ≡ self.now.edit }
     {
         &self.edit
     }
 
-    /// The plan of the group at `place`. Takes no memory.
+    /// The plan of the group at `place`.
     pub fn group(&self, place: usize) -> &Plan<'m, 't, C>
         requires { place < length self.now.groups }
         ensures { slice_get self.now.groups place
@@ -74,8 +74,7 @@ impl<'m, 't, C: Comparator> Planned<'m, 't, C> {
         self.workers
     }
 
-    /// The number and the length of each table, in order. None is encoded. The only fault is
-    /// `Memory`.
+    /// The number and the length of each table, in order. None is encoded.
     pub fn sizes(&self, alloc: Global) -> Result<Vec<(u64, u64)>, Fault>
         ensures { EqualOrMemory (λ sizes. sizes.items) result
             (Ok (table_sizes (joined_answer self.now).tables)) }
@@ -89,7 +88,7 @@ impl<'m, 't, C: Comparator> Planned<'m, 't, C> {
     }
 }
 
-/// Appends the number and the length of each table of a plan. The only fault is Memory.
+/// Appends the number and the length of each table of a plan.
 fn push_sizes<C: Comparator>(
     plan: &Plan<'_, '_, C>,
     sizes: &mut Vec<(u64, u64)>,

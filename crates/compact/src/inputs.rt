@@ -145,7 +145,7 @@ fn read_input<'t, C: Comparator>(
     Ok(table)
 }
 
-/// Whether a table's length, smallest and largest key are as the version states. Takes no memory.
+/// Whether a table's length, smallest and largest key are as the version states.
 pub fn matches_metadata<C: Comparator>(file: &FileMeta, table: &SoundTable<'_, C>) -> bool
     ensures { result ≡ table_matches_metadata file.now table.now }
 {

@@ -24,8 +24,6 @@ use std::thread::Threads;
 
 /// Encodes the pieces of a plan by 1 to 64 workers, and joins them to the tables of the outputs,
 /// each with its number. If each output is one piece, its worker makes the whole table.
-///
-/// The only fault is `Memory`.
 pub(crate) fn encode_tables<'p, C: SharedComparator + 'static, G: Gate + Sync, R: Threads + Sync>(
     rt: &R,
     alloc: Global,
@@ -46,8 +44,6 @@ pub(crate) fn encode_tables<'p, C: SharedComparator + 'static, G: Gate + Sync, R
 }
 
 /// The tables of a plan's outputs, encoded by 1 to 64 workers, and the edit.
-///
-/// The only fault is `Memory`.
 pub(crate) fn write_plan<'p, C: SharedComparator + 'static, G: Gate + Sync, R: Threads + Sync>(
     rt: &R,
     alloc: Global,

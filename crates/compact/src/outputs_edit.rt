@@ -29,9 +29,9 @@ impl<'a> Request<'a> {
     ///
     /// It names no comparator. Requires that the number after the last output's is below 2^64.
     ///
-    /// The only fault is Memory. If the request passes its test of levels and the outputs are at
-    /// levels up to 6, so is all that the edit names. So the edit of a request that passes its
-    /// tests can be encoded and applied.
+    /// If the request passes its test of levels and the outputs are at levels up to 6, so is all
+    /// that the edit names. So the edit of a request that passes its tests can be encoded and
+    /// applied.
     pub fn edit(&self, alloc: Global, outputs: Vec<NewFile>) -> Result<VersionEdit, Fault>
         requires { self.now.first_number + length outputs.items < 2 ^ 64 }
         ensures edit { EqualOrMemory edit_in result
@@ -58,7 +58,7 @@ impl<'a> Request<'a> {
     }
 }
 
-/// The deletions of inputs by level and number, each once. The only fault is Memory.
+/// The deletions of inputs by level and number, each once.
 pub fn deletions_of(alloc: Global, files: &[InputFile]) -> Result<BTreeSet<DeletedFile>, Fault>
     ensures { EqualOrMemory (λ set. set.keys) result (Ok (deletions_of files.now)) }
 {
@@ -73,7 +73,7 @@ pub fn deletions_of(alloc: Global, files: &[InputFile]) -> Result<BTreeSet<Delet
     Ok(deleted)
 }
 
-/// The compact pointer of the compaction's level. The only fault is Memory.
+/// The compact pointer of the compaction's level.
 fn pointer_of(alloc: Global, picked: &Inputs) -> Result<CompactPointer, Fault>
     ensures { EqualOrMemory (λ pointer. pointer) result
         (Ok (record { level = picked.now.level; key = picked.now.pointer.key })) }

@@ -117,7 +117,7 @@ pub fn merge_ranges<'t, C: SharedComparator + 'static, G: Gate + Sync, R: Thread
     Ok(run(rt, alloc, &merges, split.len(), workers, gate)?)
 }
 
-/// A reference to each table. The only fault is Memory.
+/// A reference to each table.
 fn lent_tables<'r, 't, C: Comparator>(
     alloc: Global,
     tables: &'r [SoundTable<'t, C>],

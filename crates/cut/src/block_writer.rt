@@ -77,7 +77,7 @@ fn push_entries(
 }
 
 /// Takes in the offset of an entry if a restart points at it: if the entry is the first of an
-/// interval. The only fault is Memory.
+/// interval.
 fn push_restart(restarts: &mut Vec<u32>, since: u64, offset: usize) -> Result<(), Fault>
     requires { offset < 2 ^ 32 }
     ensures ok { OnOk result (restarts.new.items

@@ -32,7 +32,7 @@ impl<'r, 'a> Model for EntryCursor<'r, 'a> {
 }
 
 impl<'r, 'a> EntryCursor<'r, 'a> {
-    /// All kept entries of the runs. Takes no memory.
+    /// All kept entries of the runs.
     pub fn new(runs: &'r [RangeRun<'a>]) -> EntryCursor<'r, 'a>
         ensures { result ≡ flat_map (λ r. r.kept) runs.now }
     {
@@ -42,7 +42,7 @@ impl<'r, 'a> EntryCursor<'r, 'a> {
         }
     }
 
-    /// The same place. Takes no memory.
+    /// The same place.
     pub fn copy(&self) -> EntryCursor<'r, 'a>
         ensures { result ≡ self.now }
     {
@@ -52,14 +52,14 @@ impl<'r, 'a> EntryCursor<'r, 'a> {
         }
     }
 
-    /// Whether an entry is still to come. Takes no memory.
+    /// Whether an entry is still to come.
     pub fn valid(&self) -> bool
         ensures { IsTrue result ↔ (0 < length self.now) }
     {
         !self.runs.is_empty()
     }
 
-    /// The internal key of the next entry, which stays in its run. Takes no memory.
+    /// The internal key of the next entry, which stays in its run.
     pub fn key(&self) -> InternalKey<'r>
         requires { 0 < length self.now }
         ensures { option_map (λ e. e.key) (slice_get self.now 0) ≡ Some result.bytes.now }
@@ -67,7 +67,7 @@ impl<'r, 'a> EntryCursor<'r, 'a> {
         self.runs[0].key(self.entry)
     }
 
-    /// The value of the next entry, a slice of an input's bytes. Takes no memory.
+    /// The value of the next entry, a slice of an input's bytes.
     pub fn value(&self) -> &'a [u8]
         requires { 0 < length self.now }
         ensures { option_map (λ e. e.value) (slice_get self.now 0) ≡ Some result.now }
@@ -75,7 +75,7 @@ impl<'r, 'a> EntryCursor<'r, 'a> {
         self.runs[0].value(self.entry)
     }
 
-    /// The next entries that lie in one chunk of a run, at least one. Takes no memory.
+    /// The next entries that lie in one chunk of a run, at least one.
     #[inline(always)]
     pub(crate) fn slice(&self) -> ChunkSlice<'r, 'a>
         requires { 0 < length self.now }
@@ -85,7 +85,7 @@ impl<'r, 'a> EntryCursor<'r, 'a> {
         self.runs[0].slice_from(self.entry)
     }
 
-    /// Takes off the next entry. Takes no memory.
+    /// Takes off the next entry.
     pub fn advance(&mut self)
         requires { 0 < length self.old }
         ensures { self.new ≡ drop 1 self.old }
@@ -101,7 +101,7 @@ impl<'r, 'a> EntryCursor<'r, 'a> {
         }
     }
 
-    /// The place `count` entries further, found run by run. Takes no memory.
+    /// The place `count` entries further, found run by run.
     pub(crate) fn skip(&self, count: u64) -> EntryCursor<'r, 'a>
         requires { count ≤ length self.now }
         ensures { result ≡ drop count self.now }

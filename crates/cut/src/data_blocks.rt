@@ -17,8 +17,6 @@ use table::Trailer;
 /// The bytes of consecutive data blocks, each with its trailer, at a restart interval from 1 to
 /// 1,024. Requires that each block has at most 2^31 bytes. The memory has room for `room` bytes
 /// from the start.
-///
-/// The only fault is Memory.
 pub fn encode_blocks(
     alloc: Global,
     blocks: &[PlannedBlock<'_, '_>],

@@ -28,7 +28,7 @@ impl<'r, 'a> Model for EntryRef<'r, 'a> {
 }
 
 impl<'r, 'a> EntryRef<'r, 'a> {
-    /// The `len` entries from `start` on. Takes no memory.
+    /// The `len` entries from `start` on.
     pub(crate) fn new(start: EntryCursor<'r, 'a>, len: u64) -> EntryRef<'r, 'a>
         requires { len ≤ length start }
         ensures { result
@@ -37,21 +37,21 @@ impl<'r, 'a> EntryRef<'r, 'a> {
         EntryRef { start, len }
     }
 
-    /// The number of entries. Takes no memory.
+    /// The number of entries.
     pub fn len(&self) -> u64
         ensures { result ≡ length self.now.entries }
     {
         self.len
     }
 
-    /// The place of the first entry. Takes no memory.
+    /// The place of the first entry.
     pub fn first(&self) -> EntryCursor<'r, 'a>
         ensures { result ≡ self.now.entries ++ self.now.behind }
     {
         self.start.copy()
     }
 
-    /// The internal key of the last entry; None if there is no entry. Takes no memory.
+    /// The internal key of the last entry; None if there is no entry.
     pub fn last_key(&self) -> Option<InternalKey<'r>>
         ensures { option_map (λ key. key.bytes.now) result
             ≡ option_map (λ e. e.key) (last_or None self.now.entries) }

@@ -36,7 +36,7 @@ impl<'r, 'a> Model for EntrySpan<'r, 'a> {
 }
 
 impl<'r, 'a> EntrySpan<'r, 'a> {
-    /// No entries, before those from `cursor` on. Takes no memory.
+    /// No entries, before those from `cursor` on.
     pub fn at(cursor: EntryCursor<'r, 'a>) -> EntrySpan<'r, 'a>
         ensures { result ≡ record { entries = []; behind = cursor.entry } }
     {
@@ -48,7 +48,7 @@ impl<'r, 'a> EntrySpan<'r, 'a> {
         }
     }
 
-    /// Takes in the next entry, whose key is `key`. Takes no memory.
+    /// Takes in the next entry, whose key is `key`.
     pub fn push(&mut self, key: InternalKey<'r>)
         requires { option_map (λ e. e.key) (slice_get self.old.behind 0) ≡ Some key.bytes.now }
         ensures { self.new ≡ record {
@@ -62,7 +62,6 @@ impl<'r, 'a> EntrySpan<'r, 'a> {
     }
 
     /// Takes in the next `count` entries, at least one. `last` is the key of the last of them.
-    /// Takes no memory.
     pub fn push_all(&mut self, count: u64, last: Option<InternalKey<'r>>)
         requires some { 0 < count }
         requires within { count ≤ length self.old.behind }
@@ -78,14 +77,14 @@ impl<'r, 'a> EntrySpan<'r, 'a> {
         self.last = last;
     }
 
-    /// Whether there are no entries. Takes no memory.
+    /// Whether there are no entries.
     pub fn is_empty(&self) -> bool
         ensures { IsTrue result ↔ (self.now.entries ≡ []) }
     {
         self.len == 0
     }
 
-    /// The internal key of the last entry; None if there is no entry. Takes no memory.
+    /// The internal key of the last entry; None if there is no entry.
     pub fn last_key(&self) -> Option<InternalKey<'r>>
         ensures { option_map (λ key. key.bytes.now) result
             ≡ option_map (λ e. e.key) (last_or None self.now.entries) }
@@ -93,14 +92,14 @@ impl<'r, 'a> EntrySpan<'r, 'a> {
         self.last
     }
 
-    /// The place after the last entry. Takes no memory.
+    /// The place after the last entry.
     pub fn behind(&self) -> EntryCursor<'r, 'a>
         ensures { result ≡ self.now.behind }
     {
         self.behind.copy()
     }
 
-    /// These entries as a part. Requires that there are at most 2^64 - 1. Takes no memory.
+    /// These entries as a part. Requires that there are at most 2^64 - 1.
     pub fn part(&self) -> EntryRef<'r, 'a>
         requires { length self.now.entries ≤ 2 ^ 64 - 1 }
         ensures { result ≡ self.now }

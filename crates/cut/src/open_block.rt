@@ -70,8 +70,7 @@ fn added_len(since: u64, walk: &EntryWalk<'_, '_>) -> u64
 }
 
 impl<'r, 'a> OpenBlock<'r, 'a> {
-    /// No entries, before those from `place` on, at a restart interval from 1 to 1,024. Takes no
-    /// memory.
+    /// No entries, before those from `place` on, at a restart interval from 1 to 1,024.
     pub fn new(interval: u64, place: EntryCursor<'r, 'a>) -> OpenBlock<'r, 'a>
         requires positive { 1 ≤ interval }
         requires limited { interval ≤ MAX_RESTART_INTERVAL }
@@ -86,7 +85,7 @@ impl<'r, 'a> OpenBlock<'r, 'a> {
     }
 
     /// Takes in the next entries until the block reaches the block size, at least one and at most
-    /// `most`, and answers how many. Takes no memory.
+    /// `most`, and answers how many.
     pub fn take_in(&mut self, options: Options, most: u64) -> u64
         requires limits { AreInLimits options }
         requires interval { self.old.interval ≡ options.restart_interval }
@@ -149,7 +148,7 @@ impl<'r, 'a> OpenBlock<'r, 'a> {
         self.slice.behind()
     }
 
-    /// Ends the block and answers it, and begins another one after it. Takes no memory.
+    /// Ends the block and answers it, and begins another one after it.
     pub fn end(&mut self) -> PlannedBlock<'r, 'a>
         ensures entries { result.entries.entries ≡ self.old.entries }
         ensures len { result.len

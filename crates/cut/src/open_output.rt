@@ -84,7 +84,7 @@ impl<'r, 'a> OpenOutput<'r, 'a> {
 
     /// Takes in the next entries, at least one and at most `most`, and answers how many. It stops
     /// when the data block is full, and before an entry before which the output may end. It must
-    /// not end before the first of them. The only fault is Memory.
+    /// not end before the first of them.
     pub fn take_in(&mut self, most: u64) -> Result<u64, Fault>
         requires any { 0 < length self.old.behind }
         requires most { 0 < most }
@@ -135,7 +135,7 @@ impl<'r, 'a> OpenOutput<'r, 'a> {
     }
 
     /// Ends the output and answers its data blocks, none if it has no entry; and begins another one
-    /// after it. The only fault is Memory.
+    /// after it.
     pub fn end(&mut self, alloc: Global) -> Result<Vec<PlannedBlock<'r, 'a>>, Fault>
         ensures blocks { IfOk result (λ blocks. block_lists blocks.items
             ≡ data_blocks self.old.options self.old.entries) }

@@ -81,7 +81,7 @@ impl<'r, 'a> Cutting<'r, 'a> {
         self.latest.has_next()
     }
 
-    /// Ends the open output, if it has an entry. The only fault is Memory.
+    /// Ends the open output, if it has an entry.
     fn end_output(&mut self) -> Result<(), Fault>
         ensures ended { OnOk result (self.new ≡ record {
           options = self.old.options;
@@ -98,8 +98,7 @@ impl<'r, 'a> Cutting<'r, 'a> {
         Ok(())
     }
 
-    /// Takes in the next entries, at least one and at most `most`, and answers how many. The only
-    /// fault is Memory.
+    /// Takes in the next entries, at least one and at most `most`, and answers how many.
     fn step(&mut self, most: u64) -> Result<u64, Fault>
         requires any { 0 < length self.old.behind }
         requires most { 0 < most }
@@ -118,8 +117,7 @@ impl<'r, 'a> Cutting<'r, 'a> {
         self.latest.take_in(most)
     }
 
-    /// Takes in `count` entries, or all if there are fewer, and ends the last output. The only
-    /// fault is Memory.
+    /// Takes in `count` entries, or all if there are fewer, and ends the last output.
     fn take_in(&mut self, count: u128) -> Result<(), Fault>
         ensures ok { OnOk result (self.new ≡ record {
           options = self.old.options;
@@ -137,7 +135,7 @@ impl<'r, 'a> Cutting<'r, 'a> {
         self.end_output()
     }
 
-    /// Takes in all entries, and ends the last output. The only fault is Memory.
+    /// Takes in all entries, and ends the last output.
     fn take_all(&mut self) -> Result<(), Fault>
         ensures ok { OnOk result (self.new ≡ record {
           options = self.old.options;
@@ -153,7 +151,7 @@ impl<'r, 'a> Cutting<'r, 'a> {
         self.end_output()
     }
 
-    /// Takes in all entries, and ends an output at each stop. The only fault is Memory.
+    /// Takes in all entries, and ends an output at each stop.
     fn cut(&mut self, stops: &[u128]) -> Result<(), Fault>
         requires { self.old.latest ≡ [] }
         ensures outputs { OnOk result (self.new.outputs
@@ -181,7 +179,7 @@ impl<'r, 'a> Cutting<'r, 'a> {
     }
 }
 
-/// The data blocks of each output of `runs`, one run after the other. The only fault is Memory.
+/// The data blocks of each output of `runs`, one run after the other.
 pub(crate) fn outputs<'r, 'a>(
     alloc: Global,
     runs: &'r [RangeRun<'a>],

@@ -20,7 +20,7 @@ use std::thread;
 use std::thread::Threads;
 
 /// The lengths of the tables of these data blocks, in order, computed by at most `workers` threads;
-/// 0 is as 1. A length of more than 2^30 bytes is given as 2^30 + 1. The only fault is Memory.
+/// 0 is as 1. A length of more than 2^30 bytes is given as 2^30 + 1.
 pub(crate) fn lengths_of<C: SharedComparator, R: Threads + Sync>(
     rt: &R,
     alloc: Global,

@@ -78,7 +78,7 @@ pub fn plan<'r, 'a, C: SharedComparator, R: Threads + Sync>(
     plan_with(alloc, options, outputs)
 }
 
-/// The plan with these outputs. The only fault is Memory.
+/// The plan with these outputs.
 pub(crate) fn plan_with<'r, 'a, C: Comparator>(
     alloc: Global,
     options: Options,
@@ -102,8 +102,7 @@ pub(crate) fn plan_with<'r, 'a, C: Comparator>(
 }
 
 /// The outputs of these data blocks, numbered from `first_number` on. At most `workers` threads
-/// compute their lengths; 0 is as 1. A length of more than 2^30 bytes is given as 2^30 + 1. The
-/// only fault is Memory.
+/// compute their lengths; 0 is as 1. A length of more than 2^30 bytes is given as 2^30 + 1.
 fn numbered<'r, 'a, C: SharedComparator, R: Threads + Sync>(
     rt: &R,
     alloc: Global,
@@ -161,7 +160,7 @@ fn count_blocks(outputs: &[PlannedOutput<'_, '_>]) -> u64
     count
 }
 
-/// The pieces of outputs, in order. The only fault is Memory.
+/// The pieces of outputs, in order.
 fn divided(alloc: Global, outputs: &[PlannedOutput<'_, '_>]) -> Result<Division, Fault>
     requires { AllByRecursion (λ p. lens_of p.blocks.items ≤ MAX_TABLE_LEN) outputs.now }
     ensures pieces { IfOk result (λ division. division.pieces.items

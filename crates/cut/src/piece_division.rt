@@ -22,8 +22,7 @@ use std::alloc::Global;
 use table::TRAILER_LEN;
 
 /// Appends the pieces of `blocks`, which are the data blocks of the output at place `output`, and
-/// answers how many they are. A piece ends with the block at which its bytes reach `limit`. The
-/// only fault is Memory.
+/// answers how many they are. A piece ends with the block at which its bytes reach `limit`.
 fn push_pieces(
     pieces: &mut Vec<Piece>,
     output: usize,
@@ -65,8 +64,7 @@ pub(crate) struct Division {
     pub counts: Vec<usize>,
 }
 
-/// The pieces of `outputs`. A piece ends with the block at which its bytes reach `limit`. The only
-/// fault is Memory.
+/// The pieces of `outputs`. A piece ends with the block at which its bytes reach `limit`.
 pub(crate) fn pieces_of(
     alloc: Global,
     outputs: &[PlannedOutput<'_, '_>],

@@ -24,7 +24,7 @@ use ikey::Comparator;
 use std::alloc::Global;
 use std::vec::IntoIter;
 
-/// Takes off the first `count` pieces, or all if there are fewer. The only fault is Memory.
+/// Takes off the first `count` pieces, or all if there are fewer.
 fn take_front(
     alloc: Global,
     rest: &mut IntoIter<Vec<u8>>,
@@ -45,7 +45,7 @@ fn take_front(
 }
 
 /// The table of data blocks that are encoded as one piece. The memory has room for `room` bytes
-/// from the start. The only fault is Memory.
+/// from the start.
 pub(crate) fn whole_table<C: Comparator>(
     alloc: Global,
     blocks: &[PlannedBlock<'_, '_>],
@@ -69,8 +69,7 @@ pub(crate) fn whole_table<C: Comparator>(
     assemble_table::<C>(alloc, blocks, interval, pieces)
 }
 
-/// The number and the table of each output. Output i has `counts[i]` of the pieces. The only fault
-/// is Memory.
+/// The number and the table of each output. Output i has `counts[i]` of the pieces.
 pub(crate) fn assemble_all<C: Comparator>(
     alloc: Global,
     outputs: &[PlannedOutput<'_, '_>],

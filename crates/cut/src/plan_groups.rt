@@ -24,7 +24,7 @@ use table::Options;
 
 impl<'r, 'a, C: Comparator> Plan<'r, 'a, C> {
     /// The outputs in order, dealt out to plans of `most` outputs each; the last has those that are
-    /// left. No plan if there are no outputs. The only fault is Memory.
+    /// left. No plan if there are no outputs.
     ///
     /// Each has the pieces of its own outputs: they are cut anew, as if there were no others. The
     /// bytes of a table depend on no pieces.
@@ -37,7 +37,7 @@ impl<'r, 'a, C: Comparator> Plan<'r, 'a, C> {
     }
 }
 
-/// The plans of outputs, dealt out in order to `most` each. The only fault is Memory.
+/// The plans of outputs, dealt out in order to `most` each.
 fn dealt_out<'r, 'a, C: Comparator>(
     alloc: Global,
     options: Options,
@@ -68,7 +68,7 @@ fn dealt_out<'r, 'a, C: Comparator>(
     Ok(groups)
 }
 
-/// Appends the plan with these outputs. The only fault is Memory.
+/// Appends the plan with these outputs.
 fn push_group<'r, 'a, C: Comparator>(
     alloc: Global,
     options: Options,

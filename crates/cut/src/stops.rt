@@ -120,8 +120,7 @@ impl Overlap {
 }
 
 impl Stopping {
-    /// Passes the next mark, which is one of a run that has `passed` kept entries before it. The
-    /// only fault is Memory.
+    /// Passes the next mark, which is one of a run that has `passed` kept entries before it.
     fn pass(
         &mut self,
         mark: Mark,
@@ -152,8 +151,7 @@ impl Stopping {
         Ok(())
     }
 
-    /// Passes the marks of the next run, which has `passed` kept entries before it. The only fault
-    /// is Memory.
+    /// Passes the marks of the next run, which has `passed` kept entries before it.
     fn pass_all(
         &mut self,
         marks: &[Mark],
@@ -178,8 +176,7 @@ impl Stopping {
     }
 }
 
-/// The stops of `runs`, one run after the other: each is the number of kept entries before it. The
-/// only fault is Memory.
+/// The stops of `runs`, one run after the other: each is the number of kept entries before it.
 pub(crate) fn stops(
     alloc: Global,
     runs: &[RangeRun<'_>],

@@ -43,7 +43,7 @@ pub fn assemble_table<C: Comparator>(
     Ok(table)
 }
 
-/// Pieces, one after the other, in the memory of the first. The only fault is Memory.
+/// Pieces, one after the other, in the memory of the first.
 fn joined(alloc: Global, pieces: Vec<Vec<u8>>) -> Result<Vec<u8>, Fault>
     ensures all { IfOk result (λ v. v.items ≡ flat_map (λ p. p.items) pieces.items) }
     ensures memory { IfErr result (λ e. e ≡ fault Memory) }

@@ -16,8 +16,7 @@ use ikey::{Comparator, KeyBuf, internal_separator, internal_successor};
 use std::alloc::Global;
 use table::{BlockHandle, TRAILER_LEN, push_index_entry};
 
-/// The index of data blocks. Requires that their table has at most 2^30 bytes. The only fault is
-/// Memory.
+/// The index of data blocks. Requires that their table has at most 2^30 bytes.
 pub(crate) fn index_block<C: Comparator>(
     alloc: Global,
     blocks: &[PlannedBlock<'_, '_>],
@@ -48,7 +47,7 @@ pub(crate) fn index_block<C: Comparator>(
 }
 
 /// The index key of a data block: the separator of its last key and the next block's first, or for
-/// the last block the successor of its last key. The only fault is Memory.
+/// the last block the successor of its last key.
 fn index_key<C: Comparator>(
     alloc: Global,
     blocks: &[PlannedBlock<'_, '_>],

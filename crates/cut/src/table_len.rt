@@ -41,7 +41,7 @@ pub(crate) fn stored_len(blocks: &[PlannedBlock<'_, '_>]) -> u64
     len
 }
 
-/// The index key of the data block at `place`. The only fault is Memory.
+/// The index key of the data block at `place`.
 fn index_key<C: Comparator>(
     alloc: Global,
     blocks: &[PlannedBlock<'_, '_>],
@@ -63,7 +63,7 @@ fn index_key<C: Comparator>(
     internal_separator::<C>(alloc, last, next.key())
 }
 
-/// The length of the index block of data blocks; 2^64 - 1 if it is more. The only fault is Memory.
+/// The length of the index block of data blocks; 2^64 - 1 if it is more.
 fn index_len<C: Comparator>(alloc: Global, blocks: &[PlannedBlock<'_, '_>]) -> Result<u64, Fault>
     requires any { blocks.now ≢ [] }
     requires some { AllByRecursion (λ b. b.entries.entries ≢ []) blocks.now }
@@ -87,8 +87,7 @@ fn index_len<C: Comparator>(alloc: Global, blocks: &[PlannedBlock<'_, '_>]) -> R
     Ok(len)
 }
 
-/// The length of the table of these data blocks; 2^30 + 1 if it is more than 2^30. The only fault
-/// is Memory.
+/// The length of the table of these data blocks; 2^30 + 1 if it is more than 2^30.
 pub(crate) fn table_len<C: Comparator>(
     alloc: Global,
     blocks: &[PlannedBlock<'_, '_>],

@@ -43,7 +43,6 @@ impl<'r, 'a> Model for EntryWalk<'r, 'a> {
 
 impl<'r, 'a> EntryWalk<'r, 'a> {
     /// The entries from `start` on, at least one; `before` is the key before them, if there is one.
-    /// Takes no memory.
     #[inline(always)]
     pub fn new(start: EntryCursor<'r, 'a>, before: Option<InternalKey<'r>>) -> EntryWalk<'r, 'a>
         requires { 0 < length start }
@@ -61,7 +60,7 @@ impl<'r, 'a> EntryWalk<'r, 'a> {
         }
     }
 
-    /// Whether an entry is still to come. Takes no memory.
+    /// Whether an entry is still to come.
     #[inline(always)]
     pub fn valid(&self) -> bool
         ensures { IsTrue result ↔ (0 < length self.now.rest) }
@@ -69,7 +68,7 @@ impl<'r, 'a> EntryWalk<'r, 'a> {
         self.passed < self.slice.len()
     }
 
-    /// The internal key of the next entry, which stays in its run. Takes no memory.
+    /// The internal key of the next entry, which stays in its run.
     #[inline(always)]
     pub fn key(&self) -> InternalKey<'r>
         requires { 0 < length self.now.rest }
@@ -78,7 +77,7 @@ impl<'r, 'a> EntryWalk<'r, 'a> {
         self.slice.key(self.passed)
     }
 
-    /// The value of the next entry, a slice of an input's bytes. Takes no memory.
+    /// The value of the next entry, a slice of an input's bytes.
     #[inline(always)]
     pub fn value(&self) -> &'a [u8]
         requires { 0 < length self.now.rest }
@@ -89,7 +88,7 @@ impl<'r, 'a> EntryWalk<'r, 'a> {
 
     /// How many bytes of its key the next entry leaves out in a block: those that it shares with
     /// the key before it, if there is one. It is 0 if `since`, the number of entries after the
-    /// last whole interval, is 0, for then a restart points at it. Takes no memory.
+    /// last whole interval, is 0, for then a restart points at it.
     #[inline(always)]
     pub fn left_out(&self, since: u64) -> usize
         requires { 0 < length self.now.rest }
@@ -109,7 +108,7 @@ impl<'r, 'a> EntryWalk<'r, 'a> {
         }
     }
 
-    /// The key before the next entry; None if there is none. Takes no memory.
+    /// The key before the next entry; None if there is none.
     #[inline(always)]
     pub fn before(&self) -> Option<InternalKey<'r>>
         ensures { option_map (λ key. key.bytes.now) result ≡ self.now.before }
@@ -117,7 +116,7 @@ impl<'r, 'a> EntryWalk<'r, 'a> {
         self.before
     }
 
-    /// Passes the next entry. Takes no memory.
+    /// Passes the next entry.
     #[inline(always)]
     pub fn advance(&mut self)
         requires { 0 < length self.old.rest }

@@ -72,21 +72,21 @@ fn range_of<'p, 'r, 'a>(
 }
 
 impl<'r, 'a, C: Comparator> Plan<'r, 'a, C> {
-    /// The number of outputs. Takes no memory.
+    /// The number of outputs.
     pub fn len(&self) -> usize
         ensures { result ≡ length self.now.outputs }
     {
         self.outputs.len()
     }
 
-    /// Whether there are no outputs. Takes no memory.
+    /// Whether there are no outputs.
     pub fn is_empty(&self) -> bool
         ensures { IsTrue result ↔ (self.now.outputs ≡ []) }
     {
         self.outputs.is_empty()
     }
 
-    /// How many pieces are to be encoded, at most 2^40. Takes no memory.
+    /// How many pieces are to be encoded, at most 2^40.
     ///
     /// A piece is consecutive data blocks of one output, each with its trailer. If all outputs
     /// together have fewer than 64 data blocks, each block is a piece. Else a piece ends with the
@@ -98,7 +98,7 @@ impl<'r, 'a, C: Comparator> Plan<'r, 'a, C> {
         self.pieces.len() as u64
     }
 
-    /// The bytes of the piece of number `job`. The only fault is Memory.
+    /// The bytes of the piece of number `job`.
     ///
     /// The memory is asked for once; the first piece of an output has room for the whole table.
     pub fn encode(&self, alloc: Global, job: u64) -> Result<Vec<u8>, Fault>
@@ -120,7 +120,7 @@ impl<'r, 'a, C: Comparator> Plan<'r, 'a, C> {
     }
 
     /// The number and the table of each output. `pieces` are those that [`Plan::encode`] answers,
-    /// in the order of their jobs. The only fault is Memory.
+    /// in the order of their jobs.
     ///
     /// If an output has one piece, none of its bytes is copied.
     pub fn assemble(
@@ -138,7 +138,7 @@ impl<'r, 'a, C: Comparator> Plan<'r, 'a, C> {
         assemble_all::<C>(alloc, &self.outputs, &self.counts, interval, pieces)
     }
 
-    /// The number and the table of the output at `place`. The only fault is Memory.
+    /// The number and the table of the output at `place`.
     ///
     /// The memory of the table is asked for once.
     pub fn table(&self, alloc: Global, place: usize) -> Result<(u64, Vec<u8>), Fault>
@@ -155,7 +155,7 @@ impl<'r, 'a, C: Comparator> Plan<'r, 'a, C> {
         Ok((output.number, bytes))
     }
 
-    /// What is known of the output at `place`. Takes no memory.
+    /// What is known of the output at `place`.
     ///
     /// An output has an entry. Its blocks are the data blocks of its entries under the options of
     /// the plan, and its length, at most 2^30, is that of its table.
@@ -173,7 +173,7 @@ impl<'r, 'a, C: Comparator> Plan<'r, 'a, C> {
     }
 
     /// The entries of a data block of the output at `place`, which stay in their runs. `block`
-    /// counts from 0; None if the output has no such block. Takes no memory.
+    /// counts from 0; None if the output has no such block.
     pub fn block(&self, place: usize, block: usize) -> Option<&EntryRef<'r, 'a>>
         requires { place < length self.now.outputs }
         ensures { IfSome (slice_get self.now.outputs place)
@@ -186,7 +186,6 @@ impl<'r, 'a, C: Comparator> Plan<'r, 'a, C> {
 
     /// Where a data block of the output at `place` ends: how many of the output's entries lie in it
     /// and in the blocks before it. `block` counts from 0; None if the output has no such block.
-    /// Takes no memory.
     pub fn block_end(&self, place: usize, block: usize) -> Option<u64>
         requires { place < length self.now.outputs }
         ensures { IfSome (slice_get self.now.outputs place)

@@ -12,7 +12,7 @@ use ikey::KeyBuf;
 use std::alloc::Global;
 use std::collections::BTreeMap;
 
-/// Copies of `files`. The only fault is Memory.
+/// Copies of `files`.
 pub(crate) fn copied_files(alloc: Global, files: &[NewFile]) -> Result<Vec<NewFile>, Fault>
     ensures ok { IfOk result (λ v. v.items ≡ files.now) }
     ensures memory { IfErr result (λ e. e ≡ fault Memory) }
@@ -24,7 +24,7 @@ pub(crate) fn copied_files(alloc: Global, files: &[NewFile]) -> Result<Vec<NewFi
     Ok(copies)
 }
 
-/// Copies of the pointers of an edit. The only fault is Memory.
+/// Copies of the pointers of an edit.
 pub(crate) fn copied_pointers(
     alloc: Global,
     pointers: &[CompactPointer],
@@ -42,7 +42,7 @@ pub(crate) fn copied_pointers(
     Ok(copies)
 }
 
-/// A copy of the places of files. The only fault is Memory.
+/// A copy of the places of files.
 pub(crate) fn copied_places(places: &BTreeMap<u64, usize>) -> Result<BTreeMap<u64, usize>, Fault>
     ensures ok { IfOk result (λ m. m.entries ≡ places.now.entries) }
     ensures memory { IfErr result (λ e. e ≡ fault Memory) }
@@ -50,7 +50,7 @@ pub(crate) fn copied_places(places: &BTreeMap<u64, usize>) -> Result<BTreeMap<u6
     Ok(places.clone()?)
 }
 
-/// A copy of the pointers of a version, by level. The only fault is Memory.
+/// A copy of the pointers of a version, by level.
 pub(crate) fn copied_by_level(
     alloc: Global,
     pointers: &BTreeMap<u64, KeyBuf>,
@@ -65,7 +65,7 @@ pub(crate) fn copied_by_level(
     Ok(copy)
 }
 
-/// A copy of a name, if there is one. The only fault is Memory.
+/// A copy of a name, if there is one.
 pub(crate) fn copied_name(alloc: Global, name: &Option<String>) -> Result<Option<String>, Fault>
     ensures ok { IfOk result (λ n. option_map string_bytes n ≡ option_map string_bytes name.now) }
     ensures memory { IfErr result (λ e. e ≡ fault Memory) }

@@ -18,7 +18,7 @@ use std::collections::{BTreeMap, BTreeSet};
 /// The files that no deletion names, and then the new ones.
 ///
 /// Apply if a deletion names no file of its level, or if two new files have one number. Apply too
-/// if a file that stays has the number of a new one. Otherwise the only fault is Memory.
+/// if a file that stays has the number of a new one.
 pub(crate) fn files_after(
     files: Files,
     deleted: BTreeSet<DeletedFile>,
@@ -48,8 +48,7 @@ fn take_out_all(files: &mut Files, deleted: &BTreeSet<DeletedFile>) -> Result<()
     Ok(())
 }
 
-/// Puts in the new files. Apply if one has the number of another, old or new. Otherwise the only
-/// fault is Memory.
+/// Puts in the new files. Apply if one has the number of another, old or new.
 fn put_in_all(files: Files, added: Vec<NewFile>) -> Result<Files, Fault>
     ensures { EqualOrMemory (λ v. v) result
         (ok_or (if are_new files added.items then Some (fold with_file files added.items) else None)
@@ -58,7 +57,7 @@ fn put_in_all(files: Files, added: Vec<NewFile>) -> Result<Files, Fault>
     files.with_all(added)?.ok_or(Fault::of(FaultName::Apply))
 }
 
-/// The pointers, with each new one in place of that of its level. The only fault is Memory.
+/// The pointers, with each new one in place of that of its level.
 pub(crate) fn pointers_after(
     pointers: BTreeMap<u64, KeyBuf>,
     new: Vec<CompactPointer>,

@@ -19,7 +19,7 @@ const FEW: usize = 16;
 const SHARE: usize = 4;
 
 /// Puts the places of `files`, which count from `first`, into the map under their numbers. A place
-/// under the same number is replaced. The only fault is Memory.
+/// under the same number is replaced.
 ///
 /// Few files take, each, a time that grows with the logarithm of the map's length. More are merged
 /// with the map in one pass.
@@ -82,7 +82,7 @@ fn insert_together(
     Ok(())
 }
 
-/// The numbers of `files`, each with its place, counted from `first`. The only fault is Memory.
+/// The numbers of `files`, each with its place, counted from `first`.
 fn numbered(alloc: Global, first: usize, files: &[NewFile]) -> Result<Vec<(u64, usize)>, Fault>
     requires { first + length files.now < 2 ^ 64 }
     ensures ok { IfOk result (λ v. v.items ≡ file_places_from first files.now) }

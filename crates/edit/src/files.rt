@@ -51,8 +51,7 @@ impl Files {
         }
     }
 
-    /// These files and new ones; `None` if a new one has the number of another, old or new. The
-    /// only fault is Memory.
+    /// These files and new ones; `None` if a new one has the number of another, old or new.
     ///
     /// Each new file takes a time that grows with the logarithm of the number of files; less if
     /// many come together.
@@ -87,7 +86,7 @@ impl Files {
         }
     }
 
-    /// The files at `level`, by number. The only fault is Memory.
+    /// The files at `level`, by number.
     pub fn at_level(&self, alloc: Global, level: u64) -> Result<Vec<&FileMeta>, Fault>
         ensures files { EqualOrMemory (λ v. map (λ f. f.now) v.items) result
             (Ok (files_at self.now level)) }
@@ -106,7 +105,7 @@ impl Files {
         Ok(found)
     }
 
-    /// A copy of the files. The only fault is Memory.
+    /// A copy of the files.
     pub fn copy(&self, alloc: Global) -> Result<Files, Fault>
         ensures same { IfOk result (λ f. f ≡ self.now) }
         ensures memory { IfErr result (λ e. e ≡ fault Memory) }
@@ -124,7 +123,7 @@ impl Files {
     }
 }
 
-/// `files`, and then `added`. The only fault is Memory.
+/// `files`, and then `added`.
 fn appended(files: Vec<NewFile>, added: Vec<NewFile>) -> Result<Vec<NewFile>, Fault>
     ensures ok { IfOk result (λ v. v.items ≡ files.items ++ added.items) }
     ensures memory { IfErr result (λ e. e ≡ fault Memory) }

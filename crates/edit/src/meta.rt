@@ -27,7 +27,6 @@ pub struct FileMeta {
 }
 
 impl FileMeta {
-    /// A copy. The only fault is Memory.
     pub fn copy(&self, alloc: Global) -> Result<FileMeta, Fault>
         ensures { EqualOrMemory (λ file. file) result (Ok self.now) }
     {
@@ -50,7 +49,6 @@ pub struct NewFile {
 }
 
 impl NewFile {
-    /// A copy. The only fault is Memory.
     pub(crate) fn copy(&self, alloc: Global) -> Result<NewFile, Fault>
         ensures { EqualOrMemory (λ file. file) result (Ok self.now) }
     {

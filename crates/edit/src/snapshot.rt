@@ -15,7 +15,7 @@ use ikey::{Comparator, KeyBuf};
 use std::alloc::Global;
 use std::collections::BTreeMap;
 
-/// All files as new files, by level and in version order. The only fault is Memory.
+/// All files as new files, by level and in version order.
 pub(crate) fn all_added<C: Comparator>(alloc: Global, files: &Files) -> Result<Vec<NewFile>, Fault>
     ensures ok { IfOk result (λ v. v.items ≡ added_from C.cmp files.now 0 LEVELS) }
     ensures memory { IfErr result (λ e. e ≡ fault Memory) }
@@ -27,7 +27,7 @@ pub(crate) fn all_added<C: Comparator>(alloc: Global, files: &Files) -> Result<V
     Ok(added)
 }
 
-/// The compact pointers by level. The only fault is Memory.
+/// The compact pointers by level.
 pub(crate) fn all_pointers(
     alloc: Global,
     pointers: &BTreeMap<u64, KeyBuf>,
@@ -45,7 +45,7 @@ pub(crate) fn all_pointers(
     Ok(all)
 }
 
-/// Appends the files of `level` as new files, in version order. The only fault is Memory.
+/// Appends the files of `level` as new files, in version order.
 fn push_level<C: Comparator>(
     alloc: Global,
     added: &mut Vec<NewFile>,
@@ -62,7 +62,7 @@ fn push_level<C: Comparator>(
     Ok(())
 }
 
-/// Appends copies of `files` as new files of `level`. The only fault is Memory.
+/// Appends copies of `files` as new files of `level`.
 fn push_at_level(
     alloc: Global,
     added: &mut Vec<NewFile>,

@@ -7,11 +7,9 @@ ghost use Rattle.std.specs.Prelude.{◌≡◌};
 pub(crate) enum Tag {
     /// The comparator's name.
     Comparator,
-    /// The log number.
     LogNumber,
     /// The next file's number.
     NextFile,
-    /// The last sequence.
     LastSequence,
     /// A compact pointer.
     Pointer,

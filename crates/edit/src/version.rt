@@ -144,8 +144,7 @@ impl Version {
         self.changed(edit)
     }
 
-    /// The files of `level`, 0 to 6, in version order: by smallest internal key, then number. The
-    /// only fault is Memory.
+    /// The files of `level`, 0 to 6, in version order: by smallest internal key, then number.
     pub fn files<C: Comparator>(&self, alloc: Global, level: u64) -> Result<Vec<&FileMeta>, Fault>
         requires { level ≤ LAST_LEVEL }
         ensures ordered { EqualOrMemory (λ files. map (λ file. file.now) files.items) result
@@ -159,8 +158,6 @@ impl Version {
     /// The edit that makes this version of an empty one, but without its numbers. It has the
     /// comparator's name, the compact pointers by level, and all files as new files, by level and
     /// in version order.
-    ///
-    /// The only fault is Memory.
     pub fn snapshot_edit<C: Comparator>(&self, alloc: Global) -> Result<VersionEdit, Fault>
         ensures edit { IfOk result (λ e. edit_in e ≡ snapshot_of C.name_bytes C.cmp self.now) }
         ensures memory { IfErr result (λ e. e ≡ fault Memory) }
@@ -177,8 +174,7 @@ impl Version {
         Ok(edit)
     }
 
-    /// The version after an edit that names no other comparator. Apply if the edit doesn't fit;
-    /// otherwise the only fault is Memory.
+    /// The version after an edit that names no other comparator. Apply if the edit doesn't fit.
     fn changed(self, edit: VersionEdit) -> Result<Version, Fault>
         requires { HasValidLevels (edit_in edit) }
         ensures after { EqualOrMemory (λ v. v) result
@@ -196,7 +192,7 @@ impl Version {
         })
     }
 
-    /// A copy of the version. The only fault is Memory.
+    /// A copy of the version.
     fn copy(&self, alloc: Global) -> Result<Version, Fault>
         ensures same { IfOk result (λ v. v ≡ self.now) }
         ensures memory { IfErr result (λ e. e ≡ fault Memory) }

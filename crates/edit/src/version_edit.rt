@@ -96,8 +96,7 @@ impl VersionEdit {
     /// 3. deleted files by level and number;
     /// 4. new files in their order.
     ///
-    /// Levels are from 0 to 6, and the comparator's name has fewer than 2^32 bytes. The only fault
-    /// is Memory.
+    /// Levels are from 0 to 6, and the comparator's name has fewer than 2^32 bytes.
     pub fn encode(&self, alloc: Global) -> Result<Vec<u8>, Fault>
         requires levels { HasValidLevels (edit_in self.now) }
         requires name { HasShortName (edit_in self.now) }
@@ -114,7 +113,7 @@ impl VersionEdit {
         Ok(bytes)
     }
 
-    /// Appends the comparator and the numbers that are set. The only fault is Memory.
+    /// Appends the comparator and the numbers that are set.
     fn push_settings(&self, out: &mut Vec<u8>) -> Result<(), Fault>
         requires { HasShortName (edit_in self.now) }
         ensures ok { OnOk result
@@ -130,7 +129,7 @@ impl VersionEdit {
         Ok(())
     }
 
-    /// A copy of the edit. The only fault is Memory.
+    /// A copy of the edit.
     pub(crate) fn copy(&self, alloc: Global) -> Result<VersionEdit, Fault>
         ensures same { IfOk result (λ e. edit_in e ≡ edit_in self.now) }
         ensures memory { IfErr result (λ e. e ≡ fault Memory) }
@@ -174,7 +173,7 @@ impl VersionEdit {
         Ok(edit)
     }
 
-    /// Sets one field. The only fault is Memory.
+    /// Sets one field.
     fn set(&mut self, alloc: Global, field: Field<'_>) -> Result<(), Fault>
         ensures ok { OnOk result
             (edit_in self.new ≡ with_field (edit_in self.old) (field_in field.entry)) }

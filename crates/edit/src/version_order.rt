@@ -12,7 +12,7 @@ use ikey::Comparator;
 use std::alloc::Global;
 use std::cmp::Ordering;
 
-/// The files at `level` in version order. The only fault is Memory.
+/// The files at `level` in version order.
 pub(crate) fn ordered_at<C: Comparator>(
     alloc: Global,
     files: &Files,

@@ -14,7 +14,6 @@ pub(crate) enum EntryOrder {
     Falling {
         /// The file of the last one.
         file: u64,
-        /// Its sequence.
         sequence: u64,
     },
     /// One isn't older than the one before it.

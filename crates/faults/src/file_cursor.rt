@@ -36,7 +36,7 @@ impl<'t, C: Comparator> Model for FileCursor<'t, C> {
 }
 
 impl<'t, C: Comparator + 't> FileCursor<'t, C> {
-    /// The entries of a file's table, without those before `range`. The only fault is Memory.
+    /// The entries of a file's table, without those before `range`.
     pub fn of(
         alloc: Global,
         table: &NumberedTable<'t, C>,
@@ -55,8 +55,7 @@ impl<'t, C: Comparator + 't> FileCursor<'t, C> {
 
 impl<'t, C: Comparator> FileCursor<'t, C> {
     /// Takes off the first entries, as long as they have this user key. `order` says what is known
-    /// of its entries in files before; the answer, what is known after these. The only fault is
-    /// Memory.
+    /// of its entries in files before; the answer, what is known after these.
     pub fn take_user(&mut self, user: &[u8], order: EntryOrder) -> Result<EntryOrder, Fault>
         ensures order { IfOk result (λ after. (rest : List SearchedEntry) → break_of after rest
             ≡ break_of order (searched_in (with_user user.now self.old) ++ rest)) }

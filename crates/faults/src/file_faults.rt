@@ -27,7 +27,7 @@ use reads::{LevelFile, is_below};
 use std::alloc::Global;
 
 /// Tells what is wrong with files of which this was found, one after the other, until the taker
-/// says to stop. `next` is the version's next file. The only fault is Memory.
+/// says to stop. `next` is the version's next file.
 ///
 /// If the files are in version order, each is compared with those that it overlaps and one more.
 pub(crate) fn tell_files<C: Comparator, T: FaultTaker>(
@@ -84,7 +84,7 @@ fn begins_first<C: Comparator>(file: &FileMeta, other: &FileMeta) -> bool
 }
 
 /// What is wrong with a file of which this was found, if these come after it. `is_ordered` says
-/// whether these are in order. The only fault is Memory.
+/// whether these are in order.
 fn file_faults<C: Comparator>(
     alloc: Global,
     next: Option<u64>,
@@ -108,7 +108,7 @@ fn file_faults<C: Comparator>(
     Ok(faults)
 }
 
-/// Appends what is wrong with a file's table. The only fault is Memory.
+/// Appends what is wrong with a file's table.
 fn push_finding(
     faults: &mut Vec<FileFault>,
     file: &FileMeta,
@@ -137,7 +137,7 @@ fn push_finding(
     }
 }
 
-/// Appends a fault, unless a test holds. The only fault is Memory.
+/// Appends a fault, unless a test holds.
 fn push_unless(faults: &mut Vec<FileFault>, holds: bool, wrong: FileFault) -> Result<(), Fault>
     ensures ok { OnOk result (faults.new.items ≡ faults.old.items ++ unless holds wrong) }
     ensures memory { IsOkUnless result (fault Memory) }
@@ -149,8 +149,7 @@ fn push_unless(faults: &mut Vec<FileFault>, holds: bool, wrong: FileFault) -> Re
 }
 
 /// Appends that a file overlaps some of those that come after it. `is_ordered` says whether these
-/// are in order: then those after one that it lies before aren't looked at. The only fault is
-/// Memory.
+/// are in order: then those after one that it lies before aren't looked at.
 fn push_overlaps<C: Comparator>(
     faults: &mut Vec<FileFault>,
     file: LevelFile<'_>,

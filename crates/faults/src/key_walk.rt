@@ -26,7 +26,7 @@ use table::Cursor;
 /// The user keys of `range` whose entries in these files are not in their order, in the order of
 /// the keys. The files are given in the order of search.
 ///
-/// It takes the memory of these keys and of one more. The only fault is Memory.
+/// It takes the memory of these keys and of one more.
 pub(crate) fn key_faults<'c, C: Comparator>(
     alloc: Global,
     files: Vec<FileCursor<'c, C>>,
@@ -49,7 +49,7 @@ pub(crate) fn key_faults<'c, C: Comparator>(
 }
 
 /// Makes `user` the least user key that the files have still, if it is before `upper`. Whether
-/// there is such a key. The only fault is Memory.
+/// there is such a key.
 fn next_user<'c, C: Comparator, S: Cursor<'c, C>>(
     files: &[S],
     upper: Option<&[u8]>,
@@ -78,7 +78,7 @@ fn next_user<'c, C: Comparator, S: Cursor<'c, C>>(
 }
 
 /// Takes off all entries of a user key that is the least of all files. What is known of their order
-/// is the answer. The only fault is Memory.
+/// is the answer.
 fn take_user<C: Comparator>(
     files: &mut [FileCursor<'_, C>],
     user: &[u8],
@@ -95,8 +95,7 @@ fn take_user<C: Comparator>(
     Ok(order)
 }
 
-/// Appends a user key, if its entries are not in their order and it isn't before `lower`. The only
-/// fault is Memory.
+/// Appends a user key, if its entries are not in their order and it isn't before `lower`.
 fn push_fault<C: Comparator>(
     alloc: Global,
     faults: &mut Vec<KeyFault>,

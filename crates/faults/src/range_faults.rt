@@ -116,7 +116,7 @@ fn range_faults<C: SharedComparator + 'static, F: ReadsTables, G: Gate + Sync, R
 }
 
 /// The user keys of a range whose entries in the held tables are not in their order. The tables are
-/// in the order of search. The only fault is Memory.
+/// in the order of search.
 fn held_faults<C: Comparator + 'static>(
     alloc: Global,
     held: &HeldTables<C>,
@@ -132,7 +132,7 @@ fn held_faults<C: Comparator + 'static>(
     key_faults(alloc, cursors, range)
 }
 
-/// The entries of each table, without those before the range. The only fault is Memory.
+/// The entries of each table, without those before the range.
 fn file_cursors<'t, C: Comparator + 't>(
     alloc: Global,
     tables: &[NumberedTable<'t, C>],

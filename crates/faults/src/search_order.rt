@@ -17,7 +17,7 @@ use std::alloc::Global;
 use std::cmp::Ordering;
 
 /// Of files by level and in version order those whose tables can be read and are what the version
-/// states: those of level 0 by falling number, then the others. The only fault is Memory.
+/// states: those of level 0 by falling number, then the others.
 pub(crate) fn searched_files<'v>(
     alloc: Global,
     tested: &[TestedFile<'v>],
@@ -34,7 +34,7 @@ pub(crate) fn searched_files<'v>(
     Ok(files)
 }
 
-/// The sound files of level 0, in order. The only fault is Memory.
+/// The sound files of level 0, in order.
 fn top_files<'v>(alloc: Global, tested: &[TestedFile<'v>]) -> Result<Vec<&'v FileMeta>, Fault>
     ensures files { IfOk result (λ v. map (λ f. f.now) v.items
         ≡ metas_found is_top_found (map found_in tested.now)) }
@@ -49,7 +49,7 @@ fn top_files<'v>(alloc: Global, tested: &[TestedFile<'v>]) -> Result<Vec<&'v Fil
     Ok(files)
 }
 
-/// The sound files of the other levels, in order. The only fault is Memory.
+/// The sound files of the other levels, in order.
 fn deep_files<'v>(alloc: Global, tested: &[TestedFile<'v>]) -> Result<Vec<&'v FileMeta>, Fault>
     ensures files { IfOk result (λ v. map (λ f. f.now) v.items
         ≡ metas_found is_deep_found (map found_in tested.now)) }

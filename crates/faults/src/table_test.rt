@@ -107,7 +107,7 @@ fn table_file_bytes<F: Folder>(
     }
 }
 
-/// What the test of the bytes of a file's table finds. The only fault is Memory.
+/// What the test of the bytes of a file's table finds.
 fn finding_in<C: Comparator>(
     alloc: Global,
     file: &FileMeta,
@@ -125,7 +125,7 @@ fn finding_in<C: Comparator>(
     }
 }
 
-/// What is found of a file's table that can be read. Takes no memory.
+/// What is found of a file's table that can be read.
 fn readable<C: Comparator>(file: &FileMeta, table: &SoundTable<'_, C>) -> TableFinding
     ensures { result ≡ finding_of file.now (Ok table.now) }
 {

@@ -5,7 +5,6 @@ use std::fmt::{self, Display, Formatter, Write};
 use std::io;
 use std::io::ErrorKind;
 
-/// A call of a folder.
 #[derive(Clone, Copy, PartialEq, Eq)]
 pub enum FolderCall {
     Read,

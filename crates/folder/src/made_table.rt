@@ -31,7 +31,7 @@ pub struct MadeTable {
 }
 
 impl MadeTable {
-    /// The table of a `number` that is to be made a file of a folder. The only fault is Memory.
+    /// The table of a `number` that is to be made a file of a folder.
     fn of_number(alloc: Global, folder: &str, number: u64) -> Result<MadeTable, Fault>
         ensures { IfErr result (λ e. e ≡ fault Memory) }
     {
@@ -114,8 +114,7 @@ impl<'r, R: MakesFiles> TableMaker for DiskMaker<'r, R> {
     }
 }
 
-/// The files that these tables are to be in a folder, each under the name of its number. The only
-/// fault is Memory.
+/// The files that these tables are to be in a folder, each under the name of its number.
 pub(crate) fn files_of(
     alloc: Global,
     folder: &str,

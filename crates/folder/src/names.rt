@@ -15,22 +15,21 @@ pub const CURRENT: &str = "CURRENT";
 /// What the name of each manifest begins with.
 const MANIFEST: &[u8] = b"MANIFEST-";
 
-/// The name of the manifest of this `number`: `MANIFEST-` and its decimal digits, at least six. The
-/// only fault is Memory.
+/// The name of the manifest of this `number`: `MANIFEST-` and its decimal digits, at least six.
 pub fn manifest_name(alloc: Global, number: u64) -> Result<String, Fault>
     ensures { EqualOrMemory string_bytes result (Ok (manifest_name number)) }
 {
     Ok(format!(in alloc; "MANIFEST-{number:06}")?)
 }
 
-/// The name of the table of this `number`: `%06d.ldb`. The only fault is Memory.
+/// The name of the table of this `number`: `%06d.ldb`.
 pub fn table_name(alloc: Global, number: u64) -> Result<String, Fault>
     ensures { EqualOrMemory string_bytes result (Ok (table_name number)) }
 {
     Ok(format!(in alloc; "{number:06}.ldb")?)
 }
 
-/// The older name of the table of this `number`: `%06d.sst`. The only fault is Memory.
+/// The older name of the table of this `number`: `%06d.sst`.
 pub fn old_table_name(alloc: Global, number: u64) -> Result<String, Fault>
     ensures { EqualOrMemory string_bytes result (Ok (old_table_name number)) }
 {
@@ -38,15 +37,14 @@ pub fn old_table_name(alloc: Global, number: u64) -> Result<String, Fault>
 }
 
 /// The name under which CURRENT's text is written first: `%06d.dbtmp`, with the `number` of the
-/// manifest that it names. The only fault is Memory.
+/// manifest that it names.
 pub fn temporary_name(alloc: Global, number: u64) -> Result<String, Fault>
     ensures { EqualOrMemory string_bytes result (Ok (temporary_name number)) }
 {
     Ok(format!(in alloc; "{number:06}.dbtmp")?)
 }
 
-/// The text of CURRENT that names the manifest of this `number`: its name and a newline. The only
-/// fault is Memory.
+/// The text of CURRENT that names the manifest of this `number`: its name and a newline.
 pub fn current_text(alloc: Global, number: u64) -> Result<String, Fault>
     ensures { EqualOrMemory string_bytes result (Ok (current_text number)) }
 {

@@ -427,7 +427,7 @@ impl<'a> Shelf<'a> {
     }
 }
 
-/// The `len` bytes from `offset` on, or as many as there are. Takes no memory.
+/// The `len` bytes from `offset` on, or as many as there are.
 pub fn part_of(bytes: &[u8], offset: u64, len: usize) -> &[u8]
     ensures { result.now ≡ part_of offset len bytes.now }
 {

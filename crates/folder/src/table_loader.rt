@@ -118,8 +118,7 @@ fn table<F: Folder>(alloc: Global, folder: &mut F, number: u64) -> Result<Vec<u8
     }
 }
 
-/// The numbers of a version's files: by level, and in each level in version order. The only fault
-/// is Memory.
+/// The numbers of a version's files: by level, and in each level in version order.
 pub fn file_numbers<C: Comparator>(alloc: Global, version: &Version) -> Result<Vec<u64>, Fault>
     ensures { EqualOrMemory (λ v. v.items) result (Ok (file_numbers C.cmp version.now)) }
 {

@@ -26,7 +26,7 @@ pub trait TableSource: Send + Sync {
         requires { place < length (tables self.now) }
         ensures { option_map (λ t. t.0) (slice_get (tables self.now) place) ≡ Some result };
 
-    /// Makes the table at `place`, and answers it with its number. The only fault is Memory.
+    /// Makes the table at `place`, and answers it with its number.
     fn table(&self, alloc: Global, place: usize) -> Result<(u64, Vec<u8>), Fault>
         requires { place < length (tables self.now) }
         ensures ok { IfOk result (λ t.

@@ -18,7 +18,7 @@ pub trait TableMaker: Send + Sync {
     ghost is_of: { Self.Made → ℕ × List ℕ → Type 0 };
 
     /// Makes a table a file under the name of its `number`. A failure of the device is kept in what
-    /// is answered. The only fault is Memory.
+    /// is answered.
     fn make(&self, number: u64, bytes: Vec<u8>) -> Result<Self::Made, Fault>
         ensures ok { IfOk result (λ made. is_of made (number, bytes.items)) }
         ensures memory { IfErr result (λ e. e ≡ fault Memory) };

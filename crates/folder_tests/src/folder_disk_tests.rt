@@ -14,7 +14,6 @@ pub(crate) fn new_path(rt: &HostRuntime, name: &str) -> io::Result<String> {
     Ok(format!(in rt.alloc(); "{base}/sedvokt-{id}-{name}")?)
 }
 
-/// Makes a folder.
 pub(crate) fn make_folder(rt: &(impl Files + Abort), path: &str) {
     fs::create_dir(rt, path).expect(rt, "a new folder");
 }

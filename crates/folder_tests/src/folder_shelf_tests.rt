@@ -23,7 +23,6 @@ fn is_named(alloc: Global, text: &str, wanted: Option<u64>) -> bool {
     }
 }
 
-/// Whether a name is this.
 fn is_name(name: Result<String, Fault>, wanted: &str) -> bool {
     match name {
         Ok(name) => name.as_str() == wanted,

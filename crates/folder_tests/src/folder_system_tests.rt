@@ -17,7 +17,6 @@ pub(crate) fn path_of(rt: &impl Abort, alloc: Global, folder: &str, name: &str) 
     format!(in alloc; "{folder}/{name}").expect(rt, "memory")
 }
 
-/// Removes a file.
 fn remove_file(rt: &(impl Files + Abort), path: &str) {
     fs::remove_file(rt, path).expect(rt, "a file that is removed");
 }

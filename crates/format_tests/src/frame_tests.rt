@@ -8,7 +8,6 @@ const EMPTY_BLOCK: &[u8] = b"\0\0\0\0\x01\0\0\0";
 /// That block as it is stored, with its trailer.
 const STORED: &[u8; 13] = b"\0\0\0\0\x01\0\0\0\0\xc0\xf2\xa1\xb0";
 
-/// Its trailer.
 const TRAILER: &[u8; TRAILER_LEN] = b"\0\xc0\xf2\xa1\xb0";
 
 /// The footer of the table of one entry.

@@ -69,7 +69,6 @@ struct Row {
     user: &'static [u8],
     sequence: u8,
     kind: Kind,
-    /// Its bytes.
     bytes: &'static [u8],
     /// A greater key.
     greater: &'static [u8],

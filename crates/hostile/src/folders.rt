@@ -30,7 +30,6 @@ fn is_shown<R: AllocGlobal>(rt: &R, shelf: &mut Shelf<'_>) -> Result<bool, Fault
     Ok(lines.as_slice() == SHOWN)
 }
 
-/// Whether it is lawful.
 fn is_lawful<R: AllocGlobal + Threads + Sync>(
     rt: &R,
     shelf: &mut Shelf<'_>,

@@ -8,7 +8,6 @@ use std::alloc::{AllocError, Global};
 /// What is refused from an order on. It ends the order before.
 #[derive(Drop)]
 pub enum Order {
-    /// Nothing.
     Nothing,
     /// The request for memory of this number, the first one being 1.
     Request(u64),

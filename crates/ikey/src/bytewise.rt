@@ -174,7 +174,7 @@ fn raisable_place(key: &[u8]) -> usize
     key.len()
 }
 
-/// `key` up to `place`, with the byte there raised by one. The only fault is Memory.
+/// `key` up to `place`, with the byte there raised by one.
 fn raised(alloc: Global, key: &[u8], place: usize) -> Result<Vec<u8>, Fault>
     requires inside { place < length key.now }
     requires fits { slice_index key.now place < 255 }

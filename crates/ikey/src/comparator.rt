@@ -35,15 +35,11 @@ pub trait Comparator {
         ensures { result ≡ head_of key.now };
 
     /// A key at or above `start`; it is below `limit` if `start` is.
-    ///
-    /// The only fault is Memory.
     fn separator(alloc: Global, start: &[u8], limit: &[u8]) -> Result<Vec<u8>, Fault>
         ensures { EqualOrMemory (λ v. v.items) result
             (Ok (short_keys.separator start.now limit.now)) };
 
     /// A key at or above `key`.
-    ///
-    /// The only fault is Memory.
     fn successor(alloc: Global, key: &[u8]) -> Result<Vec<u8>, Fault>
         ensures { EqualOrMemory (λ v. v.items) result (Ok (short_keys.successor key.now)) };
 

@@ -31,8 +31,6 @@ impl Model for KeyBuf {
 
 impl KeyBuf {
     /// A copy of `key`.
-    ///
-    /// The only fault is Memory.
     pub fn of(alloc: Global, key: InternalKey) -> Result<KeyBuf, Fault>
         ensures { EqualOrMemory (λ own. own) result (Ok key.entry.bytes.now) }
     {
@@ -41,8 +39,6 @@ impl KeyBuf {
     }
 
     /// The internal key of `user`, at most 65,535 bytes, a `sequence` below 2^56 and a type.
-    ///
-    /// The only fault is Memory.
     pub fn new(alloc: Global, user: &[u8], sequence: u64, kind: Kind) -> Result<KeyBuf, Fault>
         requires user_fits { length user.now ≤ 65535 }
         requires sequence_fits { sequence < 2 ^ 56 }
@@ -56,8 +52,6 @@ impl KeyBuf {
     }
 
     /// Replaces this key by a copy of `key`, in the same memory if that is enough.
-    ///
-    /// The only fault is Memory, which leaves this key unchanged.
     pub fn set(&mut self, key: InternalKey) -> Result<(), Fault>
         ensures ok { OnOk result (self.new ≡ key.entry.bytes.now) }
         ensures err { OnErr result (self.new ≡ self.old) }

@@ -24,8 +24,6 @@ use std::alloc::Global;
 /// 2. Else take the comparator's separator of the user keys. If that is shorter than the user key
 ///    of `a` and greater, the result is it with sequence 2^56 - 1 and type 1.
 /// 3. Else it is `a`.
-///
-/// The only fault is Memory.
 #[tactic(auto, unfolding(crate::specs::ShortenedKeys::internal_separator_of))]
 pub fn internal_separator<C: Comparator>(
     alloc: Global,
@@ -50,8 +48,6 @@ pub fn internal_separator<C: Comparator>(
 /// 1. Take the comparator's successor of the user key. If that is shorter than the user key and
 ///    greater, the result is it with sequence 2^56 - 1 and type 1.
 /// 2. Else it is `key`.
-///
-/// The only fault is Memory.
 #[tactic(auto, unfolding(crate::specs::ShortenedKeys::internal_successor_of))]
 pub fn internal_successor<C: Comparator>(alloc: Global, key: InternalKey) -> Result<KeyBuf, Fault>
     ensures successor { EqualOrMemory (λ own. own) result
@@ -63,7 +59,7 @@ pub fn internal_successor<C: Comparator>(alloc: Global, key: InternalKey) -> Res
 }
 
 /// `short` with sequence 2^56 - 1 and type 1, if `short` is shorter than the key's user key and
-/// greater; else `key`. The only fault is Memory.
+/// greater; else `key`.
 #[tactic(auto, unfolding(crate::specs::ShortenedKeys::shortened_key))]
 fn shorten<C: Comparator>(alloc: Global, key: InternalKey, short: &[u8]) -> Result<KeyBuf, Fault>
     ensures { EqualOrMemory (λ own. own) result

@@ -36,7 +36,7 @@ pub(crate) const KINDS: &[FileKind] = &[
 
 impl FileKind {
     /// The number of the file of this kind that has this `name`, exactly as it is written. None if
-    /// it is no name of this kind. The only fault is Memory.
+    /// it is no name of this kind.
     pub(crate) fn number(self, alloc: Global, name: &str) -> Result<Option<u64>, Fault>
         ensures number { IfOk result (λ number. IsNumberIn self name.now number) }
         ensures memory { IfErr result (λ e. e ≡ fault Memory) }
@@ -52,7 +52,7 @@ impl FileKind {
         }
     }
 
-    /// The name of the file of this `number`. The only fault is Memory.
+    /// The name of the file of this `number`.
     fn name(self, alloc: Global, number: u64) -> Result<String, Fault>
         ensures { EqualOrMemory string_bytes result (Ok (name_of self number)) }
     {

@@ -14,7 +14,7 @@ use ikey::Comparator;
 use std::alloc::Global;
 
 /// The manifest of the edited version. Its log has two records: the snapshot of `version`, and the
-/// bytes of `edit`. The only fault is Memory.
+/// bytes of `edit`.
 ///
 /// The comparator's name has fewer than 2^32 bytes.
 pub fn manifest_bytes<C: Comparator>(

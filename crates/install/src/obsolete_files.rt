@@ -41,7 +41,7 @@ use std::collections::BTreeSet;
 /// Whether the version that a folder was `opened` as doesn't need the file of this `name`, as the
 /// head of this crate says. The name may be any text.
 ///
-/// It goes through the numbers of all files of the version. The only fault is Memory.
+/// It goes through the numbers of all files of the version.
 pub fn is_obsolete_file(alloc: Global, opened: &Opened, name: &str) -> Result<bool, Fault>
     ensures exact { IfOk result (λ b. IsTrue b ↔ IsObsoleteFile (order_cmp opened.now.order)
         opened.now.version opened.now.manifest name.now) }
@@ -51,8 +51,7 @@ pub fn is_obsolete_file(alloc: Global, opened: &Opened, name: &str) -> Result<bo
     test_name(alloc, opened, opened.manifest, &numbers, name)
 }
 
-/// Those of these `names` that [`is_obsolete_file`] tells, in their order. The only fault is
-/// Memory.
+/// Those of these `names` that [`is_obsolete_file`] tells, in their order.
 pub fn obsolete_names<'a>(
     alloc: Global,
     opened: &Opened,
@@ -80,7 +79,7 @@ pub fn obsolete_names<'a>(
 }
 
 /// Whether the version doesn't need the file of this `name`, if its files have these `numbers` and
-/// CURRENT names the manifest of the number `manifest`. The only fault is Memory.
+/// CURRENT names the manifest of the number `manifest`.
 fn test_name(
     alloc: Global,
     opened: &Opened,
@@ -134,7 +133,7 @@ fn is_old(opened: &Opened, numbers: &BTreeSet<u64>, number: u64) -> bool
     }
 }
 
-/// The numbers of the version's files. The only fault is Memory.
+/// The numbers of the version's files.
 fn numbers_of(alloc: Global, opened: &Opened) -> Result<Vec<u64>, Fault>
     ensures { EqualOrMemory (λ v. v.items) result
         (Ok (file_numbers (order_cmp opened.now.order) opened.now.version)) }
@@ -145,7 +144,7 @@ fn numbers_of(alloc: Global, opened: &Opened) -> Result<Vec<u64>, Fault>
     }
 }
 
-/// These `numbers` as a set. The only fault is Memory.
+/// These `numbers` as a set.
 fn number_set(alloc: Global, numbers: &[u64]) -> Result<BTreeSet<u64>, Fault>
     ensures set { IfOk result (λ set. IsNumberSet set numbers.now) }
     ensures memory { IfErr result (λ e. e ≡ fault Memory) }

@@ -36,8 +36,7 @@ impl<'k, 'a> Model for ChunkSlice<'k, 'a> {
 }
 
 impl<'k, 'a> ChunkSlice<'k, 'a> {
-    /// The entries of a chunk from `place` on; `keys` and `kept` are those of the chunk. Takes no
-    /// memory.
+    /// The entries of a chunk from `place` on; `keys` and `kept` are those of the chunk.
     pub(crate) fn of(keys: &'k [u8], kept: &'k [KeptEntry<'a>], place: usize) -> ChunkSlice<'k, 'a>
         requires place { place < length kept.now }
         requires keys { AreKeys 0 keys.now kept.now }
@@ -52,7 +51,7 @@ impl<'k, 'a> ChunkSlice<'k, 'a> {
         }
     }
 
-    /// The number of entries. Takes no memory.
+    /// The number of entries.
     #[inline(always)]
     pub fn len(&self) -> usize
         ensures { result ≡ length self.now }
@@ -60,7 +59,7 @@ impl<'k, 'a> ChunkSlice<'k, 'a> {
         self.kept.len()
     }
 
-    /// The internal key of the entry at `place`. Takes no memory.
+    /// The internal key of the entry at `place`.
     #[inline(always)]
     pub fn key(&self, place: usize) -> InternalKey<'k>
         requires { place < length self.now }
@@ -73,7 +72,7 @@ impl<'k, 'a> ChunkSlice<'k, 'a> {
     }
 
     /// How many bytes the key of the entry at `place` shares with that of the entry before it. That
-    /// entry has to be in the slice. Takes no memory.
+    /// entry has to be in the slice.
     #[inline(always)]
     pub fn shared(&self, place: usize) -> usize
         requires before { 0 < place }
@@ -83,7 +82,7 @@ impl<'k, 'a> ChunkSlice<'k, 'a> {
         entry_of(self.kept, place).shared as usize
     }
 
-    /// The value of the entry at `place`, a slice of an input's bytes. Takes no memory.
+    /// The value of the entry at `place`, a slice of an input's bytes.
     #[inline(always)]
     pub fn value(&self, place: usize) -> &'a [u8]
         requires { place < length self.now }

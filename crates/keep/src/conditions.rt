@@ -8,7 +8,7 @@ ghost use Rattle.keep.specs.RisesBy.{rises_by};
 use edit::FileMeta;
 use ikey::Comparator;
 
-/// Whether the sequences of `listed` rise strictly. Takes no memory.
+/// Whether the sequences of `listed` rise strictly.
 pub fn is_rising(listed: &[u64]) -> bool
     ensures test { result ≡ rises_by nat_lt listed.now }
     ensures rising { IsTrue result ↔ IsStrictlyIncreasing listed.now }
@@ -16,7 +16,7 @@ pub fn is_rising(listed: &[u64]) -> bool
     listed.is_sorted_by(|sequence, next| sequence < next)
 }
 
-/// Whether the largest keys of `grandparents` rise strictly. Takes no memory.
+/// Whether the largest keys of `grandparents` rise strictly.
 pub fn largest_rise<C: Comparator>(grandparents: &[FileMeta]) -> bool
     ensures { result ≡ largest_rise C.cmp grandparents.now }
 {

@@ -52,7 +52,6 @@ impl<'a> EntryChunk<'a> {
     }
 
     /// An empty chunk with room for as many entries as this one has, and for as many bytes of keys.
-    /// The only fault is Memory.
     pub fn emptied(&self, alloc: Global) -> Result<EntryChunk<'a>, Fault>
         ensures { EqualOrMemory (λ entries. entries) result (Ok []) }
     {
@@ -63,7 +62,7 @@ impl<'a> EntryChunk<'a> {
     }
 
     /// Appends an entry whose key shares `shared` bytes with the last one. Requires that there are
-    /// fewer than 4,096. The only fault is Memory, which leaves the chunk unchanged.
+    /// fewer than 4,096.
     pub fn push(
         &mut self,
         key: InternalKey<'_>,
@@ -91,14 +90,14 @@ impl<'a> EntryChunk<'a> {
         Ok(())
     }
 
-    /// The number of entries. Takes no memory.
+    /// The number of entries.
     pub fn len(&self) -> usize
         ensures { result ≡ length self.now }
     {
         self.kept.len()
     }
 
-    /// The entries from `place` on. Takes no memory.
+    /// The entries from `place` on.
     #[inline(always)]
     pub fn slice_from(&self, place: usize) -> ChunkSlice<'_, 'a>
         requires { place < length self.now }

@@ -102,8 +102,7 @@ impl<'a> EntryChunks<'a> {
         }
     }
 
-    /// Appends an entry whose key shares `shared` bytes with the last one. The only fault is
-    /// Memory, which leaves the list unchanged.
+    /// Appends an entry whose key shares `shared` bytes with the last one.
     pub fn push(
         &mut self,
         key: InternalKey<'_>,
@@ -125,7 +124,7 @@ impl<'a> EntryChunks<'a> {
         Ok(())
     }
 
-    /// The number of entries. Their keys are internal keys. Takes no memory.
+    /// The number of entries. Their keys are internal keys.
     pub fn len(&self) -> usize
         ensures number { result ≡ length self.now }
         ensures keys { AllByRecursion (λ e. IsInternalKey e.key) self.now }
@@ -133,7 +132,7 @@ impl<'a> EntryChunks<'a> {
         self.tally.len()
     }
 
-    /// The entries from `place` on that lie in one chunk, at least one. Takes no memory.
+    /// The entries from `place` on that lie in one chunk, at least one.
     #[inline(always)]
     pub fn slice_from(&self, place: usize) -> ChunkSlice<'_, 'a>
         requires { place < length self.now }

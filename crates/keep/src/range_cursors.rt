@@ -19,8 +19,7 @@ use table::{SoundTable, TableCursor};
 /// A cursor over each table that reaches into `range`, without the entries before the range.
 /// Together they have the entries of the tables in the range, in their order.
 ///
-/// The only fault is Memory. That no cursor is made over a table that misses the range, no contract
-/// says.
+/// That no cursor is made over a table that misses the range, no contract says.
 pub fn cursors_from<'t, C: Comparator + 't>(
     alloc: Global,
     tables: &[&SoundTable<'t, C>],
@@ -42,8 +41,7 @@ pub fn cursors_from<'t, C: Comparator + 't>(
 /// Appends a cursor over `table`, without the entries before `range`, if the table reaches into the
 /// range.
 ///
-/// The only fault is Memory, which leaves `cursors` unchanged. That no cursor is made over a table
-/// that misses the range, no contract says.
+/// That no cursor is made over a table that misses the range, no contract says.
 pub fn add_cursor<'t, C: Comparator + 't>(
     alloc: Global,
     cursors: &mut Vec<TableCursor<'t, C>>,
@@ -66,7 +64,7 @@ pub fn add_cursor<'t, C: Comparator + 't>(
 }
 
 /// Whether the table ends before the range or begins after it, so that the range has none of its
-/// entries. Takes no memory.
+/// entries.
 fn misses<C: Comparator>(table: &SoundTable<'_, C>, range: Range<'_>) -> bool
     ensures { result ≡ true → entries_in C.cmp (key_range range.entry) table.now.entries ≡ [] }
 {
@@ -79,7 +77,7 @@ fn misses<C: Comparator>(table: &SoundTable<'_, C>, range: Range<'_>) -> bool
     !begins
 }
 
-/// A cursor over `table`, without the entries before `range`. The only fault is Memory.
+/// A cursor over `table`, without the entries before `range`.
 pub fn cursor_from<'t, C: Comparator + 't>(
     alloc: Global,
     table: &SoundTable<'t, C>,
@@ -94,8 +92,7 @@ pub fn cursor_from<'t, C: Comparator + 't>(
     Ok(cursor)
 }
 
-/// Takes the entries before `range` off a cursor over the table of `bytes`. The only fault is
-/// Memory.
+/// Takes the entries before `range` off a cursor over the table of `bytes`.
 fn seek_table<'t, C: Comparator + 't>(
     alloc: Global,
     bytes: &[u8],

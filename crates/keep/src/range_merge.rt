@@ -140,7 +140,7 @@ fn walk_range<'a, C: Comparator, S: Cursor<'a, C> + Drop>(
 }
 
 /// Whether there is an entry to come whose user key is before `bound`. If there is no bound,
-/// `otherwise` says whether the first entry counts as before it. Takes no memory.
+/// `otherwise` says whether the first entry counts as before it.
 #[inline(always)]
 pub fn starts_before<'a, C: Comparator, M: Cursor<'a, C>>(
     merging: &M,

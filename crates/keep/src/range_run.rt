@@ -48,8 +48,7 @@ impl<'a> RangeRun<'a> {
         }
     }
 
-    /// Appends a kept entry whose key shares `shared` bytes with the last one. The only fault is
-    /// Memory, which leaves the run unchanged.
+    /// Appends a kept entry whose key shares `shared` bytes with the last one.
     pub(crate) fn push(
         &mut self,
         key: InternalKey<'_>,
@@ -69,7 +68,7 @@ impl<'a> RangeRun<'a> {
         self.kept.push(key, value, shared)
     }
 
-    /// The bytes of the last kept key, an internal key; none if there is no entry. Takes no memory.
+    /// The bytes of the last kept key, an internal key; none if there is no entry.
     pub(crate) fn last_key(&self) -> &[u8]
         ensures value { result.now ≡ last_key [] self.now.kept }
         ensures tagged { 0 < length self.now.kept → TAG_LEN ≤ length result.now }
@@ -81,8 +80,7 @@ impl<'a> RangeRun<'a> {
         self.kept.slice_from(len - 1).key(0).bytes()
     }
 
-    /// Appends a mark, with `below` grandparents, before the next kept entry. The only fault is
-    /// Memory, which leaves the run unchanged.
+    /// Appends a mark, with `below` grandparents, before the next kept entry.
     pub(crate) fn push_mark(&mut self, below: usize) -> Result<(), Fault>
         ensures ok { OnOk result (self.new ≡ record {
           kept = self.old.kept;
@@ -96,7 +94,7 @@ impl<'a> RangeRun<'a> {
         Ok(())
     }
 
-    /// The number of kept entries. Their keys are internal keys. Takes no memory.
+    /// The number of kept entries. Their keys are internal keys.
     pub fn len(&self) -> usize
         ensures number { result ≡ length self.now.kept }
         ensures keys { AllByRecursion (λ e. IsInternalKey e.key) self.now.kept }
@@ -104,7 +102,7 @@ impl<'a> RangeRun<'a> {
         self.kept.len()
     }
 
-    /// The internal key of the kept entry at `place`. Takes no memory.
+    /// The internal key of the kept entry at `place`.
     pub fn key(&self, place: usize) -> InternalKey<'_>
         requires { place < length self.now.kept }
         ensures { option_map (λ e. e.key) (slice_get self.now.kept place) ≡ Some result.bytes.now }
@@ -112,7 +110,7 @@ impl<'a> RangeRun<'a> {
         self.kept.slice_from(place).key(0)
     }
 
-    /// The value of the kept entry at `place`, a slice of an input's bytes. Takes no memory.
+    /// The value of the kept entry at `place`, a slice of an input's bytes.
     pub fn value(&self, place: usize) -> &'a [u8]
         requires { place < length self.now.kept }
         ensures { option_map (λ e. e.value) (slice_get self.now.kept place) ≡ Some result.now }
@@ -120,7 +118,7 @@ impl<'a> RangeRun<'a> {
         self.kept.slice_from(place).value(0)
     }
 
-    /// The kept entries from `place` on that lie in one chunk, at least one. Takes no memory.
+    /// The kept entries from `place` on that lie in one chunk, at least one.
     #[inline(always)]
     pub fn slice_from(&self, place: usize) -> ChunkSlice<'_, 'a>
         requires { place < length self.now.kept }
@@ -130,7 +128,7 @@ impl<'a> RangeRun<'a> {
         self.kept.slice_from(place)
     }
 
-    /// The marks, in order. Takes no memory.
+    /// The marks, in order.
     ///
     /// The run of a range has one at its first entry. It has another at each user key at which the
     /// number of grandparents below differs from that of the user key before.

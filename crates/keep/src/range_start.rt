@@ -21,8 +21,7 @@ use table::Cursor;
 ///
 /// It seeks the first internal key that the lower bound may have as a user key. If all sequences
 /// are below 2^56, only entries before the range are taken off, also by a refused call. A merge of
-/// the range then answers what it would have answered (`range_start_law`). The only fault is
-/// Memory.
+/// the range then answers what it would have answered (`range_start_law`).
 pub fn seek_range<'a, C: Comparator, S: Cursor<'a, C>>(
     alloc: Global,
     cursor: &mut S,
@@ -44,7 +43,7 @@ pub fn seek_range<'a, C: Comparator, S: Cursor<'a, C>>(
 }
 
 /// Seeks the first internal key that `user` may have. Does nothing if there is none, or if it is
-/// longer than a user key may be. The only fault is Memory.
+/// longer than a user key may be.
 fn seek_user<'a, C: Comparator, S: Cursor<'a, C>>(
     alloc: Global,
     cursor: &mut S,

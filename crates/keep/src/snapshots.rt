@@ -19,7 +19,7 @@ pub enum Snapshots<'a> {
 }
 
 impl<'a> Snapshots<'a> {
-    /// The listed sequences; `From` has none. Takes no memory.
+    /// The listed sequences; `From` has none.
     pub fn listed(self) -> &'a [u64]
         ensures { result.now ≡ listed_of self.entry }
     {
@@ -30,7 +30,7 @@ impl<'a> Snapshots<'a> {
     }
 
     /// The floor: every sequence from it on stays readable. It is that of `From`, or else
-    /// `last_sequence`. Takes no memory.
+    /// `last_sequence`.
     pub fn floor(self, last_sequence: u64) -> u64
         ensures { result ≡ floor_of self.entry last_sequence }
     {

@@ -42,8 +42,7 @@ impl<'a> Walk<'a> {
     }
 
     /// The first entry of a user key. Counts the grandparents below it, and sets a mark if the
-    /// number differs from that of the user key before or if it is the first of the range. The only
-    /// fault is Memory.
+    /// number differs from that of the user key before or if it is the first of the range.
     fn begin<C: Comparator>(&mut self, rule: &Rule<'_>, key: &InternalKey<'_>) -> Result<(), Fault>
         requires passed { self.old.passed ≤ grandparents_below C.cmp rule.now.grandparents
             key.now.bytes.now }
@@ -60,7 +59,7 @@ impl<'a> Walk<'a> {
         Ok(())
     }
 
-    /// How many bytes `key` shares with the last kept key. Takes no memory.
+    /// How many bytes `key` shares with the last kept key.
     fn shared_with(&self, key: InternalKey<'_>) -> usize
         ensures value { result
             ≡ common_prefix_len nat_eq (last_key [] self.now.run.kept) key.entry.bytes.now }
@@ -70,7 +69,7 @@ impl<'a> Walk<'a> {
     }
 
     /// The sequence of the previous entry if it has the user key of `key`, else None. `key` shares
-    /// `shared` bytes with the last kept key. Takes no memory.
+    /// `shared` bytes with the last kept key.
     fn newer_of(&self, key: InternalKey<'_>, shared: usize) -> Option<u64>
         requires { shared ≡ common_prefix_len nat_eq (last_key [] self.now.run.kept) key.bytes.now }
         ensures { result ≡ newer_of self.now.last (user_of key.entry.bytes.now) }
@@ -79,7 +78,7 @@ impl<'a> Walk<'a> {
     }
 
     /// Keeps or drops an entry, whose key shares `shared` bytes with the last kept key. `newer` is
-    /// the previous entry's sequence if it has the same user key. The only fault is Memory.
+    /// the previous entry's sequence if it has the same user key.
     fn take(
         &mut self,
         keeps: bool,

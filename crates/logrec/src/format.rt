@@ -67,7 +67,6 @@ fn block_left(offset: usize) -> usize
     BLOCK_LEN - offset % BLOCK_LEN
 }
 
-/// The type of a fragment.
 #[derive(Clone, Copy)]
 enum FragmentType {
     /// It is its record.

@@ -11,8 +11,7 @@ use std::alloc::Global;
 
 /// The log `old` with `record` at its end: `old`, and then what is written at its length.
 ///
-/// `old` isn't read as a log; only its length counts. The only fault is Memory. Memory is asked for
-/// once, for the whole log.
+/// `old` isn't read as a log; only its length counts. Memory is asked for once, for the whole log.
 pub fn append(alloc: Global, old: &[u8], record: &[u8]) -> Result<Vec<u8>, Fault>
     ensures ok { IfOk result (λ v. v.items ≡ old.now
         ++ written_record (length old.now) «record».now) }
@@ -35,7 +34,7 @@ fn grown_len(old: usize, room: usize, record: usize) -> usize {
         .saturating_add(ZEROS.len())
 }
 
-/// Appends the fragments of `record`, of which the first has this `room`. The only fault is Memory.
+/// Appends the fragments of `record`, of which the first has this `room`.
 fn push_fragments(log: &mut Vec<u8>, room: usize, record: &[u8]) -> Result<(), Fault>
     requires { room ≤ 32761 }
     ensures ok { OnOk result (log.new.items ≡
@@ -55,7 +54,7 @@ fn push_fragments(log: &mut Vec<u8>, room: usize, record: &[u8]) -> Result<(), F
     push_fragment(log, type_of(begins, true), left)
 }
 
-/// Appends one fragment of at most 32,761 bytes. The only fault is Memory.
+/// Appends one fragment of at most 32,761 bytes.
 #[tactic(auto, unfolding(crate::specs::Log::fragment))]
 fn push_fragment(log: &mut Vec<u8>, kind: u8, content: &[u8]) -> Result<(), Fault>
     requires { length content.now ≤ 32761 }

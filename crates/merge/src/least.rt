@@ -6,8 +6,7 @@ ghost use Rattle.merge.specs.LeastList.{IsMerging};
 use ikey::Comparator;
 use table::Cursor;
 
-/// The place of the cursor whose first entry comes next; None if no cursor has an entry. Takes no
-/// memory.
+/// The place of the cursor whose first entry comes next; None if no cursor has an entry.
 ///
 /// It answers the same as a tournament, slowly, to compare that with.
 pub fn least_place<'c, C: Comparator, S: Cursor<'c, C>>(cursors: &[S]) -> Option<usize>

@@ -64,8 +64,7 @@ impl<'c, C: Comparator, S: Cursor<'c, C> + Drop> Merging<C, S> {
 
     /// All entries still to come of the cursors of a vector, which is left empty.
     ///
-    /// The only fault is Memory, which leaves the vector unchanged. `into_cursors` gives the
-    /// cursors back.
+    /// `into_cursors` gives the cursors back.
     pub fn take(alloc: Global, cursors: &mut Vec<S>) -> Result<Merging<C, S>, Fault>
         ensures merging { EqualOrMemory (λ merging. merging) result
             (Ok (map S.remaining cursors.old.items)) }
@@ -98,7 +97,7 @@ impl<'c, C: Comparator, S: Cursor<'c, C> + Drop> Merging<C, S> {
     }
 
     /// The place of the cursor whose first entry comes next, counted as they were given; None if no
-    /// cursor has an entry. Takes no memory.
+    /// cursor has an entry.
     pub fn place(&self) -> Option<usize>
         ensures { IsMerging C.cmp self.now result }
     {
@@ -144,8 +143,6 @@ impl<'c, C: Comparator, S: Cursor<'c, C> + Drop> Cursor<'c, C> for Merging<C, S>
     }
 
     /// Takes off the first entry, which is one cursor's; the others are unchanged.
-    ///
-    /// The only fault is Memory, which leaves all of them unchanged.
     fn advance(&mut self) -> Result<(), Fault>
         requires { 0 < length (merged C.cmp self.old) }
         ensures advanced { OnOk result (IsAdvanced C.cmp self.old self.new) }

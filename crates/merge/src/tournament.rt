@@ -28,7 +28,7 @@ use std::cmp::Ordering;
 use table::{Cursor, Entries};
 
 /// A bracket for `number` places: its last nodes are the places themselves, the others are yet to
-/// be played. The only fault is Memory.
+/// be played.
 pub(crate) fn bracket(alloc: Global, number: usize) -> Result<Vec<usize>, Fault>
     ensures ok { IfOk result (λ winners. IsBracket number winners.items) }
     ensures memory { IsOkUnless result (fault Memory) }
@@ -86,7 +86,7 @@ fn play<'c, C: Comparator, S: Cursor<'c, C>>(cursors: &[S], winners: &mut [usize
     winners[node] = winner::<C, S>(cursors, winners[2 * node], winners[2 * node + 1]);
 }
 
-/// The head of the first key of a cursor; the greatest number if it is at its end. Takes no memory.
+/// The head of the first key of a cursor; the greatest number if it is at its end.
 #[inline]
 pub(crate) fn first_head<'c, C: Comparator, S: Cursor<'c, C>>(cursor: &S) -> u128
     ensures head { result ≡ first_head C.head_of (S.remaining cursor.now) }
@@ -99,8 +99,6 @@ pub(crate) fn first_head<'c, C: Comparator, S: Cursor<'c, C>>(cursor: &S) -> u12
 }
 
 /// Takes off the first entry of a cursor. The result is the head of its first key then.
-///
-/// The only fault is Memory, which leaves the cursor unchanged.
 #[inline]
 pub(crate) fn advance_cursor<'c, C: Comparator, S: Cursor<'c, C>>(
     cursor: &mut S,
@@ -220,8 +218,7 @@ pub(crate) fn play_all<'c, C: Comparator, S: Cursor<'c, C>>(
     play_matches::<C, S>(cursors, winners);
 }
 
-/// The place of the cursor whose first entry comes next; None if no cursor has an entry. Takes no
-/// memory.
+/// The place of the cursor whose first entry comes next; None if no cursor has an entry.
 pub(crate) fn next_place<'c, C: Comparator, S: Cursor<'c, C>>(
     cursors: &[S],
     winners: &[usize],
@@ -237,7 +234,7 @@ pub(crate) fn next_place<'c, C: Comparator, S: Cursor<'c, C>>(
     }
 }
 
-/// The place of the cursor whose first entry comes next. Takes no memory.
+/// The place of the cursor whose first entry comes next.
 pub(crate) fn first_place<C: Comparator, S: Entries>(cursors: &[S], winners: &[usize]) -> usize
     requires tournament { IsTournament C.cmp (map S.remaining cursors.now) winners.now }
     requires some { 0 < length (merged C.cmp (map S.remaining cursors.now)) }
@@ -246,7 +243,7 @@ pub(crate) fn first_place<C: Comparator, S: Entries>(cursors: &[S], winners: &[u
     winners[1]
 }
 
-/// The cursor whose first entry comes next. Takes no memory.
+/// The cursor whose first entry comes next.
 pub(crate) fn next_cursor<'a, C: Comparator, S: Entries>(
     cursors: &'a [S],
     winners: &[usize],

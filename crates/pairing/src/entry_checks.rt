@@ -23,8 +23,7 @@ use table::MAX_VALUE_LEN;
 
 /// The entries of a file, if each passes its tests.
 ///
-/// Block if `bytes` aren't a block; else the first test that fails; otherwise the only fault is
-/// Memory.
+/// Block if `bytes` aren't a block; else the first test that fails.
 pub(crate) fn tested(alloc: Global, bytes: &[u8]) -> Result<Vec<TestedEntry<'_>>, Fault>
     ensures found { IfOk result (λ v. block_reading bytes.now ≡ Ok (tested_entries v.items)) }
     ensures rising { IfOk result (λ v. EntriesRise bytewise_cmp (tested_entries v.items)) }
@@ -84,7 +83,7 @@ fn test_entry<'k>(
     }
 }
 
-/// Appends an entry. The only fault is Memory.
+/// Appends an entry.
 pub(crate) fn push_entry<'a>(
     alloc: Global,
     entries: &mut Vec<TestedEntry<'a>>,

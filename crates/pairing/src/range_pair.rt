@@ -55,8 +55,7 @@ impl<'r, 'a> RangePair<'r, 'a> {
         RangePair { a, b }
     }
 
-    /// The union of both. Duplicate if a user key has one sequence twice; otherwise the only fault
-    /// is Memory.
+    /// The union of both. Duplicate if a user key has one sequence twice.
     pub fn union(&self, alloc: Global) -> Result<Vec<TestedEntry<'a>>, Fault>
         ensures { EqualOrMemory (λ v. tested_entries v.items) result (union_of self.now) }
     {
@@ -69,7 +68,7 @@ impl<'r, 'a> RangePair<'r, 'a> {
         Ok(union)
     }
 
-    /// A cursor over the entries of each file. The only fault is Memory.
+    /// A cursor over the entries of each file.
     fn cursors(&self, alloc: Global) -> Result<Vec<TestedCursor<'r, 'a>>, Fault>
         ensures all { EqualOrMemory (λ v. v.items) result (Ok self.now) }
         ensures limited { IfOk result (λ _. AllByRecursion IsLimited (entries_of_lists self.now)) }
@@ -82,7 +81,7 @@ impl<'r, 'a> RangePair<'r, 'a> {
 }
 
 /// Appends an entry. Duplicate if `key` isn't after the last entry's by user key and falling
-/// sequence; otherwise the only fault is Memory.
+/// sequence.
 fn push_above<'a>(
     alloc: Global,
     union: &mut Vec<TestedEntry<'a>>,

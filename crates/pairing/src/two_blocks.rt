@@ -38,7 +38,7 @@ const RANGES: u64 = 2;
 ///    before it, bytewise.
 ///
 /// After both files it is Duplicate if a user key has one sequence twice. Then it is TooLarge if
-/// the block would have more than 2^30 bytes. Otherwise the only fault is Memory.
+/// the block would have more than 2^30 bytes.
 ///
 /// Two workers merge the entries before the user key `at` and those from it on, and the runs are
 /// joined. So the block doesn't depend on `at`.
@@ -58,8 +58,7 @@ pub fn blocks<R: Threads + Sync>(
     counted(alloc, &entries)
 }
 
-/// The number of entries, and their block. TooLarge if the block would be too long; otherwise the
-/// only fault is Memory.
+/// The number of entries, and their block. TooLarge if the block would be too long.
 fn counted(alloc: Global, entries: &[TestedEntry<'_>]) -> Result<(u64, Vec<u8>), Fault>
     ensures { EqualOrMemory (λ r. (r.0, r.1.items)) result
         (counted_block (tested_entries entries.now)) }
@@ -69,8 +68,7 @@ fn counted(alloc: Global, entries: &[TestedEntry<'_>]) -> Result<(u64, Vec<u8>),
     Ok((count, block))
 }
 
-/// The block of `entries`. TooLarge if it would have more than 2^30 bytes; otherwise the only fault
-/// is Memory.
+/// The block of `entries`. TooLarge if it would have more than 2^30 bytes.
 fn written(alloc: Global, entries: &[TestedEntry<'_>]) -> Result<Vec<u8>, Fault>
     ensures { EqualOrMemory (λ v. v.items) result (block_within (tested_entries entries.now)) }
 {
@@ -88,7 +86,7 @@ fn written(alloc: Global, entries: &[TestedEntry<'_>]) -> Result<Vec<u8>, Fault>
 /// The union of two files. Two workers merge the entries before the user key `at` and those from it
 /// on.
 ///
-/// Duplicate if there is no union; otherwise the only fault is Memory.
+/// Duplicate if there is no union.
 fn united<'a, R: Threads + Sync>(
     rt: &R,
     alloc: Global,
@@ -112,7 +110,7 @@ fn united<'a, R: Threads + Sync>(
     in_a_row(alloc, runs)
 }
 
-/// The entries of all runs, one after the other. The only fault is Memory.
+/// The entries of all runs, one after the other.
 fn in_a_row<'a>(
     alloc: Global,
     runs: Vec<Vec<TestedEntry<'a>>>,

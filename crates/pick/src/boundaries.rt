@@ -82,7 +82,7 @@ fn goes_on<C: Comparator>(key: Option<&KeyBuf>, file: &FileMeta) -> bool
         && C::compare(key.as_key().user(), smallest.user()).is_eq()
 }
 
-/// The chosen files and their boundary files, in the order of `files`. The only fault is Memory.
+/// The chosen files and their boundary files, in the order of `files`.
 pub(crate) fn with_boundaries<'a, C: Comparator>(
     alloc: Global,
     files: &[&'a FileMeta],

@@ -16,7 +16,7 @@ use edit::{FileMeta, LAST_LEVEL, LEVELS, Version};
 use ikey::Comparator;
 use std::alloc::Global;
 
-/// Appends copies of `files` as inputs of `level`. The only fault is Memory.
+/// Appends copies of `files` as inputs of `level`.
 pub(crate) fn push_inputs(
     alloc: Global,
     inputs: &mut Vec<InputFile>,
@@ -34,7 +34,7 @@ pub(crate) fn push_inputs(
     Ok(())
 }
 
-/// Appends copies of `files`. The only fault is Memory.
+/// Appends copies of `files`.
 fn push_copies(alloc: Global, copies: &mut Vec<FileMeta>, files: &[&FileMeta]) -> Result<(), Fault>
     ensures ok { OnOk result (copies.new.items ≡ copies.old.items ++ map (λ f. f.now) files.now) }
     ensures memory { IfErr result (λ e. e ≡ fault Memory) }
@@ -45,8 +45,7 @@ fn push_copies(alloc: Global, copies: &mut Vec<FileMeta>, files: &[&FileMeta]) -
     Ok(())
 }
 
-/// Copies of the files of `level` whose user keys overlap `range`, in version order. The only fault
-/// is Memory.
+/// Copies of the files of `level` whose user keys overlap `range`, in version order.
 fn overlapping<C: Comparator>(
     alloc: Global,
     version: &Version,
@@ -67,8 +66,7 @@ fn overlapping<C: Comparator>(
     Ok(found)
 }
 
-/// Copies of the files of the levels from `from` to 6, by level and in version order. The only
-/// fault is Memory.
+/// Copies of the files of the levels from `from` to 6, by level and in version order.
 pub(crate) fn deeper_files<C: Comparator>(
     alloc: Global,
     version: &Version,
@@ -86,8 +84,7 @@ pub(crate) fn deeper_files<C: Comparator>(
 }
 
 /// Copies of the grandparents: the files of `level`, two below the compaction's, whose user keys
-/// overlap `range`, that of all inputs. There is none if `level` exceeds 6. The only fault is
-/// Memory.
+/// overlap `range`, that of all inputs. There is none if `level` exceeds 6.
 pub(crate) fn grandparents<C: Comparator>(
     alloc: Global,
     version: &Version,

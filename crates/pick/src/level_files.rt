@@ -16,8 +16,7 @@ use edit::{FileMeta, Version};
 use ikey::Comparator;
 use std::alloc::Global;
 
-/// The inputs of the compaction's own level; none exactly if it has no file. The only fault is
-/// Memory.
+/// The inputs of the compaction's own level; none exactly if it has no file.
 pub(crate) fn upper_files<C: Comparator>(
     alloc: Global,
     version: &Version,
@@ -39,7 +38,7 @@ pub(crate) fn upper_files<C: Comparator>(
 }
 
 /// The inputs of `level`, the one after the compaction's own, if `range` is that of the inputs
-/// above. The only fault is Memory.
+/// above.
 pub(crate) fn lower_files<'a, C: Comparator>(
     alloc: Global,
     version: &'a Version,

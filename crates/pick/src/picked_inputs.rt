@@ -33,8 +33,7 @@ pub struct Inputs {
     pub pointer: CompactPointer,
 }
 
-/// Whether a user key is at its base: no deeper file's range of user keys holds it. Takes no
-/// memory.
+/// Whether a user key is at its base: no deeper file's range of user keys holds it.
 pub fn is_base<C: Comparator>(inputs: &Inputs, user_key: &[u8]) -> bool
     ensures { result ≡ is_in_none C.cmp inputs.now.deeper.items user_key.now }
 {

@@ -19,7 +19,7 @@ pub struct UnneededFiles {
 }
 
 impl UnneededFiles {
-    /// Appends a file. The only fault is Memory.
+    /// Appends a file.
     fn push(&mut self, alloc: Global, name: &str, length: u64) -> Result<(), Fault> {
         self.names.push(String::from_str(alloc, name)?)?;
         self.lengths.push(length)?;

@@ -7,7 +7,6 @@ use edit::FileMeta;
 use ikey::InternalKey;
 
 /// Whether the version states of `file` the length of `bytes`, and these smallest and largest keys.
-/// Takes no memory.
 pub fn has_bounds(
     file: &FileMeta,
     bytes: &[u8],

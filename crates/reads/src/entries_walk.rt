@@ -21,7 +21,7 @@ use table::{Cursor, TableCursor};
 ///
 /// It walks over all entries once, in the order of their keys, up to the end of the range. An entry
 /// is older than the previous one of its user key if its sequence is lower and it comes from the
-/// same cursor or a later one. The only fault is Memory.
+/// same cursor or a later one.
 ///
 /// It takes the memory of two keys and of the merge. An entry takes a time that grows with the
 /// logarithm of the number of cursors. No contract says either.

@@ -13,7 +13,7 @@ use edit::{FileMeta, LEVELS, Version};
 use ikey::Comparator;
 use std::alloc::Global;
 
-/// Appends the files of a level. The only fault is Memory.
+/// Appends the files of a level.
 fn push_level<'v>(
     all: &mut Vec<LevelFile<'v>>,
     level: u64,
@@ -29,7 +29,7 @@ fn push_level<'v>(
     Ok(())
 }
 
-/// All files of a version, by level and in version order. The only fault is Memory.
+/// All files of a version, by level and in version order.
 pub fn all_files<'v, C: Comparator>(
     alloc: Global,
     version: &'v Version,

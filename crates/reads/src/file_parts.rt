@@ -13,7 +13,6 @@ use folder::{Folder, old_table_name, table_name};
 use std::alloc::Global;
 use table::{BlockHandle, FOOTER_LEN, TRAILER_LEN};
 
-/// The file of a table.
 #[derive(Drop)]
 pub(crate) struct TableFile {
     pub name: String,

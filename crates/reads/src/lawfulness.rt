@@ -117,7 +117,7 @@ fn newest_first_among<'t, 'a, C: Comparator>(
 /// the version is lawful with no tables.
 ///
 /// It makes all tests of [`lawful`] but those that need a table: that of each file, which
-/// [`is_stated`] makes, and that of each user key the sequences fall. The only fault is Memory.
+/// [`is_stated`] makes, and that of each user key the sequences fall.
 pub fn files_newest_first<'v, C: Comparator>(
     alloc: Global,
     version: &'v Version,
@@ -135,7 +135,7 @@ pub fn files_newest_first<'v, C: Comparator>(
     Ok(Some(metas_of(alloc, &files)?))
 }
 
-/// What the version states of each file. The only fault is Memory.
+/// What the version states of each file.
 fn metas_of<'v>(alloc: Global, files: &[LevelFile<'v>]) -> Result<Vec<&'v FileMeta>, Fault>
     ensures metas { IfOk result (λ v. map (λ f. f.now) v.items
         ≡ map (λ f. f.meta.now) files.now) }
@@ -167,7 +167,7 @@ fn newest_first_order<C: Comparator>(file: &LevelFile<'_>, other: &LevelFile<'_>
     levels.then(ranks.then(keys))
 }
 
-/// All files of a version in that order. The only fault is Memory.
+/// All files of a version in that order.
 fn listed_files<'v, C: Comparator>(
     alloc: Global,
     version: &'v Version,
@@ -183,7 +183,7 @@ fn listed_files<'v, C: Comparator>(
     Ok(files)
 }
 
-/// Whether `number` is below `next`; false if there is no `next`. Takes no memory.
+/// Whether `number` is below `next`; false if there is no `next`.
 pub fn is_below(next: Option<u64>, number: u64) -> bool
     ensures test { result ≡ is_below next number }
     ensures below { IsTrue result ↔ IsBelowNextFile next number }
@@ -195,7 +195,7 @@ pub fn is_below(next: Option<u64>, number: u64) -> bool
 }
 
 /// Whether the version states of `file` the length of `bytes` and these smallest and largest keys,
-/// and its number is below `next`, the version's next file. Takes no memory.
+/// and its number is below `next`, the version's next file.
 pub fn is_stated(
     next: Option<u64>,
     file: &FileMeta,
@@ -275,7 +275,7 @@ fn are_in_turn<C: Comparator>(files: &[LevelFile<'_>]) -> bool
     true
 }
 
-/// The table of each file. The only fault is Memory.
+/// The table of each file.
 fn tables_of<'t, 'a, C: Comparator>(
     alloc: Global,
     files: &[LevelFile<'_>],
@@ -296,7 +296,7 @@ fn tables_of<'t, 'a, C: Comparator>(
     Ok(found)
 }
 
-/// A cursor over each table. The only fault is Memory.
+/// A cursor over each table.
 fn cursors_over<'a, C: Comparator>(
     alloc: Global,
     tables: &[&SoundTable<'a, C>],

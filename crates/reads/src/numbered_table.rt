@@ -36,14 +36,13 @@ impl<'a, C: Comparator> NumberedTable<'a, C> {
         self.number
     }
 
-    /// The table.
     pub fn table(&self) -> &SoundTable<'a, C>
         ensures { result.now ≡ self.now.contents }
     {
         &self.table
     }
 
-    /// The table, without its number. Takes no memory.
+    /// The table, without its number.
     pub fn into_table(self) -> SoundTable<'a, C>
         ensures { result ≡ self.entry.contents }
     {

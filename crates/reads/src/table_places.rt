@@ -37,7 +37,7 @@ impl<'t, 'a, C: Comparator> Model for TablePlaces<'t, 'a, C> {
 }
 
 impl<'t, 'a, C: Comparator> TablePlaces<'t, 'a, C> {
-    /// The places of `tables`. The only fault is Memory.
+    /// The places of `tables`.
     pub fn of(
         alloc: Global,
         tables: &'t [NumberedTable<'a, C>],
@@ -70,7 +70,7 @@ fn table_at<'t, 'a, C: Comparator>(
     tables[place].table()
 }
 
-/// The place of the first table of each number. The only fault is Memory.
+/// The place of the first table of each number.
 fn first_places<C: Comparator>(
     alloc: Global,
     tables: &[NumberedTable<'_, C>],

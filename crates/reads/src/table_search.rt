@@ -33,7 +33,7 @@ fn have_tables<C: Comparator>(files: &[&FileMeta], tables: &TablePlaces<'_, '_, 
     true
 }
 
-/// Missing if a file of the version has no table. Else the only fault is Memory.
+/// Missing if a file of the version has no table.
 pub(crate) fn tables_test<C: Comparator>(
     alloc: Global,
     version: &Version,
@@ -53,7 +53,7 @@ pub(crate) fn tables_test<C: Comparator>(
 /// The newest entry of a user key that a sequence sees, in one table; None if there is none.
 ///
 /// `target` is that user key and sequence, as a put. The first entry at or above it is that entry,
-/// if it has the same user key. The only fault is Memory.
+/// if it has the same user key.
 pub(crate) fn newest_in_table<'a, C: Comparator>(
     alloc: Global,
     table: &SoundTable<'a, C>,

@@ -82,7 +82,7 @@ fn get_among<'a, C: Comparator>(
 }
 
 /// The newest entry of a user key that a sequence sees, at the first level that has one. `target`
-/// is both, as a put. The only fault is Memory.
+/// is both, as a put.
 fn newest_in_version<'a, C: Comparator>(
     alloc: Global,
     version: &Version,
@@ -108,7 +108,7 @@ fn newest_in_version<'a, C: Comparator>(
 }
 
 /// The newest entry of a user key that a sequence sees, among the files of a level. `target` is
-/// both, as a put. The only fault is Memory.
+/// both, as a put.
 fn newest_at_level<'a, C: Comparator>(
     alloc: Global,
     files: &[&FileMeta],
@@ -148,7 +148,7 @@ fn newer<'a>(one: Option<Found<'a>>, other: Option<Found<'a>>) -> Option<Found<'
     }
 }
 
-/// Whether the file's range of user keys holds `user`. Takes no memory.
+/// Whether the file's range of user keys holds `user`.
 pub fn may_hold<C: Comparator>(file: &FileMeta, user: &[u8]) -> bool
     ensures { result ≡ may_hold C.cmp file.now user.now }
 {

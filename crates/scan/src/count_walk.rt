@@ -20,8 +20,7 @@ use std::alloc::Global;
 use table::Cursor;
 
 /// Counts the entries that the cursors of `merging` have in `range`, each among the `amounts` at
-/// its cursor's place. Newer entries hide older ones at the sequence `last`. The only fault is
-/// Memory.
+/// its cursor's place. Newer entries hide older ones at the sequence `last`.
 ///
 /// The numbers of entries saturate at 2^128 - 1.
 pub(crate) fn count_merged<'a, C: Comparator, S: Cursor<'a, C> + Drop>(
@@ -48,8 +47,7 @@ pub(crate) fn count_merged<'a, C: Comparator, S: Cursor<'a, C> + Drop>(
     Ok(())
 }
 
-/// Counts the next entry, which the cursor at `place` has, if it isn't before `range`. The only
-/// fault is Memory.
+/// Counts the next entry, which the cursor at `place` has, if it isn't before `range`.
 fn count_next<'a, C: Comparator, S: Cursor<'a, C> + Drop>(
     merging: &Merging<C, S>,
     place: usize,

@@ -45,7 +45,7 @@ impl DecidedUser {
         self.is_some && self.user.as_slice() == user
     }
 
-    /// Makes `user` that key. It keeps its memory. The only fault is Memory.
+    /// Makes `user` that key. It keeps its memory.
     pub fn set(&mut self, user: &[u8]) -> Result<(), Fault>
         ensures ok { OnOk result (self.new ≡ Some user.now) }
         ensures memory { IsOkUnless result (fault Memory) }
@@ -58,7 +58,7 @@ impl DecidedUser {
     }
 
     /// Takes in the next entry of sorted ones, and answers whether a newer one hides it: the
-    /// sequence `at` saw a newer one of its user key. The only fault is Memory.
+    /// sequence `at` saw a newer one of its user key.
     pub fn take_in(&mut self, key: InternalKey<'_>, at: u64) -> Result<bool, Fault>
         ensures hidden { IfOk result (λ hidden. hidden
             ≡ is_decided self.old (user_of key.entry.bytes.now)) }

@@ -15,7 +15,7 @@ use ikey::{InternalKey, Kind};
 /// Walks the next entry of sorted ones. Of each user key the first entry that the sequence `at`
 /// sees decides, and is told if it is a value. At most `left` rows may be told.
 ///
-/// It copies no value. The only fault is Memory.
+/// It copies no value.
 pub(crate) fn walk_entry<T: RowTaker>(
     decided: &mut DecidedUser,
     key: InternalKey<'_>,

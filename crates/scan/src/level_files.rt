@@ -16,7 +16,7 @@ use ikey::Comparator;
 use split::Range;
 use std::alloc::Global;
 
-/// The files of each level from 0 to 6, in version order. The only fault is Memory.
+/// The files of each level from 0 to 6, in version order.
 pub(crate) fn files_by_level<'v, C: Comparator>(
     alloc: Global,
     version: &'v Version,
@@ -32,7 +32,7 @@ pub(crate) fn files_by_level<'v, C: Comparator>(
     Ok(levels)
 }
 
-/// Of each level the files that a range needs. The only fault is Memory.
+/// Of each level the files that a range needs.
 pub(crate) fn needed_by_level<'v, C: Comparator>(
     alloc: Global,
     levels: &[Vec<&'v FileMeta>],
@@ -50,7 +50,7 @@ pub(crate) fn needed_by_level<'v, C: Comparator>(
     Ok(needed)
 }
 
-/// The numbers of the files, level by level. The only fault is Memory.
+/// The numbers of the files, level by level.
 pub(crate) fn numbers_by_level(alloc: Global, levels: &[Vec<&FileMeta>]) -> Result<Vec<u64>, Fault>
     ensures { EqualOrMemory (λ v. v.items) result
         (Ok (flat_map (λ files. map (λ f. f.now.number) files.items) levels.now)) }

@@ -25,7 +25,7 @@ use table::{SoundTable, TableCursor};
 
 /// Counts the entries that held tables have in `range`, among the `amounts` of their levels. The
 /// tables are those of the files of each level, one level after the other. Newer entries hide older
-/// ones at the sequence `last`. The only fault is Memory.
+/// ones at the sequence `last`.
 pub(crate) fn count_held<C: Comparator + 'static>(
     alloc: Global,
     held: &HeldTables<C>,
@@ -71,7 +71,7 @@ fn count_tables<'t, C: Comparator + 't>(
     count_merged(alloc, &mut merging, range, last, amounts)
 }
 
-/// A merge of the tables of each level, without entries before `range`. The only fault is Memory.
+/// A merge of the tables of each level, without entries before `range`.
 fn level_merges<'t, C: Comparator + 't>(
     alloc: Global,
     tables: &[&SoundTable<'t, C>],
@@ -119,7 +119,7 @@ fn tables_at<'l, 't, C: Comparator>(
     own
 }
 
-/// A merge of tables, without entries before `range`. The only fault is Memory.
+/// A merge of tables, without entries before `range`.
 fn level_merge<'t, C: Comparator + 't>(
     alloc: Global,
     tables: &[&SoundTable<'t, C>],

@@ -16,8 +16,7 @@ use edit::FileMeta;
 use ikey::{Comparator, InternalKey, KeyBuf};
 use std::alloc::Global;
 
-/// What a version has whose levels have these files, in version order, and these amounts. The only
-/// fault is Memory.
+/// What a version has whose levels have these files, in version order, and these amounts.
 pub(crate) fn stats_of<C: Comparator>(
     alloc: Global,
     levels: &[Vec<&FileMeta>],
@@ -45,7 +44,7 @@ pub(crate) fn stats_of<C: Comparator>(
     })
 }
 
-/// Appends what is told of a level, if it has a file. The only fault is Memory.
+/// Appends what is told of a level, if it has a file.
 fn push_level<C: Comparator>(
     alloc: Global,
     stats: &mut Vec<LevelStats>,
@@ -71,7 +70,7 @@ fn push_level<C: Comparator>(
     Ok(())
 }
 
-/// The largest internal key of files. Takes no memory.
+/// The largest internal key of files.
 fn largest_key<'v, C: Comparator>(first: &'v FileMeta, others: &[&'v FileMeta]) -> InternalKey<'v>
     ensures { result.bytes.now
         ≡ fold (larger_key C.cmp) first.now.largest (map (λ f. f.now) others.now) }

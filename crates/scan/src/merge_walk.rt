@@ -24,7 +24,7 @@ use std::alloc::Global;
 use table::Cursor;
 
 /// Tells the rows of the entries that `merging` has in `range`, by the sequence `at`: at most
-/// `limit`. The only fault is Memory.
+/// `limit`.
 pub(crate) fn tell_merged<'a, C: Comparator, S: Cursor<'a, C> + Drop, T: RowTaker>(
     alloc: Global,
     merging: &mut Merging<C, S>,
@@ -53,7 +53,7 @@ pub(crate) fn tell_merged<'a, C: Comparator, S: Cursor<'a, C> + Drop, T: RowTake
     Ok(RowLimit::More(left))
 }
 
-/// Takes off the entries before `range`. The only fault is Memory.
+/// Takes off the entries before `range`.
 fn skip_before<'a, C: Comparator, S: Cursor<'a, C> + Drop>(
     merging: &mut Merging<C, S>,
     range: Range<'_>,

@@ -74,7 +74,7 @@ pub(crate) fn count_ranges<C: SharedComparator + 'static, F: ReadsTables, R: Thr
     Ok(amounts)
 }
 
-/// How much the files of each level have, without their entries. The only fault is Memory.
+/// How much the files of each level have, without their entries.
 fn amounts_by_level(alloc: Global, levels: &[Vec<&FileMeta>]) -> Result<Vec<Amounts>, Fault>
     ensures { EqualOrMemory (λ v. v.items) result
         (Ok (map capped_files (map (λ fs. map (λ f. f.now) fs.items) levels.now))) }

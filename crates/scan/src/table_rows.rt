@@ -21,8 +21,7 @@ use split::Range;
 use std::alloc::Global;
 use table::TableCursor;
 
-/// Tells the rows of held tables in `range`, by the sequence `at`: at most `limit`. The only fault
-/// is Memory.
+/// Tells the rows of held tables in `range`, by the sequence `at`: at most `limit`.
 pub(crate) fn tell_held<C: Comparator + 'static, T: RowTaker>(
     alloc: Global,
     held: &HeldTables<C>,
@@ -41,8 +40,7 @@ pub(crate) fn tell_held<C: Comparator + 'static, T: RowTaker>(
     tell_tables(alloc, &tables, range, at, limit, taker)
 }
 
-/// Tells the rows of tables in `range`, by the sequence `at`: at most `limit`. The only fault is
-/// Memory.
+/// Tells the rows of tables in `range`, by the sequence `at`: at most `limit`.
 fn tell_tables<'t, C: Comparator + 't, T: RowTaker>(
     alloc: Global,
     tables: &[NumberedTable<'t, C>],

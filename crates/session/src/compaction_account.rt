@@ -162,7 +162,6 @@ fn push_outputs(outputs: &mut Vec<Output>, files: &[&FileMeta], first: u64) -> R
     Ok(())
 }
 
-/// The numbers of inputs.
 fn numbers_of_inputs(alloc: Global, files: &[InputFile]) -> Result<Vec<u64>, Fault> {
     let mut numbers = Vec::with_capacity(alloc, files.len())?;
     for file in files {
@@ -171,7 +170,6 @@ fn numbers_of_inputs(alloc: Global, files: &[InputFile]) -> Result<Vec<u64>, Fau
     Ok(numbers)
 }
 
-/// The numbers of outputs.
 fn numbers_of_outputs(alloc: Global, outputs: &[Output]) -> Result<Vec<u64>, Fault> {
     let mut numbers = Vec::with_capacity(alloc, outputs.len())?;
     for output in outputs {

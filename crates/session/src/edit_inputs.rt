@@ -8,8 +8,7 @@ use edit::{DeletedFile, FileMeta, LEVELS, Version, VersionEdit};
 use ikey::Bytewise;
 use std::alloc::Global;
 
-/// The files of a version that an `edit` deletes: the inputs of the compaction that made it. The
-/// only fault is Memory.
+/// The files of a version that an `edit` deletes: the inputs of the compaction that made it.
 pub fn deleted_files<'v>(
     alloc: Global,
     version: &'v Version,

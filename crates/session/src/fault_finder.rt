@@ -9,7 +9,6 @@ use std::alloc::Global;
 pub(crate) enum FoundFault {
     /// What is wrong with a file.
     File {
-        /// Its number.
         number: u64,
         fault: FileFault,
     },

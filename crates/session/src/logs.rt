@@ -8,7 +8,6 @@ use std::path::Path;
 use std::rt::Files;
 use std::{fs, io};
 
-/// A log.
 #[derive(Clone, Copy)]
 pub struct Log {
     pub number: u64,

@@ -61,7 +61,7 @@ impl<'a> Telling<'a> {
     }
 
     /// Tells of the logs with writes that are in no table of the version, and answers how many there
-    /// are. None if the folder can't be listed, which is told. The only fault is Memory.
+    /// are. None if the folder can't be listed, which is told.
     pub fn tell_logs<R: Files + Eprint + AllocGlobal>(
         self,
         rt: &R,
@@ -119,7 +119,6 @@ impl<'a> Telling<'a> {
         }
     }
 
-    /// Tells of a log.
     fn tell_log<R: Eprint + AllocGlobal>(self, rt: &R, log: Log, about: &str) {
         let alloc = rt.alloc();
         let number = log.number;

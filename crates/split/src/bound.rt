@@ -7,8 +7,7 @@ ghost use Rattle.split.specs.Bounds.{is_user_before};
 
 use ikey::{Comparator, InternalKey};
 
-/// Whether the user key of `key` is before `bound`; `otherwise` if there is no bound. Takes no
-/// memory.
+/// Whether the user key of `key` is before `bound`; `otherwise` if there is no bound.
 #[inline(always)]
 pub fn is_before<C: Comparator>(key: InternalKey<'_>, bound: Option<&[u8]>, otherwise: bool) -> bool
     ensures { result ≡ is_user_before C.cmp (option_map (λ limit. limit.now) bound.entry) otherwise

@@ -127,7 +127,7 @@ impl<C: Comparator> Split<C> {
         })
     }
 
-    /// The number of ranges: one more than there are boundaries. Takes no memory.
+    /// The number of ranges: one more than there are boundaries.
     pub fn len(&self) -> u64
         ensures number { result ≡ length self.now + 1 }
         ensures split { IsSplit C.cmp self.now }
@@ -138,7 +138,7 @@ impl<C: Comparator> Split<C> {
     /// Range `number`, below `len`: from boundary `number - 1` to before boundary `number`. The
     /// first range has no lower bound, and the last no upper one.
     ///
-    /// The ranges together hold each user key once, in order. Takes no memory.
+    /// The ranges together hold each user key once, in order.
     pub fn range(&self, number: u64) -> Range<'_>
         requires { number < length self.now + 1 }
         ensures bounds { key_range result ≡ range_at self.now number }

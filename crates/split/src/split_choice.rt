@@ -15,7 +15,7 @@ use ikey::Comparator;
 use std::alloc::Global;
 use table::{KeyList, SoundTable};
 
-/// The user keys of each table's index. The only fault is Memory.
+/// The user keys of each table's index.
 pub(crate) fn index_lists<C: Comparator>(
     alloc: Global,
     tables: &[SoundTable<'_, C>],
@@ -30,8 +30,7 @@ pub(crate) fn index_lists<C: Comparator>(
     Ok(lists)
 }
 
-/// Appends every `step`-th key of a list, from place `step / 2` on, without copying them. The only
-/// fault is Memory.
+/// Appends every `step`-th key of a list, from place `step / 2` on, without copying them.
 fn push_lent<'k>(keys: &mut Vec<&'k [u8]>, list: &'k KeyList, step: usize) -> Result<(), Fault>
     requires { 0 < step }
     ensures ok { OnOk result (map (λ key. key.now) keys.new.items
@@ -45,7 +44,7 @@ fn push_lent<'k>(keys: &mut Vec<&'k [u8]>, list: &'k KeyList, step: usize) -> Re
 }
 
 /// Every `step`-th key of each list, from place `step / 2` on, without copying them. So step 1
-/// gives all. The only fault is Memory.
+/// gives all.
 pub(crate) fn lent_keys<'k>(
     alloc: Global,
     lists: &'k [KeyList],
@@ -63,7 +62,7 @@ pub(crate) fn lent_keys<'k>(
 }
 
 /// A sample of the keys of all lists, for `want` ranges: every 16th, if those are at least 4 for
-/// each range, and else all. The only fault is Memory.
+/// each range, and else all.
 pub(crate) fn sampled_keys<'k>(
     alloc: Global,
     lists: &'k [KeyList],
@@ -80,7 +79,7 @@ pub(crate) fn sampled_keys<'k>(
     lent_keys(alloc, lists, 1)
 }
 
-/// The boundaries for `want` ranges, taken from these keys. The only fault is Memory.
+/// The boundaries for `want` ranges, taken from these keys.
 pub(crate) fn boundaries_from<C: Comparator>(
     alloc: Global,
     keys: Vec<&[u8]>,
@@ -98,7 +97,7 @@ pub(crate) fn boundaries_from<C: Comparator>(
     at_places::<C>(alloc, &keys, want)
 }
 
-/// The keys in order, each once. The only fault is Memory.
+/// The keys in order, each once.
 ///
 /// The keys of each table are in order already, so a stable sort has only to merge them.
 fn each_once<'k, C: Comparator>(mut keys: Vec<&'k [u8]>) -> Result<Vec<&'k [u8]>, Fault>
@@ -112,7 +111,7 @@ fn each_once<'k, C: Comparator>(mut keys: Vec<&'k [u8]>) -> Result<Vec<&'k [u8]>
     Ok(keys)
 }
 
-/// The keys at the places of the boundaries, each once. The only fault is Memory.
+/// The keys at the places of the boundaries, each once.
 fn at_places<C: Comparator>(alloc: Global, keys: &[&[u8]], want: u64) -> Result<Vec<Vec<u8>>, Fault>
     requires least { 0 < want }
     requires most { want ≤ 4096 }

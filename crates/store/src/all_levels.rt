@@ -194,7 +194,7 @@ fn tell_step<T: InstallWatch>(
     }
 }
 
-/// Whether no file of a version is above its bottom. The only fault is Memory.
+/// Whether no file of a version is above its bottom.
 fn is_at_bottom(alloc: Global, version: &Version) -> Result<bool, Fault>
     ensures none { IfOk result (λ b. IsTrue b → (bottom : ℕ) × IsBottom version.now bottom
         × IsNextLevel version.now bottom None) }

@@ -12,7 +12,7 @@ use ikey::Bytewise;
 use std::alloc::Global;
 
 /// The deepest level that has a file, and at least 1: files of level 0 go down, since they may
-/// overlap. The only fault is Memory.
+/// overlap.
 pub fn bottom(alloc: Global, version: &Version) -> Result<u64, Fault>
     ensures bottom { IfOk result (IsBottom version.now) }
     ensures memory { IfErr result (λ e. e ≡ fault Memory) }
@@ -27,7 +27,7 @@ pub fn bottom(alloc: Global, version: &Version) -> Result<u64, Fault>
 }
 
 /// The first level above `bottom` that has a file; None if no such level has one. `bottom` is at
-/// most 6, as [`bottom`] answers it. The only fault is Memory.
+/// most 6, as [`bottom`] answers it.
 pub fn next_level(alloc: Global, version: &Version, bottom: u64) -> Result<Option<u64>, Fault>
     requires { bottom ≤ LAST_LEVEL }
     ensures next { IfOk result (IsNextLevel version.now bottom) }

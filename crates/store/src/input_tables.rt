@@ -36,7 +36,7 @@ pub fn load_inputs<F: Folder>(
     load_numbers(alloc, folder, &numbers)
 }
 
-/// The numbers of inputs in their order. The only fault is Memory.
+/// The numbers of inputs in their order.
 pub(crate) fn numbers_of(alloc: Global, inputs: &[InputFile]) -> Result<Vec<u64>, Fault>
     ensures { EqualOrMemory (λ v. v.items) result (Ok (input_numbers inputs.now)) }
 {
@@ -98,7 +98,7 @@ fn are_stated<C: Comparator>(inputs: &[InputFile], tables: &[NumberedTable<'_, C
     true
 }
 
-/// The tables without their numbers. The only fault is Memory.
+/// The tables without their numbers.
 fn without_numbers<'t, C: Comparator>(
     alloc: Global,
     tables: Vec<NumberedTable<'t, C>>,
@@ -113,7 +113,7 @@ fn without_numbers<'t, C: Comparator>(
     Ok(unnumbered)
 }
 
-/// The bytes of tables in their order. The only fault is Memory.
+/// The bytes of tables in their order.
 pub fn bytes_of<'t, C: Comparator>(
     alloc: Global,
     tables: &[SoundTable<'t, C>],

@@ -23,8 +23,6 @@ use std::collections::BTreeSet;
 /// - `output NUMBER SIZE` of each table in order;
 /// - `deleted LEVEL NUMBER` of each input by level and number;
 /// - `installed MANIFEST-NNNNNN`.
-///
-/// The only fault is Memory.
 pub fn compaction_lines(
     alloc: Global,
     outcome: &Outcome,
@@ -38,7 +36,7 @@ pub fn compaction_lines(
     installed_lines(alloc, &sizes, inputs, manifest_number)
 }
 
-/// The same of outputs that are known by their numbers and their lengths. The only fault is Memory.
+/// The same of outputs that are known by their numbers and their lengths.
 pub(crate) fn installed_lines(
     alloc: Global,
     sizes: &[(u64, u64)],
@@ -55,7 +53,7 @@ pub(crate) fn installed_lines(
 }
 
 /// The lines of an outcome that is not installed, each with its newline: those of its tables and of
-/// its inputs as above, and then `written EDIT`. The only fault is Memory.
+/// its inputs as above, and then `written EDIT`.
 pub(crate) fn outcome_lines(
     alloc: Global,
     outcome: &Outcome,
@@ -70,7 +68,7 @@ pub(crate) fn outcome_lines(
     Ok(text.into_bytes())
 }
 
-/// The numbers and the lengths of tables. The only fault is Memory.
+/// The numbers and the lengths of tables.
 fn sizes_of(alloc: Global, tables: &[(u64, Vec<u8>)]) -> Result<Vec<(u64, u64)>, Fault>
     ensures { EqualOrMemory (λ v. v.items) result (Ok (table_sizes (tables_in tables.now))) }
 {
@@ -81,8 +79,7 @@ fn sizes_of(alloc: Global, tables: &[(u64, Vec<u8>)]) -> Result<Vec<(u64, u64)>,
     Ok(sizes)
 }
 
-/// The lines of outputs, by their numbers and their lengths, and of inputs. The only fault is
-/// Memory.
+/// The lines of outputs, by their numbers and their lengths, and of inputs.
 fn changes_text(alloc: Global, sizes: &[(u64, u64)], inputs: &[InputFile]) -> Result<String, Fault>
     ensures { EqualOrMemory string_bytes result
         (Ok (flat_map size_line sizes.now ++ flat_map deleted_line (deletions_of inputs.now))) }

@@ -70,7 +70,7 @@ fn level_files<C: Comparator, F: Folder>(
     Ok(text.into_bytes())
 }
 
-/// The lines of CURRENT and of the manifest of this `number`. The only fault is Memory.
+/// The lines of CURRENT and of the manifest of this `number`.
 fn opened_lines(alloc: Global, number: u64) -> Result<String, Fault>
     ensures { EqualOrMemory string_bytes result (Ok (codes "CURRENT\n" ++ current_text number)) }
 {
@@ -117,7 +117,7 @@ fn push_name<F: Folder>(
     push_line(text, name.as_str())
 }
 
-/// Appends a line. The only fault is Memory.
+/// Appends a line.
 fn push_line(text: &mut String, name: &str) -> Result<(), Fault>
     ensures ok { OnOk result
         (string_bytes text.new ≡ string_bytes text.old ++ name_line name.now) }

@@ -99,8 +99,7 @@ pub(crate) fn install_merged<
     Ok(step)
 }
 
-/// The lines and the edit of a compaction of these `inputs` whose manifest has this `number`. The
-/// only fault is Memory.
+/// The lines and the edit of a compaction of these `inputs` whose manifest has this `number`.
 fn step_of<C: Comparator>(
     alloc: Global,
     planned: &Planned<'_, '_, C>,

@@ -31,7 +31,7 @@ pub fn test_files<C: Comparator>(alloc: Global, version: &Version) -> Result<(),
     Ok(())
 }
 
-/// Whether the files of a level are so. The only fault is Memory.
+/// Whether the files of a level are so.
 fn is_orderly_level<C: Comparator>(
     alloc: Global,
     version: &Version,

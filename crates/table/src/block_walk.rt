@@ -35,7 +35,7 @@ pub(crate) fn is_below<C: Comparator>(entries: &BlockCursor<'_>, target: Interna
     entries.valid() && first_key(entries).compare::<C>(&target) == Ordering::Less
 }
 
-/// Takes off the first entries that are below `target`. The only fault is Memory.
+/// Takes off the first entries that are below `target`.
 pub(crate) fn walk_to<C: Comparator>(
     entries: &mut BlockCursor<'_>,
     target: InternalKey<'_>,
@@ -52,8 +52,7 @@ pub(crate) fn walk_to<C: Comparator>(
 
 /// The entries of `block` from the first one at or above `target`.
 ///
-/// It reads on from the last restart whose key is below. It takes the memory of one key. The only
-/// fault is Memory.
+/// It reads on from the last restart whose key is below. It takes the memory of one key.
 pub(crate) fn entries_from<'a, C: Comparator>(
     alloc: Global,
     block: &SoundBlock<'a>,
@@ -90,7 +89,7 @@ fn restart_is_below<C: Comparator>(
 }
 
 /// The last restart whose key is below `target`, or the first restart if there is none. The entries
-/// before it are all below `target`. It is found by halving. Takes no memory.
+/// before it are all below `target`. It is found by halving.
 fn last_below<C: Comparator>(block: &SoundBlock<'_>, target: InternalKey<'_>) -> u64
     requires keys { HaveKeys block.now.entries }
     requires rising { EntriesRise C.cmp block.now.entries }

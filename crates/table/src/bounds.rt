@@ -17,7 +17,7 @@ pub struct Bounds {
 }
 
 impl Bounds {
-    /// A copy. The only fault is Memory.
+    /// A copy.
     pub(crate) fn copied(&self, alloc: Global) -> Result<Bounds, Fault>
         ensures { EqualOrMemory (λ bounds. bounds) result (Ok self.now) }
     {

@@ -76,7 +76,7 @@ impl<C: Comparator> TableBuilder<C> {
     }
 
     /// Whether `key` is above the last key, as [`TableBuilder::add`] requires. Without an entry
-    /// each key is. Takes no memory.
+    /// each key is.
     pub fn is_above_last(&self, key: &InternalKey) -> bool
         ensures { IsTrue result ↔ IsAboveLast C.cmp self.now.entries key.now.bytes.now }
     {
@@ -91,8 +91,6 @@ impl<C: Comparator> TableBuilder<C> {
 
     /// Appends an entry. Requires a key above the last one, and a value of at most 16,777,215
     /// bytes.
-    ///
-    /// The only fault is Memory, which leaves the builder unchanged.
     pub fn add(&mut self, key: InternalKey, value: &[u8]) -> Result<(), Fault>
         requires above { IsAboveLast C.cmp self.old.entries key.bytes.now }
         requires value_fits { length value.now < 2 ^ 24 }

@@ -19,24 +19,24 @@ pub trait Entries {
 
 /// A place in a list of entries whose internal keys never fall: the entries still to come.
 pub trait Cursor<'a, C: Comparator>: Entries {
-    /// Whether an entry is still to come. Takes no memory.
+    /// Whether an entry is still to come.
     fn valid(&self) -> bool
         ensures some { IsTrue result ↔ (0 < length (Self.remaining self.now)) }
         ensures ordered { NeverFalls C.cmp (Self.remaining self.now) };
 
-    /// The internal key of the next entry. Takes no memory.
+    /// The internal key of the next entry.
     fn key(&self) -> InternalKey<'_>
         requires { 0 < length (Self.remaining self.now) }
         ensures { option_map (λ e. e.key) (slice_get (Self.remaining self.now) 0)
             ≡ Some result.bytes.now };
 
-    /// The value of the next entry. Takes no memory.
+    /// The value of the next entry.
     fn value(&self) -> &'a [u8]
         requires { 0 < length (Self.remaining self.now) }
         ensures { option_map (λ e. e.value) (slice_get (Self.remaining self.now) 0)
             ≡ Some result.now };
 
-    /// Takes off the next entry. The only fault is Memory, which leaves the cursor unchanged.
+    /// Takes off the next entry.
     fn advance(&mut self) -> Result<(), Fault>
         requires { 0 < length (Self.remaining self.old) }
         ensures ok { OnOk result (Self.remaining self.new ≡ drop 1 (Self.remaining self.old)) }
@@ -45,7 +45,7 @@ pub trait Cursor<'a, C: Comparator>: Entries {
 
     /// Takes off the entries below `target`. It never goes back.
     ///
-    /// The only fault is Memory. Some of those entries may be lost then, and no others.
+    /// Some of those entries may be lost then, and no others.
     fn seek(&mut self, target: InternalKey<'_>) -> Result<(), Fault>
         ensures ok { OnOk result
             (Self.remaining self.new

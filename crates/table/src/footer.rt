@@ -65,7 +65,7 @@ impl Footer {
         })
     }
 
-    /// Appends the 48 bytes. The only fault is Memory, which leaves `out` unchanged.
+    /// Appends the 48 bytes.
     pub fn push(self, out: &mut Vec<u8>) -> Result<(), Fault>
         ensures ok { OnOk result (out.new.items ≡ out.old.items ++ footer_bytes self) }
         ensures err { OnErr result (out.new.items ≡ out.old.items) }

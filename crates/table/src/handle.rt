@@ -27,7 +27,6 @@ pub struct BlockHandle {
 /// A handle at the front of bytes, and the bytes after it.
 #[derive(Clone, Copy)]
 pub struct HandleBehind<'a> {
-    /// The handle.
     pub handle: BlockHandle,
     /// The bytes after its spelling.
     pub rest: &'a [u8],
@@ -36,7 +35,7 @@ pub struct HandleBehind<'a> {
 impl BlockHandle {
     ghost use Rattle.table.specs.Handle.{handle_bytes, handle_reading};
 
-    /// The handle whose spelling begins the bytes. Takes no memory.
+    /// The handle whose spelling begins the bytes.
     ///
     /// None if the bytes don't begin with two numbers below 2^64, each in its shortest spelling.
     #[tactic(auto, unfolding(crate::specs::Handle::handle_reading))]
@@ -55,7 +54,7 @@ impl BlockHandle {
         })
     }
 
-    /// Appends the spelling of the handle. The only fault is Memory, which leaves `out` unchanged.
+    /// Appends the spelling of the handle.
     #[tactic(auto, unfolding(crate::specs::Handle::handle_bytes))]
     pub fn push(self, out: &mut Vec<u8>) -> Result<(), Fault>
         ensures ok { OnOk result (out.new.items

@@ -64,7 +64,7 @@ impl KeyList {
         cut(&self.bytes, &self.ends, place)
     }
 
-    /// Appends a key. The only fault is Memory, which leaves the list unchanged.
+    /// Appends a key.
     pub(crate) fn push(&mut self, key: &[u8]) -> Result<(), Fault>
         ensures ok { OnOk result (self.new ≡ self.old ++ key.now ∷ []) }
         ensures err { OnErr result (self.new ≡ self.old) }

@@ -45,8 +45,6 @@ use coding::Fault;
 use std::alloc::Global;
 
 /// Appends a block and its trailer, and answers the block's handle.
-///
-/// The only fault is Memory, which leaves `out` unchanged.
 pub fn push_stored(out: &mut Vec<u8>, builder: &BlockBuilder) -> Result<BlockHandle, Fault>
     ensures ok { OnOk result (out.new.items
         ≡ out.old.items ++ stored_block (block builder.now.interval builder.now.entries)) }
@@ -74,8 +72,7 @@ pub fn push_stored(out: &mut Vec<u8>, builder: &BlockBuilder) -> Result<BlockHan
 /// Appends an entry to an index block: a data block's key and handle. Requires that the index then
 /// has at most 2^31 bytes.
 ///
-/// The bytes in `spelling` are lost: it lends its memory to the handle's bytes. The only fault is
-/// Memory, which leaves the index unchanged.
+/// The bytes in `spelling` are lost: it lends its memory to the handle's bytes.
 pub fn push_index_entry(
     index: &mut BlockBuilder,
     spelling: &mut Vec<u8>,
@@ -99,7 +96,7 @@ pub fn push_index_entry(
 
 /// Appends what comes after the data blocks: the metaindex, the index and the footer.
 ///
-/// The only fault is Memory. It may leave some of that after the bytes that were there.
+/// Memory may leave some of that after the bytes that were there.
 pub fn push_closing(alloc: Global, out: &mut Vec<u8>, index: &BlockBuilder) -> Result<(), Fault>
     requires { index.now.interval ≡ 1 }
     ensures ok { OnOk result (out.new.items

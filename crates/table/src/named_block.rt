@@ -9,7 +9,7 @@ use crate::trailer::reopen_contents;
 use block::{SoundBlock, reopen};
 
 /// The data block of whose handle `value` is the spelling, in a table that was checked. No test is
-/// made again. Takes no memory.
+/// made again.
 pub(crate) fn block_named<'a>(bytes: &'a [u8], value: &[u8]) -> SoundBlock<'a>
     requires { IsOk (block_named bytes.now value.now) }
     ensures { block_named bytes.now value.now ≡ Ok result.entries }

@@ -53,8 +53,7 @@ impl<C: Comparator> OwnedTable<C> {
         })
     }
 
-    /// The table of these bytes, whose check found these bounds. No test is made again. Takes no
-    /// memory.
+    /// The table of these bytes, whose check found these bounds. No test is made again.
     pub fn of(bytes: Vec<u8>, bounds: Bounds) -> OwnedTable<C>
         requires { IsCheckedTable C.cmp bytes.items bounds }
         ensures { contents_reading C.cmp bytes.items ≡ Ok result }
@@ -68,7 +67,7 @@ impl<C: Comparator> OwnedTable<C> {
 
     /// The table, lent. No test is made again: it reads the footer and where the index block is.
     ///
-    /// It takes the memory of two keys. The only fault is Memory.
+    /// It takes the memory of two keys.
     pub fn lend(&self, alloc: Global) -> Result<SoundTable<'_, C>, Fault>
         ensures { EqualOrMemory (λ table. table) result (Ok self.now) }
     {
@@ -77,7 +76,7 @@ impl<C: Comparator> OwnedTable<C> {
         Ok(SoundTable::of(bytes, index_again(bytes), bounds))
     }
 
-    /// The bytes of the table, which read as what contracts see of it. Takes no memory.
+    /// The bytes of the table, which read as what contracts see of it.
     pub fn bytes(&self) -> &[u8]
         ensures bytes { result.now ≡ self.now.bytes }
         ensures reading { contents_reading C.cmp self.now.bytes ≡ Ok self.now }
@@ -85,14 +84,14 @@ impl<C: Comparator> OwnedTable<C> {
         &self.bytes
     }
 
-    /// The key of the first entry. Takes no memory.
+    /// The key of the first entry.
     pub fn smallest(&self) -> InternalKey<'_>
         ensures { Some result.bytes.now ≡ option_map (λ e. e.key) (slice_get self.now.entries 0) }
     {
         self.bounds.smallest.as_key()
     }
 
-    /// The key of the last entry. Takes no memory.
+    /// The key of the last entry.
     pub fn largest(&self) -> InternalKey<'_>
         ensures { Some result.bytes.now
             ≡ option_map (λ e. e.key) (slice_get self.now.entries (length self.now.entries - 1)) }
@@ -110,7 +109,7 @@ fn checked_bounds<C: Comparator>(alloc: Global, bytes: &[u8]) -> Result<Bounds, 
     Ok(table.into_bounds())
 }
 
-/// The index block of bytes that were checked. No test is made again. Takes no memory.
+/// The index block of bytes that were checked. No test is made again.
 fn index_again(bytes: &[u8]) -> SoundBlock<'_>
     requires { IsOk (index_in bytes.now) }
     ensures { index_in bytes.now ≡ Ok result.entries }

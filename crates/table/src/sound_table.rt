@@ -69,8 +69,7 @@ impl<'a, C: Comparator> SoundTable<'a, C> {
         self.bounds.largest.as_key()
     }
 
-    /// What the check counted of the entries, whose keys are internal keys and rise. Takes no
-    /// memory.
+    /// What the check counted of the entries, whose keys are internal keys and rise.
     pub fn tally(&self) -> Tally
         ensures tally { result ≡ tally_of self.now.entries }
         ensures keys { HaveInternalKeys self.now.entries }
@@ -81,7 +80,7 @@ impl<'a, C: Comparator> SoundTable<'a, C> {
 
     /// The user keys of the index, one for each data block, in the order of the index.
     ///
-    /// It takes the memory of these keys and of one more. The only fault is Memory.
+    /// It takes the memory of these keys and of one more.
     pub fn index_users(&self, alloc: Global) -> Result<Vec<Vec<u8>>, Fault>
         ensures { EqualOrMemory (λ users. map (λ user. user.items) users.items) result
             (Ok self.now.index_users) }
@@ -97,8 +96,7 @@ impl<'a, C: Comparator> SoundTable<'a, C> {
 
     /// The user keys that [`SoundTable::index_users`] answers, in one buffer.
     ///
-    /// It takes the memory of the keys' bytes, of a place for each, and of one key more. The only
-    /// fault is Memory.
+    /// It takes the memory of the keys' bytes, of a place for each, and of one key more.
     pub fn index_keys(&self, alloc: Global) -> Result<KeyList, Fault>
         ensures { EqualOrMemory (λ keys. keys) result (Ok self.now.index_users) }
     {
@@ -126,7 +124,7 @@ impl<'a, C: Comparator> SoundTable<'a, C> {
 
     /// The first and the last key and what was counted, which is what a check finds beside the
     /// bytes. With it [`OwnedTable::of`](crate::OwnedTable::of()) makes the table of its bytes,
-    /// without another check. Takes no memory.
+    /// without another check.
     pub fn into_bounds(self) -> Bounds
         ensures { IsCheckedTable C.cmp self.entry.bytes result }
     {

@@ -47,7 +47,7 @@ impl<'a, C: Comparator> Model for TableCursor<'a, C> {
 }
 
 impl<'a, C: Comparator> TableCursor<'a, C> {
-    /// All entries of `table`. It takes the memory of two keys. The only fault is Memory.
+    /// All entries of `table`. It takes the memory of two keys.
     pub fn new(alloc: Global, table: &SoundTable<'a, C>) -> Result<TableCursor<'a, C>, Fault>
         ensures { EqualOrMemory (λ cursor. cursor) result (Ok table.now.entries) }
     {
@@ -69,7 +69,7 @@ impl<'a, C: Comparator> TableCursor<'a, C> {
     /// The first entry at or above `target`, and those after it. The entry here is below it.
     ///
     /// It is in the first data block whose index key is at or above `target`. Or it is the first of
-    /// the next one, if all entries of that block are below. The only fault is Memory.
+    /// the next one, if all entries of that block are below.
     fn sought(&self, target: InternalKey<'_>) -> Result<TableCursor<'a, C>, Fault>
         requires { first_is_below C.cmp target.bytes.now self.now ≡ true }
         ensures from { IfOk result (λ cursor. cursor
@@ -99,7 +99,7 @@ impl<'a, C: Comparator> Entries for TableCursor<'a, C> {
 }
 
 impl<'a, C: Comparator> Cursor<'a, C> for TableCursor<'a, C> {
-    /// Whether an entry is still to come. No two entries have one internal key. Takes no memory.
+    /// Whether an entry is still to come. No two entries have one internal key.
     fn valid(&self) -> bool
         ensures some { IsTrue result ↔ (0 < length self.now) }
         ensures ordered { NeverFalls C.cmp self.now }
@@ -127,8 +127,7 @@ impl<'a, C: Comparator> Cursor<'a, C> for TableCursor<'a, C> {
         Ok(())
     }
 
-    /// Takes off the entries below `target`. It never goes back. The only fault is Memory, which
-    /// leaves the cursor unchanged.
+    /// Takes off the entries below `target`. It never goes back.
     ///
     /// It picks the data block by the index keys, and in it the last restart whose key is below
     /// `target`, and reads on from there. It takes no memory if the first entry isn't below

@@ -38,7 +38,7 @@ pub struct Trailer {
 impl Trailer {
     ghost use Rattle.table.specs.Trailer.{trailer_bytes};
 
-    /// The trailer of contents that are stored as they are. Takes no memory.
+    /// The trailer of contents that are stored as they are.
     #[tactic(auto, unfolding(crate::specs::Trailer::trailer_bytes))]
     pub fn of(contents: &[u8]) -> Trailer
         ensures { result.block_type ∷ little_bytes 4 result.checksum ≡ trailer_bytes contents.now }
@@ -49,7 +49,7 @@ impl Trailer {
         }
     }
 
-    /// Appends the 5 bytes. The only fault is Memory, which leaves `out` unchanged.
+    /// Appends the 5 bytes.
     pub fn push(self, out: &mut Vec<u8>) -> Result<(), Fault>
         ensures ok { OnOk result (out.new.items
             ≡ out.old.items ++ self.block_type ∷ little_bytes 4 self.checksum) }
@@ -86,7 +86,7 @@ pub fn contents(bytes: &[u8]) -> Result<&[u8], Fault>
 }
 
 /// The contents of a stored block that is known to pass the tests of [`contents`]. No test is made
-/// again. Takes no memory.
+/// again.
 pub fn reopen_contents(bytes: &[u8]) -> &[u8]
     requires long { TRAILER_LEN ≤ length bytes.now }
     requires passed { IsOk (stored_reading bytes.now) }

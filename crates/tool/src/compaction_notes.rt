@@ -10,7 +10,7 @@ use session::{Telling, deleted_files, have_filter, total_text};
 use std::alloc::Global;
 use store::EDIT;
 
-/// All files of a version. The only fault is Memory.
+/// All files of a version.
 pub(crate) fn version_total(alloc: Global, version: &Version) -> Result<FileTotal, Fault> {
     let mut total = FileTotal::none();
     for level in 0..LEVELS {

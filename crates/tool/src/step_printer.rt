@@ -57,8 +57,7 @@ impl<'t, R> StepPrinter<'t, R> {
 }
 
 impl<'t, R: Eprint + Clock + AllocGlobal> StepPrinter<'t, R> {
-    /// Who prints the steps from what a folder was opened as. The first one begins. The only fault
-    /// is Memory.
+    /// Who prints the steps from what a folder was opened as. The first one begins.
     pub fn new(
         rt: &'t R,
         telling: Telling<'t>,

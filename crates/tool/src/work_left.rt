@@ -8,7 +8,7 @@ use std::alloc::Global;
 use store::next_level;
 
 /// What is left above the `bottom` of a version, if new files have `file_size` bytes. None if
-/// no file is above it. The only fault is Memory.
+/// no file is above it.
 ///
 /// A step moves one file of a level down, or those of level 0. So a level takes as many steps
 /// as it has files, and as come from the levels above it.

@@ -57,7 +57,6 @@ pub(crate) fn arg_of<'a>(alloc: Global, argument: Argument<'a>) -> Arg<'a>
     }
 }
 
-/// A flag.
 fn flag<'a>(alloc: Global, id: &'a str, help: &'a str) -> Arg<'a>
     ensures { IsArgument (flag_rule id.entry.now) result }
 {

@@ -52,7 +52,6 @@ pub(crate) fn ruled_command<'a>(alloc: Global) -> Result<Command<'a>, AllocError
     Ok(command)
 }
 
-/// The command of a name.
 fn command_of_name<'a>(alloc: Global, name: CommandName) -> Result<Command<'a>, AllocError>
     ensures { IfOk result (IsCommand (app_of_name name)) }
 {

@@ -8,7 +8,6 @@ use crate::rule::Rule;
 /// A command as it is told to `clap`.
 #[derive(Clone, Copy)]
 pub(crate) struct Description<'a> {
-    /// Its name.
     pub name: &'a str,
     /// What it does and prints, in a line.
     pub about: &'a str,

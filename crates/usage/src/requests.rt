@@ -252,7 +252,6 @@ pub enum CompactWork<'a> {
     /// A level, once. The outcome goes into a folder of its own, and the other one is only read. No
     /// account is told then, and no file is removed.
     Written {
-        /// The level.
         level: u64,
         /// The path of the folder that gets the outcome.
         out: &'a str,

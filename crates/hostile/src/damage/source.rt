@@ -17,7 +17,6 @@ pub enum Source {
 }
 
 impl Source {
-    /// The bytes.
     pub fn bytes(&self, alloc: Global) -> Result<Vec<u8>, Fault> {
         match self {
             Source::Plain(bytes) => joined(alloc, &[], 0, bytes),

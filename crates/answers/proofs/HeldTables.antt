@@ -12,8 +12,8 @@ use Rattle.checks.specs.TableReadings.{numbered_reading, tables_reading}
 use Rattle.folder.specs.Calls.{Files, Tells}
 use Rattle.folder.specs.LoadedTables.{IsTableAnswer, IsTableOf}
 use Rattle.folder.specs.Names.{old_table_name, table_name}
-use Rattle.reads.specs.FolderTables.{HoldTables, HoldsTable, TellsJust}
 use Rattle.reads.specs.Tables.{NumberedContents, table_of_number}
+use Rattle.scan.specs.FolderTables.{HoldTables, HoldsTable, TellsJust}
 use Rattle.table.specs.TableContents.{Contents, blocks_of, contents_of, contents_reading}
 
 module _ (tells : List ℕ → Option (List ℕ) → Type 0) (files : Files) (all : Tells tells files) where

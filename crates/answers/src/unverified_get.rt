@@ -18,8 +18,7 @@ use coding::Fault;
 use edit::Version;
 use folder::{Folder, Order};
 use ikey::{Bytewise, Comparator, Shortlex};
-use reads::get_unverified;
-use scan::sequence_of;
+use scan::{get_unverified, sequence_of};
 use std::alloc::Global;
 
 /// What [`answer_opened`](crate::answer_opened) answers to the question of a value, if the version

@@ -1,8 +1,3 @@
-pub mod Others
-pub mod Giving
-pub mod Parts
-pub mod IndexAhead
-pub mod UserEntries
 pub mod Members
 pub mod Orders
 pub mod Sought

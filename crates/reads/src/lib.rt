@@ -7,10 +7,6 @@
 //!    share it. [`files_newest_first`] and [`is_stated`] make the tests of the files, a table at a
 //!    time.
 //! 4. [`get`] answers the value of a user key at a sequence.
-//! 5. [`get_unverified`] answers it of tables in a folder that were tested before. It reads of each
-//!    table that may answer its footer, its index block, and the one data block in which the entry
-//!    has to be. What it reads it tests, and nothing else. So its answer is that of `get` if the
-//!    version is lawful with the tables, and it doesn't test that.
 //!
 //! [`has_bounds`], [`is_below`] and [`may_hold`] test what a version states of a file.
 //! [`all_files`] lists a version's files, each as a [`LevelFile`]. [`answers_newest_first`] is the
@@ -20,20 +16,14 @@
 //! which value `get` answers.
 #![tactic(auto)]
 
-mod block_search;
 mod bounds;
 mod entries_walk;
 mod file_list;
-mod file_parts;
-mod file_search;
-mod folder_get;
 mod found_entry;
 mod lawfulness;
 mod level_file;
 mod newest_first_law;
 mod numbered_table;
-mod owned_entry;
-mod table_blocks;
 mod table_places;
 mod table_search;
 mod version_get;
@@ -41,7 +31,6 @@ mod version_get;
 pub use bounds::has_bounds;
 pub use entries_walk::falls_in;
 pub use file_list::all_files;
-pub use folder_get::get_unverified;
 pub use lawfulness::{files_newest_first, is_below, is_stated, lawful, tables_newest_first};
 pub use level_file::LevelFile;
 pub use newest_first_law::answers_newest_first;

@@ -21,3 +21,8 @@ pub mod LevelTables
 pub mod LevelRanges
 pub mod VersionCounts
 pub mod StatsAnswers
+pub mod Others
+pub mod Giving
+pub mod Parts
+pub mod IndexAhead
+pub mod UserEntries

@@ -8,7 +8,9 @@ pub mod TestedScan
 pub mod HiddenEntries
 pub mod Stats
 pub mod TestedStats
+pub mod FolderTables
 -- serves proofs alone
+pub mod SearchAnswers
 pub mod EntryRows
 pub mod RowParts
 pub mod Counts

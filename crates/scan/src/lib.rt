@@ -1,5 +1,5 @@
-//! Walks over all entries of a version, in the order of their user keys: its rows, and how much it
-//! has.
+//! What a version answers, its tables read from a folder: its rows, how much it has, and the value of
+//! a user key.
 //!
 //! A row is a user key that has a value at a sequence, with that value: what a get answers.
 //!
@@ -9,6 +9,10 @@
 //! 3. [`scan_version`] tests the version first.
 //! 4. [`version_stats`] tests the version, and counts what it has: [`VersionStats`], of each level
 //!    [`LevelStats`], as [`Amounts`]. A [`FileTotal`] is for files that no version names.
+//! 5. [`get_unverified`] answers the value of a user key, in a version that was tested before. It
+//!    reads of each table that may answer its footer, its index block, and the one data block in
+//!    which the entry has to be. What it reads it tests, and nothing else. So its answer is that of
+//!    [`reads::get`] if the version is lawful with the tables, and it doesn't test that.
 //!
 //! [`scan_unverified_by`], [`scan_version_by`] and [`version_stats_by`] are the same by one
 //! comparator. [`sequence_of`] is the sequence at which a version is read. [`rows_law`] is the law
@@ -18,22 +22,28 @@
 #![tactic(auto)]
 
 mod amounts;
+mod block_search;
 mod count_walk;
 mod counted_version;
 mod decided_user;
 mod entry_walk;
+mod file_parts;
+mod file_search;
 mod file_total;
+mod folder_get;
 mod level_files;
 mod level_merges;
 mod level_rows;
 mod level_stats;
 mod merge_walk;
+mod owned_entry;
 mod range_counts;
 mod range_scan;
 mod row_choice;
 mod row_laws;
 mod row_limit;
 mod row_taker;
+mod table_blocks;
 mod table_rows;
 mod tested_scan;
 mod version_scan;
@@ -41,6 +51,7 @@ mod version_scan;
 pub use amounts::Amounts;
 pub use counted_version::{version_stats, version_stats_by};
 pub use file_total::FileTotal;
+pub use folder_get::get_unverified;
 pub use level_stats::{LevelStats, VersionStats};
 pub use row_choice::RowChoice;
 pub use row_laws::rows_law;

@@ -1,10 +1,5 @@
-mod DigitLemmas
 mod JsonLemmas
-mod EscapedLemmas
-mod PrintableLemmas
-mod TextLemmas
 pub mod Appended
-pub mod SpellingLemmas
 mod ShowingLemmas
 mod HeldTables
 mod UnverifiedLemmas

@@ -8,11 +8,11 @@ use Rattle.std.proofs.lemmas.List.Elements.{All-cons, All-nil}
 use Rattle.std.proofs.lemmas.Option.{none-some, same_Some}
 use Rattle.std.proofs.lemmas.Slice.Eq.{bytes_eq-Decides}
 use Rattle.hex.specs.Hex.{IsBytes, decode_pairs}
-use Rattle.answers.specs.Escaped.{first_in_value, unescaped}
-use Rattle.answers.specs.Spelling.{IsPrintable, bytes_of, value_text}
-use Rattle.answers.specs.declared.spelling.Spelling.{Spelling}
-use Rattle.answers.specs.declared.spelling.Spelling.TheVariants.{Hexadecimal, Text}
-use Rattle.answers.proofs.SpellingLemmas.{values_printable, values_read}
+use Rattle.texts.specs.Escaped.{first_in_value, unescaped}
+use Rattle.texts.specs.Spelling.{IsPrintable, bytes_of, value_text}
+use Rattle.texts.specs.declared.spelling.Spelling.{Spelling}
+use Rattle.texts.specs.declared.spelling.Spelling.TheVariants.{Hexadecimal, Text}
+use Rattle.texts.proofs.SpellingLemmas.{values_printable, values_read}
 use Rattle.answers.specs.ValueForms.{line_text, lone_text, value_line, value_line_text}
 
 -- what `none` and its escaped text are read as

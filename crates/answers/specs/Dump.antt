@@ -10,8 +10,8 @@ use Rattle.ikey.specs.Key.{user_of, sequence_of, kind_of}
 use Rattle.ikey.specs.declared.kind.Kind.{Kind}
 use Rattle.ikey.specs.declared.kind.Kind.TheVariants.{Delete, Put}
 use Rattle.table.specs.TableContents.{table_reading}
-use Rattle.answers.specs.Spelling.{key_text, value_text}
-use Rattle.answers.specs.declared.spelling.Spelling.{Spelling}
+use Rattle.texts.specs.Spelling.{key_text, value_text}
+use Rattle.texts.specs.declared.spelling.Spelling.{Spelling}
 
 -- what comes after the sequence: `put VALUE` or `del`, and a newline
 abbrev pub change_text : Spelling → Kind → List ℕ → List ℕ

@@ -17,8 +17,8 @@ use Rattle.coding.specs.declared.fault.FaultName.TheVariants.{Changed, Memory}
 use Rattle.block.specs.EncodedEntry.{Entry}
 use Rattle.ikey.specs.Bytewise.{bytewise_cmp}
 use Rattle.table.specs.TableContents.{table_reading}
-use Rattle.answers.specs.Spelling.{key_text}
-use Rattle.answers.specs.declared.spelling.Spelling.{Spelling}
+use Rattle.texts.specs.Spelling.{key_text}
+use Rattle.texts.specs.declared.spelling.Spelling.{Spelling}
 use Rattle.faults.specs.declared.file_fault.FileFault.{FileFault}
 use Rattle.faults.specs.declared.file_fault.FileFault.TheVariants.{NotBelow, Refused, Length}
 use Rattle.faults.specs.declared.file_fault.FileFault.TheVariants.{Smallest, Largest, Overlaps}

@@ -1,7 +1,4 @@
 -- what contracts rest on
-pub mod Text
-pub mod Escaped
-pub mod Spelling
 pub mod Status
 pub mod Dump
 pub mod Counters

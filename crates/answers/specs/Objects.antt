@@ -3,8 +3,8 @@ use Rattle.std.specs.Prelude.{ℕ, List, ◌++◌, true, codes, Option, Some, No
 use Rattle.serde_json.specs.Data.{Data, boolean, member, no_members, null, number, object, string}
 use Rattle.serde_json.specs.Data.{unsigned}
 use Rattle.serde_json.specs.Written.{compact_text}
-use Rattle.answers.specs.Spelling.{key_text, value_text}
-use Rattle.answers.specs.declared.spelling.Spelling.{Spelling}
+use Rattle.texts.specs.Spelling.{key_text, value_text}
+use Rattle.texts.specs.declared.spelling.Spelling.{Spelling}
 
 -- the line of an object: its text without blanks, and a newline
 abbrev pub json_line : Data → List ℕ

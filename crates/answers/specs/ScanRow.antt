@@ -1,7 +1,7 @@
 -- The line of a key, and of its value.
 use Rattle.std.specs.Prelude.{ℕ, List, ◌++◌, codes, Option, Some, None}
-use Rattle.answers.specs.Spelling.{key_text, value_text}
-use Rattle.answers.specs.declared.spelling.Spelling.{Spelling}
+use Rattle.texts.specs.Spelling.{key_text, value_text}
+use Rattle.texts.specs.declared.spelling.Spelling.{Spelling}
 
 -- `KEY VALUE`, or `KEY` without a value
 abbrev pub row_line : Spelling → List ℕ → Option (List ℕ) → List ℕ

@@ -6,7 +6,7 @@ use Rattle.coding.specs.Saturated.{saturated}
 use Rattle.ikey.specs.Key.{user_of}
 use Rattle.scan.specs.declared.file_total.FileTotal.{FileTotal}
 use Rattle.scan.specs.declared.level_stats.LevelStats.{LevelStats}
-use Rattle.answers.specs.declared.spelling.Spelling.{Spelling}
+use Rattle.texts.specs.declared.spelling.Spelling.{Spelling}
 use Rattle.answers.specs.Objects.{key_data}
 
 -- `{"bytes":B,"deletions":N,"entries":N,"files":N,"hidden":N,"largest":K,"level":L,"smallest":K}`

@@ -3,9 +3,9 @@ use Rattle.std.specs.Prelude.{◌≢◌, ℕ, ◌-◌, List, ◌++◌, codes, le
 use Rattle.std.specs.Prelude.{if◌then◌else◌}
 use Rattle.std.specs.Str.{bytes_eq}
 use Rattle.hex.specs.Hex.{IsBytes}
-use Rattle.answers.specs.Spelling.{value_text}
-use Rattle.answers.specs.declared.spelling.Spelling.{Spelling}
-use Rattle.answers.specs.declared.spelling.Spelling.TheVariants.{Hexadecimal, Text}
+use Rattle.texts.specs.Spelling.{value_text}
+use Rattle.texts.specs.declared.spelling.Spelling.{Spelling}
+use Rattle.texts.specs.declared.spelling.Spelling.TheVariants.{Hexadecimal, Text}
 use Rattle.answers.specs.declared.question.ValueForm.{ValueForm}
 use Rattle.answers.specs.declared.question.ValueForm.TheVariants.{Line, Raw}
 

@@ -14,9 +14,9 @@ use Rattle.folder.specs.OpenAnswer.{IsOpened}
 use Rattle.folder.specs.Orders.{order_cmp}
 use Rattle.answers.specs.Counters.{counters_of}
 use Rattle.answers.specs.LeveledFiles.{leveled_files}
-use Rattle.answers.specs.Spelling.{key_text}
+use Rattle.texts.specs.Spelling.{key_text}
 use Rattle.answers.specs.declared.counters.Counters.{Counters}
-use Rattle.answers.specs.declared.spelling.Spelling.{Spelling}
+use Rattle.texts.specs.declared.spelling.Spelling.{Spelling}
 use Rattle.folder.specs.declared.order.Order.{Order}
 use Rattle.folder.specs.Calls.{ToldFiles}
 

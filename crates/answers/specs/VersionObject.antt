@@ -16,7 +16,7 @@ use Rattle.answers.specs.Counters.{counters_of}
 use Rattle.answers.specs.LeveledFiles.{leveled_files}
 use Rattle.answers.specs.Objects.{key_data}
 use Rattle.answers.specs.declared.counters.Counters.{Counters}
-use Rattle.answers.specs.declared.spelling.Spelling.{Spelling}
+use Rattle.texts.specs.declared.spelling.Spelling.{Spelling}
 
 -- `{"key":K,"level":L,"sequence":S,"type":T}`
 abbrev pub parts_object : ℕ → Data → ℕ → ℕ → Data

@@ -5,10 +5,10 @@ ghost use Rattle.coding.specs.Answers.{EqualOrMemory};
 ghost use Rattle.answers.specs.FaultLines.{fault_count_line, file_fault_line, key_fault_line};
 ghost use Rattle.answers.specs.FaultLines.{name_text};
 
-use crate::spelling::Spelling;
 use coding::{Fault, FaultName};
 use faults::FileFault;
 use std::alloc::Global;
+use texts::Spelling;
 
 /// The line of what is wrong with the file of a number: `NUMBER WHAT`.
 ///

@@ -14,7 +14,6 @@ ghost use Rattle.answers.specs.VersionLines.{IsShown, version_lines};
 ghost use Rattle.answers.specs.Questions.{answer_to};
 
 use crate::question::{Question, ValueForm};
-use crate::spelling::Spelling;
 use crate::unverified_get::unverified_value;
 use crate::version_text::version_lines;
 use crate::version_verdict::{lawful_answer, lawful_line, test_opened};
@@ -25,6 +24,7 @@ use folder::{Folder, Order, ReadsTables, open};
 use ikey::{Bytewise, Shortlex};
 use std::alloc::Global;
 use std::thread::Threads;
+use texts::Spelling;
 
 /// The lines that show a folder's version, each with its newline:
 ///

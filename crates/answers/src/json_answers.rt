@@ -10,11 +10,11 @@ ghost use Rattle.answers.specs.Objects.{valid_object, value_data, value_object};
 ghost use Rattle.answers.specs.Objects.{value_parts};
 
 use crate::json_text::capped;
-use crate::spelling::Spelling;
 use coding::Fault;
 use ikey::KeyBuf;
 use serde_json::{Value, json};
 use std::alloc::Global;
+use texts::Spelling;
 
 /// The object `{"entries":E,"files":F,"lawful":true,"logs":N}` of a lawful version. So many `logs`
 /// have writes that are in no table: null if that isn't known. Of more than 2^64 - 1 entries that

@@ -8,10 +8,10 @@ ghost use Rattle.serde_json.specs.View.{view};
 ghost use Rattle.answers.specs.Objects.{json_line, row_object};
 
 use crate::json_text::json_line;
-use crate::spelling::Spelling;
 use coding::Fault;
 use serde_json::{Value, json};
 use std::alloc::Global;
+use texts::Spelling;
 
 /// Appends the line `{"key":K,"value":V}` of one key of many; `{"key":K}` if no value is given.
 #[tactic(auto, using(crate::proofs::JsonLemmas::row_has_no_float))]

@@ -8,11 +8,11 @@ ghost use Rattle.answers.specs.StatsObject.{stats_parts, total_object};
 
 use crate::json_answers::user_json;
 use crate::json_text::capped;
-use crate::spelling::Spelling;
 use coding::Fault;
 use scan::{FileTotal, LevelStats, VersionStats};
 use serde_json::{Value, json};
 use std::alloc::{AllocError, Global};
+use texts::Spelling;
 
 /// The object of how much a version has, with these members:
 ///

@@ -14,13 +14,13 @@ ghost use Rattle.answers.specs.VersionObject.{pointer_objects, version_object};
 use crate::counters::Counters;
 use crate::json_answers::user_json;
 use crate::leveled_files::leveled_files;
-use crate::spelling::Spelling;
 use coding::Fault;
 use edit::{FileMeta, LEVELS, Version};
 use folder::Order;
 use ikey::{Bytewise, Comparator, KeyBuf, Shortlex};
 use serde_json::{Value, json};
 use std::alloc::{AllocError, Global};
+use texts::Spelling;
 
 /// The object of a `version` of this `order`, with these members:
 ///

@@ -10,15 +10,11 @@
 //! 4. The calls that end in `_json` make the JSON objects of answers, and [`json_line`] the line of
 //!    one: without blanks, and members by name. Keys and values are strings of their texts. Numbers
 //!    are decimal and exact, so a reader needs integers of 64 bits.
-//! 5. [`Spelling`] has the texts of keys and values, as hexadecimal digits or as characters;
-//!    [`text_of`], [`key_of`], [`bytes_of_escaped`] and [`number_of`] one way each.
-//!    [`texts_law`]: they read back. [`value_lines_law`] is the law of the line of a value.
+//! 5. Keys and values are written as a [`Spelling`](texts::Spelling) says. [`value_lines_law`] is the
+//!    law of the line of a value.
 //! 6. [`stats_text`], [`account_text`] and [`progress_text`] are tables, bars and lines for people;
 //!    [`refusal_json`] tells of a refusal. No contract says what these hold: the cases of the
 //!    program compare them. [`status`] is the status of a refusal.
-//!
-//!     61 62    <->    `6162`   or `ab`        no bytes    <->    `-` or `""`
-//!     61 00    <->    `6100`   or `a\x00`     5c          <->    `5c` or `\x5c`
 //!
 //! No contract says which of these the program calls for a command.
 #![tactic(auto)]
@@ -26,12 +22,9 @@
 mod account;
 mod bars;
 mod counters;
-mod digits;
-mod escaped;
 mod exit_status;
 mod fault_lines;
 mod folder_commands;
-mod hex_text;
 mod json_answers;
 mod json_compaction;
 mod json_refusal;
@@ -43,7 +36,6 @@ mod leveled_files;
 mod progress;
 mod question;
 mod scan_row;
-mod spelling;
 mod stats_table;
 mod table_dump;
 mod table_verdict;
@@ -55,11 +47,9 @@ mod version_verdict;
 pub use account::{Account, LevelInputs, Output, RangeEntries, account_text};
 pub use board::Open;
 pub use checks::VersionTotals;
-pub use escaped::bytes_of_escaped;
 pub use exit_status::status;
 pub use fault_lines::{fault_count_line, file_fault_line, key_fault_line};
 pub use folder_commands::{answer_opened, get_dir, manifest, manifest_lines, verify};
-pub use hex_text::{key_of, number_of, text_of};
 pub use json_answers::{lawful_json, logs_json, removed_json, valid_json, value_json};
 pub use json_compaction::{CompactionEnd, compaction_json};
 pub use json_refusal::{Told, refusal_json};
@@ -70,7 +60,6 @@ pub use json_version::version_json;
 pub use progress::progress_text;
 pub use question::{Question, ValueForm};
 pub use scan_row::push_row;
-pub use spelling::{Spelling, texts_law};
 pub use stats_table::stats_text;
 pub use table_dump::dump;
 pub use table_verdict::{table_entries, verify_table};

@@ -1,6 +1,6 @@
 //! What may be asked of the version that a database folder holds.
 
-use crate::spelling::Spelling;
+use texts::Spelling;
 
 /// A question about a version and its tables.
 #[derive(Clone, Copy)]

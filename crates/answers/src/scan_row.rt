@@ -6,8 +6,8 @@ ghost use Rattle.coding.specs.Answers.{fault};
 ghost use Rattle.coding.specs.declared.fault.FaultName.TheVariants.{Memory};
 ghost use Rattle.answers.specs.ScanRow.{row_line};
 
-use crate::spelling::Spelling;
 use coding::Fault;
+use texts::Spelling;
 
 /// Appends the line `KEY VALUE`, or `KEY` if no value is given.
 ///

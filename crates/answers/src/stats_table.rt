@@ -1,10 +1,10 @@
 //! The lines of how much a version has.
 
 use crate::bars::bar;
-use crate::spelling::Spelling;
 use coding::Fault;
 use scan::{Amounts, FileTotal, LevelStats, VersionStats};
 use std::alloc::Global;
+use texts::Spelling;
 
 /// The lines of how much a version has, each with its newline:
 ///

@@ -6,12 +6,12 @@ ghost use Rattle.coding.specs.Answers.{EqualOrMemory, fault};
 ghost use Rattle.coding.specs.declared.fault.FaultName.TheVariants.{Memory};
 ghost use Rattle.answers.specs.Dump.{dump_line, dump_lines, table_dump};
 
-use crate::spelling::Spelling;
 use coding::Fault;
 use ikey::{Bytewise, InternalKey, Kind};
 use std::alloc::Global;
 use std::fmt::Write;
 use table::{Cursor, SoundTable, TableCursor, check};
+use texts::Spelling;
 
 /// The lines of a table in bytewise order, one for each entry: `KEY SEQ put VALUE` or `KEY SEQ
 /// del`.

@@ -2,15 +2,15 @@
 
 ghost use Rattle.std.specs.Prelude.{Some, Ok, option_map, string_bytes};
 ghost use Rattle.coding.specs.Answers.{EqualOrMemory};
-ghost use Rattle.answers.specs.Escaped.{first_in_value};
-ghost use Rattle.answers.specs.Spelling.{ArePrintable, ReadBack};
+ghost use Rattle.texts.specs.Escaped.{first_in_value};
+ghost use Rattle.texts.specs.Spelling.{ArePrintable, ReadBack};
 ghost use Rattle.answers.specs.ValueForms.{ValueLinesDiffer, lone_text, value_answer, value_line};
 ghost use Rattle.answers.specs.ValueForms.{value_line_text};
 
 use crate::question::ValueForm;
-use crate::spelling::Spelling;
 use coding::Fault;
 use std::alloc::Global;
+use texts::Spelling;
 
 /// The line of a key without a value, but for its newline.
 const NONE: &str = "none";

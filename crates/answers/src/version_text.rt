@@ -11,12 +11,12 @@ ghost use Rattle.edit.specs.declared.meta.TheConstants.{LAST_LEVEL};
 
 use crate::counters::Counters;
 use crate::leveled_files::leveled_files;
-use crate::spelling::Spelling;
 use coding::Fault;
 use edit::{FileMeta, LEVELS, Version};
 use folder::Order;
 use ikey::{Comparator, KeyBuf};
 use std::alloc::Global;
+use texts::Spelling;
 
 /// The most bytes that the line of a file has: its level has one digit, its numbers at most 20
 /// each.

@@ -1,11 +1,12 @@
 //! A folder in memory, asked by the calls that no command of the program makes.
 
 use crate::worked_bytes::{CURRENT_FIVE, MANIFEST, TABLE_U_TWICE};
-use answers::{Spelling, ValueForm, get_dir, manifest, verify};
+use answers::{ValueForm, get_dir, manifest, verify};
 use board::Open;
 use coding::Fault;
 use folder::Shelf;
 use std::thread::Threads;
+use texts::Spelling;
 
 /// A folder of one table: `u` deleted at 4 and put `x` at 2.
 const FILES: &[(&str, &[u8])] = &[

@@ -1,6 +1,6 @@
 //! All faults of a folder's version, from its path to what is printed.
 
-use answers::{Spelling, fault_count_line, file_fault_line, key_fault_line};
+use answers::{fault_count_line, file_fault_line, key_fault_line};
 use coding::{Fault, FaultName};
 use faults::{FaultTaker, FileFault, all_faults};
 use folder::Disk;
@@ -9,6 +9,7 @@ use session::{
     tell_time,
 };
 use std::time::Clock;
+use texts::Spelling;
 
 /// Prints all faults of a folder, and how many there are. If there is one, it is refused, and
 /// nothing else is told, but that another program changed the folder meanwhile. The test may hold

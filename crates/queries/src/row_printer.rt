@@ -1,6 +1,6 @@
 //! The rows of a folder, from its path to what is printed.
 
-use answers::{Spelling, json_line, logs_json, push_row, push_row_json};
+use answers::{json_line, logs_json, push_row, push_row_json};
 use coding::Fault;
 use folder::{Disk, Opened};
 use scan::{RowChoice, RowTaker, scan_unverified, scan_version};
@@ -9,6 +9,7 @@ use session::{
     locked_to_read, print_lines, refused_opened, sizes_tested, table_explained, tell_time,
 };
 use std::time::Clock;
+use texts::Spelling;
 use usage::{RowOptions, ScanLine, Testing};
 
 /// How many bytes of lines are written at once, or somewhat more.

@@ -1,13 +1,14 @@
 //! The value of a key in a folder, from its path to what is printed.
 
 use crate::folder_work::answered;
-use answers::{Question, Spelling, ValueForm, json_line, text_of, unverified_value, value_json};
+use answers::{Question, ValueForm, json_line, unverified_value, value_json};
 use coding::Fault;
 use folder::{Disk, Opened, SystemFiles};
 use session::{
     Host, OpenedFolder, Refusal, Telling, begin_counted, bytes_of, explained, locked_to_read,
     print_lines, refused_opened, sizes_tested, table_explained, tell_time,
 };
+use texts::{Spelling, text_of};
 use usage::GetLine;
 
 /// The line of a key without a value. No value has it as its hexadecimal digits.

@@ -9,13 +9,13 @@ use crate::replaced_folder::found_again;
 use crate::reporter::Telling;
 use crate::settings_refusal::settings_refusal;
 use crate::version_diagnosis::refused_file;
-use answers::text_of;
 use coding::FaultName;
 use compact::Settings;
 use folder::{CURRENT, Disk, SystemFiles};
 use std::alloc::Global;
 use std::io::ErrorKind;
 use std::{fs, io};
+use texts::text_of;
 use usage::Levels;
 
 /// The refusal of a command on a folder, with what is told of it: the first file that is refused

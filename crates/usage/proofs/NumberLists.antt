@@ -8,7 +8,7 @@ use Rattle.std.proofs.lemmas.List.{map-append}
 use Rattle.std.proofs.lemmas.List.Elements.{All-append, All-cons, All-nil}
 use Rattle.clap.specs.Words.{Text}
 use Rattle.usage.specs.CompactLine.{AreNumbers}
-use Rattle.answers.specs.Text.{IsNumberText}
+use Rattle.texts.specs.Text.{IsNumberText}
 
 abbrev pub texts_of : List (Bor Text) → List Text
 texts_of numerals = map (λ n. n.now) numerals

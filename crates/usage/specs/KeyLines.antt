@@ -1,9 +1,9 @@
 -- What is given to the commands that take keys.
 use Rattle.std.specs.Prelude.{◌≡◌, ◌&&◌, false, not, List, Some, codes, option_and_then, option_map}
 use Rattle.clap.specs.Words.{Row, first_of, one_of}
-use Rattle.answers.specs.Spelling.{bytes_of}
-use Rattle.answers.specs.Text.{bytes_of_text}
-use Rattle.answers.specs.declared.spelling.Spelling.{Spelling}
+use Rattle.texts.specs.Spelling.{bytes_of}
+use Rattle.texts.specs.Text.{bytes_of_text}
+use Rattle.texts.specs.declared.spelling.Spelling.{Spelling}
 use Rattle.usage.specs.Values.{HasTesting, IsNumberOf, is_flagged, spelling_of}
 use Rattle.usage.specs.declared.requests.BlocksLine.{BlocksLine}
 use Rattle.usage.specs.declared.requests.GetLine.{GetLine}

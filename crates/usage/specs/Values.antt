@@ -5,8 +5,8 @@ use Rattle.std.specs.Option.{option_map_or}
 use Rattle.std.specs.Str.{bytes_eq}
 use Rattle.std.specs.Str.Parse.{IsNumeral, digits_value, without_leading_plus}
 use Rattle.clap.specs.Words.{Row, Text, first_of, one_of}
-use Rattle.answers.specs.declared.spelling.Spelling.{Spelling}
-use Rattle.answers.specs.declared.spelling.Spelling.TheVariants as way
+use Rattle.texts.specs.declared.spelling.Spelling.{Spelling}
+use Rattle.texts.specs.declared.spelling.Spelling.TheVariants as way
 use Rattle.usage.specs.declared.requests.Testing.{Testing}
 
 -- whether an argument with a text is given

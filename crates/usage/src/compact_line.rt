@@ -10,12 +10,12 @@ use crate::requests::{CompactLine, CompactOptions, CompactWork, InstallLine, Lev
 use crate::values::{
     Unread, first_text, is_flagged, is_given, needed_text, number_given, number_or, testing_of,
 };
-use answers::number_of;
 use clap::ArgMatches;
 use compact::Settings;
 use keep::Snapshots;
 use std::alloc::{AllocError, Global};
 use table::Options;
+use texts::number_of;
 
 /// What is given to `compact`, with the numbers of its list in `listed`. Snapshots if the text of
 /// the list is no list of numbers.

@@ -2,7 +2,7 @@
 
 ghost use Rattle.std.specs.Prelude.{◌≡◌, IfOk, Some};
 ghost use Rattle.clap.specs.Words.{found_of, rows_of};
-ghost use Rattle.answers.specs.Text.{bytes_of_text};
+ghost use Rattle.texts.specs.Text.{bytes_of_text};
 ghost use Rattle.usage.specs.KeyLines.{HasBlocks, HasGet, HasRowOptions, HasScan};
 
 use crate::keys::{bound_in, key_in};
@@ -10,9 +10,9 @@ use crate::requests::{BlocksLine, GetLine, RowOptions, ScanLine, Usage};
 use crate::values::{
     Unread, first_text, is_flagged, needed_text, number_given, spelling_given, testing_of,
 };
-use answers::{Spelling, key_of};
 use clap::ArgMatches;
 use std::alloc::Global;
+use texts::{Spelling, key_of};
 
 /// What is given to `blocks`. Key if the text of its key is invalid.
 pub(crate) fn blocks_line<'a>(

@@ -1,12 +1,12 @@
 //! Keys, read from the texts of arguments and options in either spelling.
 
 ghost use Rattle.std.specs.Prelude.{◌≡◌, IfOk, Some, option_map};
-ghost use Rattle.answers.specs.Spelling.{bytes_of};
+ghost use Rattle.texts.specs.Spelling.{bytes_of};
 
 use crate::requests::Usage;
 use crate::values::Unread;
-use answers::Spelling;
 use std::alloc::Global;
+use texts::Spelling;
 
 /// The key of a text. Hexadecimal or Text, after its spelling, if it stands for no bytes.
 pub(crate) fn key_in(alloc: Global, spelling: Spelling, text: &str) -> Result<Vec<u8>, Unread>

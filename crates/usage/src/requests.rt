@@ -1,10 +1,10 @@
 //! What a command line asks for, or why it asks for nothing.
 
-use answers::Spelling;
 use clap::error::ErrorKind;
 use compact::Settings;
 use keep::Snapshots;
 use std::alloc::AllocError;
+use texts::Spelling;
 
 /// What a command line asks for, and how much it asks to be told of it.
 #[derive(Drop)]

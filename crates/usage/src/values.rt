@@ -6,9 +6,9 @@ ghost use Rattle.usage.specs.Values.{HasTesting, IsNumberOf, IsNumberOr, is_flag
 ghost use Rattle.usage.specs.Values.{spelling_of};
 
 use crate::requests::{Testing, Usage};
-use answers::Spelling;
 use clap::ArgMatches;
 use std::alloc::AllocError;
+use texts::Spelling;
 
 /// How many MiB of tables a test may hold if no number is given.
 const MEMORY: u64 = 128;

@@ -1,5 +1,5 @@
 use Rattle.std.proofs.Common.{[], ◌∷◌, ◌++◌}
-use Rattle.answers.specs.Spelling.{key_text}
+use Rattle.texts.specs.Spelling.{key_text}
 use Rattle.answers.proofs.Appended.{appended_on, kept_on}
 use Rattle.answers.proofs.scan_row.push_pair.Goals as goal
 

@@ -3,7 +3,7 @@ use Rattle.std.proofs.lemmas.Bool.{false≢true}
 use Rattle.std.proofs.lemmas.List.{append-nil}
 use Rattle.block.specs.EncodedEntry.{Entry}
 use Rattle.answers.specs.Dump.{dump_lines}
-use Rattle.answers.specs.declared.spelling.Spelling.{Spelling}
+use Rattle.texts.specs.declared.spelling.Spelling.{Spelling}
 use Rattle.coding.proofs.Binds.{ok_is}
 use Rattle.answers.proofs.table_dump.push_lines.Goals as goal
 

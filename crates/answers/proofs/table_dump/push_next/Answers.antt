@@ -3,7 +3,7 @@ use Rattle.std.proofs.lemmas.List.{append_assoc}
 use Rattle.table.proofs.Refused.{OnOk-map}
 use Rattle.block.specs.EncodedEntry.{Entry}
 use Rattle.answers.specs.Dump.{dump_line, dump_lines}
-use Rattle.answers.specs.declared.spelling.Spelling.{Spelling}
+use Rattle.texts.specs.declared.spelling.Spelling.{Spelling}
 use Rattle.answers.proofs.table_dump.push_next.Goals as goal
 
 abbrev entry : List ℕ → List ℕ → Entry

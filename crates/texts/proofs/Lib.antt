@@ -1,0 +1,5 @@
+mod DigitLemmas
+mod EscapedLemmas
+mod PrintableLemmas
+mod TextLemmas
+pub mod SpellingLemmas

@@ -1,0 +1,4 @@
+-- what contracts rest on
+pub mod Text
+pub mod Escaped
+pub mod Spelling

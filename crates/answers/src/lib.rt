@@ -12,15 +12,17 @@
 //!    are decimal and exact, so a reader needs integers of 64 bits.
 //! 5. Keys and values are written as a [`Spelling`](texts::Spelling) says. [`value_lines_law`] is the
 //!    law of the line of a value.
-//! 6. [`stats_text`], [`account_text`] and [`progress_text`] are tables, bars and lines for people;
-//!    [`refusal_json`] tells of a refusal. No contract says what these hold: the cases of the
-//!    program compare them. [`status`] is the status of a refusal.
+//! 6. [`stats_text`] and [`account_text`] are tables and bars for people; [`account_of`] reads the
+//!    numbers of a compaction from the folder, after it was installed. [`refusal_json`] tells of a
+//!    refusal. No contract says what these hold: the cases of the program compare them. [`status`]
+//!    is the status of a refusal.
 //!
 //! No contract says which of these the program calls for a command.
 #![tactic(auto)]
 
 mod account;
 mod bars;
+mod compaction_account;
 mod counters;
 mod exit_status;
 mod fault_lines;
@@ -33,7 +35,6 @@ mod json_stats;
 mod json_text;
 mod json_version;
 mod leveled_files;
-mod progress;
 mod question;
 mod scan_row;
 mod stats_table;
@@ -47,6 +48,7 @@ mod version_verdict;
 pub use account::{Account, LevelInputs, Output, RangeEntries, account_text};
 pub use board::Open;
 pub use checks::VersionTotals;
+pub use compaction_account::account_of;
 pub use exit_status::status;
 pub use fault_lines::{fault_count_line, file_fault_line, key_fault_line};
 pub use folder_commands::{answer_opened, get_dir, manifest, manifest_lines, verify};
@@ -57,7 +59,6 @@ pub use json_row::push_row_json;
 pub use json_stats::stats_json;
 pub use json_text::json_line;
 pub use json_version::version_json;
-pub use progress::progress_text;
 pub use question::{Question, ValueForm};
 pub use scan_row::push_row;
 pub use stats_table::stats_text;

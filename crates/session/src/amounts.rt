@@ -2,7 +2,6 @@
 
 ghost use Rattle.std.specs.Prelude.{◌<◌};
 
-use scan::FileTotal;
 use std::alloc::{AllocError, Global};
 
 /// The bytes from which on an amount is told in KB: fewer are told as they are.
@@ -29,10 +28,10 @@ pub fn grouped(alloc: Global, number: u64) -> Result<String, AllocError> {
     Ok(text)
 }
 
-/// Files that are counted, as `36 files, 32.8 MB`.
-pub fn total_text(alloc: Global, total: FileTotal) -> Result<String, AllocError> {
-    let size = size_text(alloc, total.bytes)?;
-    match total.files {
+/// How many files there are and their bytes, as `36 files, 32.8 MB`.
+pub fn total_text(alloc: Global, files: u64, bytes: u64) -> Result<String, AllocError> {
+    let size = size_text(alloc, bytes)?;
+    match files {
         0 => String::from_str(alloc, "no file"),
         1 => format!(in alloc; "1 file, {size}"),
         count => {

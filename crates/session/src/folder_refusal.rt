@@ -16,7 +16,6 @@ use std::alloc::Global;
 use std::io::ErrorKind;
 use std::{fs, io};
 use texts::text_of;
-use usage::Levels;
 
 /// The refusal of a command on a folder, with what is told of it: the first file that is refused
 /// so, for which the folder is read again. The name is told before, on the standard error. The
@@ -32,11 +31,12 @@ pub fn explained<R: Host>(rt: &R, telling: Telling<'_>, refusal: Refusal) -> Ref
     refusal.telling(told)
 }
 
-/// The same of a compaction: a refusal of what was asked for is told without reading.
+/// The same of a compaction: a refusal of what was asked for is told without reading. The `level` is
+/// None if all were asked for.
 pub fn compaction_explained<R: Host>(
     rt: &R,
     telling: Telling<'_>,
-    levels: Levels,
+    level: Option<u64>,
     settings: &Settings<'_>,
     refusal: Refusal,
 ) -> Refusal {
@@ -44,7 +44,7 @@ pub fn compaction_explained<R: Host>(
         return refusal;
     }
     let name = refusal.fault.name;
-    match settings_refusal(rt.alloc(), telling.folder, levels, settings, name) {
+    match settings_refusal(rt.alloc(), telling.folder, level, settings, name) {
         None => explained(rt, telling, refusal),
         told => refusal.telling(told),
     }

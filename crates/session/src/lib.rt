@@ -8,16 +8,14 @@
 //!    outcome of a compaction.
 //! 2. [`replayed_log`]: which logs LevelDB would replay, by their names.
 //! 3. [`replaceable_file`]: which files a compaction may replace, by their names.
-//! 4. [`account_of`]: the numbers of a compaction, after it was installed.
-//! 5. [`deleted_files`]: which files went into it. [`have_filter`]: whether one of them has a filter
-//!    block.
+//! 4. [`deleted_files`]: which files went into a compaction. [`have_filter`]: whether one of them has
+//!    a filter block.
 //!
-//! None of these changes a folder. No contract says which file, log or numbers these are, what is
-//! told, nor which calls of the system are made.
+//! None of these changes a folder. No contract says which files or logs these are, what is told, nor
+//! which calls of the system are made.
 #![tactic(auto)]
 
 mod amounts;
-mod compaction_account;
 mod detail;
 mod edit_inputs;
 mod explanations;
@@ -37,6 +35,7 @@ mod manifest_notes;
 mod opened_folder;
 mod opening_diagnosis;
 mod outcome_diagnosis;
+mod progress;
 mod progress_line;
 mod refusal;
 mod refused_files;
@@ -51,7 +50,6 @@ mod version_diagnosis;
 mod work_left;
 
 pub use amounts::total_text;
-pub use compaction_account::account_of;
 pub use detail::Detail;
 pub use edit_inputs::deleted_files;
 pub use explanations::{Words, in_words, of_file};
@@ -66,6 +64,7 @@ pub use opened_folder::{
     OpenedFolder, begin_counted, begin_work, bytes_of, open_folder, print_lines, refused_at,
 };
 pub use outcome_diagnosis::refused_outcome;
+pub use progress::progress_text;
 pub use progress_line::ProgressLine;
 pub use refusal::{Refusal, RefusalParts, RefusalText, told};
 pub use refused_files::RefusedFile;

@@ -1,8 +1,8 @@
 //! A line of progress on the standard error.
 
+use crate::progress::progress_text;
 use crate::reporter::{LONG, Telling};
 use crate::work_left::WorkLeft;
-use answers::progress_text;
 use board::Gate;
 use checks::{Watch, Work};
 use coding::Fault;

@@ -9,22 +9,21 @@ use keep::Snapshots;
 use split::MAX_RANGES;
 use std::alloc::Global;
 use table::{MAX_BLOCK_SIZE, MAX_TABLE_LEN};
-use usage::Levels;
 
 /// What to do about a list of more.
 const LIST_FEWER: &str = "give at most 4096";
 
 /// What is told if the compaction of the folder at a path is refused by this name. None if it isn't
-/// refused for what was asked for.
+/// refused for what was asked for. The `level` is None if all were asked for.
 pub fn settings_refusal(
     alloc: Global,
     folder: &str,
-    levels: Levels,
+    level: Option<u64>,
     settings: &Settings<'_>,
     name: FaultName,
 ) -> Option<RefusalText> {
     match name {
-        FaultName::Level | FaultName::NoInput => level_refusal(alloc, folder, levels, name),
+        FaultName::Level | FaultName::NoInput => level_refusal(alloc, folder, level, name),
         FaultName::Workers => outside(alloc, folder, "--workers", settings.workers, MAX_WORKERS),
         FaultName::SplitCount => outside(alloc, folder, "--ranges", settings.ranges, MAX_RANGES),
         FaultName::Options => options_refusal(alloc, folder, settings),
@@ -38,12 +37,10 @@ pub fn settings_refusal(
 fn level_refusal(
     alloc: Global,
     folder: &str,
-    levels: Levels,
+    level: Option<u64>,
     name: FaultName,
 ) -> Option<RefusalText> {
-    let Levels::One(level) = levels else {
-        return None;
-    };
+    let level = level?;
     if name == FaultName::Level {
         let wrong = format!(in alloc; "level {level} cannot be compacted");
         return RefusalText::new(alloc, folder, wrong, "give a level from 0 to 5");

@@ -140,7 +140,9 @@ pub(crate) fn tell_made<R: Eprint + AllocGlobal>(
         return;
     }
     let alloc = rt.alloc();
-    if let (Ok(before), Ok(after)) = (total_text(alloc, before), total_text(alloc, after)) {
+    let before = total_text(alloc, before.files, before.bytes);
+    let after = total_text(alloc, after.files, after.bytes);
+    if let (Ok(before), Ok(after)) = (before, after) {
         let _ = eprintln!(rt; "{before} into {after}");
     }
 }

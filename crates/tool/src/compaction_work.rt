@@ -48,8 +48,16 @@ pub(crate) fn compact_folder<R: Host>(
     };
     let _lock = locked_to_change(rt, telling)?;
     compact_levels(rt, telling, task).map_err(|refusal| {
-        compaction_explained(rt, telling, task.levels, task.settings, refusal)
+        compaction_explained(rt, telling, one_level(task.levels), task.settings, refusal)
     })
+}
+
+/// The level, if one is asked for.
+fn one_level(levels: Levels) -> Option<u64> {
+    match levels {
+        Levels::One(level) => Some(level),
+        Levels::All => None,
+    }
 }
 
 fn compact_levels<R: Host>(

@@ -7,7 +7,7 @@ use session::{
     tell_time,
 };
 use store::files_to_compact;
-use usage::{JobLine, Levels};
+use usage::JobLine;
 
 /// Prints the names of the files that a compaction of a level would read. No table is read, and no
 /// lock is taken.
@@ -17,8 +17,7 @@ pub(crate) fn print_job<R: Host>(
     line: &JobLine<'_>,
 ) -> Result<(), Refusal> {
     job_printed(rt, telling, line.level).map_err(|refusal| {
-        let levels = Levels::One(line.level);
-        compaction_explained(rt, telling, levels, &Settings::default(), refusal)
+        compaction_explained(rt, telling, Some(line.level), &Settings::default(), refusal)
     })
 }
 

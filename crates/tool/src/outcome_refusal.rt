@@ -9,7 +9,7 @@ use session::{
 };
 use std::alloc::Global;
 use store::EDIT;
-use usage::{InstallLine, Levels};
+use usage::InstallLine;
 
 /// What to do about an outcome.
 const REMEDY: &str = "make the outcome again";
@@ -40,7 +40,7 @@ pub(crate) fn outcome_explained<'a, R: Host>(
         snapshots: line.snapshots,
         ..Settings::default()
     };
-    let explained = compaction_explained(rt, telling, Levels::All, &settings, refusal);
+    let explained = compaction_explained(rt, telling, None, &settings, refusal);
     if explained.told.is_some() {
         return explained;
     }

@@ -13,7 +13,7 @@ use session::{
 };
 use std::alloc::Global;
 use store::{CompactionOutcome, EDIT, outcome_of_inputs, outcome_of_opened};
-use usage::{CompactLine, Levels};
+use usage::CompactLine;
 
 /// What is asked for of such a compaction.
 #[derive(Clone, Copy)]
@@ -34,8 +34,7 @@ pub(crate) fn write_compaction<R: Host>(
     task: OutcomeTask<'_>,
 ) -> Result<(), Refusal> {
     compaction_written(rt, telling, line, task).map_err(|refusal| {
-        let levels = Levels::One(task.level);
-        compaction_explained(rt, telling, levels, &line.settings, refusal)
+        compaction_explained(rt, telling, Some(task.level), &line.settings, refusal)
     })
 }
 

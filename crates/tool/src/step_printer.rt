@@ -4,14 +4,13 @@ use crate::clean_work::clean_installed;
 use crate::compaction_notes::{CompactionNote, note_of, tell_made, tell_no_step, version_total};
 use crate::compaction_work::CompactionTask;
 use crate::work_left::work_left;
-use answers::{CompactionEnd, account_text, compaction_json, json_line};
+use answers::{CompactionEnd, account_of, account_text, compaction_json, json_line};
 use coding::{Fault, FaultName};
 use edit::{Version, VersionEdit};
 use folder::{Disk, Opened, Order, SystemFiles};
 use scan::FileTotal;
 use session::{
-    Beginning, Host, ProgressLine, Refusal, Telling, Words, account_of, in_words, print_lines,
-    tell_time, told,
+    Beginning, Host, ProgressLine, Refusal, Telling, Words, in_words, print_lines, tell_time, told,
 };
 use std::alloc::Global;
 use std::time::Clock;

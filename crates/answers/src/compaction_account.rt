@@ -3,11 +3,10 @@
 
 ghost use Rattle.folder.specs.Reports.{OnlyReads};
 
-use crate::table_file::table_file;
-use answers::{Account, LevelInputs, Output, RangeEntries};
-use coding::{Fault, FaultName};
+use crate::account::{Account, LevelInputs, Output, RangeEntries};
+use coding::Fault;
 use edit::{FileMeta, LEVELS, Version};
-use folder::{Folder, Order};
+use folder::{Folder, Order, load_numbers};
 use ikey::{Bytewise, Comparator, Shortlex};
 use pick::{InputFile, inputs};
 use split::{Range, Split};
@@ -115,8 +114,8 @@ fn entries_of<C: Comparator, F: Folder>(
 ) -> Result<Entries, Fault>
     ensures reads { OnlyReads F.Folder folder.old folder.new }
 {
-    let taken = read_tables(alloc, folder, &numbers_of_inputs(alloc, files)?)?;
-    let made = read_tables(alloc, folder, &numbers_of_outputs(alloc, outputs)?)?;
+    let taken = load_numbers(alloc, folder, &numbers_of_inputs(alloc, files)?)?;
+    let made = load_numbers(alloc, folder, &numbers_of_outputs(alloc, outputs)?)?;
     counted::<C>(alloc, &taken, &made, ranges)
 }
 
@@ -178,29 +177,11 @@ fn numbers_of_outputs(alloc: Global, outputs: &[Output]) -> Result<Vec<u64>, Fau
     Ok(numbers)
 }
 
-/// The bytes of the tables of these `numbers`. Missing at the first that is gone.
-fn read_tables<F: Folder>(
-    alloc: Global,
-    folder: &mut F,
-    numbers: &[u64],
-) -> Result<Vec<Vec<u8>>, Fault>
-    ensures reads { OnlyReads F.Folder folder.old folder.new }
-{
-    let mut tables = Vec::with_capacity(alloc, numbers.len())?;
-    for number in numbers {
-        let Some(table) = table_file(alloc, folder, *number)? else {
-            return Err(Fault::of(FaultName::Missing));
-        };
-        tables.push(table.bytes)?;
-    }
-    Ok(tables)
-}
-
 /// How many entries the inputs have in each range of their split, and how many all outputs have.
 fn counted<C: Comparator>(
     alloc: Global,
-    taken: &[Vec<u8>],
-    made: &[Vec<u8>],
+    taken: &[(u64, Vec<u8>)],
+    made: &[(u64, Vec<u8>)],
     ranges: u64,
 ) -> Result<Entries, Fault> {
     let inputs = checked::<C>(alloc, taken)?;
@@ -211,18 +192,22 @@ fn counted<C: Comparator>(
 }
 
 /// How many entries the tables of these bytes have together.
-fn kept_of<C: Comparator>(alloc: Global, made: &[Vec<u8>], split: &Split<C>) -> Result<u64, Fault> {
+fn kept_of<C: Comparator>(
+    alloc: Global,
+    made: &[(u64, Vec<u8>)],
+    split: &Split<C>,
+) -> Result<u64, Fault> {
     let outputs = checked::<C>(alloc, made)?;
     Ok(sum(&entries_by_range(alloc, &outputs, split)?))
 }
 
-/// The tables that these bytes are.
+/// The tables that the bytes of these files are.
 fn checked<'t, C: Comparator>(
     alloc: Global,
-    files: &'t [Vec<u8>],
+    files: &'t [(u64, Vec<u8>)],
 ) -> Result<Vec<SoundTable<'t, C>>, Fault> {
     let mut tables = Vec::with_capacity(alloc, files.len())?;
-    for bytes in files {
+    for (_, bytes) in files {
         tables.push(check::<C>(alloc, bytes)?)?;
     }
     Ok(tables)

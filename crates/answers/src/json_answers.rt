@@ -31,7 +31,7 @@ pub fn lawful_json(
     Ok(json!(in alloc; {"entries": entries, "files": files, "lawful": true, "logs": logs})?)
 }
 
-/// The object `{"logs":N}` after rows: so many logs have writes that are in no table, null if that
+/// The object `{"logs":N}` after rows: how many logs have writes that are in no table, null if it
 /// isn't known.
 pub fn logs_json(alloc: Global, logs: Option<u64>) -> Result<Value, Fault>
     ensures { EqualOrMemory view result (Ok (logs_object logs)) }

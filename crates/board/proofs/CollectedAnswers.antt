@@ -1,5 +1,5 @@
 -- What a run answers, if its labour states the answers of all jobs as one list.
-use Rattle.std.proofs.Common.{◌≡◌, ◌⊎◌, ℕ, zero, suc, ◌<◌, ◌≤◌, inl, inr, List, [], ◌∷◌, map, length, get_or, Some, Result, Ok, Err, IfOk, IfErr, refl, ap, ◌∙◌, arith, slice_get}
+use Rattle.std.proofs.Common.{◌≡◌, ◌≢◌, ◌⊎◌, ℕ, zero, suc, ◌<◌, ◌≤◌, inl, inr, List, [], ◌∷◌, map, length, get_or, Some, Result, Ok, Err, IfOk, IfErr, refl, ap, ◌∙◌, arith, slice_get}
 use Rattle.coding.specs.declared.fault.Fault.{Fault}
 use Rattle.coding.specs.Answers.{◌>>=◌, EqualOrMemory, FailsOrMemory}
 use Rattle.coding.proofs.Refusals.{unless_from}
@@ -47,14 +47,18 @@ module _ {B O : Type 0} (view : O → B) where
   refused_collected answers jobs job fault h =
       unless_from fault _ _ (first_refused answers job fault (λ i lt. let r = h.before i lt in (view r.0, r.1.1))) h.refused
 
-  -- the same of any fault of a run by 1 to 64 workers
-  pub fault_collected : {V : Type 0} (answers : List (Result B Fault)) (jobs workers : ℕ) (result : Result V RunFault) (e : RunFault) → result ≡ Err e
+  -- the same of any fault of a run, if the number of workers is none
+  pub fault_collected : {V : Type 0} (answers : List (Result B Fault)) (jobs : ℕ) (result : Result V RunFault) (e : RunFault) → result ≡ Err e
       → ((job : ℕ) (fault : Fault) → result ≡ Err (RunFault.Job job fault) → IsRefused (refusal_at answers) (λ job out. HasValue answers job (view out)) jobs job fault)
-      → (result ≡ Err RunFault.Workers → (workers ≡ 0) ⊎ (64 < workers)) → 0 < workers → workers ≤ 64
-      → FailsOrMemory (fault_of_run e) (collected_results answers)
-  fault_collected answers jobs workers result (RunFault.Job job fault) is refused outside some few = refused_collected answers jobs job fault (refused job fault is)
-  fault_collected answers jobs workers result RunFault.Workers is refused outside some few = absurd (elim (outside is) [ inl none ↦ omega arith | inr many ↦ omega arith ])
-  fault_collected answers jobs workers result RunFault.Memory is refused outside some few = tt
+      → result ≢ Err RunFault.Workers → FailsOrMemory (fault_of_run e) (collected_results answers)
+  fault_collected answers jobs result (RunFault.Job job fault) is refused few = refused_collected answers jobs job fault (refused job fault is)
+  fault_collected answers jobs result RunFault.Workers is refused few = absurd (few is)
+  fault_collected answers jobs result RunFault.Memory is refused few = tt
+
+-- a number from 1 to 64 isn't outside
+pub none_outside : (workers : ℕ) → 0 < workers → workers ≤ 64 → (workers ≡ 0) ⊎ (64 < workers) → ⊥
+none_outside workers some few (inl none) = omega arith
+none_outside workers some few (inr many) = omega arith
 
 -- What a labour's work owes, if a call gives a job's answer.
 module _ {B O : Type 0} (view : O → B) (answers : List (Result B Fault)) (job : ℕ) (answer : Result B Fault) (at : slice_get answers job ≡ Some answer) where

@@ -1,5 +1,5 @@
 -- What the workers leave, put together.
-use Rattle.std.proofs.Common.{◌≡◌, ◌⊎◌, inl, ℕ, zero, suc, ◌+◌, ◌<◌, ◌≤◌, List, [], ◌∷◌, ◌++◌, map, length, get_or, All, Option, None, Some, replicate, refl, sym, ap, ◌∙◌, subst, arith, append_assoc, append-nil, length-append}
+use Rattle.std.proofs.Common.{◌≡◌, ℕ, zero, suc, ◌+◌, ◌<◌, ◌≤◌, List, [], ◌∷◌, ◌++◌, map, length, get_or, All, Option, None, Some, replicate, refl, sym, ap, ◌∙◌, subst, arith, append_assoc, append-nil, length-append}
 use Rattle.std.proofs.lemmas.List.Elements.{All-append, All-nil}
 use Rattle.std.specs.List.{flat_map}
 use native.Mathlib.Decide.{dec_le}
@@ -154,7 +154,3 @@ each_placed refusal gives of ps places found h c spent any i lt = h.done i (done
 pub new_seats : (b : Layout) (w : ℕ) (ps : List Progress) → b.seats ≡ w → ps ≡ unused_seats b w → All (IsUnused b) ps × (length ps ≡ w) × (b.seats ≡ w)
 new_seats b w ps s seats =
     (subst (All (IsUnused b)) (sym seats) (unused_free b w (omega arith)), ap length seats ∙ length-unused_seats b w, s)
-
-pub not_none : (w : ℕ) (R : Type 0) → ((w ≡ 0) ⊎ (64 < w) → R) → (R → ⊥) → 0 < w
-not_none zero R f never = absurd (never (f (inl refl)))
-not_none (suc w) R f never = omega arith

@@ -1,7 +1,8 @@
 //! A board of numbered jobs. Seats in several threads draw them, each job once, without a lock.
 //!
-//! [`run`] does all jobs of a [`Labour`] by several workers and answers their results in order. It
-//! uses the calls of [`Board`], which can be used by themselves:
+//! [`run`] does all jobs of a [`Labour`] by several workers and answers their results in order.
+//! [`Workers`] are the same as a value, which is made once and handed on. Both use the calls of
+//! [`Board`], which can be used by themselves:
 //!
 //! 1. `new` makes a board and its seats.
 //! 2. `draw` gives a seat its next job; `done`, `fail` or `skip` spends it. `least_fault` looks at
@@ -39,6 +40,7 @@ mod shift;
 mod tally;
 mod trail;
 mod worker;
+mod workers;
 
 pub use job::Job;
 pub use labour::{Gate, Labour, Open};
@@ -46,6 +48,7 @@ pub use limits::{MAX_JOBS, MAX_WORKERS};
 pub use pool::{RunFault, run};
 pub use seat::Seat;
 pub use tally::Tally;
+pub use workers::Workers;
 
 mod board;
 

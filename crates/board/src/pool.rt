@@ -15,6 +15,7 @@ use crate::places::{place, take_all};
 use crate::seat::Seat;
 use crate::shift::Shift;
 use crate::worker::{least_of, serve};
+use crate::workers::Workers;
 use coding::{Fault, FaultName};
 use std::alloc::{AllocError, Global};
 use std::thread;
@@ -64,16 +65,10 @@ where
     ensures refused { (job : ℕ) (fault : Fault) → result ≡ Err (RunFault.Job job fault)
         → IsRefused (L.refusal labour.now) (L.gives labour.now) jobs job fault }
 {
-    let (board, seats) = match Board::new(alloc, jobs, workers) {
-        Ok(made) => made,
-        Err(fault) if fault.name == FaultName::Workers => return Err(RunFault::Workers),
-        Err(_) => return Err(RunFault::Memory),
+    let Ok(workers) = Workers::new(rt, alloc, workers, gate) else {
+        return Err(RunFault::Workers);
     };
-    match run_board(rt, alloc, labour, board, jobs, seats, gate) {
-        Ok(Ok(results)) => Ok(results),
-        Ok(Err((job, fault))) => Err(RunFault::Job { job, fault }),
-        Err(AllocError) => Err(RunFault::Memory),
-    }
+    workers.run(labour, jobs)
 }
 
 impl From<RunFault> for Fault {
@@ -91,8 +86,8 @@ impl From<RunFault> for Fault {
     }
 }
 
-// The results of all jobs, or the least job that failed.
-fn run_board<L: Labour + Sync, G: Gate + Sync, R: Threads + Sync>(
+/// The results of all jobs, or the least job that failed.
+pub(crate) fn run_board<L: Labour + Sync, G: Gate + Sync, R: Threads + Sync>(
     rt: &R,
     alloc: Global,
     labour: &L,

@@ -54,21 +54,18 @@ fn test_log(alloc: Global, bytes: &[u8]) -> Result<(), Fault>
     ensures refused { IfErr result (λ e. FailsOrMemory e (records_of bytes.now)) }
 {
     let mut records = RecordReader::new(bytes);
-    loop {
-        let Some(_) = records.next(alloc)? else {
-            return Ok(());
-        };
-    }
+    while let Some(_) = records.next(alloc)? {}
+    Ok(())
 }
 
-/// The edit that the bytes of a record are, which are let go.
-fn edit_of(alloc: Global, record: Vec<u8>) -> Result<VersionEdit, Fault>
-    ensures found { IfOk result (λ e. IsEdit record.items (edit_in e)) }
-    ensures only { (e : Edit) → IsEdit record.items e → EqualOrMemory edit_in result (Ok e) }
-    ensures refused { IfErr result (λ e. UnlessMemory e (IsEditRefused record.items e)) }
+/// The edit that the `encoded` bytes of a record are, which are let go.
+fn edit_of(alloc: Global, encoded: Vec<u8>) -> Result<VersionEdit, Fault>
+    ensures found { IfOk result (λ e. IsEdit encoded.items (edit_in e)) }
+    ensures only { (e : Edit) → IsEdit encoded.items e → EqualOrMemory edit_in result (Ok e) }
+    ensures refused { IfErr result (λ e. UnlessMemory e (IsEditRefused encoded.items e)) }
     ensures levels { IfOk result (λ e. HasValidLevels (edit_in e)) }
 {
-    VersionEdit::decode(alloc, &record)
+    VersionEdit::decode(alloc, &encoded)
 }
 
 /// The order of the first comparator's name in the edits of a log. The refusal of the first record
@@ -79,13 +76,11 @@ fn order_in(alloc: Global, bytes: &[u8]) -> Result<Order, Fault>
 {
     let mut records = RecordReader::new(bytes);
     let mut named = None;
-    loop {
-        let Some(record) = records.next(alloc)? else {
-            return named.unwrap_or(Err(Fault::of(FaultName::Comparator)));
-        };
-        let edit = edit_of(alloc, record)?;
+    while let Some(encoded) = records.next(alloc)? {
+        let edit = edit_of(alloc, encoded)?;
         named = order_with(named, &edit);
     }
+    named.unwrap_or(Err(Fault::of(FaultName::Comparator)))
 }
 
 /// The order of the first name: `named` is that of earlier edits, if they have one.
@@ -121,13 +116,11 @@ fn version_after<C: Comparator>(alloc: Global, bytes: &[u8]) -> Result<Version, 
 {
     let mut records = RecordReader::new(bytes);
     let mut version = Version::empty(alloc);
-    loop {
-        let Some(record) = records.next(alloc)? else {
-            return Ok(version);
-        };
-        let edit = edit_of(alloc, record)?;
+    while let Some(encoded) = records.next(alloc)? {
+        let edit = edit_of(alloc, encoded)?;
         version = version.applied::<C>(edit)?;
     }
+    Ok(version)
 }
 
 /// Whether log number, last sequence and next file were set, and `number` is below next file.

@@ -7,6 +7,7 @@ use coding::{Fault, read_u64_varint};
 use edit::LAST_LEVEL;
 use folder::Folder;
 use ikey::{MAX_USER_KEY, TAG_LEN};
+use logrec::RecordReader;
 use std::alloc::Global;
 
 /// The most bytes of an internal key that is compacted here.
@@ -32,10 +33,11 @@ pub(crate) fn field_detail<F: Folder>(
     limit_in(alloc, &bytes)
 }
 
-/// The same, of the bytes of a manifest.
+/// The same, of the bytes of a manifest. It takes the memory of one record at a time.
 fn limit_in(alloc: Global, bytes: &[u8]) -> Result<Option<Detail>, Fault> {
-    for record in logrec::records(alloc, bytes)? {
-        if let Err(detail) = fields_read(&record) {
+    let mut records = RecordReader::new(bytes);
+    while let Some(encoded) = records.next(alloc)? {
+        if let Err(detail) = fields_read(&encoded) {
             return Ok(detail);
         }
     }

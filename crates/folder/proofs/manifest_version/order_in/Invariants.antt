@@ -4,8 +4,8 @@ use Rattle.folder.proofs.ManifestReadings.{OrderSoFar}
 use Rattle.folder.proofs.manifest_version.order_in.Given as goal
 
 -- the records so far read as edits, and this is the order of their first name
-abbrev pub invariant-loop-record : goal.invariant-loop-record
-invariant-loop-record l = (rs : List (List ℕ)) → records_of l.bytes ≡ Ok rs → OrderSoFar rs l.records.ahead l.named
+abbrev pub invariant-loop-encoded : goal.invariant-loop-encoded
+invariant-loop-encoded l = (rs : List (List ℕ)) → records_of l.bytes ≡ Ok rs → OrderSoFar rs l.records.ahead l.named
 
-abbrev pub decreases-loop-record : goal.decreases-loop-record
-decreases-loop-record l = l.records.left
+abbrev pub decreases-loop-encoded : goal.decreases-loop-encoded
+decreases-loop-encoded l = l.records.left

@@ -1,7 +1,6 @@
 -- The steps of an adoption, as parts of a call.
-use Rattle.std.proofs.Common.{◌≡◌, ◌⊎◌, ℕ, List, Result, Ok, Err, IfOk, refl, sym, ap, subst, ◌∙◌, inl, inr, codes}
+use Rattle.std.proofs.Common.{◌≡◌, ◌⊎◌, ℕ, List, Result, Ok, Err, IfOk, refl, subst, ◌∙◌, inl, inr, codes}
 use Rattle.std.specs.Global.{Vec}
-use Rattle.coding.proofs.Binds.{done, ok_is}
 use Rattle.coding.proofs.Refusals.{only_memory, unless_from}
 use Rattle.coding.specs.Answers.{EqualOrMemory, FailsOrMemory, HoldsOrMemory, IsThen, UnlessMemory, fault}
 use Rattle.coding.specs.declared.fault.Fault.{Fault}
@@ -23,8 +22,7 @@ use Rattle.checks.specs.declared.version_totals.VersionTotals.{VersionTotals}
 use Rattle.store.proofs.Flow.{loaded_in, no_refusal}
 use Rattle.store.proofs.InstallPart.{still, survives_on}
 use Rattle.store.specs.Compaction.{IsUnchanged}
-use Rattle.store.specs.Lines.{compaction_lines}
-use Rattle.pick.specs.declared.picked_inputs.InputFile.{InputFile}
+use Rattle.store.specs.declared.compaction_step.CompactionStep.{CompactionStep}
 use Rattle.store.specs.InputsCompaction.{input_numbers}
 use Rattle.adoption.specs.Adoption.{Adoption, IsEditGiven, IsGiven, with_tables}
 use Rattle.adoption.specs.AdoptionLeft.{AdoptedVersion, IsInstallation, AdoptionKeepsReads}
@@ -78,24 +76,19 @@ pub refused_with : {Y Z : Type 0} (before now : ℕ) (e : Fault) (IsFirst : Resu
 refused_with before now e IsFirst IsAnswer f given =
     unless_from e (IsStopped before now e ⊎ IsFirst (Err e)) (IsStopped before now e ⊎ IsAnswer (Err e)) (λ g. elim g [ inl stopped ↦ inl stopped | inr found ↦ inr (f found) ]) given
 
--- the lines of these inputs and this number
-pub lines_are : (tables : List (ℕ × List ℕ)) (inputs files : List InputFile) (number n : ℕ) (text : List ℕ) → done (compaction_lines tables inputs number) ≡ done text → inputs ≡ files → number ≡ n → text ≡ compaction_lines tables files n
-lines_are tables inputs files number n text h same is =
-    sym (ok_is (compaction_lines tables inputs number) text h) ∙ (ap (λ (i : List InputFile). compaction_lines tables i number) same ∙ ap (compaction_lines tables files) is)
-
 -- ---- what is left
 
 pub unchanged_since : {T : Type 0} (first before after : List Step) (zero old new : ToldFiles) (q : Result T Fault) → before ≡ first → TellsSame zero old → IsUnchanged before after old new q → IsUnchanged first after zero new q
 unchanged_since first before after zero old new q is told u = record { calls = u.calls ∙ is; same = told_since zero old new told u.same; refused = u.refused }
 
-module _ (order : Order) (cmp : KeyOrder) (v : State) (loaded : List (ℕ × List ℕ)) (given : Adoption × List (ℕ × List ℕ)) (first before after : List Step) (zero old new : ToldFiles) (q : Result (Vec ℕ) Fault) (is : before ≡ first) (told : TellsSame zero old) where
+module _ (order : Order) (cmp : KeyOrder) (v : State) (loaded : List (ℕ × List ℕ)) (given : Adoption × List (ℕ × List ℕ)) (first before after : List Step) (zero old new : ToldFiles) (q : Result CompactionStep Fault) (is : before ≡ first) (told : TellsSame zero old) where
   pub installed_since : IsInstallation cmp order v loaded given before after old new q → IsInstallation cmp order v loaded given first after zero new q
   installed_since i =
       let tables = next_version_tables cmp given.0.next given.1 loaded in
       record {
         survives = subst (λ (b : List Step). SurvivesCrash cmp order v loaded given.0.next tables b after zero new q) is
             (survives_on cmp order v given.0.next loaded tables before after zero old new q q (λ P x. x) (still zero old told) i.survives);
-        printed = i.printed;
+        step = i.step;
         refused = i.refused;
       }
 

@@ -29,8 +29,8 @@ use Rattle.checks.specs.TestedTables.{IsTested}
 use Rattle.compact.specs.Request.{RequestView, request_test}
 use Rattle.store.specs.FolderRequest.{last_of, manifest_of}
 use Rattle.store.specs.InputsCompaction.{IsOrderlyAnswer, input_numbers, input_tables}
-use Rattle.store.specs.Lines.{compaction_lines}
 use Rattle.store.specs.OpenedAfter.{IsEditAnswer}
+use Rattle.store.specs.Step.{StepView, step_of}
 use Rattle.adoption.specs.EditFit.{IsFitting}
 use Rattle.adoption.specs.KeptEntries.{IsKeptAnswer}
 use Rattle.adoption.specs.declared.comparison.Comparison.{Comparison}
@@ -174,26 +174,29 @@ laid_table tables name = lookup (λ (n : ℕ). bytes_eq (table_name n) name) tab
 abbrev pub with_tables : List (ℕ × List ℕ) → Files → Files
 with_tables tables files name = option_or (laid_table tables name) (files name)
 
+-- the step of an outcome that was given: its tables, the inputs, and the adopted edit
+abbrev pub adopted_step : State → Adoption × List (ℕ × List ℕ) → StepView
+adopted_step v given = step_of v given.0.picked (record { tables = given.1; edit = given.0.edit })
+
 -- the answer after the test of outputs: the refusal of the edited version, with the outputs' tables
--- laid over the folder's files; else the lines
+-- laid over the folder's files; else the step
 abbrev pub IsEditedInstalled : KeyOrder → Files → State → Adoption × List (ℕ × List ℕ) →
-    Result (List ℕ) Fault → Type 0
+    Result StepView Fault → Type 0
 IsEditedInstalled cmp files v given =
     IsThen (IsTested (IsFileIn (with_tables given.1 files)) cmp given.0.next)
-    (λ tested answer. answer
-    ≡ Ok (compaction_lines given.1 given.0.picked.files (manifest_of v)))
+    (λ tested answer. answer ≡ Ok (adopted_step v given))
 
 -- The answer for an outcome that was given. The first refusal counts: of its outputs; of the edited
--- version. Else the lines.
+-- version. Else the step.
 abbrev pub IsGivenInstalled : KeyOrder → Files → State → Adoption × List (ℕ × List ℕ) →
-    Comparison → Result (List ℕ) Fault → Type 0
+    Comparison → Result StepView Fault → Type 0
 IsGivenInstalled cmp files v given comparison =
     IsThen (IsGivenTested cmp files given comparison) (λ passed.
     IsEditedInstalled cmp files v given)
 
 -- the answer for the outcome that a folder holds
 abbrev pub IsInstalledFrom : KeyOrder → Files → Files → State → Comparison →
-    Result (List ℕ) Fault → Type 0
+    Result StepView Fault → Type 0
 IsInstalledFrom cmp files source v comparison =
     IsThen (IsGiven cmp (IsFileIn source) v) (λ given.
     IsGivenInstalled cmp files v given comparison)

@@ -1,6 +1,5 @@
 -- What the installation of an outcome leaves of a folder.
 use Rattle.std.specs.Prelude.{◌≡◌, ◌⊎◌, ℕ, true, List, Result, Ok, IfErr, IfOk}
-use Rattle.std.specs.Global.{Vec}
 use Rattle.coding.specs.Answers.{UnlessMemory, fault}
 use Rattle.coding.specs.declared.fault.Fault.{Fault}
 use Rattle.coding.specs.declared.fault.FaultName.TheVariants.{Device}
@@ -17,8 +16,9 @@ use Rattle.reads.specs.Tables.{NumberedContents}
 use Rattle.checks.specs.LawfulTables.{IsLawfulTables}
 use Rattle.store.specs.Compaction.{IsUnchanged}
 use Rattle.store.specs.FolderRequest.{last_of, manifest_of}
-use Rattle.store.specs.Lines.{compaction_lines}
-use Rattle.adoption.specs.Adoption.{Adoption, IsGiven}
+use Rattle.store.specs.Step.{step_in}
+use Rattle.store.specs.declared.compaction_step.CompactionStep.{CompactionStep}
+use Rattle.adoption.specs.Adoption.{Adoption, IsGiven, adopted_step}
 use Rattle.adoption.specs.declared.comparison.Comparison.{Comparison}
 use Rattle.adoption.specs.declared.comparison.Comparison.TheVariants.{With, LeftOut}
 
@@ -45,21 +45,20 @@ AdoptionKeepsReads cmp v loaded a (With snapshots) tables_next =
 AdoptionKeepsReads cmp v loaded a LeftOut tables_next = Unit {0}
 
 -- An outcome was installed, from these calls on. A crash at any moment leaves the version before or
--- the edited one. At Ok it is the edited one, and the answer is the lines. The only faults are
--- Device and Memory.
+-- the edited one. At Ok it is the edited one, and the step is that of the outcome. The only faults
+-- are Device and Memory.
 pub record IsInstallation (cmp : KeyOrder) (order : Order) (v : State) (loaded : List (ℕ × List ℕ))
     (given : Adoption × List (ℕ × List ℕ)) (before after : List Step) (old new : ToldFiles)
-    (result : Result (Vec ℕ) Fault) : Type 0 where
+    (result : Result CompactionStep Fault) : Type 0 where
   pub survives : SurvivesCrash cmp order v loaded given.0.next
       (next_version_tables cmp given.0.next given.1 loaded) before after old new result
-  pub printed : IfOk result (λ text. text.items
-      ≡ compaction_lines given.1 given.0.picked.files (manifest_of v))
+  pub step : IfOk result (λ step. step_in step ≡ adopted_step v given)
   pub refused : IfErr result (λ e. UnlessMemory e (e ≡ fault Device))
 
 -- It was, and gets answer as they should.
 pub record IsOutcomeInstalled (order : Order) (cmp : KeyOrder) (v : State)
     (loaded : List (ℕ × List ℕ)) (given : Adoption × List (ℕ × List ℕ)) (comparison : Comparison)
-    (before after : List Step) (old new : ToldFiles) (result : Result (Vec ℕ) Fault)
+    (before after : List Step) (old new : ToldFiles) (result : Result CompactionStep Fault)
     : Type 0 where
   pub version : AdoptedVersion order cmp v loaded given
   pub gets : AdoptionKeepsReads cmp v loaded given.0 comparison version.tables_next
@@ -67,7 +66,7 @@ pub record IsOutcomeInstalled (order : Order) (cmp : KeyOrder) (v : State)
 
 -- the same by the outcome that another folder holds
 abbrev pub IsAdoptionLeft : Order → KeyOrder → State → List (ℕ × List ℕ) → Files → Comparison →
-    List Step → List Step → ToldFiles → ToldFiles → Result (Vec ℕ) Fault → Type 0
+    List Step → List Step → ToldFiles → ToldFiles → Result CompactionStep Fault → Type 0
 IsAdoptionLeft order cmp v loaded source comparison before after old new result =
     IsUnchanged before after old new result
     ⊎ ((given : Adoption × List (ℕ × List ℕ)) × IsGiven cmp (IsFileIn source) v (Ok given)

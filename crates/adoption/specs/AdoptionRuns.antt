@@ -1,7 +1,6 @@
 -- Which calls the installation of an outcome makes on a folder, be it one that tells what it holds
 -- or not.
 use Rattle.std.specs.Prelude.{◌≡◌, ◌⊎◌, ℕ, List, [], ◌∷◌, ◌++◌, map, Result, Ok, IfErr, IfOk}
-use Rattle.std.specs.Global.{Vec}
 use Rattle.coding.specs.Answers.{fault}
 use Rattle.coding.specs.declared.fault.Fault.{Fault}
 use Rattle.coding.specs.declared.fault.FaultName.TheVariants.{Changed}
@@ -12,26 +11,26 @@ use Rattle.folder.specs.CallSequence.{MakesCalls}
 use Rattle.install.specs.Install.{calls_before_rename, install_calls, manifest_bytes}
 use Rattle.store.specs.Compaction.{IsUnchanged}
 use Rattle.store.specs.FolderRequest.{manifest_of}
-use Rattle.store.specs.Lines.{compaction_lines}
-use Rattle.adoption.specs.Adoption.{Adoption, IsGiven}
+use Rattle.store.specs.Step.{step_in}
+use Rattle.store.specs.declared.compaction_step.CompactionStep.{CompactionStep}
+use Rattle.adoption.specs.Adoption.{Adoption, IsGiven, adopted_step}
 
 -- An outcome was installed: its tables, and a manifest with the version and the adopted edit. The
 -- calls were made up to one that failed. At Changed all calls before the rename were made, and no
--- others. At Ok the answer is the lines.
+-- others. At Ok the step is that of the outcome.
 pub record AreAdoptionCalls (name : List ℕ) (cmp : KeyOrder) (v : State)
     (given : Adoption × List (ℕ × List ℕ)) (before after : List Step) (old new : ToldFiles)
-    (result : Result (Vec ℕ) Fault) : Type 0 where
+    (result : Result CompactionStep Fault) : Type 0 where
   pub runs : MakesCalls
       (install_calls (manifest_of v) (given.1 ∷ []) (manifest_bytes name cmp v given.0.edit))
       before after old new result
   pub changed : IfErr result (λ e. e ≡ fault Changed → after ≡ before ++ map Done
       (calls_before_rename (manifest_of v) (given.1 ∷ []) (manifest_bytes name cmp v given.0.edit)))
-  pub printed : IfOk result (λ text. text.items
-      ≡ compaction_lines given.1 given.0.picked.files (manifest_of v))
+  pub step : IfOk result (λ step. step_in step ≡ adopted_step v given)
 
 -- no call that writes was made; or the outcome that was read from another folder was installed
 abbrev pub IsAdoptionRun : List ℕ → KeyOrder → ToldFiles → State → List Step → List Step →
-    ToldFiles → ToldFiles → Result (Vec ℕ) Fault → Type 0
+    ToldFiles → ToldFiles → Result CompactionStep Fault → Type 0
 IsAdoptionRun name cmp source v before after old new result =
     IsUnchanged before after old new result
     ⊎ ((given : Adoption × List (ℕ × List ℕ)) × IsGiven cmp source v (Ok given)

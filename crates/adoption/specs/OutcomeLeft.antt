@@ -1,12 +1,12 @@
 -- What the installation of an outcome leaves, step by step.
 use Rattle.std.specs.Prelude.{◌⊎◌, ℕ, List, Result}
-use Rattle.std.specs.Global.{Vec}
 use Rattle.coding.specs.declared.fault.Fault.{Fault}
 use Rattle.ikey.specs.Comparator.{KeyOrder}
 use Rattle.edit.specs.Version.{State}
 use Rattle.folder.specs.Calls.{Step, ToldFiles}
 use Rattle.folder.specs.declared.order.Order.{Order}
 use Rattle.store.specs.Compaction.{IsUnchanged}
+use Rattle.store.specs.declared.compaction_step.CompactionStep.{CompactionStep}
 use Rattle.adoption.specs.Adoption.{Adoption}
 use Rattle.adoption.specs.declared.comparison.Comparison.{Comparison}
 use Rattle.adoption.specs.AdoptionLeft.{AdoptedVersion, IsInstallation, IsOutcomeInstalled}
@@ -16,7 +16,7 @@ use Rattle.adoption.specs.AdoptionRuns.{AreAdoptionCalls}
 -- and the edited version is what it should be
 abbrev pub IsTestedLeft : Order → KeyOrder → State → List (ℕ × List ℕ) →
     Adoption × List (ℕ × List ℕ) → List Step → List Step → ToldFiles → ToldFiles →
-    Result (Vec ℕ) Fault → Type 0
+    Result CompactionStep Fault → Type 0
 IsTestedLeft order cmp v loaded given before after old new result =
     IsUnchanged before after old new result
     ⊎ (AdoptedVersion order cmp v loaded given
@@ -26,14 +26,14 @@ IsTestedLeft order cmp v loaded given before after old new result =
 -- given: it is unchanged, or the outcome was installed
 abbrev pub IsOutcomeLeft : Order → KeyOrder → State → List (ℕ × List ℕ) →
     Adoption × List (ℕ × List ℕ) → Comparison → List Step → List Step → ToldFiles → ToldFiles →
-    Result (Vec ℕ) Fault → Type 0
+    Result CompactionStep Fault → Type 0
 IsOutcomeLeft order cmp v loaded given comparison before after old new result =
     IsUnchanged before after old new result
     ⊎ IsOutcomeInstalled order cmp v loaded given comparison before after old new result
 
 -- no call that writes was made; or this outcome was installed
 abbrev pub IsGivenRun : List ℕ → KeyOrder → State → Adoption × List (ℕ × List ℕ) → List Step →
-    List Step → ToldFiles → ToldFiles → Result (Vec ℕ) Fault → Type 0
+    List Step → ToldFiles → ToldFiles → Result CompactionStep Fault → Type 0
 IsGivenRun name cmp v given before after old new result =
     IsUnchanged before after old new result
     ⊎ AreAdoptionCalls name cmp v given before after old new result

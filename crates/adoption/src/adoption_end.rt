@@ -1,11 +1,12 @@
 //! What an installation of an outcome gives back.
 
 use coding::Fault;
+use store::CompactionStep;
 
 /// The folder in which an outcome was to be installed, and the answer.
 #[derive(Drop)]
 pub struct AdoptionEnd<F> {
     pub folder: F,
-    /// The lines, each with its newline; or the refusal.
-    pub answer: Result<Vec<u8>, Fault>,
+    /// What was installed, or the refusal.
+    pub answer: Result<CompactionStep, Fault>,
 }

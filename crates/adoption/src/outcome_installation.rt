@@ -12,10 +12,10 @@ ghost use Rattle.folder.specs.declared.order.Order.{Order};
 ghost use Rattle.install.specs.Install.{IsEditedBy};
 ghost use Rattle.store.specs.Compaction.{IsUnchanged};
 ghost use Rattle.store.specs.FolderRequest.{manifest_of};
-ghost use Rattle.store.specs.Lines.{compaction_lines};
+ghost use Rattle.store.specs.Step.{step_in};
 ghost use Rattle.adoption.specs.Adoption.{IsEditedInstalled, IsGivenInstalled};
 ghost use Rattle.adoption.specs.AdoptedOutcome.{IsAdopted};
-ghost use Rattle.adoption.specs.Adoption.{IsInstalledFrom};
+ghost use Rattle.adoption.specs.Adoption.{IsInstalledFrom, adopted_step};
 ghost use Rattle.adoption.specs.AdoptionIn.{given_in};
 ghost use Rattle.adoption.specs.AdoptionLeft.{IsAdoptionLeft, IsInstallation};
 ghost use Rattle.adoption.specs.AdoptionRuns.{IsAdoptionRun};
@@ -36,15 +36,11 @@ use ikey::{Bytewise, Comparator, SharedComparator, Shortlex};
 use install::install;
 use std::alloc::Global;
 use std::thread::Threads;
-use store::{compaction_lines, manifest_of};
+use store::{CompactionStep, manifest_of, outcome_step};
 
 /// Installs the outcome that `source` holds in what `folder` was `opened` as. The caller has locked
-/// the folder, and synced what was opened. The answer is the lines of the installation, each with
-/// its newline:
-///
-/// - `output NUMBER SIZE` of each output in the edit's order;
-/// - `deleted LEVEL NUMBER` of each input by level and number;
-/// - `installed MANIFEST-NNNNNN`.
+/// the folder, and synced what was opened. The answer says what was installed, as that of a
+/// compaction does.
 ///
 /// `source` holds the outputs as tables, and the version edit in a file EDIT. The edit that is
 /// installed has its files and its compact pointer. Its log numbers and its last sequence are those
@@ -98,7 +94,7 @@ pub fn install_outcome<F: Folder + Drop, G: Folder, W: Watch + Sync, R: Threads 
     ensures answer { (files given : Files) → Tells (F.tells folder) files →
         Tells (G.tells source.old) given →
         files (codes "CURRENT") ≡ Some (current_text opened.now.manifest) →
-        AnswersFrom (λ v. v.items) F.Folder G.Folder folder result.folder source.old
+        AnswersFrom step_in F.Folder G.Folder folder result.folder source.old
         source.new result.answer (IsInstalledFrom (order_cmp opened.now.order) files given
         opened.now.version comparison.entry) }
     // If moreover they read as this version.
@@ -151,7 +147,7 @@ fn install_from<
     ensures answer { (files given : Files) → Tells (F.tells folder) files →
         Tells (G.tells source.old) given →
         files (codes "CURRENT") ≡ Some (current_text opened.now.manifest) →
-        AnswersFrom (λ v. v.items) F.Folder G.Folder folder result.folder source.old
+        AnswersFrom step_in F.Folder G.Folder folder result.folder source.old
         source.new result.answer (IsInstalledFrom C.cmp files given opened.now.version
         comparison.entry) }
     ensures left { (files given : Files) (order : Order) (loaded : List (ℕ × List ℕ)) →
@@ -200,7 +196,7 @@ fn install_given<
     requires name { length C.name_bytes < 2 ^ 32 }
     requires adopted { IsAdopted C.cmp opened.now.version (given_in given.now) }
     ensures answer { IfCurrent (F.tells folder) opened.now.manifest (λ files.
-        FolderAnswers (λ v. v.items) (F.failed folder) (F.failed result.folder) result.answer
+        FolderAnswers step_in (F.failed folder) (F.failed result.folder) result.answer
         (IsGivenInstalled C.cmp files opened.now.version (given_in given.now) comparison.entry)) }
     ensures left { (files : Files) (order : Order) (loaded : List (ℕ × List ℕ)) →
         Tells (F.tells folder) files →
@@ -244,7 +240,7 @@ fn install_tested<
     requires name { length C.name_bytes < 2 ^ 32 }
     requires adopted { IsAdopted C.cmp opened.now.version (given_in given.now) }
     ensures answer { IfCurrent (F.tells folder) opened.now.manifest (λ files.
-        FolderAnswers (λ v. v.items) (F.failed folder) (F.failed result.folder) result.answer
+        FolderAnswers step_in (F.failed folder) (F.failed result.folder) result.answer
         (IsEditedInstalled C.cmp files opened.now.version (given_in given.now))) }
     ensures left { (files : Files) (order : Order) (loaded : List (ℕ × List ℕ)) →
         Tells (F.tells folder) files →
@@ -265,7 +261,7 @@ fn install_tested<
     match end.answer {
         Ok(_) => {
             let mut folder = end.folder;
-            let answer = install_lines::<C, F, R>(rt, alloc, &mut folder, opened, given);
+            let answer = install_adopted::<C, F, R>(rt, alloc, &mut folder, opened, given);
             AdoptionEnd { folder, answer }
         }
         Err(fault) => AdoptionEnd {
@@ -275,19 +271,18 @@ fn install_tested<
     }
 }
 
-/// Installs an outcome that was tested. The answer is its lines.
-fn install_lines<C: Comparator, F: Folder, R: Threads + Sync>(
+/// Installs an outcome that was tested.
+fn install_adopted<C: Comparator, F: Folder, R: Threads + Sync>(
     rt: &R,
     alloc: Global,
     folder: &mut F,
     opened: &Opened,
     given: &GivenOutcome,
-) -> Result<Vec<u8>, Fault>
+) -> Result<CompactionStep, Fault>
     requires { length C.name_bytes < 2 ^ 32 }
     ensures answer { IfCurrent (F.tells folder.old) opened.now.manifest (λ files.
-        FolderAnswers (λ v. v.items) (F.failed folder.old) (F.failed folder.new) result
-        (λ answer. answer ≡ Ok (compaction_lines (given_in given.now).1
-        given.now.picked.files.items (manifest_of opened.now.version)))) }
+        FolderAnswers step_in (F.failed folder.old) (F.failed folder.new) result
+        (λ answer. answer ≡ Ok (adopted_step opened.now.version (given_in given.now)))) }
     ensures left { (files : Files) (order : Order) (loaded : List (ℕ × List ℕ)) →
         Tells (F.tells folder.old) files →
         files (codes "CURRENT") ≡ Some (current_text opened.now.manifest) →
@@ -305,7 +300,7 @@ fn install_lines<C: Comparator, F: Folder, R: Threads + Sync>(
     let version = &opened.version;
     let number = manifest_of(version);
     let outcome = &given.outcome;
-    let lines = compaction_lines(alloc, outcome, &given.picked.files, number)?;
+    let step = outcome_step(alloc, version, &given.picked, outcome)?;
     install::<C, F, R>(rt, alloc, folder, opened.manifest, version, number, outcome)?;
-    Ok(lines)
+    Ok(step)
 }

@@ -1,19 +1,17 @@
 -- The JSON object of a compaction.
-use Rattle.std.specs.Prelude.{ℕ, map, codes}
+use Rattle.std.specs.Prelude.{ℕ, List, map, codes}
 use Rattle.serde_json.specs.Data.{Data, Items, array, member, no_members, number, object, string}
 use Rattle.serde_json.specs.Data.{unsigned}
 use Rattle.serde_json.specs.View.{items_of}
-use Rattle.edit.specs.Edit.{Edit}
 use Rattle.edit.specs.declared.meta.DeletedFile.{DeletedFile}
-use Rattle.edit.specs.declared.meta.NewFile.{NewFile}
 use Rattle.folder.specs.Names.{manifest_name}
-use Rattle.answers.specs.declared.json_compaction.CompactionEnd.{CompactionEnd}
-use Rattle.answers.specs.declared.json_compaction.CompactionEnd.TheVariants.{Installed, Written}
+use Rattle.answers.specs.declared.compaction_end.CompactionEnd.{CompactionEnd}
+use Rattle.answers.specs.declared.compaction_end.CompactionEnd.TheVariants.{Installed, Written}
 
 -- `{"number":N,"size":B}`: an output
-abbrev pub output_object : NewFile → Data
-output_object f = object (member (codes "number") (number (unsigned f.meta.number))
-    (member (codes "size") (number (unsigned f.meta.size)) no_members))
+abbrev pub output_object : ℕ × ℕ → Data
+output_object output = object (member (codes "number") (number (unsigned output.0))
+    (member (codes "size") (number (unsigned output.1)) no_members))
 
 -- `{"level":L,"number":N}`: an input
 abbrev pub deleted_object : DeletedFile → Data
@@ -34,8 +32,8 @@ ended_object level outputs deleted (Written name) =
     (member (codes "outputs") (array outputs)
     (member (codes "written") (string name.now) no_members))))
 
--- The level that was compacted; the edit's new files in their order; the files that it deletes, by
--- level and number; and what became of it.
-abbrev pub compaction_object : ℕ → Edit → CompactionEnd → Data
-compaction_object level e end = ended_object level (items_of (map output_object e.added))
-    (items_of (map deleted_object e.deleted)) end
+-- The level that was compacted; the outputs in order by number and length; the inputs by level and
+-- number; and what became of them.
+abbrev pub compaction_object : ℕ → List (ℕ × ℕ) → List DeletedFile → CompactionEnd → Data
+compaction_object level outputs deleted end = ended_object level
+    (items_of (map output_object outputs)) (items_of (map deleted_object deleted)) end

@@ -11,6 +11,7 @@ pub mod ScanRow
 pub mod FaultLines
 pub mod Objects
 pub mod VersionObject
+pub mod CompactionLines
 pub mod CompactionObject
 pub mod StatsObject
 -- what serves proofs alone

@@ -2,46 +2,39 @@
 
 ghost use Rattle.std.specs.Prelude.{map, Ok};
 ghost use Rattle.coding.specs.Answers.{EqualOrMemory};
-ghost use Rattle.edit.specs.Edit.{edit_in};
 ghost use Rattle.serde_json.specs.View.{items_view, view};
 ghost use Rattle.answers.specs.CompactionObject.{compaction_object, deleted_object, ended_object};
 ghost use Rattle.answers.specs.CompactionObject.{output_object};
-ghost use Rattle.answers.specs.declared.json_compaction.CompactionEnd.TheVariants.{Installed};
-ghost use Rattle.answers.specs.declared.json_compaction.CompactionEnd.TheVariants.{Written};
+ghost use Rattle.answers.specs.declared.compaction_end.CompactionEnd.TheVariants.{Installed};
+ghost use Rattle.answers.specs.declared.compaction_end.CompactionEnd.TheVariants.{Written};
 
+use crate::compaction_end::CompactionEnd;
 use coding::Fault;
-use edit::{DeletedFile, NewFile, VersionEdit};
+use edit::DeletedFile;
 use folder::manifest_name;
 use serde_json::{Value, json};
 use std::alloc::Global;
 use std::collections::BTreeSet;
 
-/// What becomes of the outputs and the edit of a compaction.
-#[derive(Clone, Copy, Debug)]
-pub enum CompactionEnd<'a> {
-    /// They are installed, by the manifest of this number.
-    Installed(u64),
-    /// They are written aside, the edit to a file of this name.
-    Written(&'a str),
-}
-
-/// The object of the compaction of a `level` that made `edit`, with these members:
+/// The object of the compaction of a `level` that made `outputs`, of which it has the numbers and
+/// the lengths, and deletes its inputs. It has these members:
 ///
 /// - `"deleted":[{"level":L,"number":N},..]`, the inputs by level and number;
 /// - `"installed":MANIFEST` or `"written":NAME`;
 /// - `"level":L`;
-/// - `"outputs":[{"number":N,"size":B},..]`, the new files in their order.
+/// - `"outputs":[{"number":N,"size":B},..]`, the outputs in their order.
 pub fn compaction_json(
     alloc: Global,
     level: u64,
-    edit: &VersionEdit,
+    outputs: &[(u64, u64)],
+    deleted: &BTreeSet<DeletedFile>,
     end: CompactionEnd<'_>,
 ) -> Result<Value, Fault>
     ensures { EqualOrMemory view result
-        (Ok (compaction_object level (edit_in edit.now) end.entry)) }
+        (Ok (compaction_object level outputs.now deleted.now.keys end.entry)) }
 {
-    let outputs = outputs_json(alloc, &edit.added)?;
-    let deleted = deleted_json(alloc, &edit.deleted)?;
+    let outputs = outputs_json(alloc, outputs)?;
+    let deleted = deleted_json(alloc, deleted)?;
     ended_json(alloc, level, outputs, deleted, end)
 }
 
@@ -102,22 +95,22 @@ fn written_json(
 }
 
 /// The objects of the outputs.
-fn outputs_json(alloc: Global, files: &[NewFile]) -> Result<Vec<Value>, Fault>
+fn outputs_json(alloc: Global, outputs: &[(u64, u64)]) -> Result<Vec<Value>, Fault>
     ensures { EqualOrMemory (λ v. map view v.items) result
-        (Ok (map output_object files.now)) }
+        (Ok (map output_object outputs.now)) }
 {
     let mut values = Vec::new(alloc);
-    for file in files {
-        values.push(output_json(alloc, file)?)?;
+    for (number, size) in outputs {
+        values.push(output_json(alloc, *number, *size)?)?;
     }
     Ok(values)
 }
 
 /// The object of an output.
-fn output_json(alloc: Global, file: &NewFile) -> Result<Value, Fault>
-    ensures { EqualOrMemory view result (Ok (output_object file.now)) }
+fn output_json(alloc: Global, number: u64, size: u64) -> Result<Value, Fault>
+    ensures { EqualOrMemory view result (Ok (output_object (number, size))) }
 {
-    Ok(json!(in alloc; {"number": file.meta.number, "size": file.meta.size})?)
+    Ok(json!(in alloc; {"number": number, "size": size})?)
 }
 
 /// The objects of the inputs.

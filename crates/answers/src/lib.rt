@@ -5,8 +5,8 @@
 //!    [`unverified_value`] answers a value without testing the version.
 //! 2. [`dump`] answers the lines of one table, [`verify_table`] tests one, [`push_row`] makes the
 //!    line of one key, [`value_answer`] what is printed of one value.
-//! 3. [`file_fault_line`], [`key_fault_line`] and [`fault_count_line`] are the lines of what is
-//!    wrong with a version.
+//! 3. [`compaction_lines`] are the lines of a compaction. [`file_fault_line`], [`key_fault_line`]
+//!    and [`fault_count_line`] are those of what is wrong with a version.
 //! 4. The calls that end in `_json` make the JSON objects of answers, and [`json_line`] the line of
 //!    one: without blanks, and members by name. Keys and values are strings of their texts. Numbers
 //!    are decimal and exact, so a reader needs integers of 64 bits.
@@ -23,6 +23,8 @@
 mod account;
 mod bars;
 mod compaction_account;
+mod compaction_end;
+mod compaction_lines;
 mod counters;
 mod exit_status;
 mod fault_lines;
@@ -49,11 +51,13 @@ pub use account::{Account, LevelInputs, Output, RangeEntries, account_text};
 pub use board::Open;
 pub use checks::VersionTotals;
 pub use compaction_account::account_of;
+pub use compaction_end::CompactionEnd;
+pub use compaction_lines::compaction_lines;
 pub use exit_status::status;
 pub use fault_lines::{fault_count_line, file_fault_line, key_fault_line};
 pub use folder_commands::{answer_opened, get_dir, manifest, manifest_lines, verify};
 pub use json_answers::{lawful_json, logs_json, removed_json, valid_json, value_json};
-pub use json_compaction::{CompactionEnd, compaction_json};
+pub use json_compaction::compaction_json;
 pub use json_refusal::{Told, refusal_json};
 pub use json_row::push_row_json;
 pub use json_stats::stats_json;

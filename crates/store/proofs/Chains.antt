@@ -17,7 +17,6 @@ use Rattle.checks.proofs.LawfulLemmas.{sound_checked}
 use Rattle.checks.specs.LawfulTables.{IsLawfulTables}
 use Rattle.coding.proofs.Binds.{ok_is}
 use Rattle.install.specs.Install.{IsBeforeOrAfter, next_version_tables}
-use Rattle.install.specs.ToldNames.{AreTold}
 use Rattle.compact.specs.declared.settings.Settings.{Settings}
 use Rattle.store.specs.AllLevels.{AnswersAs, CompactionLink, IsAtLink, AreLinked, IsLink, last_tables, version_at_end}
 use Rattle.store.specs.FolderRequest.{last_of, manifest_of}
@@ -46,13 +45,6 @@ leaves_then start a b c P Q R f g one two = record {
         g files (two.each m.0 m.2 files (subst (λ (t : List Step). MayLeave start t files) is left))
   ];
 }
-
--- ---- lines
-
--- one more
-pub told_more : {W : Type 0} (tells : W → List ℕ → W → Type 0) (told now next : W) (all : List (List ℕ)) (lines : List ℕ) → AreTold tells told all now → tells now lines next → AreTold tells told (all ++ lines ∷ []) next
-told_more tells told now next [] lines h one = (next, subst (λ w. tells w lines next) h one, refl)
-told_more tells told now next (l ∷ all) lines h one = (h.0, h.1, told_more tells h.0 now next all lines h.2 one)
 
 -- ---- links
 

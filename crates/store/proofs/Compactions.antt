@@ -21,10 +21,8 @@ use Rattle.checks.proofs.LawfulLemmas.{sound_checked, sound_lawful}
 use Rattle.compact.specs.OneThread.{Answer, compaction_result, one_thread}
 use Rattle.compact.specs.Request.{RequestView}
 use Rattle.store.specs.FolderRequest.{compaction_from, first_output, manifest_of, numbered_request, request_from}
-use Rattle.store.specs.Compaction.{VersionCompaction}
+use Rattle.store.specs.Compaction.{LevelCompaction}
 use Rattle.store.specs.NumberedJointLaw.{NumberedJointLaw}
-use Rattle.store.specs.Lines.{compaction_lines}
-use Rattle.store.specs.Outcome.{LevelCompaction}
 use Rattle.compact.specs.declared.settings.Settings.{Settings}
 use Rattle.ikey.specs.Comparator.{ShortKeys}
 
@@ -81,19 +79,6 @@ is_compacted cmp short_keys joint order v loaded tables level first p s answer s
       answered = answered;
       edited = joint thread.number order v loaded tables level p s answer thread.high (sound_checked cmp v loaded tables sound) (sound_lawful cmp v loaded tables sound) state.levels.file_levels picked log previous thread.same;
     }
-
--- a compaction whose numbers come after the manifest's, and its lines
-pub with_lines : (order : Order) (cmp : List ℕ → List ℕ → Ordering) (short_keys : ShortKeys) (v : State) (loaded : List (ℕ × List ℕ)) (level : ℕ) (s : Settings) (p : PickedInputs) (answer : Answer) (lines : List ℕ)
-    → LevelCompaction order cmp short_keys v loaded level None s p answer → lines ≡ compaction_lines answer.tables p.files (manifest_of v) → VersionCompaction order cmp short_keys v loaded level s answer lines
-with_lines order cmp short_keys v loaded level s p answer lines c told = record {
-  tables = c.tables;
-  lawful = c.lawful;
-  picked = p;
-  is_picked = c.is_picked;
-  answered = c.answered;
-  edited = c.edited;
-  told = told;
-}
 
 -- a refusal after a test that passed
 pub refused_behind : {A B : Type 0} (first : Result (Unit {0}) Fault) (second : Result A Fault) (f : A → Result B Fault) (e : Fault) → first ≡ Ok tt → FailsOrMemory e second → FailsOrMemory e (first >>= λ _. second >>= f)

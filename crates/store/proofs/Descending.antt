@@ -1,5 +1,5 @@
 -- The compaction of all levels, step by step.
-use Rattle.std.proofs.Common.{◌≡◌, ◌⊎◌, ℕ, ◌+◌, ◌≤◌, List, [], ◌∷◌, ◌++◌, length, map, codes, Option, Some, None, Result, Ok, Err, IfErr, IfOk, OnOk, refl, sym, ap, subst, ◌∙◌, inl, inr, arith}
+use Rattle.std.proofs.Common.{◌≡◌, ◌⊎◌, ℕ, ◌+◌, ◌≤◌, Bool, true, List, [], ◌∷◌, ◌++◌, length, map, codes, Option, Some, None, Result, Ok, Err, IfErr, IfOk, OnOk, refl, sym, ap, subst, ◌∙◌, inl, inr, arith}
 use Rattle.std.proofs.lemmas.List.{append-nil, length-append, map-append}
 use Rattle.std.specs.declared.cmp.Ordering.{Ordering}
 use Rattle.coding.proofs.Refusals.{unless_from}
@@ -18,32 +18,34 @@ use Rattle.folder.specs.ReadsAs.{ReadsAs}
 use Rattle.folder.specs.declared.current_version.Opened.{Opened}
 use Rattle.folder.specs.declared.order.Order.{Order}
 use Rattle.reads.specs.Tables.{NumberedContents}
+use Rattle.checks.proofs.TakerLemmas.{told_append}
 use Rattle.checks.specs.LawfulTables.{IsLawfulTables}
+use Rattle.checks.specs.Takers.{AreToldInTurn}
 use Rattle.install.proofs.Moments.{nothing_done}
 use Rattle.install.specs.Install.{AlwaysStandsAs, next_version_tables}
-use Rattle.install.specs.ToldNames.{AreTold}
 use Rattle.compact.specs.declared.settings.Settings.{Settings}
 use Rattle.store.specs.AllLevels.{AnswersAs, CompactionLink, IsAtLink, AreLinked, IsDescended, IsEndOf, IsNextRefused, last_tables, version_at_end}
 use Rattle.store.specs.Answers.{IsLoadedCompacted}
 use Rattle.store.specs.Descent.{IsBottom, IsNextLevel}
 use Rattle.store.specs.FolderRequest.{manifest_of}
+use Rattle.store.specs.Step.{StepView, step_in, step_of}
 use Rattle.store.specs.StepLeft.{IsStepInstalled, IsStepLeft}
 use Rattle.store.specs.StepTaken.{IsStepRefused, IsStepTaken, IsStepTold}
 use Rattle.store.specs.declared.compaction_step.CompactionStep.{CompactionStep}
 use Rattle.store.specs.declared.descent_end.DescentEnd.{DescentEnd}
 use Rattle.store.specs.declared.descent_end.DescentEnd.TheVariants.{Stopped}
-use Rattle.store.proofs.Chains.{at_last, at_more, at_next, chain_bound, chain_kept, chain_then, leaves_then, tables_then, told_more, version_then}
+use Rattle.store.proofs.Chains.{at_last, at_more, at_next, chain_bound, chain_kept, chain_then, leaves_then, tables_then, version_then}
 use Rattle.store.proofs.InstallPart.{still}
 
 module _ (order : Order) (cmp : List ℕ → List ℕ → Ordering) (short_keys : ShortKeys) (s : Settings) (v : State) (loaded : List (ℕ × List ℕ)) (tables : List NumberedContents) (lawful : IsLawfulTables cmp v loaded (Ok tables))
-    (before : List Step) {W : Type 0} (tells : W → List ℕ → W → Type 0) (told : W) where
+    (before : List Step) {W : Type 0} (tells : W → StepView → Bool → W → Type 0) (told : W) where
   -- the compactions so far, and what they left
-  pub record SoFar (now : List Step) (mid : List ℕ → Option (List ℕ) → Type 0) (told_now : W) (manifest : ℕ) (version : State) (bottom count : ℕ) : Type 0 where
+  pub record SoFar (now : List Step) (mid : List ℕ → Option (List ℕ) → Type 0) (told_now : W) (manifest : ℕ) (version : State) (bottom count : ℕ) (goes : Bool) : Type 0 where
     pub links : List CompactionLink
     pub chain : AreLinked order cmp short_keys s bottom v loaded links
     pub count_is : length links ≡ count
     pub version_is : version ≡ version_at_end v links
-    pub lines : AreTold tells told (map (λ (l : CompactionLink). l.lines) links) told_now
+    pub told_steps : AreToldInTurn tells told (map (λ (l : CompactionLink). l.step) links) goes told_now
     pub any_moment : (start : World) → AlwaysStandsAs cmp order v loaded start before → LeavesOnly start before now (IsAtLink cmp order v loaded links)
     pub stands : (start : World) → AlwaysStandsAs cmp order v loaded start before → AlwaysStandsAs cmp order (version_at_end v links) (last_tables loaded links) start now
     pub files_now : Files
@@ -55,13 +57,13 @@ module _ (order : Order) (cmp : List ℕ → List ℕ → Ordering) (short_keys 
   same_moment start P Q f h = record { steps = h.steps; all = h.all; each = λ sofar moment files left. f files (h.each sofar moment files left) }
 
   -- before the first
-  pub none_yet : (old : List ℕ → Option (List ℕ) → Type 0) (manifest bottom : ℕ) (files : Files) → Tells old files → ReadsAs cmp order v loaded files → files (codes "CURRENT") ≡ Some (current_text manifest) → SoFar before old told manifest v bottom 0
+  pub none_yet : (old : List ℕ → Option (List ℕ) → Type 0) (manifest bottom : ℕ) (files : Files) → Tells old files → ReadsAs cmp order v loaded files → files (codes "CURRENT") ≡ Some (current_text manifest) → SoFar before old told manifest v bottom 0 true
   none_yet old manifest bottom files held reads named = record {
     links = [];
     chain = tt;
     count_is = refl;
     version_is = refl;
-    lines = refl;
+    told_steps = (refl, refl);
     any_moment = λ start stands. same_moment start _ _ (λ f h. elim h [ inl a ↦ inl a | inr b ↦ inl b ]) (nothing_done cmp order v v loaded loaded start before stands);
     stands = λ start stands. stands;
     files_now = files;
@@ -70,7 +72,7 @@ module _ (order : Order) (cmp : List ℕ → List ℕ → Ordering) (short_keys 
     named = named;
   }
 
-  module _ (now : List Step) (mid : List ℕ → Option (List ℕ) → Type 0) (told_now : W) (manifest : ℕ) (version : State) (bottom count : ℕ) (so_far : SoFar now mid told_now manifest version bottom count) where
+  module _ (now : List Step) (mid : List ℕ → Option (List ℕ) → Type 0) (told_now : W) (manifest : ℕ) (version : State) (bottom count : ℕ) (goes : Bool) (so_far : SoFar now mid told_now manifest version bottom count goes) where
     abbrev last : State
     last = version_at_end v so_far.links
 
@@ -97,9 +99,9 @@ module _ (order : Order) (cmp : List ℕ → List ℕ → Ordering) (short_keys 
     -- ---- it ends with what is left
 
     pub ended : (bottom_is : IsBottom v bottom) (after : List Step) (new : List ℕ → Option (List ℕ) → Type 0) (failed now_failed : ℕ) (told_after : W) (result : Result DescentEnd Fault)
-        → after ≡ now → TellsSame mid new → told_after ≡ told_now → IfOk result (IsEndOf last bottom) → IfErr result (λ e. UnlessMemory e (IsStopped failed now_failed e ⊎ IsNextRefused cmp short_keys s bottom last held e))
+        → after ≡ now → TellsSame mid new → told_after ≡ told_now → IfOk result (IsEndOf last bottom goes) → IfErr result (λ e. UnlessMemory e (IsStopped failed now_failed e ⊎ IsNextRefused cmp short_keys s bottom last held e))
         → IsDescended tells order cmp short_keys s v loaded tables before after new failed now_failed told told_after result
-    ended bottom_is after new failed now_failed told_after result is same lines end refused =
+    ended bottom_is after new failed now_failed told_after result is same told_is end refused =
         let all : so_far.links ++ [] ≡ so_far.links = append-nil so_far.links in
         record {
           bottom = bottom;
@@ -107,13 +109,17 @@ module _ (order : Order) (cmp : List ℕ → List ℕ → Ordering) (short_keys 
           links = so_far.links;
           begun = [];
           chain = subst (AreLinked order cmp short_keys s bottom v loaded) (sym all) so_far.chain;
-          lines = subst (AreTold tells told (map (λ (l : CompactionLink). l.lines) so_far.links)) (sym lines) so_far.lines;
+          few = omega arith;
+          none = on_ok result refl;
+          goes = goes;
+          told_steps = subst (AreToldInTurn tells told (map (λ (l : CompactionLink). l.step) so_far.links) goes) (sym told_is) so_far.told_steps;
           any_moment = λ start stands.
               subst (λ (a : List Step). LeavesOnly start before a (IsAtLink cmp order v loaded (so_far.links ++ []))) (sym is)
               (subst (λ (ls : List CompactionLink). LeavesOnly start before now (IsAtLink cmp order v loaded ls)) (sym all) (so_far.any_moment start stands));
           files_now = so_far.files_now;
           holds = still mid new same so_far.files_now so_far.holds;
           read = subst (λ (ls : List CompactionLink). IsAtLink cmp order v loaded ls so_far.files_now) (sym all) (at_last cmp order v loaded so_far.links so_far.files_now so_far.reads);
+          reads_last = on_ok result so_far.reads;
           answers = kept;
           installed = λ start stands. on_ok result (subst (λ (a : List Step). AlwaysStandsAs cmp order last held start a) (sym is) (so_far.stands start stands));
           ended = end;
@@ -129,10 +135,10 @@ module _ (order : Order) (cmp : List ℕ → List ℕ → Ordering) (short_keys 
     module _ (level : ℕ) (next_level : IsNextLevel last bottom (Some level)) (after : List Step) (new : List ℕ → Option (List ℕ) → Type 0) where
       module _ (r : Result CompactionStep Fault) (i : IsStepInstalled order cmp short_keys last held level s now after mid new r) where
         abbrev link : CompactionLink
-        link = record { level = level; lines = i.lines; version = i.compacted.edited.next; tables = next_version_tables cmp i.compacted.edited.next i.answer.tables held }
+        link = record { level = level; step = step_of last i.picked i.answer; version = i.compacted.edited.next; tables = next_version_tables cmp i.compacted.edited.next i.answer.tables held }
 
         more : AreLinked order cmp short_keys s bottom v loaded (so_far.links ++ link ∷ [])
-        more = chain_then order cmp short_keys s bottom v loaded so_far.links link so_far.chain (record { next_level = next_level; answer = i.answer; compacted = i.compacted; version_is = refl; tables_are = refl })
+        more = chain_then order cmp short_keys s bottom v loaded so_far.links link so_far.chain (record { next_level = next_level; picked = i.picked; answer = i.answer; compacted = i.compacted; step_is = refl; version_is = refl; tables_are = refl })
 
         moments : (start : World) → AlwaysStandsAs cmp order v loaded start before → LeavesOnly start before after (IsAtLink cmp order v loaded (so_far.links ++ link ∷ []))
         moments start stands =
@@ -147,24 +153,25 @@ module _ (order : Order) (cmp : List ℕ → List ℕ → Ordering) (short_keys 
       next_tables r i = tables_then loaded so_far.links (link r i)
 
       -- a compaction that was installed and told
-      pub one_more : (told_after : W) (step : CompactionStep) (i : IsStepInstalled order cmp short_keys last held level s now after mid new (Ok step)) → tells told_now step.lines.items told_after
-          → SoFar after new told_after (manifest_of last) i.compacted.edited.next bottom (count + 1)
-      one_more told_after step i lines =
+      pub one_more : (told_after : W) (step : CompactionStep) (on : Bool) (i : IsStepInstalled order cmp short_keys last held level s now after mid new (Ok step)) → goes ≡ true → tells told_now (step_in step) on told_after
+          → SoFar after new told_after (manifest_of last) i.compacted.edited.next bottom (count + 1) on
+      one_more told_after step on i went told_step =
           let l = link (Ok step) i in
           let w = i.compacted.edited.next in
           let ts = next_version_tables cmp w i.answer.tables held in
           let found = i.survives.read so_far.files_now so_far.holds so_far.reads in
           let stands_as = λ (x : State) (ys : List (ℕ × List ℕ)) (start : World). AlwaysStandsAs cmp order x ys start after in
-          let line : step.lines.items ≡ i.lines = i.step.0 in
+          let first = map (λ (x : CompactionLink). x.step) so_far.links in
+          let own : tells told_now l.step on told_after = subst (λ (x : StepView). tells told_now x on told_after) i.step told_step in
           let same = so_far.count_is in
           record {
             links = so_far.links ++ l ∷ [];
             chain = more (Ok step) i;
             count_is = length-append so_far.links (l ∷ []) ∙ ap (λ (n : ℕ). n + 1) same;
             version_is = sym (next_version (Ok step) i);
-            lines =
-                subst (λ (ls : List (List ℕ)). AreTold tells told ls told_after) (sym (map-append (λ (x : CompactionLink). x.lines) so_far.links (l ∷ [])))
-                (told_more tells told told_now told_after (map (λ (x : CompactionLink). x.lines) so_far.links) i.lines so_far.lines (subst (λ (x : List ℕ). tells told_now x told_after) line lines));
+            told_steps =
+                subst (λ (xs : List StepView). AreToldInTurn tells told xs on told_after) (sym (map-append (λ (x : CompactionLink). x.step) so_far.links (l ∷ [])))
+                (told_append tells first (l.step ∷ []) told told_now told_after on (subst (λ (b : Bool). AreToldInTurn tells told first b told_now) went so_far.told_steps) (inl (refl, own)));
             any_moment = moments (Ok step) i;
             stands = λ start stands.
                 subst (λ (x : State). stands_as x (last_tables loaded (so_far.links ++ l ∷ [])) start) (sym (next_version (Ok step) i))
@@ -180,7 +187,7 @@ module _ (order : Order) (cmp : List ℕ → List ℕ → Ordering) (short_keys 
       -- a compaction that was begun
       pub begun : (bottom_is : IsBottom v bottom) (failed now_failed : ℕ) (told_after : W) (e : Fault) (i : IsStepInstalled order cmp short_keys last held level s now after mid new (Err e)) → told_after ≡ told_now
           → UnlessMemory e (IsStopped failed now_failed e ⊎ IsNextRefused cmp short_keys s bottom last held e) → IsDescended tells order cmp short_keys s v loaded tables before after new failed now_failed told told_after (Err e)
-      begun bottom_is failed now_failed told_after e i lines refused =
+      begun bottom_is failed now_failed told_after e i told_is refused =
           let l = link (Err e) i in
           let found = i.survives.read so_far.files_now so_far.holds so_far.reads in
           record {
@@ -189,11 +196,15 @@ module _ (order : Order) (cmp : List ℕ → List ℕ → Ordering) (short_keys 
             links = so_far.links;
             begun = l ∷ [];
             chain = more (Err e) i;
-            lines = subst (AreTold tells told (map (λ (x : CompactionLink). x.lines) so_far.links)) (sym lines) so_far.lines;
+            few = omega arith;
+            none = tt;
+            goes = goes;
+            told_steps = subst (AreToldInTurn tells told (map (λ (x : CompactionLink). x.step) so_far.links) goes) (sym told_is) so_far.told_steps;
             any_moment = moments (Err e) i;
             files_now = found.0;
             holds = found.1;
             read = at_next cmp order v loaded so_far.links l found.0 found.2;
+            reads_last = tt;
             answers = kept;
             installed = λ start stands. tt;
             ended = tt;
@@ -214,7 +225,7 @@ pub by_memory : (e : Fault) (P : Fault → Type 0) → e ≡ fault Memory → Un
 by_memory e P is = subst (λ (x : Fault). UnlessMemory x (P x)) (sym is) tt
 
 -- what a step leaves, by an order
-abbrev pub StepClause : {W : Type 0} → (W → List ℕ → W → Type 0) → Order → State → ℕ → ℕ → Settings → List Step → List Step → (List ℕ → Option (List ℕ) → Type 0) → (List ℕ → Option (List ℕ) → Type 0) → ℕ → ℕ → W → W → Result (Option Opened) Fault → Type 0
+abbrev pub StepClause : {W : Type 0} → (W → StepView → Bool → W → Type 0) → Order → State → ℕ → ℕ → Settings → List Step → List Step → (List ℕ → Option (List ℕ) → Type 0) → (List ℕ → Option (List ℕ) → Type 0) → ℕ → ℕ → W → W → Result (Option Opened) Fault → Type 0
 StepClause tells order v manifest level s before after old new failed now told told_now result =
     (files : Files) (loaded : List (ℕ × List ℕ)) (tables : List NumberedContents) → Tells old files → files (codes "CURRENT") ≡ Some (current_text manifest)
     → ReadsAs (order_cmp order) order v loaded files → IsLawfulTables (order_cmp order) v loaded (Ok tables)
@@ -224,8 +235,8 @@ ok_refused : {Y : Type 0} (y : Y) (e : Fault) → refusal e ≡ Ok y → ⊥
 ok_refused y e h = cc
 
 module _ (order : Order) (s : Settings) (v : State) (loaded : List (ℕ × List ℕ)) (tables : List NumberedContents) (lawful : IsLawfulTables (order_cmp order) v loaded (Ok tables))
-    (before : List Step) {W : Type 0} (tells : W → List ℕ → W → Type 0) (told : W) (now : List Step) (mid : List ℕ → Option (List ℕ) → Type 0) (told_now : W) (manifest : ℕ) (version : State) (bottom count : ℕ)
-    (so_far : SoFar order (order_cmp order) (order_short_keys order) s v loaded tables lawful before tells told now mid told_now manifest version bottom count)
+    (before : List Step) {W : Type 0} (tells : W → StepView → Bool → W → Type 0) (told : W) (now : List Step) (mid : List ℕ → Option (List ℕ) → Type 0) (told_now : W) (manifest : ℕ) (version : State) (bottom count : ℕ)
+    (so_far : SoFar order (order_cmp order) (order_short_keys order) s v loaded tables lawful before tells told now mid told_now manifest version bottom count true)
     (level : ℕ) (next_level : IsNextLevel version bottom (Some level)) (after : List Step) (new : List ℕ → Option (List ℕ) → Type 0) (failed now_failed : ℕ) (told_after : W) where
   abbrev cmp : List ℕ → List ℕ → Ordering
   cmp = order_cmp order
@@ -247,36 +258,37 @@ module _ (order : Order) (s : Settings) (v : State) (loaded : List (ℕ × List 
       → IsStepTaken tells order cmp keys after_all tables_held level s now after mid new failed now_failed told_now told_after r
   taken other r is given =
       let all = subst (λ (o : Order). StepClause tells o version manifest level s now after mid new failed now_failed told_now told_after r) is given in
-      let kept_now = kept order cmp keys s v loaded tables lawful before tells told now mid told_now manifest version bottom count so_far in
+      let kept_now = kept order cmp keys s v loaded tables lawful before tells told now mid told_now manifest version bottom count true so_far in
       subst (λ (w : State). IsStepTaken tells order cmp keys w tables_held level s now after mid new failed now_failed told_now told_after r) so_far.version_is
       (all so_far.files_now tables_held kept_now.tables_next so_far.holds so_far.named
-      (reads_now order cmp keys s v loaded tables lawful before tells told now mid told_now manifest version bottom count so_far)
-      (lawful_now order cmp keys s v loaded tables lawful before tells told now mid told_now manifest version bottom count so_far))
+      (reads_now order cmp keys s v loaded tables lawful before tells told now mid told_now manifest version bottom count true so_far)
+      (lawful_now order cmp keys s v loaded tables lawful before tells told now mid told_now manifest version bottom count true so_far))
 
   more_by : (r : Result (Option Opened) Fault) (t : IsStepTold tells order cmp keys after_all tables_held level s now after mid new told_now told_after r)
-      → SoFar order cmp keys s v loaded tables lawful before tells told after new told_after (manifest_of after_all) t.installed.compacted.edited.next bottom (count + 1)
-  more_by r t = one_more order cmp keys s v loaded tables lawful before tells told now mid told_now manifest version bottom count so_far level level_now after new told_after t.step t.installed t.lines
+      → SoFar order cmp keys s v loaded tables lawful before tells told after new told_after (manifest_of after_all) t.installed.compacted.edited.next bottom (count + 1) t.goes
+  more_by r t = one_more order cmp keys s v loaded tables lawful before tells told now mid told_now manifest version bottom count true so_far level level_now after new told_after t.step t.goes t.installed refl t.told_step
 
   -- it goes on
   pub more_taken : (other : Order) (o : Opened) → other ≡ order → StepClause tells other version manifest level s now after mid new failed now_failed told_now told_after (Ok (Some o))
-      → SoFar order cmp keys s v loaded tables lawful before tells told after new told_after o.manifest o.version bottom (count + 1) × (o.order ≡ order)
+      → SoFar order cmp keys s v loaded tables lawful before tells told after new told_after o.manifest o.version bottom (count + 1) true × (o.order ≡ order)
   more_taken other o is given = by (taken other (Ok (Some o)) is given)
     where
       by : IsStepTaken tells order cmp keys after_all tables_held level s now after mid new failed now_failed told_now told_after (Ok (Some o))
-          → SoFar order cmp keys s v loaded tables lawful before tells told after new told_after o.manifest o.version bottom (count + 1) × (o.order ≡ order)
+          → SoFar order cmp keys s v loaded tables lawful before tells told after new told_after o.manifest o.version bottom (count + 1) true × (o.order ≡ order)
       by (inl r) = absurd (ok_refused (Some o) r.e (sym r.is))
       by (inr t) = (
-        subst (λ (m : ℕ). SoFar order cmp keys s v loaded tables lawful before tells told after new told_after m o.version bottom (count + 1)) (sym t.opened.2)
-            (subst (λ (w : State). SoFar order cmp keys s v loaded tables lawful before tells told after new told_after (manifest_of after_all) w bottom (count + 1)) (sym t.opened.1) (more_by (Ok (Some o)) t)),
+        subst (λ (m : ℕ). SoFar order cmp keys s v loaded tables lawful before tells told after new told_after m o.version bottom (count + 1) true) (sym t.opened.2)
+            (subst (λ (w : State). SoFar order cmp keys s v loaded tables lawful before tells told after new told_after (manifest_of after_all) w bottom (count + 1) true) (sym t.opened.1)
+            (subst (λ (b : Bool). SoFar order cmp keys s v loaded tables lawful before tells told after new told_after (manifest_of after_all) t.installed.compacted.edited.next bottom (count + 1) b) t.went (more_by (Ok (Some o)) t))),
         t.opened.0,
       )
 
   -- it ends after a step
   ended_after : (bottom_is : IsBottom v bottom) (first_failed : ℕ) (r : Result (Option Opened) Fault) (t : IsStepTold tells order cmp keys after_all tables_held level s now after mid new told_now told_after r) (result : Result DescentEnd Fault)
-      → ((w : State) → IfOk result (IsEndOf w bottom)) → IfErr result (λ e. e ≡ fault Memory) → IsDescended tells order cmp keys s v loaded tables before after new first_failed now_failed told told_after result
+      → ((w : State) → IfOk result (IsEndOf w bottom t.goes)) → IfErr result (λ e. e ≡ fault Memory) → IsDescended tells order cmp keys s v loaded tables before after new first_failed now_failed told told_after result
   ended_after bottom_is first_failed r t result end memory =
       let more = more_by r t in
-      ended order cmp keys s v loaded tables lawful before tells told after new told_after (manifest_of after_all) t.installed.compacted.edited.next bottom (count + 1) more bottom_is after new first_failed now_failed told_after result
+      ended order cmp keys s v loaded tables lawful before tells told after new told_after (manifest_of after_all) t.installed.compacted.edited.next bottom (count + 1) t.goes more bottom_is after new first_failed now_failed told_after result
       refl (same_tells new) refl (end (version_at_end v more.links)) (all_memory _ result memory)
     where
       all_memory : (P : Fault → Type 0) (q : Result DescentEnd Fault) → IfErr q (λ e. e ≡ fault Memory) → IfErr q (λ e. UnlessMemory e (P e))
@@ -289,7 +301,7 @@ module _ (order : Order) (s : Settings) (v : State) (loaded : List (ℕ × List 
     where
       by : IsStepTaken tells order cmp keys after_all tables_held level s now after mid new failed now_failed told_now told_after (Ok None) → IsDescended tells order cmp keys s v loaded tables before after new first_failed now_failed told told_after (Ok Stopped)
       by (inl r) = absurd (ok_refused None r.e (sym r.is))
-      by (inr t) = ended_after bottom_is first_failed (Ok None) t (Ok Stopped) (λ w. tt) tt
+      by (inr t) = ended_after bottom_is first_failed (Ok None) t (Ok Stopped) (λ w. t.went) tt
 
   -- it was refused
   pub refused_taken : (bottom_is : IsBottom v bottom) (first_failed : ℕ) (other : Order) (e : Fault) → failed ≡ first_failed → other ≡ order → StepClause tells other version manifest level s now after mid new failed now_failed told_now told_after (Err e)
@@ -310,9 +322,9 @@ module _ (order : Order) (s : Settings) (v : State) (loaded : List (ℕ × List 
       left : (r : IsStepRefused order cmp keys after_all tables_held level s now after mid new failed now_failed told_now told_after (Err e)) → IsStepLeft order cmp keys after_all tables_held level s now after mid new (Err e)
           → IsDescended tells order cmp keys s v loaded tables before after new first_failed now_failed told told_after (Err e)
       left r (inl u) =
-          ended order cmp keys s v loaded tables lawful before tells told now mid told_now manifest version bottom count so_far bottom_is after new first_failed now_failed told_after (Err e) u.calls u.same r.same tt (why r)
+          ended order cmp keys s v loaded tables lawful before tells told now mid told_now manifest version bottom count true so_far bottom_is after new first_failed now_failed told_after (Err e) u.calls u.same r.same tt (why r)
       left r (inr i) =
-          begun order cmp keys s v loaded tables lawful before tells told now mid told_now manifest version bottom count so_far level level_now after new bottom_is first_failed now_failed told_after e i r.same (why r)
+          begun order cmp keys s v loaded tables lawful before tells told now mid told_now manifest version bottom count true so_far level level_now after new bottom_is first_failed now_failed told_after e i r.same (why r)
 
       by : IsStepTaken tells order cmp keys after_all tables_held level s now after mid new failed now_failed told_now told_after (Err e) → IsDescended tells order cmp keys s v loaded tables before after new first_failed now_failed told told_after (Err e)
       by (inl r) = left r (subst (λ (x : Fault). IsStepLeft order cmp keys after_all tables_held level s now after mid new (Err x)) (sym (same_refusal {Y = Option Opened} e r.e r.is)) r.left)

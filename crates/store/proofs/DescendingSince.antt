@@ -1,5 +1,5 @@
 -- The compaction of all levels, told from earlier calls on.
-use Rattle.std.proofs.Common.{◌≡◌, ℕ, List, Option, Result, Ok, Err, IfErr, subst, ◌∙◌}
+use Rattle.std.proofs.Common.{◌≡◌, ℕ, Bool, List, Option, Result, Ok, Err, IfErr, subst, ◌∙◌}
 use Rattle.std.specs.declared.cmp.Ordering.{Ordering}
 use Rattle.coding.proofs.Refusals.{unless_from}
 use Rattle.coding.specs.Answers.{UnlessMemory}
@@ -13,6 +13,7 @@ use Rattle.folder.specs.declared.order.Order.{Order}
 use Rattle.reads.specs.Tables.{NumberedContents}
 use Rattle.compact.specs.declared.settings.Settings.{Settings}
 use Rattle.store.specs.AllLevels.{IsDescended}
+use Rattle.store.specs.Step.{StepView}
 use Rattle.store.specs.Untold.{IsUntold}
 use Rattle.store.specs.declared.descent_end.DescentEnd.{DescentEnd}
 
@@ -28,7 +29,7 @@ untold_since first before after zero old new told told_now P r is same u = recor
     by (Ok x) h = tt
     by (Err e) h = unless_from e ⊥ (P e) (λ none. absurd none) h
 
-pub descended_since : {W : Type 0} (tells : W → List ℕ → W → Type 0) (order : Order) (cmp : List ℕ → List ℕ → Ordering) (short_keys : ShortKeys) (s : Settings) (v : State) (loaded : List (ℕ × List ℕ)) (tables : List NumberedContents) (first before after : List Step) (new : List ℕ → Option (List ℕ) → Type 0)
+pub descended_since : {W : Type 0} (tells : W → StepView → Bool → W → Type 0) (order : Order) (cmp : List ℕ → List ℕ → Ordering) (short_keys : ShortKeys) (s : Settings) (v : State) (loaded : List (ℕ × List ℕ)) (tables : List NumberedContents) (first before after : List Step) (new : List ℕ → Option (List ℕ) → Type 0)
     (earlier failed now : ℕ) (told told_now : W) (r : Result DescentEnd Fault) → before ≡ first → failed ≡ earlier
     → IsDescended tells order cmp short_keys s v loaded tables before after new failed now told told_now r → IsDescended tells order cmp short_keys s v loaded tables first after new earlier now told told_now r
 descended_since tells order cmp short_keys s v loaded tables first before after new earlier failed now told told_now r is count d =

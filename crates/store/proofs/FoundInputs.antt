@@ -15,7 +15,7 @@ use Rattle.checks.specs.HeldBytes.{held_bytes}
 use Rattle.compact.specs.OneThread.{Answer}
 use Rattle.compact.specs.declared.settings.Settings.{Settings}
 use Rattle.store.specs.FoundInputs.{IsInputsFound}
-use Rattle.store.specs.InputsCompaction.{IsInputsTold, IsOrderlyAnswer, IsPickedTold, IsReadTold, input_numbers}
+use Rattle.store.specs.InputsCompaction.{IsLevelAnswer, IsOrderlyAnswer, IsPickedAnswer, IsReadAnswer, input_numbers}
 use Rattle.store.proofs.Flow.{first_passed, first_refused}
 use Rattle.store.proofs.HeldInputs.{checked_loaded, checked_refused}
 
@@ -39,20 +39,20 @@ same_found x y h = cc h
 
 module _ (cmp : List ℕ → List ℕ → Ordering) (files : Files) (v : State) (level : ℕ) where
   -- a refusal of the inputs is that of their compaction
-  pub inputs_refused : {T : Type 0} (tell : PickedInputs → Answer → T) (first : Option ℕ) (short_keys : ShortKeys) (s : Settings) (e : Fault)
-      → IsInputsFound cmp files v level (Err e) → IsInputsTold tell first cmp short_keys files v level s (Err e)
-  inputs_refused tell first short_keys s e (Err d, (h, is)) =
-      first_refused (IsOrderlyAnswer cmp v) (λ passed. IsThen (IsInputsAnswer cmp v level) (IsPickedTold tell first cmp short_keys files v s)) e
+  pub inputs_refused : (first : Option ℕ) (short_keys : ShortKeys) (s : Settings) (e : Fault)
+      → IsInputsFound cmp files v level (Err e) → IsLevelAnswer first cmp short_keys files v level s (Err e)
+  inputs_refused first short_keys s e (Err d, (h, is)) =
+      first_refused (IsOrderlyAnswer cmp v) (λ passed. IsThen (IsInputsAnswer cmp v level) (IsPickedAnswer first cmp short_keys files v s)) e
       (subst (λ (f : Fault). IsOrderlyAnswer cmp v (Err f)) (same_fault d e is) h)
-  inputs_refused tell first short_keys s e (Ok passed, (h, (Err d, (k, is)))) =
-      first_passed (IsOrderlyAnswer cmp v) (λ passed. IsThen (IsInputsAnswer cmp v level) (IsPickedTold tell first cmp short_keys files v s)) passed (Err e) h
-      (first_refused (IsInputsAnswer cmp v level) (IsPickedTold tell first cmp short_keys files v s) e
+  inputs_refused first short_keys s e (Ok passed, (h, (Err d, (k, is)))) =
+      first_passed (IsOrderlyAnswer cmp v) (λ passed. IsThen (IsInputsAnswer cmp v level) (IsPickedAnswer first cmp short_keys files v s)) passed (Err e) h
+      (first_refused (IsInputsAnswer cmp v level) (IsPickedAnswer first cmp short_keys files v s) e
       (subst (λ (f : Fault). IsInputsAnswer cmp v level (Err f)) (same_fault d e is) k))
-  inputs_refused tell first short_keys s e (Ok passed, (h, (Ok p, (k, (Err d, (l, is)))))) =
-      first_passed (IsOrderlyAnswer cmp v) (λ passed. IsThen (IsInputsAnswer cmp v level) (IsPickedTold tell first cmp short_keys files v s)) passed (Err e) h
-      (first_passed (IsInputsAnswer cmp v level) (IsPickedTold tell first cmp short_keys files v s) p (Err e) k
-      (checked_refused cmp tell first short_keys files v s p e (subst (λ (f : Fault). IsCheckedAnswer cmp files (input_numbers p.files) (Err f)) (same_fault d e is) l)))
-  inputs_refused tell first short_keys s e (Ok passed, (h, (Ok p, (k, (Ok tables, (l, is)))))) = absurd (no_fault (p, tables) e (sym is))
+  inputs_refused first short_keys s e (Ok passed, (h, (Ok p, (k, (Err d, (l, is)))))) =
+      first_passed (IsOrderlyAnswer cmp v) (λ passed. IsThen (IsInputsAnswer cmp v level) (IsPickedAnswer first cmp short_keys files v s)) passed (Err e) h
+      (first_passed (IsInputsAnswer cmp v level) (IsPickedAnswer first cmp short_keys files v s) p (Err e) k
+      (checked_refused cmp first short_keys files v s p e (subst (λ (f : Fault). IsCheckedAnswer cmp files (input_numbers p.files) (Err f)) (same_fault d e is) l)))
+  inputs_refused first short_keys s e (Ok passed, (h, (Ok p, (k, (Ok tables, (l, is)))))) = absurd (no_fault (p, tables) e (sym is))
 
   -- inputs that were found: they are picked, and their tables are loaded
   pub record AreLevelInputs (p : PickedInputs) (tables : List NumberedContents) : Type 0 where
@@ -76,9 +76,9 @@ module _ (cmp : List ℕ → List ℕ → Ordering) (files : Files) (v : State) 
       }
 
   -- what the compaction of inputs that were found answers is the level's answer
-  pub level_told : {T : Type 0} (tell : PickedInputs → Answer → T) (first : Option ℕ) (short_keys : ShortKeys) (s : Settings) (p : PickedInputs) (tables : List NumberedContents) (answer : Result T Fault)
-      → AreLevelInputs p tables → IsReadTold tell first cmp short_keys v p s (held_bytes tables) answer → IsInputsTold tell first cmp short_keys files v level s answer
-  level_told tell first short_keys s p tables answer given told =
-      first_passed (IsOrderlyAnswer cmp v) (λ passed. IsThen (IsInputsAnswer cmp v level) (IsPickedTold tell first cmp short_keys files v s)) tt answer given.orderly
-      (first_passed (IsInputsAnswer cmp v level) (IsPickedTold tell first cmp short_keys files v s) p answer given.picked
-      (first_passed (IsLoaded (IsFileIn files) (input_numbers p.files)) (IsReadTold tell first cmp short_keys v p s) (held_bytes tables) answer given.loaded told))
+  pub level_answer : (first : Option ℕ) (short_keys : ShortKeys) (s : Settings) (p : PickedInputs) (tables : List NumberedContents) (answer : Result (PickedInputs × Answer) Fault)
+      → AreLevelInputs p tables → IsReadAnswer first cmp short_keys v s p (held_bytes tables) answer → IsLevelAnswer first cmp short_keys files v level s answer
+  level_answer first short_keys s p tables answer given told =
+      first_passed (IsOrderlyAnswer cmp v) (λ passed. IsThen (IsInputsAnswer cmp v level) (IsPickedAnswer first cmp short_keys files v s)) tt answer given.orderly
+      (first_passed (IsInputsAnswer cmp v level) (IsPickedAnswer first cmp short_keys files v s) p answer given.picked
+      (first_passed (IsLoaded (IsFileIn files) (input_numbers p.files)) (IsReadAnswer first cmp short_keys v s p) (held_bytes tables) answer given.loaded told))

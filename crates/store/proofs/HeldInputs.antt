@@ -21,7 +21,8 @@ use Rattle.checks.proofs.FoundTables.{checked_parts}
 use Rattle.compact.specs.OneThread.{Answer}
 use Rattle.compact.specs.declared.settings.Settings.{Settings}
 use Rattle.store.specs.FolderRequest.{compaction_from}
-use Rattle.store.specs.InputsCompaction.{IsPickedTold, IsReadTold, are_stated, input_numbers, input_tables}
+use Rattle.store.specs.InputsCompaction.{IsPickedAnswer, IsReadAnswer, are_stated, input_numbers, input_tables}
+use Rattle.store.specs.Step.{with_inputs}
 use Rattle.store.proofs.Flow.{first_passed, first_refused}
 use Rattle.store.proofs.Loaded.{own_bytes}
 
@@ -47,15 +48,15 @@ module _ (cmp : List ℕ → List ℕ → Ordering) where
       no_error tables e h = cc
 
   -- what they are refused as is what the inputs are refused as
-  pub checked_refused : {T : Type 0} (tell : PickedInputs → Answer → T) (first : Option ℕ) (short_keys : ShortKeys) (files : Files) (v : State) (s : Settings) (p : PickedInputs) (e : Fault)
-      → IsCheckedAnswer cmp files (input_numbers p.files) (Err e) → IsPickedTold tell first cmp short_keys files v s p (Err e)
-  checked_refused {T} tell first short_keys files v s p e (Err d, h) =
+  pub checked_refused : (first : Option ℕ) (short_keys : ShortKeys) (files : Files) (v : State) (s : Settings) (p : PickedInputs) (e : Fault)
+      → IsCheckedAnswer cmp files (input_numbers p.files) (Err e) → IsPickedAnswer first cmp short_keys files v s p (Err e)
+  checked_refused first short_keys files v s p e (Err d, h) =
       let same : d ≡ e = same_error d e h.1 in
-      first_refused (IsLoaded (IsFileIn files) (input_numbers p.files)) (IsReadTold tell first cmp short_keys v p s) e (subst (λ (f : Fault). IsLoaded (IsFileIn files) (input_numbers p.files) (Err f)) same h.0)
+      first_refused (IsLoaded (IsFileIn files) (input_numbers p.files)) (IsReadAnswer first cmp short_keys v s p) e (subst (λ (f : Fault). IsLoaded (IsFileIn files) (input_numbers p.files) (Err f)) same h.0)
     where
       same_error : (d e : Fault) → failed {A = List NumberedContents} e ≡ failed d → d ≡ e
       same_error d e h = cc h
-  checked_refused {T} tell first short_keys files v s p e (Ok loaded, (there, read)) =
-      first_passed (IsLoaded (IsFileIn files) (input_numbers p.files)) (IsReadTold tell first cmp short_keys v p s) loaded (Err e) there
-      (first_refused (λ r. input_tables cmp p.files loaded ≡ r) (λ (contents : List Contents) (a : Result T Fault). a ≡ (compaction_from first cmp short_keys v loaded p s >>= λ x. Ok (tell p x))) e
+  checked_refused first short_keys files v s p e (Ok loaded, (there, read)) =
+      first_passed (IsLoaded (IsFileIn files) (input_numbers p.files)) (IsReadAnswer first cmp short_keys v s p) loaded (Err e) there
+      (first_refused (λ r. input_tables cmp p.files loaded ≡ r) (λ (contents : List Contents) (a : Result (PickedInputs × Answer) Fault). a ≡ with_inputs p (compaction_from first cmp short_keys v loaded p s)) e
       (ap (λ (r : Result (List NumberedContents) Fault). r >>= λ ts. test_result (are_stated p.files ts) Bounds >>= λ _. Ok (map (λ (t : NumberedContents). t.contents) ts)) read))

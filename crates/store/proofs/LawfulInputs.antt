@@ -7,7 +7,7 @@ use Rattle.std.specs.Cmp.{IsTotalOrder}
 use Rattle.std.specs.declared.cmp.Ordering.{Ordering}
 use Rattle.std.proofs.lemmas.Bool.Decides.{nat_tests}
 use Rattle.std.proofs.lemmas.List.Elements.{Contains-append_cases}
-use Rattle.coding.specs.Answers.{IsThen, fault, ◌>>=◌}
+use Rattle.coding.specs.Answers.{fault, ◌>>=◌}
 use Rattle.coding.specs.declared.fault.Fault.{Fault}
 use Rattle.coding.specs.declared.fault.FaultName.TheVariants.{Bounds, Level, NoInput, Numbers, SplitCount}
 use Rattle.ikey.specs.Comparator.{ShortKeys}
@@ -37,7 +37,9 @@ use Rattle.compact.proofs.ClosedLevels.{in_level}
 use Rattle.compact.proofs.VersionInputs.{input_file}
 use Rattle.compact.specs.declared.settings.Settings.{Settings}
 use Rattle.store.specs.FolderRequest.{compaction_from, first_output, last_of}
-use Rattle.store.specs.InputsCompaction.{IsInputsTold, IsOrderlyAnswer, are_stated, input_numbers, input_tables}
+use Rattle.store.specs.Answers.{IsLoadedAnswer}
+use Rattle.store.specs.InputsCompaction.{IsLevelAnswer, IsOrderlyAnswer, are_stated, input_numbers, input_tables}
+use Rattle.store.specs.Step.{with_inputs}
 use Rattle.store.proofs.Compactions.{picked_of}
 use Rattle.store.proofs.InputNumbers.{loaded_at, none_missing, number_among, of_levels, one_table, same_bytes}
 use Rattle.store.proofs.Loaded.{bytes_found, found_loaded}
@@ -187,12 +189,10 @@ module _ (cmp : List ℕ → List ℕ → Ordering) (total : IsTotalOrder cmp) (
           no_refusal (map (λ (t : NumberedContents). t.contents) all.found) e (sym value ∙ h)
 
   -- the answer by the inputs alone is the one by all tables
-  pub suffices : {T : Type 0} (tell : PickedInputs → Answer → T) (first : Option ℕ) (short_keys : ShortKeys) (level : ℕ) (s : Settings) (answer : Result T Fault)
-      → IsInputsTold tell first cmp short_keys files v level s answer
-      → IsThen (IsLawfulTables cmp v loaded) (λ tables. IsThen (IsInputsAnswer cmp v level) (λ p (a : Result T Fault). a ≡ (compaction_from first cmp short_keys v loaded p s >>= λ x. Ok (tell p x)))) answer
-  suffices tell first short_keys level s answer (Err e, (h, rest)) = absurd (passes e h)
-  suffices tell first short_keys level s answer (Ok passed, (h, (Err e, (k, is)))) = (Ok tables, (sound, (Err e, (k, is))))
-  suffices tell first short_keys level s answer (Ok passed, (h, (Ok p, (k, (Err e, (l, is)))))) = absurd (not_missing level p k e l)
-  suffices tell first short_keys level s answer (Ok passed, (h, (Ok p, (k, (Ok own, (l, (Err e, (m, is)))))))) = absurd (tables_pass level p k own l e m)
-  suffices tell first short_keys level s answer (Ok passed, (h, (Ok p, (k, (Ok own, (l, (Ok found, (m, is)))))))) =
-      (Ok tables, (sound, (Ok p, (k, is ∙ ap (λ (r : Result Answer Fault). r >>= λ x. Ok (tell p x)) (same_compaction level p k own l first short_keys s)))))
+  pub suffices : (first : Option ℕ) (short_keys : ShortKeys) (level : ℕ) (s : Settings) (answer : Result (PickedInputs × Answer) Fault) → IsLevelAnswer first cmp short_keys files v level s answer → IsLoadedAnswer first cmp short_keys v loaded level s answer
+  suffices first short_keys level s answer (Err e, (h, rest)) = absurd (passes e h)
+  suffices first short_keys level s answer (Ok passed, (h, (Err e, (k, is)))) = (Ok tables, (sound, (Err e, (k, is))))
+  suffices first short_keys level s answer (Ok passed, (h, (Ok p, (k, (Err e, (l, is)))))) = absurd (not_missing level p k e l)
+  suffices first short_keys level s answer (Ok passed, (h, (Ok p, (k, (Ok own, (l, (Err e, (m, is)))))))) = absurd (tables_pass level p k own l e m)
+  suffices first short_keys level s answer (Ok passed, (h, (Ok p, (k, (Ok own, (l, (Ok found, (m, is)))))))) =
+      (Ok tables, (sound, (Ok p, (k, is ∙ ap (with_inputs p) (same_compaction level p k own l first short_keys s)))))

@@ -1,7 +1,8 @@
 -- The calls of one compaction after the other.
-use Rattle.std.proofs.Common.{◌≡◌, ◌⊎◌, ℕ, List, [], ◌∷◌, ◌++◌, append_assoc, map, Option, Some, None, Result, Ok, Err, IfErr, IfOk, IsErrAnd, OnOk, refl, sym, ap, subst, ◌∙◌, inl, inr}
+use Rattle.std.proofs.Common.{◌≡◌, ◌⊎◌, ℕ, Bool, true, List, [], ◌∷◌, ◌++◌, append_assoc, map, Option, Some, None, Result, Ok, Err, IfErr, IfOk, IsErrAnd, OnOk, refl, sym, ap, subst, ◌∙◌, inl, inr}
 use Rattle.std.proofs.lemmas.List.{append-nil}
 use Rattle.std.specs.Option.{IfSome}
+use Rattle.std.specs.Prelude.{is_some}
 use Rattle.coding.specs.Answers.{◌>>=◌}
 use Rattle.coding.specs.declared.fault.Fault.{Fault}
 use Rattle.edit.specs.Version.{State, applied_by}
@@ -12,18 +13,22 @@ use Rattle.folder.specs.Orders.{order_cmp, order_short_keys}
 use Rattle.folder.specs.declared.current_version.Opened.{Opened}
 use Rattle.folder.specs.declared.order.Order.{Order}
 use Rattle.install.proofs.Moments.{made_by}
+use Rattle.checks.proofs.TakerLemmas.{told_append}
+use Rattle.checks.specs.Takers.{AreToldInTurn}
 use Rattle.compact.specs.declared.settings.Settings.{Settings}
 use Rattle.store.specs.Descent.{IsBottom, IsNextLevel}
 use Rattle.store.specs.FolderRequest.{manifest_of}
-use Rattle.store.specs.LevelRuns.{AreLevelLinks, GroupedAnswer, IsAllLevelsRun, IsDescentRun, IsGroupedAnswer, IsLevelBegun, IsLevelLink, LevelLink, MakesNoCalls, calls_of_answer, steps_of_links, version_after}
+use Rattle.store.specs.LevelRuns.{AreLevelLinks, GroupedAnswer, IsAllLevelsRun, IsDescentRun, IsGroupedAnswer, IsLevelBegun, IsLevelLink, IsStopTold, IsToldOf, LevelLink, MakesNoCalls, calls_of_answer, calls_of_links, step_of_answer, steps_of_links, version_after}
 use Rattle.store.specs.OpenedAfter.{IsOpenedAfter}
 use Rattle.store.specs.Runs.{IsLevelRun}
-use Rattle.store.specs.StepTaken.{IsNextBegun}
+use Rattle.store.specs.Step.{StepView, step_in}
+use Rattle.store.specs.StepTaken.{IsGoTold, IsNextBegun}
 use Rattle.store.specs.declared.compaction_step.CompactionStep.{CompactionStep}
 use Rattle.store.specs.declared.descent_end.DescentEnd.{DescentEnd}
 use Rattle.store.specs.declared.descent_end.DescentEnd.TheVariants.{AtBottom, Stopped}
 use Rattle.store.proofs.Flow.{no_value}
 use Rattle.store.proofs.InstallPart.{refused_ok}
+use Rattle.store.proofs.StepsTaken.{same_edit}
 
 abbrev Told : Type 1
 Told = List ℕ → Option (List ℕ) → Type 0
@@ -45,11 +50,11 @@ made_then calls steps (Ok x) is = is
 made_then {T = T} calls steps (Err e) is = made_by {T = Unit {0}} {E = Fault} calls steps (Ok tt) is
 
 -- a compaction that was refused
-pub begun_refused : (order : Order) (v : State) (level : ℕ) (s : Settings) (before after : List Step) (old new : Told) (r : Result CompactionStep Fault) (q : Result (Option Opened) Fault) (e : Fault) → IsErrAnd q (λ f. f ≡ e)
-    → IsLevelRun (order_name order) (order_cmp order) (order_short_keys order) v level s before after old new r → MakesNoCalls before after q ⊎ IsNextBegun order v level s before after q
-begun_refused order v level s before after old new r q e h (inl u) = inl (record { calls = u.calls; refused = no_value q _ h })
-begun_refused order v level s before after old new r q e h (inr i) =
-    let installed : GroupedAnswer = record { answer = i.answer; lines = i.lines; groups = i.calls.groups } in
+pub begun_refused : {W : Type 0} (tells : W → StepView → Bool → W → Type 0) (order : Order) (v : State) (level : ℕ) (s : Settings) (before after : List Step) (old new : Told) (told : W) (r : Result CompactionStep Fault) (q : Result (Option Opened) Fault) (e : Fault) → IsErrAnd q (λ f. f ≡ e)
+    → IsLevelRun (order_name order) (order_cmp order) (order_short_keys order) v level s before after old new r → MakesNoCalls before after told told q ⊎ IsNextBegun tells order v level s before after told told q
+begun_refused tells order v level s before after old new told r q e h (inl u) = inl (record { calls = u.calls; untold = refl; refused = no_value q _ h })
+begun_refused tells order v level s before after old new told r q e h (inr i) =
+    let installed : GroupedAnswer = record { picked = i.picked; answer = i.answer; groups = i.calls.groups } in
     let calls = calls_of_answer order v installed in
     inr (record {
       begun = record {
@@ -59,6 +64,7 @@ begun_refused order v level s before after old new r q e h (inr i) =
         made = begun_by calls i.calls.runs.steps q e h (made_by calls i.calls.runs.steps r i.calls.runs.made);
         appended = i.calls.runs.appended;
       };
+      is_told = inl (refl, no_value q _ h);
       opened = refused_ok q e _ h;
     })
 
@@ -68,42 +74,44 @@ opened_of : (order : Order) (v : State) (one other : List ℕ) (q : Result (Opti
 opened_of order v one other q is h = subst (λ (b : List ℕ). IfOk q (λ o. IfSome o (λ next. IsOpenedAfter order v b (Ok (next.order, next.version, next.manifest))))) is h
 
 -- a compaction that was installed, whatever is answered after it
-begun_at : (order : Order) (v : State) (level : ℕ) (s : Settings) (before after : List Step) (old new : Told) (step : CompactionStep) (q : Result (Option Opened) Fault)
-    → IfOk q (λ o. IfSome o (λ next. IsOpenedAfter order v step.edit.items (Ok (next.order, next.version, next.manifest))))
-    → IsLevelRun (order_name order) (order_cmp order) (order_short_keys order) v level s before after old new (Ok step) → MakesNoCalls before after q ⊎ IsNextBegun order v level s before after q
-begun_at order v level s before after old new step q opened (inl u) = absurd u.refused
-begun_at order v level s before after old new step q opened (inr i) =
-    let installed : GroupedAnswer = record { answer = i.answer; lines = i.lines; groups = i.calls.groups } in
-    inr (record {
-      begun = record {
-        installed = installed;
-        is_answer = record { is_answer = i.is_answer; together = i.calls.together };
-        steps = i.calls.runs.steps;
-        made = made_then (calls_of_answer order v installed) i.calls.runs.steps q i.calls.runs.made;
-        appended = i.calls.runs.appended;
-      };
-      opened = opened_of order v step.edit.items i.answer.edit q i.step.1 opened;
-    })
+module _ {W : Type 0} (tells : W → StepView → Bool → W → Type 0) (order : Order) (v : State) (level : ℕ) (s : Settings) (before after : List Step) (old new : Told) (told told_now : W) (step : CompactionStep) (q : Result (Option Opened) Fault) where
+  begun_at : (goes : Bool) → tells told (step_in step) goes told_now → IfOk q (IsGoTold goes) → IfOk q (λ o. IfSome o (λ next. IsOpenedAfter order v step.edit.items (Ok (next.order, next.version, next.manifest))))
+      → IsLevelRun (order_name order) (order_cmp order) (order_short_keys order) v level s before after old new (Ok step) → MakesNoCalls before after told told_now q ⊎ IsNextBegun tells order v level s before after told told_now q
+  begun_at goes told_step went opened (inl u) = absurd u.refused
+  begun_at goes told_step went opened (inr i) =
+      let installed : GroupedAnswer = record { picked = i.picked; answer = i.answer; groups = i.calls.groups } in
+      inr (record {
+        begun = record {
+          installed = installed;
+          is_answer = record { is_answer = i.is_answer; together = i.calls.together };
+          steps = i.calls.runs.steps;
+          made = made_then (calls_of_answer order v installed) i.calls.runs.steps q i.calls.runs.made;
+          appended = i.calls.runs.appended;
+        };
+        is_told = inr (goes, subst (λ (x : StepView). tells told x goes told_now) i.step told_step, went);
+        opened = opened_of order v step.edit.items i.answer.edit q (same_edit i.step) opened;
+      })
 
-pub begun_told : (order : Order) (v : State) (level : ℕ) (s : Settings) (before after : List Step) (old new : Told) (r : Result CompactionStep Fault) (step : CompactionStep) (q : Result (Option Opened) Fault) → r ≡ Ok step
-    → IfOk q (λ o. IfSome o (λ next. IsOpenedAfter order v step.edit.items (Ok (next.order, next.version, next.manifest))))
-    → IsLevelRun (order_name order) (order_cmp order) (order_short_keys order) v level s before after old new r → MakesNoCalls before after q ⊎ IsNextBegun order v level s before after q
-begun_told order v level s before after old new r step q was opened run =
-    begun_at order v level s before after old new step q opened
-    (subst (λ (x : Result CompactionStep Fault). IsLevelRun (order_name order) (order_cmp order) (order_short_keys order) v level s before after old new x) was run)
+  pub begun_told : (r : Result CompactionStep Fault) → r ≡ Ok step → (goes : Bool) → tells told (step_in step) goes told_now → IfOk q (IsGoTold goes)
+      → IfOk q (λ o. IfSome o (λ next. IsOpenedAfter order v step.edit.items (Ok (next.order, next.version, next.manifest))))
+      → IsLevelRun (order_name order) (order_cmp order) (order_short_keys order) v level s before after old new r → MakesNoCalls before after told told_now q ⊎ IsNextBegun tells order v level s before after told told_now q
+  begun_told r was goes told_step went opened run =
+      begun_at goes told_step went opened
+      (subst (λ (x : Result CompactionStep Fault). IsLevelRun (order_name order) (order_cmp order) (order_short_keys order) v level s before after old new x) was run)
 
 -- ---- rows of them
 
 -- what the compactions so far are
-pub record RunSoFar (order : Order) (s : Settings) (bottom : ℕ) (v : State) (before now : List Step) (w : State) (other : Order) : Type 0 where
+pub record RunSoFar {W : Type 0} (tells : W → StepView → Bool → W → Type 0) (order : Order) (s : Settings) (bottom : ℕ) (v : State) (before now : List Step) (told told_now : W) (w : State) (other : Order) : Type 0 where
   pub links : List LevelLink
   pub chain : AreLevelLinks order s bottom v links
   pub version_is : w ≡ version_after v links
   pub order_is : other ≡ order
-  pub calls : now ≡ before ++ steps_of_links order v links
+  pub calls : now ≡ before ++ calls_of_links order v links
+  pub told_steps : AreToldInTurn tells told (steps_of_links v links) true told_now
 
-pub none_so_far : (order : Order) (s : Settings) (bottom : ℕ) (v : State) (before : List Step) → RunSoFar order s bottom v before before v order
-none_so_far order s bottom v before = record { links = []; chain = tt; version_is = refl; order_is = refl; calls = sym (append-nil before) }
+pub none_so_far : {W : Type 0} (tells : W → StepView → Bool → W → Type 0) (order : Order) (s : Settings) (bottom : ℕ) (v : State) (before : List Step) (told : W) → RunSoFar tells order s bottom v before before told told v order
+none_so_far tells order s bottom v before told = record { links = []; chain = tt; version_is = refl; order_is = refl; calls = sym (append-nil before); told_steps = (refl, refl) }
 
 links_then : (order : Order) (s : Settings) (bottom : ℕ) (v : State) (links : List LevelLink) (l : LevelLink) → AreLevelLinks order s bottom v links → IsLevelLink order s bottom (version_after v links) l → AreLevelLinks order s bottom v (links ++ l ∷ [])
 links_then order s bottom v [] l chain is = (is, tt)
@@ -113,12 +121,16 @@ after_then : (v : State) (links : List LevelLink) (l : LevelLink) → version_af
 after_then v [] l = refl
 after_then v (m ∷ links) l = after_then m.next links l
 
-steps_then : (order : Order) (v : State) (links : List LevelLink) (l : LevelLink) → steps_of_links order v (links ++ l ∷ []) ≡ steps_of_links order v links ++ map Done (calls_of_answer order (version_after v links) l.installed)
+steps_then : (order : Order) (v : State) (links : List LevelLink) (l : LevelLink) → calls_of_links order v (links ++ l ∷ []) ≡ calls_of_links order v links ++ map Done (calls_of_answer order (version_after v links) l.installed)
 steps_then order v [] l = append-nil (map Done (calls_of_answer order v l.installed))
 steps_then order v (m ∷ links) l =
     let first = map Done (calls_of_answer order v m.installed) in
     ap (λ (t : List Step). first ++ t) (steps_then order m.next links l)
-    ∙ sym (append_assoc first (steps_of_links order m.next links) (map Done (calls_of_answer order (version_after m.next links) l.installed)))
+    ∙ sym (append_assoc first (calls_of_links order m.next links) (map Done (calls_of_answer order (version_after m.next links) l.installed)))
+
+told_then : (v : State) (links : List LevelLink) (l : LevelLink) → steps_of_links v (links ++ l ∷ []) ≡ steps_of_links v links ++ step_of_answer (version_after v links) l.installed ∷ []
+told_then v [] l = refl
+told_then v (m ∷ links) l = ap (λ (xs : List StepView). step_of_answer v m.installed ∷ xs) (told_then m.next links l)
 
 -- an opening, as an answer
 abbrev opened : Order → State → ℕ → Result (Order × State × ℕ) Fault
@@ -148,26 +160,52 @@ opened_so order v bytes o w m (Ok x, (h, is)) = by (applied_by (order_name order
     by (Ok y) same = same_opening o order w y m (manifest_of v) same
     by (Err e) same = absurd (no_opening o w m e same)
 
-module _ (order : Order) (s : Settings) (bottom : ℕ) (v : State) (before now : List Step) (w : State) (other : Order) (so_far : RunSoFar order s bottom v before now w other) where
+-- a compaction that was told, and ends the row
+stop_told : {W : Type 0} (tells : W → StepView → Bool → W → Type 0) (step : StepView) (told told_now : W) (o : Option Opened) → o ≡ None → IsToldOf tells step told told_now IsGoTold (taken o) → IsToldOf tells step told told_now IsStopTold (Ok Stopped)
+stop_told tells step told told_now o none (inl u) = absurd u.1
+stop_told tells step told told_now o none (inr t) = inr (t.0, t.1, (refl, t.2 ∙ ap is_some none))
+
+-- and one after which there is a refusal
+refused_told : {W : Type 0} (tells : W → StepView → Bool → W → Type 0) (step : StepView) (told told_now : W) (e : Fault) → IsToldOf {T = Option Opened} tells step told told_now IsGoTold (Err e) → IsToldOf tells step told told_now IsStopTold (Err e)
+refused_told tells step told told_now e (inl u) = inl (u.0, tt)
+refused_told tells step told told_now e (inr t) = inr (t.0, t.1, tt)
+
+-- and one after which it goes on
+go_told : {W : Type 0} (tells : W → StepView → Bool → W → Type 0) (step : StepView) (told told_now : W) (next : Opened) → IsToldOf tells step told told_now IsGoTold (taken (Some next)) → tells told step true told_now
+go_told tells step told told_now next (inl u) = absurd u.1
+go_told tells step told told_now next (inr t) = subst (λ (b : Bool). tells told step b told_now) t.2 t.1
+
+module _ {W : Type 0} (tells : W → StepView → Bool → W → Type 0) (order : Order) (s : Settings) (bottom : ℕ) (v : State) (before now : List Step) (told told_now : W) (w : State) (other : Order) (so_far : RunSoFar tells order s bottom v before now told told_now w other) where
   -- no further one was begun
-  pub run_ended : (q : Result DescentEnd Fault) → IsBottom v bottom → IfOk q (λ e. (e ≡ AtBottom) × IsNextLevel w bottom None) → IsAllLevelsRun order s v before now q
+  pub run_ended : (q : Result DescentEnd Fault) → IsBottom v bottom → IfOk q (λ e. (e ≡ AtBottom) × IsNextLevel w bottom None) → IsAllLevelsRun tells order s v before now told told_now q
   run_ended q is_bottom end = inr (record {
     bottom = bottom;
     is_bottom = is_bottom;
     links = so_far.links;
     chain = so_far.chain;
-    last = inl (so_far.calls, subst (λ (x : State). IfOk q (λ e. (e ≡ AtBottom) × IsNextLevel x bottom None)) so_far.version_is end);
+    told_last = told_now;
+    told_steps = so_far.told_steps;
+    last = inl (so_far.calls, refl, subst (λ (x : State). IfOk q (λ e. (e ≡ AtBottom) × IsNextLevel x bottom None)) so_far.version_is end);
   })
 
-  module _ (level : ℕ) (next_level : IsNextLevel w bottom (Some level)) (after : List Step) where
+  module _ (level : ℕ) (next_level : IsNextLevel w bottom (Some level)) (after : List Step) (told_after : W) where
+    abbrev at : State
+    at = version_after v so_far.links
+
+    abbrev first : List Step
+    first = calls_of_links order v so_far.links
+
     -- the last one was begun
-    last_begun : (r : Result (Option Opened) Fault) (q : Result DescentEnd Fault) → ((calls : List Call) (steps : List Step) → AreMadeBy calls steps r → AreMadeBy calls steps q) → IsBottom v bottom → IfOk q (λ e. e ≡ Stopped)
-        → IsNextBegun order (version_after v so_far.links) level s (before ++ steps_of_links order v so_far.links) after r → IsAllLevelsRun order s v before after q
-    last_begun r q f is_bottom stopped b = inr (record {
+    last_begun : (r : Result (Option Opened) Fault) (q : Result DescentEnd Fault) → ((calls : List Call) (steps : List Step) → AreMadeBy calls steps r → AreMadeBy calls steps q)
+        → ((step : StepView) → IsToldOf tells step told_now told_after IsGoTold r → IsToldOf tells step told_now told_after IsStopTold q) → IsBottom v bottom
+        → IsNextBegun tells order at level s (before ++ first) after told_now told_after r → IsAllLevelsRun tells order s v before after told told_after q
+    last_begun r q f g is_bottom b = inr (record {
       bottom = bottom;
       is_bottom = is_bottom;
       links = so_far.links;
       chain = so_far.chain;
+      told_last = told_now;
+      told_steps = so_far.told_steps;
       last = inr (record {
         level = level;
         next_level = subst (λ (x : State). IsNextLevel x bottom (Some level)) so_far.version_is next_level;
@@ -175,41 +213,40 @@ module _ (order : Order) (s : Settings) (bottom : ℕ) (v : State) (before now :
           installed = b.begun.installed;
           is_answer = b.begun.is_answer;
           steps = b.begun.steps;
-          made = f (calls_of_answer order (version_after v so_far.links) b.begun.installed) b.begun.steps b.begun.made;
+          made = f (calls_of_answer order at b.begun.installed) b.begun.steps b.begun.made;
           appended = b.begun.appended;
         };
-        stopped = stopped;
+        is_told = g (step_of_answer at b.begun.installed) b.is_told;
       });
     })
 
     -- what was begun of the version so far
-    begun_so_far : (r : Result (Option Opened) Fault) → IsNextBegun other w level s now after r → IsNextBegun order (version_after v so_far.links) level s (before ++ steps_of_links order v so_far.links) after r
+    begun_so_far : (r : Result (Option Opened) Fault) → IsNextBegun tells other w level s now after told_now told_after r → IsNextBegun tells order at level s (before ++ first) after told_now told_after r
     begun_so_far r b =
-        subst (λ (t : List Step). IsNextBegun order (version_after v so_far.links) level s t after r) so_far.calls
-        (subst (λ (x : State). IsNextBegun order x level s now after r) so_far.version_is
-        (subst (λ (o : Order). IsNextBegun o w level s now after r) so_far.order_is b))
+        subst (λ (t : List Step). IsNextBegun tells order at level s t after told_now told_after r) so_far.calls
+        (subst (λ (x : State). IsNextBegun tells order x level s now after told_now told_after r) so_far.version_is
+        (subst (λ (o : Order). IsNextBegun tells o w level s now after told_now told_after r) so_far.order_is b))
 
-    pub run_refused : (e : Fault) → IsBottom v bottom → MakesNoCalls {T = Option Opened} now after (Err e) ⊎ IsNextBegun other w level s now after (Err e) → IsAllLevelsRun order s v before after (Err e)
+    pub run_refused : (e : Fault) → IsBottom v bottom → MakesNoCalls {T = Option Opened} now after told_now told_after (Err e) ⊎ IsNextBegun tells other w level s now after told_now told_after (Err e) → IsAllLevelsRun tells order s v before after told told_after (Err e)
     run_refused e is_bottom (inl u) =
-        let same : after ≡ before ++ steps_of_links order v so_far.links = u.calls ∙ so_far.calls in
-        inr (record { bottom = bottom; is_bottom = is_bottom; links = so_far.links; chain = so_far.chain; last = inl (same, tt) })
-    run_refused e is_bottom (inr b) = last_begun (Err e) (Err e) (λ calls steps h. h) is_bottom tt (begun_so_far (Err e) b)
+        let same : after ≡ before ++ first = u.calls ∙ so_far.calls in
+        inr (record { bottom = bottom; is_bottom = is_bottom; links = so_far.links; chain = so_far.chain; told_last = told_now; told_steps = so_far.told_steps; last = inl (same, u.untold, tt) })
+    run_refused e is_bottom (inr b) = last_begun (Err e) (Err e) (λ calls steps h. h) (λ step h. refused_told tells step told_now told_after e h) is_bottom (begun_so_far (Err e) b)
 
-    pub run_stopped : (o : Option Opened) → IsBottom v bottom → MakesNoCalls now after (Ok o) ⊎ IsNextBegun other w level s now after (Ok o) → IsAllLevelsRun order s v before after (Ok Stopped)
-    run_stopped o is_bottom (inl u) = absurd u.refused
-    run_stopped o is_bottom (inr b) = last_begun (Ok o) (Ok Stopped) (λ calls steps h. h) is_bottom refl (begun_so_far (Ok o) b)
+    pub run_stopped : (o : Option Opened) → o ≡ None → IsBottom v bottom → MakesNoCalls now after told_now told_after (Ok o) ⊎ IsNextBegun tells other w level s now after told_now told_after (Ok o) → IsAllLevelsRun tells order s v before after told told_after (Ok Stopped)
+    run_stopped o none is_bottom (inl u) = absurd u.refused
+    run_stopped o none is_bottom (inr b) = last_begun (Ok o) (Ok Stopped) (λ calls steps h. h) (λ step h. stop_told tells step told_now told_after o none h) is_bottom (begun_so_far (Ok o) b)
 
-    pub run_more : (next : Opened) → MakesNoCalls now after (Ok (Some next)) ⊎ IsNextBegun other w level s now after (Ok (Some next)) → RunSoFar order s bottom v before after next.version next.order
+    pub run_more : (next : Opened) → MakesNoCalls now after told_now told_after (Ok (Some next)) ⊎ IsNextBegun tells other w level s now after told_now told_after (Ok (Some next)) → RunSoFar tells order s bottom v before after told told_after next.version next.order
     run_more next (inl u) = absurd u.refused
     run_more next (inr begun) =
-        let at = version_after v so_far.links in
         let b = begun_so_far (Ok (Some next)) begun in
         let l : LevelLink = record { level = level; installed = b.begun.installed; next = next.version } in
         let so = opened_so order at b.begun.installed.answer.edit next.order next.version next.manifest b.opened in
         let edited = subst (λ (o : Order). IsOpenedAfter order at b.begun.installed.answer.edit (Ok (o, next.version, manifest_of at))) so.0
         (subst (λ (m : ℕ). IsOpenedAfter order at b.begun.installed.answer.edit (Ok (next.order, next.version, m))) so.1 b.opened) in
-        let first = steps_of_links order v so_far.links in
         let made : b.begun.steps ≡ map Done (calls_of_answer order at b.begun.installed) = b.begun.made in
+        let step = step_of_answer at b.begun.installed in
         record {
           links = so_far.links ++ l ∷ [];
           chain = links_then order s bottom v so_far.links l so_far.chain (record {
@@ -221,13 +258,17 @@ module _ (order : Order) (s : Settings) (bottom : ℕ) (v : State) (before now :
           order_is = so.0;
           calls = b.begun.appended ∙ ap (λ (t : List Step). (before ++ first) ++ t) made ∙ append_assoc before first (map Done (calls_of_answer order at b.begun.installed))
               ∙ ap (λ (t : List Step). before ++ t) (sym (steps_then order v so_far.links l));
+          told_steps =
+              subst (λ (xs : List StepView). AreToldInTurn tells told xs true told_after) (sym (told_then v so_far.links l))
+              (told_append tells (steps_of_links v so_far.links) (step ∷ []) told told_now told_after true so_far.told_steps (inl (refl, go_told tells step told_now told_after next b.is_told)));
         }
 
 -- ---- all levels, after a test
 
-pub all_since : (order : Order) (s : Settings) (v : State) (first before after : List Step) (q : Result DescentEnd Fault) → before ≡ first → IsAllLevelsRun order s v before after q → IsAllLevelsRun order s v first after q
-all_since order s v first before after q same run = subst (λ (t : List Step). IsAllLevelsRun order s v t after q) same run
+pub all_since : {W : Type 0} (tells : W → StepView → Bool → W → Type 0) (order : Order) (s : Settings) (v : State) (first before after : List Step) (told told_now : W) (q : Result DescentEnd Fault) → before ≡ first → IsAllLevelsRun tells order s v before after told told_now q → IsAllLevelsRun tells order s v first after told told_now q
+all_since tells order s v first before after told told_now q same run = subst (λ (t : List Step). IsAllLevelsRun tells order s v t after told told_now q) same run
 
 -- nothing was above the bottom
-pub all_at_bottom : (order : Order) (s : Settings) (v : State) (before : List Step) (bottom : ℕ) → IsBottom v bottom → IsNextLevel v bottom None → IsAllLevelsRun order s v before before (Ok AtBottom)
-all_at_bottom order s v before bottom is_bottom none = run_ended order s bottom v before before v order (none_so_far order s bottom v before) (Ok AtBottom) is_bottom (refl, none)
+pub all_at_bottom : {W : Type 0} (tells : W → StepView → Bool → W → Type 0) (order : Order) (s : Settings) (v : State) (before : List Step) (told : W) (bottom : ℕ) → IsBottom v bottom → IsNextLevel v bottom None → IsAllLevelsRun tells order s v before before told told (Ok AtBottom)
+all_at_bottom tells order s v before told bottom is_bottom none =
+    run_ended tells order s bottom v before before told told v order (none_so_far tells order s bottom v before told) (Ok AtBottom) is_bottom (refl, none)

@@ -17,7 +17,7 @@ mod CheckedInputs
 mod HeldInputs
 mod FoundInputs
 mod OrderlyFiles
-mod Tellings
+pub mod Answered
 pub mod Compactions
 mod LawfulInputs
 pub mod InstallPart

@@ -28,7 +28,8 @@ use Rattle.compact.specs.Inputs.{result_at_input, input_reading, inputs_reading,
 use Rattle.compact.specs.OneThread.{Answer, one_thread, outputs_answer, table_for}
 use Rattle.compact.specs.OutputTables.{Output, outputs_from, outputs_test}
 use Rattle.compact.specs.Request.{RequestView, below_request, has_levels, has_options, has_snapshots, is_snapshot_list, request_test}
-use Rattle.store.specs.InputsCompaction.{IsOrderlyAnswer, IsReadTold, are_stated, input_tables}
+use Rattle.store.specs.InputsCompaction.{IsOrderlyAnswer, IsReadAnswer, are_stated, input_tables}
+use Rattle.store.specs.Step.{IsStepFor, StepView, with_inputs}
 use Rattle.store.specs.FolderRequest.{compaction_from, first_output, numbered_request, request_from}
 use Rattle.compact.specs.declared.settings.Settings.{Settings}
 use Rattle.ikey.specs.Comparator.{ShortKeys}
@@ -126,8 +127,8 @@ module _ (cmp : List ℕ → List ℕ → Ordering) (short_keys : ShortKeys) whe
       bound (test_result (nat_le 1 s.workers && nat_le s.workers 64) Workers) _ (passes (nat_le 1 s.workers && nat_le s.workers 64) Workers (λ same. cc same)) (λ _.
       thread_other r)))
 
-  told_other : {T : Type 0} (tell : PickedInputs → Answer → T) (first : Option ℕ) (v : State) (loaded : List (ℕ × List ℕ)) (p : PickedInputs) (s : Settings) → AllOther (compaction_from first cmp short_keys v loaded p s >>= λ a. Ok (tell p a))
-  told_other tell first v loaded p s = bound (compaction_from first cmp short_keys v loaded p s) (λ a. Ok (tell p a)) (compaction_other first v loaded p s) (λ a. value (tell p a))
+  made_other : (first : Option ℕ) (v : State) (loaded : List (ℕ × List ℕ)) (p : PickedInputs) (s : Settings) → AllOther (with_inputs p (compaction_from first cmp short_keys v loaded p s))
+  made_other first v loaded p s = bound (compaction_from first cmp short_keys v loaded p s) (λ a. Ok (p, a)) (compaction_other first v loaded p s) (λ a. value (p, a))
 
 pub inputs_answer_other : (cmp : List ℕ → List ℕ → Ordering) (v : State) (level : ℕ) (e : Fault) → IsInputsAnswer cmp v level (Err e) → e.name ≢ Device
 inputs_answer_other cmp v level e h = by (nat_lt 5 level) (nat_lt 0 (length (level_files cmp v level))) refl refl h
@@ -143,10 +144,17 @@ tables_other cmp files loaded =
     bound (tables_reading cmp loaded) _ (no_device cmp loaded) (λ ts. bound (test_result (are_stated files ts) Bounds) _ (passes (are_stated files ts) Bounds (λ same. cc same)) (λ _. value _))
 
 -- nor is one of a compaction of inputs that were read
-pub read_other : {T : Type 0} (tell : PickedInputs → Answer → T) (first : Option ℕ) (cmp : List ℕ → List ℕ → Ordering) (short_keys : ShortKeys) (v : State) (p : PickedInputs) (s : Settings) (loaded : List (ℕ × List ℕ)) (e : Fault)
-    → IsReadTold tell first cmp short_keys v p s loaded (Err e) → e.name ≢ Device
-read_other {T = T} tell first cmp short_keys v p s loaded e (Err d, h) = subst (λ (f : Fault). f.name ≢ Device) (sym (same_refusal {Y = T} e d h.1)) (tables_other cmp p.files loaded d h.0)
-read_other tell first cmp short_keys v p s loaded e (Ok tables, h) = told_other cmp short_keys tell first v loaded p s e (sym h.1)
+pub read_other : (first : Option ℕ) (cmp : List ℕ → List ℕ → Ordering) (short_keys : ShortKeys) (v : State) (p : PickedInputs) (s : Settings) (loaded : List (ℕ × List ℕ)) (e : Fault)
+    → IsReadAnswer first cmp short_keys v s p loaded (Err e) → e.name ≢ Device
+read_other first cmp short_keys v p s loaded e (Err d, h) = subst (λ (f : Fault). f.name ≢ Device) (sym (same_refusal {Y = PickedInputs × Answer} e d h.1)) (tables_other cmp p.files loaded d h.0)
+read_other first cmp short_keys v p s loaded e (Ok tables, h) = made_other cmp short_keys first v loaded p s e (sym h.1)
+
+-- nor one of its step
+pub step_other : (first : Option ℕ) (cmp : List ℕ → List ℕ → Ordering) (short_keys : ShortKeys) (v : State) (p : PickedInputs) (s : Settings) (loaded : List (ℕ × List ℕ)) (e : Fault)
+    → IsStepFor v (IsReadAnswer first cmp short_keys v s p loaded) (Err e) → e.name ≢ Device
+step_other first cmp short_keys v p s loaded e (Err d, h) =
+    subst (λ (f : Fault). f.name ≢ Device) (sym (same_refusal {Y = StepView} e d h.1)) (read_other first cmp short_keys v p s loaded d h.0)
+step_other first cmp short_keys v p s loaded e (Ok made, h) = absurd (no_value_refused {Y = StepView} e h.1)
 
 pub orderly_other : (cmp : List ℕ → List ℕ → Ordering) (v : State) (e : Fault) → IsOrderlyAnswer cmp v (Err e) → e.name ≢ Device
 orderly_other cmp v e h = λ same. let both = sym (ap (λ (f : Fault). f.name) h.0) ∙ same in cc both

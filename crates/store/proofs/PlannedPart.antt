@@ -22,6 +22,8 @@ use Rattle.compact.specs.Request.{RequestView}
 use Rattle.compact.specs.declared.settings.Settings.{Settings}
 use Rattle.store.specs.Compaction.{IsUnchanged}
 use Rattle.store.specs.FolderRequest.{compaction_from, numbered_request}
+use Rattle.store.specs.FoundInputs.{step_result}
+use Rattle.store.specs.Step.{StepView, step_of}
 use Rattle.store.specs.StepLeft.{IsStepLeft}
 use Rattle.store.specs.declared.compaction_step.CompactionStep.{CompactionStep}
 use Rattle.store.proofs.Flow.{no_value}
@@ -37,16 +39,16 @@ answers_as view before now (Err e) IsOne IsOther f given =
       | inr one ↦ inr (f (Err e) one)
     ]) given
 
--- a refusal of a compaction is that of its lines
-pub lines_refused : {X Y : Type 0} (view : X → Y) (before now : ℕ) (r : Result X Fault) (e : Fault) (compacted : Result Answer Fault) (tell : Answer → Y) → IsErrAnd r (λ f. f ≡ e) → FailsOrMemory e compacted
-    → FolderAnswers view before now r (λ told. told ≡ (compacted >>= λ a. Ok (tell a)))
-lines_refused {Y = Y} view before now r e compacted tell h given =
-    refuses {Z = Answer} view before now r e (λ a. compacted ≡ a) (λ (told : Result Y Fault). told ≡ (compacted >>= λ a. Ok (tell a))) h given
-    (λ is. sym (ap (λ (a : Result Answer Fault). a >>= λ x. Ok (tell x)) is))
+-- a refusal of a compaction is that of its step
+pub step_refused : {X : Type 0} (view : X → StepView) (before now : ℕ) (r : Result X Fault) (e : Fault) (v : State) (p : PickedInputs) (compacted : Result Answer Fault) → IsErrAnd r (λ f. f ≡ e) → FailsOrMemory e compacted
+    → FolderAnswers view before now r (λ step. step ≡ step_result v p compacted)
+step_refused view before now r e v p compacted h given =
+    refuses {Z = Answer} view before now r e (λ a. compacted ≡ a) (λ (step : Result StepView Fault). step ≡ step_result v p compacted) h given
+    (λ is. sym (ap (step_result v p) is))
 
--- and its value is that of its lines
-pub lines_told : {Y : Type 0} (compacted : Result Answer Fault) (answer : Answer) (tell : Answer → Y) → compacted ≡ Ok answer → Ok (tell answer) ≡ (compacted >>= λ a. Ok (tell a))
-lines_told compacted answer tell is = sym (ap (λ (a : Result Answer Fault). a >>= λ x. Ok (tell x)) is)
+-- and its value is that of its step
+pub step_value : (v : State) (p : PickedInputs) (compacted : Result Answer Fault) (answer : Answer) (step : StepView) → compacted ≡ Ok answer → step ≡ step_of v p answer → Ok step ≡ step_result v p compacted
+step_value v p compacted answer step answered is = ap (λ (x : StepView). Ok x) is ∙ sym (ap (step_result v p) answered)
 
 -- nothing was written before a refusal
 pub unchanged : {T : Type 0} (steps : List Step) (tells : List ℕ → Option (List ℕ) → Type 0) (r : Result T Fault) (P : Fault → Type 0) → IsErrAnd r P → IsUnchanged steps steps tells tells r
@@ -62,8 +64,8 @@ step_since order cmp short_keys v loaded level s first before after zero old new
     let next = i.compacted.edited.next in
     let tables' = next_version_tables cmp next i.answer.tables loaded in
     inr (record {
+      picked = i.picked;
       answer = i.answer;
-      lines = i.lines;
       compacted = i.compacted;
       survives = subst (λ (b : List Step). SurvivesCrash cmp order v loaded next tables' b after zero new r) same
           (survives_on cmp order v next loaded tables' before after zero old new r r (λ P x. x) (still zero old told) i.survives);

@@ -18,11 +18,13 @@ use Rattle.folder.specs.declared.order.Order.{Order}
 use Rattle.install.specs.GroupedInstallation.{tables_of_groups}
 use Rattle.install.specs.Install.{IsStoppedOrChanged, calls_before_rename, install_calls, manifest_bytes}
 use Rattle.install.proofs.Moments.{made_by}
+use Rattle.pick.specs.PickedInputs.{PickedInputs}
 use Rattle.compact.specs.OneThread.{Answer}
 use Rattle.compact.specs.declared.settings.Settings.{Settings}
 use Rattle.store.specs.Compaction.{IsSynced}
 use Rattle.store.specs.FolderRequest.{manifest_of}
 use Rattle.store.specs.Runs.{IsAnswerForLevel, IsAnswerInstalled, IsFolderRun, IsLevelRun, IsRun}
+use Rattle.store.specs.Step.{step_in, step_of}
 use Rattle.store.specs.VersionSync.{sync_calls}
 use Rattle.store.specs.declared.compaction_step.CompactionStep.{CompactionStep}
 use Rattle.store.proofs.InstallPart.{all_made, refused_ok, still}
@@ -61,16 +63,16 @@ stopped_as before now (Err e) given = unless_from e (IsStoppedOrChanged before n
 ]) given
 
 -- an installation by the manifest of the version was refused
-pub install_refused : {T : Type 0} (IsAnswer : Answer → List ℕ → Type 0) (name : List ℕ) (cmp : List ℕ → List ℕ → Ordering) (v : State) (number : ℕ) (groups : List (List (ℕ × List ℕ))) (answer : Answer) (lines : List ℕ)
-    (before after : List Step) (old new : Told) (failed now : ℕ) (r : Result T Fault) (q : Result CompactionStep Fault) (e : Fault) → number ≡ manifest_of v → tables_of_groups groups ≡ answer.tables → IsAnswer answer lines → r ≡ Err e → IsErrAnd q (λ f. f ≡ e)
+pub install_refused : {T : Type 0} (IsAnswer : PickedInputs → Answer → Type 0) (name : List ℕ) (cmp : List ℕ → List ℕ → Ordering) (v : State) (number : ℕ) (groups : List (List (ℕ × List ℕ))) (picked : PickedInputs) (answer : Answer)
+    (before after : List Step) (old new : Told) (failed now : ℕ) (r : Result T Fault) (q : Result CompactionStep Fault) (e : Fault) → number ≡ manifest_of v → tables_of_groups groups ≡ answer.tables → IsAnswer picked answer → r ≡ Err e → IsErrAnd q (λ f. f ≡ e)
     → MakesCalls (install_calls number groups (manifest_bytes name cmp v answer.edit)) before after old new r
     → IfErr r (λ f. f ≡ fault Changed → after ≡ before ++ map Done (calls_before_rename number groups (manifest_bytes name cmp v answer.edit)))
     → IfErr r (λ f. UnlessMemory f (IsStoppedOrChanged failed now f)) → IsRun IsAnswer name cmp v before after old new q
-install_refused IsAnswer name cmp v number groups answer lines before after old new failed now r q e numbered joined is was h runs changed refused =
+install_refused IsAnswer name cmp v number groups picked answer before after old new failed now r q e numbered joined is was h runs changed refused =
     let manifest = manifest_bytes name cmp v answer.edit in
     inr (record {
+      picked = picked;
       answer = answer;
-      lines = lines;
       is_answer = is;
       calls = record {
         groups = groups;
@@ -80,20 +82,20 @@ install_refused IsAnswer name cmp v number groups answer lines before after old 
         changed = handed_err r q e (λ f. f ≡ fault Changed → after ≡ before ++ map Done (calls_before_rename (manifest_of v) groups manifest)) was h
             (subst (λ (n : ℕ). IfErr r (λ f. f ≡ fault Changed → after ≡ before ++ map Done (calls_before_rename n groups manifest))) numbered changed);
       };
-      step = refused_ok q e (λ step. (step.lines.items ≡ lines) × (step.edit.items ≡ answer.edit)) h;
+      step = refused_ok q e (λ step. step_in step ≡ step_of v picked answer) h;
       refused = handed_err r q e (λ f. UnlessMemory f ((f ≡ fault Device) ⊎ (f ≡ fault Changed))) was h (stopped_as failed now r refused);
     })
 
 -- and this one was done
-pub install_done : {T : Type 0} (IsAnswer : Answer → List ℕ → Type 0) (name : List ℕ) (cmp : List ℕ → List ℕ → Ordering) (v : State) (number : ℕ) (groups : List (List (ℕ × List ℕ))) (answer : Answer) (lines : List ℕ)
-    (before after : List Step) (old new : Told) (r : Result T Fault) (x : T) (step : CompactionStep) → number ≡ manifest_of v → tables_of_groups groups ≡ answer.tables → IsAnswer answer lines → r ≡ Ok x
+pub install_done : {T : Type 0} (IsAnswer : PickedInputs → Answer → Type 0) (name : List ℕ) (cmp : List ℕ → List ℕ → Ordering) (v : State) (number : ℕ) (groups : List (List (ℕ × List ℕ))) (picked : PickedInputs) (answer : Answer)
+    (before after : List Step) (old new : Told) (r : Result T Fault) (x : T) (step : CompactionStep) → number ≡ manifest_of v → tables_of_groups groups ≡ answer.tables → IsAnswer picked answer → r ≡ Ok x
     → MakesCalls (install_calls number groups (manifest_bytes name cmp v answer.edit)) before after old new r
-    → step.lines.items ≡ lines → step.edit.items ≡ answer.edit → IsRun IsAnswer name cmp v before after old new (Ok step)
-install_done IsAnswer name cmp v number groups answer lines before after old new r x step numbered joined is was runs told edit =
+    → step_in step ≡ step_of v picked answer → IsRun IsAnswer name cmp v before after old new (Ok step)
+install_done IsAnswer name cmp v number groups picked answer before after old new r x step numbered joined is was runs made =
     let manifest = manifest_bytes name cmp v answer.edit in
     inr (record {
+      picked = picked;
       answer = answer;
-      lines = lines;
       is_answer = is;
       calls = record {
         groups = groups;
@@ -102,18 +104,18 @@ install_done IsAnswer name cmp v number groups answer lines before after old new
             (subst (λ (n : ℕ). MakesCalls (install_calls n groups manifest) before after old new r) numbered runs);
         changed = tt;
       };
-      step = (told, edit);
+      step = made;
       refused = tt;
     })
 
 -- ---- the same calls, told otherwise
 
 -- an answer that is another one too
-pub run_as : (IsOne IsOther : Answer → List ℕ → Type 0) (name : List ℕ) (cmp : List ℕ → List ℕ → Ordering) (v : State) (before after : List Step) (old new : Told) (r : Result CompactionStep Fault)
-    → ((answer : Answer) (lines : List ℕ) → IsOne answer lines → IsOther answer lines) → IsRun IsOne name cmp v before after old new r → IsRun IsOther name cmp v before after old new r
+pub run_as : (IsOne IsOther : PickedInputs → Answer → Type 0) (name : List ℕ) (cmp : List ℕ → List ℕ → Ordering) (v : State) (before after : List Step) (old new : Told) (r : Result CompactionStep Fault)
+    → ((picked : PickedInputs) (answer : Answer) → IsOne picked answer → IsOther picked answer) → IsRun IsOne name cmp v before after old new r → IsRun IsOther name cmp v before after old new r
 run_as IsOne IsOther name cmp v before after old new r f (inl u) = inl u
 run_as IsOne IsOther name cmp v before after old new r f (inr i) =
-    inr (record { answer = i.answer; lines = i.lines; is_answer = f i.answer i.lines i.is_answer; calls = i.calls; step = i.step; refused = i.refused })
+    inr (record { picked = i.picked; answer = i.answer; is_answer = f i.picked i.answer i.is_answer; calls = i.calls; step = i.step; refused = i.refused })
 
 -- calls, told from earlier ones on
 pub calls_since : {T : Type 0} (calls : List Call) (first before after : List Step) (zero old new : Told) (r : Result T Fault) → before ≡ first → ((files : Files) → Tells zero files → Tells old files)
@@ -125,13 +127,13 @@ calls_since calls first before after zero old new r same told k = record {
   change = λ s tells. k.change s (told s.files tells);
 }
 
-pub installed_since : (IsAnswer : Answer → List ℕ → Type 0) (name : List ℕ) (cmp : List ℕ → List ℕ → Ordering) (v : State) (first before after : List Step) (zero old new : Told) (r : Result CompactionStep Fault)
+pub installed_since : (IsAnswer : PickedInputs → Answer → Type 0) (name : List ℕ) (cmp : List ℕ → List ℕ → Ordering) (v : State) (first before after : List Step) (zero old new : Told) (r : Result CompactionStep Fault)
     → before ≡ first → ((files : Files) → Tells zero files → Tells old files) → IsAnswerInstalled IsAnswer name cmp v before after old new r → IsAnswerInstalled IsAnswer name cmp v first after zero new r
 installed_since IsAnswer name cmp v first before after zero old new r same told i =
     let manifest = manifest_bytes name cmp v i.answer.edit in
     record {
+      picked = i.picked;
       answer = i.answer;
-      lines = i.lines;
       is_answer = i.is_answer;
       calls = record {
         groups = i.calls.groups;
@@ -144,7 +146,7 @@ installed_since IsAnswer name cmp v first before after zero old new r same told 
     }
 
 -- a run, told from earlier calls on that only read
-pub run_since : (IsAnswer : Answer → List ℕ → Type 0) (name : List ℕ) (cmp : List ℕ → List ℕ → Ordering) (v : State) (first before after : List Step) (zero old new : Told) (r : Result CompactionStep Fault)
+pub run_since : (IsAnswer : PickedInputs → Answer → Type 0) (name : List ℕ) (cmp : List ℕ → List ℕ → Ordering) (v : State) (first before after : List Step) (zero old new : Told) (r : Result CompactionStep Fault)
     → before ≡ first → TellsSame zero old → IsRun IsAnswer name cmp v before after old new r → IsRun IsAnswer name cmp v first after zero new r
 run_since IsAnswer name cmp v first before after zero old new r same told (inl u) =
     inl (record { calls = u.calls ∙ same; same = told_since zero old new told u.same; refused = u.refused })

@@ -21,17 +21,18 @@ use Rattle.folder.specs.declared.order.Order.{Order}
 use Rattle.install.specs.Install.{IsEditedBy, SurvivesCrash, current_calls, install_calls, next_version_tables, table_calls, temporary_calls, write_calls}
 use Rattle.checks.specs.LawfulTables.{IsLawfulTables}
 use Rattle.reads.specs.Tables.{NumberedContents}
-use Rattle.pick.specs.PickedInputs.{IsInputsAnswer}
+use Rattle.pick.specs.PickedInputs.{IsInputsAnswer, PickedInputs}
 use Rattle.compact.specs.OneThread.{Answer}
 use Rattle.compact.specs.declared.settings.Settings.{Settings}
-use Rattle.store.specs.Answers.{IsVersionCompacted, lines_of}
-use Rattle.store.specs.Compaction.{IsVersionLeft, VersionCompaction}
-use Rattle.store.specs.FolderRequest.{compaction_of, manifest_of}
+use Rattle.store.specs.Answers.{IsVersionAnswer, IsVersionCompacted}
+use Rattle.store.specs.Compaction.{IsVersionLeft, LevelCompaction}
+use Rattle.store.specs.FolderRequest.{compaction_from, manifest_of}
+use Rattle.store.specs.Step.{StepView, step_in, step_of, with_inputs}
 use Rattle.store.specs.StepLeft.{IsStepLeft}
 use Rattle.checks.specs.TestedTables.{IsTested, totals_of}
 use Rattle.checks.specs.declared.version_totals.VersionTotals.{VersionTotals}
 use Rattle.store.specs.declared.compaction_step.CompactionStep.{CompactionStep}
-use Rattle.store.proofs.Flow.{loaded_in, no_refusal}
+use Rattle.store.proofs.Flow.{first_refused, loaded_in, no_refusal}
 use Rattle.store.proofs.InstallPart.{Promises, all_made, still, survives_on}
 
 -- ---- CURRENT after an installation
@@ -72,18 +73,18 @@ current_named number groups manifest before after old new r x files was runs tel
 
 -- ---- what is left
 
-pub step_installed : {T : Type 0} (name : List ℕ) (order : Order) (cmp : List ℕ → List ℕ → Ordering) (short_keys : ShortKeys) (v : State) (loaded : List (ℕ × List ℕ)) (level : ℕ) (s : Settings) (answer : Answer) (lines : List ℕ)
+pub step_installed : {T : Type 0} (name : List ℕ) (order : Order) (cmp : List ℕ → List ℕ → Ordering) (short_keys : ShortKeys) (v : State) (loaded : List (ℕ × List ℕ)) (level : ℕ) (s : Settings) (picked : PickedInputs) (answer : Answer)
     (first before after : List Step) (zero old new : List ℕ → Option (List ℕ) → Type 0) (r : Result T Fault) (q : Result CompactionStep Fault)
-    → order_name order ≡ name → VersionCompaction order cmp short_keys v loaded level s answer lines → ((P : Type 0) → OnOk r P → OnOk q P) → before ≡ first → TellsSame zero old
-    → OnOk q (new (codes "CURRENT") (Some (current_text (manifest_of v)))) → IfOk q (λ step. (step.lines.items ≡ lines) × (step.edit.items ≡ answer.edit)) → IfErr q (λ e. UnlessMemory e (e ≡ fault Device))
+    → order_name order ≡ name → LevelCompaction order cmp short_keys v loaded level None s picked answer → ((P : Type 0) → OnOk r P → OnOk q P) → before ≡ first → TellsSame zero old
+    → OnOk q (new (codes "CURRENT") (Some (current_text (manifest_of v)))) → IfOk q (λ step. step_in step ≡ step_of v picked answer) → IfErr q (λ e. UnlessMemory e (e ≡ fault Device))
     → Promises name cmp v (manifest_of v) answer before after old new r → IsStepLeft order cmp short_keys v loaded level s first after zero new q
-step_installed name order cmp short_keys v loaded level s answer lines first before after zero old new r q is done f same told named step refused promises =
+step_installed name order cmp short_keys v loaded level s picked answer first before after zero old new r q is done f same told named step refused promises =
     let next = done.edited.next in
     let tables' = next_version_tables cmp next answer.tables loaded in
     let edited = subst (λ (n : List ℕ). IsEditedBy n cmp order v (manifest_of v) answer.tables answer.edit next) is done.edited.edited in
     inr (record {
+      picked = picked;
       answer = answer;
-      lines = lines;
       compacted = done;
       survives = subst (λ (b : List Step). SurvivesCrash cmp order v loaded next tables' b after zero new q) same
           (survives_on cmp order v next loaded tables' before after zero old new r q f (still zero old told) (promises order next loaded edited));
@@ -103,7 +104,7 @@ version_left order cmp short_keys files v loaded level s first before after zero
     let next = i.compacted.edited.next in
     let tables' = next_version_tables cmp next i.answer.tables loaded in
     inr (record {
-      compaction = record { loaded = loaded; reads = reads; answer = i.answer; lines = i.lines; compacted = i.compacted };
+      compaction = record { loaded = loaded; reads = reads; picked = i.picked; answer = i.answer; compacted = i.compacted };
       survives = subst (λ (b : List Step). SurvivesCrash cmp order v loaded next tables' b after zero new r) same
           (survives_on cmp order v next loaded tables' before after zero old new r r (λ P x. x) (still zero old told) i.survives);
       step = i.step;
@@ -149,7 +150,12 @@ test_ends cmp IsNext tells files v e told (Ok loaded, (l, (Err d, (k, is)))) =
     (Ok loaded, (loaded_in tells files (file_numbers cmp v) (Ok loaded) told l, (Err d, (k, ap (λ (x : Fault). Err x) (same_refusal {Y = VersionTotals} e d is)))))
 test_ends cmp IsNext tells files v e told (Ok loaded, (l, (Ok tables, (k, is)))) = absurd (no_refusal (totals_of tables) e (sym is))
 
+pub version_refused : (first : Option ℕ) (cmp : List ℕ → List ℕ → Ordering) (short_keys : ShortKeys) (tells : List ℕ → Option (List ℕ) → Type 0) (files : Files) (v : State) (level : ℕ) (s : Settings) (e : Fault)
+    → Tells tells files → IsTested tells cmp v (Err e) → IsVersionAnswer first cmp short_keys files v level s (Err e)
+version_refused first cmp short_keys tells files v level s e told h =
+    test_ends cmp (λ loaded tables. IsThen (IsInputsAnswer cmp v level) (λ p (a : Result (PickedInputs × Answer) Fault). a ≡ with_inputs p (compaction_from first cmp short_keys v loaded p s))) tells files v e told h
+
 pub test_refused : (cmp : List ℕ → List ℕ → Ordering) (short_keys : ShortKeys) (tells : List ℕ → Option (List ℕ) → Type 0) (files : Files) (v : State) (level : ℕ) (s : Settings) (e : Fault)
     → Tells tells files → IsTested tells cmp v (Err e) → IsVersionCompacted cmp short_keys files v level s (Err e)
 test_refused cmp short_keys tells files v level s e told h =
-    test_ends cmp (λ loaded tables. IsThen (IsInputsAnswer cmp v level) (λ p (a : Result (List ℕ) Fault). a ≡ lines_of v p (compaction_of cmp short_keys v loaded p s))) tells files v e told h
+    first_refused (IsVersionAnswer None cmp short_keys files v level s) (λ made (step : Result StepView Fault). step ≡ Ok (step_of v made.0 made.1)) e (version_refused None cmp short_keys tells files v level s e told h)

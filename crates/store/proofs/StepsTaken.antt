@@ -20,10 +20,13 @@ use Rattle.folder.specs.Orders.{order_cmp, order_short_keys}
 use Rattle.folder.specs.declared.current_version.Opened.{Opened}
 use Rattle.folder.specs.declared.order.Order.{Order}
 use Rattle.folder.specs.declared.order.Order.TheVariants.{Bytewise, Shortlex}
+use Rattle.pick.specs.PickedInputs.{PickedInputs}
+use Rattle.compact.specs.OneThread.{Answer}
 use Rattle.compact.specs.declared.settings.Settings.{Settings}
 use Rattle.store.specs.FolderRequest.{manifest_of}
 use Rattle.store.specs.InputsCompaction.{InputsSufficeLaw}
 use Rattle.store.specs.OpenedAfter.{IsOpenedAfter}
+use Rattle.store.specs.Step.{StepView, step_in, step_of}
 use Rattle.store.specs.StepLeft.{IsStepInstalled, IsStepLeft}
 use Rattle.store.specs.declared.compaction_step.CompactionStep.{CompactionStep}
 use Rattle.store.proofs.AfterEdit.{is_opened, not_refused}
@@ -32,6 +35,10 @@ use Rattle.store.proofs.AfterEdit.{is_opened, not_refused}
 pub suffices_by : (order : Order) → InputsSufficeLaw bytewise_cmp bytewise_short_keys → InputsSufficeLaw shortlex_cmp shortlex_short_keys → InputsSufficeLaw (order_cmp order) (order_short_keys order)
 suffices_by Bytewise one two = one
 suffices_by Shortlex one two = two
+
+-- the edit of a step is that of its answer
+pub same_edit : {step : CompactionStep} {v : State} {p : PickedInputs} {answer : Answer} → step_in step ≡ step_of v p answer → step.edit.items ≡ answer.edit
+same_edit h = ap (λ (x : StepView). x.edit) h
 
 -- a step that was answered was installed
 pub installed_of : (order : Order) (cmp : List ℕ → List ℕ → Ordering) (short_keys : ShortKeys) (v : State) (loaded : List (ℕ × List ℕ)) (level : ℕ) (s : Settings) (before after : List Step) (old new : List ℕ → Option (List ℕ) → Type 0) (step : CompactionStep)
@@ -46,7 +53,7 @@ module _ (order : Order) (cmp : List ℕ → List ℕ → Ordering) (short_keys 
   opened_next (Ok None) h = tt
   opened_next (Ok (Some a)) h =
       is_opened order cmp v (manifest_of v) i.answer.tables i.answer.edit i.compacted.edited.next i.compacted.edited.edited a.order a.version a.manifest
-      (subst (λ (b : List ℕ). IsOpenedAfter order v b (Ok (a.order, a.version, a.manifest))) i.step.1 h)
+      (subst (λ (b : List ℕ). IsOpenedAfter order v b (Ok (a.order, a.version, a.manifest))) (same_edit i.step) h)
   opened_next (Err e) h = tt
 
   pub memory_only : (r : Result (Option Opened) Fault) → IfErr r (λ e. UnlessMemory e (IsOpenedAfter order v step.edit.items (Err e))) → IfErr r (λ e. e ≡ fault Memory)
@@ -54,7 +61,7 @@ module _ (order : Order) (cmp : List ℕ → List ℕ → Ordering) (short_keys 
   memory_only (Err e) h =
       only_memory e (IsOpenedAfter order v step.edit.items (Err e))
       (λ opened. not_refused order cmp v (manifest_of v) i.answer.tables i.answer.edit i.compacted.edited.next i.compacted.edited.edited e
-      (subst (λ (b : List ℕ). IsOpenedAfter order v b (Err e)) i.step.1 opened)) h
+      (subst (λ (b : List ℕ). IsOpenedAfter order v b (Err e)) (same_edit i.step) opened)) h
 
 -- ---- no refusal is Device
 

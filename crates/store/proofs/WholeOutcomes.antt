@@ -1,6 +1,6 @@
 -- What a crash leaves at each moment at which an outcome is written.
-use Rattle.std.proofs.Common.{◌≡◌, ◌≢◌, ◌⊎◌, ℕ, true, false, List, [], ◌∷◌, codes, Option, Some, None, Result, refl, sym, ap, subst, ◌∙◌, inl, inr, arith}
-use Rattle.folder.specs.Calls.{Call, Created, Done, Files, FolderSynced, FolderView, Renamed, Step, Synced, Written, with_contents, with_moved, with_renamed, with_synced, with_value, with_written}
+use Rattle.std.proofs.Common.{◌≡◌, ◌≢◌, ◌⊎◌, ℕ, true, false, List, [], ◌∷◌, codes, map, Option, Some, None, Result, Ok, Err, OnOk, refl, sym, ap, subst, ◌∙◌, inl, inr, arith}
+use Rattle.folder.specs.Calls.{Call, Created, Done, Files, FolderSynced, FolderView, Renamed, Step, Synced, Tried, Written, with_contents, with_moved, with_renamed, with_synced, with_value, with_written}
 use Rattle.folder.specs.CallSequence.{AreMade, MakesCalls}
 use Rattle.folder.specs.Crash.{IsDurable, Leads, LeavesOnly, MayHold, World}
 use Rattle.folder.specs.Names.{table_name}
@@ -11,8 +11,8 @@ use Rattle.folder.proofs.PutLemmas.{moved_other, moved_to, put_other, put_same, 
 use Rattle.folder.proofs.WrittenLemmas.{AllWritten, leads_first, leads_none}
 use Rattle.install.proofs.Moments.{leads_split, made_by, moment_made}
 use Rattle.compact.specs.OneThread.{Answer}
-use Rattle.store.specs.Outcome.{naming_calls, outcome_calls}
-use Rattle.store.specs.WholeOutcome.{AreNamedApart, AreThere, HasNoEdit, IsAbsentOrWhole, IsNameOfNone}
+use Rattle.store.specs.Outcome.{edit_calls, naming_calls, outcome_calls}
+use Rattle.store.specs.WholeOutcome.{AreNamedApart, AreThere, HasNoEdit, IsAbsentOrWhole, IsNameOfNone, IsWhole}
 
 abbrev EDIT : List ℕ
 EDIT = codes "EDIT"
@@ -126,6 +126,16 @@ files_moved : (files : List (List ℕ × List ℕ)) (left : Files) → AreOthers
 files_moved [] left others h = tt
 files_moved (file ∷ files) left others h = (moved_other None left UNFINISHED EDIT file.0 others.1 others.0 ∙ h.0, files_moved files left others.2 h.1)
 
+-- steps that aren't all, and the steps after the first of all
+none_full : (call : Call) (calls : List Call) (steps : List Step) → steps ≡ [] → steps ≡ map Done (call ∷ calls) → ⊥
+none_full call calls steps none' done = let h : [] ≡ Done call ∷ map Done calls = sym none' ∙ done in cc h
+
+tried_full : (call : Call) (calls : List Call) (steps : List Step) → steps ≡ Tried call ∷ [] → steps ≡ map Done (call ∷ calls) → ⊥
+tried_full call calls steps one done = let h : Tried call ∷ [] ≡ Done call ∷ map Done calls = sym one ∙ done in cc h
+
+rest_full : (call : Call) (calls : List Call) (steps rest : List Step) → steps ≡ Done call ∷ rest → steps ≡ map Done (call ∷ calls) → rest ≡ map Done calls
+rest_full call calls steps rest more done = let h : Done call ∷ rest ≡ Done call ∷ map Done calls = sym more ∙ done in cc h
+
 module _ (a : Answer) (apart : AreNamedApart (named_tables a.tables)) where
   abbrev files : List (List ℕ × List ℕ)
   files = named_tables a.tables
@@ -181,35 +191,45 @@ module _ (a : Answer) (apart : AreNamedApart (named_tables a.tables)) where
     left = renamed_left w next h left;
   }
 
+  abbrev Whole : World → Type 0
+  Whole w = IsWhole a w.left
+
   -- the folder is synced at last
-  synced_last : (w last : World) (steps : List Step) → IsNamed w → AreMade (FolderSynced ∷ []) steps → Leads w steps last → IsLeft last
-  synced_last w last steps h (inl none') l = same_left w last (leads_none w last steps none' l) h.left
+  synced_last : (w last : World) (steps : List Step) → IsNamed w → AreMade (FolderSynced ∷ []) steps → Leads w steps last → IsLeft last × (steps ≡ map Done (FolderSynced ∷ []) → Whole last)
+  synced_last w last steps h (inl none') l = (same_left w last (leads_none w last steps none' l) h.left, λ done. absurd (none_full FolderSynced [] steps none' done))
   synced_last w last steps h (inr (inl one)) l =
       let l' = leads_first w last steps [] _ one l in
-      same_left l'.0 last l'.2 (subst (IsAbsentOrWhole a) (sym l'.1.1) h.left)
+      (same_left l'.0 last l'.2 (subst (IsAbsentOrWhole a) (sym l'.1.1) h.left), λ done. absurd (tried_full FolderSynced [] steps one done))
   synced_last w last steps h (inr (inr more)) l =
       let l' = leads_first w last steps more.0 _ more.1 l in
-      let left : IsLeft l'.0 = inr (l'.1.1 EDIT (inl h.edit.synced) ∙ h.edit.held, files_left files w l'.0.left l'.1.1 h.tables) in
-      same_left l'.0 last (leads_none l'.0 last more.0 more.2 l'.2) left
+      let whole : Whole l'.0 = (l'.1.1 EDIT (inl h.edit.synced) ∙ h.edit.held, files_left files w l'.0.left l'.1.1 h.tables) in
+      let is = leads_none l'.0 last more.0 more.2 l'.2 in
+      (same_left l'.0 last is (inr whole), λ done. subst Whole (sym is) whole)
 
-  renames : (w last : World) (steps : List Step) → IsReady w → AreMade (Renamed UNFINISHED EDIT ∷ FolderSynced ∷ []) steps → Leads w steps last → IsLeft last
-  renames w last steps h (inl none') l = same_left w last (leads_none w last steps none' l) (absent_left w h.before.before.absent)
+  renames : (w last : World) (steps : List Step) → IsReady w → AreMade (Renamed UNFINISHED EDIT ∷ FolderSynced ∷ []) steps → Leads w steps last
+      → IsLeft last × (steps ≡ map Done (Renamed UNFINISHED EDIT ∷ FolderSynced ∷ []) → Whole last)
+  renames w last steps h (inl none') l =
+      (same_left w last (leads_none w last steps none' l) (absent_left w h.before.before.absent), λ done. absurd (none_full (Renamed UNFINISHED EDIT) (FolderSynced ∷ []) steps none' done))
   renames w last steps h (inr (inl one)) l =
       let l' = leads_first w last steps [] _ one l in
-      same_left l'.0 last l'.2 (renamed_left w l'.0 h l'.1.1)
+      (same_left l'.0 last l'.2 (renamed_left w l'.0 h l'.1.1), λ done. absurd (tried_full (Renamed UNFINISHED EDIT) (FolderSynced ∷ []) steps one done))
   renames w last steps h (inr (inr more)) l =
       let l' = leads_first w last steps more.0 _ more.1 l in
-      synced_last l'.0 last more.0 (named w l'.0 h l'.1.0 l'.1.1) more.2 l'.2
+      let rest = synced_last l'.0 last more.0 (named w l'.0 h l'.1.0 l'.1.1) more.2 l'.2 in
+      (rest.0, λ done. rest.1 (rest_full (Renamed UNFINISHED EDIT) (FolderSynced ∷ []) steps more.0 more.1 done))
 
   -- what is shown and left without a change of EDIT
   still_absent : (w next : World) → HasNoEdit w → IsKept w.shown next.shown EDIT → next.left EDIT ≡ w.left EDIT → HasNoEdit next
   still_absent w next h kept left = (kept.held ∙ h.0, left ∙ h.1)
 
-  names : (w last : World) (steps : List Step) → HasUnfinished w → AreMade naming_calls steps → Leads w steps last → IsLeft last
-  names w last steps h (inl none') l = same_left w last (leads_none w last steps none' l) (absent_left w h.before.absent)
+  abbrev rename_calls : List Call
+  rename_calls = Renamed UNFINISHED EDIT ∷ FolderSynced ∷ []
+
+  names : (w last : World) (steps : List Step) → HasUnfinished w → AreMade naming_calls steps → Leads w steps last → IsLeft last × (steps ≡ map Done naming_calls → Whole last)
+  names w last steps h (inl none') l = (same_left w last (leads_none w last steps none' l) (absent_left w h.before.absent), λ done. absurd (none_full FolderSynced rename_calls steps none' done))
   names w last steps h (inr (inl one)) l =
       let l' = leads_first w last steps [] _ one l in
-      same_left l'.0 last l'.2 (inl (at l'.0.left w.left EDIT l'.1.1 ∙ h.before.absent.1))
+      (same_left l'.0 last l'.2 (inl (at l'.0.left w.left EDIT l'.1.1 ∙ h.before.absent.1)), λ done. absurd (tried_full FolderSynced rename_calls steps one done))
   names w last steps h (inr (inr more)) l =
       let l' = leads_first w last steps more.0 _ more.1 l in
       let next = l'.0 in
@@ -227,13 +247,14 @@ module _ (a : Answer) (apart : AreNamedApart (named_tables a.tables)) where
         };
         settled = settled;
       } in
-      renames next last more.0 ready more.2 l'.2
+      let rest = renames next last more.0 ready more.2 l'.2 in
+      (rest.0, λ done. rest.1 (rest_full FolderSynced rename_calls steps more.0 more.1 done))
 
-  syncs : (w last : World) (steps : List Step) → HasTables w → w.shown.files UNFINISHED ≡ Some a.edit → AreMade (Synced UNFINISHED ∷ naming_calls) steps → Leads w steps last → IsLeft last
-  syncs w last steps h held (inl none') l = same_left w last (leads_none w last steps none' l) (absent_left w h.absent)
+  syncs : (w last : World) (steps : List Step) → HasTables w → w.shown.files UNFINISHED ≡ Some a.edit → AreMade (Synced UNFINISHED ∷ naming_calls) steps → Leads w steps last → IsLeft last × (steps ≡ map Done (Synced UNFINISHED ∷ naming_calls) → Whole last)
+  syncs w last steps h held (inl none') l = (same_left w last (leads_none w last steps none' l) (absent_left w h.absent), λ done. absurd (none_full (Synced UNFINISHED) naming_calls steps none' done))
   syncs w last steps h held (inr (inl one)) l =
       let l' = leads_first w last steps [] _ one l in
-      same_left l'.0 last l'.2 (inl (at l'.0.left w.left EDIT l'.1.1 ∙ h.absent.1))
+      (same_left l'.0 last l'.2 (inl (at l'.0.left w.left EDIT l'.1.1 ∙ h.absent.1)), λ done. absurd (tried_full (Synced UNFINISHED) naming_calls steps one done))
   syncs w last steps h held (inr (inr more)) l =
       let l' = leads_first w last steps more.0 _ more.1 l in
       let next = l'.0 in
@@ -248,13 +269,17 @@ module _ (a : Answer) (apart : AreNamedApart (named_tables a.tables)) where
           synced = at next.shown.synced _ UNFINISHED (ap (λ (s : FolderView). s.synced) l'.1.0) ∙ put_same w.shown.synced UNFINISHED true;
         };
       } in
-      names next last more.0 unfinished more.2 l'.2
+      let rest = names next last more.0 unfinished more.2 l'.2 in
+      (rest.0, λ done. rest.1 (rest_full (Synced UNFINISHED) naming_calls steps more.0 more.1 done))
 
-  makes : (w last : World) (steps : List Step) → HasTables w → AreMade (Created UNFINISHED a.edit ∷ Synced UNFINISHED ∷ naming_calls) steps → Leads w steps last → IsLeft last
-  makes w last steps h (inl none') l = same_left w last (leads_none w last steps none' l) (absent_left w h.absent)
+  makes : (w last : World) (steps : List Step) → HasTables w → AreMade (Created UNFINISHED a.edit ∷ Synced UNFINISHED ∷ naming_calls) steps → Leads w steps last
+      → IsLeft last × (steps ≡ map Done (Created UNFINISHED a.edit ∷ Synced UNFINISHED ∷ naming_calls) → Whole last)
+  makes w last steps h (inl none') l = (same_left w last (leads_none w last steps none' l) (absent_left w h.absent), λ done. absurd (none_full (Created UNFINISHED a.edit) (Synced UNFINISHED ∷ naming_calls) steps none' done))
   makes w last steps h (inr (inl one)) l =
-      let l' = leads_first w last steps [] _ one l in
-      same_left l'.0 last l'.2 (inl (at l'.0.left _ EDIT l'.1.1.1 ∙ (put_other w.left UNFINISHED l'.1.1.0 EDIT unfinished_no_edit ∙ h.absent.1)))
+      let l' = leads_first w last steps [] _ one l in (
+        same_left l'.0 last l'.2 (inl (at l'.0.left _ EDIT l'.1.1.1 ∙ (put_other w.left UNFINISHED l'.1.1.0 EDIT unfinished_no_edit ∙ h.absent.1))),
+        λ done. absurd (tried_full (Created UNFINISHED a.edit) (Synced UNFINISHED ∷ naming_calls) steps one done),
+      )
   makes w last steps h (inr (inr more)) l =
       let l' = leads_first w last steps more.0 _ more.1 l in
       let next = l'.0 in
@@ -264,13 +289,14 @@ module _ (a : Answer) (apart : AreNamedApart (named_tables a.tables)) where
         absent = still_absent w next h.absent (kept EDIT unfinished_no_edit) (at next.left _ EDIT l'.1.1.1 ∙ put_other w.left UNFINISHED l'.1.1.0 EDIT unfinished_no_edit);
       } in
       let held = at next.shown.files _ UNFINISHED (ap (λ (s : FolderView). s.files) l'.1.0) ∙ put_same w.shown.files UNFINISHED (Some a.edit) in
-      syncs next last more.0 tables held more.2 l'.2
+      let rest = syncs next last more.0 tables held more.2 l'.2 in
+      (rest.0, λ done. rest.1 (rest_full (Created UNFINISHED a.edit) (Synced UNFINISHED ∷ naming_calls) steps more.0 more.1 done))
 
-  writes : (w last : World) (steps : List Step) → HasNoEdit w → AreMade (outcome_calls a) steps → Leads w steps last → IsLeft last
-  writes w last steps h (inl none') l = same_left w last (leads_none w last steps none' l) (absent_left w h)
+  writes : (w last : World) (steps : List Step) → HasNoEdit w → AreMade (outcome_calls a) steps → Leads w steps last → IsLeft last × (steps ≡ map Done (outcome_calls a) → Whole last)
+  writes w last steps h (inl none') l = (same_left w last (leads_none w last steps none' l) (absent_left w h), λ done. absurd (none_full (Written files) (edit_calls a.edit) steps none' done))
   writes w last steps h (inr (inl one)) l =
       let l' = leads_first w last steps [] _ one l in
-      same_left l'.0 last l'.2 (inl (group_left files w.left l'.0.left EDIT (others_none files others) l'.1.1 ∙ h.1))
+      (same_left l'.0 last l'.2 (inl (group_left files w.left l'.0.left EDIT (others_none files others) l'.1.1 ∙ h.1)), λ done. absurd (tried_full (Written files) (edit_calls a.edit) steps one done))
   writes w last steps h (inr (inr more)) l =
       let l' = leads_first w last steps more.0 _ more.1 l in
       let next = l'.0 in
@@ -280,7 +306,8 @@ module _ (a : Answer) (apart : AreNamedApart (named_tables a.tables)) where
         tables = group_written files w.shown next apart l'.1.0;
         absent = (shown ∙ h.0, group_left files w.left next.left EDIT (others_none files others) l'.1.1 ∙ h.1);
       } in
-      makes next last more.0 tables more.2 l'.2
+      let rest = makes next last more.0 tables more.2 l'.2 in
+      (rest.0, λ done. rest.1 (rest_full (Written files) (edit_calls a.edit) steps more.0 more.1 done))
 
   -- each moment of a run from a start at which there is no EDIT
   pub whole_or_absent : {T E : Type 0} (start : World) (before now : List Step) (old new : List ℕ → Option (List ℕ) → Type 0) (r : Result T E) → ((w : World) → Leads start before w → HasNoEdit w)
@@ -291,5 +318,13 @@ module _ (a : Answer) (apart : AreNamedApart (named_tables a.tables)) where
     each = λ sofar moment left' left.
         let split = leads_split start left.0 before sofar left.1 in
         let made = moment_made (outcome_calls a) runs.steps sofar (made_by (outcome_calls a) runs.steps r runs.made) moment in
-        subst (IsAbsentOrWhole a) (sym left.2) (writes split.0 left.0 sofar (absent split.0 split.1) made split.2);
+        subst (IsAbsentOrWhole a) (sym left.2) (writes split.0 left.0 sofar (absent split.0 split.1) made split.2).0;
   }
+
+  -- and at Ok all of it is left
+  pub whole_after : {T E : Type 0} (start : World) (before now : List Step) (old new : List ℕ → Option (List ℕ) → Type 0) (r : Result T E) → ((w : World) → Leads start before w → HasNoEdit w)
+      → MakesCalls (outcome_calls a) before now old new r → OnOk r ((w : World) → Leads start now w → Whole w)
+  whole_after start before now old new (Ok x) absent runs = λ w leads.
+      let split = leads_split start w before runs.steps (subst (λ (t : List Step). Leads start t w) runs.appended leads) in
+      (writes split.0 w runs.steps (absent split.0 split.1) (made_by {T = Unit {0}} {E = Unit {0}} (outcome_calls a) runs.steps (Ok tt) runs.made) split.2).1 runs.made
+  whole_after start before now old new (Err e) absent runs = tt

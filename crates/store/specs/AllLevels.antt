@@ -1,5 +1,6 @@
 -- Compactions of one level after the other.
-use Rattle.std.specs.Prelude.{◌≡◌, ◌⊎◌, ℕ, true, List, [], ◌∷◌, ◌++◌, map, Some, None}
+use Rattle.std.specs.Prelude.{◌≡◌, ◌⊎◌, ℕ, ◌≤◌, Bool, true, false, List, [], ◌∷◌, ◌++◌, length, map}
+use Rattle.std.specs.Prelude.{Some, None}
 use Rattle.std.specs.Prelude.{Result, Ok, Err, IfErr, IfOk, OnOk, Contains}
 use Rattle.coding.specs.Answers.{UnlessMemory}
 use Rattle.coding.specs.declared.fault.Fault.{Fault}
@@ -11,28 +12,29 @@ use Rattle.folder.specs.Folder.{TellsSame}
 use Rattle.folder.specs.OpenAnswer.{IsStopped}
 use Rattle.folder.specs.ReadsAs.{IsFileIn, ReadsAs}
 use Rattle.folder.specs.declared.order.Order.{Order}
+use Rattle.pick.specs.PickedInputs.{PickedInputs}
 use Rattle.reads.specs.Gets.{get_of}
 use Rattle.reads.specs.Tables.{NumberedContents}
 use Rattle.keep.specs.Readable.{is_read, readable_of}
 use Rattle.checks.specs.LawfulTables.{IsLawfulTables}
+use Rattle.checks.specs.Takers.{AreToldInTurn}
 use Rattle.compact.specs.OneThread.{Answer}
 use Rattle.install.specs.Install.{AlwaysStandsAs, next_version_tables}
-use Rattle.install.specs.ToldNames.{AreTold}
 use Rattle.compact.specs.declared.settings.Settings.{Settings}
 use Rattle.store.specs.Answers.{IsLoadedCompacted}
-use Rattle.store.specs.Compaction.{VersionCompaction}
+use Rattle.store.specs.Compaction.{LevelCompaction}
 use Rattle.store.specs.Descent.{IsBottom, IsNextLevel}
 use Rattle.store.specs.FolderRequest.{last_of}
+use Rattle.store.specs.Step.{StepView, step_of}
 use Rattle.store.specs.Untold.{IsUntold}
 use Rattle.checks.specs.TestedTables.{IsTested}
 use Rattle.store.specs.declared.descent_end.DescentEnd.{DescentEnd}
 use Rattle.store.specs.declared.descent_end.DescentEnd.TheVariants.{AtBottom, Stopped}
 
--- a compaction in a row of them: its level, its lines, and the version and the tables that it
--- leaves
+-- a compaction in a row of them: its level, its step, and the version and the tables that it leaves
 pub record CompactionLink : Type 0 where
   pub level : ℕ
-  pub lines : List ℕ
+  pub step : StepView
   pub version : State
   pub tables : List (ℕ × List ℕ)
 
@@ -41,8 +43,10 @@ pub record CompactionLink : Type 0 where
 pub record IsLink (order : Order) (cmp : KeyOrder) (short_keys : ShortKeys) (s : Settings)
     (bottom : ℕ) (v : State) (loaded : List (ℕ × List ℕ)) (l : CompactionLink) : Type 0 where
   pub next_level : IsNextLevel v bottom (Some l.level)
+  pub picked : PickedInputs
   pub answer : Answer
-  pub compacted : VersionCompaction order cmp short_keys v loaded l.level s answer l.lines
+  pub compacted : LevelCompaction order cmp short_keys v loaded l.level None s picked answer
+  pub step_is : l.step ≡ step_of v picked answer
   pub version_is : l.version ≡ compacted.edited.next
   pub tables_are : l.tables ≡ next_version_tables cmp compacted.edited.next answer.tables loaded
 
@@ -79,10 +83,10 @@ pub record AnswersAs (cmp : KeyOrder) (s : Settings) (v : State) (tables : List 
   pub gets : (user : List ℕ) (at : ℕ) → is_read (readable_of s.snapshots (last_of v)) at ≡ true →
       get_of next tables_next user at ≡ get_of v tables user at
 
--- at the bottom there is no level left
-abbrev pub IsEndOf : State → ℕ → DescentEnd → Type 0
-IsEndOf v bottom AtBottom = IsNextLevel v bottom None
-IsEndOf v bottom Stopped = Unit {0}
+-- at the bottom there is no level left; it stopped only if it was told to
+abbrev pub IsEndOf : State → ℕ → Bool → DescentEnd → Type 0
+IsEndOf v bottom goes AtBottom = IsNextLevel v bottom None
+IsEndOf v bottom goes Stopped = goes ≡ false
 
 -- The compaction of the next level is refused so.
 pub record IsNextRefused (cmp : KeyOrder) (short_keys : ShortKeys) (s : Settings) (bottom : ℕ)
@@ -92,14 +96,15 @@ pub record IsNextRefused (cmp : KeyOrder) (short_keys : ShortKeys) (s : Settings
   pub refused : IsLoadedCompacted cmp short_keys v loaded level s (Err e)
 
 -- What compactions of one level after the other leave of a folder that reads as a version, lawful
--- with its tables. They were made one after the other, and told; at most one more was begun.
+-- with its tables. They were made one after the other, and told, and after each but the last one it
+-- was told to go on. At most one more was begun.
 -- - A crash at any moment leaves the version before or after one of them; without a crash the
 --   folder reads as one of these.
 -- - The version after those that were told is lawful, and answers as the first one.
--- - At Ok none is begun, and the folder stands for that version. It is at the bottom unless it was
---   told to stop.
+-- - At Ok none is begun, and the folder reads as that version, and stands for it. It is at the
+--   bottom unless it was told to stop.
 -- - Else the next compaction is refused, or the device failed.
-pub record IsDescended {W : Type 0} (tells : W → List ℕ → W → Type 0) (order : Order)
+pub record IsDescended {W : Type 0} (tells : W → StepView → Bool → W → Type 0) (order : Order)
     (cmp : KeyOrder) (short_keys : ShortKeys) (s : Settings) (v : State)
     (loaded : List (ℕ × List ℕ)) (tables : List NumberedContents) (before after : List Step)
     (new : ToldFiles) (failed now : ℕ) (told told_now : W) (result : Result DescentEnd Fault)
@@ -109,16 +114,22 @@ pub record IsDescended {W : Type 0} (tells : W → List ℕ → W → Type 0) (o
   pub links : List CompactionLink
   pub begun : List CompactionLink
   pub chain : AreLinked order cmp short_keys s bottom v loaded (links ++ begun)
-  pub lines : AreTold tells told (map (λ (l : CompactionLink). l.lines) links) told_now
+  pub few : length begun ≤ 1
+  pub none : OnOk result (begun ≡ [])
+  pub goes : Bool
+  pub told_steps : AreToldInTurn tells told (map (λ (l : CompactionLink). l.step) links) goes
+      told_now
   pub any_moment : (start : World) → AlwaysStandsAs cmp order v loaded start before →
       LeavesOnly start before after (IsAtLink cmp order v loaded (links ++ begun))
   pub files_now : Files
   pub holds : Tells new files_now
   pub read : IsAtLink cmp order v loaded (links ++ begun) files_now
+  pub reads_last : OnOk result
+      (ReadsAs cmp order (version_at_end v links) (last_tables loaded links) files_now)
   pub answers : AnswersAs cmp s v tables (version_at_end v links) (last_tables loaded links)
   pub installed : (start : World) → AlwaysStandsAs cmp order v loaded start before → OnOk result
       (AlwaysStandsAs cmp order (version_at_end v links) (last_tables loaded links) start after)
-  pub ended : IfOk result (IsEndOf (version_at_end v links) bottom)
+  pub ended : IfOk result (IsEndOf (version_at_end v links) bottom goes)
   pub refused : IfErr result (λ e. UnlessMemory e (IsStopped failed now e
       ⊎ IsNextRefused cmp short_keys s bottom (version_at_end v links) (last_tables loaded links)
       e))
@@ -137,8 +148,8 @@ pub record IsAtBottom {W : Type 0} (v : State) (before after : List Step) (old n
 -- What is left of a folder that opens as a version, of which all levels are compacted after a test
 -- of it. Nothing was changed or told: the test is refused, or the device failed. Or no file is
 -- above the bottom. Or the version is lawful, and compactions were made.
-abbrev pub IsAllLeft : {W : Type 0} → (W → List ℕ → W → Type 0) → Order → KeyOrder → ShortKeys →
-    Settings → State → Files → List Step → List Step → ToldFiles → ToldFiles → ℕ → ℕ → W → W →
+abbrev pub IsAllLeft : {W : Type 0} → (W → StepView → Bool → W → Type 0) → Order → KeyOrder →
+    ShortKeys → Settings → State → Files → List Step → List Step → ToldFiles → ToldFiles → ℕ → ℕ → W → W →
     Result DescentEnd Fault → Type 0
 IsAllLeft tells order cmp short_keys s v files before after old new failed now told told_now
     result =

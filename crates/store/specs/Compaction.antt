@@ -1,6 +1,6 @@
 -- What a compaction makes of a folder.
 use Rattle.std.specs.Prelude.{◌≡◌, ◌⊎◌, ℕ, ◌<◌, ◌^◌, true, List, [], ◌∷◌, ◌++◌, map, codes}
-use Rattle.std.specs.Prelude.{Some, Result, Ok, IfErr, IfOk, OnOk}
+use Rattle.std.specs.Prelude.{Option, Some, None, Result, Ok, IfErr, IfOk, OnOk}
 use Rattle.coding.specs.Answers.{UnlessMemory, fault}
 use Rattle.coding.specs.declared.fault.Fault.{Fault}
 use Rattle.coding.specs.declared.fault.FaultName.TheVariants.{Device}
@@ -21,8 +21,8 @@ use Rattle.keep.specs.Readable.{is_read, readable_of}
 use Rattle.checks.specs.LawfulTables.{IsLawfulTables}
 use Rattle.compact.specs.OneThread.{Answer}
 use Rattle.install.specs.Install.{IsEditedBy, AlwaysStandsAs, SurvivesCrash, next_version_tables}
-use Rattle.store.specs.FolderRequest.{compaction_of, last_of, manifest_of}
-use Rattle.store.specs.Lines.{compaction_lines}
+use Rattle.store.specs.FolderRequest.{compaction_from, last_of, manifest_of}
+use Rattle.store.specs.Step.{step_in, step_of}
 use Rattle.store.specs.VersionSync.{AlwaysReadsBy, sync_calls}
 use Rattle.store.specs.declared.compaction_step.CompactionStep.{CompactionStep}
 use Rattle.folder.specs.Orders.{order_cmp, order_short_keys}
@@ -47,27 +47,26 @@ pub record EditedVersion (order : Order) (cmp : KeyOrder) (v : State) (loaded : 
   pub gets : (user : List ℕ) (at : ℕ) → is_read (readable_of s.snapshots (last_of v)) at ≡ true →
       get_of next tables_next user at ≡ get_of v tables user at
 
--- A compaction of a level of a version with the bytes of its tables. The version is lawful, the
--- inputs are picked, and these are the answer, what it makes, and its lines.
-pub record VersionCompaction (order : Order) (cmp : KeyOrder) (short_keys : ShortKeys) (v : State)
-    (loaded : List (ℕ × List ℕ)) (level : ℕ) (s : Settings) (answer : Answer) (lines : List ℕ)
-    : Type 0 where
+-- A compaction of a level of a version with the bytes of its tables. The version is lawful, these
+-- inputs are picked, and this is the answer. Its edit makes the edited version, also by an
+-- installation later on: the outputs' numbers are above the manifest's.
+pub record LevelCompaction (order : Order) (cmp : KeyOrder) (short_keys : ShortKeys) (v : State)
+    (loaded : List (ℕ × List ℕ)) (level : ℕ) (first : Option ℕ) (s : Settings) (p : PickedInputs)
+    (answer : Answer) : Type 0 where
   pub tables : List NumberedContents
   pub lawful : IsLawfulTables cmp v loaded (Ok tables)
-  pub picked : PickedInputs
-  pub is_picked : IsPicked cmp v level picked
-  pub answered : compaction_of cmp short_keys v loaded picked s ≡ Ok answer
+  pub is_picked : IsPicked cmp v level p
+  pub answered : compaction_from first cmp short_keys v loaded p s ≡ Ok answer
   pub edited : EditedVersion order cmp v loaded tables s answer
-  pub told : lines ≡ compaction_lines answer.tables picked.files (manifest_of v)
 
 -- a compaction of a level of this version, as which the files read
 pub record Compaction (order : Order) (cmp : KeyOrder) (short_keys : ShortKeys) (v : State)
     (files : Files) (level : ℕ) (s : Settings) : Type 0 where
   pub loaded : List (ℕ × List ℕ)
   pub reads : ReadsAs cmp order v loaded files
+  pub picked : PickedInputs
   pub answer : Answer
-  pub lines : List ℕ
-  pub compacted : VersionCompaction order cmp short_keys v loaded level s answer lines
+  pub compacted : LevelCompaction order cmp short_keys v loaded level None s picked answer
 
 -- the edited version of a compaction
 abbrev pub next_of : {order : Order} {cmp : KeyOrder} {short_keys : ShortKeys} {v : State}
@@ -92,8 +91,8 @@ pub record IsSynced {T : Type 0} (syncs : List Call) (before after : List Step)
   pub refused : OnOk result ⊥
 
 -- A compaction was installed, from these calls on. A crash at any moment leaves the version before
--- or the edited one. At Ok it is the edited one, and the answer has the lines and the edit. The
--- only faults are Device and Memory.
+-- or the edited one. At Ok it is the edited one, and the step is that of the answer. The only
+-- faults are Device and Memory.
 pub record IsInstalled (order : Order) (cmp : KeyOrder) (short_keys : ShortKeys) (v : State)
     (files : Files) (level : ℕ) (s : Settings) (before after : List Step) (old new : ToldFiles)
     (result : Result CompactionStep Fault) : Type 0 where
@@ -101,8 +100,8 @@ pub record IsInstalled (order : Order) (cmp : KeyOrder) (short_keys : ShortKeys)
   pub survives : SurvivesCrash cmp order v compaction.loaded (next_of compaction)
       (next_version_tables cmp (next_of compaction) compaction.answer.tables compaction.loaded)
       before after old new result
-  pub step : IfOk result (λ step. (step.lines.items ≡ compaction.lines)
-      × (step.edit.items ≡ compaction.answer.edit))
+  pub step : IfOk result
+      (λ step. step_in step ≡ step_of v compaction.picked compaction.answer)
   pub refused : IfErr result (λ e. UnlessMemory e (e ≡ fault Device))
 
 -- what is left of a folder that reads as this version, which has this order: it is unchanged, or a

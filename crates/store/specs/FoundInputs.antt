@@ -12,8 +12,10 @@ use Rattle.reads.specs.Tables.{NumberedContents}
 use Rattle.checks.specs.HeldTables.{IsCheckedAnswer}
 use Rattle.compact.specs.OneThread.{Answer}
 use Rattle.compact.specs.declared.settings.Settings.{Settings}
+use Rattle.store.specs.Compaction.{LevelCompaction}
 use Rattle.store.specs.InputsCompaction.{IsOrderlyAnswer, input_numbers}
-use Rattle.store.specs.Outcome.{LevelCompaction}
+use Rattle.store.specs.Runs.{IsAnswerForInputs}
+use Rattle.store.specs.Step.{StepView, step_of}
 
 -- The inputs of a level and their tables. The first refusal counts: of the version's files, of a
 -- level without inputs, of their tables.
@@ -34,14 +36,20 @@ CanBeInstalled order cmp short_keys v loaded level s p answered =
     unwrap_or v.previous_log 0 < 2 ^ 64 →
     LevelCompaction order cmp short_keys v loaded level None s p answer
 
--- the answer of a compaction, as it is told
-abbrev pub answer_as : {T : Type 0} → (Answer → T) → Result Answer Fault → Result T Fault
-answer_as tell answered = answered >>= λ a. Ok (tell a)
+-- the step of what a compaction of these inputs answers, or its refusal
+abbrev pub step_result : State → PickedInputs → Result Answer Fault → Result StepView Fault
+step_result v p answered = answered >>= λ a. Ok (step_of v p a)
 
 -- no refusal of a compaction is Device
 abbrev pub NeverDevice : Result Answer Fault → Type 0
 NeverDevice answered = (e : Fault) → answered ≡ Err e → e.name ≢ Device
 
--- it is the value of this answer, and these are the lines that tell it
-abbrev pub IsAnsweredBy : Result Answer Fault → (Answer → List ℕ) → Answer → List ℕ → Type 0
-IsAnsweredBy answered tell answer lines = (answered ≡ Ok answer) × (lines ≡ tell answer)
+-- these are those inputs, and it is the value of this answer
+abbrev pub IsAnsweredBy : PickedInputs → Result Answer Fault → PickedInputs → Answer → Type 0
+IsAnsweredBy given answered p answer = (p ≡ given) × (answered ≡ Ok answer)
+
+-- these are those inputs, and it is what one thread answers for them
+abbrev pub IsAnswerForThese : KeyOrder → ShortKeys → State → List (ℕ × List ℕ) → Settings →
+    PickedInputs → PickedInputs → Answer → Type 0
+IsAnswerForThese cmp short_keys v loaded s given p answer =
+    (p ≡ given) × IsAnswerForInputs cmp short_keys v loaded s p answer

@@ -12,15 +12,11 @@ use Rattle.pick.specs.PickedInputs.{IsInputsAnswer, IsPicked, PickedInputs}
 use Rattle.pick.specs.declared.picked_inputs.InputFile.{InputFile}
 use Rattle.reads.specs.Tables.{NumberedContents}
 use Rattle.checks.specs.LawfulTables.{IsLawfulTables}
-use Rattle.compact.specs.OneThread.{Answer}
 use Rattle.compact.specs.declared.settings.Settings.{Settings}
+use Rattle.store.specs.Answers.{IsLoadedAnswer}
 use Rattle.store.specs.FolderRequest.{compaction_from}
 use Rattle.store.specs.InputsCompaction.{input_numbers}
-use Rattle.store.specs.Outcome.{IsLoadedOutcome, IsOutcomeOfInputs}
-
--- an answer with its inputs
-abbrev pub with_inputs : PickedInputs → Answer → PickedInputs × Answer
-with_inputs p a = (p, a)
+use Rattle.store.specs.Outcome.{IsOutcomeFor, IsOutcomeOfInputs, OutcomeView}
 
 -- the bytes that were read of picked inputs in their order are those under their numbers
 abbrev pub InputsInOrderLaw : KeyOrder → Type 0
@@ -42,13 +38,19 @@ SameInputsLaw cmp short_keys =
     compaction_from first cmp short_keys v own p s
     ≡ compaction_from first cmp short_keys v loaded p s
 
+-- the outcome on a version with the bytes of its tables
+abbrev pub IsLoadedOutcome : Option ℕ → KeyOrder → ShortKeys → State → List (ℕ × List ℕ) → ℕ →
+    Settings → Result OutcomeView Fault → Type 0
+IsLoadedOutcome first cmp short_keys v loaded level s =
+    IsOutcomeFor (IsLoadedAnswer first cmp short_keys v loaded level s)
+
 -- if a version is lawful with the tables that a folder holds, the outcome by its inputs alone is
 -- the one by all tables
 abbrev pub OutcomeSufficesLaw : KeyOrder → ShortKeys → Type 0
 OutcomeSufficesLaw cmp short_keys =
     (first : Option ℕ) (files : Files) (v : State) (loaded : List (ℕ × List ℕ))
     (tables : List NumberedContents) (level : ℕ) (s : Settings)
-    (answer : Result (Answer × List ℕ) Fault) →
+    (answer : Result OutcomeView Fault) →
     IsLoaded (IsFileIn files) (file_numbers cmp v) (Ok loaded) →
     IsLawfulTables cmp v loaded (Ok tables) →
     IsOutcomeOfInputs first cmp short_keys files v level s answer →

@@ -28,8 +28,8 @@ use Rattle.compact.specs.Inputs.{table_matches_metadata}
 use Rattle.compact.specs.OneThread.{Answer}
 use Rattle.compact.specs.declared.settings.Settings.{Settings}
 use Rattle.store.specs.Answers.{IsLoadedCompacted}
-use Rattle.store.specs.FolderRequest.{compaction_from, manifest_of}
-use Rattle.store.specs.Lines.{compaction_lines}
+use Rattle.store.specs.FolderRequest.{compaction_from}
+use Rattle.store.specs.Step.{IsStepFor, StepView, with_inputs}
 
 -- the largest key of each file is below the smallest of the next one
 abbrev pub RangesRise : KeyOrder → List FileMeta → Type 0
@@ -72,45 +72,43 @@ input_tables cmp files loaded = do
   _ ← test_result (are_stated files tables) Bounds
   Ok (map (λ (t : NumberedContents). t.contents) tables)
 
--- The answer for inputs whose tables were read: first that of their tables. At Ok it tells of the
--- inputs and of the answer to the request for them.
-abbrev pub IsReadTold : {T : Type 0} → (PickedInputs → Answer → T) → Option ℕ → KeyOrder →
-    ShortKeys → State → PickedInputs → Settings → List (ℕ × List ℕ) → Result T Fault → Type 0
-IsReadTold tell first cmp short_keys v p s loaded =
+-- The answer for inputs whose tables were read, with the inputs: first the refusal of their tables,
+-- then what the request for them answers.
+abbrev pub IsReadAnswer : Option ℕ → KeyOrder → ShortKeys → State → Settings → PickedInputs →
+    List (ℕ × List ℕ) → Result (PickedInputs × Answer) Fault → Type 0
+IsReadAnswer first cmp short_keys v s p loaded =
     IsThen (λ read. input_tables cmp p.files loaded ≡ read) (λ tables answer.
-    answer ≡ (compaction_from first cmp short_keys v loaded p s >>= λ a. Ok (tell p a)))
+    answer ≡ with_inputs p (compaction_from first cmp short_keys v loaded p s))
 
 -- the answer for inputs whose tables are in a folder: first Missing of the first that is missing
-abbrev pub IsPickedTold : {T : Type 0} → (PickedInputs → Answer → T) → Option ℕ → KeyOrder →
-    ShortKeys → Files → State → Settings → PickedInputs → Result T Fault → Type 0
-IsPickedTold tell first cmp short_keys files v s p =
+abbrev pub IsPickedAnswer : Option ℕ → KeyOrder → ShortKeys → Files → State → Settings →
+    PickedInputs → Result (PickedInputs × Answer) Fault → Type 0
+IsPickedAnswer first cmp short_keys files v s p =
     IsThen (IsLoaded (IsFileIn files) (input_numbers p.files))
-    (IsReadTold tell first cmp short_keys v p s)
+    (IsReadAnswer first cmp short_keys v s p)
 
--- The answer for a level of a version. The first refusal counts: of the version's files, of which
--- no table is read; of a level without inputs; of their tables; of their compaction.
-abbrev pub IsInputsTold : {T : Type 0} → (PickedInputs → Answer → T) → Option ℕ → KeyOrder →
-    ShortKeys → Files → State → ℕ → Settings → Result T Fault → Type 0
-IsInputsTold tell first cmp short_keys files v level s =
+-- The answer for a level of a version, with the inputs. The first refusal counts: of the version's
+-- files, of which no table is read; of a level without inputs; of their tables; of their
+-- compaction. The outputs' numbers are those after the manifest's, or from a first one on that is
+-- asked for.
+abbrev pub IsLevelAnswer : Option ℕ → KeyOrder → ShortKeys → Files → State → ℕ → Settings →
+    Result (PickedInputs × Answer) Fault → Type 0
+IsLevelAnswer first cmp short_keys files v level s =
     IsThen (IsOrderlyAnswer cmp v) (λ passed.
-    IsThen (IsInputsAnswer cmp v level) (IsPickedTold tell first cmp short_keys files v s))
+    IsThen (IsInputsAnswer cmp v level) (IsPickedAnswer first cmp short_keys files v s))
 
--- the lines of a compaction that is installed
-abbrev pub installed_lines : State → PickedInputs → Answer → List ℕ
-installed_lines v p a = compaction_lines a.tables p.files (manifest_of v)
-
--- the answer whose Ok are these lines
+-- its step, or its refusal
 abbrev pub IsInputsCompacted : KeyOrder → ShortKeys → Files → State → ℕ → Settings →
-    Result (List ℕ) Fault → Type 0
+    Result StepView Fault → Type 0
 IsInputsCompacted cmp short_keys files v level s =
-    IsInputsTold (installed_lines v) None cmp short_keys files v level s
+    IsStepFor v (IsLevelAnswer None cmp short_keys files v level s)
 
 -- If a version is lawful with the tables that a folder holds, this is the answer of the compaction
 -- that tests all of them.
 abbrev pub InputsSufficeLaw : KeyOrder → ShortKeys → Type 0
 InputsSufficeLaw cmp short_keys =
     (files : Files) (v : State) (loaded : List (ℕ × List ℕ)) (tables : List NumberedContents)
-    (level : ℕ) (s : Settings) (answer : Result (List ℕ) Fault) →
+    (level : ℕ) (s : Settings) (answer : Result StepView Fault) →
     IsLoaded (IsFileIn files) (file_numbers cmp v) (Ok loaded) →
     IsLawfulTables cmp v loaded (Ok tables) →
     IsInputsCompacted cmp short_keys files v level s answer →

@@ -1,6 +1,7 @@
 -- Which calls the compactions of all levels make on a folder, be it one that tells what it holds or
--- not.
-use Rattle.std.specs.Prelude.{◌≡◌, ◌⊎◌, ℕ, List, [], ◌∷◌, ◌++◌, map, Some, None, Result, Ok}
+-- not, and what is told of them.
+use Rattle.std.specs.Prelude.{◌≡◌, ◌⊎◌, ℕ, Bool, true, false, List, [], ◌∷◌, ◌++◌, map, Some, None}
+use Rattle.std.specs.Prelude.{Result, Ok}
 use Rattle.std.specs.Prelude.{IfOk, OnOk}
 use Rattle.std.specs.List.{flat_map}
 use Rattle.coding.specs.declared.fault.Fault.{Fault}
@@ -10,28 +11,35 @@ use Rattle.folder.specs.CallSequence.{AreMadeBy}
 use Rattle.folder.specs.Manifest.{order_name}
 use Rattle.folder.specs.Orders.{order_cmp, order_short_keys}
 use Rattle.folder.specs.declared.order.Order.{Order}
+use Rattle.pick.specs.PickedInputs.{PickedInputs}
 use Rattle.compact.specs.OneThread.{Answer}
 use Rattle.install.specs.Install.{install_calls, manifest_bytes}
+use Rattle.checks.specs.Takers.{AreToldInTurn}
 use Rattle.compact.specs.declared.settings.Settings.{Settings}
 use Rattle.store.specs.Descent.{IsBottom, IsNextLevel}
 use Rattle.store.specs.FolderRequest.{manifest_of}
 use Rattle.store.specs.OpenedAfter.{IsOpenedAfter}
 use Rattle.store.specs.Runs.{IsAnswerForLevel}
+use Rattle.store.specs.Step.{StepView, step_of}
 use Rattle.store.specs.declared.descent_end.DescentEnd.{DescentEnd}
 use Rattle.store.specs.declared.descent_end.DescentEnd.TheVariants.{AtBottom, Stopped}
 
--- an answer that is installed: with its lines, and the groups in which its tables are written
+-- an answer that is installed: with its inputs, and the groups in which its tables are written
 pub record GroupedAnswer : Type 0 where
+  pub picked : PickedInputs
   pub answer : Answer
-  pub lines : List ℕ
   pub groups : List (List (ℕ × List ℕ))
 
 -- it is one thread's answer for a level of this version
 pub record IsGroupedAnswer (order : Order) (v : State) (level : ℕ) (s : Settings)
     (a : GroupedAnswer) : Type 0 where
-  pub is_answer : IsAnswerForLevel (order_cmp order) (order_short_keys order) v level s a.answer
-      a.lines
+  pub is_answer : IsAnswerForLevel (order_cmp order) (order_short_keys order) v level s a.picked
+      a.answer
   pub together : flat_map (λ (g : List (ℕ × List ℕ)). g) a.groups ≡ a.answer.tables
+
+-- its step
+abbrev pub step_of_answer : State → GroupedAnswer → StepView
+step_of_answer v a = step_of v a.picked a.answer
 
 -- the calls that install it
 abbrev pub calls_of_answer : Order → State → GroupedAnswer → List Call
@@ -47,11 +55,19 @@ pub record IsLevelBegun {T : Type 0} (order : Order) (v : State) (level : ℕ) (
   pub made : AreMadeBy (calls_of_answer order v installed) steps result
   pub appended : after ≡ before ++ steps
 
--- no call that writes was made
-pub record MakesNoCalls {T : Type 0} (before after : List Step) (result : Result T Fault)
-    : Type 0 where
+-- no call that writes was made, and nothing told
+pub record MakesNoCalls {T W : Type 0} (before after : List Step) (told told_now : W)
+    (result : Result T Fault) : Type 0 where
   pub calls : after ≡ before
+  pub untold : told_now ≡ told
   pub refused : OnOk result ⊥
+
+-- A compaction that was begun was not told, since it was refused. Or its step was told, and a value
+-- is answered as it was said whether to go on.
+abbrev pub IsToldOf : {T W : Type 0} → (W → StepView → Bool → W → Type 0) → StepView → W → W →
+    (Bool → T → Type 0) → Result T Fault → Type 0
+IsToldOf tells step told told_now IsAsTold result = ((told_now ≡ told) × OnOk result ⊥)
+    ⊎ ((goes : Bool) × tells told step goes told_now × IfOk result (IsAsTold goes))
 
 -- a compaction in a row of them: its level, what was installed, and the version that it leaves
 pub record LevelLink : Type 0 where
@@ -77,35 +93,50 @@ abbrev pub version_after : State → List LevelLink → State
 version_after v [] = v
 version_after v (l ∷ links) = version_after l.next links
 
--- their steps, none of which failed
-abbrev pub steps_of_links : Order → State → List LevelLink → List Step
-steps_of_links order v [] = []
-steps_of_links order v (l ∷ links) = map Done (calls_of_answer order v l.installed)
-    ++ steps_of_links order l.next links
+-- the calls that they made, none of which failed
+abbrev pub calls_of_links : Order → State → List LevelLink → List Step
+calls_of_links order v [] = []
+calls_of_links order v (l ∷ links) = map Done (calls_of_answer order v l.installed)
+    ++ calls_of_links order l.next links
 
--- the last compaction of a row, after which none follows: it failed, or the caller said to stop
-pub record IsLastBegun (order : Order) (s : Settings) (bottom : ℕ) (v : State)
-    (before after : List Step) (result : Result DescentEnd Fault) : Type 0 where
+-- what is told of them
+abbrev pub steps_of_links : State → List LevelLink → List StepView
+steps_of_links v [] = []
+steps_of_links v (l ∷ links) = step_of_answer v l.installed ∷ steps_of_links l.next links
+
+-- it stopped, as it was told to
+abbrev pub IsStopTold : Bool → DescentEnd → Type 0
+IsStopTold goes end = (end ≡ Stopped) × (goes ≡ false)
+
+-- the last compaction of a row, after which none follows: it was refused, or told to stop
+pub record IsLastBegun {W : Type 0} (tells : W → StepView → Bool → W → Type 0) (order : Order)
+    (s : Settings) (bottom : ℕ) (v : State) (before after : List Step) (told told_now : W)
+    (result : Result DescentEnd Fault) : Type 0 where
   pub level : ℕ
   pub next_level : IsNextLevel v bottom (Some level)
   pub begun : IsLevelBegun order v level s before after result
-  pub stopped : IfOk result (λ e. e ≡ Stopped)
+  pub is_told : IsToldOf tells (step_of_answer v begun.installed) told told_now IsStopTold result
 
 -- Compactions of one level after the other were made, each of the version that the one before it
--- leaves, and at most one more was begun. If none more was, at Ok no file is above the bottom.
-pub record IsDescentRun (order : Order) (s : Settings) (v : State) (before after : List Step)
+-- leaves. Each was told, and told to go on. At most one more was begun. If none more was, at Ok no
+-- file is above the bottom.
+pub record IsDescentRun {W : Type 0} (tells : W → StepView → Bool → W → Type 0) (order : Order)
+    (s : Settings) (v : State) (before after : List Step) (told told_now : W)
     (result : Result DescentEnd Fault) : Type 0 where
   pub bottom : ℕ
   pub is_bottom : IsBottom v bottom
   pub links : List LevelLink
   pub chain : AreLevelLinks order s bottom v links
-  pub last : ((after ≡ before ++ steps_of_links order v links)
+  pub told_last : W
+  pub told_steps : AreToldInTurn tells told (steps_of_links v links) true told_last
+  pub last : ((after ≡ before ++ calls_of_links order v links) × (told_now ≡ told_last)
       × IfOk result (λ e. (e ≡ AtBottom) × IsNextLevel (version_after v links) bottom None))
-      ⊎ IsLastBegun order s bottom (version_after v links)
-      (before ++ steps_of_links order v links) after result
+      ⊎ IsLastBegun tells order s bottom (version_after v links)
+      (before ++ calls_of_links order v links) after told_last told_now result
 
--- no call that writes was made; or these are the calls
-abbrev pub IsAllLevelsRun : Order → Settings → State → List Step → List Step →
-    Result DescentEnd Fault → Type 0
-IsAllLevelsRun order s v before after result =
-    MakesNoCalls before after result ⊎ IsDescentRun order s v before after result
+-- no call that writes was made, and nothing told; or these are the calls, and what was told
+abbrev pub IsAllLevelsRun : {W : Type 0} → (W → StepView → Bool → W → Type 0) → Order → Settings →
+    State → List Step → List Step → W → W → Result DescentEnd Fault → Type 0
+IsAllLevelsRun tells order s v before after told told_now result =
+    MakesNoCalls before after told told_now result
+    ⊎ IsDescentRun tells order s v before after told told_now result

@@ -1,6 +1,6 @@
 -- what contracts rest on
 pub mod FolderRequest
-pub mod Lines
+pub mod Step
 pub mod Answers
 pub mod InputsCompaction
 pub mod VersionSync

@@ -1,63 +1,62 @@
 -- The outcome of a compaction that is not installed: what is answered, and the calls that write it.
 use Rattle.std.specs.Prelude.{◌≡◌, ℕ, List, [], ◌∷◌, ◌++◌, codes, Option, Result, Ok}
-use Rattle.coding.specs.Answers.{IsThen, ◌>>=◌}
+use Rattle.coding.specs.Answers.{IsThen}
 use Rattle.coding.specs.declared.fault.Fault.{Fault}
 use Rattle.ikey.specs.Comparator.{KeyOrder, ShortKeys}
 use Rattle.edit.specs.Version.{State}
+use Rattle.edit.specs.declared.meta.DeletedFile.{DeletedFile}
 use Rattle.folder.specs.Calls.{Call, Files, FolderSynced, Renamed}
-use Rattle.folder.specs.Levels.{file_numbers}
-use Rattle.folder.specs.LoadedTables.{IsLoaded}
-use Rattle.folder.specs.ReadsAs.{IsFileIn}
-use Rattle.folder.specs.declared.order.Order.{Order}
-use Rattle.pick.specs.PickedInputs.{IsInputsAnswer, IsPicked, PickedInputs}
-use Rattle.reads.specs.Tables.{NumberedContents}
-use Rattle.checks.specs.LawfulTables.{IsLawfulTables}
+use Rattle.pick.specs.PickedInputs.{PickedInputs}
+use Rattle.compact.specs.AnswerIn.{answer_in}
+use Rattle.compact.specs.EditOf.{deletions_of}
+use Rattle.compact.specs.GroupedAnswer.{table_sizes}
 use Rattle.compact.specs.OneThread.{Answer}
 use Rattle.install.specs.Install.{table_calls, write_calls}
 use Rattle.compact.specs.declared.settings.Settings.{Settings}
-use Rattle.store.specs.Compaction.{EditedVersion}
-use Rattle.store.specs.FolderRequest.{compaction_from}
-use Rattle.store.specs.InputsCompaction.{IsInputsTold}
-use Rattle.store.specs.Lines.{outcome_lines}
+use Rattle.store.specs.Answers.{IsVersionAnswer}
+use Rattle.store.specs.InputsCompaction.{IsLevelAnswer}
+use Rattle.store.specs.declared.compaction_outcome.CompactionOutcome.{CompactionOutcome}
 
--- the outcome, and its lines
-abbrev pub outcome_told : PickedInputs → Answer → Answer × List ℕ
-outcome_told p a = (a, outcome_lines a.tables p.files)
+-- an outcome as contracts see it: the number and the length of each output, the inputs by level and
+-- number, and the answer
+pub record OutcomeView : Type 0 where
+  pub outputs : List (ℕ × ℕ)
+  pub deleted : List DeletedFile
+  pub answer : Answer
+
+-- the outcome that the code holds
+abbrev pub outcome_in : CompactionOutcome → OutcomeView
+outcome_in o = record {
+  outputs = o.outputs.items;
+  deleted = o.deleted.keys;
+  answer = answer_in o.outcome;
+}
+
+-- the outcome of an answer for these inputs
+abbrev pub outcome_of : PickedInputs → Answer → OutcomeView
+outcome_of p answer = record {
+  outputs = table_sizes answer.tables;
+  deleted = deletions_of p.files;
+  answer = answer;
+}
+
+-- the outcome of what is answered so for some inputs, or its refusal
+abbrev pub IsOutcomeFor : (Result (PickedInputs × Answer) Fault → Type 0) →
+    Result OutcomeView Fault → Type 0
+IsOutcomeFor IsMade = IsThen IsMade (λ made outcome. outcome ≡ Ok (outcome_of made.0 made.1))
 
 -- The outcome of a level of a version, of which the inputs alone are read. The outputs' numbers are
 -- those after the manifest's, or from a first one on that is asked for.
 abbrev pub IsOutcomeOfInputs : Option ℕ → KeyOrder → ShortKeys → Files → State → ℕ → Settings →
-    Result (Answer × List ℕ) Fault → Type 0
+    Result OutcomeView Fault → Type 0
 IsOutcomeOfInputs first cmp short_keys files v level s =
-    IsInputsTold outcome_told first cmp short_keys files v level s
+    IsOutcomeFor (IsLevelAnswer first cmp short_keys files v level s)
 
--- The outcome on a version with the bytes of its tables. The first refusal counts: of a table; of a
--- version that isn't lawful; of a level without inputs; of their compaction.
-abbrev pub IsLoadedOutcome : Option ℕ → KeyOrder → ShortKeys → State → List (ℕ × List ℕ) → ℕ →
-    Settings → Result (Answer × List ℕ) Fault → Type 0
-IsLoadedOutcome first cmp short_keys v loaded level s =
-    IsThen (IsLawfulTables cmp v loaded) (λ tables.
-    IsThen (IsInputsAnswer cmp v level) (λ p answer.
-    answer ≡ (compaction_from first cmp short_keys v loaded p s >>= λ a. Ok (outcome_told p a))))
-
--- the same with tables in a folder: first all of them are read, by level and in version order
+-- the outcome of a level of a version, of which all tables are read
 abbrev pub IsOutcomeOfVersion : Option ℕ → KeyOrder → ShortKeys → Files → State → ℕ → Settings →
-    Result (Answer × List ℕ) Fault → Type 0
+    Result OutcomeView Fault → Type 0
 IsOutcomeOfVersion first cmp short_keys files v level s =
-    IsThen (IsLoaded (IsFileIn files) (file_numbers cmp v))
-    (λ loaded. IsLoadedOutcome first cmp short_keys v loaded level s)
-
--- A compaction of a level of a version with the bytes of its tables. The version is lawful, these
--- inputs are picked, and this is the answer. Its edit makes the edited version, also by an
--- installation later on: the outputs' numbers are above the manifest's.
-pub record LevelCompaction (order : Order) (cmp : KeyOrder) (short_keys : ShortKeys) (v : State)
-    (loaded : List (ℕ × List ℕ)) (level : ℕ) (first : Option ℕ) (s : Settings) (p : PickedInputs)
-    (answer : Answer) : Type 0 where
-  pub tables : List NumberedContents
-  pub lawful : IsLawfulTables cmp v loaded (Ok tables)
-  pub is_picked : IsPicked cmp v level p
-  pub answered : compaction_from first cmp short_keys v loaded p s ≡ Ok answer
-  pub edited : EditedVersion order cmp v loaded tables s answer
+    IsOutcomeFor (IsVersionAnswer first cmp short_keys files v level s)
 
 -- the calls that name a written edit: the folder is synced, then it gets its name, and then the
 -- folder is synced again

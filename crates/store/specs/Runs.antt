@@ -20,7 +20,8 @@ use Rattle.install.specs.Install.{calls_before_rename, install_calls, manifest_b
 use Rattle.compact.specs.declared.settings.Settings.{Settings}
 use Rattle.store.specs.Compaction.{IsSynced, IsUnchanged}
 use Rattle.store.specs.FolderRequest.{compaction_of, manifest_of}
-use Rattle.store.specs.InputsCompaction.{input_numbers, input_tables, installed_lines}
+use Rattle.store.specs.InputsCompaction.{input_numbers, input_tables}
+use Rattle.store.specs.Step.{step_in, step_of}
 use Rattle.store.specs.VersionSync.{sync_calls}
 use Rattle.store.specs.declared.compaction_step.CompactionStep.{CompactionStep}
 
@@ -38,22 +39,21 @@ pub record AreInstallCalls {T : Type 0} (name : List ℕ) (cmp : KeyOrder) (v : 
   pub changed : IfErr result (λ e. e ≡ fault Changed → after ≡ before ++ map Done
       (calls_before_rename (manifest_of v) groups (manifest_bytes name cmp v answer.edit)))
 
--- An answer like this was installed: these are its calls. At Ok the step has its edit and its
--- lines. The only faults are Device, Changed and Memory.
-pub record IsAnswerInstalled (IsAnswer : Answer → List ℕ → Type 0) (name : List ℕ) (cmp : KeyOrder)
-    (v : State) (before after : List Step) (old new : ToldFiles)
+-- An answer like this for some inputs was installed: these are its calls. At Ok the step is that of
+-- the answer. The only faults are Device, Changed and Memory.
+pub record IsAnswerInstalled (IsAnswer : PickedInputs → Answer → Type 0) (name : List ℕ)
+    (cmp : KeyOrder) (v : State) (before after : List Step) (old new : ToldFiles)
     (result : Result CompactionStep Fault) : Type 0 where
+  pub picked : PickedInputs
   pub answer : Answer
-  pub lines : List ℕ
-  pub is_answer : IsAnswer answer lines
+  pub is_answer : IsAnswer picked answer
   pub calls : AreInstallCalls name cmp v answer before after old new result
-  pub step : IfOk result
-      (λ step. (step.lines.items ≡ lines) × (step.edit.items ≡ answer.edit))
+  pub step : IfOk result (λ step. step_in step ≡ step_of v picked answer)
   pub refused : IfErr result
       (λ e. UnlessMemory e ((e ≡ fault Device) ⊎ (e ≡ fault Changed)))
 
 -- no call that writes was made; or an answer like this was installed
-abbrev pub IsRun : (Answer → List ℕ → Type 0) → List ℕ → KeyOrder → State → List Step →
+abbrev pub IsRun : (PickedInputs → Answer → Type 0) → List ℕ → KeyOrder → State → List Step →
     List Step → ToldFiles → ToldFiles → Result CompactionStep Fault → Type 0
 IsRun IsAnswer name cmp v before after old new result =
     IsUnchanged before after old new result
@@ -62,22 +62,20 @@ IsRun IsAnswer name cmp v before after old new result =
 -- What one thread answers for inputs with these tables. Each table is valid, and as its file
 -- states.
 pub record IsAnswerForInputs (cmp : KeyOrder) (short_keys : ShortKeys) (v : State)
-    (loaded : List (ℕ × List ℕ)) (p : PickedInputs) (s : Settings) (answer : Answer)
-    (lines : List ℕ) : Type 0 where
+    (loaded : List (ℕ × List ℕ)) (s : Settings) (p : PickedInputs) (answer : Answer)
+    : Type 0 where
   pub contents : List Contents
   pub stated : input_tables cmp p.files loaded ≡ Ok contents
   pub answered : compaction_of cmp short_keys v loaded p s ≡ Ok answer
-  pub told : lines ≡ installed_lines v p answer
 
 -- What one thread answers for the inputs that are picked of a level, with the tables of their
 -- numbers.
 pub record IsAnswerForLevel (cmp : KeyOrder) (short_keys : ShortKeys) (v : State) (level : ℕ)
-    (s : Settings) (answer : Answer) (lines : List ℕ) : Type 0 where
-  pub picked : PickedInputs
+    (s : Settings) (picked : PickedInputs) (answer : Answer) : Type 0 where
   pub is_picked : IsPicked cmp v level picked
   pub loaded : List (ℕ × List ℕ)
   pub numbered : numbers_of loaded ≡ input_numbers picked.files
-  pub is_answer : IsAnswerForInputs cmp short_keys v loaded picked s answer lines
+  pub is_answer : IsAnswerForInputs cmp short_keys v loaded s picked answer
 
 -- no call that writes was made; or one thread's answer for a level of this version was installed
 abbrev pub IsLevelRun : List ℕ → KeyOrder → ShortKeys → State → ℕ → Settings → List Step →

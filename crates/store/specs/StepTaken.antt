@@ -1,5 +1,6 @@
 -- What one of several compactions of a folder leaves.
-use Rattle.std.specs.Prelude.{◌≡◌, ◌⊎◌, ℕ, List, Option, Result, Ok, Err, IfErr, IfOk}
+use Rattle.std.specs.Prelude.{◌≡◌, ◌⊎◌, ℕ, Bool, List, Option, is_some, Result, Ok, Err, IfErr}
+use Rattle.std.specs.Prelude.{IfOk}
 use Rattle.std.specs.Option.{IfSome}
 use Rattle.coding.specs.Answers.{UnlessMemory, fault}
 use Rattle.coding.specs.declared.fault.Fault.{Fault}
@@ -13,8 +14,9 @@ use Rattle.folder.specs.declared.order.Order.{Order}
 use Rattle.compact.specs.declared.settings.Settings.{Settings}
 use Rattle.store.specs.Answers.{IsLoadedCompacted}
 use Rattle.store.specs.FolderRequest.{manifest_of}
-use Rattle.store.specs.LevelRuns.{IsLevelBegun}
+use Rattle.store.specs.LevelRuns.{IsLevelBegun, IsToldOf, step_of_answer}
 use Rattle.store.specs.OpenedAfter.{IsOpenedAfter}
+use Rattle.store.specs.Step.{StepView, step_in}
 use Rattle.store.specs.StepLeft.{IsStepInstalled, IsStepLeft}
 use Rattle.store.specs.declared.compaction_step.CompactionStep.{CompactionStep}
 
@@ -30,21 +32,27 @@ pub record IsStepRefused {W : Type 0} (order : Order) (cmp : KeyOrder) (short_ke
       ⊎ IsLoadedCompacted cmp short_keys v loaded level s (Err e))
   pub same : told_now ≡ told
 
--- it was installed and told; what it is opened as after it is what was installed
-pub record IsStepTold {W : Type 0} (tells : W → List ℕ → W → Type 0) (order : Order)
+-- it goes on, as it was told to
+abbrev pub IsGoTold : {X : Type 0} → Bool → Option X → Type 0
+IsGoTold goes next = goes ≡ is_some next
+
+-- it was installed and told; if it is to go on, what it is opened as after it is what was installed
+pub record IsStepTold {W : Type 0} (tells : W → StepView → Bool → W → Type 0) (order : Order)
     (cmp : KeyOrder) (short_keys : ShortKeys) (v : State) (loaded : List (ℕ × List ℕ)) (level : ℕ)
     (s : Settings) (before after : List Step) (old new : ToldFiles) (told told_now : W)
     (result : Result (Option Opened) Fault) : Type 0 where
   pub step : CompactionStep
   pub installed : IsStepInstalled order cmp short_keys v loaded level s before after old new
       (Ok step)
-  pub lines : tells told step.lines.items told_now
+  pub goes : Bool
+  pub told_step : tells told (step_in step) goes told_now
+  pub went : IfOk result (IsGoTold goes)
   pub opened : IfOk result (λ o. IfSome o (λ next. (next.order ≡ order)
       × (next.version ≡ installed.compacted.edited.next) × (next.manifest ≡ manifest_of v)))
   pub memory : IfErr result (λ e. e ≡ fault Memory)
 
-abbrev pub IsStepTaken : {W : Type 0} → (W → List ℕ → W → Type 0) → Order → KeyOrder → ShortKeys →
-    State → List (ℕ × List ℕ) → ℕ → Settings → List Step → List Step → ToldFiles → ToldFiles → ℕ →
+abbrev pub IsStepTaken : {W : Type 0} → (W → StepView → Bool → W → Type 0) → Order → KeyOrder →
+    ShortKeys → State → List (ℕ × List ℕ) → ℕ → Settings → List Step → List Step → ToldFiles → ToldFiles → ℕ →
     ℕ → W → W → Result (Option Opened) Fault → Type 0
 IsStepTaken tells order cmp short_keys v loaded level s before after old new failed now told
     told_now result =
@@ -55,8 +63,10 @@ IsStepTaken tells order cmp short_keys v loaded level s before after old new fai
 
 -- One of several compactions. What the folder is opened as after it is the version that the
 -- answer's edit makes.
-pub record IsNextBegun (order : Order) (v : State) (level : ℕ) (s : Settings)
-    (before after : List Step) (result : Result (Option Opened) Fault) : Type 0 where
+pub record IsNextBegun {W : Type 0} (tells : W → StepView → Bool → W → Type 0) (order : Order)
+    (v : State) (level : ℕ) (s : Settings) (before after : List Step) (told told_now : W)
+    (result : Result (Option Opened) Fault) : Type 0 where
   pub begun : IsLevelBegun order v level s before after result
+  pub is_told : IsToldOf tells (step_of_answer v begun.installed) told told_now IsGoTold result
   pub opened : IfOk result (λ o. IfSome o (λ next. IsOpenedAfter order v begun.installed.answer.edit
       (Ok (next.order, next.version, next.manifest))))

@@ -24,8 +24,11 @@ AreNamedApart (file ∷ rest) = IsNameOfNone file.0 rest × AreNamedApart rest
 abbrev pub HasNoEdit : World → Type 0
 HasNoEdit w = (w.shown.files (codes "EDIT") ≡ None) × (w.left (codes "EDIT") ≡ None)
 
--- There is no EDIT; or it has the bytes of the edit, and each table is there with its bytes.
+-- EDIT has the bytes of the edit, and each table is there with its bytes.
+abbrev pub IsWhole : Answer → Files → Type 0
+IsWhole answer files = (files (codes "EDIT") ≡ Some answer.edit)
+    × AreThere (named_tables answer.tables) files
+
+-- there is no EDIT, or all of it with all tables
 abbrev pub IsAbsentOrWhole : Answer → Files → Type 0
-IsAbsentOrWhole answer files = (files (codes "EDIT") ≡ None)
-    ⊎ ((files (codes "EDIT") ≡ Some answer.edit)
-    × AreThere (named_tables answer.tables) files)
+IsAbsentOrWhole answer files = (files (codes "EDIT") ≡ None) ⊎ IsWhole answer files

@@ -1,7 +1,7 @@
 //! The compaction of all levels of a folder, one after the other.
 
 ghost use Rattle.std.specs.Prelude.{◌≡◌, ◌⊎◌, ℕ, List, codes, Some, Ok, Err, IfErr};
-ghost use Rattle.std.specs.Prelude.{IfOk, IsTrue, None};
+ghost use Rattle.std.specs.Prelude.{Bool, IfOk, IsTrue, None};
 ghost use Rattle.std.specs.Option.{IfSome};
 ghost use Rattle.coding.specs.Answers.{UnlessMemory, fault};
 ghost use Rattle.coding.specs.declared.fault.FaultName.TheVariants.{Memory};
@@ -18,7 +18,8 @@ ghost use Rattle.store.specs.AllLevels.{IsAllLeft, IsDescended};
 ghost use Rattle.store.specs.Descent.{IsBottom, IsNextLevel};
 ghost use Rattle.store.specs.LevelRuns.{IsAllLevelsRun, MakesNoCalls};
 ghost use Rattle.store.specs.OpenedAfter.{IsOpenedAfter};
-ghost use Rattle.store.specs.StepTaken.{IsNextBegun, IsStepTaken};
+ghost use Rattle.store.specs.Step.{step_in};
+ghost use Rattle.store.specs.StepTaken.{IsGoTold, IsNextBegun, IsStepTaken};
 ghost use Rattle.store.specs.Untold.{IsUntold};
 
 use crate::compaction_step::CompactionStep;
@@ -68,9 +69,10 @@ pub fn compact_all<
         (F.tells folder.old) (F.tells folder.new) (F.failed folder.old) (F.failed folder.new)
         (told.old) (told.new) result }
     // Of any folder, also one that tells nothing: the calls are those of such compactions, each of
-    // the version that the one before it leaves, up to one that fails.
-    ensures runs { IsAllLevelsRun opened.order settings.now opened.version
-        (F.calls folder.old) (F.calls folder.new) result }
+    // the version that the one before it leaves, up to one that fails. Each is told, and the next
+    // one begun only if that is said.
+    ensures runs { IsAllLevelsRun T.tells opened.order settings.now opened.version
+        (F.calls folder.old) (F.calls folder.new) (told.old) (told.new) result }
     ensures device { ReportsDevice F.Folder folder.old folder.new result }
 {
     if is_at_bottom(alloc, &opened.version)? {
@@ -114,8 +116,8 @@ pub fn compact_levels<
         (F.tells folder.new) (F.failed folder.old) (F.failed folder.new)
         (told.old) (told.new) result }
     // Of any folder, as of `compact_all`.
-    ensures runs { IsAllLevelsRun opened.order settings.now opened.version
-        (F.calls folder.old) (F.calls folder.new) result }
+    ensures runs { IsAllLevelsRun T.tells opened.order settings.now opened.version
+        (F.calls folder.old) (F.calls folder.new) (told.old) (told.new) result }
     ensures device { ReportsDevice F.Folder folder.old folder.new result }
 {
     let bottom = bottom(alloc, &opened.version)?;
@@ -153,9 +155,10 @@ fn take_step<F: ReadsTables + WritesTables, T: InstallWatch, W: Watch + Sync, R:
         (order_short_keys opened.now.order) opened.now.version loaded level settings.now
         (F.calls folder.old) (F.calls folder.new) (F.tells folder.old) (F.tells folder.new)
         (F.failed folder.old) (F.failed folder.new) (told.old) (told.new) result }
-    ensures runs { MakesNoCalls (F.calls folder.old) (F.calls folder.new) result
-        ⊎ IsNextBegun opened.now.order opened.now.version level settings.now
-        (F.calls folder.old) (F.calls folder.new) result }
+    ensures runs { MakesNoCalls (F.calls folder.old) (F.calls folder.new) (told.old) (told.new)
+        result
+        ⊎ IsNextBegun T.tells opened.now.order opened.now.version level settings.now
+        (F.calls folder.old) (F.calls folder.new) (told.old) (told.new) result }
     ensures device { ReportsDevice F.Folder folder.old folder.new result }
 {
     inputs_suffice::<Bytewise>();
@@ -172,7 +175,8 @@ fn tell_step<T: InstallWatch>(
     step: &CompactionStep,
     told: &mut T,
 ) -> Result<Option<Opened>, Fault>
-    ensures told { T.tells told.old step.now.lines.items told.new }
+    ensures told { (goes : Bool) × T.tells told.old (step_in step.now) goes told.new
+        × IfOk result (IsGoTold goes) }
     ensures after { IfOk result (λ o. IfSome o (λ after. IsOpenedAfter opened.now.order
         opened.now.version step.now.edit.items
         (Ok (after.order, after.version, after.manifest)))) }

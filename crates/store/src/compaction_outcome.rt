@@ -1,12 +1,15 @@
 //! What a compaction answers that is not installed.
 
-use edit::Outcome;
+use edit::{DeletedFile, Outcome};
+use std::collections::BTreeSet;
 
-/// The lines and the outcome of a compaction that was not installed.
+/// A compaction that was not installed.
 #[derive(Drop)]
 pub struct CompactionOutcome {
-    /// Its lines, each with its newline.
-    pub lines: Vec<u8>,
+    /// The number and the length of each new table, in order.
+    pub outputs: Vec<(u64, u64)>,
+    /// The inputs, which its edit deletes, by level and number.
+    pub deleted: BTreeSet<DeletedFile>,
     /// Its tables with their numbers, and the bytes of its edit.
     pub outcome: Outcome,
 }

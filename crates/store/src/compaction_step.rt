@@ -1,10 +1,17 @@
 //! What a compaction leaves to its caller.
 
-/// The lines and the edit of a compaction that was installed.
+use edit::DeletedFile;
+use std::collections::BTreeSet;
+
+/// A compaction that was installed.
 #[derive(Drop)]
 pub struct CompactionStep {
-    /// Its lines, each with its newline.
-    pub lines: Vec<u8>,
+    /// The number and the length of each new table, in order.
+    pub outputs: Vec<(u64, u64)>,
+    /// The inputs, which it deleted, by level and number.
+    pub deleted: BTreeSet<DeletedFile>,
+    /// The number of its manifest.
+    pub manifest: u64,
     /// The bytes of its edit, which makes the edited version of the one before.
     pub edit: Vec<u8>,
 }

@@ -12,6 +12,7 @@ ghost use Rattle.folder.specs.declared.order.Order.{Order};
 ghost use Rattle.store.specs.Answers.{IsFolderCompacted, IsVersionCompacted};
 ghost use Rattle.store.specs.Compaction.{IsFolderLeft, IsVersionLeft};
 ghost use Rattle.store.specs.Runs.{IsFolderRun, IsLevelRun};
+ghost use Rattle.store.specs.Step.{step_in};
 
 use crate::compaction_step::CompactionStep;
 use crate::input_compaction::compact_step;
@@ -25,12 +26,8 @@ use ikey::{Bytewise, SharedComparator, Shortlex};
 use std::alloc::Global;
 use std::thread::Threads;
 
-/// Compacts a `level` of the version that a folder holds, and installs the outcome. The answer has
-/// its edit, and its lines, each with its newline:
-///
-/// - `output NUMBER SIZE` of each new table in order;
-/// - `deleted LEVEL NUMBER` of each input by level and number;
-/// - `installed MANIFEST-NNNNNN`.
+/// Compacts a `level` of the version that a folder holds, and installs the outcome. The answer says
+/// what was made: the new tables, the inputs, the manifest, the edit.
 ///
 /// The folder is opened first. Then [`sync_version`] syncs what was opened, so that it outlives a
 /// crash, and [`compact_opened`] compacts it. So a folder that can't be opened isn't touched.
@@ -68,9 +65,9 @@ pub fn compact_dir<F: ReadsTables + WritesTables, W: Watch + Sync, R: Threads + 
     memory: u64,
     watch: &W,
 ) -> Result<CompactionStep, Fault>
-    // If the folder tells these files: the lines, or the first refusal in this order.
+    // If the folder tells these files: the step, or the first refusal in this order.
     ensures answer { (files : Files) → Tells (F.tells folder.old) files →
-        FolderAnswers (λ step. step.lines.items) (F.failed folder.old) (F.failed folder.new) result
+        FolderAnswers step_in (F.failed folder.old) (F.failed folder.new) result
         (IsFolderCompacted files level settings.now) }
     // What is left of the folder: what it held, or the edited version, which is lawful and answers
     // each readable get as before.
@@ -107,7 +104,7 @@ pub fn compact_opened<F: ReadsTables + WritesTables, W: Watch + Sync, R: Threads
 ) -> Result<CompactionStep, Fault>
     // If the folder tells files, and CURRENT is the one that was opened.
     ensures answer { IfCurrent (F.tells folder.old) opened.now.manifest (λ files.
-        FolderAnswers (λ step. step.lines.items) (F.failed folder.old) (F.failed folder.new) result
+        FolderAnswers step_in (F.failed folder.old) (F.failed folder.new) result
         (IsVersionCompacted (order_cmp opened.now.order) (order_short_keys opened.now.order)
         files opened.now.version level settings.now)) }
     // If moreover they open as this version in this order.
@@ -159,7 +156,7 @@ fn compact_version<
 ) -> Result<CompactionStep, Fault>
     requires { length C.name_bytes < 2 ^ 32 }
     ensures answer { IfCurrent (F.tells folder.old) opened.now.manifest (λ files.
-        FolderAnswers (λ step. step.lines.items) (F.failed folder.old) (F.failed folder.new) result
+        FolderAnswers step_in (F.failed folder.old) (F.failed folder.new) result
         (IsVersionCompacted C.cmp C.short_keys
         files opened.now.version level settings.now)) }
     ensures left { (files : Files) (order : Order) → Tells (F.tells folder.old) files →

@@ -14,12 +14,13 @@ ghost use Rattle.folder.specs.Reports.{OnlyReads, ReportsDevice};
 ghost use Rattle.folder.specs.declared.order.Order.{Order};
 ghost use Rattle.pick.specs.PickedInputs.{PickedInputs};
 ghost use Rattle.reads.specs.Tables.{NumberedContents};
-ghost use Rattle.store.specs.Outcome.{IsOutcomeOfInputs, IsOutcomeOfVersion, LevelCompaction};
+ghost use Rattle.store.specs.Compaction.{LevelCompaction};
+ghost use Rattle.store.specs.Outcome.{IsOutcomeOfInputs, IsOutcomeOfVersion, outcome_in};
 
+use crate::answered_steps::level_answer;
 use crate::compaction_outcome::CompactionOutcome;
 use crate::input_laws::outcome_suffices;
 use crate::level_compaction::level_outcome;
-use crate::lines::outcome_lines;
 use checks::{CHECKERS, HeldTables, Watch, test_and_hold};
 use coding::Fault;
 use compact::Settings;
@@ -52,10 +53,10 @@ pub fn outcome_of_opened<F: ReadsTables, W: Watch + Sync, R: Threads + Sync>(
     memory: u64,
     watch: &W,
 ) -> Result<CompactionOutcome, Fault>
-    // If the folder tells files: the outcome with its lines, or the first refusal in this order.
+    // If the folder tells files: the outcome, or the first refusal in this order.
     ensures answer { (files : Files) → Tells (F.tells folder.old) files →
-        FolderAnswers (λ o. (answer_in o.outcome, o.lines.items)) (F.failed folder.old)
-        (F.failed folder.new) result (IsOutcomeOfVersion first (order_cmp opened.now.order)
+        FolderAnswers outcome_in (F.failed folder.old) (F.failed folder.new) result
+        (IsOutcomeOfVersion first (order_cmp opened.now.order)
         (order_short_keys opened.now.order) files opened.now.version level settings.now) }
     // At Ok the version is lawful with the tables that they hold, and the outcome makes the edited
     // version.
@@ -83,12 +84,6 @@ pub fn outcome_of_opened<F: ReadsTables, W: Watch + Sync, R: Threads + Sync>(
 /// installed: it only reads, and no table but those of the inputs. So the caller says that the
 /// version is lawful.
 ///
-/// The answer is the outcome, and its lines, each with its newline:
-///
-/// - `output NUMBER SIZE` of each table in order;
-/// - `deleted LEVEL NUMBER` of each input by level and number;
-/// - `written EDIT`.
-///
 /// The numbers of the outputs are those from `first` on. Without it they are those of
 /// [`compact_inputs`](crate::compact_inputs): the first one comes after next file.
 ///
@@ -109,8 +104,8 @@ pub fn outcome_of_inputs<F: ReadsTables, W: Watch + Sync, R: Threads + Sync>(
 ) -> Result<CompactionOutcome, Fault>
     // If the folder tells files. Whether the version is lawful makes no difference.
     ensures answer { (files : Files) → Tells (F.tells folder.old) files →
-        FolderAnswers (λ o. (answer_in o.outcome, o.lines.items)) (F.failed folder.old)
-        (F.failed folder.new) result (IsOutcomeOfInputs first (order_cmp opened.now.order)
+        FolderAnswers outcome_in (F.failed folder.old) (F.failed folder.new) result
+        (IsOutcomeOfInputs first (order_cmp opened.now.order)
         (order_short_keys opened.now.order) files opened.now.version level settings.now) }
     // If moreover the version is lawful with the tables that they hold, the outcome makes the
     // edited version, also by a later installation.
@@ -160,8 +155,7 @@ fn outcome_tested<
     watch: &W,
 ) -> Result<CompactionOutcome, Fault>
     ensures answer { (files : Files) → Tells (F.tells folder.old) files →
-        FolderAnswers (λ o. (answer_in o.outcome, o.lines.items)) (F.failed folder.old)
-        (F.failed folder.new) result
+        FolderAnswers outcome_in (F.failed folder.old) (F.failed folder.new) result
         (IsOutcomeOfVersion first C.cmp C.short_keys files version.now level settings.now) }
     ensures compacted { (files : Files) (order : Order) → Tells (F.tells folder.old) files →
         IfOk result (λ o. (loaded : List (ℕ × List ℕ))
@@ -186,8 +180,8 @@ fn outcome_tested<
     )
 }
 
-/// The outcome of the compaction of a `level` of a version by its inputs alone, and its lines.
-/// `held` are tables of the folder.
+/// The outcome of the compaction of a `level` of a version by its inputs alone. `held` are tables
+/// of the folder.
 fn outcome_untested<
     C: SharedComparator + 'static,
     F: ReadsTables,
@@ -206,8 +200,7 @@ fn outcome_untested<
 ) -> Result<CompactionOutcome, Fault>
     ensures answer { (files : Files) → Tells (F.tells folder.old) files →
         AreHeldIn C.cmp files held →
-        FolderAnswers (λ o. (answer_in o.outcome, o.lines.items)) (F.failed folder.old)
-        (F.failed folder.new) result
+        FolderAnswers outcome_in (F.failed folder.old) (F.failed folder.new) result
         (IsOutcomeOfInputs first C.cmp C.short_keys files version.now level settings.now) }
     ensures compacted { (files : Files) (order : Order) (loaded : List (ℕ × List ℕ))
         (tables : List NumberedContents) → Tells (F.tells folder.old) files →
@@ -222,9 +215,5 @@ fn outcome_untested<
     let made = level_outcome::<C, F, W, R>(
         rt, alloc, folder, held, version, level, first, settings, watch,
     )?;
-    let lines = outcome_lines(alloc, &made.outcome, &made.picked.files)?;
-    Ok(CompactionOutcome {
-        lines,
-        outcome: made.outcome,
-    })
+    level_answer(alloc, made)
 }

@@ -18,10 +18,10 @@ ghost use Rattle.pick.specs.PickedInputs.{picked_in};
 ghost use Rattle.compact.specs.Inputs.{inputs_reading};
 ghost use Rattle.split.specs.declared.split.TheConstants.{MAX_RANGES};
 ghost use Rattle.store.specs.FolderRequest.{compaction_from};
-ghost use Rattle.store.specs.FoundInputs.{CanBeInstalled, IsAnsweredBy, answer_as};
-ghost use Rattle.store.specs.InputLaws.{with_inputs};
-ghost use Rattle.store.specs.InputsCompaction.{IsReadTold, installed_lines};
-ghost use Rattle.store.specs.Runs.{IsAnswerForInputs, IsRun};
+ghost use Rattle.store.specs.FoundInputs.{CanBeInstalled, IsAnswerForThese, IsAnsweredBy, step_result};
+ghost use Rattle.store.specs.InputsCompaction.{IsReadAnswer};
+ghost use Rattle.store.specs.Runs.{IsRun};
+ghost use Rattle.store.specs.Step.{IsStepFor, step_in};
 ghost use Rattle.store.specs.StepLeft.{IsStepLeft};
 
 use crate::compaction_step::CompactionStep;
@@ -57,9 +57,9 @@ pub(crate) fn compact_held<C: SharedComparator + 'static, W: Watch + Sync, R: Th
 ) -> Result<Outcome, Fault>
     requires bytes { map (λ t. t.1) (held_bytes held.now)
         ≡ map (λ i. table_bytes_of (held_bytes held.now) i.meta.number) picked.now.files.items }
-    ensures answer { HoldsOrMemory (λ o. with_inputs (picked_in picked.now) (answer_in o)) result
-        (IsReadTold with_inputs first C.cmp C.short_keys version.now (picked_in picked.now)
-        settings.now (held_bytes held.now)) }
+    ensures answer { HoldsOrMemory (λ o. (picked_in picked.now, answer_in o)) result
+        (IsReadAnswer first C.cmp C.short_keys version.now settings.now (picked_in picked.now)
+        (held_bytes held.now)) }
     ensures outcome { IfOk result (λ o. compaction_from first C.cmp C.short_keys version.now
         (held_bytes held.now) (picked_in picked.now) settings.now ≡ Ok (answer_in o)) }
     ensures logs { IfOk result (λ _. (unwrap_or version.now.log_number 0 < 2 ^ 64)
@@ -122,9 +122,9 @@ pub(crate) fn install_held<
     requires bytes { map (λ t. t.1) (held_bytes held.now)
         ≡ map (λ i. table_bytes_of (held_bytes held.now) i.meta.number) picked.now.files.items }
     ensures answer { IfCurrent (F.tells folder.old) opened.now.manifest (λ files.
-        FolderAnswers (λ step. step.lines.items) (F.failed folder.old) (F.failed folder.new) result
-        (IsReadTold (installed_lines opened.now.version) None C.cmp C.short_keys opened.now.version
-        (picked_in picked.now) settings.now (held_bytes held.now))) }
+        FolderAnswers step_in (F.failed folder.old) (F.failed folder.new) result
+        (IsStepFor opened.now.version (IsReadAnswer None C.cmp C.short_keys opened.now.version
+        settings.now (picked_in picked.now) (held_bytes held.now)))) }
     ensures left { (files : Files) (order : Order) (loaded : List (ℕ × List ℕ)) (level : ℕ) →
         Tells (F.tells folder.old) files →
         files (codes "CURRENT") ≡ Some (current_text opened.now.manifest) →
@@ -134,8 +134,8 @@ pub(crate) fn install_held<
         (held_bytes held.now) (picked_in picked.now) settings.now) →
         IsStepLeft order C.cmp C.short_keys opened.now.version loaded level settings.now
         (F.calls folder.old) (F.calls folder.new) (F.tells folder.old) (F.tells folder.new) result }
-    ensures runs { IsRun (IsAnswerForInputs C.cmp C.short_keys opened.now.version
-        (held_bytes held.now) (picked_in picked.now) settings.now)
+    ensures runs { IsRun (IsAnswerForThese C.cmp C.short_keys opened.now.version
+        (held_bytes held.now) settings.now (picked_in picked.now))
         C.name_bytes C.cmp opened.now.version
         (F.calls folder.old) (F.calls folder.new) (F.tells folder.old) (F.tells folder.new) result }
     ensures other { IsOkOnlyIfCurrent (F.tells folder.old) opened.now.manifest result }
@@ -172,8 +172,8 @@ fn install_checked<
         files (codes "CURRENT") ≡ Some (current_text opened.now.manifest) →
         map (λ t. t.bytes) tables.now
         ≡ map (λ i. table_bytes_of loaded i.meta.number) picked.now.files.items →
-        FolderAnswers (λ step. step.lines.items) (F.failed folder.old) (F.failed folder.new) result
-        (λ lines. lines ≡ answer_as (installed_lines opened.now.version (picked_in picked.now))
+        FolderAnswers step_in (F.failed folder.old) (F.failed folder.new) result
+        (λ step. step ≡ step_result opened.now.version (picked_in picked.now)
         (compaction_from None C.cmp C.short_keys opened.now.version loaded (picked_in picked.now)
         settings.now)) }
     ensures left { (files : Files) (order : Order) (own loaded : List (ℕ × List ℕ)) (level : ℕ) →
@@ -190,9 +190,9 @@ fn install_checked<
     ensures runs { (own : List (ℕ × List ℕ)) →
         map (λ t. t.bytes) tables.now
         ≡ map (λ i. table_bytes_of own i.meta.number) picked.now.files.items →
-        IsRun (IsAnsweredBy (compaction_from None C.cmp C.short_keys opened.now.version own
-        (picked_in picked.now) settings.now) (installed_lines opened.now.version
-        (picked_in picked.now))) C.name_bytes C.cmp opened.now.version
+        IsRun (IsAnsweredBy (picked_in picked.now) (compaction_from None C.cmp C.short_keys
+        opened.now.version own (picked_in picked.now) settings.now))
+        C.name_bytes C.cmp opened.now.version
         (F.calls folder.old) (F.calls folder.new) (F.tells folder.old) (F.tells folder.new) result }
     ensures other { IsOkOnlyIfCurrent (F.tells folder.old) opened.now.manifest result }
     ensures device { ReportsDevice F.Folder folder.old folder.new result }
@@ -203,7 +203,7 @@ fn install_checked<
     watch.begin(Work::Compact, split.len());
     let workers = settings.workers;
     let merged = merge_request::<C, W, R>(rt, alloc, &request, tables, &split, workers, watch)?;
-    install_merged(rt, alloc, folder, opened, &merged, &picked.files, watch)
+    install_merged(rt, alloc, folder, opened, &merged, picked, watch)
 }
 
 /// The split of the keys of these tables into at most `ranges` ranges. `SplitCount` if `ranges` is

@@ -14,6 +14,7 @@ ghost use Rattle.folder.specs.declared.order.Order.{Order};
 ghost use Rattle.reads.specs.Tables.{NumberedContents};
 ghost use Rattle.store.specs.InputsCompaction.{IsInputsCompacted};
 ghost use Rattle.store.specs.Runs.{IsLevelRun};
+ghost use Rattle.store.specs.Step.{step_in};
 ghost use Rattle.store.specs.StepLeft.{IsStepLeft};
 
 use crate::compaction_step::CompactionStep;
@@ -55,7 +56,7 @@ pub fn compact_inputs<F: ReadsTables + WritesTables, W: Watch + Sync, R: Threads
     // If the folder tells files, and CURRENT is the one that was opened. Whether the version is
     // lawful makes no difference.
     ensures answer { IfCurrent (F.tells folder.old) opened.now.manifest (λ files.
-        FolderAnswers (λ step. step.lines.items) (F.failed folder.old) (F.failed folder.new) result
+        FolderAnswers step_in (F.failed folder.old) (F.failed folder.new) result
         (IsInputsCompacted (order_cmp opened.now.order) (order_short_keys opened.now.order)
         files opened.now.version level settings.now)) }
     // If moreover the files read as this version with tables with which it is lawful. Then the
@@ -114,7 +115,7 @@ pub(crate) fn compact_step<
     requires { length C.name_bytes < 2 ^ 32 }
     ensures answer { IfCurrent (F.tells folder.old) opened.now.manifest (λ files.
         AreHeldIn C.cmp files held →
-        FolderAnswers (λ step. step.lines.items) (F.failed folder.old) (F.failed folder.new) result
+        FolderAnswers step_in (F.failed folder.old) (F.failed folder.new) result
         (IsInputsCompacted C.cmp C.short_keys files opened.now.version level settings.now)) }
     ensures left { (files : Files) (order : Order) (loaded : List (ℕ × List ℕ))
         (tables : List NumberedContents) →

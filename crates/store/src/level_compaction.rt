@@ -13,9 +13,8 @@ ghost use Rattle.folder.specs.Reports.{OnlyReads, ReportsDevice};
 ghost use Rattle.folder.specs.declared.order.Order.{Order};
 ghost use Rattle.pick.specs.PickedInputs.{picked_in};
 ghost use Rattle.reads.specs.Tables.{NumberedContents};
-ghost use Rattle.store.specs.InputLaws.{with_inputs};
-ghost use Rattle.store.specs.InputsCompaction.{IsInputsTold};
-ghost use Rattle.store.specs.Outcome.{LevelCompaction};
+ghost use Rattle.store.specs.Compaction.{LevelCompaction};
+ghost use Rattle.store.specs.InputsCompaction.{IsLevelAnswer};
 
 use crate::held_compaction::compact_held;
 use crate::input_laws::same_inputs;
@@ -59,9 +58,9 @@ pub(crate) fn level_outcome<
 ) -> Result<LevelOutcome, Fault>
     ensures answer { (files : Files) → Tells (F.tells folder.old) files →
         AreHeldIn C.cmp files held →
-        FolderAnswers (λ o. with_inputs (picked_in o.picked) (answer_in o.outcome))
+        FolderAnswers (λ o. (picked_in o.picked, answer_in o.outcome))
         (F.failed folder.old) (F.failed folder.new) result
-        (IsInputsTold with_inputs first C.cmp C.short_keys files version.now level settings.now) }
+        (IsLevelAnswer first C.cmp C.short_keys files version.now level settings.now) }
     ensures compacted { (files : Files) (order : Order) (loaded : List (ℕ × List ℕ))
         (tables : List NumberedContents) → Tells (F.tells folder.old) files →
         AreHeldIn C.cmp files held →

@@ -13,13 +13,14 @@
 //!    numbers that are asked for. [`write_outcome`] writes it into another folder.
 //!    [`files_to_compact`] names the files that the second one needs.
 //! 6. Parts of these calls, for those who install an outcome later: [`test_files`],
-//!    [`load_inputs`], [`checked_inputs`], [`bytes_of`], [`manifest_of`], [`compaction_lines`].
+//!    [`load_inputs`], [`checked_inputs`], [`bytes_of`], [`manifest_of`], [`outcome_step`].
 //! 7. All tell a [`Watch`] of the work; [`Open`] is the one that does nothing.
 //!
 //! What the clauses say. They are of a folder that tells contracts what it holds, but for `device`,
 //! `refused` and the calls of `runs`.
 //!
-//! - `answer`: the lines, or the first refusal in the order of the call's own documentation.
+//! - `answer`: the step or the outcome, or the first refusal in the order of the call's own
+//!   documentation. The crate makes no text: the lines of a step are `answers::compaction_lines`.
 //! - `left`: the folder holds what it held, at most synced; or a compaction was installed. Of
 //!   [`compact_inputs`] that is if the version is lawful, and CURRENT then names the manifest of
 //!   the edited version.
@@ -35,6 +36,7 @@
 #![tactic(auto)]
 
 mod all_levels;
+mod answered_steps;
 mod compaction_outcome;
 mod compaction_step;
 mod descent;
@@ -51,7 +53,6 @@ mod install_laws;
 mod install_watch;
 mod level_compaction;
 mod level_inputs;
-mod lines;
 mod needed_files;
 mod next_opened;
 mod outcome_writer;
@@ -60,6 +61,7 @@ mod version_files;
 mod version_sync;
 
 pub use all_levels::{compact_all, compact_levels};
+pub use answered_steps::outcome_step;
 pub use board::Open;
 pub use checks::{Watch, Work};
 pub use compact::Settings;
@@ -74,7 +76,6 @@ pub use input_compaction::compact_inputs;
 pub use input_tables::{bytes_of, checked_inputs, load_inputs};
 pub use install_laws::{answer_is_installed, inputs_suffice, request_is_over, sync_stands};
 pub use install_watch::InstallWatch;
-pub use lines::compaction_lines;
 pub use needed_files::files_to_compact;
 pub use next_opened::opened_after;
 pub use outcome_writer::{EDIT, write_outcome};

@@ -1,6 +1,6 @@
 //! An outcome as files of a folder.
 
-ghost use Rattle.std.specs.Prelude.{◌≡◌, ◌∷◌, [], IfErr, codes};
+ghost use Rattle.std.specs.Prelude.{◌≡◌, ◌∷◌, [], IfErr, OnOk, codes};
 ghost use Rattle.coding.specs.Answers.{UnlessMemory};
 ghost use Rattle.compact.specs.AnswerIn.{answer_in};
 ghost use Rattle.folder.specs.CallSequence.{MakesCalls};
@@ -13,7 +13,7 @@ ghost use Rattle.folder.specs.TableFiles.{named_tables};
 ghost use Rattle.install.specs.Install.{table_calls, tables_in, write_calls};
 ghost use Rattle.store.specs.CallsAnswer.{IsCallsAnswer};
 ghost use Rattle.store.specs.Outcome.{edit_calls, naming_calls, outcome_calls};
-ghost use Rattle.store.specs.WholeOutcome.{AreNamedApart, HasNoEdit, IsAbsentOrWhole};
+ghost use Rattle.store.specs.WholeOutcome.{AreNamedApart, HasNoEdit, IsAbsentOrWhole, IsWhole};
 
 use coding::Fault;
 use edit::Outcome;
@@ -53,6 +53,11 @@ pub fn write_outcome<F: Folder, R: Threads + Sync>(
         ((w : World) → Leads start (F.calls folder.old) w → HasNoEdit w) →
         LeavesOnly start (F.calls folder.old) (F.calls folder.new)
         (IsAbsentOrWhole (answer_in outcome.now)) }
+    // And at Ok each crash leaves all of it.
+    ensures kept { AreNamedApart (named_tables (answer_in outcome.now).tables) → (start : World) →
+        ((w : World) → Leads start (F.calls folder.old) w → HasNoEdit w) →
+        OnOk result ((w : World) → Leads start (F.calls folder.new) w →
+        IsWhole (answer_in outcome.now) w.left) }
     // Only Device and Memory are answered, Device only if the device failed.
     ensures refused { IfErr result
         (λ e. UnlessMemory e (IsStopped (F.failed folder.old) (F.failed folder.new) e)) }

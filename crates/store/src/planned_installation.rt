@@ -5,10 +5,7 @@
 //! that fails midway, the tables that were written stay: the version doesn't name them.
 
 ghost use Rattle.std.specs.Prelude.{◌≡◌, ◌∷◌, [], ◌<◌, ◌^◌, ℕ, List, length, codes, Some, Ok};
-ghost use Rattle.std.specs.Prelude.{IfErr, IfOk, slice_get};
-ghost use Rattle.coding.specs.Answers.{fault};
-ghost use Rattle.coding.specs.declared.fault.FaultName.TheVariants.{Memory};
-ghost use Rattle.compact.specs.GroupedAnswer.{joined_answer};
+ghost use Rattle.std.specs.Prelude.{None, slice_get};
 ghost use Rattle.folder.specs.Calls.{Files, Tells};
 ghost use Rattle.folder.specs.Manifest.{order_name};
 ghost use Rattle.folder.specs.Names.{current_text};
@@ -17,33 +14,34 @@ ghost use Rattle.folder.specs.Reports.{ReportsDevice};
 ghost use Rattle.folder.specs.declared.order.Order.{Order};
 ghost use Rattle.install.specs.Install.{table_calls};
 ghost use Rattle.install.specs.GroupedInstallation.{IsGroupedInstallation};
+ghost use Rattle.pick.specs.PickedInputs.{picked_in};
 ghost use Rattle.compact.specs.OneThread.{Answer};
 ghost use Rattle.compact.specs.declared.settings.Settings.{Settings};
 ghost use Rattle.store.specs.CallsAnswer.{IsCallsAnswer};
-ghost use Rattle.store.specs.Compaction.{VersionCompaction};
+ghost use Rattle.store.specs.Compaction.{LevelCompaction};
 ghost use Rattle.store.specs.FolderRequest.{manifest_of};
-ghost use Rattle.store.specs.FoundInputs.{IsAnsweredBy, NeverDevice, answer_as};
-ghost use Rattle.store.specs.Lines.{compaction_lines};
+ghost use Rattle.store.specs.FoundInputs.{IsAnsweredBy, NeverDevice, step_result};
 ghost use Rattle.store.specs.Runs.{IsRun};
+ghost use Rattle.store.specs.Step.{step_in};
 ghost use Rattle.store.specs.StepLeft.{IsStepLeft};
 
+use crate::answered_steps::planned_step;
 use crate::compaction_step::CompactionStep;
 use crate::folder_request::manifest_of;
 use crate::group_tables::GroupTables;
-use crate::lines::installed_lines;
 use checks::Watch;
 use coding::Fault;
 use compact::{Merged, Planned};
 use edit::Version;
 use folder::{Opened, WritesTables};
-use ikey::{Comparator, SharedComparator};
+use ikey::SharedComparator;
 use install::{install_manifest, manifest_bytes, write_source_group};
-use pick::InputFile;
+use pick::Inputs;
 use std::alloc::Global;
 use std::thread::Threads;
 
 /// Installs a compaction of the version that a folder was `opened` as, which was merged of these
-/// `inputs`. The answer has its lines and its edit.
+/// `picked` inputs.
 ///
 /// The first that applies: what the compaction is refused as; what an installation is.
 pub(crate) fn install_merged<
@@ -57,26 +55,24 @@ pub(crate) fn install_merged<
     folder: &mut F,
     opened: &Opened,
     merged: &Merged<'_, '_, C>,
-    inputs: &[InputFile],
+    picked: &Inputs,
     watch: &W,
 ) -> Result<CompactionStep, Fault>
     requires name { length C.name_bytes < 2 ^ 32 }
     requires other { NeverDevice merged.now }
     ensures answer { IfCurrent (F.tells folder.old) opened.now.manifest (λ files.
-        FolderAnswers (λ step. step.lines.items) (F.failed folder.old) (F.failed folder.new) result
-        (λ lines. lines ≡ answer_as (λ a. compaction_lines a.tables inputs.now
-        (manifest_of opened.now.version)) merged.now)) }
+        FolderAnswers step_in (F.failed folder.old) (F.failed folder.new) result
+        (λ step. step ≡ step_result opened.now.version (picked_in picked.now) merged.now)) }
     ensures left { (files : Files) (order : Order) (loaded : List (ℕ × List ℕ)) (level : ℕ)
         (s : Settings) → Tells (F.tells folder.old) files →
         files (codes "CURRENT") ≡ Some (current_text opened.now.manifest) →
         order_name order ≡ C.name_bytes →
         ((a : Answer) → merged.now ≡ Ok a →
-        VersionCompaction order C.cmp C.short_keys opened.now.version loaded level s a
-        (compaction_lines a.tables inputs.now (manifest_of opened.now.version))) →
+        LevelCompaction order C.cmp C.short_keys opened.now.version loaded level None s
+        (picked_in picked.now) a) →
         IsStepLeft order C.cmp C.short_keys opened.now.version loaded level s
         (F.calls folder.old) (F.calls folder.new) (F.tells folder.old) (F.tells folder.new) result }
-    ensures runs { IsRun (IsAnsweredBy merged.now
-        (λ a. compaction_lines a.tables inputs.now (manifest_of opened.now.version)))
+    ensures runs { IsRun (IsAnsweredBy (picked_in picked.now) merged.now)
         C.name_bytes C.cmp opened.now.version
         (F.calls folder.old) (F.calls folder.new) (F.tells folder.old) (F.tells folder.new) result }
     ensures other { IsOkOnlyIfCurrent (F.tells folder.old) opened.now.manifest result }
@@ -85,7 +81,7 @@ pub(crate) fn install_merged<
     let planned = merged.planned(rt, alloc)?;
     let version = &opened.version;
     let number = manifest_of(version);
-    let step = step_of(alloc, &planned, inputs, number)?;
+    let step = planned_step(alloc, version, picked, &planned)?;
     install_planned(
         rt,
         alloc,
@@ -97,24 +93,6 @@ pub(crate) fn install_merged<
         watch,
     )?;
     Ok(step)
-}
-
-/// The lines and the edit of a compaction of these `inputs` whose manifest has this `number`.
-fn step_of<C: Comparator>(
-    alloc: Global,
-    planned: &Planned<'_, '_, C>,
-    inputs: &[InputFile],
-    number: u64,
-) -> Result<CompactionStep, Fault>
-    ensures lines { IfOk result (λ step. step.lines.items
-        ≡ compaction_lines (joined_answer planned.now).tables inputs.now number) }
-    ensures edit { IfOk result (λ step. step.edit.items ≡ planned.now.edit) }
-    ensures memory { IfErr result (λ e. e ≡ fault Memory) }
-{
-    let sizes = planned.sizes(alloc)?;
-    let lines = installed_lines(alloc, &sizes, inputs, number)?;
-    let edit = Vec::from_slice(alloc, planned.edit())?;
-    Ok(CompactionStep { lines, edit })
 }
 
 /// Installs `planned` outputs of a compaction of a `version`, as [`install`](install::install) does

@@ -2,12 +2,13 @@
 //! are gone, and that there was nothing to do.
 
 use coding::Fault;
-use edit::{FileMeta, LAST_LEVEL, LEVELS, Version, VersionEdit};
+use edit::{DeletedFile, FileMeta, LAST_LEVEL, LEVELS, Version, VersionEdit};
 use folder::{Disk, Folder, SystemFiles};
 use ikey::Bytewise;
 use scan::FileTotal;
 use session::{Telling, deleted_files, have_filter, total_text};
 use std::alloc::Global;
+use std::collections::BTreeSet;
 use store::EDIT;
 
 /// All files of a version.
@@ -28,11 +29,11 @@ fn with_files(total: FileTotal, files: &[&FileMeta]) -> FileTotal {
     total
 }
 
-/// The new files of an edit.
-fn added_total(edit: &VersionEdit) -> FileTotal {
+/// New files, of which these are the numbers and the lengths.
+fn outputs_total(outputs: &[(u64, u64)]) -> FileTotal {
     let mut total = FileTotal::none();
-    for file in &edit.added {
-        total = total.with(file.meta.size);
+    for (_, size) in outputs {
+        total = total.with(*size);
     }
     total
 }
@@ -48,23 +49,24 @@ pub(crate) struct CompactionNote {
     has_filter: bool,
 }
 
-/// What is to be told of the compaction that has this `edit` of the version `before`. The ends of
-/// its inputs are read. None if nothing is, or if it can't be known.
+/// What is to be told of the compaction of the version `before` that made these `outputs` of the
+/// files that it `deleted`. The ends of its inputs are read. None if nothing is, or if it can't be
+/// known.
 pub(crate) fn note_of<R: SystemFiles + AllocGlobal>(
     rt: &R,
     telling: Telling<'_>,
     before: &Version,
-    edit: &[u8],
+    outputs: &[(u64, u64)],
+    deleted: &BTreeSet<DeletedFile>,
 ) -> Option<CompactionNote> {
     if telling.is_quiet {
         return None;
     }
-    let edit = VersionEdit::decode(rt.alloc(), edit).ok()?;
-    let inputs = deleted_files(rt.alloc(), before, &edit).ok()?;
+    let inputs = deleted_files(rt.alloc(), before, deleted).ok()?;
     let mut folder = Disk::new(rt, telling.folder);
     Some(CompactionNote {
         taken: with_files(FileTotal::none(), &inputs),
-        made: added_total(&edit),
+        made: outputs_total(outputs),
         has_filter: have_filter(rt.alloc(), &mut folder, &inputs) == Ok(true),
     })
 }
@@ -118,7 +120,7 @@ fn are_filters_lost<R: SystemFiles + AllocGlobal>(
         return Ok(false);
     };
     let edit = VersionEdit::decode(alloc, &bytes)?;
-    let inputs = deleted_files(alloc, before, &edit)?;
+    let inputs = deleted_files(alloc, before, &edit.deleted)?;
     if !have_filter(alloc, &mut Disk::new(rt, folder), &inputs)? {
         return Ok(false);
     }

@@ -112,8 +112,8 @@ fn compact_one<R: Host>(
         tested_compacted(rt, telling, opened, level, task.settings, memory)?
     };
     tell_step(rt, level, begun);
-    let note = note_of(rt, telling, &opened.version, &step.edit);
-    print_step(rt, level, &opened.version, &step, task.is_json).map_err(|refusal| unprinted(
+    let note = note_of(rt, telling, &opened.version, &step.outputs, &step.deleted);
+    print_step(rt, level, &step, task.is_json).map_err(|refusal| unprinted(
         rt.alloc(),
         telling.folder,
         task.levels,

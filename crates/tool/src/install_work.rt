@@ -3,14 +3,15 @@
 use crate::clean_work::clean_installed;
 use crate::compaction_notes::{loses_filters, tell_no_filters};
 use crate::outcome_refusal::outcome_explained;
-use crate::step_printer::unprinted;
+use crate::step_printer::{print_step_lines, unprinted};
 use crate::version_sync::sync;
 use adoption::{AdoptionEnd, Comparison, install_outcome};
 use folder::{Disk, Opened};
 use session::{
     Host, ProgressLine, Refusal, Telling, begin_work, bytes_of, explained, locked_to_change,
-    print_lines, refused_at, sizes_tested, tell_time,
+    refused_at, sizes_tested, tell_time,
 };
+use store::CompactionStep;
 use usage::{InstallLine, Levels};
 
 /// Installs in a folder the outcome that another one has. The folder is locked before anything is
@@ -24,12 +25,12 @@ pub(crate) fn install_compaction<R: Host>(
     let _lock = locked_to_change(rt, telling)?;
     let begun = telling.begin(rt);
     let opened = opened_to_install(rt, telling).map_err(|refusal| explained(rt, telling, refusal))?;
-    let lines = outcome_installed(rt, telling, line, &opened).map_err(|refusal| {
+    let step = outcome_installed(rt, telling, line, &opened).map_err(|refusal| {
         outcome_explained(rt, telling, line, opened.order, refusal)
     })?;
     tell_time(rt, "install", begun);
     let loses_filters = loses_filters(rt, telling, line.out, &opened.version);
-    print_lines(rt, &lines).map_err(|refusal| {
+    print_step_lines(rt, &step).map_err(|refusal| {
         unprinted(rt.alloc(), folder, Levels::One(0), refusal)
     })?;
     if loses_filters {
@@ -50,13 +51,13 @@ fn opened_to_install<R: Host>(rt: &R, telling: Telling<'_>) -> Result<Opened, Re
     Ok(opened)
 }
 
-/// Installs an outcome in what a folder was opened as. The answer is the lines.
+/// Installs an outcome in what a folder was opened as.
 fn outcome_installed<R: Host>(
     rt: &R,
     telling: Telling<'_>,
     line: &InstallLine<'_>,
     opened: &Opened,
-) -> Result<Vec<u8>, Refusal> {
+) -> Result<CompactionStep, Refusal> {
     let memory = bytes_of(line.testing.memory);
     let comparison = if line.testing.is_skipped {
         Comparison::LeftOut

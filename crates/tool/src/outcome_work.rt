@@ -3,9 +3,8 @@
 use crate::compaction_notes::note_of;
 use crate::out_folder::fill;
 use crate::step_printer::tell_step;
-use answers::{CompactionEnd, compaction_json, json_line};
+use answers::{CompactionEnd, compaction_json, compaction_lines, json_line};
 use coding::FaultName;
-use edit::VersionEdit;
 use folder::{Disk, Opened};
 use session::{
     Host, ProgressLine, Refusal, RefusalText, Telling, Words, begin_work, bytes_of,
@@ -51,7 +50,7 @@ fn compaction_written<R: Host>(
     })?;
     fill(rt, task.out, telling.folder, &made.outcome)?;
     tell_step(rt, task.level, begun);
-    let note = note_of(rt, telling, &opened.version, &made.outcome.edit);
+    let note = note_of(rt, telling, &opened.version, &made.outputs, &made.deleted);
     outcome_printed(rt, line, task, &made).map_err(|refusal| unprinted(
         rt.alloc(),
         task.out,
@@ -70,13 +69,14 @@ fn outcome_printed<R: Print + AllocGlobal>(
     task: OutcomeTask<'_>,
     made: &CompactionOutcome,
 ) -> Result<(), Refusal> {
-    if !line.options.is_json {
-        return print_lines(rt, &made.lines);
-    }
-    let edit = VersionEdit::decode(rt.alloc(), &made.outcome.edit)?;
+    let alloc = rt.alloc();
     let end = CompactionEnd::Written(EDIT);
-    let object = compaction_json(rt.alloc(), task.level, &edit, end)?;
-    print_lines(rt, json_line(rt.alloc(), &object)?.as_bytes())
+    if !line.options.is_json {
+        let lines = compaction_lines(alloc, &made.outputs, &made.deleted, end)?;
+        return print_lines(rt, lines.as_bytes());
+    }
+    let object = compaction_json(alloc, task.level, &made.outputs, &made.deleted, end)?;
+    print_lines(rt, json_line(alloc, &object)?.as_bytes())
 }
 
 /// The refusal that the lines of an outcome can't be written. It is in its folder by then.

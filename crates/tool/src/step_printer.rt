@@ -4,9 +4,11 @@ use crate::clean_work::clean_installed;
 use crate::compaction_notes::{CompactionNote, note_of, tell_made, tell_no_step, version_total};
 use crate::compaction_work::CompactionTask;
 use crate::work_left::work_left;
-use answers::{CompactionEnd, account_of, account_text, compaction_json, json_line};
+use answers::{
+    CompactionEnd, account_of, account_text, compaction_json, compaction_lines, json_line,
+};
 use coding::{Fault, FaultName};
-use edit::{Version, VersionEdit};
+use edit::Version;
 use folder::{Disk, Opened, Order, SystemFiles};
 use scan::FileTotal;
 use session::{
@@ -116,7 +118,7 @@ impl<'t, R: SystemFiles + Eprint + Clock + AllocGlobal> StepPrinter<'t, R> {
         if self.has_told_filters {
             return None;
         }
-        note_of(self.rt, self.telling, before, &step.edit)
+        note_of(self.rt, self.telling, before, &step.outputs, &step.deleted)
     }
 
     /// Tells the account of a step, if that is asked for.
@@ -158,7 +160,7 @@ impl<'t, R: Host> InstallWatch for StepPrinter<'t, R> {
         tell_step(self.rt, level, self.begun);
         let folder = self.telling.folder;
         let note = self.note_of(before, step);
-        if let Err(refusal) = print_step(self.rt, level, before, step, self.is_json) {
+        if let Err(refusal) = print_step(self.rt, level, step, self.is_json) {
             self.refusal = Some(unprinted(self.rt.alloc(), folder, Levels::All, refusal));
             return false;
         }
@@ -177,22 +179,30 @@ impl<'t, R: Host> InstallWatch for StepPrinter<'t, R> {
     }
 }
 
-/// Prints the lines of a compaction of a level of the version `before`, which is installed, or its
-/// JSON line.
+/// Prints the lines of a compaction of a level, which is installed, or its JSON line.
 pub(crate) fn print_step<R: Print + AllocGlobal>(
     rt: &R,
     level: u64,
-    before: &Version,
     step: &CompactionStep,
     is_json: bool,
 ) -> Result<(), Refusal> {
     if !is_json {
-        return print_lines(rt, &step.lines);
+        return print_step_lines(rt, step);
     }
-    let edit = VersionEdit::decode(rt.alloc(), &step.edit)?;
-    let end = CompactionEnd::Installed(before.next_file().unwrap_or(0));
-    let object = compaction_json(rt.alloc(), level, &edit, end)?;
-    print_lines(rt, json_line(rt.alloc(), &object)?.as_bytes())
+    let alloc = rt.alloc();
+    let end = CompactionEnd::Installed(step.manifest);
+    let object = compaction_json(alloc, level, &step.outputs, &step.deleted, end)?;
+    print_lines(rt, json_line(alloc, &object)?.as_bytes())
+}
+
+/// Prints the lines of a compaction that is installed.
+pub(crate) fn print_step_lines<R: Print + AllocGlobal>(
+    rt: &R,
+    step: &CompactionStep,
+) -> Result<(), Refusal> {
+    let end = CompactionEnd::Installed(step.manifest);
+    let lines = compaction_lines(rt.alloc(), &step.outputs, &step.deleted, end)?;
+    print_lines(rt, lines.as_bytes())
 }
 
 /// Tells how long the compaction of a level took, if its beginning is known.

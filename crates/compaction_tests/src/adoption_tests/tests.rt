@@ -2,13 +2,14 @@
 
 use crate::adoption_tests::rows::{INSTALLED, OWN, REFUSED_ROWS, Row};
 use crate::store_tests::rows::{CURRENT, Files, T_AND_V};
+use crate::store_tests::tests::step_lines;
 use adoption::{AdoptionEnd, install_outcome};
 use coding::{Fault, FaultName};
 use folder::{Shelf, open};
 use std::alloc::Global;
 use std::test::*;
 use std::thread::Threads;
-use store::Open;
+use store::{CompactionStep, Open};
 
 /// How many bytes of tables are held while a version is tested.
 const MEMORY: u64 = 1_073_741_824;
@@ -23,10 +24,17 @@ fn files_of(row: &Row) -> [(&'static str, &'static [u8]); 4] {
     ]
 }
 
-/// Whether an answer is this text, or this refusal.
-fn is_answer(answer: &Result<Vec<u8>, Fault>, wanted: Result<&str, FaultName>) -> bool {
+/// Whether an answer has these lines, or is this refusal.
+fn is_answer(
+    alloc: Global,
+    answer: &Result<CompactionStep, Fault>,
+    wanted: Result<&str, FaultName>,
+) -> bool {
     match (answer, wanted) {
-        (Ok(lines), Ok(text)) => lines.as_slice() == text.as_bytes(),
+        (Ok(step), Ok(text)) => match step_lines(alloc, step) {
+            Ok(lines) => lines.as_slice() == text.as_bytes(),
+            Err(_) => false,
+        },
         (Err(fault), Err(name)) => *fault == Fault::of(name),
         _ => false,
     }
@@ -76,7 +84,7 @@ fn installed<'f, R: Threads + Sync>(
 fn is_answered<R: Threads + Sync>(rt: &R, alloc: Global, row: &Row) -> bool {
     let files = files_of(row);
     let end = installed(rt, alloc, Shelf::new(alloc, &files), row);
-    is_answer(&end.answer, row.answer) && holds(&end.folder, row.left)
+    is_answer(alloc, &end.answer, row.answer) && holds(&end.folder, row.left)
 }
 
 /// Whether an outcome that was installed is refused if it is installed again, and the folder stays.
@@ -84,7 +92,7 @@ fn is_refused_twice<R: Threads + Sync>(rt: &R, alloc: Global, row: &Row) -> bool
     let files = files_of(row);
     let first = installed(rt, alloc, Shelf::new(alloc, &files), row);
     let second = installed(rt, alloc, first.folder, row);
-    is_answer(&second.answer, Err(FaultName::Apply)) && holds(&second.folder, row.left)
+    is_answer(alloc, &second.answer, Err(FaultName::Apply)) && holds(&second.folder, row.left)
 }
 
 #[test]

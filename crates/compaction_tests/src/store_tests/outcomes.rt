@@ -3,6 +3,7 @@
 
 use crate::store_tests::rows::{CURRENT, Files, KEPT, ONE_FILE, Row, TWO_ENTRIES, U4_DELETED};
 use crate::store_tests::tests::{MEMORY, files_of, holds};
+use answers::{CompactionEnd, compaction_lines};
 use coding::{Fault, FaultName};
 use edit::Outcome;
 use folder::{Failing, FolderFault, Shelf, open};
@@ -92,8 +93,15 @@ fn is_written<R: Threads + Sync>(rt: &R, alloc: Global, outcome: &Outcome, files
     answer == Ok(()) && holds(&folder, files) && folder.calls() == 2 * files.len() as u64 + 3
 }
 
+/// The lines of an outcome.
+fn outcome_lines(rt: &impl Abort, alloc: Global, made: &CompactionOutcome) -> Vec<u8> {
+    let end = CompactionEnd::Written(EDIT);
+    let lines = compaction_lines(alloc, &made.outputs, &made.deleted, end).expect(rt, "memory");
+    lines.into_bytes()
+}
+
 /// Whether the outcome of a row is its answer, and leaves its folder as it was.
-fn is_outcome<R: Threads + Sync>(
+fn is_outcome<R: Threads + Sync + Abort>(
     rt: &R,
     alloc: Global,
     asked: &OutcomeRow,
@@ -105,7 +113,7 @@ fn is_outcome<R: Threads + Sync>(
     folder.steps().is_empty()
         && match answer {
             Ok(made) => {
-                is_text(&made.lines, asked.answer)
+                is_text(&outcome_lines(rt, alloc, &made), asked.answer)
                     && is_written(rt, alloc, &made.outcome, asked.written)
             }
             Err(fault) => asked.answer == Err(fault.name) && fault == Fault::of(fault.name),

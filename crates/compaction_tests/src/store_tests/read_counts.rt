@@ -2,7 +2,7 @@
 
 use crate::range_checks_tests::{B_AT_TWO, U_AT_NINE, U_AT_ONE};
 use crate::store_tests::rows::{CURRENT, DEFAULTS, Files};
-use crate::store_tests::tests::MEMORY;
+use crate::store_tests::tests::{MEMORY, step_lines};
 use folder::Shelf;
 use std::process::Abort;
 use std::test::*;
@@ -61,7 +61,8 @@ fn each_table_is_read_once(rt: HostRuntime) {
         &rt,
         "a compaction",
     );
-    assert!(rt; step.lines.as_slice() == LINES.as_bytes());
+    let lines = step_lines(rt.alloc(), &step).expect(&rt, "memory");
+    assert!(rt; lines.as_slice() == LINES.as_bytes());
     assert_eq!(rt;
         folder.calls().checked_sub(folder.steps().len() as u64),
         Some(READS)

@@ -4,6 +4,7 @@ use crate::store_tests::rows::{
     CURRENT, DEFAULTS, DESCENTS, Descent, Files, KEPT, LINES, ONE_FILE, PLAIN, ROWS, Row,
     TWO_ENTRIES,
 };
+use answers::{CompactionEnd, compaction_lines};
 use coding::{Fault, FaultName};
 use edit::Version;
 use folder::{Failing, FolderFault, Opened, Shelf, file_numbers, open};
@@ -44,7 +45,14 @@ fn answer_of<R: Threads + Sync>(
     row: &Row,
 ) -> Result<Vec<u8>, Fault> {
     let step = compact_dir(rt, alloc, folder, row.level, &row.settings, MEMORY, &Open)?;
-    Ok(step.lines)
+    step_lines(alloc, &step)
+}
+
+/// The lines of a step.
+pub(crate) fn step_lines(alloc: Global, step: &CompactionStep) -> Result<Vec<u8>, Fault> {
+    let end = CompactionEnd::Installed(step.manifest);
+    let lines = compaction_lines(alloc, &step.outputs, &step.deleted, end)?;
+    Ok(lines.into_bytes())
 }
 
 /// Whether an answer is this text, or this refusal.
@@ -107,7 +115,7 @@ fn is_known_after<R: Threads + Sync + Abort>(rt: &R, alloc: Global, row: &Row) -
     );
     let after = opened_after(alloc, &opened, &step).expect(rt, "memory");
     let again = open(alloc, &mut folder).expect(rt, "an open folder");
-    is_answer(&Ok(step.lines), row.answer)
+    is_answer(&step_lines(alloc, &step), row.answer)
         && holds(&folder, row.left)
         && are_same(rt, alloc, &after, &again)
 }
@@ -122,6 +130,7 @@ fn inputs_that_are_compacted_alone(rt: HostRuntime) {
 /// Who collects the lines of compactions, and stops after some.
 #[derive(Drop)]
 struct Collected {
+    alloc: Global,
     lines: Vec<u8>,
     left: u64,
 }
@@ -141,7 +150,9 @@ impl InstallWatch for Collected {
         _before: &Version,
         _after: Option<&Version>,
     ) -> bool {
-        let _ = self.lines.extend_from_slice(&step.lines);
+        if let Ok(lines) = step_lines(self.alloc, step) {
+            let _ = self.lines.extend_from_slice(&lines);
+        }
         self.left = self.left.saturating_sub(1);
         self.left > 0
     }
@@ -165,6 +176,7 @@ fn is_descent<R: Threads + Sync>(rt: &R, alloc: Global, row: &Descent) -> bool {
     let count = row.files.min(files.len());
     let mut folder = Shelf::new(alloc, &files[..count]);
     let mut told = Collected {
+        alloc,
         lines: Vec::new(alloc),
         left: row.most,
     };

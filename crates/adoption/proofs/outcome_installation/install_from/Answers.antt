@@ -1,6 +1,6 @@
 use Rattle.std.proofs.Common.{ℕ, List, Ok, Err, refl, inl, inr}
-use Rattle.std.specs.Global.{Vec}
 use Rattle.folder.specs.ReadsAs.{IsFileIn}
+use Rattle.store.specs.Step.{step_in}
 use Rattle.adoption.specs.Adoption.{Adoption, IsGiven, IsGivenInstalled}
 use Rattle.adoption.specs.AdoptionIn.{given_in}
 use Rattle.adoption.proofs.AdoptionSteps.{both_behind, both_refused, given_held, tells_itself}
@@ -11,7 +11,7 @@ returns-in-Ok-clause-answer g c files source told told_source current =
     let cmp = g.C.Comparator.cmp in
     let v = c.args.opened.now.version in
     let given = given_in c.in-Ok.given in
-    both_behind (λ v. v.items) g.F.Folder g.G.Folder c.args.folder c.install_given.result.folder c.args.source.now c.given_outcome.new.source c.install_given.result.answer (IsGiven cmp (IsFileIn source) v)
+    both_behind step_in g.F.Folder g.G.Folder c.args.folder c.install_given.result.folder c.args.source.now c.given_outcome.new.source c.install_given.result.answer (IsGiven cmp (IsFileIn source) v)
     (λ (given : Adoption × List (ℕ × List ℕ)). IsGivenInstalled cmp files v given c.args.comparison) given (given_held cmp v (g.G.Folder.tells c.args.source.now) source (Ok given) told_source c.in-Ok.ensures.answer)
     (c.install_given.ensures.answer files told current)
 
@@ -31,7 +31,7 @@ returns-in-Err-clause-answer g c files source told told_source current =
     let v = c.args.opened.now.version in
     let tells = g.G.Folder.tells c.args.source.now in
     let e = c.in-Err.fault in
-    both_refused {X = Vec ℕ} (λ v. v.items) g.F.Folder g.G.Folder c.args.folder c.args.folder c.args.source.now c.given_outcome.new.source e (IsGiven cmp tells v) (IsGiven cmp (IsFileIn source) v)
+    both_refused step_in g.F.Folder g.G.Folder c.args.folder c.args.folder c.args.source.now c.given_outcome.new.source e (IsGiven cmp tells v) (IsGiven cmp (IsFileIn source) v)
     (λ (given : Adoption × List (ℕ × List ℕ)). IsGivenInstalled cmp files v given c.args.comparison) (given_held cmp v tells source (Err e) told_source) c.in-Err.ensures.answer
 
 -- ---- the calls, whatever the folder tells

@@ -1,5 +1,6 @@
 use Rattle.std.proofs.Common.{Err, refl, inl}
 use Rattle.store.proofs.Flow.{answers_behind, told_still}
+use Rattle.store.specs.Step.{step_in}
 use Rattle.adoption.specs.Adoption.{IsEditedInstalled, IsGivenInstalled, IsGivenTested}
 use Rattle.adoption.specs.AdoptionIn.{given_in}
 use Rattle.adoption.proofs.AdoptionCalls.{given_since}
@@ -18,7 +19,7 @@ returns-in-Ok-clause-answer g c files told current =
     let tells = g.F.Folder.tells in
     let given = given_in c.args.given.now in
     let next = λ (passed : Unit {0}). IsEditedInstalled cmp files c.args.opened.now.version given in
-    answers_behind (λ v. v.items) (failed c.args.folder) (failed c.test_outputs.new.folder) (failed c.install_tested.result.folder) c.install_tested.result.answer (IsGivenTested cmp files given c.args.comparison) next next tt
+    answers_behind step_in (failed c.args.folder) (failed c.test_outputs.new.folder) (failed c.install_tested.result.folder) c.install_tested.result.answer (IsGivenTested cmp files given c.args.comparison) next next tt
     c.test_outputs.ensures.device.later c.install_tested.ensures.device.later (c.in-Ok.ensures.answer files told) (λ a h. h)
     (c.install_tested.ensures.answer files (told_still (tells c.args.folder) (tells c.test_outputs.new.folder) files c.test_outputs.ensures.reads.same told) current)
 

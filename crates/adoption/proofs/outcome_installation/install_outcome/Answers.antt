@@ -4,6 +4,7 @@ use Rattle.folder.specs.Orders.{order_cmp}
 use Rattle.folder.specs.ReadsAs.{ReadsAs}
 use Rattle.folder.specs.declared.order.Order.{Order}
 use Rattle.folder.specs.declared.order.Order.TheVariants.{Bytewise, Shortlex}
+use Rattle.store.specs.Step.{step_in}
 use Rattle.adoption.specs.Adoption.{IsInstalledFrom}
 use Rattle.adoption.specs.AdoptionLeft.{IsAdoptionLeft}
 use Rattle.adoption.specs.AdoptionRuns.{IsAdoptionRun}
@@ -13,7 +14,7 @@ use Rattle.adoption.proofs.outcome_installation.install_outcome.Goals as goal
 pub returns-in-Bytewise-clause-answer : goal.returns-in-Bytewise-clause-answer
 returns-in-Bytewise-clause-answer g c files source told told_source current =
     let end = c.install_from.result in
-    subst (λ (order : Order). AnswersFrom (λ v. v.items) g.F.Folder g.G.Folder c.args.folder end.folder c.args.source.now c.install_from.new.source end.answer (IsInstalledFrom (order_cmp order) files source c.args.opened.now.version c.args.comparison))
+    subst (λ (order : Order). AnswersFrom step_in g.F.Folder g.G.Folder c.args.folder end.folder c.args.source.now c.install_from.new.source end.answer (IsInstalledFrom (order_cmp order) files source c.args.opened.now.version c.args.comparison))
     (sym c.in-Bytewise.is) (c.install_from.ensures.answer files source told told_source current)
 
 pub returns-in-Bytewise-clause-left : goal.returns-in-Bytewise-clause-left
@@ -28,7 +29,7 @@ returns-in-Bytewise-clause-left g c files source loaded told told_source current
 pub returns-in-Shortlex-clause-answer : goal.returns-in-Shortlex-clause-answer
 returns-in-Shortlex-clause-answer g c files source told told_source current =
     let end = c.install_from-in-Shortlex.result in
-    subst (λ (order : Order). AnswersFrom (λ v. v.items) g.F.Folder g.G.Folder c.args.folder end.folder c.args.source.now c.install_from-in-Shortlex.new.source end.answer (IsInstalledFrom (order_cmp order) files source c.args.opened.now.version c.args.comparison))
+    subst (λ (order : Order). AnswersFrom step_in g.F.Folder g.G.Folder c.args.folder end.folder c.args.source.now c.install_from-in-Shortlex.new.source end.answer (IsInstalledFrom (order_cmp order) files source c.args.opened.now.version c.args.comparison))
     (sym c.in-Shortlex.is) (c.install_from-in-Shortlex.ensures.answer files source told told_source current)
 
 pub returns-in-Shortlex-clause-left : goal.returns-in-Shortlex-clause-left

@@ -5,9 +5,9 @@ use Rattle.install.specs.Install.{IsEditedBy}
 use Rattle.checks.specs.TestedTables.{IsTested}
 use Rattle.checks.specs.declared.version_totals.VersionTotals.{VersionTotals}
 use Rattle.store.specs.FolderRequest.{manifest_of}
-use Rattle.store.specs.Lines.{compaction_lines}
+use Rattle.store.specs.Step.{StepView, step_in}
 use Rattle.store.proofs.Flow.{answers_behind, told_still}
-use Rattle.adoption.specs.Adoption.{IsEditedInstalled, with_tables}
+use Rattle.adoption.specs.Adoption.{IsEditedInstalled, adopted_step, with_tables}
 use Rattle.adoption.specs.AdoptionIn.{given_in}
 use Rattle.adoption.proofs.AdoptionCalls.{given_since}
 use Rattle.adoption.proofs.AdoptionSteps.{err_answers, ok_answers, refused_with, tested_since, tested_with}
@@ -23,10 +23,10 @@ returns-in-Ok-clause-answer g c files told current =
     let v = c.args.opened.now.version in
     let end = c.test_edited-end.result in
     let first = IsTested (IsFileIn (with_tables given.1 files)) cmp given.0.next in
-    let next = λ (tested : VersionTotals) (answer : Result (List ℕ) Fault). answer ≡ Ok (compaction_lines given.1 given.0.picked.files (manifest_of v)) in
+    let next = λ (tested : VersionTotals) (answer : Result StepView Fault). answer ≡ Ok (adopted_step v given) in
     let passed = ok_answers (λ tested. tested) (failed c.args.folder) (failed end.folder) end.answer c.in-Ok.field-0 first c.in-Ok.is (tested_with (failed c.args.folder) (failed end.folder) end.answer c.as_slice-tables.result.now c.args.given.now.outcome.tables.items cmp given.0.next files c.as_slice-tables.ensures.value (c.test_edited-end.ensures.answer files told)) in
-    answers_behind (λ v. v.items) (failed c.args.folder) (failed end.folder) (failed c.install_lines-answer.new.folder) c.install_lines-answer.result first next next c.in-Ok.field-0 c.test_edited-end.ensures.device.later c.install_lines-answer.ensures.device.later
-    passed (λ a h. h) (c.install_lines-answer.ensures.answer files (told_still (tells c.args.folder) (tells end.folder) files c.test_edited-end.ensures.reads.same told) current)
+    answers_behind step_in (failed c.args.folder) (failed end.folder) (failed c.install_adopted-answer.new.folder) c.install_adopted-answer.result first next next c.in-Ok.field-0 c.test_edited-end.ensures.device.later c.install_adopted-answer.ensures.device.later
+    passed (λ a h. h) (c.install_adopted-answer.ensures.answer files (told_still (tells c.args.folder) (tells end.folder) files c.test_edited-end.ensures.reads.same told) current)
 
 pub returns-in-Ok-clause-left : goal.returns-in-Ok-clause-left
 returns-in-Ok-clause-left g c files order loaded told current named reads =
@@ -37,18 +37,18 @@ returns-in-Ok-clause-left g c files order loaded told current named reads =
     let given = given_in c.args.given.now in
     let v = c.args.opened.now.version in
     let end = c.test_edited-end.result in
-    let now = c.install_lines-answer.new.folder in
+    let now = c.install_adopted-answer.new.folder in
     let still = told_still (tells c.args.folder) (tells end.folder) files c.test_edited-end.ensures.reads.same told in
     let passed = ok_answers (λ tested. tested) (failed c.args.folder) (failed end.folder) end.answer c.in-Ok.field-0 (IsTested (IsFileIn (with_tables given.1 files)) cmp given.0.next) c.in-Ok.is (tested_with (failed c.args.folder) (failed end.folder) end.answer c.as_slice-tables.result.now c.args.given.now.outcome.tables.items cmp given.0.next files c.as_slice-tables.ensures.value (c.test_edited-end.ensures.answer files told)) in
     let version = adopted_version order cmp v given.0 given.1 c.requires.adopted files loaded reads.loaded c.in-Ok.field-0 passed in
     let by = subst (λ (name : List ℕ). IsEditedBy name cmp order v (manifest_of v) given.1 given.0.edit given.0.next) named version.edited in
-    tested_since order cmp v loaded given (calls c.args.folder) (calls end.folder) (calls now) (tells c.args.folder) (tells end.folder) (tells now) c.install_lines-answer.result c.test_edited-end.ensures.reads.calls c.test_edited-end.ensures.reads.same version
-    (c.install_lines-answer.ensures.left files order loaded still current by)
+    tested_since order cmp v loaded given (calls c.args.folder) (calls end.folder) (calls now) (tells c.args.folder) (tells end.folder) (tells now) c.install_adopted-answer.result c.test_edited-end.ensures.reads.calls c.test_edited-end.ensures.reads.same version
+    (c.install_adopted-answer.ensures.left files order loaded still current by)
 
 pub returns-in-Ok-clause-other : goal.returns-in-Ok-clause-other
 returns-in-Ok-clause-other g c files told other =
     let tells = g.F.Folder.tells in
-    c.install_lines-answer.ensures.other files (told_still (tells c.args.folder) (tells c.test_edited-end.result.folder) files c.test_edited-end.ensures.reads.same told) other
+    c.install_adopted-answer.ensures.other files (told_still (tells c.args.folder) (tells c.test_edited-end.result.folder) files c.test_edited-end.ensures.reads.same told) other
 
 pub returns-in-Err-clause-answer : goal.returns-in-Err-clause-answer
 returns-in-Err-clause-answer g c files told current =
@@ -68,9 +68,9 @@ returns-in-Ok-clause-runs g c =
     let calls = g.F.Folder.calls in
     let tells = g.F.Folder.tells in
     let end = c.test_edited-end.result in
-    let now = c.install_lines-answer.new.folder in
-    given_since g.C.Comparator.name_bytes g.C.Comparator.cmp c.args.opened.now.version (given_in c.args.given.now) (calls c.args.folder) (calls end.folder) (calls now) (tells c.args.folder) (tells end.folder) (tells now) c.install_lines-answer.result
-    c.test_edited-end.ensures.reads.calls c.test_edited-end.ensures.reads.same c.install_lines-answer.ensures.runs
+    let now = c.install_adopted-answer.new.folder in
+    given_since g.C.Comparator.name_bytes g.C.Comparator.cmp c.args.opened.now.version (given_in c.args.given.now) (calls c.args.folder) (calls end.folder) (calls now) (tells c.args.folder) (tells end.folder) (tells now) c.install_adopted-answer.result
+    c.test_edited-end.ensures.reads.calls c.test_edited-end.ensures.reads.same c.install_adopted-answer.ensures.runs
 
 pub returns-in-Err-clause-runs : goal.returns-in-Err-clause-runs
 returns-in-Err-clause-runs g c =

@@ -2,7 +2,7 @@ use Rattle.std.proofs.Common.{Ok, subst, sym}
 use Rattle.serde_json.specs.View.{items_view, view}
 use Rattle.coding.specs.Answers.{EqualOrMemory}
 use Rattle.answers.specs.CompactionObject.{ended_object}
-use Rattle.answers.specs.declared.json_compaction.CompactionEnd.{CompactionEnd}
+use Rattle.answers.specs.declared.compaction_end.CompactionEnd.{CompactionEnd}
 use Rattle.answers.proofs.json_compaction.ended_json.Goals as goal
 
 pub returns-in-Installed : goal.returns-in-Installed

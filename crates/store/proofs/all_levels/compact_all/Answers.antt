@@ -87,20 +87,20 @@ returns-then-branch-clause-device g c = let q : Result DescentEnd Fault = Ok AtB
 -- ---- the calls, whatever the folder tells
 
 pub returns-in_err-is_at_bottom-clause-runs : goal.returns-in_err-is_at_bottom-clause-runs
-returns-in_err-is_at_bottom-clause-runs g c = inl (record { calls = refl; refused = no_value c.from_residual.result _ c.from_residual.ensures.1 })
+returns-in_err-is_at_bottom-clause-runs g c = inl (record { calls = refl; untold = refl; refused = no_value c.from_residual.result _ c.from_residual.ensures.1 })
 
 pub returns-then-branch-clause-runs : goal.returns-then-branch-clause-runs
 returns-then-branch-clause-runs g c =
     let o = c.args.opened in
     let none = c.in_ok-is_at_bottom.ensures.none c.if-branch.true in
-    all_at_bottom o.order c.args.settings.now o.version (g.F.Folder.calls c.args.folder.now) none.0 none.1 none.2
+    all_at_bottom g.T.InstallWatch.tells o.order c.args.settings.now o.version (g.F.Folder.calls c.args.folder.now) c.args.told.now none.0 none.1 none.2
 
 pub returns-in_err-test_opened-clause-runs : goal.returns-in_err-test_opened-clause-runs
 returns-in_err-test_opened-clause-runs g c =
-    inl (record { calls = c.test_opened.ensures.reads.calls; refused = no_value c.from_residual-in_err-test_opened.result _ c.from_residual-in_err-test_opened.ensures.1 })
+    inl (record { calls = c.test_opened.ensures.reads.calls; untold = refl; refused = no_value c.from_residual-in_err-test_opened.result _ c.from_residual-in_err-test_opened.ensures.1 })
 
 pub returns-clause-runs : goal.returns-clause-runs
 returns-clause-runs g c =
     let o = c.args.opened in
     let calls = g.F.Folder.calls in
-    all_since o.order c.args.settings.now o.version (calls c.args.folder.now) (calls c.test_opened.new.folder) (calls c.compact_levels.new.folder) c.compact_levels.result c.test_opened.ensures.reads.calls c.compact_levels.ensures.runs
+    all_since g.T.InstallWatch.tells o.order c.args.settings.now o.version (calls c.args.folder.now) (calls c.test_opened.new.folder) (calls c.compact_levels.new.folder) c.args.told.now c.compact_levels.new.told c.compact_levels.result c.test_opened.ensures.reads.calls c.compact_levels.ensures.runs

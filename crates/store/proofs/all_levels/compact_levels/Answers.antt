@@ -1,4 +1,4 @@
-use Rattle.std.proofs.Common.{◌≡◌, ◌⊎◌, ℕ, Option, None, Result, Ok, Err, refl, sym, ap, subst, ◌∙◌, inl, inr, arith}
+use Rattle.std.proofs.Common.{◌≡◌, ◌⊎◌, ℕ, true, Option, None, Result, Ok, Err, refl, sym, ap, subst, ◌∙◌, inl, inr, arith}
 use Rattle.coding.specs.Answers.{UnlessMemory}
 use Rattle.coding.specs.declared.fault.Fault.{Fault}
 use Rattle.folder.proofs.CountLemmas.{steady}
@@ -34,7 +34,7 @@ pub loop-step-init : goal.loop-step-init
 loop-step-init g c = record {
   is_bottom = c.in_ok-bottom.ensures.bottom;
   failures = refl;
-  runs = none_so_far c.args.opened.order c.args.settings.now c.in_ok-bottom.bottom c.args.opened.version (g.F.Folder.calls c.args.folder.now);
+  runs = none_so_far g.T.InstallWatch.tells c.args.opened.order c.args.settings.now c.in_ok-bottom.bottom c.args.opened.version (g.F.Folder.calls c.args.folder.now) c.args.told.now;
   so_far = λ files loaded tables told current reads sound.
       let o = c.args.opened in (
         none_yet o.order (order_cmp o.order) (order_short_keys o.order) c.args.settings.now o.version loaded tables sound (g.F.Folder.calls c.args.folder.now) g.T.InstallWatch.tells c.args.told.now
@@ -62,9 +62,9 @@ returns-in_err-level-clause-left g c files loaded tables told current reads soun
     let cmp = order_cmp o.order in
     let keys = order_short_keys o.order in
     let why : Fault → Type 0 = λ x. IsStopped (failed c.args.folder.now) (failed l.folder) x ⊎ IsNextRefused cmp keys s c.in_ok-bottom.bottom (version_at_end o.version sf.links) (last_tables loaded sf.links) x in
-    inr (ended o.order cmp keys s o.version loaded tables sound (calls c.args.folder.now) g.T.InstallWatch.tells c.args.told.now (calls l.folder) (tells l.folder) l.told l.opened.manifest l.opened.version c.in_ok-bottom.bottom l._step sf
+    inr (ended o.order cmp keys s o.version loaded tables sound (calls c.args.folder.now) g.T.InstallWatch.tells c.args.told.now (calls l.folder) (tells l.folder) l.told l.opened.manifest l.opened.version c.in_ok-bottom.bottom l._step true sf
     l.invariant.is_bottom (calls l.folder) (tells l.folder) (failed c.args.folder.now) (failed l.folder) l.told q refl (same_tells (tells l.folder)) refl
-    (refused_ok q e (IsEndOf (version_at_end o.version sf.links) c.in_ok-bottom.bottom) h) (refused_err q e (λ x. UnlessMemory x (why x)) h (by_memory e why c.in_err-level.ensures.memory)))
+    (refused_ok q e (IsEndOf (version_at_end o.version sf.links) c.in_ok-bottom.bottom true) h) (refused_err q e (λ x. UnlessMemory x (why x)) h (by_memory e why c.in_err-level.ensures.memory)))
 
 pub returns-in_err-level-clause-device : goal.returns-in_err-level-clause-device
 returns-in_err-level-clause-device g c =
@@ -85,7 +85,7 @@ returns-in_default-clause-left g c files loaded tables told current reads sound 
     let keys = order_short_keys o.order in
     let none = subst (λ (n : Option ℕ). IsNextLevel l.opened.version c.in_ok-bottom.bottom n) c.in_default.is c.in_ok-level.ensures.next in
     let end : IsNextLevel (version_at_end o.version sf.links) c.in_ok-bottom.bottom None = subst (λ (w : State). IsNextLevel w c.in_ok-bottom.bottom None) sf.version_is none in
-    inr (ended o.order cmp keys s o.version loaded tables sound (calls c.args.folder.now) g.T.InstallWatch.tells c.args.told.now (calls l.folder) (tells l.folder) l.told l.opened.manifest l.opened.version c.in_ok-bottom.bottom l._step sf
+    inr (ended o.order cmp keys s o.version loaded tables sound (calls c.args.folder.now) g.T.InstallWatch.tells c.args.told.now (calls l.folder) (tells l.folder) l.told l.opened.manifest l.opened.version c.in_ok-bottom.bottom l._step true sf
     l.invariant.is_bottom (calls l.folder) (tells l.folder) (failed c.args.folder.now) (failed l.folder) l.told (Ok AtBottom) refl (same_tells (tells l.folder)) refl end tt)
 
 pub returns-in_err-next-clause-left : goal.returns-in_err-next-clause-left
@@ -146,9 +146,9 @@ loop-step-preserved g c =
     record {
       is_bottom = l.invariant.is_bottom;
       failures = steady (failed c.args.folder.now) (failed l.folder) (failed c.take_step.new.folder) c.in_ok-next.field-0 c.take_step.result c.in_ok-next.was l.invariant.failures c.take_step.ensures.device.later c.take_step.ensures.device.at_once;
-      runs = run_more o.order s c.in_ok-bottom.bottom o.version (calls c.args.folder.now) (calls l.folder) l.opened.version l.opened.order l.invariant.runs
-          c.in-Some.level (subst (λ (n : Option ℕ). IsNextLevel l.opened.version c.in_ok-bottom.bottom n) c.in-Some.is c.in_ok-level.ensures.next) (calls c.take_step.new.folder) c.in-Some-2.next
-          (subst (λ (x : Option Opened). MakesNoCalls (calls l.folder) (calls c.take_step.new.folder) (taken x) ⊎ IsNextBegun l.opened.order l.opened.version c.in-Some.level s (calls l.folder) (calls c.take_step.new.folder) (taken x)) c.in-Some-2.is c.in_ok-next.ensures.runs);
+      runs = run_more g.T.InstallWatch.tells o.order s c.in_ok-bottom.bottom o.version (calls c.args.folder.now) (calls l.folder) c.args.told.now l.told l.opened.version l.opened.order l.invariant.runs
+          c.in-Some.level (subst (λ (n : Option ℕ). IsNextLevel l.opened.version c.in_ok-bottom.bottom n) c.in-Some.is c.in_ok-level.ensures.next) (calls c.take_step.new.folder) c.take_step.new.told c.in-Some-2.next
+          (subst (λ (x : Option Opened). MakesNoCalls (calls l.folder) (calls c.take_step.new.folder) l.told c.take_step.new.told (taken x) ⊎ IsNextBegun g.T.InstallWatch.tells l.opened.order l.opened.version c.in-Some.level s (calls l.folder) (calls c.take_step.new.folder) l.told c.take_step.new.told (taken x)) c.in-Some-2.is c.in_ok-next.ensures.runs);
       so_far = λ files loaded tables told current reads sound.
           let all = l.invariant.so_far files loaded tables told current reads sound in
           more_taken o.order s o.version loaded tables sound (calls c.args.folder.now) g.T.InstallWatch.tells c.args.told.now (calls l.folder) (tells l.folder) l.told l.opened.manifest l.opened.version c.in_ok-bottom.bottom l._step all.0
@@ -160,12 +160,12 @@ pub returns-clause-left : goal.returns-clause-left
 returns-clause-left g c files loaded tables told current reads sound =
     let o = c.args.opened in
     let sf = (c.loop-step.invariant.so_far files loaded tables told current reads sound).0 in
-    absurd (too_many o.order (order_cmp o.order) (order_short_keys o.order) c.args.settings.now o.version loaded tables sound (g.F.Folder.calls c.args.folder.now) g.T.InstallWatch.tells c.args.told.now (g.F.Folder.calls c.loop-step.folder) (g.F.Folder.tells c.loop-step.folder) c.loop-step.told c.loop-step.opened.manifest c.loop-step.opened.version c.in_ok-bottom.bottom c.loop-step._step sf (omega arith))
+    absurd (too_many o.order (order_cmp o.order) (order_short_keys o.order) c.args.settings.now o.version loaded tables sound (g.F.Folder.calls c.args.folder.now) g.T.InstallWatch.tells c.args.told.now (g.F.Folder.calls c.loop-step.folder) (g.F.Folder.tells c.loop-step.folder) c.loop-step.told c.loop-step.opened.manifest c.loop-step.opened.version c.in_ok-bottom.bottom c.loop-step._step true sf (omega arith))
 
 -- ---- the calls, whatever the folder tells
 
 pub returns-in_err-bottom-clause-runs : goal.returns-in_err-bottom-clause-runs
-returns-in_err-bottom-clause-runs g c = inl (record { calls = refl; refused = no_value c.from_residual.result _ c.from_residual.ensures.1 })
+returns-in_err-bottom-clause-runs g c = inl (record { calls = refl; untold = refl; refused = no_value c.from_residual.result _ c.from_residual.ensures.1 })
 
 pub returns-in_err-level-clause-runs : goal.returns-in_err-level-clause-runs
 returns-in_err-level-clause-runs g c =
@@ -173,7 +173,7 @@ returns-in_err-level-clause-runs g c =
     let calls = g.F.Folder.calls in
     let l = c.loop-step in
     let q = c.from_residual-in_err-level.result in
-    run_ended o.order c.args.settings.now c.in_ok-bottom.bottom o.version (calls c.args.folder.now) (calls l.folder) l.opened.version l.opened.order l.invariant.runs
+    run_ended g.T.InstallWatch.tells o.order c.args.settings.now c.in_ok-bottom.bottom o.version (calls c.args.folder.now) (calls l.folder) c.args.told.now l.told l.opened.version l.opened.order l.invariant.runs
     q l.invariant.is_bottom (refused_ok q c.in_err-level.field-0.0 (λ e. (e ≡ AtBottom) × IsNextLevel l.opened.version c.in_ok-bottom.bottom None) c.from_residual-in_err-level.ensures.1)
 
 pub returns-in_default-clause-runs : goal.returns-in_default-clause-runs
@@ -181,7 +181,7 @@ returns-in_default-clause-runs g c =
     let o = c.args.opened in
     let calls = g.F.Folder.calls in
     let l = c.loop-step in
-    run_ended o.order c.args.settings.now c.in_ok-bottom.bottom o.version (calls c.args.folder.now) (calls l.folder) l.opened.version l.opened.order l.invariant.runs
+    run_ended g.T.InstallWatch.tells o.order c.args.settings.now c.in_ok-bottom.bottom o.version (calls c.args.folder.now) (calls l.folder) c.args.told.now l.told l.opened.version l.opened.order l.invariant.runs
     (Ok AtBottom) l.invariant.is_bottom (refl, subst (λ (n : Option ℕ). IsNextLevel l.opened.version c.in_ok-bottom.bottom n) c.in_default.is c.in_ok-level.ensures.next)
 
 pub returns-in_err-next-clause-runs : goal.returns-in_err-next-clause-runs
@@ -191,9 +191,9 @@ returns-in_err-next-clause-runs g c =
     let s = c.args.settings.now in
     let l = c.loop-step in
     let p = err_from_is_err_and c.from_residual-in_err-next.result c.from_residual-in_err-next.ensures.1 in
-    subst (λ (r : Result DescentEnd Fault). IsAllLevelsRun o.order s o.version (calls c.args.folder.now) (calls c.take_step.new.folder) r) (sym (p.1 ∙ ap (λ (f : Fault). Err f) p.2))
-    (run_refused o.order s c.in_ok-bottom.bottom o.version (calls c.args.folder.now) (calls l.folder) l.opened.version l.opened.order l.invariant.runs
-    c.in-Some.level (subst (λ (n : Option ℕ). IsNextLevel l.opened.version c.in_ok-bottom.bottom n) c.in-Some.is c.in_ok-level.ensures.next) (calls c.take_step.new.folder)
+    subst (λ (r : Result DescentEnd Fault). IsAllLevelsRun g.T.InstallWatch.tells o.order s o.version (calls c.args.folder.now) (calls c.take_step.new.folder) c.args.told.now c.take_step.new.told r) (sym (p.1 ∙ ap (λ (f : Fault). Err f) p.2))
+    (run_refused g.T.InstallWatch.tells o.order s c.in_ok-bottom.bottom o.version (calls c.args.folder.now) (calls l.folder) c.args.told.now l.told l.opened.version l.opened.order l.invariant.runs
+    c.in-Some.level (subst (λ (n : Option ℕ). IsNextLevel l.opened.version c.in_ok-bottom.bottom n) c.in-Some.is c.in_ok-level.ensures.next) (calls c.take_step.new.folder) c.take_step.new.told
     c.in_err-next.field-0.0 l.invariant.is_bottom c.in_err-next.ensures.runs)
 
 pub returns-in_default-2-clause-runs : goal.returns-in_default-2-clause-runs
@@ -202,14 +202,14 @@ returns-in_default-2-clause-runs g c =
     let calls = g.F.Folder.calls in
     let s = c.args.settings.now in
     let l = c.loop-step in
-    run_stopped o.order s c.in_ok-bottom.bottom o.version (calls c.args.folder.now) (calls l.folder) l.opened.version l.opened.order l.invariant.runs
-    c.in-Some.level (subst (λ (n : Option ℕ). IsNextLevel l.opened.version c.in_ok-bottom.bottom n) c.in-Some.is c.in_ok-level.ensures.next) (calls c.take_step.new.folder)
-    c.in_ok-next.field-0 l.invariant.is_bottom c.in_ok-next.ensures.runs
+    run_stopped g.T.InstallWatch.tells o.order s c.in_ok-bottom.bottom o.version (calls c.args.folder.now) (calls l.folder) c.args.told.now l.told l.opened.version l.opened.order l.invariant.runs
+    c.in-Some.level (subst (λ (n : Option ℕ). IsNextLevel l.opened.version c.in_ok-bottom.bottom n) c.in-Some.is c.in_ok-level.ensures.next) (calls c.take_step.new.folder) c.take_step.new.told
+    c.in_ok-next.field-0 c.in_default-2.is l.invariant.is_bottom c.in_ok-next.ensures.runs
 
 pub returns-clause-runs : goal.returns-clause-runs
 returns-clause-runs g c =
     let o = c.args.opened in
     let calls = g.F.Folder.calls in
     let l = c.loop-step in
-    run_ended o.order c.args.settings.now c.in_ok-bottom.bottom o.version (calls c.args.folder.now) (calls l.folder) l.opened.version l.opened.order l.invariant.runs
+    run_ended g.T.InstallWatch.tells o.order c.args.settings.now c.in_ok-bottom.bottom o.version (calls c.args.folder.now) (calls l.folder) c.args.told.now l.told l.opened.version l.opened.order l.invariant.runs
     (Err c.of.result) l.invariant.is_bottom tt

@@ -53,7 +53,9 @@ returns-clause-left g c files loaded tables told current reads sound =
     inr (record {
       step = step;
       installed = i;
-      lines = c.tell_step.ensures.told;
+      goes = c.tell_step.ensures.told.0;
+      told_step = c.tell_step.ensures.told.1;
+      went = c.tell_step.ensures.told.2;
       opened = opened_next o.order cmp keys o.version loaded c.args.level s before after old new step i c.tell_step.result c.tell_step.ensures.after;
       memory = memory_only o.order cmp keys o.version loaded c.args.level s before after old new step i c.tell_step.result c.tell_step.ensures.refused;
     })
@@ -71,7 +73,7 @@ returns-in_err-step-clause-runs g c =
     let o = c.args.opened.now in
     let calls = g.F.Folder.calls in
     let tells = g.F.Folder.tells in
-    begun_refused o.order o.version c.args.level c.args.settings.now (calls c.args.folder.now) (calls c.compact_inputs.new.folder) (tells c.args.folder.now) (tells c.compact_inputs.new.folder)
+    begun_refused g.T.InstallWatch.tells o.order o.version c.args.level c.args.settings.now (calls c.args.folder.now) (calls c.compact_inputs.new.folder) (tells c.args.folder.now) (tells c.compact_inputs.new.folder) c.args.told.now
     c.compact_inputs.result c.from_residual.result c.in_err-step.field-0.0 c.from_residual.ensures.1 c.compact_inputs.ensures.runs
 
 pub returns-clause-runs : goal.returns-clause-runs
@@ -79,5 +81,5 @@ returns-clause-runs g c =
     let o = c.args.opened.now in
     let calls = g.F.Folder.calls in
     let tells = g.F.Folder.tells in
-    begun_told o.order o.version c.args.level c.args.settings.now (calls c.args.folder.now) (calls c.compact_inputs.new.folder) (tells c.args.folder.now) (tells c.compact_inputs.new.folder)
-    c.compact_inputs.result c.in_ok-step.step c.tell_step.result c.in_ok-step.was c.tell_step.ensures.after c.compact_inputs.ensures.runs
+    begun_told g.T.InstallWatch.tells o.order o.version c.args.level c.args.settings.now (calls c.args.folder.now) (calls c.compact_inputs.new.folder) (tells c.args.folder.now) (tells c.compact_inputs.new.folder) c.args.told.now c.tell_step.new.told c.in_ok-step.step c.tell_step.result
+    c.compact_inputs.result c.in_ok-step.was c.tell_step.ensures.told.0 c.tell_step.ensures.told.1 c.tell_step.ensures.told.2 c.tell_step.ensures.after c.compact_inputs.ensures.runs

@@ -9,7 +9,7 @@ use Rattle.folder.specs.Orders.{order_cmp, order_short_keys}
 use Rattle.folder.specs.ReadsAs.{IsFileIn}
 use Rattle.folder.specs.declared.order.Order.{Order}
 use Rattle.store.specs.Answers.{IsFolderCompacted, IsVersionCompacted}
-use Rattle.store.specs.declared.compaction_step.CompactionStep.{CompactionStep}
+use Rattle.store.specs.Step.{step_in}
 use Rattle.store.proofs.Flow.{answers_behind, first_refused, no_value, opened_in, stopped_on, told_still}
 use Rattle.store.proofs.InstallPart.{sync_refused, synced_left}
 use Rattle.store.proofs.RunPart.{sync_stopped, synced_run}
@@ -21,7 +21,7 @@ returns-in_err-opened-clause-answer g c files told =
     let failed = g.F.Folder.failed in
     let e = c.in_err-opened.field-0.0 in
     let next = λ (opened : Order × State). IsVersionCompacted (order_cmp opened.0) (order_short_keys opened.0) files opened.1 c.args.level c.args.settings.now in
-    hands_on (λ (step : CompactionStep). step.lines.items) (failed c.args.folder.now) (failed c.args.folder.now) (failed c.open.new.folder) c.from_residual.result e (IsOpened (tells c.args.folder.now)) (IsFolderCompacted files c.args.level c.args.settings.now)
+    hands_on step_in (failed c.args.folder.now) (failed c.args.folder.now) (failed c.open.new.folder) c.from_residual.result e (IsOpened (tells c.args.folder.now)) (IsFolderCompacted files c.args.level c.args.settings.now)
     c.from_residual.ensures.1 (omega arith) c.open.ensures.device.later c.in_err-opened.ensures.answer
     (λ h. first_refused (IsOpened (IsFileIn files)) next e (opened_in (tells c.args.folder.now) files (Err e) told h))
 
@@ -39,7 +39,7 @@ returns-in_err-opened-clause-device g c = reports_handed c.from_residual.result 
 pub returns-in_err-sync_version-clause-answer : goal.returns-in_err-sync_version-clause-answer
 returns-in_err-sync_version-clause-answer g c files told =
     let failed = g.F.Folder.failed in
-    stopped_on (λ (step : CompactionStep). step.lines.items) (failed c.args.folder.now) (failed c.open.new.folder) (failed c.sync_version.new.folder) c.from_residual-in_err-sync_version.result c.in_err-sync_version.field-0.0
+    stopped_on step_in (failed c.args.folder.now) (failed c.open.new.folder) (failed c.sync_version.new.folder) c.from_residual-in_err-sync_version.result c.in_err-sync_version.field-0.0
     (IsFolderCompacted files c.args.level c.args.settings.now)
     c.from_residual-in_err-sync_version.ensures.1 c.open.ensures.device.later c.sync_version.ensures.device.later c.in_err-sync_version.ensures.refused
 
@@ -78,7 +78,7 @@ returns-clause-answer g c files told =
     let next = λ (opened : Order × State). IsVersionCompacted (order_cmp opened.0) (order_short_keys opened.0) files opened.1 c.args.level c.args.settings.now in
     let named = (told (codes "CURRENT") (Some (current_text o.manifest))).0 c.in_ok-opened.ensures.named in
     let synced = c.sync_version.ensures.same files (told_still (tells c.args.folder.now) (tells c.open.new.folder) files c.open.ensures.reads.same told) in
-    answers_behind (λ (step : CompactionStep). step.lines.items) (failed c.args.folder.now) (failed c.sync_version.new.folder) (failed c.compact_opened.new.folder) c.compact_opened.result (IsOpened (IsFileIn files)) next next opened
+    answers_behind step_in (failed c.args.folder.now) (failed c.sync_version.new.folder) (failed c.compact_opened.new.folder) c.compact_opened.result (IsOpened (IsFileIn files)) next next opened
     (later_still (failed c.args.folder.now) (failed c.open.new.folder) (failed c.sync_version.new.folder) c.open.ensures.device.later c.sync_version.ensures.device.later) c.compact_opened.ensures.device.later
     (opened_in (tells c.args.folder.now) files (Ok opened) told c.in_ok-opened.ensures.answer) (λ a h. h)
     (c.compact_opened.ensures.answer files synced named)

@@ -1,15 +1,17 @@
-use Rattle.std.proofs.Common.{arith, inl}
+use Rattle.std.proofs.Common.{◌≡◌, None, Result, Ok, arith, inl}
+use Rattle.coding.specs.declared.fault.Fault.{Fault}
 use Rattle.checks.specs.TestedTables.{IsTested}
-use Rattle.folder.proofs.OpeningLemmas.{hands_on}
+use Rattle.folder.proofs.OpeningLemmas.{answers_since, hands_on}
 use Rattle.folder.proofs.ReportLemmas.{reports_handed, reports_then}
 use Rattle.folder.specs.Levels.{file_numbers}
 use Rattle.folder.specs.LoadedTables.{IsLoaded}
 use Rattle.folder.specs.ReadsAs.{IsFileIn, ReadsAs}
-use Rattle.store.specs.Answers.{IsLoadedCompacted, IsVersionCompacted}
+use Rattle.store.specs.Answers.{IsLoadedAnswer, IsVersionAnswer, IsVersionCompacted}
 use Rattle.store.specs.InputsCompaction.{IsInputsCompacted}
 use Rattle.store.specs.Runs.{IsAnswerForLevel}
-use Rattle.store.specs.declared.compaction_step.CompactionStep.{CompactionStep}
-use Rattle.store.proofs.Flow.{answers_behind, no_value, told_still, told_themselves}
+use Rattle.store.specs.Step.{StepView, step_in, step_of}
+use Rattle.store.proofs.Answered.{made_as}
+use Rattle.store.proofs.Flow.{first_passed, no_value, told_still, told_themselves}
 use Rattle.store.proofs.RunPart.{run_since}
 use Rattle.store.proofs.StepPart.{has_passed, test_refused, version_left}
 use Rattle.store.proofs.folder_compaction.compact_version.Goals as goal
@@ -21,7 +23,7 @@ returns-in_err-found-clause-answer g c files told current =
     let tells = g.F.Folder.tells c.args.folder.now in
     let failed = g.F.Folder.failed in
     let e = c.in_err-found.field-0.0 in
-    hands_on (λ (step : CompactionStep). step.lines.items) (failed c.args.folder.now) (failed c.args.folder.now) (failed c.test_and_hold.new.folder) c.from_residual.result e (IsTested (IsFileIn files) cmp v)
+    hands_on step_in (failed c.args.folder.now) (failed c.args.folder.now) (failed c.test_and_hold.new.folder) c.from_residual.result e (IsTested (IsFileIn files) cmp v)
     (IsVersionCompacted cmp g.C.Comparator.short_keys files v c.args.level c.args.settings.now)
     c.from_residual.ensures.1 (omega arith) c.test_and_hold.ensures.device.later (c.in_err-found.ensures.answer files told)
     (λ h. test_refused cmp g.C.Comparator.short_keys (IsFileIn files) files v c.args.level c.args.settings.now e (told_themselves files) h)
@@ -51,10 +53,13 @@ returns-clause-answer g c files told current =
     let failed = g.F.Folder.failed in
     let passed = has_passed cmp (IsFileIn files) files v _ (told_themselves files) (c.in_ok-found.ensures.answer files told) in
     let still = told_still (tells c.args.folder.now) (tells c.test_and_hold.new.folder) files c.test_and_hold.ensures.reads.same told in
-    answers_behind (λ (step : CompactionStep). step.lines.items) (failed c.args.folder.now) (failed c.test_and_hold.new.folder) (failed c.compact_step.new.folder) c.compact_step.result
-    (IsLoaded (IsFileIn files) (file_numbers cmp v)) (λ loaded. IsLoadedCompacted cmp short_keys v loaded level s) (λ _. IsInputsCompacted cmp short_keys files v level s) passed.loaded
-    c.test_and_hold.ensures.device.later c.compact_step.ensures.device.later passed.held
-    (λ answer h. c.inputs_suffice.ensures files v passed.loaded passed.tables level s answer passed.held passed.sound h)
+    let own = IsLoadedAnswer None cmp short_keys v passed.loaded level s in
+    let all = IsVersionAnswer None cmp short_keys files v level s in
+    answers_since step_in (failed c.args.folder.now) (failed c.test_and_hold.new.folder) (failed c.compact_step.new.folder) c.compact_step.result (IsInputsCompacted cmp short_keys files v level s) (IsVersionCompacted cmp short_keys files v level s)
+    (λ answer h. made_as own all (λ made (step : Result StepView Fault). step ≡ Ok (step_of v made.0 made.1)) answer
+    (λ r given. first_passed (IsLoaded (IsFileIn files) (file_numbers cmp v)) (λ loaded. IsLoadedAnswer None cmp short_keys v loaded level s) passed.loaded r passed.held given)
+    (c.inputs_suffice.ensures files v passed.loaded passed.tables level s answer passed.held passed.sound h))
+    c.test_and_hold.ensures.device.later c.compact_step.ensures.device.later
     (c.compact_step.ensures.answer files still current (c.in_ok-found.ensures.held files told))
 
 pub returns-clause-left : goal.returns-clause-left

@@ -12,13 +12,14 @@ use Rattle.pick.specs.PickedInputs.{PickedInputs}
 use Rattle.reads.specs.Tables.{NumberedContents}
 use Rattle.checks.specs.HeldTables.{AreHeldIn, IsTableIn}
 use Rattle.checks.specs.LawfulTables.{IsLawfulTables}
-use Rattle.store.specs.Outcome.{IsOutcomeOfInputs, LevelCompaction}
+use Rattle.store.specs.Compaction.{LevelCompaction}
+use Rattle.store.specs.Outcome.{IsOutcomeOfInputs, outcome_in}
 use Rattle.store.proofs.folder_outcome.outcome_of_inputs.Goals as goal
 
 pub returns-in-Bytewise-clause-answer : goal.returns-in-Bytewise-clause-answer
 returns-in-Bytewise-clause-answer g c files told =
     let failed = g.F.Folder.failed in
-    subst (λ (order : Order). FolderAnswers (λ o. (answer_in o.outcome, o.lines.items)) (failed c.args.folder.now) (failed c.outcome_untested.new.folder) c.outcome_untested.result
+    subst (λ (order : Order). FolderAnswers outcome_in (failed c.args.folder.now) (failed c.outcome_untested.new.folder) c.outcome_untested.result
     (IsOutcomeOfInputs c.args.first (order_cmp order) (order_short_keys order) files c.args.opened.now.version c.args.level c.args.settings.now))
     (sym c.in-Bytewise.is) (c.outcome_untested.ensures.answer files told (subst (AreHeldIn (order_cmp Bytewise) files) (sym c.none-none.ensures) (All-nil (λ (t : NumberedContents). IsTableIn (order_cmp Bytewise) files t.number t.contents))))
 
@@ -33,7 +34,7 @@ returns-in-Bytewise-clause-compacted g c files loaded tables told held sound =
 pub returns-in-Shortlex-clause-answer : goal.returns-in-Shortlex-clause-answer
 returns-in-Shortlex-clause-answer g c files told =
     let failed = g.F.Folder.failed in
-    subst (λ (order : Order). FolderAnswers (λ o. (answer_in o.outcome, o.lines.items)) (failed c.args.folder.now) (failed c.outcome_untested-in-Shortlex.new.folder) c.outcome_untested-in-Shortlex.result
+    subst (λ (order : Order). FolderAnswers outcome_in (failed c.args.folder.now) (failed c.outcome_untested-in-Shortlex.new.folder) c.outcome_untested-in-Shortlex.result
     (IsOutcomeOfInputs c.args.first (order_cmp order) (order_short_keys order) files c.args.opened.now.version c.args.level c.args.settings.now))
     (sym c.in-Shortlex.is) (c.outcome_untested-in-Shortlex.ensures.answer files told (subst (AreHeldIn (order_cmp Shortlex) files) (sym c.none-none-in-Shortlex.ensures) (All-nil (λ (t : NumberedContents). IsTableIn (order_cmp Shortlex) files t.number t.contents))))
 

@@ -8,13 +8,14 @@ use Rattle.folder.specs.ReadsAs.{IsFileIn}
 use Rattle.folder.specs.declared.order.Order.{Order}
 use Rattle.folder.specs.declared.order.Order.TheVariants.{Bytewise, Shortlex}
 use Rattle.pick.specs.PickedInputs.{PickedInputs}
-use Rattle.store.specs.Outcome.{IsOutcomeOfVersion, LevelCompaction}
+use Rattle.store.specs.Compaction.{LevelCompaction}
+use Rattle.store.specs.Outcome.{IsOutcomeOfVersion, outcome_in}
 use Rattle.store.proofs.folder_outcome.outcome_of_opened.Goals as goal
 
 pub returns-in-Bytewise-clause-answer : goal.returns-in-Bytewise-clause-answer
 returns-in-Bytewise-clause-answer g c files told =
     let failed = g.F.Folder.failed in
-    subst (λ (order : Order). FolderAnswers (λ o. (answer_in o.outcome, o.lines.items)) (failed c.args.folder.now) (failed c.outcome_tested.new.folder) c.outcome_tested.result
+    subst (λ (order : Order). FolderAnswers outcome_in (failed c.args.folder.now) (failed c.outcome_tested.new.folder) c.outcome_tested.result
     (IsOutcomeOfVersion c.args.first (order_cmp order) (order_short_keys order) files c.args.opened.now.version c.args.level c.args.settings.now))
     (sym c.in-Bytewise.is) (c.outcome_tested.ensures.answer files told)
 
@@ -28,7 +29,7 @@ returns-in-Bytewise-clause-compacted g c files told =
 pub returns-in-Shortlex-clause-answer : goal.returns-in-Shortlex-clause-answer
 returns-in-Shortlex-clause-answer g c files told =
     let failed = g.F.Folder.failed in
-    subst (λ (order : Order). FolderAnswers (λ o. (answer_in o.outcome, o.lines.items)) (failed c.args.folder.now) (failed c.outcome_tested-in-Shortlex.new.folder) c.outcome_tested-in-Shortlex.result
+    subst (λ (order : Order). FolderAnswers outcome_in (failed c.args.folder.now) (failed c.outcome_tested-in-Shortlex.new.folder) c.outcome_tested-in-Shortlex.result
     (IsOutcomeOfVersion c.args.first (order_cmp order) (order_short_keys order) files c.args.opened.now.version c.args.level c.args.settings.now))
     (sym c.in-Shortlex.is) (c.outcome_tested-in-Shortlex.ensures.answer files told)
 

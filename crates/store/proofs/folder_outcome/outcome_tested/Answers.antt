@@ -1,20 +1,20 @@
 use Rattle.std.proofs.Common.{◌≡◌, ℕ, List, Result, Ok, arith}
 use Rattle.std.proofs.lemmas.Result.{IfOk-weaker}
-use Rattle.coding.specs.Answers.{IsThen, ◌>>=◌}
 use Rattle.coding.specs.declared.fault.Fault.{Fault}
 use Rattle.compact.specs.AnswerIn.{answer_in}
-use Rattle.folder.proofs.OpeningLemmas.{hands_on}
+use Rattle.folder.proofs.OpeningLemmas.{answers_since, hands_on}
 use Rattle.folder.proofs.ReportLemmas.{reads_then, reports_handed, reports_then}
 use Rattle.folder.specs.Levels.{file_numbers}
 use Rattle.folder.specs.LoadedTables.{IsLoaded}
 use Rattle.folder.specs.ReadsAs.{IsFileIn}
 use Rattle.checks.specs.TestedTables.{IsTested}
-use Rattle.pick.specs.PickedInputs.{IsInputsAnswer, PickedInputs}
-use Rattle.compact.specs.OneThread.{Answer}
-use Rattle.store.specs.FolderRequest.{compaction_from}
-use Rattle.store.specs.Outcome.{IsLoadedOutcome, IsOutcomeOfInputs, IsOutcomeOfVersion, LevelCompaction, outcome_told}
-use Rattle.store.proofs.Flow.{answers_behind, told_still, told_themselves}
-use Rattle.store.proofs.StepPart.{has_passed, test_ends}
+use Rattle.pick.specs.PickedInputs.{PickedInputs}
+use Rattle.store.specs.Answers.{IsLoadedAnswer, IsVersionAnswer}
+use Rattle.store.specs.Compaction.{LevelCompaction}
+use Rattle.store.specs.Outcome.{IsOutcomeOfInputs, IsOutcomeOfVersion, OutcomeView, outcome_in, outcome_of}
+use Rattle.store.proofs.Answered.{made_as}
+use Rattle.store.proofs.Flow.{first_passed, first_refused, told_still, told_themselves}
+use Rattle.store.proofs.StepPart.{has_passed, version_refused}
 use Rattle.store.proofs.folder_outcome.outcome_tested.Goals as goal
 
 pub returns-in_err-found-clause-answer : goal.returns-in_err-found-clause-answer
@@ -25,11 +25,11 @@ returns-in_err-found-clause-answer g c files told =
     let s = c.args.settings.now in
     let failed = g.F.Folder.failed in
     let e = c.in_err-found.field-0.0 in
-    hands_on (λ o. (answer_in o.outcome, o.lines.items)) (failed c.args.folder.now) (failed c.args.folder.now) (failed c.test_and_hold.new.folder) c.from_residual.result e (IsTested (IsFileIn files) cmp v)
+    hands_on outcome_in (failed c.args.folder.now) (failed c.args.folder.now) (failed c.test_and_hold.new.folder) c.from_residual.result e (IsTested (IsFileIn files) cmp v)
     (IsOutcomeOfVersion c.args.first cmp keys files v c.args.level s)
     c.from_residual.ensures.1 (omega arith) c.test_and_hold.ensures.device.later (c.in_err-found.ensures.answer files told)
-    (λ h. test_ends cmp (λ loaded tables. IsThen (IsInputsAnswer cmp v c.args.level) (λ p (a : Result (Answer × List ℕ) Fault). a ≡ (compaction_from c.args.first cmp keys v loaded p s >>= λ x. Ok (outcome_told p x))))
-    (IsFileIn files) files v e (told_themselves files) h)
+    (λ h. first_refused (IsVersionAnswer c.args.first cmp keys files v c.args.level s) (λ made (o : Result OutcomeView Fault). o ≡ Ok (outcome_of made.0 made.1)) e
+    (version_refused c.args.first cmp keys (IsFileIn files) files v c.args.level s e (told_themselves files) h))
 
 pub returns-in_err-found-clause-device : goal.returns-in_err-found-clause-device
 returns-in_err-found-clause-device g c = reports_handed c.from_residual.result c.in_err-found.was c.test_and_hold.ensures.device c.from_residual.ensures.1
@@ -44,10 +44,13 @@ returns-clause-answer g c files told =
     let failed = g.F.Folder.failed in
     let passed = has_passed cmp (IsFileIn files) files v _ (told_themselves files) (c.in_ok-found.ensures.answer files told) in
     let still = told_still (tells c.args.folder.now) (tells c.test_and_hold.new.folder) files c.test_and_hold.ensures.reads.same told in
-    answers_behind (λ o. (answer_in o.outcome, o.lines.items)) (failed c.args.folder.now) (failed c.test_and_hold.new.folder) (failed c.outcome_untested.new.folder) c.outcome_untested.result (IsLoaded (IsFileIn files) (file_numbers cmp v))
-    (λ loaded. IsLoadedOutcome c.args.first cmp keys v loaded c.args.level s) (λ loaded. IsOutcomeOfInputs c.args.first cmp keys files v c.args.level s) passed.loaded
-    c.test_and_hold.ensures.device.later c.outcome_untested.ensures.device.later passed.held
-    (λ a h. c.outcome_suffices.ensures c.args.first files v passed.loaded passed.tables c.args.level s a passed.held passed.sound h) (c.outcome_untested.ensures.answer files still (c.in_ok-found.ensures.held files told))
+    let own = IsLoadedAnswer c.args.first cmp keys v passed.loaded c.args.level s in
+    let all = IsVersionAnswer c.args.first cmp keys files v c.args.level s in
+    answers_since outcome_in (failed c.args.folder.now) (failed c.test_and_hold.new.folder) (failed c.outcome_untested.new.folder) c.outcome_untested.result (IsOutcomeOfInputs c.args.first cmp keys files v c.args.level s) (IsOutcomeOfVersion c.args.first cmp keys files v c.args.level s)
+    (λ a h. made_as own all (λ made (o : Result OutcomeView Fault). o ≡ Ok (outcome_of made.0 made.1)) a
+    (λ r given. first_passed (IsLoaded (IsFileIn files) (file_numbers cmp v)) (λ loaded. IsLoadedAnswer c.args.first cmp keys v loaded c.args.level s) passed.loaded r passed.held given)
+    (c.outcome_suffices.ensures c.args.first files v passed.loaded passed.tables c.args.level s a passed.held passed.sound h))
+    c.test_and_hold.ensures.device.later c.outcome_untested.ensures.device.later (c.outcome_untested.ensures.answer files still (c.in_ok-found.ensures.held files told))
 
 pub returns-clause-compacted : goal.returns-clause-compacted
 returns-clause-compacted g c files order told =

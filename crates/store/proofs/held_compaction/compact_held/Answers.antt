@@ -1,21 +1,17 @@
-use Rattle.std.proofs.Common.{◌≡◌, List, length, map, Result, Ok, Err, sym, ap, subst, ◌∙◌}
-use Rattle.coding.specs.Answers.{UnlessMemory, ◌>>=◌}
-use Rattle.coding.specs.declared.fault.Fault.{Fault}
+use Rattle.std.proofs.Common.{◌≡◌, List, length, map, Ok, Err, sym, ap, subst, ◌∙◌}
+use Rattle.coding.specs.Answers.{UnlessMemory}
 use Rattle.table.specs.TableContents.{Contents}
 use Rattle.install.specs.Install.{table_bytes_of}
 use Rattle.compact.specs.AnswerIn.{answer_in}
-use Rattle.pick.specs.PickedInputs.{PickedInputs, picked_in}
+use Rattle.pick.specs.PickedInputs.{picked_in}
 use Rattle.pick.specs.declared.picked_inputs.InputFile.{InputFile}
 use Rattle.checks.specs.HeldBytes.{held_bytes}
 use Rattle.checks.proofs.LawfulLemmas.{handed_on}
 use Rattle.compact.specs.Inputs.{inputs_reading}
-use Rattle.compact.specs.OneThread.{Answer}
 use Rattle.store.specs.FolderRequest.{compaction_from}
-use Rattle.store.specs.InputLaws.{with_inputs}
-use Rattle.store.specs.InputsCompaction.{IsReadTold, input_tables}
+use Rattle.store.specs.InputsCompaction.{IsReadAnswer, input_tables}
+use Rattle.store.proofs.Answered.{answered_so, made_with, read_answered, tables_refused}
 use Rattle.store.proofs.CheckedInputs.{held_length, read_as_inputs, read_bytes, same_read}
-use Rattle.store.proofs.Flow.{first_passed, first_refused}
-use Rattle.store.proofs.Tellings.{answered_so, told_with}
 use Rattle.store.proofs.held_compaction.compact_held.Goals as goal
 
 pub stated_tables-requires : goal.stated_tables-requires
@@ -31,10 +27,9 @@ returns-in_err-tables-clause-answer g c =
     let p = picked_in c.args.picked.now in
     let s = c.args.settings.now in
     let e = c.in_err-tables.field-0.0 in
-    let last = λ (contents : List Contents) (a : Result (PickedInputs × Answer) Fault). a ≡ (compaction_from c.args.first cmp g.C.Comparator.short_keys v loaded p s >>= λ x. Ok (with_inputs p x)) in
-    handed_on (λ o. with_inputs p (answer_in o)) c.from_residual.result e (λ read. input_tables cmp p.files loaded ≡ read) (IsReadTold with_inputs c.args.first cmp g.C.Comparator.short_keys v p s loaded)
+    handed_on (λ o. (p, answer_in o)) c.from_residual.result e (λ read. input_tables cmp p.files loaded ≡ read) (IsReadAnswer c.args.first cmp g.C.Comparator.short_keys v s p loaded)
     c.from_residual.ensures.1 (subst (λ (fs : List InputFile). UnlessMemory e (input_tables cmp fs loaded ≡ Err e)) c.deref.ensures.value c.in_err-tables.ensures)
-    (λ h. first_refused (λ read. input_tables cmp p.files loaded ≡ read) last e h)
+    (tables_refused c.args.first cmp g.C.Comparator.short_keys v s p loaded e)
 
 pub compact_checked-requires-clause-read : goal.compact_checked-requires-clause-read
 compact_checked-requires-clause-read g c κs within =
@@ -52,12 +47,10 @@ returns-clause-answer g c =
     let loaded = held_bytes c.args.held.now in
     let p = picked_in c.args.picked.now in
     let s = c.args.settings.now in
-    let first = λ (read : Result (List Contents) Fault). input_tables cmp p.files loaded ≡ read in
-    let last = λ (contents : List Contents) (a : Result (PickedInputs × Answer) Fault). a ≡ (compaction_from c.args.first cmp g.C.Comparator.short_keys v loaded p s >>= λ x. Ok (with_inputs p x)) in
     let found = subst (λ (fs : List InputFile). input_tables cmp fs loaded ≡ Ok c.in_ok-tables.tables.items) c.deref.ensures.value c.in_ok-tables.ensures in
     let bytes = ap (map (λ (t : Contents). t.bytes)) c.deref-2.ensures.value ∙ read_bytes cmp p.files loaded c.in_ok-tables.tables.items found ∙ c.requires.bytes in
-    told_with (with_inputs p) c.compact_checked.result (compaction_from c.args.first cmp g.C.Comparator.short_keys v loaded p s) (IsReadTold with_inputs c.args.first cmp g.C.Comparator.short_keys v p s loaded)
-    (λ a h. first_passed first last c.in_ok-tables.tables.items a found h) (c.compact_checked.ensures.answer loaded bytes)
+    made_with p c.compact_checked.result (compaction_from c.args.first cmp g.C.Comparator.short_keys v loaded p s) (IsReadAnswer c.args.first cmp g.C.Comparator.short_keys v s p loaded)
+    (read_answered c.args.first cmp g.C.Comparator.short_keys v s p loaded c.in_ok-tables.tables.items found) (c.compact_checked.ensures.answer loaded bytes)
 
 pub returns-clause-outcome : goal.returns-clause-outcome
 returns-clause-outcome g c =

@@ -8,19 +8,17 @@ use Rattle.folder.proofs.ReportLemmas.{reports_steady}
 use Rattle.table.specs.TestResult.{test_result}
 use Rattle.table.specs.TableContents.{Contents}
 use Rattle.pick.specs.PickedInputs.{picked_in}
-use Rattle.pick.specs.declared.picked_inputs.InputFile.{InputFile}
 use Rattle.pick.specs.declared.picked_inputs.Inputs.{Inputs}
 use Rattle.compact.specs.Inputs.{inputs_reading}
 use Rattle.compact.specs.OneThread.{Answer, compaction_result}
 use Rattle.compact.specs.Request.{RequestView, request_in}
-use Rattle.store.specs.FolderRequest.{compaction_from, manifest_of, numbered_request}
-use Rattle.store.specs.InputsCompaction.{installed_lines}
-use Rattle.store.specs.FoundInputs.{IsAnsweredBy}
-use Rattle.store.specs.Lines.{compaction_lines}
-use Rattle.store.proofs.Compactions.{answer_behind, refused_behind, with_lines}
+use Rattle.store.specs.FolderRequest.{compaction_from, numbered_request}
+use Rattle.store.specs.FoundInputs.{IsAnsweredBy, step_result}
+use Rattle.store.specs.Step.{StepView, step_in}
+use Rattle.store.proofs.Compactions.{answer_behind, refused_behind}
 use Rattle.store.proofs.Flow.{no_value}
 use Rattle.store.proofs.NoDevice.{compaction_other, handed_other}
-use Rattle.store.proofs.PlannedPart.{answers_as, lines_refused, never_refused, split_refused, unchanged}
+use Rattle.store.proofs.PlannedPart.{answers_as, never_refused, step_refused, split_refused, unchanged}
 use Rattle.store.proofs.RunPart.{run_as}
 use Rattle.store.proofs.held_compaction.install_checked.Goals as goal
 
@@ -35,7 +33,7 @@ returns-in_err-split-clause-answer g c files loaded told current bytes =
     let e = c.in_err-split.field-0.0 in
     let cmp = g.C.Comparator.cmp in
     let keys = g.C.Comparator.short_keys in
-    lines_refused (λ step. step.lines.items) (failed c.args.folder.now) (failed c.args.folder.now) c.from_residual.result e (compaction_from None cmp keys v loaded p s) (installed_lines v p)
+    step_refused step_in (failed c.args.folder.now) (failed c.args.folder.now) c.from_residual.result e v p (compaction_from None cmp keys v loaded p s)
     c.from_residual.ensures.1 (split_refused cmp keys v loaded p s None e c.in_err-split.ensures)
 
 pub returns-in_err-split-clause-left : goal.returns-in_err-split-clause-left
@@ -70,7 +68,7 @@ returns-in_err-bytes-clause-answer g c files loaded told current bytes =
     let failed = g.F.Folder.failed in
     let e = c.in_err-bytes.field-0.0 in
     let compacted = compaction_from None g.C.Comparator.cmp g.C.Comparator.short_keys v loaded p c.args.settings.now in
-    lines_refused (λ step. step.lines.items) (failed c.args.folder.now) (failed c.args.folder.now) c.from_residual-in_err-bytes.result e compacted (installed_lines v p)
+    step_refused step_in (failed c.args.folder.now) (failed c.args.folder.now) c.from_residual-in_err-bytes.result e v p compacted
     c.from_residual-in_err-bytes.ensures.1 (never_refused (map (λ (t : Contents). t.bytes) c.args.tables.now) e compacted c.in_err-bytes.ensures)
 
 pub returns-in_err-bytes-clause-left : goal.returns-in_err-bytes-clause-left
@@ -109,7 +107,7 @@ returns-in_err-request-clause-answer g c files loaded told current given =
     let failed = g.F.Folder.failed in
     let e = c.in_err-request.field-0.0 in
     let bytes = ap (map (λ (b : Bor (List ℕ)). b.now)) c.deref.ensures.value ∙ sym (ok_is _ _ c.in_ok-bytes.ensures) ∙ given in
-    lines_refused (λ step. step.lines.items) (failed c.args.folder.now) (failed c.args.folder.now) c.from_residual-in_err-request.result e (compaction_from None cmp keys v loaded p s) (installed_lines v p)
+    step_refused step_in (failed c.args.folder.now) (failed c.args.folder.now) c.from_residual-in_err-request.result e v p (compaction_from None cmp keys v loaded p s)
     c.from_residual-in_err-request.ensures.1
     (refused_behind (test_result (nat_le 1 s.ranges && nat_le s.ranges 4096) SplitCount) (numbered_request None v loaded p s) (λ (r : RequestView). compaction_result cmp keys s.workers r) e c.in_ok-split.ensures (c.in_err-request.ensures.asked loaded bytes))
 
@@ -163,7 +161,7 @@ returns-in_err-merged-clause-answer g c files loaded told current given =
     let e = c.in_err-merged.field-0.0 in
     let bytes = ap (map (λ (b : Bor (List ℕ)). b.now)) c.deref.ensures.value ∙ sym (ok_is _ _ c.in_ok-bytes.ensures) ∙ given in
     let is = answer_behind (test_result (nat_le 1 s.ranges && nat_le s.ranges 4096) SplitCount) (numbered_request None v loaded p s) (λ (r : RequestView). compaction_result cmp keys s.workers r) (request_in c.in_ok-request.request) c.in_ok-split.ensures (c.in_ok-request.ensures.asked loaded bytes) in
-    lines_refused (λ step. step.lines.items) (failed c.args.folder.now) (failed c.args.folder.now) c.from_residual-in_err-merged.result e (compaction_from None cmp keys v loaded p s) (installed_lines v p)
+    step_refused step_in (failed c.args.folder.now) (failed c.args.folder.now) c.from_residual-in_err-merged.result e v p (compaction_from None cmp keys v loaded p s)
     c.from_residual-in_err-merged.ensures.1 (subst (λ (a : Result Answer Fault). FailsOrMemory e a) (sym is) c.in_err-merged.ensures.refused)
 
 pub returns-in_err-merged-clause-left : goal.returns-in_err-merged-clause-left
@@ -217,11 +215,9 @@ returns-clause-answer g c files loaded told current given =
     let bytes = ap (map (λ (b : Bor (List ℕ)). b.now)) c.deref.ensures.value ∙ sym (ok_is _ _ c.in_ok-bytes.ensures) ∙ given in
     let is = answer_behind (test_result (nat_le 1 s.ranges && nat_le s.ranges 4096) SplitCount) (numbered_request None v loaded p s) (λ (r : RequestView). compaction_result cmp keys s.workers r) (request_in c.in_ok-request.request) c.in_ok-split.ensures (c.in_ok-request.ensures.asked loaded bytes) in
     let same : c.in_ok-merged.merged ≡ compaction_from None cmp keys v loaded p s = c.in_ok-merged.ensures.merged ∙ sym is in
-    answers_as (λ step. step.lines.items) (failed c.args.folder.now) (failed c.install_merged.new.folder) c.install_merged.result
-    (λ (x : Result (List ℕ) Fault). x ≡ (c.in_ok-merged.merged >>= λ a. Ok (compaction_lines a.tables c.deref-2.result.now (manifest_of v)))) (λ (x : Result (List ℕ) Fault). x ≡ (compaction_from None cmp keys v loaded p s >>= λ a. Ok (installed_lines v p a)))
-    (λ x h. h ∙ ap (λ (a : Result Answer Fault). a >>= λ x. Ok (compaction_lines x.tables c.deref-2.result.now (manifest_of v))) same
-    ∙ ap (λ (fs : List InputFile). compaction_from None cmp keys v loaded p s >>= λ a. Ok (compaction_lines a.tables fs (manifest_of v))) c.deref-2.ensures.value)
-    (c.install_merged.ensures.answer files told current)
+    answers_as step_in (failed c.args.folder.now) (failed c.install_merged.new.folder) c.install_merged.result
+    (λ (x : Result StepView Fault). x ≡ step_result v p c.in_ok-merged.merged) (λ (x : Result StepView Fault). x ≡ step_result v p (compaction_from None cmp keys v loaded p s))
+    (λ x h. h ∙ ap (step_result v p) same) (c.install_merged.ensures.answer files told current)
 
 pub returns-clause-left : goal.returns-clause-left
 returns-clause-left g c files order own loaded level told current given named can =
@@ -235,9 +231,7 @@ returns-clause-left g c files order own loaded level told current given named ca
     let same : c.in_ok-merged.merged ≡ compaction_from None cmp keys v own p s = c.in_ok-merged.ensures.merged ∙ sym is in
     let logs = c.in_ok-request.ensures.logs in
     c.install_merged.ensures.left files order loaded level s told current named
-    (λ answer merged.
-    with_lines order cmp keys v loaded level s p answer _ (can answer (sym same ∙ merged) logs.0 logs.1)
-    (ap (λ (fs : List InputFile). compaction_lines answer.tables fs (manifest_of v)) c.deref-2.ensures.value))
+    (λ answer merged. can answer (sym same ∙ merged) logs.0 logs.1)
 
 pub returns-clause-runs : goal.returns-clause-runs
 returns-clause-runs g c own given =
@@ -251,7 +245,7 @@ returns-clause-runs g c own given =
     let bytes = ap (map (λ (b : Bor (List ℕ)). b.now)) c.deref.ensures.value ∙ sym (ok_is _ _ c.in_ok-bytes.ensures) ∙ given in
     let is = answer_behind (test_result (nat_le 1 s.ranges && nat_le s.ranges 4096) SplitCount) (numbered_request None v own p s) (λ (r : RequestView). compaction_result cmp keys s.workers r) (request_in c.in_ok-request.request) c.in_ok-split.ensures (c.in_ok-request.ensures.asked own bytes) in
     let same : c.in_ok-merged.merged ≡ compaction_from None cmp keys v own p s = c.in_ok-merged.ensures.merged ∙ sym is in
-    run_as (IsAnsweredBy c.in_ok-merged.merged (λ a. compaction_lines a.tables c.deref-2.result.now (manifest_of v))) (IsAnsweredBy (compaction_from None cmp keys v own p s) (installed_lines v p))
+    run_as (IsAnsweredBy p c.in_ok-merged.merged) (IsAnsweredBy p (compaction_from None cmp keys v own p s))
     g.C.Comparator.name_bytes cmp v (calls c.args.folder.now) (calls c.install_merged.new.folder) (tells c.args.folder.now) (tells c.install_merged.new.folder) c.install_merged.result
-    (λ answer lines h. (sym same ∙ h.0, h.1 ∙ ap (λ (fs : List InputFile). compaction_lines answer.tables fs (manifest_of v)) c.deref-2.ensures.value))
+    (λ q answer h. (h.0, sym same ∙ h.1))
     c.install_merged.ensures.runs

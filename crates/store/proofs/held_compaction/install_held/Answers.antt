@@ -1,22 +1,24 @@
-use Rattle.std.proofs.Common.{◌≡◌, List, ℕ, None, length, map, Result, Ok, Err, refl, sym, ap, subst, ◌∙◌, inl}
+use Rattle.std.proofs.Common.{◌≡◌, List, None, length, map, Result, Ok, Err, refl, sym, ap, subst, ◌∙◌, inl}
 use Rattle.coding.proofs.Refusals.{unless_from}
-use Rattle.coding.specs.Answers.{UnlessMemory, ◌>>=◌}
+use Rattle.coding.specs.Answers.{UnlessMemory}
 use Rattle.coding.specs.declared.fault.Fault.{Fault}
 use Rattle.folder.proofs.OpeningLemmas.{refuses}
 use Rattle.folder.proofs.ReportLemmas.{reports_steady}
 use Rattle.table.specs.TableContents.{Contents}
 use Rattle.install.specs.Install.{table_bytes_of}
-use Rattle.pick.specs.PickedInputs.{picked_in}
+use Rattle.pick.specs.PickedInputs.{PickedInputs, picked_in}
 use Rattle.pick.specs.declared.picked_inputs.InputFile.{InputFile}
 use Rattle.checks.specs.HeldBytes.{held_bytes}
 use Rattle.compact.specs.Inputs.{inputs_reading}
 use Rattle.store.specs.FolderRequest.{compaction_from}
-use Rattle.store.specs.InputsCompaction.{IsReadTold, input_tables, installed_lines}
-use Rattle.store.specs.FoundInputs.{IsAnsweredBy}
+use Rattle.store.specs.InputsCompaction.{IsReadAnswer, input_tables}
+use Rattle.store.specs.FoundInputs.{IsAnswerForThese, IsAnsweredBy, step_result}
 use Rattle.store.specs.Runs.{IsAnswerForInputs}
+use Rattle.store.specs.Step.{IsStepFor, StepView, step_in}
+use Rattle.store.proofs.Answered.{read_answered, read_refused, step_made}
 use Rattle.store.proofs.CheckedInputs.{held_length, read_as_inputs, read_bytes, same_read}
-use Rattle.store.proofs.Flow.{first_passed, first_refused, no_value}
-use Rattle.store.proofs.NoDevice.{handed_other, read_other}
+use Rattle.store.proofs.Flow.{no_value}
+use Rattle.store.proofs.NoDevice.{handed_other, step_other}
 use Rattle.store.proofs.PlannedPart.{answers_as, unchanged}
 use Rattle.store.proofs.RunPart.{run_as}
 use Rattle.store.proofs.held_compaction.install_held.Goals as goal
@@ -36,10 +38,9 @@ returns-in_err-tables-clause-answer g c files told current =
     let s = c.args.settings.now in
     let failed = g.F.Folder.failed in
     let e = c.in_err-tables.field-0.0 in
-    let last = λ (contents : List Contents) (x : Result (List ℕ) Fault). x ≡ (compaction_from None cmp keys v loaded p s >>= λ a. Ok (installed_lines v p a)) in
-    refuses (λ step. step.lines.items) (failed c.args.folder.now) (failed c.args.folder.now) c.from_residual.result e (λ read. input_tables cmp p.files loaded ≡ read) (IsReadTold (installed_lines v) None cmp keys v p s loaded)
+    refuses step_in (failed c.args.folder.now) (failed c.args.folder.now) c.from_residual.result e (λ read. input_tables cmp p.files loaded ≡ read) (IsStepFor v (IsReadAnswer None cmp keys v s p loaded))
     c.from_residual.ensures.1 (subst (λ (fs : List InputFile). UnlessMemory e (input_tables cmp fs loaded ≡ Err e)) c.deref.ensures.value c.in_err-tables.ensures)
-    (λ h. first_refused (λ read. input_tables cmp p.files loaded ≡ read) last e h)
+    (read_refused cmp keys v s p loaded e)
 
 pub returns-in_err-tables-clause-left : goal.returns-in_err-tables-clause-left
 returns-in_err-tables-clause-left g c files order loaded level told current named can =
@@ -61,10 +62,9 @@ returns-in_err-tables-clause-device g c =
     let p = picked_in c.args.picked.now in
     let s = c.args.settings.now in
     let e = c.in_err-tables.field-0.0 in
-    let last = λ (contents : List Contents) (x : Result (List ℕ) Fault). x ≡ (compaction_from None cmp keys v loaded p s >>= λ a. Ok (installed_lines v p a)) in
     reports_steady c.from_residual.result refl
-    (handed_other c.from_residual.result e (IsReadTold (installed_lines v) None cmp keys v p s loaded (Err e)) c.from_residual.ensures.1 (read_other (installed_lines v) None cmp keys v p s loaded e)
-    (unless_from e (input_tables cmp p.files loaded ≡ Err e) (IsReadTold (installed_lines v) None cmp keys v p s loaded (Err e)) (λ h. first_refused (λ read. input_tables cmp p.files loaded ≡ read) last e h)
+    (handed_other c.from_residual.result e (IsStepFor v (IsReadAnswer None cmp keys v s p loaded) (Err e)) c.from_residual.ensures.1 (step_other None cmp keys v p s loaded e)
+    (unless_from e (input_tables cmp p.files loaded ≡ Err e) (IsStepFor v (IsReadAnswer None cmp keys v s p loaded) (Err e)) (read_refused cmp keys v s p loaded e)
     (subst (λ (fs : List InputFile). UnlessMemory e (input_tables cmp fs loaded ≡ Err e)) c.deref.ensures.value c.in_err-tables.ensures)))
 
 pub install_checked-requires-clause-read : goal.install_checked-requires-clause-read
@@ -93,12 +93,11 @@ returns-clause-answer g c files told current =
     let p = picked_in c.args.picked.now in
     let s = c.args.settings.now in
     let failed = g.F.Folder.failed in
-    let first = λ (read : Result (List Contents) Fault). input_tables cmp p.files loaded ≡ read in
-    let last = λ (contents : List Contents) (x : Result (List ℕ) Fault). x ≡ (compaction_from None cmp keys v loaded p s >>= λ a. Ok (installed_lines v p a)) in
     let found = subst (λ (fs : List InputFile). input_tables cmp fs loaded ≡ Ok c.in_ok-tables.tables.items) c.deref.ensures.value c.in_ok-tables.ensures in
     let bytes = ap (map (λ (t : Contents). t.bytes)) c.deref-2.ensures.value ∙ read_bytes cmp p.files loaded c.in_ok-tables.tables.items found ∙ c.requires.bytes in
-    answers_as (λ step. step.lines.items) (failed c.args.folder.now) (failed c.install_checked.new.folder) c.install_checked.result (last c.in_ok-tables.tables.items) (IsReadTold (installed_lines v) None cmp keys v p s loaded)
-    (λ x h. first_passed first last c.in_ok-tables.tables.items x found h)
+    let answered = compaction_from None cmp keys v loaded p s in
+    answers_as step_in (failed c.args.folder.now) (failed c.install_checked.new.folder) c.install_checked.result (λ (x : Result StepView Fault). x ≡ step_result v p answered) (IsStepFor v (IsReadAnswer None cmp keys v s p loaded))
+    (λ x h. step_made v p (IsReadAnswer None cmp keys v s p loaded) answered x (read_answered None cmp keys v s p loaded c.in_ok-tables.tables.items found) h)
     (c.install_checked.ensures.answer files loaded told current bytes)
 
 pub returns-clause-left : goal.returns-clause-left
@@ -123,7 +122,7 @@ returns-clause-runs g c =
     let contents = c.in_ok-tables.tables.items in
     let found = subst (λ (fs : List InputFile). input_tables cmp fs own ≡ Ok contents) c.deref.ensures.value c.in_ok-tables.ensures in
     let bytes = ap (map (λ (t : Contents). t.bytes)) c.deref-2.ensures.value ∙ read_bytes cmp p.files own contents found ∙ c.requires.bytes in
-    run_as (IsAnsweredBy (compaction_from None cmp keys v own p s) (installed_lines v p)) (IsAnswerForInputs cmp keys v own p s)
+    run_as (IsAnsweredBy p (compaction_from None cmp keys v own p s)) (IsAnswerForThese cmp keys v own s p)
     g.C.Comparator.name_bytes cmp v (calls c.args.folder.now) (calls c.install_checked.new.folder) (tells c.args.folder.now) (tells c.install_checked.new.folder) c.install_checked.result
-    (λ answer lines h. record { contents = contents; stated = found; answered = h.0; told = h.1 })
+    (λ q answer h. (h.0, subst (λ (x : PickedInputs). IsAnswerForInputs cmp keys v own s x answer) (sym h.0) (record { contents = contents; stated = found; answered = h.1 })))
     (c.install_checked.ensures.runs own bytes)

@@ -11,20 +11,21 @@ use Rattle.checks.specs.HeldTables.{AreHeldIn, IsTableIn}
 use Rattle.checks.specs.LawfulTables.{IsLawfulTables}
 use Rattle.store.specs.InputsCompaction.{IsInputsCompacted}
 use Rattle.store.specs.Runs.{IsLevelRun}
+use Rattle.store.specs.Step.{step_in}
 use Rattle.store.specs.StepLeft.{IsStepLeft}
 use Rattle.store.proofs.input_compaction.compact_inputs.Goals as goal
 
 pub returns-in-Bytewise-clause-answer : goal.returns-in-Bytewise-clause-answer
 returns-in-Bytewise-clause-answer g c files told current =
     let failed = g.F.Folder.failed in
-    subst (λ (order : Order). FolderAnswers (λ step. step.lines.items) (failed c.args.folder.now) (failed c.compact_step.new.folder) c.compact_step.result
+    subst (λ (order : Order). FolderAnswers step_in (failed c.args.folder.now) (failed c.compact_step.new.folder) c.compact_step.result
     (IsInputsCompacted (order_cmp order) (order_short_keys order) files c.args.opened.now.version c.args.level c.args.settings.now))
     (sym c.in-Bytewise.is) (c.compact_step.ensures.answer files told current (subst (AreHeldIn (order_cmp Bytewise) files) (sym c.none-none.ensures) (All-nil (λ (t : NumberedContents). IsTableIn (order_cmp Bytewise) files t.number t.contents))))
 
 pub returns-in-Shortlex-clause-answer : goal.returns-in-Shortlex-clause-answer
 returns-in-Shortlex-clause-answer g c files told current =
     let failed = g.F.Folder.failed in
-    subst (λ (order : Order). FolderAnswers (λ step. step.lines.items) (failed c.args.folder.now) (failed c.compact_step-in-Shortlex.new.folder) c.compact_step-in-Shortlex.result
+    subst (λ (order : Order). FolderAnswers step_in (failed c.args.folder.now) (failed c.compact_step-in-Shortlex.new.folder) c.compact_step-in-Shortlex.result
     (IsInputsCompacted (order_cmp order) (order_short_keys order) files c.args.opened.now.version c.args.level c.args.settings.now))
     (sym c.in-Shortlex.is) (c.compact_step-in-Shortlex.ensures.answer files told current (subst (AreHeldIn (order_cmp Shortlex) files) (sym c.none-none-in-Shortlex.ensures) (All-nil (λ (t : NumberedContents). IsTableIn (order_cmp Shortlex) files t.number t.contents))))
 

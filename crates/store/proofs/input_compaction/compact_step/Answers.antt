@@ -1,14 +1,17 @@
-use Rattle.std.proofs.Common.{None, sym, ◌∙◌, arith, inl}
+use Rattle.std.proofs.Common.{◌≡◌, None, Result, Ok, sym, ap, subst, ◌∙◌, arith, inl}
+use Rattle.coding.specs.declared.fault.Fault.{Fault}
 use Rattle.folder.proofs.OpeningLemmas.{hands_on, answers_since}
 use Rattle.folder.proofs.ReportLemmas.{reports_handed, reports_then}
-use Rattle.pick.specs.PickedInputs.{picked_in}
+use Rattle.pick.specs.PickedInputs.{IsPicked, PickedInputs, picked_in}
 use Rattle.checks.specs.HeldBytes.{held_bytes}
-use Rattle.store.specs.FoundInputs.{IsInputsFound}
-use Rattle.store.specs.InputsCompaction.{IsInputsCompacted, IsReadTold, installed_lines}
-use Rattle.store.specs.Runs.{IsAnswerForInputs, IsAnswerForLevel}
+use Rattle.store.specs.FoundInputs.{IsAnswerForThese, IsInputsFound}
+use Rattle.store.specs.InputsCompaction.{IsInputsCompacted, IsLevelAnswer, IsReadAnswer, input_numbers}
+use Rattle.store.specs.Runs.{IsAnswerForLevel}
+use Rattle.store.specs.Step.{IsStepFor, StepView, step_in, step_of}
+use Rattle.store.proofs.Answered.{made_as}
 use Rattle.store.proofs.Compactions.{is_compacted, picked_of}
-use Rattle.store.proofs.Flow.{no_value, told_still}
-use Rattle.store.proofs.FoundInputs.{inputs_found, inputs_refused, level_told}
+use Rattle.store.proofs.Flow.{first_refused, no_value, told_still}
+use Rattle.store.proofs.FoundInputs.{inputs_found, inputs_refused, level_answer}
 use Rattle.store.proofs.HeldInputs.{numbers_held}
 use Rattle.store.proofs.RunPart.{run_as, run_since}
 use Rattle.store.proofs.PlannedPart.{answers_as, step_since}
@@ -22,10 +25,10 @@ returns-in_err-inputs-clause-answer g c files told current are =
     let s = c.args.settings.now in
     let failed = g.F.Folder.failed in
     let e = c.in_err-inputs.field-0.0 in
-    hands_on (λ step. step.lines.items) (failed c.args.folder.now) (failed c.args.folder.now) (failed c.level_inputs.new.folder) c.from_residual.result e (IsInputsFound cmp files v c.args.level)
+    hands_on step_in (failed c.args.folder.now) (failed c.args.folder.now) (failed c.level_inputs.new.folder) c.from_residual.result e (IsInputsFound cmp files v c.args.level)
     (IsInputsCompacted cmp keys files v c.args.level s)
     c.from_residual.ensures.1 (omega arith) c.level_inputs.ensures.device.later (c.in_err-inputs.ensures.answer files told are)
-    (λ h. inputs_refused cmp files v c.args.level (installed_lines v) None keys s e h)
+    (λ h. first_refused (IsLevelAnswer None cmp keys files v c.args.level s) (λ made (step : Result StepView Fault). step ≡ Ok (step_of v made.0 made.1)) e (inputs_refused cmp files v c.args.level None keys s e h))
 
 pub returns-in_err-inputs-clause-left : goal.returns-in_err-inputs-clause-left
 returns-in_err-inputs-clause-left g c files order loaded tables told current are named reads sound =
@@ -53,10 +56,11 @@ returns-clause-answer g c files told current are =
     let held = c.in_ok-inputs.inputs.tables in
     let given = inputs_found cmp files v c.args.level p held (c.in_ok-inputs.ensures.answer files told are) in
     let now = told_still (tells c.args.folder.now) (tells c.level_inputs.new.folder) files c.level_inputs.ensures.reads.same told in
-    answers_since (λ step. step.lines.items) (failed c.args.folder.now) (failed c.level_inputs.new.folder) (failed c.install_held.new.folder) c.install_held.result (IsInputsCompacted cmp keys files v c.args.level s) (IsInputsCompacted cmp keys files v c.args.level s) (λ a h. h)
+    answers_since step_in (failed c.args.folder.now) (failed c.level_inputs.new.folder) (failed c.install_held.new.folder) c.install_held.result (IsInputsCompacted cmp keys files v c.args.level s) (IsInputsCompacted cmp keys files v c.args.level s) (λ a h. h)
     c.level_inputs.ensures.device.later c.install_held.ensures.device.later
-    (answers_as (λ step. step.lines.items) (failed c.level_inputs.new.folder) (failed c.install_held.new.folder) c.install_held.result (IsReadTold (installed_lines v) None cmp keys v p s (held_bytes held)) (IsInputsCompacted cmp keys files v c.args.level s)
-    (λ x h. level_told cmp files v c.args.level (installed_lines v) None keys s p held x given h)
+    (answers_as step_in (failed c.level_inputs.new.folder) (failed c.install_held.new.folder) c.install_held.result (IsStepFor v (IsReadAnswer None cmp keys v s p (held_bytes held))) (IsInputsCompacted cmp keys files v c.args.level s)
+    (λ x h. made_as (IsReadAnswer None cmp keys v s p (held_bytes held)) (IsLevelAnswer None cmp keys files v c.args.level s) (λ made (step : Result StepView Fault). step ≡ Ok (step_of v made.0 made.1)) x
+    (λ r a. level_answer cmp files v c.args.level None keys s p held r given a) h)
     (c.install_held.ensures.answer files now current))
 
 pub returns-clause-left : goal.returns-clause-left
@@ -94,8 +98,13 @@ returns-clause-runs g c =
     let level = IsAnswerForLevel cmp keys v c.args.level s in
     run_since level name cmp v (calls c.args.folder.now) (calls c.level_inputs.new.folder) (calls c.install_held.new.folder) (tells c.args.folder.now) (tells c.level_inputs.new.folder) (tells c.install_held.new.folder) c.install_held.result
     c.level_inputs.ensures.reads.calls c.level_inputs.ensures.reads.same
-    (run_as (IsAnswerForInputs cmp keys v own p s) level name cmp v (calls c.level_inputs.new.folder) (calls c.install_held.new.folder) (tells c.level_inputs.new.folder) (tells c.install_held.new.folder) c.install_held.result
-    (λ answer lines h. record { picked = p; is_picked = c.in_ok-inputs.ensures.picked; loaded = own; numbered = numbers_held held ∙ c.in_ok-inputs.ensures.numbers; is_answer = h })
+    (run_as (IsAnswerForThese cmp keys v own s p) level name cmp v (calls c.level_inputs.new.folder) (calls c.install_held.new.folder) (tells c.level_inputs.new.folder) (tells c.install_held.new.folder) c.install_held.result
+    (λ q answer h. record {
+      is_picked = subst (IsPicked cmp v c.args.level) (sym h.0) c.in_ok-inputs.ensures.picked;
+      loaded = own;
+      numbered = numbers_held held ∙ c.in_ok-inputs.ensures.numbers ∙ ap (λ (x : PickedInputs). input_numbers x.files) (sym h.0);
+      is_answer = h.1;
+    })
     c.install_held.ensures.runs)
 
 pub returns-clause-other : goal.returns-clause-other

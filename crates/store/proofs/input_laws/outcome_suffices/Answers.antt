@@ -1,7 +1,13 @@
-use Rattle.store.specs.Outcome.{outcome_told}
+use Rattle.std.proofs.Common.{◌≡◌, Result, Ok}
+use Rattle.coding.specs.declared.fault.Fault.{Fault}
+use Rattle.store.specs.Answers.{IsLoadedAnswer}
+use Rattle.store.specs.InputsCompaction.{IsLevelAnswer}
+use Rattle.store.specs.Outcome.{OutcomeView, outcome_of}
+use Rattle.store.proofs.Answered.{made_as}
 use Rattle.store.proofs.LawfulInputs as lemma
 use Rattle.store.proofs.input_laws.outcome_suffices.Goals as goal
 
 pub returns : goal.returns
 returns g c = λ first files v loaded tables level s answer held sound given.
-    lemma.suffices g.C.Comparator.cmp g.met.C.Comparator.total files v loaded tables held sound outcome_told first g.C.Comparator.short_keys level s answer given
+    made_as (IsLevelAnswer first g.C.Comparator.cmp g.C.Comparator.short_keys files v level s) (IsLoadedAnswer first g.C.Comparator.cmp g.C.Comparator.short_keys v loaded level s) (λ made (o : Result OutcomeView Fault). o ≡ Ok (outcome_of made.0 made.1)) answer
+    (λ r h. lemma.suffices g.C.Comparator.cmp g.met.C.Comparator.total files v loaded tables held sound first g.C.Comparator.short_keys level s r h) given

@@ -1,8 +1,13 @@
-use Rattle.std.proofs.Common.{None}
-use Rattle.store.specs.InputsCompaction.{installed_lines}
+use Rattle.std.proofs.Common.{◌≡◌, None, Result, Ok}
+use Rattle.coding.specs.declared.fault.Fault.{Fault}
+use Rattle.store.specs.Answers.{IsLoadedAnswer}
+use Rattle.store.specs.InputsCompaction.{IsLevelAnswer}
+use Rattle.store.specs.Step.{StepView, step_of}
+use Rattle.store.proofs.Answered.{made_as}
 use Rattle.store.proofs.LawfulInputs as lemma
 use Rattle.store.proofs.install_laws.inputs_suffice.Goals as goal
 
 pub returns : goal.returns
 returns g c = λ files v loaded tables level s answer held sound given.
-    lemma.suffices g.C.Comparator.cmp g.met.C.Comparator.total files v loaded tables held sound (installed_lines v) None g.C.Comparator.short_keys level s answer given
+    made_as (IsLevelAnswer None g.C.Comparator.cmp g.C.Comparator.short_keys files v level s) (IsLoadedAnswer None g.C.Comparator.cmp g.C.Comparator.short_keys v loaded level s) (λ made (step : Result StepView Fault). step ≡ Ok (step_of v made.0 made.1)) answer
+    (λ r h. lemma.suffices g.C.Comparator.cmp g.met.C.Comparator.total files v loaded tables held sound None g.C.Comparator.short_keys level s r h) given

@@ -7,10 +7,9 @@ use Rattle.pick.specs.PickedInputs.{PickedInputs, picked_in}
 use Rattle.checks.specs.HeldBytes.{held_bytes}
 use Rattle.compact.specs.OneThread.{Answer}
 use Rattle.store.specs.FoundInputs.{IsInputsFound}
-use Rattle.store.specs.InputLaws.{with_inputs}
-use Rattle.store.specs.InputsCompaction.{IsInputsTold, IsReadTold}
+use Rattle.store.specs.InputsCompaction.{IsLevelAnswer, IsReadAnswer}
 use Rattle.store.proofs.Compactions.{is_compacted, picked_of}
-use Rattle.store.proofs.FoundInputs.{inputs_found, inputs_refused, level_told}
+use Rattle.store.proofs.FoundInputs.{inputs_found, inputs_refused, level_answer}
 use Rattle.store.proofs.NoDevice.{handed_never, read_other}
 use Rattle.store.proofs.level_compaction.level_outcome.Goals as goal
 
@@ -22,10 +21,10 @@ returns-in_err-inputs-clause-answer g c files told are =
     let s = c.args.settings.now in
     let failed = g.F.Folder.failed in
     let e = c.in_err-inputs.field-0.0 in
-    hands_on (λ o. with_inputs (picked_in o.picked) (answer_in o.outcome)) (failed c.args.folder.now) (failed c.args.folder.now) (failed c.level_inputs.new.folder) c.from_residual.result e (IsInputsFound cmp files v c.args.level)
-    (IsInputsTold with_inputs c.args.first cmp keys files v c.args.level s)
+    hands_on (λ o. (picked_in o.picked, answer_in o.outcome)) (failed c.args.folder.now) (failed c.args.folder.now) (failed c.level_inputs.new.folder) c.from_residual.result e (IsInputsFound cmp files v c.args.level)
+    (IsLevelAnswer c.args.first cmp keys files v c.args.level s)
     c.from_residual.ensures.1 (omega arith) c.level_inputs.ensures.device.later (c.in_err-inputs.ensures.answer files told are)
-    (λ h. inputs_refused cmp files v c.args.level with_inputs c.args.first keys s e h)
+    (λ h. inputs_refused cmp files v c.args.level c.args.first keys s e h)
 
 pub returns-in_err-inputs-clause-device : goal.returns-in_err-inputs-clause-device
 returns-in_err-inputs-clause-device g c = reports_handed c.from_residual.result c.in_err-inputs.was c.level_inputs.ensures.device c.from_residual.ensures.1
@@ -41,10 +40,10 @@ returns-in_err-outcome-clause-answer g c files told are =
     let p = picked_in c.in_ok-inputs.inputs.picked in
     let tables = c.in_ok-inputs.inputs.tables in
     let given = inputs_found cmp files v c.args.level p tables (c.in_ok-inputs.ensures.answer files told are) in
-    refuses (λ o. with_inputs (picked_in o.picked) (answer_in o.outcome)) (failed c.args.folder.now) (failed c.level_inputs.new.folder) c.from_residual-in_err-outcome.result e (IsReadTold with_inputs c.args.first cmp keys v p s (held_bytes tables))
-    (IsInputsTold with_inputs c.args.first cmp keys files v c.args.level s)
+    refuses (λ o. (picked_in o.picked, answer_in o.outcome)) (failed c.args.folder.now) (failed c.level_inputs.new.folder) c.from_residual-in_err-outcome.result e (IsReadAnswer c.args.first cmp keys v s p (held_bytes tables))
+    (IsLevelAnswer c.args.first cmp keys files v c.args.level s)
     c.from_residual-in_err-outcome.ensures.1 c.in_err-outcome.ensures.answer
-    (λ h. level_told cmp files v c.args.level with_inputs c.args.first keys s p tables (Err e) given h)
+    (λ h. level_answer cmp files v c.args.level c.args.first keys s p tables (Err e) given h)
 
 pub returns-in_err-outcome-clause-device : goal.returns-in_err-outcome-clause-device
 returns-in_err-outcome-clause-device g c =
@@ -57,8 +56,8 @@ returns-in_err-outcome-clause-device g c =
     let p = picked_in c.in_ok-inputs.inputs.picked in
     let loaded = held_bytes c.in_ok-inputs.inputs.tables in
     reports_after c.from_residual-in_err-outcome.result c.in_ok-inputs.was c.level_inputs.ensures.device
-    (handed_never (failed c.args.folder.now) (failed c.level_inputs.new.folder) c.from_residual-in_err-outcome.result e (IsReadTold with_inputs c.args.first cmp keys v p s loaded (Err e))
-    c.from_residual-in_err-outcome.ensures.1 (read_other with_inputs c.args.first cmp keys v p s loaded e) c.in_err-outcome.ensures.answer)
+    (handed_never (failed c.args.folder.now) (failed c.level_inputs.new.folder) c.from_residual-in_err-outcome.result e (IsReadAnswer c.args.first cmp keys v s p loaded (Err e))
+    c.from_residual-in_err-outcome.ensures.1 (read_other c.args.first cmp keys v p s loaded e) c.in_err-outcome.ensures.answer)
 
 pub returns-clause-answer : goal.returns-clause-answer
 returns-clause-answer g c files told are =
@@ -66,8 +65,8 @@ returns-clause-answer g c files told are =
     let v = c.args.version.now in
     let p = picked_in c.in_ok-inputs.inputs.picked in
     let tables = c.in_ok-inputs.inputs.tables in
-    let a : Result (PickedInputs × Answer) Fault = Ok (with_inputs p (answer_in c.in_ok-outcome.outcome)) in
-    level_told cmp files v c.args.level with_inputs c.args.first g.C.Comparator.short_keys c.args.settings.now p tables a
+    let a : Result (PickedInputs × Answer) Fault = Ok (p, answer_in c.in_ok-outcome.outcome) in
+    level_answer cmp files v c.args.level c.args.first g.C.Comparator.short_keys c.args.settings.now p tables a
     (inputs_found cmp files v c.args.level p tables (c.in_ok-inputs.ensures.answer files told are)) c.in_ok-outcome.ensures.answer
 
 pub returns-clause-device : goal.returns-clause-device

@@ -1,18 +1,18 @@
-use Rattle.std.proofs.Common.{◌≡◌, ℕ, List, Some, Result, Ok, codes, refl, ap, subst, ◌∙◌, arith, inl}
+use Rattle.std.proofs.Common.{ℕ, List, Some, Result, Ok, codes, refl, subst, arith, inl}
 use Rattle.coding.specs.declared.fault.Fault.{Fault}
 use Rattle.compact.specs.GroupedAnswer.{joined_answer}
 use Rattle.folder.proofs.ReportLemmas.{reports_after, reports_handed, reports_steady}
 use Rattle.folder.specs.Names.{current_text}
 use Rattle.install.specs.Install.{manifest_bytes}
-use Rattle.compact.specs.OneThread.{Answer}
-use Rattle.store.specs.FolderRequest.{manifest_of}
+use Rattle.pick.specs.PickedInputs.{picked_in}
 use Rattle.store.specs.FoundInputs.{IsAnsweredBy}
-use Rattle.store.specs.Lines.{compaction_lines}
+use Rattle.store.specs.Step.{step_in, step_of}
 use Rattle.store.specs.declared.compaction_step.CompactionStep.{CompactionStep}
+use Rattle.store.proofs.Answered.{equal_value, memory_alone_at}
 use Rattle.store.proofs.Flow.{no_value, stopped_on}
 use Rattle.store.proofs.InstallPart.{Promises, refused_ok, refused_on, stopped_named, valued_on}
 use Rattle.store.proofs.NoDevice.{handed_other}
-use Rattle.store.proofs.PlannedPart.{lines_refused, lines_told, memory_answers, memory_apart, unchanged}
+use Rattle.store.proofs.PlannedPart.{memory_answers, memory_apart, step_refused, step_value, unchanged}
 use Rattle.store.proofs.RunPart.{install_done, install_refused}
 use Rattle.store.proofs.StepPart.{current_named, no_ok, step_installed}
 use Rattle.store.proofs.planned_installation.install_merged.Goals as goal
@@ -22,8 +22,8 @@ use Rattle.store.proofs.planned_installation.install_merged.Goals as goal
 pub returns-in_err-planned-clause-answer : goal.returns-in_err-planned-clause-answer
 returns-in_err-planned-clause-answer g c files told current =
     let failed = g.F.Folder.failed in
-    lines_refused (λ step. step.lines.items) (failed c.args.folder.now) (failed c.args.folder.now) c.from_residual.result c.in_err-planned.field-0.0 c.args.merged.now
-    (λ a. compaction_lines a.tables c.args.inputs.now (manifest_of c.args.opened.now.version)) c.from_residual.ensures.1 c.in_err-planned.ensures.answer
+    step_refused step_in (failed c.args.folder.now) (failed c.args.folder.now) c.from_residual.result c.in_err-planned.field-0.0 c.args.opened.now.version (picked_in c.args.picked.now) c.args.merged.now
+    c.from_residual.ensures.1 c.in_err-planned.ensures.answer
 
 pub returns-in_err-planned-clause-left : goal.returns-in_err-planned-clause-left
 returns-in_err-planned-clause-left g c files order loaded level s told current named can =
@@ -41,12 +41,12 @@ returns-in_err-planned-clause-device g c =
     let e = c.in_err-planned.field-0.0 in
     reports_steady c.from_residual.result refl (handed_other c.from_residual.result e _ c.from_residual.ensures.1 (c.requires.other e) c.in_err-planned.ensures.answer)
 
--- ---- its lines
+-- ---- its step
 
 pub returns-in_err-step-clause-answer : goal.returns-in_err-step-clause-answer
 returns-in_err-step-clause-answer g c files told current =
     let failed = g.F.Folder.failed in
-    memory_answers (λ step. step.lines.items) (failed c.args.folder.now) (failed c.args.folder.now) c.from_residual-in_err-step.result c.in_err-step.field-0.0 _ c.from_residual-in_err-step.ensures.1 c.in_err-step.ensures.memory
+    memory_answers step_in (failed c.args.folder.now) (failed c.args.folder.now) c.from_residual-in_err-step.result c.in_err-step.field-0.0 _ c.from_residual-in_err-step.ensures.1 (memory_alone_at _ c.in_err-step.field-0.0 c.in_err-step.ensures)
 
 pub returns-in_err-step-clause-left : goal.returns-in_err-step-clause-left
 returns-in_err-step-clause-left g c files order loaded level s told current named can =
@@ -61,14 +61,14 @@ returns-in_err-step-clause-other g c files told other = no_value c.from_residual
 
 pub returns-in_err-step-clause-device : goal.returns-in_err-step-clause-device
 returns-in_err-step-clause-device g c =
-    reports_steady c.from_residual-in_err-step.result refl (memory_apart c.from_residual-in_err-step.result c.in_err-step.field-0.0 c.from_residual-in_err-step.ensures.1 c.in_err-step.ensures.memory)
+    reports_steady c.from_residual-in_err-step.result refl (memory_apart c.from_residual-in_err-step.result c.in_err-step.field-0.0 c.from_residual-in_err-step.ensures.1 (memory_alone_at _ c.in_err-step.field-0.0 c.in_err-step.ensures))
 
 -- ---- its installation
 
 pub returns-in_err-install_planned-clause-answer : goal.returns-in_err-install_planned-clause-answer
 returns-in_err-install_planned-clause-answer g c files told current =
     let failed = g.F.Folder.failed in
-    stopped_on (λ step. step.lines.items) (failed c.args.folder.now) (failed c.args.folder.now) (failed c.install_planned.new.folder) c.from_residual-in_err-install_planned.result c.in_err-install_planned.field-0.0 _
+    stopped_on step_in (failed c.args.folder.now) (failed c.args.folder.now) (failed c.install_planned.new.folder) c.from_residual-in_err-install_planned.result c.in_err-install_planned.field-0.0 _
     c.from_residual-in_err-install_planned.ensures.1 (omega arith) c.install_planned.ensures.device.later (c.in_err-install_planned.ensures.same_current files told current)
 
 pub returns-in_err-install_planned-clause-left : goal.returns-in_err-install_planned-clause-left
@@ -86,7 +86,7 @@ returns-in_err-install_planned-clause-left g c files order loaded level s told c
     let e = c.in_err-install_planned.field-0.0 in
     let h = c.from_residual-in_err-install_planned.ensures.1 in
     let promises = subst (λ (m : ℕ). Promises name cmp v m answer (calls a) (calls n) (tells a) (tells n) c.install_planned.result) c.manifest_of-number.ensures c.install_planned.ensures.survives in
-    step_installed name order cmp g.C.Comparator.short_keys v loaded level s answer (compaction_lines answer.tables c.args.inputs.now (manifest_of v))
+    step_installed name order cmp g.C.Comparator.short_keys v loaded level s (picked_in c.args.picked.now) answer
     (calls a) (calls a) (calls n) (tells a) (tells a) (tells n) c.install_planned.result q
     named (can answer c.in_ok-planned.ensures.answer)
     (λ P x. refused_on c.install_planned.result q e P h x) refl (λ name held. ((λ x. x), (λ x. x)))
@@ -103,11 +103,11 @@ returns-in_err-install_planned-clause-runs g c =
     let n = c.install_planned.new.folder in
     let planned = c.in_ok-planned.planned in
     let answer = joined_answer planned in
-    let tell = λ (a : Answer). compaction_lines a.tables c.args.inputs.now (manifest_of v) in
+    let p = picked_in c.args.picked.now in
     let done = c.install_planned.ensures in
-    install_refused (IsAnsweredBy c.args.merged.now tell) g.C.Comparator.name_bytes g.C.Comparator.cmp v c.manifest_of-number.result planned.groups answer (tell answer)
+    install_refused (IsAnsweredBy p c.args.merged.now) g.C.Comparator.name_bytes g.C.Comparator.cmp v c.manifest_of-number.result planned.groups p answer
     (calls a) (calls n) (tells a) (tells n) (failed a) (failed n) c.install_planned.result c.from_residual-in_err-install_planned.result c.in_err-install_planned.field-0.0
-    c.manifest_of-number.ensures refl (c.in_ok-planned.ensures.answer, refl) c.in_err-install_planned.was c.from_residual-in_err-install_planned.ensures.1
+    c.manifest_of-number.ensures refl (refl, c.in_ok-planned.ensures.answer) c.in_err-install_planned.was c.from_residual-in_err-install_planned.ensures.1
     done.runs done.left done.refused
 
 pub returns-in_err-install_planned-clause-other : goal.returns-in_err-install_planned-clause-other
@@ -122,12 +122,9 @@ returns-in_err-install_planned-clause-device g c =
 pub returns-clause-answer : goal.returns-clause-answer
 returns-clause-answer g c files told current =
     let v = c.args.opened.now.version in
+    let p = picked_in c.args.picked.now in
     let answer = joined_answer c.in_ok-planned.planned in
-    let inputs = c.args.inputs.now in
-    let lines : c.in_ok-step.step.lines.items ≡ compaction_lines answer.tables inputs (manifest_of v) =
-    c.in_ok-step.ensures.lines ∙ ap (λ (n : ℕ). compaction_lines answer.tables inputs n) c.manifest_of-number.ensures in
-    ap (λ (t : List ℕ). Ok t) lines
-    ∙ lines_told c.args.merged.now answer (λ a. compaction_lines a.tables inputs (manifest_of v)) c.in_ok-planned.ensures.answer
+    step_value v p c.args.merged.now answer (step_in c.in_ok-step.step) c.in_ok-planned.ensures.answer (equal_value step_in (step_of v p answer) c.in_ok-step.step c.in_ok-step.ensures)
 
 pub returns-clause-left : goal.returns-clause-left
 returns-clause-left g c files order loaded level s told current named can =
@@ -140,18 +137,16 @@ returns-clause-left g c files order loaded level s told current named can =
     let n = c.install_planned.new.folder in
     let planned = c.in_ok-planned.planned in
     let answer = joined_answer planned in
-    let inputs = c.args.inputs.now in
+    let p = picked_in c.args.picked.now in
     let q : Result CompactionStep Fault = Ok c.in_ok-step.step in
-    let lines : c.in_ok-step.step.lines.items ≡ compaction_lines answer.tables inputs (manifest_of v) =
-    c.in_ok-step.ensures.lines ∙ ap (λ (m : ℕ). compaction_lines answer.tables inputs m) c.manifest_of-number.ensures in
     let promises = subst (λ (m : ℕ). Promises name cmp v m answer (calls a) (calls n) (tells a) (tells n) c.install_planned.result) c.manifest_of-number.ensures c.install_planned.ensures.survives in
     let now = subst (λ (m : ℕ). tells n (codes "CURRENT") (Some (current_text m))) c.manifest_of-number.ensures
     (current_named c.manifest_of-number.result planned.groups (manifest_bytes name cmp v planned.edit) (calls a) (calls n) (tells a) (tells n) c.install_planned.result _ files c.in_ok-install_planned.was c.install_planned.ensures.runs told) in
-    step_installed name order cmp g.C.Comparator.short_keys v loaded level s answer (compaction_lines answer.tables inputs (manifest_of v))
+    step_installed name order cmp g.C.Comparator.short_keys v loaded level s p answer
     (calls a) (calls a) (calls n) (tells a) (tells a) (tells n) c.install_planned.result q
     named (can answer c.in_ok-planned.ensures.answer)
     (λ P x. valued_on c.install_planned.result _ q P c.in_ok-install_planned.was x) refl (λ name held. ((λ x. x), (λ x. x)))
-    now (lines, c.in_ok-step.ensures.edit) tt promises
+    now (equal_value step_in (step_of v p answer) c.in_ok-step.step c.in_ok-step.ensures) tt promises
 
 pub returns-clause-runs : goal.returns-clause-runs
 returns-clause-runs g c =
@@ -162,14 +157,11 @@ returns-clause-runs g c =
     let n = c.install_planned.new.folder in
     let planned = c.in_ok-planned.planned in
     let answer = joined_answer planned in
-    let inputs = c.args.inputs.now in
-    let tell = λ (a : Answer). compaction_lines a.tables inputs (manifest_of v) in
-    let lines : c.in_ok-step.step.lines.items ≡ tell answer =
-    c.in_ok-step.ensures.lines ∙ ap (λ (m : ℕ). compaction_lines answer.tables inputs m) c.manifest_of-number.ensures in
-    install_done (IsAnsweredBy c.args.merged.now tell) g.C.Comparator.name_bytes g.C.Comparator.cmp v c.manifest_of-number.result planned.groups answer (tell answer)
+    let p = picked_in c.args.picked.now in
+    install_done (IsAnsweredBy p c.args.merged.now) g.C.Comparator.name_bytes g.C.Comparator.cmp v c.manifest_of-number.result planned.groups p answer
     (calls a) (calls n) (tells a) (tells n) c.install_planned.result _ c.in_ok-step.step
-    c.manifest_of-number.ensures refl (c.in_ok-planned.ensures.answer, refl) c.in_ok-install_planned.was
-    c.install_planned.ensures.runs lines c.in_ok-step.ensures.edit
+    c.manifest_of-number.ensures refl (refl, c.in_ok-planned.ensures.answer) c.in_ok-install_planned.was
+    c.install_planned.ensures.runs (equal_value step_in (step_of v p answer) c.in_ok-step.step c.in_ok-step.ensures)
 
 pub returns-clause-other : goal.returns-clause-other
 returns-clause-other g c files told other = c.in_ok-install_planned.ensures.other_current files told other

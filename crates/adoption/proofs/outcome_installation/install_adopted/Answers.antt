@@ -1,48 +1,46 @@
-use Rattle.std.proofs.Common.{◌≡◌, ℕ, List, Result, Ok, refl, sym, ap, subst, arith, inl, inr}
-use Rattle.std.specs.Global.{Vec}
+use Rattle.std.proofs.Common.{◌≡◌, ℕ, Result, Ok, refl, sym, ap, subst, arith, inl, inr}
 use Rattle.coding.specs.declared.fault.Fault.{Fault}
 use Rattle.folder.proofs.OpeningLemmas.{refuses}
 use Rattle.folder.proofs.ReportLemmas.{reports_after, reports_handed, reports_steady}
 use Rattle.install.specs.Install.{IsEditedBy, next_version_tables, tables_in}
-use Rattle.store.specs.FolderRequest.{manifest_of}
-use Rattle.store.specs.Lines.{compaction_lines}
+use Rattle.store.specs.Step.{StepView, step_in}
+use Rattle.store.specs.declared.compaction_step.CompactionStep.{CompactionStep}
+use Rattle.store.proofs.Answered.{equal_value}
 use Rattle.store.proofs.Flow.{no_refusal, no_value, stopped_on}
 use Rattle.store.proofs.InstallPart.{refused_ok, refused_on, stopped_named, survives_on, valued_on}
 use Rattle.store.proofs.NoDevice.{handed_memory}
+use Rattle.adoption.specs.Adoption.{adopted_step}
 use Rattle.adoption.specs.AdoptionIn.{given_in}
 use Rattle.adoption.proofs.AdoptionCalls.{calls_done, calls_refused}
-use Rattle.adoption.proofs.AdoptionSteps.{lines_are, never_refused, tells_itself}
-use Rattle.adoption.proofs.outcome_installation.install_lines.Goals as goal
+use Rattle.adoption.proofs.AdoptionSteps.{never_refused, tells_itself}
+use Rattle.adoption.proofs.outcome_installation.install_adopted.Goals as goal
 
-pub returns-in_err-lines-clause-answer : goal.returns-in_err-lines-clause-answer
-returns-in_err-lines-clause-answer g c files told current =
+pub returns-in_err-step-clause-answer : goal.returns-in_err-step-clause-answer
+returns-in_err-step-clause-answer g c files told current =
     let failed = g.F.Folder.failed in
-    let given = c.args.given.now in
-    let tables = tables_in given.outcome.tables.items in
-    let lines = compaction_lines tables c.deref.result.now c.manifest_of-number.result in
-    let e = c.in_err-lines.field-0.0 in
-    refuses (λ v. v.items) (failed c.args.folder.now) (failed c.args.folder.now) c.from_residual.result e (λ a. Ok lines ≡ a) (λ a. a ≡ Ok (compaction_lines tables given.picked.files.items (manifest_of c.args.opened.now.version)))
-    c.from_residual.ensures.1 c.in_err-lines.ensures (λ h. absurd (no_refusal lines e h))
+    let step = adopted_step c.args.opened.now.version (given_in c.args.given.now) in
+    let e = c.in_err-step.field-0.0 in
+    refuses step_in (failed c.args.folder.now) (failed c.args.folder.now) c.from_residual.result e (λ (a : Result StepView Fault). Ok step ≡ a) (λ a. a ≡ Ok step)
+    c.from_residual.ensures.1 c.in_err-step.ensures (λ h. absurd (no_refusal step e h))
 
-pub returns-in_err-lines-clause-left : goal.returns-in_err-lines-clause-left
-returns-in_err-lines-clause-left g c files order loaded told current edited =
+pub returns-in_err-step-clause-left : goal.returns-in_err-step-clause-left
+returns-in_err-step-clause-left g c files order loaded told current edited =
     inl (record { calls = refl; same = tells_itself (g.F.Folder.tells c.args.folder.now); refused = no_value c.from_residual.result _ c.from_residual.ensures.1 })
 
-pub returns-in_err-lines-clause-other : goal.returns-in_err-lines-clause-other
-returns-in_err-lines-clause-other g c files told other = no_value c.from_residual.result _ c.from_residual.ensures.1
+pub returns-in_err-step-clause-other : goal.returns-in_err-step-clause-other
+returns-in_err-step-clause-other g c files told other = no_value c.from_residual.result _ c.from_residual.ensures.1
 
-pub returns-in_err-lines-clause-device : goal.returns-in_err-lines-clause-device
-returns-in_err-lines-clause-device g c =
-    let lines = compaction_lines (tables_in c.args.given.now.outcome.tables.items) c.deref.result.now c.manifest_of-number.result in
-    let e = c.in_err-lines.field-0.0 in
-    reports_steady c.from_residual.result refl (handed_memory c.from_residual.result e c.from_residual.ensures.1 (never_refused lines e c.in_err-lines.ensures))
+pub returns-in_err-step-clause-device : goal.returns-in_err-step-clause-device
+returns-in_err-step-clause-device g c =
+    let step = adopted_step c.args.opened.now.version (given_in c.args.given.now) in
+    let e = c.in_err-step.field-0.0 in
+    reports_steady c.from_residual.result refl (handed_memory c.from_residual.result e c.from_residual.ensures.1 (never_refused step e c.in_err-step.ensures))
 
 pub returns-in_err-install-clause-answer : goal.returns-in_err-install-clause-answer
 returns-in_err-install-clause-answer g c files told current =
     let failed = g.F.Folder.failed in
-    let given = c.args.given.now in
-    stopped_on (λ v. v.items) (failed c.args.folder.now) (failed c.args.folder.now) (failed c.install.new.folder) c.from_residual-in_err-install.result c.in_err-install.field-0.0
-    (λ a. a ≡ Ok (compaction_lines (tables_in given.outcome.tables.items) given.picked.files.items (manifest_of c.args.opened.now.version)))
+    stopped_on step_in (failed c.args.folder.now) (failed c.args.folder.now) (failed c.install.new.folder) c.from_residual-in_err-install.result c.in_err-install.field-0.0
+    (λ a. a ≡ Ok (adopted_step c.args.opened.now.version (given_in c.args.given.now)))
     c.from_residual-in_err-install.ensures.1 (omega arith) c.install.ensures.device.later (c.in_err-install.ensures.same_current files told current)
 
 pub returns-in_err-install-clause-left : goal.returns-in_err-install-clause-left
@@ -62,7 +60,7 @@ returns-in_err-install-clause-left g c files order loaded told current edited =
     inr (record {
       survives = survives_on cmp order v given.next loaded (next_version_tables cmp given.next tables loaded) (calls c.args.folder.now) (calls c.install.new.folder) (tells c.args.folder.now) (tells c.args.folder.now) (tells c.install.new.folder) c.install.result q
           (λ P x. refused_on c.install.result q e P h x) (λ files tells. tells) (c.install.ensures.survives order given.next loaded by);
-      printed = refused_ok q e _ h;
+      step = refused_ok q e _ h;
       refused = stopped_named (failed c.args.folder.now) (failed c.install.new.folder) q e h (c.in_err-install.ensures.same_current files told current);
     })
 
@@ -74,9 +72,7 @@ returns-in_err-install-clause-device g c = reports_handed c.from_residual-in_err
 
 pub returns-clause-answer : goal.returns-clause-answer
 returns-clause-answer g c files told current =
-    let given = c.args.given.now in
-    ap (λ (text : List ℕ). Ok text)
-    (lines_are (tables_in given.outcome.tables.items) c.deref.result.now given.picked.files.items c.manifest_of-number.result (manifest_of c.args.opened.now.version) c.in_ok-lines.lines.items c.in_ok-lines.ensures c.deref.ensures.value c.manifest_of-number.ensures)
+    ap (λ (step : StepView). Ok step) (equal_value step_in (adopted_step c.args.opened.now.version (given_in c.args.given.now)) c.in_ok-step.step c.in_ok-step.ensures)
 
 pub returns-clause-left : goal.returns-clause-left
 returns-clause-left g c files order loaded told current edited =
@@ -87,12 +83,12 @@ returns-clause-left g c files order loaded told current edited =
     let v = c.args.opened.now.version in
     let given = c.args.given.now in
     let tables = tables_in given.outcome.tables.items in
-    let q : Result (Vec ℕ) Fault = Ok c.in_ok-lines.lines in
+    let q : Result CompactionStep Fault = Ok c.in_ok-step.step in
     let by = subst (λ (n : ℕ). IsEditedBy name cmp order v n tables given.outcome.edit.items given.next) (sym c.manifest_of-number.ensures) edited in
     inr (record {
       survives = survives_on cmp order v given.next loaded (next_version_tables cmp given.next tables loaded) (calls c.args.folder.now) (calls c.install.new.folder) (tells c.args.folder.now) (tells c.args.folder.now) (tells c.install.new.folder) c.install.result q
           (λ P x. valued_on c.install.result _ q P c.in_ok-install.was x) (λ files tells. tells) (c.install.ensures.survives order given.next loaded by);
-      printed = lines_are tables c.deref.result.now given.picked.files.items c.manifest_of-number.result (manifest_of v) c.in_ok-lines.lines.items c.in_ok-lines.ensures c.deref.ensures.value c.manifest_of-number.ensures;
+      step = equal_value step_in (adopted_step v (given_in given)) c.in_ok-step.step c.in_ok-step.ensures;
       refused = tt;
     })
 
@@ -101,13 +97,13 @@ returns-clause-other g c files told other = c.in_ok-install.ensures.other_curren
 
 pub returns-clause-device : goal.returns-clause-device
 returns-clause-device g c =
-    let q : Result (Vec ℕ) Fault = Ok c.in_ok-lines.lines in
+    let q : Result CompactionStep Fault = Ok c.in_ok-step.step in
     reports_after q c.in_ok-install.was c.install.ensures.device tt
 
 -- ---- the calls, whatever the folder tells
 
-pub returns-in_err-lines-clause-runs : goal.returns-in_err-lines-clause-runs
-returns-in_err-lines-clause-runs g c =
+pub returns-in_err-step-clause-runs : goal.returns-in_err-step-clause-runs
+returns-in_err-step-clause-runs g c =
     inl (record { calls = refl; same = tells_itself (g.F.Folder.tells c.args.folder.now); refused = no_value c.from_residual.result _ c.from_residual.ensures.1 })
 
 pub returns-in_err-install-clause-runs : goal.returns-in_err-install-clause-runs
@@ -128,7 +124,6 @@ returns-clause-runs g c =
     let n = c.install.new.folder in
     let v = c.args.opened.now.version in
     let given = c.args.given.now in
-    let tables = tables_in given.outcome.tables.items in
     inr (calls_done g.C.Comparator.name_bytes g.C.Comparator.cmp v (given_in given) c.manifest_of-number.result (calls a) (calls n) (tells a) (tells n)
-    c.install.result _ c.in_ok-lines.lines c.manifest_of-number.ensures c.in_ok-install.was c.install.ensures.runs
-    (lines_are tables c.deref.result.now given.picked.files.items c.manifest_of-number.result (manifest_of v) c.in_ok-lines.lines.items c.in_ok-lines.ensures c.deref.ensures.value c.manifest_of-number.ensures))
+    c.install.result _ c.in_ok-step.step c.manifest_of-number.ensures c.in_ok-install.was c.install.ensures.runs
+    (equal_value step_in (adopted_step v (given_in given)) c.in_ok-step.step c.in_ok-step.ensures))

@@ -1,0 +1,88 @@
+//! What the caller of a compaction is answered, made of what it made.
+
+ghost use Rattle.std.specs.Prelude.{Ok};
+ghost use Rattle.coding.specs.Answers.{EqualOrMemory};
+ghost use Rattle.compact.specs.AnswerIn.{answer_in};
+ghost use Rattle.compact.specs.GroupedAnswer.{joined_answer, table_sizes};
+ghost use Rattle.install.specs.Install.{tables_in};
+ghost use Rattle.pick.specs.PickedInputs.{picked_in};
+ghost use Rattle.store.specs.Outcome.{outcome_in, outcome_of};
+ghost use Rattle.store.specs.Step.{step_in, step_of};
+
+use crate::compaction_outcome::CompactionOutcome;
+use crate::compaction_step::CompactionStep;
+use crate::folder_request::manifest_of;
+use crate::level_compaction::LevelOutcome;
+use coding::Fault;
+use compact::{Planned, deletions_of};
+use edit::{Outcome, Version};
+use ikey::Comparator;
+use pick::Inputs;
+use std::alloc::Global;
+
+/// The step of planned outputs of `picked` inputs of a `version`. No table is encoded.
+pub(crate) fn planned_step<C: Comparator>(
+    alloc: Global,
+    version: &Version,
+    picked: &Inputs,
+    planned: &Planned<'_, '_, C>,
+) -> Result<CompactionStep, Fault>
+    ensures { EqualOrMemory step_in result
+        (Ok (step_of version.now (picked_in picked.now) (joined_answer planned.now))) }
+{
+    let outputs = planned.sizes(alloc)?;
+    let deleted = deletions_of(alloc, &picked.files)?;
+    let edit = Vec::from_slice(alloc, planned.edit())?;
+    Ok(CompactionStep {
+        outputs,
+        deleted,
+        manifest: manifest_of(version),
+        edit,
+    })
+}
+
+/// The step of an outcome of `picked` inputs of a `version`.
+pub fn outcome_step(
+    alloc: Global,
+    version: &Version,
+    picked: &Inputs,
+    outcome: &Outcome,
+) -> Result<CompactionStep, Fault>
+    ensures { EqualOrMemory step_in result
+        (Ok (step_of version.now (picked_in picked.now) (answer_in outcome.now))) }
+{
+    let outputs = sizes_of(alloc, &outcome.tables)?;
+    let deleted = deletions_of(alloc, &picked.files)?;
+    let edit = Vec::from_slice(alloc, &outcome.edit)?;
+    Ok(CompactionStep {
+        outputs,
+        deleted,
+        manifest: manifest_of(version),
+        edit,
+    })
+}
+
+/// The answer of a compaction that isn't installed.
+pub(crate) fn level_answer(alloc: Global, made: LevelOutcome) -> Result<CompactionOutcome, Fault>
+    ensures { EqualOrMemory outcome_in result
+        (Ok (outcome_of (picked_in made.picked) (answer_in made.outcome))) }
+{
+    let outputs = sizes_of(alloc, &made.outcome.tables)?;
+    let deleted = deletions_of(alloc, &made.picked.files)?;
+    Ok(CompactionOutcome {
+        outputs,
+        deleted,
+        outcome: made.outcome,
+    })
+}
+
+/// The numbers and the lengths of tables.
+fn sizes_of(alloc: Global, tables: &[(u64, Vec<u8>)]) -> Result<Vec<(u64, u64)>, Fault>
+    ensures { EqualOrMemory (λ v. v.items) result (Ok (table_sizes (tables_in tables.now))) }
+{
+    let mut sizes = Vec::with_capacity(alloc, tables.len())?;
+    for (number, bytes) in tables {
+        sizes.push((*number, bytes.len() as u64))?;
+    }
+    Ok(sizes)
+}

@@ -21,7 +21,6 @@ use Rattle.edit.proofs.Inserted.{all_permute}
 use Rattle.edit.proofs.Kept.{apart_filter}
 use Rattle.edit.proofs.RisingFiles.{same_file, number_total, same_turned, tied_same}
 use Rattle.edit.proofs.Tested.{both_true, both_false, not_is_true}
-use Rattle.pick.specs.PickedInputs.{IsPicked}
 use Rattle.pick.specs.declared.picked_inputs.InputFile.{InputFile}
 use Rattle.pick.proofs.Lists.{and_both, and_second, same_test}
 use Rattle.reads.specs.Lawful.{IsLawful}
@@ -35,7 +34,7 @@ use Rattle.compact.specs.Request.{RequestView}
 use Rattle.compact.specs.EditOf.{deletion_of, deletions_of, edit_of, new_file, new_files}
 use Rattle.compact.specs.GetsAfter.{staying_files}
 use Rattle.compact.specs.EditAfter.{version_after, AreNumberedFrom, EditApplies}
-use Rattle.compact.proofs.VersionInputs.{any_passes, input_file, input_of, is_one, level_of_input, below_first}
+use Rattle.compact.proofs.VersionInputs.{AreOfVersion, any_passes, input_file, input_of, is_one, level_of_input, below_first}
 
 -- ---- elements put in at their places, in an order in which those that tie are one
 
@@ -186,8 +185,8 @@ distinct_two (x ∷ xs) ys hx hy h = (
     all_two [] k = all_behind ys (λ g j. h x g (first_in x xs) j)
     all_two (z ∷ zs) k = (k.0, all_two zs k.1)
 
-module _ (cmp : List ℕ → List ℕ → Ordering) (total : IsTotalOrder cmp) (v : State) (tables : List NumberedContents) (level : ℕ) (r : RequestView) (outputs : List Output)
-    (lawful : IsLawful cmp v tables) (picked : IsPicked cmp v level r.picked) (high : ForSome v.next_file (λ next. next ≤ r.first_number)) (numbered : AreNumberedFrom r.first_number outputs) where
+module _ (cmp : List ℕ → List ℕ → Ordering) (total : IsTotalOrder cmp) (v : State) (tables : List NumberedContents) (r : RequestView) (outputs : List Output)
+    (lawful : IsLawful cmp v tables) (placed : AreOfVersion v r.picked) (high : ForSome v.next_file (λ next. next ≤ r.first_number)) (numbered : AreNumberedFrom r.first_number outputs) where
   abbrev files : List InputFile
   files = r.picked.files
 
@@ -208,7 +207,7 @@ module _ (cmp : List ℕ → List ℕ → Ordering) (total : IsTotalOrder cmp) (
       each : (d : DeletedFile) → Contains (deletions_of files) d → has_place v.files d ≡ true
       each d at =
           let x = from_deletions d at in
-          let f = input_file cmp total v tables lawful level r.picked picked x.0 x.1 in
+          let f = placed x.0 x.1 in
           let levels : f.file.level ≡ d.level = f.stands ∙ ap (λ (y : DeletedFile). y.level) x.2 in
           let numbers : f.file.meta.number ≡ d.number = ap (λ (m : FileMeta). m.number) f.is ∙ ap (λ (y : DeletedFile). y.number) x.2 in
           any_at (λ (g : NewFile). is_same_place (place_of g) d) v.files f.file f.there
@@ -222,12 +221,12 @@ module _ (cmp : List ℕ → List ℕ → Ordering) (total : IsTotalOrder cmp) (
           let x = any_passes (is_same_place (place_of f)) (deletions_of files) h in
           let i = from_deletions x.item x.there in
           let number : f.meta.number ≡ x.item.number = eqb-true f.meta.number x.item.number (and_second (eqb f.level x.item.level) (eqb f.meta.number x.item.number) x.passes) in
-          is_one cmp total v tables lawful level r.picked picked i.0 f.meta.number i.1 (ap (λ (y : DeletedFile). y.number) i.2 ∙ sym number)
+          is_one r.picked i.0 f.meta.number i.1 (ap (λ (y : DeletedFile). y.number) i.2 ∙ sym number)
 
       back : is_input r.picked f.meta.number ≡ true → is_deleted (deletions_of files) f ≡ true
       back h =
-          let i = input_of cmp total v tables lawful level r.picked picked f.meta.number h in
-          let stands : f.level ≡ i.input.level = level_of_input cmp total v tables lawful level r.picked picked f at i.input i.there i.number_is in
+          let i = input_of r.picked f.meta.number h in
+          let stands : f.level ≡ i.input.level = level_of_input v lawful.apart r.picked placed f at i.input i.there i.number_is in
           any_at (is_same_place (place_of f)) (deletions_of files) (deletion_of i.input) (into_deletions i.input i.there)
           (and_both (eqb f.level i.input.level) (eqb f.meta.number i.input.meta.number) (eq-eqb f.level i.input.level stands) (eq-eqb f.meta.number i.input.meta.number (sym i.number_is)))
 
@@ -250,7 +249,7 @@ module _ (cmp : List ℕ → List ℕ → Ordering) (total : IsTotalOrder cmp) (
       and_both (are_apart (new_files r outputs)) (not (list_any (λ (f : NewFile). has_number (new_files r outputs) f.meta.number) (undeleted_files (deletions_of files) v.files)))
       (new_apart (r.picked.level + 1) r.first_number outputs numbered) (ap (λ (l : List NewFile). not (list_any (λ (f : NewFile). has_number (new_files r outputs) f.meta.number) l)) kept_are ∙ ap not none)
 
-  edited : applied v (edit_of r (new_files r outputs)) ≡ Some (version_after v r outputs)
+  pub edited : applied v (edit_of r (new_files r outputs)) ≡ Some (version_after v r outputs)
   edited =
       rw (after_is v.files (deletions_of files) (new_files r outputs) there new)
       (ap (λ (l : List NewFile). Some (with_files (length (new_files r outputs)) (fold with_file l (new_files r outputs)))) kept_are
@@ -270,11 +269,11 @@ module _ (cmp : List ℕ → List ℕ → Ordering) (total : IsTotalOrder cmp) (
       let is : x.source.number ≡ g.meta.number = ap (λ (h : NewFile). h.meta.number) x.is in
       omega (arith, lt, le, is, same)))
 
-  files_are : IsPermutation (staying_files v r.picked ++ new_files r outputs) (version_after v r outputs).files
+  pub files_are : IsPermutation (staying_files v r.picked ++ new_files r outputs) (version_after v r outputs).files
   files_are = all_permute number_cmp number_total same_file same_turned tied_same (staying_files v r.picked) (new_files r outputs) apart_all
 
 pub edit_applies : (cmp : List ℕ → List ℕ → Ordering) → IsTotalOrder cmp → EditApplies cmp
 edit_applies cmp total = record {
-  applies = λ v tables level r outputs lawful picked high numbered. edited cmp total v tables level r outputs lawful picked high numbered;
-  files = λ v tables level r outputs lawful picked high numbered. files_are cmp total v tables level r outputs lawful picked high numbered;
+  applies = λ v tables level r outputs lawful picked high numbered. edited cmp total v tables r outputs lawful (input_file cmp total v tables lawful level r.picked picked) high numbered;
+  files = λ v tables level r outputs lawful picked high numbered. files_are cmp total v tables r outputs lawful (input_file cmp total v tables lawful level r.picked picked) high numbered;
 }

@@ -19,7 +19,7 @@ use Rattle.edit.specs.declared.meta.FileMeta.{FileMeta}
 use Rattle.edit.specs.declared.meta.NewFile.{NewFile}
 use Rattle.merge.specs.MergedLists.{entries_of_lists}
 use Rattle.merge.specs.Union.{key_version_cmp, VersionsRise, IsUnion}
-use Rattle.pick.specs.PickedInputs.{PickedInputs, IsPicked}
+use Rattle.pick.specs.PickedInputs.{PickedInputs}
 use Rattle.pick.specs.declared.picked_inputs.InputFile.{InputFile}
 use Rattle.reads.specs.Gets.{get_of}
 use Rattle.reads.specs.Lawful.{IsLawful}
@@ -31,7 +31,8 @@ use Rattle.reads.proofs.Orders.{less_is}
 use Rattle.reads.proofs.Pairs.{Pairs}
 use Rattle.compact.specs.InputsTogether.{StandTogether, entries_read, files_above, files_taken, files_below}
 use Rattle.compact.proofs.FallingOrder.{IsLower, is_of, of_user, user_is, falls}
-use Rattle.compact.proofs.StandingTogether.{inputs_stand_together}
+use Rattle.compact.proofs.StandingTogether.{stand_together}
+use Rattle.compact.proofs.SafeInputs.{AreSafe, picked_safe}
 use Rattle.keep.specs.DropRule.{is_same_user, keeps, kept_after, kept}
 use Rattle.keep.specs.Readable.{Readable, is_read}
 use Rattle.keep.proofs.Dropped.{one_key_law}
@@ -255,8 +256,8 @@ module _ (cmp : List ℕ → List ℕ → Ordering) (total : IsTotalOrder cmp) (
 
   -- ---- the gets
 
-  module _ (v : State) (tables : List NumberedContents) (level : ℕ) (p : PickedInputs) (r : Readable) (union : List Entry) (after : State) (tables_after : List NumberedContents)
-      (lawful : IsLawful cmp v tables) (low : All (λ (f : NewFile). f.level ≤ 6) v.files) (picked : IsPicked cmp v level p)
+  module _ (v : State) (tables : List NumberedContents) (p : PickedInputs) (r : Readable) (union : List Entry) (after : State) (tables_after : List NumberedContents)
+      (lawful : IsLawful cmp v tables) (low : All (λ (f : NewFile). f.level ≤ 6) v.files) (safe : AreSafe cmp v tables p)
       (is_union : IsUnion cmp (entries_of_inputs tables p) union) (hold : HoldKept cmp v tables p r union after tables_after)
       (user : List ℕ) (at : ℕ) (read : is_read r at ≡ true) where
     abbrev above : List Entry
@@ -269,7 +270,7 @@ module _ (cmp : List ℕ → List ℕ → Ordering) (total : IsTotalOrder cmp) (
     below = entries_read tables user (files_below cmp v p)
 
     stand : StandTogether cmp v tables p user above inputs below
-    stand = inputs_stand_together cmp total v tables level p user lawful low picked
+    stand = stand_together cmp total v tables p user lawful low safe
 
     -- the entries of the inputs' tables are those of the union
     held_joined : (e : Entry) → Contains (flat_map (λ (i : InputFile). table_entries tables i.meta.number) p.files) e → Contains union e
@@ -345,7 +346,7 @@ module _ (cmp : List ℕ → List ℕ → Ordering) (total : IsTotalOrder cmp) (
           | inr j ↦ Contains-append_right inputs below e j
         ])
 
-    get_is : get_of after tables_after user at ≡ get_of v tables user at
+    pub get_is : get_of after tables_after user at ≡ get_of v tables user at
     get_is =
         answers_newest_first after tables_after user own at are_those own_falls
         ∙ ((one_key_law cmp).answers r p.deeper user above inputs below at stand.of_user stand.falls stand.at_base read
@@ -353,4 +354,4 @@ module _ (cmp : List ℕ → List ℕ → Ordering) (total : IsTotalOrder cmp) (
 
   pub gets_after : GetsAfter cmp
   gets_after v tables level p r union after tables_after lawful low picked is_union hold user at read =
-      get_is v tables level p r union after tables_after lawful low picked is_union hold user at read
+      get_is v tables p r union after tables_after lawful low (picked_safe cmp total v tables level p lawful low picked) is_union hold user at read

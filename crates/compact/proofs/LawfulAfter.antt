@@ -27,7 +27,7 @@ use Rattle.edit.specs.declared.meta.NewFile.{NewFile}
 use Rattle.edit.proofs.RisingFiles.{same_file, same_turned, distinct_apart}
 use Rattle.edit.proofs.Tested.{not_is_true}
 use Rattle.merge.specs.MergedLists.{entries_of_lists}
-use Rattle.pick.specs.PickedInputs.{PickedInputs, IsPicked}
+use Rattle.pick.specs.PickedInputs.{PickedInputs}
 use Rattle.pick.specs.declared.picked_inputs.InputFile.{InputFile}
 use Rattle.pick.proofs.Lists.{false_true}
 use Rattle.std.proofs.lemmas.Bool.{cases_lt}
@@ -38,8 +38,6 @@ use Rattle.reads.proofs.Members.{later_in, first_in, from_filter, in_flat_map, f
 use Rattle.reads.proofs.Newer.{newer_at, newer_of}
 use Rattle.reads.proofs.Pairs.{Pairs, pairs_from, pairs_to, pairs_part, pairs_of_two, pairs_joined}
 use Rattle.compact.specs.ClosedInputs.{AreClosed, is_input, IsNewerThanInputs, IsOlderThanInputs}
-use Rattle.compact.proofs.Closing.{closed_inputs}
-use Rattle.compact.proofs.ClosedLevels.{in_level}
 use Rattle.compact.proofs.FallingOrder.{IsLower}
 use Rattle.compact.proofs.FileKeys.{below_upto, from_smallest, keys_total, to_largest, upto_below}
 use Rattle.keep.specs.DropRule.{keeps, kept_after, kept}
@@ -52,11 +50,12 @@ use Rattle.compact.specs.GetsAfter.{staying_files, entries_of_inputs, HoldKept}
 use Rattle.compact.specs.EditAfter.{version_after}
 use Rattle.compact.specs.RequestOverVersion.{IsOver, AreWritten, output_entries, HoldOutputs}
 use Rattle.compact.specs.SurvivingReads.{output_table, tables_after, VersionAfterLaw}
-use Rattle.compact.proofs.AppliedEdit.{apart_all, edit_applies, numbered_to}
+use Rattle.compact.proofs.AppliedEdit.{apart_all, files_are, numbered_to}
 use Rattle.compact.proofs.Gets.{kept_part, not_itself, rising_lower}
-use Rattle.compact.proofs.VersionInputs.{below_first, input_file, is_one}
+use Rattle.compact.proofs.VersionInputs.{below_first, is_one}
 use Rattle.compact.proofs.Lookups.{LiesBelow, other_found, output_found, outputs_apart}
-use Rattle.compact.proofs.Sides.{sides, users_below}
+use Rattle.compact.proofs.SafeInputs.{AreSafe, picked_safe}
+use Rattle.compact.proofs.Sides.{users_below}
 
 -- ---- the ends of entries
 
@@ -105,8 +104,8 @@ one_way x y (inl h) = h
 one_way x y (inr h) = turned x y h
 
 module _ (cmp : List ℕ → List ℕ → Ordering) (total : IsTotalOrder cmp) (exact : IsExact cmp) (short_keys : ShortKeys)
-    (v : State) (tables : List NumberedContents) (level : ℕ) (r : RequestView) (answer : Answer)
-    (lawful : IsLawful cmp v tables) (low : All (λ (f : NewFile). f.level ≤ 6) v.files) (picked : IsPicked cmp v level r.picked) (over : IsOver v tables r)
+    (v : State) (tables : List NumberedContents) (r : RequestView) (answer : Answer)
+    (lawful : IsLawful cmp v tables) (safe : AreSafe cmp v tables r.picked) (over : IsOver v tables r)
     (held : HoldOutputs cmp short_keys tables r answer) where
   abbrev p : PickedInputs
   p = r.picked
@@ -128,7 +127,7 @@ module _ (cmp : List ℕ → List ℕ → Ordering) (total : IsTotalOrder cmp) (
   now_is = ap (λ (outputs : List (ℕ × List ℕ)). map (output_table cmp) outputs ++ filter (λ (t : NumberedContents). not (is_input r.picked t.number)) tables) held.answer_tables
 
   closed : AreClosed cmp v tables r.picked
-  closed = closed_inputs cmp total v tables level r.picked lawful low picked
+  closed = safe.closed
 
   written : (q : Output) → Contains outputs q → AreWritten cmp q.bytes q.entries
   written q at = All-contains (λ (x : Output). AreWritten cmp x.bytes x.entries) outputs q held.written at
@@ -136,7 +135,7 @@ module _ (cmp : List ℕ → List ℕ → Ordering) (total : IsTotalOrder cmp) (
   -- ---- the files after
 
   permuted : IsPermutation (staying_files v r.picked ++ new_files r held.outputs) after.files
-  permuted = (edit_applies cmp total).files v tables level r held.outputs lawful picked over.numbers held.numbered
+  permuted = files_are cmp total v tables r held.outputs lawful safe.placed over.numbers held.numbered
 
   -- a file that is an output
   abbrev IsOutput : NewFile → Type 0
@@ -201,7 +200,7 @@ module _ (cmp : List ℕ → List ℕ → Ordering) (total : IsTotalOrder cmp) (
 
   file_of_input : (i : InputFile) → Contains r.picked.files i → IsFileOf cmp tables i.meta
   file_of_input i at =
-      let f = input_file cmp total v tables lawful level r.picked picked i at in
+      let f = safe.placed i at in
       subst (IsFileOf cmp tables) f.is (All-contains (λ (x : NewFile). IsFileOf cmp tables x.meta) v.files f.file lawful.files f.there)
 
   -- ---- each file's table
@@ -246,7 +245,7 @@ module _ (cmp : List ℕ → List ℕ → Ordering) (total : IsTotalOrder cmp) (
 
   distinct_after : IsDistinct same_file after.files
   distinct_after =
-      IsDistinct-IsPermutation same_file same_turned (staying_files v r.picked ++ new_files r held.outputs) after.files permuted (apart_all cmp total v tables level r held.outputs lawful picked over.numbers held.numbered)
+      IsDistinct-IsPermutation same_file same_turned (staying_files v r.picked ++ new_files r held.outputs) after.files permuted (apart_all cmp total v tables r held.outputs lawful safe.placed over.numbers held.numbered)
 
   below_side : (f : NewFile) → Contains (staying_files v r.picked) f ⊎ IsOutput f → f.meta.number < r.first_number + length outputs
   below_side f (inl i) = let lt = below_first cmp v tables lawful r.first_number over.numbers f (there f i) in omega (arith, lt)
@@ -264,7 +263,7 @@ module _ (cmp : List ℕ → List ℕ → Ordering) (total : IsTotalOrder cmp) (
   beside : (f : NewFile) → Contains (staying_files v r.picked) f → f.level ≡ r.picked.level + 1 → (q : Output) → Contains outputs q
       → (internal_cmp cmp f.meta.largest (first_key q.entries) ≡ Less) ⊎ (internal_cmp cmp (last_key [] q.entries) f.meta.smallest ≡ Less)
   beside f i own q at =
-      elim (sides cmp total v tables lawful level r.picked picked f.meta (in_level cmp total v tables lawful f (there f i) (level + 1) (own ∙ ap (λ (n : ℕ). n + 1) picked.level_is)) (out f i)) [
+      elim (safe.beside f (there f i) (out f i) own) [
         | inl before ↦ inl (of_first before)
         | inr behind ↦ inr (of_last behind)
       ]
@@ -332,9 +331,9 @@ module _ (cmp : List ℕ → List ℕ → Ordering) (total : IsTotalOrder cmp) (
   -- an entry of a file that stays, and one of an input
   stay_input : (f : NewFile) → Contains (staying_files v r.picked) f → (x y : Entry) → Contains (table_entries tables f.meta.number) x → IsFromInput y → AreDistinct x y
   stay_input f i x y own from =
-      let g = input_file cmp total v tables lawful level r.picked picked from.input from.there_in in
+      let g = safe.placed from.input from.there_in in
       let numbers : g.file.meta.number ≡ from.input.meta.number = ap (λ (m : FileMeta). m.number) g.is in
-      let taken : is_input r.picked g.file.meta.number ≡ true = is_one cmp total v tables lawful level r.picked picked from.input g.file.meta.number from.there_in (sym numbers) in
+      let taken : is_input r.picked g.file.meta.number ≡ true = is_one r.picked from.input g.file.meta.number from.there_in (sym numbers) in
       let differ : f ≡ g.file → ⊥ = λ same. false_true (is_input r.picked g.file.meta.number) taken (sym (ap (λ (h : NewFile). is_input r.picked h.meta.number) same) ∙ out f i) in
       one_way x y
       (pairs_of_two AreDistinct (λ (h : NewFile). table_entries tables h.meta.number) v.files f g.file x y differ all_distinct (there f i) g.there own (subst (λ (n : ℕ). Contains (table_entries tables n) y) (sym numbers) from.held_by))
@@ -457,6 +456,6 @@ module _ (cmp : List ℕ → List ℕ → Ordering) (total : IsTotalOrder cmp) (
 
 pub stands_after : (cmp : List ℕ → List ℕ → Ordering) → IsTotalOrder cmp → IsExact cmp → (short_keys : ShortKeys) → VersionAfterLaw cmp short_keys
 stands_after cmp total exact short_keys = record {
-  lawful = λ v tables level r answer lawful low picked over held. lawful_after cmp total exact short_keys v tables level r answer lawful low picked over held;
-  holds = λ v tables level r answer lawful low picked over held. holds_after cmp total exact short_keys v tables level r answer lawful low picked over held;
+  lawful = λ v tables level r answer lawful low picked over held. lawful_after cmp total exact short_keys v tables r answer lawful (picked_safe cmp total v tables level r.picked lawful low picked) over held;
+  holds = λ v tables level r answer lawful low picked over held. holds_after cmp total exact short_keys v tables r answer lawful (picked_safe cmp total v tables level r.picked lawful low picked) over held;
 }

@@ -16,6 +16,10 @@ pub mod VersionInputs
 pub mod AppliedEdit
 pub mod Outputs
 pub mod Sides
+pub mod ChosenNumbers
+pub mod ClosedChoices
+pub mod PickedChoice
+pub mod SafeInputs
 pub mod Lookups
 pub mod LawfulAfter
 pub mod SurvivingReads

@@ -34,7 +34,6 @@ use Rattle.edit.specs.declared.meta.FileMeta.{FileMeta}
 use Rattle.edit.specs.declared.meta.NewFile.{NewFile}
 use Rattle.merge.specs.MergedLists.{entries_of_lists, merged}
 use Rattle.merge.specs.Union.{key_version_cmp, VersionsRise, IsUnion}
-use Rattle.pick.specs.PickedInputs.{IsPicked}
 use Rattle.pick.specs.declared.picked_inputs.InputFile.{InputFile}
 use Rattle.pick.proofs.Lists.{and_first, and_second}
 use Rattle.reads.specs.Lawful.{IsLawful, IsFileOf}
@@ -58,7 +57,7 @@ use Rattle.compact.specs.GetsAfter.{entries_of_inputs}
 use Rattle.compact.specs.EditAfter.{AreNumberedFrom}
 use Rattle.compact.specs.RequestOverVersion.{input_bytes_of, IsOver, AreWritten, output_entries, HoldOutputs, OutputsHold}
 use Rattle.compact.proofs.Gets.{kept_part}
-use Rattle.compact.proofs.VersionInputs.{input_file}
+use Rattle.compact.proofs.VersionInputs.{AreOfVersion, input_file}
 
 -- ---- steps that may be refused
 
@@ -270,8 +269,8 @@ has_outputs r ws answer h =
     }
 
 module _ (cmp : List ℕ → List ℕ → Ordering) (total : IsTotalOrder cmp) (exact : IsExact cmp) (short_keys : ShortKeys) (reads_back : ReadBackLaw cmp short_keys)
-    (v : State) (tables : List NumberedContents) (level : ℕ) (r : RequestView) (answer : Answer)
-    (lawful : IsLawful cmp v tables) (picked : IsPicked cmp v level r.picked) (over : IsOver v tables r) (answers : one_thread cmp short_keys r ≡ Ok answer) where
+    (v : State) (tables : List NumberedContents) (r : RequestView) (answer : Answer)
+    (lawful : IsLawful cmp v tables) (placed : AreOfVersion v r.picked) (over : IsOver v tables r) (answers : one_thread cmp short_keys r ≡ Ok answer) where
   abbrev written_by : List Entry → List ℕ
   written_by = table_for cmp short_keys r
 
@@ -301,7 +300,7 @@ module _ (cmp : List ℕ → List ℕ → Ordering) (total : IsTotalOrder cmp) (
 
   of_input : (i : InputFile) → Contains r.picked.files i → IsFileOf cmp tables i.meta
   of_input i at =
-      let f = input_file cmp total v tables lawful level r.picked picked i at in
+      let f = placed i at in
       subst (IsFileOf cmp tables) f.is (All-contains (λ (x : NewFile). IsFileOf cmp tables x.meta) v.files f.file lawful.files f.there)
 
   is_union : IsUnion cmp (entries_of_inputs tables r.picked) union
@@ -389,4 +388,4 @@ module _ (cmp : List ℕ → List ℕ → Ordering) (total : IsTotalOrder cmp) (
 
 pub outputs_hold : (cmp : List ℕ → List ℕ → Ordering) → IsTotalOrder cmp → IsExact cmp → (short_keys : ShortKeys) → ReadBackLaw cmp short_keys → OutputsHold cmp short_keys
 outputs_hold cmp total exact short_keys reads_back v tables level r answer lawful picked over answers =
-    hold_outputs cmp total exact short_keys reads_back v tables level r answer lawful picked over answers
+    hold_outputs cmp total exact short_keys reads_back v tables r answer lawful (input_file cmp total v tables lawful level r.picked picked) over answers

@@ -44,7 +44,7 @@ above_if Less e = absurd cc
 above_if Equal e = absurd cc
 above_if Greater e = refl
 
-both_false : (a b : Bool) → (a && b) ≡ false → (a ≡ false) ⊎ (b ≡ false)
+pub both_false : (a b : Bool) → (a && b) ≡ false → (a ≡ false) ⊎ (b ≡ false)
 both_false true b e = inr e
 both_false false b e = inl refl
 
@@ -53,7 +53,7 @@ none_passes : {X : Type 0} (p : X → Bool) (xs : List X) → list_any p xs ≡ 
 none_passes p xs h x at = refuted (p x) (λ passes. false_true (list_any p xs) (any_at p xs x at passes) h)
 
 module _ (cmp : List ℕ → List ℕ → Ordering) (total : IsTotalOrder cmp) where
-  below_if : (a b : List ℕ) → is_at_most cmp a b ≡ false → cmp b a ≡ Less
+  pub below_if : (a b : List ℕ) → is_at_most cmp a b ≡ false → cmp b a ≡ Less
   below_if a b h = total.antisymm b a ∙ above_if (cmp a b) h
 
   pub users_below : (a b : List ℕ) → cmp (user_of a) (user_of b) ≡ Less → internal_cmp cmp a b ≡ Less
@@ -61,7 +61,7 @@ module _ (cmp : List ℕ → List ℕ → Ordering) (total : IsTotalOrder cmp) w
   users_below a b h =
       ap (λ (o : Ordering). ordering_then o (ordering_then (nat_cmp (sequence_of b) (sequence_of a)) (nat_cmp (kind_number (kind_of b)) (kind_number (kind_of a))))) h
 
-  goes_behind : (key : List ℕ) (g : FileMeta) → goes_on cmp (Some key) g ≡ true → internal_cmp cmp key g.smallest ≡ Less
+  pub goes_behind : (key : List ℕ) (g : FileMeta) → goes_on cmp (Some key) g ≡ true → internal_cmp cmp key g.smallest ≡ Less
   goes_behind key g h = is_less (internal_cmp cmp key g.smallest) (and_first (is_lt (internal_cmp cmp key g.smallest)) (is_eq (cmp (user_of key) (user_of g.smallest))) h)
 
   -- a boundary file goes on after the file with the largest key of those chosen before it
@@ -138,9 +138,9 @@ module _ (cmp : List ℕ → List ℕ → Ordering) (total : IsTotalOrder cmp) w
         (λ among.
         let in_lower : Contains picked.lower f = subst (λ (l : List FileMeta). Contains l f) (sym picked.are_lower.these) (in_filter (is_among (overlapping ++ added)) files f among (contains_in files f at)) in
         false_true (is_input p f.number)
-        (is_one cmp total v tables lawful level p picked (input_at (level + 1) f) f.number (lower_input level picked.upper picked.lower p.files picked.files_are f in_lower) refl) out)
+        (is_one p (input_at (level + 1) f) f.number (lower_input level picked.upper picked.lower p.files picked.files_are f in_lower) refl) out)
 
-    no_overlap : overlaps cmp picked.upper f ≡ false
+    pub no_overlap : overlaps cmp picked.upper f ≡ false
     no_overlap =
         refuted (overlaps cmp picked.upper f)
         (λ over. false_true (is_among (overlapping ++ added) f) (among_own (overlapping ++ added) f (in_front overlapping added f (filtered (overlaps cmp picked.upper) files f at over))) not_among)

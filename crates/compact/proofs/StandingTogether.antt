@@ -13,7 +13,7 @@ use Rattle.edit.specs.Version.{State}
 use Rattle.edit.specs.declared.meta.FileMeta.{FileMeta}
 use Rattle.edit.specs.declared.meta.NewFile.{NewFile}
 use Rattle.pick.specs.declared.picked_inputs.InputFile.{InputFile}
-use Rattle.pick.specs.PickedInputs.{PickedInputs, IsPicked}
+use Rattle.pick.specs.PickedInputs.{PickedInputs}
 use Rattle.pick.specs.Ranges.{is_in_none}
 use Rattle.pick.proofs.Lists.{cases, false_true}
 use Rattle.reads.specs.Lawful.{IsLawful, AreNewer}
@@ -24,7 +24,8 @@ use Rattle.reads.proofs.Members.{first_in, later_in, in_filter, from_filter, in_
 use Rattle.reads.proofs.Newer.{newer_at}
 use Rattle.compact.specs.ClosedInputs.{is_input, AreClosed}
 use Rattle.compact.specs.InputsTogether.{files_read, entries_read, files_above, files_taken, files_below, StandTogether, InputsStandTogether}
-use Rattle.compact.proofs.Closing.{any_at, same_itself, input_file, closed_inputs}
+use Rattle.compact.proofs.Closing.{any_at, same_itself}
+use Rattle.compact.proofs.SafeInputs.{AreSafe, picked_safe}
 use Rattle.compact.proofs.FallingOrder.{is_of, of_user, user_is, read_falls}
 use Rattle.compact.proofs.Parting.{from_read, read-append, nothing_in, parted}
 use Rattle.compact.proofs.ReadOrder.{IsNewer, of_read, into_read, at_read, read_order, read_split}
@@ -54,10 +55,13 @@ not_first : (b : Bool) → not b ≡ true → b ≡ false
 not_first true h = absurd cc
 not_first false h = refl
 
-module _ (cmp : List ℕ → List ℕ → Ordering) (total : IsTotalOrder cmp) (v : State) (tables : List NumberedContents) (level : ℕ) (p : PickedInputs) (user : List ℕ)
-    (lawful : IsLawful cmp v tables) (low : All (λ (f : NewFile). f.level ≤ 6) v.files) (picked : IsPicked cmp v level p) where
+module _ (cmp : List ℕ → List ℕ → Ordering) (total : IsTotalOrder cmp) (v : State) (tables : List NumberedContents) (p : PickedInputs) (user : List ℕ)
+    (lawful : IsLawful cmp v tables) (low : All (λ (f : NewFile). f.level ≤ 6) v.files) (safe : AreSafe cmp v tables p) where
   closed : AreClosed cmp v tables p
-  closed = closed_inputs cmp total v tables level p lawful low picked
+  closed = safe.closed
+
+  input_level : (i : InputFile) (at : Contains p.files i) → (safe.placed i at).file.level ≤ p.level + 1
+  input_level i at = let same = (safe.placed i at).stands in let le = safe.levels i at in omega (arith, same, le)
 
   abbrev upto : List FileMeta
   upto = files_read cmp v 0 (p.level + 2)
@@ -89,11 +93,12 @@ module _ (cmp : List ℕ → List ℕ → Ordering) (total : IsTotalOrder cmp) (
   no_input : (f : NewFile) → Contains v.files f → p.level + 1 < f.level → (e : Entry) → Contains (table_entries tables f.meta.number) e → is_input p f.meta.number ≡ true → ⊥
   no_input f at deeper e held_by h =
       let i = input_of f.meta.number h in
-      let g = input_file cmp total v tables lawful level p low picked i.0 i.1 in
-      let above : g.0.level < f.level = omega (arith, g.2, deeper, picked.level_is) in
-      let number : f.meta.number ≡ g.0.meta.number = sym i.2 ∙ ap (λ (m : FileMeta). m.number) (sym g.3) in
-      let also : Contains (table_entries tables g.0.meta.number) e = subst (λ (n : ℕ). Contains (table_entries tables n) e) number held_by in
-      let lt = newer_at (table_entries tables g.0.meta.number) (table_entries tables f.meta.number) (lawful.newer_above g.0 f g.1 at (inl above)) e e also held_by refl in
+      let g = safe.placed i.0 i.1 in
+      let le = input_level i.0 i.1 in
+      let above : g.file.level < f.level = omega (arith, le, deeper) in
+      let number : f.meta.number ≡ g.file.meta.number = sym i.2 ∙ ap (λ (m : FileMeta). m.number) (sym g.is) in
+      let also : Contains (table_entries tables g.file.meta.number) e = subst (λ (n : ℕ). Contains (table_entries tables n) e) number held_by in
+      let lt = newer_at (table_entries tables g.file.meta.number) (table_entries tables f.meta.number) (lawful.newer_above g.file f g.there at (inl above)) e e also held_by refl in
       absurd (omega (arith, lt))
 
   -- ---- what is read
@@ -124,9 +129,10 @@ module _ (cmp : List ℕ → List ℕ → Ordering) (total : IsTotalOrder cmp) (
   of_inputs = record {
     each = λ e at own.
         let from = from_flat_map (λ (i : InputFile). table_entries tables i.meta.number) p.files e at in
-        let f = input_file cmp total v tables lawful level p low picked from.source from.there in
-        let lt : f.0.level < p.level + 2 = omega (arith, f.2, picked.level_is) in
-        let there : Contains upto from.source.meta = subst (λ (m : FileMeta). Contains upto m) f.3 (upto_at f.0 f.1 lt) in
+        let f = safe.placed from.source from.there in
+        let le = input_level from.source from.there in
+        let lt : f.file.level < p.level + 2 = omega (arith, le) in
+        let there : Contains upto from.source.meta = subst (λ (m : FileMeta). Contains upto m) f.is (upto_at f.file f.there lt) in
         let is : taken from.source.meta ≡ true = any_at (λ (x : InputFile). eqb x.meta.number from.source.meta.number) p.files from.source from.there (same_itself from.source.meta.number) in
         into_entries (files_taken cmp v p) from.source.meta e (in_filter taken upto from.source.meta is there) from.held own;
     only = λ e at.
@@ -244,8 +250,8 @@ module _ (cmp : List ℕ → List ℕ → Ordering) (total : IsTotalOrder cmp) (
       input_only e i =
           let of = of_inputs.only e i in
           let from = from_flat_map (λ (x : InputFile). table_entries tables x.meta.number) p.files e of.0 in
-          let f = input_file cmp total v tables lawful level p low picked from.source from.there in
-          (in_flat_map (λ (x : NewFile). table_entries tables x.meta.number) v.files f.0 e f.1 (subst (λ (m : FileMeta). Contains (table_entries tables m.number) e) (sym f.3) from.held), of.1)
+          let f = safe.placed from.source from.there in
+          (in_flat_map (λ (x : NewFile). table_entries tables x.meta.number) v.files f.file e f.there (subst (λ (m : FileMeta). Contains (table_entries tables m.number) e) (sym f.is) from.held), of.1)
 
   -- ---- where they stand
 
@@ -322,4 +328,4 @@ module _ (cmp : List ℕ → List ℕ → Ordering) (total : IsTotalOrder cmp) (
   }
 
 pub inputs_stand_together : (cmp : List ℕ → List ℕ → Ordering) → IsTotalOrder cmp → InputsStandTogether cmp
-inputs_stand_together cmp total v tables level p user lawful low picked = stand_together cmp total v tables level p user lawful low picked
+inputs_stand_together cmp total v tables level p user lawful low picked = stand_together cmp total v tables p user lawful low (picked_safe cmp total v tables level p lawful low picked)

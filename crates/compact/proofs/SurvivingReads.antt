@@ -1,9 +1,8 @@
 -- The edit's bytes read as it, and reads survive.
-use Rattle.std.proofs.Common.{◌≡◌, ℕ, zero, suc, ◌+◌, ◌-◌, ◌<◌, ◌≤◌, ◌^◌, true, List, [], ◌∷◌, length, map, Some, None, Option, Ok, refl, sym, ap, subst, ◌∙◌, inl, arith}
-use Rattle.std.specs.Prelude.{Contains, nat_lt, nat_le, slice_get}
+use Rattle.std.proofs.Common.{◌≡◌, ℕ, ◌+◌, ◌-◌, ◌<◌, ◌≤◌, ◌^◌, true, List, [], ◌∷◌, length, map, Some, Ok, sym, ap, subst, ◌∙◌, arith}
+use Rattle.std.specs.Prelude.{Contains, nat_lt, nat_le}
 use Rattle.std.specs.List.{All, AllByRecursion, list_all}
 use Rattle.std.specs.List.Sorted.{IsStrictlySortedBy}
-use Rattle.std.specs.Option.{option_map}
 use Rattle.std.specs.Cmp.{IsTotalOrder}
 use Rattle.std.specs.declared.cmp.Ordering.{Ordering}
 use Rattle.std.proofs.lemmas.Bool.Decides.{nat_tests}
@@ -28,29 +27,27 @@ use Rattle.edit.specs.declared.meta.NewFile.{NewFile}
 use Rattle.edit.proofs.Edits.{one_edit}
 use Rattle.edit.proofs.Inserted.{sorted_all}
 use Rattle.edit.proofs.Written.{fields_lawful, reads_back}
-use Rattle.pick.specs.Boundaries.{largest_key}
-use Rattle.pick.specs.PickedInputs.{IsPicked, input_at}
-use Rattle.pick.specs.declared.picked_inputs.InputFile.{InputFile}
+use Rattle.pick.specs.PickedInputs.{IsPicked}
 use Rattle.pick.proofs.Lists.{and_first}
-use Rattle.reads.specs.Lawful.{IsLawful, IsFileOf}
+use Rattle.reads.specs.Lawful.{IsLawful}
 use Rattle.reads.specs.Tables.{NumberedContents}
 use Rattle.reads.proofs.FallingEntries.{each_of}
-use Rattle.reads.proofs.Levels.{contains_in}
 use Rattle.reads.proofs.Members.{later_in, first_in, from_map}
-use Rattle.compact.proofs.BoundaryRanges.{HasLargest, has_largest}
-use Rattle.compact.proofs.ClosedLevels.{upper_input}
+use Rattle.keep.specs.Readable.{readable_of}
 use Rattle.compact.specs.OutputTables.{Output}
 use Rattle.compact.specs.Request.{RequestView, has_levels, has_options, has_snapshots, is_snapshot_list, named_by, request_test}
 use Rattle.compact.specs.EditOf.{deletion_of, deletions_of, edit_of, new_file, new_files}
 use Rattle.compact.specs.OneThread.{Answer}
 use Rattle.compact.specs.EditAfter.{version_after}
 use Rattle.compact.specs.RequestOverVersion.{IsOver, AreWritten, HoldOutputs}
-use Rattle.compact.specs.SurvivingReads.{KeepsReads, ReadsSurvive}
-use Rattle.compact.proofs.AppliedEdit.{edit_applies, from_deletions, numbered_to}
-use Rattle.compact.proofs.Gets.{gets_after}
-use Rattle.compact.proofs.VersionInputs.{below_first, input_file}
+use Rattle.compact.specs.SurvivingReads.{ClosedReadsSurvive, KeepsReads, LeavesClosedReads, LeavesReads, ReadsSurvive, tables_after}
+use Rattle.compact.proofs.AppliedEdit.{edited, from_deletions, numbered_to}
+use Rattle.compact.proofs.Gets.{get_is}
+use Rattle.compact.proofs.SafeInputs.{AreSafe, closed_safe, picked_safe}
+use Rattle.compact.proofs.PickedChoice.{picked_over}
+use Rattle.compact.proofs.VersionInputs.{below_first}
 use Rattle.compact.proofs.LawfulAfter.{has_ends, holds_after, lawful_after}
-use Rattle.compact.proofs.Outputs.{outputs_hold, stepped}
+use Rattle.compact.proofs.Outputs.{hold_outputs, stepped}
 
 all_mapped : {X : Type 0} (P : Field → Type 0) (field : X → Field) (xs : List X) → ((x : X) → Contains xs x → P (field x)) → AllByRecursion P (map field xs)
 all_mapped P field [] h = tt
@@ -62,16 +59,6 @@ none_sorted = tt
 
 deleted_total : IsTotalOrder deleted_cmp
 deleted_total = then_total (on_total (λ (f : DeletedFile). f.level) nat_cmp_total) (on_total (λ (f : DeletedFile). f.number) nat_cmp_total)
-
--- a key at a place is that of an entry
-abbrev key_or : List ℕ → Option (List ℕ) → List ℕ
-key_or d (Some k) = k
-key_or d None = d
-
-at_key : (es : List Entry) (i : ℕ) (k : List ℕ) → option_map (λ (e : Entry). e.key) (slice_get es i) ≡ Some k → (e : Entry) × Contains es e × (e.key ≡ k)
-at_key [] i k h = absurd cc
-at_key (e ∷ es) zero k h = (e, first_in e es, ap (key_or k) h)
-at_key (e ∷ es) (suc i) k h = let rest = at_key es i k h in (rest.0, later_in e es rest.0 rest.1, rest.2)
 
 low_told : (m n : ℕ) → nat_le m n ≡ true → m ≤ n
 low_told m n h = grind (arith, nat_tests)
@@ -101,8 +88,8 @@ tested cmp r h =
     }
 
 module _ (cmp : List ℕ → List ℕ → Ordering) (total : IsTotalOrder cmp) (exact : IsExact cmp) (short_keys : ShortKeys)
-    (v : State) (tables : List NumberedContents) (level : ℕ) (r : RequestView) (answer : Answer)
-    (lawful : IsLawful cmp v tables) (low : All (λ (f : NewFile). f.level ≤ 6) v.files) (picked : IsPicked cmp v level r.picked) (over : IsOver v tables r)
+    (v : State) (tables : List NumberedContents) (r : RequestView) (answer : Answer)
+    (lawful : IsLawful cmp v tables) (low : All (λ (f : NewFile). f.level ≤ 6) v.files) (safe : AreSafe cmp v tables r.picked) (over : IsOver v tables r)
     (held : HoldOutputs cmp short_keys tables r answer) where
   abbrev edit : Edit
   edit = edit_of r (new_files r held.outputs)
@@ -113,31 +100,13 @@ module _ (cmp : List ℕ → List ℕ → Ordering) (total : IsTotalOrder cmp) (
   first_low : r.first_number < 2 ^ 64
   first_low = let few = held.few in omega (arith, few)
 
-  file_of_input : (i : InputFile) → Contains r.picked.files i → IsFileOf cmp tables i.meta
-  file_of_input i at =
-      let f = input_file cmp total v tables lawful level r.picked picked i at in
-      subst (IsFileOf cmp tables) f.is (All-contains (λ (x : NewFile). IsFileOf cmp tables x.meta) v.files f.file lawful.files f.there)
-
-  -- the compact pointer is the largest key of an input
-  pointer_by : (upper : List FileMeta) → ((m : FileMeta) → Contains upper m → Contains r.picked.files (input_at level m)) → largest_key cmp upper ≡ Some r.picked.pointer.key → IsInternalKey r.picked.pointer.key
-  pointer_by [] are h = absurd cc
-  pointer_by (m ∷ ms) are h =
-      let most : HasLargest cmp total (m ∷ ms) = has_largest cmp total (m ∷ ms) m (inl refl) in
-      let is = file_of_input (input_at level most.last) (are most.last (contains_in (m ∷ ms) most.last most.there)) in
-      let same : most.last.largest ≡ r.picked.pointer.key = ap (key_or most.last.largest) (sym most.is ∙ h) in
-      let at = at_key is.table.entries (length is.table.entries - 1) most.last.largest is.largest in
-      subst IsInternalKey (at.2 ∙ same) (All-contains (λ (e : Entry). IsInternalKey e.key) is.table.entries at.0 is.keys at.1)
-
-  pointer_key : IsInternalKey r.picked.pointer.key
-  pointer_key = pointer_by picked.upper (upper_input level picked.upper picked.lower r.picked.files picked.files_are) picked.pointer_key
-
   deletions : AllByRecursion IsField (map DeleteFile (deletions_of r.picked.files))
   deletions = all_mapped IsField DeleteFile (deletions_of r.picked.files) each
     where
       each : (d : DeletedFile) → Contains (deletions_of r.picked.files) d → IsField (DeleteFile d)
       each d at =
-          let i = from_deletions cmp total v tables level r held.outputs lawful picked over.numbers held.numbered d at in
-          let f = input_file cmp total v tables lawful level r.picked picked i.0 i.1 in
+          let i = from_deletions cmp total v tables r held.outputs lawful safe.placed over.numbers held.numbered d at in
+          let f = safe.placed i.0 i.1 in
           let six : f.file.level ≤ 6 = All-contains (λ (x : NewFile). x.level ≤ 6) v.files f.file low f.there in
           let levels : f.file.level ≡ d.level = f.stands ∙ ap (λ (x : DeletedFile). x.level) i.2 in
           let lt = below_first cmp v tables lawful r.first_number over.numbers f.file f.there in
@@ -159,36 +128,62 @@ module _ (cmp : List ℕ → List ℕ → Ordering) (total : IsTotalOrder cmp) (
           let key : (e : Entry) → Contains q.entries e → IsInternalKey e.key = λ e i. each_of (λ (x : Entry). IsInternalKey x.key) q.entries w.keys e i in
           (omega (arith, five), omega (arith, lt, few), omega (arith, small), subst IsInternalKey ends.first_key_is (key ends.first ends.first_there), subst IsInternalKey ends.last_key_is (key ends.last ends.last_there))
 
-  pub is_edit : IsEdit answer.edit edit
-  is_edit =
+  pub edit_is : IsEdit answer.edit edit
+  edit_is =
       let five = is_tested.level in
       let low_sequence = is_tested.last_sequence in
       let sorted : IsStrictlySortedBy deleted_cmp (deletions_of r.picked.files) = sorted_all deleted_cmp deleted_total [] (map deletion_of r.picked.files) none_sorted in
       let few : r.first_number + length (new_files r held.outputs) < 2 ^ 64 =
       subst (λ (n : ℕ). r.first_number + n < 2 ^ 64) (sym (length-map held.outputs (new_file (r.picked.level + 1)))) held.few in
-      subst (λ (bytes : List ℕ). IsEdit bytes edit) (sym held.answer_edit) (reads_back edit sorted (fields_lawful edit (over.log_number, (over.previous_log, (few, (omega (arith, low_sequence), tt)))) ((omega (arith, five), pointer_key), tt) deletions additions))
+      subst (λ (bytes : List ℕ). IsEdit bytes edit) (sym held.answer_edit) (reads_back edit sorted (fields_lawful edit (over.log_number, (over.previous_log, (few, (omega (arith, low_sequence), tt)))) ((omega (arith, five), safe.pointer), tt) deletions additions))
 
   made : applied v edit ≡ Some (version_after v r held.outputs)
-  made = (edit_applies cmp total).applies v tables level r held.outputs lawful picked over.numbers held.numbered
+  made = edited cmp total v tables r held.outputs lawful safe.placed over.numbers held.numbered
 
   pub edit_reads : (e : Edit) × IsEdit answer.edit e
-  edit_reads = (edit, is_edit)
+  edit_reads = (edit, edit_is)
 
   pub survive : (e : Edit) → IsEdit answer.edit e → KeepsReads cmp v tables r answer e
   survive e is =
-      let same : edit ≡ e = one_edit answer.edit edit e is_edit is in
+      let same : edit ≡ e = one_edit answer.edit edit e edit_is is in
       record {
         after = version_after v r held.outputs;
         is_after = ap (applied v) (sym same) ∙ made;
-        lawful_after = lawful_after cmp total exact short_keys v tables level r answer lawful low picked over held;
-        gets_after = gets_after cmp total exact v tables level r.picked _ held.union (version_after v r held.outputs) _ lawful low picked held.is_union
-            (holds_after cmp total exact short_keys v tables level r answer lawful low picked over held);
+        lawful_after = lawful_after cmp total exact short_keys v tables r answer lawful safe over held;
+        gets_after = get_is cmp total exact v tables r.picked (readable_of r.snapshots r.last_sequence) held.union (version_after v r held.outputs) (tables_after cmp r.picked answer tables) lawful low safe held.is_union
+            (holds_after cmp total exact short_keys v tables r answer lawful safe over held);
       }
 
-pub reads_survive : (cmp : List ℕ → List ℕ → Ordering) → IsTotalOrder cmp → IsExact cmp → (short_keys : ShortKeys) → ReadBackLaw cmp short_keys → ReadsSurvive cmp short_keys
-reads_survive cmp total exact short_keys reads_back r answer answers = record {
-  reads = λ v tables level lawful low picked over.
-      edit_reads cmp total exact short_keys v tables level r answer lawful low picked over (outputs_hold cmp total exact short_keys reads_back v tables level r answer lawful picked over answers);
-  survives = λ v tables level e lawful low picked over is.
-      survive cmp total exact short_keys v tables level r answer lawful low picked over (outputs_hold cmp total exact short_keys reads_back v tables level r answer lawful picked over answers) e is;
+-- the edit of picked inputs
+pub is_edit : (cmp : List ℕ → List ℕ → Ordering) (total : IsTotalOrder cmp) (exact : IsExact cmp) (short_keys : ShortKeys) (v : State) (tables : List NumberedContents) (level : ℕ) (r : RequestView) (answer : Answer)
+    (lawful : IsLawful cmp v tables) (low : All (λ (f : NewFile). f.level ≤ 6) v.files) (picked : IsPicked cmp v level r.picked) (over : IsOver v tables r) (held : HoldOutputs cmp short_keys tables r answer)
+    → IsEdit answer.edit (edit_of r (new_files r held.outputs))
+is_edit cmp total exact short_keys v tables level r answer lawful low picked over held =
+    edit_is cmp total exact short_keys v tables r answer lawful low (picked_safe cmp total v tables level r.picked lawful low picked) over held
+
+module _ (cmp : List ℕ → List ℕ → Ordering) (total : IsTotalOrder cmp) (exact : IsExact cmp) (short_keys : ShortKeys) (reads_back : ReadBackLaw cmp short_keys) (r : RequestView) (answer : Answer) (answers : one_thread cmp short_keys r ≡ Ok answer) where
+  safe_reads : (v : State) (tables : List NumberedContents) → IsLawful cmp v tables → All (λ (f : NewFile). f.level ≤ 6) v.files → AreSafe cmp v tables r.picked → IsOver v tables r → (e : Edit) × IsEdit answer.edit e
+  safe_reads v tables lawful low safe over = edit_reads cmp total exact short_keys v tables r answer lawful low safe over (hold_outputs cmp total exact short_keys reads_back v tables r answer lawful safe.placed over answers)
+
+  safe_survives : (v : State) (tables : List NumberedContents) (e : Edit) → IsLawful cmp v tables → All (λ (f : NewFile). f.level ≤ 6) v.files → AreSafe cmp v tables r.picked → IsOver v tables r → IsEdit answer.edit e → KeepsReads cmp v tables r answer e
+  safe_survives v tables e lawful low safe over is = survive cmp total exact short_keys v tables r answer lawful low safe over (hold_outputs cmp total exact short_keys reads_back v tables r answer lawful safe.placed over answers) e is
+
+  pub closed_leave : LeavesClosedReads cmp r answer
+  closed_leave = record {
+    reads = λ v tables lawful low inputs over. safe_reads v tables lawful low (closed_safe cmp total v tables r.picked lawful inputs) over;
+    survives = λ v tables e lawful low inputs over is. safe_survives v tables e lawful low (closed_safe cmp total v tables r.picked lawful inputs) over is;
+  }
+
+pub closed_reads_survive : (cmp : List ℕ → List ℕ → Ordering) → IsTotalOrder cmp → IsExact cmp → (short_keys : ShortKeys) → ReadBackLaw cmp short_keys → ClosedReadsSurvive cmp short_keys
+closed_reads_survive cmp total exact short_keys reads_back r answer answers = closed_leave cmp total exact short_keys reads_back r answer answers
+
+-- what survives of closed inputs survives of picked ones, which are closed
+pub picked_leave : (cmp : List ℕ → List ℕ → Ordering) (total : IsTotalOrder cmp) (r : RequestView) (answer : Answer) → LeavesClosedReads cmp r answer → LeavesReads cmp r answer
+picked_leave cmp total r answer leaves = record {
+  reads = λ v tables level lawful low picked over. leaves.reads v tables lawful low (picked_over cmp total v tables level r.picked lawful low picked) over;
+  survives = λ v tables level e lawful low picked over is. leaves.survives v tables e lawful low (picked_over cmp total v tables level r.picked lawful low picked) over is;
+  of_closed = leaves;
 }
+
+pub reads_survive : (cmp : List ℕ → List ℕ → Ordering) → IsTotalOrder cmp → IsExact cmp → (short_keys : ShortKeys) → ReadBackLaw cmp short_keys → ReadsSurvive cmp short_keys
+reads_survive cmp total exact short_keys reads_back r answer answers = picked_leave cmp total r answer (closed_reads_survive cmp total exact short_keys reads_back r answer answers)

@@ -6,6 +6,7 @@ pub mod EditOf
 pub mod OneThread
 pub mod PassedRequest
 pub mod ClosedInputs
+pub mod InputsOver
 pub mod InputsTogether
 pub mod WorkedRow
 pub mod GetsAfter

@@ -12,6 +12,7 @@ use Rattle.reads.specs.Gets.{get_of}
 use Rattle.reads.specs.Lawful.{IsLawful}
 use Rattle.reads.specs.Tables.{NumberedContents}
 use Rattle.compact.specs.ClosedInputs.{is_input}
+use Rattle.compact.specs.InputsOver.{AreInputsOver}
 use Rattle.keep.specs.Readable.{readable_of, is_read}
 use Rattle.compact.specs.Request.{RequestView}
 use Rattle.compact.specs.OneThread.{Answer, one_thread}
@@ -60,9 +61,22 @@ pub record KeepsReads (cmp : KeyOrder) (v : State) (tables : List NumberedConten
       ≡ true →
       get_of after (tables_after cmp r.picked answer tables) user at ≡ get_of v tables user at
 
--- What an answer leaves of each lawful version with files at levels up to 6 from which the
--- request's inputs were picked. The bytes of the edit read as an edit, and in the version that any
+-- What an answer leaves of each lawful version with files at levels up to 6 over which the request's
+-- inputs are, whoever chose them. The bytes of the edit read as an edit, and in the version that any
 -- such edit makes reads survive.
+pub record LeavesClosedReads (cmp : KeyOrder) (r : RequestView) (answer : Answer) : Type 0 where
+  pub reads : (v : State) (tables : List NumberedContents) →
+      IsLawful cmp v tables → All (λ (f : NewFile). f.level ≤ LAST_LEVEL) v.files →
+      AreInputsOver cmp v r.picked → IsOver v tables r →
+      (e : Edit) × IsEdit answer.edit e
+  pub survives : (v : State) (tables : List NumberedContents) (e : Edit) →
+      IsLawful cmp v tables → All (λ (f : NewFile). f.level ≤ LAST_LEVEL) v.files →
+      AreInputsOver cmp v r.picked → IsOver v tables r →
+      IsEdit answer.edit e → KeepsReads cmp v tables r answer e
+
+-- What an answer leaves of each lawful version with files at levels up to 6 from which the
+-- request's inputs were picked, and of each over which they are. The bytes of the edit read as an
+-- edit, and in the version that any such edit makes reads survive.
 pub record LeavesReads (cmp : KeyOrder) (r : RequestView) (answer : Answer) : Type 0 where
   pub reads : (v : State) (tables : List NumberedContents) (level : ℕ) →
       IsLawful cmp v tables → All (λ (f : NewFile). f.level ≤ LAST_LEVEL) v.files →
@@ -72,9 +86,16 @@ pub record LeavesReads (cmp : KeyOrder) (r : RequestView) (answer : Answer) : Ty
       IsLawful cmp v tables → All (λ (f : NewFile). f.level ≤ LAST_LEVEL) v.files →
       IsPicked cmp v level r.picked → IsOver v tables r →
       IsEdit answer.edit e → KeepsReads cmp v tables r answer e
+  pub of_closed : LeavesClosedReads cmp r answer
 
 -- each answer of one thread leaves reads so
 abbrev pub ReadsSurvive : KeyOrder → ShortKeys → Type 0
 ReadsSurvive cmp short_keys =
     (r : RequestView) (answer : Answer) → one_thread cmp short_keys r ≡ Ok answer →
     LeavesReads cmp r answer
+
+-- each answer of one thread leaves reads so, of all closed inputs
+abbrev pub ClosedReadsSurvive : KeyOrder → ShortKeys → Type 0
+ClosedReadsSurvive cmp short_keys =
+    (r : RequestView) (answer : Answer) → one_thread cmp short_keys r ≡ Ok answer →
+    LeavesClosedReads cmp r answer

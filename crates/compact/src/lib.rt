@@ -42,7 +42,9 @@ mod surviving_reads;
 mod table_encoder;
 mod workers;
 
-pub use closure::{closed_inputs, first_alone_is_not_closed, inputs_stand_together};
+pub use closure::{
+    closed_choice, closed_inputs, first_alone_is_not_closed, inputs_stand_together, picked_choice,
+};
 pub use compaction::{compact, compact_tables, merge_request};
 pub use edit::Outcome;
 pub use grouped_plan::{MAX_TABLES, Planned};
@@ -54,4 +56,6 @@ pub use request::Request;
 pub use request_conditions::{MAX_INPUTS, MAX_SNAPSHOTS};
 pub use request_law::passed_law;
 pub use settings::Settings;
-pub use surviving_reads::{edit_applies, gets_after, outputs_hold, reads_survive, stands_after};
+pub use surviving_reads::{
+    closed_reads_survive, edit_applies, gets_after, outputs_hold, reads_survive, stands_after,
+};

@@ -10,19 +10,23 @@
 //! (3) The outputs hold what is kept ([`outputs_hold`]), all of a user key in one. The edit applies
 //!     ([`edit_applies`]), and the version after is lawful and holds what is kept
 //!     ([`stands_after`]).
-//! (4) So reads survive: [`reads_survive`].
+//! (4) So reads survive: [`reads_survive`]. They survive of all inputs that are closed
+//!     ([`closed_reads_survive`]), as picked ones are (`picked_choice`).
 //!
 //! Premises: the version is lawful and the inputs were picked from it. All but `edit_applies` and
 //! `outputs_hold` also ask for files at levels up to 6. All but `edit_applies` and `gets_after` ask
 //! that the request is over the version (`IsOver`). That is: the request has the bytes of their
 //! tables, numbers outputs from the version's next file on, and its two log numbers are below 2^64.
 //!
-//! Nothing is said of gets at other sequences, nor of inputs that were not picked from the version.
+//! [`closed_reads_survive`] asks for inputs over the version (`AreInputsOver`) in place of picked ones:
+//! files of it that are closed, with all deeper files, and any compact pointer and grandparents.
+//!
+//! Nothing is said of gets at other sequences, nor of inputs that aren't closed.
 
 ghost use Rattle.compact.specs.EditAfter.{EditApplies};
 ghost use Rattle.compact.specs.GetsAfter.{GetsAfter};
 ghost use Rattle.compact.specs.RequestOverVersion.{OutputsHold};
-ghost use Rattle.compact.specs.SurvivingReads.{ReadsSurvive, VersionAfterLaw};
+ghost use Rattle.compact.specs.SurvivingReads.{ClosedReadsSurvive, ReadsSurvive, VersionAfterLaw};
 
 use ikey::Comparator;
 
@@ -51,13 +55,20 @@ pub fn stands_after<C: Comparator>()
     ensures { VersionAfterLaw C.cmp C.short_keys }
 {}
 
-/// The law that reads survive, for each answer of one thread. A call does nothing.
+/// The law that reads survive a compaction of any inputs that are closed in a lawful version, for each
+/// answer of one thread. A call does nothing.
 ///
 /// - The bytes of the edit read as an edit, and every edit that they read as applies to the
 ///   version.
 /// - The version after is lawful with the old tables less those of the inputs, and with the
 ///   outputs.
 /// - Each get at a sequence that stays readable answers as before.
+pub fn closed_reads_survive<C: Comparator>()
+    ensures { ClosedReadsSurvive C.cmp C.short_keys }
+{}
+
+/// The law that reads survive a compaction of picked inputs, for each answer of one thread: the law
+/// of closed inputs ([`closed_reads_survive`]) in the case of those. A call does nothing.
 pub fn reads_survive<C: Comparator>()
     ensures { ReadsSurvive C.cmp C.short_keys }
 {}

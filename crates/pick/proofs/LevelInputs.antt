@@ -79,7 +79,7 @@ pub no_largest : (cmp : List ℕ → List ℕ → Ordering) (files : List FileMe
 no_largest cmp [] e = refl
 no_largest cmp (f ∷ files) e = absurd (some_largest cmp f.largest files e)
 
-low : (level : ℕ) → level ≤ 5 → nat_lt 5 level ≡ false
+pub low : (level : ℕ) → level ≤ 5 → nat_lt 5 level ≡ false
 low level h = grind (arith, nat_tests)
 
 some_test : (n : ℕ) → 0 < n → nat_lt 0 n ≡ true

@@ -8,3 +8,4 @@ pub mod ChosenInputs
 pub mod LevelInputs
 pub mod LaterLevels
 pub mod OneChoice
+pub mod ToldChoices

@@ -71,7 +71,7 @@ fn largest_chosen<'a, C: Comparator>(
 
 /// Whether `file` goes on within the user key of `key`: its smallest key is greater than `key` and
 /// has that user key.
-fn goes_on<C: Comparator>(key: Option<&KeyBuf>, file: &FileMeta) -> bool
+pub(crate) fn goes_on<C: Comparator>(key: Option<&KeyBuf>, file: &FileMeta) -> bool
     ensures { result ≡ is_going_on C.cmp (option_copied key.entry) file.now }
 {
     let Some(key) = key else {

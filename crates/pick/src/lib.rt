@@ -10,7 +10,8 @@
 //!
 //! [`inputs`] makes the choice. It also answers the grandparents, all deeper files, and the new
 //! compact pointer. [`is_base`] tells whether a deeper file may have a user key. [`one_choice`] is
-//! the law that a level of a version has one choice.
+//! the law that a level of a version has one choice. [`first_missing`] tells of any choice whether it
+//! is closed, which is what makes a compaction of it safe.
 //!
 //! The caller names the level: which level needs a compaction isn't asked here.
 #![tactic(auto)]
@@ -18,6 +19,7 @@
 mod boundaries;
 mod choice;
 mod choice_law;
+mod closed_choice;
 mod file_copies;
 mod input_choice;
 mod level_files;
@@ -25,5 +27,6 @@ mod picked_inputs;
 mod range;
 
 pub use choice_law::one_choice;
+pub use closed_choice::first_missing;
 pub use input_choice::{LAST_INPUT_LEVEL, inputs};
 pub use picked_inputs::{InputFile, Inputs, is_base};

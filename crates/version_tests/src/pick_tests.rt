@@ -1,7 +1,7 @@
 use coding::{Fault, FaultName};
 use edit::{FileMeta, Version, VersionEdit};
 use ikey::{Bytewise, Shortlex};
-use pick::{InputFile, Inputs, inputs, is_base, one_choice};
+use pick::{InputFile, Inputs, first_missing, inputs, is_base, one_choice};
 use std::alloc::Global;
 use std::process::Abort;
 use std::test::*;
@@ -219,5 +219,82 @@ fn inputs_and_user_keys_below_them(rt: HostRuntime) {
     assert!(rt; are_told(&rt, rt.alloc()));
     for (place, row) in ROWS.iter().enumerate() {
         assert!(rt; is_answered(&rt, rt.alloc(), row), "row {place}");
+    }
+}
+
+/// A version, a level, the numbers of chosen files, and the level and number of the first file that
+/// they miss, or the refusal.
+type Choice = (
+    &'static [u8],
+    u64,
+    &'static [u64],
+    Result<Option<(u64, u64)>, FaultName>,
+);
+
+const CHOICES: &[Choice] = &[
+    // Level 0: each file whose user keys overlap those of a chosen one, along the chain of them.
+    (OVERLAPPING, 0, &[4, 7, 5], Ok(None)),
+    (OVERLAPPING, 0, &[4, 7], Ok(Some((0, 5)))),
+    (OVERLAPPING, 0, &[7, 5], Ok(Some((0, 4)))),
+    (OVERLAPPING, 0, &[4], Ok(Some((0, 7)))),
+    (OVERLAPPING, 0, &[7], Ok(Some((0, 4)))),
+    // The file that is left is newer.
+    (OVERLAPPING, 0, &[5, 4], Ok(Some((0, 7)))),
+    // One that lies apart, and all four.
+    (OVERLAPPING, 0, &[6], Ok(None)),
+    (OVERLAPPING, 0, &[5, 6, 7, 4], Ok(None)),
+    // The boundary file of a chosen file, also if that isn't the last one. The newer of two may stay.
+    (OF_ONE_KEY, 1, &[8], Ok(Some((1, 9)))),
+    (OF_ONE_KEY, 1, &[3, 8], Ok(Some((1, 9)))),
+    (OF_ONE_KEY, 1, &[9], Ok(None)),
+    (OF_ONE_KEY, 1, &[8, 9], Ok(None)),
+    (OF_ONE_KEY, 1, &[3], Ok(None)),
+    (CHAINED, 1, &[8], Ok(Some((1, 2)))),
+    (CHAINED, 1, &[8, 2], Ok(Some((1, 3)))),
+    (CHAINED, 1, &[8, 2, 3], Ok(None)),
+    // The next level: files that overlap those of the level.
+    (LEVELS, 1, &[2, 5, 6, 7], Ok(None)),
+    (LEVELS, 1, &[2], Ok(Some((2, 5)))),
+    (LEVELS, 1, &[2, 6, 7], Ok(Some((2, 5)))),
+    (LEVELS, 1, &[2, 5], Ok(Some((2, 6)))),
+    (LEVELS, 1, &[3], Ok(None)),
+    // What lies between files of the level overlaps them.
+    (LEVELS, 1, &[2, 3, 5, 6, 7], Ok(Some((2, 8)))),
+    (LEVELS, 1, &[2, 3, 5, 6, 7, 8], Ok(None)),
+    // The boundary files of the next level.
+    (LEVELS, 1, &[2, 5, 6], Ok(Some((2, 7)))),
+    (CHAINED, 0, &[8], Ok(Some((1, 2)))),
+    (CHAINED, 0, &[8, 3], Ok(Some((1, 2)))),
+    (CHAINED, 0, &[8, 2], Ok(Some((1, 3)))),
+    (CHAINED, 0, &[3], Ok(None)),
+    // What lies between inputs of the two levels, or between two of the next.
+    (LEVELS, 1, &[3, 5], Ok(Some((2, 6)))),
+    (LEVELS, 1, &[5, 7], Ok(Some((2, 6)))),
+    (LEVELS, 1, &[4, 5], Ok(None)),
+    (LEVELS, 5, &[12, 13], Ok(None)),
+    // Nothing, a number that no file has, and one of another level.
+    (LEVELS, 1, &[], Ok(None)),
+    (LEVELS, 1, &[99, 9], Ok(None)),
+    (LEVELS, 6, &[13], Err(FaultName::Level)),
+];
+
+/// Whether a choice misses the file of its row, or is refused as it says.
+fn is_told(rt: &impl Abort, alloc: Global, row: &Choice) -> bool {
+    let version = version_of(rt, alloc, row.0);
+    match (
+        first_missing::<Bytewise>(alloc, &version, row.1, row.2),
+        &row.3,
+    ) {
+        (Ok(Some(file)), Ok(Some(place))) => (file.level, file.meta.number) == *place,
+        (Ok(None), Ok(None)) => true,
+        (Err(refused), Err(wanted)) => refused.name == *wanted,
+        _ => false,
+    }
+}
+
+#[test]
+fn closed_choices_and_what_others_miss(rt: HostRuntime) {
+    for (place, row) in CHOICES.iter().enumerate() {
+        assert!(rt; is_told(&rt, rt.alloc(), row), "choice {place}");
     }
 }

@@ -1,4 +1,4 @@
-use Rattle.compact.proofs.Closing as lemma
+use Rattle.compact.proofs.SafeInputs as lemma
 use Rattle.compact.proofs.closure.closed_inputs.Goals as goal
 
 pub returns : goal.returns

@@ -12,7 +12,7 @@ ghost use Rattle.adoption.specs.Overlay.{names_of};
 
 use crate::overlay::{Overlay, names_of};
 use crate::refusals::Refusals;
-use checks::{CHECKERS, VersionTotals, Watch, test_version};
+use checks::{VersionTotals, Watch, checkers, test_version};
 use coding::Fault;
 use edit::Version;
 use folder::Folder;
@@ -87,15 +87,8 @@ fn test_named<C: SharedComparator + 'static, F: Folder + Drop, W: Watch + Sync, 
         names,
         refusals: Refusals::none(),
     };
-    let answer = test_version::<C, Overlay<'_, F>, W, R>(
-        rt,
-        alloc,
-        &mut overlay,
-        next,
-        memory,
-        CHECKERS,
-        watch,
-    );
+    let workers = checkers(rt, alloc, watch);
+    let answer = test_version::<C, Overlay<'_, F>, W, R>(&workers, &mut overlay, next, memory);
     TestEnd {
         folder: overlay.folder,
         answer,

@@ -11,7 +11,7 @@ ghost use Rattle.folder.specs.Reports.{OnlyReads, ReportsDevice};
 ghost use Rattle.checks.specs.TestedTables.{IsTested};
 ghost use Rattle.answers.specs.FolderLines.{lawful_line};
 
-use checks::{CHECKERS, VersionTotals, Watch, test_version};
+use checks::{VersionTotals, Watch, checkers, test_version};
 use coding::Fault;
 use edit::Version;
 use folder::{Order, ReadsTables};
@@ -36,13 +36,10 @@ pub fn test_opened<F: ReadsTables, W: Watch + Sync, R: Threads + Sync>(
     ensures device { ReportsDevice F.Folder folder.old folder.new result }
     ensures reads { OnlyReads F.Folder folder.old folder.new }
 {
+    let workers = checkers(rt, alloc, watch);
     match order {
-        Order::Bytewise => test_version::<Bytewise, F, W, R>(
-            rt, alloc, folder, version, memory, CHECKERS, watch,
-        ),
-        Order::Shortlex => test_version::<Shortlex, F, W, R>(
-            rt, alloc, folder, version, memory, CHECKERS, watch,
-        ),
+        Order::Bytewise => test_version::<Bytewise, F, W, R>(&workers, folder, version, memory),
+        Order::Shortlex => test_version::<Shortlex, F, W, R>(&workers, folder, version, memory),
     }
 }
 

@@ -1,6 +1,6 @@
 -- Entries that fall in each range of user keys fall.
-use Rattle.std.proofs.Common.{◌≡◌, ℕ, ◌+◌, ◌<◌, ◌≤◌, Bool, true, false, cond, List, [], ◌∷◌, length, get_or, None, Some, Result, Ok, Err, IfOk, inl, inr, refl, sym, ap, subst, ◌∙◌, arith}
-use Rattle.std.specs.Prelude.{◌↔◌, ◌⊎◌, zero, suc, Contains, filter}
+use Rattle.std.proofs.Common.{◌≡◌, ◌≢◌, ℕ, ◌+◌, ◌<◌, ◌≤◌, Bool, true, false, cond, List, [], ◌∷◌, length, get_or, None, Some, Result, Ok, Err, IfOk, refl, sym, ap, subst, ◌∙◌, arith}
+use Rattle.std.specs.Prelude.{◌↔◌, zero, suc, Contains, filter}
 use Rattle.std.specs.List.{list_all}
 use Rattle.std.specs.declared.cmp.Ordering.{Ordering}
 use Rattle.std.proofs.lemmas.List.Elements.{All-contains, Contains-get_or}
@@ -114,12 +114,12 @@ module _ (cmp : List ℕ → List ℕ → Ordering) (within : KeyRange) (boundar
   )
 
 -- a labour that states no refusal fails only if out of memory
-pub only_memory_left : {O V : Type 0} (gives : ℕ → O → Type 0) (jobs workers : ℕ) (result : Result V RunFault) (e : RunFault) → result ≡ Err e
+pub only_memory_left : {O V : Type 0} (gives : ℕ → O → Type 0) (jobs : ℕ) (result : Result V RunFault) (e : RunFault) → result ≡ Err e
     → ((job : ℕ) (f : Fault) → result ≡ Err (RunFault.Job job f) → IsRefused (λ j. None) gives jobs job f)
-    → (result ≡ Err RunFault.Workers → (workers ≡ 0) ⊎ (64 < workers)) → 0 < workers → workers ≤ 64 → fault_of_run e ≡ fault Memory
-only_memory_left gives jobs workers result (RunFault.Job job f) is refused outside some few = only_memory f (None ≡ Some f) (λ no. absurd cc) (refused job f is).refused
-only_memory_left gives jobs workers result RunFault.Workers is refused outside some few = absurd (elim (outside is) [ inl none ↦ omega arith | inr many ↦ omega arith ])
-only_memory_left gives jobs workers result RunFault.Memory is refused outside some few = refl
+    → result ≢ Err RunFault.Workers → fault_of_run e ≡ fault Memory
+only_memory_left gives jobs result (RunFault.Job job f) is refused few = only_memory f (None ≡ Some f) (λ no. absurd cc) (refused job f is).refused
+only_memory_left gives jobs result RunFault.Workers is refused few = absurd (few is)
+only_memory_left gives jobs result RunFault.Memory is refused few = refl
 
 -- what falls in the range of all user keys falls
 pub fall_everywhere : (cmp : List ℕ → List ℕ → Ordering) (range : KeyRange) → range.lower ≡ None → range.upper ≡ None → (es : List Entry) (r : Result Bool Fault) → IfOk r (λ (b : Bool). (b ≡ true) ↔ AreFallingIn (IsIn cmp range) es) → IfOk r (λ (b : Bool). (b ≡ true) ↔ AreFalling es)

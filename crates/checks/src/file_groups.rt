@@ -105,8 +105,8 @@ fn group_ends<C: Comparator>(
     Ok(ends)
 }
 
-/// The least bytes of the files that begin in a group which is ended: so many that as many groups
-/// as a split may have boundaries hold all files. At least 1.
+/// How many bytes the files that begin in a group must have together before the group is ended: the
+/// bytes of all files by the most boundaries of a split, and 1 more.
 fn least_part(files: &[&FileMeta]) -> u64 {
     let mut bytes = 0u64;
     for file in files {

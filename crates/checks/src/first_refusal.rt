@@ -7,32 +7,27 @@ ghost use Rattle.folder.specs.Calls.{Files, Tells};
 ghost use Rattle.folder.specs.OpenAnswer.{FolderAnswers};
 ghost use Rattle.folder.specs.Reports.{OnlyReads, ReportsDevice};
 ghost use Rattle.checks.specs.InOrder.{AreChecked, IsFirstRefusal};
-ghost use Rattle.board.specs.declared.limits.TheConstants.{MAX_WORKERS};
 
 use crate::rounds::check_tables;
-use board::Open;
+use board::{Open, Workers};
 use coding::{Fault, FaultName};
 use folder::{Folder, load_numbers};
 use ikey::SharedComparator;
-use std::alloc::Global;
 use std::thread::Threads;
 
 /// How many tables are in memory at once.
 const ROUND: usize = 4;
 
-/// Reads and checks the tables of these numbers in order, four at a time. It only reads.
+/// Reads and checks the tables of these numbers in order, four at a time. The gate of `workers`
+/// isn't told. It only reads.
 ///
 /// - Missing: at the first missing table.
 /// - The refusal of the first invalid table, as of `table::check`, if none is missing.
-pub(crate) fn check_in_order<C: SharedComparator, F: Folder, R: Threads + Sync>(
-    rt: &R,
-    alloc: Global,
+pub(crate) fn check_in_order<C: SharedComparator, F: Folder, G, R: Threads + Sync>(
+    workers: &Workers<'_, R, G>,
     folder: &mut F,
     numbers: &[u64],
-    workers: u64,
 ) -> Result<(), Fault>
-    requires some { 0 < workers }
-    requires few { workers ≤ MAX_WORKERS }
     ensures answer { (files : Files) → Tells (F.tells folder.old) files →
         FolderAnswers (λ none. none) (F.failed folder.old) (F.failed folder.new) result
         (AreChecked C.cmp files numbers.now) }
@@ -43,8 +38,8 @@ pub(crate) fn check_in_order<C: SharedComparator, F: Folder, R: Threads + Sync>(
     let mut rest = numbers;
     while !rest.is_empty() {
         let (round, behind) = rest.split_at(rest.len().min(ROUND));
-        let loaded = load_numbers(alloc, folder, round)?;
-        first = first_refusal::<C, R>(rt, alloc, first, &loaded, workers)?;
+        let loaded = load_numbers(workers.alloc(), folder, round)?;
+        first = first_refusal::<C, G, R>(workers, first, &loaded)?;
         rest = behind;
     }
     match first {
@@ -55,15 +50,11 @@ pub(crate) fn check_in_order<C: SharedComparator, F: Folder, R: Threads + Sync>(
 
 /// The refusal of the first invalid table, if one is, among those of which `first` is it and these
 /// after them.
-fn first_refusal<C: SharedComparator, R: Threads + Sync>(
-    rt: &R,
-    alloc: Global,
+fn first_refusal<C: SharedComparator, G, R: Threads + Sync>(
+    workers: &Workers<'_, R, G>,
     first: Option<Fault>,
     loaded: &[(u64, Vec<u8>)],
-    workers: u64,
 ) -> Result<Option<Fault>, Fault>
-    requires some { 0 < workers }
-    requires few { workers ≤ MAX_WORKERS }
     ensures refusal { IfOk result (λ found. (before : List (ℕ × List ℕ)) →
         IsFirstRefusal C.cmp before first →
         IsFirstRefusal C.cmp (before ++ map (λ t. (t.0, t.1.items)) loaded.now) found) }
@@ -72,7 +63,7 @@ fn first_refusal<C: SharedComparator, R: Threads + Sync>(
     if first.is_some() {
         return Ok(first);
     }
-    match check_tables::<C, Open, R>(rt, alloc, loaded, workers, &Open) {
+    match check_tables::<C, Open, R>(&workers.with_gate(&Open), loaded) {
         Ok(_) => Ok(None),
         Err(refused) => match refused.name {
             FaultName::Memory => Err(Fault::of(FaultName::Memory)),

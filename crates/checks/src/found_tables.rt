@@ -12,12 +12,11 @@ ghost use Rattle.folder.specs.Reports.{OnlyReads, ReportsDevice};
 ghost use Rattle.checks.specs.TableAnswers.{IsInvalid, IsRead};
 ghost use Rattle.checks.specs.HeldTables.{IsFoundAnswer, held_numbers};
 ghost use Rattle.checks.specs.TablePlaces.{AreBounds, IsLoadedIfThere};
-ghost use Rattle.board.specs.declared.limits.TheConstants.{MAX_WORKERS};
 
 use crate::held_table::HeldTable;
 use crate::rounds::check_tables;
 use crate::worker_tables::worker_tables;
-use board::Gate;
+use board::{Gate, Workers};
 use coding::{Fault, FaultName};
 use folder::{Folder, ReadsTables, load_numbers};
 use ikey::{Comparator, SharedComparator};
@@ -29,18 +28,13 @@ use table::{Bounds, OwnedTable};
 /// The tables of a folder with these numbers, in order. None if one of them is missing or invalid.
 /// It only reads.
 ///
-/// 1 to 64 workers read and check them, a table a job that `gate` sees. If one can't be had so, all
+/// `workers` read and check them, a table a job. If one can't be had so, all
 /// are read in order, and then checked.
 pub(crate) fn read_tables<C: SharedComparator, F: ReadsTables, G: Gate + Sync, R: Threads + Sync>(
-    rt: &R,
-    alloc: Global,
+    workers: &Workers<'_, R, G>,
     folder: &mut F,
     numbers: &[u64],
-    workers: u64,
-    gate: &G,
 ) -> Result<Option<Vec<HeldTable<C>>>, Fault>
-    requires some { 0 < workers }
-    requires few { workers ≤ MAX_WORKERS }
     ensures answer { (files : Files) → Tells (F.tells folder.old) files →
         FolderAnswers (λ found. option_map (λ v. v.items) found) (F.failed folder.old)
         (F.failed folder.new) result (IsFoundAnswer C.cmp files numbers.now) }
@@ -49,13 +43,13 @@ pub(crate) fn read_tables<C: SharedComparator, F: ReadsTables, G: Gate + Sync, R
     ensures device { ReportsDevice F.Folder folder.old folder.new result }
     ensures reads { OnlyReads F.Folder folder.old folder.new }
 {
-    if let Some(tables) = worker_tables(rt, alloc, folder, numbers, workers, gate) {
+    if let Some(tables) = worker_tables(workers, folder, numbers) {
         return Ok(Some(tables));
     }
-    let Some(loaded) = load_if_there(alloc, folder, numbers)? else {
+    let Some(loaded) = load_if_there(workers.alloc(), folder, numbers)? else {
         return Ok(None);
     };
-    owned_tables::<C, G, R>(rt, alloc, loaded, workers, gate)
+    owned_tables::<C, G, R>(workers, loaded)
 }
 
 /// The bytes of the tables with these numbers. None if one of them is missing. It only reads.
@@ -82,43 +76,33 @@ fn load_if_there<F: Folder>(
 
 /// The tables of these numbers and bytes, which own the bytes. None if one is invalid.
 fn owned_tables<C: SharedComparator, G: Gate + Sync, R: Threads + Sync>(
-    rt: &R,
-    alloc: Global,
+    workers: &Workers<'_, R, G>,
     loaded: Vec<(u64, Vec<u8>)>,
-    workers: u64,
-    gate: &G,
 ) -> Result<Option<Vec<HeldTable<C>>>, Fault>
-    requires some { 0 < workers }
-    requires few { workers ≤ MAX_WORKERS }
     ensures checked { IfOk result (λ found. MatchOption found
         (IsInvalid C.cmp (map (λ t. (t.0, t.1.items)) loaded.items))
         (λ v. IsRead C.cmp (map (λ t. (t.0, t.1.items)) loaded.items) v.items)) }
     ensures memory { IfErr result (λ e. e ≡ fault Memory) }
 {
-    let found = found_bounds::<C, G, R>(rt, alloc, &loaded, workers, gate)?;
+    let found = found_bounds::<C, G, R>(workers, &loaded)?;
     let Some(bounds) = found else {
         return Ok(None);
     };
-    Ok(Some(with_bounds(alloc, loaded, bounds)?))
+    Ok(Some(with_bounds(workers.alloc(), loaded, bounds)?))
 }
 
 /// The bounds of the tables of these numbers and bytes. None if one is invalid.
 fn found_bounds<C: SharedComparator, G: Gate + Sync, R: Threads + Sync>(
-    rt: &R,
-    alloc: Global,
+    workers: &Workers<'_, R, G>,
     loaded: &[(u64, Vec<u8>)],
-    workers: u64,
-    gate: &G,
 ) -> Result<Option<Vec<Bounds>>, Fault>
-    requires some { 0 < workers }
-    requires few { workers ≤ MAX_WORKERS }
     ensures checked { IfOk result (λ found. MatchOption found
         (IsInvalid C.cmp (map (λ t. (t.0, t.1.items)) loaded.now))
         (λ v. AreBounds C.cmp (map (λ t. (t.0, t.1.items)) loaded.now) v.items)) }
     ensures memory { IfErr result (λ e. e ≡ fault Memory) }
 {
-    match check_tables::<C, G, R>(rt, alloc, loaded, workers, gate) {
-        Ok(tables) => Ok(Some(bounds_of_tables(alloc, tables)?)),
+    match check_tables::<C, G, R>(workers, loaded) {
+        Ok(tables) => Ok(Some(bounds_of_tables(workers.alloc(), tables)?)),
         Err(refused) => match refused.name {
             FaultName::Memory => Err(Fault::of(FaultName::Memory)),
             _ => Ok(None),

@@ -7,12 +7,11 @@ ghost use Rattle.folder.specs.OpenAnswer.{FolderAnswers};
 ghost use Rattle.folder.specs.Reports.{OnlyReads, ReportsDevice};
 ghost use Rattle.checks.specs.HeldTables.{AreHeldIn, AreReadAs, IsFoundAnswer, held_if};
 ghost use Rattle.checks.specs.HeldTables.{held_numbers};
-ghost use Rattle.board.specs.declared.limits.TheConstants.{MAX_WORKERS};
 
 use crate::found_tables::read_tables;
 use crate::held_table::HeldTable;
 use crate::table_places::{placed_tables, reused_places, wanted_numbers};
-use board::Gate;
+use board::{Gate, Workers};
 use coding::Fault;
 use folder::ReadsTables;
 use ikey::{Comparator, SharedComparator};
@@ -72,24 +71,19 @@ impl<C: Comparator> HeldTables<C> {
 ///
 /// `held` are tables of this folder, whose files are as they were when they were read. Those with
 /// one of the numbers are kept: they are neither read nor checked again. The others are dropped
-/// before a table is read. If the answer isn't true, none is held any more. 1 to 64 workers check
-/// the tables that are read, each a job that `gate` sees.
+/// before a table is read. If the answer isn't true, none is held any more. `workers` check the
+/// tables that are read, each a job.
 ///
 /// If the device fails a call, the answer is Device and no further call is made. If memory runs
 /// out, it is Memory.
 ///
 /// No contract says which tables are read.
 pub fn hold_next<C: SharedComparator, F: ReadsTables, G: Gate + Sync, R: Threads + Sync>(
-    rt: &R,
-    alloc: Global,
+    workers: &Workers<'_, R, G>,
     folder: &mut F,
     held: &mut HeldTables<C>,
     numbers: &[u64],
-    workers: u64,
-    gate: &G,
 ) -> Result<bool, Fault>
-    requires some { 0 < workers }
-    requires few { workers ≤ MAX_WORKERS }
     ensures answer { (files : Files) → Tells (F.tells folder.old) files →
         AreHeldIn C.cmp files held.old →
         FolderAnswers (λ is_held. held_if is_held held.new) (F.failed folder.old)
@@ -101,8 +95,8 @@ pub fn hold_next<C: SharedComparator, F: ReadsTables, G: Gate + Sync, R: Threads
     ensures device { ReportsDevice F.Folder folder.old folder.new result }
     ensures reads { OnlyReads F.Folder folder.old folder.new }
 {
-    let before = mem::replace(held, HeldTables::none(alloc));
-    let found = hold_tables::<C, F, G, R>(rt, alloc, folder, before, numbers, workers, gate)?;
+    let before = mem::replace(held, HeldTables::none(workers.alloc()));
+    let found = hold_tables::<C, F, G, R>(workers, folder, before, numbers)?;
     let Some(tables) = found else {
         return Ok(false);
     };
@@ -113,16 +107,11 @@ pub fn hold_next<C: SharedComparator, F: ReadsTables, G: Gate + Sync, R: Threads
 /// The tables of a folder with these `numbers`, in order. None if one of them is missing or
 /// invalid. All else is as [`hold_next`] has it.
 pub(crate) fn hold_tables<C: SharedComparator, F: ReadsTables, G: Gate + Sync, R: Threads + Sync>(
-    rt: &R,
-    alloc: Global,
+    workers: &Workers<'_, R, G>,
     folder: &mut F,
     held: HeldTables<C>,
     numbers: &[u64],
-    workers: u64,
-    gate: &G,
 ) -> Result<Option<HeldTables<C>>, Fault>
-    requires some { 0 < workers }
-    requires few { workers ≤ MAX_WORKERS }
     ensures answer { (files : Files) → Tells (F.tells folder.old) files →
         AreHeldIn C.cmp files held →
         FolderAnswers (λ found. found) (F.failed folder.old) (F.failed folder.new) result
@@ -132,9 +121,10 @@ pub(crate) fn hold_tables<C: SharedComparator, F: ReadsTables, G: Gate + Sync, R
     ensures device { ReportsDevice F.Folder folder.old folder.new result }
     ensures reads { OnlyReads F.Folder folder.old folder.new }
 {
+    let alloc = workers.alloc();
     let places = reused_places(alloc, held.tables, numbers)?;
     let wanted = wanted_numbers(alloc, &places)?;
-    let found = read_tables::<C, F, G, R>(rt, alloc, folder, &wanted, workers, gate)?;
+    let found = read_tables::<C, F, G, R>(workers, folder, &wanted)?;
     let Some(fresh) = found else {
         return Ok(None);
     };

@@ -13,10 +13,11 @@
 //! what two ranges have in common. [`bounds_tell`] is the law why some tables need no walk.
 //!
 //! The answer doesn't depend on the workers, nor on the order in which they do their jobs.
-//! [`CHECKERS`] is how many a command takes. A [`Watch`] is a gate that is told to which long work
-//! on a folder its jobs belong.
+//! [`checkers`] are those of a command. A [`Watch`] is a gate that is told to which long work on a
+//! folder its jobs belong.
 #![tactic(auto)]
 
+mod command_workers;
 mod entry_counts;
 mod file_groups;
 mod first_refusal;
@@ -41,6 +42,7 @@ mod wanted_tables;
 mod watch;
 mod worker_tables;
 
+pub use command_workers::checkers;
 pub use file_groups::group_split;
 pub use held_tables::{HeldTables, hold_next};
 pub use range_files::{needed_files, numbers_of};
@@ -49,7 +51,7 @@ pub use range_walk::lent_tables;
 pub use rounds::check_tables;
 pub use table_bounds::bounds_tell;
 pub use tested_version::TestedVersion;
-pub use version_check::{CHECKERS, lawful_tables};
+pub use version_check::lawful_tables;
 pub use version_test::{test_and_hold, test_version};
 pub use version_totals::VersionTotals;
 pub use wanted_tables::checked_tables;

@@ -7,18 +7,17 @@ ghost use Rattle.folder.specs.Reports.{OnlyReads, ReportsDevice};
 ghost use Rattle.split.specs.Ranges.{IsCover, key_range};
 ghost use Rattle.checks.specs.GroupTest.{IsRangeAnswer, IsRangesAnswer};
 ghost use Rattle.checks.specs.HeldTables.{AreHeldIn};
-ghost use Rattle.board.specs.declared.limits.TheConstants.{MAX_JOBS, MAX_WORKERS};
+ghost use Rattle.board.specs.declared.limits.TheConstants.{MAX_JOBS};
 
 use crate::held_tables::{HeldTables, hold_next};
 use crate::range_files::{needed_files, numbers_of};
 use crate::range_walk::walk_range;
-use board::Gate;
+use board::{Gate, Workers};
 use coding::Fault;
 use edit::FileMeta;
 use folder::ReadsTables;
 use ikey::SharedComparator;
 use split::{Range, Split};
-use std::alloc::Global;
 use std::thread::Threads;
 
 /// How many entries the tables of the `standing` files have. None unless, in each range of the
@@ -33,18 +32,13 @@ pub(crate) fn test_ranges<
     G: Gate + Sync,
     R: Threads + Sync,
 >(
-    rt: &R,
-    alloc: Global,
+    workers: &Workers<'_, R, G>,
     folder: &mut F,
     standing: &[&FileMeta],
     next: Option<u64>,
     split: &Split<C>,
     held: &mut HeldTables<C>,
-    workers: u64,
-    gate: &G,
 ) -> Result<Option<u128>, Fault>
-    requires some { 0 < workers }
-    requires few { workers ≤ MAX_WORKERS }
     requires few_files { length standing.now ≤ MAX_JOBS }
     ensures answer { (files : Files) → Tells (F.tells folder.old) files →
         AreHeldIn C.cmp files held.old →
@@ -59,9 +53,7 @@ pub(crate) fn test_ranges<
     let mut entries = 0;
     for number in 0..split.len() {
         let range = split.range(number);
-        let found = test_range::<C, F, G, R>(
-            rt, alloc, folder, standing, next, held, range, workers, gate,
-        )?;
+        let found = test_range::<C, F, G, R>(workers, folder, standing, next, held, range)?;
         let Some(count) = found else {
             return Ok(None);
         };
@@ -73,18 +65,13 @@ pub(crate) fn test_ranges<
 /// The same in one range, of the tables that begin in it. `held` are tables of the folder; those
 /// that the range needs replace them.
 fn test_range<C: SharedComparator + 'static, F: ReadsTables, G: Gate + Sync, R: Threads + Sync>(
-    rt: &R,
-    alloc: Global,
+    workers: &Workers<'_, R, G>,
     folder: &mut F,
     standing: &[&FileMeta],
     next: Option<u64>,
     held: &mut HeldTables<C>,
     range: Range<'_>,
-    workers: u64,
-    gate: &G,
 ) -> Result<Option<u128>, Fault>
-    requires some { 0 < workers }
-    requires few { workers ≤ MAX_WORKERS }
     requires few_files { length standing.now ≤ MAX_JOBS }
     ensures answer { (files : Files) → Tells (F.tells folder.old) files →
         AreHeldIn C.cmp files held.old →
@@ -96,11 +83,12 @@ fn test_range<C: SharedComparator + 'static, F: ReadsTables, G: Gate + Sync, R: 
     ensures device { ReportsDevice F.Folder folder.old folder.new result }
     ensures reads { OnlyReads F.Folder folder.old folder.new }
 {
+    let alloc = workers.alloc();
     let needed = needed_files::<C>(alloc, standing, range)?;
     let numbers = numbers_of(alloc, &needed)?;
-    let is_held = hold_next::<C, F, G, R>(rt, alloc, folder, held, &numbers, workers, gate)?;
+    let is_held = hold_next::<C, F, G, R>(workers, folder, held, &numbers)?;
     if !is_held {
         return Ok(None);
     }
-    walk_range::<C, R>(rt, alloc, &needed, next, held, range, workers)
+    walk_range::<C, G, R>(workers, &needed, next, held, range)
 }

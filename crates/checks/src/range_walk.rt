@@ -7,12 +7,12 @@ ghost use Rattle.coding.specs.declared.fault.FaultName.TheVariants.{Memory};
 ghost use Rattle.split.specs.Ranges.{IsIn, key_range};
 ghost use Rattle.reads.specs.TableOrder.{AreFallingIn};
 ghost use Rattle.checks.specs.GroupTest.{IsWalkAnswer, entries_of_all};
-ghost use Rattle.board.specs.declared.limits.TheConstants.{MAX_JOBS, MAX_WORKERS};
+ghost use Rattle.board.specs.declared.limits.TheConstants.{MAX_JOBS};
 
 use crate::entry_counts::counted_files;
 use crate::held_tables::HeldTables;
 use crate::sequence_order::entries_fall;
-use board::Open;
+use board::{Open, Workers};
 use coding::Fault;
 use edit::FileMeta;
 use ikey::{Comparator, SharedComparator};
@@ -26,18 +26,14 @@ use table::SoundTable;
 /// table is what the version states of its file, and of each user key of the range the sequences
 /// fall through them. `next` is the version's next file.
 ///
-/// 1 to 64 workers walk the range.
-pub(crate) fn walk_range<C: SharedComparator + 'static, R: Threads + Sync>(
-    rt: &R,
-    alloc: Global,
+/// `workers` walk the range. Their gate isn't told.
+pub(crate) fn walk_range<C: SharedComparator + 'static, G, R: Threads + Sync>(
+    workers: &Workers<'_, R, G>,
     files: &[&FileMeta],
     next: Option<u64>,
     held: &HeldTables<C>,
     range: Range<'_>,
-    workers: u64,
 ) -> Result<Option<u128>, Fault>
-    requires some { 0 < workers }
-    requires few { workers ≤ MAX_WORKERS }
     requires same { length held.now ≡ length files.now }
     requires few_files { length files.now ≤ MAX_JOBS }
     ensures walked { IfOk result (IsWalkAnswer C.cmp next (key_range range.entry)
@@ -45,32 +41,28 @@ pub(crate) fn walk_range<C: SharedComparator + 'static, R: Threads + Sync>(
     ensures small { IfOk result (λ found. IfSome found (λ count. count ≤ 2 ^ 100)) }
     ensures memory { IfErr result (λ e. e ≡ fault Memory) }
 {
-    let tables = held.lend(alloc)?;
+    let tables = held.lend(workers.alloc())?;
     let Some(count) = counted_files(files, next, &tables, range) else {
         return Ok(None);
     };
-    if !tables_fall(rt, alloc, &tables, range, workers)? {
+    if !tables_fall(workers, &tables, range)? {
         return Ok(None);
     }
     Ok(Some(count))
 }
 
 /// Whether of each user key of `range` the sequences fall through the tables.
-fn tables_fall<'t, C: SharedComparator + 'static, R: Threads + Sync>(
-    rt: &R,
-    alloc: Global,
+fn tables_fall<'t, C: SharedComparator + 'static, G, R: Threads + Sync>(
+    workers: &Workers<'_, R, G>,
     tables: &[NumberedTable<'t, C>],
     range: Range<'_>,
-    workers: u64,
 ) -> Result<bool, Fault>
-    requires some { 0 < workers }
-    requires few { workers ≤ MAX_WORKERS }
     ensures falls { IfOk result (λ falls. (falls ≡ true)
         ↔ AreFallingIn (IsIn C.cmp (key_range range.entry)) (entries_of_all tables.now)) }
     ensures memory { IfErr result (λ e. e ≡ fault Memory) }
 {
-    let lent = lent_tables(alloc, tables)?;
-    entries_fall(rt, alloc, &lent, range, workers, &Open)
+    let lent = lent_tables(workers.alloc(), tables)?;
+    entries_fall(&workers.with_gate(&Open), &lent, range)
 }
 
 /// The tables without their numbers.

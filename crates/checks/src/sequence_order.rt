@@ -8,12 +8,11 @@ ghost use Rattle.merge.specs.MergedLists.{entries_of_lists};
 ghost use Rattle.split.specs.Ranges.{IsCover, IsIn, key_range};
 ghost use Rattle.reads.specs.TableOrder.{AreFalling, AreFallingIn};
 ghost use Rattle.checks.specs.CommonRange.{TellsRange};
-ghost use Rattle.board.specs.declared.limits.TheConstants.{MAX_WORKERS};
 
 use crate::range_intersection::common_range;
 use crate::sampled_ranges::sampled_split;
 use crate::table_bounds::tables_to_walk;
-use board::{Gate, Labour, run};
+use board::{Gate, Labour, Workers};
 use coding::Fault;
 use ikey::{Comparator, SharedComparator};
 use keep::cursors_from;
@@ -55,54 +54,45 @@ impl<'r, 't, C: Comparator + 't + 'static> Labour for Falls<'r, 't, C> {
 /// read one after the other.
 ///
 /// Tables that bounds tell apart from each other one aren't walked. Of the others, what `within`
-/// has of ranges of about one size is walked by 1 to 64 workers, each a job.
+/// has of ranges of about one size is walked by `workers`, each a job.
 pub(crate) fn entries_fall<'t, C: SharedComparator + 'static, G: Gate + Sync, R: Threads + Sync>(
-    rt: &R,
-    alloc: Global,
+    workers: &Workers<'_, R, G>,
     tables: &[&SoundTable<'t, C>],
     within: Range<'_>,
-    workers: u64,
-    gate: &G,
 ) -> Result<bool, Fault>
-    requires some { 0 < workers }
-    requires few { workers ≤ MAX_WORKERS }
     ensures falls { IfOk result (λ falls. (falls ≡ true)
         ↔ AreFallingIn (IsIn C.cmp (key_range within.entry))
         (entries_of_lists (map (λ t. t.now.entries) tables.now))) }
     ensures memory { IfErr result (λ e. e ≡ fault Memory) }
 {
+    let alloc = workers.alloc();
     let walked = tables_to_walk(alloc, tables)?;
     if walked.is_empty() {
         return Ok(true);
     }
     let split = sampled_split::<C>(alloc, &walked)?;
-    walk_falls(rt, alloc, &walked, within, &split, workers, gate)
+    walk_falls(workers, &walked, within, &split)
 }
 
 /// The same, of all tables. What `within` has of the ranges of the split is walked, each a job.
 fn walk_falls<'t, C: SharedComparator + 'static, G: Gate + Sync, R: Threads + Sync>(
-    rt: &R,
-    alloc: Global,
+    workers: &Workers<'_, R, G>,
     tables: &[&SoundTable<'t, C>],
     within: Range<'_>,
     split: &Split<C>,
-    workers: u64,
-    gate: &G,
 ) -> Result<bool, Fault>
-    requires some { 0 < workers }
-    requires few { workers ≤ MAX_WORKERS }
     ensures falls { IfOk result (λ falls. (falls ≡ true)
         ↔ AreFallingIn (IsIn C.cmp (key_range within.entry))
         (entries_of_lists (map (λ t. t.now.entries) tables.now))) }
     ensures memory { IfErr result (λ e. e ≡ fault Memory) }
 {
     let labour = Falls {
-        alloc,
+        alloc: workers.alloc(),
         tables,
         within,
         split,
     };
-    let found = run(rt, alloc, &labour, count_ranges(split), workers, gate)?;
+    let found = workers.run(&labour, count_ranges(split))?;
     Ok(are_all_true(&found))
 }
 
@@ -112,15 +102,7 @@ pub(crate) fn all_entries_fall<
     C: SharedComparator + 'static,
     G: Gate + Sync,
     R: Threads + Sync,
->(
-    rt: &R,
-    alloc: Global,
-    tables: &[&SoundTable<'t, C>],
-    workers: u64,
-    gate: &G,
-) -> Result<bool, Fault>
-    requires some { 0 < workers }
-    requires few { workers ≤ MAX_WORKERS }
+>(workers: &Workers<'_, R, G>, tables: &[&SoundTable<'t, C>]) -> Result<bool, Fault>
     ensures falls { IfOk result (λ falls. (falls ≡ true)
         ↔ AreFalling (entries_of_lists (map (λ t. t.now.entries) tables.now))) }
     ensures memory { IfErr result (λ e. e ≡ fault Memory) }
@@ -129,7 +111,7 @@ pub(crate) fn all_entries_fall<
         lower: None,
         upper: None,
     };
-    entries_fall(rt, alloc, tables, all, workers, gate)
+    entries_fall(workers, tables, all)
 }
 
 /// How many ranges a split has.

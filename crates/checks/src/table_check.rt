@@ -5,9 +5,9 @@ ghost use Rattle.coding.specs.Answers.{EqualOrMemory};
 ghost use Rattle.reads.specs.Tables.{NumberedContents};
 ghost use Rattle.checks.specs.TableReadings.{numbered_reading, tables_reading};
 ghost use Rattle.checks.specs.TableAnswers.{table_answers};
-ghost use Rattle.board.specs.declared.limits.TheConstants.{MAX_JOBS, MAX_WORKERS};
+ghost use Rattle.board.specs.declared.limits.TheConstants.{MAX_JOBS};
 
-use board::{Gate, Labour, run};
+use board::{Gate, Labour, Workers};
 use coding::Fault;
 use ikey::{Comparator, SharedComparator};
 use reads::NumberedTable;
@@ -44,29 +44,24 @@ impl<'t, C: Comparator> Labour for Checks<'t, C> {
     }
 }
 
-/// The tables of these numbers and bytes, checked by 1 to 64 workers, a table a job. There are at
-/// most 2^40.
+/// The tables of these numbers and bytes, checked by `workers`, a table a job. There are at most
+/// 2^40.
 ///
 /// Refused as the first invalid table is, by the first test that it fails.
 pub(crate) fn check_round<'t, C: SharedComparator, G: Gate + Sync, R: Threads + Sync>(
-    rt: &R,
-    alloc: Global,
+    workers: &Workers<'_, R, G>,
     loaded: &'t [(u64, Vec<u8>)],
-    workers: u64,
-    gate: &G,
 ) -> Result<Vec<NumberedTable<'t, C>>, Fault>
     requires jobs { length loaded.now ≤ MAX_JOBS }
-    requires some { 0 < workers }
-    requires few { workers ≤ MAX_WORKERS }
     ensures { EqualOrMemory (λ v. v.items) result
         (tables_reading C.cmp (map (λ t. (t.0, t.1.items)) loaded.now)) }
 {
     let checks = Checks {
-        alloc,
+        alloc: workers.alloc(),
         loaded,
         order: PhantomData,
     };
-    Ok(run(rt, alloc, &checks, loaded.len() as u64, workers, gate)?)
+    Ok(workers.run(&checks, loaded.len() as u64)?)
 }
 
 /// The table whose place is the number of the job.

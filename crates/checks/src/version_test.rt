@@ -8,7 +8,6 @@ ghost use Rattle.folder.specs.Reports.{OnlyReads, ReportsDevice};
 ghost use Rattle.checks.specs.GroupTest.{IsSweepAnswer};
 ghost use Rattle.checks.specs.HeldTables.{AreHeldIn};
 ghost use Rattle.checks.specs.TestedTables.{IsTested};
-ghost use Rattle.board.specs.declared.limits.TheConstants.{MAX_WORKERS};
 
 use crate::file_groups::group_split;
 use crate::first_refusal::check_in_order;
@@ -18,13 +17,12 @@ use crate::rounds::MAX_TABLES;
 use crate::tested_version::TestedVersion;
 use crate::version_totals::VersionTotals;
 use crate::watch::{Watch, Work};
-use board::Gate;
+use board::{Gate, Workers};
 use coding::{Fault, FaultName};
 use edit::Version;
 use folder::{ReadsTables, file_numbers};
 use ikey::SharedComparator;
 use reads::files_newest_first;
-use std::alloc::Global;
 use std::thread::Threads;
 
 /// Tests whether a version is lawful with the tables that a folder holds. It only reads.
@@ -41,33 +39,28 @@ use std::thread::Threads;
 /// The tables in memory have at most `memory` bytes together, if no single user key needs more. For
 /// that, one range of user keys is tested after the other, with the tables that reach into it. A
 /// table is read and checked for the first range that needs it, and held until the last one has
-/// been tested. No contract says so. 1 to 64 workers check the tables and walk over their entries.
+/// been tested. No contract says so. `workers` check the tables and walk over their entries.
 /// If something is wrong, all tables are read again, in order, for the first refusal.
 ///
-/// The work is told to `watch`, which is `&Open` if nobody watches.
+/// The work is told to the gate of `workers`, which is `&Open` if nobody watches.
 pub fn test_version<
     C: SharedComparator + 'static,
     F: ReadsTables,
     W: Watch + Sync,
     R: Threads + Sync,
 >(
-    rt: &R,
-    alloc: Global,
+    workers: &Workers<'_, R, W>,
     folder: &mut F,
     version: &Version,
     memory: u64,
-    workers: u64,
-    watch: &W,
 ) -> Result<VersionTotals, Fault>
-    requires some { 0 < workers }
-    requires few { workers ≤ MAX_WORKERS }
     ensures answer { (files : Files) → Tells (F.tells folder.old) files →
         FolderAnswers (λ tested. tested) (F.failed folder.old) (F.failed folder.new) result
         (IsTested (IsFileIn files) C.cmp version.now) }
     ensures device { ReportsDevice F.Folder folder.old folder.new result }
     ensures reads { OnlyReads F.Folder folder.old folder.new }
 {
-    let found = test_and_hold::<C, F, W, R>(rt, alloc, folder, version, memory, workers, watch)?;
+    let found = test_and_hold::<C, F, W, R>(workers, folder, version, memory)?;
     Ok(found.tested)
 }
 
@@ -80,16 +73,11 @@ pub fn test_and_hold<
     W: Watch + Sync,
     R: Threads + Sync,
 >(
-    rt: &R,
-    alloc: Global,
+    workers: &Workers<'_, R, W>,
     folder: &mut F,
     version: &Version,
     memory: u64,
-    workers: u64,
-    watch: &W,
 ) -> Result<TestedVersion<C>, Fault>
-    requires some { 0 < workers }
-    requires few { workers ≤ MAX_WORKERS }
     ensures answer { (files : Files) → Tells (F.tells folder.old) files →
         FolderAnswers (λ found. found.tested) (F.failed folder.old) (F.failed folder.new) result
         (IsTested (IsFileIn files) C.cmp version.now) }
@@ -98,43 +86,30 @@ pub fn test_and_hold<
     ensures device { ReportsDevice F.Folder folder.old folder.new result }
     ensures reads { OnlyReads F.Folder folder.old folder.new }
 {
+    let alloc = workers.alloc();
     let numbers = file_numbers::<C>(alloc, version)?;
-    watch.begin(Work::Check, numbers.len() as u64);
+    workers.gate().begin(Work::Check, numbers.len() as u64);
     let mut tables = HeldTables::none(alloc);
-    let found = tested_entries::<C, F, W, R>(
-        rt,
-        alloc,
-        folder,
-        version,
-        memory,
-        workers,
-        &mut tables,
-        watch,
-    )?;
+    let found = tested_entries::<C, F, W, R>(workers, folder, version, memory, &mut tables)?;
     if let Some(entries) = found {
         let files = numbers.len();
         let tested = VersionTotals { files, entries };
         return Ok(TestedVersion { tested, tables });
     }
     drop(tables);
-    check_in_order::<C, F, R>(rt, alloc, folder, &numbers, workers)?;
+    check_in_order::<C, F, W, R>(workers, folder, &numbers)?;
     Err(Fault::of(FaultName::Lawless))
 }
 
 /// How many entries the tables of a version have, if it is lawful with them. Else None. It only
 /// reads. `held` are tables of the folder; those of the last range replace them.
 fn tested_entries<C: SharedComparator + 'static, F: ReadsTables, G: Gate + Sync, R: Threads + Sync>(
-    rt: &R,
-    alloc: Global,
+    workers: &Workers<'_, R, G>,
     folder: &mut F,
     version: &Version,
     memory: u64,
-    workers: u64,
     held: &mut HeldTables<C>,
-    gate: &G,
 ) -> Result<Option<u128>, Fault>
-    requires some { 0 < workers }
-    requires few { workers ≤ MAX_WORKERS }
     ensures answer { (files : Files) → Tells (F.tells folder.old) files →
         AreHeldIn C.cmp files held.old →
         FolderAnswers (λ found. found) (F.failed folder.old) (F.failed folder.new) result
@@ -144,6 +119,7 @@ fn tested_entries<C: SharedComparator + 'static, F: ReadsTables, G: Gate + Sync,
     ensures device { ReportsDevice F.Folder folder.old folder.new result }
     ensures reads { OnlyReads F.Folder folder.old folder.new }
 {
+    let alloc = workers.alloc();
     let Some(standing) = files_newest_first::<C>(alloc, version)? else {
         return Ok(None);
     };
@@ -152,7 +128,5 @@ fn tested_entries<C: SharedComparator + 'static, F: ReadsTables, G: Gate + Sync,
     }
     let split = group_split::<C>(alloc, &standing, memory)?;
     let next = version.next_file();
-    test_ranges::<C, F, G, R>(
-        rt, alloc, folder, &standing, next, &split, held, workers, gate,
-    )
+    test_ranges::<C, F, G, R>(workers, folder, &standing, next, &split, held)
 }

@@ -5,15 +5,13 @@ ghost use Rattle.folder.specs.Calls.{Files, Tells};
 ghost use Rattle.folder.specs.OpenAnswer.{FolderAnswers};
 ghost use Rattle.folder.specs.Reports.{OnlyReads, ReportsDevice};
 ghost use Rattle.checks.specs.HeldTables.{AreHeldIn, IsCheckedAnswer, held_numbers};
-ghost use Rattle.board.specs.declared.limits.TheConstants.{MAX_WORKERS};
 
 use crate::first_refusal::check_in_order;
 use crate::held_tables::{HeldTables, hold_tables};
-use board::Gate;
+use board::{Gate, Workers};
 use coding::{Fault, FaultName};
 use folder::ReadsTables;
 use ikey::SharedComparator;
-use std::alloc::Global;
 use std::thread::Threads;
 
 /// The tables of a folder with these `numbers`, in order, each checked. It only reads.
@@ -25,18 +23,13 @@ use std::thread::Threads;
 /// out, it is Memory. Lawless, if the folder was changed meanwhile.
 ///
 /// `held` are tables of this folder; those with one of the numbers are neither read nor checked
-/// again, as [`hold_next`] has it. 1 to 64 workers check the others.
+/// again, as [`hold_next`] has it. `workers` check the others.
 pub fn checked_tables<C: SharedComparator, F: ReadsTables, G: Gate + Sync, R: Threads + Sync>(
-    rt: &R,
-    alloc: Global,
+    workers: &Workers<'_, R, G>,
     folder: &mut F,
     held: HeldTables<C>,
     numbers: &[u64],
-    workers: u64,
-    gate: &G,
 ) -> Result<HeldTables<C>, Fault>
-    requires some { 0 < workers }
-    requires few { workers ≤ MAX_WORKERS }
     ensures answer { (files : Files) → Tells (F.tells folder.old) files →
         AreHeldIn C.cmp files held →
         FolderAnswers (λ tables. tables) (F.failed folder.old) (F.failed folder.new) result
@@ -45,10 +38,10 @@ pub fn checked_tables<C: SharedComparator, F: ReadsTables, G: Gate + Sync, R: Th
     ensures device { ReportsDevice F.Folder folder.old folder.new result }
     ensures reads { OnlyReads F.Folder folder.old folder.new }
 {
-    let found = hold_tables::<C, F, G, R>(rt, alloc, folder, held, numbers, workers, gate)?;
+    let found = hold_tables::<C, F, G, R>(workers, folder, held, numbers)?;
     if let Some(tables) = found {
         return Ok(tables);
     }
-    check_in_order::<C, F, R>(rt, alloc, folder, numbers, workers)?;
+    check_in_order::<C, F, G, R>(workers, folder, numbers)?;
     Err(Fault::of(FaultName::Lawless))
 }

@@ -8,11 +8,10 @@ ghost use Rattle.coding.specs.Answers.{fault};
 ghost use Rattle.coding.specs.declared.fault.FaultName.TheVariants.{Memory};
 ghost use Rattle.table.specs.TableContents.{contents_reading};
 ghost use Rattle.checks.specs.HeldBytes.{IsToldTable};
-ghost use Rattle.board.specs.declared.limits.TheConstants.{MAX_WORKERS};
 
 use crate::held_table::HeldTable;
 use crate::rounds::MAX_TABLES;
-use board::{Gate, Labour, run};
+use board::{Gate, Labour, Workers};
 use coding::{Fault, FaultName};
 use folder::{ReadsTables, TableReader};
 use ikey::{Comparator, SharedComparator};
@@ -69,36 +68,26 @@ fn valid_table<C: Comparator>(
     }
 }
 
-/// The tables of a folder with these numbers, in order, each read and checked by one of 1 to 64
-/// workers. None if one can't be had or is invalid, or if memory ran out.
+/// The tables of a folder with these numbers, in order, each read and checked by one of
+/// `workers`. None if one can't be had or is invalid, or if memory ran out.
 pub(crate) fn worker_tables<C: SharedComparator, F: ReadsTables, G: Gate + Sync, R: Threads + Sync>(
-    rt: &R,
-    alloc: Global,
+    workers: &Workers<'_, R, G>,
     folder: &F,
     numbers: &[u64],
-    workers: u64,
-    gate: &G,
 ) -> Option<Vec<HeldTable<C>>>
-    requires some { 0 < workers }
-    requires few { workers ≤ MAX_WORKERS }
     ensures { IfSome result
         (λ v. AllZip (IsToldTable C.cmp (F.tells folder.now)) v.items numbers.now) }
 {
     let reader = folder.reader();
-    tables_of(rt, alloc, &reader, numbers, workers, gate)
+    tables_of(workers, &reader, numbers)
 }
 
 /// The same tables, as the `reader` of the folder gives them.
 fn tables_of<C: SharedComparator, D: TableReader, G: Gate + Sync, R: Threads + Sync>(
-    rt: &R,
-    alloc: Global,
+    workers: &Workers<'_, R, G>,
     reader: &D,
     numbers: &[u64],
-    workers: u64,
-    gate: &G,
 ) -> Option<Vec<HeldTable<C>>>
-    requires some { 0 < workers }
-    requires few { workers ≤ MAX_WORKERS }
     ensures { IfSome result
         (λ v. AllZip (IsToldTable C.cmp (D.tells reader.now)) v.items numbers.now) }
 {
@@ -107,10 +96,10 @@ fn tables_of<C: SharedComparator, D: TableReader, G: Gate + Sync, R: Threads + S
     }
     let jobs = numbers.len() as u64;
     let checks = TablesToCheck {
-        alloc,
+        alloc: workers.alloc(),
         reader,
         numbers,
         order: PhantomData,
     };
-    run(rt, alloc, &checks, jobs, workers, gate).ok()
+    workers.run(&checks, jobs).ok()
 }

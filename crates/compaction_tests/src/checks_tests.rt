@@ -115,14 +115,12 @@ fn is_told(answer: Result<Vec<NumberedTable<'_, Bytewise>>, Fault>, told: Told) 
 /// Whether four workers answer what a row says.
 fn tell(rt: &(impl Threads + Sync + Abort), alloc: Global, row: &Row) -> bool {
     let loaded = loaded(rt, alloc, row.tables);
+    let workers = checkers(rt, alloc, &Open);
     let Some(edit) = row.edit else {
-        return is_told(check_tables(rt, alloc, &loaded, 4, &Open), row.told);
+        return is_told(check_tables(&workers, &loaded), row.told);
     };
     let version = version_after(rt, alloc, edit);
-    is_told(
-        lawful_tables(rt, alloc, &version, &loaded, 4, &Open),
-        row.told,
-    )
+    is_told(lawful_tables(&workers, &version, &loaded), row.told)
 }
 
 #[test]

@@ -3,13 +3,13 @@
 
 use crate::range_checks_tests::{
     A_AND_U, A_AT_THREE, B_AT_TWO, OLDER_ABOVE, SEVERAL_RANGES, SHARED_KEY, U_AT_NINE, U_AT_ONE,
-    U_AT_SEVEN, version_after,
+    U_AT_SEVEN, opened_after,
 };
 use board::Open;
-use checks::test_version;
+use checks::{checkers, test_version};
 use edit::Version;
 use faults::{FaultTaker, FileFault, all_faults};
-use folder::{Order, Shelf};
+use folder::Shelf;
 use ikey::Bytewise;
 use std::alloc::Global;
 use std::process::Abort;
@@ -195,25 +195,26 @@ impl FaultTaker for Collected {
 /// Whether a version passes its test exactly if nothing is wrong with it.
 fn is_tested(rt: &(impl Threads + Sync), alloc: Global, version: &Version, row: &Row) -> bool {
     let mut shelf = Shelf::new(alloc, row.files);
-    let tested = test_version::<Bytewise, _, _, _>(rt, alloc, &mut shelf, version, 300, 4, &Open);
+    let workers = checkers(rt, alloc, &Open);
+    let tested = test_version::<Bytewise, _, _, _>(&workers, &mut shelf, version, 300);
     tested.is_ok() == (row.count == 0)
 }
 
 /// Whether what is told of a row is what it says, and nothing exactly if the version passes its
 /// test.
 fn tell(rt: &(impl Threads + Sync + Abort), alloc: Global, row: &Row, memory: u64) -> bool {
-    let version = version_after(rt, alloc, row.edit);
+    let opened = opened_after(rt, alloc, row.edit);
     let mut shelf = Shelf::new(alloc, row.files);
     let mut told = Collected {
         text: String::new(alloc),
         most: row.most,
         number: 0,
     };
-    let order = Order::Bytewise;
-    let count = all_faults(
-        rt, alloc, &mut shelf, order, &version, memory, &mut told, &Open,
-    );
-    told.text.as_str() == row.told && count == Ok(row.count) && is_tested(rt, alloc, &version, row)
+    let workers = checkers(rt, alloc, &Open);
+    let count = all_faults(&workers, &mut shelf, &opened, memory, &mut told);
+    told.text.as_str() == row.told
+        && count == Ok(row.count)
+        && is_tested(rt, alloc, &opened.version, row)
 }
 
 #[test]

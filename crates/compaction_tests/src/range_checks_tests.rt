@@ -3,11 +3,12 @@
 use crate::checks_tests::are_tables;
 use board::Open;
 use checks::{
-    HeldTables, VersionTotals, checked_tables, hold_next, lent_tables, test_and_hold, test_version,
+    HeldTables, VersionTotals, checked_tables, checkers, hold_next, lent_tables, test_and_hold,
+    test_version,
 };
 use coding::{Fault, FaultName};
 use edit::{Version, VersionEdit};
-use folder::Shelf;
+use folder::{Opened, Order, Shelf};
 use ikey::Bytewise;
 use reads::NumberedTable;
 use std::alloc::Global;
@@ -158,6 +159,15 @@ pub(crate) fn version_after(rt: &impl Abort, alloc: Global, edit: &[u8]) -> Vers
         .expect(rt, "a version")
 }
 
+/// A folder that was opened as that version.
+pub(crate) fn opened_after(rt: &impl Abort, alloc: Global, edit: &[u8]) -> Opened {
+    Opened {
+        order: Order::Bytewise,
+        version: version_after(rt, alloc, edit),
+        manifest: 1,
+    }
+}
+
 /// Whether an answer is the expected one.
 fn is_told(answer: Result<VersionTotals, Fault>, told: Result<(usize, u128), FaultName>) -> bool {
     match (answer, told) {
@@ -171,9 +181,8 @@ fn is_told(answer: Result<VersionTotals, Fault>, told: Result<(usize, u128), Fau
 fn tell(rt: &(impl Threads + Sync + Abort), alloc: Global, row: &Row, memory: u64) -> bool {
     let version = version_after(rt, alloc, row.edit);
     let mut shelf = Shelf::new(alloc, row.files);
-    let answer = test_version::<Bytewise, _, _, _>(
-        rt, alloc, &mut shelf, &version, memory, 4, &Open,
-    );
+    let workers = checkers(rt, alloc, &Open);
+    let answer = test_version::<Bytewise, _, _, _>(&workers, &mut shelf, &version, memory);
     let is_counted = match row.calls {
         Some(calls) => shelf.calls() == calls,
         None => true,
@@ -252,12 +261,13 @@ fn are_lent_as(
 fn are_held(rt: &(impl Threads + Sync + Abort), alloc: Global, row: &HeldRow) -> bool {
     let version = version_after(rt, alloc, SEVERAL_RANGES);
     let mut shelf = Shelf::new(alloc, OF_SEVERAL);
+    let workers = checkers(rt, alloc, &Open);
     let found = test_and_hold::<Bytewise, _, _, _>(
-        rt, alloc, &mut shelf, &version, row.memory, 4, &Open,
+        &workers, &mut shelf, &version, row.memory,
     ).expect(rt, "a lawful version");
     let is_held = are_lent_as(rt, alloc, &found.tables, row.held);
     let is_tested = (found.tested.files, found.tested.entries) == (5, 6);
-    let wanted = checked_tables(rt, alloc, &mut shelf, found.tables, row.wanted, 4, &Open).expect(
+    let wanted = checked_tables(&workers, &mut shelf, found.tables, row.wanted).expect(
         rt, "tables",
     );
     is_held && is_tested && are_lent_as(rt, alloc, &wanted, row.told) && shelf.calls() == row.calls
@@ -300,14 +310,14 @@ const NEXT: &[NextRow] = &[
 fn are_next(rt: &(impl Threads + Sync + Abort), alloc: Global, row: &NextRow) -> bool {
     let version = version_after(rt, alloc, SEVERAL_RANGES);
     let mut shelf = Shelf::new(alloc, OF_SEVERAL);
-    let found = test_and_hold::<Bytewise, _, _, _>(
-        rt, alloc, &mut shelf, &version, 1, 4, &Open,
-    ).expect(rt, "a lawful version");
+    let workers = checkers(rt, alloc, &Open);
+    let found = test_and_hold::<Bytewise, _, _, _>(&workers, &mut shelf, &version, 1).expect(
+        rt,
+        "a lawful version",
+    );
     let mut held = found.tables;
     let before = shelf.calls();
-    let is_held = hold_next(rt, alloc, &mut shelf, &mut held, row.numbers, 4, &Open).expect(
-        rt, "memory",
-    );
+    let is_held = hold_next(&workers, &mut shelf, &mut held, row.numbers).expect(rt, "memory");
     let lent = held.lend(alloc).expect(rt, "memory");
     is_held == row.is_held
         && are_tables(&lent, row.held)

@@ -1,12 +1,14 @@
 //! The rows of versions, with the tables of a folder in one range of user keys and in several.
 
 use crate::range_checks_tests::{
-    A_AND_U, A_AT_THREE, B_AT_TWO, SEVERAL_RANGES, U_AT_NINE, U_AT_SEVEN, version_after,
+    A_AND_U, A_AT_THREE, B_AT_TWO, SEVERAL_RANGES, U_AT_NINE, U_AT_SEVEN, opened_after,
+    version_after,
 };
 use crate::store_tests::rows::U4_DELETED;
 use board::Open;
+use checks::checkers;
 use coding::{Fault, FaultName};
-use folder::{Order, Shelf};
+use folder::Shelf;
 use scan::{RowChoice, RowTaker, scan_unverified, scan_version, sequence_of};
 use std::alloc::{AllocError, Global};
 use std::process::Abort;
@@ -180,32 +182,27 @@ fn new_taker(alloc: Global, row: &Row) -> Collected {
 
 /// Whether the scan of a row, without a test of the version, tells its rows.
 fn tell<R: Threads + Sync + Abort>(rt: &R, alloc: Global, row: &Row, memory: u64) -> bool {
-    let version = version_after(rt, alloc, row.edit);
+    let opened = opened_after(rt, alloc, row.edit);
     let mut shelf = Shelf::new(alloc, row.files);
     let mut told = new_taker(alloc, row);
-    let order = Order::Bytewise;
-    let answer = scan_unverified(
-        rt, alloc, &mut shelf, order, &version, row.choice, memory, &mut told,
-    );
+    let workers = checkers(rt, alloc, &Open);
+    let answer = scan_unverified(&workers, &mut shelf, &opened, row.choice, memory, &mut told);
     is_told(answer, &told, row)
 }
 
 /// The same with a test of the version.
 fn tell_tested<R: Threads + Sync + Abort>(rt: &R, alloc: Global, row: &Row) -> bool {
-    let version = version_after(rt, alloc, row.edit);
+    let opened = opened_after(rt, alloc, row.edit);
     let mut shelf = Shelf::new(alloc, row.files);
     let mut told = new_taker(alloc, row);
-    let order = Order::Bytewise;
+    let workers = checkers(rt, alloc, &Open);
     let answer = scan_version(
-        rt,
-        alloc,
+        &workers,
         &mut shelf,
-        order,
-        &version,
+        &opened,
         row.choice,
         1 << 30,
         &mut told,
-        &Open,
     );
     is_told(answer, &told, row)
 }

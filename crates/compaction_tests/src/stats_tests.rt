@@ -2,12 +2,13 @@
 //! and in several.
 
 use crate::range_checks_tests::{
-    A_AND_U, A_AT_THREE, B_AT_TWO, SEVERAL_RANGES, U_AT_SEVEN, version_after,
+    A_AND_U, A_AT_THREE, B_AT_TWO, SEVERAL_RANGES, U_AT_SEVEN, opened_after,
 };
 use crate::scan_tests::{DELETED, DELETION_ABOVE, Held, VALUES};
 use board::Open;
+use checks::checkers;
 use coding::FaultName;
-use folder::{Order, Shelf};
+use folder::Shelf;
 use scan::{Amounts, LevelStats, VersionStats, version_stats};
 use std::alloc::Global;
 use std::process::Abort;
@@ -105,17 +106,10 @@ fn are_levels(found: &VersionStats, levels: &[Level], all: Numbers) -> bool {
 
 /// Whether a row is told as it says, with this budget.
 fn tell<R: Threads + Sync + Abort>(rt: &R, alloc: Global, row: &Row, memory: u64) -> bool {
-    let version = version_after(rt, alloc, row.edit);
+    let opened = opened_after(rt, alloc, row.edit);
     let mut shelf = Shelf::new(alloc, row.files);
-    let answer = version_stats(
-        rt,
-        alloc,
-        &mut shelf,
-        Order::Bytewise,
-        &version,
-        memory,
-        &Open,
-    );
+    let workers = checkers(rt, alloc, &Open);
+    let answer = version_stats(&workers, &mut shelf, &opened, memory);
     match (answer, row.told) {
         (Ok(found), Ok((levels, all))) => are_levels(&found, levels, all),
         (Err(fault), Err(name)) => fault.name == name,

@@ -3,4 +3,4 @@
 mod outcomes;
 mod read_counts;
 pub(crate) mod rows;
-mod tests;
+pub(crate) mod tests;

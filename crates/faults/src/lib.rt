@@ -4,9 +4,8 @@
 //!    entries are not in their order.
 //! 2. [`all_faults`] reads the tables of a version and tells all of it, and how much that is.
 //!
-//! [`all_faults_by`] is the same by one comparator. [`no_fault_law`] is the law that nothing is
-//! told exactly if a test accepts the version, [`misplaced_law`] that each misplaced user key is
-//! told, and no other.
+//! [`no_fault_law`] is the law that nothing is told exactly if a test accepts the version,
+//! [`misplaced_law`] that each misplaced user key is told, and no other.
 //!
 //! No contract says how often a table is read, or how much memory that takes.
 #![tactic(auto)]
@@ -31,4 +30,4 @@ mod version_faults;
 pub use fault_laws::{misplaced_law, no_fault_law};
 pub use fault_taker::FaultTaker;
 pub use file_fault::FileFault;
-pub use version_faults::{all_faults, all_faults_by};
+pub use version_faults::all_faults;

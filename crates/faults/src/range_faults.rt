@@ -20,8 +20,8 @@ use crate::fault_taker::FaultTaker;
 use crate::file_cursor::FileCursor;
 use crate::key_fault::KeyFault;
 use crate::key_walk::key_faults;
-use board::Gate;
-use checks::{CHECKERS, HeldTables, hold_next, needed_files, numbers_of};
+use board::{Gate, Workers};
+use checks::{HeldTables, hold_next, needed_files, numbers_of};
 use coding::{Fault, FaultName};
 use edit::FileMeta;
 use folder::ReadsTables;
@@ -43,14 +43,12 @@ pub(crate) fn tell_ranges<
     G: Gate + Sync,
     R: Threads + Sync,
 >(
-    rt: &R,
-    alloc: Global,
+    workers: &Workers<'_, R, G>,
     folder: &mut F,
     files: &[&FileMeta],
     split: &Split<C>,
     taker: &mut T,
     told: FaultCount,
-    gate: &G,
 ) -> Result<FaultCount, Fault>
     requires { told.goes ≡ true }
     // If the folder tells files that hold these tables, each as the version states it.
@@ -66,11 +64,11 @@ pub(crate) fn tell_ranges<
     ensures device { ReportsDevice F.Folder folder.old folder.new result }
     ensures reads { OnlyReads F.Folder folder.old folder.new }
 {
-    let mut held = HeldTables::none(alloc);
+    let mut held = HeldTables::none(workers.alloc());
     let mut told = told;
     for number in 0..split.len() {
         let range = split.range(number);
-        let faults = range_faults::<C, F, G, R>(rt, alloc, folder, files, &mut held, range, gate)?;
+        let faults = range_faults::<C, F, G, R>(workers, folder, files, &mut held, range)?;
         told = tell_keys(taker, &faults, told);
         if !told.goes {
             return Ok(told);
@@ -84,13 +82,11 @@ pub(crate) fn tell_ranges<
 ///
 /// Changed: a table isn't there any more, or isn't valid.
 fn range_faults<C: SharedComparator + 'static, F: ReadsTables, G: Gate + Sync, R: Threads + Sync>(
-    rt: &R,
-    alloc: Global,
+    workers: &Workers<'_, R, G>,
     folder: &mut F,
     files: &[&FileMeta],
     held: &mut HeldTables<C>,
     range: Range<'_>,
-    gate: &G,
 ) -> Result<Vec<KeyFault>, Fault>
     ensures faults { (all : Files) → Tells (F.tells folder.old) all →
         AreHeldIn C.cmp all held.old → AreSoundIn C.cmp all (map (λ f. f.now) files.now) →
@@ -106,9 +102,10 @@ fn range_faults<C: SharedComparator + 'static, F: ReadsTables, G: Gate + Sync, R
     ensures device { ReportsDevice F.Folder folder.old folder.new result }
     ensures reads { OnlyReads F.Folder folder.old folder.new }
 {
+    let alloc = workers.alloc();
     let needed = needed_files::<C>(alloc, files, range)?;
     let numbers = numbers_of(alloc, &needed)?;
-    let is_held = hold_next::<C, F, G, R>(rt, alloc, folder, held, &numbers, CHECKERS, gate)?;
+    let is_held = hold_next::<C, F, G, R>(workers, folder, held, &numbers)?;
     if !is_held {
         return Err(Fault::of(FaultName::Changed));
     }

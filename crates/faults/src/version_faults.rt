@@ -12,20 +12,20 @@ use crate::file_faults::tell_files;
 use crate::range_faults::tell_ranges;
 use crate::search_order::searched_files;
 use crate::table_test::tested_files;
+use board::Workers;
 use checks::{Watch, Work, group_split};
 use coding::Fault;
 use edit::Version;
-use folder::{Order, ReadsTables};
+use folder::{Opened, Order, ReadsTables};
 use ikey::{Bytewise, SharedComparator, Shortlex};
 use reads::all_files;
-use std::alloc::Global;
 use std::thread::Threads;
 
 /// The most bytes of tables that are compared at once, if no single user key needs more. A user key
 /// takes a time that grows with the number of tables, so fewer of them are faster.
 const COMPARED_BYTES: u64 = 33_554_432;
 
-/// Tells all that is wrong with a `version` of this `order`, with the tables in the folder, and
+/// Tells all that is wrong with the version as which a folder was opened, with its tables, and
 /// answers how many faults were told. It only reads.
 ///
 /// 1. With each file, by level and in version order:
@@ -44,50 +44,46 @@ const COMPARED_BYTES: u64 = 33_554_432;
 /// If the device fails a call, the answer is Device and no further call is made. If memory runs
 /// out, it is Memory. Changed comes only if a table that was tested isn't there any more, or not as
 /// it was. Each table is read once by itself. Then those that are compared are read a range of user
-/// keys after the other, and checked by four workers, which is told to `watch`. At most `memory`
-/// bytes of them are in memory together, and at most 32 MiB, if no single user key needs more. No
-/// contract says so.
+/// keys after the other, and checked by `workers`, whose gate is told of it. At most `memory` bytes
+/// of them are in memory together, and at most 32 MiB, if no single user key needs more. No contract
+/// says so.
 pub fn all_faults<F: ReadsTables, T: FaultTaker, W: Watch + Sync, R: Threads + Sync>(
-    rt: &R,
-    alloc: Global,
+    workers: &Workers<'_, R, W>,
     folder: &mut F,
-    order: Order,
-    version: &Version,
+    opened: &Opened,
     memory: u64,
     taker: &mut T,
-    watch: &W,
 ) -> Result<u64, Fault>
     ensures told { (files : Files) → Tells (F.tells folder.old) files →
-        AreFaultsTold T.tells (version_faults (order_cmp order) files version.now) taker.old
-        taker.new (F.failed folder.old) (F.failed folder.new) result }
+        AreFaultsTold T.tells (version_faults (order_cmp opened.now.order) files opened.now.version)
+        taker.old taker.new (F.failed folder.old) (F.failed folder.new) result }
     ensures device { ReportsDevice F.Folder folder.old folder.new result }
     ensures reads { OnlyReads F.Folder folder.old folder.new }
 {
-    match order {
-        Order::Bytewise => all_faults_by::<Bytewise, F, T, W, R>(
-            rt, alloc, folder, version, memory, taker, watch,
-        ),
-        Order::Shortlex => all_faults_by::<Shortlex, F, T, W, R>(
-            rt, alloc, folder, version, memory, taker, watch,
-        ),
+    let version = &opened.version;
+    match opened.order {
+        Order::Bytewise => {
+            all_faults_by::<Bytewise, F, T, W, R>(workers, folder, version, memory, taker)
+        }
+        Order::Shortlex => {
+            all_faults_by::<Shortlex, F, T, W, R>(workers, folder, version, memory, taker)
+        }
     }
 }
 
 /// The same by this comparator.
-pub fn all_faults_by<
+fn all_faults_by<
     C: SharedComparator + 'static,
     F: ReadsTables,
     T: FaultTaker,
     W: Watch + Sync,
     R: Threads + Sync,
 >(
-    rt: &R,
-    alloc: Global,
+    workers: &Workers<'_, R, W>,
     folder: &mut F,
     version: &Version,
     memory: u64,
     taker: &mut T,
-    watch: &W,
 ) -> Result<u64, Fault>
     ensures told { (files : Files) → Tells (F.tells folder.old) files →
         AreFaultsTold T.tells (version_faults C.cmp files version.now) taker.old taker.new
@@ -95,6 +91,7 @@ pub fn all_faults_by<
     ensures device { ReportsDevice F.Folder folder.old folder.new result }
     ensures reads { OnlyReads F.Folder folder.old folder.new }
 {
+    let alloc = workers.alloc();
     let files = all_files::<C>(alloc, version)?;
     let tested = tested_files::<C, F>(alloc, folder, &files)?;
     let begun = tell_files::<C, T>(
@@ -108,10 +105,8 @@ pub fn all_faults_by<
         return Ok(begun.count);
     }
     let searched = searched_files(alloc, &tested)?;
-    watch.begin(Work::Check, searched.len() as u64);
+    workers.gate().begin(Work::Check, searched.len() as u64);
     let split = group_split::<C>(alloc, &searched, memory.min(COMPARED_BYTES))?;
-    let told = tell_ranges::<C, F, T, W, R>(
-        rt, alloc, folder, &searched, &split, taker, begun, watch,
-    )?;
+    let told = tell_ranges::<C, F, T, W, R>(workers, folder, &searched, &split, taker, begun)?;
     Ok(told.count)
 }

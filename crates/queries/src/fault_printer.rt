@@ -1,6 +1,7 @@
 //! All faults of a folder's version, from its path to what is printed.
 
 use answers::{fault_count_line, file_fault_line, key_fault_line};
+use checks::checkers;
 use coding::{Fault, FaultName};
 use faults::{FaultTaker, FileFault, all_faults};
 use folder::Disk;
@@ -24,16 +25,8 @@ pub fn faults_printed<R: Host>(rt: &R, telling: Telling<'_>, memory: u64) -> Res
         progress: &progress,
         refusal: None,
     };
-    let told = all_faults(
-        rt,
-        rt.alloc(),
-        &mut folder,
-        opened.order,
-        &opened.version,
-        memory,
-        &mut printer,
-        &progress,
-    );
+    let workers = checkers(rt, rt.alloc(), &progress);
+    let told = all_faults(&workers, &mut folder, &opened, memory, &mut printer);
     progress.erase();
     printer.end()?;
     let count = told.map_err(|fault| refused_at(rt, telling.folder, &folder, fault))?;

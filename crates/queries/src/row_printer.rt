@@ -1,6 +1,7 @@
 //! The rows of a folder, from its path to what is printed.
 
-use answers::{json_line, logs_json, push_row, push_row_json};
+use answers::{Open, json_line, logs_json, push_row, push_row_json};
+use checks::checkers;
 use coding::Fault;
 use folder::{Disk, Opened};
 use scan::{RowChoice, RowTaker, scan_unverified, scan_version};
@@ -98,15 +99,13 @@ fn scanned<R: Host>(
     testing: &Testing,
     printer: &mut RowPrinter<'_, R>,
 ) -> Result<(), Fault> {
-    let (alloc, order, version) = (rt.alloc(), opened.order, &opened.version);
     let memory = bytes_of(testing.memory);
+    let workers = checkers(rt, rt.alloc(), printer.progress);
     if testing.is_skipped {
-        scan_unverified(rt, alloc, folder, order, version, choice, memory, printer)
+        let untold = workers.with_gate(&Open);
+        scan_unverified(&untold, folder, opened, choice, memory, printer)
     } else {
-        let progress = printer.progress;
-        scan_version(
-            rt, alloc, folder, order, version, choice, memory, printer, progress,
-        )
+        scan_version(&workers, folder, opened, choice, memory, printer)
     }
 }
 

@@ -2,6 +2,7 @@
 
 use crate::listed_files::unneeded_files;
 use answers::{json_line, stats_json, stats_text};
+use checks::checkers;
 use folder::{Disk, Opened};
 use scan::{FileTotal, VersionStats, version_stats};
 use session::{
@@ -52,15 +53,8 @@ fn version_counted<R: Host>(
 ) -> Result<VersionStats, Refusal> {
     let progress = ProgressLine::new(rt, telling);
     let mut folder = Disk::new(rt, telling.folder);
-    let counted = version_stats(
-        rt,
-        rt.alloc(),
-        &mut folder,
-        opened.order,
-        &opened.version,
-        memory,
-        &progress,
-    );
+    let workers = checkers(rt, rt.alloc(), &progress);
+    let counted = version_stats(&workers, &mut folder, opened, memory);
     progress.erase();
     counted.map_err(|fault| refused_opened(rt, telling.folder, &folder, opened, fault))
 }

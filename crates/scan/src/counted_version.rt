@@ -23,64 +23,57 @@ use crate::level_rows::stats_of;
 use crate::level_stats::VersionStats;
 use crate::range_counts::count_ranges;
 use crate::version_scan::sequence_of;
-use checks::{CHECKERS, Watch, group_split, test_version};
+use board::{Open, Workers};
+use checks::{Watch, group_split, test_version};
 use coding::{Fault, FaultName};
 use edit::Version;
-use folder::{Order, ReadsTables};
+use folder::{Opened, Order, ReadsTables};
 use ikey::{Bytewise, SharedComparator, Shortlex};
 use reads::files_newest_first;
 use split::Split;
 use std::alloc::Global;
 use std::thread::Threads;
 
-/// Tests a `version` of this `order` with the tables in the folder, and then counts what it has. At
+/// Tests the version as which a folder was opened, with its tables, and then counts what it has. At
 /// each level that is its files, their bytes, their tables' entries, and which of these are
 /// deletions and which a newer entry hides at the version's last sequence. It only reads.
 ///
 /// Refused as `checks::test_version` refuses the version; else only as Device or Memory. The test
-/// is told to `watch`, which is `&Open` if nobody watches.
+/// is told to the gate of `workers`, which is `&Open` if nobody watches.
 ///
 /// After the test all tables are read once more, a range of user keys after the other, and each is
-/// checked by four workers. At most `memory` bytes of them are in memory at once, if no single user
+/// checked by `workers`. At most `memory` bytes of them are in memory at once, if no single user
 /// key needs more. No contract says so.
 pub fn version_stats<F: ReadsTables, W: Watch + Sync, R: Threads + Sync>(
-    rt: &R,
-    alloc: Global,
+    workers: &Workers<'_, R, W>,
     folder: &mut F,
-    order: Order,
-    version: &Version,
+    opened: &Opened,
     memory: u64,
-    watch: &W,
 ) -> Result<VersionStats, Fault>
     ensures stats { (files : Files) → Tells (F.tells folder.old) files →
         FolderAnswers seen_stats (F.failed folder.old) (F.failed folder.new) result
-        (IsTestedStats (IsFileIn files) (order_cmp order) version.now) }
+        (IsTestedStats (IsFileIn files) (order_cmp opened.now.order) opened.now.version) }
     ensures device { ReportsDevice F.Folder folder.old folder.new result }
     ensures reads { OnlyReads F.Folder folder.old folder.new }
 {
-    match order {
-        Order::Bytewise => {
-            version_stats_by::<Bytewise, F, W, R>(rt, alloc, folder, version, memory, watch)
-        }
-        Order::Shortlex => {
-            version_stats_by::<Shortlex, F, W, R>(rt, alloc, folder, version, memory, watch)
-        }
+    let version = &opened.version;
+    match opened.order {
+        Order::Bytewise => version_stats_by::<Bytewise, F, W, R>(workers, folder, version, memory),
+        Order::Shortlex => version_stats_by::<Shortlex, F, W, R>(workers, folder, version, memory),
     }
 }
 
 /// The same by this comparator.
-pub fn version_stats_by<
+fn version_stats_by<
     C: SharedComparator + 'static,
     F: ReadsTables,
     W: Watch + Sync,
     R: Threads + Sync,
 >(
-    rt: &R,
-    alloc: Global,
+    workers: &Workers<'_, R, W>,
     folder: &mut F,
     version: &Version,
     memory: u64,
-    watch: &W,
 ) -> Result<VersionStats, Fault>
     ensures stats { (files : Files) → Tells (F.tells folder.old) files →
         FolderAnswers seen_stats (F.failed folder.old) (F.failed folder.new) result
@@ -88,15 +81,14 @@ pub fn version_stats_by<
     ensures device { ReportsDevice F.Folder folder.old folder.new result }
     ensures reads { OnlyReads F.Folder folder.old folder.new }
 {
-    test_version::<C, F, W, R>(rt, alloc, folder, version, memory, CHECKERS, watch)?;
-    unverified_stats::<C, F, R>(rt, alloc, folder, version, memory)
+    test_version::<C, F, W, R>(workers, folder, version, memory)?;
+    unverified_stats::<C, F, R>(&workers.with_gate(&Open), folder, version, memory)
 }
 
 /// The same of a version that is lawful with the tables in the folder, which isn't tested. The
 /// number of their entries fits.
 fn unverified_stats<C: SharedComparator + 'static, F: ReadsTables, R: Threads + Sync>(
-    rt: &R,
-    alloc: Global,
+    workers: &Workers<'_, R, Open>,
     folder: &mut F,
     version: &Version,
     memory: u64,
@@ -111,10 +103,11 @@ fn unverified_stats<C: SharedComparator + 'static, F: ReadsTables, R: Threads + 
     ensures device { ReportsDevice F.Folder folder.old folder.new result }
     ensures reads { OnlyReads F.Folder folder.old folder.new }
 {
+    let alloc = workers.alloc();
     let split = level_split::<C>(alloc, version, memory)?;
     let levels = files_by_level::<C>(alloc, version)?;
     let last = sequence_of(version, None);
-    let amounts = count_ranges::<C, F, R>(rt, alloc, folder, &levels, &split, last)?;
+    let amounts = count_ranges::<C, F, R>(workers, folder, &levels, &split, last)?;
     stats_of::<C>(alloc, &levels, &amounts)
 }
 

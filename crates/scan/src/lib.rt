@@ -14,9 +14,8 @@
 //!    which the entry has to be. What it reads it tests, and nothing else. So its answer is that of
 //!    [`reads::get`] if the version is lawful with the tables, and it doesn't test that.
 //!
-//! [`scan_unverified_by`], [`scan_version_by`] and [`version_stats_by`] are the same by one
-//! comparator. [`sequence_of`] is the sequence at which a version is read. [`rows_law`] is the law
-//! that a lawful version has just one list of rows.
+//! [`sequence_of`] is the sequence at which a version is read. [`rows_law`] is the law that a lawful
+//! version has just one list of rows.
 //!
 //! No contract says how many tables are read, or how much memory a walk takes.
 #![tactic(auto)]
@@ -49,12 +48,12 @@ mod tested_scan;
 mod version_scan;
 
 pub use amounts::Amounts;
-pub use counted_version::{version_stats, version_stats_by};
+pub use counted_version::version_stats;
 pub use file_total::FileTotal;
 pub use folder_get::get_unverified;
 pub use level_stats::{LevelStats, VersionStats};
 pub use row_choice::RowChoice;
 pub use row_laws::rows_law;
 pub use row_taker::RowTaker;
-pub use tested_scan::{scan_version, scan_version_by};
-pub use version_scan::{scan_unverified, scan_unverified_by, sequence_of};
+pub use tested_scan::scan_version;
+pub use version_scan::{scan_unverified, sequence_of};

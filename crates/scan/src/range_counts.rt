@@ -17,8 +17,8 @@ use crate::amounts::Amounts;
 use crate::level_files::{needed_by_level, numbers_by_level};
 use crate::level_merges::count_held;
 use crate::range_scan::refused_tables;
-use board::Open;
-use checks::{CHECKERS, HeldTables, hold_next};
+use board::{Open, Workers};
+use checks::{HeldTables, hold_next};
 use coding::Fault;
 use edit::FileMeta;
 use folder::ReadsTables;
@@ -27,14 +27,20 @@ use split::{Range, Split};
 use std::alloc::Global;
 use std::thread::Threads;
 
+/// A range of user keys, and the sequence at which newer entries hide older ones.
+#[derive(Clone, Copy)]
+struct SeenRange<'k> {
+    range: Range<'k>,
+    last: u64,
+}
+
 /// How much the files of each level and their tables have. Newer entries hide older ones at the
 /// sequence `last`.
 ///
 /// It goes from range to range of the split, and reads the tables that one needs when it comes to
 /// it. They are held until no later range needs them. It only reads.
 pub(crate) fn count_ranges<C: SharedComparator + 'static, F: ReadsTables, R: Threads + Sync>(
-    rt: &R,
-    alloc: Global,
+    workers: &Workers<'_, R, Open>,
     folder: &mut F,
     levels: &[Vec<&FileMeta>],
     split: &Split<C>,
@@ -56,20 +62,13 @@ pub(crate) fn count_ranges<C: SharedComparator + 'static, F: ReadsTables, R: Thr
     ensures device { ReportsDevice F.Folder folder.old folder.new result }
     ensures reads { OnlyReads F.Folder folder.old folder.new }
 {
+    let alloc = workers.alloc();
     let mut amounts = amounts_by_level(alloc, levels)?;
     let mut held = HeldTables::none(alloc);
     for number in 0..split.len() {
         let range = split.range(number);
-        count_range::<C, F, R>(
-            rt,
-            alloc,
-            folder,
-            levels,
-            &mut held,
-            range,
-            last,
-            &mut amounts,
-        )?;
+        let seen = SeenRange { range, last };
+        count_range::<C, F, R>(workers, folder, levels, &mut held, seen, &mut amounts)?;
     }
     Ok(amounts)
 }
@@ -89,13 +88,11 @@ fn amounts_by_level(alloc: Global, levels: &[Vec<&FileMeta>]) -> Result<Vec<Amou
 /// Counts the entries in one range. `held` are tables of the folder; those that the range needs
 /// replace them.
 fn count_range<C: SharedComparator + 'static, F: ReadsTables, R: Threads + Sync>(
-    rt: &R,
-    alloc: Global,
+    workers: &Workers<'_, R, Open>,
     folder: &mut F,
     levels: &[Vec<&FileMeta>],
     held: &mut HeldTables<C>,
-    range: Range<'_>,
-    last: u64,
+    seen: SeenRange<'_>,
     amounts: &mut [Amounts],
 ) -> Result<(), Fault>
     requires { length amounts.old ≡ length levels.now }
@@ -103,7 +100,8 @@ fn count_range<C: SharedComparator + 'static, F: ReadsTables, R: Threads + Sync>
         Tells (F.tells folder.old) files →
         AreLevelsIn C.cmp files next (map (λ fs. map (λ f. f.now) fs.items) levels.now) tables →
         AreHeldIn C.cmp files held.old →
-        OnOk result (AreAmountsCounted last (map (entries_in C.cmp (key_range range.entry))
+        OnOk result (AreAmountsCounted seen.entry.last
+        (map (entries_in C.cmp (key_range seen.entry.range))
         (lists_of_levels tables (map (λ fs. map (λ f. f.now) fs.items) levels.now)))
         amounts.old amounts.new) }
     ensures errors { (files : Files) (next : Option ℕ) (tables : List NumberedContents) →
@@ -117,11 +115,13 @@ fn count_range<C: SharedComparator + 'static, F: ReadsTables, R: Threads + Sync>
     ensures device { ReportsDevice F.Folder folder.old folder.new result }
     ensures reads { OnlyReads F.Folder folder.old folder.new }
 {
+    let alloc = workers.alloc();
+    let SeenRange { range, last } = seen;
     let needed = needed_by_level::<C>(alloc, levels, range)?;
     let numbers = numbers_by_level(alloc, &needed)?;
-    let is_held = hold_next::<C, F, Open, R>(rt, alloc, folder, held, &numbers, CHECKERS, &Open)?;
+    let is_held = hold_next::<C, F, Open, R>(workers, folder, held, &numbers)?;
     if !is_held {
-        return refused_tables::<C, F, (), R>(rt, alloc, folder, &numbers);
+        return refused_tables::<C, F, (), R>(workers, folder, &numbers);
     }
     count_held(alloc, held, &needed, range, last, amounts)
 }

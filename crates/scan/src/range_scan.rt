@@ -17,20 +17,26 @@ ghost use Rattle.scan.specs.RowParts.{AreScanned, AreTelling};
 use crate::row_limit::{RowLimit, is_done};
 use crate::row_taker::RowTaker;
 use crate::table_rows::tell_held;
-use board::Open;
-use checks::{
-    CHECKERS, HeldTables, check_tables, common_range, hold_next, needed_files, numbers_of,
-};
+use board::{Open, Workers};
+use checks::{HeldTables, check_tables, common_range, hold_next, needed_files, numbers_of};
 use coding::{Fault, FaultName};
 use edit::FileMeta;
 use folder::{ReadsTables, load_numbers};
 use ikey::{Comparator, SharedComparator};
 use split::{Range, Split};
-use std::alloc::Global;
 use std::thread::Threads;
 
-/// Tells the rows that the tables of the `standing` files have in `range`, by the sequence `at`: at
-/// most `limit`.
+/// Which rows of a range of user keys are wanted.
+#[derive(Clone, Copy)]
+pub(crate) struct RangeRows<'k> {
+    pub range: Range<'k>,
+    /// The sequence by which they are rows.
+    pub at: u64,
+    /// The most rows. None is no limit.
+    pub limit: Option<u64>,
+}
+
+/// Tells the wanted `rows` that the tables of the `standing` files have.
 ///
 /// It goes from range to range of the split, and reads the tables that one needs when it comes to
 /// it. They are held until no later range needs them. It only reads.
@@ -40,23 +46,20 @@ pub(crate) fn tell_ranges<
     T: RowTaker,
     R: Threads + Sync,
 >(
-    rt: &R,
-    alloc: Global,
+    workers: &Workers<'_, R, Open>,
     folder: &mut F,
     standing: &[&FileMeta],
     split: &Split<C>,
-    range: Range<'_>,
-    at: u64,
-    limit: Option<u64>,
+    rows: RangeRows<'_>,
     taker: &mut T,
 ) -> Result<(), Fault>
     // If the folder tells files that hold these tables, and each is what the version states.
     ensures told { (files : Files) (next : Option ℕ) (tables : List NumberedContents) →
         Tells (F.tells folder.old) files →
         AreTablesIn C.cmp files next (map (λ f. f.now) standing.now) tables →
-        AreScanned T.tells (rows_from C.cmp tables (map (λ f. f.now) standing.now) at
-        (key_range range.entry) split.now 0 (length split.now + 1))
-        taker.old limit taker.new result }
+        AreScanned T.tells (rows_from C.cmp tables (map (λ f. f.now) standing.now)
+        rows.entry.at (key_range rows.entry.range) split.now 0 (length split.now + 1))
+        taker.old rows.entry.limit taker.new result }
     ensures errors { (files : Files) (next : Option ℕ) (tables : List NumberedContents) →
         Tells (F.tells folder.old) files →
         AreTablesIn C.cmp files next (map (λ f. f.now) standing.now) tables →
@@ -66,13 +69,16 @@ pub(crate) fn tell_ranges<
     ensures device { ReportsDevice F.Folder folder.old folder.new result }
     ensures reads { OnlyReads F.Folder folder.old folder.new }
 {
-    let mut held = HeldTables::none(alloc);
-    let mut left = limit;
+    let mut held = HeldTables::none(workers.alloc());
+    let mut left = rows.limit;
     for number in 0..split.len() {
-        let part = common_range::<C>(range, split.range(number));
-        let wanted = tell_range::<C, F, T, R>(
-            rt, alloc, folder, standing, &mut held, part, at, left, taker,
-        )?;
+        let part = common_range::<C>(rows.range, split.range(number));
+        let rest = RangeRows {
+            range: part,
+            at: rows.at,
+            limit: left,
+        };
+        let wanted = tell_range::<C, F, T, R>(workers, folder, standing, &mut held, rest, taker)?;
         let RowLimit::More(less) = wanted else {
             return Ok(());
         };
@@ -83,14 +89,11 @@ pub(crate) fn tell_ranges<
 
 /// The same in one range. `held` are tables of the folder; those that the range needs replace them.
 fn tell_range<C: SharedComparator + 'static, F: ReadsTables, T: RowTaker, R: Threads + Sync>(
-    rt: &R,
-    alloc: Global,
+    workers: &Workers<'_, R, Open>,
     folder: &mut F,
     standing: &[&FileMeta],
     held: &mut HeldTables<C>,
-    range: Range<'_>,
-    at: u64,
-    limit: Option<u64>,
+    rows: RangeRows<'_>,
     taker: &mut T,
 ) -> Result<RowLimit, Fault>
     ensures told { (files : Files) (next : Option ℕ) (tables : List NumberedContents) →
@@ -98,8 +101,9 @@ fn tell_range<C: SharedComparator + 'static, F: ReadsTables, T: RowTaker, R: Thr
         AreTablesIn C.cmp files next (map (λ f. f.now) standing.now) tables →
         AreHeldIn C.cmp files held.old →
         AreTelling T.tells
-        (file_rows C.cmp tables (map (λ f. f.now) standing.now) at (key_range range.entry))
-        taker.old limit taker.new result }
+        (file_rows C.cmp tables (map (λ f. f.now) standing.now) rows.entry.at
+        (key_range rows.entry.range))
+        taker.old rows.entry.limit taker.new result }
     ensures errors { (files : Files) (next : Option ℕ) (tables : List NumberedContents) →
         Tells (F.tells folder.old) files →
         AreTablesIn C.cmp files next (map (λ f. f.now) standing.now) tables →
@@ -111,6 +115,8 @@ fn tell_range<C: SharedComparator + 'static, F: ReadsTables, T: RowTaker, R: Thr
     ensures device { ReportsDevice F.Folder folder.old folder.new result }
     ensures reads { OnlyReads F.Folder folder.old folder.new }
 {
+    let alloc = workers.alloc();
+    let RangeRows { range, at, limit } = rows;
     let is_over = is_done(limit);
     if is_over {
         return Ok(RowLimit::Enough);
@@ -121,9 +127,9 @@ fn tell_range<C: SharedComparator + 'static, F: ReadsTables, T: RowTaker, R: Thr
     }
     let needed = needed_files::<C>(alloc, standing, range)?;
     let numbers = numbers_of(alloc, &needed)?;
-    let is_held = hold_next::<C, F, Open, R>(rt, alloc, folder, held, &numbers, CHECKERS, &Open)?;
+    let is_held = hold_next::<C, F, Open, R>(workers, folder, held, &numbers)?;
     if !is_held {
-        return refused_tables::<C, F, RowLimit, R>(rt, alloc, folder, &numbers);
+        return refused_tables::<C, F, RowLimit, R>(workers, folder, &numbers);
     }
     tell_held(alloc, held, range, at, limit, taker)
 }
@@ -134,8 +140,7 @@ fn tell_range<C: SharedComparator + 'static, F: ReadsTables, T: RowTaker, R: Thr
 /// - The refusal of the first invalid table, as of `table::check`, if none is missing.
 /// - Lawless: all are there and valid, since the folder was changed meanwhile.
 pub(crate) fn refused_tables<C: SharedComparator, F: ReadsTables, X, R: Threads + Sync>(
-    rt: &R,
-    alloc: Global,
+    workers: &Workers<'_, R, Open>,
     folder: &mut F,
     numbers: &[u64],
 ) -> Result<X, Fault>
@@ -143,8 +148,8 @@ pub(crate) fn refused_tables<C: SharedComparator, F: ReadsTables, X, R: Threads 
     ensures device { ReportsDevice F.Folder folder.old folder.new result }
     ensures reads { OnlyReads F.Folder folder.old folder.new }
 {
-    let loaded = load_numbers(alloc, folder, numbers)?;
-    check_tables::<C, Open, R>(rt, alloc, &loaded, CHECKERS, &Open)?;
+    let loaded = load_numbers(workers.alloc(), folder, numbers)?;
+    check_tables::<C, Open, R>(workers, &loaded)?;
     Err(Fault::of(FaultName::Lawless))
 }
 

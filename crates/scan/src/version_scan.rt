@@ -11,70 +11,69 @@ ghost use Rattle.reads.specs.Tables.{NumberedContents};
 ghost use Rattle.scan.specs.ChosenRows.{chosen_sequence};
 ghost use Rattle.scan.specs.ToldRows.{IsScan};
 
-use crate::range_scan::tell_ranges;
+use crate::range_scan::{RangeRows, tell_ranges};
 use crate::row_choice::RowChoice;
 use crate::row_taker::RowTaker;
+use board::{Open, Workers};
 use checks::group_split;
 use coding::{Fault, FaultName};
 use edit::Version;
-use folder::{Order, ReadsTables};
+use folder::{Opened, Order, ReadsTables};
 use ikey::{Bytewise, SharedComparator, Shortlex};
 use reads::files_newest_first;
-use std::alloc::Global;
 use std::thread::Threads;
 
 /// The most bytes of tables that a scan holds, if no single user key needs more. Less of them are
 /// read in vain if few rows are wanted.
 const SCANNED_BYTES: u64 = 33_554_432;
 
-/// Tells `taker` the chosen rows of a `version` of this `order`, if the version is lawful with the
-/// tables in the folder. That isn't tested: it was verified before, and no other program changed
+/// Tells `taker` the chosen rows of the version as which a folder was opened, if it is lawful with
+/// the tables in it. That isn't tested: it was verified before, and no other program changed
 /// the folder since. It only reads.
 ///
 /// Rows come in the order of their user keys. It stops after the last row that is wanted, or if the
 /// taker says so. What it was told before a refusal is a first part of the rows.
 ///
-/// Tables are read a range of user keys after the other, and each is checked by four workers. At
+/// Tables are read a range of user keys after the other, and each is checked by `workers`. At
 /// most `memory` bytes of them are in memory at once, and at most 32 MiB, if no single user key
 /// needs more. Those of ranges after the last wanted row aren't read. No contract says so.
 pub fn scan_unverified<F: ReadsTables, T: RowTaker, R: Threads + Sync>(
-    rt: &R,
-    alloc: Global,
+    workers: &Workers<'_, R, Open>,
     folder: &mut F,
-    order: Order,
-    version: &Version,
+    opened: &Opened,
     choice: RowChoice<'_>,
     memory: u64,
     taker: &mut T,
 ) -> Result<(), Fault>
     ensures rows { (files : Files) (loaded : List (ℕ × List ℕ)) (tables : List NumberedContents) →
         Tells (F.tells folder.old) files →
-        IsLoaded (F.tells folder.old) (file_numbers (order_cmp order) version.now) (Ok loaded) →
-        IsLawfulTables (order_cmp order) version.now loaded (Ok tables) →
-        IsScan T.tells (order_cmp order) version.now tables choice.entry taker.old taker.new
-        (F.failed folder.old) (F.failed folder.new) result }
+        IsLoaded (F.tells folder.old)
+        (file_numbers (order_cmp opened.now.order) opened.now.version) (Ok loaded) →
+        IsLawfulTables (order_cmp opened.now.order) opened.now.version loaded (Ok tables) →
+        IsScan T.tells (order_cmp opened.now.order) opened.now.version tables choice.entry
+        taker.old taker.new (F.failed folder.old) (F.failed folder.new) result }
     ensures device { ReportsDevice F.Folder folder.old folder.new result }
     ensures reads { OnlyReads F.Folder folder.old folder.new }
 {
-    match order {
-        Order::Bytewise => scan_unverified_by::<Bytewise, F, T, R>(
-            rt, alloc, folder, version, choice, memory, taker,
-        ),
-        Order::Shortlex => scan_unverified_by::<Shortlex, F, T, R>(
-            rt, alloc, folder, version, choice, memory, taker,
-        ),
+    let version = &opened.version;
+    match opened.order {
+        Order::Bytewise => {
+            scan_unverified_by::<Bytewise, F, T, R>(workers, folder, version, choice, memory, taker)
+        }
+        Order::Shortlex => {
+            scan_unverified_by::<Shortlex, F, T, R>(workers, folder, version, choice, memory, taker)
+        }
     }
 }
 
 /// The same by this comparator.
-pub fn scan_unverified_by<
+pub(crate) fn scan_unverified_by<
     C: SharedComparator + 'static,
     F: ReadsTables,
     T: RowTaker,
     R: Threads + Sync,
 >(
-    rt: &R,
-    alloc: Global,
+    workers: &Workers<'_, R, Open>,
     folder: &mut F,
     version: &Version,
     choice: RowChoice<'_>,
@@ -90,23 +89,16 @@ pub fn scan_unverified_by<
     ensures device { ReportsDevice F.Folder folder.old folder.new result }
     ensures reads { OnlyReads F.Folder folder.old folder.new }
 {
+    let alloc = workers.alloc();
     let Some(standing) = files_newest_first::<C>(alloc, version)? else {
         return Err(Fault::of(FaultName::Lawless));
     };
     let split = group_split::<C>(alloc, &standing, memory.min(SCANNED_BYTES))?;
     let at = sequence_of(version, choice.at);
     let range = choice.range();
-    tell_ranges::<C, F, T, R>(
-        rt,
-        alloc,
-        folder,
-        &standing,
-        &split,
-        range,
-        at,
-        choice.limit,
-        taker,
-    )
+    let limit = choice.limit;
+    let rows = RangeRows { range, at, limit };
+    tell_ranges::<C, F, T, R>(workers, folder, &standing, &split, rows, taker)
 }
 
 /// The sequence `at`, or the version's last one if it isn't given.

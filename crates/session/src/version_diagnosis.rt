@@ -11,6 +11,7 @@ use crate::opening_diagnosis::opening_file;
 use crate::refused_files::RefusedFile;
 use crate::table_file::table_file_name;
 use board::Open;
+use checks::checkers;
 use coding::{Fault, FaultName};
 use edit::{LEVELS, Version};
 use faults::{FileFault, all_faults};
@@ -59,16 +60,8 @@ fn refused_table<F: ReadsTables, R: Threads + Sync>(
     ensures reads { OnlyReads F.Folder folder.old folder.new }
 {
     let mut finder = FaultFinder::of(alloc, name);
-    all_faults(
-        rt,
-        alloc,
-        folder,
-        opened.order,
-        &opened.version,
-        memory,
-        &mut finder,
-        &Open,
-    )?;
+    let workers = checkers(rt, alloc, &Open);
+    all_faults(&workers, folder, opened, memory, &mut finder)?;
     match finder.found {
         Some(FoundFault::File { number, fault }) => {
             faulty_file(alloc, folder, &opened.version, number, fault)

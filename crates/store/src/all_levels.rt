@@ -29,7 +29,7 @@ use crate::input_compaction::compact_inputs;
 use crate::install_laws::inputs_suffice;
 use crate::install_watch::InstallWatch;
 use crate::next_opened::opened_after;
-use checks::{CHECKERS, VersionTotals, Watch, test_version};
+use checks::{VersionTotals, Watch, checkers, test_version};
 use coding::{Fault, FaultName};
 use compact::Settings;
 use edit::Version;
@@ -226,13 +226,10 @@ fn test_opened<F: ReadsTables, W: Watch + Sync, R: Threads + Sync>(
     ensures device { ReportsDevice F.Folder folder.old folder.new result }
     ensures reads { OnlyReads F.Folder folder.old folder.new }
 {
+    let workers = checkers(rt, alloc, watch);
     let version = &opened.version;
     match opened.order {
-        Order::Bytewise => test_version::<Bytewise, F, W, R>(
-            rt, alloc, folder, version, memory, CHECKERS, watch,
-        ),
-        Order::Shortlex => test_version::<Shortlex, F, W, R>(
-            rt, alloc, folder, version, memory, CHECKERS, watch,
-        ),
+        Order::Bytewise => test_version::<Bytewise, F, W, R>(&workers, folder, version, memory),
+        Order::Shortlex => test_version::<Shortlex, F, W, R>(&workers, folder, version, memory),
     }
 }

@@ -18,7 +18,7 @@ use crate::compaction_step::CompactionStep;
 use crate::input_compaction::compact_step;
 use crate::install_laws::inputs_suffice;
 use crate::version_sync::sync_version;
-use checks::{CHECKERS, Watch, test_and_hold};
+use checks::{Watch, checkers, test_and_hold};
 use coding::Fault;
 use compact::Settings;
 use folder::{Opened, Order, ReadsTables, WritesTables, open};
@@ -172,7 +172,8 @@ fn compact_version<
 {
     inputs_suffice::<C>();
     let version = &opened.version;
-    let found = test_and_hold::<C, F, W, R>(rt, alloc, folder, version, memory, CHECKERS, watch)?;
+    let workers = checkers(rt, alloc, watch);
+    let found = test_and_hold::<C, F, W, R>(&workers, folder, version, memory)?;
     compact_step::<C, F, W, R>(
         rt,
         alloc,

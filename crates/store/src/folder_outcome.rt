@@ -21,7 +21,7 @@ use crate::answered_steps::level_answer;
 use crate::compaction_outcome::CompactionOutcome;
 use crate::input_laws::outcome_suffices;
 use crate::level_compaction::level_outcome;
-use checks::{CHECKERS, HeldTables, Watch, test_and_hold};
+use checks::{HeldTables, Watch, checkers, test_and_hold};
 use coding::Fault;
 use compact::Settings;
 use edit::Version;
@@ -166,7 +166,8 @@ fn outcome_tested<
     ensures reads { OnlyReads F.Folder folder.old folder.new }
 {
     outcome_suffices::<C>();
-    let found = test_and_hold::<C, F, W, R>(rt, alloc, folder, version, memory, CHECKERS, watch)?;
+    let workers = checkers(rt, alloc, watch);
+    let found = test_and_hold::<C, F, W, R>(&workers, folder, version, memory)?;
     outcome_untested::<C, F, W, R>(
         rt,
         alloc,

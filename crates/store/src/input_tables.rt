@@ -9,7 +9,7 @@ ghost use Rattle.folder.specs.Reports.{OnlyReads, ReportsDevice};
 ghost use Rattle.install.specs.Install.{tables_in};
 ghost use Rattle.store.specs.InputsCompaction.{are_stated, input_numbers, input_tables};
 
-use checks::{CHECKERS, HeldTables, Watch, check_tables};
+use checks::{HeldTables, Watch, check_tables, checkers};
 use coding::{Fault, FaultName};
 use compact::matches_metadata;
 use folder::{Folder, load_numbers};
@@ -60,7 +60,7 @@ pub fn checked_inputs<'t, C: SharedComparator, W: Watch + Sync, R: Threads + Syn
     ensures { EqualOrMemory (λ v. v.items) result
         (input_tables C.cmp inputs.now (tables_in loaded.now)) }
 {
-    let tables = check_tables::<C, W, R>(rt, alloc, loaded, CHECKERS, watch)?;
+    let tables = check_tables::<C, W, R>(&checkers(rt, alloc, watch), loaded)?;
     if !are_stated(inputs, &tables) {
         return Err(Fault::of(FaultName::Bounds));
     }

@@ -15,7 +15,7 @@ ghost use Rattle.store.specs.InputsCompaction.{input_numbers};
 use crate::input_laws::inputs_in_order;
 use crate::input_tables::numbers_of;
 use crate::version_files::test_files;
-use checks::{CHECKERS, HeldTables, Watch, Work, checked_tables};
+use checks::{HeldTables, Watch, Work, checked_tables, checkers};
 use coding::Fault;
 use edit::Version;
 use folder::ReadsTables;
@@ -69,6 +69,7 @@ pub(crate) fn level_inputs<
     let picked = inputs::<C>(alloc, version, level)?;
     let numbers = numbers_of(alloc, &picked.files)?;
     watch.begin(Work::Check, numbers.len() as u64);
-    let tables = checked_tables::<C, F, W, R>(rt, alloc, folder, held, &numbers, CHECKERS, watch)?;
+    let workers = checkers(rt, alloc, watch);
+    let tables = checked_tables::<C, F, W, R>(&workers, folder, held, &numbers)?;
     Ok(LevelInputs { picked, tables })
 }

@@ -13,7 +13,7 @@ returns-in_err-found-clause-memory g c =
     let p = err_from_is_err_and c.from_residual.result c.from_residual.ensures.1 in
     let e = c.in_err-found.ensures in
     let why = c.in_err-found.field-0.0 in
-    rw (p.1, p.2) (only_memory_left (TellsRange g.C.Comparator.cmp (key_range c.args.within) c.args.split.now lists) c.count_ranges.result c.args.workers (Err why) why refl e.refused e.workers.0 c.requires.some c.requires.few)
+    rw (p.1, p.2) (only_memory_left (TellsRange g.C.Comparator.cmp (key_range c.args.within) c.args.split.now lists) c.count_ranges.result (Err why) why refl e.refused e.workers)
 
 pub returns-clause-falls : goal.returns-clause-falls
 returns-clause-falls g c =

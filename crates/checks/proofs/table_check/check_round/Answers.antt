@@ -18,7 +18,7 @@ returns-in_err-run g c =
     let e = c.in_err-run.ensures in
     let why = c.in_err-run.field-0.0 in
     rw (p.1, p.2) (subst (λ (a : Result (List NumberedContents) Fault). FailsOrMemory (fault_of_run why) a) (tables_collected cmp tables)
-    (fault_collected (λ t. t) (table_answers cmp tables) (length c.args.loaded.now) c.args.workers (Err why) why refl e.refused e.workers.0 c.requires.some c.requires.few))
+    (fault_collected (λ t. t) (table_answers cmp tables) (length c.args.loaded.now) (Err why) why refl e.refused e.workers))
 
 pub returns : goal.returns
 returns g c =

@@ -8,10 +8,10 @@ pub returns-in-Bytewise-clause-told : goal.returns-in-Bytewise-clause-told
 returns-in-Bytewise-clause-told g c files told =
     let failed = g.F.Folder.failed in
     let f = c.all_faults_by in
-    subst (λ (order : Order). AreFaultsTold g.T.FaultTaker.tells (version_faults (order_cmp order) files c.args.version.now) c.args.taker.now f.new.taker (failed c.args.folder.now) (failed f.new.folder) f.result) (sym c.in-Bytewise.is) (f.ensures.told files told)
+    subst (λ (order : Order). AreFaultsTold g.T.FaultTaker.tells (version_faults (order_cmp order) files c.args.opened.now.version) c.args.taker.now f.new.taker (failed c.args.folder.now) (failed f.new.folder) f.result) (sym c.in-Bytewise.is) (f.ensures.told files told)
 
 pub returns-in-Shortlex-clause-told : goal.returns-in-Shortlex-clause-told
 returns-in-Shortlex-clause-told g c files told =
     let failed = g.F.Folder.failed in
     let f = c.all_faults_by-in-Shortlex in
-    subst (λ (order : Order). AreFaultsTold g.T.FaultTaker.tells (version_faults (order_cmp order) files c.args.version.now) c.args.taker.now f.new.taker (failed c.args.folder.now) (failed f.new.folder) f.result) (sym c.in-Shortlex.is) (f.ensures.told files told)
+    subst (λ (order : Order). AreFaultsTold g.T.FaultTaker.tells (version_faults (order_cmp order) files c.args.opened.now.version) c.args.taker.now f.new.taker (failed c.args.folder.now) (failed f.new.folder) f.result) (sym c.in-Shortlex.is) (f.ensures.told files told)

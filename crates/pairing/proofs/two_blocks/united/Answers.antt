@@ -1,7 +1,7 @@
 use Rattle.std.proofs.Common.{Err, refl, arith, map}
 use Rattle.std.proofs.lemmas.Result.{err_from_is_err_and}
 use Rattle.board.specs.RunAnswer.{fault_of_run}
-use Rattle.board.proofs.CollectedAnswers.{results_collected, fault_collected}
+use Rattle.board.proofs.CollectedAnswers.{results_collected, fault_collected, none_outside}
 use Rattle.pairing.specs.TestedUnion.{tested_entries, unions_of}
 use Rattle.pairing.proofs.Unions.{Cut, left_never_falls, right_never_falls}
 use Rattle.pairing.proofs.FileAnswers.{ranges_answer, refused_answer, joined_answer}
@@ -30,7 +30,7 @@ returns-in_err-runs g c =
     let e = c.in_err-runs.ensures in
     let p = err_from_is_err_and c.from_residual.result c.from_residual.ensures.1 in
     rw (p.1, p.2) (refused_answer qa qb (unions_of c.new.result c.new-2.result) (fault_of_run why) holds
-    (fault_collected (λ out. tested_entries out.items) (unions_of c.new.result c.new-2.result) 2 2 (Err why) why refl e.refused e.workers.0 (omega arith) (omega arith)))
+    (fault_collected (λ out. tested_entries out.items) (unions_of c.new.result c.new-2.result) 2 (Err why) why refl e.refused (λ is. none_outside 2 (omega arith) (omega arith) (e.workers.0 is))))
 
 pub returns : goal.returns
 returns g c =

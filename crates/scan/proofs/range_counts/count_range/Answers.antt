@@ -32,7 +32,7 @@ pub returns-then-not-is_held-clause-counted : goal.returns-then-not-is_held-clau
 returns-then-not-is_held-clause-counted g c files next tables told are own =
     absurd
     (let cmp = g.C.Comparator.cmp in
-    let range = key_range c.args.range in
+    let range = key_range c.args.seen.range in
     let total = (g.met.C.Comparator g.world.𝓛 g.world.𝓜 g.world.𝓡 ((λ s x. x), (λ x. x), (λ x. x), λ x. x)).total in
     let numbers : List ℕ = c.deref-2.result.now in
     let told_numbers : numbers ≡ numbers_of_levels c.in_ok-needed.needed.items = c.deref-2.ensures.value ∙ sym (ok_is _ _ c.in_ok-numbers.ensures) ∙ ap numbers_of_levels c.deref.ensures.value in
@@ -43,7 +43,7 @@ pub returns-then-not-is_held-clause-errors : goal.returns-then-not-is_held-claus
 returns-then-not-is_held-clause-errors g c files next tables told are own =
     absurd
     (let cmp = g.C.Comparator.cmp in
-    let range = key_range c.args.range in
+    let range = key_range c.args.seen.range in
     let total = (g.met.C.Comparator g.world.𝓛 g.world.𝓜 g.world.𝓡 ((λ s x. x), (λ x. x), (λ x. x), λ x. x)).total in
     let numbers : List ℕ = c.deref-2.result.now in
     let told_numbers : numbers ≡ numbers_of_levels c.in_ok-needed.needed.items = c.deref-2.ensures.value ∙ sym (ok_is _ _ c.in_ok-numbers.ensures) ∙ ap numbers_of_levels c.deref.ensures.value in
@@ -60,14 +60,14 @@ count_held-requires-clause-same g c =
 pub returns-clause-counted : goal.returns-clause-counted
 returns-clause-counted g c files next tables told are own =
     let cmp = g.C.Comparator.cmp in
-    let range = key_range c.args.range in
+    let range = key_range c.args.seen.range in
     let total = (g.met.C.Comparator g.world.𝓛 g.world.𝓜 g.world.𝓡 ((λ s x. x), (λ x. x), (λ x. x), λ x. x)).total in
     let numbers : List ℕ = c.deref-2.result.now in
     let held : List NumberedContents = c.hold_next.new.held in
     let told_numbers : numbers ≡ numbers_of_levels c.deref-3.result.now = c.deref-2.ensures.value ∙ sym (ok_is _ _ c.in_ok-numbers.ensures) ∙ ap numbers_of_levels (c.deref.ensures.value ∙ sym c.deref-3.ensures.value) in
     let needed = ap metas_of c.deref-3.ensures.value ∙ c.in_ok-needed.ensures.needed in
     let found : AreFound cmp files numbers held = held_found cmp files numbers c.in_ok-is_held.is_held held c.if-not-is_held.false (c.in_ok-is_held.ensures.answer files told own) in
-    subst (λ (ls : List (List Entry)). OnOk c.count_held.result (AreAmountsCounted c.args.last ls c.args.amounts.now c.count_held.new.amounts))
+    subst (λ (ls : List (List Entry)). OnOk c.count_held.result (AreAmountsCounted c.args.seen.last ls c.args.amounts.now c.count_held.new.amounts))
     (held_entries cmp total files next (metas_of c.args.levels.now) tables are.tables_in range c.deref-3.result.now numbers held needed told_numbers found) c.count_held.ensures.counted
 
 pub returns-clause-errors : goal.returns-clause-errors

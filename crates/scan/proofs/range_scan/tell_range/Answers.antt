@@ -24,12 +24,12 @@ now_of f = f.now
 
 pub returns-then-is_over-clause-told : goal.returns-then-is_over-clause-told
 returns-then-is_over-clause-told g c files next tables told are own =
-    let rows = file_rows g.C.Comparator.cmp tables (map now_of c.args.standing.now) c.args.at (key_range c.args.range) in
+    let rows = file_rows g.C.Comparator.cmp tables (map now_of c.args.standing.now) c.args.rows.at (key_range c.args.rows.range) in
     record {
       untold = rows;
-      left = c.args.limit;
+      left = c.args.rows.limit;
       goes = true;
-      part = none_told g.T.RowTaker.tells rows c.args.taker.now c.args.taker.now c.args.limit refl;
+      part = none_told g.T.RowTaker.tells rows c.args.taker.now c.args.taker.now c.args.rows.limit refl;
       ended = inr (c.is_done-is_over.ensures.done c.if-is_over.true);
     }
 
@@ -37,18 +37,18 @@ pub returns-then-is_none-clause-told : goal.returns-then-is_none-clause-told
 returns-then-is_none-clause-told g c files next tables told are own =
     let cmp = g.C.Comparator.cmp in
     let tells = g.T.RowTaker.tells in
-    let at : ℕ = c.args.at in
+    let at : ℕ = c.args.rows.at in
     let taker = c.args.taker.now in
     let none = c.is_empty-is_none.ensures c.if-is_none.true (entries_of_lists (lists_of_files tables (map now_of c.args.standing.now))) in (
       c.is_done-is_over.ensures.wanted c.if-is_over.false,
-      subst (λ (rs : List Row). IsRowPart tells rs taker c.args.limit [] taker c.args.limit true) (sym (ap (λ (es : List Entry). rows_after at None (sorted_entries cmp es)) none)) (none_told tells [] taker taker c.args.limit refl),
+      subst (λ (rs : List Row). IsRowPart tells rs taker c.args.rows.limit [] taker c.args.rows.limit true) (sym (ap (λ (es : List Entry). rows_after at None (sorted_entries cmp es)) none)) (none_told tells [] taker taker c.args.rows.limit refl),
     )
 
 pub returns-in_err-needed-clause-told : goal.returns-in_err-needed-clause-told
 returns-in_err-needed-clause-told g c files next tables told are own =
     let tells = g.T.RowTaker.tells in
-    let rows = file_rows g.C.Comparator.cmp tables (map now_of c.args.standing.now) c.args.at (key_range c.args.range) in
-    handed_begun tells rows c.args.taker.now c.args.taker.now c.args.limit c.from_residual.result c.in_err-needed.field-0.0 c.from_residual.ensures.1 (refused_first tells rows c.args.taker.now c.args.taker.now c.args.limit refl)
+    let rows = file_rows g.C.Comparator.cmp tables (map now_of c.args.standing.now) c.args.rows.at (key_range c.args.rows.range) in
+    handed_begun tells rows c.args.taker.now c.args.taker.now c.args.rows.limit c.from_residual.result c.in_err-needed.field-0.0 c.from_residual.ensures.1 (refused_first tells rows c.args.taker.now c.args.taker.now c.args.rows.limit refl)
 
 pub returns-in_err-needed-clause-errors : goal.returns-in_err-needed-clause-errors
 returns-in_err-needed-clause-errors g c files next tables told are own =
@@ -58,8 +58,8 @@ returns-in_err-needed-clause-errors g c files next tables told are own =
 pub returns-in_err-numbers-clause-told : goal.returns-in_err-numbers-clause-told
 returns-in_err-numbers-clause-told g c files next tables told are own =
     let tells = g.T.RowTaker.tells in
-    let rows = file_rows g.C.Comparator.cmp tables (map now_of c.args.standing.now) c.args.at (key_range c.args.range) in
-    handed_begun tells rows c.args.taker.now c.args.taker.now c.args.limit c.from_residual-in_err-numbers.result c.in_err-numbers.field-0.0 c.from_residual-in_err-numbers.ensures.1 (refused_first tells rows c.args.taker.now c.args.taker.now c.args.limit refl)
+    let rows = file_rows g.C.Comparator.cmp tables (map now_of c.args.standing.now) c.args.rows.at (key_range c.args.rows.range) in
+    handed_begun tells rows c.args.taker.now c.args.taker.now c.args.rows.limit c.from_residual-in_err-numbers.result c.in_err-numbers.field-0.0 c.from_residual-in_err-numbers.ensures.1 (refused_first tells rows c.args.taker.now c.args.taker.now c.args.rows.limit refl)
 
 pub returns-in_err-numbers-clause-errors : goal.returns-in_err-numbers-clause-errors
 returns-in_err-numbers-clause-errors g c files next tables told are own =
@@ -69,8 +69,8 @@ returns-in_err-numbers-clause-errors g c files next tables told are own =
 pub returns-in_err-is_held-clause-told : goal.returns-in_err-is_held-clause-told
 returns-in_err-is_held-clause-told g c files next tables told are own =
     let tells = g.T.RowTaker.tells in
-    let rows = file_rows g.C.Comparator.cmp tables (map now_of c.args.standing.now) c.args.at (key_range c.args.range) in
-    handed_begun tells rows c.args.taker.now c.args.taker.now c.args.limit c.from_residual-in_err-is_held.result c.in_err-is_held.field-0.0 c.from_residual-in_err-is_held.ensures.1 (refused_first tells rows c.args.taker.now c.args.taker.now c.args.limit refl)
+    let rows = file_rows g.C.Comparator.cmp tables (map now_of c.args.standing.now) c.args.rows.at (key_range c.args.rows.range) in
+    handed_begun tells rows c.args.taker.now c.args.taker.now c.args.rows.limit c.from_residual-in_err-is_held.result c.in_err-is_held.field-0.0 c.from_residual-in_err-is_held.ensures.1 (refused_first tells rows c.args.taker.now c.args.taker.now c.args.rows.limit refl)
 
 pub returns-in_err-is_held-clause-errors : goal.returns-in_err-is_held-clause-errors
 returns-in_err-is_held-clause-errors g c files next tables told are own =
@@ -82,7 +82,7 @@ pub returns-then-not-is_held-clause-told : goal.returns-then-not-is_held-clause-
 returns-then-not-is_held-clause-told g c files next tables told are own =
     absurd
     (let cmp = g.C.Comparator.cmp in
-    let range = key_range c.args.range in
+    let range = key_range c.args.rows.range in
     let standing : List FileMeta = map now_of c.args.standing.now in
     let needed : List FileMeta = filter (is_file_needed cmp range) standing in
     let numbers : List ℕ = c.deref-2.result.now in
@@ -94,7 +94,7 @@ pub returns-then-not-is_held-clause-errors : goal.returns-then-not-is_held-claus
 returns-then-not-is_held-clause-errors g c files next tables told are own =
     absurd
     (let cmp = g.C.Comparator.cmp in
-    let range = key_range c.args.range in
+    let range = key_range c.args.rows.range in
     let standing : List FileMeta = map now_of c.args.standing.now in
     let needed : List FileMeta = filter (is_file_needed cmp range) standing in
     let numbers : List ℕ = c.deref-2.result.now in
@@ -105,15 +105,15 @@ returns-then-not-is_held-clause-errors g c files next tables told are own =
 pub returns-clause-told : goal.returns-clause-told
 returns-clause-told g c files next tables told are own =
     let cmp = g.C.Comparator.cmp in
-    let range = key_range c.args.range in
+    let range = key_range c.args.rows.range in
     let standing : List FileMeta = map now_of c.args.standing.now in
     let needed : List FileMeta = filter (is_file_needed cmp range) standing in
     let numbers : List ℕ = c.deref-2.result.now in
     let held : List NumberedContents = c.hold_next.new.held in
     let same = lent_numbers c.deref.result.now c.in_ok-needed.needed.items needed numbers c.deref.ensures.value c.in_ok-needed.ensures.needed (ok_is _ _ c.in_ok-numbers.ensures ∙ sym c.deref-2.ensures.value) in
     let found : AreFound cmp files numbers held = held_found cmp files numbers c.in_ok-is_held.is_held held c.if-not-is_held.false (c.in_ok-is_held.ensures.answer files told own) in
-    subst (λ (rs : List Row). AreTelling g.T.RowTaker.tells rs c.args.taker.now c.args.limit c.tell_held.new.taker c.tell_held.result)
-    (found_rows cmp (g.met.C.Comparator g.world.𝓛 g.world.𝓜 g.world.𝓡 ((λ s x. x), (λ x. x), (λ x. x), λ x. x)).total files next standing tables are range held (subst (λ (ns : List ℕ). AreFound cmp files ns held) same found) c.args.at) c.tell_held.ensures.told
+    subst (λ (rs : List Row). AreTelling g.T.RowTaker.tells rs c.args.taker.now c.args.rows.limit c.tell_held.new.taker c.tell_held.result)
+    (found_rows cmp (g.met.C.Comparator g.world.𝓛 g.world.𝓜 g.world.𝓡 ((λ s x. x), (λ x. x), (λ x. x), λ x. x)).total files next standing tables are range held (subst (λ (ns : List ℕ). AreFound cmp files ns held) same found) c.args.rows.at) c.tell_held.ensures.told
 
 pub returns-clause-errors : goal.returns-clause-errors
 returns-clause-errors g c files next tables told are own =

@@ -17,7 +17,7 @@ invariant-loop-number g l =
     let all = length l.split + 1 in
     record {
       told : (files : Files) (next : Option ℕ) (tables : List NumberedContents) → Tells (g.F.Folder.tells l.fn.folder) files → AreTablesIn cmp files next standing tables
-          → IsRowPart g.T.RowTaker.tells (rows_from cmp tables standing l.at (key_range l.range) l.split 0 all) l.fn.taker l.fn.limit (rows_from cmp tables standing l.at (key_range l.range) l.split l.number (all - l.number)) l.taker l.left true;
+          → IsRowPart g.T.RowTaker.tells (rows_from cmp tables standing l.rows.at (key_range l.rows.range) l.split 0 all) l.fn.taker l.fn.rows.limit (rows_from cmp tables standing l.rows.at (key_range l.rows.range) l.split l.number (all - l.number)) l.taker l.left true;
       held : (files : Files) → Tells (g.F.Folder.tells l.fn.folder) files → AreHeldIn cmp files l.held;
       reads : OnlyReads g.F.Folder l.fn.folder l.folder;
       failures : g.F.Folder.failed l.folder ≡ g.F.Folder.failed l.fn.folder;

@@ -9,10 +9,10 @@ pub returns-in-Bytewise-clause-rows : goal.returns-in-Bytewise-clause-rows
 returns-in-Bytewise-clause-rows g c files told =
     let failed = g.F.Folder.failed in
     let f = c.scan_version_by in
-    subst (λ (order : Order). IsTestedScan g.T.RowTaker.tells (IsFileIn files) (order_cmp order) c.args.version.now c.args.choice c.args.taker.now f.new.taker (failed c.args.folder.now) (failed f.new.folder) f.result) (sym c.in-Bytewise.is) (f.ensures.rows files told)
+    subst (λ (order : Order). IsTestedScan g.T.RowTaker.tells (IsFileIn files) (order_cmp order) c.args.opened.now.version c.args.choice c.args.taker.now f.new.taker (failed c.args.folder.now) (failed f.new.folder) f.result) (sym c.in-Bytewise.is) (f.ensures.rows files told)
 
 pub returns-in-Shortlex-clause-rows : goal.returns-in-Shortlex-clause-rows
 returns-in-Shortlex-clause-rows g c files told =
     let failed = g.F.Folder.failed in
     let f = c.scan_version_by-in-Shortlex in
-    subst (λ (order : Order). IsTestedScan g.T.RowTaker.tells (IsFileIn files) (order_cmp order) c.args.version.now c.args.choice c.args.taker.now f.new.taker (failed c.args.folder.now) (failed f.new.folder) f.result) (sym c.in-Shortlex.is) (f.ensures.rows files told)
+    subst (λ (order : Order). IsTestedScan g.T.RowTaker.tells (IsFileIn files) (order_cmp order) c.args.opened.now.version c.args.choice c.args.taker.now f.new.taker (failed c.args.folder.now) (failed f.new.folder) f.result) (sym c.in-Shortlex.is) (f.ensures.rows files told)

@@ -9,7 +9,7 @@ use Rattle.scan.proofs.version_scan.scan_unverified.Goals as goal
 
 pub returns-in-Bytewise-clause-rows : goal.returns-in-Bytewise-clause-rows
 returns-in-Bytewise-clause-rows g c files loaded tables all there sound =
-    let v = c.args.version.now in
+    let v = c.args.opened.now.version in
     let tells = g.F.Folder.tells c.args.folder.now in
     let failed = g.F.Folder.failed in
     let f = c.scan_unverified_by in
@@ -20,7 +20,7 @@ returns-in-Bytewise-clause-rows g c files loaded tables all there sound =
 
 pub returns-in-Shortlex-clause-rows : goal.returns-in-Shortlex-clause-rows
 returns-in-Shortlex-clause-rows g c files loaded tables all there sound =
-    let v = c.args.version.now in
+    let v = c.args.opened.now.version in
     let tells = g.F.Folder.tells c.args.folder.now in
     let failed = g.F.Folder.failed in
     let f = c.scan_unverified_by-in-Shortlex in

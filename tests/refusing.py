@@ -21,7 +21,10 @@ FIRST = 100
 # The second line of a refusal for memory, as a text and as JSON; and of one for a failed call.
 MEMORY = re.compile(
     r"sedvokt: .+: there is not enough memory to hold all that is read; "
-    r"give the program more of it|\{.*\"refused\":\"Memory\".*\}"
+    r"give the program more of it|\{.*\"refused\":\"Memory\".*\}|"
+    # The lines of what is done by then.
+    r"sedvokt: .+: the (new version is installed|step is installed|outcome is written), "
+    r"but its lines could not be written([;,] .+)?"
 )
 DEVICE = re.compile(r"sedvokt: .+")
 

@@ -213,8 +213,8 @@ module _ (cmp : List ℕ → List ℕ → Ordering) (total : IsTotalOrder cmp) (
         keys_below : (a b : List ℕ) → is_le (internal_cmp cmp a b) ≡ false → internal_cmp cmp b a ≡ Less
         keys_below a b h = below_if (internal_cmp cmp) (keys_total cmp total) a b h
 
-        pub beside : All (λ (i : InputFile). internal_cmp cmp f.meta.largest i.meta.smallest ≡ Less) p.files ⊎ All (λ (i : InputFile). internal_cmp cmp i.meta.largest f.meta.smallest ≡ Less) p.files
-        beside = of_side (both_false (list_any (λ (g : FileMeta). is_le (internal_cmp cmp g.smallest f.meta.largest)) (upper ++ lower)) (list_any (λ (g : FileMeta). is_le (internal_cmp cmp f.meta.smallest g.largest)) (upper ++ lower)) not_among)
+        pub lies_beside : All (λ (i : InputFile). internal_cmp cmp f.meta.largest i.meta.smallest ≡ Less) p.files ⊎ All (λ (i : InputFile). internal_cmp cmp i.meta.largest f.meta.smallest ≡ Less) p.files
+        lies_beside = of_side (both_false (list_any (λ (g : FileMeta). is_le (internal_cmp cmp g.smallest f.meta.largest)) (upper ++ lower)) (list_any (λ (g : FileMeta). is_le (internal_cmp cmp f.meta.smallest g.largest)) (upper ++ lower)) not_among)
           where
             of_side : (list_any (λ (g : FileMeta). is_le (internal_cmp cmp g.smallest f.meta.largest)) (upper ++ lower) ≡ false) ⊎ (list_any (λ (g : FileMeta). is_le (internal_cmp cmp f.meta.smallest g.largest)) (upper ++ lower) ≡ false)
                 → All (λ (i : InputFile). Before i.meta) p.files ⊎ All (λ (i : InputFile). Behind i.meta) p.files

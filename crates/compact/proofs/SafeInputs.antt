@@ -15,7 +15,7 @@ use Rattle.reads.specs.Tables.{NumberedContents}
 use Rattle.reads.specs.Lawful.{IsLawful}
 use Rattle.compact.specs.ClosedInputs.{AreClosed, ClosedInputs, is_input}
 use Rattle.compact.specs.InputsOver.{AreInputsOver, InputsOverClosed, as_file}
-use Rattle.compact.proofs.ClosedChoices.{are_closed, beside}
+use Rattle.compact.proofs.ClosedChoices.{are_closed, lies_beside}
 use Rattle.compact.proofs.PickedChoice.{picked_over}
 use Rattle.compact.proofs.VersionInputs.{AreOfVersion}
 
@@ -34,7 +34,7 @@ module _ (cmp : List ℕ → List ℕ → Ordering) (total : IsTotalOrder cmp) w
     placed = λ i at. record { file = as_file i; there = over.files i at; stands = refl; is = refl };
     levels = λ i at. elim (over.levels i at) [ inl own ↦ omega (arith, own) | inr own ↦ omega (arith, own) ];
     closed = are_closed cmp total v tables lawful p over;
-    beside = λ f at out own. beside cmp total v tables lawful p over f at out own;
+    beside = λ f at out own. lies_beside cmp total v tables lawful p over f at out own;
     pointer = over.pointer;
   }
 

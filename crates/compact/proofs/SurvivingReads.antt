@@ -37,7 +37,7 @@ use Rattle.keep.specs.Readable.{readable_of}
 use Rattle.compact.specs.OutputTables.{Output}
 use Rattle.compact.specs.Request.{RequestView, has_levels, has_options, has_snapshots, is_snapshot_list, named_by, request_test}
 use Rattle.compact.specs.EditOf.{deletion_of, deletions_of, edit_of, new_file, new_files}
-use Rattle.compact.specs.OneThread.{Answer}
+use Rattle.compact.specs.OneThread.{Answer, one_thread}
 use Rattle.compact.specs.EditAfter.{version_after}
 use Rattle.compact.specs.RequestOverVersion.{IsOver, AreWritten, HoldOutputs}
 use Rattle.compact.specs.SurvivingReads.{ClosedReadsSurvive, KeepsReads, LeavesClosedReads, LeavesReads, ReadsSurvive, tables_after}

@@ -89,7 +89,7 @@ module _ {W : Type 0} (tells : W → StepView → Bool → W → Type 0) (order 
           appended = i.calls.runs.appended;
         };
         is_told = inr (goes, subst (λ (x : StepView). tells told x goes told_now) i.step told_step, went);
-        opened = opened_of order v step.edit.items i.answer.edit q (same_edit i.step) opened;
+        opened = opened_of order v step.edit.items i.answer.edit q (same_edit step v i.picked i.answer i.step) opened;
       })
 
   pub begun_told : (r : Result CompactionStep Fault) → r ≡ Ok step → (goes : Bool) → tells told (step_in step) goes told_now → IfOk q (IsGoTold goes)

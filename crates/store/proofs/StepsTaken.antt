@@ -37,8 +37,8 @@ suffices_by Bytewise one two = one
 suffices_by Shortlex one two = two
 
 -- the edit of a step is that of its answer
-pub same_edit : {step : CompactionStep} {v : State} {p : PickedInputs} {answer : Answer} → step_in step ≡ step_of v p answer → step.edit.items ≡ answer.edit
-same_edit h = ap (λ (x : StepView). x.edit) h
+pub same_edit : (step : CompactionStep) (v : State) (p : PickedInputs) (answer : Answer) → step_in step ≡ step_of v p answer → step.edit.items ≡ answer.edit
+same_edit step v p answer h = ap (λ (x : StepView). x.edit) h
 
 -- a step that was answered was installed
 pub installed_of : (order : Order) (cmp : List ℕ → List ℕ → Ordering) (short_keys : ShortKeys) (v : State) (loaded : List (ℕ × List ℕ)) (level : ℕ) (s : Settings) (before after : List Step) (old new : List ℕ → Option (List ℕ) → Type 0) (step : CompactionStep)
@@ -53,7 +53,7 @@ module _ (order : Order) (cmp : List ℕ → List ℕ → Ordering) (short_keys 
   opened_next (Ok None) h = tt
   opened_next (Ok (Some a)) h =
       is_opened order cmp v (manifest_of v) i.answer.tables i.answer.edit i.compacted.edited.next i.compacted.edited.edited a.order a.version a.manifest
-      (subst (λ (b : List ℕ). IsOpenedAfter order v b (Ok (a.order, a.version, a.manifest))) (same_edit i.step) h)
+      (subst (λ (b : List ℕ). IsOpenedAfter order v b (Ok (a.order, a.version, a.manifest))) (same_edit step v i.picked i.answer i.step) h)
   opened_next (Err e) h = tt
 
   pub memory_only : (r : Result (Option Opened) Fault) → IfErr r (λ e. UnlessMemory e (IsOpenedAfter order v step.edit.items (Err e))) → IfErr r (λ e. e ≡ fault Memory)
@@ -61,7 +61,7 @@ module _ (order : Order) (cmp : List ℕ → List ℕ → Ordering) (short_keys 
   memory_only (Err e) h =
       only_memory e (IsOpenedAfter order v step.edit.items (Err e))
       (λ opened. not_refused order cmp v (manifest_of v) i.answer.tables i.answer.edit i.compacted.edited.next i.compacted.edited.edited e
-      (subst (λ (b : List ℕ). IsOpenedAfter order v b (Err e)) (same_edit i.step) opened)) h
+      (subst (λ (b : List ℕ). IsOpenedAfter order v b (Err e)) (same_edit step v i.picked i.answer i.step) opened)) h
 
 -- ---- no refusal is Device
 

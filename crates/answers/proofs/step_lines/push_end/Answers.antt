@@ -1,7 +1,7 @@
 use Rattle.std.proofs.Common.{◌≡◌, ◌++◌, OnOk, string_bytes, sym, subst}
 use Rattle.answers.specs.CompactionLines.{end_line}
 use Rattle.answers.specs.declared.compaction_end.CompactionEnd.{CompactionEnd}
-use Rattle.answers.proofs.compaction_lines.push_end.Goals as goal
+use Rattle.answers.proofs.step_lines.push_end.Goals as goal
 
 pub returns-in-Installed-clause-ok : goal.returns-in-Installed-clause-ok
 returns-in-Installed-clause-ok c =

@@ -2,7 +2,7 @@ use Rattle.std.proofs.Common.{◌≡◌, ◌++◌, [], Ok, List, ℕ, string_byt
 use Rattle.std.specs.List.{flat_map}
 use Rattle.coding.proofs.Texts.{joined}
 use Rattle.answers.specs.CompactionLines.{deleted_line, end_line, output_line}
-use Rattle.answers.proofs.compaction_lines.compaction_lines.Goals as goal
+use Rattle.answers.proofs.step_lines.compaction_lines.Goals as goal
 
 pub returns : goal.returns
 returns c =

@@ -27,7 +27,7 @@ pub mod WorkerAnswers
 pub mod InputAnswers
 pub mod RangeAnswers
 pub mod ReadInputs
-mod PieceAnswers
+mod EncodedAnswers
 mod PlanAnswers
 mod Joined
 mod NewFiles

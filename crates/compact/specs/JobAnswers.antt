@@ -6,7 +6,7 @@ use Rattle.block.specs.EncodedEntry.{Entry}
 use Rattle.pick.specs.declared.picked_inputs.InputFile.{InputFile}
 use Rattle.keep.specs.Marks.{CompactionContext}
 use Rattle.keep.specs.Runs.{Run, range_run, ranges_of}
-use Rattle.cut.specs.Plan.{OutputView, encoded_pieces, plan_tables}
+use Rattle.cut.specs.Plan.{OutputView, encoded_blocks, plan_tables}
 use Rattle.cut.specs.OutputPlan.{PlanSeen, lists_in}
 use Rattle.compact.specs.Inputs.{result_at_input, input_reading}
 
@@ -22,9 +22,9 @@ abbrev pub range_answers : KeyOrder → CompactionContext → List (List ℕ) �
     List (Result Run Fault)
 range_answers cmp b boundaries inputs = map (range_run cmp b inputs) (ranges_of boundaries)
 
--- the answer for each piece, its bytes
-abbrev pub piece_answers : PlanSeen → List (Result (List ℕ) Fault)
-piece_answers p = map (λ (bytes : List ℕ). Ok bytes) (encoded_pieces p.options (lists_in p.outputs))
+-- the answer for each data block, its bytes and its trailer
+abbrev pub block_answers : PlanSeen → List (Result (List ℕ) Fault)
+block_answers p = map (λ (bytes : List ℕ). Ok bytes) (encoded_blocks p.options (lists_in p.outputs))
 
 -- the answer for each output of a plan, its number and its table
 abbrev pub output_answers : (List Entry → List ℕ) → List OutputView →

@@ -13,6 +13,7 @@ ghost use Rattle.board.specs.declared.limits.TheConstants.{MAX_WORKERS};
 
 use crate::inputs::check_inputs;
 use crate::merged_request::Merged;
+use crate::plan_encoder::Job;
 use crate::ranges::merge_ranges;
 use crate::request::Request;
 use crate::request_law::passed_law;
@@ -33,13 +34,13 @@ use table::SoundTable;
 /// Compacts by 1 to 64 workers, and answers the tables and the edit. They are what one thread
 /// answers, whatever the ranges of the split, the number of workers and the order of their jobs.
 ///
-/// It checks the tables of the inputs itself, and then calls [`compact_tables`]. The program calls
-/// parts of it instead, after it has checked the inputs, and all tables of the folder unless
-/// `--no-verify` is given:
+/// Its workers draw from a board three times: an input a job, a range a job, a data block a job.
+/// It checks the tables of the inputs itself. The program calls parts of it instead, after it has
+/// checked the inputs, and all tables of the folder unless `--no-verify` is given. A job of its
+/// workers encodes a whole table then, by [`cut::Plan::table`]:
 ///
 /// - `compact DIR` calls [`merge_request`] and [`Merged::planned`]. Then it writes each
-///   [`crate::Planned::group`] by `install::write_source_group`, whose workers encode the tables by
-///   [`cut::Plan::table`].
+///   [`crate::Planned::group`] by `install::write_source_group`.
 /// - `compact --out` calls [`compact_tables`].
 ///
 /// Reads survive (`LeavesReads`). Premises (`IsOver`):
@@ -78,13 +79,13 @@ pub fn compact<'a, C: SharedComparator + 'static, G: Gate + Sync, R: Threads + S
     request.check::<C>()?;
     let files = &request.picked.files;
     let tables = check_inputs::<C, G, R>(rt, alloc, files, request.tables, workers, gate)?;
-    compact_tables(rt, alloc, request, &tables, split, workers, gate)
+    let merged = merge_request(rt, alloc, request, &tables, split, workers, gate)?;
+    merged.written(rt, alloc, Job::Block, gate)
 }
 
 /// Compacts tables that are checked already, those of the request's inputs in their order: just
-/// what [`compact`] answers. It checks no table again.
-///
-/// The call of `compact --out`, and the last step of [`compact`].
+/// what [`compact`] answers. It checks no table again, and a job of its workers encodes a whole
+/// table: the call of `compact --out`.
 ///
 /// The first that applies:
 ///
@@ -112,7 +113,7 @@ pub fn compact_tables<'t, C: SharedComparator + 'static, G: Gate + Sync, R: Thre
         (λ outcome. LeavesReads C.cmp (request_in request.now) (answer_in outcome)) }
 {
     let merged = merge_request(rt, alloc, request, tables, split, workers, gate)?;
-    merged.written(rt, alloc, gate)
+    merged.written(rt, alloc, Job::Table, gate)
 }
 
 /// Merges tables that are checked already, those of the request's inputs in their order, by 1 to 64

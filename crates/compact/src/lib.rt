@@ -10,29 +10,27 @@
 //! [`compact`] answers that, whatever the workers and the order of their jobs, in three phases:
 //!
 //! 1. [`check_inputs`] checks the inputs, a table a job.
-//! 2. [`merge_ranges`] merges them, a range of user keys a job. Then one thread cuts the outputs,
-//!    and the workers compute the lengths of their tables.
-//! 3. The tables of the plan are encoded, a table a job, or a piece a job if an output has several,
-//!    and joined.
+//! 2. [`merge_ranges`] merges them, a range of user keys a job. Then one thread plans the outputs.
+//! 3. The data blocks of the plan are encoded, a block a job, and joined to tables.
 //!
-//! [`compact_tables`] does the last two, over tables that are checked already. [`merge_request`]
-//! only merges, and [`Merged::planned`] plans the outputs. The tables of [`Planned`] are then
-//! encoded group by group, so that they needn't all be in memory.
+//! [`compact_tables`] merges tables that are checked already, and encodes a table a job.
+//! [`merge_request`] only merges, and [`Merged::planned`] plans the outputs. The tables of
+//! [`Planned`] are then encoded group by group, so that they needn't all be in memory.
 //!
 //! [`Settings`] has what a compaction of a folder is asked to keep to, as a command line or a caller
 //! says. [`reads_survive`] and the laws beside it (`surviving_reads.rt`) say what survives: the
 //! version after is lawful, and each get at a sequence that stays readable answers as before.
 #![tactic(auto)]
 
+mod block_encoder;
 mod closure;
 mod compaction;
 mod edit_bytes;
 mod grouped_plan;
 mod inputs;
 mod merged_request;
-mod output_writer;
 mod outputs_edit;
-mod piece_encoder;
+mod plan_encoder;
 mod ranges;
 mod request;
 mod request_conditions;

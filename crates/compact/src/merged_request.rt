@@ -14,7 +14,7 @@ ghost use Rattle.compact.specs.declared.grouped_plan.TheConstants.{MAX_TABLES};
 
 use crate::edit_bytes::edit_bytes;
 use crate::grouped_plan::{MAX_TABLES, Planned};
-use crate::output_writer::write_plan;
+use crate::plan_encoder::{Job, encode_tables};
 use crate::request::Request;
 use board::Gate;
 use coding::Fault;
@@ -50,24 +50,19 @@ impl<'q, 't, C: Comparator> Model for Merged<'q, 't, C> {
     ghost invariant = { λ m. IsMerged (request_in m.request.now) m.workers };
 }
 
-impl<'q, 't, C: SharedComparator> Merged<'q, 't, C> {
+impl<'q, 't, C: Comparator> Merged<'q, 't, C> {
     /// Plans the outputs, deals them out in groups of `MAX_TABLES`, and makes the edit. No table
-    /// is encoded yet, and the runs are read until all are. The lengths of the tables are computed
-    /// by workers, as many as the request was merged by.
+    /// is encoded yet, and the runs are read until all are.
     ///
     /// `Numbers` or `TooLarge` of the outputs, as [`crate::compact_tables`] says. The only other
     /// fault is `Memory`.
-    pub fn planned<'m, R: Threads + Sync>(
-        &'m self,
-        rt: &R,
-        alloc: Global,
-    ) -> Result<Planned<'m, 't, C>, Fault>
+    pub fn planned<'m>(&'m self, alloc: Global) -> Result<Planned<'m, 't, C>, Fault>
         ensures answer { EqualOrMemory joined_answer result self.now }
         ensures groups { IfOk result (λ p.
             p.groups ≡ groups_of MAX_TABLES (joined_answer p).tables) }
     {
         let request = self.request;
-        let plan = planned_outputs::<C, R>(rt, alloc, request, &self.runs, self.workers)?;
+        let plan = planned_outputs::<C>(alloc, request, &self.runs)?;
         let edit = edit_bytes(alloc, request, &plan)?;
         let groups = plan.groups(alloc, MAX_TABLES)?;
         Ok(Planned {
@@ -79,31 +74,32 @@ impl<'q, 't, C: SharedComparator> Merged<'q, 't, C> {
 }
 
 impl<'q, 't, C: SharedComparator + 'static> Merged<'q, 't, C> {
-    /// All tables, and the edit.
+    /// All tables, encoded by workers, and the edit.
     ///
     /// `Numbers` or `TooLarge` of the outputs. The only other fault is `Memory`.
     pub(crate) fn written<G: Gate + Sync, R: Threads + Sync>(
         &self,
         rt: &R,
         alloc: Global,
+        job: Job,
         gate: &G,
     ) -> Result<Outcome, Fault>
         ensures { EqualOrMemory answer_in result self.now }
     {
         let request = self.request;
-        let plan = planned_outputs::<C, R>(rt, alloc, request, &self.runs, self.workers)?;
-        write_plan(rt, alloc, request, &plan, self.workers, gate)
+        let plan = planned_outputs::<C>(alloc, request, &self.runs)?;
+        let tables = encode_tables(rt, alloc, &plan, job, self.workers, gate)?;
+        let edit = edit_bytes(alloc, request, &plan)?;
+        Ok(Outcome { tables, edit })
     }
 }
 
-/// The plan of the outputs of a request's runs, made by workers. The only faults are `Numbers`,
-/// `TooLarge` and `Memory`.
-fn planned_outputs<'r, 'a, C: SharedComparator, R: Threads + Sync>(
-    rt: &R,
+/// The plan of the outputs of a request's runs. The only faults are `Numbers`, `TooLarge` and
+/// `Memory`.
+fn planned_outputs<'r, 'a, C: Comparator>(
     alloc: Global,
     request: &Request<'_>,
     runs: &'r [RangeRun<'a>],
-    workers: u64,
 ) -> Result<Plan<'r, 'a, C>, Fault>
     requires { AreInLimits request.now.options }
     ensures outputs { EqualOrMemory (λ p. p.outputs) result
@@ -115,13 +111,6 @@ fn planned_outputs<'r, 'a, C: SharedComparator, R: Threads + Sync>(
     ensures fits { IfOk result (λ p. request.now.first_number + length p.outputs < 2 ^ 64) }
 {
     let grandparents = &request.picked.grandparents;
-    plan::<C, R>(
-        rt,
-        alloc,
-        runs,
-        grandparents,
-        request.options,
-        request.first_number,
-        workers,
-    )
+    let first = request.first_number;
+    plan::<C>(alloc, runs, grandparents, request.options, first)
 }

@@ -1,13 +1,9 @@
-//! The third phase, if each output is one piece: its tables are encoded whole.
-//!
-//! Why: the index of a table is then made by the worker that encoded its data blocks, and not after
-//! all of them are done.
+//! The tables of a plan, each encoded whole.
 
-ghost use Rattle.std.specs.Prelude.{◌≤◌, length, map, Ok};
+ghost use Rattle.std.specs.Prelude.{length, map, Ok};
 ghost use Rattle.coding.specs.Answers.{EqualOrMemory};
 ghost use Rattle.table.specs.Table.{table};
 ghost use Rattle.cut.specs.Plan.{plan_tables};
-ghost use Rattle.cut.specs.declared.output_plan.TheConstants.{MAX_BLOCKS};
 ghost use Rattle.compact.specs.RangeMerges.{by_workers};
 
 use board::{Gate, Labour, run};
@@ -57,7 +53,6 @@ pub(crate) fn encode_outputs<'p, C: SharedComparator + 'static, G: Gate + Sync, 
     workers: u64,
     gate: &G,
 ) -> Result<Vec<(u64, Vec<u8>)>, Fault>
-    requires { length plan.now.outputs ≤ MAX_BLOCKS }
     ensures { EqualOrMemory (λ tables. map (λ t. (t.0, t.1.items)) tables.items) result
         (by_workers workers
         (Ok (plan_tables (table C.cmp C.short_keys plan.now.options) plan.now.outputs))) }

@@ -2,7 +2,7 @@
 //! outputs.
 
 ghost use Rattle.std.specs.Prelude.{◌≡◌, ◌<◌, length, map, IfOk};
-ghost use Rattle.cut.specs.Plan.{encoded_pieces};
+ghost use Rattle.cut.specs.Plan.{encoded_blocks};
 ghost use Rattle.cut.specs.OutputPlan.{lists_in};
 
 use crate::compact_tests::tables::{A, B, C, C_DELETED};
@@ -16,7 +16,6 @@ use split::Range;
 use std::alloc::Global;
 use std::process::Abort;
 use std::test::*;
-use std::thread::Threads;
 use table::{Options, TableCursor, check};
 
 /// `table: a@1 put x, b@2 put x, c@3 put x`
@@ -59,7 +58,7 @@ type Output = (u64, &'static [u8]);
 const OUTPUTS: &[Output] = &[(5, A), (6, B), (7, C)];
 
 /// The length of a data block of one entry, with its trailer.
-const PIECE_LEN: usize = 26;
+const BLOCK_LEN: usize = 26;
 
 /// The inputs of level 0 of the version of one file, without grandparents.
 fn picked(rt: &impl Abort, alloc: Global) -> Inputs {
@@ -97,30 +96,30 @@ fn runs_of<'a>(
     runs
 }
 
-/// The pieces of a plan, in the order of their jobs.
+/// The data blocks of a plan, each with its trailer, in order.
 fn encoded(alloc: Global, plan: &Plan<'_, '_, Bytewise>) -> Result<Vec<Vec<u8>>, Fault>
-    ensures { IfOk result (λ pieces. map (λ p. p.items) pieces.items
-        ≡ encoded_pieces plan.now.options (lists_in plan.now.outputs)) }
+    ensures { IfOk result (λ blocks. map (λ b. b.items) blocks.items
+        ≡ encoded_blocks plan.now.options (lists_in plan.now.outputs)) }
 {
-    let mut pieces = Vec::new(alloc);
+    let mut blocks = Vec::new(alloc);
     for job in 0..plan.jobs() {
-        let piece = plan.encode(alloc, job)?;
-        pieces.push(piece)?;
+        let block = plan.encode(alloc, job)?;
+        blocks.push(block)?;
     }
-    Ok(pieces)
+    Ok(blocks)
 }
 
-/// Whether the piece of each number is the data block with which the output of that number begins.
-fn are_blocks(pieces: &[Vec<u8>], outputs: &[Output]) -> bool {
-    for (piece, output) in pieces.iter().zip(outputs) {
-        if piece.len() != PIECE_LEN || !output.1.starts_with(piece) {
+/// Whether each data block is that with which the output of its number begins.
+fn are_blocks(blocks: &[Vec<u8>], outputs: &[Output]) -> bool {
+    for (block, output) in blocks.iter().zip(outputs) {
+        if block.len() != BLOCK_LEN || !output.1.starts_with(block) {
             return false;
         }
     }
-    pieces.len() == outputs.len()
+    blocks.len() == outputs.len()
 }
 
-/// Whether tables, joined of pieces, are these outputs.
+/// Whether tables, joined of data blocks, are these outputs.
 fn are_joined(tables: &[(u64, Vec<u8>)], outputs: &[Output]) -> bool {
     for (table, output) in tables.iter().zip(outputs) {
         if table.0 != output.0 || table.1.as_slice() != output.1 {
@@ -163,32 +162,27 @@ fn are_outputs(
     plan.len() == outputs.len() && plan.is_empty() == outputs.is_empty()
 }
 
-/// Whether the pieces of a plan are those of its outputs, and make their tables.
-fn has_pieces(
+/// Whether the data blocks of a plan are those of its outputs, and make their tables.
+fn has_blocks(
     rt: &impl Abort,
     alloc: Global,
     plan: &Plan<'_, '_, Bytewise>,
     outputs: &[Output],
 ) -> Result<bool, Fault> {
-    let pieces = encoded(alloc, plan)?;
-    let are_right = are_blocks(&pieces, outputs);
-    let tables = plan.assemble(alloc, pieces).expect(rt, "memory");
+    let blocks = encoded(alloc, plan)?;
+    let are_right = are_blocks(&blocks, outputs);
+    let tables = plan.assemble(alloc, blocks).expect(rt, "memory");
     Ok(are_right && are_joined(&tables, outputs))
 }
 
 /// Whether the plan of a table has these outputs.
-fn is_planned<R: Threads + Sync + Abort>(
-    rt: &R,
-    alloc: Global,
-    table: &[u8],
-    outputs: &[Output],
-) -> bool {
+fn is_planned(rt: &impl Abort, alloc: Global, table: &[u8], outputs: &[Output]) -> bool {
     assert!(rt; SMALLEST.are_in_limits());
     let inputs = picked(rt, alloc);
     let runs = runs_of(rt, alloc, table, &inputs);
     let files = &inputs.grandparents;
-    let plan = plan::<Bytewise, R>(rt, alloc, &runs, files, SMALLEST, 5, 2).expect(rt, "a plan");
-    are_outputs(rt, alloc, &plan, outputs) && has_pieces(rt, alloc, &plan, outputs) == Ok(true)
+    let plan = plan::<Bytewise>(alloc, &runs, files, SMALLEST, 5).expect(rt, "a plan");
+    are_outputs(rt, alloc, &plan, outputs) && has_blocks(rt, alloc, &plan, outputs) == Ok(true)
 }
 
 #[test]

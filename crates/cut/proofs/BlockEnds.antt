@@ -14,8 +14,8 @@ use Rattle.table.specs.Table.{table}
 use Rattle.cut.specs.declared.planned_block.PlannedBlock.{PlannedBlock}
 use Rattle.cut.specs.declared.planned_output.PlannedOutput.{PlannedOutput}
 use Rattle.cut.specs.PlannedBlocks.{block_lists}
-use Rattle.cut.specs.OutputInProgress.{entries_in_blocks}
-use Rattle.cut.specs.Plan.{block_ends_from, stored_len}
+use Rattle.cut.specs.OutputInProgress.{entries_in_blocks, stored_len}
+use Rattle.cut.specs.Plan.{block_ends_from}
 use Rattle.cut.specs.PlanInvariant.{IsPlannedOutput}
 use Rattle.cut.proofs.Metered.{length-piece}
 use Rattle.cut.proofs.MeteredLengths.{lengths_law}

@@ -11,7 +11,6 @@ pub mod Listed
 pub mod Elements
 pub mod RepeatedMarks
 pub mod SegmentOutputs
-pub mod JoinedPieces
 pub mod Segments
 pub mod MeteredLengths
 pub mod Whole
@@ -24,12 +23,10 @@ pub mod Opened
 pub mod Cuts
 pub mod TableLengths
 pub mod Planned
-pub mod FoundLengths
 pub mod BlockSums
 pub mod BlockEnds
-pub mod PiecePlaces
-pub mod Dealt
-pub mod PlanPieces
-pub mod ReadyPieces
+pub mod NumberedBlocks
+pub mod PlanBlocks
+pub mod ReadyTables
 pub mod Collected
 pub mod Grouped

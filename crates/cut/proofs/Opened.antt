@@ -23,9 +23,8 @@ use Rattle.cut.specs.declared.planned_block.PlannedBlock.{PlannedBlock}
 use Rattle.merge.specs.MergedLists.{entries_of_lists}
 use Rattle.cut.specs.BlockInProgress.{BlockInProgress, block_after_entries, last_entry_key}
 use Rattle.cut.specs.Outputs.{ends_before, outputs_after}
-use Rattle.cut.specs.Plan.{stored_len}
 use Rattle.cut.specs.PlannedBlocks.{block_lists}
-use Rattle.cut.specs.OutputInProgress.{entries_in_blocks, HasLen, IsFlushed, ends_by, IsOpen}
+use Rattle.cut.specs.OutputInProgress.{entries_in_blocks, stored_len, HasLen, IsFlushed, ends_by, IsOpen}
 use Rattle.cut.proofs.MeteredLengths.{lengths_law}
 
 -- ---- the last key

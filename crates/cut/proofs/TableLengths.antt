@@ -26,8 +26,7 @@ use Rattle.cut.specs.declared.planned_block.PlannedBlock.{PlannedBlock}
 use Rattle.cut.specs.Lengths.{added_len}
 use Rattle.cut.specs.BlockInProgress.{last_entry_key}
 use Rattle.cut.specs.PlannedBlocks.{block_lists}
-use Rattle.cut.specs.OutputInProgress.{entries_in_blocks, HasLen, ArePlanned}
-use Rattle.cut.specs.Plan.{stored_len}
+use Rattle.cut.specs.OutputInProgress.{entries_in_blocks, stored_len, HasLen, ArePlanned}
 use Rattle.cut.specs.Sizes.{encoded_entry_size}
 use Rattle.cut.specs.TableLength.{capped_length, lens_of, planned_index_key, planned_index_entries, index_sizes, table_size}
 use Rattle.cut.proofs.Metered.{length-piece}

@@ -1,6 +1,5 @@
 -- what contracts rest on
 pub mod EntrySpanView
-pub mod PlannedBlocks
 pub mod EntryWalkView
 pub mod Stops
 pub mod Outputs
@@ -11,6 +10,7 @@ pub mod Groups
 pub mod OutputMeta
 pub mod Lengths
 -- serves proofs alone
+pub mod PlannedBlocks
 pub mod RunPlace
 pub mod SpanPlaces
 pub mod PlaceKey
@@ -21,6 +21,6 @@ pub mod OverlapStops
 pub mod OutputInProgress
 pub mod OutputCuts
 pub mod TableLength
-pub mod PieceDivision
+pub mod BlockNumbers
 pub mod PlanInvariant
 pub mod PlanTables

@@ -7,12 +7,12 @@ use Rattle.block.specs.BlockFormat.{block}
 use Rattle.table.specs.declared.options.Options.{Options}
 use Rattle.table.specs.Options.{AreInLimits}
 use Rattle.table.specs.DataBlocks.{is_full, blocks_after, data_blocks}
+use Rattle.table.specs.Table.{stored_blocks}
 use Rattle.cut.specs.declared.planned_block.PlannedBlock.{PlannedBlock}
 use Rattle.cut.specs.PlannedBlocks.{block_lists}
 use Rattle.merge.specs.MergedLists.{entries_of_lists}
 use Rattle.cut.specs.BlockInProgress.{BlockInProgress, last_entry_key}
 use Rattle.cut.specs.Outputs.{ends_before}
-use Rattle.cut.specs.Plan.{stored_len}
 
 -- the options of an output, its entries so far, and the entries still to come
 pub record OutputInProgress : Type 0 where
@@ -23,6 +23,10 @@ pub record OutputInProgress : Type 0 where
 -- the entries of planned data blocks, one block after the other
 abbrev pub entries_in_blocks : List PlannedBlock → List Entry
 entries_in_blocks blocks = entries_of_lists (block_lists blocks)
+
+-- how many bytes data blocks have, each with its trailer
+abbrev pub stored_len : ℕ → List (List Entry) → ℕ
+stored_len interval parts = length (stored_blocks interval parts)
 
 -- the length of a planned block is that of the block of its entries
 abbrev pub HasLen : Options → PlannedBlock → Type 0

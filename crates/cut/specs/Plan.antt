@@ -1,19 +1,18 @@
--- The plan of the outputs: numbers, data blocks, exact lengths, and the pieces that are to be
--- encoded.
-use Rattle.std.specs.Prelude.{◌≡◌, ℕ, ◌+◌, ◌^◌, nat_lt, nat_le, ◌&&◌, if◌then◌else◌, List, [], ◌∷◌}
-use Rattle.std.specs.Prelude.{◌++◌, length, map, flat_map, Result, Ok}
+-- The plan of the outputs: numbers, data blocks, exact lengths, and the bytes of each data block.
+use Rattle.std.specs.Prelude.{ℕ, ◌+◌, ◌^◌, nat_lt, nat_le, ◌&&◌, List, [], ◌∷◌, length, map}
+use Rattle.std.specs.Prelude.{flat_map, Result, Ok}
 use Rattle.std.specs.List.{list_all}
 use Rattle.coding.specs.Answers.{◌>>=◌}
 use Rattle.coding.specs.declared.fault.Fault.{Fault}
 use Rattle.coding.specs.declared.fault.FaultName.TheVariants.{Numbers, TooLarge}
 use Rattle.block.specs.EncodedEntry.{Entry}
+use Rattle.block.specs.BlockFormat.{block}
 use Rattle.table.specs.declared.options.Options.{Options}
 use Rattle.table.specs.DataBlocks.{data_blocks}
-use Rattle.table.specs.Table.{closing_bytes, index_from, index_keys, stored_blocks, table}
 use Rattle.table.specs.TestResult.{test_result}
-use Rattle.ikey.specs.Comparator.{KeyOrder, ShortKeys}
+use Rattle.table.specs.Trailer.{stored_block}
 use Rattle.table.specs.declared.table_check.TheConstants.{MAX_TABLE_LEN}
-use Rattle.cut.specs.declared.output_plan.TheConstants.{FEW_BLOCKS, MAX_BLOCKS, PIECE_LEN}
+use Rattle.cut.specs.declared.output_plan.TheConstants.{MAX_BLOCKS}
 
 -- an output: the number of its file, its entries, the place after the last entry of each data
 -- block, and the length of its table
@@ -65,52 +64,10 @@ plan_of table_of o first outputs = do
 abbrev pub plan_tables : (List Entry → List ℕ) → List OutputView → List (ℕ × List ℕ)
 plan_tables table_of plan = map (λ (p : OutputView). (p.number, table_of p.entries)) plan
 
--- the bytes of data blocks, each with its trailer
-abbrev pub stored_len : ℕ → List (List Entry) → ℕ
-stored_len interval parts = length (stored_blocks interval parts)
-
--- the open piece, if it has a data block
-abbrev pub open_piece : List (List Entry) → List (List (List Entry))
-open_piece [] = []
-open_piece (p ∷ ps) = (p ∷ ps) ∷ []
-
--- The pieces of an output's data blocks, if the open piece has the blocks `latest`. A piece ends
--- with the block at which its bytes reach `size`.
-abbrev pub pieces_from_block : ℕ → ℕ → List (List Entry) → List (List Entry) →
-    List (List (List Entry))
-pieces_from_block size interval latest [] = open_piece latest
-pieces_from_block size interval latest (p ∷ ps) =
-    if nat_le size (stored_len interval (latest ++ p ∷ []))
-    then (latest ++ p ∷ []) ∷ pieces_from_block size interval [] ps
-    else pieces_from_block size interval (latest ++ p ∷ []) ps
-
--- The pieces of an output. If all outputs together have fewer than 64 data blocks, each block is a
--- piece; else a piece ends with the block at which its bytes reach 2 ^ 22.
-abbrev pub pieces_in : Options → ℕ → List Entry → List (List (List Entry))
-pieces_in o blocks q =
-    if nat_lt blocks FEW_BLOCKS then map (λ p. p ∷ []) (data_blocks o q) else
-    pieces_from_block PIECE_LEN o.restart_interval [] (data_blocks o q)
-
--- the pieces of all outputs, in order
-abbrev pub pieces : Options → List (List Entry) → List (List (List Entry))
-pieces o outputs = flat_map (pieces_in o (length (parts o outputs))) outputs
-
--- how many pieces there are
+-- how many data blocks all outputs have
 abbrev pub jobs : Options → List (List Entry) → ℕ
-jobs o outputs = length (pieces o outputs)
+jobs o outputs = length (parts o outputs)
 
--- the bytes of each piece: its data blocks, each with its trailer
-abbrev pub encoded_pieces : Options → List (List Entry) → List (List ℕ)
-encoded_pieces o outputs = map (stored_blocks o.restart_interval) (pieces o outputs)
-
--- The bytes of a piece are those of its data blocks, each with its trailer. The pieces of an
--- output, one after the other, and what closes its table are its table.
-abbrev pub PiecesLaw : Type 0
-PiecesLaw =
-    (cmp : KeyOrder) (short_keys : ShortKeys)
-    (o : Options) (blocks : ℕ) (q : List Entry) →
-    let bytes = flat_map (stored_blocks o.restart_interval) (pieces_in o blocks q) in
-    table cmp short_keys o q
-    ≡ bytes ++ closing_bytes (length bytes)
-    (index_from (index_keys cmp short_keys) o.restart_interval 0
-    (data_blocks o q))
+-- the bytes of each data block of all outputs, with its trailer
+abbrev pub encoded_blocks : Options → List (List Entry) → List (List ℕ)
+encoded_blocks o outputs = map (λ p. stored_block (block o.restart_interval p)) (parts o outputs)

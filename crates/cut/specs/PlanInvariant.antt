@@ -6,9 +6,8 @@ use Rattle.block.specs.EncodedEntry.{Entry}
 use Rattle.table.specs.declared.options.Options.{Options}
 use Rattle.table.specs.Options.{AreInLimits}
 use Rattle.cut.specs.declared.planned_block.PlannedBlock.{PlannedBlock}
-use Rattle.cut.specs.declared.piece.Piece.{Piece}
 use Rattle.cut.specs.declared.planned_output.PlannedOutput.{PlannedOutput}
-use Rattle.cut.specs.PieceDivision.{places_all, counts_all, piece_limit}
+use Rattle.cut.specs.BlockNumbers.{output_ends}
 use Rattle.cut.specs.PlannedBlocks.{block_lists}
 use Rattle.cut.specs.OutputInProgress.{entries_in_blocks, ArePlanned}
 use Rattle.cut.specs.Plan.{OutputView, block_ends_from}
@@ -51,11 +50,10 @@ pub record IsPlannedOutput (table_of : List Entry → List ℕ) (o : Options) (p
   pub len_is : p.len ≡ length (table_of (entries_in_blocks p.blocks.items))
   pub len_le : p.len ≤ MAX_TABLE_LEN
 
--- what a plan keeps: outputs in their limits, their pieces, and how many pieces each output has
+-- what a plan keeps: outputs in their limits, and after how many data blocks each ends
 pub record IsPlan (table_of : List Entry → List ℕ) (o : Options) (outputs : List PlannedOutput)
-    (pieces : List Piece) (counts : List ℕ) : Type 0 where
+    (ends : List ℕ) : Type 0 where
   pub limits : AreInLimits o
   pub each : AllByRecursion (IsPlannedOutput table_of o) outputs
   pub few : block_count outputs ≤ MAX_BLOCKS
-  pub places : pieces ≡ places_all (piece_limit (block_count outputs)) 0 outputs
-  pub counts_are : counts ≡ counts_all (piece_limit (block_count outputs)) 0 outputs
+  pub ends_are : ends ≡ output_ends 0 outputs

@@ -1,6 +1,5 @@
 -- The length of a table, by the lengths of its data blocks.
-use Rattle.std.specs.Prelude.{ℕ, ◌+◌, nat_lt, if◌then◌else◌, List, [], ◌∷◌, length, map, min}
-use Rattle.std.specs.Global.{Vec}
+use Rattle.std.specs.Prelude.{ℕ, ◌+◌, nat_lt, if◌then◌else◌, List, [], ◌∷◌, length, min}
 use Rattle.std.specs.List.{sum_by}
 use Rattle.block.specs.EncodedEntry.{Entry}
 use Rattle.block.specs.BlockFormat.{block}
@@ -36,10 +35,6 @@ abbrev pub table_size : IndexKeys → List PlannedBlock → ℕ
 table_size keys blocks =
     if nat_lt MAX_TABLE_LEN (lens_of blocks) then MAX_TABLE_LEN + 1 else capped_length
     (lens_of blocks + CLOSING_LEN + length (block 1 (planned_index_entries keys 0 blocks)))
-
--- the lengths of the tables of several such lists
-abbrev pub sizes_of : IndexKeys → List (Vec PlannedBlock) → List ℕ
-sizes_of keys ended = map (λ (blocks : Vec PlannedBlock). table_size keys blocks.items) ended
 
 -- the bytes that entries take in a block in which a restart points at each
 abbrev pub index_sizes : List Entry → ℕ

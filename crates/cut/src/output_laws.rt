@@ -2,7 +2,6 @@
 
 ghost use Rattle.cut.specs.Lengths.{LengthsLaw};
 ghost use Rattle.cut.specs.Outputs.{OutputsLaw, RangesCutLaw, WholeLaw};
-ghost use Rattle.cut.specs.Plan.{PiecesLaw};
 ghost use Rattle.cut.specs.Segments.{SegmentsLaw};
 ghost use Rattle.cut.specs.Stops.{StopsLaw};
 
@@ -41,12 +40,6 @@ pub fn whole_law<C: Comparator>()
 /// does nothing.
 pub fn ranges_cut<C: Comparator>()
     ensures { RangesCutLaw C.cmp }
-{}
-
-/// The law that the pieces of an output, one after the other, and what closes its table are its
-/// table. A call does nothing.
-pub fn pieces_law()
-    ensures { PiecesLaw }
 {}
 
 /// The law of the lengths of blocks and tables, by what each entry and each block adds. A call does

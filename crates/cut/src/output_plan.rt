@@ -10,56 +10,45 @@ ghost use Rattle.table.specs.Options.{AreInLimits};
 ghost use Rattle.table.specs.Table.{index_keys, table};
 ghost use Rattle.table.specs.declared.table_check.TheConstants.{MAX_TABLE_LEN};
 ghost use Rattle.keep.specs.Runs.{joined_run};
-ghost use Rattle.cut.specs.PieceDivision.{places_all, counts_all, piece_limit};
 ghost use Rattle.cut.specs.Outputs.{outputs_of};
 ghost use Rattle.cut.specs.Plan.{plan_of};
 ghost use Rattle.cut.specs.PlanInvariant.{HaveEntries, IsPlannedOutput, block_count};
 ghost use Rattle.cut.specs.PlanInvariant.{numbered_from, planned_of};
-ghost use Rattle.cut.specs.TableLength.{lens_of, table_size};
+ghost use Rattle.cut.specs.TableLength.{table_size};
 ghost use Rattle.cut.specs.declared.output_plan.TheConstants.{MAX_BLOCKS};
 
+use crate::block_numbers::ends_of;
 use crate::output_cuts::outputs;
-use crate::output_lengths::lengths_of;
-use crate::piece_division::{Division, pieces_of};
 use crate::planned_block::PlannedBlock;
 use crate::planned_output::PlannedOutput;
+use crate::table_len::table_len;
 use crate::whole_plan::Plan;
 use coding::{Fault, FaultName};
 use edit::FileMeta;
-use ikey::{Comparator, SharedComparator};
+use ikey::Comparator;
 use keep::RangeRun;
 use std::alloc::Global;
 use std::marker::PhantomData;
-use std::thread::Threads;
 use table::{MAX_TABLE_LEN, Options};
 
 /// The most data blocks in all outputs of a plan: 2^40, as many as a board has jobs.
 pub const MAX_BLOCKS: u64 = 1 << 40;
 
-/// If all outputs together have fewer data blocks than this, each block is a piece.
-pub const FEW_BLOCKS: u64 = 64;
-
-/// Else a piece ends with the block at which its bytes reach this many.
-pub const PIECE_LEN: u64 = 1 << 22;
-
 /// The plan of the outputs of a compaction, of the runs of all its ranges in order. It doesn't
-/// depend on how the entries were dealt out to ranges, nor on `workers`. These threads compute the
-/// lengths of the tables; 0 is as 1. `grandparents` are the files that the marks of the runs count.
-/// Outputs are numbered from `first_number` on.
+/// depend on how the entries were dealt out to ranges. `grandparents` are the files that the marks
+/// of the runs count. Outputs are numbered from `first_number` on.
 ///
 /// Faults: the first of these, or Memory.
 ///
 /// 1. Numbers: the number after the last output's exceeds 2^64 - 1.
 /// 2. TooLarge: a table would have more than 2^30 bytes, or all outputs together more than 2^40
 ///    data blocks.
-pub fn plan<'r, 'a, C: SharedComparator, R: Threads + Sync>(
-    rt: &R,
+pub fn plan<'r, 'a, C: Comparator>(
     alloc: Global,
     runs: &'r [RangeRun<'a>],
     grandparents: &[FileMeta],
     options: Options,
     first_number: u64,
-    workers: u64,
 ) -> Result<Plan<'r, 'a, C>, Fault>
     requires { AreInLimits options }
     ensures outputs { EqualOrMemory (λ p. p.outputs) result
@@ -71,7 +60,7 @@ pub fn plan<'r, 'a, C: SharedComparator, R: Threads + Sync>(
     if ended.len() as u64 > u64::MAX - first_number {
         return Err(Fault::of(FaultName::Numbers));
     }
-    let outputs = numbered::<C, R>(rt, alloc, ended, first_number, workers)?;
+    let outputs = numbered::<C>(alloc, ended, first_number)?;
     if !are_small(&outputs) {
         return Err(Fault::of(FaultName::TooLarge));
     }
@@ -91,24 +80,21 @@ pub(crate) fn plan_with<'r, 'a, C: Comparator>(
     ensures { EqualOrMemory (λ p. p) result
         (Ok (record { options = options; outputs = map planned_of outputs.entry.items })) }
 {
-    let division = divided(alloc, &outputs)?;
+    let ends = ends_of(alloc, &outputs)?;
     Ok(Plan {
         options,
         outputs,
-        pieces: division.pieces,
-        counts: division.counts,
+        ends,
         order: PhantomData,
     })
 }
 
-/// The outputs of these data blocks, numbered from `first_number` on. At most `workers` threads
-/// compute their lengths; 0 is as 1. A length of more than 2^30 bytes is given as 2^30 + 1.
-fn numbered<'r, 'a, C: SharedComparator, R: Threads + Sync>(
-    rt: &R,
+/// The outputs of these data blocks, numbered from `first_number` on. A length of more than 2^30
+/// bytes is given as 2^30 + 1.
+fn numbered<'r, 'a, C: Comparator>(
     alloc: Global,
     ended: Vec<Vec<PlannedBlock<'r, 'a>>>,
     first_number: u64,
-    workers: u64,
 ) -> Result<Vec<PlannedOutput<'r, 'a>>, Fault>
     requires fits { first_number + length ended.items < 2 ^ 64 }
     requires some { AllByRecursion (λ blocks. HaveEntries blocks.items) ended.items }
@@ -117,11 +103,10 @@ fn numbered<'r, 'a, C: SharedComparator, R: Threads + Sync>(
         ended.entry.items) }
     ensures memory { IfErr result (λ e. e ≡ fault Memory) }
 {
-    let lens = lengths_of::<C, R>(rt, alloc, &ended, workers)?;
     let mut outputs = Vec::with_capacity(alloc, ended.len())?;
     let mut number = first_number;
     for blocks in ended {
-        let len = lens[outputs.len()];
+        let len = table_len::<C>(alloc, &blocks)?;
         outputs.push(PlannedOutput {
             number,
             blocks,
@@ -158,21 +143,4 @@ fn count_blocks(outputs: &[PlannedOutput<'_, '_>]) -> u64
         count = count.saturating_add(output.blocks.len() as u64);
     }
     count
-}
-
-/// The pieces of outputs, in order.
-fn divided(alloc: Global, outputs: &[PlannedOutput<'_, '_>]) -> Result<Division, Fault>
-    requires { AllByRecursion (λ p. lens_of p.blocks.items ≤ MAX_TABLE_LEN) outputs.now }
-    ensures pieces { IfOk result (λ division. division.pieces.items
-        ≡ places_all (piece_limit (block_count outputs.now)) 0 outputs.now) }
-    ensures counts { IfOk result (λ division. division.counts.items
-        ≡ counts_all (piece_limit (block_count outputs.now)) 0 outputs.now) }
-    ensures memory { IfErr result (λ e. e ≡ fault Memory) }
-{
-    let limit = if count_blocks(outputs) < FEW_BLOCKS {
-        0
-    } else {
-        PIECE_LEN
-    };
-    pieces_of(alloc, outputs, limit)
 }

@@ -26,8 +26,7 @@ impl<'r, 'a, C: Comparator> Plan<'r, 'a, C> {
     /// The outputs in order, dealt out to plans of `most` outputs each; the last has those that are
     /// left. No plan if there are no outputs.
     ///
-    /// Each has the pieces of its own outputs: they are cut anew, as if there were no others. The
-    /// bytes of a table depend on no pieces.
+    /// Each numbers the data blocks of its own outputs from 0.
     pub fn groups(self, alloc: Global, most: usize) -> Result<Vec<Plan<'r, 'a, C>>, Fault>
         requires { 0 < most }
         ensures { EqualOrMemory (λ groups. groups.items) result

@@ -29,7 +29,7 @@ use table::{FOOTER_LEN, MAX_TABLE_LEN, TRAILER_LEN};
 pub const CLOSING_LEN: u64 = EMPTY_LEN + 2 * TRAILER_LEN as u64 + FOOTER_LEN as u64;
 
 /// The length of data blocks with their trailers; 2^64 - 1 if it is more.
-pub(crate) fn stored_len(blocks: &[PlannedBlock<'_, '_>]) -> u64
+fn stored_len(blocks: &[PlannedBlock<'_, '_>]) -> u64
     ensures { result ≡ saturated (lens_of blocks.now) }
 {
     let mut len: u64 = 0;

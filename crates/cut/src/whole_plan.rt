@@ -1,6 +1,6 @@
 //! A plan that is made.
 
-ghost use Rattle.std.specs.Prelude.{◌≡◌, ◌<◌, ◌≤◌, ◌↔◌, [], length, slice_get, slice_range};
+ghost use Rattle.std.specs.Prelude.{◌≡◌, ◌<◌, ◌≤◌, ◌↔◌, [], length, slice_get};
 ghost use Rattle.std.specs.Prelude.{IfSome, IfOk, IfErr, IsTrue, Ok, Some, map};
 ghost use Rattle.coding.specs.Answers.{EqualOrMemory, fault};
 ghost use Rattle.coding.specs.declared.fault.FaultName.TheVariants.{Memory};
@@ -9,19 +9,18 @@ ghost use Rattle.table.specs.DataBlocks.{data_blocks};
 ghost use Rattle.table.specs.Table.{table};
 ghost use Rattle.table.specs.declared.table_check.TheConstants.{MAX_TABLE_LEN};
 ghost use Rattle.cut.specs.OutputMeta.{IsMetaOf};
-ghost use Rattle.cut.specs.Plan.{block_ends, jobs, plan_tables, encoded_pieces};
+ghost use Rattle.cut.specs.Plan.{block_ends, encoded_blocks, jobs, plan_tables};
 ghost use Rattle.cut.specs.OutputPlan.{lists_in};
 ghost use Rattle.cut.specs.declared.output_plan.TheConstants.{MAX_BLOCKS};
 
+use crate::block_numbers::block_of;
 use crate::block_summary::{end_of, entries_of, meta_of};
-use crate::data_blocks::encode_blocks;
+use crate::data_blocks::encode_block;
 use crate::entry_ref::EntryRef;
 use crate::output_meta::OutputMeta;
-use crate::piece::Piece;
-use crate::plan_assembly::{assemble_all, whole_table};
-use crate::planned_block::PlannedBlock;
+use crate::plan_assembly::assemble_all;
 use crate::planned_output::PlannedOutput;
-use crate::table_len::stored_len;
+use crate::table_assembly::whole_table;
 use coding::Fault;
 use ikey::Comparator;
 use std::alloc::Global;
@@ -37,10 +36,8 @@ use table::Options;
 pub struct Plan<'r, 'a, C: Comparator> {
     pub(crate) options: Options,
     pub(crate) outputs: Vec<PlannedOutput<'r, 'a>>,
-    /// The pieces, each encoded by one call.
-    pub(crate) pieces: Vec<Piece>,
-    /// The number of pieces of each output.
-    pub(crate) counts: Vec<usize>,
+    /// After how many data blocks of all outputs each output ends.
+    pub(crate) ends: Vec<u64>,
     pub(crate) order: PhantomData<C>,
 }
 
@@ -55,26 +52,14 @@ impl<'r, 'a, C: Comparator> Model for Plan<'r, 'a, C> {
     ghost view = { λ p. record { options = p.options; outputs = map planned_of p.outputs.items } };
 
     ghost invariant = { λ p. IsPlan (table C.cmp C.short_keys p.options) p.options
-        p.outputs.items p.pieces.items p.counts.items };
-}
-
-/// The blocks at places `from` to before `to`.
-fn range_of<'p, 'r, 'a>(
-    blocks: &'p [PlannedBlock<'r, 'a>],
-    from: usize,
-    to: usize,
-) -> &'p [PlannedBlock<'r, 'a>]
-    requires rises { from ≤ to }
-    requires within { to ≤ length blocks.now }
-    ensures { result.now ≡ slice_range blocks.now from to }
-{
-    &blocks[from..to]
+        p.outputs.items p.ends.items };
 }
 
 impl<'r, 'a, C: Comparator> Plan<'r, 'a, C> {
-    /// The number of outputs.
+    /// The number of outputs, at most 2^40: each has a data block.
     pub fn len(&self) -> usize
-        ensures { result ≡ length self.now.outputs }
+        ensures number { result ≡ length self.now.outputs }
+        ensures few { result ≤ MAX_BLOCKS }
     {
         self.outputs.len()
     }
@@ -86,56 +71,45 @@ impl<'r, 'a, C: Comparator> Plan<'r, 'a, C> {
         self.outputs.is_empty()
     }
 
-    /// How many pieces are to be encoded, at most 2^40.
-    ///
-    /// A piece is consecutive data blocks of one output, each with its trailer. If all outputs
-    /// together have fewer than 64 data blocks, each block is a piece. Else a piece ends with the
-    /// block at which its bytes reach 2^22.
+    /// The number of data blocks of all outputs, at most 2^40.
     pub fn jobs(&self) -> u64
         ensures number { result ≡ jobs self.now.options (lists_in self.now.outputs) }
         ensures few { result ≤ MAX_BLOCKS }
     {
-        self.pieces.len() as u64
+        self.ends.last().copied().unwrap_or(0)
     }
 
-    /// The bytes of the piece of number `job`.
+    /// The bytes of the data block of number `job`, and its trailer. The data blocks of all outputs
+    /// in order are numbered from 0.
     ///
-    /// The memory is asked for once; the first piece of an output has room for the whole table.
+    /// The memory of the block is asked for once.
     pub fn encode(&self, alloc: Global, job: u64) -> Result<Vec<u8>, Fault>
         requires { job < jobs self.now.options (lists_in self.now.outputs) }
         ensures ok { IfOk result (λ bytes.
-            slice_get (encoded_pieces self.now.options (lists_in self.now.outputs)) job
+            slice_get (encoded_blocks self.now.options (lists_in self.now.outputs)) job
             ≡ Some bytes.items) }
         ensures memory { IfErr result (λ e. e ≡ fault Memory) }
     {
-        let piece = self.pieces[job as usize];
-        let output = &self.outputs[piece.output];
-        let blocks = range_of(&output.blocks, piece.from, piece.to);
-        let room = if piece.from == 0 {
-            output.len
-        } else {
-            stored_len(blocks)
-        };
-        encode_blocks(alloc, blocks, self.options.restart_interval, room as usize)
+        let block = block_of(&self.outputs, &self.ends, job);
+        encode_block(alloc, block, self.options.restart_interval)
     }
 
     /// The number and the table of each output. `pieces` are those that [`Plan::encode`] answers,
     /// in the order of their jobs.
     ///
-    /// If an output has one piece, none of its bytes is copied.
+    /// The memory of each table is asked for once, and a piece is dropped once it is copied.
     pub fn assemble(
         &self,
         alloc: Global,
         pieces: Vec<Vec<u8>>,
     ) -> Result<Vec<(u64, Vec<u8>)>, Fault>
         requires { map (λ p. p.items) pieces.items
-            ≡ encoded_pieces self.now.options (lists_in self.now.outputs) }
+            ≡ encoded_blocks self.now.options (lists_in self.now.outputs) }
         ensures { EqualOrMemory (λ tables. map (λ t. (t.0, t.1.items)) tables.items) result
             (Ok (plan_tables (table C.cmp C.short_keys self.now.options)
             self.now.outputs)) }
     {
-        let interval = self.options.restart_interval;
-        assemble_all::<C>(alloc, &self.outputs, &self.counts, interval, pieces)
+        assemble_all::<C>(alloc, &self.outputs, self.options.restart_interval, pieces)
     }
 
     /// The number and the table of the output at `place`.

@@ -1,7 +1,7 @@
 //! Ranges merged, outputs planned, encoded and joined, boards and splits.
 
 ghost use Rattle.std.specs.Prelude.{◌≡◌, map, IfOk};
-ghost use Rattle.cut.specs.Plan.{encoded_pieces};
+ghost use Rattle.cut.specs.Plan.{encoded_blocks};
 ghost use Rattle.cut.specs.OutputPlan.{lists_in};
 
 use crate::boards::{are_worked, is_closed};
@@ -19,7 +19,6 @@ use keep::{RangeRun, largest_rise, merge_range};
 use pick::{Inputs, is_base};
 use split::Split;
 use std::alloc::Global;
-use std::thread::Threads;
 use table::{SoundTable, TableCursor, check};
 
 /// The run of a split's first range over a table, with all sequences from 1 on readable.
@@ -105,64 +104,56 @@ fn are_outputs(alloc: Global, plan: &Plan<'_, '_, Bytewise>) -> bool {
     are_all
 }
 
-/// The pieces of a plan, in the order of their jobs.
+/// The data blocks of a plan, each with its trailer, in order.
 fn encoded(alloc: Global, plan: &Plan<'_, '_, Bytewise>) -> Result<Vec<Vec<u8>>, Fault>
-    ensures { IfOk result (λ pieces. map (λ p. p.items) pieces.items
-        ≡ encoded_pieces plan.now.options (lists_in plan.now.outputs)) }
+    ensures { IfOk result (λ blocks. map (λ b. b.items) blocks.items
+        ≡ encoded_blocks plan.now.options (lists_in plan.now.outputs)) }
 {
-    let mut pieces = Vec::new(alloc);
+    let mut blocks = Vec::new(alloc);
     for job in 0..plan.jobs() {
-        let piece = plan.encode(alloc, job)?;
-        pieces.push(piece)?;
+        let block = plan.encode(alloc, job)?;
+        blocks.push(block)?;
     }
-    Ok(pieces)
+    Ok(blocks)
 }
 
-/// Whether there are so many pieces, of 26 bytes each.
-fn are_pieces(pieces: &[Vec<u8>], count: usize) -> bool {
-    let mut are_right = pieces.len() == count;
-    for piece in pieces {
-        are_right = are_right && piece.len() == 26;
+/// Whether there are so many data blocks, of 26 bytes each.
+fn are_blocks(blocks: &[Vec<u8>], count: usize) -> bool {
+    let mut are_right = blocks.len() == count;
+    for block in blocks {
+        are_right = are_right && block.len() == 26;
     }
     are_right
 }
 
-/// Whether the plan of runs of three entries, each a block and an output, is right, and its pieces
-/// have 26 bytes each.
-fn is_planned<R: AllocGlobal + Threads + Sync>(
-    rt: &R,
-    runs: &[RangeRun<'_>],
-) -> Result<bool, Fault> {
-    let alloc = rt.alloc();
-    let plan = plan::<Bytewise, R>(rt, alloc, runs, &[], SMALLEST, 5, 1)?;
-    let pieces = encoded(alloc, &plan)?;
-    Ok(are_pieces(&pieces, 3) && are_outputs(alloc, &plan))
+/// Whether the plan of runs of three entries, each a block and an output, is right, and its data
+/// blocks have 26 bytes each.
+fn is_planned(alloc: Global, runs: &[RangeRun<'_>]) -> Result<bool, Fault> {
+    let plan = plan::<Bytewise>(alloc, runs, &[], SMALLEST, 5)?;
+    let blocks = encoded(alloc, &plan)?;
+    Ok(are_blocks(&blocks, 3) && are_outputs(alloc, &plan))
 }
 
-/// Whether the plan of runs of five entries, each a block, and four blocks an output, has pieces of
-/// 26 bytes each, which are joined to these two tables.
-fn is_joined<R: AllocGlobal + Threads + Sync>(
-    rt: &R,
-    runs: &[RangeRun<'_>],
-) -> Result<bool, Fault> {
-    let alloc = rt.alloc();
-    let plan = plan::<Bytewise, R>(rt, alloc, runs, &[], FOUR_BLOCKS, 5, 1)?;
-    let pieces = encoded(alloc, &plan)?;
-    let are_right = are_pieces(&pieces, 5);
-    let tables = plan.assemble(alloc, pieces)?;
+/// Whether the plan of runs of five entries, each a block, and four blocks an output, has data
+/// blocks of 26 bytes each, which are joined to these two tables.
+fn is_joined(alloc: Global, runs: &[RangeRun<'_>]) -> Result<bool, Fault> {
+    let plan = plan::<Bytewise>(alloc, runs, &[], FOUR_BLOCKS, 5)?;
+    let blocks = encoded(alloc, &plan)?;
+    let are_right = are_blocks(&blocks, 5);
+    let tables = plan.assemble(alloc, blocks)?;
     Ok(are_right && are_tables(&tables, &[(5, TABLE_ABCD), (6, TABLE_E)]))
 }
 
 /// Five entries, merged in one range, planned and joined as two outputs.
-pub fn joined<R: AllocGlobal + Threads + Sync>(rt: &R) -> Result<bool, Fault> {
-    let runs = runs_of(rt.alloc(), TABLE_ABCDE)?;
-    is_joined(rt, &runs)
+pub fn joined(alloc: Global) -> Result<bool, Fault> {
+    let runs = runs_of(alloc, TABLE_ABCDE)?;
+    is_joined(alloc, &runs)
 }
 
-/// Three entries, merged in one range and planned as three outputs by one worker.
-pub fn planned<R: AllocGlobal + Threads + Sync>(rt: &R) -> Result<bool, Fault> {
-    let runs = runs_of(rt.alloc(), TABLE_ABC)?;
-    is_planned(rt, &runs)
+/// Three entries, merged in one range and planned as three outputs.
+pub fn planned(alloc: Global) -> Result<bool, Fault> {
+    let runs = runs_of(alloc, TABLE_ABC)?;
+    is_planned(alloc, &runs)
 }
 
 /// Two ranges, chosen from four index keys: the boundary is the third.

@@ -12,7 +12,7 @@
 //! | a log | `append`, `records` | length, end, records |
 //! | an edit | `decode`, `applied`, `apply`, `snapshot_edit`, `encode` | bytes, numbers |
 //! | a range and a plan | `check`, `merge_range`, `plan`, `encode` | numbers, lengths |
-//! | pieces are joined | the same and `assemble` | tables, numbers |
+//! | blocks are joined | the same and `assemble` | tables, numbers |
 //! | a boundary | `check`, `Split::choose` | ranges, boundary |
 //! | a board | `Board::new` | seats, jobs, counts |
 //! | a block is walked (2) | `BlockCursor`: `new`, `advance` | entries |
@@ -64,7 +64,7 @@ pub enum Row {
     Log,
     Edit,
     Plan,
-    Pieces,
+    Join,
     Split,
     Board,
     BlockCursor,
@@ -87,7 +87,7 @@ pub const GROWTHS: &[(Row, &str)] = &[
         "  a range is merged, and its outputs planned and encoded",
     ),
     (
-        Row::Pieces,
+        Row::Join,
         "  outputs of several blocks are planned, encoded and joined",
     ),
     (Row::Split, "  a boundary is chosen"),

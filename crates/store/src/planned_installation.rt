@@ -78,7 +78,7 @@ pub(crate) fn install_merged<
     ensures other { IsOkOnlyIfCurrent (F.tells folder.old) opened.now.manifest result }
     ensures device { ReportsDevice F.Folder folder.old folder.new result }
 {
-    let planned = merged.planned(rt, alloc)?;
+    let planned = merged.planned(alloc)?;
     let version = &opened.version;
     let number = manifest_of(version);
     let step = planned_step(alloc, version, picked, &planned)?;

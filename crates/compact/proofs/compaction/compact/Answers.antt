@@ -1,16 +1,18 @@
 use Rattle.std.proofs.Common.{◌≤◌, List, map, length, Result, Ok, sym, ap, subst, ◌∙◌}
 use Rattle.std.proofs.lemmas.Result.{err_from_is_err_and}
 use Rattle.coding.specs.declared.fault.Fault.{Fault}
-use Rattle.coding.specs.Answers.{◌>>=◌, FailsOrMemory}
+use Rattle.coding.specs.Answers.{◌>>=◌, EqualOrMemory, FailsOrMemory}
 use Rattle.coding.proofs.Refusals.{FailsOrMemory-from}
 use Rattle.block.specs.EncodedEntry.{Entry}
 use Rattle.table.specs.TableContents.{Contents}
 use Rattle.pick.specs.declared.picked_inputs.InputFile.{InputFile}
 use Rattle.compact.specs.Inputs.{inputs_reading}
+use Rattle.compact.specs.AnswerIn.{answer_in}
 use Rattle.compact.specs.OneThread.{Answer, one_thread}
 use Rattle.compact.specs.Request.{RequestView, request_in}
 use Rattle.compact.specs.RangeMerges.{by_workers}
-use Rattle.compact.proofs.Joined.{answer_is, inputs_are, refused_input, refused_test}
+use Rattle.compact.specs.SurvivingReads.{LeavesReads}
+use Rattle.compact.proofs.Joined.{answer_is, if_answered, inputs_are, refused_input, refused_test}
 use Rattle.compact.proofs.compaction.compact.Goals as goal
 
 abbrev read_as : List (List Entry) → Result (List (List Entry)) Fault
@@ -62,10 +64,19 @@ returns-in_err-tables g c =
       leaves_reads = rw (p.1) tt;
     }
 
-pub compact_tables-requires-clause-read : goal.compact_tables-requires-clause-read
-compact_tables-requires-clause-read g c κs within =
+pub merge_request-requires-clause-read : goal.merge_request-requires-clause-read
+merge_request-requires-clause-read g c κs within =
     let cmp = g.C.Comparator.cmp in
     let r : RequestView = request_in c.args.request.now in
     sym (inputs_are c.args.workers (sym c.in_ok-check_workers.ensures) (inputs_reading cmp 0 r.picked.files r.tables))
     ∙ ap (λ (files : List InputFile). by_workers c.args.workers (inputs_reading cmp 0 files r.tables)) (sym c.deref.ensures.value)
     ∙ c.in_ok-tables.ensures ∙ ap (λ (ts : List Contents). read_as (map (λ t. t.entries) ts)) (sym c.deref-2.ensures.value)
+
+pub returns : goal.returns
+returns g c =
+    let cmp = g.C.Comparator.cmp in
+    let r : RequestView = request_in c.args.request.now in
+    record {
+      same = subst (λ (a : Result Answer Fault). EqualOrMemory answer_in c.written.result a) c.in_ok-merged.ensures.merged c.written.ensures;
+      leaves_reads = if_answered answer_in (LeavesReads cmp r) c.written.result c.in_ok-merged.merged c.written.ensures c.in_ok-merged.ensures.leaves_reads;
+    }

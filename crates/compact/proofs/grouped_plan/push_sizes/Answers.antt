@@ -16,7 +16,7 @@ loop-place-preserved g c =
     let T : List Entry → List ℕ = table g.C.Comparator.cmp g.C.Comparator.short_keys c.args.plan.now.options in
     let m : OutputMeta = c.output-output.result in
     let before : List (ℕ × ℕ) = c.args.sizes.now.items in
-    let within : c.loop-place.place < length outputs = omega (arith, c.loop-place-test.true, c.len-place-end.ensures) in
+    let within : c.loop-place.place < length outputs = omega (arith, c.loop-place-test.true, c.len-place-end.ensures.number) in
     let pushed : c.push.new.self.items ≡ c.loop-place.sizes.items ++ (m.number, m.len) ∷ [] = c.in_ok-push.ensures.items in
     pushed ∙ ap (λ (ts : List (ℕ × ℕ)). ts ++ (m.number, m.len) ∷ []) c.loop-place.invariant
     ∙ append_assoc before (table_sizes (plan_tables T (take c.loop-place.place outputs))) ((m.number, m.len) ∷ [])

@@ -9,7 +9,7 @@ use Rattle.board.specs.RunAnswer.{fault_of_run}
 use Rattle.compact.specs.RangeMerges.{by_workers}
 use Rattle.compact.specs.JobAnswers.{output_answers}
 use Rattle.compact.proofs.WorkerAnswers.{run_gives, run_fails}
-use Rattle.compact.proofs.PieceAnswers.{tables_collected, tables_length}
+use Rattle.compact.proofs.EncodedAnswers.{tables_collected, tables_length}
 use Rattle.compact.proofs.table_encoder.encode_outputs.Goals as goal
 
 pub returns-in_err-run : goal.returns-in_err-run
@@ -27,6 +27,6 @@ pub returns : goal.returns
 returns g c =
     let seen : ℕ × Vec ℕ → ℕ × List ℕ = λ t. (t.0, t.1.items) in
     let T : List Entry → List ℕ = table g.C.Comparator.cmp g.C.Comparator.short_keys c.args.plan.now.options in
-    let all : c.len.result ≡ length (output_answers T c.args.plan.now.outputs) = c.len.ensures ∙ sym (tables_length T c.args.plan.now.outputs) in
+    let all : c.len.result ≡ length (output_answers T c.args.plan.now.outputs) = c.len.ensures.number ∙ sym (tables_length T c.args.plan.now.outputs) in
     ap (λ (a : Result (List (ℕ × List ℕ)) Fault). by_workers c.args.workers a) (sym (tables_collected T c.args.plan.now.outputs))
     ∙ run_gives seen (output_answers T c.args.plan.now.outputs) c.len.result c.args.workers _ c.in_ok-run.ensures.workers c.in_ok-run.field-0.items c.in_ok-run.field-0 refl all c.in_ok-run.ensures.ok

@@ -8,5 +8,4 @@ abbrev pub invariant-loop-blocks : goal.invariant-loop-blocks
 invariant-loop-blocks g l = record {
   outputs : l.outputs.items ≡ numbered_from (table_size (index_keys g.C.Comparator.cmp g.C.Comparator.short_keys)) l.first_number l.yielded;
   number : l.number ≡ l.first_number + length l.yielded;
-  count : length l.outputs.items ≡ length l.yielded;
 }

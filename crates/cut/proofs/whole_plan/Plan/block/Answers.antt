@@ -10,7 +10,7 @@ use Rattle.cut.specs.PlannedBlocks.{block_lists}
 use Rattle.cut.specs.OutputPlan.{PlanSeen}
 use Rattle.cut.specs.Plan.{OutputView}
 use Rattle.cut.specs.PlanInvariant.{planned_of}
-use Rattle.cut.proofs.PlanPieces.{if_here, output_at}
+use Rattle.cut.proofs.PlanBlocks.{if_here, output_at}
 use Rattle.cut.proofs.whole_plan.Plan.block.Goals as goal
 
 pub returns : goal.returns
@@ -18,7 +18,7 @@ returns g c =
     let was = c.self.inside in
     let p : PlannedOutput = c.index-output.result.now in
     let lt : c.args.place < length was.outputs.items = omega (arith, subst (λ (s : PlanSeen). c.args.place < length s.outputs) (sym c.self.view_is) c.requires, length-map was.outputs.items planned_of) in
-    let planned = output_at g.C.Comparator.cmp g.C.Comparator.short_keys was.options was.outputs.items was.pieces.items was.counts.items c.args.place p c.self.invariant lt (sym c.index-output.ensures) in
+    let planned = output_at g.C.Comparator.cmp g.C.Comparator.short_keys was.options was.outputs.items was.ends.items c.args.place p c.self.invariant lt (sym c.index-output.ensures) in
     subst (λ (s : PlanSeen). IfSome (slice_get s.outputs c.args.place) (λ (q : OutputView). option_map (λ entries. entries.now.entries) c.entries_of.result ≡ slice_get (data_blocks s.options q.entries) c.args.block)) c.self.view_is
     (if_here (λ (q : OutputView). option_map (λ entries. entries.now.entries) c.entries_of.result ≡ slice_get (data_blocks was.options q.entries) c.args.block) was.outputs.items c.args.place p lt (sym c.index-output.ensures)
     (c.entries_of.ensures

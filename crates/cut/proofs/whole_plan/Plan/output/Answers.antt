@@ -8,7 +8,7 @@ use Rattle.cut.specs.OutputPlan.{PlanSeen}
 use Rattle.cut.specs.Plan.{OutputView, block_ends, block_ends_from}
 use Rattle.cut.specs.PlanInvariant.{planned_of}
 use Rattle.cut.proofs.BlockEnds.{output_holds}
-use Rattle.cut.proofs.PlanPieces.{if_here, output_at}
+use Rattle.cut.proofs.PlanBlocks.{if_here, output_at}
 use Rattle.cut.proofs.whole_plan.Plan.output.Goals as goal
 
 pub meta_of-requires-clause-some : goal.meta_of-requires-clause-some
@@ -16,7 +16,7 @@ meta_of-requires-clause-some g c =
     let was = c.self.inside in
     let p : PlannedOutput = c.index-output.result.now in
     let lt : c.args.place < length was.outputs.items = omega (arith, subst (λ (s : PlanSeen). c.args.place < length s.outputs) (sym c.self.view_is) c.requires, length-map was.outputs.items planned_of) in
-    let planned = output_at g.C.Comparator.cmp g.C.Comparator.short_keys was.options was.outputs.items was.pieces.items was.counts.items c.args.place p c.self.invariant lt (sym c.index-output.ensures) in
+    let planned = output_at g.C.Comparator.cmp g.C.Comparator.short_keys was.options was.outputs.items was.ends.items c.args.place p c.self.invariant lt (sym c.index-output.ensures) in
     planned.some
 
 pub meta_of-requires-clause-fits : goal.meta_of-requires-clause-fits
@@ -24,7 +24,7 @@ meta_of-requires-clause-fits g c =
     let was = c.self.inside in
     let p : PlannedOutput = c.index-output.result.now in
     let lt : c.args.place < length was.outputs.items = omega (arith, subst (λ (s : PlanSeen). c.args.place < length s.outputs) (sym c.self.view_is) c.requires, length-map was.outputs.items planned_of) in
-    let planned = output_at g.C.Comparator.cmp g.C.Comparator.short_keys was.options was.outputs.items was.pieces.items was.counts.items c.args.place p c.self.invariant lt (sym c.index-output.ensures) in
+    let planned = output_at g.C.Comparator.cmp g.C.Comparator.short_keys was.options was.outputs.items was.ends.items c.args.place p c.self.invariant lt (sym c.index-output.ensures) in
     output_holds g.C.Comparator.cmp g.C.Comparator.short_keys was.options p planned
 
 pub returns-clause-meta : goal.returns-clause-meta
@@ -40,7 +40,7 @@ returns-clause-ended g c =
     let was = c.self.inside in
     let p : PlannedOutput = c.index-output.result.now in
     let lt : c.args.place < length was.outputs.items = omega (arith, subst (λ (s : PlanSeen). c.args.place < length s.outputs) (sym c.self.view_is) c.requires, length-map was.outputs.items planned_of) in
-    let planned = output_at g.C.Comparator.cmp g.C.Comparator.short_keys was.options was.outputs.items was.pieces.items was.counts.items c.args.place p c.self.invariant lt (sym c.index-output.ensures) in
+    let planned = output_at g.C.Comparator.cmp g.C.Comparator.short_keys was.options was.outputs.items was.ends.items c.args.place p c.self.invariant lt (sym c.index-output.ensures) in
     subst (λ (s : PlanSeen). IfSome (slice_get s.outputs c.args.place) (λ (q : OutputView). q.blocks ≡ block_ends s.options q.entries)) c.self.view_is
     (if_here (λ (q : OutputView). q.blocks ≡ block_ends was.options q.entries) was.outputs.items c.args.place p lt (sym c.index-output.ensures)
     (ap (block_ends_from 0) planned.planned.cut))
@@ -50,7 +50,7 @@ returns-clause-sized g c =
     let was = c.self.inside in
     let p : PlannedOutput = c.index-output.result.now in
     let lt : c.args.place < length was.outputs.items = omega (arith, subst (λ (s : PlanSeen). c.args.place < length s.outputs) (sym c.self.view_is) c.requires, length-map was.outputs.items planned_of) in
-    let planned = output_at g.C.Comparator.cmp g.C.Comparator.short_keys was.options was.outputs.items was.pieces.items was.counts.items c.args.place p c.self.invariant lt (sym c.index-output.ensures) in
+    let planned = output_at g.C.Comparator.cmp g.C.Comparator.short_keys was.options was.outputs.items was.ends.items c.args.place p c.self.invariant lt (sym c.index-output.ensures) in
     subst (λ (s : PlanSeen). IfSome (slice_get s.outputs c.args.place) (λ (q : OutputView). q.length ≡ length (table g.C.Comparator.cmp g.C.Comparator.short_keys s.options q.entries))) c.self.view_is
     (if_here (λ (q : OutputView). q.length ≡ length (table g.C.Comparator.cmp g.C.Comparator.short_keys was.options q.entries)) was.outputs.items c.args.place p lt (sym c.index-output.ensures)
     planned.len_is)
@@ -60,5 +60,5 @@ returns-clause-fits g c =
     let was = c.self.inside in
     let p : PlannedOutput = c.index-output.result.now in
     let lt : c.args.place < length was.outputs.items = omega (arith, subst (λ (s : PlanSeen). c.args.place < length s.outputs) (sym c.self.view_is) c.requires, length-map was.outputs.items planned_of) in
-    let planned = output_at g.C.Comparator.cmp g.C.Comparator.short_keys was.options was.outputs.items was.pieces.items was.counts.items c.args.place p c.self.invariant lt (sym c.index-output.ensures) in
+    let planned = output_at g.C.Comparator.cmp g.C.Comparator.short_keys was.options was.outputs.items was.ends.items c.args.place p c.self.invariant lt (sym c.index-output.ensures) in
     omega (arith, c.meta_of.ensures.len, planned.len_le)

@@ -11,8 +11,8 @@ use Rattle.cut.specs.declared.planned_output.PlannedOutput.{PlannedOutput}
 use Rattle.cut.specs.OutputPlan.{PlanSeen}
 use Rattle.cut.specs.Plan.{plan_tables}
 use Rattle.cut.specs.PlanInvariant.{planned_of}
-use Rattle.cut.proofs.PlanPieces.{block_short, output_at}
-use Rattle.cut.proofs.ReadyPieces.{one_fits, one_planned, table_here}
+use Rattle.cut.proofs.PlanBlocks.{block_short, output_at}
+use Rattle.cut.proofs.ReadyTables.{one_fits, one_planned, table_here}
 use Rattle.cut.proofs.whole_plan.Plan.table.Goals as goal
 
 pub whole_table-requires-clause-short : goal.whole_table-requires-clause-short
@@ -21,7 +21,7 @@ whole_table-requires-clause-short g c =
     let p : PlannedOutput = c.index-output.result.now in
     let IsShortBlock : PlannedBlock → Type 0 = λ b. length (block was.options.restart_interval b.entries.entries) ≤ 2147483648 in
     let lt : c.args.place < length was.outputs.items = omega (arith, subst (λ (s : PlanSeen). c.args.place < length s.outputs) (sym c.self.view_is) c.requires, length-map was.outputs.items planned_of) in
-    let planned = output_at g.C.Comparator.cmp g.C.Comparator.short_keys was.options was.outputs.items was.pieces.items was.counts.items c.args.place p c.self.invariant lt (sym c.index-output.ensures) in
+    let planned = output_at g.C.Comparator.cmp g.C.Comparator.short_keys was.options was.outputs.items was.ends.items c.args.place p c.self.invariant lt (sym c.index-output.ensures) in
     subst (AllByRecursion IsShortBlock) (sym c.deref.ensures.value) (block_short g.C.Comparator.cmp g.C.Comparator.short_keys was.options p planned)
 
 pub whole_table-requires-clause-planned : goal.whole_table-requires-clause-planned
@@ -29,7 +29,7 @@ whole_table-requires-clause-planned g c =
     let was = c.self.inside in
     let p : PlannedOutput = c.index-output.result.now in
     let lt : c.args.place < length was.outputs.items = omega (arith, subst (λ (s : PlanSeen). c.args.place < length s.outputs) (sym c.self.view_is) c.requires, length-map was.outputs.items planned_of) in
-    let planned = output_at g.C.Comparator.cmp g.C.Comparator.short_keys was.options was.outputs.items was.pieces.items was.counts.items c.args.place p c.self.invariant lt (sym c.index-output.ensures) in
+    let planned = output_at g.C.Comparator.cmp g.C.Comparator.short_keys was.options was.outputs.items was.ends.items c.args.place p c.self.invariant lt (sym c.index-output.ensures) in
     subst (AllByRecursion (IsPlanned was.options.restart_interval)) (sym c.deref.ensures.value) (one_planned g.C.Comparator.cmp g.C.Comparator.short_keys was.options p planned)
 
 pub whole_table-requires-clause-fits : goal.whole_table-requires-clause-fits
@@ -38,7 +38,7 @@ whole_table-requires-clause-fits g c =
     let p : PlannedOutput = c.index-output.result.now in
     let keys : IndexKeys = index_keys g.C.Comparator.cmp g.C.Comparator.short_keys in
     let lt : c.args.place < length was.outputs.items = omega (arith, subst (λ (s : PlanSeen). c.args.place < length s.outputs) (sym c.self.view_is) c.requires, length-map was.outputs.items planned_of) in
-    let planned = output_at g.C.Comparator.cmp g.C.Comparator.short_keys was.options was.outputs.items was.pieces.items was.counts.items c.args.place p c.self.invariant lt (sym c.index-output.ensures) in
+    let planned = output_at g.C.Comparator.cmp g.C.Comparator.short_keys was.options was.outputs.items was.ends.items c.args.place p c.self.invariant lt (sym c.index-output.ensures) in
     subst (λ (bs : List PlannedBlock). length (table_of_blocks keys was.options.restart_interval (block_lists bs)) ≤ 2 ^ 30) (sym c.deref.ensures.value) (one_fits g.C.Comparator.cmp g.C.Comparator.short_keys was.options p planned)
 
 pub returns-clause-table : goal.returns-clause-table
@@ -47,7 +47,7 @@ returns-clause-table g c =
     let p : PlannedOutput = c.index-output.result.now in
     let keys : IndexKeys = index_keys g.C.Comparator.cmp g.C.Comparator.short_keys in
     let lt : c.args.place < length was.outputs.items = omega (arith, subst (λ (s : PlanSeen). c.args.place < length s.outputs) (sym c.self.view_is) c.requires, length-map was.outputs.items planned_of) in
-    let planned = output_at g.C.Comparator.cmp g.C.Comparator.short_keys was.options was.outputs.items was.pieces.items was.counts.items c.args.place p c.self.invariant lt (sym c.index-output.ensures) in
+    let planned = output_at g.C.Comparator.cmp g.C.Comparator.short_keys was.options was.outputs.items was.ends.items c.args.place p c.self.invariant lt (sym c.index-output.ensures) in
     let bytes : c.in_ok-bytes.bytes.items ≡ table_of_blocks keys was.options.restart_interval (block_lists p.blocks.items) =
     sym (same_ok _ _ c.in_ok-bytes.ensures) ∙ ap (λ (bs : List PlannedBlock). table_of_blocks keys was.options.restart_interval (block_lists bs)) c.deref.ensures.value in
     subst (λ (s : PlanSeen). slice_get (plan_tables (table g.C.Comparator.cmp g.C.Comparator.short_keys s.options) s.outputs) c.args.place ≡ Some (p.number, c.in_ok-bytes.bytes.items)) c.self.view_is

@@ -20,19 +20,19 @@ use table::{TRAILER_LEN, Trailer};
 /// the block has at most 2^31 bytes.
 pub(crate) fn encode_block(
     alloc: Global,
-    block: &PlannedBlock<'_, '_>,
+    planned: &PlannedBlock<'_, '_>,
     interval: u64,
 ) -> Result<Vec<u8>, Fault>
     requires positive { 1 ≤ interval }
     requires limited { interval ≤ MAX_RESTART_INTERVAL }
-    requires fits { length (block interval block.now.entries.entries) ≤ MAX_BLOCK_LEN }
+    requires fits { length (block interval planned.now.entries.entries) ≤ MAX_BLOCK_LEN }
     ensures { EqualOrMemory (λ v. v.items) result
-        (Ok (stored_block (block interval block.now.entries.entries))) }
+        (Ok (stored_block (block interval planned.now.entries.entries))) }
 {
-    let room = block.len.saturating_add(TRAILER_LEN as u64);
+    let room = planned.len.saturating_add(TRAILER_LEN as u64);
     let mut out = Vec::with_capacity(alloc, room as usize)?;
     let mut restarts = Vec::new(alloc);
-    push_stored(&mut out, &mut restarts, block, interval)?;
+    push_stored(&mut out, &mut restarts, planned, interval)?;
     Ok(out)
 }
 

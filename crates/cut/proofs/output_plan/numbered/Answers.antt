@@ -12,17 +12,17 @@ use Rattle.cut.specs.TableLength.{table_size}
 use Rattle.cut.proofs.PlanBlocks.{at}
 use Rattle.cut.proofs.Planned.{numbered_push}
 use Rattle.cut.proofs.output_plan.numbered.Goals as goal
-use Rattle.cut.proofs.output_plan.numbered.Goals.{After-deref-in-loop-blocks}
+use Rattle.cut.proofs.output_plan.numbered.Goals.{After-deref}
 
 -- the output of this turn is the next
-turn : (g : _) (c : After-deref-in-loop-blocks g) → (length c.loop-blocks.yielded < length c.args.ended.items) × (c.in-Some.blocks ≡ get_or c.args.ended.items (length c.loop-blocks.yielded) c.in-Some.blocks)
+turn : (g : _) (c : After-deref g) → (length c.loop-blocks.yielded < length c.args.ended.items) × (c.in-Some.blocks ≡ get_or c.args.ended.items (length c.loop-blocks.yielded) c.in-Some.blocks)
 turn g c =
     let all : c.into_iter-blocks-iterator.result.rest.items ≡ c.args.ended.items = cc in
     let len : c.into_iter-blocks-iterator.result.rest.len ≡ length c.args.ended.items = omega (arith, ap (λ (l : List (Vec PlannedBlock)). length l) all) in
     YieldsList-turn (YieldsList-from_vec c.args.ended.items all len) c.loop-blocks.yielded c.loop-blocks.blocks-iterator c.loop-blocks.yielded_by c.next.result c.next.new.self c.in-Some.blocks c.in-Some.is c.next.ensures.steps
 
 -- it has entries
-have : (g : _) (c : After-deref-in-loop-blocks g) → HaveEntries c.deref.result.now
+have : (g : _) (c : After-deref g) → HaveEntries c.deref.result.now
 have g c =
     let t = turn g c in
     subst HaveEntries (sym c.deref.ensures.value)

@@ -15,7 +15,7 @@ use Rattle.cut.proofs.Whole.{some_segments}
 use Rattle.cut.proofs.output_plan.plan.Goals as goal
 
 pub numbered-requires-clause-some : goal.numbered-requires-clause-some
-numbered-requires-clause-some g c κs within =
+numbered-requires-clause-some g c =
     let o = c.args.options in
     let run : Run = joined_run c.args.runs.now in
     let some : AllByRecursion (λ q. q ≢ []) (outputs_of c.args.grandparents.now o run) = some_segments o 0 (stops c.args.grandparents.now o.file_size run.marks) run.kept in

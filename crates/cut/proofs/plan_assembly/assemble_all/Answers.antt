@@ -27,7 +27,7 @@ close_table-requires-clause-stored g c =
     let bytes_of : Vec ℕ → List ℕ = λ v. v.items in
     let old : List (Vec ℕ) = into_iter_items c.loop-output.rest in
     let lt : c.loop-output.output-index < length c.args.outputs.now = omega (arith, c.loop-output-test.true) in
-    let count : c.len-in-loop-output.result ≡ length p.blocks.items = omega (arith, c.len-in-loop-output.ensures) in
+    let count : c.len.result ≡ length p.blocks.items = omega (arith, c.len.ensures) in
     c.in_ok-stored.ensures.joined
     ∙ ap (λ (n : ℕ). flat_map bytes_of (take n old)) count
     ∙ front_bytes bytes_of c.args.interval c.args.outputs.now c.loop-output.output-index p old lt (sym c.output-item.is) c.loop-output.invariant.left
@@ -48,7 +48,7 @@ loop-output-preserved g c =
     let bytes_of : Vec ℕ → List ℕ = λ v. v.items in
     let old : List (Vec ℕ) = into_iter_items c.loop-output.rest in
     let lt : c.loop-output.output-index < length c.args.outputs.now = omega (arith, c.loop-output-test.true) in
-    let count : c.len-in-loop-output.result ≡ length p.blocks.items = omega (arith, c.len-in-loop-output.ensures) in
+    let count : c.len.result ≡ length p.blocks.items = omega (arith, c.len.ensures) in
     let seen : ℕ × Vec ℕ → ℕ × List ℕ = λ t. (t.0, t.1.items) in
     let table : PlannedOutput → ℕ × List ℕ = λ x. (x.number, table_of_blocks keys c.args.interval (block_lists x.blocks.items)) in
     let before : List PlannedOutput = take c.loop-output.output-index c.args.outputs.now in

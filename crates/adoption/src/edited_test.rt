@@ -12,12 +12,12 @@ ghost use Rattle.adoption.specs.Overlay.{names_of};
 
 use crate::overlay::{Overlay, names_of};
 use crate::refusals::Refusals;
-use checks::{VersionTotals, Watch, checkers, test_version};
+use board::Workers;
+use checks::{VersionTotals, Watch, test_version};
 use coding::Fault;
 use edit::Version;
 use folder::Folder;
 use ikey::SharedComparator;
-use std::alloc::Global;
 use std::thread::Threads;
 
 /// The folder in which a version was tested, and the answer.
@@ -35,13 +35,11 @@ pub(crate) fn test_edited<
     W: Watch + Sync,
     R: Threads + Sync,
 >(
-    rt: &R,
-    alloc: Global,
+    workers: &Workers<'_, R, W>,
     folder: F,
     next: &Version,
     tables: &[(u64, Vec<u8>)],
     memory: u64,
-    watch: &W,
 ) -> TestEnd<F>
     ensures answer { (files : Files) → Tells (F.tells folder) files →
         FolderAnswers (λ tested. tested) (F.failed folder) (F.failed result.folder)
@@ -50,10 +48,9 @@ pub(crate) fn test_edited<
     ensures device { ReportsDevice F.Folder folder result.folder result.answer }
     ensures reads { OnlyReads F.Folder folder result.folder }
 {
+    let alloc = workers.alloc();
     match names_of(alloc, tables) {
-        Ok(names) => test_named::<C, F, W, R>(
-            rt, alloc, folder, next, tables, names, memory, watch,
-        ),
+        Ok(names) => test_named::<C, F, W, R>(workers, folder, next, tables, names, memory),
         Err(fault) => TestEnd {
             folder,
             answer: Err(fault),
@@ -63,14 +60,12 @@ pub(crate) fn test_edited<
 
 /// The same with the names of the tables.
 fn test_named<C: SharedComparator + 'static, F: Folder + Drop, W: Watch + Sync, R: Threads + Sync>(
-    rt: &R,
-    alloc: Global,
+    workers: &Workers<'_, R, W>,
     folder: F,
     next: &Version,
     tables: &[(u64, Vec<u8>)],
     names: Vec<String>,
     memory: u64,
-    watch: &W,
 ) -> TestEnd<F>
     requires { map string_bytes names.items ≡ names_of (tables_in tables.now) }
     ensures answer { (files : Files) → Tells (F.tells folder) files →
@@ -80,6 +75,7 @@ fn test_named<C: SharedComparator + 'static, F: Folder + Drop, W: Watch + Sync, 
     ensures device { ReportsDevice F.Folder folder result.folder result.answer }
     ensures reads { OnlyReads F.Folder folder result.folder }
 {
+    let alloc = workers.alloc();
     let mut overlay = Overlay {
         alloc,
         folder,
@@ -87,8 +83,7 @@ fn test_named<C: SharedComparator + 'static, F: Folder + Drop, W: Watch + Sync, 
         names,
         refusals: Refusals::none(),
     };
-    let workers = checkers(rt, alloc, watch);
-    let answer = test_version::<C, Overlay<'_, F>, W, R>(&workers, &mut overlay, next, memory);
+    let answer = test_version::<C, Overlay<'_, F>, W, R>(workers, &mut overlay, next, memory);
     TestEnd {
         folder: overlay.folder,
         answer,

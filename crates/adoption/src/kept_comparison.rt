@@ -15,6 +15,7 @@ ghost use Rattle.adoption.specs.AdoptionIn.{adoption_of, given_in};
 use crate::comparison::Comparison;
 use crate::given_outcome::GivenOutcome;
 use crate::kept_entries::holds_kept;
+use board::Workers;
 use checks::{Watch, Work};
 use coding::{Fault, FaultName};
 use compact::{Request, passed_law};
@@ -41,12 +42,10 @@ pub(crate) fn test_outputs<
     W: Watch + Sync,
     R: Threads + Sync,
 >(
-    rt: &R,
-    alloc: Global,
+    workers: &Workers<'_, R, W>,
     folder: &mut F,
     given: &GivenOutcome,
     comparison: Comparison<'_>,
-    watch: &W,
 ) -> Result<(), Fault>
     requires lengths { length given.now.outcome.tables.items ≡ length given.now.outputs.items }
     ensures answer { (files : Files) → Tells (F.tells folder.old) files →
@@ -56,11 +55,11 @@ pub(crate) fn test_outputs<
     ensures reads { OnlyReads F.Folder folder.old folder.new }
 {
     let loaded = given.outcome.tables.as_slice();
-    watch.begin(Work::Check, loaded.len() as u64);
-    let outputs = checked_inputs::<C, W, R>(rt, alloc, &given.outputs, loaded, watch)?;
+    workers.gate().begin(Work::Check, loaded.len() as u64);
+    let outputs = checked_inputs::<C, W, R>(workers, &given.outputs, loaded)?;
     match comparison {
         Comparison::With(snapshots) => {
-            compare_outputs::<C, F, W, R>(rt, alloc, folder, given, snapshots, &outputs, watch)
+            compare_outputs::<C, F, W, R>(workers, folder, given, snapshots, &outputs)
         }
         Comparison::LeftOut => Ok(()),
     }
@@ -78,13 +77,11 @@ pub(crate) fn test_outputs<
 /// - Snapshot or SnapshotList: of the snapshots;
 /// - Lawless: the outputs hold something else.
 fn compare_outputs<C: SharedComparator + 'static, F: Folder, W: Watch + Sync, R: Threads + Sync>(
-    rt: &R,
-    alloc: Global,
+    workers: &Workers<'_, R, W>,
     folder: &mut F,
     given: &GivenOutcome,
     snapshots: Snapshots<'_>,
     outputs: &[SoundTable<'_, C>],
-    watch: &W,
 ) -> Result<(), Fault>
     ensures answer { (files : Files) → Tells (F.tells folder.old) files →
         FolderAnswers (λ u. u) (F.failed folder.old) (F.failed folder.new) result
@@ -92,38 +89,29 @@ fn compare_outputs<C: SharedComparator + 'static, F: Folder, W: Watch + Sync, R:
     ensures device { ReportsDevice F.Folder folder.old folder.new result }
     ensures reads { OnlyReads F.Folder folder.old folder.new }
 {
+    let alloc = workers.alloc();
     let picked = &given.picked;
     let last_sequence = given.last_sequence;
     let loaded = load_inputs(alloc, folder, &picked.files)?;
-    compare_loaded::<C, W, R>(
-        rt,
-        alloc,
-        picked,
-        &loaded,
-        snapshots,
-        last_sequence,
-        outputs,
-        watch,
-    )
+    compare_loaded::<C, W, R>(workers, picked, &loaded, snapshots, last_sequence, outputs)
 }
 
 /// The same, with the inputs' tables `loaded`. Refused as there; the only other fault is Memory.
 fn compare_loaded<C: SharedComparator + 'static, W: Watch + Sync, R: Threads + Sync>(
-    rt: &R,
-    alloc: Global,
+    workers: &Workers<'_, R, W>,
     picked: &Inputs,
     loaded: &[(u64, Vec<u8>)],
     snapshots: Snapshots<'_>,
     last_sequence: u64,
     outputs: &[SoundTable<'_, C>],
-    watch: &W,
 ) -> Result<(), Fault>
     requires lengths { length loaded.now ≡ length picked.now.files.items }
     ensures { HoldsOrMemory (λ u. u) result (IsInputsCompared C.cmp (picked_in picked.now)
         snapshots.entry last_sequence outputs.now (tables_in loaded.now)) }
 {
-    watch.begin(Work::Check, loaded.len() as u64);
-    let inputs = checked_inputs::<C, W, R>(rt, alloc, &picked.files, loaded, watch)?;
+    let alloc = workers.alloc();
+    workers.gate().begin(Work::Check, loaded.len() as u64);
+    let inputs = checked_inputs::<C, W, R>(workers, &picked.files, loaded)?;
     compare_tables(alloc, picked, snapshots, last_sequence, &inputs, outputs)
 }
 

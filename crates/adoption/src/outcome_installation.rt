@@ -28,6 +28,7 @@ use crate::comparison::Comparison;
 use crate::edited_test::test_edited;
 use crate::given_outcome::{GivenOutcome, given_outcome};
 use crate::kept_comparison::test_outputs;
+use board::Workers;
 use checks::Watch;
 use coding::Fault;
 use compact::gets_after;
@@ -78,17 +79,15 @@ use store::{CompactionStep, manifest_of, outcome_step};
 /// or as the edited one, and has to be opened again. After Changed CURRENT stays as it is, and what
 /// was written stays too. After any other refusal the folder holds what it held.
 ///
-/// The work is told to `watch`, which is `&Open` if nobody watches. The test of the edited version
+/// The work is told to the gate of `workers`, which is `&Open` if nobody watches. The test of the edited version
 /// holds at most `memory` bytes of tables, as `checks::test_version` does.
 pub fn install_outcome<F: Folder + Drop, G: Folder, W: Watch + Sync, R: Threads + Sync>(
-    rt: &R,
-    alloc: Global,
+    workers: &Workers<'_, R, W>,
     folder: F,
     source: &mut G,
     opened: &Opened,
     comparison: Comparison<'_>,
     memory: u64,
-    watch: &W,
 ) -> AdoptionEnd<F>
     // If both folders tell files, and CURRENT is the one that was opened.
     ensures answer { (files given : Files) → Tells (F.tells folder) files →
@@ -118,10 +117,10 @@ pub fn install_outcome<F: Folder + Drop, G: Folder, W: Watch + Sync, R: Threads 
 {
     match opened.order {
         Order::Bytewise => install_from::<Bytewise, F, G, W, R>(
-            rt, alloc, folder, source, opened, comparison, memory, watch,
+            workers, folder, source, opened, comparison, memory,
         ),
         Order::Shortlex => install_from::<Shortlex, F, G, W, R>(
-            rt, alloc, folder, source, opened, comparison, memory, watch,
+            workers, folder, source, opened, comparison, memory,
         ),
     }
 }
@@ -134,14 +133,12 @@ fn install_from<
     W: Watch + Sync,
     R: Threads + Sync,
 >(
-    rt: &R,
-    alloc: Global,
+    workers: &Workers<'_, R, W>,
     folder: F,
     source: &mut G,
     opened: &Opened,
     comparison: Comparison<'_>,
     memory: u64,
-    watch: &W,
 ) -> AdoptionEnd<F>
     requires { length C.name_bytes < 2 ^ 32 }
     ensures answer { (files given : Files) → Tells (F.tells folder) files →
@@ -165,9 +162,10 @@ fn install_from<
         source.new result.answer }
     ensures reads { OnlyReads G.Folder source.old source.new }
 {
+    let alloc = workers.alloc();
     match given_outcome::<C, G>(alloc, source, &opened.version) {
         Ok(given) => install_given::<C, F, W, R>(
-            rt, alloc, folder, opened, &given, comparison, memory, watch,
+            workers, folder, opened, &given, comparison, memory,
         ),
         Err(fault) => AdoptionEnd {
             folder,
@@ -184,14 +182,12 @@ fn install_given<
     W: Watch + Sync,
     R: Threads + Sync,
 >(
-    rt: &R,
-    alloc: Global,
+    workers: &Workers<'_, R, W>,
     folder: F,
     opened: &Opened,
     given: &GivenOutcome,
     comparison: Comparison<'_>,
     memory: u64,
-    watch: &W,
 ) -> AdoptionEnd<F>
     requires name { length C.name_bytes < 2 ^ 32 }
     requires adopted { IsAdopted C.cmp opened.now.version (given_in given.now) }
@@ -213,8 +209,8 @@ fn install_given<
 {
     gets_after::<C>();
     let mut folder = folder;
-    match test_outputs::<C, F, W, R>(rt, alloc, &mut folder, given, comparison, watch) {
-        Ok(()) => install_tested::<C, F, W, R>(rt, alloc, folder, opened, given, memory, watch),
+    match test_outputs::<C, F, W, R>(workers, &mut folder, given, comparison) {
+        Ok(()) => install_tested::<C, F, W, R>(workers, folder, opened, given, memory),
         Err(fault) => AdoptionEnd {
             folder,
             answer: Err(fault),
@@ -229,13 +225,11 @@ fn install_tested<
     W: Watch + Sync,
     R: Threads + Sync,
 >(
-    rt: &R,
-    alloc: Global,
+    workers: &Workers<'_, R, W>,
     folder: F,
     opened: &Opened,
     given: &GivenOutcome,
     memory: u64,
-    watch: &W,
 ) -> AdoptionEnd<F>
     requires name { length C.name_bytes < 2 ^ 32 }
     requires adopted { IsAdopted C.cmp opened.now.version (given_in given.now) }
@@ -255,13 +249,20 @@ fn install_tested<
     ensures other { IsOkOnlyIfCurrent (F.tells folder) opened.now.manifest result.answer }
     ensures device { ReportsDevice F.Folder folder result.folder result.answer }
 {
+    let alloc = workers.alloc();
     let next = &given.next;
     let tables = given.outcome.tables.as_slice();
-    let end = test_edited::<C, F, W, R>(rt, alloc, folder, next, tables, memory, watch);
+    let end = test_edited::<C, F, W, R>(workers, folder, next, tables, memory);
     match end.answer {
         Ok(_) => {
             let mut folder = end.folder;
-            let answer = install_adopted::<C, F, R>(rt, alloc, &mut folder, opened, given);
+            let answer = install_adopted::<C, F, R>(
+                workers.threads(),
+                alloc,
+                &mut folder,
+                opened,
+                given,
+            );
             AdoptionEnd { folder, answer }
         }
         Err(fault) => AdoptionEnd {

@@ -84,6 +84,11 @@ impl<'r, R, G> Workers<'r, R, G> {
         self.alloc
     }
 
+    /// What starts their threads.
+    pub fn threads(&self) -> &'r R {
+        self.rt
+    }
+
     /// The gate that they call around each job.
     pub fn gate(&self) -> &'r G {
         self.gate

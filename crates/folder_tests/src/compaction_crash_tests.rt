@@ -9,7 +9,7 @@ use ikey::Bytewise;
 use std::alloc::Global;
 use std::test::*;
 use std::thread::Threads;
-use store::{Open, Settings, compact_dir};
+use store::{Open, Settings, checkers, compact_dir};
 
 /// `log: comparator leveldb.BytewiseComparator, log 3, previous 0, next 9, last 4, file 1 7 114 a@1
 /// put .. a@1 put`
@@ -103,7 +103,13 @@ fn compact_level<R: Threads + Sync>(
     shelf: &mut Shelf<'_>,
     level: u64,
 ) -> Result<(), Fault> {
-    compact_dir(rt, alloc, shelf, level, &Settings::default(), MEMORY, &Open)?;
+    compact_dir(
+        &checkers(rt, alloc, &Open),
+        shelf,
+        level,
+        &Settings::default(),
+        MEMORY,
+    )?;
     Ok(())
 }
 

@@ -29,7 +29,8 @@ use crate::input_compaction::compact_inputs;
 use crate::install_laws::inputs_suffice;
 use crate::install_watch::InstallWatch;
 use crate::next_opened::opened_after;
-use checks::{VersionTotals, Watch, checkers, test_version};
+use board::Workers;
+use checks::{VersionTotals, Watch, test_version};
 use coding::{Fault, FaultName};
 use compact::Settings;
 use edit::Version;
@@ -47,13 +48,11 @@ pub fn compact_all<
     W: Watch + Sync,
     R: Threads + Sync,
 >(
-    rt: &R,
-    alloc: Global,
+    workers: &Workers<'_, R, W>,
     folder: &mut F,
     opened: Opened,
     settings: &Settings<'_>,
     memory: u64,
-    watch: &W,
     told: &mut T,
 ) -> Result<DescentEnd, Fault>
     // If the folder tells files that open as this version in this order, and CURRENT is the one
@@ -75,11 +74,12 @@ pub fn compact_all<
         (F.calls folder.old) (F.calls folder.new) (told.old) (told.new) result }
     ensures device { ReportsDevice F.Folder folder.old folder.new result }
 {
+    let alloc = workers.alloc();
     if is_at_bottom(alloc, &opened.version)? {
         return Ok(DescentEnd::AtBottom);
     }
-    test_opened(rt, alloc, folder, &opened, memory, watch)?;
-    compact_levels(rt, alloc, folder, opened, settings, watch, told)
+    test_opened(workers, folder, &opened, memory)?;
+    compact_levels(workers, folder, opened, settings, told)
 }
 
 /// Compacts the first level of what a folder was `opened` as that has a file, and so on with what
@@ -94,12 +94,10 @@ pub fn compact_levels<
     W: Watch + Sync,
     R: Threads + Sync,
 >(
-    rt: &R,
-    alloc: Global,
+    workers: &Workers<'_, R, W>,
     folder: &mut F,
     opened: Opened,
     settings: &Settings<'_>,
-    watch: &W,
     told: &mut T,
 ) -> Result<DescentEnd, Fault>
     // If the folder tells files that read as this version, lawful with its tables, and CURRENT is
@@ -120,13 +118,14 @@ pub fn compact_levels<
         (F.calls folder.old) (F.calls folder.new) (told.old) (told.new) result }
     ensures device { ReportsDevice F.Folder folder.old folder.new result }
 {
+    let alloc = workers.alloc();
     let bottom = bottom(alloc, &opened.version)?;
     let mut opened = opened;
     for _step in 0..u64::MAX {
         let Some(level) = next_level(alloc, &opened.version, bottom)? else {
             return Ok(DescentEnd::AtBottom);
         };
-        let Some(next) = take_step(rt, alloc, folder, &opened, level, settings, watch, told)? else {
+        let Some(next) = take_step(workers, folder, &opened, level, settings, told)? else {
             return Ok(DescentEnd::Stopped);
         };
         opened = next;
@@ -137,13 +136,11 @@ pub fn compact_levels<
 /// Compacts a `level` of what a folder was `opened` as, and tells of it. What the folder is opened
 /// as after it, if it is to go on.
 fn take_step<F: ReadsTables + WritesTables, T: InstallWatch, W: Watch + Sync, R: Threads + Sync>(
-    rt: &R,
-    alloc: Global,
+    workers: &Workers<'_, R, W>,
     folder: &mut F,
     opened: &Opened,
     level: u64,
     settings: &Settings<'_>,
-    watch: &W,
     told: &mut T,
 ) -> Result<Option<Opened>, Fault>
     ensures left { (files : Files) (loaded : List (ℕ × List ℕ)) (tables : List NumberedContents) →
@@ -161,9 +158,10 @@ fn take_step<F: ReadsTables + WritesTables, T: InstallWatch, W: Watch + Sync, R:
         (F.calls folder.old) (F.calls folder.new) (told.old) (told.new) result }
     ensures device { ReportsDevice F.Folder folder.old folder.new result }
 {
+    let alloc = workers.alloc();
     inputs_suffice::<Bytewise>();
     inputs_suffice::<Shortlex>();
-    let step = compact_inputs(rt, alloc, folder, opened, level, settings, watch)?;
+    let step = compact_inputs(workers, folder, opened, level, settings)?;
     tell_step(alloc, opened, level, &step, told)
 }
 
@@ -213,12 +211,10 @@ fn is_at_bottom(alloc: Global, version: &Version) -> Result<bool, Fault>
 
 /// Tests the version that a folder was `opened` as. It only reads.
 fn test_opened<F: ReadsTables, W: Watch + Sync, R: Threads + Sync>(
-    rt: &R,
-    alloc: Global,
+    workers: &Workers<'_, R, W>,
     folder: &mut F,
     opened: &Opened,
     memory: u64,
-    watch: &W,
 ) -> Result<VersionTotals, Fault>
     ensures answer { (files : Files) → Tells (F.tells folder.old) files →
         FolderAnswers (λ tested. tested) (F.failed folder.old) (F.failed folder.new) result
@@ -226,10 +222,9 @@ fn test_opened<F: ReadsTables, W: Watch + Sync, R: Threads + Sync>(
     ensures device { ReportsDevice F.Folder folder.old folder.new result }
     ensures reads { OnlyReads F.Folder folder.old folder.new }
 {
-    let workers = checkers(rt, alloc, watch);
     let version = &opened.version;
     match opened.order {
-        Order::Bytewise => test_version::<Bytewise, F, W, R>(&workers, folder, version, memory),
-        Order::Shortlex => test_version::<Shortlex, F, W, R>(&workers, folder, version, memory),
+        Order::Bytewise => test_version::<Bytewise, F, W, R>(workers, folder, version, memory),
+        Order::Shortlex => test_version::<Shortlex, F, W, R>(workers, folder, version, memory),
     }
 }

@@ -18,12 +18,12 @@ use crate::compaction_step::CompactionStep;
 use crate::input_compaction::compact_step;
 use crate::install_laws::inputs_suffice;
 use crate::version_sync::sync_version;
-use checks::{Watch, checkers, test_and_hold};
+use board::Workers;
+use checks::{Watch, test_and_hold};
 use coding::Fault;
 use compact::Settings;
 use folder::{Opened, Order, ReadsTables, WritesTables, open};
 use ikey::{Bytewise, SharedComparator, Shortlex};
-use std::alloc::Global;
 use std::thread::Threads;
 
 /// Compacts a `level` of the version that a folder holds, and installs the outcome. The answer says
@@ -55,15 +55,14 @@ use std::thread::Threads;
 /// and has to be opened again. After Changed CURRENT stays as it is, and the tables and the
 /// manifest that were written stay too. After any other refusal the folder holds what it held.
 ///
-/// The work is told to `watch`, which is `&Open` if nobody watches. It doesn't change the answer.
+/// The work is told to the gate of `workers`, which is `&Open` if nobody watches.
+/// It doesn't change the answer.
 pub fn compact_dir<F: ReadsTables + WritesTables, W: Watch + Sync, R: Threads + Sync>(
-    rt: &R,
-    alloc: Global,
+    workers: &Workers<'_, R, W>,
     folder: &mut F,
     level: u64,
     settings: &Settings<'_>,
     memory: u64,
-    watch: &W,
 ) -> Result<CompactionStep, Fault>
     // If the folder tells these files: the step, or the first refusal in this order.
     ensures answer { (files : Files) → Tells (F.tells folder.old) files →
@@ -81,9 +80,10 @@ pub fn compact_dir<F: ReadsTables + WritesTables, W: Watch + Sync, R: Threads + 
         (F.tells folder.old) (F.tells folder.new) result }
     ensures device { ReportsDevice F.Folder folder.old folder.new result }
 {
+    let alloc = workers.alloc();
     let opened = open(alloc, folder)?;
     sync_version(alloc, folder, &opened)?;
-    compact_opened(rt, alloc, folder, &opened, level, settings, memory, watch)
+    compact_opened(workers, folder, &opened, level, settings, memory)
 }
 
 /// Compacts a `level` of what a folder was `opened` as, and installs the outcome: what
@@ -93,14 +93,12 @@ pub fn compact_dir<F: ReadsTables + WritesTables, W: Watch + Sync, R: Threads + 
 /// All tables are tested first. Then it does what [`compact_inputs`](crate::compact_inputs) does;
 /// the tables of inputs that the test still holds are not read again.
 pub fn compact_opened<F: ReadsTables + WritesTables, W: Watch + Sync, R: Threads + Sync>(
-    rt: &R,
-    alloc: Global,
+    workers: &Workers<'_, R, W>,
     folder: &mut F,
     opened: &Opened,
     level: u64,
     settings: &Settings<'_>,
     memory: u64,
-    watch: &W,
 ) -> Result<CompactionStep, Fault>
     // If the folder tells files, and CURRENT is the one that was opened.
     ensures answer { IfCurrent (F.tells folder.old) opened.now.manifest (λ files.
@@ -125,14 +123,10 @@ pub fn compact_opened<F: ReadsTables + WritesTables, W: Watch + Sync, R: Threads
 {
     match opened.order {
         Order::Bytewise => {
-            compact_version::<Bytewise, F, W, R>(
-                rt, alloc, folder, opened, level, settings, memory, watch,
-            )
+            compact_version::<Bytewise, F, W, R>(workers, folder, opened, level, settings, memory)
         }
         Order::Shortlex => {
-            compact_version::<Shortlex, F, W, R>(
-                rt, alloc, folder, opened, level, settings, memory, watch,
-            )
+            compact_version::<Shortlex, F, W, R>(workers, folder, opened, level, settings, memory)
         }
     }
 }
@@ -145,14 +139,12 @@ fn compact_version<
     W: Watch + Sync,
     R: Threads + Sync,
 >(
-    rt: &R,
-    alloc: Global,
+    workers: &Workers<'_, R, W>,
     folder: &mut F,
     opened: &Opened,
     level: u64,
     settings: &Settings<'_>,
     memory: u64,
-    watch: &W,
 ) -> Result<CompactionStep, Fault>
     requires { length C.name_bytes < 2 ^ 32 }
     ensures answer { IfCurrent (F.tells folder.old) opened.now.manifest (λ files.
@@ -172,16 +164,6 @@ fn compact_version<
 {
     inputs_suffice::<C>();
     let version = &opened.version;
-    let workers = checkers(rt, alloc, watch);
-    let found = test_and_hold::<C, F, W, R>(&workers, folder, version, memory)?;
-    compact_step::<C, F, W, R>(
-        rt,
-        alloc,
-        folder,
-        found.tables,
-        opened,
-        level,
-        settings,
-        watch,
-    )
+    let found = test_and_hold::<C, F, W, R>(workers, folder, version, memory)?;
+    compact_step::<C, F, W, R>(workers, folder, found.tables, opened, level, settings)
 }

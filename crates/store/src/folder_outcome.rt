@@ -21,13 +21,13 @@ use crate::answered_steps::level_answer;
 use crate::compaction_outcome::CompactionOutcome;
 use crate::input_laws::outcome_suffices;
 use crate::level_compaction::level_outcome;
-use checks::{HeldTables, Watch, checkers, test_and_hold};
+use board::Workers;
+use checks::{HeldTables, Watch, test_and_hold};
 use coding::Fault;
 use compact::Settings;
 use edit::Version;
 use folder::{Opened, Order, ReadsTables};
 use ikey::{Bytewise, SharedComparator, Shortlex};
-use std::alloc::Global;
 use std::thread::Threads;
 
 /// The outcome of the compaction of a `level` of what a folder was `opened` as. Nothing is
@@ -43,15 +43,13 @@ use std::thread::Threads;
 /// With an outcome of these numbers the version is lawful, and its edited version too, as after an
 /// installation.
 pub fn outcome_of_opened<F: ReadsTables, W: Watch + Sync, R: Threads + Sync>(
-    rt: &R,
-    alloc: Global,
+    workers: &Workers<'_, R, W>,
     folder: &mut F,
     opened: &Opened,
     level: u64,
     first: Option<u64>,
     settings: &Settings<'_>,
     memory: u64,
-    watch: &W,
 ) -> Result<CompactionOutcome, Fault>
     // If the folder tells files: the outcome, or the first refusal in this order.
     ensures answer { (files : Files) → Tells (F.tells folder.old) files →
@@ -72,10 +70,10 @@ pub fn outcome_of_opened<F: ReadsTables, W: Watch + Sync, R: Threads + Sync>(
     let version = &opened.version;
     match opened.order {
         Order::Bytewise => outcome_tested::<Bytewise, F, W, R>(
-            rt, alloc, folder, version, level, first, settings, memory, watch,
+            workers, folder, version, level, first, settings, memory,
         ),
         Order::Shortlex => outcome_tested::<Shortlex, F, W, R>(
-            rt, alloc, folder, version, level, first, settings, memory, watch,
+            workers, folder, version, level, first, settings, memory,
         ),
     }
 }
@@ -93,14 +91,12 @@ pub fn outcome_of_opened<F: ReadsTables, W: Watch + Sync, R: Threads + Sync>(
 /// - Numbers: `first` isn't above the version's next file; or without it next file is 2^64 - 1;
 /// - what `compact::compact` is refused as, Workers first.
 pub fn outcome_of_inputs<F: ReadsTables, W: Watch + Sync, R: Threads + Sync>(
-    rt: &R,
-    alloc: Global,
+    workers: &Workers<'_, R, W>,
     folder: &mut F,
     opened: &Opened,
     level: u64,
     first: Option<u64>,
     settings: &Settings<'_>,
-    watch: &W,
 ) -> Result<CompactionOutcome, Fault>
     // If the folder tells files. Whether the version is lawful makes no difference.
     ensures answer { (files : Files) → Tells (F.tells folder.old) files →
@@ -120,18 +116,19 @@ pub fn outcome_of_inputs<F: ReadsTables, W: Watch + Sync, R: Threads + Sync>(
     ensures device { ReportsDevice F.Folder folder.old folder.new result }
     ensures reads { OnlyReads F.Folder folder.old folder.new }
 {
+    let alloc = workers.alloc();
     let version = &opened.version;
     match opened.order {
         Order::Bytewise => {
             let none = HeldTables::none(alloc);
             outcome_untested::<Bytewise, F, W, R>(
-                rt, alloc, folder, none, version, level, first, settings, watch,
+                workers, folder, none, version, level, first, settings,
             )
         }
         Order::Shortlex => {
             let none = HeldTables::none(alloc);
             outcome_untested::<Shortlex, F, W, R>(
-                rt, alloc, folder, none, version, level, first, settings, watch,
+                workers, folder, none, version, level, first, settings,
             )
         }
     }
@@ -144,15 +141,13 @@ fn outcome_tested<
     W: Watch + Sync,
     R: Threads + Sync,
 >(
-    rt: &R,
-    alloc: Global,
+    workers: &Workers<'_, R, W>,
     folder: &mut F,
     version: &Version,
     level: u64,
     first: Option<u64>,
     settings: &Settings<'_>,
     memory: u64,
-    watch: &W,
 ) -> Result<CompactionOutcome, Fault>
     ensures answer { (files : Files) → Tells (F.tells folder.old) files →
         FolderAnswers outcome_in (F.failed folder.old) (F.failed folder.new) result
@@ -166,18 +161,15 @@ fn outcome_tested<
     ensures reads { OnlyReads F.Folder folder.old folder.new }
 {
     outcome_suffices::<C>();
-    let workers = checkers(rt, alloc, watch);
-    let found = test_and_hold::<C, F, W, R>(&workers, folder, version, memory)?;
+    let found = test_and_hold::<C, F, W, R>(workers, folder, version, memory)?;
     outcome_untested::<C, F, W, R>(
-        rt,
-        alloc,
+        workers,
         folder,
         found.tables,
         version,
         level,
         first,
         settings,
-        watch,
     )
 }
 
@@ -189,15 +181,13 @@ fn outcome_untested<
     W: Watch + Sync,
     R: Threads + Sync,
 >(
-    rt: &R,
-    alloc: Global,
+    workers: &Workers<'_, R, W>,
     folder: &mut F,
     held: HeldTables<C>,
     version: &Version,
     level: u64,
     first: Option<u64>,
     settings: &Settings<'_>,
-    watch: &W,
 ) -> Result<CompactionOutcome, Fault>
     ensures answer { (files : Files) → Tells (F.tells folder.old) files →
         AreHeldIn C.cmp files held →
@@ -213,8 +203,7 @@ fn outcome_untested<
     ensures device { ReportsDevice F.Folder folder.old folder.new result }
     ensures reads { OnlyReads F.Folder folder.old folder.new }
 {
-    let made = level_outcome::<C, F, W, R>(
-        rt, alloc, folder, held, version, level, first, settings, watch,
-    )?;
+    let alloc = workers.alloc();
+    let made = level_outcome::<C, F, W, R>(workers, folder, held, version, level, first, settings)?;
     level_answer(alloc, made)
 }

@@ -28,6 +28,7 @@ use crate::compaction_step::CompactionStep;
 use crate::folder_request::request_of;
 use crate::input_tables::{bytes_of, stated_tables};
 use crate::planned_installation::install_merged;
+use board::Workers;
 use checks::{HeldTables, Watch, Work};
 use coding::Fault;
 use compact::{Settings, compact_tables, merge_request};
@@ -46,14 +47,12 @@ use table::SoundTable;
 /// The first that applies: Bounds, if a table isn't as its file states; what the compaction is
 /// refused as.
 pub(crate) fn compact_held<C: SharedComparator + 'static, W: Watch + Sync, R: Threads + Sync>(
-    rt: &R,
-    alloc: Global,
+    workers: &Workers<'_, R, W>,
     version: &Version,
     picked: &Inputs,
     held: &HeldTables<C>,
     first: Option<u64>,
     settings: &Settings<'_>,
-    watch: &W,
 ) -> Result<Outcome, Fault>
     requires bytes { map (λ t. t.1) (held_bytes held.now)
         ≡ map (λ i. table_bytes_of (held_bytes held.now) i.meta.number) picked.now.files.items }
@@ -65,20 +64,19 @@ pub(crate) fn compact_held<C: SharedComparator + 'static, W: Watch + Sync, R: Th
     ensures logs { IfOk result (λ _. (unwrap_or version.now.log_number 0 < 2 ^ 64)
         × (unwrap_or version.now.previous_log 0 < 2 ^ 64)) }
 {
+    let alloc = workers.alloc();
     let tables = stated_tables(alloc, &picked.files, held)?;
-    compact_checked::<C, W, R>(rt, alloc, version, picked, &tables, first, settings, watch)
+    compact_checked::<C, W, R>(workers, version, picked, &tables, first, settings)
 }
 
 /// The outcome of the compaction of `picked` inputs, whose `tables` are checked.
 fn compact_checked<C: SharedComparator + 'static, W: Watch + Sync, R: Threads + Sync>(
-    rt: &R,
-    alloc: Global,
+    workers: &Workers<'_, R, W>,
     version: &Version,
     picked: &Inputs,
     tables: &[SoundTable<'_, C>],
     first: Option<u64>,
     settings: &Settings<'_>,
-    watch: &W,
 ) -> Result<Outcome, Fault>
     requires read { inputs_reading C.cmp 0 picked.now.files.items (map (λ t. t.bytes) tables.now)
         ≡ Ok (map (λ t. t.entries) tables.now) }
@@ -91,11 +89,20 @@ fn compact_checked<C: SharedComparator + 'static, W: Watch + Sync, R: Threads + 
     ensures logs { IfOk result (λ _. (unwrap_or version.now.log_number 0 < 2 ^ 64)
         × (unwrap_or version.now.previous_log 0 < 2 ^ 64)) }
 {
+    let alloc = workers.alloc();
     let split = split_of(alloc, tables, settings.ranges)?;
     let bytes = bytes_of(alloc, tables)?;
     let request = request_of(version, picked, &bytes, first, settings)?;
-    watch.begin(Work::Compact, split.len());
-    compact_tables::<C, W, R>(rt, alloc, &request, tables, &split, settings.workers, watch)
+    workers.gate().begin(Work::Compact, split.len());
+    compact_tables::<C, W, R>(
+        workers.threads(),
+        alloc,
+        &request,
+        tables,
+        &split,
+        settings.workers,
+        workers.gate(),
+    )
 }
 
 /// Compacts `picked` inputs of the version that a folder was `opened` as, whose tables are held in
@@ -109,14 +116,12 @@ pub(crate) fn install_held<
     W: Watch + Sync,
     R: Threads + Sync,
 >(
-    rt: &R,
-    alloc: Global,
+    workers: &Workers<'_, R, W>,
     folder: &mut F,
     opened: &Opened,
     picked: &Inputs,
     held: &HeldTables<C>,
     settings: &Settings<'_>,
-    watch: &W,
 ) -> Result<CompactionStep, Fault>
     requires name { length C.name_bytes < 2 ^ 32 }
     requires bytes { map (λ t. t.1) (held_bytes held.now)
@@ -141,8 +146,9 @@ pub(crate) fn install_held<
     ensures other { IsOkOnlyIfCurrent (F.tells folder.old) opened.now.manifest result }
     ensures device { ReportsDevice F.Folder folder.old folder.new result }
 {
+    let alloc = workers.alloc();
     let tables = stated_tables(alloc, &picked.files, held)?;
-    install_checked::<C, F, W, R>(rt, alloc, folder, opened, picked, &tables, settings, watch)
+    install_checked::<C, F, W, R>(workers, folder, opened, picked, &tables, settings)
 }
 
 /// Compacts `picked` inputs, whose `tables` are checked, and installs the outcome.
@@ -152,14 +158,12 @@ fn install_checked<
     W: Watch + Sync,
     R: Threads + Sync,
 >(
-    rt: &R,
-    alloc: Global,
+    workers: &Workers<'_, R, W>,
     folder: &mut F,
     opened: &Opened,
     picked: &Inputs,
     tables: &[SoundTable<'_, C>],
     settings: &Settings<'_>,
-    watch: &W,
 ) -> Result<CompactionStep, Fault>
     requires name { length C.name_bytes < 2 ^ 32 }
     requires read { inputs_reading C.cmp 0 picked.now.files.items (map (λ t. t.bytes) tables.now)
@@ -197,13 +201,22 @@ fn install_checked<
     ensures other { IsOkOnlyIfCurrent (F.tells folder.old) opened.now.manifest result }
     ensures device { ReportsDevice F.Folder folder.old folder.new result }
 {
+    let alloc = workers.alloc();
     let split = split_of(alloc, tables, settings.ranges)?;
     let bytes = bytes_of(alloc, tables)?;
     let request = request_of(&opened.version, picked, &bytes, None, settings)?;
-    watch.begin(Work::Compact, split.len());
-    let workers = settings.workers;
-    let merged = merge_request::<C, W, R>(rt, alloc, &request, tables, &split, workers, watch)?;
-    install_merged(rt, alloc, folder, opened, &merged, picked, watch)
+    workers.gate().begin(Work::Compact, split.len());
+    let count = settings.workers;
+    let merged = merge_request::<C, W, R>(
+        workers.threads(),
+        alloc,
+        &request,
+        tables,
+        &split,
+        count,
+        workers.gate(),
+    )?;
+    install_merged(workers, folder, opened, &merged, picked)
 }
 
 /// The split of the keys of these tables into at most `ranges` ranges. `SplitCount` if `ranges` is

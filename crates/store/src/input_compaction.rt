@@ -22,12 +22,12 @@ use crate::held_compaction::install_held;
 use crate::input_laws::same_inputs;
 use crate::install_laws::numbered_is_installed;
 use crate::level_inputs::level_inputs;
+use board::Workers;
 use checks::{HeldTables, Watch};
 use coding::Fault;
 use compact::Settings;
 use folder::{Opened, Order, ReadsTables, WritesTables};
 use ikey::{Bytewise, SharedComparator, Shortlex};
-use std::alloc::Global;
 use std::thread::Threads;
 
 /// Compacts a `level` of what a folder was `opened` as, and installs the outcome. It reads the
@@ -45,13 +45,11 @@ use std::thread::Threads;
 /// - Bounds: one isn't as its file states;
 /// - what [`compact_opened`](crate::compact_opened) is refused as after these.
 pub fn compact_inputs<F: ReadsTables + WritesTables, W: Watch + Sync, R: Threads + Sync>(
-    rt: &R,
-    alloc: Global,
+    workers: &Workers<'_, R, W>,
     folder: &mut F,
     opened: &Opened,
     level: u64,
     settings: &Settings<'_>,
-    watch: &W,
 ) -> Result<CompactionStep, Fault>
     // If the folder tells files, and CURRENT is the one that was opened. Whether the version is
     // lawful makes no difference.
@@ -78,18 +76,15 @@ pub fn compact_inputs<F: ReadsTables + WritesTables, W: Watch + Sync, R: Threads
     ensures other { IsOkOnlyIfCurrent (F.tells folder.old) opened.now.manifest result }
     ensures device { ReportsDevice F.Folder folder.old folder.new result }
 {
+    let alloc = workers.alloc();
     match opened.order {
         Order::Bytewise => {
             let none = HeldTables::none(alloc);
-            compact_step::<Bytewise, F, W, R>(
-                rt, alloc, folder, none, opened, level, settings, watch,
-            )
+            compact_step::<Bytewise, F, W, R>(workers, folder, none, opened, level, settings)
         }
         Order::Shortlex => {
             let none = HeldTables::none(alloc);
-            compact_step::<Shortlex, F, W, R>(
-                rt, alloc, folder, none, opened, level, settings, watch,
-            )
+            compact_step::<Shortlex, F, W, R>(workers, folder, none, opened, level, settings)
         }
     }
 }
@@ -103,14 +98,12 @@ pub(crate) fn compact_step<
     W: Watch + Sync,
     R: Threads + Sync,
 >(
-    rt: &R,
-    alloc: Global,
+    workers: &Workers<'_, R, W>,
     folder: &mut F,
     held: HeldTables<C>,
     opened: &Opened,
     level: u64,
     settings: &Settings<'_>,
-    watch: &W,
 ) -> Result<CompactionStep, Fault>
     requires { length C.name_bytes < 2 ^ 32 }
     ensures answer { IfCurrent (F.tells folder.old) opened.now.manifest (λ files.
@@ -135,15 +128,13 @@ pub(crate) fn compact_step<
     numbered_is_installed::<C>();
     same_inputs::<C>();
     let version = &opened.version;
-    let inputs = level_inputs::<C, F, W, R>(rt, alloc, folder, held, version, level, watch)?;
+    let inputs = level_inputs::<C, F, W, R>(workers, folder, held, version, level)?;
     install_held::<C, F, W, R>(
-        rt,
-        alloc,
+        workers,
         folder,
         opened,
         &inputs.picked,
         &inputs.tables,
         settings,
-        watch,
     )
 }

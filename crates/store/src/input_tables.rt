@@ -9,7 +9,8 @@ ghost use Rattle.folder.specs.Reports.{OnlyReads, ReportsDevice};
 ghost use Rattle.install.specs.Install.{tables_in};
 ghost use Rattle.store.specs.InputsCompaction.{are_stated, input_numbers, input_tables};
 
-use checks::{HeldTables, Watch, check_tables, checkers};
+use board::Workers;
+use checks::{HeldTables, Watch, check_tables};
 use coding::{Fault, FaultName};
 use compact::matches_metadata;
 use folder::{Folder, load_numbers};
@@ -50,17 +51,16 @@ pub(crate) fn numbers_of(alloc: Global, inputs: &[InputFile]) -> Result<Vec<u64>
 /// Checks the tables of `inputs`, which were read in that order. Refused as the first that is
 /// invalid; then Bounds, if one isn't as its file states. The only other fault is Memory.
 pub fn checked_inputs<'t, C: SharedComparator, W: Watch + Sync, R: Threads + Sync>(
-    rt: &R,
-    alloc: Global,
+    workers: &Workers<'_, R, W>,
     inputs: &[InputFile],
     loaded: &'t [(u64, Vec<u8>)],
-    watch: &W,
 ) -> Result<Vec<SoundTable<'t, C>>, Fault>
     requires lengths { length loaded.now ≡ length inputs.now }
     ensures { EqualOrMemory (λ v. v.items) result
         (input_tables C.cmp inputs.now (tables_in loaded.now)) }
 {
-    let tables = check_tables::<C, W, R>(&checkers(rt, alloc, watch), loaded)?;
+    let alloc = workers.alloc();
+    let tables = check_tables::<C, W, R>(workers, loaded)?;
     if !are_stated(inputs, &tables) {
         return Err(Fault::of(FaultName::Bounds));
     }

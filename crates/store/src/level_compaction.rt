@@ -20,6 +20,7 @@ use crate::held_compaction::compact_held;
 use crate::input_laws::same_inputs;
 use crate::install_laws::numbered_is_installed;
 use crate::level_inputs::level_inputs;
+use board::Workers;
 use checks::{HeldTables, Watch};
 use coding::Fault;
 use compact::Settings;
@@ -27,7 +28,6 @@ use edit::{Outcome, Version};
 use folder::ReadsTables;
 use ikey::SharedComparator;
 use pick::Inputs;
-use std::alloc::Global;
 use std::thread::Threads;
 
 /// The inputs that were picked of a level, and the outcome of their compaction.
@@ -46,15 +46,13 @@ pub(crate) fn level_outcome<
     W: Watch + Sync,
     R: Threads + Sync,
 >(
-    rt: &R,
-    alloc: Global,
+    workers: &Workers<'_, R, W>,
     folder: &mut F,
     held: HeldTables<C>,
     version: &Version,
     level: u64,
     first: Option<u64>,
     settings: &Settings<'_>,
-    watch: &W,
 ) -> Result<LevelOutcome, Fault>
     ensures answer { (files : Files) → Tells (F.tells folder.old) files →
         AreHeldIn C.cmp files held →
@@ -73,16 +71,14 @@ pub(crate) fn level_outcome<
 {
     numbered_is_installed::<C>();
     same_inputs::<C>();
-    let inputs = level_inputs::<C, F, W, R>(rt, alloc, folder, held, version, level, watch)?;
+    let inputs = level_inputs::<C, F, W, R>(workers, folder, held, version, level)?;
     let outcome = compact_held::<C, W, R>(
-        rt,
-        alloc,
+        workers,
         version,
         &inputs.picked,
         &inputs.tables,
         first,
         settings,
-        watch,
     )?;
     Ok(LevelOutcome {
         picked: inputs.picked,

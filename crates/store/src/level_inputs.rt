@@ -15,13 +15,13 @@ ghost use Rattle.store.specs.InputsCompaction.{input_numbers};
 use crate::input_laws::inputs_in_order;
 use crate::input_tables::numbers_of;
 use crate::version_files::test_files;
-use checks::{HeldTables, Watch, Work, checked_tables, checkers};
+use board::Workers;
+use checks::{HeldTables, Watch, Work, checked_tables};
 use coding::Fault;
 use edit::Version;
 use folder::ReadsTables;
 use ikey::{Comparator, SharedComparator};
 use pick::{Inputs, inputs};
-use std::alloc::Global;
 use std::thread::Threads;
 
 /// The inputs that were picked of a level, and their tables in the same order.
@@ -39,13 +39,11 @@ pub(crate) fn level_inputs<
     W: Watch + Sync,
     R: Threads + Sync,
 >(
-    rt: &R,
-    alloc: Global,
+    workers: &Workers<'_, R, W>,
     folder: &mut F,
     held: HeldTables<C>,
     version: &Version,
     level: u64,
-    watch: &W,
 ) -> Result<LevelInputs<C>, Fault>
     ensures answer { (files : Files) → Tells (F.tells folder.old) files →
         AreHeldIn C.cmp files held →
@@ -64,12 +62,12 @@ pub(crate) fn level_inputs<
     ensures device { ReportsDevice F.Folder folder.old folder.new result }
     ensures reads { OnlyReads F.Folder folder.old folder.new }
 {
+    let alloc = workers.alloc();
     inputs_in_order::<C>();
     test_files::<C>(alloc, version)?;
     let picked = inputs::<C>(alloc, version, level)?;
     let numbers = numbers_of(alloc, &picked.files)?;
-    watch.begin(Work::Check, numbers.len() as u64);
-    let workers = checkers(rt, alloc, watch);
-    let tables = checked_tables::<C, F, W, R>(&workers, folder, held, &numbers)?;
+    workers.gate().begin(Work::Check, numbers.len() as u64);
+    let tables = checked_tables::<C, F, W, R>(workers, folder, held, &numbers)?;
     Ok(LevelInputs { picked, tables })
 }

@@ -29,6 +29,7 @@ use crate::answered_steps::planned_step;
 use crate::compaction_step::CompactionStep;
 use crate::folder_request::manifest_of;
 use crate::group_tables::GroupTables;
+use board::Workers;
 use checks::Watch;
 use coding::Fault;
 use compact::{Merged, Planned};
@@ -37,7 +38,6 @@ use folder::{Opened, WritesTables};
 use ikey::SharedComparator;
 use install::{install_manifest, manifest_bytes, write_source_group};
 use pick::Inputs;
-use std::alloc::Global;
 use std::thread::Threads;
 
 /// Installs a compaction of the version that a folder was `opened` as, which was merged of these
@@ -50,13 +50,11 @@ pub(crate) fn install_merged<
     W: Watch + Sync,
     R: Threads + Sync,
 >(
-    rt: &R,
-    alloc: Global,
+    workers: &Workers<'_, R, W>,
     folder: &mut F,
     opened: &Opened,
     merged: &Merged<'_, '_, C>,
     picked: &Inputs,
-    watch: &W,
 ) -> Result<CompactionStep, Fault>
     requires name { length C.name_bytes < 2 ^ 32 }
     requires other { NeverDevice merged.now }
@@ -78,20 +76,12 @@ pub(crate) fn install_merged<
     ensures other { IsOkOnlyIfCurrent (F.tells folder.old) opened.now.manifest result }
     ensures device { ReportsDevice F.Folder folder.old folder.new result }
 {
+    let alloc = workers.alloc();
     let planned = merged.planned(alloc)?;
     let version = &opened.version;
     let number = manifest_of(version);
     let step = planned_step(alloc, version, picked, &planned)?;
-    install_planned(
-        rt,
-        alloc,
-        folder,
-        opened.manifest,
-        version,
-        number,
-        &planned,
-        watch,
-    )?;
+    install_planned(workers, folder, opened.manifest, version, number, &planned)?;
     Ok(step)
 }
 
@@ -103,36 +93,33 @@ fn install_planned<
     W: Watch + Sync,
     R: Threads + Sync,
 >(
-    rt: &R,
-    alloc: Global,
+    workers: &Workers<'_, R, W>,
     folder: &mut F,
     opened: u64,
     version: &Version,
     number: u64,
     planned: &Planned<'_, '_, C>,
-    watch: &W,
 ) -> Result<(), Fault>
     requires { length C.name_bytes < 2 ^ 32 }
     ensures { IsGroupedInstallation F.Folder C.name_bytes C.cmp version.now opened number
         planned.now.groups planned.now.edit folder.old folder.new result }
 {
+    let alloc = workers.alloc();
     let manifest = manifest_bytes::<C>(alloc, version, planned.edit())?;
-    write_groups(rt, alloc, folder, planned, watch)?;
+    write_groups(workers, folder, planned)?;
     install_manifest(alloc, folder, opened, number, &manifest)
 }
 
 /// Encodes and writes the tables of planned outputs, a group after the other.
 fn write_groups<C: SharedComparator + 'static, F: WritesTables, W: Watch + Sync, R: Threads + Sync>(
-    rt: &R,
-    alloc: Global,
+    workers: &Workers<'_, R, W>,
     folder: &mut F,
     planned: &Planned<'_, '_, C>,
-    watch: &W,
 ) -> Result<(), Fault>
     ensures { IsCallsAnswer F.Folder (table_calls planned.now.groups) folder.old folder.new result }
 {
     for place in 0..planned.len() {
-        write_encoded(rt, alloc, folder, planned, place, watch)?;
+        write_encoded(workers, folder, planned, place)?;
     }
     Ok(())
 }
@@ -144,19 +131,25 @@ fn write_encoded<
     W: Watch + Sync,
     R: Threads + Sync,
 >(
-    rt: &R,
-    alloc: Global,
+    workers: &Workers<'_, R, W>,
     folder: &mut F,
     planned: &Planned<'_, '_, C>,
     place: usize,
-    watch: &W,
 ) -> Result<(), Fault>
     requires { place < length planned.now.groups }
     ensures { (group : List (ℕ × List ℕ)) → slice_get planned.now.groups place ≡ Some group →
         IsCallsAnswer F.Folder (table_calls (group ∷ [])) folder.old folder.new result }
 {
+    let alloc = workers.alloc();
     let source = GroupTables {
         plan: planned.group(place),
     };
-    write_source_group(rt, alloc, folder, &source, planned.workers(), watch)
+    write_source_group(
+        workers.threads(),
+        alloc,
+        folder,
+        &source,
+        planned.workers(),
+        workers.gate(),
+    )
 }

@@ -15,7 +15,8 @@ use session::{
 };
 use std::alloc::Global;
 use store::{
-    CompactionStep, DescentEnd, bottom, compact_inputs, compact_opened, next_level, opened_after,
+    CompactionStep, DescentEnd, bottom, checkers, compact_inputs, compact_opened, next_level,
+    opened_after,
 };
 use usage::{CompactLine, Levels, Testing};
 
@@ -175,14 +176,12 @@ fn tested_compacted<R: Host>(
     let progress = ProgressLine::new(rt, telling);
     let mut folder = Disk::new(rt, telling.folder);
     let answer = compact_opened(
-        rt,
-        rt.alloc(),
+        &checkers(rt, rt.alloc(), &progress),
         &mut folder,
         opened,
         level,
         settings,
         memory,
-        &progress,
     );
     progress.erase();
     answer.map_err(|fault| refused_at(rt, telling.folder, &folder, fault))
@@ -199,13 +198,11 @@ fn inputs_compacted<R: Host>(
     let progress = ProgressLine::new(rt, telling);
     let mut folder = Disk::new(rt, telling.folder);
     let answer = compact_inputs(
-        rt,
-        rt.alloc(),
+        &checkers(rt, rt.alloc(), &progress),
         &mut folder,
         opened,
         level,
         settings,
-        &progress,
     );
     progress.erase();
     answer.map_err(|fault| refused_at(rt, telling.folder, &folder, fault))
@@ -242,9 +239,22 @@ fn descended<R: Host>(
     let alloc = rt.alloc();
     let settings = task.settings;
     if task.testing.is_skipped {
-        store::compact_levels(rt, alloc, folder, opened, settings, progress, steps)
+        store::compact_levels(
+            &checkers(rt, alloc, progress),
+            folder,
+            opened,
+            settings,
+            steps,
+        )
     } else {
         let memory = bytes_of(task.testing.memory);
-        store::compact_all(rt, alloc, folder, opened, settings, memory, progress, steps)
+        store::compact_all(
+            &checkers(rt, alloc, progress),
+            folder,
+            opened,
+            settings,
+            memory,
+            steps,
+        )
     }
 }

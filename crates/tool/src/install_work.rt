@@ -11,7 +11,7 @@ use session::{
     Host, ProgressLine, Refusal, Telling, begin_work, bytes_of, explained, locked_to_change,
     refused_at, sizes_tested, tell_time,
 };
-use store::CompactionStep;
+use store::{CompactionStep, checkers};
 use usage::{InstallLine, Levels};
 
 /// Installs in a folder the outcome that another one has. The folder is locked before anything is
@@ -67,14 +67,12 @@ fn outcome_installed<R: Host>(
     let progress = ProgressLine::new(rt, telling);
     let mut out = Disk::new(rt, line.out);
     let AdoptionEnd { folder, answer } = install_outcome(
-        rt,
-        rt.alloc(),
+        &checkers(rt, rt.alloc(), &progress),
         Disk::new(rt, telling.folder),
         &mut out,
         opened,
         comparison,
         memory,
-        &progress,
     );
     progress.erase();
     answer.map_err(|fault| {

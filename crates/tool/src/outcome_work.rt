@@ -11,7 +11,7 @@ use session::{
     compaction_explained, in_words, print_lines, refused_opened, sizes_tested, told,
 };
 use std::alloc::Global;
-use store::{CompactionOutcome, EDIT, outcome_of_inputs, outcome_of_opened};
+use store::{CompactionOutcome, EDIT, checkers, outcome_of_inputs, outcome_of_opened};
 use usage::CompactLine;
 
 /// What is asked for of such a compaction.
@@ -102,15 +102,13 @@ fn outcome_made<R: Host>(
     let progress = ProgressLine::new(rt, telling);
     let mut folder = Disk::new(rt, telling.folder);
     let made = outcome_of_opened(
-        rt,
-        rt.alloc(),
+        &checkers(rt, rt.alloc(), &progress),
         &mut folder,
         opened,
         task.level,
         task.first_number,
         &line.settings,
         memory,
-        &progress,
     );
     progress.erase();
     made.map_err(|fault| refused_opened(rt, telling.folder, &folder, opened, fault))
@@ -127,14 +125,12 @@ fn inputs_compacted<R: Host>(
     let progress = ProgressLine::new(rt, telling);
     let mut folder = Disk::new(rt, telling.folder);
     let made = outcome_of_inputs(
-        rt,
-        rt.alloc(),
+        &checkers(rt, rt.alloc(), &progress),
         &mut folder,
         opened,
         task.level,
         task.first_number,
         &line.settings,
-        &progress,
     );
     progress.erase();
     made.map_err(|fault| refused_opened(rt, telling.folder, &folder, opened, fault))

@@ -9,7 +9,7 @@ use folder::{Shelf, open};
 use std::alloc::Global;
 use std::test::*;
 use std::thread::Threads;
-use store::{CompactionStep, Open};
+use store::{CompactionStep, Open, checkers};
 
 /// How many bytes of tables are held while a version is tested.
 const MEMORY: u64 = 1_073_741_824;
@@ -63,14 +63,12 @@ fn installed<'f, R: Threads + Sync>(
         Ok(opened) => {
             let comparison = row.comparison;
             install_outcome(
-                rt,
-                alloc,
+                &checkers(rt, alloc, &Open),
                 folder,
                 &mut source,
                 &opened,
                 comparison,
                 MEMORY,
-                &Open,
             )
         }
         Err(fault) => AdoptionEnd {

@@ -12,8 +12,8 @@ use std::process::Abort;
 use std::test::*;
 use std::thread::Threads;
 use store::{
-    CompactionOutcome, EDIT, Open, files_to_compact, outcome_of_inputs, outcome_of_opened,
-    write_outcome,
+    CompactionOutcome, EDIT, Open, checkers, files_to_compact, outcome_of_inputs,
+    outcome_of_opened, write_outcome,
 };
 
 /// The compaction of a folder, the first number that is asked for, the answer, and the files of the
@@ -78,10 +78,23 @@ fn outcome_of<R: Threads + Sync>(
     let (level, first, settings) = (asked.row.level, asked.first, &asked.row.settings);
     if is_tested {
         outcome_of_opened(
-            rt, alloc, folder, &opened, level, first, settings, MEMORY, &Open,
+            &checkers(rt, alloc, &Open),
+            folder,
+            &opened,
+            level,
+            first,
+            settings,
+            MEMORY,
         )
     } else {
-        outcome_of_inputs(rt, alloc, folder, &opened, level, first, settings, &Open)
+        outcome_of_inputs(
+            &checkers(rt, alloc, &Open),
+            folder,
+            &opened,
+            level,
+            first,
+            settings,
+        )
     }
 }
 

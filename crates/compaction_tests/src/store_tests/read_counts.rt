@@ -6,7 +6,7 @@ use crate::store_tests::tests::{MEMORY, step_lines};
 use folder::Shelf;
 use std::process::Abort;
 use std::test::*;
-use store::{Open, compact_dir};
+use store::{Open, checkers, compact_dir};
 
 /// `table: a@1 put y, u@2 put y`
 const OLDER: &[u8] = b"\
@@ -57,10 +57,14 @@ const READS: u64 = 8;
 #[test]
 fn each_table_is_read_once(rt: HostRuntime) {
     let mut folder = Shelf::new(rt.alloc(), FILES);
-    let step = compact_dir(&rt, rt.alloc(), &mut folder, 0, &DEFAULTS, MEMORY, &Open).expect(
-        &rt,
-        "a compaction",
-    );
+    let step = compact_dir(
+        &checkers(&rt, rt.alloc(), &Open),
+        &mut folder,
+        0,
+        &DEFAULTS,
+        MEMORY,
+    )
+    .expect(&rt, "a compaction");
     let lines = step_lines(rt.alloc(), &step).expect(&rt, "memory");
     assert!(rt; lines.as_slice() == LINES.as_bytes());
     assert_eq!(rt;

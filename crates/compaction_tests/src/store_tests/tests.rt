@@ -15,7 +15,7 @@ use std::process::Abort;
 use std::test::*;
 use std::thread::Threads;
 use store::{
-    CompactionStep, DescentEnd, InstallWatch, Open, Settings, compact_all, compact_dir,
+    CompactionStep, DescentEnd, InstallWatch, Open, Settings, checkers, compact_all, compact_dir,
     compact_inputs, opened_after,
 };
 
@@ -44,7 +44,13 @@ fn answer_of<R: Threads + Sync>(
     folder: &mut Shelf<'_>,
     row: &Row,
 ) -> Result<Vec<u8>, Fault> {
-    let step = compact_dir(rt, alloc, folder, row.level, &row.settings, MEMORY, &Open)?;
+    let step = compact_dir(
+        &checkers(rt, alloc, &Open),
+        folder,
+        row.level,
+        &row.settings,
+        MEMORY,
+    )?;
     step_lines(alloc, &step)
 }
 
@@ -109,10 +115,14 @@ fn is_known_after<R: Threads + Sync + Abort>(rt: &R, alloc: Global, row: &Row) -
     let mut folder = Shelf::new(alloc, &files);
     let opened = open(alloc, &mut folder).expect(rt, "an open folder");
     let settings = &row.settings;
-    let step = compact_inputs(rt, alloc, &mut folder, &opened, row.level, settings, &Open).expect(
-        rt,
-        "a compaction",
-    );
+    let step = compact_inputs(
+        &checkers(rt, alloc, &Open),
+        &mut folder,
+        &opened,
+        row.level,
+        settings,
+    )
+    .expect(rt, "a compaction");
     let after = opened_after(alloc, &opened, &step).expect(rt, "memory");
     let again = open(alloc, &mut folder).expect(rt, "an open folder");
     is_answer(&step_lines(alloc, &step), row.answer)
@@ -167,7 +177,14 @@ fn descent<R: Threads + Sync>(
     told: &mut Collected,
 ) -> Result<DescentEnd, Fault> {
     let opened = open(alloc, folder)?;
-    compact_all(rt, alloc, folder, opened, settings, MEMORY, &Open, told)
+    compact_all(
+        &checkers(rt, alloc, &Open),
+        folder,
+        opened,
+        settings,
+        MEMORY,
+        told,
+    )
 }
 
 /// Whether all levels of the folder of a row are compacted so.

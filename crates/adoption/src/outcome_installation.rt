@@ -79,8 +79,8 @@ use store::{CompactionStep, manifest_of, outcome_step};
 /// or as the edited one, and has to be opened again. After Changed CURRENT stays as it is, and what
 /// was written stays too. After any other refusal the folder holds what it held.
 ///
-/// The work is told to the gate of `workers`, which is `&Open` if nobody watches. The test of the edited version
-/// holds at most `memory` bytes of tables, as `checks::test_version` does.
+/// The work is told to the gate of `workers`, which is `&Open` if nobody watches. The test of the
+/// edited version holds at most `memory` bytes of tables, as `checks::test_version` does.
 pub fn install_outcome<F: Folder + Drop, G: Folder, W: Watch + Sync, R: Threads + Sync>(
     workers: &Workers<'_, R, W>,
     folder: F,

@@ -10,8 +10,8 @@
 //! 4. The calls that end in `_json` make the JSON objects of answers, and [`json_line`] the line of
 //!    one: without blanks, and members by name. Keys and values are strings of their texts. Numbers
 //!    are decimal and exact, so a reader needs integers of 64 bits.
-//! 5. Keys and values are written as a [`Spelling`](texts::Spelling) says. [`value_lines_law`] is the
-//!    law of the line of a value.
+//! 5. Keys and values are written as a [`Spelling`](texts::Spelling) says. [`value_lines_law`] is
+//!    the law of the line of a value.
 //! 6. [`stats_text`] and [`account_text`] are tables and bars for people; [`account_of`] reads the
 //!    numbers of a compaction from the folder, after it was installed. [`refusal_json`] tells of a
 //!    refusal. No contract says what these hold: the cases of the program compare them. [`status`]

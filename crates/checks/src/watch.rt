@@ -8,8 +8,7 @@ pub enum Work {
     /// Tables are checked, a table a job; then their entries are tested, a range of user keys a
     /// job.
     Check,
-    /// Tables are merged, a range of user keys a job; then the outputs are encoded: a table a job
-    /// if they are installed, a piece a job for `compact --out`.
+    /// Tables are merged, a range of user keys a job; then the outputs are encoded, a table a job.
     Compact,
 }
 

@@ -1,8 +1,8 @@
 //! The laws of closed inputs.
 //!
-//! Premises of [`closed_inputs`] and [`inputs_stand_together`]: the version is lawful, its files are
-//! at levels up to 6, and the inputs were picked from it. Other inputs are closed, too, if levels,
-//! numbers and bounds tell so ([`closed_choice`]); `pick::first_missing` asks them.
+//! Premises of [`closed_inputs`] and [`inputs_stand_together`]: the version is lawful, its files
+//! are at levels up to 6, and the inputs were picked from it. Other inputs are closed, too, if
+//! levels, numbers and bounds tell so ([`closed_choice`]); `pick::first_missing` asks them.
 
 ghost use Rattle.compact.specs.ClosedInputs.{AreClosed, ClosedInputs};
 ghost use Rattle.compact.specs.InputsOver.{InputsOverClosed, PickedInputsOver};
@@ -21,8 +21,8 @@ pub fn closed_inputs<C: Comparator>()
 
 /// The law that inputs over a lawful version are closed, whoever chose them. A call does nothing.
 ///
-/// Inputs are over a version if they are files of it at the level and at the next one, and have with
-/// them each file that has to go with them (`pick::first_missing`).
+/// Inputs are over a version if they are files of it at the level and at the next one, and have
+/// with them each file that has to go with them (`pick::first_missing`).
 pub fn closed_choice<C: Comparator>()
     ensures { InputsOverClosed C.cmp }
 {}

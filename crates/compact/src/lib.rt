@@ -17,9 +17,9 @@
 //! [`merge_request`] only merges, and [`Merged::planned`] plans the outputs. The tables of
 //! [`Planned`] are then encoded group by group, so that they needn't all be in memory.
 //!
-//! [`Settings`] has what a compaction of a folder is asked to keep to, as a command line or a caller
-//! says. [`reads_survive`] and the laws beside it (`surviving_reads.rt`) say what survives: the
-//! version after is lawful, and each get at a sequence that stays readable answers as before.
+//! [`Settings`] has what a compaction of a folder is asked to keep to, as a command line or a
+//! caller says. [`reads_survive`] and the laws beside it (`surviving_reads.rt`) say what survives:
+//! the version after is lawful, and each get at a sequence that stays readable answers as before.
 #![tactic(auto)]
 
 mod block_encoder;

@@ -18,8 +18,9 @@
 //! that the request is over the version (`IsOver`). That is: the request has the bytes of their
 //! tables, numbers outputs from the version's next file on, and its two log numbers are below 2^64.
 //!
-//! [`closed_reads_survive`] asks for inputs over the version (`AreInputsOver`) in place of picked ones:
-//! files of it that are closed, with all deeper files, and any compact pointer and grandparents.
+//! [`closed_reads_survive`] asks for inputs over the version (`AreInputsOver`) in place of picked
+//! ones: files of it that are closed, with all deeper files, and any compact pointer and
+//! grandparents.
 //!
 //! Nothing is said of gets at other sequences, nor of inputs that aren't closed.
 
@@ -55,8 +56,8 @@ pub fn stands_after<C: Comparator>()
     ensures { VersionAfterLaw C.cmp C.short_keys }
 {}
 
-/// The law that reads survive a compaction of any inputs that are closed in a lawful version, for each
-/// answer of one thread. A call does nothing.
+/// The law that reads survive a compaction of any inputs that are closed in a lawful version, for
+/// each answer of one thread. A call does nothing.
 ///
 /// - The bytes of the edit read as an edit, and every edit that they read as applies to the
 ///   version.

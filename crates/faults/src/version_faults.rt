@@ -45,8 +45,8 @@ const COMPARED_BYTES: u64 = 33_554_432;
 /// out, it is Memory. Changed comes only if a table that was tested isn't there any more, or not as
 /// it was. Each table is read once by itself. Then those that are compared are read a range of user
 /// keys after the other, and checked by `workers`, whose gate is told of it. At most `memory` bytes
-/// of them are in memory together, and at most 32 MiB, if no single user key needs more. No contract
-/// says so.
+/// of them are in memory together, and at most 32 MiB, if no single user key needs more. No
+/// contract says so.
 pub fn all_faults<F: ReadsTables, T: FaultTaker, W: Watch + Sync, R: Threads + Sync>(
     workers: &Workers<'_, R, W>,
     folder: &mut F,

@@ -34,9 +34,9 @@ pub struct Access {
 /// symbolic link too.
 ///
 /// It gets the permissions of the CURRENT that `access` is of, and its owner and group if the
-/// program may set them; in between it never has more. Its owner may read and write it in any event,
-/// and its group may nothing if it isn't that of CURRENT. Without CURRENT it gets what the system
-/// gives new files.
+/// program may set them; in between it never has more. Its owner may read and write it in any
+/// event, and its group may nothing if it isn't that of CURRENT. Without CURRENT it gets what the
+/// system gives new files.
 pub(crate) fn new_file<R: OwnedFiles>(
     rt: &R,
     path: &str,

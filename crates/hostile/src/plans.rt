@@ -117,7 +117,7 @@ fn encoded(alloc: Global, plan: &Plan<'_, '_, Bytewise>) -> Result<Vec<Vec<u8>>,
     Ok(blocks)
 }
 
-/// Whether there are so many data blocks, of 26 bytes each.
+/// Whether these are `count` data blocks of 26 bytes each.
 fn are_blocks(blocks: &[Vec<u8>], count: usize) -> bool {
     let mut are_right = blocks.len() == count;
     for block in blocks {

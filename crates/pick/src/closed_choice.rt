@@ -1,5 +1,5 @@
-//! Whether a choice of files is closed. It is told by levels, numbers and bounds alone, so it can be
-//! asked before any table is read.
+//! Whether a choice of files is closed. It is told by levels, numbers and bounds alone, so it can
+//! be asked before any table is read.
 //!
 //! A compaction of chosen files of a level is safe if what stays beside them is newer. So these
 //! files have to go with them:

@@ -10,8 +10,8 @@
 //!
 //! [`inputs`] makes the choice. It also answers the grandparents, all deeper files, and the new
 //! compact pointer. [`is_base`] tells whether a deeper file may have a user key. [`one_choice`] is
-//! the law that a level of a version has one choice. [`first_missing`] tells of any choice whether it
-//! is closed, which is what makes a compaction of it safe.
+//! the law that a level of a version has one choice. [`first_missing`] tells of any choice whether
+//! it is closed, which is what makes a compaction of it safe.
 //!
 //! The caller names the level: which level needs a compaction isn't asked here.
 #![tactic(auto)]

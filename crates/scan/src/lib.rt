@@ -1,5 +1,5 @@
-//! What a version answers, its tables read from a folder: its rows, how much it has, and the value of
-//! a user key.
+//! What a version answers, its tables read from a folder: its rows, how much it has, and the value
+//! of a user key.
 //!
 //! A row is a user key that has a value at a sequence, with that value: what a get answers.
 //!
@@ -14,8 +14,8 @@
 //!    which the entry has to be. What it reads it tests, and nothing else. So its answer is that of
 //!    [`reads::get`] if the version is lawful with the tables, and it doesn't test that.
 //!
-//! [`sequence_of`] is the sequence at which a version is read. [`rows_law`] is the law that a lawful
-//! version has just one list of rows.
+//! [`sequence_of`] is the sequence at which a version is read. [`rows_law`] is the law that a
+//! lawful version has just one list of rows.
 //!
 //! No contract says how many tables are read, or how much memory a walk takes.
 #![tactic(auto)]

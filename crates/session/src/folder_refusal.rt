@@ -31,8 +31,8 @@ pub fn explained<R: Host>(rt: &R, telling: Telling<'_>, refusal: Refusal) -> Ref
     refusal.telling(told)
 }
 
-/// The same of a compaction: a refusal of what was asked for is told without reading. The `level` is
-/// None if all were asked for.
+/// The same of a compaction: a refusal of what was asked for is told without reading. The `level`
+/// is None if all were asked for.
 pub fn compaction_explained<R: Host>(
     rt: &R,
     telling: Telling<'_>,

@@ -8,11 +8,11 @@
 //!    outcome of a compaction.
 //! 2. [`replayed_log`]: which logs LevelDB would replay, by their names.
 //! 3. [`replaceable_file`]: which files a compaction may replace, by their names.
-//! 4. [`deleted_files`]: which files went into a compaction. [`have_filter`]: whether one of them has
-//!    a filter block.
+//! 4. [`deleted_files`]: which files went into a compaction. [`have_filter`]: whether one of them
+//!    has a filter block.
 //!
-//! None of these changes a folder. No contract says which files or logs these are, what is told, nor
-//! which calls of the system are made.
+//! None of these changes a folder. No contract says which files or logs these are, what is told,
+//! nor which calls of the system are made.
 #![tactic(auto)]
 
 mod amounts;

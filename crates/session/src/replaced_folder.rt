@@ -52,8 +52,8 @@ pub fn replaced_refusal<R: SystemFiles + AllocGlobal>(
     told(rt.alloc(), current.as_str(), REPLACED)
 }
 
-/// Tells if CURRENT names another manifest than when the folder was `opened`: a file that is missing
-/// may be the other program's doing.
+/// Tells if CURRENT names another manifest than when the folder was `opened`: a file that is
+/// missing may be the other program's doing.
 pub fn tell_replaced<R: SystemFiles + Eprint + AllocGlobal>(
     rt: &R,
     telling: Telling<'_>,

@@ -60,8 +60,8 @@ impl<'a> Telling<'a> {
         })
     }
 
-    /// Tells of the logs with writes that are in no table of the version, and answers how many there
-    /// are. None if the folder can't be listed, which is told.
+    /// Tells of the logs with writes that are in no table of the version, and answers how many
+    /// there are. None if the folder can't be listed, which is told.
     pub fn tell_logs<R: Files + Eprint + AllocGlobal>(
         self,
         rt: &R,

@@ -31,8 +31,8 @@ use std::thread::Threads;
 /// more. No contract says so.
 ///
 /// If the folder can't be opened, the file may be refused by another name. If memory runs out while
-/// it is opened, that may be answered as what is wrong with that file. The faults are Device, Memory
-/// and Changed.
+/// it is opened, that may be answered as what is wrong with that file. The faults are Device,
+/// Memory and Changed.
 pub fn refused_file<F: ReadsTables, R: Threads + Sync>(
     rt: &R,
     alloc: Global,

@@ -13,8 +13,8 @@
 //!     footer     48 bytes                     two handles, zeros and the magic
 //!
 //! A [`BlockHandle`] and a [`Footer`] are written by `push` and read by `read`. [`Trailer::of`] and
-//! [`Trailer::push`] write a trailer; [`contents`] reads a stored block, [`reopen_contents`] without
-//! its tests. That a checksum finds each damage is not claimed: it has 32 bits.
+//! [`Trailer::push`] write a trailer; [`contents`] reads a stored block, [`reopen_contents`]
+//! without its tests. That a checksum finds each damage is not claimed: it has 32 bits.
 //!
 //! [`push_stored`], [`push_index_entry`] and [`push_closing`] write the parts of a table, for a
 //! writer that has its data blocks already. [`data_blocks_law`], [`reads_tables`],

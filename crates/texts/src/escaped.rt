@@ -6,8 +6,8 @@
 //! 3. No bytes are `""`. The two bytes `""` are `\x22\x22`.
 //!
 //! A text is read by the same rules, with digits of either case. In a key too a space is read, and
-//! any byte may be given as `\xHH`. A character outside ASCII is read as its bytes in UTF-8. No other
-//! text is read: not the empty one, nor one with a lone backslash or a control character.
+//! any byte may be given as `\xHH`. A character outside ASCII is read as its bytes in UTF-8. No
+//! other text is read: not the empty one, nor one with a lone backslash or a control character.
 
 ghost use Rattle.std.specs.Prelude.{◌≡◌, ◌++◌, ◌<◌, length, slice_index, take, IsOkUnless, IfSome};
 ghost use Rattle.std.specs.Prelude.{None, Ok, Some, MatchOption, OnErr, OnOk, option_map};

@@ -1,8 +1,8 @@
-//! Keys, values and numbers as they are written in a command line and in answers: hexadecimal digits,
-//! or text with escapes.
+//! Keys, values and numbers as they are written in a command line and in answers: hexadecimal
+//! digits, or text with escapes.
 //!
-//! 1. [`text_of`] makes the text of bytes as hexadecimal digits, and [`key_of`] reads one, in digits of
-//!    either case.
+//! 1. [`text_of`] makes the text of bytes as hexadecimal digits, and [`key_of`] reads one, in
+//!    digits of either case.
 //! 2. [`bytes_of_escaped`] reads a text of characters and `\xHH`.
 //! 3. [`Spelling`] says which of the two ways is meant, and has the texts of keys and values.
 //!    [`texts_law`]: they read back.

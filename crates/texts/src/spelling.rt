@@ -17,8 +17,8 @@ use std::alloc::Global;
 pub enum Spelling {
     /// Two hexadecimal digits a byte; `-` for no bytes.
     Hexadecimal,
-    /// Printable ASCII, and `\xHH` for every other byte; `""` for no bytes. A character outside ASCII
-    /// is read as its bytes in UTF-8.
+    /// Printable ASCII, and `\xHH` for every other byte; `""` for no bytes. A character outside
+    /// ASCII is read as its bytes in UTF-8.
     Text,
 }
 

@@ -243,7 +243,8 @@ const CHOICES: &[Choice] = &[
     // One that lies apart, and all four.
     (OVERLAPPING, 0, &[6], Ok(None)),
     (OVERLAPPING, 0, &[5, 6, 7, 4], Ok(None)),
-    // The boundary file of a chosen file, also if that isn't the last one. The newer of two may stay.
+    // The boundary file of a chosen file, also if that isn't the last one. The newer of two may
+    // stay.
     (OF_ONE_KEY, 1, &[8], Ok(Some((1, 9)))),
     (OF_ONE_KEY, 1, &[3, 8], Ok(Some((1, 9)))),
     (OF_ONE_KEY, 1, &[9], Ok(None)),

@@ -4,13 +4,13 @@ use Rattle.std.proofs.lemmas.Bool.{ltb-true}
 use Rattle.std.specs.List.{fold, list_all}
 use Rattle.std.specs.Option.{ok_or, option_map, option_or}
 use Rattle.std.proofs.lemmas.Option.{none-some, same_Some}
-use Rattle.coding.proofs.Binds.{bind_ok, ok_is}
-use Rattle.coding.specs.Answers.{fault, ◌>>=◌}
-use Rattle.coding.specs.declared.fault.Fault.{Fault}
-use Rattle.coding.specs.declared.fault.FaultName.TheVariants.{Apply, Numbers}
-use Rattle.ikey.specs.Comparator.{KeyOrder}
-use Rattle.table.proofs.EntryTests.{passed}
-use Rattle.table.specs.TestResult.{test_result}
+use Rattle.edit.proofs.Binds.{bind_ok, ok_is}
+use Rattle.edit.specs.Answers.{fault, ◌>>=◌}
+use Rattle.edit.specs.fault.Fault.{Fault}
+use Rattle.edit.specs.fault.FaultName.TheVariants.{Apply, Numbers}
+use Rattle.edit.specs.Comparator.{KeyOrder}
+use Rattle.keep.proofs.EntryTests.{passed}
+use Rattle.keep.specs.TestResult.{test_result}
 use Rattle.edit.specs.Edit.{Edit, edit_bytes}
 use Rattle.edit.specs.Version.{State, applied, are_new, has_place, undeleted_files, with_file, with_pointer}
 use Rattle.edit.specs.declared.meta.NewFile.{NewFile}

@@ -1,9 +1,9 @@
 -- The calls of the installation of an outcome, as a part of those of the call.
 use Rattle.std.proofs.Common.{◌≡◌, ℕ, List, [], ◌∷◌, ◌++◌, map, Option, Result, Ok, Err, IfErr, IsErrAnd, ap, subst, ◌∙◌, inl, inr}
 use Rattle.std.specs.declared.cmp.Ordering.{Ordering}
-use Rattle.coding.specs.Answers.{fault}
-use Rattle.coding.specs.declared.fault.Fault.{Fault}
-use Rattle.coding.specs.declared.fault.FaultName.TheVariants.{Changed}
+use Rattle.edit.specs.Answers.{fault}
+use Rattle.edit.specs.fault.Fault.{Fault}
+use Rattle.edit.specs.fault.FaultName.TheVariants.{Changed}
 use Rattle.edit.specs.Version.{State}
 use Rattle.folder.proofs.LoadingLemmas.{told_since}
 use Rattle.folder.specs.Calls.{Done, Step}

@@ -1,11 +1,11 @@
 -- The steps of an adoption, as parts of a call.
 use Rattle.std.proofs.Common.{◌≡◌, ◌⊎◌, ℕ, List, Result, Ok, Err, IfOk, refl, subst, ◌∙◌, inl, inr, codes}
 use Rattle.std.specs.Global.{Vec}
-use Rattle.coding.proofs.Refusals.{only_memory, unless_from}
-use Rattle.coding.specs.Answers.{EqualOrMemory, FailsOrMemory, HoldsOrMemory, IsThen, UnlessMemory, fault}
-use Rattle.coding.specs.declared.fault.Fault.{Fault}
-use Rattle.coding.specs.declared.fault.FaultName.TheVariants.{Device, Memory}
-use Rattle.ikey.specs.Comparator.{KeyOrder}
+use Rattle.edit.proofs.Refusals.{only_memory, unless_from}
+use Rattle.edit.specs.Answers.{EqualOrMemory, FailsOrMemory, HoldsOrMemory, IsThen, UnlessMemory, fault}
+use Rattle.edit.specs.fault.Fault.{Fault}
+use Rattle.edit.specs.fault.FaultName.TheVariants.{Device, Memory}
+use Rattle.edit.specs.Comparator.{KeyOrder}
 use Rattle.edit.specs.Edit.{Edit}
 use Rattle.edit.specs.Version.{State}
 use Rattle.folder.proofs.LoadingLemmas.{told_since}

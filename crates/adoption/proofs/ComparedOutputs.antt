@@ -1,11 +1,11 @@
 -- Outputs that are compared with inputs.
 use Rattle.std.proofs.Common.{◌≡◌, ◌≢◌, ℕ, suc, List, [], ◌∷◌, length, map, Ok, Err, refl, sym, ap, subst, ◌∙◌}
 use Rattle.std.specs.Global.{Vec}
-use Rattle.coding.proofs.Binds.{failed}
-use Rattle.coding.specs.declared.fault.Fault.{Fault}
-use Rattle.coding.specs.declared.fault.FaultName.TheVariants.{Device, Lawless}
-use Rattle.ikey.specs.Comparator.{KeyOrder}
-use Rattle.table.specs.TableContents.{Contents}
+use Rattle.edit.proofs.Binds.{failed}
+use Rattle.edit.specs.fault.Fault.{Fault}
+use Rattle.edit.specs.fault.FaultName.TheVariants.{Device, Lawless}
+use Rattle.edit.specs.Comparator.{KeyOrder}
+use Rattle.keep.specs.TableContents.{Contents}
 use Rattle.install.specs.Install.{tables_in}
 use Rattle.pick.specs.PickedInputs.{PickedInputs}
 use Rattle.pick.specs.declared.picked_inputs.InputFile.{InputFile}

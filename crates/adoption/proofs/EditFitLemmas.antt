@@ -5,10 +5,10 @@ use Rattle.std.specs.Option.{ok_or}
 use Rattle.std.specs.Bool.{Decides}
 use Rattle.std.specs.Cmp.Lexicographic.{pointwise, pointwise_decides}
 use Rattle.edit.specs.declared.meta.DeletedFile.{DeletedFile}
-use Rattle.coding.specs.Answers.{fault}
-use Rattle.coding.specs.declared.fault.Fault.{Fault}
-use Rattle.coding.specs.declared.fault.FaultName.TheVariants.{Apply, Level, NoInput}
-use Rattle.ikey.specs.Comparator.{KeyOrder}
+use Rattle.edit.specs.Answers.{fault}
+use Rattle.edit.specs.fault.Fault.{Fault}
+use Rattle.edit.specs.fault.FaultName.TheVariants.{Apply, Level, NoInput}
+use Rattle.edit.specs.Comparator.{KeyOrder}
 use Rattle.edit.specs.Edit.{Edit}
 use Rattle.edit.specs.Version.{State}
 use Rattle.edit.specs.VersionOrder.{level_files}

@@ -4,7 +4,7 @@ use Rattle.std.proofs.Common.{◌≡◌, ◌⊎◌, ℕ, zero, suc, ◌+◌, ◌
 use Rattle.std.specs.Prelude.{Contains}
 use Rattle.std.specs.List.{AllZip}
 use Rattle.std.proofs.lemmas.List.Elements.{All-contains}
-use Rattle.ikey.specs.Comparator.{KeyOrder}
+use Rattle.edit.specs.Comparator.{KeyOrder}
 use Rattle.edit.specs.Edit.{Edit}
 use Rattle.edit.specs.Version.{State}
 use Rattle.edit.specs.VersionOrder.{level_files}
@@ -17,8 +17,8 @@ use Rattle.folder.specs.ReadsAs.{IsFileIn, IsOneOf}
 use Rattle.folder.specs.declared.order.Order.{Order}
 use Rattle.install.specs.Install.{IsEditedBy, next_version_tables, numbers_of, table_bytes_of}
 use Rattle.install.proofs.Numbers.{after_edit, among_append, in_files, in_version, numbers_in, small_added}
-use Rattle.reads.proofs.Members.{first_in, later_in}
-use Rattle.reads.specs.Lawful.{IsBelowNextFile}
+use Rattle.keep.proofs.Members.{first_in, later_in}
+use Rattle.keep.specs.Lawful.{IsBelowNextFile}
 use Rattle.checks.specs.LawfulTables.{IsLawfulTables}
 use Rattle.checks.specs.TestedTables.{IsTested}
 use Rattle.checks.specs.declared.version_totals.VersionTotals.{VersionTotals}

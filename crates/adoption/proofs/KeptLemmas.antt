@@ -6,15 +6,15 @@ use Rattle.std.proofs.lemmas.Option.{none-some, same_Some}
 use Rattle.std.proofs.lemmas.List.{drop_all}
 use Rattle.std.specs.Str.{bytes_eq}
 use Rattle.std.proofs.lemmas.Slice.Eq.{bytes_eq-Decides}
-use Rattle.coding.proofs.Binds.{ok_is}
-use Rattle.coding.specs.Answers.{UnlessMemory, UnlessNamed, fault}
-use Rattle.coding.specs.declared.fault.Fault.{Fault}
-use Rattle.coding.specs.declared.fault.FaultName.{FaultName}
-use Rattle.coding.specs.declared.fault.FaultName.TheVariants.{Duplicate}
-use Rattle.ikey.specs.Comparator.{KeyOrder}
-use Rattle.block.specs.EncodedEntry.{Entry}
+use Rattle.edit.proofs.Binds.{ok_is}
+use Rattle.edit.specs.Answers.{UnlessMemory, UnlessNamed, fault}
+use Rattle.edit.specs.fault.Fault.{Fault}
+use Rattle.edit.specs.fault.FaultName.{FaultName}
+use Rattle.edit.specs.fault.FaultName.TheVariants.{Duplicate}
+use Rattle.edit.specs.Comparator.{KeyOrder}
+use Rattle.keep.specs.EncodedEntry.{Entry}
 use Rattle.merge.specs.MergedLists.{merged}
-use Rattle.split.specs.Ranges.{KeyRange}
+use Rattle.store.specs.Ranges.{KeyRange}
 use Rattle.keep.specs.DropRule.{kept}
 use Rattle.keep.specs.InRange.{entries_in}
 use Rattle.keep.specs.Marks.{CompactionContext}

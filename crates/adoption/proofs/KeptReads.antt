@@ -8,13 +8,13 @@ use Rattle.std.specs.Map.{lookup}
 use Rattle.std.specs.Option.{ForSome, option_map_or}
 use Rattle.std.proofs.lemmas.List.Elements.{All-contains, Contains-append_cases, Contains-append_left, Contains-append_right}
 use Rattle.std.proofs.lemmas.Option.{none-some, same_Some}
-use Rattle.coding.proofs.Binds.{bind_ok, ok_is}
-use Rattle.coding.specs.Answers.{◌>>=◌}
-use Rattle.coding.specs.declared.fault.FaultName.TheVariants.{Bounds}
-use Rattle.ikey.specs.Comparator.{KeyOrder}
-use Rattle.block.specs.EncodedEntry.{Entry}
-use Rattle.table.specs.TestResult.{test_result}
-use Rattle.table.specs.TableContents.{Contents, contents_reading}
+use Rattle.edit.proofs.Binds.{bind_ok, ok_is}
+use Rattle.edit.specs.Answers.{◌>>=◌}
+use Rattle.edit.specs.fault.FaultName.TheVariants.{Bounds}
+use Rattle.edit.specs.Comparator.{KeyOrder}
+use Rattle.keep.specs.EncodedEntry.{Entry}
+use Rattle.keep.specs.TestResult.{test_result}
+use Rattle.keep.specs.TableContents.{Contents, contents_reading}
 use Rattle.edit.specs.Edit.{Edit}
 use Rattle.edit.specs.Version.{State, undeleted_files, with_file}
 use Rattle.edit.specs.declared.meta.FileMeta.{FileMeta}
@@ -32,10 +32,10 @@ use Rattle.pick.specs.PickedInputs.{IsPicked}
 use Rattle.pick.specs.declared.picked_inputs.InputFile.{InputFile}
 use Rattle.keep.specs.Readable.{Readable, is_read, readable_of}
 use Rattle.keep.specs.declared.snapshots.Snapshots.{Snapshots}
-use Rattle.reads.proofs.Members.{first_in, from_filter, from_flat_map, in_flat_map, later_in, none_in}
-use Rattle.reads.specs.Gets.{get_of}
-use Rattle.reads.specs.Lawful.{IsFileOf, IsLawful}
-use Rattle.reads.specs.Tables.{NumberedContents, table_entries, table_of_number}
+use Rattle.keep.proofs.Members.{first_in, from_filter, from_flat_map, in_flat_map, later_in, none_in}
+use Rattle.keep.specs.Gets.{get_of}
+use Rattle.keep.specs.Lawful.{IsFileOf, IsLawful}
+use Rattle.keep.specs.Tables.{NumberedContents, table_entries, table_of_number}
 use Rattle.compact.specs.EditOf.{deletions_of, edit_of}
 use Rattle.compact.specs.Request.{RequestView}
 use Rattle.compact.specs.ClosedInputs.{is_input}

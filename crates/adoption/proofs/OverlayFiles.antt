@@ -5,8 +5,8 @@ use Rattle.std.specs.List.{AllZip}
 use Rattle.std.specs.Option.{option_map, option_or}
 use Rattle.std.specs.Str.{bytes_eq}
 use Rattle.std.proofs.lemmas.Slice.Eq.{bytes_eq-Decides}
-use Rattle.coding.specs.declared.fault.Fault.{Fault}
-use Rattle.ikey.specs.Comparator.{KeyOrder}
+use Rattle.edit.specs.fault.Fault.{Fault}
+use Rattle.edit.specs.Comparator.{KeyOrder}
 use Rattle.edit.specs.Version.{State}
 use Rattle.folder.specs.Calls.{AreTorn, Call, Created, Files, FolderSynced, FolderView, Removed, Renamed, Synced, Tells, TellsAfter, ToldFiles, Tried, Written, step_of, with_contents, with_value}
 use Rattle.folder.specs.Folder.{TellsSame}

@@ -5,14 +5,14 @@ use Rattle.std.specs.List.{fold}
 use Rattle.std.specs.Ordering.{is_lt, match_ordering}
 use Rattle.std.specs.declared.cmp.Ordering.{Ordering}
 use Rattle.std.specs.declared.cmp.Ordering.TheVariants.{Equal, Greater, Less}
-use Rattle.ikey.specs.Comparator.{KeyOrder}
-use Rattle.ikey.specs.Order.{internal_cmp}
-use Rattle.block.specs.EncodedEntry.{Entry}
+use Rattle.edit.specs.Comparator.{KeyOrder}
+use Rattle.edit.specs.Order.{internal_cmp}
+use Rattle.keep.specs.EncodedEntry.{Entry}
 use Rattle.edit.specs.Version.{number_cmp, with_file}
 use Rattle.edit.specs.declared.meta.NewFile.{NewFile}
 use Rattle.merge.specs.MergedLists.{entries_of_lists, entries_with, merged, sorted_entries}
-use Rattle.reads.proofs.Members.{first_in, first_or_later, later_in, none_in}
-use Rattle.reads.proofs.Orders.{equal_is}
+use Rattle.keep.proofs.Members.{first_in, first_or_later, later_in, none_in}
+use Rattle.compact.proofs.Orders.{equal_is}
 
 -- ---- sorted entries
 

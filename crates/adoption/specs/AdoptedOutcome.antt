@@ -1,7 +1,7 @@
 -- An outcome that was adopted.
 use Rattle.std.specs.Prelude.{◌≡◌, ℕ, List, map}
 use Rattle.std.specs.Prelude.{Ok}
-use Rattle.ikey.specs.Comparator.{KeyOrder}
+use Rattle.edit.specs.Comparator.{KeyOrder}
 use Rattle.edit.specs.Edit.{Edit, IsEdit}
 use Rattle.edit.specs.Version.{IsState, State}
 use Rattle.store.specs.InputsCompaction.{input_numbers}

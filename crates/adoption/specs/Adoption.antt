@@ -5,14 +5,14 @@ use Rattle.std.specs.Prelude.{Some, None, unwrap_or, Result, Ok}
 use Rattle.std.specs.Map.{lookup}
 use Rattle.std.specs.Option.{ok_or, option_or}
 use Rattle.std.specs.Str.{bytes_eq}
-use Rattle.coding.specs.Answers.{IsThen, fault, ◌>>=◌}
-use Rattle.coding.specs.declared.fault.Fault.{Fault}
-use Rattle.coding.specs.declared.fault.FaultName.TheVariants.{Apply, Numbers}
-use Rattle.ikey.specs.Comparator.{KeyOrder}
-use Rattle.table.specs.TestResult.{test_result}
-use Rattle.table.specs.TableContents.{Contents}
-use Rattle.table.specs.declared.options.TheConstants.{DEFAULT_BLOCK_SIZE, DEFAULT_FILE_SIZE}
-use Rattle.table.specs.declared.options.TheConstants.{DEFAULT_RESTART_INTERVAL}
+use Rattle.edit.specs.Answers.{IsThen, fault, ◌>>=◌}
+use Rattle.edit.specs.fault.Fault.{Fault}
+use Rattle.edit.specs.fault.FaultName.TheVariants.{Apply, Numbers}
+use Rattle.edit.specs.Comparator.{KeyOrder}
+use Rattle.keep.specs.TestResult.{test_result}
+use Rattle.keep.specs.TableContents.{Contents}
+use Rattle.compact.specs.options.TheConstants.{DEFAULT_BLOCK_SIZE, DEFAULT_FILE_SIZE}
+use Rattle.compact.specs.options.TheConstants.{DEFAULT_RESTART_INTERVAL}
 use Rattle.edit.specs.Edit.{Edit, edit_bytes}
 use Rattle.edit.specs.Version.{State, applied}
 use Rattle.edit.specs.declared.meta.NewFile.{NewFile}

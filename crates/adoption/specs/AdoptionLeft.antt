@@ -1,9 +1,9 @@
 -- What the installation of an outcome leaves of a folder.
 use Rattle.std.specs.Prelude.{◌≡◌, ◌⊎◌, ℕ, true, List, Result, Ok, IfErr, IfOk}
-use Rattle.coding.specs.Answers.{UnlessMemory, fault}
-use Rattle.coding.specs.declared.fault.Fault.{Fault}
-use Rattle.coding.specs.declared.fault.FaultName.TheVariants.{Device}
-use Rattle.ikey.specs.Comparator.{KeyOrder}
+use Rattle.edit.specs.Answers.{UnlessMemory, fault}
+use Rattle.edit.specs.fault.Fault.{Fault}
+use Rattle.edit.specs.fault.FaultName.TheVariants.{Device}
+use Rattle.edit.specs.Comparator.{KeyOrder}
 use Rattle.edit.specs.Version.{State}
 use Rattle.folder.specs.Calls.{Files, Step, ToldFiles}
 use Rattle.folder.specs.Manifest.{order_name}
@@ -11,8 +11,8 @@ use Rattle.folder.specs.ReadsAs.{IsFileIn}
 use Rattle.folder.specs.declared.order.Order.{Order}
 use Rattle.install.specs.Install.{IsEditedBy, SurvivesCrash, next_version_tables}
 use Rattle.keep.specs.Readable.{is_read, readable_of}
-use Rattle.reads.specs.Gets.{get_of}
-use Rattle.reads.specs.Tables.{NumberedContents}
+use Rattle.keep.specs.Gets.{get_of}
+use Rattle.keep.specs.Tables.{NumberedContents}
 use Rattle.checks.specs.LawfulTables.{IsLawfulTables}
 use Rattle.store.specs.Compaction.{IsUnchanged}
 use Rattle.store.specs.FolderRequest.{last_of, manifest_of}

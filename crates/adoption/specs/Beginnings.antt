@@ -1,7 +1,7 @@
 -- Lists that begin with others.
 use Rattle.std.specs.Prelude.{Bool, false, ◌&&◌, List, [], ◌∷◌}
 use Rattle.std.specs.Str.{bytes_eq}
-use Rattle.block.specs.EncodedEntry.{Entry}
+use Rattle.keep.specs.EncodedEntry.{Entry}
 
 -- whether the first of the entries is this one
 abbrev pub begins_with : Entry → List Entry → Bool

@@ -1,8 +1,8 @@
 -- What a call on two folders answers and reports.
 use Rattle.std.specs.Prelude.{◌≡◌, ◌⊎◌, ◌≤◌, Result, Ok, Err, IfErr}
-use Rattle.coding.specs.Answers.{UnlessMemory, fault}
-use Rattle.coding.specs.declared.fault.Fault.{Fault}
-use Rattle.coding.specs.declared.fault.FaultName.TheVariants.{Device}
+use Rattle.edit.specs.Answers.{UnlessMemory, fault}
+use Rattle.edit.specs.fault.Fault.{Fault}
+use Rattle.edit.specs.fault.FaultName.TheVariants.{Device}
 use Rattle.folder.specs.Folder.{DeviceFailed}
 use Rattle.folder.specs.OpenAnswer.{StopsAtDevice}
 use Rattle.folder.specs.declared.folder.Folder.{Ghosts}

@@ -1,7 +1,7 @@
 -- What the installation of an outcome leaves, step by step.
 use Rattle.std.specs.Prelude.{◌⊎◌, ℕ, List, Result}
-use Rattle.coding.specs.declared.fault.Fault.{Fault}
-use Rattle.ikey.specs.Comparator.{KeyOrder}
+use Rattle.edit.specs.fault.Fault.{Fault}
+use Rattle.edit.specs.Comparator.{KeyOrder}
 use Rattle.edit.specs.Version.{State}
 use Rattle.folder.specs.Calls.{Step, ToldFiles}
 use Rattle.folder.specs.declared.order.Order.{Order}

@@ -1,8 +1,8 @@
 //! An edit that fits a version, as it is installed.
 
 ghost use Rattle.std.specs.Prelude.{◌≡◌, max, IfOk, Ok, OnOk};
-ghost use Rattle.coding.specs.Answers.{EqualOrMemory, HoldsOrMemory, fault};
-ghost use Rattle.coding.specs.declared.fault.FaultName.TheVariants.{Memory};
+ghost use Rattle.edit.specs.Answers.{EqualOrMemory, HoldsOrMemory, fault};
+ghost use Rattle.edit.specs.fault.FaultName.TheVariants.{Memory};
 ghost use Rattle.edit.specs.Edit.{HasValidLevels, IsEdit, edit_in};
 ghost use Rattle.edit.specs.Version.{IsState};
 ghost use Rattle.pick.specs.PickedInputs.{picked_in};
@@ -11,9 +11,7 @@ ghost use Rattle.adoption.specs.Adoption.{counted_edit, outputs_in_edit};
 ghost use Rattle.adoption.specs.AdoptionIn.{adoption_in};
 
 use crate::edit_fit::fitting_inputs;
-use coding::{Fault, FaultName};
-use edit::{NewFile, Version, VersionEdit};
-use ikey::Comparator;
+use edit::{Comparator, Fault, FaultName, NewFile, Version, VersionEdit};
 use pick::{InputFile, Inputs};
 use std::alloc::Global;
 use store::{manifest_of, test_files};

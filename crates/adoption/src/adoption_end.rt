@@ -1,6 +1,6 @@
 //! What an installation of an outcome gives back.
 
-use coding::Fault;
+use edit::Fault;
 use store::CompactionStep;
 
 /// The folder in which an outcome was to be installed, and the answer.

@@ -3,8 +3,8 @@
 ghost use Rattle.std.specs.Prelude.{◌≡◌, ◌↔◌, ◌≤◌, ◌&&◌, ◌∷◌, [], nat_eq, nat_lt, IsTrue, IfOk};
 ghost use Rattle.std.specs.Prelude.{IfErr, OnOk};
 ghost use Rattle.std.specs.List.{list_all};
-ghost use Rattle.coding.specs.Answers.{HoldsOrMemory, fault};
-ghost use Rattle.coding.specs.declared.fault.FaultName.TheVariants.{Memory};
+ghost use Rattle.edit.specs.Answers.{HoldsOrMemory, fault};
+ghost use Rattle.edit.specs.fault.FaultName.TheVariants.{Memory};
 ghost use Rattle.edit.specs.Edit.{edit_in};
 ghost use Rattle.edit.specs.Version.{IsState};
 ghost use Rattle.pick.specs.PickedInputs.{picked_in};
@@ -13,10 +13,8 @@ ghost use Rattle.compact.specs.EditOf.{deletions_of};
 ghost use Rattle.adoption.specs.EditFit.{IsChoiceOf, IsEditFor, IsFitting, are_counted};
 ghost use Rattle.adoption.specs.EditFit.{is_reached, only_level, rise_between, rise_within};
 
-use coding::{Fault, FaultName};
 use compact::deletions_of;
-use edit::{CompactPointer, NewFile, Version, VersionEdit};
-use ikey::Comparator;
+use edit::{CompactPointer, Comparator, Fault, FaultName, NewFile, Version, VersionEdit};
 use pick::{InputFile, Inputs, inputs};
 use std::alloc::Global;
 

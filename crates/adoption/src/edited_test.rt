@@ -12,12 +12,9 @@ ghost use Rattle.adoption.specs.Overlay.{names_of};
 
 use crate::overlay::{Overlay, names_of};
 use crate::refusals::Refusals;
-use board::Workers;
-use checks::{VersionTotals, Watch, test_version};
-use coding::Fault;
-use edit::Version;
+use checks::{SharedComparator, VersionTotals, Watch, Workers, test_version};
+use edit::{Fault, Version};
 use folder::Folder;
-use ikey::SharedComparator;
 use std::thread::Threads;
 
 /// The folder in which a version was tested, and the answer.

@@ -9,10 +9,8 @@ ghost use Rattle.adoption.specs.AdoptedOutcome.{IsAdopted};
 ghost use Rattle.adoption.specs.AdoptionIn.{given_in};
 
 use crate::adopted_edit::adopted_edit;
-use coding::{Fault, FaultName};
-use edit::{Outcome, Version, VersionEdit};
+use edit::{Comparator, Fault, FaultName, Outcome, Version, VersionEdit};
 use folder::Folder;
-use ikey::Comparator;
 use pick::{InputFile, Inputs};
 use std::alloc::Global;
 use store::load_inputs;

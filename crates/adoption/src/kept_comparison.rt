@@ -1,7 +1,7 @@
 //! The test of an outcome's outputs.
 
 ghost use Rattle.std.specs.Prelude.{◌≡◌, length};
-ghost use Rattle.coding.specs.Answers.{EqualOrMemory, HoldsOrMemory};
+ghost use Rattle.edit.specs.Answers.{EqualOrMemory, HoldsOrMemory};
 ghost use Rattle.folder.specs.Calls.{Files, Tells};
 ghost use Rattle.folder.specs.OpenAnswer.{FolderAnswers};
 ghost use Rattle.folder.specs.Reports.{OnlyReads, ReportsDevice};
@@ -15,18 +15,15 @@ ghost use Rattle.adoption.specs.AdoptionIn.{adoption_of, given_in};
 use crate::comparison::Comparison;
 use crate::given_outcome::GivenOutcome;
 use crate::kept_entries::holds_kept;
-use board::Workers;
-use checks::{Watch, Work};
-use coding::{Fault, FaultName};
-use compact::{Request, passed_law};
+use checks::{SharedComparator, Watch, Work, Workers};
+use compact::{Options, Request, passed_law};
+use edit::{Comparator, Fault, FaultName};
 use folder::Folder;
-use ikey::{Comparator, SharedComparator};
-use keep::Snapshots;
+use keep::{Snapshots, SoundTable};
 use pick::Inputs;
 use std::alloc::Global;
 use std::thread::Threads;
 use store::{bytes_of, checked_inputs, load_inputs};
-use table::{Options, SoundTable};
 
 /// Tests the outputs of an outcome: each is a table as the edit states it, and together they hold
 /// what a compaction of the inputs keeps, as `comparison` says. It only reads.

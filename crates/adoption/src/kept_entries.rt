@@ -2,21 +2,18 @@
 
 ghost use Rattle.std.specs.Prelude.{◌≡◌, ◌↔◌, map, IfOk, IfErr, IsTrue};
 ghost use Rattle.std.specs.List.Sorted.{IsStrictlyIncreasing};
-ghost use Rattle.coding.specs.Answers.{fault};
-ghost use Rattle.coding.specs.declared.fault.FaultName.TheVariants.{Memory};
+ghost use Rattle.edit.specs.Answers.{fault};
+ghost use Rattle.edit.specs.fault.FaultName.TheVariants.{Memory};
 ghost use Rattle.merge.specs.MergedLists.{merged};
 ghost use Rattle.keep.specs.Marks.{LargestRise};
 ghost use Rattle.adoption.specs.KeptEntries.{HoldsKept};
 ghost use Rattle.adoption.specs.Beginnings.{begins_with};
 
-use coding::{Fault, FaultName};
-use ikey::{Comparator, InternalKey};
-use keep::{RangeRun, distinct_law, merge_range};
+use edit::{Comparator, Fault, FaultName, InternalKey};
+use keep::{Cursor, Range, RangeRun, SoundTable, TableCursor, distinct_law, merge_range};
 use merge::Merging;
 use pick::Inputs;
-use split::Range;
 use std::alloc::Global;
-use table::{Cursor, SoundTable, TableCursor};
 
 /// Whether `outputs` hold just what a compaction of `picked` inputs keeps of their tables. `listed`
 /// and `floor` say which sequences stay readable, as in `keep::merge_range`.

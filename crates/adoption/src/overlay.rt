@@ -3,7 +3,7 @@
 ghost use Rattle.std.specs.Prelude.{◌≡◌, [], ◌∷◌, ◌++◌, map, Ok, Err, string_bytes};
 ghost use Rattle.std.specs.Option.{option_map};
 ghost use Rattle.std.specs.Str.{bytes_eq};
-ghost use Rattle.coding.specs.Answers.{EqualOrMemory};
+ghost use Rattle.edit.specs.Answers.{EqualOrMemory};
 ghost use Rattle.folder.specs.Calls.{Tried};
 ghost use Rattle.folder.specs.Folder.{IsToldBy, part_of};
 ghost use Rattle.folder.specs.Names.{table_name};
@@ -13,7 +13,7 @@ ghost use Rattle.adoption.specs.Adoption.{laid_table};
 ghost use Rattle.adoption.specs.Overlay.{names_of, refused_call};
 
 use crate::refusals::{Refusals, RefusedCall};
-use coding::Fault;
+use edit::Fault;
 use folder::{Folder, FolderFault, NoReader, ReadsTables, TableReader, part_of, table_name};
 use std::alloc::Global;
 use std::thread::Threads;

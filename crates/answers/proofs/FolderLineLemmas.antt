@@ -1,7 +1,7 @@
 -- The answers of a folder's tables, step by step.
 use Rattle.std.proofs.Common.{◌≡◌, ℕ, ◌≤◌, List, Option, Result, Ok, Err, refl, ap}
 use Rattle.std.specs.declared.cmp.Ordering.{Ordering}
-use Rattle.coding.specs.declared.fault.Fault.{Fault}
+use Rattle.table.specs.fault.Fault.{Fault}
 use Rattle.edit.specs.Version.{State}
 use Rattle.folder.proofs.OpeningLemmas.{answers_since}
 use Rattle.folder.specs.Calls.{Files}
@@ -10,7 +10,7 @@ use Rattle.folder.specs.LoadedTables.{IsLoaded}
 use Rattle.folder.specs.OpenAnswer.{FolderAnswers, IsOpened}
 use Rattle.folder.specs.ReadsAs.{IsFileIn}
 use Rattle.folder.specs.declared.order.Order.{Order}
-use Rattle.reads.specs.Tables.{NumberedContents}
+use Rattle.checks.specs.Tables.{NumberedContents}
 use Rattle.checks.specs.LawfulTables.{IsLawfulTables}
 use Rattle.checks.specs.TestedTables.{IsTested, totals_of}
 use Rattle.checks.specs.declared.version_totals.VersionTotals.{VersionTotals}

@@ -6,13 +6,13 @@ use Rattle.std.specs.Option.{option_map}
 use Rattle.std.specs.declared.cmp.Ordering.{Ordering}
 use Rattle.std.proofs.lemmas.Bool.{eqb-true}
 use Rattle.std.proofs.lemmas.Option.{none-some, same_Some}
-use Rattle.coding.proofs.Binds.{bind_ok, ok_is}
-use Rattle.coding.specs.Answers.{◌>>=◌}
+use Rattle.table.proofs.Binds.{bind_ok, ok_is}
+use Rattle.table.specs.Answers.{◌>>=◌}
 use Rattle.checks.specs.TableReadings.{numbered_reading, tables_reading}
 use Rattle.folder.specs.Calls.{Files, Tells}
 use Rattle.folder.specs.LoadedTables.{IsTableAnswer, IsTableOf}
 use Rattle.folder.specs.Names.{old_table_name, table_name}
-use Rattle.reads.specs.Tables.{NumberedContents, table_of_number}
+use Rattle.checks.specs.Tables.{NumberedContents, table_of_number}
 use Rattle.scan.specs.FolderTables.{HoldTables, HoldsTable, TellsJust}
 use Rattle.table.specs.TableContents.{Contents, blocks_of, contents_of, contents_reading}
 

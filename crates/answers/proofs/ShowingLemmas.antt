@@ -1,8 +1,8 @@
 -- What is answered of a version, step by step.
 use Rattle.std.proofs.Common.{◌≡◌, ℕ, Result, Ok, Err, IfErr, sym, ap, ◌∙◌}
-use Rattle.coding.proofs.Refusals.{unless_from, only_memory}
-use Rattle.coding.specs.Answers.{EqualOrMemory, HoldsOrMemory}
-use Rattle.coding.specs.declared.fault.Fault.{Fault}
+use Rattle.table.proofs.Refusals.{unless_from, only_memory}
+use Rattle.table.specs.Answers.{EqualOrMemory, HoldsOrMemory}
+use Rattle.table.specs.fault.Fault.{Fault}
 use Rattle.folder.specs.OpenAnswer.{HasDeviceFailed}
 
 abbrev refusal : {Y : Type 0} → Fault → Result Y Fault

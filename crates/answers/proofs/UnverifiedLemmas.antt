@@ -1,7 +1,7 @@
 -- What is answered of a value that is got without a test.
 use Rattle.std.proofs.Common.{◌≡◌, ◌⊎◌, ℕ, ◌≤◌, Result, Ok, Err, IsErrAnd, sym, arith}
-use Rattle.coding.specs.Answers.{EqualOrMemory, UnlessMemory}
-use Rattle.coding.specs.declared.fault.Fault.{Fault}
+use Rattle.table.specs.Answers.{EqualOrMemory, UnlessMemory}
+use Rattle.table.specs.fault.Fault.{Fault}
 use Rattle.folder.proofs.OpeningLemmas.{answers_alone, hands_on}
 use Rattle.folder.specs.OpenAnswer.{FolderAnswers, IsStopped}
 use Rattle.answers.proofs.ShowingLemmas.{answer_holds}

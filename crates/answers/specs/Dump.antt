@@ -2,13 +2,13 @@
 use Rattle.std.specs.Prelude.{ℕ, List, ◌++◌, codes, Result, Ok}
 use Rattle.std.specs.List.{flat_map}
 use Rattle.std.specs.Fmt.{decimal}
-use Rattle.coding.specs.Answers.{◌>>=◌}
-use Rattle.coding.specs.declared.fault.Fault.{Fault}
-use Rattle.block.specs.EncodedEntry.{Entry}
-use Rattle.ikey.specs.Bytewise.{bytewise_cmp}
-use Rattle.ikey.specs.Key.{user_of, sequence_of, kind_of}
-use Rattle.ikey.specs.declared.kind.Kind.{Kind}
-use Rattle.ikey.specs.declared.kind.Kind.TheVariants.{Delete, Put}
+use Rattle.table.specs.Answers.{◌>>=◌}
+use Rattle.table.specs.fault.Fault.{Fault}
+use Rattle.table.specs.EncodedEntry.{Entry}
+use Rattle.table.specs.Bytewise.{bytewise_cmp}
+use Rattle.table.specs.Key.{user_of, sequence_of, kind_of}
+use Rattle.scan.specs.kind.Kind.{Kind}
+use Rattle.scan.specs.kind.Kind.TheVariants.{Delete, Put}
 use Rattle.table.specs.TableContents.{table_reading}
 use Rattle.texts.specs.Spelling.{key_text, value_text}
 use Rattle.texts.specs.declared.spelling.Spelling.{Spelling}

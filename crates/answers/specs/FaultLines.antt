@@ -1,21 +1,21 @@
 -- The lines of what is wrong with a version, and of a valid table.
 use Rattle.std.specs.Prelude.{ℕ, List, ◌++◌, codes, decimal, length, Result, Ok}
-use Rattle.coding.specs.Answers.{◌>>=◌}
-use Rattle.coding.specs.Saturated.{saturated}
-use Rattle.coding.specs.declared.fault.Fault.{Fault}
-use Rattle.coding.specs.declared.fault.FaultName.{FaultName}
-use Rattle.coding.specs.declared.fault.FaultName.TheVariants.{NoInput, Level, Options, SplitOrder}
-use Rattle.coding.specs.declared.fault.FaultName.TheVariants.{SplitCount, Workers, Snapshot, Size}
-use Rattle.coding.specs.declared.fault.FaultName.TheVariants.{Short, Magic, Handle, Range, Trailer}
-use Rattle.coding.specs.declared.fault.FaultName.TheVariants.{Compressed, BlockType, Block, Key}
-use Rattle.coding.specs.declared.fault.FaultName.TheVariants.{Index, Order, Empty, Bounds}
-use Rattle.coding.specs.declared.fault.FaultName.TheVariants.{Duplicate, Numbers, TooLarge}
-use Rattle.coding.specs.declared.fault.FaultName.TheVariants.{SnapshotList, LogChecksum, LogShape}
-use Rattle.coding.specs.declared.fault.FaultName.TheVariants.{EditTag, EditField, Comparator, Apply}
-use Rattle.coding.specs.declared.fault.FaultName.TheVariants.{Lawless, Device, Missing, Locked}
-use Rattle.coding.specs.declared.fault.FaultName.TheVariants.{Changed, Memory}
-use Rattle.block.specs.EncodedEntry.{Entry}
-use Rattle.ikey.specs.Bytewise.{bytewise_cmp}
+use Rattle.table.specs.Answers.{◌>>=◌}
+use Rattle.table.specs.Saturated.{saturated}
+use Rattle.table.specs.fault.Fault.{Fault}
+use Rattle.table.specs.fault.FaultName.{FaultName}
+use Rattle.table.specs.fault.FaultName.TheVariants.{NoInput, Level, Options, SplitOrder}
+use Rattle.table.specs.fault.FaultName.TheVariants.{SplitCount, Workers, Snapshot, Size}
+use Rattle.table.specs.fault.FaultName.TheVariants.{Short, Magic, Handle, Range, Trailer}
+use Rattle.table.specs.fault.FaultName.TheVariants.{Compressed, BlockType, Block, Key}
+use Rattle.table.specs.fault.FaultName.TheVariants.{Index, Order, Empty, Bounds}
+use Rattle.table.specs.fault.FaultName.TheVariants.{Duplicate, Numbers, TooLarge}
+use Rattle.table.specs.fault.FaultName.TheVariants.{SnapshotList, LogChecksum, LogShape}
+use Rattle.table.specs.fault.FaultName.TheVariants.{EditTag, EditField, Comparator, Apply}
+use Rattle.table.specs.fault.FaultName.TheVariants.{Lawless, Device, Missing, Locked}
+use Rattle.table.specs.fault.FaultName.TheVariants.{Changed, Memory}
+use Rattle.table.specs.EncodedEntry.{Entry}
+use Rattle.table.specs.Bytewise.{bytewise_cmp}
 use Rattle.table.specs.TableContents.{table_reading}
 use Rattle.texts.specs.Spelling.{key_text}
 use Rattle.texts.specs.declared.spelling.Spelling.{Spelling}

@@ -1,15 +1,15 @@
 -- The answers of the commands that read the tables of a folder.
 use Rattle.std.specs.Prelude.{◌≡◌, ℕ, List, ◌++◌, codes, decimal, length, Option}
 use Rattle.std.specs.Prelude.{Result, Ok}
-use Rattle.coding.specs.Answers.{IsThen}
-use Rattle.coding.specs.declared.fault.Fault.{Fault}
-use Rattle.ikey.specs.Comparator.{KeyOrder}
+use Rattle.table.specs.Answers.{IsThen}
+use Rattle.table.specs.fault.Fault.{Fault}
+use Rattle.table.specs.Comparator.{KeyOrder}
 use Rattle.edit.specs.Version.{State}
 use Rattle.folder.specs.Levels.{file_numbers}
 use Rattle.folder.specs.LoadedTables.{IsLoaded}
 use Rattle.folder.specs.OpenAnswer.{IsOpened}
-use Rattle.reads.specs.Gets.{get_of}
-use Rattle.reads.specs.Tables.{NumberedContents}
+use Rattle.checks.specs.Gets.{get_of}
+use Rattle.checks.specs.Tables.{NumberedContents}
 use Rattle.checks.specs.LawfulTables.{IsLawfulTables}
 use Rattle.checks.specs.TestedTables.{entry_count}
 use Rattle.scan.specs.ChosenRows.{chosen_sequence}

@@ -1,6 +1,6 @@
 -- The files of a version, each with its level.
 use Rattle.std.specs.Prelude.{ℕ, List, map}
-use Rattle.ikey.specs.Comparator.{KeyOrder}
+use Rattle.table.specs.Comparator.{KeyOrder}
 use Rattle.edit.specs.Version.{State}
 use Rattle.edit.specs.VersionOrder.{level_files}
 use Rattle.edit.specs.declared.meta.FileMeta.{FileMeta}

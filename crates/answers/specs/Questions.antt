@@ -1,7 +1,7 @@
 -- What is printed as the answer to a question about a version and its tables.
 use Rattle.std.specs.Prelude.{ℕ, List, Option, Some}
 use Rattle.edit.specs.Version.{State}
-use Rattle.reads.specs.Tables.{NumberedContents}
+use Rattle.checks.specs.Tables.{NumberedContents}
 use Rattle.answers.specs.FolderLines.{got_answer, verified_line}
 use Rattle.answers.specs.declared.question.Question.{Question}
 use Rattle.answers.specs.declared.question.Question.TheVariants.{Lawful, Value}

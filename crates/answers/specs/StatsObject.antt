@@ -2,8 +2,8 @@
 use Rattle.std.specs.Prelude.{List, map, codes}
 use Rattle.serde_json.specs.Data.{Data, Items, array, member, no_members, number, object, unsigned}
 use Rattle.serde_json.specs.View.{items_of}
-use Rattle.coding.specs.Saturated.{saturated}
-use Rattle.ikey.specs.Key.{user_of}
+use Rattle.table.specs.Saturated.{saturated}
+use Rattle.table.specs.Key.{user_of}
 use Rattle.scan.specs.declared.file_total.FileTotal.{FileTotal}
 use Rattle.scan.specs.declared.level_stats.LevelStats.{LevelStats}
 use Rattle.texts.specs.declared.spelling.Spelling.{Spelling}

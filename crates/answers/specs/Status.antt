@@ -1,7 +1,7 @@
 -- The status of a refusal.
 use Rattle.std.specs.Prelude.{ℕ}
-use Rattle.coding.specs.declared.fault.FaultName.{FaultName}
-use Rattle.coding.specs.declared.fault.FaultName.TheVariants.{Device}
+use Rattle.table.specs.fault.FaultName.{FaultName}
+use Rattle.table.specs.fault.FaultName.TheVariants.{Device}
 
 -- 3 for Device, else 1
 abbrev pub status_of : FaultName → ℕ

@@ -2,10 +2,10 @@
 use Rattle.std.specs.Prelude.{◌≡◌, ℕ, List, [], ◌++◌, codes, decimal, Result, Ok}
 use Rattle.std.specs.List.{flat_map}
 use Rattle.std.specs.Option.{option_map_or}
-use Rattle.coding.specs.Answers.{IsThen}
-use Rattle.coding.specs.declared.fault.Fault.{Fault}
-use Rattle.ikey.specs.Key.{kind_number, kind_of, sequence_of, user_of}
-use Rattle.ikey.specs.Comparator.{KeyOrder}
+use Rattle.table.specs.Answers.{IsThen}
+use Rattle.table.specs.fault.Fault.{Fault}
+use Rattle.table.specs.Key.{kind_number, kind_of, sequence_of, user_of}
+use Rattle.table.specs.Comparator.{KeyOrder}
 use Rattle.edit.specs.Version.{State, pointer_of}
 use Rattle.edit.specs.declared.meta.FileMeta.{FileMeta}
 use Rattle.folder.specs.Levels.{all_levels}

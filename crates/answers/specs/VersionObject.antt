@@ -4,8 +4,8 @@ use Rattle.std.specs.Option.{option_map_or}
 use Rattle.serde_json.specs.Data.{Data, Items, array, member, no_members, number, object, string}
 use Rattle.serde_json.specs.Data.{unsigned}
 use Rattle.serde_json.specs.View.{items_of}
-use Rattle.ikey.specs.Comparator.{KeyOrder}
-use Rattle.ikey.specs.Key.{kind_number, kind_of, sequence_of, user_of}
+use Rattle.table.specs.Comparator.{KeyOrder}
+use Rattle.table.specs.Key.{kind_number, kind_of, sequence_of, user_of}
 use Rattle.edit.specs.Version.{State, pointer_of}
 use Rattle.edit.specs.declared.meta.FileMeta.{FileMeta}
 use Rattle.folder.specs.Levels.{all_levels}

@@ -1,8 +1,8 @@
 //! The account of a compaction: what went into it and what came of it, as lines with bars.
 
 use crate::bars::bar;
-use coding::Fault;
 use std::alloc::Global;
+use table::Fault;
 
 /// The inputs of one level.
 #[derive(Clone, Copy, Debug)]

@@ -1,7 +1,7 @@
 //! Bars of 40 places.
 
-use coding::Fault;
 use std::alloc::Global;
+use table::Fault;
 
 /// How many places a bar has.
 const PLACES: u64 = 40;

@@ -4,14 +4,12 @@
 ghost use Rattle.folder.specs.Reports.{OnlyReads};
 
 use crate::account::{Account, LevelInputs, Output, RangeEntries};
-use coding::Fault;
+use checks::{Range, Split};
 use edit::{FileMeta, LEVELS, Version};
-use folder::{Folder, Order, load_numbers};
-use ikey::{Bytewise, Comparator, Shortlex};
+use folder::{Bytewise, Folder, Order, Shortlex, load_numbers};
 use pick::{InputFile, inputs};
-use split::{Range, Split};
 use std::alloc::Global;
-use table::{Cursor, SoundTable, TableCursor, check};
+use table::{Comparator, Cursor, Fault, SoundTable, TableCursor, check};
 
 /// The account of the compaction of a `level` into at most `ranges` ranges. `before` and `after`
 /// are the folder's versions before and after it.

@@ -3,7 +3,7 @@
 ghost use Rattle.std.specs.Prelude.{◌≡◌};
 ghost use Rattle.answers.specs.Status.{status_of};
 
-use coding::{Fault, FaultName};
+use table::{Fault, FaultName};
 
 /// The status with which the program ends after a refusal: 3 for `Device`, else 1.
 pub fn status(fault: &Fault) -> u8

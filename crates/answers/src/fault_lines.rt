@@ -1,13 +1,13 @@
 //! The lines of what is wrong with a version.
 
 ghost use Rattle.std.specs.Prelude.{◌≡◌, Ok, string_bytes};
-ghost use Rattle.coding.specs.Answers.{EqualOrMemory};
+ghost use Rattle.table.specs.Answers.{EqualOrMemory};
 ghost use Rattle.answers.specs.FaultLines.{fault_count_line, file_fault_line, key_fault_line};
 ghost use Rattle.answers.specs.FaultLines.{name_text};
 
-use coding::{Fault, FaultName};
 use faults::FileFault;
 use std::alloc::Global;
+use table::{Fault, FaultName};
 use texts::Spelling;
 
 /// The line of what is wrong with the file of a number: `NUMBER WHAT`.

@@ -2,7 +2,7 @@
 
 ghost use Rattle.std.specs.Prelude.{Ok};
 ghost use Rattle.std.specs.Option.{option_map};
-ghost use Rattle.coding.specs.Answers.{EqualOrMemory};
+ghost use Rattle.table.specs.Answers.{EqualOrMemory};
 ghost use Rattle.folder.specs.Calls.{Files, Tells};
 ghost use Rattle.folder.specs.OpenAnswer.{FolderAnswers};
 ghost use Rattle.folder.specs.Orders.{order_cmp};
@@ -18,12 +18,11 @@ use crate::unverified_get::unverified_value;
 use crate::version_text::version_lines;
 use crate::version_verdict::{lawful_answer, lawful_line, test_opened};
 use checks::Watch;
-use coding::Fault;
 use edit::Version;
-use folder::{Folder, Order, ReadsTables, open};
-use ikey::{Bytewise, Shortlex};
+use folder::{Bytewise, Folder, Order, ReadsTables, Shortlex, open};
 use std::alloc::Global;
 use std::thread::Threads;
+use table::Fault;
 use texts::Spelling;
 
 /// The lines that show a folder's version, each with its newline:

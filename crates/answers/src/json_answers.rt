@@ -1,19 +1,18 @@
 //! The JSON objects of a verdict, of a removed file, and of a value.
 
 ghost use Rattle.std.specs.Prelude.{Ok, option_map};
-ghost use Rattle.coding.specs.Answers.{EqualOrMemory};
-ghost use Rattle.coding.specs.Saturated.{saturated};
-ghost use Rattle.ikey.specs.Key.{user_of};
+ghost use Rattle.table.specs.Answers.{EqualOrMemory};
+ghost use Rattle.table.specs.Saturated.{saturated};
+ghost use Rattle.table.specs.Key.{user_of};
 ghost use Rattle.serde_json.specs.View.{view};
 ghost use Rattle.answers.specs.Objects.{key_data, lawful_object, logs_object, removed_object};
 ghost use Rattle.answers.specs.Objects.{valid_object, value_data, value_object};
 ghost use Rattle.answers.specs.Objects.{value_parts};
 
 use crate::json_text::capped;
-use coding::Fault;
-use ikey::KeyBuf;
 use serde_json::{Value, json};
 use std::alloc::Global;
+use table::{Fault, KeyBuf};
 use texts::Spelling;
 
 /// The object `{"entries":E,"files":F,"lawful":true,"logs":N}` of a lawful version. So many `logs`

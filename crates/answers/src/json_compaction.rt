@@ -1,7 +1,7 @@
 //! The JSON object of a compaction.
 
 ghost use Rattle.std.specs.Prelude.{map, Ok};
-ghost use Rattle.coding.specs.Answers.{EqualOrMemory};
+ghost use Rattle.table.specs.Answers.{EqualOrMemory};
 ghost use Rattle.serde_json.specs.View.{items_view, view};
 ghost use Rattle.answers.specs.CompactionObject.{compaction_object, deleted_object, ended_object};
 ghost use Rattle.answers.specs.CompactionObject.{output_object};
@@ -9,12 +9,12 @@ ghost use Rattle.answers.specs.declared.compaction_end.CompactionEnd.TheVariants
 ghost use Rattle.answers.specs.declared.compaction_end.CompactionEnd.TheVariants.{Written};
 
 use crate::compaction_end::CompactionEnd;
-use coding::Fault;
 use edit::DeletedFile;
 use folder::manifest_name;
 use serde_json::{Value, json};
 use std::alloc::Global;
 use std::collections::BTreeSet;
+use table::Fault;
 
 /// The object of the compaction of a `level` that made `outputs`, of which it has the numbers and
 /// the lengths, and deletes its inputs. It has these members:

@@ -1,9 +1,9 @@
 //! The JSON line of a refusal.
 
 use crate::json_text::json_line;
-use coding::Fault;
 use serde_json::{Map, Value, put};
 use std::alloc::Global;
+use table::Fault;
 
 /// What is told of a refusal beside its name.
 #[derive(Clone, Copy, Debug)]

@@ -2,15 +2,15 @@
 
 ghost use Rattle.std.specs.Prelude.{◌≡◌, ◌++◌, None, Ok, OnErr, OnOk, Some};
 ghost use Rattle.std.specs.Prelude.{IsOkUnless, option_map};
-ghost use Rattle.coding.specs.Answers.{EqualOrMemory, fault};
-ghost use Rattle.coding.specs.declared.fault.FaultName.TheVariants.{Memory};
+ghost use Rattle.table.specs.Answers.{EqualOrMemory, fault};
+ghost use Rattle.table.specs.fault.FaultName.TheVariants.{Memory};
 ghost use Rattle.serde_json.specs.View.{view};
 ghost use Rattle.answers.specs.Objects.{json_line, row_object};
 
 use crate::json_text::json_line;
-use coding::Fault;
 use serde_json::{Value, json};
 use std::alloc::Global;
+use table::Fault;
 use texts::Spelling;
 
 /// Appends the line `{"key":K,"value":V}` of one key of many; `{"key":K}` if no value is given.

@@ -1,17 +1,17 @@
 //! The JSON object of how much a version has.
 
 ghost use Rattle.std.specs.Prelude.{◌≡◌, map, IfOk, Ok};
-ghost use Rattle.coding.specs.Answers.{EqualOrMemory};
+ghost use Rattle.table.specs.Answers.{EqualOrMemory};
 ghost use Rattle.serde_json.specs.View.{items_view, view};
 ghost use Rattle.answers.specs.StatsObject.{level_object, level_parts, stats_object};
 ghost use Rattle.answers.specs.StatsObject.{stats_parts, total_object};
 
 use crate::json_answers::user_json;
 use crate::json_text::capped;
-use coding::Fault;
 use scan::{FileTotal, LevelStats, VersionStats};
 use serde_json::{Value, json};
 use std::alloc::{AllocError, Global};
+use table::Fault;
 use texts::Spelling;
 
 /// The object of how much a version has, with these members:

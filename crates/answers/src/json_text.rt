@@ -1,15 +1,15 @@
 //! The line of a JSON value.
 
 ghost use Rattle.std.specs.Prelude.{◌≡◌, false, Ok, string_bytes};
-ghost use Rattle.coding.specs.Answers.{EqualOrMemory};
-ghost use Rattle.coding.specs.Saturated.{saturated};
+ghost use Rattle.table.specs.Answers.{EqualOrMemory};
+ghost use Rattle.table.specs.Saturated.{saturated};
 ghost use Rattle.serde_json.specs.View.{view};
 ghost use Rattle.serde_json.specs.Written.{has_float};
 ghost use Rattle.answers.specs.Objects.{json_line};
 
-use coding::Fault;
 use serde_json::Value;
 use std::alloc::Global;
+use table::Fault;
 
 /// The line of a value: its text without blanks, members by name, and a newline.
 pub fn json_line(alloc: Global, value: &Value) -> Result<String, Fault>

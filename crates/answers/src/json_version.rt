@@ -1,8 +1,8 @@
 //! The JSON object of a version.
 
 ghost use Rattle.std.specs.Prelude.{◌≡◌, [], ◌∷◌, ◌++◌, ◌≤◌, map, IfErr, IfOk, Ok, OnOk};
-ghost use Rattle.coding.specs.Answers.{EqualOrMemory, fault};
-ghost use Rattle.coding.specs.declared.fault.FaultName.TheVariants.{Memory};
+ghost use Rattle.table.specs.Answers.{EqualOrMemory, fault};
+ghost use Rattle.table.specs.fault.FaultName.TheVariants.{Memory};
 ghost use Rattle.edit.specs.declared.meta.TheConstants.{LAST_LEVEL};
 ghost use Rattle.folder.specs.Levels.{all_levels};
 ghost use Rattle.serde_json.specs.View.{items_view, view};
@@ -14,12 +14,11 @@ ghost use Rattle.answers.specs.VersionObject.{pointer_objects, version_object};
 use crate::counters::Counters;
 use crate::json_answers::user_json;
 use crate::leveled_files::leveled_files;
-use coding::Fault;
 use edit::{FileMeta, LEVELS, Version};
-use folder::Order;
-use ikey::{Bytewise, Comparator, KeyBuf, Shortlex};
+use folder::{Bytewise, Order, Shortlex};
 use serde_json::{Value, json};
 use std::alloc::{AllocError, Global};
+use table::{Comparator, Fault, KeyBuf};
 use texts::Spelling;
 
 /// The object of a `version` of this `order`, with these members:

@@ -1,15 +1,14 @@
 //! The files of a version, each with its level.
 
 ghost use Rattle.std.specs.Prelude.{◌≡◌, ◌++◌, map, IfErr, Ok, OnOk};
-ghost use Rattle.coding.specs.Answers.{EqualOrMemory, fault};
-ghost use Rattle.coding.specs.declared.fault.FaultName.TheVariants.{Memory};
+ghost use Rattle.table.specs.Answers.{EqualOrMemory, fault};
+ghost use Rattle.table.specs.fault.FaultName.TheVariants.{Memory};
 ghost use Rattle.answers.specs.LentFiles.{seen};
 ghost use Rattle.answers.specs.LeveledFiles.{leveled_files, with_level};
 
-use coding::Fault;
 use edit::{FileMeta, LEVELS, Version};
-use ikey::Comparator;
 use std::alloc::Global;
+use table::{Comparator, Fault};
 
 /// The files of a version, each with its level: by level, and in the version order of this
 /// comparator.

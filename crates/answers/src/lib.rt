@@ -48,8 +48,7 @@ mod version_text;
 mod version_verdict;
 
 pub use account::{Account, LevelInputs, Output, RangeEntries, account_text};
-pub use board::Open;
-pub use checks::VersionTotals;
+pub use checks::{Open, VersionTotals};
 pub use compaction_account::account_of;
 pub use compaction_end::CompactionEnd;
 pub use exit_status::status;
@@ -63,6 +62,7 @@ pub use json_stats::stats_json;
 pub use json_text::json_line;
 pub use json_version::version_json;
 pub use question::{Question, ValueForm};
+pub use scan::FileTotal;
 pub use scan_row::push_row;
 pub use stats_table::stats_text;
 pub use step_lines::compaction_lines;

@@ -2,11 +2,11 @@
 
 ghost use Rattle.std.specs.Prelude.{◌≡◌, ◌++◌, length, take, None, Some, IsOkUnless, OnErr, OnOk};
 ghost use Rattle.std.specs.Option.{option_map};
-ghost use Rattle.coding.specs.Answers.{fault};
-ghost use Rattle.coding.specs.declared.fault.FaultName.TheVariants.{Memory};
+ghost use Rattle.table.specs.Answers.{fault};
+ghost use Rattle.table.specs.fault.FaultName.TheVariants.{Memory};
 ghost use Rattle.answers.specs.ScanRow.{row_line};
 
-use coding::Fault;
+use table::Fault;
 use texts::Spelling;
 
 /// Appends the line `KEY VALUE`, or `KEY` if no value is given.

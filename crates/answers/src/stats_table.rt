@@ -1,9 +1,9 @@
 //! The lines of how much a version has.
 
 use crate::bars::bar;
-use coding::Fault;
 use scan::{Amounts, FileTotal, LevelStats, VersionStats};
 use std::alloc::Global;
+use table::Fault;
 use texts::Spelling;
 
 /// The lines of how much a version has, each with its newline:

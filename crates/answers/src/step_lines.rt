@@ -2,19 +2,19 @@
 
 ghost use Rattle.std.specs.Prelude.{◌≡◌, ◌++◌, Ok, IfErr, OnOk, string_bytes};
 ghost use Rattle.std.specs.List.{flat_map};
-ghost use Rattle.coding.specs.Answers.{EqualOrMemory, fault};
-ghost use Rattle.coding.specs.declared.fault.FaultName.TheVariants.{Memory};
+ghost use Rattle.table.specs.Answers.{EqualOrMemory, fault};
+ghost use Rattle.table.specs.fault.FaultName.TheVariants.{Memory};
 ghost use Rattle.answers.specs.CompactionLines.{compaction_lines, deleted_line, end_line};
 ghost use Rattle.answers.specs.CompactionLines.{output_line};
 ghost use Rattle.answers.specs.declared.compaction_end.CompactionEnd.TheVariants.{Installed};
 ghost use Rattle.answers.specs.declared.compaction_end.CompactionEnd.TheVariants.{Written};
 
 use crate::compaction_end::CompactionEnd;
-use coding::Fault;
 use edit::DeletedFile;
 use folder::manifest_name;
 use std::alloc::Global;
 use std::collections::BTreeSet;
+use table::Fault;
 
 /// The lines of a compaction that made `outputs`, of which it has the numbers and the lengths, and
 /// deletes its inputs. Each has its newline:

@@ -1,16 +1,16 @@
 //! The entries of a table as text.
 
 ghost use Rattle.std.specs.Prelude.{◌≡◌, ◌<◌, ◌++◌, IfErr, Ok, OnOk, drop, length, string_bytes};
-ghost use Rattle.block.specs.EncodedEntry.{Entry};
-ghost use Rattle.coding.specs.Answers.{EqualOrMemory, fault};
-ghost use Rattle.coding.specs.declared.fault.FaultName.TheVariants.{Memory};
+ghost use Rattle.table.specs.EncodedEntry.{Entry};
+ghost use Rattle.table.specs.Answers.{EqualOrMemory, fault};
+ghost use Rattle.table.specs.fault.FaultName.TheVariants.{Memory};
 ghost use Rattle.answers.specs.Dump.{dump_line, dump_lines, table_dump};
 
-use coding::Fault;
-use ikey::{Bytewise, InternalKey, Kind};
+use folder::Bytewise;
+use scan::Kind;
 use std::alloc::Global;
 use std::fmt::Write;
-use table::{Cursor, SoundTable, TableCursor, check};
+use table::{Cursor, Fault, InternalKey, SoundTable, TableCursor, check};
 use texts::Spelling;
 
 /// The lines of a table in bytewise order, one for each entry: `KEY SEQ put VALUE` or `KEY SEQ

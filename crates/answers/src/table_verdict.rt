@@ -1,13 +1,12 @@
 //! Testing a table, and the line of a valid one.
 
 ghost use Rattle.std.specs.Prelude.{Ok};
-ghost use Rattle.coding.specs.Answers.{EqualOrMemory};
+ghost use Rattle.table.specs.Answers.{EqualOrMemory};
 ghost use Rattle.answers.specs.FaultLines.{table_count, table_verdict, valid_line};
 
-use coding::Fault;
-use ikey::Bytewise;
+use folder::Bytewise;
 use std::alloc::Global;
-use table::check;
+use table::{Fault, check};
 
 /// The line `valid: E entries` of a table in bytewise order. An invalid table is refused as
 /// [`dump`](crate::dump) refuses it.

@@ -10,16 +10,15 @@ ghost use Rattle.folder.specs.LoadedTables.{IsLoaded};
 ghost use Rattle.folder.specs.OpenAnswer.{FolderAnswers};
 ghost use Rattle.folder.specs.Orders.{order_cmp};
 ghost use Rattle.folder.specs.Reports.{OnlyReads, ReportsDevice};
-ghost use Rattle.reads.specs.Tables.{NumberedContents};
+ghost use Rattle.checks.specs.Tables.{NumberedContents};
 
 use crate::question::ValueForm;
 use crate::value_forms::value_answer;
-use coding::Fault;
 use edit::Version;
-use folder::{Folder, Order};
-use ikey::{Bytewise, Comparator, Shortlex};
+use folder::{Bytewise, Folder, Order, Shortlex};
 use scan::{get_unverified, sequence_of};
 use std::alloc::Global;
+use table::{Comparator, Fault};
 
 /// What [`answer_opened`](crate::answer_opened) answers to the question of a value, if the version
 /// is lawful with the tables in the folder. That isn't tested: it was verified before, and no other

@@ -1,15 +1,15 @@
 //! What is printed of the value of a user key.
 
 ghost use Rattle.std.specs.Prelude.{Some, Ok, option_map, string_bytes};
-ghost use Rattle.coding.specs.Answers.{EqualOrMemory};
+ghost use Rattle.table.specs.Answers.{EqualOrMemory};
 ghost use Rattle.texts.specs.Escaped.{first_in_value};
 ghost use Rattle.texts.specs.Spelling.{ArePrintable, ReadBack};
 ghost use Rattle.answers.specs.ValueForms.{ValueLinesDiffer, lone_text, value_answer, value_line};
 ghost use Rattle.answers.specs.ValueForms.{value_line_text};
 
 use crate::question::ValueForm;
-use coding::Fault;
 use std::alloc::Global;
+use table::Fault;
 use texts::Spelling;
 
 /// The line of a key without a value, but for its newline.

@@ -2,8 +2,8 @@
 
 ghost use Rattle.std.specs.Prelude.{◌≡◌, ◌++◌, ◌≤◌, Ok, IfErr, OnOk, string_bytes};
 ghost use Rattle.std.specs.List.{flat_map};
-ghost use Rattle.coding.specs.Answers.{EqualOrMemory, fault};
-ghost use Rattle.coding.specs.declared.fault.FaultName.TheVariants.{Memory};
+ghost use Rattle.table.specs.Answers.{EqualOrMemory, fault};
+ghost use Rattle.table.specs.fault.FaultName.TheVariants.{Memory};
 ghost use Rattle.folder.specs.Levels.{all_levels};
 ghost use Rattle.answers.specs.VersionLines.{counter_lines, file_line, head_lines, lines_by};
 ghost use Rattle.answers.specs.VersionLines.{pointer_line, pointer_lines};
@@ -11,11 +11,10 @@ ghost use Rattle.edit.specs.declared.meta.TheConstants.{LAST_LEVEL};
 
 use crate::counters::Counters;
 use crate::leveled_files::leveled_files;
-use coding::Fault;
 use edit::{FileMeta, LEVELS, Version};
 use folder::Order;
-use ikey::{Comparator, KeyBuf};
 use std::alloc::Global;
+use table::{Comparator, Fault, KeyBuf};
 use texts::Spelling;
 
 /// The most bytes that the line of a file has: its level has one digit, its numbers at most 20

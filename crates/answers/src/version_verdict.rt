@@ -2,7 +2,7 @@
 
 ghost use Rattle.std.specs.Prelude.{Ok, Some, string_bytes};
 ghost use Rattle.std.specs.Option.{option_map};
-ghost use Rattle.coding.specs.Answers.{EqualOrMemory};
+ghost use Rattle.table.specs.Answers.{EqualOrMemory};
 ghost use Rattle.folder.specs.Calls.{Files, Tells};
 ghost use Rattle.folder.specs.OpenAnswer.{FolderAnswers};
 ghost use Rattle.folder.specs.Orders.{order_cmp};
@@ -12,12 +12,11 @@ ghost use Rattle.checks.specs.TestedTables.{IsTested};
 ghost use Rattle.answers.specs.FolderLines.{lawful_line};
 
 use checks::{VersionTotals, Watch, checkers, test_version};
-use coding::Fault;
 use edit::Version;
-use folder::{Order, ReadsTables};
-use ikey::{Bytewise, Shortlex};
+use folder::{Bytewise, Order, ReadsTables, Shortlex};
 use std::alloc::Global;
 use std::thread::Threads;
+use table::Fault;
 
 /// Tests a `version` of this `order` with the tables in a folder, as [`verify`](crate::verify) does
 /// after opening it: how many files it has, and how many entries all their tables. It only reads.

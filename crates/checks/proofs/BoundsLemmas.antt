@@ -12,14 +12,14 @@ use Rattle.std.proofs.lemmas.List.{drop_more, take_all, take_more, length-drop, 
 use Rattle.std.proofs.lemmas.List.Elements.{All-contains, Contains-get_or, Contains-append_left, Contains-append_right, Contains-append_cases}
 use Rattle.std.proofs.lemmas.Option.{none-some, same_Some}
 use Rattle.std.proofs.lemmas.Slice.Eq.{bytes_eq-Decides}
-use Rattle.coding.specs.declared.fault.Fault.{Fault}
+use Rattle.ikey.specs.fault.Fault.{Fault}
 use Rattle.ikey.specs.Comparator.{IsExact}
 use Rattle.ikey.specs.Key.{IsInternalKey, user_of, sequence_of}
 use Rattle.ikey.specs.Order.{internal_cmp}
 use Rattle.ikey.proofs.Ordered.{internal_cmp-total}
-use Rattle.block.specs.EncodedEntry.{Entry}
-use Rattle.block.specs.BuilderView.{last_key}
-use Rattle.merge.specs.MergedLists.{entries_of_lists}
+use Rattle.table.specs.EncodedEntry.{Entry}
+use Rattle.reads.specs.BuilderView.{last_key}
+use Rattle.reads.specs.MergedLists.{entries_of_lists}
 use Rattle.split.specs.Ranges.{KeyRange, IsIn}
 use Rattle.table.specs.EntriesFrom.{EntriesRise}
 use Rattle.table.specs.EntryTests.{HaveInternalKeys, first_key}

@@ -4,8 +4,8 @@ use Rattle.std.specs.List.{AllZip}
 use Rattle.std.specs.declared.cmp.Ordering.{Ordering}
 use Rattle.std.proofs.lemmas.List.{take_more}
 use Rattle.std.proofs.lemmas.List.Elements.{All-append, All-cons, All-nil}
-use Rattle.coding.proofs.Binds.{done, failed}
-use Rattle.coding.specs.declared.fault.Fault.{Fault}
+use Rattle.ikey.proofs.Binds.{done, failed}
+use Rattle.ikey.specs.fault.Fault.{Fault}
 use Rattle.folder.specs.Calls.{Files}
 use Rattle.folder.specs.LoadedTables.{IsTableOf}
 use Rattle.folder.specs.ReadsAs.{IsFileIn}

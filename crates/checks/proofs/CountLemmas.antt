@@ -5,7 +5,7 @@ use Rattle.std.specs.declared.cmp.Ordering.{Ordering}
 use Rattle.std.proofs.lemmas.List.{take_more, take_all}
 use Rattle.table.specs.TableContents.{Contents}
 use Rattle.split.specs.Ranges.{KeyRange}
-use Rattle.edit.specs.declared.meta.FileMeta.{FileMeta}
+use Rattle.folder.specs.meta.FileMeta.{FileMeta}
 use Rattle.checks.specs.FileStarts.{starts_in}
 use Rattle.checks.specs.GroupTest.{AreStatedBy, IsStatedBy, count_of, counts_of}
 

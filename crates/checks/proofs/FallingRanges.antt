@@ -4,15 +4,15 @@ use Rattle.std.specs.Prelude.{◌↔◌, zero, suc, Contains, filter}
 use Rattle.std.specs.List.{list_all}
 use Rattle.std.specs.declared.cmp.Ordering.{Ordering}
 use Rattle.std.proofs.lemmas.List.Elements.{All-contains, Contains-get_or}
-use Rattle.coding.specs.Answers.{fault}
-use Rattle.coding.specs.declared.fault.Fault.{Fault}
-use Rattle.coding.specs.declared.fault.FaultName.TheVariants.{Memory}
-use Rattle.coding.proofs.Refusals.{only_memory}
+use Rattle.ikey.specs.Answers.{fault}
+use Rattle.ikey.specs.fault.Fault.{Fault}
+use Rattle.ikey.specs.fault.FaultName.TheVariants.{Memory}
+use Rattle.ikey.proofs.Refusals.{only_memory}
 use Rattle.board.specs.RunAnswer.{IsRefused, fault_of_run}
 use Rattle.board.specs.declared.pool.RunFault.{RunFault}
 use Rattle.ikey.specs.Key.{IsInternalKey, user_of}
-use Rattle.block.specs.EncodedEntry.{Entry}
-use Rattle.merge.specs.MergedLists.{entries_of_lists}
+use Rattle.table.specs.EncodedEntry.{Entry}
+use Rattle.reads.specs.MergedLists.{entries_of_lists}
 use Rattle.split.specs.Ranges.{KeyRange, range_at, IsIn, IsCover}
 use Rattle.keep.specs.InRange.{is_in_range, entries_in, HoldsLaw}
 use Rattle.reads.specs.TableOrder.{IsNewer, IsNewerIn, AreFalling, AreFallingIn}

@@ -4,12 +4,12 @@ use Rattle.std.specs.Prelude.{filter}
 use Rattle.std.specs.List.{AllZip}
 use Rattle.std.specs.Cmp.{IsTotalOrder}
 use Rattle.std.specs.declared.cmp.Ordering.{Ordering}
-use Rattle.coding.proofs.Binds.{done, failed, ok_is}
-use Rattle.coding.specs.Answers.{UnlessMemory, fault}
-use Rattle.coding.specs.declared.fault.Fault.{Fault}
-use Rattle.coding.specs.declared.fault.FaultName.TheVariants.{Lawless, Memory}
-use Rattle.edit.specs.Version.{State}
-use Rattle.edit.specs.declared.meta.FileMeta.{FileMeta}
+use Rattle.ikey.proofs.Binds.{done, failed, ok_is}
+use Rattle.ikey.specs.Answers.{UnlessMemory, fault}
+use Rattle.ikey.specs.fault.Fault.{Fault}
+use Rattle.ikey.specs.fault.FaultName.TheVariants.{Lawless, Memory}
+use Rattle.folder.specs.Version.{State}
+use Rattle.folder.specs.meta.FileMeta.{FileMeta}
 use Rattle.folder.proofs.LoadingLemmas.{loaded_before}
 use Rattle.folder.specs.Calls.{Files, Tells}
 use Rattle.folder.specs.Folder.{TellsSame}

@@ -3,11 +3,11 @@ use Rattle.std.proofs.Common.{◌≡◌, ◌≢◌, ℕ, Bool, true, false, List
 use Rattle.std.specs.List.{list_all}
 use Rattle.std.specs.Option.{is_some}
 use Rattle.std.specs.declared.cmp.Ordering.{Ordering}
-use Rattle.coding.proofs.Refusals.{unless_from}
-use Rattle.coding.specs.Answers.{HoldsOrMemory, UnlessMemory, fault}
-use Rattle.coding.specs.declared.fault.Fault.{Fault}
-use Rattle.coding.specs.declared.fault.FaultName.TheVariants.{Device, Lawless, Missing}
-use Rattle.edit.specs.Version.{State}
+use Rattle.ikey.proofs.Refusals.{unless_from}
+use Rattle.ikey.specs.Answers.{HoldsOrMemory, UnlessMemory, fault}
+use Rattle.ikey.specs.fault.Fault.{Fault}
+use Rattle.ikey.specs.fault.FaultName.TheVariants.{Device, Lawless, Missing}
+use Rattle.folder.specs.Version.{State}
 use Rattle.reads.specs.Lawful.{IsLawful}
 use Rattle.reads.specs.Tables.{NumberedContents, table_of_number}
 use Rattle.checks.specs.TableReadings.{tables_reading}

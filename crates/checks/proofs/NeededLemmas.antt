@@ -8,10 +8,10 @@ use Rattle.std.specs.Ordering.{is_lt}
 use Rattle.std.specs.declared.cmp.Ordering.{Ordering}
 use Rattle.std.proofs.lemmas.List.Elements.{All-head, All-tail, filter-append}
 use Rattle.ikey.specs.Key.{user_of}
-use Rattle.block.specs.EncodedEntry.{Entry}
-use Rattle.merge.specs.MergedLists.{entries_of_lists}
+use Rattle.table.specs.EncodedEntry.{Entry}
+use Rattle.reads.specs.MergedLists.{entries_of_lists}
 use Rattle.split.specs.Ranges.{KeyRange, IsIn}
-use Rattle.edit.specs.declared.meta.FileMeta.{FileMeta}
+use Rattle.folder.specs.meta.FileMeta.{FileMeta}
 use Rattle.keep.specs.InRange.{entries_in, is_in_range}
 use Rattle.keep.proofs.Distinct.{holds_tells}
 use Rattle.keep.proofs.Reaching.{begins_behind, ends_before, table_never_falls}

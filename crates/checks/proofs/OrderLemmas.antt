@@ -5,10 +5,10 @@ use Rattle.std.specs.declared.cmp.Ordering.{Ordering}
 use Rattle.std.specs.Option.{is_some}
 use Rattle.std.proofs.lemmas.Bool.{eqb-true}
 use Rattle.std.proofs.lemmas.List.{append-nil, nil_from_length}
-use Rattle.coding.specs.Answers.{◌>>=◌, UnlessMemory, UnlessNamed}
-use Rattle.coding.specs.declared.fault.FaultName.{FaultName}
-use Rattle.coding.specs.declared.fault.FaultName.TheVariants.{Memory}
-use Rattle.coding.specs.declared.fault.Fault.{Fault}
+use Rattle.ikey.specs.Answers.{◌>>=◌, UnlessMemory, UnlessNamed}
+use Rattle.ikey.specs.fault.FaultName.{FaultName}
+use Rattle.ikey.specs.fault.FaultName.TheVariants.{Memory}
+use Rattle.ikey.specs.fault.Fault.{Fault}
 use Rattle.folder.specs.Calls.{Files}
 use Rattle.folder.specs.LoadedTables.{IsLoaded, IsTableOf}
 use Rattle.folder.specs.ReadsAs.{IsFileIn}

@@ -5,10 +5,10 @@ use Rattle.std.specs.List.{All}
 use Rattle.std.specs.Cmp.{IsTotalOrder}
 use Rattle.std.specs.declared.cmp.Ordering.{Ordering}
 use Rattle.std.proofs.lemmas.List.Elements.{Contains-get_or, All-contains}
-use Rattle.block.specs.EncodedEntry.{Entry}
-use Rattle.merge.specs.MergedLists.{entries_of_lists}
+use Rattle.table.specs.EncodedEntry.{Entry}
+use Rattle.reads.specs.MergedLists.{entries_of_lists}
 use Rattle.split.specs.Ranges.{KeyRange, IsIn, range_at}
-use Rattle.edit.specs.declared.meta.FileMeta.{FileMeta}
+use Rattle.folder.specs.meta.FileMeta.{FileMeta}
 use Rattle.folder.specs.Calls.{Files}
 use Rattle.keep.proofs.Distinct.{holds_tells}
 use Rattle.reads.specs.StatedFiles.{IsStatedFile}

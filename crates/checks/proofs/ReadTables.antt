@@ -5,10 +5,10 @@ use Rattle.std.specs.Option.{MatchOption, option_map}
 use Rattle.std.specs.Global.{Vec}
 use Rattle.std.specs.declared.cmp.Ordering.{Ordering}
 use Rattle.std.proofs.lemmas.List.{map-append}
-use Rattle.coding.proofs.Binds.{done, ok_is}
-use Rattle.coding.specs.Answers.{◌>>=◌, UnlessMemory, fault}
-use Rattle.coding.specs.declared.fault.Fault.{Fault}
-use Rattle.coding.specs.declared.fault.FaultName.TheVariants.{Memory}
+use Rattle.ikey.proofs.Binds.{done, ok_is}
+use Rattle.ikey.specs.Answers.{◌>>=◌, UnlessMemory, fault}
+use Rattle.ikey.specs.fault.Fault.{Fault}
+use Rattle.ikey.specs.fault.FaultName.TheVariants.{Memory}
 use Rattle.table.specs.SoundTables.{IsCheckedTable}
 use Rattle.table.specs.TableContents.{Contents, contents_reading}
 use Rattle.table.specs.declared.bounds.Bounds.{Bounds}

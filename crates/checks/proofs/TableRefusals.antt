@@ -2,13 +2,13 @@
 use Rattle.std.proofs.Common.{◌≡◌, ◌≢◌, ℕ, ◌+◌, ◌-◌, ◌^◌, ◌%◌, nat_le, nat_lt, length, drop, Bool, true, false, List, [], ◌∷◌, Option, Some, None, Result, Ok, Err, IfErr, if◌then◌else◌, subst}
 use Rattle.std.specs.Option.{ok_or}
 use Rattle.std.specs.declared.cmp.Ordering.{Ordering}
-use Rattle.coding.proofs.Binds.{failed}
-use Rattle.coding.specs.Answers.{◌>>=◌, fault}
-use Rattle.coding.specs.declared.fault.Fault.{Fault}
-use Rattle.coding.specs.declared.fault.FaultName.{FaultName}
-use Rattle.coding.specs.declared.fault.FaultName.TheVariants.{Block, BlockType, Compressed, Device, Empty, Handle, Index, Key, Magic, Order, Range, Short, Size, TooLarge, Trailer}
-use Rattle.block.specs.EncodedEntry.{Entry}
-use Rattle.block.specs.BlockReading.{block_reading}
+use Rattle.ikey.proofs.Binds.{failed}
+use Rattle.ikey.specs.Answers.{◌>>=◌, fault}
+use Rattle.ikey.specs.fault.Fault.{Fault}
+use Rattle.ikey.specs.fault.FaultName.{FaultName}
+use Rattle.ikey.specs.fault.FaultName.TheVariants.{Block, BlockType, Compressed, Device, Empty, Handle, Index, Key, Magic, Order, Range, Short, Size, TooLarge, Trailer}
+use Rattle.table.specs.EncodedEntry.{Entry}
+use Rattle.table.specs.BlockReading.{block_reading}
 use Rattle.table.specs.Footer.{footer_reading}
 use Rattle.table.specs.Handle.{HandleBehind, handle_reading}
 use Rattle.table.specs.Trailer.{stored_reading}

@@ -5,9 +5,9 @@ use Rattle.std.specs.Global.{Vec}
 use Rattle.std.specs.declared.cmp.Ordering.{Ordering}
 use Rattle.std.proofs.lemmas.List.{length-map, map-append, take-append-drop}
 use Rattle.std.proofs.lemmas.Option.{same_Some, slice_get-get_or, slice_get-map, slice_get_read}
-use Rattle.coding.specs.Answers.{◌>>=◌, FailsOrMemory}
-use Rattle.coding.specs.declared.fault.Fault.{Fault}
-use Rattle.coding.proofs.Refusals.{unless_from}
+use Rattle.ikey.specs.Answers.{◌>>=◌, FailsOrMemory}
+use Rattle.ikey.specs.fault.Fault.{Fault}
+use Rattle.ikey.proofs.Refusals.{unless_from}
 use Rattle.board.specs.CollectedResults.{collected_results}
 use Rattle.reads.specs.Tables.{NumberedContents}
 use Rattle.checks.specs.TableReadings.{numbered_reading, tables_reading}

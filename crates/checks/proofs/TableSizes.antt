@@ -6,16 +6,16 @@ use Rattle.std.specs.declared.cmp.Ordering.{Ordering}
 use Rattle.std.proofs.lemmas.Bool.{leb-true}
 use Rattle.std.proofs.lemmas.List.{length-append, length-drop}
 use Rattle.std.proofs.lemmas.List.Elements.{All-cons, All-nil}
-use Rattle.coding.proofs.Binds.{bind_ok, ok_is}
+use Rattle.ikey.proofs.Binds.{bind_ok, ok_is}
 use Rattle.byteorder.specs.Endian.{little_number}
-use Rattle.coding.specs.Answers.{fault}
-use Rattle.coding.specs.Crc.{crc32c, masked}
-use Rattle.coding.specs.declared.fault.FaultName.{FaultName}
-use Rattle.coding.specs.declared.fault.FaultName.TheVariants.{BlockType, Compressed, Empty, Index, Short, Size, Trailer}
-use Rattle.coding.specs.declared.fault.Fault.{Fault}
-use Rattle.block.specs.EncodedEntry.{Entry, EncodedEntry, entries_after, encoded_entry_bytes}
-use Rattle.block.specs.EntryFormat.{FieldReading, encoded_entry_at}
-use Rattle.block.specs.BlockReading.{area_len, block_reading, is_next, encoded_entries_in, encoded_entries_of, restarts_from_place, restarts_in, with_mark}
+use Rattle.ikey.specs.Answers.{fault}
+use Rattle.ikey.specs.Crc.{crc32c, masked}
+use Rattle.ikey.specs.fault.FaultName.{FaultName}
+use Rattle.ikey.specs.fault.FaultName.TheVariants.{BlockType, Compressed, Empty, Index, Short, Size, Trailer}
+use Rattle.ikey.specs.fault.Fault.{Fault}
+use Rattle.table.specs.EncodedEntry.{Entry, EncodedEntry, entries_after, encoded_entry_bytes}
+use Rattle.table.specs.EntryFormat.{FieldReading, encoded_entry_at}
+use Rattle.table.specs.BlockReading.{area_len, block_reading, is_next, encoded_entries_in, encoded_entries_of, restarts_from_place, restarts_in, with_mark}
 use Rattle.table.specs.Trailer.{stored_reading}
 use Rattle.table.specs.declared.handle.BlockHandle.{BlockHandle}
 use Rattle.table.specs.Footer.{footer_reading}

@@ -3,7 +3,7 @@ use Rattle.std.proofs.Common.{◌≡◌, ℕ, ◌≤◌, Bool, true, false, cond
 use Rattle.std.specs.Prelude.{◌↔◌, filter}
 use Rattle.std.specs.declared.cmp.Ordering.{Ordering}
 use Rattle.split.specs.Ranges.{KeyRange, IsIn}
-use Rattle.edit.specs.declared.meta.FileMeta.{FileMeta}
+use Rattle.folder.specs.meta.FileMeta.{FileMeta}
 use Rattle.reads.specs.TableOrder.{AreFallingIn}
 use Rattle.reads.specs.Tables.{NumberedContents}
 use Rattle.checks.specs.GroupTest.{IsFileCounts, IsWalkAnswer, contents_of_all, entries_of_all}

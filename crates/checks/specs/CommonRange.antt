@@ -1,8 +1,8 @@
 -- What two ranges have in common.
 use Rattle.std.specs.Prelude.{◌≡◌, ◌↔◌, ℕ, Bool, true, List}
 use Rattle.ikey.specs.Comparator.{KeyOrder}
-use Rattle.block.specs.EncodedEntry.{Entry}
-use Rattle.merge.specs.MergedLists.{entries_of_lists}
+use Rattle.table.specs.EncodedEntry.{Entry}
+use Rattle.reads.specs.MergedLists.{entries_of_lists}
 use Rattle.split.specs.Ranges.{KeyRange, range_at, IsIn}
 use Rattle.reads.specs.TableOrder.{AreFallingIn}
 

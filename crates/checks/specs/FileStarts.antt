@@ -4,7 +4,7 @@ use Rattle.ikey.specs.Key.{user_of}
 use Rattle.ikey.specs.Comparator.{KeyOrder}
 use Rattle.split.specs.Bounds.{is_user_before}
 use Rattle.split.specs.Ranges.{KeyRange}
-use Rattle.edit.specs.declared.meta.FileMeta.{FileMeta}
+use Rattle.folder.specs.meta.FileMeta.{FileMeta}
 
 -- whether a file begins in a range
 abbrev pub starts_in : KeyOrder → KeyRange → FileMeta → Bool

@@ -2,8 +2,8 @@
 use Rattle.std.specs.Prelude.{◌≡◌, ℕ, Bool, true, false, List, map, Option, Some, None}
 use Rattle.std.specs.Prelude.{Result, Ok, Err}
 use Rattle.std.specs.List.{All, AllZip}
-use Rattle.coding.specs.Answers.{IsThen}
-use Rattle.coding.specs.declared.fault.Fault.{Fault}
+use Rattle.ikey.specs.Answers.{IsThen}
+use Rattle.ikey.specs.fault.Fault.{Fault}
 use Rattle.ikey.specs.Comparator.{KeyOrder}
 use Rattle.table.specs.TableContents.{Contents, contents_reading}
 use Rattle.folder.specs.Calls.{Files}

@@ -1,8 +1,8 @@
 -- The tables of a version, read and checked in order.
 use Rattle.std.specs.Prelude.{◌≡◌, ℕ, List, ◌++◌, Option, Some, None, Result, Ok, Err}
 use Rattle.std.specs.List.{AllZip}
-use Rattle.coding.specs.Answers.{IsThen}
-use Rattle.coding.specs.declared.fault.Fault.{Fault}
+use Rattle.ikey.specs.Answers.{IsThen}
+use Rattle.ikey.specs.fault.Fault.{Fault}
 use Rattle.ikey.specs.Comparator.{KeyOrder}
 use Rattle.folder.specs.Calls.{Files}
 use Rattle.folder.specs.LoadedTables.{IsLoaded, IsTableOf}

@@ -1,6 +1,6 @@
 -- What is answered of a table that is read.
 use Rattle.std.specs.Prelude.{◌≡◌, ℕ, List, map, Result, Ok}
-use Rattle.coding.specs.declared.fault.Fault.{Fault}
+use Rattle.ikey.specs.fault.Fault.{Fault}
 use Rattle.ikey.specs.Comparator.{KeyOrder}
 use Rattle.reads.specs.Tables.{NumberedContents}
 use Rattle.checks.specs.TableReadings.{numbered_reading, tables_reading}

@@ -2,11 +2,11 @@
 use Rattle.std.specs.Prelude.{◌≡◌, ◌↔◌, nat_lt, Bool, true, false, ◌||◌, List, [], ◌∷◌, ◌++◌}
 use Rattle.std.specs.Prelude.{Contains, None}
 use Rattle.std.specs.Ordering.{is_lt}
-use Rattle.block.specs.EncodedEntry.{Entry}
-use Rattle.block.specs.BuilderView.{last_key}
+use Rattle.table.specs.EncodedEntry.{Entry}
+use Rattle.reads.specs.BuilderView.{last_key}
 use Rattle.ikey.specs.Comparator.{KeyOrder}
 use Rattle.ikey.specs.Key.{user_of}
-use Rattle.merge.specs.MergedLists.{entries_of_lists}
+use Rattle.reads.specs.MergedLists.{entries_of_lists}
 use Rattle.split.specs.Ranges.{KeyRange, IsIn}
 use Rattle.table.specs.EntriesFrom.{EntriesRise}
 use Rattle.table.specs.EntryTests.{HaveInternalKeys, first_key}

@@ -2,9 +2,9 @@
 use Rattle.std.specs.Prelude.{◌≡◌, ℕ, List, [], ◌∷◌, map, Contains, Option, Some, None}
 use Rattle.std.specs.Prelude.{Result, Ok, Err}
 use Rattle.std.specs.List.{AllZip, filter_map}
-use Rattle.coding.specs.Answers.{fault}
-use Rattle.coding.specs.declared.fault.Fault.{Fault}
-use Rattle.coding.specs.declared.fault.FaultName.TheVariants.{Missing}
+use Rattle.ikey.specs.Answers.{fault}
+use Rattle.ikey.specs.fault.Fault.{Fault}
+use Rattle.ikey.specs.fault.FaultName.TheVariants.{Missing}
 use Rattle.ikey.specs.Comparator.{KeyOrder}
 use Rattle.table.specs.SoundTables.{IsCheckedTable}
 use Rattle.table.specs.declared.bounds.Bounds.{Bounds}

@@ -6,7 +6,7 @@ ghost use Rattle.checks.specs.GroupTest.{IsFileCount, IsFileCounts, contents_of_
 ghost use Rattle.board.specs.declared.limits.TheConstants.{MAX_JOBS};
 
 use crate::range_files::starts_in;
-use edit::FileMeta;
+use folder::FileMeta;
 use ikey::Comparator;
 use reads::{NumberedTable, is_stated};
 use split::Range;

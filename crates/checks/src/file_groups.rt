@@ -2,12 +2,11 @@
 //! these are changes no answer, so no contract says which.
 
 ghost use Rattle.std.specs.Prelude.{◌≡◌, IfErr};
-ghost use Rattle.coding.specs.Answers.{fault};
-ghost use Rattle.coding.specs.declared.fault.FaultName.TheVariants.{Memory};
+ghost use Rattle.ikey.specs.Answers.{fault};
+ghost use Rattle.ikey.specs.fault.FaultName.TheVariants.{Memory};
 
-use coding::Fault;
-use edit::FileMeta;
-use ikey::Comparator;
+use folder::FileMeta;
+use ikey::{Comparator, Fault};
 use split::{MAX_BOUNDARIES, Split};
 use std::alloc::Global;
 

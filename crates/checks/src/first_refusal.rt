@@ -1,8 +1,8 @@
 //! Why the tables of a version are refused.
 
 ghost use Rattle.std.specs.Prelude.{◌≡◌, ◌<◌, ◌≤◌, ◌++◌, ℕ, List, map, IfOk, IfErr};
-ghost use Rattle.coding.specs.Answers.{fault};
-ghost use Rattle.coding.specs.declared.fault.FaultName.TheVariants.{Memory};
+ghost use Rattle.ikey.specs.Answers.{fault};
+ghost use Rattle.ikey.specs.fault.FaultName.TheVariants.{Memory};
 ghost use Rattle.folder.specs.Calls.{Files, Tells};
 ghost use Rattle.folder.specs.OpenAnswer.{FolderAnswers};
 ghost use Rattle.folder.specs.Reports.{OnlyReads, ReportsDevice};
@@ -10,9 +10,8 @@ ghost use Rattle.checks.specs.InOrder.{AreChecked, IsFirstRefusal};
 
 use crate::rounds::check_tables;
 use board::{Open, Workers};
-use coding::{Fault, FaultName};
 use folder::{Folder, load_numbers};
-use ikey::SharedComparator;
+use ikey::{Fault, FaultName, SharedComparator};
 use std::thread::Threads;
 
 /// How many tables are in memory at once.

@@ -1,11 +1,10 @@
 //! A table of a folder that was checked, with its bytes.
 
 ghost use Rattle.std.specs.Prelude.{◌≡◌, Ok};
-ghost use Rattle.coding.specs.Answers.{EqualOrMemory};
+ghost use Rattle.ikey.specs.Answers.{EqualOrMemory};
 ghost use Rattle.table.specs.TableContents.{contents_reading};
 
-use coding::Fault;
-use ikey::Comparator;
+use ikey::{Comparator, Fault};
 use reads::NumberedTable;
 use std::alloc::Global;
 use std::marker::Model;

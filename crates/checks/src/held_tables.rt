@@ -1,7 +1,7 @@
 //! Tables of a folder that were checked, held from one range of user keys to the next.
 
 ghost use Rattle.std.specs.Prelude.{◌≡◌, ◌<◌, ◌≤◌, true, [], Ok, IfOk, IfSome, OnOk};
-ghost use Rattle.coding.specs.Answers.{EqualOrMemory};
+ghost use Rattle.ikey.specs.Answers.{EqualOrMemory};
 ghost use Rattle.folder.specs.Calls.{Files, Tells};
 ghost use Rattle.folder.specs.OpenAnswer.{FolderAnswers};
 ghost use Rattle.folder.specs.Reports.{OnlyReads, ReportsDevice};
@@ -12,9 +12,8 @@ use crate::found_tables::read_tables;
 use crate::held_table::HeldTable;
 use crate::table_places::{placed_tables, reused_places, wanted_numbers};
 use board::{Gate, Workers};
-use coding::Fault;
 use folder::ReadsTables;
-use ikey::{Comparator, SharedComparator};
+use ikey::{Comparator, Fault, SharedComparator};
 use reads::NumberedTable;
 use std::alloc::Global;
 use std::marker::Model;

@@ -42,13 +42,16 @@ mod wanted_tables;
 mod watch;
 mod worker_tables;
 
+pub use board::{Open, Workers};
 pub use command_workers::checkers;
 pub use file_groups::group_split;
 pub use held_tables::{HeldTables, hold_next};
+pub use ikey::{Fault, FaultName, SharedComparator};
 pub use range_files::{needed_files, numbers_of};
 pub use range_intersection::common_range;
 pub use range_walk::lent_tables;
 pub use rounds::check_tables;
+pub use split::{Range, Split};
 pub use table_bounds::bounds_tell;
 pub use tested_version::TestedVersion;
 pub use version_check::lawful_tables;

@@ -1,15 +1,14 @@
 //! Which files a walk over a range of user keys needs.
 
 ghost use Rattle.std.specs.Prelude.{◌≡◌, filter, map, Ok, IfOk, IfErr};
-ghost use Rattle.coding.specs.Answers.{EqualOrMemory, fault};
-ghost use Rattle.coding.specs.declared.fault.FaultName.TheVariants.{Memory};
+ghost use Rattle.ikey.specs.Answers.{EqualOrMemory, fault};
+ghost use Rattle.ikey.specs.fault.FaultName.TheVariants.{Memory};
 ghost use Rattle.split.specs.Ranges.{key_range};
 ghost use Rattle.checks.specs.NeededFiles.{is_file_needed};
 ghost use Rattle.checks.specs.FileStarts.{starts_in};
 
-use coding::Fault;
-use edit::FileMeta;
-use ikey::Comparator;
+use folder::FileMeta;
+use ikey::{Comparator, Fault};
 use split::{Range, is_before};
 use std::alloc::Global;
 

@@ -13,10 +13,8 @@ use crate::held_tables::{HeldTables, hold_next};
 use crate::range_files::{needed_files, numbers_of};
 use crate::range_walk::walk_range;
 use board::{Gate, Workers};
-use coding::Fault;
-use edit::FileMeta;
-use folder::ReadsTables;
-use ikey::SharedComparator;
+use folder::{FileMeta, ReadsTables};
+use ikey::{Fault, SharedComparator};
 use split::{Range, Split};
 use std::thread::Threads;
 

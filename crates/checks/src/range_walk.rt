@@ -2,8 +2,8 @@
 
 ghost use Rattle.std.specs.Prelude.{◌≡◌, ◌↔◌, ◌<◌, ◌≤◌, ◌^◌, true, length, map};
 ghost use Rattle.std.specs.Prelude.{IfOk, IfErr, IfSome};
-ghost use Rattle.coding.specs.Answers.{fault};
-ghost use Rattle.coding.specs.declared.fault.FaultName.TheVariants.{Memory};
+ghost use Rattle.ikey.specs.Answers.{fault};
+ghost use Rattle.ikey.specs.fault.FaultName.TheVariants.{Memory};
 ghost use Rattle.split.specs.Ranges.{IsIn, key_range};
 ghost use Rattle.reads.specs.TableOrder.{AreFallingIn};
 ghost use Rattle.checks.specs.GroupTest.{IsWalkAnswer, entries_of_all};
@@ -13,9 +13,8 @@ use crate::entry_counts::counted_files;
 use crate::held_tables::HeldTables;
 use crate::sequence_order::entries_fall;
 use board::{Open, Workers};
-use coding::Fault;
-use edit::FileMeta;
-use ikey::{Comparator, SharedComparator};
+use folder::FileMeta;
+use ikey::{Comparator, Fault, SharedComparator};
 use reads::NumberedTable;
 use split::Range;
 use std::alloc::Global;

@@ -1,13 +1,12 @@
 //! The check of all tables, in rounds: a board has at most 2^40 jobs.
 
 ghost use Rattle.std.specs.Prelude.{◌<◌, ◌≤◌, map};
-ghost use Rattle.coding.specs.Answers.{EqualOrMemory};
+ghost use Rattle.ikey.specs.Answers.{EqualOrMemory};
 ghost use Rattle.checks.specs.TableReadings.{tables_reading};
 
 use crate::table_check::check_round;
 use board::{Gate, MAX_JOBS, Workers};
-use coding::Fault;
-use ikey::SharedComparator;
+use ikey::{Fault, SharedComparator};
 use reads::NumberedTable;
 use std::thread::Threads;
 

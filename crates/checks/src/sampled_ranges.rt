@@ -2,11 +2,10 @@
 //! these are changes no answer, so no contract says which.
 
 ghost use Rattle.std.specs.Prelude.{◌≡◌, ◌<◌, IfErr, IsOkUnless};
-ghost use Rattle.coding.specs.Answers.{fault};
-ghost use Rattle.coding.specs.declared.fault.FaultName.TheVariants.{Memory};
+ghost use Rattle.ikey.specs.Answers.{fault};
+ghost use Rattle.ikey.specs.fault.FaultName.TheVariants.{Memory};
 
-use coding::Fault;
-use ikey::Comparator;
+use ikey::{Comparator, Fault};
 use split::Split;
 use std::alloc::Global;
 use table::SoundTable;

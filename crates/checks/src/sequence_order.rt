@@ -2,9 +2,9 @@
 
 ghost use Rattle.std.specs.Prelude.{◌≡◌, ◌↔◌, ◌+◌, ◌<◌, ◌≤◌, true, length, map, IfOk, IfErr};
 ghost use Rattle.std.specs.List.{list_all};
-ghost use Rattle.coding.specs.Answers.{fault};
-ghost use Rattle.coding.specs.declared.fault.FaultName.TheVariants.{Memory};
-ghost use Rattle.merge.specs.MergedLists.{entries_of_lists};
+ghost use Rattle.ikey.specs.Answers.{fault};
+ghost use Rattle.ikey.specs.fault.FaultName.TheVariants.{Memory};
+ghost use Rattle.reads.specs.MergedLists.{entries_of_lists};
 ghost use Rattle.split.specs.Ranges.{IsCover, IsIn, key_range};
 ghost use Rattle.reads.specs.TableOrder.{AreFalling, AreFallingIn};
 ghost use Rattle.checks.specs.CommonRange.{TellsRange};
@@ -13,8 +13,7 @@ use crate::range_intersection::common_range;
 use crate::sampled_ranges::sampled_split;
 use crate::table_bounds::tables_to_walk;
 use board::{Gate, Labour, Workers};
-use coding::Fault;
-use ikey::{Comparator, SharedComparator};
+use ikey::{Comparator, Fault, SharedComparator};
 use keep::cursors_from;
 use reads::falls_in;
 use split::{Range, Split};

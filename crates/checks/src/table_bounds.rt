@@ -1,15 +1,14 @@
 //! Which tables have to be walked, by their bounds.
 
 ghost use Rattle.std.specs.Prelude.{◌≡◌, nat_lt, List, map, IsTrue, IfOk, IfErr, Contains};
-ghost use Rattle.coding.specs.Answers.{fault};
-ghost use Rattle.coding.specs.declared.fault.FaultName.TheVariants.{Memory};
-ghost use Rattle.block.specs.EncodedEntry.{Entry};
+ghost use Rattle.ikey.specs.Answers.{fault};
+ghost use Rattle.ikey.specs.fault.FaultName.TheVariants.{Memory};
+ghost use Rattle.table.specs.EncodedEntry.{Entry};
 ghost use Rattle.reads.specs.Lawful.{AreNewer};
 ghost use Rattle.reads.specs.TableOrder.{AreFalling};
 ghost use Rattle.checks.specs.TableBounds.{BoundsTell, FallAlike, IsApartFromOthers, are_below};
 
-use coding::Fault;
-use ikey::Comparator;
+use ikey::{Comparator, Fault};
 use std::alloc::Global;
 use table::{SoundTable, Tally};
 

@@ -1,15 +1,14 @@
 //! The check of a table, as a job.
 
 ghost use Rattle.std.specs.Prelude.{◌≡◌, ◌<◌, ◌≤◌, length, map, slice_get, Some, Result};
-ghost use Rattle.coding.specs.Answers.{EqualOrMemory};
+ghost use Rattle.ikey.specs.Answers.{EqualOrMemory};
 ghost use Rattle.reads.specs.Tables.{NumberedContents};
 ghost use Rattle.checks.specs.TableReadings.{numbered_reading, tables_reading};
 ghost use Rattle.checks.specs.TableAnswers.{table_answers};
 ghost use Rattle.board.specs.declared.limits.TheConstants.{MAX_JOBS};
 
 use board::{Gate, Labour, Workers};
-use coding::Fault;
-use ikey::{Comparator, SharedComparator};
+use ikey::{Comparator, Fault, SharedComparator};
 use reads::NumberedTable;
 use std::alloc::Global;
 use std::marker::PhantomData;

@@ -6,14 +6,13 @@ ghost use Rattle.reads.specs.Tables.{NumberedContents};
 ghost use Rattle.std.specs.List.{All};
 ghost use Rattle.std.specs.Option.{option_to_list};
 ghost use Rattle.std.specs.Vec.Iter.{into_iter_items};
-ghost use Rattle.coding.specs.Answers.{EqualOrMemory, fault};
-ghost use Rattle.coding.specs.declared.fault.FaultName.TheVariants.{Memory};
+ghost use Rattle.ikey.specs.Answers.{EqualOrMemory, fault};
+ghost use Rattle.ikey.specs.fault.FaultName.TheVariants.{Memory};
 ghost use Rattle.checks.specs.TablePlaces.{HasKept, wanted_number, place_numbers, wanted_numbers};
 ghost use Rattle.checks.specs.TablePlaces.{placed_tables};
 
 use crate::held_table::HeldTable;
-use coding::Fault;
-use ikey::Comparator;
+use ikey::{Comparator, Fault};
 use std::alloc::Global;
 use std::marker::Model;
 use std::vec::IntoIter;

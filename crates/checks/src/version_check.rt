@@ -2,16 +2,15 @@
 
 ghost use Rattle.std.specs.Prelude.{◌<◌, ◌≤◌, map};
 ghost use Rattle.std.specs.Result.{MatchResult};
-ghost use Rattle.coding.specs.Answers.{HoldsOrMemory, UnlessMemory};
+ghost use Rattle.ikey.specs.Answers.{HoldsOrMemory, UnlessMemory};
 ghost use Rattle.reads.specs.Lawful.{IsLawful, IsUnlawful};
 ghost use Rattle.checks.specs.LawfulTables.{IsLawfulTables};
 
 use crate::rounds::check_tables;
 use crate::sequence_order::all_entries_fall;
 use board::{Gate, Workers};
-use coding::{Fault, FaultName};
-use edit::Version;
-use ikey::SharedComparator;
+use folder::Version;
+use ikey::{Fault, FaultName, SharedComparator};
 use reads::{NumberedTable, tables_newest_first};
 use std::thread::Threads;
 

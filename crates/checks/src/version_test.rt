@@ -18,10 +18,8 @@ use crate::tested_version::TestedVersion;
 use crate::version_totals::VersionTotals;
 use crate::watch::{Watch, Work};
 use board::{Gate, Workers};
-use coding::{Fault, FaultName};
-use edit::Version;
-use folder::{ReadsTables, file_numbers};
-use ikey::SharedComparator;
+use folder::{ReadsTables, Version, file_numbers};
+use ikey::{Fault, FaultName, SharedComparator};
 use reads::files_newest_first;
 use std::thread::Threads;
 

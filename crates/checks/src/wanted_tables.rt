@@ -9,9 +9,8 @@ ghost use Rattle.checks.specs.HeldTables.{AreHeldIn, IsCheckedAnswer, held_numbe
 use crate::first_refusal::check_in_order;
 use crate::held_tables::{HeldTables, hold_tables};
 use board::{Gate, Workers};
-use coding::{Fault, FaultName};
 use folder::ReadsTables;
-use ikey::SharedComparator;
+use ikey::{Fault, FaultName, SharedComparator};
 use std::thread::Threads;
 
 /// The tables of a folder with these `numbers`, in order, each checked. It only reads.

@@ -4,17 +4,16 @@
 
 ghost use Rattle.std.specs.Prelude.{◌≡◌, ◌<◌, ◌≤◌, IfOk, IfErr, IfSome, Ok};
 ghost use Rattle.std.specs.List.{AllZip};
-ghost use Rattle.coding.specs.Answers.{fault};
-ghost use Rattle.coding.specs.declared.fault.FaultName.TheVariants.{Memory};
+ghost use Rattle.ikey.specs.Answers.{fault};
+ghost use Rattle.ikey.specs.fault.FaultName.TheVariants.{Memory};
 ghost use Rattle.table.specs.TableContents.{contents_reading};
 ghost use Rattle.checks.specs.HeldBytes.{IsToldTable};
 
 use crate::held_table::HeldTable;
 use crate::rounds::MAX_TABLES;
 use board::{Gate, Labour, Workers};
-use coding::{Fault, FaultName};
 use folder::{ReadsTables, TableReader};
-use ikey::{Comparator, SharedComparator};
+use ikey::{Comparator, Fault, FaultName, SharedComparator};
 use std::alloc::Global;
 use std::marker::PhantomData;
 use std::thread::Threads;

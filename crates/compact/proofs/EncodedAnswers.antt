@@ -4,10 +4,10 @@ use Rattle.std.specs.Prelude.{slice_get}
 use Rattle.std.specs.Option.{option_map}
 use Rattle.std.proofs.lemmas.List.{length-map}
 use Rattle.std.proofs.lemmas.Option.{slice_get-map}
-use Rattle.coding.specs.declared.fault.Fault.{Fault}
-use Rattle.coding.specs.Answers.{◌>>=◌}
+use Rattle.ikey.specs.fault.Fault.{Fault}
+use Rattle.ikey.specs.Answers.{◌>>=◌}
 use Rattle.board.specs.CollectedResults.{collected_results}
-use Rattle.block.specs.EncodedEntry.{Entry}
+use Rattle.table.specs.EncodedEntry.{Entry}
 use Rattle.cut.specs.Plan.{OutputView, encoded_blocks, jobs, parts, plan_tables}
 use Rattle.cut.specs.OutputPlan.{PlanSeen, lists_in}
 use Rattle.compact.specs.JobAnswers.{block_answers, output_answers}

@@ -3,11 +3,11 @@ use Rattle.std.proofs.Common.{◌≡◌, ℕ, zero, suc, ◌+◌, ◌<◌, ◌�
 use Rattle.std.specs.Prelude.{flat_map, slice_get, Some, IfOk, IfErr, IfSome}
 use Rattle.std.specs.declared.cmp.Ordering.{Ordering}
 use Rattle.std.proofs.lemmas.List.{map-append, drop_more, drop_all}
-use Rattle.coding.specs.Answers.{fault, ◌>>=◌, EqualOrMemory, FailsOrMemory}
-use Rattle.coding.specs.declared.fault.Fault.{Fault}
-use Rattle.coding.specs.declared.fault.FaultName.TheVariants.{Memory}
-use Rattle.coding.proofs.Refusals.{unless_from, only_memory}
-use Rattle.block.specs.EncodedEntry.{Entry}
+use Rattle.ikey.specs.Answers.{fault, ◌>>=◌, EqualOrMemory, FailsOrMemory}
+use Rattle.ikey.specs.fault.Fault.{Fault}
+use Rattle.ikey.specs.fault.FaultName.TheVariants.{Memory}
+use Rattle.ikey.proofs.Refusals.{unless_from, only_memory}
+use Rattle.table.specs.EncodedEntry.{Entry}
 use Rattle.table.specs.Table.{table}
 use Rattle.table.specs.declared.options.Options.{Options}
 use Rattle.edit.specs.Edit.{edit_bytes}

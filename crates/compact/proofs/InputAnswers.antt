@@ -5,11 +5,11 @@ use Rattle.std.specs.Option.{option_map}
 use Rattle.std.specs.declared.cmp.Ordering.{Ordering}
 use Rattle.std.proofs.lemmas.List.{length-map}
 use Rattle.std.proofs.lemmas.Option.{same_Some, slice_get-get_or, slice_get-map, slice_get_read}
-use Rattle.coding.specs.declared.fault.Fault.{Fault}
-use Rattle.coding.specs.declared.fault.FaultName.TheVariants.{Bounds}
-use Rattle.coding.specs.Answers.{fault, ◌>>=◌, FailsOrMemory}
-use Rattle.coding.proofs.Refusals.{unless_from}
-use Rattle.block.specs.EncodedEntry.{Entry}
+use Rattle.ikey.specs.fault.Fault.{Fault}
+use Rattle.ikey.specs.fault.FaultName.TheVariants.{Bounds}
+use Rattle.ikey.specs.Answers.{fault, ◌>>=◌, FailsOrMemory}
+use Rattle.ikey.proofs.Refusals.{unless_from}
+use Rattle.table.specs.EncodedEntry.{Entry}
 use Rattle.table.specs.TableContents.{Contents, contents_reading}
 use Rattle.table.specs.EntryTests.{first_key}
 use Rattle.table.specs.TestResult.{test_result}

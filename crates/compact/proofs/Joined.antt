@@ -6,15 +6,15 @@ use Rattle.std.specs.List.{list_all}
 use Rattle.std.proofs.lemmas.Bool.{and_parts, leb-true, ltb-true}
 use Rattle.table.specs.declared.options.Options.{Options}
 use Rattle.cut.specs.Plan.{OutputView, plan_of, planned_from, parts}
-use Rattle.coding.specs.declared.fault.Fault.{Fault}
-use Rattle.coding.specs.declared.fault.FaultName.TheVariants.{Workers, Duplicate, Numbers, TooLarge}
-use Rattle.coding.specs.Answers.{fault, ◌>>=◌, EqualOrMemory, FailsOrMemory}
-use Rattle.coding.proofs.Refusals.{unless_from}
-use Rattle.block.specs.EncodedEntry.{Entry}
+use Rattle.ikey.specs.fault.Fault.{Fault}
+use Rattle.ikey.specs.fault.FaultName.TheVariants.{Workers, Duplicate, Numbers, TooLarge}
+use Rattle.ikey.specs.Answers.{fault, ◌>>=◌, EqualOrMemory, FailsOrMemory}
+use Rattle.ikey.proofs.Refusals.{unless_from}
+use Rattle.table.specs.EncodedEntry.{Entry}
 use Rattle.table.specs.TestResult.{test_result}
 use Rattle.table.specs.Table.{table}
-use Rattle.merge.specs.MergedLists.{merged}
-use Rattle.merge.specs.Union.{VersionsRise}
+use Rattle.reads.specs.MergedLists.{merged}
+use Rattle.reads.specs.Union.{VersionsRise}
 use Rattle.split.specs.Boundaries.{IsSplit}
 use Rattle.keep.specs.Runs.{Run, are_distinct, joined_run, runs_of, DistinctLaw}
 use Rattle.cut.specs.Outputs.{outputs, outputs_of, RangesCutLaw}

@@ -14,8 +14,8 @@ use Rattle.std.proofs.lemmas.Map.Keys.{IsDistinct-IsPermutation, apart_from_dist
 use Rattle.ikey.specs.Comparator.{ShortKeys, IsExact}
 use Rattle.ikey.specs.Key.{IsInternalKey, user_of, sequence_of}
 use Rattle.ikey.specs.Order.{internal_cmp}
-use Rattle.block.specs.EncodedEntry.{Entry}
-use Rattle.block.specs.BuilderView.{last_key}
+use Rattle.table.specs.EncodedEntry.{Entry}
+use Rattle.reads.specs.BuilderView.{last_key}
 use Rattle.table.specs.CheckedContents.{contents_in}
 use Rattle.table.specs.TableContents.{Contents, contents_reading}
 use Rattle.table.specs.EntriesFrom.{EntriesRise}
@@ -26,7 +26,7 @@ use Rattle.edit.specs.declared.meta.FileMeta.{FileMeta}
 use Rattle.edit.specs.declared.meta.NewFile.{NewFile}
 use Rattle.edit.proofs.RisingFiles.{same_file, same_turned, distinct_apart}
 use Rattle.edit.proofs.Tested.{not_is_true}
-use Rattle.merge.specs.MergedLists.{entries_of_lists}
+use Rattle.reads.specs.MergedLists.{entries_of_lists}
 use Rattle.pick.specs.PickedInputs.{PickedInputs}
 use Rattle.pick.specs.declared.picked_inputs.InputFile.{InputFile}
 use Rattle.pick.proofs.Lists.{false_true}

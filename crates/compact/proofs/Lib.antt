@@ -1,3 +1,4 @@
+pub use Rattle.reads.proofs.Orders
 pub mod OptionLimits
 pub mod EditLevels
 pub mod PassedRequests

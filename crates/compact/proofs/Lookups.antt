@@ -7,14 +7,14 @@ use Rattle.std.specs.declared.cmp.Ordering.{Ordering}
 use Rattle.std.specs.declared.cmp.Ordering.TheVariants.{Less}
 use Rattle.std.proofs.lemmas.Bool.{eqb-true, eq-eqb}
 use Rattle.ikey.specs.Key.{user_of}
-use Rattle.block.specs.EncodedEntry.{Entry}
+use Rattle.table.specs.EncodedEntry.{Entry}
 use Rattle.table.specs.CheckedContents.{contents_in}
 use Rattle.pick.specs.PickedInputs.{PickedInputs}
 use Rattle.pick.proofs.Lists.{false_true}
 use Rattle.reads.specs.Tables.{NumberedContents, table_of_number}
 use Rattle.reads.proofs.FallingEntries.{each_of}
 use Rattle.reads.proofs.Members.{first_or_later, later_in, first_in, none_in, from_map, in_flat_map, in_map}
-use Rattle.merge.specs.MergedLists.{entries_of_lists}
+use Rattle.reads.specs.MergedLists.{entries_of_lists}
 use Rattle.compact.specs.ClosedInputs.{is_input}
 use Rattle.cut.specs.Outputs.{UsersRise}
 use Rattle.compact.specs.OutputTables.{Output, numbered_tables}

@@ -10,13 +10,13 @@ use Rattle.std.specs.declared.cmp.Ordering.TheVariants.{Less, Equal, Greater}
 use Rattle.std.proofs.lemmas.Bool.Decides.{nat_tests}
 use Rattle.std.proofs.lemmas.List.Sorted.{Contains-permutation, IsPermutation-sym}
 use Rattle.std.proofs.lemmas.List.Elements.{All-from_recursion, All-contains}
-use Rattle.coding.specs.Answers.{fault, ◌>>=◌}
-use Rattle.coding.specs.declared.fault.Fault.{Fault}
-use Rattle.coding.specs.declared.fault.FaultName.TheVariants.{Bounds, Duplicate, Numbers, TooLarge}
+use Rattle.ikey.specs.Answers.{fault, ◌>>=◌}
+use Rattle.ikey.specs.fault.Fault.{Fault}
+use Rattle.ikey.specs.fault.FaultName.TheVariants.{Bounds, Duplicate, Numbers, TooLarge}
 use Rattle.ikey.specs.Comparator.{ShortKeys, IsExact}
 use Rattle.ikey.specs.Key.{IsInternalKey, user_of, sequence_of, kind_of, kind_number}
 use Rattle.ikey.specs.Order.{internal_cmp}
-use Rattle.block.specs.EncodedEntry.{Entry}
+use Rattle.table.specs.EncodedEntry.{Entry}
 use Rattle.table.specs.TableContents.{Contents, DataBlock, blocks_of, contents_of, contents_reading, data_reading, entries_of, index_in}
 use Rattle.table.specs.EntryTests.{entries_test}
 use Rattle.table.specs.IndexReading.{index_reading}
@@ -32,8 +32,8 @@ use Rattle.edit.specs.Edit.{edit_bytes}
 use Rattle.edit.specs.Version.{State}
 use Rattle.edit.specs.declared.meta.FileMeta.{FileMeta}
 use Rattle.edit.specs.declared.meta.NewFile.{NewFile}
-use Rattle.merge.specs.MergedLists.{entries_of_lists, merged}
-use Rattle.merge.specs.Union.{key_version_cmp, VersionsRise, IsUnion}
+use Rattle.reads.specs.MergedLists.{entries_of_lists, merged}
+use Rattle.reads.specs.Union.{key_version_cmp, VersionsRise, IsUnion}
 use Rattle.pick.specs.declared.picked_inputs.InputFile.{InputFile}
 use Rattle.pick.proofs.Lists.{and_first, and_second}
 use Rattle.reads.specs.Lawful.{IsLawful, IsFileOf}

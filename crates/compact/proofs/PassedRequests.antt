@@ -7,9 +7,9 @@ use Rattle.std.specs.declared.cmp.Ordering.{Ordering}
 use Rattle.std.proofs.lemmas.Bool.{eqb-true, and_parts}
 use Rattle.std.proofs.lemmas.Bool.Decides.{nat_tests}
 use Rattle.std.proofs.lemmas.List.Elements.{All-cons, All-nil}
-use Rattle.coding.specs.Answers.{◌>>=◌}
-use Rattle.coding.specs.declared.fault.Fault.{Fault}
-use Rattle.coding.specs.declared.fault.FaultName.TheVariants.{NoInput, Level, Options, Snapshot, SnapshotList}
+use Rattle.ikey.specs.Answers.{◌>>=◌}
+use Rattle.ikey.specs.fault.Fault.{Fault}
+use Rattle.ikey.specs.fault.FaultName.TheVariants.{NoInput, Level, Options, Snapshot, SnapshotList}
 use Rattle.table.specs.Options.{are_in_limits}
 use Rattle.table.specs.EntryTests.{is_some_list}
 use Rattle.table.specs.TestResult.{test_result}

@@ -10,7 +10,7 @@ use Rattle.std.specs.declared.cmp.Ordering.TheVariants.{Less}
 use Rattle.std.proofs.lemmas.List.Elements.{All-contains, Contains-append_cases}
 use Rattle.ikey.specs.Key.{IsInternalKey, user_of}
 use Rattle.ikey.specs.Order.{internal_cmp}
-use Rattle.block.specs.EncodedEntry.{Entry}
+use Rattle.table.specs.EncodedEntry.{Entry}
 use Rattle.edit.specs.Version.{State, pointer_of}
 use Rattle.edit.specs.VersionOrder.{level_files}
 use Rattle.edit.specs.declared.meta.FileMeta.{FileMeta}

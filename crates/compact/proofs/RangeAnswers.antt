@@ -5,11 +5,11 @@ use Rattle.std.specs.List.{list_all}
 use Rattle.std.specs.Option.{option_map}
 use Rattle.std.specs.declared.cmp.Ordering.{Ordering}
 use Rattle.std.proofs.lemmas.Option.{slice_get-map}
-use Rattle.coding.specs.declared.fault.Fault.{Fault}
-use Rattle.coding.specs.declared.fault.FaultName.TheVariants.{Duplicate}
-use Rattle.coding.specs.Answers.{fault, ◌>>=◌}
-use Rattle.block.specs.EncodedEntry.{Entry}
-use Rattle.merge.specs.MergedLists.{merged}
+use Rattle.ikey.specs.fault.Fault.{Fault}
+use Rattle.ikey.specs.fault.FaultName.TheVariants.{Duplicate}
+use Rattle.ikey.specs.Answers.{fault, ◌>>=◌}
+use Rattle.table.specs.EncodedEntry.{Entry}
+use Rattle.reads.specs.MergedLists.{merged}
 use Rattle.split.specs.Boundaries.{IsSplit}
 use Rattle.split.specs.Ranges.{KeyRange, range_at}
 use Rattle.keep.specs.InRange.{entries_in}

@@ -2,10 +2,10 @@
 use Rattle.std.proofs.Common.{◌≡◌, ◌⊎◌, ℕ, ◌<◌, ◌≤◌, inl, inr, Bool, true, false, List, map, length, Result, Ok, Err, refl, sym, ap, subst, ◌∙◌, arith}
 use Rattle.std.specs.Prelude.{◌↔◌, nat_le, ◌&&◌}
 use Rattle.std.proofs.lemmas.Bool.{le-leb}
-use Rattle.coding.specs.declared.fault.Fault.{Fault}
-use Rattle.coding.specs.declared.fault.FaultName.TheVariants.{Workers as NamedWorkers}
-use Rattle.coding.specs.Answers.{fault, ◌>>=◌, FailsOrMemory}
-use Rattle.coding.proofs.Refusals.{FailsOrMemory-from}
+use Rattle.ikey.specs.fault.Fault.{Fault}
+use Rattle.ikey.specs.fault.FaultName.TheVariants.{Workers as NamedWorkers}
+use Rattle.ikey.specs.Answers.{fault, ◌>>=◌, FailsOrMemory}
+use Rattle.ikey.proofs.Refusals.{FailsOrMemory-from}
 use Rattle.table.specs.TestResult.{test_result}
 use Rattle.board.specs.declared.pool.RunFault.{RunFault}
 use Rattle.board.specs.RunAnswer.{AreResults, IsRefused, fault_of_run}

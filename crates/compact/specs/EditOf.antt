@@ -2,7 +2,7 @@
 use Rattle.std.specs.Prelude.{ℕ, ◌+◌, List, [], ◌∷◌, length, map, Some, None}
 use Rattle.std.specs.List.{fold}
 use Rattle.std.specs.BTreeSet.{insert_key}
-use Rattle.block.specs.BuilderView.{last_key}
+use Rattle.reads.specs.BuilderView.{last_key}
 use Rattle.table.specs.EntryTests.{first_key}
 use Rattle.edit.specs.Edit.{Edit, deleted_cmp}
 use Rattle.edit.specs.declared.meta.NewFile.{NewFile}

@@ -3,11 +3,11 @@
 use Rattle.std.specs.Prelude.{◌≡◌, ◌⊎◌, ℕ, ◌≤◌, true, not, List, map, filter, Contains}
 use Rattle.std.specs.List.{All}
 use Rattle.ikey.specs.Comparator.{KeyOrder}
-use Rattle.block.specs.EncodedEntry.{Entry}
+use Rattle.table.specs.EncodedEntry.{Entry}
 use Rattle.edit.specs.Version.{State}
 use Rattle.edit.specs.declared.meta.NewFile.{NewFile}
 use Rattle.edit.specs.declared.meta.TheConstants.{LAST_LEVEL}
-use Rattle.merge.specs.Union.{IsUnion}
+use Rattle.reads.specs.Union.{IsUnion}
 use Rattle.pick.specs.PickedInputs.{PickedInputs, IsPicked}
 use Rattle.pick.specs.declared.picked_inputs.InputFile.{InputFile}
 use Rattle.reads.specs.Gets.{get_of}

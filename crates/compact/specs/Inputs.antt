@@ -1,17 +1,17 @@
 -- The tests of the inputs, and their union.
 use Rattle.std.specs.Prelude.{ℕ, ◌+◌, Bool, if◌then◌else◌, List, [], ◌∷◌, length}
 use Rattle.std.specs.Prelude.{Some, Result, Ok, Err}
-use Rattle.coding.specs.Answers.{fault, ◌>>=◌}
-use Rattle.coding.specs.declared.fault.Fault.{Fault}
-use Rattle.coding.specs.declared.fault.FaultName.TheVariants.{Bounds, Duplicate}
+use Rattle.ikey.specs.Answers.{fault, ◌>>=◌}
+use Rattle.ikey.specs.fault.Fault.{Fault}
+use Rattle.ikey.specs.fault.FaultName.TheVariants.{Bounds, Duplicate}
 use Rattle.ikey.specs.Comparator.{KeyOrder}
-use Rattle.block.specs.EncodedEntry.{Entry}
-use Rattle.block.specs.BuilderView.{last_key}
+use Rattle.table.specs.EncodedEntry.{Entry}
+use Rattle.reads.specs.BuilderView.{last_key}
 use Rattle.table.specs.TableContents.{Contents, contents_reading}
 use Rattle.table.specs.EntryTests.{first_key}
 use Rattle.table.specs.TestResult.{test_result}
 use Rattle.edit.specs.declared.meta.FileMeta.{FileMeta}
-use Rattle.merge.specs.MergedLists.{merged}
+use Rattle.reads.specs.MergedLists.{merged}
 use Rattle.pick.specs.declared.picked_inputs.InputFile.{InputFile}
 use Rattle.reads.specs.Bounds.{has_bounds}
 use Rattle.keep.specs.Runs.{are_distinct}

@@ -1,8 +1,8 @@
 -- The answers of the jobs of a compaction's runs, each at the number of its job.
 use Rattle.std.specs.Prelude.{ℕ, ◌+◌, List, [], ◌∷◌, map, Result, Ok}
-use Rattle.coding.specs.declared.fault.Fault.{Fault}
+use Rattle.ikey.specs.fault.Fault.{Fault}
 use Rattle.ikey.specs.Comparator.{KeyOrder}
-use Rattle.block.specs.EncodedEntry.{Entry}
+use Rattle.table.specs.EncodedEntry.{Entry}
 use Rattle.pick.specs.declared.picked_inputs.InputFile.{InputFile}
 use Rattle.keep.specs.Marks.{CompactionContext}
 use Rattle.keep.specs.Runs.{Run, range_run, ranges_of}

@@ -1,3 +1,9 @@
+-- of lower crates, whose words these use
+pub use Rattle.table.specs.declared.options
+pub use Rattle.edit.specs.declared.outcome
+pub use Rattle.keep.specs.declared.snapshots
+pub use Rattle.cut.specs.Outputs
+pub use Rattle.cut.specs.Plan
 -- what contracts rest on
 pub mod Request
 pub mod Inputs

@@ -1,6 +1,6 @@
 -- The state of a merged request, and what it answers.
 use Rattle.std.specs.Prelude.{◌≡◌, ℕ, ◌≤◌, true, List, map, Result}
-use Rattle.coding.specs.declared.fault.Fault.{Fault}
+use Rattle.ikey.specs.fault.Fault.{Fault}
 use Rattle.table.specs.Options.{AreInLimits}
 use Rattle.table.specs.Table.{table}
 use Rattle.ikey.specs.Comparator.{KeyOrder, ShortKeys}

@@ -1,9 +1,9 @@
 -- What one thread answers to a request, and what a compaction answers.
 use Rattle.std.specs.Prelude.{ℕ, nat_le, ◌&&◌, List, Result, Ok}
-use Rattle.coding.specs.Answers.{◌>>=◌}
-use Rattle.coding.specs.declared.fault.Fault.{Fault}
-use Rattle.coding.specs.declared.fault.FaultName.TheVariants.{Workers}
-use Rattle.block.specs.EncodedEntry.{Entry}
+use Rattle.ikey.specs.Answers.{◌>>=◌}
+use Rattle.ikey.specs.fault.Fault.{Fault}
+use Rattle.ikey.specs.fault.FaultName.TheVariants.{Workers}
+use Rattle.table.specs.EncodedEntry.{Entry}
 use Rattle.table.specs.Table.{table}
 use Rattle.table.specs.TestResult.{test_result}
 use Rattle.edit.specs.Edit.{edit_bytes}

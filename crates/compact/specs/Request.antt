@@ -2,10 +2,10 @@
 use Rattle.std.specs.Prelude.{ℕ, ◌+◌, nat_eq, nat_lt, nat_le, Bool, true, ◌&&◌, ◌||◌}
 use Rattle.std.specs.Prelude.{List, [], ◌∷◌, length, map, Result}
 use Rattle.std.specs.List.{list_all}
-use Rattle.coding.specs.Answers.{◌>>=◌}
-use Rattle.coding.specs.declared.fault.Fault.{Fault}
-use Rattle.coding.specs.declared.fault.FaultName.TheVariants.{NoInput, Level, Options, Snapshot}
-use Rattle.coding.specs.declared.fault.FaultName.TheVariants.{SnapshotList}
+use Rattle.ikey.specs.Answers.{◌>>=◌}
+use Rattle.ikey.specs.fault.Fault.{Fault}
+use Rattle.ikey.specs.fault.FaultName.TheVariants.{NoInput, Level, Options, Snapshot}
+use Rattle.ikey.specs.fault.FaultName.TheVariants.{SnapshotList}
 use Rattle.table.specs.Options.{are_in_limits}
 use Rattle.table.specs.declared.options.Options as declared
 use Rattle.table.specs.TestResult.{test_result}

@@ -4,13 +4,13 @@ use Rattle.std.specs.Prelude.{Ok}
 use Rattle.std.specs.List.{All, AllByRecursion}
 use Rattle.std.specs.Option.{option_map, ForSome}
 use Rattle.ikey.specs.Key.{IsInternalKey}
-use Rattle.block.specs.EncodedEntry.{Entry}
+use Rattle.table.specs.EncodedEntry.{Entry}
 use Rattle.table.specs.CheckedContents.{contents_in}
 use Rattle.table.specs.TableContents.{Contents, contents_reading}
 use Rattle.table.specs.EntriesFrom.{EntriesRise}
 use Rattle.edit.specs.Edit.{edit_bytes}
 use Rattle.edit.specs.Version.{State}
-use Rattle.merge.specs.Union.{IsUnion}
+use Rattle.reads.specs.Union.{IsUnion}
 use Rattle.pick.specs.PickedInputs.{IsPicked}
 use Rattle.pick.specs.declared.picked_inputs.InputFile.{InputFile}
 use Rattle.reads.specs.Lawful.{IsLawful}
@@ -18,7 +18,7 @@ use Rattle.reads.specs.Tables.{NumberedContents, table_of_number}
 use Rattle.keep.specs.DropRule.{kept}
 use Rattle.keep.specs.Readable.{readable_of}
 use Rattle.cut.specs.Outputs.{UsersRise}
-use Rattle.merge.specs.MergedLists.{entries_of_lists}
+use Rattle.reads.specs.MergedLists.{entries_of_lists}
 use Rattle.compact.specs.Request.{RequestView, request_test}
 use Rattle.compact.specs.OutputTables.{Output, numbered_tables}
 use Rattle.compact.specs.EditOf.{edit_of, new_files}

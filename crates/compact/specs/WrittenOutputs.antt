@@ -1,9 +1,9 @@
 -- What is written of the outputs of a compaction.
 use Rattle.std.specs.Prelude.{ℕ, ◌+◌, List, [], map, Result, Ok}
-use Rattle.coding.specs.Answers.{◌>>=◌}
-use Rattle.coding.specs.declared.fault.Fault.{Fault}
-use Rattle.block.specs.EncodedEntry.{Entry}
-use Rattle.block.specs.BuilderView.{last_key}
+use Rattle.ikey.specs.Answers.{◌>>=◌}
+use Rattle.ikey.specs.fault.Fault.{Fault}
+use Rattle.table.specs.EncodedEntry.{Entry}
+use Rattle.reads.specs.BuilderView.{last_key}
 use Rattle.table.specs.EntryTests.{first_key}
 use Rattle.edit.specs.Edit.{edit_bytes}
 use Rattle.edit.specs.declared.meta.NewFile.{NewFile}

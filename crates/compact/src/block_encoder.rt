@@ -1,15 +1,14 @@
 //! The third phase of the call: the data blocks of a plan are encoded.
 
 ghost use Rattle.std.specs.Prelude.{length, map, Ok};
-ghost use Rattle.coding.specs.Answers.{EqualOrMemory};
+ghost use Rattle.ikey.specs.Answers.{EqualOrMemory};
 ghost use Rattle.cut.specs.Plan.{encoded_blocks};
 ghost use Rattle.cut.specs.OutputPlan.{lists_in};
 ghost use Rattle.compact.specs.RangeMerges.{by_workers};
 
 use board::{Gate, Labour, run};
-use coding::Fault;
 use cut::Plan;
-use ikey::{Comparator, SharedComparator};
+use ikey::{Comparator, Fault, SharedComparator};
 use std::alloc::Global;
 use std::thread::Threads;
 

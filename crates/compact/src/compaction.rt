@@ -1,7 +1,7 @@
 //! The whole of a compaction.
 
 ghost use Rattle.std.specs.Prelude.{◌≡◌, ◌≤◌, map, Ok, IfOk, IfErr};
-ghost use Rattle.coding.specs.Answers.{EqualOrMemory, FailsOrMemory};
+ghost use Rattle.ikey.specs.Answers.{EqualOrMemory, FailsOrMemory};
 ghost use Rattle.split.specs.Boundaries.{IsSplit};
 ghost use Rattle.compact.specs.Inputs.{inputs_reading};
 ghost use Rattle.compact.specs.OneThread.{Answer, compaction_result, one_thread};
@@ -20,10 +20,9 @@ use crate::request_law::passed_law;
 use crate::surviving_reads::reads_survive;
 use crate::workers::check_workers;
 use board::Gate;
-use coding::Fault;
 use cut::ranges_cut;
 use edit::Outcome;
-use ikey::{Comparator, SharedComparator};
+use ikey::{Comparator, Fault, SharedComparator};
 use keep::{RangeRun, distinct_law};
 use split::Split;
 use std::alloc::Global;

@@ -1,8 +1,8 @@
 //! The edit of a plan, as bytes.
 
 ghost use Rattle.std.specs.Prelude.{◌≡◌, ◌+◌, ◌<◌, ◌^◌, true, map, length, Ok, IfOk, IfErr};
-ghost use Rattle.coding.specs.Answers.{EqualOrMemory, fault};
-ghost use Rattle.coding.specs.declared.fault.FaultName.TheVariants.{Memory};
+ghost use Rattle.ikey.specs.Answers.{EqualOrMemory, fault};
+ghost use Rattle.ikey.specs.fault.FaultName.TheVariants.{Memory};
 ghost use Rattle.edit.specs.Edit.{edit_bytes};
 ghost use Rattle.cut.specs.OutputMeta.{IsMetaOf};
 ghost use Rattle.cut.specs.Plan.{OutputView};
@@ -12,10 +12,9 @@ ghost use Rattle.compact.specs.EditOf.{edit_of};
 ghost use Rattle.compact.specs.WrittenOutputs.{planned_file, planned_files};
 
 use crate::request::Request;
-use coding::Fault;
 use cut::{OutputMeta, Plan};
 use edit::{FileMeta, NewFile};
-use ikey::{Comparator, KeyBuf};
+use ikey::{Comparator, Fault, KeyBuf};
 use std::alloc::Global;
 
 /// An output as a new file of a level.

@@ -2,16 +2,15 @@
 
 ghost use Rattle.std.specs.Prelude.{◌≡◌, ◌<◌, ◌≤◌, ◌++◌, length, slice_get, Some, Ok, OnOk};
 ghost use Rattle.std.specs.Prelude.{IfErr, flat_map};
-ghost use Rattle.coding.specs.Answers.{EqualOrMemory, fault};
-ghost use Rattle.coding.specs.declared.fault.FaultName.TheVariants.{Memory};
+ghost use Rattle.ikey.specs.Answers.{EqualOrMemory, fault};
+ghost use Rattle.ikey.specs.fault.FaultName.TheVariants.{Memory};
 ghost use Rattle.table.specs.Table.{table};
 ghost use Rattle.cut.specs.Plan.{plan_tables};
 ghost use Rattle.compact.specs.GroupedAnswer.{joined_answer, table_sizes};
 ghost use Rattle.board.specs.declared.limits.TheConstants.{MAX_WORKERS};
 
-use coding::Fault;
 use cut::Plan;
-use ikey::Comparator;
+use ikey::{Comparator, Fault};
 use std::alloc::Global;
 use std::marker::Model;
 

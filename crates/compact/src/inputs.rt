@@ -1,17 +1,16 @@
 //! The first phase: the inputs are checked.
 
 ghost use Rattle.std.specs.Prelude.{◌≡◌, ◌<◌, ◌≤◌, List, length, map, slice_get, Some, Result};
-ghost use Rattle.coding.specs.Answers.{EqualOrMemory, FailsOrMemory};
-ghost use Rattle.block.specs.EncodedEntry.{Entry};
+ghost use Rattle.ikey.specs.Answers.{EqualOrMemory, FailsOrMemory};
+ghost use Rattle.table.specs.EncodedEntry.{Entry};
 ghost use Rattle.compact.specs.Inputs.{result_at_input, table_matches_metadata, input_reading};
 ghost use Rattle.compact.specs.Inputs.{inputs_reading};
 ghost use Rattle.compact.specs.RangeMerges.{by_workers};
 ghost use Rattle.compact.specs.JobAnswers.{input_answers};
 
 use board::{Gate, Labour, run};
-use coding::{Fault, FaultName};
 use edit::FileMeta;
-use ikey::{Comparator, SharedComparator};
+use ikey::{Comparator, Fault, FaultName, SharedComparator};
 use pick::InputFile;
 use reads::has_bounds;
 use std::alloc::Global;

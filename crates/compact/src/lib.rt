@@ -44,9 +44,11 @@ pub use closure::{
     closed_choice, closed_inputs, first_alone_is_not_closed, inputs_stand_together, picked_choice,
 };
 pub use compaction::{compact, compact_tables, merge_request};
-pub use edit::Outcome;
+pub use cut::Plan;
+pub use edit::{DeletedFile, Outcome};
 pub use grouped_plan::{MAX_TABLES, Planned};
 pub use inputs::{check_inputs, matches_metadata};
+pub use keep::Snapshots;
 pub use merged_request::Merged;
 pub use outputs_edit::deletions_of;
 pub use ranges::merge_ranges;
@@ -57,3 +59,4 @@ pub use settings::Settings;
 pub use surviving_reads::{
     closed_reads_survive, edit_applies, gets_after, outputs_hold, reads_survive, stands_after,
 };
+pub use table::Options;

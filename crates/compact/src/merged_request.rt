@@ -1,7 +1,7 @@
 //! A request whose inputs are merged: its runs, before its outputs are planned.
 
 ghost use Rattle.std.specs.Prelude.{◌≡◌, ◌+◌, ◌<◌, ◌^◌, IfOk, length};
-ghost use Rattle.coding.specs.Answers.{EqualOrMemory};
+ghost use Rattle.ikey.specs.Answers.{EqualOrMemory};
 ghost use Rattle.table.specs.Options.{AreInLimits};
 ghost use Rattle.table.specs.Table.{table};
 ghost use Rattle.keep.specs.Runs.{joined_run};
@@ -17,10 +17,9 @@ use crate::grouped_plan::{MAX_TABLES, Planned};
 use crate::plan_encoder::{Job, encode_tables};
 use crate::request::Request;
 use board::Gate;
-use coding::Fault;
 use cut::{Plan, plan};
 use edit::Outcome;
-use ikey::{Comparator, SharedComparator};
+use ikey::{Comparator, Fault, SharedComparator};
 use keep::RangeRun;
 use std::alloc::Global;
 use std::marker::{Model, PhantomData};
@@ -38,7 +37,7 @@ pub struct Merged<'q, 't, C: Comparator> {
 
 impl<'q, 't, C: Comparator> Model for Merged<'q, 't, C> {
     ghost use Rattle.std.specs.Prelude.{Result};
-    ghost use Rattle.coding.specs.declared.fault.Fault.{Fault};
+    ghost use Rattle.ikey.specs.fault.Fault.{Fault};
     ghost use Rattle.compact.specs.Request.{request_in};
     ghost use Rattle.compact.specs.OneThread.{Answer};
     ghost use Rattle.compact.specs.MergedRequest.{IsMerged, runs_answer};

@@ -2,7 +2,7 @@
 
 ghost use Rattle.std.specs.Prelude.{◌≡◌, ◌+◌, ◌<◌, ◌≤◌, ◌^◌, true, length, IfOk, Ok};
 ghost use Rattle.std.specs.List.{All};
-ghost use Rattle.coding.specs.Answers.{EqualOrMemory};
+ghost use Rattle.ikey.specs.Answers.{EqualOrMemory};
 ghost use Rattle.edit.specs.Edit.{HasValidLevels, HasShortName, edit_in};
 ghost use Rattle.edit.specs.declared.meta.NewFile.{NewFile};
 ghost use Rattle.edit.specs.declared.meta.TheConstants.{LAST_LEVEL};
@@ -11,9 +11,8 @@ ghost use Rattle.compact.specs.Request.{has_levels, request_in};
 ghost use Rattle.compact.specs.EditOf.{deletions_of, edit_of};
 
 use crate::request::Request;
-use coding::Fault;
 use edit::{CompactPointer, DeletedFile, NewFile, VersionEdit};
-use ikey::KeyBuf;
+use ikey::{Fault, KeyBuf};
 use pick::{InputFile, Inputs};
 use std::alloc::Global;
 use std::collections::BTreeSet;

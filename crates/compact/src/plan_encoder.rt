@@ -1,7 +1,7 @@
 //! The tables of a plan, encoded by workers.
 
 ghost use Rattle.std.specs.Prelude.{◌≤◌, map, Ok};
-ghost use Rattle.coding.specs.Answers.{EqualOrMemory};
+ghost use Rattle.ikey.specs.Answers.{EqualOrMemory};
 ghost use Rattle.table.specs.Table.{table};
 ghost use Rattle.cut.specs.Plan.{plan_tables};
 ghost use Rattle.board.specs.declared.limits.TheConstants.{MAX_WORKERS};
@@ -9,9 +9,8 @@ ghost use Rattle.board.specs.declared.limits.TheConstants.{MAX_WORKERS};
 use crate::block_encoder::encode_blocks;
 use crate::table_encoder::encode_outputs;
 use board::Gate;
-use coding::Fault;
 use cut::Plan;
-use ikey::SharedComparator;
+use ikey::{Fault, SharedComparator};
 use std::alloc::Global;
 use std::thread::Threads;
 

@@ -2,16 +2,15 @@
 
 ghost use Rattle.std.specs.Prelude.{◌≡◌, map, IfOk, IfErr};
 ghost use Rattle.std.specs.List.Sorted.{IsStrictlyIncreasing};
-ghost use Rattle.coding.specs.Answers.{EqualOrMemory, fault};
-ghost use Rattle.coding.specs.declared.fault.FaultName.TheVariants.{Memory};
+ghost use Rattle.ikey.specs.Answers.{EqualOrMemory, fault};
+ghost use Rattle.ikey.specs.fault.FaultName.TheVariants.{Memory};
 ghost use Rattle.split.specs.Ranges.{key_range};
 ghost use Rattle.keep.specs.Marks.{context_of, LargestRise};
 ghost use Rattle.keep.specs.Runs.{range_run};
 ghost use Rattle.compact.specs.RangeMerges.{by_workers, runs_reading};
 
 use board::{Gate, Labour, run};
-use coding::Fault;
-use ikey::{Comparator, SharedComparator};
+use ikey::{Comparator, Fault, SharedComparator};
 use keep::{RangeRun, cursors_from, merge_range, ranges_compose};
 use pick::Inputs;
 use split::{Range, Split};

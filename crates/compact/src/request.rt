@@ -4,8 +4,7 @@ ghost use Rattle.std.specs.Prelude.{◌≡◌};
 ghost use Rattle.compact.specs.Request.{request_in, request_test};
 
 use crate::request_conditions::{has_levels, has_options, has_snapshots, is_snapshot_list};
-use coding::{Fault, FaultName};
-use ikey::Comparator;
+use ikey::{Comparator, Fault, FaultName};
 use keep::Snapshots;
 use pick::Inputs;
 use table::Options;

@@ -1,15 +1,14 @@
 //! The tables of a plan, each encoded whole.
 
 ghost use Rattle.std.specs.Prelude.{length, map, Ok};
-ghost use Rattle.coding.specs.Answers.{EqualOrMemory};
+ghost use Rattle.ikey.specs.Answers.{EqualOrMemory};
 ghost use Rattle.table.specs.Table.{table};
 ghost use Rattle.cut.specs.Plan.{plan_tables};
 ghost use Rattle.compact.specs.RangeMerges.{by_workers};
 
 use board::{Gate, Labour, run};
-use coding::Fault;
 use cut::Plan;
-use ikey::{Comparator, SharedComparator};
+use ikey::{Comparator, Fault, SharedComparator};
 use std::alloc::Global;
 use std::thread::Threads;
 

@@ -1,11 +1,11 @@
 //! The test of a number of workers.
 
 ghost use Rattle.std.specs.Prelude.{◌≡◌, nat_le, ◌&&◌};
-ghost use Rattle.coding.specs.declared.fault.FaultName.TheVariants.{Workers};
+ghost use Rattle.ikey.specs.fault.FaultName.TheVariants.{Workers};
 ghost use Rattle.table.specs.TestResult.{test_result};
 
 use board::MAX_WORKERS;
-use coding::{Fault, FaultName};
+use ikey::{Fault, FaultName};
 
 /// `Workers` if `workers` is outside 1 to 64. It takes no memory.
 pub(crate) fn check_workers(workers: u64) -> Result<(), Fault>

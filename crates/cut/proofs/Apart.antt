@@ -17,12 +17,12 @@ use Rattle.block.specs.EncodedEntry.{Entry}
 use Rattle.block.specs.BuilderView.{last_key}
 use Rattle.table.specs.declared.options.Options.{Options}
 use Rattle.table.specs.DataBlocks.{open_block, flushed}
-use Rattle.merge.specs.Union.{key_version_cmp, VersionsRise}
-use Rattle.edit.specs.declared.meta.FileMeta.{FileMeta}
+use Rattle.keep.specs.Union.{key_version_cmp, VersionsRise}
+use Rattle.keep.specs.meta.FileMeta.{FileMeta}
 use Rattle.keep.specs.declared.mark.Mark.{Mark}
 use Rattle.keep.specs.DropRule.{is_same_user, keeps, kept, kept_after}
 use Rattle.keep.specs.Marks.{CompactionContext, grandparents_below, heads, heads_after, is_first}
-use Rattle.merge.specs.MergedLists.{entries_of_lists}
+use Rattle.keep.specs.MergedLists.{entries_of_lists}
 use Rattle.cut.specs.Stops.{is_stop, stops, stops_after}
 use Rattle.cut.specs.Outputs.{AreBelow, UsersRise, WholeLaw, ends_before, outputs, outputs_after, outputs_in, segments}
 use Rattle.cut.proofs.Elements.{each, both, front, behind}

@@ -5,7 +5,7 @@ use Rattle.std.specs.Global.{Vec}
 use Rattle.std.proofs.lemmas.List.{map-append, length-map, take_all}
 use Rattle.block.specs.EncodedEntry.{Entry}
 use Rattle.block.specs.BlockFormat.{block}
-use Rattle.merge.proofs.Leasts.{take_next}
+use Rattle.keep.proofs.Leasts.{take_next}
 use Rattle.table.specs.declared.options.Options.{Options}
 use Rattle.table.specs.Trailer.{stored_block}
 use Rattle.cut.specs.Plan.{parts, jobs, encoded_blocks}

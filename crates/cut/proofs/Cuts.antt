@@ -10,7 +10,7 @@ use Rattle.block.specs.EncodedEntry.{Entry}
 use Rattle.table.specs.declared.options.Options.{Options}
 use Rattle.table.specs.DataBlocks.{is_full, open_block, blocks_after, data_blocks}
 use Rattle.cut.specs.declared.planned_block.PlannedBlock.{PlannedBlock}
-use Rattle.merge.specs.MergedLists.{entries_of_lists}
+use Rattle.keep.specs.MergedLists.{entries_of_lists}
 use Rattle.cut.specs.OutputCuts.{OutputsInProgress, outputs_left}
 use Rattle.cut.specs.PlannedBlocks.{block_lists}
 use Rattle.cut.specs.OutputInProgress.{entries_in_blocks, HasLen, ArePlanned, ends_by}

@@ -20,7 +20,7 @@ use Rattle.table.specs.Options.{AreInLimits}
 use Rattle.table.specs.DataBlocks.{is_full, open_block, blocks_after, data_blocks, flushed, flushed_len}
 use Rattle.table.specs.Table.{stored_blocks}
 use Rattle.cut.specs.declared.planned_block.PlannedBlock.{PlannedBlock}
-use Rattle.merge.specs.MergedLists.{entries_of_lists}
+use Rattle.keep.specs.MergedLists.{entries_of_lists}
 use Rattle.cut.specs.BlockInProgress.{BlockInProgress, block_after_entries, last_entry_key}
 use Rattle.cut.specs.Outputs.{ends_before, outputs_after}
 use Rattle.cut.specs.PlannedBlocks.{block_lists}

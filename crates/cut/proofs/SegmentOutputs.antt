@@ -15,7 +15,7 @@ use Rattle.block.specs.EncodedEntry.{Entry}
 use Rattle.block.specs.BuilderView.{last_key}
 use Rattle.table.specs.declared.options.Options.{Options}
 use Rattle.table.specs.DataBlocks.{open_block, flushed}
-use Rattle.merge.specs.Union.{key_version_cmp, VersionsRise}
+use Rattle.keep.specs.Union.{key_version_cmp, VersionsRise}
 use Rattle.cut.specs.Outputs.{ends_before, outputs_after, outputs_in, MayEnd, IsOutput, AreOutputs, OutputsLaw}
 use Rattle.cut.proofs.Elements.{each}
 

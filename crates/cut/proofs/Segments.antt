@@ -12,11 +12,11 @@ use Rattle.ikey.specs.Comparator.{IsExact}
 use Rattle.ikey.specs.Key.{user_of}
 use Rattle.block.specs.EncodedEntry.{Entry}
 use Rattle.table.specs.declared.options.Options.{Options}
-use Rattle.edit.specs.declared.meta.FileMeta.{FileMeta}
+use Rattle.keep.specs.meta.FileMeta.{FileMeta}
 use Rattle.keep.specs.DropRule.{is_same_user, keeps, kept, kept_after}
 use Rattle.keep.specs.Marks.{CompactionContext, grandparents_below, heads, heads_after}
-use Rattle.merge.specs.Union.{key_version_cmp, VersionsRise}
-use Rattle.merge.specs.MergedLists.{entries_of_lists}
+use Rattle.keep.specs.Union.{key_version_cmp, VersionsRise}
+use Rattle.keep.specs.MergedLists.{entries_of_lists}
 use Rattle.cut.specs.Outputs.{outputs, outputs_in, segments, AreOutputs}
 use Rattle.cut.specs.Segments.{AreSegments, BeginsSegment, EachReachesNext, ReachesNext, SegmentsLaw}
 use Rattle.cut.specs.Stops.{size_between, stops, stops_after}

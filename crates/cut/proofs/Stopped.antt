@@ -5,7 +5,7 @@ use Rattle.std.specs.Option.{option_map}
 use Rattle.std.specs.List.{sum_by}
 use Rattle.std.proofs.lemmas.Bool.{cases_lt, ltb-true, ltb-false, lt-ltb, le-ltb}
 use Rattle.std.proofs.lemmas.Option.{none-some, same_Some}
-use Rattle.edit.specs.declared.meta.FileMeta.{FileMeta}
+use Rattle.keep.specs.meta.FileMeta.{FileMeta}
 use Rattle.keep.specs.declared.mark.Mark.{Mark}
 use Rattle.cut.specs.declared.stops.Overlap.{Overlap}
 use Rattle.cut.specs.declared.stops.Stopping.{Stopping}

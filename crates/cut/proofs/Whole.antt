@@ -8,7 +8,7 @@ use Rattle.std.proofs.lemmas.List.{take-append-drop}
 use Rattle.block.specs.EncodedEntry.{Entry}
 use Rattle.table.specs.declared.options.Options.{Options}
 use Rattle.table.specs.DataBlocks.{open_block}
-use Rattle.merge.specs.MergedLists.{entries_of_lists}
+use Rattle.keep.specs.MergedLists.{entries_of_lists}
 use Rattle.cut.specs.Outputs.{ends_before, outputs_after, outputs_in, segments}
 
 module _ (o : Options) where

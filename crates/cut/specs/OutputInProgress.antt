@@ -10,7 +10,7 @@ use Rattle.table.specs.DataBlocks.{is_full, blocks_after, data_blocks}
 use Rattle.table.specs.Table.{stored_blocks}
 use Rattle.cut.specs.declared.planned_block.PlannedBlock.{PlannedBlock}
 use Rattle.cut.specs.PlannedBlocks.{block_lists}
-use Rattle.merge.specs.MergedLists.{entries_of_lists}
+use Rattle.keep.specs.MergedLists.{entries_of_lists}
 use Rattle.cut.specs.BlockInProgress.{BlockInProgress, last_entry_key}
 use Rattle.cut.specs.Outputs.{ends_before}
 

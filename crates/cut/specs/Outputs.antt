@@ -11,9 +11,9 @@ use Rattle.block.specs.EncodedEntry.{Entry}
 use Rattle.block.specs.BuilderView.{last_key}
 use Rattle.table.specs.declared.options.Options.{Options}
 use Rattle.table.specs.DataBlocks.{open_block, flushed}
-use Rattle.merge.specs.MergedLists.{entries_of_lists}
-use Rattle.merge.specs.Union.{VersionsRise}
-use Rattle.edit.specs.declared.meta.FileMeta.{FileMeta}
+use Rattle.keep.specs.MergedLists.{entries_of_lists}
+use Rattle.keep.specs.Union.{VersionsRise}
+use Rattle.keep.specs.meta.FileMeta.{FileMeta}
 use Rattle.split.specs.Boundaries.{IsSplit}
 use Rattle.keep.specs.DropRule.{kept}
 use Rattle.keep.specs.Marks.{CompactionContext, heads}

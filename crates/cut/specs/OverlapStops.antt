@@ -1,7 +1,7 @@
 -- How the stops at marks are found, mark by mark.
 use Rattle.std.specs.Prelude.{◌≡◌, ℕ, ◌+◌, ◌-◌, ◌*◌, ◌≤◌, nat_lt, if◌then◌else◌, List, ◌++◌, Option}
 use Rattle.std.specs.Prelude.{Some, None, IfSome}
-use Rattle.edit.specs.declared.meta.FileMeta.{FileMeta}
+use Rattle.keep.specs.meta.FileMeta.{FileMeta}
 use Rattle.keep.specs.declared.mark.Mark.{Mark}
 use Rattle.cut.specs.declared.stops.Overlap.{Overlap}
 use Rattle.cut.specs.declared.stops.Stopping.{Stopping}

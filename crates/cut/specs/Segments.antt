@@ -16,11 +16,11 @@ use Rattle.ikey.specs.Key.{user_of}
 use Rattle.ikey.specs.Comparator.{KeyOrder}
 use Rattle.block.specs.EncodedEntry.{Entry}
 use Rattle.table.specs.declared.options.Options.{Options}
-use Rattle.edit.specs.declared.meta.FileMeta.{FileMeta}
+use Rattle.keep.specs.meta.FileMeta.{FileMeta}
 use Rattle.keep.specs.DropRule.{kept}
 use Rattle.keep.specs.Marks.{CompactionContext, grandparents_below}
-use Rattle.merge.specs.Union.{VersionsRise}
-use Rattle.merge.specs.MergedLists.{entries_of_lists}
+use Rattle.keep.specs.Union.{VersionsRise}
+use Rattle.keep.specs.MergedLists.{entries_of_lists}
 use Rattle.cut.specs.Outputs.{outputs, outputs_in, AreOutputs}
 use Rattle.cut.specs.Stops.{size_between}
 use Rattle.cut.specs.declared.stops.TheConstants.{MAX_OVERLAP}

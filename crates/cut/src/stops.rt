@@ -25,7 +25,7 @@ ghost use Rattle.std.specs.List.{sum_by};
 ghost use Rattle.std.specs.Option.{option_map};
 ghost use Rattle.coding.specs.Answers.{EqualOrMemory, fault};
 ghost use Rattle.coding.specs.declared.fault.FaultName.TheVariants.{Memory};
-ghost use Rattle.edit.specs.declared.meta.FileMeta.{FileMeta};
+ghost use Rattle.keep.specs.meta.FileMeta.{FileMeta};
 ghost use Rattle.table.specs.declared.table_check.TheConstants.{MAX_TABLE_LEN};
 ghost use Rattle.keep.specs.declared.mark.Mark.{Mark};
 ghost use Rattle.keep.specs.Runs.{joined_marks, moved_mark};
@@ -33,8 +33,7 @@ ghost use Rattle.cut.specs.Stops.{size_between, stops};
 ghost use Rattle.cut.specs.OverlapStops.{all_stops, room_left, AreCounted};
 
 use coding::Fault;
-use edit::FileMeta;
-use keep::{Mark, RangeRun};
+use keep::{FileMeta, Mark, RangeRun};
 use std::alloc::Global;
 
 /// There is a stop if more than this many times the maximal file size of grandparents is passed.

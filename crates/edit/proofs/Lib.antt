@@ -1,3 +1,6 @@
+pub use Rattle.coding.proofs.Binds
+pub use Rattle.coding.proofs.Refusals
+pub use Rattle.ikey.proofs.Ordered
 pub mod Memory
 pub mod Texts
 pub mod Steps

@@ -40,7 +40,9 @@ mod version;
 mod version_edit;
 mod version_order;
 
+pub use coding::{Fault, FaultName};
 pub use format_laws::{edit_laws, snapshot_law};
+pub use ikey::{Comparator, InternalKey, KeyBuf};
 pub use meta::{CompactPointer, DeletedFile, FileMeta, LAST_LEVEL, LEVELS, NewFile};
 pub use outcome::Outcome;
 pub use version::Version;

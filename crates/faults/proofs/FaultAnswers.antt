@@ -3,11 +3,11 @@ use Rattle.std.proofs.Common.{◌≡◌, ℕ, ◌+◌, ◌<◌, ◌≤◌, List,
 use Rattle.std.specs.Prelude.{◌⊎◌}
 use Rattle.std.specs.List.{AllZip}
 use Rattle.std.proofs.lemmas.List.{take_more}
-use Rattle.coding.proofs.Binds.{done, failed}
-use Rattle.coding.proofs.Refusals.{unless_from}
-use Rattle.coding.specs.Answers.{UnlessMemory, fault}
-use Rattle.coding.specs.declared.fault.Fault.{Fault}
-use Rattle.coding.specs.declared.fault.FaultName.TheVariants.{Memory}
+use Rattle.table.proofs.Binds.{done, failed}
+use Rattle.table.proofs.Refusals.{unless_from}
+use Rattle.table.specs.Answers.{UnlessMemory, fault}
+use Rattle.table.specs.fault.Fault.{Fault}
+use Rattle.table.specs.fault.FaultName.TheVariants.{Memory}
 use Rattle.folder.proofs.OpeningLemmas.{failed_since}
 use Rattle.folder.specs.OpenAnswer.{FolderAnswers, IsStopped}
 

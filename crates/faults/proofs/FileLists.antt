@@ -8,14 +8,14 @@ use Rattle.std.specs.Cmp.{IsTotalOrder}
 use Rattle.std.specs.declared.cmp.Ordering.{Ordering}
 use Rattle.std.specs.declared.cmp.Ordering.TheVariants.{Less}
 use Rattle.std.proofs.lemmas.List.Elements.{Contains-append_cases}
-use Rattle.ikey.specs.Comparator.{KeyOrder}
-use Rattle.edit.specs.Version.{are_apart}
-use Rattle.edit.specs.VersionOrder.{added_from, at_level, file_cmp, files_at, in_version_order}
-use Rattle.edit.specs.declared.meta.FileMeta.{FileMeta}
-use Rattle.edit.specs.declared.meta.NewFile.{NewFile}
-use Rattle.edit.proofs.Inserted.{sorted_all}
-use Rattle.edit.proofs.Snapshots.{added_from-suc, added_from-zero, one_level}
-use Rattle.edit.proofs.SortedFiles.{version_cmp-total}
+use Rattle.table.specs.Comparator.{KeyOrder}
+use Rattle.folder.specs.Version.{are_apart}
+use Rattle.folder.specs.VersionOrder.{added_from, at_level, file_cmp, files_at, in_version_order}
+use Rattle.folder.specs.meta.FileMeta.{FileMeta}
+use Rattle.folder.specs.meta.NewFile.{NewFile}
+use Rattle.folder.proofs.Inserted.{sorted_all}
+use Rattle.folder.proofs.Snapshots.{added_from-suc, added_from-zero, one_level}
+use Rattle.folder.proofs.SortedFiles.{version_cmp-total}
 use Rattle.reads.specs.FileList.{AreAll}
 use Rattle.reads.proofs.FallingEntries.{each_of}
 use Rattle.reads.proofs.GatheredFiles.{AreGathered, all_gathered, more_gathered, none_gathered}

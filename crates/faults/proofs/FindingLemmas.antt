@@ -5,13 +5,13 @@ use Rattle.std.specs.List.{AllByRecursion, IsDistinct, filter, fold}
 use Rattle.std.specs.BTreeSet.{insert_key}
 use Rattle.std.specs.Option.{option_map, option_map_or}
 use Rattle.std.proofs.lemmas.List.{length-drop, take_all}
-use Rattle.coding.specs.declared.fault.Fault.{Fault}
-use Rattle.ikey.specs.Comparator.{KeyOrder}
-use Rattle.block.specs.EncodedEntry.{Entry}
+use Rattle.table.specs.fault.Fault.{Fault}
+use Rattle.table.specs.Comparator.{KeyOrder}
+use Rattle.table.specs.EncodedEntry.{Entry}
 use Rattle.table.specs.TableContents.{Contents}
-use Rattle.edit.specs.declared.meta.FileMeta.{FileMeta}
-use Rattle.edit.specs.declared.meta.NewFile.{NewFile}
-use Rattle.edit.proofs.SortedFiles.{same_number}
+use Rattle.folder.specs.meta.FileMeta.{FileMeta}
+use Rattle.folder.specs.meta.NewFile.{NewFile}
+use Rattle.folder.proofs.SortedFiles.{same_number}
 use Rattle.folder.specs.Calls.{Files}
 use Rattle.reads.specs.FileList.{same_file, newer_number, level_file_in}
 use Rattle.reads.specs.StatedFiles.{is_below}

@@ -4,12 +4,12 @@ use Rattle.std.specs.Prelude.{Contains, flat_map, slice_index}
 use Rattle.std.specs.List.{AllByRecursion}
 use Rattle.std.specs.Cmp.{IsTotalOrder}
 use Rattle.std.specs.declared.cmp.Ordering.{Ordering}
-use Rattle.coding.specs.Answers.{◌>>=◌}
-use Rattle.coding.proofs.Binds.{bind_ok, ok_is}
-use Rattle.coding.specs.Varint.{varint}
-use Rattle.ikey.specs.Key.{IsInternalKey, internal_key_reading}
-use Rattle.ikey.proofs.Keys.{IsInternalKey-reading}
-use Rattle.block.specs.EncodedEntry.{Entry, EncodedEntry, encoded_entry_bytes, key_after, entries_after, restarts_of, restart_bytes, IsBlock}
+use Rattle.table.specs.Answers.{◌>>=◌}
+use Rattle.table.proofs.Binds.{bind_ok, ok_is}
+use Rattle.table.specs.Varint.{varint}
+use Rattle.table.specs.Key.{IsInternalKey, internal_key_reading}
+use Rattle.table.proofs.Keys.{IsInternalKey-reading}
+use Rattle.table.specs.EncodedEntry.{Entry, EncodedEntry, encoded_entry_bytes, key_after, entries_after, restarts_of, restart_bytes, IsBlock}
 use Rattle.table.specs.Trailer.{stored_block, trailer_bytes}
 use Rattle.table.specs.EntryTests.{HaveKeys}
 use Rattle.table.specs.IndexReading.{index_reading}

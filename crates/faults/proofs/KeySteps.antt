@@ -11,12 +11,12 @@ use Rattle.std.specs.declared.cmp.Ordering.TheVariants.{Less, Equal, Greater}
 use Rattle.std.proofs.lemmas.List.{take_all}
 use Rattle.std.proofs.lemmas.List.Elements.{Contains-append_cases, Contains-append_left, Contains-append_right}
 use Rattle.std.proofs.lemmas.Slice.Eq.{bytes_eq-Decides}
-use Rattle.ikey.specs.Comparator.{IsExact, KeyOrder}
-use Rattle.ikey.specs.Key.{user_of}
+use Rattle.table.specs.Comparator.{IsExact, KeyOrder}
+use Rattle.table.specs.Key.{user_of}
 use Rattle.table.specs.EntriesFrom.{NeverFalls}
-use Rattle.split.specs.Boundaries.{KeysRise}
-use Rattle.split.specs.Ranges.{IsIn, KeyRange}
-use Rattle.block.specs.EncodedEntry.{Entry}
+use Rattle.reads.specs.Boundaries.{KeysRise}
+use Rattle.reads.specs.Ranges.{IsIn, KeyRange}
+use Rattle.table.specs.EncodedEntry.{Entry}
 use Rattle.merge.specs.MergedLists.{entries_of_lists}
 use Rattle.reads.proofs.Members.{first_in, first_or_later, from_filter, from_flat_map, from_map, in_filter, in_flat_map, in_map, none_in}
 use Rattle.reads.proofs.Orders.{not_before_itself}

@@ -5,13 +5,13 @@ use Rattle.std.specs.Option.{option_map, option_or, ok_or}
 use Rattle.std.proofs.lemmas.Bool.{leb-true, ltb-true}
 use Rattle.std.proofs.lemmas.Bool.Decides.{Decides-ltb, nat_tests}
 use Rattle.std.proofs.lemmas.Option.{same_Some}
-use Rattle.coding.specs.Answers.{◌>>=◌, fault}
-use Rattle.coding.specs.declared.fault.FaultName.TheVariants.{Missing, Size}
-use Rattle.ikey.specs.Comparator.{KeyOrder}
+use Rattle.table.specs.Answers.{◌>>=◌, fault}
+use Rattle.table.specs.fault.FaultName.TheVariants.{Missing, Size}
+use Rattle.table.specs.Comparator.{KeyOrder}
 use Rattle.folder.specs.Folder.{part_of}
 use Rattle.table.specs.TableContents.{contents_reading, index_in}
 use Rattle.table.proofs.CheckedTables.{index_refused}
-use Rattle.edit.specs.declared.meta.FileMeta.{FileMeta}
+use Rattle.folder.specs.meta.FileMeta.{FileMeta}
 use Rattle.faults.specs.Findings.{finding_of, is_long, is_too_long}
 use Rattle.faults.specs.declared.table_finding.TableFinding.TheVariants.{Unreadable}
 use Rattle.faults.proofs.UserEntries.{false_of}

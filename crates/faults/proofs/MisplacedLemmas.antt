@@ -10,13 +10,13 @@ use Rattle.std.specs.declared.cmp.Ordering.{Ordering}
 use Rattle.std.specs.declared.cmp.Ordering.TheVariants.{Less, Equal, Greater}
 use Rattle.std.proofs.lemmas.List.Elements.{All-from_recursion, Contains-append_cases, Contains-append_left, Contains-append_right}
 use Rattle.std.proofs.lemmas.Option.{same_Some}
-use Rattle.ikey.specs.Comparator.{IsExact, KeyOrder}
-use Rattle.ikey.specs.Key.{user_of}
-use Rattle.edit.proofs.Inserted.{sorted_all}
-use Rattle.edit.proofs.Inserted as inserted
+use Rattle.table.specs.Comparator.{IsExact, KeyOrder}
+use Rattle.table.specs.Key.{user_of}
+use Rattle.folder.proofs.Inserted.{sorted_all}
+use Rattle.folder.proofs.Inserted as inserted
 use Rattle.keep.specs.InRange.{is_in_range}
 use Rattle.keep.proofs.Distinct.{holds_tells}
-use Rattle.split.specs.Ranges.{IsCover, IsIn, KeyRange, range_at}
+use Rattle.reads.specs.Ranges.{IsCover, IsIn, KeyRange, range_at}
 use Rattle.reads.proofs.FallingEntries.{each_of, of_each}
 use Rattle.reads.proofs.Members.{first_in, first_or_later, from_filter, in_filter, in_map, later_in, none_in}
 use Rattle.reads.proofs.Orders.{not_before_itself}

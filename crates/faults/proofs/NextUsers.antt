@@ -8,9 +8,9 @@ use Rattle.std.specs.declared.cmp.Ordering.{Ordering}
 use Rattle.std.specs.declared.cmp.Ordering.TheVariants.{Less, Equal, Greater}
 use Rattle.std.proofs.lemmas.List.Elements.{Contains-append_left, Contains-append_right}
 use Rattle.std.proofs.lemmas.Option.{none-some, same_Some}
-use Rattle.ikey.specs.Comparator.{IsExact, KeyOrder}
-use Rattle.ikey.specs.Key.{user_of}
-use Rattle.block.specs.EncodedEntry.{Entry}
+use Rattle.table.specs.Comparator.{IsExact, KeyOrder}
+use Rattle.table.specs.Key.{user_of}
+use Rattle.table.specs.EncodedEntry.{Entry}
 use Rattle.merge.specs.LeastList.{IsMerging}
 use Rattle.merge.specs.MergedLists.{entries_of_lists}
 use Rattle.reads.proofs.EntriesInOrder.{behind_bound}

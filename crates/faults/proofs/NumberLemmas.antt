@@ -5,13 +5,13 @@ use Rattle.std.specs.List.{find}
 use Rattle.std.specs.Option.{option_map}
 use Rattle.std.proofs.lemmas.Bool.{eq-eqb}
 use Rattle.std.proofs.lemmas.List.{map-append}
-use Rattle.ikey.specs.Comparator.{KeyOrder}
+use Rattle.table.specs.Comparator.{KeyOrder}
 use Rattle.table.specs.TableContents.{Contents}
-use Rattle.edit.specs.Version.{State}
-use Rattle.edit.specs.VersionOrder.{added_from, at_level, files_at, in_version_order}
-use Rattle.edit.specs.declared.meta.FileMeta.{FileMeta}
-use Rattle.edit.specs.declared.meta.NewFile.{NewFile}
-use Rattle.edit.proofs.Snapshots.{added_from-suc, added_from-zero, one_level}
+use Rattle.folder.specs.Version.{State}
+use Rattle.folder.specs.VersionOrder.{added_from, at_level, files_at, in_version_order}
+use Rattle.folder.specs.meta.FileMeta.{FileMeta}
+use Rattle.folder.specs.meta.NewFile.{NewFile}
+use Rattle.folder.proofs.Snapshots.{added_from-suc, added_from-zero, one_level}
 use Rattle.folder.specs.Calls.{Files}
 use Rattle.folder.specs.Levels.{by_level, file_numbers, numbers_at}
 use Rattle.reads.specs.Tables.{NumberedContents, table_of_number}

@@ -8,10 +8,10 @@ use Rattle.std.specs.Ordering.{is_le, is_lt, ordering_reverse}
 use Rattle.std.specs.declared.cmp.Ordering.{Ordering}
 use Rattle.std.specs.declared.cmp.Ordering.TheVariants.{Less, Equal, Greater}
 use Rattle.std.proofs.lemmas.Bool.{and_from, and_parts, eq-eqb, eqb-true, lt-ltb, ltb-true, or_cases, or_left, or_right}
-use Rattle.ikey.proofs.Ordered.{internal_cmp-total}
-use Rattle.ikey.specs.Comparator.{KeyOrder}
-use Rattle.ikey.specs.Order.{internal_cmp}
-use Rattle.edit.specs.declared.meta.NewFile.{NewFile}
+use Rattle.table.proofs.Ordered.{internal_cmp-total}
+use Rattle.table.specs.Comparator.{KeyOrder}
+use Rattle.table.specs.Order.{internal_cmp}
+use Rattle.folder.specs.meta.NewFile.{NewFile}
 use Rattle.reads.specs.FileList.{level_file_in}
 use Rattle.faults.specs.FileFaults.{are_disjoint, lies_before, overlap, overlap_faults}
 use Rattle.faults.specs.FileOrder.{are_in_order, is_in_order, is_past}

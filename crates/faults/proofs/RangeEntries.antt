@@ -5,21 +5,21 @@ use Rattle.std.specs.List.{AllZip, filter}
 use Rattle.std.specs.Cmp.{IsTotalOrder}
 use Rattle.std.specs.Option.{option_map}
 use Rattle.std.proofs.lemmas.List.Elements.{All-head, All-tail, filter-append}
-use Rattle.coding.specs.declared.fault.Fault.{Fault}
-use Rattle.ikey.specs.Comparator.{KeyOrder}
-use Rattle.ikey.specs.Key.{user_of}
-use Rattle.block.specs.EncodedEntry.{Entry}
+use Rattle.table.specs.fault.Fault.{Fault}
+use Rattle.table.specs.Comparator.{KeyOrder}
+use Rattle.table.specs.Key.{user_of}
+use Rattle.table.specs.EncodedEntry.{Entry}
 use Rattle.table.specs.TableContents.{Contents}
-use Rattle.edit.specs.declared.meta.FileMeta.{FileMeta}
+use Rattle.folder.specs.meta.FileMeta.{FileMeta}
 use Rattle.folder.specs.Calls.{Files}
 use Rattle.keep.specs.InRange.{entries_in, is_in_range}
 use Rattle.keep.proofs.Distinct.{holds_tells}
 use Rattle.keep.proofs.Reaching.{begins_behind, ends_before, table_never_falls}
-use Rattle.split.specs.Ranges.{IsIn, KeyRange}
+use Rattle.reads.specs.Ranges.{IsIn, KeyRange}
 use Rattle.reads.specs.Tables.{NumberedContents}
 use Rattle.checks.specs.HeldTables.{AreFound}
 use Rattle.checks.specs.NeededFiles.{is_file_needed}
-use Rattle.split.specs.Bounds.{is_user_before}
+use Rattle.keep.specs.Bounds.{is_user_before}
 use Rattle.checks.proofs.FileTables.{numbers_in}
 use Rattle.faults.specs.VersionFault.{MisplacedKey}
 use Rattle.faults.specs.FileFaults.{file_reading}

@@ -4,11 +4,11 @@ use Rattle.std.specs.Prelude.{filter}
 use Rattle.std.specs.Cmp.{IsTotalOrder}
 use Rattle.std.proofs.lemmas.List.{map-append}
 use Rattle.std.proofs.lemmas.List.Elements.{All-contains, Contains-get_or}
-use Rattle.ikey.specs.Comparator.{KeyOrder}
-use Rattle.edit.specs.declared.meta.FileMeta.{FileMeta}
+use Rattle.table.specs.Comparator.{KeyOrder}
+use Rattle.folder.specs.meta.FileMeta.{FileMeta}
 use Rattle.folder.proofs.LoadingLemmas.{map_fused}
 use Rattle.folder.specs.Calls.{Files}
-use Rattle.split.specs.Ranges.{IsIn, KeyRange, range_at}
+use Rattle.reads.specs.Ranges.{IsIn, KeyRange, range_at}
 use Rattle.reads.specs.Tables.{NumberedContents}
 use Rattle.reads.proofs.Members.{from_filter}
 use Rattle.checks.specs.HeldTables.{AreFound}

@@ -7,10 +7,10 @@ use Rattle.std.specs.Cmp.{IsTotalOrder}
 use Rattle.std.specs.Ordering.{is_eq, is_lt}
 use Rattle.std.specs.declared.cmp.Ordering.TheVariants.{Equal}
 use Rattle.std.proofs.lemmas.Cmp.{back_total, nat_cmp_total, on_total}
-use Rattle.edit.specs.declared.meta.FileMeta.{FileMeta}
-use Rattle.edit.proofs.Inserted.{sorted_is}
-use Rattle.edit.proofs.SortedFiles.{same_number}
-use Rattle.edit.proofs.Tested.{eqb-sym, is_eq-nat_cmp}
+use Rattle.folder.specs.meta.FileMeta.{FileMeta}
+use Rattle.folder.proofs.Inserted.{sorted_is}
+use Rattle.folder.proofs.SortedFiles.{same_number}
+use Rattle.folder.proofs.Tested.{eqb-sym, is_eq-nat_cmp}
 use Rattle.reads.specs.FileList.{newer_number}
 
 pub falling_total : IsTotalOrder newer_number

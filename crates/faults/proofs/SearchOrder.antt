@@ -13,15 +13,15 @@ use Rattle.std.proofs.lemmas.List.{map-append}
 use Rattle.std.proofs.lemmas.List.Elements.{Contains-get_or}
 use Rattle.std.proofs.lemmas.List.Sorted.{Contains-permutation, IsPermutation-append_left, IsPermutation-filter_both, IsPermutation-map, IsPermutation-sym, IsPermutation-trans}
 use Rattle.std.proofs.lemmas.Map.Keys.{IsDistinct-IsPermutation}
-use Rattle.ikey.specs.Comparator.{KeyOrder}
-use Rattle.ikey.specs.Order.{internal_cmp}
-use Rattle.ikey.proofs.Ordered.{internal_cmp-total}
-use Rattle.edit.specs.VersionOrder.{at_level}
-use Rattle.edit.specs.declared.meta.FileMeta.{FileMeta}
-use Rattle.edit.specs.declared.meta.NewFile.{NewFile}
-use Rattle.edit.proofs.Inserted.{all_permute}
-use Rattle.edit.proofs.SortedFiles.{same_number}
-use Rattle.edit.proofs.Tested.{eqb-sym}
+use Rattle.table.specs.Comparator.{KeyOrder}
+use Rattle.table.specs.Order.{internal_cmp}
+use Rattle.table.proofs.Ordered.{internal_cmp-total}
+use Rattle.folder.specs.VersionOrder.{at_level}
+use Rattle.folder.specs.meta.FileMeta.{FileMeta}
+use Rattle.folder.specs.meta.NewFile.{NewFile}
+use Rattle.folder.proofs.Inserted.{all_permute}
+use Rattle.folder.proofs.SortedFiles.{same_number}
+use Rattle.folder.proofs.Tested.{eqb-sym}
 use Rattle.reads.specs.FileChecks.{newest_first_cmp}
 use Rattle.reads.specs.FileList.{AreAll, same_file, newer_number}
 use Rattle.reads.proofs.FileOrder.{IsRange, comes_before, newest_first_cmp-total}

@@ -9,10 +9,10 @@ use Rattle.std.specs.declared.cmp.Ordering.TheVariants.{Less, Equal, Greater}
 use Rattle.std.proofs.lemmas.List.{length-append, length-map}
 use Rattle.std.proofs.lemmas.List.Elements.{Contains-append_left, Contains-append_right, filter-append}
 use Rattle.std.proofs.lemmas.Slice.Eq.{bytes_eq-Decides}
-use Rattle.ikey.specs.Comparator.{IsExact, KeyOrder}
-use Rattle.ikey.specs.Key.{user_of, sequence_of, kind_of, kind_number}
-use Rattle.ikey.specs.Order.{internal_cmp}
-use Rattle.block.specs.EncodedEntry.{Entry}
+use Rattle.table.specs.Comparator.{IsExact, KeyOrder}
+use Rattle.table.specs.Key.{user_of, sequence_of, kind_of, kind_number}
+use Rattle.table.specs.Order.{internal_cmp}
+use Rattle.table.specs.EncodedEntry.{Entry}
 use Rattle.table.specs.EntriesFrom.{NeverFalls}
 use Rattle.reads.proofs.FallingEntries.{each_of, of_each}
 use Rattle.reads.proofs.Members.{from_flat_map, from_map, in_flat_map, in_map}

@@ -5,14 +5,14 @@ use Rattle.std.specs.BTreeSet.{insert_key}
 use Rattle.std.specs.List.{filter, fold}
 use Rattle.std.specs.Cmp.{IsTotalOrder}
 use Rattle.std.proofs.lemmas.List.Elements.{Contains-append_cases, Contains-get_or}
-use Rattle.coding.specs.Answers.{UnlessMemory}
-use Rattle.coding.specs.declared.fault.Fault.{Fault}
-use Rattle.ikey.specs.Comparator.{IsExact, KeyOrder}
-use Rattle.split.specs.Ranges.{IsCover}
-use Rattle.edit.specs.Version.{State}
-use Rattle.edit.specs.declared.meta.FileMeta.{FileMeta}
-use Rattle.edit.specs.declared.meta.NewFile.{NewFile}
-use Rattle.edit.proofs.Inserted.{from_all}
+use Rattle.table.specs.Answers.{UnlessMemory}
+use Rattle.table.specs.fault.Fault.{Fault}
+use Rattle.table.specs.Comparator.{IsExact, KeyOrder}
+use Rattle.reads.specs.Ranges.{IsCover}
+use Rattle.folder.specs.Version.{State}
+use Rattle.folder.specs.meta.FileMeta.{FileMeta}
+use Rattle.folder.specs.meta.NewFile.{NewFile}
+use Rattle.folder.proofs.Inserted.{from_all}
 use Rattle.folder.specs.Calls.{Files}
 use Rattle.folder.specs.OpenAnswer.{FolderAnswers, IsStopped}
 use Rattle.reads.proofs.Levels.{contains_in, is_in}

@@ -1,13 +1,13 @@
 -- All that is wrong with a version, and how it is told.
 use Rattle.std.specs.Prelude.{◌≡◌, ◌⊎◌, ℕ, Bool, false}
 use Rattle.std.specs.Prelude.{List, [], ◌++◌, length, map, Result, Ok}
-use Rattle.coding.specs.Saturated.{saturated}
-use Rattle.coding.specs.declared.fault.Fault.{Fault}
-use Rattle.ikey.specs.Comparator.{KeyOrder}
-use Rattle.edit.specs.Version.{State}
-use Rattle.edit.specs.VersionOrder.{added_from}
-use Rattle.edit.specs.declared.meta.NewFile.{NewFile}
-use Rattle.edit.specs.declared.meta.TheConstants.{LEVELS}
+use Rattle.table.specs.Saturated.{saturated}
+use Rattle.table.specs.fault.Fault.{Fault}
+use Rattle.table.specs.Comparator.{KeyOrder}
+use Rattle.folder.specs.Version.{State}
+use Rattle.folder.specs.VersionOrder.{added_from}
+use Rattle.folder.specs.meta.NewFile.{NewFile}
+use Rattle.folder.specs.meta.TheConstants.{LEVELS}
 use Rattle.folder.specs.Calls.{Files}
 use Rattle.folder.specs.OpenAnswer.{FolderAnswers}
 use Rattle.checks.specs.Takers.{AreToldInTurn}

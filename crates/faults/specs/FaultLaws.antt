@@ -1,10 +1,10 @@
 -- Laws of what is wrong with a version.
 use Rattle.std.specs.Prelude.{◌≡◌, ◌↔◌, ℕ, List, [], map, Some, Ok, Contains}
 use Rattle.std.specs.List.{All}
-use Rattle.ikey.specs.Comparator.{KeyOrder}
+use Rattle.table.specs.Comparator.{KeyOrder}
 use Rattle.table.specs.TableBytes.{AreBytes}
-use Rattle.split.specs.Boundaries.{KeysRise}
-use Rattle.edit.specs.Version.{State, IsState}
+use Rattle.reads.specs.Boundaries.{KeysRise}
+use Rattle.folder.specs.Version.{State, IsState}
 use Rattle.folder.specs.Calls.{Files}
 use Rattle.folder.specs.ReadsAs.{IsFileIn}
 use Rattle.checks.specs.TestedTables.{IsTested}

@@ -5,15 +5,15 @@ use Rattle.std.specs.Prelude.{Option, unwrap_or, Result, Ok, Err}
 use Rattle.std.specs.Option.{option_map_or, option_or, ok_or}
 use Rattle.std.specs.Ordering.{is_lt}
 use Rattle.std.specs.Str.{bytes_eq}
-use Rattle.coding.specs.Answers.{◌>>=◌, fault}
-use Rattle.coding.specs.declared.fault.Fault.{Fault}
-use Rattle.coding.specs.declared.fault.FaultName.TheVariants.{Missing}
-use Rattle.ikey.specs.Order.{internal_cmp}
-use Rattle.ikey.specs.Comparator.{KeyOrder}
-use Rattle.block.specs.EncodedEntry.{Entry}
+use Rattle.table.specs.Answers.{◌>>=◌, fault}
+use Rattle.table.specs.fault.Fault.{Fault}
+use Rattle.table.specs.fault.FaultName.TheVariants.{Missing}
+use Rattle.table.specs.Order.{internal_cmp}
+use Rattle.table.specs.Comparator.{KeyOrder}
+use Rattle.table.specs.EncodedEntry.{Entry}
 use Rattle.table.specs.TableContents.{Contents, contents_reading}
-use Rattle.edit.specs.declared.meta.FileMeta.{FileMeta}
-use Rattle.edit.specs.declared.meta.NewFile.{NewFile}
+use Rattle.folder.specs.meta.FileMeta.{FileMeta}
+use Rattle.folder.specs.meta.NewFile.{NewFile}
 use Rattle.folder.specs.Calls.{Files}
 use Rattle.folder.specs.Names.{old_table_name, table_name}
 use Rattle.reads.specs.StatedFiles.{is_below}

@@ -1,9 +1,9 @@
 -- Files in version order, of which a file can overlap only the first ones.
 use Rattle.std.specs.Prelude.{nat_eq, nat_lt, Bool, true, ◌&&◌, ◌||◌, List, [], ◌∷◌}
 use Rattle.std.specs.Ordering.{is_le}
-use Rattle.ikey.specs.Comparator.{KeyOrder}
-use Rattle.ikey.specs.Order.{internal_cmp}
-use Rattle.edit.specs.declared.meta.NewFile.{NewFile}
+use Rattle.table.specs.Comparator.{KeyOrder}
+use Rattle.table.specs.Order.{internal_cmp}
+use Rattle.folder.specs.meta.NewFile.{NewFile}
 use Rattle.faults.specs.FileFaults.{lies_before}
 
 -- whether a file is above another one, or at its level and doesn't begin after it

@@ -4,12 +4,12 @@ use Rattle.std.specs.Prelude.{◌++◌, length, map, filter, fold, Option, unwra
 use Rattle.std.specs.BTreeSet.{insert_key}
 use Rattle.std.specs.Option.{option_map_or}
 use Rattle.std.specs.Str.{bytes_eq}
-use Rattle.coding.specs.declared.fault.Fault.{Fault}
-use Rattle.ikey.specs.Comparator.{KeyOrder}
+use Rattle.table.specs.fault.Fault.{Fault}
+use Rattle.table.specs.Comparator.{KeyOrder}
 use Rattle.table.specs.TableContents.{Contents}
 use Rattle.table.specs.declared.table_check.TheConstants.{MAX_TABLE_LEN}
-use Rattle.edit.specs.declared.meta.FileMeta.{FileMeta}
-use Rattle.edit.specs.declared.meta.NewFile.{NewFile}
+use Rattle.folder.specs.meta.FileMeta.{FileMeta}
+use Rattle.folder.specs.meta.NewFile.{NewFile}
 use Rattle.folder.specs.Calls.{Files}
 use Rattle.reads.specs.StatedFiles.{is_below}
 use Rattle.reads.specs.FileList.{level_file_in, newer_number}

@@ -5,10 +5,10 @@ use Rattle.std.specs.Option.{ForSome, option_map, option_map_or, option_to_list}
 use Rattle.std.specs.Ordering.{is_lt}
 use Rattle.std.specs.Str.{bytes_eq}
 use Rattle.std.specs.declared.cmp.Ordering.TheVariants.{Less}
-use Rattle.ikey.specs.Comparator.{KeyOrder}
-use Rattle.ikey.specs.Key.{user_of}
-use Rattle.block.specs.EncodedEntry.{Entry}
-use Rattle.split.specs.Boundaries.{KeysRise}
+use Rattle.table.specs.Comparator.{KeyOrder}
+use Rattle.table.specs.Key.{user_of}
+use Rattle.table.specs.EncodedEntry.{Entry}
+use Rattle.reads.specs.Boundaries.{KeysRise}
 use Rattle.faults.specs.VersionFault.{MisplacedKey}
 use Rattle.faults.specs.KeyFaults.{FileEntries, SearchedEntry, break_after, first_break}
 use Rattle.faults.specs.KeyFaults.{misplaced_at}

@@ -1,9 +1,9 @@
 -- The user keys of a range.
 use Rattle.std.specs.Prelude.{◌≡◌, ℕ, zero, suc, true, List, [], ◌++◌, filter}
 use Rattle.std.specs.List.{All}
-use Rattle.ikey.specs.Comparator.{KeyOrder}
-use Rattle.split.specs.Ranges.{KeyRange, range_at}
-use Rattle.edit.specs.declared.meta.FileMeta.{FileMeta}
+use Rattle.table.specs.Comparator.{KeyOrder}
+use Rattle.reads.specs.Ranges.{KeyRange, range_at}
+use Rattle.folder.specs.meta.FileMeta.{FileMeta}
 use Rattle.folder.specs.Calls.{Files}
 use Rattle.keep.specs.InRange.{entries_in, is_in_range}
 use Rattle.reads.specs.Tables.{NumberedContents}

@@ -1,8 +1,8 @@
 -- How far faults were told.
 use Rattle.std.specs.Prelude.{◌≡◌, ◌⊎◌, ℕ, ◌+◌, Bool, true, false}
 use Rattle.std.specs.Prelude.{List, [], ◌∷◌, ◌++◌, Result, Ok, Err}
-use Rattle.coding.specs.Saturated.{saturated}
-use Rattle.coding.specs.declared.fault.Fault.{Fault}
+use Rattle.table.specs.Saturated.{saturated}
+use Rattle.table.specs.fault.Fault.{Fault}
 use Rattle.checks.specs.Takers.{AreToldInTurn}
 use Rattle.faults.specs.VersionFault.{VersionFault}
 use Rattle.faults.specs.declared.fault_count.FaultCount.{FaultCount}

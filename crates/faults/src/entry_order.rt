@@ -1,7 +1,7 @@
 //! Whether the entries of a user key are in their order.
 
 ghost use Rattle.std.specs.Prelude.{◌≡◌, ◌∷◌, ℕ, List};
-ghost use Rattle.ikey.specs.Key.{sequence_of};
+ghost use Rattle.table.specs.Key.{sequence_of};
 ghost use Rattle.faults.specs.KeyFaults.{SearchedEntry};
 ghost use Rattle.faults.specs.KeyWalk.{break_of};
 

@@ -2,7 +2,7 @@
 
 ghost use Rattle.faults.specs.FaultLaws.{MisplacedLaw, NoFaultLaw};
 
-use ikey::Comparator;
+use table::Comparator;
 
 /// The law that nothing is wrong with a version exactly if it passes the test of
 /// `checks::test_version`. A call does nothing.

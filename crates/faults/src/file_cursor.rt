@@ -1,23 +1,20 @@
 //! The entries of a file's table, read in order.
 
 ghost use Rattle.std.specs.Prelude.{◌≡◌, ◌++◌, List, Ok, IfOk, IfErr, OnOk};
-ghost use Rattle.coding.specs.Answers.{fault};
-ghost use Rattle.coding.specs.declared.fault.FaultName.TheVariants.{Memory};
+ghost use Rattle.table.specs.Answers.{fault};
+ghost use Rattle.table.specs.fault.FaultName.TheVariants.{Memory};
 ghost use Rattle.keep.specs.FirstEntry.{first_is};
 ghost use Rattle.keep.specs.InRange.{entries_in};
-ghost use Rattle.split.specs.Ranges.{key_range};
+ghost use Rattle.reads.specs.Ranges.{key_range};
 ghost use Rattle.faults.specs.KeyFaults.{SearchedEntry, searched_in};
 ghost use Rattle.faults.specs.KeyWalk.{after_user, break_of, is_user, with_user};
 
 use crate::entry_order::EntryOrder;
-use coding::Fault;
-use ikey::{Comparator, InternalKey};
 use keep::cursor_from;
-use reads::NumberedTable;
-use split::Range;
+use reads::{NumberedTable, Range};
 use std::alloc::Global;
 use std::marker::Model;
-use table::{Cursor, Entries, TableCursor};
+use table::{Comparator, Cursor, Entries, Fault, InternalKey, TableCursor};
 
 /// The entries of a file's table that are still to come. Contracts see them, and the number of the
 /// file.

@@ -1,6 +1,6 @@
 //! What may be wrong with a file of a version.
 
-use coding::FaultName;
+use table::FaultName;
 
 /// What is wrong with a file of a version.
 #[derive(Clone, Copy, Debug, PartialEq, Eq)]

@@ -2,10 +2,10 @@
 
 ghost use Rattle.std.specs.Prelude.{◌≡◌, ◌++◌, ◌&&◌, map, not, true, Ok, OnOk, IsOkUnless, IfErr};
 ghost use Rattle.std.specs.Prelude.{unwrap_or};
-ghost use Rattle.coding.specs.Answers.{EqualOrMemory, fault};
-ghost use Rattle.coding.specs.declared.fault.FaultName.TheVariants.{Memory};
+ghost use Rattle.table.specs.Answers.{EqualOrMemory, fault};
+ghost use Rattle.table.specs.fault.FaultName.TheVariants.{Memory};
 ghost use Rattle.std.specs.Ordering.{is_le};
-ghost use Rattle.ikey.specs.Order.{internal_cmp};
+ghost use Rattle.table.specs.Order.{internal_cmp};
 ghost use Rattle.reads.specs.StatedFiles.{is_below};
 ghost use Rattle.reads.specs.FileList.{level_file_in};
 ghost use Rattle.faults.specs.FileFaults.{are_disjoint, lies_before, overlap, overlap_faults};
@@ -20,11 +20,10 @@ use crate::fault_taker::FaultTaker;
 use crate::file_fault::FileFault;
 use crate::table_finding::TableFinding;
 use crate::tested_file::TestedFile;
-use coding::Fault;
-use edit::FileMeta;
-use ikey::Comparator;
+use folder::FileMeta;
 use reads::{LevelFile, is_below};
 use std::alloc::Global;
+use table::{Comparator, Fault};
 
 /// Tells what is wrong with files of which this was found, one after the other, until the taker
 /// says to stop. `next` is the version's next file.

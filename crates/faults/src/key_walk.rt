@@ -4,10 +4,10 @@ ghost use Rattle.std.specs.Prelude.{◌≡◌, ◌++◌, [], true, false, map, I
 ghost use Rattle.std.specs.List.{AllByRecursion};
 ghost use Rattle.std.specs.Option.{option_map, option_map_or};
 ghost use Rattle.std.specs.Ordering.{is_lt};
-ghost use Rattle.coding.specs.Answers.{fault};
-ghost use Rattle.coding.specs.declared.fault.FaultName.TheVariants.{Memory};
+ghost use Rattle.table.specs.Answers.{fault};
+ghost use Rattle.table.specs.fault.FaultName.TheVariants.{Memory};
 ghost use Rattle.table.specs.EntriesFrom.{NeverFalls};
-ghost use Rattle.split.specs.Ranges.{IsIn, key_range};
+ghost use Rattle.reads.specs.Ranges.{IsIn, key_range};
 ghost use Rattle.merge.specs.MergedLists.{entries_of_lists};
 ghost use Rattle.faults.specs.KeyFaults.{first_break, searched_of};
 ghost use Rattle.faults.specs.KeyWalk.{AreAllFrom, AreMisplacedIn, IsNextUser, after_user};
@@ -16,12 +16,10 @@ ghost use Rattle.faults.specs.KeyWalk.{break_of, found_keys, misplaced_in, with_
 use crate::entry_order::EntryOrder;
 use crate::file_cursor::FileCursor;
 use crate::key_fault::KeyFault;
-use coding::Fault;
-use ikey::Comparator;
 use merge::least_place;
-use split::Range;
+use reads::Range;
 use std::alloc::Global;
-use table::Cursor;
+use table::{Comparator, Cursor, Fault};
 
 /// The user keys of `range` whose entries in these files are not in their order, in the order of
 /// the keys. The files are given in the order of search.

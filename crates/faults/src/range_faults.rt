@@ -2,12 +2,12 @@
 
 ghost use Rattle.std.specs.Prelude.{◌≡◌, ◌+◌, true, length, map, IfOk, IfErr};
 ghost use Rattle.std.specs.List.{AllZip};
-ghost use Rattle.coding.specs.Answers.{UnlessMemory, fault};
-ghost use Rattle.coding.specs.declared.fault.FaultName.TheVariants.{Memory};
+ghost use Rattle.table.specs.Answers.{UnlessMemory, fault};
+ghost use Rattle.table.specs.fault.FaultName.TheVariants.{Memory};
 ghost use Rattle.folder.specs.Calls.{Files, Tells};
 ghost use Rattle.folder.specs.OpenAnswer.{IsStopped};
 ghost use Rattle.folder.specs.Reports.{OnlyReads, ReportsDevice};
-ghost use Rattle.split.specs.Ranges.{IsCover, IsIn, key_range};
+ghost use Rattle.reads.specs.Ranges.{IsCover, IsIn, key_range};
 ghost use Rattle.checks.specs.HeldTables.{AreHeldIn};
 ghost use Rattle.faults.specs.VersionFault.{OfKey};
 ghost use Rattle.faults.specs.KeyFaults.{misplaced_keys, read_file, searched_of};
@@ -20,16 +20,12 @@ use crate::fault_taker::FaultTaker;
 use crate::file_cursor::FileCursor;
 use crate::key_fault::KeyFault;
 use crate::key_walk::key_faults;
-use board::{Gate, Workers};
-use checks::{HeldTables, hold_next, needed_files, numbers_of};
-use coding::{Fault, FaultName};
-use edit::FileMeta;
-use folder::ReadsTables;
-use ikey::{Comparator, SharedComparator};
-use reads::NumberedTable;
-use split::{Range, Split};
+use checks::{HeldTables, SharedComparator, Split, Workers, hold_next, needed_files, numbers_of};
+use folder::{FileMeta, Gate, ReadsTables};
+use reads::{NumberedTable, Range};
 use std::alloc::Global;
 use std::thread::Threads;
+use table::{Comparator, Fault, FaultName};
 
 /// Tells the user keys whose entries in the tables of these files are not in their order, until the
 /// taker says to stop. The files are given in the order of search.

@@ -3,18 +3,18 @@
 ghost use Rattle.std.specs.Prelude.{◌≡◌, map, IfOk, IfErr};
 ghost use Rattle.std.specs.List.{IsDistinct};
 ghost use Rattle.std.specs.Ordering.{nat_cmp};
-ghost use Rattle.coding.specs.Answers.{fault};
-ghost use Rattle.coding.specs.declared.fault.FaultName.TheVariants.{Memory};
+ghost use Rattle.table.specs.Answers.{fault};
+ghost use Rattle.table.specs.fault.FaultName.TheVariants.{Memory};
 ghost use Rattle.reads.specs.FileList.{same_file, newer_number, level_file_in};
 ghost use Rattle.faults.specs.Findings.{found_in, is_deep_found, is_sound_finding};
 ghost use Rattle.faults.specs.Findings.{is_top_found, metas_found, searched_found};
 
 use crate::table_finding::TableFinding;
 use crate::tested_file::TestedFile;
-use coding::Fault;
-use edit::FileMeta;
+use folder::FileMeta;
 use std::alloc::Global;
 use std::cmp::Ordering;
+use table::Fault;
 
 /// Of files by level and in version order those whose tables can be read and are what the version
 /// states: those of level 0 by falling number, then the others.

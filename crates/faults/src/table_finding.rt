@@ -1,6 +1,6 @@
 //! What the test of a file's table finds.
 
-use coding::FaultName;
+use table::FaultName;
 
 /// What the test of a file's table finds.
 #[derive(Clone, Copy)]

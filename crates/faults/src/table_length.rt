@@ -8,10 +8,9 @@ ghost use Rattle.folder.specs.Reports.{OnlyReads, ReportsDevice};
 ghost use Rattle.faults.specs.FileFaults.{table_held};
 ghost use Rattle.faults.specs.Findings.{is_long, is_too_long};
 
-use coding::Fault;
 use folder::{Folder, old_table_name, table_name};
 use std::alloc::Global;
-use table::MAX_TABLE_LEN;
+use table::{Fault, MAX_TABLE_LEN};
 
 /// Whether the table of a number has more bytes than a table may have. It only reads, one byte at
 /// most.

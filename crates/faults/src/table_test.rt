@@ -2,7 +2,7 @@
 
 ghost use Rattle.std.specs.Prelude.{◌≡◌, map, Ok, IfOk};
 ghost use Rattle.std.specs.Option.{option_map};
-ghost use Rattle.coding.specs.Answers.{EqualOrMemory};
+ghost use Rattle.table.specs.Answers.{EqualOrMemory};
 ghost use Rattle.folder.specs.Calls.{Files, Tells};
 ghost use Rattle.folder.specs.OpenAnswer.{FolderAnswers};
 ghost use Rattle.folder.specs.Reports.{OnlyReads, ReportsDevice};
@@ -14,13 +14,10 @@ ghost use Rattle.faults.specs.Findings.{IsTestAnswer, finding_of, found_in};
 use crate::table_finding::TableFinding;
 use crate::table_length::is_too_long;
 use crate::tested_file::TestedFile;
-use coding::{Fault, FaultName};
-use edit::FileMeta;
-use folder::{Folder, old_table_name, table_name};
-use ikey::Comparator;
+use folder::{FileMeta, Folder, old_table_name, table_name};
 use reads::LevelFile;
 use std::alloc::Global;
-use table::{SoundTable, check};
+use table::{Comparator, Fault, FaultName, SoundTable, check};
 
 /// The files in order, each with what the test of its table finds. It only reads.
 ///

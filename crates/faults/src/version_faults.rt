@@ -12,14 +12,11 @@ use crate::file_faults::tell_files;
 use crate::range_faults::tell_ranges;
 use crate::search_order::searched_files;
 use crate::table_test::tested_files;
-use board::Workers;
-use checks::{Watch, Work, group_split};
-use coding::Fault;
-use edit::Version;
-use folder::{Opened, Order, ReadsTables};
-use ikey::{Bytewise, SharedComparator, Shortlex};
+use checks::{SharedComparator, Watch, Work, Workers, group_split};
+use folder::{Bytewise, Opened, Order, ReadsTables, Shortlex, Version};
 use reads::all_files;
 use std::thread::Threads;
+use table::Fault;
 
 /// The most bytes of tables that are compared at once, if no single user key needs more. A user key
 /// takes a time that grows with the number of tables, so fewer of them are faster.

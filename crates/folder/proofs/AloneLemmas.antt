@@ -4,8 +4,8 @@ use Rattle.std.proofs.Common.{◌≡◌, ℕ, List, [], ◌∷◌, ◌++◌, cod
 use Rattle.std.proofs.lemmas.Option.{none-some, same_Some}
 use Rattle.std.specs.List.{AllZip}
 use Rattle.std.specs.declared.cmp.Ordering.{Ordering}
-use Rattle.coding.specs.Answers.{Follows, IsThen}
-use Rattle.coding.specs.declared.fault.Fault.{Fault}
+use Rattle.ikey.specs.Answers.{Follows, IsThen}
+use Rattle.ikey.specs.fault.Fault.{Fault}
 use Rattle.logrec.specs.LogReader.{records_of}
 use Rattle.edit.specs.Edit.{Edit, IsEdit}
 use Rattle.edit.specs.Version.{State}

@@ -1,10 +1,10 @@
 -- The count of failures over calls.
 use Rattle.std.proofs.Common.{◌≡◌, ◌⊎◌, ℕ, ◌+◌, ◌-◌, ◌<◌, ◌≤◌, ◌^◌, nat_eq, Bool, true, false, Result, Ok, Err, IsErrAnd, refl, sym, ap, subst, ◌∙◌, inl, inr, arith, if◌then◌else◌}
 use Rattle.std.proofs.lemmas.Bool.{eqb-true}
-use Rattle.coding.proofs.Binds.{failed}
-use Rattle.coding.specs.Answers.{fault}
-use Rattle.coding.specs.declared.fault.Fault.{Fault}
-use Rattle.coding.specs.declared.fault.FaultName.TheVariants as name
+use Rattle.ikey.proofs.Binds.{failed}
+use Rattle.ikey.specs.Answers.{fault}
+use Rattle.ikey.specs.fault.Fault.{Fault}
+use Rattle.ikey.specs.fault.FaultName.TheVariants as name
 use Rattle.folder.specs.OpenAnswer.{StopsAtDevice}
 use Rattle.folder.specs.Folder.{DeviceFailed, failures_after, fault_name, one_more}
 use Rattle.folder.specs.declared.folder.FolderFault.{FolderFault}

@@ -2,11 +2,11 @@
 use Rattle.std.proofs.Common.{◌≡◌, ◌≢◌, ◌⊎◌, ℕ, Bool, true, false, List, [], ◌∷◌, Option, Some, None, Result, Ok, Err, refl, sym, ap, subst, ◌∙◌, inl, inr, if◌then◌else◌}
 use Rattle.std.proofs.lemmas.Option.{same_Some}
 use Rattle.std.specs.declared.cmp.Ordering.{Ordering}
-use Rattle.coding.specs.declared.fault.Fault.{Fault}
+use Rattle.ikey.specs.fault.Fault.{Fault}
 use Rattle.edit.specs.Edit.{Edit}
 use Rattle.edit.specs.Version.{State, empty_state}
-use Rattle.coding.specs.Answers.{IsThen, fault, ◌>>=◌}
-use Rattle.coding.specs.declared.fault.FaultName.TheVariants.{Apply}
+use Rattle.ikey.specs.Answers.{IsThen, fault, ◌>>=◌}
+use Rattle.ikey.specs.fault.FaultName.TheVariants.{Apply}
 use Rattle.logrec.specs.LogReader.{records_of}
 use Rattle.folder.specs.Calls.{AreTorn, Created, Done, Files, FolderSynced, Removed, Renamed, FolderView, Shows, Step, Synced, Tried, Written, with_value, with_contents, with_synced, with_written}
 use Rattle.folder.specs.CallSequence.{ShowsAll}

@@ -1,3 +1,11 @@
+pub use Rattle.ikey.proofs.Binds
+pub use Rattle.ikey.proofs.Refusals
+pub use Rattle.ikey.proofs.Ordered
+pub use Rattle.edit.proofs.Edits
+pub use Rattle.edit.proofs.Inserted
+pub use Rattle.edit.proofs.Snapshots
+pub use Rattle.edit.proofs.SortedFiles
+pub use Rattle.edit.proofs.Tested
 pub mod NameLemmas
 mod ManifestLemmas
 mod ManifestReadings

@@ -1,9 +1,9 @@
 -- What the bytes of a manifest answer, step by step.
 use Rattle.std.proofs.Common.{◌≡◌, ℕ, List, [], ◌∷◌, ◌++◌, Result, Ok, Err, IsErrAnd, refl, sym, subst}
 use Rattle.std.specs.List.{AllZip}
-use Rattle.coding.proofs.Refusals.{unless_from}
-use Rattle.coding.specs.Answers.{FailsOrMemory, EqualOrMemory, UnlessMemory, HoldsOrMemory}
-use Rattle.coding.specs.declared.fault.Fault.{Fault}
+use Rattle.ikey.proofs.Refusals.{unless_from}
+use Rattle.ikey.specs.Answers.{FailsOrMemory, EqualOrMemory, UnlessMemory, HoldsOrMemory}
+use Rattle.ikey.specs.fault.Fault.{Fault}
 use Rattle.logrec.specs.LogReader.{records_of}
 use Rattle.folder.specs.Manifest.{IsManifestAnswer}
 

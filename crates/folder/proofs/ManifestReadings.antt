@@ -2,11 +2,11 @@
 use Rattle.std.proofs.Common.{◌≡◌, ℕ, cond, List, [], ◌∷◌, ◌++◌, Option, Some, None, Result, Ok, Err, IsErrAnd, refl, sym, ap, subst, ◌∙◌, append_assoc}
 use Rattle.std.proofs.lemmas.List.{append-nil}
 use Rattle.std.specs.Option.{option_map, option_map_or, option_or, unwrap_or}
-use Rattle.coding.proofs.Binds.{ok_is}
-use Rattle.coding.proofs.Refusals.{unless, unless_from}
-use Rattle.coding.specs.Answers.{fault, ◌>>=◌, FailsOrMemory, EqualOrMemory, UnlessMemory, HoldsOrMemory, Follows}
-use Rattle.coding.specs.declared.fault.Fault.{Fault}
-use Rattle.coding.specs.declared.fault.FaultName.TheVariants as name
+use Rattle.ikey.proofs.Binds.{ok_is}
+use Rattle.ikey.proofs.Refusals.{unless, unless_from}
+use Rattle.ikey.specs.Answers.{fault, ◌>>=◌, FailsOrMemory, EqualOrMemory, UnlessMemory, HoldsOrMemory, Follows}
+use Rattle.ikey.specs.fault.Fault.{Fault}
+use Rattle.ikey.specs.fault.FaultName.TheVariants as name
 use Rattle.logrec.specs.LogReader.{records_of, with_first}
 use Rattle.edit.specs.Edit.{Edit, IsEdit, IsEditRefused}
 use Rattle.edit.specs.Version.{State, applied_by, empty_state}

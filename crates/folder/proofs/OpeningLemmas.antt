@@ -1,8 +1,8 @@
 -- What opening a folder answers, step by step.
 use Rattle.std.proofs.Common.{◌≡◌, ◌⊎◌, ℕ, ◌≤◌, List, Option, Some, None, Result, Ok, Err, IsErrAnd, refl, sym, subst, arith, inl, inr, codes}
-use Rattle.coding.proofs.Refusals.{unless_from}
-use Rattle.coding.specs.Answers.{UnlessMemory, HoldsOrMemory}
-use Rattle.coding.specs.declared.fault.Fault.{Fault}
+use Rattle.ikey.proofs.Refusals.{unless_from}
+use Rattle.ikey.specs.Answers.{UnlessMemory, HoldsOrMemory}
+use Rattle.ikey.specs.fault.Fault.{Fault}
 use Rattle.edit.specs.Version.{State}
 use Rattle.folder.specs.Folder.{DeviceFailed, TellsSame}
 use Rattle.folder.specs.Manifest.{IsManifestAnswer}

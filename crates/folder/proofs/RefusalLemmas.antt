@@ -1,13 +1,13 @@
 -- Which refusals come of what a folder holds.
 use Rattle.std.proofs.Common.{◌≡◌, ◌⊎◌, ℕ, suc, zero, ◌^◌, nat_lt, length, drop, is_none, Bool, true, false, List, [], ◌∷◌, Option, Some, None, Result, Ok, Err, IfErr, sym, subst, if◌then◌else◌, inl, inr}
 use Rattle.std.specs.Option.{option_map_or, ok_or}
-use Rattle.coding.proofs.Binds.{failed}
-use Rattle.coding.proofs.Refusals.{unless_device}
-use Rattle.coding.specs.Answers.{◌>>=◌, IsThen, fault}
-use Rattle.coding.specs.declared.fault.Fault.{Fault}
-use Rattle.coding.specs.declared.fault.FaultName.{FaultName}
-use Rattle.coding.specs.Varint.{varint_reading}
-use Rattle.coding.specs.declared.fault.FaultName.TheVariants.{Apply, Comparator, EditField, EditTag, LogChecksum, LogShape, Missing}
+use Rattle.ikey.proofs.Binds.{failed}
+use Rattle.ikey.proofs.Refusals.{unless_device}
+use Rattle.ikey.specs.Answers.{◌>>=◌, IsThen, fault}
+use Rattle.ikey.specs.fault.Fault.{Fault}
+use Rattle.ikey.specs.fault.FaultName.{FaultName}
+use Rattle.ikey.specs.Varint.{varint_reading}
+use Rattle.ikey.specs.fault.FaultName.TheVariants.{Apply, Comparator, EditField, EditTag, LogChecksum, LogShape, Missing}
 use Rattle.logrec.specs.LogReader.{after_zeros, content_len, ends_record, left_at, fragment_reading, record_at, records_in, records_of}
 use Rattle.edit.specs.Edit.{Edit, field_fault}
 use Rattle.edit.specs.Tag.{listed_tag}

@@ -1,9 +1,9 @@
 -- What calls on a folder report of the device, and leave of it, one after the other.
 use Rattle.std.proofs.Common.{◌≡◌, ◌≢◌, ℕ, ◌≤◌, Result, Ok, Err, IfErr, IsErrAnd, refl, sym, ap, subst, ◌∙◌, arith}
-use Rattle.coding.proofs.Refusals.{unless_device}
-use Rattle.coding.specs.Answers.{UnlessMemory, fault}
-use Rattle.coding.specs.declared.fault.Fault.{Fault}
-use Rattle.coding.specs.declared.fault.FaultName.TheVariants as name
+use Rattle.ikey.proofs.Refusals.{unless_device}
+use Rattle.ikey.specs.Answers.{UnlessMemory, fault}
+use Rattle.ikey.specs.fault.Fault.{Fault}
+use Rattle.ikey.specs.fault.FaultName.TheVariants as name
 use Rattle.folder.proofs.CountLemmas.{count_device, count_later, later_since, later_still, read_stops, stops_next, stops_ok, stops_on, stops_since}
 use Rattle.folder.proofs.LoadingLemmas.{told_since}
 use Rattle.folder.proofs.OpeningLemmas.{failed_since}

@@ -1,6 +1,6 @@
 -- What a folder that tells files tells, opens as and loads.
 use Rattle.std.proofs.Common.{ℕ, List, Option, Result, Ok, Err, refl, codes}
-use Rattle.coding.specs.declared.fault.Fault.{Fault}
+use Rattle.ikey.specs.fault.Fault.{Fault}
 use Rattle.edit.specs.Version.{State}
 use Rattle.folder.specs.Calls.{Files, Tells}
 use Rattle.folder.specs.Folder.{TellsSame}

@@ -2,8 +2,8 @@
 use Rattle.std.specs.Prelude.{◌≡◌, ◌⊎◌, ◌↔◌, ℕ, ◌+◌, ◌<◌, ◌^◌, ◌-◌, nat_eq, if◌then◌else◌, List}
 use Rattle.std.specs.Prelude.{take, drop, Option, Result, Ok, Err}
 use Rattle.std.specs.Option.{option_map}
-use Rattle.coding.specs.declared.fault.FaultName.{FaultName}
-use Rattle.coding.specs.declared.fault.FaultName.TheVariants as name
+use Rattle.ikey.specs.fault.FaultName.{FaultName}
+use Rattle.ikey.specs.fault.FaultName.TheVariants as name
 use Rattle.folder.specs.Calls.{Step, ToldFiles}
 use Rattle.folder.specs.declared.folder.FolderFault.{FolderFault}
 use Rattle.folder.specs.declared.folder.FolderFault.TheVariants.{Device, Memory}

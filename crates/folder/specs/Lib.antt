@@ -1,3 +1,16 @@
+-- of lower crates, whose words these use
+pub use Rattle.ikey.specs.Answers
+pub use Rattle.ikey.specs.Varint
+pub use Rattle.ikey.specs.fault
+pub use Rattle.ikey.specs.Bytewise
+pub use Rattle.ikey.specs.Comparator
+pub use Rattle.ikey.specs.Order
+pub use Rattle.ikey.specs.Shortlex
+pub use Rattle.edit.specs.Edit
+pub use Rattle.edit.specs.Tag
+pub use Rattle.edit.specs.Version
+pub use Rattle.edit.specs.VersionOrder
+pub use Rattle.edit.specs.declared.meta
 -- what contracts rest on
 pub mod Names
 pub mod Folder

@@ -1,9 +1,9 @@
 -- The tables of files, read one after the other.
 use Rattle.std.specs.Prelude.{◌≡◌, ◌⊎◌, ℕ, List, ◌∷◌, ◌++◌, Some, None, Result, Ok, Err}
 use Rattle.std.specs.List.{AllZip}
-use Rattle.coding.specs.Answers.{fault}
-use Rattle.coding.specs.declared.fault.Fault.{Fault}
-use Rattle.coding.specs.declared.fault.FaultName.TheVariants.{Missing}
+use Rattle.ikey.specs.Answers.{fault}
+use Rattle.ikey.specs.fault.Fault.{Fault}
+use Rattle.ikey.specs.fault.FaultName.TheVariants.{Missing}
 use Rattle.folder.specs.Names.{old_table_name, table_name}
 use Rattle.folder.specs.Calls.{ToldFiles}
 

@@ -4,9 +4,9 @@ use Rattle.std.specs.Prelude.{Option, None, is_some, Result, Ok, Err}
 use Rattle.std.specs.List.{AllZip}
 use Rattle.std.specs.Option.{option_map_or, option_or}
 use Rattle.std.specs.Str.{bytes_eq}
-use Rattle.coding.specs.Answers.{fault, IsThen, ◌>>=◌}
-use Rattle.coding.specs.declared.fault.Fault.{Fault}
-use Rattle.coding.specs.declared.fault.FaultName.TheVariants as name
+use Rattle.ikey.specs.Answers.{fault, IsThen, ◌>>=◌}
+use Rattle.ikey.specs.fault.Fault.{Fault}
+use Rattle.ikey.specs.fault.FaultName.TheVariants as name
 use Rattle.logrec.specs.LogReader.{records_of}
 use Rattle.ikey.specs.Bytewise.{bytewise_name}
 use Rattle.ikey.specs.Shortlex.{shortlex_name}

@@ -1,8 +1,8 @@
 -- What the passes over a manifest answer.
 use Rattle.std.specs.Prelude.{◌≡◌, ℕ, List, Option, Some, None, Result, Ok}
 use Rattle.std.specs.Option.{option_map}
-use Rattle.coding.specs.Answers.{IsThen}
-use Rattle.coding.specs.declared.fault.Fault.{Fault}
+use Rattle.ikey.specs.Answers.{IsThen}
+use Rattle.ikey.specs.fault.Fault.{Fault}
 use Rattle.logrec.specs.LogReader.{records_of}
 use Rattle.edit.specs.Edit.{Edit}
 use Rattle.folder.specs.Manifest.{IsEditsAnswer, order_named, order_of}

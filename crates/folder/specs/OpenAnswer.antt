@@ -1,12 +1,12 @@
 -- Opening a folder: what is read in which order, and how failures of the device are answered.
 use Rattle.std.specs.Prelude.{◌≡◌, ◌≢◌, ◌⊎◌, ℕ, ◌<◌, List, codes, Some, None, Result, Ok, Err}
 use Rattle.std.specs.Prelude.{IsErrOf, OnOk}
-use Rattle.coding.specs.Answers.{UnlessMemory, fault, IsThen}
-use Rattle.coding.specs.declared.fault.Fault.{Fault}
-use Rattle.coding.specs.declared.fault.FaultName.{FaultName}
-use Rattle.coding.specs.declared.fault.FaultName.TheVariants.{LogChecksum, LogShape, EditTag}
-use Rattle.coding.specs.declared.fault.FaultName.TheVariants.{EditField, Comparator, Apply, Device}
-use Rattle.coding.specs.declared.fault.FaultName.TheVariants.{Missing}
+use Rattle.ikey.specs.Answers.{UnlessMemory, fault, IsThen}
+use Rattle.ikey.specs.fault.Fault.{Fault}
+use Rattle.ikey.specs.fault.FaultName.{FaultName}
+use Rattle.ikey.specs.fault.FaultName.TheVariants.{LogChecksum, LogShape, EditTag}
+use Rattle.ikey.specs.fault.FaultName.TheVariants.{EditField, Comparator, Apply, Device}
+use Rattle.ikey.specs.fault.FaultName.TheVariants.{Missing}
 use Rattle.edit.specs.Version.{State}
 use Rattle.folder.specs.Folder.{DeviceFailed}
 use Rattle.folder.specs.Manifest.{IsManifestAnswer}

@@ -1,6 +1,6 @@
 -- What calls on a folder report of the device, and what a call leaves that only reads.
 use Rattle.std.specs.Prelude.{◌≡◌, ◌≤◌, Result, IfErr}
-use Rattle.coding.specs.declared.fault.Fault.{Fault}
+use Rattle.ikey.specs.fault.Fault.{Fault}
 use Rattle.folder.specs.Folder.{TellsSame}
 use Rattle.folder.specs.OpenAnswer.{HasDeviceFailed, StopsAtDevice}
 use Rattle.folder.specs.declared.folder.Folder.{Ghosts}

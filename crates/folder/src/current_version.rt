@@ -9,8 +9,8 @@ use crate::folder::Folder;
 use crate::manifest_version::version_in;
 use crate::names::{CURRENT, manifest_name, number_in_current};
 use crate::order::Order;
-use coding::{Fault, FaultName};
 use edit::Version;
+use ikey::{Fault, FaultName};
 use std::alloc::Global;
 
 /// What a folder is opened as.

@@ -1,11 +1,11 @@
 //! A folder as the calls on a database see it: files by name, each read and made as a whole.
 
 ghost use Rattle.std.specs.Prelude.{◌≡◌};
-ghost use Rattle.coding.specs.Answers.{fault};
+ghost use Rattle.ikey.specs.Answers.{fault};
 ghost use Rattle.folder.specs.Folder.{fault_name};
 ghost use Rattle.folder.specs.declared.folder.FolderFault.TheVariants.{Memory};
 
-use coding::{Fault, FaultName};
+use ikey::{Fault, FaultName};
 use std::alloc::{AllocError, AllocFailed};
 use std::thread::Threads;
 use thiserror::Error;

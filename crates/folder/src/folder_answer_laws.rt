@@ -2,9 +2,9 @@
 
 ghost use Rattle.std.specs.Prelude.{◌≡◌, ℕ, List, Result, Ok, Err};
 ghost use Rattle.std.specs.declared.cmp.Ordering.{Ordering};
-ghost use Rattle.coding.specs.Answers.{fault};
-ghost use Rattle.coding.specs.declared.fault.Fault.{Fault};
-ghost use Rattle.coding.specs.declared.fault.FaultName.TheVariants.{Missing};
+ghost use Rattle.ikey.specs.Answers.{fault};
+ghost use Rattle.ikey.specs.fault.Fault.{Fault};
+ghost use Rattle.ikey.specs.fault.FaultName.TheVariants.{Missing};
 ghost use Rattle.edit.specs.Version.{State};
 ghost use Rattle.folder.specs.Calls.{Files, FolderView, Step, Tells};
 ghost use Rattle.folder.specs.Crash.{MayLeave, World, open_world};

@@ -17,7 +17,7 @@ use crate::listed_locks::listed_locks;
 use crate::names::CURRENT;
 use crate::system_files::{ByteLock, SystemFiles, opened, regular};
 use crate::whole_files::path_in;
-use coding::{Fault, FaultName};
+use ikey::{Fault, FaultName};
 use std::alloc::Global;
 use std::fs::{File, Metadata, OpenOptions, TryLockError};
 use std::io::ErrorKind;

@@ -68,11 +68,14 @@ mod whole_files;
 mod writes_tables;
 
 pub use crate::folder::{Folder, FolderFault};
+pub use board::{Gate, MAX_WORKERS};
 pub use current_version::{Opened, open};
 pub use disk::Disk;
+pub use edit::{FileMeta, LEVELS, Version, VersionEdit};
 pub use failure::{Failure, FolderCall};
 pub use folder_answer_laws::{crash_laws, folder_laws, reading_laws};
 pub use folder_lock::{FolderLock, lock_to_change, lock_to_read};
+pub use ikey::{Bytewise, Comparator, Fault, FaultName, Shortlex};
 pub use made_table::{DiskMaker, MadeTable};
 pub use names::{
     CURRENT, current_text, manifest_name, number_in_current, old_table_name, table_name,

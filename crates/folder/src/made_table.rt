@@ -1,8 +1,8 @@
 //! Tables that are made files of the system and synced, each by one of several threads.
 
 ghost use Rattle.std.specs.Prelude.{◌≡◌, ◌<◌, length, IfOk, IfErr, IfSome};
-ghost use Rattle.coding.specs.Answers.{fault};
-ghost use Rattle.coding.specs.declared.fault.FaultName.TheVariants.{Memory};
+ghost use Rattle.ikey.specs.Answers.{fault};
+ghost use Rattle.ikey.specs.fault.FaultName.TheVariants.{Memory};
 
 use crate::failure::FolderCall;
 use crate::file_access::{Access, access_in, new_file};
@@ -10,7 +10,7 @@ use crate::names::table_name;
 use crate::system_files::{MakesFiles, OwnedFiles};
 use crate::whole_files::{THREADS, path_in};
 use crate::writes_tables::TableMaker;
-use coding::Fault;
+use ikey::Fault;
 use std::alloc::Global;
 use std::fs::File;
 use std::io::{ErrorKind, Write};

@@ -1,8 +1,8 @@
 //! What the bytes of a manifest say.
 
 ghost use Rattle.std.specs.Prelude.{◌≡◌, ℕ, List, IfOk, IfErr, Ok};
-ghost use Rattle.coding.specs.Answers.{EqualOrMemory, FailsOrMemory, HoldsOrMemory};
-ghost use Rattle.coding.specs.Answers.{UnlessMemory};
+ghost use Rattle.ikey.specs.Answers.{EqualOrMemory, FailsOrMemory, HoldsOrMemory};
+ghost use Rattle.ikey.specs.Answers.{UnlessMemory};
 ghost use Rattle.logrec.specs.LogReader.{records_of};
 ghost use Rattle.edit.specs.Edit.{Edit, HasValidLevels, IsEdit, IsEditRefused, edit_in};
 ghost use Rattle.edit.specs.Version.{empty_state};
@@ -11,9 +11,8 @@ ghost use Rattle.folder.specs.Manifest.{version_after_edits};
 ghost use Rattle.folder.specs.ManifestReading.{IsLog, IsOrderAnswer, order_with};
 
 use crate::order::Order;
-use coding::{Fault, FaultName};
 use edit::{Version, VersionEdit};
-use ikey::{Bytewise, Comparator, Shortlex};
+use ikey::{Bytewise, Comparator, Fault, FaultName, Shortlex};
 use logrec::RecordReader;
 use std::alloc::Global;
 

@@ -1,11 +1,11 @@
 //! The names of a folder's files, and what CURRENT holds.
 
 ghost use Rattle.std.specs.Prelude.{◌≡◌, ◌<◌, ◌^◌, ℕ, Some, Ok, string_bytes};
-ghost use Rattle.coding.specs.Answers.{EqualOrMemory, HoldsOrMemory};
+ghost use Rattle.ikey.specs.Answers.{EqualOrMemory, HoldsOrMemory};
 ghost use Rattle.folder.specs.Names.{IsNumberAnswer, current_text, manifest_name, old_table_name};
 ghost use Rattle.folder.specs.Names.{table_name, temporary_name};
 
-use coding::{Fault, FaultName};
+use ikey::{Fault, FaultName};
 use std::alloc::Global;
 use std::str;
 

@@ -3,8 +3,7 @@
 ghost use Rattle.std.specs.Prelude.{◌≡◌};
 ghost use Rattle.folder.specs.Manifest.{order_name, order_named};
 
-use coding::{Fault, FaultName};
-use ikey::Comparator;
+use ikey::{Comparator, Fault, FaultName};
 
 /// The order of a folder's user keys. The comparator that its manifest names says which.
 #[derive(Clone, Copy, PartialEq, Eq)]

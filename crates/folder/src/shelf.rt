@@ -18,7 +18,7 @@ use crate::table_reader::{NoReader, ReadsTables, TableReader};
 use crate::table_source::SourceTables;
 use crate::trail::{AnyWrite, Attempt, Trail, WriteCall};
 use crate::writes_tables::{TableMaker, WritesTables};
-use coding::Fault;
+use ikey::Fault;
 use std::alloc::{AllocError, Global};
 use std::marker::Model;
 use std::thread::Threads;

@@ -10,7 +10,7 @@ use crate::folder::FolderFault;
 use crate::table_source::{SourceTables, TableSource};
 use crate::writes_tables::{TableMaker, WritesTables};
 use board::{Gate, Labour, MAX_JOBS, MAX_WORKERS, run};
-use coding::Fault;
+use ikey::Fault;
 use std::alloc::Global;
 use std::thread::Threads;
 

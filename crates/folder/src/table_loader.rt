@@ -1,8 +1,8 @@
 //! Reading a version's tables.
 
 ghost use Rattle.std.specs.Prelude.{◌≡◌, ◌++◌, map, Ok, OnOk, IsOkUnless};
-ghost use Rattle.coding.specs.Answers.{EqualOrMemory, fault};
-ghost use Rattle.coding.specs.declared.fault.FaultName.TheVariants.{Memory};
+ghost use Rattle.ikey.specs.Answers.{EqualOrMemory, fault};
+ghost use Rattle.ikey.specs.fault.FaultName.TheVariants.{Memory};
 ghost use Rattle.folder.specs.Levels.{file_numbers};
 ghost use Rattle.folder.specs.LoadedTables.{IsLoaded, IsTableAnswer};
 ghost use Rattle.folder.specs.OpenAnswer.{FolderAnswers};
@@ -13,9 +13,8 @@ use crate::folder::Folder;
 use crate::names::{CURRENT, manifest_name, old_table_name, table_name};
 use crate::order::Order;
 use crate::pending_files::Due;
-use coding::Fault;
 use edit::{FileMeta, LEVELS, Version};
-use ikey::{Bytewise, Comparator, Shortlex};
+use ikey::{Bytewise, Comparator, Fault, Shortlex};
 use std::alloc::Global;
 
 /// The tables of a version's files with their numbers: by level, and in each level in version

@@ -3,7 +3,7 @@
 use crate::folder::Folder;
 use crate::names::{old_table_name, table_name};
 use crate::whole_files::{WholeFiles, path_in};
-use coding::Fault;
+use ikey::Fault;
 use std::alloc::Global;
 use std::io::ErrorKind;
 

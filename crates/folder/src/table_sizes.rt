@@ -2,7 +2,7 @@
 
 use crate::names::{old_table_name, table_name};
 use crate::system::{MAX_FILE_LEN, length_in};
-use coding::{Fault, FaultName};
+use ikey::{Fault, FaultName};
 use std::alloc::Global;
 use std::rt::Files;
 

@@ -3,7 +3,7 @@
 ghost use Rattle.std.specs.Prelude.{◌≡◌, ℕ, List};
 ghost use Rattle.std.specs.Borrow.{ftrue};
 
-use coding::Fault;
+use ikey::Fault;
 use std::alloc::Global;
 use std::marker::Model;
 
@@ -11,8 +11,8 @@ use std::marker::Model;
 pub trait TableSource: Send + Sync {
     ghost use Rattle.std.specs.Prelude.{◌≡◌, ◌<◌, ℕ, List, length, slice_get, Some, IfOk, IfErr};
     ghost use Rattle.std.specs.Option.{option_map};
-    ghost use Rattle.coding.specs.Answers.{fault};
-    ghost use Rattle.coding.specs.declared.fault.FaultName.TheVariants.{Memory};
+    ghost use Rattle.ikey.specs.Answers.{fault};
+    ghost use Rattle.ikey.specs.fault.FaultName.TheVariants.{Memory};
 
     /// The number and the bytes of each table, in order.
     ghost tables: { Self → List (ℕ × List ℕ) };

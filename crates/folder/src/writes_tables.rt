@@ -2,14 +2,14 @@
 
 use crate::folder::{Folder, FolderFault};
 use crate::table_source::SourceTables;
-use coding::Fault;
+use ikey::Fault;
 use std::thread::Threads;
 
 /// What makes tables files of a folder, in any thread.
 pub trait TableMaker: Send + Sync {
     ghost use Rattle.std.specs.Prelude.{◌≡◌, ℕ, List, IfOk, IfErr};
-    ghost use Rattle.coding.specs.Answers.{fault};
-    ghost use Rattle.coding.specs.declared.fault.FaultName.TheVariants.{Memory};
+    ghost use Rattle.ikey.specs.Answers.{fault};
+    ghost use Rattle.ikey.specs.fault.FaultName.TheVariants.{Memory};
 
     /// A table that was made, or that the device failed.
     type Made: Drop + Send;

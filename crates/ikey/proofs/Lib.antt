@@ -1,3 +1,5 @@
+pub use Rattle.coding.proofs.Binds
+pub use Rattle.coding.proofs.Refusals
 pub mod Keys
 pub mod Ordered
 pub mod Shortened

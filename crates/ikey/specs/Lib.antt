@@ -1,3 +1,8 @@
+-- of lower crates, whose words these use
+pub use Rattle.coding.specs.Answers
+pub use Rattle.coding.specs.Crc
+pub use Rattle.coding.specs.Varint
+pub use Rattle.coding.specs.declared.fault
 -- what contracts rest on
 pub mod Comparator
 pub mod Bytewise

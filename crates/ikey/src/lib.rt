@@ -25,6 +25,7 @@ mod short_keys;
 mod shortlex;
 
 pub use bytewise::Bytewise;
+pub use coding::{Fault, FaultName};
 pub use comparator::{Comparator, SharedComparator};
 pub use key::{InternalKey, MAX_SEQUENCE, MAX_USER_KEY, TAG_LEN, order_is_total};
 pub use key_buf::KeyBuf;

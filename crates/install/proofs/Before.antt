@@ -2,9 +2,9 @@
 use Rattle.std.proofs.Common.{◌≡◌, ◌<◌, ◌^◌, ℕ, true, List, [], ◌∷◌, ◌++◌, map, Option, Result, Ok, Err, IfErr, refl, sym, subst, ◌∙◌, inl, inr}
 use Rattle.std.proofs.lemmas.List.{append_cancel_left}
 use Rattle.std.specs.declared.cmp.Ordering.{Ordering}
-use Rattle.coding.specs.Answers.{fault}
-use Rattle.coding.specs.declared.fault.Fault.{Fault}
-use Rattle.coding.specs.declared.fault.FaultName.TheVariants.{Changed}
+use Rattle.edit.specs.Answers.{fault}
+use Rattle.edit.specs.fault.Fault.{Fault}
+use Rattle.edit.specs.fault.FaultName.TheVariants.{Changed}
 use Rattle.edit.specs.Version.{State}
 use Rattle.folder.specs.Calls.{Call, Created, Done, FolderView, Step, Synced}
 use Rattle.folder.specs.CallSequence.{AreMade, MakesCalls}

@@ -1,8 +1,8 @@
 -- CURRENT as the calls before the rename leave it, and what comes of reading it again.
 use Rattle.std.proofs.Common.{◌≡◌, ◌≢◌, ◌⊎◌, ◌<◌, ◌≤◌, ◌^◌, ℕ, true, List, [], ◌∷◌, map, Option, Some, Result, Err, sym, ap, subst, ◌∙◌, inl, inr}
-use Rattle.coding.proofs.Refusals.{unless_from}
-use Rattle.coding.specs.Answers.{UnlessMemory}
-use Rattle.coding.specs.declared.fault.Fault.{Fault}
+use Rattle.edit.proofs.Refusals.{unless_from}
+use Rattle.edit.specs.Answers.{UnlessMemory}
+use Rattle.edit.specs.fault.Fault.{Fault}
 use Rattle.folder.specs.Calls.{Call, Created, Done, Files, FolderSynced, FolderView, Removed, Renamed, Shows, Step, Synced, Tells, Written, with_contents, with_synced, with_written}
 use Rattle.folder.specs.CallSequence.{MakesCalls, ShowsAll}
 use Rattle.folder.specs.Folder.{TellsSame}

@@ -7,9 +7,9 @@ use Rattle.install.proofs.Numbers.{after_edit, in_files, in_version, numbers_in,
 use Rattle.install.proofs.Options.{made, option_parts}
 use Rattle.std.specs.Str.{bytes_eq}
 use Rattle.std.specs.declared.cmp.Ordering.{Ordering}
-use Rattle.coding.specs.Answers.{fault, ◌>>=◌}
-use Rattle.coding.specs.declared.fault.Fault.{Fault}
-use Rattle.coding.specs.declared.fault.FaultName.TheVariants.{Apply, Comparator}
+use Rattle.edit.specs.Answers.{fault, ◌>>=◌}
+use Rattle.edit.specs.fault.Fault.{Fault}
+use Rattle.edit.specs.fault.FaultName.TheVariants.{Apply, Comparator}
 use Rattle.logrec.proofs.Logs.{log_again}
 use Rattle.edit.specs.Edit.{Edit, IsEdit, edit_bytes}
 use Rattle.edit.specs.Version.{State, IsState, applied, applied_by, are_apart, are_new, empty_state, files_after, has_number, has_place, undeleted_files, names_another}

@@ -1,10 +1,10 @@
 -- The calls of an installation, of which CURRENT is read again in the middle.
 use Rattle.std.proofs.Common.{◌≡◌, ◌≢◌, ◌⊎◌, ◌≤◌, ℕ, List, ◌++◌, append_assoc, codes, map, Some, Result, Ok, Err, IsErrAnd, IfErr, refl, sym, ap, subst, ◌∙◌, inl, inr, arith}
 use Rattle.std.proofs.lemmas.List.{map-append}
-use Rattle.coding.proofs.Refusals.{unless_from}
-use Rattle.coding.specs.Answers.{UnlessMemory, fault}
-use Rattle.coding.specs.declared.fault.Fault.{Fault}
-use Rattle.coding.specs.declared.fault.FaultName.TheVariants as name
+use Rattle.edit.proofs.Refusals.{unless_from}
+use Rattle.edit.specs.Answers.{UnlessMemory, fault}
+use Rattle.edit.specs.fault.Fault.{Fault}
+use Rattle.edit.specs.fault.FaultName.TheVariants as name
 use Rattle.folder.specs.Calls.{Call, Done, Files, Step, Tells}
 use Rattle.folder.specs.CallSequence.{MakesCalls}
 use Rattle.folder.specs.Names.{current_text}

@@ -7,7 +7,7 @@ use Rattle.std.specs.BTreeSet.{insert_key}
 use Rattle.std.specs.Ordering.{is_eq, match_ordering, nat_cmp, ordering_then}
 use Rattle.std.specs.declared.cmp.Ordering.{Ordering}
 use Rattle.std.specs.declared.cmp.Ordering.TheVariants.{Equal, Greater, Less}
-use Rattle.ikey.specs.Order.{internal_cmp}
+use Rattle.edit.specs.Order.{internal_cmp}
 use Rattle.edit.specs.Edit.{Edit, IsEdit, empty_edit, with_field}
 use Rattle.edit.specs.Field.{AddFile, DeleteFile, Field, IsField, SetComparator, SetLastSequence, SetLogNumber, SetNextFile, SetPointer, SetPreviousLog}
 use Rattle.edit.specs.Version.{State, applied, are_new, files_after, has_place, is_deleted, undeleted_files, number_cmp}

@@ -1,6 +1,6 @@
 -- The parts of an installation, one after the other.
 use Rattle.std.proofs.Common.{◌≡◌, ℕ, List, ◌++◌, Option, Result, Ok, Err, IsErrAnd}
-use Rattle.coding.specs.declared.fault.Fault.{Fault}
+use Rattle.edit.specs.fault.Fault.{Fault}
 use Rattle.folder.specs.Calls.{Call, Step}
 use Rattle.folder.specs.CallSequence.{MakesCalls}
 use Rattle.folder.proofs.RunLemmas.{runs_none, runs_stopped, runs_then}

@@ -1,9 +1,9 @@
 -- What an installation does: its calls, of which CURRENT is read again in the middle, and what they
 -- make of a version.
 use Rattle.std.specs.Prelude.{◌≡◌, ◌≢◌, ◌++◌, ℕ, List, codes, map, Some, Result, IfErr, IsErrAnd}
-use Rattle.coding.specs.Answers.{UnlessMemory, fault}
-use Rattle.coding.specs.declared.fault.Fault.{Fault}
-use Rattle.coding.specs.declared.fault.FaultName.TheVariants.{Changed}
+use Rattle.edit.specs.Answers.{UnlessMemory, fault}
+use Rattle.edit.specs.fault.Fault.{Fault}
+use Rattle.edit.specs.fault.FaultName.TheVariants.{Changed}
 use Rattle.folder.specs.Calls.{Call, Done, Files, Tells}
 use Rattle.folder.specs.CallSequence.{MakesCalls}
 use Rattle.folder.specs.Names.{current_text}

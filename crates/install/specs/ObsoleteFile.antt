@@ -1,6 +1,6 @@
 -- The files of a folder that its version doesn't need.
 use Rattle.std.specs.Prelude.{◌≡◌, ◌⊎◌, ◌<◌, ◌^◌, ℕ, List, [], ◌∷◌, Some}
-use Rattle.ikey.specs.Comparator.{KeyOrder}
+use Rattle.edit.specs.Comparator.{KeyOrder}
 use Rattle.edit.specs.Version.{State}
 use Rattle.folder.specs.Levels.{file_numbers}
 use Rattle.folder.specs.Names.{manifest_name, old_table_name, table_name, temporary_name}

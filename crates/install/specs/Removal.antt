@@ -1,9 +1,9 @@
 -- The removal of files: its calls, who is told of them, and what they leave of a version.
 use Rattle.std.specs.Prelude.{◌≡◌, ℕ, List, [], ◌∷◌, ◌++◌, map, Result, Err}
-use Rattle.coding.specs.Answers.{fault}
-use Rattle.coding.specs.declared.fault.Fault.{Fault}
-use Rattle.coding.specs.declared.fault.FaultName.TheVariants.{Memory}
-use Rattle.ikey.specs.Comparator.{KeyOrder}
+use Rattle.edit.specs.Answers.{fault}
+use Rattle.edit.specs.fault.Fault.{Fault}
+use Rattle.edit.specs.fault.FaultName.TheVariants.{Memory}
+use Rattle.edit.specs.Comparator.{KeyOrder}
 use Rattle.edit.specs.Version.{State}
 use Rattle.folder.specs.Calls.{Call, Done, Files, FolderSynced, Removed, Step, Tells, ToldFiles}
 use Rattle.folder.specs.CallSequence.{MakesCalls}

@@ -2,13 +2,13 @@
 
 ghost use Rattle.std.specs.Prelude.{◌≡◌, ◌<◌, ◌^◌, ℕ, Some, Ok, IfOk, IfErr, string_bytes};
 ghost use Rattle.std.specs.Option.{option_map};
-ghost use Rattle.coding.specs.Answers.{EqualOrMemory, fault};
-ghost use Rattle.coding.specs.declared.fault.FaultName.TheVariants.{Memory};
+ghost use Rattle.edit.specs.Answers.{EqualOrMemory, fault};
+ghost use Rattle.edit.specs.fault.FaultName.TheVariants.{Memory};
 ghost use Rattle.folder.specs.Names.{six_digits};
 ghost use Rattle.install.specs.ObsoleteFile.{name_of};
 ghost use Rattle.install.specs.NumberIn.{IsNumberIn};
 
-use coding::Fault;
+use edit::Fault;
 use folder::{manifest_name, old_table_name, table_name, temporary_name};
 use std::alloc::Global;
 use std::str;

@@ -10,7 +10,7 @@ ghost use Rattle.folder.specs.FreeNames.{IsFree};
 ghost use Rattle.folder.specs.ReadsAs.{IsSettled, ReadsAs, StandsAs};
 ghost use Rattle.folder.specs.WrittenFiles.{IsWritten};
 ghost use Rattle.folder.specs.declared.order.Order.{Order};
-ghost use Rattle.coding.specs.Answers.{UnlessMemory};
+ghost use Rattle.edit.specs.Answers.{UnlessMemory};
 ghost use Rattle.folder.specs.CallSequence.{MakesCalls};
 ghost use Rattle.folder.specs.Folder.{failures_after};
 ghost use Rattle.folder.specs.OpenAnswer.{FolderAnswers, IsStopped, StopsAtDevice};
@@ -21,10 +21,9 @@ ghost use Rattle.install.specs.Install.{table_calls, tables_in, temporary_calls,
 ghost use Rattle.install.specs.InstallCalls.{IsInstallCalls};
 ghost use Rattle.folder.specs.Names.{current_text, temporary_name};
 
-use board::Gate;
-use coding::{Fault, FaultName};
+use edit::{Fault, FaultName};
 use folder::{
-    CURRENT, Folder, FolderFault, TableSource, WritesTables, current_text, manifest_name,
+    CURRENT, Folder, FolderFault, Gate, TableSource, WritesTables, current_text, manifest_name,
     temporary_name, write_source,
 };
 use std::alloc::Global;

@@ -2,8 +2,8 @@
 
 ghost use Rattle.std.specs.Prelude.{◌≡◌, ◌≢◌, ◌∷◌, ◌++◌, [], ◌<◌, ◌^◌, ℕ, List, length, map, codes};
 ghost use Rattle.std.specs.Prelude.{IfErr, IsErrAnd, Some};
-ghost use Rattle.coding.specs.Answers.{UnlessMemory, fault};
-ghost use Rattle.coding.specs.declared.fault.FaultName.TheVariants.{Changed};
+ghost use Rattle.edit.specs.Answers.{UnlessMemory, fault};
+ghost use Rattle.edit.specs.fault.FaultName.TheVariants.{Changed};
 ghost use Rattle.edit.specs.Version.{State};
 ghost use Rattle.folder.specs.CallSequence.{MakesCalls};
 ghost use Rattle.folder.specs.Calls.{Done, Files, Tells};
@@ -18,10 +18,8 @@ ghost use Rattle.install.specs.GroupedInstallation.{IsGroupedInstallation};
 
 use crate::install_steps::{install_manifest, write_group};
 use crate::manifest::manifest_bytes;
-use coding::Fault;
-use edit::{Outcome, Version};
+use edit::{Comparator, Fault, Outcome, Version};
 use folder::Folder;
-use ikey::Comparator;
 use std::alloc::Global;
 use std::thread::Threads;
 

@@ -44,7 +44,9 @@ mod pending_names;
 mod removal;
 mod removal_watch;
 
+pub use edit::Outcome;
 pub use file_kind::FileKind;
+pub use folder::{CURRENT, Opened};
 pub use install_steps::{install_manifest, write_group, write_source_group};
 pub use installation::install;
 pub use manifest::manifest_bytes;

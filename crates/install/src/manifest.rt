@@ -1,16 +1,14 @@
 //! The manifest that an installation writes.
 
 ghost use Rattle.std.specs.Prelude.{◌≡◌, ◌<◌, ◌^◌, length, IfErr, IfOk};
-ghost use Rattle.coding.specs.Answers.{fault};
-ghost use Rattle.coding.specs.declared.fault.FaultName.TheVariants.{Memory};
+ghost use Rattle.edit.specs.Answers.{fault};
+ghost use Rattle.edit.specs.fault.FaultName.TheVariants.{Memory};
 ghost use Rattle.edit.specs.Edit.{IsEdit, edit_bytes};
 ghost use Rattle.edit.specs.Version.{IsState};
 ghost use Rattle.edit.specs.VersionOrder.{snapshot_of};
 ghost use Rattle.install.specs.Install.{manifest_bytes};
 
-use coding::Fault;
-use edit::Version;
-use ikey::Comparator;
+use edit::{Comparator, Fault, Version};
 use std::alloc::Global;
 
 /// The manifest of the edited version. Its log has two records: the snapshot of `version`, and the

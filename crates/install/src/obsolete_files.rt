@@ -23,8 +23,8 @@
 
 ghost use Rattle.std.specs.Prelude.{◌≡◌, ◌↔◌, ◌<◌, ◌^◌, ℕ, map, Ok, IfOk, IfErr, IsTrue};
 ghost use Rattle.std.specs.Prelude.{string_bytes};
-ghost use Rattle.coding.specs.Answers.{EqualOrMemory, fault};
-ghost use Rattle.coding.specs.declared.fault.FaultName.TheVariants.{Memory};
+ghost use Rattle.edit.specs.Answers.{EqualOrMemory, fault};
+ghost use Rattle.edit.specs.fault.FaultName.TheVariants.{Memory};
 ghost use Rattle.folder.specs.Levels.{file_numbers};
 ghost use Rattle.folder.specs.Orders.{order_cmp};
 ghost use Rattle.folder.specs.ReadsAs.{IsOneOf};
@@ -32,9 +32,8 @@ ghost use Rattle.install.specs.ObsoleteFile.{AreObsolete, IsObsoleteFile, IsOldN
 ghost use Rattle.install.specs.NumberIn.{IsNumberSet};
 
 use crate::file_kind::{FileKind, KINDS};
-use coding::Fault;
-use folder::{Opened, Order, file_numbers};
-use ikey::{Bytewise, Shortlex};
+use edit::Fault;
+use folder::{Bytewise, Opened, Order, Shortlex, file_numbers};
 use std::alloc::Global;
 use std::collections::BTreeSet;
 

@@ -11,7 +11,7 @@
 //! 3. Both hand their calls on to one folder of the system, which nobody else changes.
 
 ghost use Rattle.std.specs.Prelude.{◌≡◌, ◌⊎◌, [], ◌∷◌, ℕ, List, map, IfErr, string_bytes};
-ghost use Rattle.coding.specs.Answers.{UnlessMemory};
+ghost use Rattle.edit.specs.Answers.{UnlessMemory};
 ghost use Rattle.folder.specs.Calls.{Removed};
 ghost use Rattle.folder.specs.Folder.{failures_after};
 ghost use Rattle.folder.specs.OpenAnswer.{IsStopped};
@@ -22,7 +22,7 @@ ghost use Rattle.install.specs.Removal.{removal_calls};
 
 use crate::obsolete_files::obsolete_names;
 use crate::removal_watch::RemovalWatch;
-use coding::Fault;
+use edit::Fault;
 use folder::{Folder, FolderFault, Opened};
 use std::alloc::Global;
 

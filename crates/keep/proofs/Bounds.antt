@@ -14,8 +14,8 @@ use Rattle.ikey.specs.declared.kind.Kind.TheVariants.{Delete, Put}
 use Rattle.ikey.specs.Key.{user_of, sequence_of, kind_of, kind_number, internal_key}
 use Rattle.ikey.specs.Order.{internal_cmp}
 use Rattle.ikey.proofs.Keys.{user_of-internal_key, sequence_of-internal_key, kind_of-internal_key}
-use Rattle.block.specs.EncodedEntry.{Entry}
-use Rattle.table.specs.EntriesFrom.{NeverFalls}
+use Rattle.reads.specs.EncodedEntry.{Entry}
+use Rattle.reads.specs.EntriesFrom.{NeverFalls}
 use Rattle.split.specs.Ranges.{KeyRange}
 use Rattle.keep.specs.InRange.{is_in_range, entries_in}
 use Rattle.keep.specs.CursorsLeft.{is_before, is_passed}

@@ -7,7 +7,7 @@ use Rattle.std.proofs.Math.Seq.{take-length, take-append_seam, drop-append-add}
 use Rattle.std.proofs.lemmas.List.{drop-append-le}
 use Rattle.std.proofs.lemmas.Option.{same_Some}
 use Rattle.ikey.specs.Key.{IsInternalKey}
-use Rattle.block.specs.EncodedEntry.{Entry}
+use Rattle.reads.specs.EncodedEntry.{Entry}
 use Rattle.merge.proofs.Orders.{all_append}
 use Rattle.keep.specs.EntryChunks.{all_kept, AreInChunks}
 

@@ -12,8 +12,8 @@ use Rattle.std.proofs.lemmas.Cmp.{alike_right, tied_itself}
 use Rattle.std.proofs.lemmas.Slice.Eq.{bytes_eq-Decides}
 use Rattle.ikey.specs.Key.{user_of, sequence_of, kind_of, kind_number}
 use Rattle.ikey.specs.Order.{internal_cmp}
-use Rattle.block.specs.EncodedEntry.{Entry}
-use Rattle.table.specs.EntriesFrom.{NeverFalls}
+use Rattle.reads.specs.EncodedEntry.{Entry}
+use Rattle.reads.specs.EntriesFrom.{NeverFalls}
 use Rattle.merge.specs.Union.{VersionsRise}
 use Rattle.split.specs.Boundaries.{KeysRise}
 use Rattle.split.specs.Ranges.{KeyRange, range_at}

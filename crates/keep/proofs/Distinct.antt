@@ -13,8 +13,8 @@ use Rattle.std.proofs.lemmas.Slice.Eq.{bytes_eq-Decides}
 use Rattle.ikey.specs.Key.{user_of, sequence_of, kind_of, kind_number}
 use Rattle.ikey.specs.Comparator.{IsExact}
 use Rattle.ikey.specs.Order.{internal_cmp}
-use Rattle.block.specs.EncodedEntry.{Entry}
-use Rattle.table.specs.EntriesFrom.{NeverFalls}
+use Rattle.reads.specs.EncodedEntry.{Entry}
+use Rattle.reads.specs.EntriesFrom.{NeverFalls}
 use Rattle.merge.specs.MergedLists.{entries_of_lists, merged}
 use Rattle.merge.specs.Union.{key_version_cmp, VersionsRise}
 use Rattle.merge.proofs.SortedEntries.{sorted_never_falls}

@@ -8,7 +8,7 @@ use Rattle.std.proofs.lemmas.List.Sums.{count_by-le-length, sum_by-cons}
 use Rattle.std.proofs.lemmas.Bool.{both_ways, false≢true}
 use Rattle.ikey.specs.Order.{internal_cmp}
 use Rattle.ikey.proofs.Ordered.{internal_cmp-total}
-use Rattle.edit.specs.declared.meta.FileMeta.{FileMeta}
+use Rattle.reads.specs.meta.FileMeta.{FileMeta}
 use Rattle.merge.proofs.Orders.{less_is, lt_le_trans}
 use Rattle.keep.specs.Marks.{grandparents_below, LargestRise}
 use Rattle.keep.proofs.RisingTests.{largest_told}

@@ -7,8 +7,8 @@ use Rattle.std.proofs.Math.Seq.{drop-append_seam}
 use Rattle.std.proofs.lemmas.List.{length-drop, length-map, length-take, map-append, drop-drop, drop-map, take-append-le, take_all}
 use Rattle.std.proofs.lemmas.Option.{same_Some, none-some, slice_get-map, slice_get_read}
 use Rattle.ikey.specs.Key.{IsInternalKey}
-use Rattle.block.specs.EncodedEntry.{Entry}
-use Rattle.block.specs.BuilderView.{last_key}
+use Rattle.reads.specs.EncodedEntry.{Entry}
+use Rattle.reads.specs.BuilderView.{last_key}
 use Rattle.merge.proofs.Orders.{all_append}
 use Rattle.keep.specs.declared.kept_entry.KeptEntry.{KeptEntry}
 use Rattle.keep.specs.KeyBuffer.{entries_at, start_of, AreBufferEnds, AreKeys}

@@ -10,8 +10,8 @@ use Rattle.std.proofs.lemmas.Option.{same_Some}
 use Rattle.std.proofs.lemmas.Slice.Eq.{bytes_eq-Decides}
 use Rattle.coding.proofs.Beginnings.{common_behind}
 use Rattle.ikey.specs.Key.{user_of}
-use Rattle.block.specs.EncodedEntry.{Entry}
-use Rattle.block.specs.BuilderView.{last_key}
+use Rattle.reads.specs.EncodedEntry.{Entry}
+use Rattle.reads.specs.BuilderView.{last_key}
 use Rattle.keep.specs.EntryChunks.{all_kept}
 use Rattle.keep.specs.Versions.{StoredVersion, last_version, newer_of}
 

@@ -8,9 +8,9 @@ use Rattle.std.specs.declared.cmp.Ordering.{Ordering}
 use Rattle.std.specs.declared.cmp.Ordering.TheVariants.{Less}
 use Rattle.std.proofs.lemmas.Bool.{false≢true}
 use Rattle.std.proofs.lemmas.Option.{same_Some, none-some}
-use Rattle.block.specs.EncodedEntry.{Entry}
+use Rattle.reads.specs.EncodedEntry.{Entry}
 use Rattle.ikey.specs.Order.{internal_cmp}
-use Rattle.table.specs.EntriesFrom.{entries_from, LeavesFrom}
+use Rattle.reads.specs.EntriesFrom.{entries_from, LeavesFrom}
 use Rattle.merge.specs.MergedLists.{entries_with, sorted_entries, entries_of_lists, merged}
 use Rattle.merge.specs.LeastList.{IsAdvanced}
 use Rattle.merge.specs.Seeks.{each_from, EachLeavesFrom}

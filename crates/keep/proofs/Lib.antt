@@ -1,3 +1,6 @@
+pub use Rattle.reads.proofs.EntryTests
+pub use Rattle.merge.proofs.Leasts
+pub use Rattle.reads.proofs.Members
 pub mod OneKey
 pub mod Dropped
 pub mod ComposedRanges

@@ -9,8 +9,8 @@ use Rattle.std.proofs.lemmas.Slice.Eq.{bytes_eq-Decides}
 use Rattle.ikey.specs.declared.kind.Kind.{Kind}
 use Rattle.ikey.specs.declared.kind.Kind.TheVariants.{Delete, Put}
 use Rattle.ikey.specs.Key.{user_of, sequence_of, kind_of}
-use Rattle.block.specs.EncodedEntry.{Entry}
-use Rattle.edit.specs.declared.meta.FileMeta.{FileMeta}
+use Rattle.reads.specs.EncodedEntry.{Entry}
+use Rattle.reads.specs.meta.FileMeta.{FileMeta}
 use Rattle.reads.specs.Gets.{value_by, value_in}
 use Rattle.reads.specs.NewestFirst.{SequencesFall, AreOf, answer_at}
 use Rattle.pick.specs.Ranges.{is_in_none}

@@ -11,7 +11,7 @@ use Rattle.coding.specs.Answers.{fault}
 use Rattle.coding.specs.declared.fault.FaultName.TheVariants.{Duplicate}
 use Rattle.ikey.specs.Comparator.{IsExact}
 use Rattle.ikey.specs.Key.{user_of}
-use Rattle.block.specs.EncodedEntry.{Entry}
+use Rattle.reads.specs.EncodedEntry.{Entry}
 use Rattle.merge.specs.MergedLists.{entries_of_lists, merged}
 use Rattle.merge.specs.LeastList.{IsAdvanced}
 use Rattle.merge.proofs.SortedEntries.{sorted_never_falls}

@@ -13,15 +13,15 @@ use Rattle.coding.proofs.Binds.{bind_ok, ok_is}
 use Rattle.coding.specs.Answers.{fault, ◌>>=◌}
 use Rattle.coding.specs.declared.fault.FaultName.TheVariants.{Duplicate}
 use Rattle.ikey.specs.Key.{user_of}
-use Rattle.block.specs.EncodedEntry.{Entry}
-use Rattle.block.specs.BuilderView.{last_key}
-use Rattle.table.specs.TableContents.{Contents, DataBlock, blocks_of, contents_of, contents_reading, data_reading, entries_of, index_in}
-use Rattle.table.specs.EntriesFrom.{NeverFalls}
-use Rattle.table.specs.EntryTests.{first_key}
-use Rattle.table.specs.IndexReading.{IndexEntry, index_reading}
-use Rattle.table.proofs.CheckedTables.{blocks_by, last_is, read_data}
-use Rattle.table.proofs.EntryTests.{all_tests, rising}
-use Rattle.table.proofs.Orders.{rising_never_falls}
+use Rattle.reads.specs.EncodedEntry.{Entry}
+use Rattle.reads.specs.BuilderView.{last_key}
+use Rattle.reads.specs.TableContents.{Contents, DataBlock, blocks_of, contents_of, contents_reading, data_reading, entries_of, index_in}
+use Rattle.reads.specs.EntriesFrom.{NeverFalls}
+use Rattle.reads.specs.EntryTests.{first_key}
+use Rattle.reads.specs.IndexReading.{IndexEntry, index_reading}
+use Rattle.reads.proofs.CheckedTables.{blocks_by, last_is, read_data}
+use Rattle.reads.proofs.EntryTests.{all_tests, rising}
+use Rattle.split.proofs.Orders.{rising_never_falls}
 use Rattle.merge.specs.MergedLists.{entries_of_lists, sorted_entries}
 use Rattle.merge.proofs.SortedEntries.{filter-sorted}
 use Rattle.split.specs.Ranges.{KeyRange}

@@ -9,7 +9,7 @@ use Rattle.std.specs.declared.cmp.Ordering.{Ordering}
 use Rattle.std.specs.declared.cmp.Ordering.TheVariants.{Less}
 use Rattle.ikey.specs.Order.{internal_cmp}
 use Rattle.ikey.proofs.Ordered.{internal_cmp-total}
-use Rattle.edit.specs.declared.meta.FileMeta.{FileMeta}
+use Rattle.reads.specs.meta.FileMeta.{FileMeta}
 use Rattle.keep.specs.RisesBy.{rises_by}
 use Rattle.keep.specs.Marks.{largest_rise}
 use Rattle.keep.proofs.Neighbours.{increasing_if, rising_if}

@@ -8,8 +8,8 @@ use Rattle.std.specs.declared.cmp.Ordering.TheVariants.{Less}
 use Rattle.ikey.specs.declared.kind.Kind.TheVariants.{Put}
 use Rattle.ikey.specs.Key.{sequence_of, internal_key}
 use Rattle.ikey.specs.Order.{internal_cmp}
-use Rattle.block.specs.EncodedEntry.{Entry}
-use Rattle.table.specs.EntriesFrom.{entries_from, LeavesFrom}
+use Rattle.reads.specs.EncodedEntry.{Entry}
+use Rattle.reads.specs.EntriesFrom.{entries_from, LeavesFrom}
 use Rattle.keep.specs.CursorsLeft.{is_before, LosesOnly}
 use Rattle.keep.proofs.Bounds.{below_first}
 use Rattle.keep.proofs.LeftEntries.{leaves_sought, leaves_from}

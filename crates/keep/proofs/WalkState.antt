@@ -11,8 +11,8 @@ use Rattle.std.proofs.lemmas.Bool.{eqb-true, false≢true}
 use Rattle.ikey.specs.Key.{user_of, sequence_of}
 use Rattle.ikey.specs.Comparator.{IsExact}
 use Rattle.ikey.specs.Order.{internal_cmp}
-use Rattle.block.specs.EncodedEntry.{Entry}
-use Rattle.table.specs.EntriesFrom.{NeverFalls}
+use Rattle.reads.specs.EncodedEntry.{Entry}
+use Rattle.reads.specs.EntriesFrom.{NeverFalls}
 use Rattle.merge.proofs.Orders.{all_weaker}
 use Rattle.keep.specs.declared.mark.Mark.{Mark}
 use Rattle.keep.specs.WalkedRange.{WalkedRange}

@@ -7,8 +7,8 @@ use Rattle.ikey.specs.declared.kind.Kind.{Kind}
 use Rattle.ikey.specs.declared.kind.Kind.TheVariants.{Delete, Put}
 use Rattle.ikey.specs.Key.{user_of, sequence_of, kind_of}
 use Rattle.ikey.specs.Comparator.{KeyOrder}
-use Rattle.block.specs.EncodedEntry.{Entry}
-use Rattle.edit.specs.declared.meta.FileMeta.{FileMeta}
+use Rattle.reads.specs.EncodedEntry.{Entry}
+use Rattle.reads.specs.meta.FileMeta.{FileMeta}
 use Rattle.pick.specs.Ranges.{is_in_none}
 use Rattle.keep.specs.Readable.{Readable}
 

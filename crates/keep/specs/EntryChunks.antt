@@ -2,7 +2,7 @@
 use Rattle.std.specs.Prelude.{◌≡◌, ℕ, ◌≤◌, List, [], ◌∷◌, ◌++◌, length}
 use Rattle.std.specs.List.{AllByRecursion}
 use Rattle.ikey.specs.Key.{IsInternalKey}
-use Rattle.block.specs.EncodedEntry.{Entry}
+use Rattle.reads.specs.EncodedEntry.{Entry}
 use Rattle.keep.specs.declared.entry_chunks.TheConstants.{CHUNK_LEN}
 
 -- the entries of the chunks, and after them those of the last one

@@ -3,7 +3,7 @@
 use Rattle.std.specs.Prelude.{◌≡◌, ℕ, zero, suc, ◌≤◌, List, [], ◌∷◌, length, map, drop, slice_range}
 use Rattle.std.specs.List.{AllByRecursion}
 use Rattle.ikey.specs.Key.{IsInternalKey}
-use Rattle.block.specs.EncodedEntry.{Entry}
+use Rattle.reads.specs.EncodedEntry.{Entry}
 use Rattle.keep.specs.SharedLengths.{shared_lens}
 use Rattle.keep.specs.declared.kept_entry.KeptEntry.{KeptEntry}
 

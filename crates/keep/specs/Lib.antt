@@ -1,3 +1,14 @@
+-- of lower crates, whose words these use
+pub use Rattle.reads.specs.EncodedEntry
+pub use Rattle.reads.specs.TableContents
+pub use Rattle.reads.specs.TestResult
+pub use Rattle.reads.specs.meta
+pub use Rattle.split.specs.Bounds
+pub use Rattle.merge.specs.MergedLists
+pub use Rattle.merge.specs.Union
+pub use Rattle.reads.specs.Gets
+pub use Rattle.reads.specs.Lawful
+pub use Rattle.reads.specs.Tables
 -- what contracts rest on
 pub mod Readable
 pub mod DropRule

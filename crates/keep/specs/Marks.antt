@@ -4,8 +4,8 @@ use Rattle.std.specs.Prelude.{◌++◌, count_by, IsTrue, Option, Some, None}
 use Rattle.std.specs.Ordering.{is_lt}
 use Rattle.ikey.specs.Order.{internal_cmp}
 use Rattle.ikey.specs.Comparator.{KeyOrder}
-use Rattle.block.specs.EncodedEntry.{Entry}
-use Rattle.edit.specs.declared.meta.FileMeta.{FileMeta}
+use Rattle.reads.specs.EncodedEntry.{Entry}
+use Rattle.reads.specs.meta.FileMeta.{FileMeta}
 use Rattle.pick.specs.declared.picked_inputs.Inputs.{Inputs}
 use Rattle.keep.specs.declared.mark.Mark.{Mark}
 use Rattle.keep.specs.Readable.{Readable}

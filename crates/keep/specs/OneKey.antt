@@ -3,8 +3,8 @@ use Rattle.std.specs.Prelude.{◌≡◌, ◌⊎◌, ℕ, ◌≤◌, true, false,
 use Rattle.std.specs.List.{last_or}
 use Rattle.ikey.specs.Key.{sequence_of}
 use Rattle.ikey.specs.Comparator.{KeyOrder}
-use Rattle.block.specs.EncodedEntry.{Entry}
-use Rattle.edit.specs.declared.meta.FileMeta.{FileMeta}
+use Rattle.reads.specs.EncodedEntry.{Entry}
+use Rattle.reads.specs.meta.FileMeta.{FileMeta}
 use Rattle.pick.specs.Ranges.{is_in_none}
 use Rattle.reads.specs.NewestFirst.{SequencesFall, AreOf, answer_at}
 use Rattle.keep.specs.Readable.{Readable, is_read}

@@ -1,7 +1,7 @@
 -- Entries before a range take no part in it.
 use Rattle.std.specs.Prelude.{◌≡◌, false, List}
 use Rattle.ikey.specs.Comparator.{KeyOrder}
-use Rattle.block.specs.EncodedEntry.{Entry}
+use Rattle.reads.specs.EncodedEntry.{Entry}
 use Rattle.split.specs.Ranges.{KeyRange}
 use Rattle.keep.specs.CursorsLeft.{is_before, EachLosesOnly}
 use Rattle.keep.specs.Marks.{CompactionContext}

@@ -5,7 +5,7 @@ use Rattle.std.specs.List.{list_any}
 use Rattle.std.specs.Option.{is_none}
 use Rattle.ikey.specs.Key.{user_of, sequence_of}
 use Rattle.ikey.specs.Comparator.{KeyOrder}
-use Rattle.block.specs.EncodedEntry.{Entry}
+use Rattle.reads.specs.EncodedEntry.{Entry}
 use Rattle.keep.specs.declared.mark.Mark.{Mark}
 use Rattle.keep.specs.WalkedRange.{WalkedRange}
 use Rattle.keep.specs.Versions.{EntryVersion, version_of, newer_of}

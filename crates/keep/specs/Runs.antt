@@ -8,7 +8,7 @@ use Rattle.coding.specs.declared.fault.Fault.{Fault}
 use Rattle.coding.specs.declared.fault.FaultName.TheVariants.{Duplicate}
 use Rattle.ikey.specs.Key.{sequence_of}
 use Rattle.ikey.specs.Comparator.{KeyOrder}
-use Rattle.block.specs.EncodedEntry.{Entry}
+use Rattle.reads.specs.EncodedEntry.{Entry}
 use Rattle.merge.specs.MergedLists.{merged}
 use Rattle.merge.specs.Union.{VersionsRise, IsUnion}
 use Rattle.split.specs.Boundaries.{IsSplit}

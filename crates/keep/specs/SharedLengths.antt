@@ -1,7 +1,7 @@
 -- How much of a key the key before it has.
 use Rattle.std.specs.Prelude.{ℕ, nat_eq, List, [], ◌∷◌}
 use Rattle.std.specs.List.{common_prefix_len}
-use Rattle.block.specs.EncodedEntry.{Entry}
+use Rattle.reads.specs.EncodedEntry.{Entry}
 
 -- of each entry, how many bytes its key shares with the key before it; `before` is the key before
 -- the first

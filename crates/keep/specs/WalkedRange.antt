@@ -1,6 +1,6 @@
 -- How far a range was walked.
 use Rattle.std.specs.Prelude.{◌≡◌, ℕ, ◌<◌, true, List, length, Option}
-use Rattle.block.specs.EncodedEntry.{Entry}
+use Rattle.reads.specs.EncodedEntry.{Entry}
 use Rattle.keep.specs.Versions.{EntryVersion, StoredVersion}
 use Rattle.keep.specs.Runs.{Run}
 

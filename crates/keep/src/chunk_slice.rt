@@ -24,7 +24,7 @@ pub struct ChunkSlice<'k, 'a> {
 
 impl<'k, 'a> Model for ChunkSlice<'k, 'a> {
     ghost use Rattle.std.specs.Prelude.{List};
-    ghost use Rattle.block.specs.EncodedEntry.{Entry};
+    ghost use Rattle.reads.specs.EncodedEntry.{Entry};
 
     ghost Value = { List Entry };
 

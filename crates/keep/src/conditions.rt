@@ -5,8 +5,8 @@ ghost use Rattle.std.specs.List.Sorted.{IsStrictlyIncreasing};
 ghost use Rattle.keep.specs.Marks.{largest_rise};
 ghost use Rattle.keep.specs.RisesBy.{rises_by};
 
-use edit::FileMeta;
 use ikey::Comparator;
+use reads::FileMeta;
 
 /// Whether the sequences of `listed` rise strictly.
 pub fn is_rising(listed: &[u64]) -> bool

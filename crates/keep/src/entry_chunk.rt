@@ -7,7 +7,7 @@
 ghost use Rattle.std.specs.Prelude.{◌≡◌, ◌<◌, [], ◌∷◌, ◌++◌, length, drop, OnOk, OnErr};
 ghost use Rattle.std.specs.Prelude.{IsOkUnless, Ok, ◌≤◌, nat_eq};
 ghost use Rattle.std.specs.List.{common_prefix_len};
-ghost use Rattle.block.specs.BuilderView.{last_key};
+ghost use Rattle.reads.specs.BuilderView.{last_key};
 ghost use Rattle.coding.specs.Answers.{EqualOrMemory, fault};
 ghost use Rattle.coding.specs.declared.fault.FaultName.TheVariants.{Memory};
 
@@ -29,7 +29,7 @@ pub(crate) struct EntryChunk<'a> {
 
 impl<'a> Model for EntryChunk<'a> {
     ghost use Rattle.std.specs.Prelude.{List};
-    ghost use Rattle.block.specs.EncodedEntry.{Entry};
+    ghost use Rattle.reads.specs.EncodedEntry.{Entry};
 
     ghost Value = { List Entry };
 

@@ -3,7 +3,7 @@
 ghost use Rattle.std.specs.Prelude.{◌≡◌, ◌<◌, ◌≤◌, [], ◌∷◌, ◌++◌, length, take, drop, slice_get};
 ghost use Rattle.std.specs.Prelude.{OnOk, OnErr, IsOkUnless, Some, nat_eq};
 ghost use Rattle.std.specs.List.{AllByRecursion, common_prefix_len};
-ghost use Rattle.block.specs.BuilderView.{last_key};
+ghost use Rattle.reads.specs.BuilderView.{last_key};
 ghost use Rattle.coding.specs.Answers.{fault};
 ghost use Rattle.coding.specs.declared.fault.FaultName.TheVariants.{Memory};
 ghost use Rattle.ikey.specs.Key.{IsInternalKey};
@@ -37,7 +37,7 @@ pub(crate) struct EntryChunks<'a> {
 
 impl<'a> Model for EntryChunks<'a> {
     ghost use Rattle.std.specs.Prelude.{List, length};
-    ghost use Rattle.block.specs.EncodedEntry.{Entry};
+    ghost use Rattle.reads.specs.EncodedEntry.{Entry};
 
     ghost Value = { List Entry };
 

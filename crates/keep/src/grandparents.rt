@@ -3,8 +3,8 @@
 ghost use Rattle.std.specs.Prelude.{◌≡◌, ◌≤◌};
 ghost use Rattle.keep.specs.Marks.{grandparents_below, LargestRise};
 
-use edit::FileMeta;
 use ikey::{Comparator, InternalKey};
+use reads::FileMeta;
 
 /// The number of grandparents that lie wholly below `key`. The first `known` are known to.
 pub(crate) fn count_below<C: Comparator>(

@@ -43,4 +43,6 @@ pub use range_cursors::{add_cursor, cursor_from, cursors_from};
 pub use range_merge::{merge_range, starts_before};
 pub use range_run::RangeRun;
 pub use range_start::seek_range;
+pub use reads::{Cursor, FileMeta, SoundTable, TableCursor};
 pub use snapshots::Snapshots;
+pub use split::Range;

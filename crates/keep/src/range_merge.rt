@@ -20,9 +20,9 @@ use coding::Fault;
 use ikey::Comparator;
 use merge::Merging;
 use pick::Inputs;
+use reads::Cursor;
 use split::{Range, is_before};
 use std::alloc::Global;
-use table::Cursor;
 
 /// The kept entries and the marks of `range`, of all entries that `cursors` have still to come.
 ///

@@ -3,7 +3,7 @@
 ghost use Rattle.std.specs.Prelude.{◌≡◌, ◌<◌, [], ◌∷◌, ◌++◌, length, take, drop, slice_get};
 ghost use Rattle.std.specs.Prelude.{OnOk, OnErr, IsOkUnless, Some, nat_eq, ◌≤◌};
 ghost use Rattle.std.specs.List.{AllByRecursion, common_prefix_len};
-ghost use Rattle.block.specs.BuilderView.{last_key};
+ghost use Rattle.reads.specs.BuilderView.{last_key};
 ghost use Rattle.std.specs.Option.{option_map};
 ghost use Rattle.coding.specs.Answers.{fault};
 ghost use Rattle.coding.specs.declared.fault.FaultName.TheVariants.{Memory};

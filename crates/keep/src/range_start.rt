@@ -13,9 +13,9 @@ ghost use Rattle.keep.specs.FirstEntry.{first_is};
 use crate::range_merge::starts_before;
 use coding::Fault;
 use ikey::{Comparator, KeyBuf, Kind, MAX_SEQUENCE, MAX_USER_KEY};
+use reads::Cursor;
 use split::Range;
 use std::alloc::Global;
-use table::Cursor;
 
 /// Takes off the entries before `range`.
 ///

@@ -15,7 +15,7 @@ pub(crate) struct Walk<'a> {
 
 impl<'a> Model for Walk<'a> {
     ghost use Rattle.std.specs.Prelude.{[]};
-    ghost use Rattle.block.specs.BuilderView.{last_key};
+    ghost use Rattle.reads.specs.BuilderView.{last_key};
     ghost use Rattle.keep.specs.Versions.{last_version};
     ghost use Rattle.keep.specs.WalkedRange.{WalkedRange, IsKeptLast};
 

@@ -3,7 +3,7 @@
 ghost use Rattle.std.specs.Prelude.{◌≡◌, ◌≤◌, nat_eq, true, false, [], length, OnOk, IsOkUnless};
 ghost use Rattle.std.specs.Prelude.{IfErr, None};
 ghost use Rattle.std.specs.List.{common_prefix_len};
-ghost use Rattle.block.specs.BuilderView.{last_key};
+ghost use Rattle.reads.specs.BuilderView.{last_key};
 ghost use Rattle.coding.specs.Answers.{fault, UnlessMemory};
 ghost use Rattle.coding.specs.declared.fault.FaultName.TheVariants.{Memory, Duplicate};
 ghost use Rattle.ikey.specs.Key.{user_of};

@@ -9,10 +9,10 @@ use Rattle.std.specs.declared.cmp.Ordering.TheVariants.{Less}
 use Rattle.std.proofs.lemmas.Bool.{cases_eq, eqb-true, eqb-false}
 use Rattle.std.proofs.lemmas.List.{length-map, map-set}
 use Rattle.std.proofs.lemmas.Option.{same_Some, none-some}
-use Rattle.block.specs.EncodedEntry.{Entry}
-use Rattle.ikey.specs.Comparator.{HeadsRise}
-use Rattle.ikey.specs.Key.{user_of, sequence_of, kind_of, kind_number}
-use Rattle.ikey.specs.Order.{internal_cmp}
+use Rattle.table.specs.EncodedEntry.{Entry}
+use Rattle.table.specs.Comparator.{HeadsRise}
+use Rattle.table.specs.Key.{user_of, sequence_of, kind_of, kind_number}
+use Rattle.table.specs.Order.{internal_cmp}
 use Rattle.merge.specs.Tournament.{IsAhead, IsWinner, first_head, AreHeads}
 use Rattle.merge.proofs.Tournaments.{ahead_same}
 

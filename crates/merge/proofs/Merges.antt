@@ -6,7 +6,7 @@ use Rattle.std.specs.Cmp.{IsTotalOrder}
 use Rattle.std.specs.declared.cmp.Ordering.{Ordering}
 use Rattle.std.proofs.lemmas.List.Elements.{filter-append}
 use Rattle.std.proofs.lemmas.Option.{same_Some, none-some}
-use Rattle.block.specs.EncodedEntry.{Entry}
+use Rattle.table.specs.EncodedEntry.{Entry}
 use Rattle.table.specs.EntriesFrom.{NeverFalls, entries_from, LeavesFrom}
 use Rattle.merge.specs.MergedLists.{sorted_entries, entries_of_lists, merged}
 use Rattle.merge.specs.LeastList.{StartsAbove, StartsFrom, IsLeast}

@@ -6,9 +6,9 @@ use Rattle.std.specs.Cmp.{IsTotalOrder}
 use Rattle.std.specs.Ordering.{is_eq, is_le, ordering_reverse}
 use Rattle.std.specs.declared.cmp.Ordering.{Ordering}
 use Rattle.std.specs.declared.cmp.Ordering.TheVariants.{Less, Equal, Greater}
-use Rattle.block.specs.EncodedEntry.{Entry}
-use Rattle.ikey.specs.Order.{internal_cmp}
-use Rattle.ikey.proofs.Ordered.{internal_cmp-total}
+use Rattle.table.specs.EncodedEntry.{Entry}
+use Rattle.table.specs.Order.{internal_cmp}
+use Rattle.table.proofs.Ordered.{internal_cmp-total}
 use Rattle.table.specs.EntriesFrom.{NeverFalls}
 use Rattle.merge.specs.MergedLists.{entries_with, sorted_entries, entries_of_lists, merged, has_key, IsMerge}
 use Rattle.merge.proofs.Orders.{Above, From, all_weaker, above_first}

@@ -5,8 +5,8 @@ use Rattle.std.specs.Ordering.{is_lt}
 use Rattle.std.specs.declared.cmp.Ordering.{Ordering}
 use Rattle.std.proofs.lemmas.List.{append-nil, take_all, drop_all}
 use Rattle.std.proofs.lemmas.Option.{same_Some, none-some}
-use Rattle.block.specs.EncodedEntry.{Entry}
-use Rattle.ikey.specs.Order.{internal_cmp}
+use Rattle.table.specs.EncodedEntry.{Entry}
+use Rattle.table.specs.Order.{internal_cmp}
 use Rattle.table.specs.EntriesFrom.{entries_from, LeavesFrom}
 use Rattle.table.proofs.Orders.{leaves_all}
 use Rattle.merge.specs.Seeks.{each_from, EachLeavesFrom}

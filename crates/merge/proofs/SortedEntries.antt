@@ -6,8 +6,8 @@ use Rattle.std.specs.Cmp.{IsTotalOrder}
 use Rattle.std.specs.Ordering.{is_lt, is_le}
 use Rattle.std.specs.declared.cmp.Ordering.{Ordering}
 use Rattle.std.specs.declared.cmp.Ordering.TheVariants.{Less}
-use Rattle.block.specs.EncodedEntry.{Entry}
-use Rattle.ikey.specs.Order.{internal_cmp}
+use Rattle.table.specs.EncodedEntry.{Entry}
+use Rattle.table.specs.Order.{internal_cmp}
 use Rattle.table.specs.EntriesFrom.{NeverFalls, entries_from, LeavesFrom}
 use Rattle.merge.specs.MergedLists.{entries_with, sorted_entries}
 use Rattle.merge.proofs.Orders.{Above, From, less_is, not_below, at_most, from_first}

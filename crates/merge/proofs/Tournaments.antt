@@ -14,9 +14,9 @@ use Rattle.std.proofs.Math.Seq.{get_or-append_seam}
 use Rattle.std.proofs.lemmas.Bool.{cases_eq, cases_lt}
 use Rattle.std.proofs.lemmas.List.{get_or_default, nil_from_length, length_push, length-map, map-set}
 use Rattle.std.proofs.lemmas.Option.{same_Some, none-some, slice_get_read, slice_get_within, get_or_from_slice_get}
-use Rattle.block.specs.EncodedEntry.{Entry}
-use Rattle.ikey.specs.Order.{internal_cmp}
-use Rattle.ikey.proofs.Ordered.{internal_cmp-total}
+use Rattle.table.specs.EncodedEntry.{Entry}
+use Rattle.table.specs.Order.{internal_cmp}
+use Rattle.table.proofs.Ordered.{internal_cmp-total}
 use Rattle.table.specs.EntriesFrom.{NeverFalls}
 use Rattle.merge.specs.MergedLists.{merged}
 use Rattle.merge.specs.LeastList.{StartsAbove, StartsFrom, IsLeast, IsMerging}

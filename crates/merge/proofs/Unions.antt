@@ -8,10 +8,10 @@ use Rattle.std.specs.declared.cmp.Ordering.{Ordering}
 use Rattle.std.specs.declared.cmp.Ordering.TheVariants.{Less, Equal, Greater}
 use Rattle.std.proofs.lemmas.List.Sums.{length-filter}
 use Rattle.std.proofs.lemmas.List.Sorted.{IsPermutation-refl, IsPermutation-cons, IsPermutation-middle, IsPermutation-trans, Contains-permutation, sum_by-IsPermutation}
-use Rattle.block.specs.EncodedEntry.{Entry}
-use Rattle.ikey.specs.Key.{user_of, sequence_of, kind_of, kind_number}
-use Rattle.ikey.specs.Order.{internal_cmp}
-use Rattle.ikey.proofs.Ordered.{internal_cmp-total}
+use Rattle.table.specs.EncodedEntry.{Entry}
+use Rattle.table.specs.Key.{user_of, sequence_of, kind_of, kind_number}
+use Rattle.table.specs.Order.{internal_cmp}
+use Rattle.table.proofs.Ordered.{internal_cmp-total}
 use Rattle.table.specs.EntriesFrom.{EntriesRise}
 use Rattle.table.proofs.Orders.{rising_never_falls}
 use Rattle.merge.specs.MergedLists.{entries_with, sorted_entries, entries_of_lists, merged, has_key, IsMerge}

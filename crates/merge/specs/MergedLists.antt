@@ -2,9 +2,9 @@
 use Rattle.std.specs.Prelude.{◌≡◌, ℕ, Bool, if◌then◌else◌, List, [], ◌∷◌, filter}
 use Rattle.std.specs.List.{flat_map}
 use Rattle.std.specs.Ordering.{is_eq, is_lt}
-use Rattle.block.specs.EncodedEntry.{Entry}
-use Rattle.ikey.specs.Order.{internal_cmp}
-use Rattle.ikey.specs.Comparator.{KeyOrder}
+use Rattle.table.specs.EncodedEntry.{Entry}
+use Rattle.table.specs.Order.{internal_cmp}
+use Rattle.table.specs.Comparator.{KeyOrder}
 use Rattle.table.specs.EntriesFrom.{NeverFalls}
 
 -- the entry put into a sorted list, before the first entry that isn't below it

@@ -1,7 +1,7 @@
 -- A seek of each of several lists.
 use Rattle.std.specs.Prelude.{ℕ, List, [], ◌∷◌, map}
-use Rattle.ikey.specs.Comparator.{KeyOrder}
-use Rattle.block.specs.EncodedEntry.{Entry}
+use Rattle.table.specs.Comparator.{KeyOrder}
+use Rattle.table.specs.EncodedEntry.{Entry}
 use Rattle.table.specs.EntriesFrom.{entries_from, LeavesFrom}
 
 -- of each list the entries from the first one at or above this internal key

@@ -3,10 +3,10 @@ use Rattle.std.specs.Prelude.{◌≡◌, ◌⊎◌, ℕ, zero, suc, ◌+◌, ◌
 use Rattle.std.specs.Prelude.{◌∷◌, length, slice_index, slice_index_or, set}
 use Rattle.std.specs.List.{AllByRecursion}
 use Rattle.std.specs.declared.cmp.Ordering.TheVariants.{Less, Equal}
-use Rattle.block.specs.EncodedEntry.{Entry}
-use Rattle.ikey.specs.Key.{user_of}
-use Rattle.ikey.specs.Order.{internal_cmp}
-use Rattle.ikey.specs.Comparator.{KeyOrder}
+use Rattle.table.specs.EncodedEntry.{Entry}
+use Rattle.table.specs.Key.{user_of}
+use Rattle.table.specs.Order.{internal_cmp}
+use Rattle.table.specs.Comparator.{KeyOrder}
 use Rattle.table.specs.EntriesFrom.{NeverFalls}
 
 -- The first list wins, or is the other one: its first key is smaller, or equal at a place that

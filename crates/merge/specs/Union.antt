@@ -5,9 +5,9 @@ use Rattle.std.specs.List.Sorted.{IsPermutation}
 use Rattle.std.specs.Ordering.{nat_cmp, ordering_then}
 use Rattle.std.specs.declared.cmp.Ordering.{Ordering}
 use Rattle.std.specs.declared.cmp.Ordering.TheVariants.{Less}
-use Rattle.block.specs.EncodedEntry.{Entry}
-use Rattle.ikey.specs.Key.{user_of, sequence_of}
-use Rattle.ikey.specs.Comparator.{KeyOrder}
+use Rattle.table.specs.EncodedEntry.{Entry}
+use Rattle.table.specs.Key.{user_of, sequence_of}
+use Rattle.table.specs.Comparator.{KeyOrder}
 use Rattle.merge.specs.MergedLists.{entries_of_lists, merged}
 
 -- The order of internal keys without their types: user key rising, then sequence falling. Two keys

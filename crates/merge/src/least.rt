@@ -3,8 +3,7 @@
 ghost use Rattle.std.specs.Prelude.{◌+◌, ◌<◌, map, take, length};
 ghost use Rattle.merge.specs.LeastList.{IsMerging};
 
-use ikey::Comparator;
-use table::Cursor;
+use table::{Comparator, Cursor};
 
 /// The place of the cursor whose first entry comes next; None if no cursor has an entry.
 ///

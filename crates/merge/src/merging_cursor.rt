@@ -2,8 +2,8 @@
 
 ghost use Rattle.std.specs.Prelude.{◌≡◌, ◌<◌, [], map, length, drop, OnOk};
 ghost use Rattle.std.specs.Prelude.{OnErr, IsOkUnless, Ok};
-ghost use Rattle.coding.specs.Answers.{EqualOrMemory, fault};
-ghost use Rattle.coding.specs.declared.fault.FaultName.TheVariants.{Memory};
+ghost use Rattle.table.specs.Answers.{EqualOrMemory, fault};
+ghost use Rattle.table.specs.fault.FaultName.TheVariants.{Memory};
 ghost use Rattle.table.specs.EntriesFrom.{entries_from, LeavesFrom};
 ghost use Rattle.merge.specs.MergedLists.{merged};
 ghost use Rattle.merge.specs.LeastList.{IsAdvanced, IsMerging};
@@ -12,12 +12,10 @@ ghost use Rattle.merge.specs.Seeks.{each_from, EachLeavesFrom};
 use crate::tournament::{
     advance_cursor, bracket, first_place, next_cursor, next_place, play_all, play_path,
 };
-use coding::Fault;
-use ikey::{Comparator, InternalKey};
 use std::alloc::Global;
 use std::marker::{Model, PhantomData};
 use std::mem;
-use table::{Cursor, Entries};
+use table::{Comparator, Cursor, Entries, Fault, InternalKey};
 
 /// Cursors that are walked as one. Contracts see, of each cursor, the list of entries still to
 /// come.
@@ -39,7 +37,7 @@ pub struct Merging<C: Comparator, S: Entries + Drop> {
 
 impl<C: Comparator, S: Entries + Drop> Model for Merging<C, S> {
     ghost use Rattle.std.specs.Prelude.{List, map};
-    ghost use Rattle.block.specs.EncodedEntry.{Entry};
+    ghost use Rattle.table.specs.EncodedEntry.{Entry};
     ghost use Rattle.merge.specs.Tournament.{IsHeaded};
 
     ghost Value = { List (List Entry) };

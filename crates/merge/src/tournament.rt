@@ -13,19 +13,17 @@ ghost use Rattle.std.specs.Prelude.{◌≡◌, ◌+◌, ◌<◌, ◌≤◌, ◌�
 ghost use Rattle.std.specs.Prelude.{Some, drop, slice_index_or, if◌then◌else◌, IsOkUnless, OnOk};
 ghost use Rattle.std.specs.Prelude.{OnErr};
 ghost use Rattle.std.specs.List.{AllByRecursion};
-ghost use Rattle.coding.specs.Answers.{fault};
-ghost use Rattle.coding.specs.declared.fault.FaultName.TheVariants.{Memory};
+ghost use Rattle.table.specs.Answers.{fault};
+ghost use Rattle.table.specs.fault.FaultName.TheVariants.{Memory};
 ghost use Rattle.table.specs.EntriesFrom.{NeverFalls};
 ghost use Rattle.merge.specs.LeastList.{IsMerging};
 ghost use Rattle.merge.specs.MergedLists.{merged};
 ghost use Rattle.merge.specs.Tournament.{AreBeside, IsWinner, IsBracket, IsPlayed, IsMatch};
 ghost use Rattle.merge.specs.Tournament.{IsAbove, IsTournament, first_head, AreHeads, IsHeaded};
 
-use coding::Fault;
-use ikey::Comparator;
 use std::alloc::Global;
 use std::cmp::Ordering;
-use table::{Cursor, Entries};
+use table::{Comparator, Cursor, Entries, Fault};
 
 /// A bracket for `number` places: its last nodes are the places themselves, the others are yet to
 /// be played.

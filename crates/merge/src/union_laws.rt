@@ -3,7 +3,7 @@
 ghost use Rattle.merge.specs.MergedLists.{MergeLaw};
 ghost use Rattle.merge.specs.Union.{UnionLaw};
 
-use ikey::Comparator;
+use table::Comparator;
 
 /// The law that lists have one sorted merge. It never falls, and has, of each internal key, just
 /// the entries that the lists have, in their order. A call does nothing.

@@ -1,10 +1,10 @@
 -- What two files answer, step by step.
 use Rattle.std.proofs.Common.{◌≡◌, ℕ, ◌++◌, List, [], ◌∷◌, length, Result, Ok, Err, None, refl, sym, ap, subst, ◌∙◌}
 use Rattle.std.specs.Global.{Vec}
-use Rattle.coding.specs.Answers.{UnlessMemory, EqualOrMemory, FailsOrMemory, ◌>>=◌, HoldsOrMemory}
-use Rattle.coding.specs.declared.fault.Fault.{Fault}
-use Rattle.coding.proofs.Binds.{bind_ok, ok_is}
-use Rattle.coding.proofs.Refusals.{unless_from}
+use Rattle.ikey.specs.Answers.{UnlessMemory, EqualOrMemory, FailsOrMemory, ◌>>=◌, HoldsOrMemory}
+use Rattle.ikey.specs.fault.Fault.{Fault}
+use Rattle.ikey.proofs.Binds.{bind_ok, ok_is}
+use Rattle.ikey.proofs.Refusals.{unless_from}
 use Rattle.std.specs.Prelude.{IfOk}
 use Rattle.block.specs.EncodedEntry.{Entry, IsBlock}
 use Rattle.block.specs.BlockReading.{block_reading}

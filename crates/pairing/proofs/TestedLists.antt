@@ -4,10 +4,10 @@ use Rattle.std.proofs.lemmas.List.{append-nil}
 use Rattle.std.specs.List.{slice_get}
 use Rattle.std.specs.Option.{option_map}
 use Rattle.std.proofs.lemmas.Option.{same_Some, none-some, slice_get_within, get_or_from_slice_get}
-use Rattle.coding.proofs.Binds.{bind_ok, done, ok_is}
-use Rattle.coding.specs.Answers.{EqualOrMemory, fault, ◌>>=◌}
-use Rattle.coding.specs.declared.fault.Fault.{Fault}
-use Rattle.coding.specs.declared.fault.FaultName.TheVariants.{Key, TooLarge, Order}
+use Rattle.ikey.proofs.Binds.{bind_ok, done, ok_is}
+use Rattle.ikey.specs.Answers.{EqualOrMemory, fault, ◌>>=◌}
+use Rattle.ikey.specs.fault.Fault.{Fault}
+use Rattle.ikey.specs.fault.FaultName.TheVariants.{Key, TooLarge, Order}
 use Rattle.ikey.specs.Bytewise.{bytewise_cmp}
 use Rattle.ikey.specs.Key.{tag_of, internal_key_reading}
 use Rattle.table.specs.EntryTests.{is_above}

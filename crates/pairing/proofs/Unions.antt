@@ -20,9 +20,9 @@ use Rattle.block.proofs.Sizes.{length-block-append, fits_with_entry}
 use Rattle.pairing.specs.Blocks.{block_within}
 use Rattle.ikey.specs.Bytewise.{bytewise_cmp}
 use Rattle.ikey.specs.Key.{user_of, sequence_of, kind_of, kind_number, internal_key_reading}
-use Rattle.coding.specs.Answers.{EqualOrMemory, fault, ◌>>=◌}
-use Rattle.coding.specs.declared.fault.Fault.{Fault}
-use Rattle.coding.specs.declared.fault.FaultName.TheVariants.{TooLarge, Order}
+use Rattle.ikey.specs.Answers.{EqualOrMemory, fault, ◌>>=◌}
+use Rattle.ikey.specs.fault.Fault.{Fault}
+use Rattle.ikey.specs.fault.FaultName.TheVariants.{TooLarge, Order}
 use Rattle.ikey.specs.Order.{internal_cmp}
 use Rattle.ikey.proofs.Ordered.{internal_cmp-total}
 use Rattle.merge.specs.Union.{key_version_cmp, IsUnion, VersionsRise}
@@ -33,7 +33,7 @@ use Rattle.pairing.specs.Ranges.{IsBefore, IsFrom}
 use Rattle.pairing.specs.TestedUnion.{tested_entry, tested_entries}
 use Rattle.pairing.specs.declared.tested_entry.TestedEntry.{TestedEntry}
 use Rattle.pairing.specs.EntryTests.{file_entry_test, tested_after}
-use Rattle.coding.proofs.Binds.{bind_ok}
+use Rattle.ikey.proofs.Binds.{bind_ok}
 use Rattle.pairing.proofs.TestedLists.{tested_same}
 
 -- versions are totally ordered

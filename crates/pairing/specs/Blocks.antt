@@ -1,9 +1,9 @@
 -- What the merge of two blocks answers.
 use Rattle.std.specs.Prelude.{◌≡◌, ℕ, nat_le, if◌then◌else◌, List, [], ◌∷◌, length, None}
 use Rattle.std.specs.Prelude.{Result, Ok, Err}
-use Rattle.coding.specs.Answers.{IsThen, fault, ◌>>=◌}
-use Rattle.coding.specs.declared.fault.Fault.{Fault}
-use Rattle.coding.specs.declared.fault.FaultName.TheVariants.{Duplicate, TooLarge}
+use Rattle.ikey.specs.Answers.{IsThen, fault, ◌>>=◌}
+use Rattle.ikey.specs.fault.Fault.{Fault}
+use Rattle.ikey.specs.fault.FaultName.TheVariants.{Duplicate, TooLarge}
 use Rattle.block.specs.EncodedEntry.{Entry}
 use Rattle.block.specs.BlockFormat.{block}
 use Rattle.block.specs.BlockReading.{block_reading}

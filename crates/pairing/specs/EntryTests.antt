@@ -1,9 +1,9 @@
 -- The tests of a file's entries, in their order.
 use Rattle.std.specs.Prelude.{ℕ, nat_lt, if◌then◌else◌, List, [], ◌∷◌, length, Option}
 use Rattle.std.specs.Prelude.{Some, Result, Ok, Err}
-use Rattle.coding.specs.Answers.{fault, ◌>>=◌}
-use Rattle.coding.specs.declared.fault.Fault.{Fault}
-use Rattle.coding.specs.declared.fault.FaultName.TheVariants.{TooLarge, Order}
+use Rattle.ikey.specs.Answers.{fault, ◌>>=◌}
+use Rattle.ikey.specs.fault.Fault.{Fault}
+use Rattle.ikey.specs.fault.FaultName.TheVariants.{TooLarge, Order}
 use Rattle.block.specs.EncodedEntry.{Entry}
 use Rattle.ikey.specs.Bytewise.{bytewise_cmp}
 use Rattle.ikey.specs.Key.{internal_key_reading}

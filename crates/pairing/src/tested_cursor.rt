@@ -8,8 +8,7 @@ ghost use Rattle.table.specs.RestartSearch.{first_is_below};
 ghost use Rattle.pairing.specs.TestedUnion.{tested_entries};
 
 use crate::tested_entry::TestedEntry;
-use coding::Fault;
-use ikey::{Bytewise, Comparator, InternalKey};
+use ikey::{Bytewise, Comparator, Fault, InternalKey};
 use std::marker::Model;
 use table::{Cursor, Entries};
 

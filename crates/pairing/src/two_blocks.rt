@@ -1,7 +1,7 @@
 //! Merging two blocks into one.
 
 ghost use Rattle.std.specs.Prelude.{IfOk, Ok, map};
-ghost use Rattle.coding.specs.Answers.{EqualOrMemory, HoldsOrMemory};
+ghost use Rattle.ikey.specs.Answers.{EqualOrMemory, HoldsOrMemory};
 ghost use Rattle.pairing.specs.Blocks.{AreBlocksMerged, IsBlocksAnswer, IsUnionAnswer};
 ghost use Rattle.pairing.specs.Blocks.{block_within};
 ghost use Rattle.pairing.specs.Blocks.{counted_block};
@@ -17,7 +17,7 @@ use crate::tested_entry::TestedEntry;
 use crate::two_ranges::TwoRanges;
 use block::BlockBuilder;
 use board::{Open, run};
-use coding::{Fault, FaultName};
+use ikey::{Fault, FaultName};
 use std::alloc::Global;
 use std::thread::Threads;
 use table::{DEFAULT_RESTART_INTERVAL, MAX_TABLE_LEN};

@@ -3,7 +3,7 @@
 use crate::range_pair::RangePair;
 use crate::tested_entry::TestedEntry;
 use board::Labour;
-use coding::Fault;
+use ikey::Fault;
 use std::alloc::Global;
 
 /// Two ranges of user keys, one after the other. A job makes the union of the entries in one of

@@ -9,9 +9,9 @@ use Rattle.std.specs.declared.cmp.Ordering.TheVariants.{Less, Equal, Greater}
 use Rattle.std.proofs.lemmas.Cmp.{tied_itself}
 use Rattle.std.proofs.lemmas.List.Sums.{fold-append}
 use Rattle.std.proofs.lemmas.List.Folds.{list_any-append}
-use Rattle.ikey.specs.Key.{user_of, sequence_of, kind_of, kind_number}
-use Rattle.ikey.specs.Order.{internal_cmp}
-use Rattle.ikey.proofs.Ordered.{internal_cmp-total}
+use Rattle.edit.specs.Key.{user_of, sequence_of, kind_of, kind_number}
+use Rattle.edit.specs.Order.{internal_cmp}
+use Rattle.edit.proofs.Ordered.{internal_cmp-total}
 use Rattle.edit.specs.VersionOrder.{file_cmp}
 use Rattle.edit.specs.declared.meta.FileMeta.{FileMeta}
 use Rattle.edit.proofs.Tested.{eqb-sym}

@@ -6,12 +6,12 @@ use Rattle.std.specs.Option.{option_or}
 use Rattle.std.specs.Cmp.{IsTotalOrder}
 use Rattle.std.specs.Ordering.{is_lt}
 use Rattle.std.specs.declared.cmp.Ordering.{Ordering}
-use Rattle.coding.specs.Answers.{EqualOrMemory, HoldsOrMemory}
-use Rattle.coding.specs.declared.fault.Fault.{Fault}
-use Rattle.coding.proofs.Refusals.{unless_from}
+use Rattle.edit.specs.Answers.{EqualOrMemory, HoldsOrMemory}
+use Rattle.edit.specs.fault.Fault.{Fault}
+use Rattle.edit.proofs.Refusals.{unless_from}
 use Rattle.std.proofs.lemmas.Bool.Decides.{nat_tests}
-use Rattle.ikey.specs.Key.{user_of}
-use Rattle.ikey.specs.Order.{internal_cmp}
+use Rattle.edit.specs.Key.{user_of}
+use Rattle.edit.specs.Order.{internal_cmp}
 use Rattle.edit.specs.Version.{State, are_apart, pointer_of}
 use Rattle.edit.specs.VersionOrder.{level_files}
 use Rattle.edit.specs.declared.meta.FileMeta.{FileMeta}

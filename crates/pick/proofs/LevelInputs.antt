@@ -5,12 +5,12 @@ use Rattle.std.specs.List.{filter, fold, slice_get}
 use Rattle.std.specs.Cmp.{IsTotalOrder}
 use Rattle.std.specs.declared.cmp.Ordering.{Ordering}
 use Rattle.std.proofs.lemmas.Bool.Decides.{nat_tests}
-use Rattle.coding.specs.Answers.{fault, EqualOrMemory, HoldsOrMemory}
-use Rattle.coding.specs.declared.fault.Fault.{Fault}
-use Rattle.coding.specs.declared.fault.FaultName.TheVariants.{NoInput}
-use Rattle.coding.proofs.Binds.{done, failed, ok_is}
-use Rattle.coding.proofs.Refusals.{unless_from}
-use Rattle.ikey.specs.Key.{user_of}
+use Rattle.edit.specs.Answers.{fault, EqualOrMemory, HoldsOrMemory}
+use Rattle.edit.specs.fault.Fault.{Fault}
+use Rattle.edit.specs.fault.FaultName.TheVariants.{NoInput}
+use Rattle.edit.proofs.Binds.{done, failed, ok_is}
+use Rattle.edit.proofs.Refusals.{unless_from}
+use Rattle.edit.specs.Key.{user_of}
 use Rattle.edit.specs.Version.{State}
 use Rattle.edit.specs.VersionOrder.{level_files}
 use Rattle.edit.specs.declared.meta.FileMeta.{FileMeta}

@@ -3,9 +3,9 @@ use Rattle.std.specs.Prelude.{◌≡◌, ℕ, nat_eq, Bool, false, not, ◌&&◌
 use Rattle.std.specs.Prelude.{◌++◌, filter, find, fold, Option, Some, None}
 use Rattle.std.specs.List.{list_any}
 use Rattle.std.specs.Ordering.{is_lt, is_eq}
-use Rattle.ikey.specs.Key.{user_of}
-use Rattle.ikey.specs.Order.{internal_cmp}
-use Rattle.ikey.specs.Comparator.{KeyOrder}
+use Rattle.edit.specs.Key.{user_of}
+use Rattle.edit.specs.Order.{internal_cmp}
+use Rattle.edit.specs.Comparator.{KeyOrder}
 use Rattle.edit.specs.declared.meta.FileMeta.{FileMeta}
 
 -- the greater of two internal keys

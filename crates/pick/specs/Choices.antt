@@ -3,9 +3,9 @@ use Rattle.std.specs.Prelude.{◌≡◌, ℕ, ◌<◌, nat_eq, nat_lt, Bool, tru
 use Rattle.std.specs.Prelude.{if◌then◌else◌, List, [], ◌∷◌, filter, length, Option, Result, Ok}
 use Rattle.std.specs.Prelude.{MatchBool, IsOkAnd}
 use Rattle.std.specs.List.{AllByRecursion}
-use Rattle.coding.specs.declared.fault.Fault.{Fault}
-use Rattle.ikey.specs.Key.{user_of}
-use Rattle.ikey.specs.Comparator.{KeyOrder}
+use Rattle.edit.specs.fault.Fault.{Fault}
+use Rattle.edit.specs.Key.{user_of}
+use Rattle.edit.specs.Comparator.{KeyOrder}
 use Rattle.edit.specs.Version.{State}
 use Rattle.edit.specs.VersionOrder.{level_files}
 use Rattle.edit.specs.declared.meta.FileMeta.{FileMeta}

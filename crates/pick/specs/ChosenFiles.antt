@@ -4,8 +4,8 @@ use Rattle.std.specs.Prelude.{Some, None}
 use Rattle.std.specs.List.{AllByRecursion, slice_get}
 use Rattle.std.specs.Option.{option_or}
 use Rattle.std.specs.Ordering.{is_lt}
-use Rattle.ikey.specs.Order.{internal_cmp}
-use Rattle.ikey.specs.Comparator.{KeyOrder}
+use Rattle.edit.specs.Order.{internal_cmp}
+use Rattle.edit.specs.Comparator.{KeyOrder}
 use Rattle.edit.specs.declared.meta.FileMeta.{FileMeta}
 use Rattle.pick.specs.Ranges.{overlaps}
 

@@ -6,12 +6,12 @@ use Rattle.std.specs.Prelude.{if◌then◌else◌}
 use Rattle.std.specs.List.{AllByRecursion, list_any}
 use Rattle.std.specs.Option.{option_map, option_or}
 use Rattle.std.specs.Ordering.{is_le}
-use Rattle.coding.specs.Answers.{fault}
-use Rattle.coding.specs.declared.fault.Fault.{Fault}
-use Rattle.coding.specs.declared.fault.FaultName.TheVariants.{Level}
-use Rattle.ikey.specs.Key.{user_of}
-use Rattle.ikey.specs.Order.{internal_cmp}
-use Rattle.ikey.specs.Comparator.{KeyOrder}
+use Rattle.edit.specs.Answers.{fault}
+use Rattle.edit.specs.fault.Fault.{Fault}
+use Rattle.edit.specs.fault.FaultName.TheVariants.{Level}
+use Rattle.edit.specs.Key.{user_of}
+use Rattle.edit.specs.Order.{internal_cmp}
+use Rattle.edit.specs.Comparator.{KeyOrder}
 use Rattle.edit.specs.Version.{State}
 use Rattle.edit.specs.VersionOrder.{level_files}
 use Rattle.edit.specs.declared.meta.FileMeta.{FileMeta}

@@ -1,10 +1,10 @@
 -- The inputs of a compaction.
 use Rattle.std.specs.Prelude.{◌≡◌, ℕ, zero, suc, ◌+◌, ◌-◌, nat_lt, if◌then◌else◌, List, [], ◌++◌}
 use Rattle.std.specs.Prelude.{length, map, filter, Some, Result, Err, MatchBool, IsOkAnd}
-use Rattle.coding.specs.Answers.{fault}
-use Rattle.coding.specs.declared.fault.Fault.{Fault}
-use Rattle.coding.specs.declared.fault.FaultName.TheVariants.{NoInput, Level}
-use Rattle.ikey.specs.Comparator.{KeyOrder}
+use Rattle.edit.specs.Answers.{fault}
+use Rattle.edit.specs.fault.Fault.{Fault}
+use Rattle.edit.specs.fault.FaultName.TheVariants.{NoInput, Level}
+use Rattle.edit.specs.Comparator.{KeyOrder}
 use Rattle.edit.specs.Version.{State, pointer_of}
 use Rattle.edit.specs.VersionOrder.{level_files}
 use Rattle.edit.specs.declared.meta.FileMeta.{FileMeta}

@@ -3,8 +3,8 @@
 use Rattle.std.specs.Prelude.{ℕ, Bool, not, ◌&&◌, List}
 use Rattle.std.specs.List.{list_any}
 use Rattle.std.specs.Ordering.{is_le}
-use Rattle.ikey.specs.Key.{user_of}
-use Rattle.ikey.specs.Comparator.{KeyOrder}
+use Rattle.edit.specs.Key.{user_of}
+use Rattle.edit.specs.Comparator.{KeyOrder}
 use Rattle.edit.specs.declared.meta.FileMeta.{FileMeta}
 
 -- whether a user key is at or before another

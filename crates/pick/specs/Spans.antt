@@ -1,8 +1,8 @@
 -- A range of user keys, as it widens over files.
 use Rattle.std.specs.Prelude.{ℕ, Bool, ◌&&◌, if◌then◌else◌, List, fold}
 use Rattle.std.specs.Ordering.{is_lt}
-use Rattle.ikey.specs.Key.{user_of}
-use Rattle.ikey.specs.Comparator.{KeyOrder}
+use Rattle.edit.specs.Key.{user_of}
+use Rattle.edit.specs.Comparator.{KeyOrder}
 use Rattle.edit.specs.declared.meta.FileMeta.{FileMeta}
 use Rattle.pick.specs.Ranges.{is_at_most}
 

@@ -6,15 +6,13 @@
 
 ghost use Rattle.std.specs.Prelude.{◌≡◌, Ok, Some, map, filter};
 ghost use Rattle.std.specs.Option.{option_copied};
-ghost use Rattle.coding.specs.Answers.{EqualOrMemory};
+ghost use Rattle.edit.specs.Answers.{EqualOrMemory};
 ghost use Rattle.pick.specs.Boundaries.{greater_key, with_largest, largest_key};
 ghost use Rattle.pick.specs.Boundaries.{goes_on as is_going_on};
 ghost use Rattle.pick.specs.Choices.{is_chosen, with_boundary_files};
 
 use crate::choice::Choice;
-use coding::Fault;
-use edit::FileMeta;
-use ikey::{Comparator, KeyBuf};
+use edit::{Comparator, Fault, FileMeta, KeyBuf};
 use std::alloc::Global;
 
 /// The greater of two internal keys.

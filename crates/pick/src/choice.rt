@@ -3,13 +3,12 @@
 ghost use Rattle.std.specs.Prelude.{◌≡◌, map, find};
 ghost use Rattle.std.specs.Option.{option_copied};
 ghost use Rattle.std.specs.Ordering.{is_lt};
-ghost use Rattle.ikey.specs.Order.{internal_cmp};
+ghost use Rattle.edit.specs.Order.{internal_cmp};
 ghost use Rattle.pick.specs.ChosenFiles.{first_file as first_of};
 ghost use Rattle.pick.specs.Choices.{is_chosen, is_widening, IsGrown};
 
 use crate::range::UserRange;
-use edit::FileMeta;
-use ikey::{Comparator, KeyBuf};
+use edit::{Comparator, FileMeta, KeyBuf};
 
 /// Which files of a level are chosen before boundary files are added.
 #[derive(Clone, Copy)]

@@ -2,7 +2,7 @@
 
 ghost use Rattle.pick.specs.PickedInputs.{HasOneChoice};
 
-use ikey::Comparator;
+use edit::Comparator;
 
 /// The law that a level of a version has at most one choice of inputs. A call does nothing.
 pub fn one_choice<C: Comparator>()

@@ -12,12 +12,13 @@
 //! | the next | those that go on within the user key with which a chosen one of it ends |
 //! | the next | those that lie among all chosen ones, by internal keys |
 
-ghost use Rattle.std.specs.Prelude.{◌≡◌, ◌≤◌, ◌+◌, ◌&&◌, ◌++◌, Ok, Some, not, map, filter, find, IfOk};
+ghost use Rattle.std.specs.Prelude.{◌≡◌, ◌≤◌, ◌+◌, ◌&&◌, ◌++◌, Ok, Some, not, map, filter, find};
+ghost use Rattle.std.specs.Prelude.{IfOk};
 ghost use Rattle.std.specs.List.{list_any};
 ghost use Rattle.std.specs.Option.{option_copied, option_map, option_or};
 ghost use Rattle.std.specs.Ordering.{is_le};
-ghost use Rattle.coding.specs.Answers.{EqualOrMemory};
-ghost use Rattle.ikey.specs.Order.{internal_cmp};
+ghost use Rattle.edit.specs.Answers.{EqualOrMemory};
+ghost use Rattle.edit.specs.Order.{internal_cmp};
 ghost use Rattle.pick.specs.Boundaries.{goes_on as is_going_on};
 ghost use Rattle.pick.specs.ClosedChoice.{has_number_of as is_numbered, IsToldClosed};
 ghost use Rattle.pick.specs.ClosedChoice.{goes_with as is_going_with, lies_among as is_among};
@@ -32,9 +33,7 @@ use crate::boundaries::goes_on;
 use crate::input_choice::LAST_INPUT_LEVEL;
 use crate::picked_inputs::InputFile;
 use crate::range::UserRange;
-use coding::{Fault, FaultName};
-use edit::{FileMeta, Version};
-use ikey::{Comparator, KeyBuf};
+use edit::{Comparator, Fault, FaultName, FileMeta, KeyBuf, Version};
 use std::alloc::Global;
 
 /// The first file that a compaction of `level` has to take, too, if it takes the files of these

@@ -2,8 +2,8 @@
 
 ghost use Rattle.std.specs.Prelude.{◌≡◌, ◌≤◌, ◌+◌, ◌-◌, ◌++◌, Ok, [], nat_lt, if◌then◌else◌, map};
 ghost use Rattle.std.specs.Prelude.{filter, OnOk, IfErr};
-ghost use Rattle.coding.specs.Answers.{EqualOrMemory, fault};
-ghost use Rattle.coding.specs.declared.fault.FaultName.TheVariants.{Memory};
+ghost use Rattle.edit.specs.Answers.{EqualOrMemory, fault};
+ghost use Rattle.edit.specs.fault.FaultName.TheVariants.{Memory};
 ghost use Rattle.edit.specs.VersionOrder.{level_files};
 ghost use Rattle.edit.specs.declared.meta.TheConstants.{LAST_LEVEL, LEVELS};
 ghost use Rattle.pick.specs.Choices.{is_in};
@@ -11,9 +11,7 @@ ghost use Rattle.pick.specs.PickedInputs.{files_from, input_at};
 
 use crate::picked_inputs::InputFile;
 use crate::range::UserRange;
-use coding::Fault;
-use edit::{FileMeta, LAST_LEVEL, LEVELS, Version};
-use ikey::Comparator;
+use edit::{Comparator, Fault, FileMeta, LAST_LEVEL, LEVELS, Version};
 use std::alloc::Global;
 
 /// Appends copies of `files` as inputs of `level`.

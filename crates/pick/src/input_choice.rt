@@ -2,7 +2,7 @@
 
 ghost use Rattle.std.specs.Prelude.{◌≤◌, ◌+◌, ◌-◌, ◌++◌, Ok, [], nat_lt, if◌then◌else◌, map};
 ghost use Rattle.std.specs.Prelude.{filter, OnOk};
-ghost use Rattle.coding.specs.Answers.{EqualOrMemory, HoldsOrMemory};
+ghost use Rattle.edit.specs.Answers.{EqualOrMemory, HoldsOrMemory};
 ghost use Rattle.edit.specs.Version.{IsState};
 ghost use Rattle.edit.specs.VersionOrder.{level_files};
 ghost use Rattle.edit.specs.declared.meta.TheConstants.{LAST_LEVEL, LEVELS};
@@ -15,9 +15,7 @@ use crate::file_copies::{deeper_files, grandparents, push_inputs};
 use crate::level_files::{lower_files, upper_files};
 use crate::picked_inputs::{InputFile, Inputs};
 use crate::range::UserRange;
-use coding::{Fault, FaultName};
-use edit::{CompactPointer, FileMeta, LAST_LEVEL, Version};
-use ikey::{Comparator, KeyBuf};
+use edit::{CompactPointer, Comparator, Fault, FaultName, FileMeta, KeyBuf, LAST_LEVEL, Version};
 use std::alloc::Global;
 
 /// The deepest level that is compacted. Its outputs go to the deepest of all.

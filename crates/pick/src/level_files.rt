@@ -1,7 +1,7 @@
 //! The inputs of one level.
 
 ghost use Rattle.std.specs.Prelude.{◌≤◌, map, filter, IsOkAnd};
-ghost use Rattle.coding.specs.Answers.{HoldsOrMemory};
+ghost use Rattle.edit.specs.Answers.{HoldsOrMemory};
 ghost use Rattle.edit.specs.Version.{IsState};
 ghost use Rattle.edit.specs.VersionOrder.{level_files};
 ghost use Rattle.edit.specs.declared.meta.TheConstants.{LAST_LEVEL};
@@ -11,9 +11,7 @@ ghost use Rattle.pick.specs.Choices.{is_in, IsUpperAnswer};
 use crate::boundaries::with_boundaries;
 use crate::choice::{Choice, first_file, grown_range};
 use crate::range::UserRange;
-use coding::Fault;
-use edit::{FileMeta, Version};
-use ikey::Comparator;
+use edit::{Comparator, Fault, FileMeta, Version};
 use std::alloc::Global;
 
 /// The inputs of the compaction's own level; none exactly if it has no file.

@@ -4,8 +4,7 @@ ghost use Rattle.std.specs.Prelude.{◌≡◌};
 ghost use Rattle.pick.specs.Ranges.{is_in_none};
 
 use crate::range::holds_user;
-use edit::{CompactPointer, FileMeta};
-use ikey::Comparator;
+use edit::{CompactPointer, Comparator, FileMeta};
 
 /// An input of a compaction: a file and its level.
 #[derive(Drop)]

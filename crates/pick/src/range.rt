@@ -1,13 +1,12 @@
 //! Ranges of user keys.
 
 ghost use Rattle.std.specs.Prelude.{◌≡◌, map};
-ghost use Rattle.ikey.specs.Key.{user_of};
+ghost use Rattle.edit.specs.Key.{user_of};
 ghost use Rattle.pick.specs.Ranges.{holds_user as is_holding};
 ghost use Rattle.pick.specs.Spans.{lesser_user, greater_user, least_user, greatest_user};
 ghost use Rattle.pick.specs.Spans.{is_overlapping, is_covering};
 
-use edit::FileMeta;
-use ikey::Comparator;
+use edit::{Comparator, FileMeta};
 use std::cmp::Ordering;
 
 /// The user keys from `smallest` to `largest`, both included.

@@ -1,6 +1,6 @@
 //! The work on two files of blocks.
 
-use coding::{Fault, FaultName};
+use checks::{Fault, FaultName};
 use pairing::blocks;
 use session::{Refusal, RefusalText, Words, of_file, read_file, replace_file, told};
 use std::alloc::Global;

@@ -1,12 +1,10 @@
 //! All faults of a folder's version, from its path to what is printed.
 
 use answers::{fault_count_line, file_fault_line, key_fault_line};
-use checks::checkers;
-use coding::{Fault, FaultName};
+use checks::{Fault, FaultName, checkers};
 use faults::{FaultTaker, FileFault, all_faults};
-use folder::Disk;
 use session::{
-    Host, ProgressLine, Refusal, Telling, begin_work, print_lines, refused_at, tell_replaced,
+    Disk, Host, ProgressLine, Refusal, Telling, begin_work, print_lines, refused_at, tell_replaced,
     tell_time,
 };
 use std::time::Clock;

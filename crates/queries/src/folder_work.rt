@@ -4,9 +4,9 @@ use crate::fault_printer::faults_printed;
 use answers::{
     Question, answer_opened, json_line, lawful_json, manifest_lines, test_opened, version_json,
 };
-use folder::{Disk, Opened};
+use install::Opened;
 use session::{
-    Host, OpenedFolder, ProgressLine, Refusal, Telling, begin_counted, begin_work, bytes_of,
+    Disk, Host, OpenedFolder, ProgressLine, Refusal, Telling, begin_counted, begin_work, bytes_of,
     explained, locked_to_read, print_lines, refused_opened, sizes_tested, tell_time,
 };
 use usage::{ManifestLine, VerdictForm, VerifyLine};

@@ -1,8 +1,7 @@
 //! The files of a folder that its version doesn't need.
 
-use coding::{Fault, FaultName};
-use folder::Opened;
-use install::obsolete_names;
+use checks::{Fault, FaultName};
+use install::{Opened, obsolete_names};
 use session::{Refusal, names_in, path_in};
 use std::alloc::Global;
 use std::fs;

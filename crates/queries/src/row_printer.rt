@@ -1,12 +1,11 @@
 //! The rows of a folder, from its path to what is printed.
 
 use answers::{Open, json_line, logs_json, push_row, push_row_json};
-use checks::checkers;
-use coding::Fault;
-use folder::{Disk, Opened};
+use checks::{Fault, checkers};
+use install::Opened;
 use scan::{RowChoice, RowTaker, scan_unverified, scan_version};
 use session::{
-    Host, OpenedFolder, ProgressLine, Refusal, Telling, begin_counted, bytes_of, explained,
+    Disk, Host, OpenedFolder, ProgressLine, Refusal, Telling, begin_counted, bytes_of, explained,
     locked_to_read, print_lines, refused_opened, sizes_tested, table_explained, tell_time,
 };
 use std::time::Clock;

@@ -1,8 +1,8 @@
 //! The work on the file of a table.
 
 use answers::{dump, json_line, table_entries, valid_json, verify_table};
-use coding::{Fault, FaultName};
-use folder::CURRENT;
+use checks::{Fault, FaultName};
+use install::CURRENT;
 use session::{Refusal, Words, print_lines, read_file, told};
 use std::alloc::Global;
 use std::rt::Files;

@@ -2,11 +2,11 @@
 
 use crate::folder_work::answered;
 use answers::{Question, ValueForm, json_line, unverified_value, value_json};
-use coding::Fault;
-use folder::{Disk, Opened, SystemFiles};
+use checks::Fault;
+use install::Opened;
 use session::{
-    Host, OpenedFolder, Refusal, Telling, begin_counted, bytes_of, explained, locked_to_read,
-    print_lines, refused_opened, sizes_tested, table_explained, tell_time,
+    Disk, Host, OpenedFolder, Refusal, SystemFiles, Telling, begin_counted, bytes_of, explained,
+    locked_to_read, print_lines, refused_opened, sizes_tested, table_explained, tell_time,
 };
 use texts::{Spelling, text_of};
 use usage::GetLine;

@@ -5,7 +5,7 @@ use Rattle.std.specs.List.{AllByRecursion, filter, find}
 use Rattle.std.specs.Option.{option_and_then}
 use Rattle.std.proofs.lemmas.Bool.Decides.{nat_tests}
 use Rattle.ikey.specs.Key.{sequence_of}
-use Rattle.block.specs.EncodedEntry.{Entry}
+use Rattle.table.specs.EncodedEntry.{Entry}
 use Rattle.reads.specs.Gets.{is_visible, newest_entry, value_in}
 use Rattle.reads.specs.Tables.{all_entries}
 use Rattle.reads.specs.Visible.{IsVisible}

@@ -11,7 +11,7 @@ use Rattle.std.proofs.lemmas.Cmp.{nat_cmp_total, on_total, back_total, then_tota
 use Rattle.std.proofs.lemmas.List.Elements.{Contains-get_or}
 use Rattle.ikey.specs.Order.{internal_cmp}
 use Rattle.ikey.proofs.Ordered.{internal_cmp-total}
-use Rattle.block.specs.EncodedEntry.{Entry}
+use Rattle.table.specs.EncodedEntry.{Entry}
 use Rattle.table.specs.EntriesFrom.{EntriesRise}
 use Rattle.edit.specs.declared.meta.NewFile.{NewFile}
 use Rattle.reads.specs.declared.level_file.LevelFile.{LevelFile}

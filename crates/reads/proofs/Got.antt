@@ -11,15 +11,15 @@ use Rattle.std.proofs.lemmas.Bool.Decides.{Decides-ltb, Decides-and, nat_tests}
 use Rattle.std.proofs.lemmas.List.{get_or_default}
 use Rattle.std.proofs.lemmas.List.Elements.{All-contains}
 use Rattle.std.proofs.lemmas.Slice.Eq.{bytes_eq-Decides}
-use Rattle.coding.specs.Answers.{fault, FailsOrMemory, EqualOrMemory, UnlessMemory}
-use Rattle.coding.specs.declared.fault.Fault.{Fault}
-use Rattle.coding.specs.declared.fault.FaultName.TheVariants.{Memory}
-use Rattle.coding.proofs.Binds.{done, failed}
-use Rattle.coding.proofs.Refusals.{unless_from}
+use Rattle.ikey.specs.Answers.{fault, FailsOrMemory, EqualOrMemory, UnlessMemory}
+use Rattle.ikey.specs.fault.Fault.{Fault}
+use Rattle.ikey.specs.fault.FaultName.TheVariants.{Memory}
+use Rattle.ikey.proofs.Binds.{done, failed}
+use Rattle.ikey.proofs.Refusals.{unless_from}
 use Rattle.ikey.specs.Key.{IsInternalKey, internal_key, user_of, sequence_of}
 use Rattle.ikey.specs.declared.kind.Kind.TheVariants.{Put}
 use Rattle.ikey.proofs.Keys.{sequence_of-lt, length-user_of, user_of-internal_key, sequence_of-internal_key}
-use Rattle.block.specs.EncodedEntry.{Entry}
+use Rattle.table.specs.EncodedEntry.{Entry}
 use Rattle.edit.specs.Version.{State}
 use Rattle.edit.specs.declared.meta.NewFile.{NewFile}
 use Rattle.reads.specs.Tables.{NumberedContents, table_of_number, table_entries, all_entries, tables_test}

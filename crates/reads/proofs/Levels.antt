@@ -8,10 +8,10 @@ use Rattle.std.specs.declared.cmp.Ordering.{Ordering}
 use Rattle.std.proofs.lemmas.Bool.Decides.{Decides-eqb}
 use Rattle.std.proofs.lemmas.List.Elements.{All-contains, Contains-get_or}
 use Rattle.std.proofs.lemmas.List.Sorted.{Contains-permutation}
-use Rattle.coding.specs.Answers.{fault}
-use Rattle.coding.specs.declared.fault.Fault.{Fault}
-use Rattle.coding.proofs.Binds.{done}
-use Rattle.coding.specs.declared.fault.FaultName.TheVariants.{Missing}
+use Rattle.ikey.specs.Answers.{fault}
+use Rattle.ikey.specs.fault.Fault.{Fault}
+use Rattle.ikey.proofs.Binds.{done}
+use Rattle.ikey.specs.fault.FaultName.TheVariants.{Missing}
 use Rattle.edit.specs.Version.{are_apart}
 use Rattle.edit.specs.VersionOrder.{file_cmp, in_version_order, files_at}
 use Rattle.edit.specs.declared.meta.FileMeta.{FileMeta}

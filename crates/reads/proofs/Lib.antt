@@ -1,3 +1,8 @@
+pub use Rattle.table.proofs.CheckedTables
+pub use Rattle.table.proofs.EntryTests
+pub use Rattle.table.proofs.Tables
+pub use Rattle.split.proofs.Covers
+pub use Rattle.merge.proofs.Leasts
 pub mod Members
 pub mod Orders
 pub mod Sought

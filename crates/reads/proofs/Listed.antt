@@ -6,10 +6,10 @@ use Rattle.std.specs.Option.{is_some}
 use Rattle.std.specs.Cmp.{IsTotalOrder}
 use Rattle.std.specs.declared.cmp.Ordering.{Ordering}
 use Rattle.std.proofs.lemmas.List.Elements.{All-contains, Contains-get_or}
-use Rattle.coding.specs.Answers.{fault, UnlessMemory}
-use Rattle.coding.specs.declared.fault.Fault.{Fault}
-use Rattle.coding.specs.declared.fault.FaultName.TheVariants.{Lawless}
-use Rattle.block.specs.EncodedEntry.{Entry}
+use Rattle.ikey.specs.Answers.{fault, UnlessMemory}
+use Rattle.ikey.specs.fault.Fault.{Fault}
+use Rattle.ikey.specs.fault.FaultName.TheVariants.{Lawless}
+use Rattle.table.specs.EncodedEntry.{Entry}
 use Rattle.merge.specs.MergedLists.{entries_of_lists}
 use Rattle.edit.specs.Version.{State}
 use Rattle.edit.specs.declared.meta.NewFile.{NewFile}

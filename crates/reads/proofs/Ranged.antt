@@ -5,7 +5,7 @@ use Rattle.std.specs.Option.{option_map_or, ForSome}
 use Rattle.std.specs.Ordering.{is_lt}
 use Rattle.std.specs.declared.cmp.Ordering.{Ordering}
 use Rattle.std.specs.declared.cmp.Ordering.TheVariants.{Less, Equal, Greater}
-use Rattle.block.specs.EncodedEntry.{Entry}
+use Rattle.table.specs.EncodedEntry.{Entry}
 use Rattle.split.specs.Ranges.{KeyRange, IsIn}
 use Rattle.split.specs.Bounds.{is_user_before}
 use Rattle.reads.specs.FileChecks.{is_from}

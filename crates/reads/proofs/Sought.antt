@@ -12,7 +12,7 @@ use Rattle.ikey.specs.Key.{user_of, sequence_of, kind_of}
 use Rattle.ikey.specs.declared.kind.Kind.{Kind}
 use Rattle.ikey.specs.declared.kind.Kind.TheVariants.{Put}
 use Rattle.ikey.specs.Order.{internal_cmp}
-use Rattle.block.specs.EncodedEntry.{Entry}
+use Rattle.table.specs.EncodedEntry.{Entry}
 use Rattle.table.specs.EntriesFrom.{EntriesRise, entries_from}
 use Rattle.reads.specs.Visible.{VisibleEntry, visible_of, IsVisible, IsAnswer}
 use Rattle.reads.proofs.Members.{first_or_later, later_in, first_in, none_in}

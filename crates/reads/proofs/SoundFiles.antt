@@ -8,8 +8,8 @@ use Rattle.std.specs.declared.cmp.Ordering.{Ordering}
 use Rattle.std.proofs.lemmas.Bool.Decides.{Decides-ltb, Decides-eqb, Decides-and}
 use Rattle.std.proofs.lemmas.Option.{same_Some}
 use Rattle.std.proofs.lemmas.Slice.Eq.{bytes_eq-Decides}
-use Rattle.coding.specs.Answers.{◌>>=◌}
-use Rattle.coding.proofs.Binds.{bind_ok, ok_is}
+use Rattle.ikey.specs.Answers.{◌>>=◌}
+use Rattle.ikey.proofs.Binds.{bind_ok, ok_is}
 use Rattle.table.specs.TableContents.{Contents, contents_reading, blocks_of, data_reading, entries_of, index_in}
 use Rattle.table.specs.IndexReading.{index_reading}
 use Rattle.table.specs.EntriesFrom.{EntriesRise}

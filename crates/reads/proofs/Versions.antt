@@ -8,7 +8,7 @@ use Rattle.std.specs.declared.cmp.Ordering.{Ordering}
 use Rattle.std.proofs.lemmas.List.Elements.{All-contains, Contains-get_or}
 use Rattle.std.proofs.lemmas.Bool.{cases_lt}
 use Rattle.ikey.specs.Key.{user_of, sequence_of}
-use Rattle.block.specs.EncodedEntry.{Entry}
+use Rattle.table.specs.EncodedEntry.{Entry}
 use Rattle.edit.specs.Version.{State, are_apart}
 use Rattle.edit.specs.VersionOrder.{in_version_order, files_at}
 use Rattle.edit.specs.declared.meta.FileMeta.{FileMeta}

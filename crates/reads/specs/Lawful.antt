@@ -4,13 +4,13 @@ use Rattle.std.specs.Prelude.{Some, None, Ok, Err, Contains, AllPairs}
 use Rattle.std.specs.List.{All}
 use Rattle.std.specs.Option.{option_map}
 use Rattle.std.specs.declared.cmp.Ordering.TheVariants.{Less}
-use Rattle.coding.specs.Answers.{fault}
-use Rattle.coding.specs.declared.fault.Fault.{Fault}
-use Rattle.coding.specs.declared.fault.FaultName.TheVariants.{Lawless}
+use Rattle.ikey.specs.Answers.{fault}
+use Rattle.ikey.specs.fault.Fault.{Fault}
+use Rattle.ikey.specs.fault.FaultName.TheVariants.{Lawless}
 use Rattle.ikey.specs.Key.{IsInternalKey, user_of, sequence_of}
 use Rattle.ikey.specs.Order.{internal_cmp}
 use Rattle.ikey.specs.Comparator.{KeyOrder}
-use Rattle.block.specs.EncodedEntry.{Entry}
+use Rattle.table.specs.EncodedEntry.{Entry}
 use Rattle.table.specs.TableContents.{Contents, contents_reading}
 use Rattle.table.specs.EntriesFrom.{EntriesRise}
 use Rattle.edit.specs.Version.{State, are_apart}

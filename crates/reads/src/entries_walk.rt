@@ -1,16 +1,15 @@
 //! A walk over the entries of tables in the order of their keys.
 
 ghost use Rattle.std.specs.Prelude.{◌≡◌, ◌↔◌, true, ◌&&◌, IfOk, IfErr};
-ghost use Rattle.coding.specs.Answers.{fault};
-ghost use Rattle.coding.specs.declared.fault.FaultName.TheVariants.{Memory};
+ghost use Rattle.ikey.specs.Answers.{fault};
+ghost use Rattle.ikey.specs.fault.FaultName.TheVariants.{Memory};
 ghost use Rattle.ikey.specs.Key.{user_of};
 ghost use Rattle.merge.specs.MergedLists.{entries_of_lists};
 ghost use Rattle.split.specs.Ranges.{key_range, IsIn};
 ghost use Rattle.reads.specs.FileChecks.{is_from, steps_back};
 ghost use Rattle.reads.specs.TableOrder.{AreFallingIn};
 
-use coding::Fault;
-use ikey::{Comparator, InternalKey, KeyBuf, Kind};
+use ikey::{Comparator, Fault, InternalKey, KeyBuf, Kind};
 use merge::Merging;
 use split::{Range, is_before};
 use std::alloc::Global;

@@ -1,16 +1,15 @@
 //! The files of a version, by level and in version order.
 
 ghost use Rattle.std.specs.Prelude.{◌≡◌, ◌++◌, map, IfOk, IfErr, OnOk};
-ghost use Rattle.coding.specs.Answers.{fault};
-ghost use Rattle.coding.specs.declared.fault.FaultName.TheVariants.{Memory};
+ghost use Rattle.ikey.specs.Answers.{fault};
+ghost use Rattle.ikey.specs.fault.FaultName.TheVariants.{Memory};
 ghost use Rattle.edit.specs.VersionOrder.{added_from, at_level};
 ghost use Rattle.edit.specs.declared.meta.TheConstants.{LEVELS};
 ghost use Rattle.reads.specs.FileList.{level_file_in, AreAll};
 
 use crate::level_file::LevelFile;
-use coding::Fault;
 use edit::{FileMeta, LEVELS, Version};
-use ikey::Comparator;
+use ikey::{Comparator, Fault};
 use std::alloc::Global;
 
 /// Appends the files of a level.

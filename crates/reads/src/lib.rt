@@ -29,10 +29,14 @@ mod table_search;
 mod version_get;
 
 pub use bounds::has_bounds;
+pub use edit::FileMeta;
 pub use entries_walk::falls_in;
 pub use file_list::all_files;
+pub use ikey::{Kind, MAX_USER_KEY};
 pub use lawfulness::{files_newest_first, is_below, is_stated, lawful, tables_newest_first};
 pub use level_file::LevelFile;
 pub use newest_first_law::answers_newest_first;
 pub use numbered_table::NumberedTable;
+pub use split::Range;
+pub use table::{Cursor, SoundTable, TableCursor};
 pub use version_get::{get, may_hold};

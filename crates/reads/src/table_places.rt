@@ -2,14 +2,13 @@
 
 ghost use Rattle.std.specs.Prelude.{◌≡◌, ◌<◌, length, slice_get, IfOk, IfErr, Some, Ok};
 ghost use Rattle.std.specs.Option.{option_map};
-ghost use Rattle.coding.specs.Answers.{EqualOrMemory, fault};
-ghost use Rattle.coding.specs.declared.fault.FaultName.TheVariants.{Memory};
+ghost use Rattle.ikey.specs.Answers.{EqualOrMemory, fault};
+ghost use Rattle.ikey.specs.fault.FaultName.TheVariants.{Memory};
 ghost use Rattle.reads.specs.Tables.{table_of_number};
 ghost use Rattle.reads.specs.Places.{AreFirstPlaces};
 
 use crate::numbered_table::NumberedTable;
-use coding::Fault;
-use ikey::Comparator;
+use ikey::{Comparator, Fault};
 use std::alloc::Global;
 use std::collections::BTreeMap;
 use std::marker::Model;

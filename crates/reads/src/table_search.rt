@@ -3,20 +3,19 @@
 ghost use Rattle.std.specs.Prelude.{◌≡◌, List, true, Ok, IfOk, IfErr};
 ghost use Rattle.std.specs.List.{list_all};
 ghost use Rattle.std.specs.Option.{option_map, is_some};
-ghost use Rattle.coding.specs.Answers.{EqualOrMemory, fault};
-ghost use Rattle.coding.specs.declared.fault.FaultName.TheVariants.{Memory};
+ghost use Rattle.ikey.specs.Answers.{EqualOrMemory, fault};
+ghost use Rattle.ikey.specs.fault.FaultName.TheVariants.{Memory};
 ghost use Rattle.ikey.specs.Key.{user_of, sequence_of, kind_of};
 ghost use Rattle.ikey.specs.declared.kind.Kind.TheVariants.{Put};
-ghost use Rattle.block.specs.EncodedEntry.{Entry};
+ghost use Rattle.table.specs.EncodedEntry.{Entry};
 ghost use Rattle.table.specs.EntriesFrom.{entries_from};
 ghost use Rattle.reads.specs.Tables.{table_of_number, tables_test};
 ghost use Rattle.reads.specs.Visible.{visible_in, IsAnswer};
 
 use crate::found_entry::Found;
 use crate::table_places::TablePlaces;
-use coding::{Fault, FaultName};
 use edit::{FileMeta, LEVELS, Version};
-use ikey::{Comparator, InternalKey};
+use ikey::{Comparator, Fault, FaultName, InternalKey};
 use std::alloc::Global;
 use table::{Cursor, SoundTable, TableCursor};
 

@@ -9,8 +9,8 @@ ghost use Rattle.std.specs.Prelude.{◌≡◌, ◌&&◌, true, Ok, IfOk, IfErr};
 ghost use Rattle.std.specs.List.{All, flat_map};
 ghost use Rattle.std.specs.Option.{option_map, is_some};
 ghost use Rattle.std.specs.Ordering.{is_le};
-ghost use Rattle.coding.specs.Answers.{EqualOrMemory, fault};
-ghost use Rattle.coding.specs.declared.fault.FaultName.TheVariants.{Memory};
+ghost use Rattle.ikey.specs.Answers.{EqualOrMemory, fault};
+ghost use Rattle.ikey.specs.fault.FaultName.TheVariants.{Memory};
 ghost use Rattle.ikey.specs.Key.{user_of, sequence_of, kind_of};
 ghost use Rattle.ikey.specs.declared.kind.Kind.TheVariants.{Put};
 ghost use Rattle.reads.specs.Bounds.{may_hold};
@@ -23,9 +23,8 @@ use crate::found_entry::Found;
 use crate::numbered_table::NumberedTable;
 use crate::table_places::TablePlaces;
 use crate::table_search::{newest_in_table, tables_test};
-use coding::Fault;
 use edit::{FileMeta, LEVELS, Version};
-use ikey::{Comparator, InternalKey, KeyBuf, Kind, MAX_SEQUENCE, MAX_USER_KEY};
+use ikey::{Comparator, Fault, InternalKey, KeyBuf, Kind, MAX_SEQUENCE, MAX_USER_KEY};
 use std::alloc::Global;
 
 /// The value of the user key `key` at the sequence `at`. Of all its entries in the version's tables

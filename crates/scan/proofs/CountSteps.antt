@@ -4,8 +4,8 @@ use Rattle.std.specs.Prelude.{slice_get, slice_set}
 use Rattle.std.specs.Option.{option_map}
 use Rattle.std.specs.declared.cmp.Ordering.{Ordering}
 use Rattle.std.proofs.lemmas.Option.{same_Some}
-use Rattle.ikey.specs.Key.{kind_of, user_of}
-use Rattle.ikey.specs.declared.kind.Kind.{Kind}
+use Rattle.table.specs.Key.{kind_of, user_of}
+use Rattle.reads.specs.kind.Kind.{Kind}
 use Rattle.block.specs.EncodedEntry.{Entry}
 use Rattle.keep.specs.FirstEntry.{first_is}
 use Rattle.keep.specs.CursorsLeft.{is_before}

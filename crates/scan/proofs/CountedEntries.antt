@@ -5,8 +5,8 @@ use Rattle.std.specs.List.{count_by}
 use Rattle.std.specs.Ordering.{is_lt}
 use Rattle.std.specs.declared.cmp.Ordering.{Ordering}
 use Rattle.std.proofs.lemmas.List.Sums.{get_or-le-sum_by, sum_by-append, sum_by-cons}
-use Rattle.ikey.specs.Key.{kind_of}
-use Rattle.ikey.specs.Order.{internal_cmp}
+use Rattle.table.specs.Key.{kind_of}
+use Rattle.table.specs.Order.{internal_cmp}
 use Rattle.block.specs.EncodedEntry.{Entry}
 use Rattle.merge.specs.MergedLists.{entries_with, sorted_entries}
 use Rattle.reads.proofs.Members.{first_in, later_in}

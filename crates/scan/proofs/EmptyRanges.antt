@@ -6,9 +6,9 @@ use Rattle.std.specs.Option.{option_map_or}
 use Rattle.std.specs.Ordering.{is_lt, ordering_reverse}
 use Rattle.std.specs.declared.cmp.Ordering.{Ordering}
 use Rattle.std.specs.declared.cmp.Ordering.TheVariants.{Less, Equal, Greater}
-use Rattle.ikey.specs.Key.{user_of}
+use Rattle.table.specs.Key.{user_of}
 use Rattle.block.specs.EncodedEntry.{Entry}
-use Rattle.split.specs.Ranges.{KeyRange}
+use Rattle.reads.specs.Ranges.{KeyRange}
 use Rattle.keep.specs.InRange.{entries_in, is_in_range}
 use Rattle.checks.proofs.CommonRanges.{less_is, not_less}
 

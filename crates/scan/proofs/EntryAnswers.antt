@@ -10,11 +10,11 @@ use Rattle.std.specs.declared.cmp.Ordering.TheVariants.{Less, Equal, Greater}
 use Rattle.std.proofs.lemmas.List.Elements.{Contains-append_right, Contains-append_cases}
 use Rattle.std.proofs.lemmas.Option.{none-some, same_Some}
 use Rattle.std.proofs.lemmas.Slice.Eq.{bytes_eq-Decides}
-use Rattle.ikey.specs.Comparator.{IsExact}
-use Rattle.ikey.specs.Key.{user_of, sequence_of, kind_of, kind_number}
-use Rattle.ikey.specs.Order.{internal_cmp}
-use Rattle.ikey.specs.declared.kind.Kind.{Kind}
-use Rattle.ikey.specs.declared.kind.Kind.TheVariants.{Put, Delete}
+use Rattle.table.specs.Comparator.{IsExact}
+use Rattle.table.specs.Key.{user_of, sequence_of, kind_of, kind_number}
+use Rattle.table.specs.Order.{internal_cmp}
+use Rattle.reads.specs.kind.Kind.{Kind}
+use Rattle.reads.specs.kind.Kind.TheVariants.{Put, Delete}
 use Rattle.block.specs.EncodedEntry.{Entry}
 use Rattle.table.specs.EntriesFrom.{NeverFalls}
 use Rattle.reads.specs.Gets.{value_by, value_in}

@@ -1,7 +1,7 @@
 -- What one entry adds to the rows.
 use Rattle.std.proofs.Common.{◌≡◌, ℕ, Bool, true, false, cond, List, [], Option, Some, Ok, refl, sym, ap, subst, ◌∙◌}
-use Rattle.ikey.specs.Key.{user_of, kind_of}
-use Rattle.ikey.specs.declared.kind.Kind.{Kind}
+use Rattle.table.specs.Key.{user_of, kind_of}
+use Rattle.reads.specs.kind.Kind.{Kind}
 use Rattle.block.specs.EncodedEntry.{Entry}
 use Rattle.scan.specs.Row.{Row}
 use Rattle.scan.specs.EntryRows.{decided_after, entry_rows, is_passed_over, rows_by}

@@ -5,15 +5,15 @@ use Rattle.std.specs.Cmp.{IsTotalOrder}
 use Rattle.std.specs.declared.cmp.Ordering.{Ordering}
 use Rattle.std.specs.declared.cmp.Ordering.TheVariants.{Less}
 use Rattle.std.proofs.lemmas.List.Elements.{Contains-append_cases, Contains-append_left, Contains-append_right, Contains-get_or}
-use Rattle.ikey.specs.Comparator.{IsExact}
-use Rattle.ikey.specs.Key.{user_of}
+use Rattle.table.specs.Comparator.{IsExact}
+use Rattle.table.specs.Key.{user_of}
 use Rattle.block.specs.EncodedEntry.{Entry}
 use Rattle.table.specs.EntriesFrom.{NeverFalls}
 use Rattle.merge.specs.MergedLists.{entries_of_lists, sorted_entries}
 use Rattle.merge.proofs.SortedEntries.{sorted_never_falls}
-use Rattle.split.specs.Ranges.{IsCover, IsIn, KeyRange, range_at}
-use Rattle.edit.specs.Version.{State}
-use Rattle.edit.specs.declared.meta.FileMeta.{FileMeta}
+use Rattle.reads.specs.Ranges.{IsCover, IsIn, KeyRange, range_at}
+use Rattle.folder.specs.Version.{State}
+use Rattle.folder.specs.meta.FileMeta.{FileMeta}
 use Rattle.keep.specs.InRange.{entries_in, is_in_range}
 use Rattle.keep.proofs.Distinct.{holds_tells}
 use Rattle.reads.specs.Gets.{get_of}

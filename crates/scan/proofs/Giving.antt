@@ -1,9 +1,9 @@
 -- What a step gives, and what it hands on.
 use Rattle.std.proofs.Common.{◌≡◌, ◌⊎◌, ℕ, Result, Ok, Err, IfErr, IsErrAnd, sym, ap, subst, inl, inr}
-use Rattle.coding.proofs.Refusals.{unless}
-use Rattle.coding.specs.Answers.{UnlessMemory}
-use Rattle.coding.specs.declared.fault.Fault.{Fault}
-use Rattle.coding.specs.declared.fault.FaultName.TheVariants as name
+use Rattle.table.proofs.Refusals.{unless}
+use Rattle.table.specs.Answers.{UnlessMemory}
+use Rattle.table.specs.fault.Fault.{Fault}
+use Rattle.table.specs.fault.FaultName.TheVariants as name
 use Rattle.folder.specs.OpenAnswer.{FolderAnswers, HasDeviceFailed, IsStopped}
 use Rattle.scan.specs.SearchAnswers.{Gives, IsExcuse}
 

@@ -12,11 +12,11 @@ use Rattle.std.proofs.lemmas.Bool.Decides.{Decides-ltb}
 use Rattle.std.proofs.lemmas.List.Elements.{Contains-append_cases, Contains-append_left, Contains-append_right, Contains-get_or, filter-append}
 use Rattle.std.proofs.lemmas.List.Folds.{list_any-append, list_any_none}
 use Rattle.std.proofs.lemmas.Slice.Eq.{bytes_eq-Decides}
-use Rattle.ikey.specs.Comparator.{IsExact}
-use Rattle.ikey.specs.Key.{sequence_of, user_of}
-use Rattle.ikey.specs.Order.{internal_cmp}
+use Rattle.table.specs.Comparator.{IsExact}
+use Rattle.table.specs.Key.{sequence_of, user_of}
+use Rattle.table.specs.Order.{internal_cmp}
 use Rattle.block.specs.EncodedEntry.{Entry}
-use Rattle.split.specs.Ranges.{KeyRange}
+use Rattle.reads.specs.Ranges.{KeyRange}
 use Rattle.keep.specs.InRange.{entries_in, is_in_range}
 use Rattle.reads.proofs.EntriesInOrder.{older}
 use Rattle.reads.proofs.Members.{first_in, first_or_later, in_filter, later_in}

@@ -7,10 +7,10 @@ use Rattle.std.specs.Option.{is_some, option_map}
 use Rattle.std.specs.Ordering.{is_lt}
 use Rattle.std.specs.declared.cmp.Ordering.{Ordering}
 use Rattle.std.proofs.lemmas.Option.{none-some, same_Some}
-use Rattle.coding.proofs.Binds.{bind_ok, ok_is}
+use Rattle.table.proofs.Binds.{bind_ok, ok_is}
 use Rattle.block.specs.EncodedEntry.{Entry}
 use Rattle.block.specs.BuilderView.{last_key}
-use Rattle.ikey.specs.Order.{internal_cmp}
+use Rattle.table.specs.Order.{internal_cmp}
 use Rattle.table.specs.CheckedContents.{contents_in}
 use Rattle.table.specs.IndexWalk.{Indexes, NamesBlock, all_named, block_named, entries_named}
 use Rattle.table.specs.EntriesFrom.{EntriesRise, entries_from}

@@ -6,11 +6,11 @@ use Rattle.std.specs.declared.cmp.Ordering.{Ordering}
 use Rattle.std.proofs.lemmas.List.{ext_get_or, get_or-map, length-append, length-map}
 use Rattle.std.proofs.lemmas.List.Sums.{count_by-le-length, length-filter, sum_by-le-sum_by}
 use Rattle.block.specs.EncodedEntry.{Entry}
-use Rattle.edit.specs.declared.meta.FileMeta.{FileMeta}
+use Rattle.folder.specs.meta.FileMeta.{FileMeta}
 use Rattle.folder.specs.Calls.{Files}
-use Rattle.ikey.specs.Key.{user_of}
+use Rattle.table.specs.Key.{user_of}
 use Rattle.merge.specs.MergedLists.{entries_of_lists}
-use Rattle.split.specs.Ranges.{IsCover, KeyRange, range_at}
+use Rattle.reads.specs.Ranges.{IsCover, KeyRange, range_at}
 use Rattle.keep.specs.InRange.{entries_in, is_in_range}
 use Rattle.keep.proofs.Distinct.{holds_tells}
 use Rattle.reads.specs.Tables.{NumberedContents}

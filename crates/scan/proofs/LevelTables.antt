@@ -9,8 +9,8 @@ use Rattle.std.proofs.lemmas.List.Elements.{All-contains, All-filter, Contains-a
 use Rattle.std.proofs.lemmas.List.Sums.{sum_by-cons}
 use Rattle.block.specs.EncodedEntry.{Entry}
 use Rattle.merge.specs.MergedLists.{entries_of_lists}
-use Rattle.split.specs.Ranges.{KeyRange}
-use Rattle.edit.specs.declared.meta.FileMeta.{FileMeta}
+use Rattle.reads.specs.Ranges.{KeyRange}
+use Rattle.folder.specs.meta.FileMeta.{FileMeta}
 use Rattle.folder.specs.Calls.{Files}
 use Rattle.folder.proofs.LoadingLemmas.{map_fused}
 use Rattle.keep.specs.InRange.{entries_in}

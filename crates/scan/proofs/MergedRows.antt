@@ -4,11 +4,11 @@ use Rattle.std.specs.List.{AllByRecursion}
 use Rattle.std.specs.Cmp.{IsTotalOrder}
 use Rattle.std.specs.declared.cmp.Ordering.{Ordering}
 use Rattle.std.proofs.lemmas.Bool.{false≢true}
-use Rattle.ikey.specs.Key.{user_of}
+use Rattle.table.specs.Key.{user_of}
 use Rattle.block.specs.EncodedEntry.{Entry}
 use Rattle.merge.specs.MergedLists.{entries_of_lists, merged}
 use Rattle.merge.proofs.SortedEntries.{filter-sorted, sorted_never_falls}
-use Rattle.split.specs.Ranges.{KeyRange}
+use Rattle.reads.specs.Ranges.{KeyRange}
 use Rattle.keep.specs.FirstEntry.{first_is}
 use Rattle.keep.specs.InRange.{entries_in, is_in_range}
 use Rattle.keep.specs.CursorsLeft.{is_before}

@@ -5,8 +5,8 @@ use Rattle.std.specs.Cmp.{IsTotalOrder}
 use Rattle.std.specs.declared.cmp.Ordering.{Ordering}
 use Rattle.std.specs.declared.cmp.Ordering.TheVariants.{Less}
 use Rattle.std.proofs.lemmas.List.Elements.{All-contains}
-use Rattle.edit.specs.Version.{State}
-use Rattle.split.specs.Ranges.{IsIn, KeyRange}
+use Rattle.folder.specs.Version.{State}
+use Rattle.reads.specs.Ranges.{IsIn, KeyRange}
 use Rattle.reads.specs.Gets.{get_of}
 use Rattle.reads.specs.Tables.{NumberedContents}
 use Rattle.reads.proofs.Members.{first_in, first_or_later, later_in, none_in}

@@ -1,17 +1,17 @@
 -- What refuses the bytes of a table isn't Device.
 use Rattle.std.proofs.Common.{◌≡◌, ◌≢◌, ℕ, ◌+◌, ◌%◌, nat_le, nat_lt, length, Bool, true, false, List, Option, Some, None, Result, Ok, Err, IfErr, IsErrAnd, if◌then◌else◌, sym, ap, subst}
 use Rattle.std.specs.Option.{ok_or}
-use Rattle.coding.proofs.Refusals.{unless_device}
-use Rattle.coding.specs.Answers.{◌>>=◌, UnlessMemory, fault}
-use Rattle.coding.specs.declared.fault.Fault.{Fault}
-use Rattle.coding.specs.declared.fault.FaultName.{FaultName}
-use Rattle.coding.specs.declared.fault.FaultName.TheVariants.{Block, BlockType, Compressed, Device, Handle, Key, Magic, Memory, Range, TooLarge, Trailer}
+use Rattle.table.proofs.Refusals.{unless_device}
+use Rattle.table.specs.Answers.{◌>>=◌, UnlessMemory, fault}
+use Rattle.table.specs.fault.Fault.{Fault}
+use Rattle.table.specs.fault.FaultName.{FaultName}
+use Rattle.table.specs.fault.FaultName.TheVariants.{Block, BlockType, Compressed, Device, Handle, Key, Magic, Memory, Range, TooLarge, Trailer}
 use Rattle.block.specs.BlockReading.{block_reading}
 use Rattle.folder.specs.OpenAnswer.{HasDeviceFailed}
 use Rattle.table.specs.Footer.{footer_reading}
 use Rattle.table.specs.Trailer.{stored_reading}
 use Rattle.table.specs.declared.handle.BlockHandle.{BlockHandle}
-use Rattle.ikey.specs.Key.{internal_key_reading, tag_of}
+use Rattle.table.specs.Key.{internal_key_reading, tag_of}
 use Rattle.table.specs.IndexReading.{block_in}
 use Rattle.scan.specs.SearchAnswers.{index_handle, len_with_trailer}
 

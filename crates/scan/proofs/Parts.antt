@@ -2,10 +2,10 @@
 use Rattle.std.proofs.Common.{◌≡◌, ℕ, ◌+◌, ◌-◌, ◌≤◌, ◌^◌, nat_le, Bool, true, false, List, length, take, drop, Option, Some, None, Result, Ok, if◌then◌else◌, refl, sym, ap, ◌∙◌, inl, inr, arith}
 use Rattle.std.proofs.lemmas.Bool.Decides.{nat_tests}
 use Rattle.std.proofs.lemmas.List.{length-drop, take_all}
-use Rattle.coding.proofs.Binds.{bind_ok, done, failed, ok_is}
-use Rattle.coding.specs.Answers.{◌>>=◌, fault}
-use Rattle.coding.specs.declared.fault.Fault.{Fault}
-use Rattle.coding.specs.declared.fault.FaultName.TheVariants.{Range, Short, Size}
+use Rattle.table.proofs.Binds.{bind_ok, done, failed, ok_is}
+use Rattle.table.specs.Answers.{◌>>=◌, fault}
+use Rattle.table.specs.fault.Fault.{Fault}
+use Rattle.table.specs.fault.FaultName.TheVariants.{Range, Short, Size}
 use Rattle.block.specs.EncodedEntry.{Entry}
 use Rattle.folder.specs.Folder.{TellsSame}
 use Rattle.folder.specs.Names.{old_table_name, table_name}

@@ -1,8 +1,8 @@
 -- The rows of one range after the other.
 use Rattle.std.proofs.Common.{◌≡◌, ℕ, suc, ◌+◌, ◌-◌, ◌<◌, Bool, true, List, [], ◌++◌, Option, Ok, sym, ap, subst, ◌∙◌, arith}
 use Rattle.std.specs.declared.cmp.Ordering.{Ordering}
-use Rattle.split.specs.Ranges.{KeyRange, range_at}
-use Rattle.edit.specs.declared.meta.FileMeta.{FileMeta}
+use Rattle.reads.specs.Ranges.{KeyRange, range_at}
+use Rattle.folder.specs.meta.FileMeta.{FileMeta}
 use Rattle.reads.specs.Tables.{NumberedContents}
 use Rattle.checks.specs.RangeOrder.{common_of}
 use Rattle.scan.specs.Row.{Row}

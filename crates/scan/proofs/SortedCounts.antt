@@ -6,7 +6,7 @@ use Rattle.std.specs.Ordering.{is_lt}
 use Rattle.std.specs.declared.cmp.Ordering.{Ordering}
 use Rattle.std.proofs.lemmas.List.{length-map}
 use Rattle.std.proofs.lemmas.List.Folds.{list_any-append}
-use Rattle.ikey.specs.Order.{internal_cmp}
+use Rattle.table.specs.Order.{internal_cmp}
 use Rattle.block.specs.EncodedEntry.{Entry}
 use Rattle.merge.specs.MergedLists.{entries_of_lists, entries_with, sorted_entries}
 use Rattle.scan.specs.Counts.{amounts_at, AreAmountsCounted, AreOnce, counted, HasRoom, is_version, list_at}

@@ -4,8 +4,8 @@ use Rattle.std.specs.Prelude.{◌⊎◌, Contains, filter}
 use Rattle.std.specs.Cmp.{IsTotalOrder}
 use Rattle.std.specs.Ordering.{is_le, is_lt}
 use Rattle.std.specs.declared.cmp.Ordering.{Ordering}
-use Rattle.ikey.specs.Key.{sequence_of}
-use Rattle.ikey.specs.Order.{internal_cmp}
+use Rattle.table.specs.Key.{sequence_of}
+use Rattle.table.specs.Order.{internal_cmp}
 use Rattle.block.specs.EncodedEntry.{Entry}
 use Rattle.table.specs.EntriesFrom.{NeverFalls}
 use Rattle.merge.specs.MergedLists.{entries_with, sorted_entries}

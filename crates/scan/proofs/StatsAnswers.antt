@@ -2,12 +2,12 @@
 use Rattle.std.proofs.Common.{◌≡◌, ◌≢◌, ℕ, List, Result, Ok, Err, IfErr, IsErrAnd, sym, ap, subst, ◌∙◌}
 use Rattle.std.specs.Prelude.{◌⊎◌}
 use Rattle.std.specs.declared.cmp.Ordering.{Ordering}
-use Rattle.coding.proofs.Binds.{ok_is}
-use Rattle.coding.proofs.Refusals.{unless_device, unless_from}
-use Rattle.coding.specs.Answers.{EqualOrMemory, UnlessMemory, fault}
-use Rattle.coding.specs.declared.fault.Fault.{Fault}
-use Rattle.coding.specs.declared.fault.FaultName.TheVariants.{Device, Lawless}
-use Rattle.edit.specs.Version.{State}
+use Rattle.table.proofs.Binds.{ok_is}
+use Rattle.table.proofs.Refusals.{unless_device, unless_from}
+use Rattle.table.specs.Answers.{EqualOrMemory, UnlessMemory, fault}
+use Rattle.table.specs.fault.Fault.{Fault}
+use Rattle.table.specs.fault.FaultName.TheVariants.{Device, Lawless}
+use Rattle.folder.specs.Version.{State}
 use Rattle.folder.specs.Calls.{Files}
 use Rattle.folder.specs.OpenAnswer.{FolderAnswers, IsStopped}
 use Rattle.folder.specs.ReadsAs.{IsFileIn}

@@ -3,7 +3,7 @@ use Rattle.std.proofs.Common.{◌≡◌, ℕ, ◌+◌, ◌-◌, Bool, true, fals
 use Rattle.std.specs.Option.{option_map}
 use Rattle.std.proofs.Math.Seq.{take-append-add, take-nil}
 use Rattle.std.proofs.lemmas.List.{length-append}
-use Rattle.coding.specs.declared.fault.Fault.{Fault}
+use Rattle.table.specs.fault.Fault.{Fault}
 use Rattle.checks.proofs.TakerLemmas.{told_append}
 use Rattle.scan.specs.Row.{Row}
 use Rattle.scan.specs.ChosenRows.{rows_within}

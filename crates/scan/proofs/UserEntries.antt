@@ -6,9 +6,9 @@ use Rattle.std.specs.Option.{option_map}
 use Rattle.std.specs.declared.cmp.Ordering.{Ordering}
 use Rattle.std.proofs.lemmas.Option.{none-some}
 use Rattle.block.specs.EncodedEntry.{Entry}
-use Rattle.ikey.specs.Comparator.{IsExact}
-use Rattle.ikey.specs.Key.{kind_of, sequence_of, user_of}
-use Rattle.ikey.specs.declared.kind.Kind.TheVariants.{Put}
+use Rattle.table.specs.Comparator.{IsExact}
+use Rattle.table.specs.Key.{kind_of, sequence_of, user_of}
+use Rattle.reads.specs.kind.Kind.TheVariants.{Put}
 use Rattle.reads.specs.Visible.{IsAnswer, visible_of}
 use Rattle.reads.proofs.Sought.{sought_end, sought_other, sought_own}
 use Rattle.table.specs.EntriesFrom.{EntriesRise, entries_from}

@@ -11,13 +11,13 @@ use Rattle.std.proofs.lemmas.List.{length-append, map-append, map-id}
 use Rattle.std.proofs.lemmas.List.Sorted.{All-permutation, Contains-permutation, IsPermutation-sym, length_permutation, sum_by-IsPermutation}
 use Rattle.std.proofs.lemmas.List.Sums.{count_by-le-length, sum_by-cons}
 use Rattle.std.proofs.lemmas.Slice.Eq.{bytes_eq-Decides}
-use Rattle.ikey.specs.Key.{sequence_of, user_of}
+use Rattle.table.specs.Key.{sequence_of, user_of}
 use Rattle.block.specs.EncodedEntry.{Entry}
-use Rattle.edit.specs.Version.{State}
-use Rattle.edit.specs.VersionOrder.{added_from, at_level, level_files}
-use Rattle.edit.specs.declared.meta.FileMeta.{FileMeta}
-use Rattle.edit.specs.declared.meta.NewFile.{NewFile}
-use Rattle.edit.proofs.Snapshots.{added_from-suc, added_from-zero, one_level}
+use Rattle.folder.specs.Version.{State}
+use Rattle.folder.specs.VersionOrder.{added_from, at_level, level_files}
+use Rattle.folder.specs.meta.FileMeta.{FileMeta}
+use Rattle.folder.specs.meta.NewFile.{NewFile}
+use Rattle.folder.proofs.Snapshots.{added_from-suc, added_from-zero, one_level}
 use Rattle.folder.specs.Calls.{Files, Tells}
 use Rattle.folder.specs.Levels.{all_levels, by_level, file_numbers, numbers_at}
 use Rattle.folder.specs.LoadedTables.{IsLoaded}

@@ -8,11 +8,11 @@ use Rattle.std.proofs.lemmas.List.Elements.{Contains-append_cases}
 use Rattle.std.proofs.lemmas.List.Sorted.{Contains-permutation, IsPermutation-sym}
 use Rattle.block.specs.EncodedEntry.{Entry}
 use Rattle.merge.specs.MergedLists.{entries_of_lists}
-use Rattle.edit.specs.Version.{State}
-use Rattle.edit.specs.VersionOrder.{added_from, at_level, files_at, in_version_order}
-use Rattle.edit.specs.declared.meta.FileMeta.{FileMeta}
-use Rattle.edit.specs.declared.meta.NewFile.{NewFile}
-use Rattle.edit.proofs.Snapshots.{added_from-suc, added_from-zero, one_level}
+use Rattle.folder.specs.Version.{State}
+use Rattle.folder.specs.VersionOrder.{added_from, at_level, files_at, in_version_order}
+use Rattle.folder.specs.meta.FileMeta.{FileMeta}
+use Rattle.folder.specs.meta.NewFile.{NewFile}
+use Rattle.folder.proofs.Snapshots.{added_from-suc, added_from-zero, one_level}
 use Rattle.reads.specs.TableOrder.{AreAllAdded, lists_of_files}
 use Rattle.reads.specs.Tables.{NumberedContents, all_entries, table_entries}
 use Rattle.reads.proofs.Levels.{from_level}

@@ -10,16 +10,16 @@ use Rattle.std.proofs.lemmas.List.{get_or-set_other, get_or-set_same, length-map
 use Rattle.std.proofs.lemmas.List.Elements.{Contains-append_left, Contains-append_right, filter-append}
 use Rattle.std.proofs.lemmas.List.Sums.{count_by-le-length}
 use Rattle.std.proofs.lemmas.Option.{none-some, same_Some}
-use Rattle.ikey.specs.Comparator.{IsExact}
-use Rattle.ikey.specs.Key.{kind_of, user_of}
-use Rattle.ikey.specs.Order.{internal_cmp}
+use Rattle.table.specs.Comparator.{IsExact}
+use Rattle.table.specs.Key.{kind_of, user_of}
+use Rattle.table.specs.Order.{internal_cmp}
 use Rattle.block.specs.EncodedEntry.{Entry}
 use Rattle.merge.specs.LeastList.{IsAdvanced, IsMerging}
 use Rattle.merge.specs.MergedLists.{entries_of_lists, merged}
 use Rattle.merge.proofs.Leasts.{place_within}
 use Rattle.merge.proofs.Merges.{joined_at, joined_set}
 use Rattle.merge.proofs.SortedEntries.{sorted_never_falls}
-use Rattle.split.specs.Ranges.{KeyRange}
+use Rattle.reads.specs.Ranges.{KeyRange}
 use Rattle.keep.specs.FirstEntry.{first_is}
 use Rattle.keep.specs.InRange.{entries_in, is_in_range}
 use Rattle.keep.specs.CursorsLeft.{is_before}

@@ -1,8 +1,8 @@
 -- Which rows are chosen.
 use Rattle.std.specs.Prelude.{ℕ, List, take, Option, Some, None, unwrap_or}
 use Rattle.std.specs.Option.{option_map}
-use Rattle.edit.specs.Version.{State}
-use Rattle.split.specs.Ranges.{KeyRange}
+use Rattle.folder.specs.Version.{State}
+use Rattle.reads.specs.Ranges.{KeyRange}
 use Rattle.scan.specs.Row.{Row}
 use Rattle.scan.specs.declared.row_choice.RowChoice.{RowChoice}
 

@@ -3,12 +3,12 @@ use Rattle.std.specs.Prelude.{◌≡◌, ℕ, ◌+◌, ◌-◌, ◌^◌, ◌<◌
 use Rattle.std.specs.Prelude.{if◌then◌else◌, List, [], length, slice_index_or, slice_set, Option}
 use Rattle.std.specs.List.{count_by, sum_by}
 use Rattle.std.specs.Str.{bytes_eq}
-use Rattle.coding.specs.Saturated.{saturated}
-use Rattle.ikey.specs.Comparator.{KeyOrder}
-use Rattle.ikey.specs.declared.kind.Kind.{Kind}
-use Rattle.ikey.specs.Key.{user_of, sequence_of, kind_of}
+use Rattle.table.specs.Saturated.{saturated}
+use Rattle.table.specs.Comparator.{KeyOrder}
+use Rattle.reads.specs.kind.Kind.{Kind}
+use Rattle.table.specs.Key.{user_of, sequence_of, kind_of}
 use Rattle.block.specs.EncodedEntry.{Entry}
-use Rattle.edit.specs.declared.meta.FileMeta.{FileMeta}
+use Rattle.folder.specs.meta.FileMeta.{FileMeta}
 use Rattle.merge.specs.MergedLists.{entries_of_lists}
 use Rattle.keep.specs.CursorsLeft.{is_before}
 use Rattle.scan.specs.EntryRows.{decided_after, is_decided}

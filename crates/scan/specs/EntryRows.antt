@@ -2,14 +2,14 @@
 use Rattle.std.specs.Prelude.{ℕ, zero, suc, nat_le, Bool, false, not, ◌||◌, if◌then◌else◌}
 use Rattle.std.specs.Prelude.{List, [], ◌∷◌, ◌++◌, Option, Some, None}
 use Rattle.std.specs.Str.{bytes_eq}
-use Rattle.ikey.specs.declared.kind.Kind.{Kind}
-use Rattle.ikey.specs.declared.kind.Kind.TheVariants.{Put, Delete}
-use Rattle.ikey.specs.Comparator.{KeyOrder}
-use Rattle.ikey.specs.Key.{user_of, sequence_of, kind_of}
+use Rattle.reads.specs.kind.Kind.{Kind}
+use Rattle.reads.specs.kind.Kind.TheVariants.{Put, Delete}
+use Rattle.table.specs.Comparator.{KeyOrder}
+use Rattle.table.specs.Key.{user_of, sequence_of, kind_of}
 use Rattle.block.specs.EncodedEntry.{Entry}
-use Rattle.edit.specs.declared.meta.FileMeta.{FileMeta}
+use Rattle.folder.specs.meta.FileMeta.{FileMeta}
 use Rattle.merge.specs.MergedLists.{entries_of_lists, sorted_entries}
-use Rattle.split.specs.Ranges.{KeyRange, range_at}
+use Rattle.reads.specs.Ranges.{KeyRange, range_at}
 use Rattle.keep.specs.InRange.{entries_in}
 use Rattle.reads.specs.TableOrder.{lists_of_files}
 use Rattle.reads.specs.Tables.{NumberedContents}

@@ -2,9 +2,9 @@
 use Rattle.std.specs.Prelude.{ℕ, nat_lt, nat_le, Bool, true, false, ◌&&◌, List}
 use Rattle.std.specs.List.{list_any}
 use Rattle.std.specs.Str.{bytes_eq}
-use Rattle.ikey.specs.declared.kind.Kind.{Kind}
-use Rattle.ikey.specs.declared.kind.Kind.TheVariants.{Put, Delete}
-use Rattle.ikey.specs.Key.{user_of, sequence_of, kind_of}
+use Rattle.reads.specs.kind.Kind.{Kind}
+use Rattle.reads.specs.kind.Kind.TheVariants.{Put, Delete}
+use Rattle.table.specs.Key.{user_of, sequence_of, kind_of}
 use Rattle.block.specs.EncodedEntry.{Entry}
 
 -- whether a type is that of deletions

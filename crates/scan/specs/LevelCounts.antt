@@ -1,10 +1,10 @@
 -- How much the levels of a version have, with the tables of a folder.
 use Rattle.std.specs.Prelude.{ℕ, ◌≤◌, ◌-◌, ◌^◌, List, length, map, Option}
 use Rattle.std.specs.List.{flat_map}
-use Rattle.ikey.specs.Comparator.{KeyOrder}
+use Rattle.table.specs.Comparator.{KeyOrder}
 use Rattle.block.specs.EncodedEntry.{Entry}
-use Rattle.edit.specs.Version.{State}
-use Rattle.edit.specs.declared.meta.FileMeta.{FileMeta}
+use Rattle.folder.specs.Version.{State}
+use Rattle.folder.specs.meta.FileMeta.{FileMeta}
 use Rattle.folder.specs.Calls.{Files}
 use Rattle.merge.specs.MergedLists.{entries_of_lists}
 use Rattle.reads.specs.TableOrder.{AreAllAdded, AreStandingFiles}

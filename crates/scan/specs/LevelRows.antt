@@ -1,7 +1,7 @@
 -- What is told of levels, one after the other.
 use Rattle.std.specs.Prelude.{ℕ, ◌+◌, List, [], ◌∷◌, ◌++◌}
-use Rattle.ikey.specs.Comparator.{KeyOrder}
-use Rattle.edit.specs.declared.meta.FileMeta.{FileMeta}
+use Rattle.table.specs.Comparator.{KeyOrder}
+use Rattle.folder.specs.meta.FileMeta.{FileMeta}
 use Rattle.scan.specs.Stats.{level_stats}
 use Rattle.scan.specs.declared.amounts.Amounts.{Amounts}
 use Rattle.scan.specs.declared.level_stats.LevelStats.{LevelStats}

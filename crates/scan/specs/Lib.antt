@@ -1,3 +1,5 @@
+-- of lower crates, whose words these use
+pub use Rattle.reads.specs.kind
 -- what contracts rest on
 pub mod Row
 pub mod Rows

@@ -2,7 +2,7 @@
 use Rattle.std.specs.Prelude.{◌≡◌, ◌⊎◌, ℕ, ◌+◌, ◌<◌, Bool, true, false}
 use Rattle.std.specs.Prelude.{List, [], ◌++◌, length, Option, Some, None, Result, Ok, Err}
 use Rattle.std.specs.Option.{option_map}
-use Rattle.coding.specs.declared.fault.Fault.{Fault}
+use Rattle.table.specs.fault.Fault.{Fault}
 use Rattle.checks.specs.Takers.{AreToldInTurn}
 use Rattle.scan.specs.Row.{Row}
 use Rattle.scan.specs.declared.row_limit.RowLimit.{RowLimit}

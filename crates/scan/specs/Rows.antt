@@ -1,10 +1,10 @@
 -- The rows of a version: the user keys that have a value, each with that value.
 use Rattle.std.specs.Prelude.{◌≡◌, ℕ, List, map, Some, Contains}
 use Rattle.std.specs.List.{All}
-use Rattle.ikey.specs.Comparator.{KeyOrder}
-use Rattle.edit.specs.Version.{State}
-use Rattle.split.specs.Boundaries.{KeysRise}
-use Rattle.split.specs.Ranges.{KeyRange, IsIn}
+use Rattle.table.specs.Comparator.{KeyOrder}
+use Rattle.folder.specs.Version.{State}
+use Rattle.reads.specs.Boundaries.{KeysRise}
+use Rattle.reads.specs.Ranges.{KeyRange, IsIn}
 use Rattle.reads.specs.Gets.{get_of}
 use Rattle.reads.specs.Tables.{NumberedContents}
 use Rattle.scan.specs.Row.{Row}

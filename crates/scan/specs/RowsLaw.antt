@@ -1,8 +1,8 @@
 -- A lawful version has rows, and just one list of them.
 use Rattle.std.specs.Prelude.{◌≡◌, ℕ, List}
-use Rattle.ikey.specs.Comparator.{KeyOrder}
-use Rattle.edit.specs.Version.{State}
-use Rattle.split.specs.Ranges.{KeyRange}
+use Rattle.table.specs.Comparator.{KeyOrder}
+use Rattle.folder.specs.Version.{State}
+use Rattle.reads.specs.Ranges.{KeyRange}
 use Rattle.reads.specs.Lawful.{IsLawful}
 use Rattle.reads.specs.Tables.{NumberedContents}
 use Rattle.scan.specs.Row.{Row}

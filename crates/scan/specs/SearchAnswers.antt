@@ -1,9 +1,9 @@
 -- What the steps of a search in a folder answer.
 use Rattle.std.specs.Prelude.{◌≡◌, ◌⊎◌, ℕ, ◌+◌, nat_le, if◌then◌else◌, List, Option, Some, length}
 use Rattle.std.specs.Prelude.{Result, Ok, Err, string_bytes}
-use Rattle.coding.specs.Answers.{fault, ◌>>=◌}
-use Rattle.coding.specs.declared.fault.Fault.{Fault}
-use Rattle.coding.specs.declared.fault.FaultName.TheVariants.{Device, Memory, Range}
+use Rattle.table.specs.Answers.{fault, ◌>>=◌}
+use Rattle.table.specs.fault.Fault.{Fault}
+use Rattle.table.specs.fault.FaultName.TheVariants.{Device, Memory, Range}
 use Rattle.table.specs.Footer.{footer_reading}
 use Rattle.table.specs.declared.footer.TheConstants.{FOOTER_LEN}
 use Rattle.table.specs.declared.handle.BlockHandle.{BlockHandle}

@@ -3,13 +3,13 @@ use Rattle.std.specs.Prelude.{ℕ, ◌+◌, List, [], ◌∷◌, length, fold, i
 use Rattle.std.specs.Prelude.{unwrap_or}
 use Rattle.std.specs.List.{count_by, sum_by}
 use Rattle.std.specs.Ordering.{is_lt}
-use Rattle.coding.specs.Saturated.{saturated}
-use Rattle.ikey.specs.Comparator.{KeyOrder}
-use Rattle.ikey.specs.Order.{internal_cmp}
+use Rattle.table.specs.Saturated.{saturated}
+use Rattle.table.specs.Comparator.{KeyOrder}
+use Rattle.table.specs.Order.{internal_cmp}
 use Rattle.block.specs.EncodedEntry.{Entry}
-use Rattle.edit.specs.Version.{State}
-use Rattle.edit.specs.VersionOrder.{level_files}
-use Rattle.edit.specs.declared.meta.FileMeta.{FileMeta}
+use Rattle.folder.specs.Version.{State}
+use Rattle.folder.specs.VersionOrder.{level_files}
+use Rattle.folder.specs.meta.FileMeta.{FileMeta}
 use Rattle.folder.specs.Levels.{all_levels}
 use Rattle.merge.specs.MergedLists.{entries_of_lists}
 use Rattle.reads.specs.TableOrder.{lists_of_files}

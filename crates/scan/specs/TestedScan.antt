@@ -1,9 +1,9 @@
 -- What a scan of a version tells that is tested first.
 use Rattle.std.specs.Prelude.{◌≡◌, ◌⊎◌, ℕ, Bool, List, Result, Ok, Err, IsErrAnd}
-use Rattle.coding.specs.Answers.{UnlessMemory}
-use Rattle.coding.specs.declared.fault.Fault.{Fault}
-use Rattle.ikey.specs.Comparator.{KeyOrder}
-use Rattle.edit.specs.Version.{State}
+use Rattle.table.specs.Answers.{UnlessMemory}
+use Rattle.table.specs.fault.Fault.{Fault}
+use Rattle.table.specs.Comparator.{KeyOrder}
+use Rattle.folder.specs.Version.{State}
 use Rattle.folder.specs.Calls.{ToldFiles}
 use Rattle.folder.specs.Levels.{file_numbers}
 use Rattle.folder.specs.LoadedTables.{IsLoaded}

@@ -1,8 +1,8 @@
 -- What a scan of a version tells.
 use Rattle.std.specs.Prelude.{◌≡◌, ◌⊎◌, ℕ, Bool, false, List, [], ◌++◌, Result, Ok}
-use Rattle.coding.specs.declared.fault.Fault.{Fault}
-use Rattle.ikey.specs.Comparator.{KeyOrder}
-use Rattle.edit.specs.Version.{State}
+use Rattle.table.specs.fault.Fault.{Fault}
+use Rattle.table.specs.Comparator.{KeyOrder}
+use Rattle.folder.specs.Version.{State}
 use Rattle.folder.specs.OpenAnswer.{FolderAnswers}
 use Rattle.reads.specs.Tables.{NumberedContents}
 use Rattle.checks.specs.Takers.{AreToldInTurn}

@@ -2,13 +2,13 @@
 
 ghost use Rattle.std.specs.Prelude.{◌≡◌, if◌then◌else◌, fold, map};
 ghost use Rattle.std.specs.List.{sum_by};
-ghost use Rattle.coding.specs.Saturated.{saturated};
+ghost use Rattle.table.specs.Saturated.{saturated};
 ghost use Rattle.scan.specs.Counts.{capped_files, capped_plus, entry_amounts};
 ghost use Rattle.scan.specs.HiddenEntries.{is_delete};
 ghost use Rattle.scan.specs.Stats.{no_amounts};
 
-use edit::FileMeta;
-use ikey::Kind;
+use folder::FileMeta;
+use reads::Kind;
 
 /// How much files have together, and the entries of their tables.
 #[derive(Clone, Copy, PartialEq, Eq)]

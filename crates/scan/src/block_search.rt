@@ -2,8 +2,8 @@
 
 ghost use Rattle.std.specs.Prelude.{◌≡◌, ◌≢◌, ◌<◌, ◌≤◌, List, Ok, true, length, slice_get, IfErr};
 ghost use Rattle.std.specs.Prelude.{IfOk};
-ghost use Rattle.coding.specs.Answers.{EqualOrMemory};
-ghost use Rattle.coding.specs.declared.fault.FaultName.TheVariants.{Device};
+ghost use Rattle.table.specs.Answers.{EqualOrMemory};
+ghost use Rattle.table.specs.fault.FaultName.TheVariants.{Device};
 ghost use Rattle.block.specs.EncodedEntry.{Entry};
 ghost use Rattle.table.specs.EntriesFrom.{entries_from};
 ghost use Rattle.table.specs.EntryTests.{HaveKeys};
@@ -14,11 +14,9 @@ ghost use Rattle.table.specs.declared.trailer.TheConstants.{TRAILER_LEN};
 
 use crate::owned_entry::OwnedEntry;
 use block::{BlockCursor, SoundBlock};
-use coding::Fault;
-use ikey::{Comparator, InternalKey, KeyBuf};
 use std::alloc::Global;
 use std::cmp::Ordering;
-use table::contents;
+use table::{Comparator, Fault, InternalKey, KeyBuf, contents};
 
 /// The first entry of a stored block at or above `target`. None if all are below.
 ///

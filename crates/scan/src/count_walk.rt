@@ -1,23 +1,21 @@
 //! The amounts of merged entries in a range.
 
 ghost use Rattle.std.specs.Prelude.{◌≡◌, ◌<◌, List, ◌∷◌, length, map, OnOk, IfErr};
-ghost use Rattle.coding.specs.Answers.{fault};
-ghost use Rattle.coding.specs.declared.fault.FaultName.TheVariants.{Memory};
+ghost use Rattle.table.specs.Answers.{fault};
+ghost use Rattle.table.specs.fault.FaultName.TheVariants.{Memory};
 ghost use Rattle.block.specs.EncodedEntry.{Entry};
 ghost use Rattle.merge.specs.MergedLists.{merged};
-ghost use Rattle.split.specs.Ranges.{key_range};
+ghost use Rattle.reads.specs.Ranges.{key_range};
 ghost use Rattle.keep.specs.InRange.{entries_in};
 ghost use Rattle.scan.specs.Counts.{amounts_after, decided_then, AreAmountsCounted};
 
 use crate::amounts::Amounts;
 use crate::decided_user::DecidedUser;
-use coding::Fault;
-use ikey::Comparator;
 use keep::starts_before;
 use merge::Merging;
-use split::Range;
+use reads::Range;
 use std::alloc::Global;
-use table::Cursor;
+use table::{Comparator, Cursor, Fault};
 
 /// Counts the entries that the cursors of `merging` have in `range`, each among the `amounts` at
 /// its cursor's place. Newer entries hide older ones at the sequence `last`.

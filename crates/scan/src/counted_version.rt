@@ -1,8 +1,8 @@
 //! How much a version has whose tables lie in a folder.
 
 ghost use Rattle.std.specs.Prelude.{◌≡◌, ℕ, ◌≤◌, ◌-◌, ◌^◌, List, Ok, IfOk, IfErr};
-ghost use Rattle.coding.specs.Answers.{UnlessMemory, fault};
-ghost use Rattle.coding.specs.declared.fault.FaultName.TheVariants.{Lawless};
+ghost use Rattle.table.specs.Answers.{UnlessMemory, fault};
+ghost use Rattle.table.specs.fault.FaultName.TheVariants.{Lawless};
 ghost use Rattle.checks.specs.LawfulTables.{IsLawfulTables};
 ghost use Rattle.checks.specs.TestedTables.{entry_count};
 ghost use Rattle.folder.specs.Calls.{Files, Tells};
@@ -23,16 +23,12 @@ use crate::level_rows::stats_of;
 use crate::level_stats::VersionStats;
 use crate::range_counts::count_ranges;
 use crate::version_scan::sequence_of;
-use board::{Open, Workers};
-use checks::{Watch, group_split, test_version};
-use coding::{Fault, FaultName};
-use edit::Version;
-use folder::{Opened, Order, ReadsTables};
-use ikey::{Bytewise, SharedComparator, Shortlex};
+use checks::{Open, SharedComparator, Split, Watch, Workers, group_split, test_version};
+use folder::{Bytewise, Opened, Order, ReadsTables, Shortlex, Version};
 use reads::files_newest_first;
-use split::Split;
 use std::alloc::Global;
 use std::thread::Threads;
+use table::{Fault, FaultName};
 
 /// Tests the version as which a folder was opened, with its tables, and then counts what it has. At
 /// each level that is its files, their bytes, their tables' entries, and which of these are

@@ -1,15 +1,14 @@
 //! The user key that an entry decided last.
 
 ghost use Rattle.std.specs.Prelude.{◌≡◌, [], IfErr, IfOk, OnOk, IsOkUnless, Some, None};
-ghost use Rattle.coding.specs.Answers.{fault};
-ghost use Rattle.coding.specs.declared.fault.FaultName.TheVariants.{Memory};
-ghost use Rattle.ikey.specs.Key.{user_of};
+ghost use Rattle.table.specs.Answers.{fault};
+ghost use Rattle.table.specs.fault.FaultName.TheVariants.{Memory};
+ghost use Rattle.table.specs.Key.{user_of};
 ghost use Rattle.scan.specs.EntryRows.{decided_after, is_decided};
 
-use coding::Fault;
-use ikey::InternalKey;
 use std::alloc::Global;
 use std::marker::Model;
+use table::{Fault, InternalKey};
 
 /// The user key that an entry decided last; None before the first. Contracts see that key.
 #[derive(Drop)]

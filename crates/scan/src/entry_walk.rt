@@ -1,16 +1,16 @@
 //! What one entry does to a scan.
 
 ghost use Rattle.std.specs.Prelude.{◌≡◌, [], ◌∷◌, Ok, OnOk, IfErr};
-ghost use Rattle.coding.specs.Answers.{fault};
-ghost use Rattle.coding.specs.declared.fault.FaultName.TheVariants.{Memory};
+ghost use Rattle.table.specs.Answers.{fault};
+ghost use Rattle.table.specs.fault.FaultName.TheVariants.{Memory};
 ghost use Rattle.scan.specs.EntryRows.{decided_after, entry_rows, is_passed_over};
 ghost use Rattle.scan.specs.RowParts.{AreTelling, AreWanted};
 
 use crate::decided_user::DecidedUser;
 use crate::row_limit::RowLimit;
 use crate::row_taker::RowTaker;
-use coding::Fault;
-use ikey::{InternalKey, Kind};
+use reads::Kind;
+use table::{Fault, InternalKey};
 
 /// Walks the next entry of sorted ones. Of each user key the first entry that the sequence `at`
 /// sees decides, and is told if it is a value. At most `left` rows may be told.

@@ -8,10 +8,9 @@ ghost use Rattle.scan.specs.FolderTables.{HoldsTable, TellsJust};
 ghost use Rattle.scan.specs.SearchAnswers.{Gives, IsFileOfBytes, len_with_trailer};
 ghost use Rattle.table.specs.declared.trailer.TheConstants.{TRAILER_LEN};
 
-use coding::{Fault, FaultName};
 use folder::{Folder, old_table_name, table_name};
 use std::alloc::Global;
-use table::{BlockHandle, FOOTER_LEN, TRAILER_LEN};
+use table::{BlockHandle, FOOTER_LEN, Fault, FaultName, TRAILER_LEN};
 
 #[derive(Drop)]
 pub(crate) struct TableFile {

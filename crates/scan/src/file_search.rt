@@ -5,8 +5,8 @@ ghost use Rattle.std.specs.List.{AllByRecursion};
 ghost use Rattle.std.specs.Option.{option_map};
 ghost use Rattle.block.specs.EncodedEntry.{Entry};
 ghost use Rattle.folder.specs.Reports.{OnlyReads, ReportsDevice};
-ghost use Rattle.ikey.specs.Key.{kind_of, sequence_of, user_of};
-ghost use Rattle.ikey.specs.declared.kind.Kind.TheVariants.{Put};
+ghost use Rattle.table.specs.Key.{kind_of, sequence_of, user_of};
+ghost use Rattle.reads.specs.kind.Kind.TheVariants.{Put};
 ghost use Rattle.reads.specs.Visible.{IsAnswer, visible_of};
 ghost use Rattle.table.specs.IndexWalk.{Indexes, NamesBlock, all_named};
 ghost use Rattle.table.specs.EntriesFrom.{EntriesRise, entries_from};
@@ -19,11 +19,9 @@ use crate::file_parts::{TableFile, name_of};
 use crate::owned_entry::OwnedEntry;
 use crate::table_blocks::{data_block, index_block};
 use block::BlockCursor;
-use coding::Fault;
-use edit::FileMeta;
-use folder::Folder;
-use ikey::{Comparator, InternalKey};
+use folder::{FileMeta, Folder};
 use std::alloc::Global;
+use table::{Comparator, Fault, InternalKey};
 
 /// The newest entry of a user key that a sequence sees, in the table of a file. `target` is both,
 /// as a put.

@@ -1,7 +1,7 @@
 //! Files that are counted.
 
 ghost use Rattle.std.specs.Prelude.{◌≡◌, ◌+◌};
-ghost use Rattle.coding.specs.Saturated.{saturated};
+ghost use Rattle.table.specs.Saturated.{saturated};
 
 /// Files of a folder: how many, and their bytes.
 #[derive(Clone, Copy, PartialEq, Eq)]

@@ -5,8 +5,8 @@ ghost use Rattle.std.specs.List.{All, flat_map};
 ghost use Rattle.std.specs.Option.{option_map};
 ghost use Rattle.folder.specs.OpenAnswer.{FolderAnswers};
 ghost use Rattle.folder.specs.Reports.{OnlyReads, ReportsDevice};
-ghost use Rattle.ikey.specs.Key.{kind_of, sequence_of, user_of};
-ghost use Rattle.ikey.specs.declared.kind.Kind.TheVariants.{Put};
+ghost use Rattle.table.specs.Key.{kind_of, sequence_of, user_of};
+ghost use Rattle.reads.specs.kind.Kind.TheVariants.{Put};
 ghost use Rattle.reads.specs.Gets.{get_of};
 ghost use Rattle.reads.specs.Lawful.{IsFileOf, IsLawful};
 ghost use Rattle.reads.specs.Tables.{NumberedContents, all_entries, table_entries};
@@ -16,12 +16,10 @@ ghost use Rattle.scan.specs.SearchAnswers.{Gives};
 
 use crate::file_search::newest_in_file;
 use crate::owned_entry::{OwnedEntry, newer, value_of};
-use coding::Fault;
-use edit::{FileMeta, LEVELS, Version};
-use folder::Folder;
-use ikey::{Comparator, InternalKey, KeyBuf, Kind, MAX_SEQUENCE, MAX_USER_KEY};
-use reads::may_hold;
+use folder::{FileMeta, Folder, LEVELS, Version};
+use reads::{Kind, MAX_USER_KEY, may_hold};
 use std::alloc::Global;
+use table::{Comparator, Fault, InternalKey, KeyBuf, MAX_SEQUENCE};
 
 /// The value of a user `key` at the sequence `at`, in a version whose tables are in a folder. It
 /// only reads. If the folder tells tables with which the version is lawful, it is what `get`

@@ -2,19 +2,18 @@
 
 ghost use Rattle.std.specs.Prelude.{◌≡◌, [], ◌∷◌, filter, map, Ok, IfOk, IfErr};
 ghost use Rattle.std.specs.List.{flat_map};
-ghost use Rattle.coding.specs.Answers.{EqualOrMemory, fault};
-ghost use Rattle.coding.specs.declared.fault.FaultName.TheVariants.{Memory};
-ghost use Rattle.edit.specs.VersionOrder.{level_files};
+ghost use Rattle.table.specs.Answers.{EqualOrMemory, fault};
+ghost use Rattle.table.specs.fault.FaultName.TheVariants.{Memory};
+ghost use Rattle.folder.specs.VersionOrder.{level_files};
 ghost use Rattle.folder.specs.Levels.{all_levels};
-ghost use Rattle.split.specs.Ranges.{key_range};
+ghost use Rattle.reads.specs.Ranges.{key_range};
 ghost use Rattle.checks.specs.NeededFiles.{is_file_needed};
 
 use checks::{needed_files, numbers_of};
-use coding::Fault;
-use edit::{FileMeta, LEVELS, Version};
-use ikey::Comparator;
-use split::Range;
+use folder::{FileMeta, LEVELS, Version};
+use reads::Range;
 use std::alloc::Global;
+use table::{Comparator, Fault};
 
 /// The files of each level from 0 to 6, in version order.
 pub(crate) fn files_by_level<'v, C: Comparator>(

@@ -2,10 +2,10 @@
 
 ghost use Rattle.std.specs.Prelude.{◌≡◌, ◌+◌, ◌≤◌, length, map, take, drop, IfOk, OnOk, IfErr};
 ghost use Rattle.std.specs.List.{sum_by};
-ghost use Rattle.coding.specs.Answers.{fault};
-ghost use Rattle.coding.specs.declared.fault.FaultName.TheVariants.{Memory};
+ghost use Rattle.table.specs.Answers.{fault};
+ghost use Rattle.table.specs.fault.FaultName.TheVariants.{Memory};
 ghost use Rattle.merge.specs.MergedLists.{entries_of_lists, merged, sorted_entries};
-ghost use Rattle.split.specs.Ranges.{key_range};
+ghost use Rattle.reads.specs.Ranges.{key_range};
 ghost use Rattle.keep.specs.InRange.{entries_in};
 ghost use Rattle.reads.specs.Tables.{NumberedContents};
 ghost use Rattle.scan.specs.Counts.{AreAmountsCounted};
@@ -14,14 +14,12 @@ ghost use Rattle.scan.specs.ListParts.{in_parts};
 use crate::amounts::Amounts;
 use crate::count_walk::count_merged;
 use checks::{HeldTables, lent_tables};
-use coding::Fault;
-use edit::FileMeta;
-use ikey::Comparator;
+use folder::FileMeta;
 use keep::cursors_from;
 use merge::Merging;
-use split::Range;
+use reads::Range;
 use std::alloc::Global;
-use table::{SoundTable, TableCursor};
+use table::{Comparator, Fault, SoundTable, TableCursor};
 
 /// Counts the entries that held tables have in `range`, among the `amounts` of their levels. The
 /// tables are those of the files of each level, one level after the other. Newer entries hide older

@@ -2,19 +2,18 @@
 
 ghost use Rattle.std.specs.Prelude.{◌≡◌, ◌++◌, fold, if◌then◌else◌, length, map, Ok, OnOk, IfErr};
 ghost use Rattle.std.specs.Ordering.{is_lt};
-ghost use Rattle.coding.specs.Answers.{EqualOrMemory, fault};
-ghost use Rattle.coding.specs.declared.fault.FaultName.TheVariants.{Memory};
-ghost use Rattle.ikey.specs.Order.{internal_cmp};
+ghost use Rattle.table.specs.Answers.{EqualOrMemory, fault};
+ghost use Rattle.table.specs.fault.FaultName.TheVariants.{Memory};
+ghost use Rattle.table.specs.Order.{internal_cmp};
 ghost use Rattle.scan.specs.Counts.{capped_plus};
 ghost use Rattle.scan.specs.LevelRows.{level_rows};
 ghost use Rattle.scan.specs.Stats.{larger_key, level_stats, no_amounts, seen_stats};
 
 use crate::amounts::Amounts;
 use crate::level_stats::{LevelStats, VersionStats};
-use coding::Fault;
-use edit::FileMeta;
-use ikey::{Comparator, InternalKey, KeyBuf};
+use folder::FileMeta;
 use std::alloc::Global;
+use table::{Comparator, Fault, InternalKey, KeyBuf};
 
 /// What a version has whose levels have these files, in version order, and these amounts.
 pub(crate) fn stats_of<C: Comparator>(

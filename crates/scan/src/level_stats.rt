@@ -1,7 +1,7 @@
 //! What is told of a version's levels.
 
 use crate::amounts::Amounts;
-use ikey::KeyBuf;
+use table::KeyBuf;
 
 /// What a version has at one of its levels that has a file.
 #[derive(Drop)]

@@ -52,6 +52,7 @@ pub use counted_version::version_stats;
 pub use file_total::FileTotal;
 pub use folder_get::get_unverified;
 pub use level_stats::{LevelStats, VersionStats};
+pub use reads::Kind;
 pub use row_choice::RowChoice;
 pub use row_laws::rows_law;
 pub use row_taker::RowTaker;

@@ -1,10 +1,10 @@
 //! The rows of merged entries in a range.
 
 ghost use Rattle.std.specs.Prelude.{◌≡◌, false, OnOk, IsOkUnless, IfErr};
-ghost use Rattle.coding.specs.Answers.{fault};
-ghost use Rattle.coding.specs.declared.fault.FaultName.TheVariants.{Memory};
+ghost use Rattle.table.specs.Answers.{fault};
+ghost use Rattle.table.specs.fault.FaultName.TheVariants.{Memory};
 ghost use Rattle.merge.specs.MergedLists.{merged};
-ghost use Rattle.split.specs.Ranges.{key_range};
+ghost use Rattle.reads.specs.Ranges.{key_range};
 ghost use Rattle.keep.specs.FirstEntry.{first_is};
 ghost use Rattle.keep.specs.InRange.{entries_in};
 ghost use Rattle.keep.specs.CursorsLeft.{is_before};
@@ -15,13 +15,11 @@ use crate::decided_user::DecidedUser;
 use crate::entry_walk::walk_entry;
 use crate::row_limit::RowLimit;
 use crate::row_taker::RowTaker;
-use coding::Fault;
-use ikey::Comparator;
 use keep::starts_before;
 use merge::Merging;
-use split::Range;
+use reads::Range;
 use std::alloc::Global;
-use table::Cursor;
+use table::{Comparator, Cursor, Fault};
 
 /// Tells the rows of the entries that `merging` has in `range`, by the sequence `at`: at most
 /// `limit`.

@@ -5,8 +5,9 @@ ghost use Rattle.std.specs.Option.{option_and_then, option_map};
 ghost use Rattle.reads.specs.Gets.{value_in};
 ghost use Rattle.reads.specs.Visible.{newer_visible, visible_of};
 
-use ikey::{KeyBuf, Kind};
+use reads::Kind;
 use std::marker::Model;
+use table::KeyBuf;
 
 /// An entry: its internal key, and its value.
 #[derive(Drop)]

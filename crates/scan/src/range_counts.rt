@@ -1,11 +1,11 @@
 //! The amounts of a version's files, counted a range of user keys after the other.
 
 ghost use Rattle.std.specs.Prelude.{◌≡◌, ℕ, List, length, map, Option, Ok, IfOk, IfErr, OnOk};
-ghost use Rattle.coding.specs.Answers.{EqualOrMemory, UnlessMemory};
+ghost use Rattle.table.specs.Answers.{EqualOrMemory, UnlessMemory};
 ghost use Rattle.folder.specs.Calls.{Files, Tells};
 ghost use Rattle.folder.specs.OpenAnswer.{IsStopped};
 ghost use Rattle.folder.specs.Reports.{OnlyReads, ReportsDevice};
-ghost use Rattle.split.specs.Ranges.{key_range};
+ghost use Rattle.reads.specs.Ranges.{key_range};
 ghost use Rattle.keep.specs.InRange.{entries_in};
 ghost use Rattle.reads.specs.Tables.{NumberedContents};
 ghost use Rattle.checks.specs.HeldTables.{AreHeldIn};
@@ -17,15 +17,12 @@ use crate::amounts::Amounts;
 use crate::level_files::{needed_by_level, numbers_by_level};
 use crate::level_merges::count_held;
 use crate::range_scan::refused_tables;
-use board::{Open, Workers};
-use checks::{HeldTables, hold_next};
-use coding::Fault;
-use edit::FileMeta;
-use folder::ReadsTables;
-use ikey::SharedComparator;
-use split::{Range, Split};
+use checks::{HeldTables, Open, SharedComparator, Split, Workers, hold_next};
+use folder::{FileMeta, ReadsTables};
+use reads::Range;
 use std::alloc::Global;
 use std::thread::Threads;
+use table::Fault;
 
 /// A range of user keys, and the sequence at which newer entries hide older ones.
 #[derive(Clone, Copy)]

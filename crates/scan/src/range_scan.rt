@@ -1,13 +1,13 @@
 //! The rows of a version's files, a range of user keys after the other.
 
 ghost use Rattle.std.specs.Prelude.{◌≡◌, ◌+◌, ℕ, true, List, [], length, map, Option, IfOk, IfErr};
-ghost use Rattle.coding.specs.Answers.{UnlessMemory};
+ghost use Rattle.table.specs.Answers.{UnlessMemory};
 ghost use Rattle.folder.specs.Calls.{Files, Tells};
 ghost use Rattle.folder.specs.OpenAnswer.{IsStopped};
 ghost use Rattle.folder.specs.Reports.{OnlyReads, ReportsDevice};
 ghost use Rattle.keep.specs.InRange.{entries_in};
 ghost use Rattle.block.specs.EncodedEntry.{Entry};
-ghost use Rattle.split.specs.Ranges.{IsCover, key_range};
+ghost use Rattle.reads.specs.Ranges.{IsCover, key_range};
 ghost use Rattle.reads.specs.Tables.{NumberedContents};
 ghost use Rattle.checks.specs.GroupTest.{AreTablesIn};
 ghost use Rattle.checks.specs.HeldTables.{AreHeldIn};
@@ -17,14 +17,14 @@ ghost use Rattle.scan.specs.RowParts.{AreScanned, AreTelling};
 use crate::row_limit::{RowLimit, is_done};
 use crate::row_taker::RowTaker;
 use crate::table_rows::tell_held;
-use board::{Open, Workers};
-use checks::{HeldTables, check_tables, common_range, hold_next, needed_files, numbers_of};
-use coding::{Fault, FaultName};
-use edit::FileMeta;
-use folder::{ReadsTables, load_numbers};
-use ikey::{Comparator, SharedComparator};
-use split::{Range, Split};
+use checks::{
+    HeldTables, Open, SharedComparator, Split, Workers, check_tables, common_range, hold_next,
+    needed_files, numbers_of,
+};
+use folder::{FileMeta, ReadsTables, load_numbers};
+use reads::Range;
 use std::thread::Threads;
+use table::{Comparator, Fault, FaultName};
 
 /// Which rows of a range of user keys are wanted.
 #[derive(Clone, Copy)]

@@ -1,10 +1,10 @@
 //! Which rows of a version are wanted.
 
 ghost use Rattle.std.specs.Prelude.{◌≡◌};
-ghost use Rattle.split.specs.Ranges.{key_range};
+ghost use Rattle.reads.specs.Ranges.{key_range};
 ghost use Rattle.scan.specs.ChosenRows.{chosen_range};
 
-use split::Range;
+use reads::Range;
 
 /// Which rows of a version are wanted.
 #[derive(Clone, Copy)]

@@ -2,7 +2,7 @@
 
 ghost use Rattle.scan.specs.RowsLaw.{RowsLaw};
 
-use ikey::Comparator;
+use table::Comparator;
 
 /// The law that a lawful version has rows in each range of user keys at each sequence, and just one
 /// list of them. A call does nothing.

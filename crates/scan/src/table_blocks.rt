@@ -1,7 +1,7 @@
 //! The blocks of a table, read from its file.
 
 ghost use Rattle.std.specs.Prelude.{◌≡◌, ◌≢◌, ◌≤◌, ℕ, List, Ok, length, IfOk, IfErr};
-ghost use Rattle.coding.specs.declared.fault.FaultName.TheVariants.{Device};
+ghost use Rattle.table.specs.fault.FaultName.TheVariants.{Device};
 ghost use Rattle.block.specs.EncodedEntry.{Entry};
 ghost use Rattle.folder.specs.Reports.{OnlyReads, ReportsDevice};
 ghost use Rattle.table.specs.Handle.{handle_reading};
@@ -14,9 +14,8 @@ ghost use Rattle.table.specs.TableContents.{index_in};
 ghost use Rattle.scan.specs.SearchAnswers.{Gives, IsFileOfBytes, index_handle};
 
 use crate::file_parts::{TableFile, part, stored_block, stored_len};
-use coding::{Fault, FaultName};
 use folder::Folder;
-use table::{BlockHandle, FOOTER_LEN, Footer, MAX_TABLE_LEN};
+use table::{BlockHandle, FOOTER_LEN, Fault, FaultName, Footer, MAX_TABLE_LEN};
 
 /// The index block of a table, as it is stored. Tested are the length, the footer, and that the
 /// metaindex and the index are before it.

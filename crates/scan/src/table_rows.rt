@@ -1,9 +1,9 @@
 //! The rows of held tables, in a range.
 
 ghost use Rattle.std.specs.Prelude.{◌≡◌, map, IfErr};
-ghost use Rattle.coding.specs.Answers.{fault};
-ghost use Rattle.coding.specs.declared.fault.FaultName.TheVariants.{Memory};
-ghost use Rattle.split.specs.Ranges.{key_range};
+ghost use Rattle.table.specs.Answers.{fault};
+ghost use Rattle.table.specs.fault.FaultName.TheVariants.{Memory};
+ghost use Rattle.reads.specs.Ranges.{key_range};
 ghost use Rattle.reads.specs.Tables.{NumberedContents};
 ghost use Rattle.scan.specs.EntryRows.{sorted_rows};
 ghost use Rattle.scan.specs.RowParts.{AreTelling, AreWanted};
@@ -12,14 +12,11 @@ use crate::merge_walk::tell_merged;
 use crate::row_limit::RowLimit;
 use crate::row_taker::RowTaker;
 use checks::{HeldTables, lent_tables};
-use coding::Fault;
-use ikey::Comparator;
 use keep::cursors_from;
 use merge::Merging;
-use reads::NumberedTable;
-use split::Range;
+use reads::{NumberedTable, Range};
 use std::alloc::Global;
-use table::TableCursor;
+use table::{Comparator, Fault, TableCursor};
 
 /// Tells the rows of held tables in `range`, by the sequence `at`: at most `limit`.
 pub(crate) fn tell_held<C: Comparator + 'static, T: RowTaker>(

@@ -10,13 +10,10 @@ ghost use Rattle.scan.specs.TestedScan.{IsTestedScan};
 use crate::row_choice::RowChoice;
 use crate::row_taker::RowTaker;
 use crate::version_scan::scan_unverified_by;
-use board::{Open, Workers};
-use checks::{Watch, test_version};
-use coding::Fault;
-use edit::Version;
-use folder::{Opened, Order, ReadsTables};
-use ikey::{Bytewise, SharedComparator, Shortlex};
+use checks::{Open, SharedComparator, Watch, Workers, test_version};
+use folder::{Bytewise, Opened, Order, ReadsTables, Shortlex, Version};
 use std::thread::Threads;
+use table::Fault;
 
 /// Tests the version as which a folder was opened, with its tables, and then tells `taker` its
 /// chosen rows as [`scan_unverified`](crate::scan_unverified) does. It only reads.

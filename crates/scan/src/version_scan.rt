@@ -14,14 +14,11 @@ ghost use Rattle.scan.specs.ToldRows.{IsScan};
 use crate::range_scan::{RangeRows, tell_ranges};
 use crate::row_choice::RowChoice;
 use crate::row_taker::RowTaker;
-use board::{Open, Workers};
-use checks::group_split;
-use coding::{Fault, FaultName};
-use edit::Version;
-use folder::{Opened, Order, ReadsTables};
-use ikey::{Bytewise, SharedComparator, Shortlex};
+use checks::{Open, SharedComparator, Workers, group_split};
+use folder::{Bytewise, Opened, Order, ReadsTables, Shortlex, Version};
 use reads::files_newest_first;
 use std::thread::Threads;
+use table::{Fault, FaultName};
 
 /// The most bytes of tables that a scan holds, if no single user key needs more. Less of them are
 /// read in vain if few rows are wanted.

@@ -51,10 +51,12 @@ mod work_left;
 
 pub use amounts::total_text;
 pub use detail::Detail;
+pub use edit::LAST_LEVEL;
 pub use edit_inputs::deleted_files;
 pub use explanations::{Words, in_words, of_file};
 pub use files::{read_file, replace_file, sync_folder_of};
 pub use filter_blocks::have_filter;
+pub use folder::{Disk, SystemFiles};
 pub use folder_locks::{locked_to_change, locked_to_read};
 pub use folder_names::names_in;
 pub use folder_refusal::{compaction_explained, explained, path_in, table_explained};

@@ -3,9 +3,9 @@
 use crate::progress::progress_text;
 use crate::reporter::{LONG, Telling};
 use crate::work_left::WorkLeft;
-use board::Gate;
 use checks::{Watch, Work};
 use coding::Fault;
+use folder::Gate;
 use std::sync::atomic::{AtomicBool, AtomicU64, Ordering};
 use std::time::{Clock, Instant};
 

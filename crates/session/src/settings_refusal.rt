@@ -1,11 +1,10 @@
 //! What is told if a compaction is refused for what was asked for.
 
 use crate::refusal::RefusalText;
-use board::MAX_WORKERS;
 use coding::FaultName;
-use compact::{MAX_SNAPSHOTS, Settings};
+use compact::{MAX_SNAPSHOTS, Settings, Snapshots};
+use folder::MAX_WORKERS;
 use ikey::MAX_SEQUENCE;
-use keep::Snapshots;
 use split::MAX_RANGES;
 use std::alloc::Global;
 use table::{MAX_BLOCK_SIZE, MAX_TABLE_LEN};

@@ -1,3 +1,4 @@
+pub use Rattle.table.proofs.Orders
 pub mod RisingKeys
 pub mod Covers
 pub mod Sorted

@@ -14,7 +14,7 @@ use Rattle.std.proofs.lemmas.List.Elements.{Contains-get_or}
 use Rattle.std.proofs.lemmas.List.Kept.{IsStrictlySortedBy-dedup, Any-dedup, Contains-from_dedup}
 use Rattle.std.proofs.lemmas.List.Sorted.{Contains-permutation, IsPermutation-sym}
 use Rattle.std.proofs.lemmas.Map.Keys.{Less-from_sorted}
-use Rattle.ikey.specs.Comparator.{IsExact}
+use Rattle.table.specs.Comparator.{IsExact}
 use Rattle.split.specs.SplitChoice.{IsListOf}
 use Rattle.split.proofs.RisingKeys.{Rises, rising_keys}
 

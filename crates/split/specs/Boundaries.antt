@@ -1,7 +1,7 @@
 -- The boundaries between ranges of user keys.
 use Rattle.std.specs.Prelude.{◌≡◌, ℕ, ◌<◌, List, length, AllPairs}
 use Rattle.std.specs.declared.cmp.Ordering.TheVariants.{Less}
-use Rattle.ikey.specs.Comparator.{KeyOrder}
+use Rattle.table.specs.Comparator.{KeyOrder}
 use Rattle.split.specs.declared.split.TheConstants.{MAX_RANGES}
 
 -- each key is before all later ones

@@ -2,7 +2,7 @@
 use Rattle.std.specs.Prelude.{ℕ, Bool, List, Option}
 use Rattle.std.specs.Option.{option_map_or}
 use Rattle.std.specs.Ordering.{is_lt}
-use Rattle.ikey.specs.Comparator.{KeyOrder}
+use Rattle.table.specs.Comparator.{KeyOrder}
 
 -- whether a user key is before a bound; `otherwise` if there is no bound
 abbrev pub is_user_before : KeyOrder → Option (List ℕ) → Bool → List ℕ → Bool

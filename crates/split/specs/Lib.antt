@@ -1,3 +1,5 @@
+-- of lower crates, whose words these use
+pub use Rattle.block.specs.BuilderView
 -- what contracts rest on
 pub mod Boundaries
 pub mod Ranges

@@ -2,7 +2,7 @@
 use Rattle.std.specs.Prelude.{◌≡◌, ℕ, zero, suc, ◌<◌, ◌*◌, ◌-◌, ◌/◌, List, [], ◌∷◌, length, map}
 use Rattle.std.specs.Prelude.{Some, slice_get, Contains, nat_le, if◌then◌else◌}
 use Rattle.std.specs.List.{flat_map}
-use Rattle.ikey.specs.Comparator.{KeyOrder}
+use Rattle.table.specs.Comparator.{KeyOrder}
 use Rattle.table.specs.TableContents.{Contents}
 use Rattle.split.specs.Boundaries.{KeysRise}
 use Rattle.split.specs.declared.split.TheConstants.{SAMPLE_STEP, RANGE_SAMPLES}

@@ -2,10 +2,10 @@
 
 ghost use Rattle.std.specs.Prelude.{◌≡◌};
 ghost use Rattle.std.specs.Option.{option_map};
-ghost use Rattle.ikey.specs.Key.{user_of};
+ghost use Rattle.table.specs.Key.{user_of};
 ghost use Rattle.split.specs.Bounds.{is_user_before};
 
-use ikey::{Comparator, InternalKey};
+use table::{Comparator, InternalKey};
 
 /// Whether the user key of `key` is before `bound`; `otherwise` if there is no bound.
 #[inline(always)]

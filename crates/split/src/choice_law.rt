@@ -2,7 +2,7 @@
 
 ghost use Rattle.split.specs.SplitChoice.{OneChoiceLaw};
 
-use ikey::Comparator;
+use table::Comparator;
 
 /// The law that user keys and a wanted number have at most one choice of boundaries, by every
 /// comparator. A call does nothing.

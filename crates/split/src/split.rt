@@ -3,19 +3,17 @@
 ghost use Rattle.std.specs.Prelude.{◌≡◌, ◌+◌, ◌<◌, ◌↔◌, ◌⊎◌, true, nat_le, if◌then◌else◌, map};
 ghost use Rattle.std.specs.Prelude.{length, slice_get, Contains, All, IsOk, IfOk, IfErr};
 ghost use Rattle.std.specs.Option.{option_map};
-ghost use Rattle.coding.specs.Answers.{fault, UnlessMemory};
-ghost use Rattle.coding.specs.declared.fault.FaultName.TheVariants.{SplitCount, SplitOrder};
+ghost use Rattle.table.specs.Answers.{fault, UnlessMemory};
+ghost use Rattle.table.specs.fault.FaultName.TheVariants.{SplitCount, SplitOrder};
 ghost use Rattle.split.specs.Boundaries.{KeysRise, IsSplit};
 ghost use Rattle.split.specs.SplitChoice.{index_users_of, index_sample_of, IsChoice};
 ghost use Rattle.split.specs.Ranges.{range_at, key_range, IsCover};
 
 use crate::range::Range;
 use crate::split_choice::{boundaries_from, index_lists, lent_keys, sampled_keys};
-use coding::{Fault, FaultName};
-use ikey::Comparator;
 use std::alloc::Global;
 use std::marker::{Model, PhantomData};
-use table::SoundTable;
+use table::{Comparator, Fault, FaultName, SoundTable};
 
 /// The most boundaries of a split.
 pub const MAX_BOUNDARIES: usize = 4_095;

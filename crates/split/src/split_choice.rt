@@ -3,17 +3,15 @@
 ghost use Rattle.std.specs.Prelude.{◌≡◌, ◌*◌, ◌/◌, ◌<◌, ◌≤◌, ◌++◌, Ok, map, length, Contains, IfOk};
 ghost use Rattle.std.specs.Prelude.{OnOk, IsOkUnless};
 ghost use Rattle.std.specs.List.{flat_map};
-ghost use Rattle.coding.specs.Answers.{EqualOrMemory, fault};
-ghost use Rattle.coding.specs.declared.fault.FaultName.TheVariants.{Memory};
+ghost use Rattle.table.specs.Answers.{EqualOrMemory, fault};
+ghost use Rattle.table.specs.fault.FaultName.TheVariants.{Memory};
 ghost use Rattle.split.specs.Boundaries.{KeysRise};
 ghost use Rattle.split.specs.SplitChoice.{IsListOf, IsAtPlaceBelow, IsChoice};
 ghost use Rattle.split.specs.SplitChoice.{every, every_of, sample_of};
 
 use crate::split::{RANGE_SAMPLES, SAMPLE_STEP};
-use coding::Fault;
-use ikey::Comparator;
 use std::alloc::Global;
-use table::{KeyList, SoundTable};
+use table::{Comparator, Fault, KeyList, SoundTable};
 
 /// The user keys of each table's index.
 pub(crate) fn index_lists<C: Comparator>(

@@ -3,13 +3,13 @@ use Rattle.std.proofs.Common.{◌≡◌, ℕ, Bool, false, not, List, None, Opti
 use Rattle.std.specs.Option.{ok_or, option_map_or}
 use Rattle.std.specs.Str.{bytes_eq}
 use Rattle.std.specs.declared.cmp.Ordering.{Ordering}
-use Rattle.coding.proofs.Binds.{ok_is}
-use Rattle.coding.specs.Answers.{fault, ◌>>=◌}
-use Rattle.coding.specs.declared.fault.Fault.{Fault}
-use Rattle.coding.specs.declared.fault.FaultName.TheVariants.{Apply, Comparator}
-use Rattle.edit.proofs.Edits.{not_both, one_edit}
-use Rattle.edit.specs.Edit.{Edit, IsEdit}
-use Rattle.edit.specs.Version.{State, applied, applied_by, names_another}
+use Rattle.folder.proofs.Binds.{ok_is}
+use Rattle.folder.specs.Answers.{fault, ◌>>=◌}
+use Rattle.folder.specs.fault.Fault.{Fault}
+use Rattle.folder.specs.fault.FaultName.TheVariants.{Apply, Comparator}
+use Rattle.folder.proofs.Edits.{not_both, one_edit}
+use Rattle.folder.specs.Edit.{Edit, IsEdit}
+use Rattle.folder.specs.Version.{State, applied, applied_by, names_another}
 use Rattle.folder.specs.Manifest.{order_name}
 use Rattle.folder.specs.declared.order.Order.{Order}
 use Rattle.install.specs.Install.{IsEditedBy}

@@ -1,19 +1,19 @@
 -- What is answered of what a compaction made.
 use Rattle.std.proofs.Common.{◌≡◌, ◌⊎◌, ℕ, List, Option, None, Result, Ok, Err, IfErr, IfOk, refl, sym, ap, subst}
-use Rattle.coding.proofs.Binds.{ok_is}
-use Rattle.coding.proofs.Refusals.{only_memory, unless_device, unless_from}
-use Rattle.coding.specs.Answers.{EqualOrMemory, FailsOrMemory, HoldsOrMemory, IsThen, fault}
-use Rattle.coding.specs.declared.fault.Fault.{Fault}
-use Rattle.coding.specs.declared.fault.FaultName.TheVariants.{Memory}
+use Rattle.folder.proofs.Binds.{ok_is}
+use Rattle.folder.proofs.Refusals.{only_memory, unless_device, unless_from}
+use Rattle.folder.specs.Answers.{EqualOrMemory, FailsOrMemory, HoldsOrMemory, IsThen, fault}
+use Rattle.folder.specs.fault.Fault.{Fault}
+use Rattle.folder.specs.fault.FaultName.TheVariants.{Memory}
 use Rattle.compact.specs.AnswerIn.{answer_in}
 use Rattle.compact.specs.OneThread.{Answer}
-use Rattle.edit.specs.Version.{State}
-use Rattle.edit.specs.declared.outcome.Outcome.{Outcome}
+use Rattle.folder.specs.Version.{State}
+use Rattle.compact.specs.outcome.Outcome.{Outcome}
 use Rattle.folder.specs.OpenAnswer.{FolderAnswers, HasDeviceFailed, IsStopped}
 use Rattle.pick.specs.PickedInputs.{PickedInputs}
-use Rattle.table.specs.TableContents.{Contents}
+use Rattle.reads.specs.TableContents.{Contents}
 use Rattle.compact.specs.declared.settings.Settings.{Settings}
-use Rattle.ikey.specs.Comparator.{KeyOrder, ShortKeys}
+use Rattle.folder.specs.Comparator.{KeyOrder, ShortKeys}
 use Rattle.store.specs.FolderRequest.{compaction_from}
 use Rattle.store.specs.FoundInputs.{step_result}
 use Rattle.store.specs.InputsCompaction.{IsReadAnswer, input_tables}

@@ -4,18 +4,18 @@ use Rattle.std.specs.Prelude.{Contains}
 use Rattle.std.specs.declared.cmp.Ordering.{Ordering}
 use Rattle.std.proofs.lemmas.List.Elements.{Contains-append_left, Contains-append_right}
 use Rattle.reads.proofs.Members.{first_in, later_in}
-use Rattle.edit.specs.Version.{State}
-use Rattle.ikey.specs.Comparator.{ShortKeys}
+use Rattle.folder.specs.Version.{State}
+use Rattle.folder.specs.Comparator.{ShortKeys}
 use Rattle.folder.specs.Calls.{Files, Step}
 use Rattle.folder.specs.Crash.{IsMoment, LeavesOnly, MayLeave, World}
 use Rattle.folder.specs.ReadsAs.{ReadsAs}
 use Rattle.folder.specs.declared.order.Order.{Order}
 use Rattle.reads.specs.Gets.{get_of}
 use Rattle.reads.specs.Tables.{NumberedContents}
-use Rattle.keep.specs.Readable.{is_read, readable_of}
+use Rattle.checks.specs.Readable.{is_read, readable_of}
 use Rattle.checks.proofs.LawfulLemmas.{sound_checked}
 use Rattle.checks.specs.LawfulTables.{IsLawfulTables}
-use Rattle.coding.proofs.Binds.{ok_is}
+use Rattle.folder.proofs.Binds.{ok_is}
 use Rattle.install.specs.Install.{IsBeforeOrAfter, next_version_tables}
 use Rattle.compact.specs.declared.settings.Settings.{Settings}
 use Rattle.store.specs.AllLevels.{AnswersAs, CompactionLink, IsAtLink, AreLinked, IsLink, last_tables, version_at_end}

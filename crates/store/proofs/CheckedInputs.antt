@@ -5,14 +5,14 @@ use Rattle.std.specs.declared.cmp.Ordering.{Ordering}
 use Rattle.std.specs.List.{AllByRecursion}
 use Rattle.std.proofs.lemmas.List.{drop_all, length-map}
 use Rattle.std.proofs.lemmas.List.Elements.{recursion_from_All}
-use Rattle.coding.proofs.Binds.{bind_ok, ok_is}
-use Rattle.coding.proofs.Refusals.{unless_from}
-use Rattle.coding.specs.Answers.{FailsOrMemory, ◌>>=◌}
-use Rattle.coding.specs.declared.fault.Fault.{Fault}
-use Rattle.coding.specs.declared.fault.FaultName.TheVariants.{Bounds}
-use Rattle.table.proofs.EntryTests.{passed}
-use Rattle.table.specs.TestResult.{test_result}
-use Rattle.table.specs.TableContents.{Contents, contents_reading}
+use Rattle.folder.proofs.Binds.{bind_ok, ok_is}
+use Rattle.folder.proofs.Refusals.{unless_from}
+use Rattle.folder.specs.Answers.{FailsOrMemory, ◌>>=◌}
+use Rattle.folder.specs.fault.Fault.{Fault}
+use Rattle.folder.specs.fault.FaultName.TheVariants.{Bounds}
+use Rattle.reads.proofs.EntryTests.{passed}
+use Rattle.reads.specs.TestResult.{test_result}
+use Rattle.reads.specs.TableContents.{Contents, contents_reading}
 use Rattle.pick.specs.declared.picked_inputs.InputFile.{InputFile}
 use Rattle.reads.specs.Tables.{NumberedContents}
 use Rattle.checks.specs.TableReadings.{tables_reading}

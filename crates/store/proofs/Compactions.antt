@@ -4,16 +4,16 @@ use Rattle.std.specs.Prelude.{MatchBool, ◌&&◌, nat_le, nat_lt, unwrap_or}
 use Rattle.std.specs.Option.{ok_or}
 use Rattle.std.specs.declared.cmp.Ordering.{Ordering}
 use Rattle.std.proofs.lemmas.Bool.Decides.{nat_tests}
-use Rattle.coding.proofs.Binds.{bind_ok, ok_is}
-use Rattle.coding.proofs.Refusals.{unless_from}
-use Rattle.coding.specs.Answers.{FailsOrMemory, fault, ◌>>=◌}
-use Rattle.coding.specs.declared.fault.Fault.{Fault}
-use Rattle.coding.specs.declared.fault.FaultName.{FaultName}
-use Rattle.coding.specs.declared.fault.FaultName.TheVariants.{Level, NoInput, Numbers, SplitCount, Workers}
-use Rattle.table.specs.TestResult.{test_result}
-use Rattle.edit.specs.Version.{IsState, State}
+use Rattle.folder.proofs.Binds.{bind_ok, ok_is}
+use Rattle.folder.proofs.Refusals.{unless_from}
+use Rattle.folder.specs.Answers.{FailsOrMemory, fault, ◌>>=◌}
+use Rattle.folder.specs.fault.Fault.{Fault}
+use Rattle.folder.specs.fault.FaultName.{FaultName}
+use Rattle.folder.specs.fault.FaultName.TheVariants.{Level, NoInput, Numbers, SplitCount, Workers}
+use Rattle.reads.specs.TestResult.{test_result}
+use Rattle.folder.specs.Version.{IsState, State}
 use Rattle.folder.specs.declared.order.Order.{Order}
-use Rattle.edit.specs.VersionOrder.{level_files}
+use Rattle.folder.specs.VersionOrder.{level_files}
 use Rattle.pick.specs.PickedInputs.{IsInputsAnswer, IsPicked, PickedInputs}
 use Rattle.reads.specs.Tables.{NumberedContents}
 use Rattle.checks.specs.LawfulTables.{IsLawfulTables}
@@ -24,7 +24,7 @@ use Rattle.store.specs.FolderRequest.{compaction_from, first_output, manifest_of
 use Rattle.store.specs.Compaction.{LevelCompaction}
 use Rattle.store.specs.NumberedJointLaw.{NumberedJointLaw}
 use Rattle.compact.specs.declared.settings.Settings.{Settings}
-use Rattle.ikey.specs.Comparator.{ShortKeys}
+use Rattle.folder.specs.Comparator.{ShortKeys}
 
 -- the first number is above the manifest's
 first_above : (v : State) (first : Option ℕ) (number : ℕ) → first_output v first ≡ Some number → manifest_of v < number

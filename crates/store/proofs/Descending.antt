@@ -2,12 +2,12 @@
 use Rattle.std.proofs.Common.{◌≡◌, ◌⊎◌, ℕ, ◌+◌, ◌≤◌, Bool, true, List, [], ◌∷◌, ◌++◌, length, map, codes, Option, Some, None, Result, Ok, Err, IfErr, IfOk, OnOk, refl, sym, ap, subst, ◌∙◌, inl, inr, arith}
 use Rattle.std.proofs.lemmas.List.{append-nil, length-append, map-append}
 use Rattle.std.specs.declared.cmp.Ordering.{Ordering}
-use Rattle.coding.proofs.Refusals.{unless_from}
-use Rattle.coding.specs.Answers.{UnlessMemory, fault}
-use Rattle.coding.specs.declared.fault.Fault.{Fault}
-use Rattle.coding.specs.declared.fault.FaultName.TheVariants.{Memory}
-use Rattle.edit.specs.Version.{State}
-use Rattle.ikey.specs.Comparator.{ShortKeys}
+use Rattle.folder.proofs.Refusals.{unless_from}
+use Rattle.folder.specs.Answers.{UnlessMemory, fault}
+use Rattle.folder.specs.fault.Fault.{Fault}
+use Rattle.folder.specs.fault.FaultName.TheVariants.{Memory}
+use Rattle.folder.specs.Version.{State}
+use Rattle.folder.specs.Comparator.{ShortKeys}
 use Rattle.folder.specs.Calls.{Files, Step, Tells}
 use Rattle.folder.specs.Crash.{LeavesOnly, World}
 use Rattle.folder.specs.Folder.{TellsSame}

@@ -1,11 +1,11 @@
 -- The compaction of all levels, told from earlier calls on.
 use Rattle.std.proofs.Common.{◌≡◌, ℕ, Bool, List, Option, Result, Ok, Err, IfErr, subst, ◌∙◌}
 use Rattle.std.specs.declared.cmp.Ordering.{Ordering}
-use Rattle.coding.proofs.Refusals.{unless_from}
-use Rattle.coding.specs.Answers.{UnlessMemory}
-use Rattle.coding.specs.declared.fault.Fault.{Fault}
-use Rattle.edit.specs.Version.{State}
-use Rattle.ikey.specs.Comparator.{ShortKeys}
+use Rattle.folder.proofs.Refusals.{unless_from}
+use Rattle.folder.specs.Answers.{UnlessMemory}
+use Rattle.folder.specs.fault.Fault.{Fault}
+use Rattle.folder.specs.Version.{State}
+use Rattle.folder.specs.Comparator.{ShortKeys}
 use Rattle.folder.proofs.LoadingLemmas.{told_since}
 use Rattle.folder.specs.Calls.{Step}
 use Rattle.folder.specs.Folder.{TellsSame}

@@ -6,9 +6,9 @@ use Rattle.std.specs.Cmp.{IsTotalOrder}
 use Rattle.std.specs.declared.cmp.Ordering.{Ordering}
 use Rattle.std.proofs.lemmas.List.Elements.{All-contains, Contains-append_cases, Contains-get_or}
 use Rattle.std.proofs.lemmas.List.Sorted.{Contains-permutation, IsPermutation-sym}
-use Rattle.ikey.specs.Comparator.{ShortKeys, IsExact}
-use Rattle.edit.specs.Version.{State}
-use Rattle.edit.specs.declared.meta.NewFile.{NewFile}
+use Rattle.folder.specs.Comparator.{ShortKeys, IsExact}
+use Rattle.folder.specs.Version.{State}
+use Rattle.folder.specs.meta.NewFile.{NewFile}
 use Rattle.folder.specs.Levels.{file_numbers}
 use Rattle.folder.specs.Manifest.{order_name}
 use Rattle.folder.specs.ReadsAs.{IsOneOf}

@@ -1,9 +1,9 @@
 -- The compaction of a folder, step by step.
 use Rattle.std.proofs.Common.{◌≡◌, ◌≢◌, ◌⊎◌, ℕ, ◌≤◌, Result, Ok, Err, IsErrAnd, OnOk, refl, inl}
-use Rattle.coding.proofs.Refusals.{unless_from, unless_device}
-use Rattle.coding.specs.Answers.{IsThen, UnlessMemory}
-use Rattle.coding.specs.declared.fault.Fault.{Fault}
-use Rattle.coding.specs.declared.fault.FaultName.TheVariants.{Device}
+use Rattle.folder.proofs.Refusals.{unless_from, unless_device}
+use Rattle.folder.specs.Answers.{IsThen, UnlessMemory}
+use Rattle.folder.specs.fault.Fault.{Fault}
+use Rattle.folder.specs.fault.FaultName.TheVariants.{Device}
 use Rattle.folder.proofs.OpeningLemmas.{answers_since, hands_on}
 pub use Rattle.folder.proofs.ToldLemmas.{loaded_in, opened_in, told_still}
 use Rattle.folder.specs.Calls.{Files, Tells}

@@ -7,9 +7,9 @@ use Rattle.std.specs.Result.{result_unwrap_or}
 use Rattle.std.specs.declared.cmp.Ordering.{Ordering}
 use Rattle.std.proofs.lemmas.Bool.{eqb-true}
 use Rattle.std.proofs.lemmas.Option.{none-some, same_Some}
-use Rattle.coding.specs.declared.fault.Fault.{Fault}
-use Rattle.table.specs.CheckedContents.{contents_in}
-use Rattle.table.specs.TableContents.{Contents, contents_of, contents_reading}
+use Rattle.folder.specs.fault.Fault.{Fault}
+use Rattle.reads.specs.CheckedContents.{contents_in}
+use Rattle.reads.specs.TableContents.{Contents, contents_of, contents_reading}
 use Rattle.reads.specs.Tables.{NumberedContents, table_of_number}
 use Rattle.compact.specs.SurvivingReads.{output_table}
 use Rattle.store.proofs.Loaded.{own_bytes, turned}

@@ -1,10 +1,10 @@
 -- The inputs of a level, and what their compaction answers.
 use Rattle.std.proofs.Common.{◌≡◌, ℕ, List, Option, Result, Ok, Err, sym, ap, subst}
 use Rattle.std.specs.declared.cmp.Ordering.{Ordering}
-use Rattle.coding.specs.Answers.{IsThen}
-use Rattle.coding.specs.declared.fault.Fault.{Fault}
-use Rattle.ikey.specs.Comparator.{ShortKeys}
-use Rattle.edit.specs.Version.{State}
+use Rattle.folder.specs.Answers.{IsThen}
+use Rattle.folder.specs.fault.Fault.{Fault}
+use Rattle.folder.specs.Comparator.{ShortKeys}
+use Rattle.folder.specs.Version.{State}
 use Rattle.folder.specs.Calls.{Files}
 use Rattle.folder.specs.LoadedTables.{IsLoaded}
 use Rattle.folder.specs.ReadsAs.{IsFileIn}

@@ -7,7 +7,7 @@ use Rattle.std.proofs.lemmas.Option.{same_Some, slice_get-get_or}
 use Rattle.folder.specs.Calls.{Written}
 use Rattle.folder.specs.TableFiles.{named_tables}
 use Rattle.install.specs.Install.{table_calls}
-use Rattle.merge.proofs.Leasts.{take_next}
+use Rattle.reads.proofs.Leasts.{take_next}
 
 abbrev Group : Type 0
 Group = List (ℕ × List ℕ)

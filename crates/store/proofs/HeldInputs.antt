@@ -1,14 +1,14 @@
 -- Inputs whose tables are held.
 use Rattle.std.proofs.Common.{◌≡◌, ℕ, List, [], ◌∷◌, map, Option, Result, Ok, Err, refl, sym, ap, subst, ◌∙◌}
 use Rattle.std.specs.declared.cmp.Ordering.{Ordering}
-use Rattle.coding.proofs.Binds.{done, failed, ok_is}
-use Rattle.coding.specs.Answers.{◌>>=◌}
-use Rattle.coding.specs.declared.fault.Fault.{Fault}
-use Rattle.coding.specs.declared.fault.FaultName.TheVariants.{Bounds}
-use Rattle.ikey.specs.Comparator.{ShortKeys}
-use Rattle.table.specs.TestResult.{test_result}
-use Rattle.table.specs.TableContents.{Contents}
-use Rattle.edit.specs.Version.{State}
+use Rattle.folder.proofs.Binds.{done, failed, ok_is}
+use Rattle.folder.specs.Answers.{◌>>=◌}
+use Rattle.folder.specs.fault.Fault.{Fault}
+use Rattle.folder.specs.fault.FaultName.TheVariants.{Bounds}
+use Rattle.folder.specs.Comparator.{ShortKeys}
+use Rattle.reads.specs.TestResult.{test_result}
+use Rattle.reads.specs.TableContents.{Contents}
+use Rattle.folder.specs.Version.{State}
 use Rattle.folder.specs.Calls.{Files}
 use Rattle.folder.specs.LoadedTables.{IsLoaded}
 use Rattle.folder.specs.ReadsAs.{IsFileIn}

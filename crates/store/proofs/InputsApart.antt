@@ -7,10 +7,10 @@ use Rattle.std.specs.Cmp.{IsTotalOrder}
 use Rattle.std.specs.declared.cmp.Ordering.{Ordering}
 use Rattle.std.proofs.lemmas.Bool.{eq-eqb}
 use Rattle.std.proofs.lemmas.List.Kept.{AllPairs-filter}
-use Rattle.edit.specs.Version.{State, are_apart}
-use Rattle.edit.specs.VersionOrder.{level_files}
-use Rattle.edit.specs.declared.meta.FileMeta.{FileMeta}
-use Rattle.edit.specs.declared.meta.NewFile.{NewFile}
+use Rattle.folder.specs.Version.{State, are_apart}
+use Rattle.folder.specs.VersionOrder.{level_files}
+use Rattle.folder.specs.meta.FileMeta.{FileMeta}
+use Rattle.folder.specs.meta.NewFile.{NewFile}
 use Rattle.folder.specs.LoadedTables.{IsLoaded}
 use Rattle.install.specs.Install.{table_bytes_of}
 use Rattle.pick.proofs.VersionFiles.{are_level_files}

@@ -1,11 +1,11 @@
 -- The installation of a compaction, as a part of the call.
 use Rattle.std.proofs.Common.{◌≡◌, ℕ, List, ◌++◌, map, codes, Option, Some, Result, Ok, Err, IfErr, IfOk, IsErrAnd, OnOk, sym, ap, subst, ◌∙◌, inl, inr}
 use Rattle.std.specs.declared.cmp.Ordering.{Ordering}
-use Rattle.coding.specs.Answers.{UnlessMemory, fault}
-use Rattle.coding.specs.declared.fault.Fault.{Fault}
-use Rattle.coding.specs.declared.fault.FaultName.TheVariants.{Device}
-use Rattle.coding.proofs.Refusals.{unless_from}
-use Rattle.edit.specs.Version.{State}
+use Rattle.folder.specs.Answers.{UnlessMemory, fault}
+use Rattle.folder.specs.fault.Fault.{Fault}
+use Rattle.folder.specs.fault.FaultName.TheVariants.{Device}
+use Rattle.folder.proofs.Refusals.{unless_from}
+use Rattle.folder.specs.Version.{State}
 use Rattle.folder.specs.Calls.{Call, Done, Files, Step, Tells}
 use Rattle.folder.specs.CallSequence.{AreMadeBy, MakesCalls}
 use Rattle.folder.specs.Folder.{TellsSame}
@@ -19,7 +19,7 @@ use Rattle.compact.specs.OneThread.{Answer}
 use Rattle.store.specs.Compaction.{IsInstalled, IsFolderLeft, IsVersionLeft, next_of}
 use Rattle.folder.specs.Orders.{order_cmp, order_short_keys}
 use Rattle.compact.specs.declared.settings.Settings.{Settings}
-use Rattle.ikey.specs.Comparator.{ShortKeys}
+use Rattle.folder.specs.Comparator.{ShortKeys}
 use Rattle.store.specs.VersionSync.{sync_calls}
 use Rattle.store.specs.declared.compaction_step.CompactionStep.{CompactionStep}
 use Rattle.store.proofs.Synced.{version_stands}

@@ -2,11 +2,11 @@
 use Rattle.std.proofs.Common.{ℕ, List, refl, arith, ◌∙◌}
 use Rattle.std.specs.Cmp.{IsTotalOrder}
 use Rattle.std.specs.declared.cmp.Ordering.{Ordering}
-use Rattle.ikey.specs.Comparator.{ShortKeys, IsExact}
-use Rattle.edit.specs.Version.{State}
+use Rattle.folder.specs.Comparator.{ShortKeys, IsExact}
+use Rattle.folder.specs.Version.{State}
 use Rattle.reads.specs.Lawful.{IsLawful}
 use Rattle.reads.specs.Tables.{NumberedContents}
-use Rattle.keep.specs.Readable.{readable_of}
+use Rattle.checks.specs.Readable.{readable_of}
 use Rattle.checks.proofs.LawfulLemmas.{sound}
 use Rattle.compact.specs.PassedRequest.{PassedLaw}
 use Rattle.compact.specs.Request.{RequestView}

@@ -7,15 +7,15 @@ use Rattle.std.specs.Cmp.{IsTotalOrder}
 use Rattle.std.specs.declared.cmp.Ordering.{Ordering}
 use Rattle.std.proofs.lemmas.Bool.Decides.{nat_tests}
 use Rattle.std.proofs.lemmas.List.Elements.{Contains-append_cases}
-use Rattle.coding.specs.Answers.{fault, ◌>>=◌}
-use Rattle.coding.specs.declared.fault.Fault.{Fault}
-use Rattle.coding.specs.declared.fault.FaultName.TheVariants.{Bounds, Level, NoInput, Numbers, SplitCount}
-use Rattle.ikey.specs.Comparator.{ShortKeys}
-use Rattle.table.specs.TestResult.{test_result}
-use Rattle.table.specs.TableContents.{Contents, contents_reading}
-use Rattle.edit.specs.Version.{State}
-use Rattle.edit.specs.VersionOrder.{level_files}
-use Rattle.edit.specs.declared.meta.FileMeta.{FileMeta}
+use Rattle.folder.specs.Answers.{fault, ◌>>=◌}
+use Rattle.folder.specs.fault.Fault.{Fault}
+use Rattle.folder.specs.fault.FaultName.TheVariants.{Bounds, Level, NoInput, Numbers, SplitCount}
+use Rattle.folder.specs.Comparator.{ShortKeys}
+use Rattle.reads.specs.TestResult.{test_result}
+use Rattle.reads.specs.TableContents.{Contents, contents_reading}
+use Rattle.folder.specs.Version.{State}
+use Rattle.folder.specs.VersionOrder.{level_files}
+use Rattle.folder.specs.meta.FileMeta.{FileMeta}
 use Rattle.folder.specs.Calls.{Files}
 use Rattle.folder.specs.Levels.{file_numbers, numbers_at}
 use Rattle.folder.specs.LoadedTables.{IsLoaded, IsTableOf}

@@ -4,8 +4,8 @@ use Rattle.std.specs.List.{All}
 use Rattle.std.specs.Ordering.{is_lt}
 use Rattle.std.specs.declared.cmp.Ordering.{Ordering}
 use Rattle.std.specs.declared.cmp.Ordering.TheVariants.{Less, Equal, Greater}
-use Rattle.ikey.specs.Order.{internal_cmp}
-use Rattle.edit.specs.declared.meta.FileMeta.{FileMeta}
+use Rattle.folder.specs.Order.{internal_cmp}
+use Rattle.folder.specs.meta.FileMeta.{FileMeta}
 use Rattle.store.specs.InputsCompaction.{RangesRise}
 use Rattle.store.specs.LentFiles.{LentRangesRise}
 

@@ -7,9 +7,9 @@ use Rattle.std.specs.Option.{option_map}
 use Rattle.std.specs.declared.cmp.Ordering.{Ordering}
 use Rattle.std.proofs.lemmas.Bool.{eqb-true, eq-eqb}
 use Rattle.std.proofs.lemmas.Option.{none-some, same_Some}
-use Rattle.coding.proofs.Binds.{bind_ok, ok_is}
-use Rattle.table.specs.CheckedContents.{contents_in}
-use Rattle.table.specs.TableContents.{Contents, blocks_of, contents_of, contents_reading}
+use Rattle.folder.proofs.Binds.{bind_ok, ok_is}
+use Rattle.reads.specs.CheckedContents.{contents_in}
+use Rattle.reads.specs.TableContents.{Contents, blocks_of, contents_of, contents_reading}
 use Rattle.reads.specs.Tables.{NumberedContents, table_of_number}
 use Rattle.checks.specs.TableReadings.{tables_reading}
 use Rattle.checks.proofs.FoundTables.{CheckedParts, checked_parts}

@@ -4,10 +4,10 @@ use Rattle.std.specs.Prelude.{is_some}
 use Rattle.std.specs.List.{flat_map}
 use Rattle.std.specs.Option.{option_map}
 use Rattle.std.proofs.lemmas.List.{append-nil}
-use Rattle.coding.proofs.Binds.{ok_is}
-use Rattle.coding.specs.Answers.{UnlessMemory, fault, ◌>>=◌}
-use Rattle.coding.specs.declared.fault.Fault.{Fault}
-use Rattle.coding.specs.declared.fault.FaultName.TheVariants.{Memory}
+use Rattle.folder.proofs.Binds.{ok_is}
+use Rattle.folder.specs.Answers.{UnlessMemory, fault, ◌>>=◌}
+use Rattle.folder.specs.fault.Fault.{Fault}
+use Rattle.folder.specs.fault.FaultName.TheVariants.{Memory}
 use Rattle.folder.specs.Calls.{Files, Tells}
 use Rattle.folder.specs.Folder.{TellsPart}
 use Rattle.folder.specs.Names.{current_text, manifest_name}

@@ -3,23 +3,23 @@ use Rattle.std.proofs.Common.{◌≡◌, ◌≢◌, ℕ, ◌+◌, ◌^◌, Bool,
 use Rattle.std.specs.Prelude.{◌&&◌, MatchBool, None, Some, nat_le, nat_lt}
 use Rattle.std.specs.Option.{ok_or}
 use Rattle.std.specs.declared.cmp.Ordering.{Ordering}
-use Rattle.coding.proofs.Refusals.{unless_device}
-use Rattle.coding.specs.Answers.{HoldsOrMemory, UnlessMemory, ◌>>=◌, fault}
-use Rattle.coding.specs.declared.fault.Fault.{Fault}
-use Rattle.coding.specs.declared.fault.FaultName.{FaultName}
-use Rattle.coding.specs.declared.fault.FaultName.TheVariants.{Bounds, Device, Duplicate, Level, Memory, NoInput, Numbers, Options, Snapshot, SnapshotList, SplitCount, TooLarge, Workers}
-use Rattle.block.specs.EncodedEntry.{Entry}
-use Rattle.table.specs.TableContents.{Contents, contents_reading}
-use Rattle.table.specs.EntryTests.{is_some_list}
-use Rattle.table.specs.TestResult.{test_result}
-use Rattle.edit.specs.Version.{State}
-use Rattle.edit.specs.VersionOrder.{level_files}
-use Rattle.edit.specs.declared.meta.FileMeta.{FileMeta}
-use Rattle.merge.specs.MergedLists.{merged}
+use Rattle.folder.proofs.Refusals.{unless_device}
+use Rattle.folder.specs.Answers.{HoldsOrMemory, UnlessMemory, ◌>>=◌, fault}
+use Rattle.folder.specs.fault.Fault.{Fault}
+use Rattle.folder.specs.fault.FaultName.{FaultName}
+use Rattle.folder.specs.fault.FaultName.TheVariants.{Bounds, Device, Duplicate, Level, Memory, NoInput, Numbers, Options, Snapshot, SnapshotList, SplitCount, TooLarge, Workers}
+use Rattle.reads.specs.EncodedEntry.{Entry}
+use Rattle.reads.specs.TableContents.{Contents, contents_reading}
+use Rattle.reads.specs.EntryTests.{is_some_list}
+use Rattle.reads.specs.TestResult.{test_result}
+use Rattle.folder.specs.Version.{State}
+use Rattle.folder.specs.VersionOrder.{level_files}
+use Rattle.folder.specs.meta.FileMeta.{FileMeta}
+use Rattle.reads.specs.MergedLists.{merged}
 use Rattle.pick.specs.PickedInputs.{IsInputsAnswer, PickedInputs}
 use Rattle.pick.specs.declared.picked_inputs.InputFile.{InputFile}
-use Rattle.keep.specs.Runs.{are_distinct}
-use Rattle.cut.specs.Outputs.{outputs}
+use Rattle.checks.specs.Runs.{are_distinct}
+use Rattle.compact.specs.Outputs.{outputs}
 use Rattle.reads.specs.Tables.{NumberedContents}
 use Rattle.checks.specs.TableReadings.{tables_reading}
 use Rattle.checks.proofs.TableRefusals.{no_device}
@@ -32,7 +32,7 @@ use Rattle.store.specs.InputsCompaction.{IsOrderlyAnswer, IsReadAnswer, are_stat
 use Rattle.store.specs.Step.{IsStepFor, StepView, with_inputs}
 use Rattle.store.specs.FolderRequest.{compaction_from, first_output, numbered_request, request_from}
 use Rattle.compact.specs.declared.settings.Settings.{Settings}
-use Rattle.ikey.specs.Comparator.{ShortKeys}
+use Rattle.folder.specs.Comparator.{ShortKeys}
 
 abbrev refusal : {Y : Type 0} → Fault → Result Y Fault
 refusal e = Err e

@@ -7,13 +7,13 @@ use Rattle.std.specs.Ordering.{is_le, nat_cmp, ordering_then}
 use Rattle.std.specs.declared.cmp.Ordering.{Ordering}
 use Rattle.std.specs.declared.cmp.Ordering.TheVariants.{Less, Equal, Greater}
 use Rattle.std.proofs.lemmas.List.Elements.{All-contains, Contains-get_or}
-use Rattle.ikey.specs.Order.{internal_cmp}
-use Rattle.ikey.proofs.Ordered.{internal_cmp-total}
-use Rattle.edit.specs.Version.{State}
-use Rattle.edit.specs.VersionOrder.{file_cmp, level_files}
-use Rattle.edit.specs.declared.meta.FileMeta.{FileMeta}
-use Rattle.edit.specs.declared.meta.NewFile.{NewFile}
-use Rattle.edit.proofs.SortedFiles.{same_number}
+use Rattle.folder.specs.Order.{internal_cmp}
+use Rattle.folder.proofs.Ordered.{internal_cmp-total}
+use Rattle.folder.specs.Version.{State}
+use Rattle.folder.specs.VersionOrder.{file_cmp, level_files}
+use Rattle.folder.specs.meta.FileMeta.{FileMeta}
+use Rattle.folder.specs.meta.NewFile.{NewFile}
+use Rattle.folder.proofs.SortedFiles.{same_number}
 use Rattle.pick.proofs.Lists.{IsIn}
 use Rattle.reads.proofs.FileOrder.{is_range}
 use Rattle.reads.proofs.LawfulVersions.{is_as_stated}

@@ -5,9 +5,9 @@ use Rattle.std.specs.Cmp.{IsTotalOrder}
 use Rattle.std.specs.Option.{option_map, ForSome}
 use Rattle.std.specs.declared.cmp.Ordering.{Ordering}
 use Rattle.std.proofs.lemmas.List.Elements.{All-contains}
-use Rattle.table.specs.TableContents.{Contents}
-use Rattle.edit.specs.Version.{State}
-use Rattle.edit.specs.declared.meta.NewFile.{NewFile}
+use Rattle.reads.specs.TableContents.{Contents}
+use Rattle.folder.specs.Version.{State}
+use Rattle.folder.specs.meta.NewFile.{NewFile}
 use Rattle.pick.specs.PickedInputs.{IsPicked, PickedInputs}
 use Rattle.pick.specs.declared.picked_inputs.InputFile.{InputFile}
 use Rattle.reads.specs.Lawful.{IsBelowNextFile, IsFileOf, IsLawful}

@@ -2,13 +2,13 @@
 use Rattle.std.proofs.Common.{◌≡◌, ◌≢◌, ◌⊎◌, ℕ, List, Option, Result, Ok, Err, IfErr, IsErrAnd, refl, sym, ap, subst, ◌∙◌, inl, inr}
 use Rattle.std.specs.Prelude.{◌&&◌, nat_le}
 use Rattle.std.specs.declared.cmp.Ordering.{Ordering}
-use Rattle.coding.proofs.Refusals.{unless_from}
-use Rattle.coding.specs.Answers.{FailsOrMemory, UnlessMemory, fault, ◌>>=◌}
-use Rattle.coding.specs.declared.fault.Fault.{Fault}
-use Rattle.coding.specs.declared.fault.FaultName.TheVariants.{Device, Memory, SplitCount}
-use Rattle.ikey.specs.Comparator.{ShortKeys}
-use Rattle.table.specs.TestResult.{test_result}
-use Rattle.edit.specs.Version.{State}
+use Rattle.folder.proofs.Refusals.{unless_from}
+use Rattle.folder.specs.Answers.{FailsOrMemory, UnlessMemory, fault, ◌>>=◌}
+use Rattle.folder.specs.fault.Fault.{Fault}
+use Rattle.folder.specs.fault.FaultName.TheVariants.{Device, Memory, SplitCount}
+use Rattle.folder.specs.Comparator.{ShortKeys}
+use Rattle.reads.specs.TestResult.{test_result}
+use Rattle.folder.specs.Version.{State}
 use Rattle.folder.proofs.LoadingLemmas.{told_since}
 use Rattle.folder.proofs.OpeningLemmas.{refuses}
 use Rattle.folder.specs.Calls.{Step}

@@ -1,11 +1,11 @@
 -- The calls of a compaction, as a part of those of the call.
 use Rattle.std.proofs.Common.{◌≡◌, ◌⊎◌, ℕ, List, ◌++◌, map, codes, Option, Some, Result, Ok, Err, IfErr, IsErrAnd, OnOk, refl, sym, ap, subst, ◌∙◌, inl, inr}
 use Rattle.std.specs.declared.cmp.Ordering.{Ordering}
-use Rattle.coding.proofs.Refusals.{unless_from}
-use Rattle.coding.specs.Answers.{UnlessMemory, fault}
-use Rattle.coding.specs.declared.fault.Fault.{Fault}
-use Rattle.coding.specs.declared.fault.FaultName.TheVariants.{Changed, Device}
-use Rattle.edit.specs.Version.{State}
+use Rattle.folder.proofs.Refusals.{unless_from}
+use Rattle.folder.specs.Answers.{UnlessMemory, fault}
+use Rattle.folder.specs.fault.Fault.{Fault}
+use Rattle.folder.specs.fault.FaultName.TheVariants.{Changed, Device}
+use Rattle.folder.specs.Version.{State}
 use Rattle.folder.proofs.LoadingLemmas.{told_since}
 use Rattle.folder.specs.Calls.{Call, Done, Files, Step, Tells}
 use Rattle.folder.specs.CallSequence.{MakesCalls}

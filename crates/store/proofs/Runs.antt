@@ -1,9 +1,9 @@
 -- Functions that make calls on a folder, one after the other.
 use Rattle.std.proofs.Common.{◌≡◌, ◌≢◌, ℕ, ◌≤◌, List, ◌++◌, Option, Result, Ok, Err, IfErr, IsErrAnd, refl, sym, ap, subst, ◌∙◌}
-use Rattle.coding.proofs.Refusals.{unless_from}
-use Rattle.coding.specs.Answers.{UnlessMemory, fault}
-use Rattle.coding.specs.declared.fault.Fault.{Fault}
-use Rattle.coding.specs.declared.fault.FaultName.TheVariants as name
+use Rattle.folder.proofs.Refusals.{unless_from}
+use Rattle.folder.specs.Answers.{UnlessMemory, fault}
+use Rattle.folder.specs.fault.Fault.{Fault}
+use Rattle.folder.specs.fault.FaultName.TheVariants as name
 use Rattle.folder.proofs.CountLemmas.{count_device, stops_ok}
 use Rattle.folder.proofs.OpeningLemmas.{failed_since}
 use Rattle.folder.proofs.ReportLemmas.{reports_failed, reports_handed, reports_steady, reports_then}

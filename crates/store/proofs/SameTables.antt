@@ -5,10 +5,10 @@ use Rattle.std.specs.List.{filter, flat_map}
 use Rattle.std.specs.Option.{option_and_then, option_map_or}
 use Rattle.std.specs.declared.cmp.Ordering.{Ordering}
 use Rattle.std.proofs.lemmas.List.Elements.{All-contains, Contains-get_or}
-use Rattle.block.specs.EncodedEntry.{Entry}
-use Rattle.table.specs.TableContents.{Contents}
-use Rattle.edit.specs.Version.{State}
-use Rattle.edit.specs.declared.meta.NewFile.{NewFile}
+use Rattle.reads.specs.EncodedEntry.{Entry}
+use Rattle.reads.specs.TableContents.{Contents}
+use Rattle.folder.specs.Version.{State}
+use Rattle.folder.specs.meta.NewFile.{NewFile}
 use Rattle.reads.specs.Gets.{get_of, is_visible, newest_entry, value_in}
 use Rattle.reads.specs.Lawful.{AreDistinct, AreNewer, IsFileOf, IsLawful}
 use Rattle.reads.specs.Tables.{NumberedContents, all_entries, table_entries, table_of_number}

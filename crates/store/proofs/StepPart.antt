@@ -2,11 +2,11 @@
 use Rattle.std.proofs.Common.{◌≡◌, ℕ, true, ◌∷◌, [], List, ◌++◌, append_assoc, map, codes, Option, Some, None, Result, Ok, Err, IfErr, IfOk, IsErrAnd, OnOk, refl, sym, ap, subst, ◌∙◌, inl, inr}
 use Rattle.std.proofs.lemmas.List.{map-append}
 use Rattle.std.specs.declared.cmp.Ordering.{Ordering}
-use Rattle.coding.specs.Answers.{IsThen, UnlessMemory, fault}
-use Rattle.coding.specs.declared.fault.Fault.{Fault}
-use Rattle.coding.specs.declared.fault.FaultName.TheVariants.{Device}
-use Rattle.ikey.specs.Comparator.{ShortKeys}
-use Rattle.edit.specs.Version.{State}
+use Rattle.folder.specs.Answers.{IsThen, UnlessMemory, fault}
+use Rattle.folder.specs.fault.Fault.{Fault}
+use Rattle.folder.specs.fault.FaultName.TheVariants.{Device}
+use Rattle.folder.specs.Comparator.{ShortKeys}
+use Rattle.folder.specs.Version.{State}
 use Rattle.folder.proofs.LoadingLemmas.{told_since}
 use Rattle.folder.proofs.PutLemmas.{moved_to, put_same}
 use Rattle.folder.specs.CallSequence.{MakesCalls, ShowsAll}

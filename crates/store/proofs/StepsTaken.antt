@@ -3,17 +3,17 @@ use Rattle.std.proofs.Common.{◌≡◌, ◌≢◌, ℕ, ◌^◌, List, Option, 
 use Rattle.std.specs.Option.{IfSome, is_none, ok_or, option_map_or}
 use Rattle.std.specs.Prelude.{Bool, true, false}
 use Rattle.std.specs.declared.cmp.Ordering.{Ordering}
-use Rattle.coding.proofs.Refusals.{only_memory}
-use Rattle.coding.specs.Answers.{UnlessMemory, fault, ◌>>=◌}
-use Rattle.coding.specs.Varint.{varint_reading}
-use Rattle.coding.specs.declared.fault.Fault.{Fault}
-use Rattle.coding.specs.declared.fault.FaultName.TheVariants.{Apply, Comparator, Device, EditField, EditTag, Memory}
-use Rattle.edit.specs.Edit.{Edit, field_fault}
-use Rattle.edit.specs.Tag.{listed_tag}
-use Rattle.edit.specs.Version.{State, applied, applied_by, names_another}
-use Rattle.ikey.specs.Bytewise.{bytewise_cmp, bytewise_short_keys}
-use Rattle.ikey.specs.Comparator.{ShortKeys}
-use Rattle.ikey.specs.Shortlex.{shortlex_cmp, shortlex_short_keys}
+use Rattle.folder.proofs.Refusals.{only_memory}
+use Rattle.folder.specs.Answers.{UnlessMemory, fault, ◌>>=◌}
+use Rattle.folder.specs.Varint.{varint_reading}
+use Rattle.folder.specs.fault.Fault.{Fault}
+use Rattle.folder.specs.fault.FaultName.TheVariants.{Apply, Comparator, Device, EditField, EditTag, Memory}
+use Rattle.folder.specs.Edit.{Edit, field_fault}
+use Rattle.folder.specs.Tag.{listed_tag}
+use Rattle.folder.specs.Version.{State, applied, applied_by, names_another}
+use Rattle.folder.specs.Bytewise.{bytewise_cmp, bytewise_short_keys}
+use Rattle.folder.specs.Comparator.{ShortKeys}
+use Rattle.folder.specs.Shortlex.{shortlex_cmp, shortlex_short_keys}
 use Rattle.folder.specs.Calls.{Step}
 use Rattle.folder.specs.Manifest.{order_name}
 use Rattle.folder.specs.Orders.{order_cmp, order_short_keys}

@@ -3,7 +3,7 @@ use Rattle.std.proofs.Common.{◌≡◌, ◌⊎◌, ℕ, true, List, [], ◌∷�
 use Rattle.std.proofs.lemmas.List.{append_cancel_right, map-append}
 use Rattle.std.proofs.lemmas.Option.{same_Some}
 use Rattle.std.specs.declared.cmp.Ordering.{Ordering}
-use Rattle.edit.specs.Version.{State}
+use Rattle.folder.specs.Version.{State}
 use Rattle.folder.specs.Calls.{Call, Done, Files, FolderSynced, FolderView, Step, Synced, with_synced, with_value}
 use Rattle.folder.specs.CallSequence.{MakesCalls}
 use Rattle.folder.specs.Crash.{Happens, Leads, World}

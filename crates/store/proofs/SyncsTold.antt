@@ -1,7 +1,7 @@
 -- Syncs change nothing of what is read.
 use Rattle.std.proofs.Common.{◌≡◌, ℕ, false, List, [], ◌∷◌, ◌++◌, Option, Result, ap, subst, ◌∙◌, inl, inr}
 use Rattle.std.specs.declared.cmp.Ordering.{Ordering}
-use Rattle.edit.specs.Version.{State}
+use Rattle.folder.specs.Version.{State}
 use Rattle.folder.specs.Calls.{Call, Created, Done, Files, FolderSynced, FolderView, Removed, Renamed, Shows, Step, Synced, Tells, Tried, Written}
 use Rattle.folder.specs.CallSequence.{AreMade, MakesCalls, ShowsAll}
 use Rattle.folder.specs.Levels.{file_numbers}

@@ -6,12 +6,12 @@ use Rattle.std.specs.Option.{option_map}
 use Rattle.std.specs.declared.cmp.Ordering.{Ordering}
 use Rattle.std.proofs.lemmas.Bool.{eqb-true, eq-eqb}
 use Rattle.std.proofs.lemmas.List.Elements.{All-contains}
-use Rattle.coding.specs.Answers.{◌>>=◌}
-use Rattle.coding.specs.declared.fault.Fault.{Fault}
-use Rattle.table.specs.CheckedContents.{contents_in}
-use Rattle.table.specs.TableContents.{Contents, contents_reading}
-use Rattle.edit.specs.Version.{State}
-use Rattle.edit.specs.declared.meta.NewFile.{NewFile}
+use Rattle.folder.specs.Answers.{◌>>=◌}
+use Rattle.folder.specs.fault.Fault.{Fault}
+use Rattle.reads.specs.CheckedContents.{contents_in}
+use Rattle.reads.specs.TableContents.{Contents, contents_reading}
+use Rattle.folder.specs.Version.{State}
+use Rattle.folder.specs.meta.NewFile.{NewFile}
 use Rattle.folder.specs.Levels.{file_numbers}
 use Rattle.folder.specs.ReadsAs.{IsOneOf}
 use Rattle.pick.specs.PickedInputs.{PickedInputs}

@@ -2,10 +2,10 @@
 use Rattle.std.specs.Prelude.{◌≡◌, ◌⊎◌, ℕ, ◌≤◌, Bool, true, false, List, [], ◌∷◌, ◌++◌, length, map}
 use Rattle.std.specs.Prelude.{Some, None}
 use Rattle.std.specs.Prelude.{Result, Ok, Err, IfErr, IfOk, OnOk, Contains}
-use Rattle.coding.specs.Answers.{UnlessMemory}
-use Rattle.coding.specs.declared.fault.Fault.{Fault}
-use Rattle.ikey.specs.Comparator.{KeyOrder, ShortKeys}
-use Rattle.edit.specs.Version.{State}
+use Rattle.folder.specs.Answers.{UnlessMemory}
+use Rattle.folder.specs.fault.Fault.{Fault}
+use Rattle.folder.specs.Comparator.{KeyOrder, ShortKeys}
+use Rattle.folder.specs.Version.{State}
 use Rattle.folder.specs.Calls.{ToldFiles, Files, Step, Tells}
 use Rattle.folder.specs.Crash.{LeavesOnly, World}
 use Rattle.folder.specs.Folder.{TellsSame}
@@ -15,7 +15,7 @@ use Rattle.folder.specs.declared.order.Order.{Order}
 use Rattle.pick.specs.PickedInputs.{PickedInputs}
 use Rattle.reads.specs.Gets.{get_of}
 use Rattle.reads.specs.Tables.{NumberedContents}
-use Rattle.keep.specs.Readable.{is_read, readable_of}
+use Rattle.checks.specs.Readable.{is_read, readable_of}
 use Rattle.checks.specs.LawfulTables.{IsLawfulTables}
 use Rattle.checks.specs.Takers.{AreToldInTurn}
 use Rattle.compact.specs.OneThread.{Answer}

@@ -1,8 +1,8 @@
 -- What the compaction of a folder answers, if the folder holds these files.
 use Rattle.std.specs.Prelude.{◌≡◌, ℕ, List, Option, None, Result}
-use Rattle.coding.specs.Answers.{IsThen}
-use Rattle.coding.specs.declared.fault.Fault.{Fault}
-use Rattle.edit.specs.Version.{State}
+use Rattle.folder.specs.Answers.{IsThen}
+use Rattle.folder.specs.fault.Fault.{Fault}
+use Rattle.folder.specs.Version.{State}
 use Rattle.folder.specs.Calls.{Files}
 use Rattle.folder.specs.Levels.{file_numbers}
 use Rattle.folder.specs.LoadedTables.{IsLoaded}
@@ -11,7 +11,7 @@ use Rattle.folder.specs.ReadsAs.{IsFileIn}
 use Rattle.pick.specs.PickedInputs.{IsInputsAnswer, PickedInputs}
 use Rattle.checks.specs.LawfulTables.{IsLawfulTables}
 use Rattle.compact.specs.OneThread.{Answer}
-use Rattle.ikey.specs.Comparator.{KeyOrder, ShortKeys}
+use Rattle.folder.specs.Comparator.{KeyOrder, ShortKeys}
 use Rattle.store.specs.FolderRequest.{compaction_from}
 use Rattle.store.specs.Step.{IsStepFor, StepView, with_inputs}
 use Rattle.folder.specs.Orders.{order_cmp, order_short_keys}

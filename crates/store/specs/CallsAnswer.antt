@@ -1,7 +1,7 @@
 -- What a function does that makes some calls on a folder.
 use Rattle.std.specs.Prelude.{List, Result, IfErr}
-use Rattle.coding.specs.Answers.{UnlessMemory}
-use Rattle.coding.specs.declared.fault.Fault.{Fault}
+use Rattle.folder.specs.Answers.{UnlessMemory}
+use Rattle.folder.specs.fault.Fault.{Fault}
 use Rattle.folder.specs.Calls.{Call}
 use Rattle.folder.specs.CallSequence.{MakesCalls}
 use Rattle.folder.specs.OpenAnswer.{IsStopped}

@@ -1,10 +1,10 @@
 -- What a compaction makes of a folder.
 use Rattle.std.specs.Prelude.{◌≡◌, ◌⊎◌, ℕ, ◌<◌, ◌^◌, true, List, [], ◌∷◌, ◌++◌, map, codes}
 use Rattle.std.specs.Prelude.{Option, Some, None, Result, Ok, IfErr, IfOk, OnOk}
-use Rattle.coding.specs.Answers.{UnlessMemory, fault}
-use Rattle.coding.specs.declared.fault.Fault.{Fault}
-use Rattle.coding.specs.declared.fault.FaultName.TheVariants.{Device}
-use Rattle.edit.specs.Version.{State}
+use Rattle.folder.specs.Answers.{UnlessMemory, fault}
+use Rattle.folder.specs.fault.Fault.{Fault}
+use Rattle.folder.specs.fault.FaultName.TheVariants.{Device}
+use Rattle.folder.specs.Version.{State}
 use Rattle.folder.specs.Calls.{ToldFiles, Call, Done, Files, FolderSynced, Step, Tells}
 use Rattle.folder.specs.CallSequence.{AreMade}
 use Rattle.folder.specs.Crash.{IsDurable, Leads, World}
@@ -17,7 +17,7 @@ use Rattle.folder.specs.declared.order.Order.{Order}
 use Rattle.pick.specs.PickedInputs.{IsPicked, PickedInputs}
 use Rattle.reads.specs.Gets.{get_of}
 use Rattle.reads.specs.Tables.{NumberedContents}
-use Rattle.keep.specs.Readable.{is_read, readable_of}
+use Rattle.checks.specs.Readable.{is_read, readable_of}
 use Rattle.checks.specs.LawfulTables.{IsLawfulTables}
 use Rattle.compact.specs.OneThread.{Answer}
 use Rattle.install.specs.Install.{IsEditedBy, AlwaysStandsAs, SurvivesCrash, next_version_tables}
@@ -27,7 +27,7 @@ use Rattle.store.specs.VersionSync.{AlwaysReadsBy, sync_calls}
 use Rattle.store.specs.declared.compaction_step.CompactionStep.{CompactionStep}
 use Rattle.folder.specs.Orders.{order_cmp, order_short_keys}
 use Rattle.compact.specs.declared.settings.Settings.{Settings}
-use Rattle.ikey.specs.Comparator.{KeyOrder, ShortKeys}
+use Rattle.folder.specs.Comparator.{KeyOrder, ShortKeys}
 
 -- The edited version of a compaction's answer: the answer's edit makes it of the version, by a
 -- manifest whose number is next file. Last sequence stays, and next file rises. With the tables

@@ -1,9 +1,9 @@
 -- Which levels `--all` compacts.
 use Rattle.std.specs.Prelude.{◌≡◌, ◌⊎◌, ◌<◌, ◌≤◌, ℕ, length, Option, Some, None}
-use Rattle.ikey.specs.Bytewise.{bytewise_cmp}
-use Rattle.edit.specs.Version.{State}
-use Rattle.edit.specs.VersionOrder.{level_files}
-use Rattle.edit.specs.declared.meta.TheConstants.{LAST_LEVEL}
+use Rattle.folder.specs.Bytewise.{bytewise_cmp}
+use Rattle.folder.specs.Version.{State}
+use Rattle.folder.specs.VersionOrder.{level_files}
+use Rattle.folder.specs.meta.TheConstants.{LAST_LEVEL}
 
 -- the number of a level's files, whatever their order is
 abbrev pub file_count : State → ℕ → ℕ

@@ -2,11 +2,11 @@
 use Rattle.std.specs.Prelude.{◌≡◌, ℕ, List, [], ◌∷◌, ◌++◌, codes, is_some, if◌then◌else◌}
 use Rattle.std.specs.Prelude.{Result, Ok, Err}
 use Rattle.std.specs.List.{flat_map}
-use Rattle.coding.specs.Answers.{IsThen, fault, ◌>>=◌}
-use Rattle.coding.specs.declared.fault.Fault.{Fault}
-use Rattle.coding.specs.declared.fault.FaultName.TheVariants.{Missing}
-use Rattle.ikey.specs.Comparator.{KeyOrder}
-use Rattle.edit.specs.Version.{State}
+use Rattle.folder.specs.Answers.{IsThen, fault, ◌>>=◌}
+use Rattle.folder.specs.fault.Fault.{Fault}
+use Rattle.folder.specs.fault.FaultName.TheVariants.{Missing}
+use Rattle.folder.specs.Comparator.{KeyOrder}
+use Rattle.folder.specs.Version.{State}
 use Rattle.folder.specs.Calls.{Files}
 use Rattle.folder.specs.Names.{manifest_name, old_table_name, table_name}
 use Rattle.pick.specs.PickedInputs.{IsInputsAnswer}

@@ -2,17 +2,17 @@
 use Rattle.std.specs.Prelude.{ℕ, ◌+◌, ◌-◌, ◌^◌, nat_le, nat_lt, ◌&&◌, if◌then◌else◌, List, map}
 use Rattle.std.specs.Prelude.{unwrap_or, Option, Some, None, Result, Ok}
 use Rattle.std.specs.Option.{ok_or}
-use Rattle.coding.specs.Answers.{fault, ◌>>=◌}
-use Rattle.coding.specs.declared.fault.Fault.{Fault}
-use Rattle.coding.specs.declared.fault.FaultName.TheVariants.{Numbers, SplitCount}
-use Rattle.table.specs.TestResult.{test_result}
-use Rattle.edit.specs.Version.{State}
+use Rattle.folder.specs.Answers.{fault, ◌>>=◌}
+use Rattle.folder.specs.fault.Fault.{Fault}
+use Rattle.folder.specs.fault.FaultName.TheVariants.{Numbers, SplitCount}
+use Rattle.reads.specs.TestResult.{test_result}
+use Rattle.folder.specs.Version.{State}
 use Rattle.pick.specs.PickedInputs.{PickedInputs}
 use Rattle.pick.specs.declared.picked_inputs.InputFile.{InputFile}
 use Rattle.install.specs.Install.{table_bytes_of}
 use Rattle.compact.specs.OneThread.{Answer, compaction_result}
 use Rattle.compact.specs.Request.{RequestView}
-use Rattle.ikey.specs.Comparator.{KeyOrder, ShortKeys}
+use Rattle.folder.specs.Comparator.{KeyOrder, ShortKeys}
 use Rattle.compact.specs.declared.settings.Settings.{Settings}
 use Rattle.split.specs.declared.split.TheConstants.{MAX_RANGES}
 

@@ -1,10 +1,10 @@
 -- The inputs of a level, as they are found, and what their compaction is to be for an installation.
 use Rattle.std.specs.Prelude.{◌≡◌, ◌≢◌, ◌<◌, ◌^◌, ℕ, List, unwrap_or, None, Result, Ok, Err}
-use Rattle.coding.specs.Answers.{IsThen, ◌>>=◌}
-use Rattle.coding.specs.declared.fault.Fault.{Fault}
-use Rattle.coding.specs.declared.fault.FaultName.TheVariants.{Device}
-use Rattle.ikey.specs.Comparator.{KeyOrder, ShortKeys}
-use Rattle.edit.specs.Version.{State}
+use Rattle.folder.specs.Answers.{IsThen, ◌>>=◌}
+use Rattle.folder.specs.fault.Fault.{Fault}
+use Rattle.folder.specs.fault.FaultName.TheVariants.{Device}
+use Rattle.folder.specs.Comparator.{KeyOrder, ShortKeys}
+use Rattle.folder.specs.Version.{State}
 use Rattle.folder.specs.Calls.{Files}
 use Rattle.folder.specs.declared.order.Order.{Order}
 use Rattle.pick.specs.PickedInputs.{IsInputsAnswer, PickedInputs}

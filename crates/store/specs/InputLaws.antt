@@ -1,8 +1,8 @@
 -- Inputs that are read alone.
 use Rattle.std.specs.Prelude.{◌≡◌, ℕ, true, List, map, Option, Result, Ok}
-use Rattle.coding.specs.declared.fault.Fault.{Fault}
-use Rattle.ikey.specs.Comparator.{KeyOrder, ShortKeys}
-use Rattle.edit.specs.Version.{State, are_apart}
+use Rattle.folder.specs.fault.Fault.{Fault}
+use Rattle.folder.specs.Comparator.{KeyOrder, ShortKeys}
+use Rattle.folder.specs.Version.{State, are_apart}
 use Rattle.folder.specs.Calls.{Files}
 use Rattle.folder.specs.Levels.{file_numbers}
 use Rattle.folder.specs.LoadedTables.{IsLoaded}

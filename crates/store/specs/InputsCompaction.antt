@@ -3,17 +3,17 @@ use Rattle.std.specs.Prelude.{◌≡◌, ℕ, ◌+◌, ◌<◌, ◌≤◌, Bool,
 use Rattle.std.specs.Prelude.{slice_index_or, Option, None, Result, Ok, Err}
 use Rattle.std.specs.List.{All}
 use Rattle.std.specs.declared.cmp.Ordering.TheVariants.{Less}
-use Rattle.coding.specs.Answers.{IsThen, fault, ◌>>=◌}
-use Rattle.coding.specs.declared.fault.Fault.{Fault}
-use Rattle.coding.specs.declared.fault.FaultName.TheVariants.{Bounds, Lawless}
-use Rattle.ikey.specs.Comparator.{KeyOrder, ShortKeys}
-use Rattle.ikey.specs.Order.{internal_cmp}
-use Rattle.table.specs.TestResult.{test_result}
-use Rattle.table.specs.TableContents.{Contents}
-use Rattle.edit.specs.Version.{State}
-use Rattle.edit.specs.VersionOrder.{level_files}
-use Rattle.edit.specs.declared.meta.FileMeta.{FileMeta}
-use Rattle.edit.specs.declared.meta.TheConstants.{LAST_LEVEL}
+use Rattle.folder.specs.Answers.{IsThen, fault, ◌>>=◌}
+use Rattle.folder.specs.fault.Fault.{Fault}
+use Rattle.folder.specs.fault.FaultName.TheVariants.{Bounds, Lawless}
+use Rattle.folder.specs.Comparator.{KeyOrder, ShortKeys}
+use Rattle.folder.specs.Order.{internal_cmp}
+use Rattle.reads.specs.TestResult.{test_result}
+use Rattle.reads.specs.TableContents.{Contents}
+use Rattle.folder.specs.Version.{State}
+use Rattle.folder.specs.VersionOrder.{level_files}
+use Rattle.folder.specs.meta.FileMeta.{FileMeta}
+use Rattle.folder.specs.meta.TheConstants.{LAST_LEVEL}
 use Rattle.folder.specs.Calls.{Files}
 use Rattle.folder.specs.Levels.{file_numbers}
 use Rattle.folder.specs.LoadedTables.{IsLoaded}

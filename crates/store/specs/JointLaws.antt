@@ -1,9 +1,9 @@
 -- How compaction and installation fit: what the one answers is what the other asks for.
 use Rattle.std.specs.Prelude.{◌≡◌, ℕ, ◌<◌, ◌≤◌, ◌^◌, List, Ok}
 use Rattle.std.specs.List.{All}
-use Rattle.edit.specs.Version.{State}
-use Rattle.edit.specs.declared.meta.NewFile.{NewFile}
-use Rattle.edit.specs.declared.meta.TheConstants.{LAST_LEVEL}
+use Rattle.folder.specs.Version.{State}
+use Rattle.folder.specs.meta.NewFile.{NewFile}
+use Rattle.folder.specs.meta.TheConstants.{LAST_LEVEL}
 use Rattle.folder.specs.declared.order.Order.{Order}
 use Rattle.pick.specs.PickedInputs.{IsPicked, PickedInputs}
 use Rattle.reads.specs.Lawful.{IsLawful}
@@ -14,7 +14,7 @@ use Rattle.compact.specs.RequestOverVersion.{IsOver}
 use Rattle.store.specs.FolderRequest.{request_of}
 use Rattle.store.specs.Compaction.{EditedVersion}
 use Rattle.compact.specs.declared.settings.Settings.{Settings}
-use Rattle.ikey.specs.Comparator.{KeyOrder, ShortKeys}
+use Rattle.folder.specs.Comparator.{KeyOrder, ShortKeys}
 
 -- If inputs are picked from a lawful version, and its log numbers are below 2^64, the request for
 -- them is one over the version. That is: the bytes loaded of each input are those of its table, and

@@ -2,9 +2,9 @@
 use Rattle.std.specs.Prelude.{◌≡◌, ℕ, ◌+◌, ◌<◌, true, List, length, slice_index_or}
 use denote.Ref.{Bor}
 use Rattle.std.specs.Ordering.{is_lt}
-use Rattle.ikey.specs.Order.{internal_cmp}
-use Rattle.ikey.specs.Comparator.{KeyOrder}
-use Rattle.edit.specs.declared.meta.FileMeta.{FileMeta}
+use Rattle.folder.specs.Order.{internal_cmp}
+use Rattle.folder.specs.Comparator.{KeyOrder}
+use Rattle.folder.specs.meta.FileMeta.{FileMeta}
 
 -- the ranges of these files rise
 abbrev pub LentRangesRise : KeyOrder → List (Bor FileMeta) → Type 0

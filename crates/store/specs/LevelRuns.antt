@@ -4,8 +4,8 @@ use Rattle.std.specs.Prelude.{◌≡◌, ◌⊎◌, ℕ, Bool, true, false, List
 use Rattle.std.specs.Prelude.{Result, Ok}
 use Rattle.std.specs.Prelude.{IfOk, OnOk}
 use Rattle.std.specs.List.{flat_map}
-use Rattle.coding.specs.declared.fault.Fault.{Fault}
-use Rattle.edit.specs.Version.{State}
+use Rattle.folder.specs.fault.Fault.{Fault}
+use Rattle.folder.specs.Version.{State}
 use Rattle.folder.specs.Calls.{Call, Done, Step}
 use Rattle.folder.specs.CallSequence.{AreMadeBy}
 use Rattle.folder.specs.Manifest.{order_name}

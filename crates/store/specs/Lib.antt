@@ -1,3 +1,5 @@
+-- of lower crates, whose words these use
+pub use Rattle.split.specs.Ranges
 -- what contracts rest on
 pub mod FolderRequest
 pub mod Step

@@ -1,8 +1,8 @@
 -- A text with the lines of tables that are there, so far.
 use Rattle.std.specs.Prelude.{ℕ, List, ◌++◌, Result, Ok}
 use Rattle.std.specs.List.{flat_map}
-use Rattle.coding.specs.Answers.{◌>>=◌}
-use Rattle.coding.specs.declared.fault.Fault.{Fault}
+use Rattle.folder.specs.Answers.{◌>>=◌}
+use Rattle.folder.specs.fault.Fault.{Fault}
 use Rattle.folder.specs.Calls.{Files}
 use Rattle.store.specs.FilesToCompact.{name_line, name_there, names_there}
 

@@ -1,9 +1,9 @@
 -- The law that the answer of a compaction fits its installation, for numbered tables.
 use Rattle.std.specs.Prelude.{◌≡◌, ℕ, ◌<◌, ◌≤◌, ◌^◌, List, Ok}
 use Rattle.std.specs.List.{All}
-use Rattle.edit.specs.Version.{State}
-use Rattle.edit.specs.declared.meta.NewFile.{NewFile}
-use Rattle.edit.specs.declared.meta.TheConstants.{LAST_LEVEL}
+use Rattle.folder.specs.Version.{State}
+use Rattle.folder.specs.meta.NewFile.{NewFile}
+use Rattle.folder.specs.meta.TheConstants.{LAST_LEVEL}
 use Rattle.folder.specs.declared.order.Order.{Order}
 use Rattle.pick.specs.PickedInputs.{IsPicked, PickedInputs}
 use Rattle.reads.specs.Lawful.{IsLawful}
@@ -13,7 +13,7 @@ use Rattle.compact.specs.OneThread.{Answer, one_thread}
 use Rattle.store.specs.FolderRequest.{manifest_of, request_from}
 use Rattle.store.specs.Compaction.{EditedVersion}
 use Rattle.compact.specs.declared.settings.Settings.{Settings}
-use Rattle.ikey.specs.Comparator.{KeyOrder, ShortKeys}
+use Rattle.folder.specs.Comparator.{KeyOrder, ShortKeys}
 
 -- The same of a request whose outputs have the numbers from a first one on, if that one is above
 -- the manifest's.

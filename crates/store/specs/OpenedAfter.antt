@@ -1,9 +1,9 @@
 -- What a folder is opened as after a compaction.
 use Rattle.std.specs.Prelude.{◌≡◌, ℕ, List, Result, Ok, Err}
-use Rattle.coding.specs.Answers.{IsThen, ◌>>=◌}
-use Rattle.coding.specs.declared.fault.Fault.{Fault}
-use Rattle.edit.specs.Edit.{Edit, IsEdit, IsEditRefused}
-use Rattle.edit.specs.Version.{State, applied_by}
+use Rattle.folder.specs.Answers.{IsThen, ◌>>=◌}
+use Rattle.folder.specs.fault.Fault.{Fault}
+use Rattle.folder.specs.Edit.{Edit, IsEdit, IsEditRefused}
+use Rattle.folder.specs.Version.{State, applied_by}
 use Rattle.folder.specs.Manifest.{order_name}
 use Rattle.folder.specs.declared.order.Order.{Order}
 use Rattle.store.specs.FolderRequest.{manifest_of}

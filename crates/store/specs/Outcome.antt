@@ -1,10 +1,10 @@
 -- The outcome of a compaction that is not installed: what is answered, and the calls that write it.
 use Rattle.std.specs.Prelude.{◌≡◌, ℕ, List, [], ◌∷◌, ◌++◌, codes, Option, Result, Ok}
-use Rattle.coding.specs.Answers.{IsThen}
-use Rattle.coding.specs.declared.fault.Fault.{Fault}
-use Rattle.ikey.specs.Comparator.{KeyOrder, ShortKeys}
-use Rattle.edit.specs.Version.{State}
-use Rattle.edit.specs.declared.meta.DeletedFile.{DeletedFile}
+use Rattle.folder.specs.Answers.{IsThen}
+use Rattle.folder.specs.fault.Fault.{Fault}
+use Rattle.folder.specs.Comparator.{KeyOrder, ShortKeys}
+use Rattle.folder.specs.Version.{State}
+use Rattle.folder.specs.meta.DeletedFile.{DeletedFile}
 use Rattle.folder.specs.Calls.{Call, Files, FolderSynced, Renamed}
 use Rattle.pick.specs.PickedInputs.{PickedInputs}
 use Rattle.compact.specs.AnswerIn.{answer_in}

@@ -1,12 +1,12 @@
 -- Which calls a compaction makes on a folder, be it one that tells what it holds or not.
 use Rattle.std.specs.Prelude.{◌≡◌, ◌⊎◌, ℕ, List, ◌++◌, codes, map, Some, Result, Ok, IfErr, IfOk}
 use Rattle.std.specs.List.{flat_map}
-use Rattle.coding.specs.Answers.{UnlessMemory, fault}
-use Rattle.coding.specs.declared.fault.Fault.{Fault}
-use Rattle.coding.specs.declared.fault.FaultName.TheVariants.{Changed, Device}
-use Rattle.ikey.specs.Comparator.{KeyOrder, ShortKeys}
-use Rattle.table.specs.TableContents.{Contents}
-use Rattle.edit.specs.Version.{State}
+use Rattle.folder.specs.Answers.{UnlessMemory, fault}
+use Rattle.folder.specs.fault.Fault.{Fault}
+use Rattle.folder.specs.fault.FaultName.TheVariants.{Changed, Device}
+use Rattle.folder.specs.Comparator.{KeyOrder, ShortKeys}
+use Rattle.reads.specs.TableContents.{Contents}
+use Rattle.folder.specs.Version.{State}
 use Rattle.folder.specs.Calls.{Done, Step, ToldFiles}
 use Rattle.folder.specs.CallSequence.{MakesCalls}
 use Rattle.folder.specs.Manifest.{order_name}

@@ -1,9 +1,9 @@
 -- What the caller of a compaction is answered.
 use Rattle.std.specs.Prelude.{◌≡◌, ℕ, List, Result, Ok}
-use Rattle.coding.specs.Answers.{IsThen, ◌>>=◌}
-use Rattle.coding.specs.declared.fault.Fault.{Fault}
-use Rattle.edit.specs.Version.{State}
-use Rattle.edit.specs.declared.meta.DeletedFile.{DeletedFile}
+use Rattle.folder.specs.Answers.{IsThen, ◌>>=◌}
+use Rattle.folder.specs.fault.Fault.{Fault}
+use Rattle.folder.specs.Version.{State}
+use Rattle.folder.specs.meta.DeletedFile.{DeletedFile}
 use Rattle.pick.specs.PickedInputs.{PickedInputs}
 use Rattle.compact.specs.EditOf.{deletions_of}
 use Rattle.compact.specs.GroupedAnswer.{table_sizes}

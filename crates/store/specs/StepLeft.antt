@@ -1,10 +1,10 @@
 -- What a compaction of a version leaves that is known to be lawful.
 use Rattle.std.specs.Prelude.{◌≡◌, ◌⊎◌, ℕ, List, codes, Some, None, Result, IfErr, IfOk, OnOk}
-use Rattle.coding.specs.Answers.{UnlessMemory, fault}
-use Rattle.coding.specs.declared.fault.Fault.{Fault}
-use Rattle.coding.specs.declared.fault.FaultName.TheVariants.{Device}
-use Rattle.ikey.specs.Comparator.{KeyOrder, ShortKeys}
-use Rattle.edit.specs.Version.{State}
+use Rattle.folder.specs.Answers.{UnlessMemory, fault}
+use Rattle.folder.specs.fault.Fault.{Fault}
+use Rattle.folder.specs.fault.FaultName.TheVariants.{Device}
+use Rattle.folder.specs.Comparator.{KeyOrder, ShortKeys}
+use Rattle.folder.specs.Version.{State}
 use Rattle.folder.specs.Calls.{ToldFiles, Step}
 use Rattle.folder.specs.Names.{current_text}
 use Rattle.folder.specs.declared.order.Order.{Order}

@@ -1,7 +1,7 @@
 -- What a call leaves that told nothing.
 use Rattle.std.specs.Prelude.{◌≡◌, List, Result, IfErr}
-use Rattle.coding.specs.Answers.{UnlessMemory}
-use Rattle.coding.specs.declared.fault.Fault.{Fault}
+use Rattle.folder.specs.Answers.{UnlessMemory}
+use Rattle.folder.specs.fault.Fault.{Fault}
 use Rattle.folder.specs.Calls.{ToldFiles, Step}
 use Rattle.store.specs.Compaction.{IsUnchanged}
 

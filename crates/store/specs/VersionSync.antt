@@ -1,8 +1,8 @@
 -- The calls that sync what a version rests on, and the folders for which they make it stand.
 use Rattle.std.specs.Prelude.{ℕ, List, [], ◌∷◌, ◌++◌, codes}
 use Rattle.std.specs.List.{flat_map}
-use Rattle.ikey.specs.Comparator.{KeyOrder}
-use Rattle.edit.specs.Version.{State}
+use Rattle.folder.specs.Comparator.{KeyOrder}
+use Rattle.folder.specs.Version.{State}
 use Rattle.folder.specs.Calls.{Call, FolderSynced, Step, Synced}
 use Rattle.folder.specs.Crash.{Leads, World}
 use Rattle.folder.specs.Levels.{file_numbers}

@@ -3,8 +3,8 @@
 ghost use Rattle.std.specs.Prelude.{◌≡◌, ◌⊎◌, ℕ, List, codes, Some, Ok, Err, IfErr};
 ghost use Rattle.std.specs.Prelude.{Bool, IfOk, IsTrue, None};
 ghost use Rattle.std.specs.Option.{IfSome};
-ghost use Rattle.coding.specs.Answers.{UnlessMemory, fault};
-ghost use Rattle.coding.specs.declared.fault.FaultName.TheVariants.{Memory};
+ghost use Rattle.folder.specs.Answers.{UnlessMemory, fault};
+ghost use Rattle.folder.specs.fault.FaultName.TheVariants.{Memory};
 ghost use Rattle.checks.specs.LawfulTables.{IsLawfulTables};
 ghost use Rattle.folder.specs.Calls.{Files, Tells};
 ghost use Rattle.folder.specs.Names.{current_text};
@@ -29,13 +29,11 @@ use crate::input_compaction::compact_inputs;
 use crate::install_laws::inputs_suffice;
 use crate::install_watch::InstallWatch;
 use crate::next_opened::opened_after;
-use board::Workers;
-use checks::{VersionTotals, Watch, test_version};
-use coding::{Fault, FaultName};
+use checks::{VersionTotals, Watch, Workers, test_version};
 use compact::Settings;
-use edit::Version;
-use folder::{Opened, Order, ReadsTables, WritesTables};
-use ikey::{Bytewise, Shortlex};
+use folder::{
+    Bytewise, Fault, FaultName, Opened, Order, ReadsTables, Shortlex, Version, WritesTables,
+};
 use std::alloc::Global;
 use std::thread::Threads;
 

@@ -1,7 +1,7 @@
 //! What the caller of a compaction is answered, made of what it made.
 
 ghost use Rattle.std.specs.Prelude.{Ok};
-ghost use Rattle.coding.specs.Answers.{EqualOrMemory};
+ghost use Rattle.folder.specs.Answers.{EqualOrMemory};
 ghost use Rattle.compact.specs.AnswerIn.{answer_in};
 ghost use Rattle.compact.specs.GroupedAnswer.{joined_answer, table_sizes};
 ghost use Rattle.install.specs.Install.{tables_in};
@@ -13,10 +13,9 @@ use crate::compaction_outcome::CompactionOutcome;
 use crate::compaction_step::CompactionStep;
 use crate::folder_request::manifest_of;
 use crate::level_compaction::LevelOutcome;
-use coding::Fault;
 use compact::{Planned, deletions_of};
-use edit::{Outcome, Version};
-use ikey::Comparator;
+use folder::{Comparator, Fault, Version};
+use install::Outcome;
 use pick::Inputs;
 use std::alloc::Global;
 

@@ -1,6 +1,7 @@
 //! What a compaction answers that is not installed.
 
-use edit::{DeletedFile, Outcome};
+use compact::DeletedFile;
+use install::Outcome;
 use std::collections::BTreeSet;
 
 /// A compaction that was not installed.

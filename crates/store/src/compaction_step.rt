@@ -1,6 +1,6 @@
 //! What a compaction leaves to its caller.
 
-use edit::DeletedFile;
+use compact::DeletedFile;
 use std::collections::BTreeSet;
 
 /// A compaction that was installed.

@@ -1,14 +1,12 @@
 //! Which levels `--all` compacts.
 
 ghost use Rattle.std.specs.Prelude.{◌≡◌, ◌≤◌, IfOk, IfErr, Ok};
-ghost use Rattle.coding.specs.Answers.{EqualOrMemory, fault};
-ghost use Rattle.coding.specs.declared.fault.FaultName.TheVariants.{Memory};
+ghost use Rattle.folder.specs.Answers.{EqualOrMemory, fault};
+ghost use Rattle.folder.specs.fault.FaultName.TheVariants.{Memory};
 ghost use Rattle.store.specs.Descent.{IsBottom, IsNextLevel, file_count};
-ghost use Rattle.edit.specs.declared.meta.TheConstants.{LAST_LEVEL};
+ghost use Rattle.folder.specs.meta.TheConstants.{LAST_LEVEL};
 
-use coding::Fault;
-use edit::{LEVELS, Version};
-use ikey::Bytewise;
+use folder::{Bytewise, Fault, LEVELS, Version};
 use std::alloc::Global;
 
 /// The deepest level that has a file, and at least 1: files of level 0 go down, since they may

@@ -18,12 +18,9 @@ use crate::compaction_step::CompactionStep;
 use crate::input_compaction::compact_step;
 use crate::install_laws::inputs_suffice;
 use crate::version_sync::sync_version;
-use board::Workers;
-use checks::{Watch, test_and_hold};
-use coding::Fault;
+use checks::{SharedComparator, Watch, Workers, test_and_hold};
 use compact::Settings;
-use folder::{Opened, Order, ReadsTables, WritesTables, open};
-use ikey::{Bytewise, SharedComparator, Shortlex};
+use folder::{Bytewise, Fault, Opened, Order, ReadsTables, Shortlex, WritesTables, open};
 use std::thread::Threads;
 
 /// Compacts a `level` of the version that a folder holds, and installs the outcome. The answer says

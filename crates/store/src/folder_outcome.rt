@@ -21,13 +21,9 @@ use crate::answered_steps::level_answer;
 use crate::compaction_outcome::CompactionOutcome;
 use crate::input_laws::outcome_suffices;
 use crate::level_compaction::level_outcome;
-use board::Workers;
-use checks::{HeldTables, Watch, test_and_hold};
-use coding::Fault;
+use checks::{HeldTables, SharedComparator, Watch, Workers, test_and_hold};
 use compact::Settings;
-use edit::Version;
-use folder::{Opened, Order, ReadsTables};
-use ikey::{Bytewise, SharedComparator, Shortlex};
+use folder::{Bytewise, Fault, Opened, Order, ReadsTables, Shortlex, Version};
 use std::thread::Threads;
 
 /// The outcome of the compaction of a `level` of what a folder was `opened` as. Nothing is

@@ -1,15 +1,14 @@
 //! What is asked of a compaction by the version and the tables that a folder holds.
 
 ghost use Rattle.std.specs.Prelude.{◌≡◌, ◌<◌, ◌^◌, ℕ, List, map, unwrap_or, IfOk};
-ghost use Rattle.coding.specs.Answers.{EqualOrMemory};
+ghost use Rattle.folder.specs.Answers.{EqualOrMemory};
 ghost use Rattle.install.specs.Install.{table_bytes_of};
 ghost use Rattle.pick.specs.PickedInputs.{picked_in};
 ghost use Rattle.compact.specs.Request.{request_in};
 ghost use Rattle.store.specs.FolderRequest.{first_output, manifest_of, numbered_request};
 
-use coding::{Fault, FaultName};
 use compact::{Request, Settings};
-use edit::Version;
+use folder::{Fault, FaultName, Version};
 use pick::Inputs;
 
 /// The number of the new manifest: the version's next file.

@@ -1,9 +1,8 @@
 //! The tables of a plan, each encoded when it is asked for.
 
-use coding::Fault;
-use cut::Plan;
-use folder::TableSource;
-use ikey::{Comparator, SharedComparator};
+use checks::SharedComparator;
+use compact::Plan;
+use folder::{Comparator, Fault, TableSource};
 use std::alloc::Global;
 
 /// The tables of a plan as a source.
@@ -13,8 +12,8 @@ pub(crate) struct GroupTables<'p, C: Comparator + 'static> {
 }
 
 impl<'p, C: SharedComparator + 'static> TableSource for GroupTables<'p, C> {
-    ghost use Rattle.table.specs.Table.{table};
-    ghost use Rattle.cut.specs.Plan.{plan_tables};
+    ghost use Rattle.reads.specs.Table.{table};
+    ghost use Rattle.compact.specs.Plan.{plan_tables};
 
     ghost tables = { λ s. plan_tables (table C.cmp C.short_keys s.plan.now.options)
         s.plan.now.outputs };

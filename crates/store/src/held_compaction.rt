@@ -2,9 +2,9 @@
 
 ghost use Rattle.std.specs.Prelude.{◌≡◌, ◌&&◌, ◌<◌, ◌^◌, nat_le, ℕ, List, map, IfOk, Ok};
 ghost use Rattle.std.specs.Prelude.{None, Some, codes, length, unwrap_or};
-ghost use Rattle.coding.specs.Answers.{EqualOrMemory, HoldsOrMemory};
-ghost use Rattle.coding.specs.declared.fault.FaultName.TheVariants.{SplitCount};
-ghost use Rattle.table.specs.TestResult.{test_result};
+ghost use Rattle.folder.specs.Answers.{EqualOrMemory, HoldsOrMemory};
+ghost use Rattle.folder.specs.fault.FaultName.TheVariants.{SplitCount};
+ghost use Rattle.reads.specs.TestResult.{test_result};
 ghost use Rattle.compact.specs.AnswerIn.{answer_in};
 ghost use Rattle.checks.specs.HeldBytes.{held_bytes};
 ghost use Rattle.folder.specs.Calls.{Files, Tells};
@@ -18,7 +18,8 @@ ghost use Rattle.pick.specs.PickedInputs.{picked_in};
 ghost use Rattle.compact.specs.Inputs.{inputs_reading};
 ghost use Rattle.split.specs.declared.split.TheConstants.{MAX_RANGES};
 ghost use Rattle.store.specs.FolderRequest.{compaction_from};
-ghost use Rattle.store.specs.FoundInputs.{CanBeInstalled, IsAnswerForThese, IsAnsweredBy, step_result};
+ghost use Rattle.store.specs.FoundInputs.{CanBeInstalled, IsAnswerForThese, IsAnsweredBy};
+ghost use Rattle.store.specs.FoundInputs.{step_result};
 ghost use Rattle.store.specs.InputsCompaction.{IsReadAnswer};
 ghost use Rattle.store.specs.Runs.{IsRun};
 ghost use Rattle.store.specs.Step.{IsStepFor, step_in};
@@ -28,18 +29,15 @@ use crate::compaction_step::CompactionStep;
 use crate::folder_request::request_of;
 use crate::input_tables::{bytes_of, stated_tables};
 use crate::planned_installation::install_merged;
-use board::Workers;
-use checks::{HeldTables, Watch, Work};
-use coding::Fault;
+use checks::{HeldTables, SharedComparator, Watch, Work, Workers};
 use compact::{Settings, compact_tables, merge_request};
-use edit::{Outcome, Version};
-use folder::{Opened, WritesTables};
-use ikey::{Comparator, SharedComparator};
+use folder::{Comparator, Fault, Opened, Version, WritesTables};
+use install::Outcome;
 use pick::Inputs;
+use reads::SoundTable;
 use split::Split;
 use std::alloc::Global;
 use std::thread::Threads;
-use table::SoundTable;
 
 /// Compacts `picked` inputs whose tables are held in their order. The outputs have the numbers from
 /// `first` on, or else those after the manifest's.

@@ -22,12 +22,9 @@ use crate::held_compaction::install_held;
 use crate::input_laws::same_inputs;
 use crate::install_laws::numbered_is_installed;
 use crate::level_inputs::level_inputs;
-use board::Workers;
-use checks::{HeldTables, Watch};
-use coding::Fault;
+use checks::{HeldTables, SharedComparator, Watch, Workers};
 use compact::Settings;
-use folder::{Opened, Order, ReadsTables, WritesTables};
-use ikey::{Bytewise, SharedComparator, Shortlex};
+use folder::{Bytewise, Fault, Opened, Order, ReadsTables, Shortlex, WritesTables};
 use std::thread::Threads;
 
 /// Compacts a `level` of what a folder was `opened` as, and installs the outcome. It reads the

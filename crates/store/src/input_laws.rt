@@ -2,7 +2,7 @@
 
 ghost use Rattle.store.specs.InputLaws.{InputsInOrderLaw, OutcomeSufficesLaw, SameInputsLaw};
 
-use ikey::Comparator;
+use folder::Comparator;
 
 /// Inputs have numbers of their own, so each has the bytes that were read for it. A call does
 /// nothing.

@@ -1,7 +1,7 @@
 //! The tables of inputs: read from a folder, checked, and compared with what the version states.
 
 ghost use Rattle.std.specs.Prelude.{◌≡◌, length, map, Ok};
-ghost use Rattle.coding.specs.Answers.{EqualOrMemory};
+ghost use Rattle.folder.specs.Answers.{EqualOrMemory};
 ghost use Rattle.checks.specs.HeldBytes.{held_bytes};
 ghost use Rattle.folder.specs.LoadedTables.{IsLoaded};
 ghost use Rattle.folder.specs.OpenAnswer.{FolderAnswers};
@@ -9,17 +9,13 @@ ghost use Rattle.folder.specs.Reports.{OnlyReads, ReportsDevice};
 ghost use Rattle.install.specs.Install.{tables_in};
 ghost use Rattle.store.specs.InputsCompaction.{are_stated, input_numbers, input_tables};
 
-use board::Workers;
-use checks::{HeldTables, Watch, check_tables};
-use coding::{Fault, FaultName};
+use checks::{HeldTables, SharedComparator, Watch, Workers, check_tables};
 use compact::matches_metadata;
-use folder::{Folder, load_numbers};
-use ikey::{Comparator, SharedComparator};
+use folder::{Comparator, Fault, FaultName, Folder, load_numbers};
 use pick::InputFile;
-use reads::NumberedTable;
+use reads::{NumberedTable, SoundTable};
 use std::alloc::Global;
 use std::thread::Threads;
-use table::SoundTable;
 
 /// The tables of `inputs` in their order, with their numbers. It only reads. Missing at the first
 /// that is missing.

@@ -6,7 +6,7 @@ ghost use Rattle.store.specs.JointLaws.{JointLaw, OverLaw};
 ghost use Rattle.store.specs.NumberedJointLaw.{NumberedJointLaw};
 
 use compact::{edit_applies, gets_after, outputs_hold, passed_law, stands_after};
-use ikey::Comparator;
+use folder::Comparator;
 
 /// If inputs were picked from a lawful version, the request for them is one over that version
 /// (`IsOver`). A call does nothing.

@@ -1,7 +1,7 @@
 //! Who is told of compactions that were installed.
 
 use crate::compaction_step::CompactionStep;
-use edit::Version;
+use folder::Version;
 
 /// Who is told of the compactions of all levels, of each when it is installed.
 pub trait InstallWatch {

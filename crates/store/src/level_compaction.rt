@@ -20,13 +20,10 @@ use crate::held_compaction::compact_held;
 use crate::input_laws::same_inputs;
 use crate::install_laws::numbered_is_installed;
 use crate::level_inputs::level_inputs;
-use board::Workers;
-use checks::{HeldTables, Watch};
-use coding::Fault;
+use checks::{HeldTables, SharedComparator, Watch, Workers};
 use compact::Settings;
-use edit::{Outcome, Version};
-use folder::ReadsTables;
-use ikey::SharedComparator;
+use folder::{Fault, ReadsTables, Version};
+use install::Outcome;
 use pick::Inputs;
 use std::thread::Threads;
 

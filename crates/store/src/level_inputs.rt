@@ -3,7 +3,7 @@
 ghost use Rattle.std.specs.Prelude.{◌≡◌, map, IfOk, OnOk};
 ghost use Rattle.checks.specs.HeldTables.{AreHeldIn, held_numbers};
 ghost use Rattle.checks.specs.HeldBytes.{held_bytes};
-ghost use Rattle.edit.specs.Version.{IsState};
+ghost use Rattle.folder.specs.Version.{IsState};
 ghost use Rattle.folder.specs.Calls.{Files, Tells};
 ghost use Rattle.folder.specs.OpenAnswer.{FolderAnswers};
 ghost use Rattle.folder.specs.Reports.{OnlyReads, ReportsDevice};
@@ -15,12 +15,8 @@ ghost use Rattle.store.specs.InputsCompaction.{input_numbers};
 use crate::input_laws::inputs_in_order;
 use crate::input_tables::numbers_of;
 use crate::version_files::test_files;
-use board::Workers;
-use checks::{HeldTables, Watch, Work, checked_tables};
-use coding::Fault;
-use edit::Version;
-use folder::ReadsTables;
-use ikey::{Comparator, SharedComparator};
+use checks::{HeldTables, SharedComparator, Watch, Work, Workers, checked_tables};
+use folder::{Comparator, Fault, ReadsTables, Version};
 use pick::{Inputs, inputs};
 use std::thread::Threads;
 

@@ -62,9 +62,8 @@ mod version_sync;
 
 pub use all_levels::{compact_all, compact_levels};
 pub use answered_steps::outcome_step;
-pub use board::Open;
-pub use checks::{Watch, Work, checkers};
-pub use compact::Settings;
+pub use checks::{Open, Watch, Work, checkers};
+pub use compact::{DeletedFile, Settings};
 pub use compaction_outcome::CompactionOutcome;
 pub use compaction_step::CompactionStep;
 pub use descent::{bottom, next_level};

@@ -2,8 +2,8 @@
 
 ghost use Rattle.std.specs.Prelude.{◌≡◌, ◌++◌, codes, is_some, IfErr, IfOk, OnOk, Ok};
 ghost use Rattle.std.specs.Prelude.{string_bytes};
-ghost use Rattle.coding.specs.Answers.{EqualOrMemory, fault};
-ghost use Rattle.coding.specs.declared.fault.FaultName.TheVariants.{Memory};
+ghost use Rattle.folder.specs.Answers.{EqualOrMemory, fault};
+ghost use Rattle.folder.specs.fault.FaultName.TheVariants.{Memory};
 ghost use Rattle.folder.specs.Calls.{Files, Tells};
 ghost use Rattle.folder.specs.Folder.{TellsSame, failures_after};
 ghost use Rattle.folder.specs.Names.{current_text};
@@ -15,9 +15,10 @@ ghost use Rattle.store.specs.InputsCompaction.{input_numbers};
 ghost use Rattle.store.specs.NameLines.{line_after, lines_after};
 
 use crate::version_files::test_files;
-use coding::{Fault, FaultName};
-use folder::{Folder, FolderFault, Opened, Order, current_text, old_table_name, table_name};
-use ikey::{Bytewise, Comparator, Shortlex};
+use folder::{
+    Bytewise, Comparator, Fault, FaultName, Folder, FolderFault, Opened, Order, Shortlex,
+    current_text, old_table_name, table_name,
+};
 use pick::{InputFile, inputs};
 use std::alloc::Global;
 

@@ -1,17 +1,14 @@
 //! What a folder is opened as after a compaction, without reading it.
 
-ghost use Rattle.coding.specs.Answers.{EqualOrMemory, HoldsOrMemory};
-ghost use Rattle.edit.specs.Edit.{HasValidLevels, edit_in};
-ghost use Rattle.edit.specs.Version.{applied_by};
+ghost use Rattle.folder.specs.Answers.{EqualOrMemory, HoldsOrMemory};
+ghost use Rattle.folder.specs.Edit.{HasValidLevels, edit_in};
+ghost use Rattle.folder.specs.Version.{applied_by};
 ghost use Rattle.folder.specs.Manifest.{order_name};
 ghost use Rattle.store.specs.OpenedAfter.{IsOpenedAfter};
 
 use crate::compaction_step::CompactionStep;
 use crate::folder_request::manifest_of;
-use coding::Fault;
-use edit::{Version, VersionEdit};
-use folder::{Opened, Order};
-use ikey::{Bytewise, Shortlex};
+use folder::{Bytewise, Fault, Opened, Order, Shortlex, Version, VersionEdit};
 use std::alloc::Global;
 
 /// What a folder is opened as after a `step`, a compaction of what it was `opened` as. That is its

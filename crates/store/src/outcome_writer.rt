@@ -1,7 +1,7 @@
 //! An outcome as files of a folder.
 
 ghost use Rattle.std.specs.Prelude.{◌≡◌, ◌∷◌, [], IfErr, OnOk, codes};
-ghost use Rattle.coding.specs.Answers.{UnlessMemory};
+ghost use Rattle.folder.specs.Answers.{UnlessMemory};
 ghost use Rattle.compact.specs.AnswerIn.{answer_in};
 ghost use Rattle.folder.specs.CallSequence.{MakesCalls};
 ghost use Rattle.folder.specs.Calls.{FolderSynced, Renamed};
@@ -15,9 +15,8 @@ ghost use Rattle.store.specs.CallsAnswer.{IsCallsAnswer};
 ghost use Rattle.store.specs.Outcome.{edit_calls, naming_calls, outcome_calls};
 ghost use Rattle.store.specs.WholeOutcome.{AreNamedApart, HasNoEdit, IsAbsentOrWhole, IsWhole};
 
-use coding::Fault;
-use edit::Outcome;
-use folder::{Folder, FolderFault};
+use folder::{Fault, Folder, FolderFault};
+use install::Outcome;
 use std::thread::Threads;
 
 /// The file of an outcome that has the bytes of its edit.

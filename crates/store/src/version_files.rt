@@ -2,18 +2,16 @@
 
 ghost use Rattle.std.specs.Prelude.{◌≡◌, ◌↔◌, ◌≤◌, IfErr, IfOk, IsTrue};
 ghost use Rattle.std.specs.List.{All};
-ghost use Rattle.coding.specs.Answers.{HoldsOrMemory, fault};
-ghost use Rattle.coding.specs.declared.fault.FaultName.TheVariants.{Memory};
+ghost use Rattle.folder.specs.Answers.{HoldsOrMemory, fault};
+ghost use Rattle.folder.specs.fault.FaultName.TheVariants.{Memory};
 ghost use Rattle.std.specs.Ordering.{is_lt};
-ghost use Rattle.ikey.specs.Order.{internal_cmp};
+ghost use Rattle.folder.specs.Order.{internal_cmp};
 ghost use Rattle.reads.specs.Lawful.{IsBelowNextFile};
 ghost use Rattle.store.specs.InputsCompaction.{IsOrderlyAnswer, IsOrderlyLevel};
 ghost use Rattle.store.specs.LentFiles.{LentRangesRise};
-ghost use Rattle.edit.specs.declared.meta.TheConstants.{LAST_LEVEL};
+ghost use Rattle.folder.specs.meta.TheConstants.{LAST_LEVEL};
 
-use coding::{Fault, FaultName};
-use edit::{FileMeta, LEVELS, Version};
-use ikey::Comparator;
+use folder::{Comparator, Fault, FaultName, FileMeta, LEVELS, Version};
 use reads::is_below;
 use std::alloc::Global;
 

@@ -1,7 +1,7 @@
 //! The sync of what a version rests on.
 
 ghost use Rattle.std.specs.Prelude.{◌≡◌, [], ◌∷◌, ℕ, List, map, IfErr, OnOk};
-ghost use Rattle.coding.specs.Answers.{UnlessMemory};
+ghost use Rattle.folder.specs.Answers.{UnlessMemory};
 ghost use Rattle.folder.specs.CallSequence.{MakesCalls};
 ghost use Rattle.folder.specs.Calls.{Files, Synced, Tells};
 ghost use Rattle.folder.specs.Crash.{World};
@@ -14,12 +14,10 @@ ghost use Rattle.install.specs.Install.{AlwaysStandsBy};
 ghost use Rattle.store.specs.CallsAnswer.{IsCallsAnswer};
 ghost use Rattle.store.specs.VersionSync.{AlwaysReadsBy, sync_calls, table_syncs};
 
-use coding::Fault;
-use edit::{FileMeta, LEVELS, Version};
 use folder::{
-    CURRENT, Folder, FolderFault, Opened, Order, manifest_name, old_table_name, table_name,
+    Bytewise, CURRENT, Comparator, Fault, FileMeta, Folder, FolderFault, LEVELS, Opened, Order,
+    Shortlex, Version, manifest_name, old_table_name, table_name,
 };
-use ikey::{Bytewise, Comparator, Shortlex};
 use std::alloc::Global;
 
 /// Syncs what a folder was `opened` as, so that it outlives a crash. Nothing need have been synced

@@ -1,3 +1,8 @@
+pub use Rattle.coding.proofs.Binds
+pub use Rattle.coding.proofs.Refusals
+pub use Rattle.coding.proofs.Texts
+pub use Rattle.ikey.proofs.Keys
+pub use Rattle.ikey.proofs.Ordered
 pub mod Handles
 pub mod Stored
 pub mod Footers

@@ -1,3 +1,15 @@
+-- of lower crates, whose words these use
+pub use Rattle.coding.specs.Answers
+pub use Rattle.coding.specs.Saturated
+pub use Rattle.coding.specs.Varint
+pub use Rattle.coding.specs.declared.fault
+pub use Rattle.ikey.specs.Bytewise
+pub use Rattle.ikey.specs.Comparator
+pub use Rattle.ikey.specs.Key
+pub use Rattle.ikey.specs.Order
+pub use Rattle.block.specs.BlockReading
+pub use Rattle.block.specs.EncodedEntry
+pub use Rattle.block.specs.EntryFormat
 -- what contracts rest on
 pub mod Handle
 pub mod Trailer

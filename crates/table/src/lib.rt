@@ -47,9 +47,11 @@ mod trailer;
 
 pub use bounds::Bounds;
 pub use builder::TableBuilder;
+pub use coding::{Fault, FaultName};
 pub use cursor::{Cursor, Entries};
 pub use footer::{FOOTER_LEN, Footer, HANDLES_LEN};
 pub use handle::{BlockHandle, HandleBehind};
+pub use ikey::{Comparator, InternalKey, KeyBuf, MAX_SEQUENCE};
 pub use key_list::KeyList;
 pub use layout::{push_closing, push_index_entry, push_stored};
 pub use options::{

@@ -2,9 +2,7 @@
 
 use crate::version_sync::sync;
 use answers::{json_line, removed_json};
-use coding::{Fault, FaultName};
-use edit::Version;
-use folder::{Disk, Opened, SystemFiles};
+use folder::{Disk, Fault, FaultName, Opened, SystemFiles, Version};
 use install::{RemovalWatch, remove_obsolete};
 use queries::{UnneededFiles, unneeded_files};
 use session::{

@@ -1,15 +1,12 @@
 //! What is told of a compaction on the standard error: what was made of which files, that filters
 //! are gone, and that there was nothing to do.
 
-use coding::Fault;
-use edit::{DeletedFile, FileMeta, LAST_LEVEL, LEVELS, Version, VersionEdit};
-use folder::{Disk, Folder, SystemFiles};
-use ikey::Bytewise;
-use scan::FileTotal;
-use session::{Telling, deleted_files, have_filter, total_text};
+use answers::FileTotal;
+use folder::{Bytewise, Disk, Fault, FileMeta, Folder, LEVELS, SystemFiles, Version, VersionEdit};
+use session::{LAST_LEVEL, Telling, deleted_files, have_filter, total_text};
 use std::alloc::Global;
 use std::collections::BTreeSet;
-use store::EDIT;
+use store::{DeletedFile, EDIT};
 
 /// All files of a version.
 pub(crate) fn version_total(alloc: Global, version: &Version) -> Result<FileTotal, Fault> {

@@ -4,13 +4,9 @@ use crate::clean_work::clean_installed;
 use crate::compaction_notes::note_of;
 use crate::step_printer::{StepPrinter, explain, print_step, tell_step, unprinted};
 use crate::version_sync::sync;
-use coding::Fault;
-use compact::Settings;
-use edit::{LAST_LEVEL, Version};
-use folder::{Disk, Opened, SystemFiles};
-use ikey::Bytewise;
+use folder::{Bytewise, Disk, Fault, Opened, SystemFiles, Version};
 use session::{
-    Host, ProgressLine, Refusal, Telling, begin_work, bytes_of, compaction_explained,
+    Host, LAST_LEVEL, ProgressLine, Refusal, Telling, begin_work, bytes_of, compaction_explained,
     locked_to_change, refused_at, sizes_tested,
 };
 use std::alloc::Global;
@@ -18,7 +14,7 @@ use store::{
     CompactionStep, DescentEnd, bottom, checkers, compact_inputs, compact_opened, next_level,
     opened_after,
 };
-use usage::{CompactLine, Levels, Testing};
+use usage::{CompactLine, Levels, Settings, Testing};
 
 /// What is asked for of a compaction.
 #[derive(Clone, Copy)]

@@ -1,13 +1,12 @@
 //! The files that a compaction of a folder would read, from its path to what is printed.
 
-use compact::Settings;
 use folder::Disk;
 use session::{
     Host, Refusal, Telling, begin_work, compaction_explained, print_lines, refused_opened,
     tell_time,
 };
 use store::files_to_compact;
-use usage::JobLine;
+use usage::{JobLine, Settings};
 
 /// Prints the names of the files that a compaction of a level would read. No table is read, and no
 /// lock is taken.

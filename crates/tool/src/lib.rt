@@ -20,11 +20,10 @@ mod version_sync;
 mod work_left;
 
 pub use answers::{ValueForm, dump, get_dir, manifest, status, verify};
-pub use compact::Settings;
 pub use folder::{Disk, Folder, FolderFault, Order, Shelf, load, open};
 pub use pairing::blocks;
 pub use program::run;
 pub use session::{Host, progress_text};
 pub use store::{bottom, compact_dir, next_level};
 pub use texts::{Spelling, key_of, text_of};
-pub use usage::{Levels, Line, RowOptions, Usage, Verbosity, line};
+pub use usage::{Levels, Line, RowOptions, Settings, Usage, Verbosity, line};

@@ -1,8 +1,7 @@
 //! The folder that gets the outcome of a compaction.
 
-use coding::{Fault, FaultName};
-use edit::Outcome;
-use folder::{Disk, OwnedFiles, SystemFiles};
+use folder::{Disk, Fault, FaultName, OwnedFiles, SystemFiles};
+use install::Outcome;
 use session::{Refusal, Words, refused_at, sync_folder_of, told};
 use std::fs::{File, OpenOptions, TryLockError};
 use std::io::ErrorKind;

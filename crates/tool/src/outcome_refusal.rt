@@ -1,15 +1,13 @@
 //! What is told if the outcome of a compaction is refused.
 
-use coding::FaultName;
-use compact::Settings;
-use folder::{Disk, Order};
+use folder::{Disk, FaultName, Order};
 use session::{
     Detail, Host, Refusal, RefusalText, RefusedFile, Telling, Words, compaction_explained, of_file,
     path_in, refused_outcome, told,
 };
 use std::alloc::Global;
 use store::EDIT;
-use usage::InstallLine;
+use usage::{InstallLine, Settings};
 
 /// What to do about an outcome.
 const REMEDY: &str = "make the outcome again";

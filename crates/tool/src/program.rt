@@ -7,7 +7,7 @@ use crate::job_printer::print_job;
 use crate::out_folder::{OutState, state_of};
 use crate::outcome_work::{OutcomeTask, write_compaction};
 use answers::{Told, refusal_json, status};
-use coding::{Fault, FaultName};
+use folder::{Fault, FaultName};
 use queries::{
     merge, print_rows, print_stats, print_table, print_table_verdict, print_value, print_verdict,
     print_version,

@@ -5,12 +5,10 @@ use crate::compaction_notes::{CompactionNote, note_of, tell_made, tell_no_step, 
 use crate::compaction_work::CompactionTask;
 use crate::work_left::work_left;
 use answers::{
-    CompactionEnd, account_of, account_text, compaction_json, compaction_lines, json_line,
+    CompactionEnd, FileTotal, account_of, account_text, compaction_json, compaction_lines,
+    json_line,
 };
-use coding::{Fault, FaultName};
-use edit::Version;
-use folder::{Disk, Opened, Order, SystemFiles};
-use scan::FileTotal;
+use folder::{Disk, Fault, FaultName, Opened, Order, SystemFiles, Version};
 use session::{
     Beginning, Host, ProgressLine, Refusal, Telling, Words, in_words, print_lines, tell_time, told,
 };

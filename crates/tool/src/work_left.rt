@@ -1,9 +1,7 @@
 //! How much a compaction of all levels has left to do.
 
-use coding::Fault;
-use edit::{LAST_LEVEL, Version};
-use ikey::Bytewise;
-use session::{WorkLeft, bytes_of_files};
+use folder::{Bytewise, Fault, Version};
+use session::{LAST_LEVEL, WorkLeft, bytes_of_files};
 use std::alloc::Global;
 use store::next_level;
 

@@ -5,10 +5,10 @@ use Rattle.std.specs.List.{All, slice_split}
 use Rattle.std.specs.Str.Parse.{digits_value}
 use Rattle.clap.specs.Words.{Row, Text, first_of, one_of}
 use Rattle.texts.specs.Text.{IsNumberText}
-use Rattle.keep.specs.declared.snapshots.Snapshots.{Snapshots}
-use Rattle.keep.specs.declared.snapshots.Snapshots.TheVariants.{From, Listed}
-use Rattle.table.specs.declared.options.TheConstants.{DEFAULT_BLOCK_SIZE, DEFAULT_FILE_SIZE}
-use Rattle.table.specs.declared.options.TheConstants.{DEFAULT_RESTART_INTERVAL}
+use Rattle.compact.specs.snapshots.Snapshots.{Snapshots}
+use Rattle.compact.specs.snapshots.Snapshots.TheVariants.{From, Listed}
+use Rattle.compact.specs.options.TheConstants.{DEFAULT_BLOCK_SIZE, DEFAULT_FILE_SIZE}
+use Rattle.compact.specs.options.TheConstants.{DEFAULT_RESTART_INTERVAL}
 use Rattle.compact.specs.declared.settings.Settings.{Settings}
 use Rattle.usage.specs.Values.{HasTesting, IsNumberOf, IsNumberOr, is_flagged, is_given}
 use Rattle.usage.specs.declared.requests.CompactLine.{CompactLine}

@@ -11,10 +11,8 @@ use crate::values::{
     Unread, first_text, is_flagged, is_given, needed_text, number_given, number_or, testing_of,
 };
 use clap::ArgMatches;
-use compact::Settings;
-use keep::Snapshots;
+use compact::{Options, Settings, Snapshots};
 use std::alloc::{AllocError, Global};
-use table::Options;
 use texts::number_of;
 
 /// What is given to `compact`, with the numbers of its list in `listed`. Snapshots if the text of

@@ -41,6 +41,7 @@ mod values;
 mod verbosity;
 
 pub use command_line::line;
+pub use compact::Settings;
 pub use requests::{
     BlocksLine, CleanLine, CommandLine, CompactLine, CompactOptions, CompactWork, DumpLine,
     GetLine, InstallLine, JobLine, Levels, Line, ManifestLine, RowOptions, ScanLine, StatsLine,

@@ -1,8 +1,7 @@
 //! What a command line asks for, or why it asks for nothing.
 
 use clap::error::ErrorKind;
-use compact::Settings;
-use keep::Snapshots;
+use compact::{Settings, Snapshots};
 use std::alloc::AllocError;
 use texts::Spelling;
 

@@ -1,5 +1,5 @@
 use Rattle.std.proofs.Common.{sym, ◌∙◌}
-use Rattle.coding.proofs.Binds.{ok_is}
+use Rattle.edit.proofs.Binds.{ok_is}
 use Rattle.compact.specs.EditOf.{deletions_of}
 use Rattle.adoption.proofs.EditFitLemmas.{same_deletions}
 use Rattle.adoption.proofs.edit_fit.deletes_all.Goals as goal

@@ -1,9 +1,9 @@
 use Rattle.std.proofs.Common.{◌≡◌, Some, Err, sym, ap, subst, ◌∙◌}
 use Rattle.checks.proofs.LawfulLemmas.{handed_on}
-use Rattle.coding.proofs.Refusals.{unless}
-use Rattle.coding.specs.Answers.{UnlessMemory, fault}
-use Rattle.coding.specs.declared.fault.Fault.{Fault}
-use Rattle.coding.specs.declared.fault.FaultName.TheVariants.{Apply}
+use Rattle.edit.proofs.Refusals.{unless}
+use Rattle.edit.specs.Answers.{UnlessMemory, fault}
+use Rattle.edit.specs.fault.Fault.{Fault}
+use Rattle.edit.specs.fault.FaultName.TheVariants.{Apply}
 use Rattle.edit.specs.Edit.{edit_in}
 use Rattle.pick.specs.PickedInputs.{picked_in}
 use Rattle.adoption.specs.EditFit.{IsChoiceOf, IsFitting, only_level}

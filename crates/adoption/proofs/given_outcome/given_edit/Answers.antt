@@ -1,6 +1,6 @@
 use Rattle.std.proofs.Common.{List, ℕ, Result, Ok, Err, IfOk, IfErr, sym, subst, arith, codes}
-use Rattle.coding.specs.Answers.{HoldsOrMemory, UnlessMemory}
-use Rattle.coding.specs.declared.fault.Fault.{Fault}
+use Rattle.edit.specs.Answers.{HoldsOrMemory, UnlessMemory}
+use Rattle.edit.specs.fault.Fault.{Fault}
 use Rattle.edit.specs.Edit.{IsEdit, IsEditRefused, edit_in}
 use Rattle.edit.specs.declared.version_edit.VersionEdit.{VersionEdit}
 use Rattle.folder.proofs.OpeningLemmas.{answers_alone, hands_on}

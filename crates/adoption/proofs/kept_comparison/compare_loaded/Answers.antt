@@ -1,5 +1,5 @@
 use Rattle.std.proofs.Common.{◌≡◌, List, Ok, sym, ap, ◌∙◌}
-use Rattle.table.specs.TableContents.{Contents}
+use Rattle.keep.specs.TableContents.{Contents}
 use Rattle.install.specs.Install.{tables_in}
 use Rattle.pick.specs.PickedInputs.{picked_in}
 use Rattle.pick.specs.declared.picked_inputs.InputFile.{InputFile}

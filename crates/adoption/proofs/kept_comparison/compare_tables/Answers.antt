@@ -1,10 +1,10 @@
 use Rattle.std.proofs.Common.{◌≡◌, ℕ, List, map, Ok, Err, refl, sym, ap, subst, ◌∙◌}
 use Rattle.std.specs.List.Sorted.{IsStrictlyIncreasing}
-use Rattle.coding.proofs.Refusals.{unless}
-use Rattle.coding.specs.Answers.{UnlessMemory, fault}
-use Rattle.coding.specs.declared.fault.Fault.{Fault}
-use Rattle.coding.specs.declared.fault.FaultName.TheVariants.{Lawless}
-use Rattle.table.specs.TableContents.{Contents}
+use Rattle.edit.proofs.Refusals.{unless}
+use Rattle.edit.specs.Answers.{UnlessMemory, fault}
+use Rattle.edit.specs.fault.Fault.{Fault}
+use Rattle.edit.specs.fault.FaultName.TheVariants.{Lawless}
+use Rattle.keep.specs.TableContents.{Contents}
 use Rattle.pick.specs.PickedInputs.{picked_in}
 use Rattle.keep.specs.Readable.{Readable, floor_of, readable_of}
 use Rattle.adoption.specs.Adoption.{IsTablesCompared, compared_request}

@@ -1,5 +1,5 @@
 use Rattle.std.proofs.Common.{◌≡◌, List, length, Ok, Err, sym, ap, subst, ◌∙◌, arith, refl}
-use Rattle.table.specs.TableContents.{Contents}
+use Rattle.keep.specs.TableContents.{Contents}
 use Rattle.folder.proofs.OpeningLemmas.{refuses}
 use Rattle.folder.proofs.ReportLemmas.{reports_steady}
 use Rattle.install.specs.Install.{tables_in}

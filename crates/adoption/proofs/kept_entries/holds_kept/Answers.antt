@@ -1,7 +1,7 @@
 use Rattle.std.proofs.Common.{List, map, sym, ap, ◌∙◌}
 use Rattle.std.proofs.lemmas.List.{map-id}
-use Rattle.block.specs.EncodedEntry.{Entry}
-use Rattle.table.specs.TableContents.{Contents}
+use Rattle.keep.specs.EncodedEntry.{Entry}
+use Rattle.keep.specs.TableContents.{Contents}
 use Rattle.keep.specs.Marks.{context_of}
 use Rattle.keep.specs.Runs.{range_run}
 use Rattle.adoption.proofs.AdoptionSteps.{ok_with}

@@ -1,5 +1,5 @@
 use Rattle.std.proofs.Common.{◌≡◌, ℕ, Result, Ok, refl, sym, ap, subst, arith, inl, inr}
-use Rattle.coding.specs.declared.fault.Fault.{Fault}
+use Rattle.edit.specs.fault.Fault.{Fault}
 use Rattle.folder.proofs.OpeningLemmas.{refuses}
 use Rattle.folder.proofs.ReportLemmas.{reports_after, reports_handed, reports_steady}
 use Rattle.install.specs.Install.{IsEditedBy, next_version_tables, tables_in}

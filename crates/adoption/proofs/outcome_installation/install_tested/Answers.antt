@@ -1,5 +1,5 @@
 use Rattle.std.proofs.Common.{◌≡◌, ℕ, List, Result, Ok, Err, subst, refl, inl}
-use Rattle.coding.specs.declared.fault.Fault.{Fault}
+use Rattle.edit.specs.fault.Fault.{Fault}
 use Rattle.folder.specs.ReadsAs.{IsFileIn}
 use Rattle.install.specs.Install.{IsEditedBy}
 use Rattle.checks.specs.TestedTables.{IsTested}

@@ -9,7 +9,7 @@ use Rattle.folder.specs.Levels.{file_numbers}
 use Rattle.folder.specs.OpenAnswer.{FolderAnswers}
 use Rattle.folder.specs.Orders.{order_cmp}
 use Rattle.folder.specs.ReadsAs.{IsFileIn}
-use Rattle.reads.specs.Tables.{NumberedContents}
+use Rattle.checks.specs.Tables.{NumberedContents}
 use Rattle.answers.proofs.FolderLineLemmas.{answer_of_tested, refused_answer, tested_answer}
 use Rattle.answers.proofs.ShowingLemmas.{answer_device, answer_holds}
 use Rattle.answers.specs.FolderLines.{IsAnswerOfVersion, got_answer, lawful_line, verified_line}

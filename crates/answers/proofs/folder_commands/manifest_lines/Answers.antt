@@ -1,5 +1,5 @@
 use Rattle.std.proofs.Common.{Ok, subst, sym}
-use Rattle.coding.specs.Answers.{EqualOrMemory}
+use Rattle.table.specs.Answers.{EqualOrMemory}
 use Rattle.folder.specs.declared.order.Order.{Order}
 use Rattle.folder.specs.Orders.{order_cmp}
 use Rattle.answers.specs.VersionLines.{lines_by}

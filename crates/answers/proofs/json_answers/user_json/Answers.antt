@@ -1,7 +1,7 @@
 use Rattle.std.proofs.Common.{List, ℕ, Ok, subst, ap, ◌∙◌}
 use Rattle.serde_json.specs.View.{view}
-use Rattle.coding.specs.Answers.{EqualOrMemory}
-use Rattle.ikey.specs.Key.{user_of}
+use Rattle.table.specs.Answers.{EqualOrMemory}
+use Rattle.table.specs.Key.{user_of}
 use Rattle.answers.specs.Objects.{key_data}
 use Rattle.answers.proofs.json_answers.user_json.Goals as goal
 

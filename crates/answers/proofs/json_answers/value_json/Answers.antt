@@ -1,8 +1,8 @@
 use Rattle.std.proofs.Common.{Ok, subst, sym, ap₂}
 use Rattle.serde_json.specs.Data.{Data}
 use Rattle.serde_json.specs.View.{view}
-use Rattle.coding.specs.Answers.{EqualOrMemory}
-use Rattle.coding.proofs.Binds.{ok_is}
+use Rattle.table.specs.Answers.{EqualOrMemory}
+use Rattle.table.proofs.Binds.{ok_is}
 use Rattle.answers.specs.Objects.{value_parts}
 use Rattle.answers.proofs.json_answers.value_json.Goals as goal
 

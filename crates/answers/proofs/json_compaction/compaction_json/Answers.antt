@@ -1,8 +1,8 @@
 use Rattle.std.proofs.Common.{◌≡◌, List, Ok, map, subst, sym, ap₂}
 use Rattle.serde_json.specs.Data.{Data}
 use Rattle.serde_json.specs.View.{items_of, view}
-use Rattle.coding.specs.Answers.{EqualOrMemory}
-use Rattle.coding.proofs.Binds.{ok_is}
+use Rattle.table.specs.Answers.{EqualOrMemory}
+use Rattle.table.proofs.Binds.{ok_is}
 use Rattle.answers.specs.CompactionObject.{deleted_object, ended_object, output_object}
 use Rattle.answers.proofs.json_compaction.compaction_json.Goals as goal
 

@@ -1,6 +1,6 @@
 use Rattle.std.proofs.Common.{Ok, subst, sym}
 use Rattle.serde_json.specs.View.{items_view, view}
-use Rattle.coding.specs.Answers.{EqualOrMemory}
+use Rattle.table.specs.Answers.{EqualOrMemory}
 use Rattle.answers.specs.CompactionObject.{ended_object}
 use Rattle.answers.specs.declared.compaction_end.CompactionEnd.{CompactionEnd}
 use Rattle.answers.proofs.json_compaction.ended_json.Goals as goal

@@ -1,6 +1,6 @@
 use Rattle.std.proofs.Common.{Ok, sym, ap, ap₂, ◌∙◌}
 use Rattle.serde_json.specs.Data.{Data}
-use Rattle.coding.proofs.Binds.{ok_is}
+use Rattle.table.proofs.Binds.{ok_is}
 use Rattle.answers.specs.StatsObject.{level_parts}
 use Rattle.answers.proofs.json_stats.level_json.Goals as goal
 

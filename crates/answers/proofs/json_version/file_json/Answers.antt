@@ -1,6 +1,6 @@
 use Rattle.std.proofs.Common.{Ok, sym, ap, ap₂, ◌∙◌}
 use Rattle.serde_json.specs.Data.{Data}
-use Rattle.coding.proofs.Binds.{ok_is}
+use Rattle.table.proofs.Binds.{ok_is}
 use Rattle.answers.specs.VersionObject.{file_parts}
 use Rattle.answers.proofs.json_version.file_json.Goals as goal
 

@@ -1,8 +1,8 @@
 use Rattle.std.proofs.Common.{◌≡◌, ℕ, List, Bor, Ok, map, subst, sym, ap, ap₂, ◌∙◌}
 use Rattle.serde_json.specs.Data.{Data, Items}
 use Rattle.serde_json.specs.View.{items_of, view}
-use Rattle.coding.specs.Answers.{EqualOrMemory}
-use Rattle.coding.proofs.Binds.{ok_is}
+use Rattle.table.specs.Answers.{EqualOrMemory}
+use Rattle.table.proofs.Binds.{ok_is}
 use Rattle.edit.specs.declared.meta.FileMeta.{FileMeta}
 use Rattle.folder.proofs.LoadingLemmas.{map_fused}
 use Rattle.folder.specs.Levels.{all_levels}

@@ -1,9 +1,9 @@
 use Rattle.std.proofs.Common.{◌≡◌, ℕ, Ok, subst, sym, ap, ◌∙◌}
 use Rattle.serde_json.specs.Data.{Data}
 use Rattle.serde_json.specs.View.{view}
-use Rattle.coding.specs.Answers.{EqualOrMemory}
-use Rattle.coding.proofs.Binds.{ok_is}
-use Rattle.ikey.specs.Key.{kind_number, kind_of, sequence_of, user_of}
+use Rattle.table.specs.Answers.{EqualOrMemory}
+use Rattle.table.proofs.Binds.{ok_is}
+use Rattle.table.specs.Key.{kind_number, kind_of, sequence_of, user_of}
 use Rattle.answers.specs.Objects.{key_data}
 use Rattle.answers.specs.VersionObject.{parts_object}
 use Rattle.answers.proofs.json_version.pointer_json.Goals as goal

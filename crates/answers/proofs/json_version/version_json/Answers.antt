@@ -1,6 +1,6 @@
 use Rattle.std.proofs.Common.{Ok, subst, sym}
 use Rattle.serde_json.specs.View.{view}
-use Rattle.coding.specs.Answers.{EqualOrMemory}
+use Rattle.table.specs.Answers.{EqualOrMemory}
 use Rattle.folder.specs.declared.order.Order.{Order}
 use Rattle.folder.specs.Orders.{order_cmp}
 use Rattle.answers.specs.VersionObject.{object_by}

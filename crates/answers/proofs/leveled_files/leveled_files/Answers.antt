@@ -1,5 +1,5 @@
 use Rattle.std.proofs.Common.{◌≡◌, Bor, List, map, ap, sym, ◌∙◌}
-use Rattle.coding.proofs.Binds.{ok_is}
+use Rattle.table.proofs.Binds.{ok_is}
 use Rattle.edit.specs.declared.meta.FileMeta.{FileMeta}
 use Rattle.folder.proofs.LoadingLemmas.{level_more}
 use Rattle.answers.specs.LentFiles.{seen}

@@ -1,6 +1,6 @@
 use Rattle.std.proofs.Common.{◌≡◌, ◌++◌, [], Ok, List, ℕ, string_bytes, sym, ap, ◌∙◌}
 use Rattle.std.specs.List.{flat_map}
-use Rattle.coding.proofs.Texts.{joined}
+use Rattle.table.proofs.Texts.{joined}
 use Rattle.answers.specs.CompactionLines.{deleted_line, end_line, output_line}
 use Rattle.answers.proofs.step_lines.compaction_lines.Goals as goal
 

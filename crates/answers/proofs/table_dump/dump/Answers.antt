@@ -1,8 +1,8 @@
 use Rattle.std.proofs.Common.{◌≡◌, List, Result, Ok, sym, ap, subst}
-use Rattle.coding.specs.Answers.{EqualOrMemory, ◌>>=◌}
-use Rattle.coding.specs.declared.fault.Fault.{Fault}
-use Rattle.block.specs.EncodedEntry.{Entry}
-use Rattle.ikey.specs.Bytewise.{bytewise_cmp}
+use Rattle.table.specs.Answers.{EqualOrMemory, ◌>>=◌}
+use Rattle.table.specs.fault.Fault.{Fault}
+use Rattle.table.specs.EncodedEntry.{Entry}
+use Rattle.table.specs.Bytewise.{bytewise_cmp}
 use Rattle.table.specs.TableContents.{blocks_of, table_reading}
 use Rattle.answers.specs.Dump.{dump_lines}
 use Rattle.answers.proofs.TableLemmas.{from_contents}

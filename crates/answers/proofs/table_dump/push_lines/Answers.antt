@@ -1,10 +1,10 @@
 use Rattle.std.proofs.Common.{◌≡◌, ℕ, ◌<◌, Bool, true, false, ◌++◌, List, [], ◌∷◌, length, string_bytes, sym, ap, ◌∙◌, arith}
 use Rattle.std.proofs.lemmas.Bool.{false≢true}
 use Rattle.std.proofs.lemmas.List.{append-nil}
-use Rattle.block.specs.EncodedEntry.{Entry}
+use Rattle.table.specs.EncodedEntry.{Entry}
 use Rattle.answers.specs.Dump.{dump_lines}
 use Rattle.texts.specs.declared.spelling.Spelling.{Spelling}
-use Rattle.coding.proofs.Binds.{ok_is}
+use Rattle.table.proofs.Binds.{ok_is}
 use Rattle.answers.proofs.table_dump.push_lines.Goals as goal
 
 -- no line is left if no entry is

@@ -1,7 +1,7 @@
 use Rattle.std.proofs.Common.{◌≡◌, ℕ, ◌++◌, List, [], ◌∷◌, drop, slice_get, Some, option_map, string_bytes, ap₂, ◌∙◌}
 use Rattle.std.proofs.lemmas.List.{append_assoc}
 use Rattle.table.proofs.Refused.{OnOk-map}
-use Rattle.block.specs.EncodedEntry.{Entry}
+use Rattle.table.specs.EncodedEntry.{Entry}
 use Rattle.answers.specs.Dump.{dump_line, dump_lines}
 use Rattle.texts.specs.declared.spelling.Spelling.{Spelling}
 use Rattle.answers.proofs.table_dump.push_next.Goals as goal

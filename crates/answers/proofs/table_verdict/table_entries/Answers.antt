@@ -1,8 +1,8 @@
 use Rattle.std.proofs.Common.{◌≡◌, ℕ, List, Result, Ok, sym, ap, ◌∙◌}
-use Rattle.coding.specs.Answers.{◌>>=◌}
-use Rattle.coding.specs.declared.fault.Fault.{Fault}
-use Rattle.block.specs.EncodedEntry.{Entry}
-use Rattle.ikey.specs.Bytewise.{bytewise_cmp}
+use Rattle.table.specs.Answers.{◌>>=◌}
+use Rattle.table.specs.fault.Fault.{Fault}
+use Rattle.table.specs.EncodedEntry.{Entry}
+use Rattle.table.specs.Bytewise.{bytewise_cmp}
 use Rattle.table.specs.TableContents.{blocks_of, table_reading}
 use Rattle.table.specs.declared.tally.Tally.{Tally}
 use Rattle.answers.specs.FaultLines.{counted_entries}

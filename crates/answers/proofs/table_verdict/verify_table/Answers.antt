@@ -1,6 +1,6 @@
 use Rattle.std.proofs.Common.{ℕ, Result, Ok, sym, ap, subst}
-use Rattle.coding.specs.Answers.{EqualOrMemory, ◌>>=◌}
-use Rattle.coding.specs.declared.fault.Fault.{Fault}
+use Rattle.table.specs.Answers.{EqualOrMemory, ◌>>=◌}
+use Rattle.table.specs.fault.Fault.{Fault}
 use Rattle.answers.specs.FaultLines.{valid_line}
 use Rattle.answers.proofs.table_verdict.verify_table.Goals as goal
 

@@ -1,10 +1,10 @@
 use Rattle.std.proofs.Common.{◌≡◌, List, ℕ, Ok, Option, ap, subst, ◌∙◌}
 use Rattle.std.specs.Option.{option_map}
-use Rattle.coding.specs.Answers.{EqualOrMemory}
+use Rattle.table.specs.Answers.{EqualOrMemory}
 use Rattle.checks.proofs.LawfulLemmas.{sound_checked, sound_lawful}
 use Rattle.folder.proofs.ReportLemmas.{reports_after, reports_handed}
 use Rattle.folder.specs.Levels.{file_numbers}
-use Rattle.reads.specs.Gets.{get_of}
+use Rattle.checks.specs.Gets.{get_of}
 use Rattle.answers.proofs.HeldTables.{hold_tables}
 use Rattle.answers.proofs.ShowingLemmas.{answer_device}
 use Rattle.answers.proofs.UnverifiedLemmas.{value_refused, value_told}

@@ -1,5 +1,5 @@
 use Rattle.std.proofs.Common.{List, ℕ, Ok, string_bytes, subst, ap, ◌∙◌}
-use Rattle.coding.specs.Answers.{EqualOrMemory}
+use Rattle.table.specs.Answers.{EqualOrMemory}
 use Rattle.folder.specs.Manifest.{order_name}
 use Rattle.answers.specs.VersionLines.{counter_lines}
 use Rattle.answers.proofs.version_text.head_text.Goals as goal

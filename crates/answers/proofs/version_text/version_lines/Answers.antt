@@ -2,9 +2,9 @@ use Rattle.std.proofs.Common.{◌≡◌, List, ℕ, [], Bor, Ok, map, string_byt
 use Rattle.std.specs.Global.{Vec}
 use Rattle.std.specs.List.{flat_map}
 use Rattle.std.proofs.lemmas.List.Folds.{flat_map-map}
-use Rattle.coding.proofs.Binds.{ok_is}
+use Rattle.table.proofs.Binds.{ok_is}
 use Rattle.edit.specs.declared.meta.FileMeta.{FileMeta}
-use Rattle.coding.proofs.Texts.{joined}
+use Rattle.table.proofs.Texts.{joined}
 use Rattle.folder.specs.Levels.{all_levels}
 use Rattle.answers.specs.LentFiles.{seen}
 use Rattle.answers.specs.VersionLines.{file_line, file_lines, head_lines, pointer_lines}

@@ -1,6 +1,6 @@
 use Rattle.std.proofs.Common.{◌≡◌, ◌++◌, List, [], ℕ, Ok, Err, map, refl, sym, ap₂, subst, ◌∙◌, inr, arith}
 use Rattle.std.proofs.lemmas.List.{take-append-drop}
-use Rattle.coding.proofs.Refusals.{unless}
+use Rattle.ikey.proofs.Refusals.{unless}
 use Rattle.folder.proofs.CountLemmas.{steady}
 use Rattle.folder.proofs.OpeningLemmas.{hands_on}
 use Rattle.folder.proofs.ReportLemmas.{reads_then, reports_steady}

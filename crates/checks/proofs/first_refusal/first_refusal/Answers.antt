@@ -1,5 +1,5 @@
 use Rattle.std.proofs.Common.{List, ℕ, Option, Result, IfOk, map, sym, subst, ◌∙◌, ◌++◌}
-use Rattle.coding.specs.declared.fault.Fault.{Fault}
+use Rattle.ikey.specs.fault.Fault.{Fault}
 use Rattle.checks.specs.InOrder.{IsFirstRefusal}
 use Rattle.checks.proofs.Lent.{lent_table}
 use Rattle.checks.proofs.OrderLemmas.{none_refused, now_refused, other_name, still_refused}

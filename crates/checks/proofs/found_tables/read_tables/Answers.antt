@@ -1,7 +1,7 @@
 use Rattle.std.proofs.Common.{Vec, Global, ℕ, List, Option, Ok, Err, map, subst}
 use Rattle.std.specs.Option.{option_map}
-use Rattle.coding.specs.Answers.{fault}
-use Rattle.coding.specs.declared.fault.FaultName.TheVariants.{Missing}
+use Rattle.ikey.specs.Answers.{fault}
+use Rattle.ikey.specs.fault.FaultName.TheVariants.{Missing}
 use Rattle.reads.specs.Tables.{NumberedContents}
 use Rattle.checks.specs.TablePlaces.{IsLoadedIfThere}
 use Rattle.checks.proofs.FolderTests.{loaded_in}

@@ -1,6 +1,6 @@
 use Rattle.std.proofs.Common.{◌++◌, ◌∷◌, [], ℕ, List, Vec, Global, map, sym, ap, subst, ◌∙◌}
 use Rattle.std.specs.Vec.Iter.{into_iter_items}
-use Rattle.coding.proofs.Binds.{done}
+use Rattle.ikey.proofs.Binds.{done}
 use Rattle.table.specs.declared.bounds.Bounds.{Bounds}
 use Rattle.reads.specs.Tables.{NumberedContents}
 use Rattle.checks.specs.TablePlaces.{AreBounds}

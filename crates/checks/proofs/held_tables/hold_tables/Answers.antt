@@ -1,6 +1,6 @@
 use Rattle.std.proofs.Common.{Vec, Global, ◌≡◌, ℕ, List, Option, None, Ok, IfSome, sym, ap, subst, ◌∙◌}
 use Rattle.std.specs.Option.{option_map}
-use Rattle.coding.proofs.Binds.{ok_is}
+use Rattle.ikey.proofs.Binds.{ok_is}
 use Rattle.reads.specs.Tables.{NumberedContents}
 use Rattle.checks.specs.HeldTables.{AreFound, AreHeldIn, IsFoundAnswer, held_numbers}
 use Rattle.checks.specs.TablePlaces.{place_numbers, wanted_numbers, placed_tables}

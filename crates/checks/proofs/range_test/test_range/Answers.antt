@@ -1,8 +1,8 @@
 use Rattle.std.proofs.Common.{Bor, ◌≡◌, ℕ, ◌≤◌, ◌^◌, List, None, Ok, length, map, sym, ap, subst, ◌∙◌, arith}
 use Rattle.std.specs.Prelude.{filter}
 use Rattle.std.proofs.lemmas.List.{length-map}
-use Rattle.coding.proofs.Binds.{ok_is}
-use Rattle.edit.specs.declared.meta.FileMeta.{FileMeta}
+use Rattle.ikey.proofs.Binds.{ok_is}
+use Rattle.folder.specs.meta.FileMeta.{FileMeta}
 use Rattle.folder.proofs.OpeningLemmas.{hands_on}
 use Rattle.reads.specs.Tables.{NumberedContents}
 use Rattle.split.specs.Ranges.{key_range}

@@ -1,5 +1,5 @@
 use Rattle.std.proofs.Common.{None, map, refl}
-use Rattle.merge.specs.MergedLists.{entries_of_lists}
+use Rattle.reads.specs.MergedLists.{entries_of_lists}
 use Rattle.checks.proofs.FallingRanges.{fall_everywhere}
 use Rattle.checks.proofs.sequence_order.all_entries_fall.Goals as goal
 

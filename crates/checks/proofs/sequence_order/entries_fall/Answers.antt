@@ -2,8 +2,8 @@ use Rattle.std.proofs.Common.{◌≡◌, true, List, [], map, sym, ap, subst, �
 use Rattle.std.specs.Prelude.{◌↔◌}
 use Rattle.std.proofs.lemmas.Bool.{eqb-true}
 use Rattle.std.proofs.lemmas.List.{nil_from_length}
-use Rattle.block.specs.EncodedEntry.{Entry}
-use Rattle.merge.specs.MergedLists.{entries_of_lists}
+use Rattle.table.specs.EncodedEntry.{Entry}
+use Rattle.reads.specs.MergedLists.{entries_of_lists}
 use Rattle.split.specs.Ranges.{IsIn, key_range}
 use Rattle.reads.specs.TableOrder.{AreFallingIn}
 use Rattle.checks.proofs.BoundsLemmas.{none_walked, told_alike}

@@ -1,6 +1,6 @@
 use Rattle.std.proofs.Common.{◌≡◌, List, map, sym, subst}
-use Rattle.block.specs.EncodedEntry.{Entry}
-use Rattle.merge.specs.MergedLists.{entries_of_lists}
+use Rattle.table.specs.EncodedEntry.{Entry}
+use Rattle.reads.specs.MergedLists.{entries_of_lists}
 use Rattle.split.specs.Ranges.{KeyRange, key_range, range_at, IsIn}
 use Rattle.keep.specs.InRange.{entries_in}
 use Rattle.keep.proofs.Distinct.{holds_tells}

@@ -1,7 +1,7 @@
 use Rattle.std.proofs.Common.{Bool, List, length, map, get_or, Err, refl, sym, ap, subst, ◌∙◌, arith}
 use mathlib.Core.List.{not-mem-nil}
 use Rattle.std.proofs.lemmas.Result.{err_from_is_err_and}
-use Rattle.block.specs.EncodedEntry.{Entry}
+use Rattle.table.specs.EncodedEntry.{Entry}
 use Rattle.split.specs.Ranges.{key_range}
 use Rattle.checks.specs.CommonRange.{TellsRange}
 use Rattle.checks.proofs.FallingRanges.{all_told, only_memory_left}

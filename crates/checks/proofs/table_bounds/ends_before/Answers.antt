@@ -1,6 +1,6 @@
 use Rattle.std.proofs.Common.{ℕ, List, [], ap, ◌∙◌}
 use Rattle.std.specs.Ordering.{is_lt}
-use Rattle.block.specs.BuilderView.{last_key}
+use Rattle.reads.specs.BuilderView.{last_key}
 use Rattle.ikey.specs.Key.{user_of}
 use Rattle.checks.proofs.BoundsLemmas.{first_is, last_is}
 use Rattle.checks.proofs.table_bounds.ends_before.Goals as goal

@@ -1,6 +1,6 @@
 use Rattle.std.proofs.Common.{List, map, take}
 use Rattle.std.specs.Prelude.{Contains}
-use Rattle.block.specs.EncodedEntry.{Entry}
+use Rattle.table.specs.EncodedEntry.{Entry}
 use Rattle.reads.specs.Lawful.{AreNewer}
 use Rattle.checks.proofs.table_bounds.is_newer.Given as goal
 

@@ -1,6 +1,6 @@
 use Rattle.std.proofs.Common.{◌++◌, List, map, take, drop}
 use Rattle.std.specs.Prelude.{Contains}
-use Rattle.block.specs.EncodedEntry.{Entry}
+use Rattle.table.specs.EncodedEntry.{Entry}
 use Rattle.checks.specs.TableBounds.{FallAlike}
 use Rattle.checks.proofs.table_bounds.tables_to_walk.Given as goal
 

@@ -1,6 +1,6 @@
 use Rattle.std.proofs.Common.{ℕ, List, Result, ap, subst, ◌∙◌}
-use Rattle.coding.specs.Answers.{EqualOrMemory}
-use Rattle.coding.specs.declared.fault.Fault.{Fault}
+use Rattle.ikey.specs.Answers.{EqualOrMemory}
+use Rattle.ikey.specs.fault.Fault.{Fault}
 use Rattle.reads.specs.Tables.{NumberedContents}
 use Rattle.checks.specs.TableReadings.{numbered_reading}
 use Rattle.checks.proofs.TableRounds.{answer_is}

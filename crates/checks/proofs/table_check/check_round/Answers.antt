@@ -1,7 +1,7 @@
 use Rattle.std.proofs.Common.{List, map, length, Result, Ok, Err, refl, sym, ap, subst, ◌∙◌}
 use Rattle.std.proofs.lemmas.Result.{err_from_is_err_and}
-use Rattle.coding.specs.Answers.{FailsOrMemory}
-use Rattle.coding.specs.declared.fault.Fault.{Fault}
+use Rattle.ikey.specs.Answers.{FailsOrMemory}
+use Rattle.ikey.specs.fault.Fault.{Fault}
 use Rattle.board.specs.RunAnswer.{fault_of_run}
 use Rattle.board.proofs.CollectedAnswers.{results_collected, fault_collected}
 use Rattle.reads.specs.Tables.{NumberedContents}

@@ -1,5 +1,5 @@
 use Rattle.std.proofs.Common.{◌≡◌, List, Err, map, subst}
-use Rattle.coding.specs.Answers.{UnlessMemory}
+use Rattle.ikey.specs.Answers.{UnlessMemory}
 use Rattle.reads.specs.Lawful.{IsLawful}
 use Rattle.reads.specs.Tables.{NumberedContents}
 use Rattle.checks.specs.TableReadings.{tables_reading}

@@ -1,8 +1,8 @@
 use Rattle.std.proofs.Common.{◌≡◌, ℕ, List, Option, Ok, Err, length, sym, ap, subst, ◌∙◌, inr, arith, ◌⊎◌}
 use Rattle.std.proofs.lemmas.List.Elements.{All-nil}
-use Rattle.coding.proofs.Binds.{ok_is}
-use Rattle.coding.specs.Answers.{UnlessMemory}
-use Rattle.coding.specs.declared.fault.Fault.{Fault}
+use Rattle.ikey.proofs.Binds.{ok_is}
+use Rattle.ikey.specs.Answers.{UnlessMemory}
+use Rattle.ikey.specs.fault.Fault.{Fault}
 use Rattle.folder.proofs.OpeningLemmas.{hands_on}
 use Rattle.folder.specs.Levels.{file_numbers}
 use Rattle.folder.specs.OpenAnswer.{IsStopped}

@@ -1,7 +1,7 @@
 use Rattle.std.proofs.Common.{Bor, Vec, Global, ℕ, List, Option, Result, map, subst, arith}
 use Rattle.std.specs.Option.{MatchOption}
-use Rattle.coding.specs.declared.fault.Fault.{Fault}
-use Rattle.edit.specs.declared.meta.FileMeta.{FileMeta}
+use Rattle.ikey.specs.fault.Fault.{Fault}
+use Rattle.folder.specs.meta.FileMeta.{FileMeta}
 use Rattle.reads.specs.TableOrder.{AreStandingFiles, IsNeverLawful}
 use Rattle.folder.proofs.OpeningLemmas.{answers_since}
 use Rattle.checks.specs.GroupTest.{IsRangesAnswer, IsSweepAnswer}

@@ -1,7 +1,7 @@
 use Rattle.std.proofs.Common.{◌≡◌, ℕ, List, Result, Err, length, refl, sym, ap, subst, ◌∙◌}
 use Rattle.std.proofs.lemmas.Result.{err_from_is_err_and}
-use Rattle.coding.specs.Answers.{FailsOrMemory}
-use Rattle.coding.specs.declared.fault.Fault.{Fault}
+use Rattle.ikey.specs.Answers.{FailsOrMemory}
+use Rattle.ikey.specs.fault.Fault.{Fault}
 use Rattle.board.specs.RunAnswer.{fault_of_run}
 use Rattle.compact.specs.RangeMerges.{by_workers}
 use Rattle.compact.specs.JobAnswers.{block_answers}

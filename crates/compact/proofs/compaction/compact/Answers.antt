@@ -1,9 +1,9 @@
 use Rattle.std.proofs.Common.{◌≤◌, List, map, length, Result, Ok, sym, ap, subst, ◌∙◌}
 use Rattle.std.proofs.lemmas.Result.{err_from_is_err_and}
-use Rattle.coding.specs.declared.fault.Fault.{Fault}
-use Rattle.coding.specs.Answers.{◌>>=◌, EqualOrMemory, FailsOrMemory}
-use Rattle.coding.proofs.Refusals.{FailsOrMemory-from}
-use Rattle.block.specs.EncodedEntry.{Entry}
+use Rattle.ikey.specs.fault.Fault.{Fault}
+use Rattle.ikey.specs.Answers.{◌>>=◌, EqualOrMemory, FailsOrMemory}
+use Rattle.ikey.proofs.Refusals.{FailsOrMemory-from}
+use Rattle.table.specs.EncodedEntry.{Entry}
 use Rattle.table.specs.TableContents.{Contents}
 use Rattle.pick.specs.declared.picked_inputs.InputFile.{InputFile}
 use Rattle.compact.specs.Inputs.{inputs_reading}

@@ -1,6 +1,6 @@
 use Rattle.std.proofs.Common.{Result, subst}
-use Rattle.coding.specs.declared.fault.Fault.{Fault}
-use Rattle.coding.specs.Answers.{EqualOrMemory}
+use Rattle.ikey.specs.fault.Fault.{Fault}
+use Rattle.ikey.specs.Answers.{EqualOrMemory}
 use Rattle.compact.specs.OneThread.{Answer}
 use Rattle.compact.specs.Request.{RequestView, request_in}
 use Rattle.compact.specs.SurvivingReads.{LeavesReads}

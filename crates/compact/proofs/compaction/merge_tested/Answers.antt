@@ -1,7 +1,7 @@
 use Rattle.std.proofs.Common.{◌≡◌, ℕ, List, map, sym, ap, subst, ◌∙◌}
 use Rattle.std.specs.List.Sorted.{IsStrictlyIncreasing}
-use Rattle.coding.specs.Answers.{EqualOrMemory}
-use Rattle.block.specs.EncodedEntry.{Entry}
+use Rattle.ikey.specs.Answers.{EqualOrMemory}
+use Rattle.table.specs.EncodedEntry.{Entry}
 use Rattle.keep.specs.Marks.{CompactionContext, context_of}
 use Rattle.keep.specs.Readable.{listed_of}
 use Rattle.compact.specs.Request.{RequestView, request_in, below_request}

@@ -1,5 +1,5 @@
 use Rattle.std.proofs.Common.{◌≡◌, ℕ, ◌<◌, ◌++◌, ◌∷◌, [], List, take, length, sym, ap, ◌∙◌, append_assoc, append-nil, arith}
-use Rattle.block.specs.EncodedEntry.{Entry}
+use Rattle.table.specs.EncodedEntry.{Entry}
 use Rattle.table.specs.Table.{table}
 use Rattle.cut.specs.Plan.{OutputView, plan_tables}
 use Rattle.cut.specs.declared.output_meta.OutputMeta.{OutputMeta}

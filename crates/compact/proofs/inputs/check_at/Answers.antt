@@ -1,7 +1,7 @@
 use Rattle.std.proofs.Common.{List, Result, subst}
-use Rattle.coding.specs.Answers.{EqualOrMemory}
-use Rattle.coding.specs.declared.fault.Fault.{Fault}
-use Rattle.block.specs.EncodedEntry.{Entry}
+use Rattle.ikey.specs.Answers.{EqualOrMemory}
+use Rattle.ikey.specs.fault.Fault.{Fault}
+use Rattle.table.specs.EncodedEntry.{Entry}
 use Rattle.compact.proofs.InputAnswers.{answer_is}
 use Rattle.compact.proofs.inputs.check_at.Goals as goal
 

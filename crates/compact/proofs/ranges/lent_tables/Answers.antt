@@ -1,6 +1,6 @@
 use Rattle.std.proofs.Common.{Bor, List, map, ap, refl, ◌∙◌, arith}
 use Rattle.std.proofs.lemmas.List.{take_all}
-use Rattle.block.specs.EncodedEntry.{Entry}
+use Rattle.table.specs.EncodedEntry.{Entry}
 use Rattle.table.specs.TableContents.{Contents}
 use Rattle.reads.proofs.Answers.{entries_more}
 use Rattle.compact.proofs.ranges.lent_tables.Goals as goal

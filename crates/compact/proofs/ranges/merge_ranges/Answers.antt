@@ -1,9 +1,9 @@
 use Rattle.std.proofs.Common.{◌≡◌, Bor, List, Result, Err, Ok, map, length, refl, sym, ap, subst, ◌∙◌}
 use mathlib.Core.List.{not-mem-nil}
 use Rattle.std.proofs.lemmas.Result.{err_from_is_err_and}
-use Rattle.coding.specs.Answers.{FailsOrMemory}
-use Rattle.coding.specs.declared.fault.Fault.{Fault}
-use Rattle.block.specs.EncodedEntry.{Entry}
+use Rattle.ikey.specs.Answers.{FailsOrMemory}
+use Rattle.ikey.specs.fault.Fault.{Fault}
+use Rattle.table.specs.EncodedEntry.{Entry}
 use Rattle.table.specs.TableContents.{Contents}
 use Rattle.keep.specs.Marks.{CompactionContext, context_of}
 use Rattle.keep.specs.Runs.{Run}

@@ -1,7 +1,7 @@
 use Rattle.std.proofs.Common.{List, Result, map, ap, subst, ◌∙◌}
-use Rattle.coding.specs.Answers.{EqualOrMemory}
-use Rattle.coding.specs.declared.fault.Fault.{Fault}
-use Rattle.block.specs.EncodedEntry.{Entry}
+use Rattle.ikey.specs.Answers.{EqualOrMemory}
+use Rattle.ikey.specs.fault.Fault.{Fault}
+use Rattle.table.specs.EncodedEntry.{Entry}
 use Rattle.split.specs.Ranges.{KeyRange, key_range}
 use Rattle.keep.specs.Marks.{CompactionContext, context_of}
 use Rattle.keep.specs.Runs.{Run, range_run}

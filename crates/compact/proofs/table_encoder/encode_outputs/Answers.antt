@@ -1,9 +1,9 @@
 use Rattle.std.proofs.Common.{◌≡◌, ℕ, List, Result, Err, length, refl, sym, ap, subst, ◌∙◌}
 use Rattle.std.specs.Global.{Vec}
 use Rattle.std.proofs.lemmas.Result.{err_from_is_err_and}
-use Rattle.coding.specs.Answers.{FailsOrMemory}
-use Rattle.coding.specs.declared.fault.Fault.{Fault}
-use Rattle.block.specs.EncodedEntry.{Entry}
+use Rattle.ikey.specs.Answers.{FailsOrMemory}
+use Rattle.ikey.specs.fault.Fault.{Fault}
+use Rattle.table.specs.EncodedEntry.{Entry}
 use Rattle.table.specs.Table.{table}
 use Rattle.board.specs.RunAnswer.{fault_of_run}
 use Rattle.compact.specs.RangeMerges.{by_workers}

@@ -1,5 +1,5 @@
 use Rattle.std.proofs.Common.{◌+◌, List, map, drop, sym, subst, ◌∙◌}
-use Rattle.coding.proofs.Binds.{ok_is}
+use Rattle.table.proofs.Binds.{ok_is}
 use Rattle.faults.specs.VersionFault.{VersionFault, OfFile}
 use Rattle.faults.specs.Findings.{faults_of_found, found_in}
 use Rattle.faults.specs.ToldFaults.{IsPart}

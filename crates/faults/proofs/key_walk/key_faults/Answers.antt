@@ -3,7 +3,7 @@ use Rattle.std.specs.Prelude.{suc, ◌≤◌}
 use Rattle.std.specs.List.{AllByRecursion}
 use Rattle.std.proofs.lemmas.List.{length-map}
 use Rattle.merge.specs.MergedLists.{entries_of_lists}
-use Rattle.split.specs.Ranges.{key_range}
+use Rattle.reads.specs.Ranges.{key_range}
 use Rattle.table.specs.EntriesFrom.{NeverFalls}
 use Rattle.faults.specs.KeyFaults.{FileEntries, first_break, searched_of}
 use Rattle.faults.specs.KeyWalk.{AreAllFrom, IsNextUser, after_user, break_of, found_keys, misplaced_in, with_user}

@@ -1,7 +1,7 @@
 use Rattle.std.proofs.Common.{◌≡◌, true, false, length, map}
 use Rattle.std.specs.List.{AllByRecursion}
 use Rattle.table.specs.EntriesFrom.{NeverFalls}
-use Rattle.split.specs.Ranges.{key_range}
+use Rattle.reads.specs.Ranges.{key_range}
 use Rattle.merge.specs.MergedLists.{entries_of_lists}
 use Rattle.faults.specs.KeyFaults.{searched_of}
 use Rattle.faults.specs.KeyWalk.{AreAllFrom, IsNextUser, misplaced_in}

@@ -1,8 +1,8 @@
 use Rattle.std.proofs.Common.{Bor, ◌≡◌, ℕ, ◌<◌, ◌++◌, List, Some, length, map, refl, sym, ap, subst, ◌∙◌, arith}
 use Rattle.std.specs.Option.{option_map}
 use Rattle.std.proofs.lemmas.List.{length-map}
-use Rattle.block.specs.EncodedEntry.{Entry}
-use Rattle.ikey.specs.Key.{user_of}
+use Rattle.table.specs.EncodedEntry.{Entry}
+use Rattle.table.specs.Key.{user_of}
 use Rattle.merge.specs.LeastList.{IsMerging}
 use Rattle.merge.specs.MergedLists.{entries_of_lists}
 use Rattle.merge.proofs.Leasts.{at_place, least_some, place_within}

@@ -1,4 +1,4 @@
-use Rattle.split.specs.Ranges.{key_range}
+use Rattle.reads.specs.Ranges.{key_range}
 use Rattle.faults.specs.RangeKeys.{IsCursorOf}
 use Rattle.faults.proofs.FaultAnswers.{zip_more}
 use Rattle.faults.proofs.range_faults.file_cursors.Goals as goal

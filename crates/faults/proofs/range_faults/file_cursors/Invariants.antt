@@ -1,6 +1,6 @@
 use Rattle.std.proofs.Common.{take}
 use Rattle.std.specs.List.{AllZip}
-use Rattle.split.specs.Ranges.{key_range}
+use Rattle.reads.specs.Ranges.{key_range}
 use Rattle.faults.specs.RangeKeys.{IsCursorOf}
 use Rattle.faults.proofs.range_faults.file_cursors.Given as goal
 

@@ -1,7 +1,7 @@
 use Rattle.std.proofs.Common.{◌≡◌, List, map, sym, ap, ◌∙◌}
 use Rattle.std.specs.List.{filter}
-use Rattle.coding.proofs.Binds.{ok_is}
-use Rattle.split.specs.Ranges.{IsIn, key_range}
+use Rattle.table.proofs.Binds.{ok_is}
+use Rattle.reads.specs.Ranges.{IsIn, key_range}
 use Rattle.reads.specs.Tables.{NumberedContents}
 use Rattle.faults.specs.KeyFaults.{FileEntries, is_of, searched_of}
 use Rattle.faults.specs.KeyWalk.{misplaced_in}

@@ -1,9 +1,9 @@
 use Rattle.std.proofs.Common.{Bor, ℕ, List, map, None, Ok, sym, subst, ◌∙◌, arith}
 use Rattle.std.specs.Prelude.{filter}
-use Rattle.coding.proofs.Binds.{ok_is}
-use Rattle.coding.proofs.Refusals.{only_memory}
-use Rattle.split.specs.Ranges.{key_range}
-use Rattle.edit.specs.declared.meta.FileMeta.{FileMeta}
+use Rattle.table.proofs.Binds.{ok_is}
+use Rattle.table.proofs.Refusals.{only_memory}
+use Rattle.reads.specs.Ranges.{key_range}
+use Rattle.folder.specs.meta.FileMeta.{FileMeta}
 use Rattle.reads.specs.Tables.{NumberedContents}
 use Rattle.checks.specs.HeldTables.{AreFound, IsFoundAnswer}
 use Rattle.checks.specs.NeededFiles.{is_file_needed}

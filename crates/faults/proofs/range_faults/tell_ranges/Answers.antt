@@ -1,10 +1,10 @@
 use Rattle.std.proofs.Common.{Bor, ◌≡◌, ℕ, ◌+◌, ◌-◌, ◌<◌, List, ◌++◌, length, map, refl, sym, ap, subst, ◌∙◌, arith}
 use Rattle.std.proofs.lemmas.List.Elements.{All-nil}
-use Rattle.edit.specs.declared.meta.FileMeta.{FileMeta}
+use Rattle.folder.specs.meta.FileMeta.{FileMeta}
 use Rattle.folder.proofs.CountLemmas.{steady}
 use Rattle.folder.proofs.ReportLemmas.{reads_then}
-use Rattle.split.proofs.Covers.{covers}
-use Rattle.split.specs.Ranges.{KeyRange, key_range, range_at}
+use Rattle.reads.proofs.Covers.{covers}
+use Rattle.reads.specs.Ranges.{KeyRange, key_range, range_at}
 use Rattle.reads.specs.Tables.{NumberedContents}
 use Rattle.checks.specs.HeldTables.{AreHeldIn, IsTableIn}
 use Rattle.checks.proofs.FolderTests.{told_still}

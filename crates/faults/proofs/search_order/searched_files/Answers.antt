@@ -5,8 +5,8 @@ use Rattle.std.specs.List.Sorted.{IsPermutation}
 use Rattle.std.specs.Ordering.{is_lt}
 use Rattle.std.proofs.lemmas.List.{map-append}
 use Rattle.std.proofs.lemmas.List.Sorted.{answers_always, ranks_by, IsPermutation-map}
-use Rattle.edit.specs.declared.meta.FileMeta.{FileMeta}
-use Rattle.edit.proofs.SortedFiles.{lent, lent_sorted, same_number}
+use Rattle.folder.specs.meta.FileMeta.{FileMeta}
+use Rattle.folder.proofs.SortedFiles.{lent, lent_sorted, same_number}
 use Rattle.reads.specs.FileList.{same_file, newer_number}
 use Rattle.faults.specs.Findings.{FoundFile, found_in, is_top_found, metas_found}
 use Rattle.faults.proofs.FindingLemmas.{distinct_kept, files_found}

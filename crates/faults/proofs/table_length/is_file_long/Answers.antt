@@ -1,6 +1,6 @@
 use Rattle.std.proofs.Common.{◌≡◌, ℕ, Bool, List, Option, Some, Result, Ok, length, nat_eq, not, sym, ap, ◌∙◌}
 use Rattle.std.specs.Option.{option_map}
-use Rattle.coding.specs.declared.fault.Fault.{Fault}
+use Rattle.table.specs.fault.Fault.{Fault}
 use Rattle.faults.specs.Findings.{is_long}
 use Rattle.faults.proofs.LongTables.{long_part, no_part}
 use Rattle.faults.proofs.table_length.is_file_long.Goals as goal

@@ -1,7 +1,7 @@
 use Rattle.std.proofs.Common.{◌≡◌, ℕ, Bool, List, Option, Result, Ok, Err, sym, ap, ◌∙◌, arith}
 use Rattle.std.specs.Option.{option_map}
-use Rattle.coding.proofs.Binds.{ok_is}
-use Rattle.coding.specs.declared.fault.Fault.{Fault}
+use Rattle.table.proofs.Binds.{ok_is}
+use Rattle.table.specs.fault.Fault.{Fault}
 use Rattle.folder.specs.Names.{old_table_name, table_name}
 use Rattle.checks.proofs.FolderTests.{told_still}
 use Rattle.faults.specs.FileFaults.{table_held}

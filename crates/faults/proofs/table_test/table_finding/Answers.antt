@@ -1,6 +1,6 @@
 use Rattle.std.proofs.Common.{◌≡◌, ℕ, true, Result, Ok, refl, sym, ap, subst, ◌∙◌}
-use Rattle.coding.proofs.Binds.{ok_is}
-use Rattle.coding.specs.declared.fault.Fault.{Fault}
+use Rattle.table.proofs.Binds.{ok_is}
+use Rattle.table.specs.fault.Fault.{Fault}
 use Rattle.folder.proofs.CountLemmas.{steady}
 use Rattle.folder.specs.OpenAnswer.{FolderAnswers}
 use Rattle.checks.proofs.FolderTests.{told_still}

@@ -1,5 +1,5 @@
 use Rattle.std.proofs.Common.{◌≡◌, Result, Ok, Err, map, arith}
-use Rattle.coding.specs.declared.fault.Fault.{Fault}
+use Rattle.table.specs.fault.Fault.{Fault}
 use Rattle.checks.proofs.FolderTests.{told_still}
 use Rattle.reads.specs.FileList.{level_file_in}
 use Rattle.faults.specs.FileFaults.{file_reading}

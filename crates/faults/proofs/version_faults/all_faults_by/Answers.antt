@@ -1,6 +1,6 @@
 use Rattle.std.proofs.Common.{Bor, ◌≡◌, ℕ, true, List, ◌++◌, Ok, map, refl, ap, subst, ◌∙◌}
-use Rattle.edit.specs.declared.meta.FileMeta.{FileMeta}
-use Rattle.edit.specs.declared.meta.NewFile.{NewFile}
+use Rattle.folder.specs.meta.FileMeta.{FileMeta}
+use Rattle.folder.specs.meta.NewFile.{NewFile}
 use Rattle.folder.proofs.ReportLemmas.{reports_handed, reports_then}
 use Rattle.checks.proofs.FolderTests.{told_still}
 use Rattle.reads.specs.FileList.{level_file_in}

@@ -1,12 +1,12 @@
 use Rattle.std.proofs.Common.{◌≡◌, ℕ, List, Ok, Err, Some, codes, string_bytes, sym, subst, ◌∙◌, arith, rules}
-use Rattle.coding.specs.Answers.{UnlessMemory}
+use Rattle.ikey.specs.Answers.{UnlessMemory}
 use Rattle.folder.specs.Manifest.{IsManifestAnswer}
 use Rattle.folder.specs.Names.{IsNumberAnswer, manifest_name}
 use Rattle.folder.specs.OpenAnswer.{IsFileReading, IsOpened}
 use Rattle.folder.proofs.OpeningLemmas.{hands_on, held_before, manifest_answers, no_current, no_manifest, no_number, refuses}
 use Rattle.folder.proofs.RefusalLemmas.{device_failed, open_refused}
 use Rattle.folder.proofs.ReportLemmas.{reads_then, reports_after, reports_handed, reports_then}
-use Rattle.coding.proofs.Binds.{ok_is}
+use Rattle.ikey.proofs.Binds.{ok_is}
 use Rattle.folder.proofs.current_version.open.Goals as goal
 
 pub returns-in_err-current-clause-answer : goal.returns-in_err-current-clause-answer

@@ -3,7 +3,7 @@ use Rattle.std.proofs.Common.{Bor}
 use Rattle.edit.specs.declared.meta.FileMeta.{FileMeta}
 use Rattle.folder.specs.Levels.{file_numbers, numbers_at}
 use Rattle.folder.proofs.LoadingLemmas.{level_more, map_fused}
-use Rattle.coding.proofs.Binds.{ok_is}
+use Rattle.ikey.proofs.Binds.{ok_is}
 use Rattle.folder.proofs.table_loader.file_numbers.Goals as goal
 
 pub loop-level-preserved : goal.loop-level-preserved

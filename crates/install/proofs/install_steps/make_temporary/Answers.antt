@@ -1,5 +1,5 @@
 use Rattle.std.proofs.Common.{◌≡◌, ◌∷◌, [], string_bytes, sym, ◌∙◌}
-use Rattle.coding.proofs.Binds.{ok_is}
+use Rattle.edit.proofs.Binds.{ok_is}
 use Rattle.folder.specs.Calls.{FolderSynced}
 use Rattle.folder.specs.Names.{current_text, temporary_name}
 use Rattle.folder.proofs.RunLemmas.{runs_one, runs_then}

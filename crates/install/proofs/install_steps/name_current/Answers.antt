@@ -1,5 +1,5 @@
 use Rattle.std.proofs.Common.{◌≡◌, ◌∷◌, [], List, ℕ, codes, string_bytes, sym, ap}
-use Rattle.coding.proofs.Binds.{ok_is}
+use Rattle.edit.proofs.Binds.{ok_is}
 use Rattle.folder.specs.Calls.{FolderSynced, Renamed}
 use Rattle.folder.specs.Names.{temporary_name}
 use Rattle.install.specs.Install.{current_calls}

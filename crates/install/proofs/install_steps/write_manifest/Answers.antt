@@ -1,5 +1,5 @@
 use Rattle.std.proofs.Common.{◌≡◌, string_bytes, refl, sym, ◌∙◌}
-use Rattle.coding.proofs.Binds.{ok_is}
+use Rattle.edit.proofs.Binds.{ok_is}
 use Rattle.folder.specs.Names.{manifest_name}
 use Rattle.folder.proofs.RunLemmas.{runs_then}
 use Rattle.install.specs.Install.{manifest_calls, temporary_calls, write_calls}

@@ -1,7 +1,7 @@
 use Rattle.std.proofs.Common.{map, string_bytes, subst, sym, inr}
 use Rattle.folder.specs.Orders.{order_cmp}
 use Rattle.folder.specs.declared.folder.FolderFault.{FolderFault}
-use Rattle.coding.specs.declared.fault.Fault.{Fault}
+use Rattle.edit.specs.fault.Fault.{Fault}
 use Rattle.install.specs.ObsoleteFile.{AreObsolete}
 use Rattle.install.specs.Removal.{removal_calls}
 use Rattle.install.proofs.ObsoleteNames.{texts}

@@ -2,7 +2,7 @@ use Rattle.std.proofs.Common.{rules}
 use Rattle.std.specs.Ordering.{is_lt}
 use Rattle.std.proofs.lemmas.List.Sorted.{answers_always}
 use Rattle.ikey.specs.Order.{internal_cmp}
-use Rattle.edit.specs.declared.meta.FileMeta.{FileMeta}
+use Rattle.reads.specs.meta.FileMeta.{FileMeta}
 use Rattle.keep.proofs.RisingTests.{largest_is}
 use Rattle.keep.proofs.conditions.largest_rise.Goals as goal
 

@@ -1,5 +1,5 @@
 use Rattle.std.proofs.Common.{◌≡◌, List, [], ◌∷◌, ◌++◌, sym, ap, ◌∙◌, rules}
-use Rattle.block.specs.EncodedEntry.{Entry}
+use Rattle.reads.specs.EncodedEntry.{Entry}
 use Rattle.keep.specs.EntryChunks.{all_kept}
 use Rattle.keep.proofs.ChunkLists.{all_kept_closed}
 use Rattle.keep.proofs.OnAnswers.{same_ok}

@@ -1,7 +1,7 @@
 use Rattle.std.proofs.Common.{List, ℕ, sym, ap, ◌∙◌}
 use Rattle.std.specs.Ordering.{is_lt}
 use Rattle.ikey.specs.Order.{internal_cmp}
-use Rattle.edit.specs.declared.meta.FileMeta.{FileMeta}
+use Rattle.reads.specs.meta.FileMeta.{FileMeta}
 use Rattle.keep.proofs.GrandparentCounts.{grown, stopped}
 use Rattle.keep.proofs.grandparents.count_below.Goals as goal
 

@@ -1,5 +1,5 @@
 use Rattle.std.proofs.Common.{List, ◌++◌, ap, ◌∙◌}
-use Rattle.block.specs.EncodedEntry.{Entry}
+use Rattle.reads.specs.EncodedEntry.{Entry}
 use Rattle.merge.specs.MergedLists.{entries_of_lists}
 use Rattle.split.specs.Ranges.{KeyRange, key_range}
 use Rattle.keep.specs.InRange.{entries_in}

@@ -1,6 +1,6 @@
 use Rattle.std.proofs.Common.{refl, false, List, sym, subst, ◌∙◌}
 use Rattle.std.specs.Option.{option_map}
-use Rattle.block.specs.EncodedEntry.{Entry}
+use Rattle.reads.specs.EncodedEntry.{Entry}
 use Rattle.merge.specs.MergedLists.{merged}
 use Rattle.keep.specs.CursorsLeft.{is_before, EachLosesFirst}
 use Rattle.keep.proofs.RangeWalks.{first_some, fewer, begins}

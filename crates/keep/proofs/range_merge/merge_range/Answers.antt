@@ -2,7 +2,7 @@ use Rattle.std.proofs.Common.{◌≡◌, List, map, sym, ap, subst, ◌∙◌}
 use Rattle.std.proofs.lemmas.Result.{err_from_is_err_and}
 use Rattle.coding.specs.Answers.{EqualOrMemory}
 use Rattle.coding.proofs.Refusals.{unless_from}
-use Rattle.block.specs.EncodedEntry.{Entry}
+use Rattle.reads.specs.EncodedEntry.{Entry}
 use Rattle.split.specs.Ranges.{key_range}
 use Rattle.keep.specs.CursorsLeft.{is_passed, each_past_range, EachLosesFirst}
 use Rattle.keep.specs.Marks.{context_of}

@@ -1,7 +1,7 @@
 use Rattle.std.proofs.Common.{refl, ◌≡◌, true, List, ◌∷◌, drop, Ok, Err, sym, ap, subst, ◌∙◌}
 use Rattle.std.proofs.lemmas.Result.{err_from_is_err_and}
 use Rattle.coding.proofs.Refusals.{unless_from}
-use Rattle.block.specs.EncodedEntry.{Entry}
+use Rattle.reads.specs.EncodedEntry.{Entry}
 use Rattle.merge.specs.MergedLists.{merged}
 use Rattle.split.specs.Ranges.{key_range}
 use Rattle.keep.specs.WalkedRange.{WalkedRange}

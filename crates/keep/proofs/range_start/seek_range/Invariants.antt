@@ -1,6 +1,6 @@
 use Rattle.std.proofs.Common.{◌<◌, ◌^◌, false, length}
 use Rattle.std.specs.List.{AllByRecursion}
-use Rattle.block.specs.EncodedEntry.{Entry}
+use Rattle.reads.specs.EncodedEntry.{Entry}
 use Rattle.ikey.specs.Key.{sequence_of}
 use Rattle.split.specs.Ranges.{key_range}
 use Rattle.keep.specs.CursorsLeft.{is_before, LosesOnly}

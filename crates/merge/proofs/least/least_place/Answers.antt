@@ -1,6 +1,6 @@
 use Rattle.std.proofs.Common.{List, length, map, ◌≤◌, subst, arith}
 use Rattle.std.proofs.lemmas.List.{take_all, length-map}
-use Rattle.block.specs.EncodedEntry.{Entry}
+use Rattle.table.specs.EncodedEntry.{Entry}
 use Rattle.merge.specs.LeastList.{IsMerging}
 use Rattle.merge.proofs.least.least_place.Goals as goal
 

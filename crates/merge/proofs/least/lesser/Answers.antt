@@ -1,7 +1,7 @@
 use Rattle.std.proofs.Common.{List, map, take, length, Some, ◌<◌, refl, sym, ap, subst, ◌∙◌, arith}
 use Rattle.std.specs.Ordering.{is_lt}
 use Rattle.std.proofs.lemmas.List.{length-map}
-use Rattle.block.specs.EncodedEntry.{Entry}
+use Rattle.table.specs.EncodedEntry.{Entry}
 use Rattle.table.proofs.Walks.{none_valid}
 use Rattle.merge.specs.LeastList.{IsMerging}
 use Rattle.merge.proofs.Leasts.{at_place, least_within, least_has, passes_empty, finds_first, finds_lesser, keeps_least}

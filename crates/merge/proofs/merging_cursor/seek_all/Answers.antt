@@ -1,7 +1,7 @@
 use Rattle.std.proofs.Common.{List, get_or, map, set, ◌≡◌, Some, sym, ap, subst, ◌∙◌, add-one, arith}
 use Rattle.std.specs.Prelude.{slice_get}
 use Rattle.std.proofs.lemmas.List.{map-set}
-use Rattle.block.specs.EncodedEntry.{Entry}
+use Rattle.table.specs.EncodedEntry.{Entry}
 use Rattle.merge.specs.Seeks.{EachLeavesFrom}
 use Rattle.merge.proofs.Leasts.{at_place}
 use Rattle.merge.proofs.Refused.{on_err}

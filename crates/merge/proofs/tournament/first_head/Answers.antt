@@ -1,5 +1,5 @@
 use Rattle.std.proofs.Common.{List, ap, ◌∙◌}
-use Rattle.block.specs.EncodedEntry.{Entry}
+use Rattle.table.specs.EncodedEntry.{Entry}
 use Rattle.table.proofs.Walks.{none_valid}
 use Rattle.merge.proofs.Heads.{head_of_first, head_of_none}
 use Rattle.merge.proofs.tournament.first_head.Goals as goal

@@ -1,5 +1,5 @@
 use Rattle.std.proofs.Common.{List, ℕ, [], length, map, get_or, ◌<◌, refl}
-use Rattle.block.specs.EncodedEntry.{Entry}
+use Rattle.table.specs.EncodedEntry.{Entry}
 use Rattle.merge.proofs.Tournaments.{has_root, root_has, one_next, stands_at}
 use Rattle.merge.proofs.tournament.first_place.Goals as goal
 

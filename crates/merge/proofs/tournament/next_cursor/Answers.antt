@@ -1,6 +1,6 @@
 use Rattle.std.proofs.Common.{List, ℕ, length, map, get_or, ◌<◌, refl, subst}
 use Rattle.std.proofs.lemmas.List.{length-map}
-use Rattle.block.specs.EncodedEntry.{Entry}
+use Rattle.table.specs.EncodedEntry.{Entry}
 use Rattle.merge.proofs.Leasts.{at_place, first_same}
 use Rattle.merge.proofs.Tournaments.{has_root, root_has, one_next}
 use Rattle.merge.proofs.tournament.next_cursor.Goals as goal

@@ -1,6 +1,6 @@
 use Rattle.std.proofs.Common.{List, ℕ, length, map, get_or, ◌≡◌, ◌<◌, subst, sym, ◌∙◌}
 use Rattle.std.proofs.lemmas.List.{length-map, get_or_default}
-use Rattle.block.specs.EncodedEntry.{Entry}
+use Rattle.table.specs.EncodedEntry.{Entry}
 use Rattle.table.proofs.Walks.{none_valid}
 use Rattle.merge.proofs.Leasts.{at_place}
 use Rattle.merge.proofs.Tournaments.{none_next, one_next}

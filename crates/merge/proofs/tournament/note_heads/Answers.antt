@@ -2,7 +2,7 @@ use Rattle.std.proofs.Common.{List, [], length, map, ◌<◌, ◌≤◌, sym, ap
 use Rattle.std.specs.List.{AllByRecursion}
 use Rattle.std.proofs.lemmas.List.{take_all, length-map}
 use Rattle.std.proofs.lemmas.Option.{get_or_from_slice_get}
-use Rattle.block.specs.EncodedEntry.{Entry}
+use Rattle.table.specs.EncodedEntry.{Entry}
 use Rattle.table.specs.EntriesFrom.{NeverFalls}
 use Rattle.merge.specs.Tournament.{first_head}
 use Rattle.merge.proofs.Leasts.{at_place}

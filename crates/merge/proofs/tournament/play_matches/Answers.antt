@@ -1,6 +1,6 @@
 use Rattle.std.proofs.Common.{List, length, map, ◌≡◌, ◌+◌, ◌-◌, ◌<◌, arith}
 use Rattle.std.proofs.lemmas.List.{length-map}
-use Rattle.block.specs.EncodedEntry.{Entry}
+use Rattle.table.specs.EncodedEntry.{Entry}
 use Rattle.merge.proofs.Tournaments.{none_played, played_down, all_played_down}
 use Rattle.merge.proofs.tournament.play_matches.Goals as goal
 

@@ -1,6 +1,6 @@
 use Rattle.std.proofs.Common.{List, [], ℕ, Bool, true, false, cond, length, map, get_or, refl, sym, subst, ◌≡◌, ◌+◌, ◌<◌, ◌/◌, arith, get_or-set_same}
 use Rattle.std.proofs.lemmas.List.{length-map}
-use Rattle.block.specs.EncodedEntry.{Entry}
+use Rattle.table.specs.EncodedEntry.{Entry}
 use Rattle.merge.specs.Tournament.{first_head, IsWinner}
 use Rattle.merge.proofs.Tournaments.{all_played_up, beside_within, path_next}
 use Rattle.merge.proofs.tournament.play_path.Goals.{then-wins, else-wins}

@@ -1,5 +1,5 @@
 use Rattle.std.proofs.Common.{List, map, sym}
-use Rattle.block.specs.EncodedEntry.{Entry}
+use Rattle.table.specs.EncodedEntry.{Entry}
 use Rattle.table.proofs.Walks.{none_valid}
 use Rattle.merge.proofs.Leasts.{at_place}
 use Rattle.merge.proofs.Tournaments.{wins_of_none, none_wins, lesser_wins, greater_loses, lower_wins}

@@ -1,7 +1,7 @@
 use Rattle.std.proofs.Common.{List, None, Result, ap, subst, sym}
 use Rattle.std.proofs.lemmas.Result.{err_from_is_err_and}
-use Rattle.coding.specs.Answers.{EqualOrMemory, ◌>>=◌}
-use Rattle.coding.specs.declared.fault.Fault.{Fault}
+use Rattle.ikey.specs.Answers.{EqualOrMemory, ◌>>=◌}
+use Rattle.ikey.specs.fault.Fault.{Fault}
 use Rattle.block.specs.EncodedEntry.{Entry}
 use Rattle.block.proofs.CheckingSteps.{no_block}
 use Rattle.pairing.specs.TestedUnion.{tested_entries}

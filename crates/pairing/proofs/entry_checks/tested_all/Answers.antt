@@ -1,7 +1,7 @@
 use Rattle.std.proofs.Common.{◌≡◌, ◌∷◌, ◌++◌, [], List, ℕ, None, Option, Ok, Err, sym, ap, subst, ◌∙◌}
 use Rattle.std.proofs.lemmas.Result.{err_from_is_err_and}
-use Rattle.coding.specs.declared.fault.Fault.{Fault}
-use Rattle.coding.proofs.Refusals.{FailsOrMemory-from}
+use Rattle.ikey.specs.fault.Fault.{Fault}
+use Rattle.ikey.proofs.Refusals.{FailsOrMemory-from}
 use Rattle.block.specs.EncodedEntry.{Entry}
 use Rattle.pairing.specs.TestedUnion.{last_key_or, tested_entries}
 use Rattle.pairing.specs.declared.tested_entry.TestedEntry.{TestedEntry}

@@ -1,7 +1,7 @@
 use Rattle.std.proofs.Common.{◌≡◌, ℕ, Bool, true, false, List, Option, None, Result, Ok, Err, IfErr, OnOk, refl, sym, ap, subst, ◌∙◌}
-use Rattle.coding.specs.Answers.{UnlessMemory, fault}
-use Rattle.coding.specs.declared.fault.Fault.{Fault}
-use Rattle.coding.specs.declared.fault.FaultName.TheVariants.{Memory}
+use Rattle.ikey.specs.Answers.{UnlessMemory, fault}
+use Rattle.ikey.specs.fault.Fault.{Fault}
+use Rattle.ikey.specs.fault.FaultName.TheVariants.{Memory}
 use Rattle.pairing.specs.TestedUnion.{is_after_key, last_key_or, tested_entries}
 use Rattle.pairing.specs.declared.tested_entry.TestedEntry.{TestedEntry}
 use Rattle.pairing.proofs.range_pair.push_above.Goals as goal

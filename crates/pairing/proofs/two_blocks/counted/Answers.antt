@@ -1,9 +1,9 @@
 use Rattle.std.proofs.Common.{◌≡◌, ℕ, List, length, Result, Ok, Err, sym, ap, subst, ◌∙◌}
 use Rattle.std.proofs.lemmas.List.{length-map}
 use Rattle.std.proofs.lemmas.Result.{err_from_is_err_and}
-use Rattle.coding.specs.Answers.{UnlessMemory, ◌>>=◌}
-use Rattle.coding.specs.declared.fault.Fault.{Fault}
-use Rattle.coding.proofs.Refusals.{unless_from}
+use Rattle.ikey.specs.Answers.{UnlessMemory, ◌>>=◌}
+use Rattle.ikey.specs.fault.Fault.{Fault}
+use Rattle.ikey.proofs.Refusals.{unless_from}
 use Rattle.block.specs.EncodedEntry.{Entry}
 use Rattle.pairing.specs.Blocks.{block_within, counted_block}
 use Rattle.pairing.specs.TestedUnion.{tested_entry, tested_entries}

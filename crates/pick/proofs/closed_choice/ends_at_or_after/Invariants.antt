@@ -1,6 +1,6 @@
 use Rattle.std.proofs.Common.{◌≡◌, drop}
 use Rattle.std.specs.List.{list_any}
-use Rattle.ikey.specs.Key.{user_of}
+use Rattle.edit.specs.Key.{user_of}
 use Rattle.pick.specs.Ranges.{is_at_most}
 use Rattle.edit.specs.declared.meta.FileMeta.{FileMeta}
 use Rattle.pick.proofs.Lists.{lent}

@@ -1,7 +1,7 @@
 use Rattle.std.proofs.Common.{◌≡◌, ◌+◌, nat_lt, List, Option, Ok, Err, ap, sym, subst, ◌∙◌}
-use Rattle.coding.specs.Answers.{EqualOrMemory, fault}
-use Rattle.coding.specs.declared.fault.FaultName.TheVariants.{Level}
-use Rattle.coding.proofs.Binds.{ok_is}
+use Rattle.edit.specs.Answers.{EqualOrMemory, fault}
+use Rattle.edit.specs.fault.FaultName.TheVariants.{Level}
+use Rattle.edit.proofs.Binds.{ok_is}
 use Rattle.edit.specs.VersionOrder.{level_files}
 use Rattle.edit.specs.declared.meta.FileMeta.{FileMeta}
 use Rattle.pick.specs.ClosedChoice.{first_missing, has_number_of, missing_among, missing_answer}

@@ -1,7 +1,7 @@
 use Rattle.std.proofs.Common.{◌≡◌, drop}
 use Rattle.std.specs.List.{list_any}
 use Rattle.std.specs.Ordering.{is_le}
-use Rattle.ikey.specs.Order.{internal_cmp}
+use Rattle.edit.specs.Order.{internal_cmp}
 use Rattle.edit.specs.declared.meta.FileMeta.{FileMeta}
 use Rattle.pick.proofs.Lists.{lent}
 use Rattle.pick.proofs.closed_choice.key_ended.Given as goal

@@ -1,8 +1,8 @@
 use Rattle.std.proofs.Common.{Bor, ◌≡◌, ◌&&◌, not, List, Option, Ok, ap, sym, subst, ◌∙◌}
 use Rattle.std.specs.List.{filter, find}
 use Rattle.std.specs.Option.{option_copied}
-use Rattle.coding.specs.Answers.{EqualOrMemory}
-use Rattle.coding.proofs.Binds.{ok_is}
+use Rattle.edit.specs.Answers.{EqualOrMemory}
+use Rattle.edit.proofs.Binds.{ok_is}
 use Rattle.edit.specs.declared.meta.FileMeta.{FileMeta}
 use Rattle.pick.specs.ClosedChoice.{has_number_of, is_needed_above, is_needed_below}
 use Rattle.pick.specs.declared.picked_inputs.InputFile.{InputFile}

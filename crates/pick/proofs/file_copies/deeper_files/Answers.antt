@@ -1,6 +1,6 @@
 use Rattle.std.proofs.Common.{◌-◌, List, Result, Ok, sym, ap}
-use Rattle.coding.specs.declared.fault.Fault.{Fault}
-use Rattle.coding.proofs.Binds.{ok_is}
+use Rattle.edit.specs.fault.Fault.{Fault}
+use Rattle.edit.proofs.Binds.{ok_is}
 use Rattle.edit.specs.VersionOrder.{level_files}
 use Rattle.edit.specs.declared.meta.FileMeta.{FileMeta}
 use Rattle.pick.specs.PickedInputs.{files_from}

@@ -1,6 +1,6 @@
 use Rattle.std.proofs.Common.{Bor, List, ◌++◌, ap, sym, ◌∙◌, arith}
 use Rattle.std.proofs.lemmas.List.{take_all}
-use Rattle.coding.proofs.Binds.{ok_is}
+use Rattle.edit.proofs.Binds.{ok_is}
 use Rattle.edit.specs.declared.meta.FileMeta.{FileMeta}
 use Rattle.pick.proofs.Lists.{lent, pushed_more}
 use Rattle.pick.proofs.file_copies.push_copies.Goals as goal

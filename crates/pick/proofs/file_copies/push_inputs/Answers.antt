@@ -1,6 +1,6 @@
 use Rattle.std.proofs.Common.{Bor, List, ◌++◌, map, ap, sym, ◌∙◌, arith}
 use Rattle.std.proofs.lemmas.List.{take_all}
-use Rattle.coding.proofs.Binds.{ok_is}
+use Rattle.edit.proofs.Binds.{ok_is}
 use Rattle.edit.specs.declared.meta.FileMeta.{FileMeta}
 use Rattle.pick.specs.PickedInputs.{input_at}
 use Rattle.pick.specs.declared.picked_inputs.InputFile.{InputFile}

@@ -1,9 +1,9 @@
 use Rattle.std.proofs.Common.{Bor, List, Some, Err, ◌≡◌, ◌+◌, ◌-◌, ◌++◌, nat_lt, cond, map, [], refl, sym, ap, subst, ◌∙◌}
 use Rattle.std.specs.List.{filter, slice_get}
-use Rattle.ikey.specs.Key.{user_of}
+use Rattle.edit.specs.Key.{user_of}
 use Rattle.std.specs.Option.{option_copied}
-use Rattle.coding.specs.Answers.{UnlessMemory}
-use Rattle.coding.specs.declared.fault.Fault.{Fault}
+use Rattle.edit.specs.Answers.{UnlessMemory}
+use Rattle.edit.specs.fault.Fault.{Fault}
 use Rattle.edit.specs.Version.{IsState}
 use Rattle.edit.specs.VersionOrder.{level_files}
 use Rattle.edit.specs.declared.meta.FileMeta.{FileMeta}

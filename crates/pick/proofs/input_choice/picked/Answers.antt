@@ -1,6 +1,6 @@
 use Rattle.std.proofs.Common.{◌+◌, ◌-◌, nat_lt, cond, [], sym, ◌∙◌}
 use Rattle.std.specs.List.{filter}
-use Rattle.coding.proofs.Binds.{ok_is}
+use Rattle.edit.proofs.Binds.{ok_is}
 use Rattle.edit.specs.VersionOrder.{level_files}
 use Rattle.pick.specs.Choices.{is_in}
 use Rattle.pick.specs.PickedInputs.{files_from}

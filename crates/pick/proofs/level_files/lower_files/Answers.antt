@@ -1,5 +1,5 @@
 use Rattle.std.proofs.Common.{Bor, Vec, Global, sym, ap, ◌∙◌}
-use Rattle.coding.proofs.Binds.{ok_is}
+use Rattle.edit.proofs.Binds.{ok_is}
 use Rattle.edit.specs.VersionOrder.{level_files}
 use Rattle.edit.specs.declared.meta.FileMeta.{FileMeta}
 use Rattle.pick.specs.Choices.{is_in}

@@ -1,8 +1,8 @@
 use Rattle.std.proofs.Common.{Bor, Vec, Global, List, Ok, sym, ap, subst, ◌∙◌, ◌≡◌, arith}
 use Rattle.std.specs.List.{filter}
 use Rattle.std.specs.Option.{option_copied}
-use Rattle.coding.specs.Answers.{EqualOrMemory}
-use Rattle.coding.proofs.Binds.{ok_is}
+use Rattle.edit.specs.Answers.{EqualOrMemory}
+use Rattle.edit.proofs.Binds.{ok_is}
 use Rattle.edit.specs.Version.{pointer_of}
 use Rattle.edit.specs.VersionOrder.{level_files}
 use Rattle.edit.specs.declared.meta.FileMeta.{FileMeta}

@@ -1,8 +1,8 @@
 use Rattle.std.proofs.Common.{◌≡◌, List, true, map, sym, subst, ◌∙◌}
 use Rattle.std.specs.Prelude.{◌↔◌, IfOk}
 use Rattle.std.proofs.lemmas.List.{map-id}
-use Rattle.block.specs.EncodedEntry.{Entry}
-use Rattle.coding.proofs.Binds.{ok_is}
+use Rattle.table.specs.EncodedEntry.{Entry}
+use Rattle.ikey.proofs.Binds.{ok_is}
 use Rattle.merge.specs.MergedLists.{entries_of_lists}
 use Rattle.split.specs.Ranges.{key_range, IsIn}
 use Rattle.reads.specs.TableOrder.{AreFallingIn}

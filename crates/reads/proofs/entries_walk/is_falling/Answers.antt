@@ -1,5 +1,5 @@
 use Rattle.std.proofs.Common.{◌≡◌, ◌<◌, List, [], ◌∷◌, drop, length, Some, true, false, refl, sym, ap, subst, ◌∙◌, arith}
-use Rattle.block.specs.EncodedEntry.{Entry}
+use Rattle.table.specs.EncodedEntry.{Entry}
 use Rattle.ikey.specs.Key.{IsInternalKey, user_of}
 use Rattle.split.specs.Ranges.{KeyRange, key_range, IsIn}
 use Rattle.merge.specs.LeastList.{IsMerging}

@@ -1,5 +1,5 @@
 use Rattle.std.proofs.Common.{Bor, ◌≡◌, ◌+◌, ◌++◌, List, [], map, ap, sym, subst, ◌∙◌}
-use Rattle.coding.proofs.Binds.{ok_is}
+use Rattle.ikey.proofs.Binds.{ok_is}
 use Rattle.edit.specs.VersionOrder.{in_version_order, files_at}
 use Rattle.edit.specs.declared.meta.FileMeta.{FileMeta}
 use Rattle.edit.specs.declared.meta.NewFile.{NewFile}

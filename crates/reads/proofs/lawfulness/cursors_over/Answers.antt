@@ -1,7 +1,7 @@
 use Rattle.std.proofs.Common.{Bor, List, map, ap, sym, ◌∙◌, arith}
 use Rattle.std.proofs.lemmas.List.{take_all}
-use Rattle.block.specs.EncodedEntry.{Entry}
-use Rattle.coding.proofs.Binds.{ok_is}
+use Rattle.table.specs.EncodedEntry.{Entry}
+use Rattle.ikey.proofs.Binds.{ok_is}
 use Rattle.table.specs.TableContents.{Contents}
 use Rattle.reads.proofs.Answers.{list_more}
 use Rattle.reads.proofs.lawfulness.cursors_over.Goals as goal

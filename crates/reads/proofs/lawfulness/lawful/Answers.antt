@@ -1,5 +1,5 @@
 use Rattle.std.proofs.Common.{List, map, refl, ap, subst, ◌∙◌}
-use Rattle.block.specs.EncodedEntry.{Entry}
+use Rattle.table.specs.EncodedEntry.{Entry}
 use Rattle.merge.specs.MergedLists.{entries_of_lists}
 use Rattle.reads.specs.TableOrder.{AreFalling}
 use Rattle.reads.proofs.Ranged.{all_fall}

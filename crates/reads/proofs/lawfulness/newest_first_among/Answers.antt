@@ -1,6 +1,6 @@
 use Rattle.std.proofs.Common.{Bor, Vec, Global, ◌≡◌, ℕ, List, Option, map, sym, subst, ◌∙◌, ap}
 use Rattle.std.specs.List.{All}
-use Rattle.block.specs.EncodedEntry.{Entry}
+use Rattle.table.specs.EncodedEntry.{Entry}
 use Rattle.table.specs.TableContents.{Contents}
 use Rattle.reads.specs.declared.level_file.LevelFile.{LevelFile}
 use Rattle.reads.specs.Tables.{table_entries}

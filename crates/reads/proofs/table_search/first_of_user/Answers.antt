@@ -1,5 +1,5 @@
 use Rattle.std.proofs.Common.{List, sym, ◌∙◌}
-use Rattle.block.specs.EncodedEntry.{Entry}
+use Rattle.table.specs.EncodedEntry.{Entry}
 use Rattle.table.proofs.Walks.{none_valid}
 use Rattle.reads.proofs.Sought.{sought_end, sought_other, sought_own}
 use Rattle.reads.proofs.ByteTests.{bytes_differ, bytes_same}

@@ -1,6 +1,6 @@
 use Rattle.std.proofs.Common.{◌≡◌, ap, sym, ◌∙◌}
 use Rattle.table.specs.EntriesFrom.{entries_from}
-use Rattle.coding.proofs.Binds.{ok_is}
+use Rattle.ikey.proofs.Binds.{ok_is}
 use Rattle.reads.proofs.table_search.newest_in_table.Goals as goal
 
 pub returns-clause-found : goal.returns-clause-found

@@ -1,6 +1,6 @@
 use Rattle.std.proofs.Common.{Bor, ◌≡◌, ℕ, map, ap, sym, subst, ◌∙◌, arith}
-use Rattle.coding.proofs.Binds.{ok_is, failed}
-use Rattle.coding.proofs.Refusals.{FailsOrMemory-from}
+use Rattle.ikey.proofs.Binds.{ok_is, failed}
+use Rattle.ikey.proofs.Refusals.{FailsOrMemory-from}
 use Rattle.edit.specs.VersionOrder.{in_version_order, files_at}
 use Rattle.edit.specs.declared.meta.FileMeta.{FileMeta}
 use Rattle.reads.specs.Tables.{tables_test}

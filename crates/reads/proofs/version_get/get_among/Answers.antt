@@ -1,6 +1,6 @@
 use Rattle.std.proofs.Common.{◌≡◌, ◌<◌, ◌^◌, ℕ, List, Option, ap, sym, ◌∙◌, arith}
 use Rattle.std.specs.Option.{option_map, option_and_then}
-use Rattle.coding.proofs.Binds.{done, ok_is}
+use Rattle.ikey.proofs.Binds.{done, ok_is}
 use Rattle.ikey.specs.Key.{internal_key, kind_of}
 use Rattle.ikey.specs.declared.kind.Kind.TheVariants.{Put}
 use Rattle.ikey.proofs.Keys.{kind_of-internal_key}

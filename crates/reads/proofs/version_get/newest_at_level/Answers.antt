@@ -2,7 +2,7 @@ use Rattle.std.proofs.Common.{Bor, ◌≡◌, false, List, None, take, ap, sym, 
 use Rattle.std.proofs.lemmas.List.{take_all}
 use Rattle.std.specs.List.{flat_map}
 use Rattle.std.specs.Option.{option_map}
-use Rattle.block.specs.EncodedEntry.{Entry}
+use Rattle.table.specs.EncodedEntry.{Entry}
 use Rattle.edit.specs.declared.meta.FileMeta.{FileMeta}
 use Rattle.ikey.specs.Key.{user_of, sequence_of}
 use Rattle.reads.specs.Tables.{table_entries}

@@ -1,7 +1,7 @@
 use Rattle.std.proofs.Common.{Bor, ◌≡◌, true, false, Option, Some, None, map, refl, ap, sym, subst, ◌∙◌}
 use Rattle.std.specs.List.{flat_map}
 use Rattle.std.specs.Option.{option_map, is_some}
-use Rattle.coding.proofs.Binds.{ok_is}
+use Rattle.ikey.proofs.Binds.{ok_is}
 use Rattle.edit.specs.VersionOrder.{in_version_order, files_at}
 use Rattle.edit.specs.declared.meta.FileMeta.{FileMeta}
 use Rattle.ikey.specs.Key.{user_of, sequence_of}

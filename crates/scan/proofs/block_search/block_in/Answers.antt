@@ -1,6 +1,6 @@
 use Rattle.std.proofs.Common.{List, ℕ, Result, ap, subst}
-use Rattle.coding.specs.Answers.{EqualOrMemory, ◌>>=◌}
-use Rattle.coding.specs.declared.fault.Fault.{Fault}
+use Rattle.table.specs.Answers.{EqualOrMemory, ◌>>=◌}
+use Rattle.table.specs.fault.Fault.{Fault}
 use Rattle.block.specs.EncodedEntry.{Entry}
 use Rattle.block.specs.BlockReading.{block_reading}
 use Rattle.table.proofs.Steps.{check_gives}

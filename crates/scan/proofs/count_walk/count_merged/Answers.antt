@@ -4,7 +4,7 @@ use Rattle.merge.specs.LeastList.{IsMerging}
 use Rattle.merge.specs.MergedLists.{merged}
 use Rattle.merge.proofs.Leasts.{place_within, some_where_least}
 use Rattle.merge.proofs.Merges.{merged_first}
-use Rattle.split.specs.Ranges.{key_range}
+use Rattle.reads.specs.Ranges.{key_range}
 use Rattle.keep.specs.FirstEntry.{first_is}
 use Rattle.keep.specs.CursorsLeft.{is_before}
 use Rattle.scan.proofs.WalkCounts.{after_number, count_begins, count_ends, count_more, count_stops, new_number}

@@ -1,6 +1,6 @@
 use Rattle.std.proofs.Common.{◌≡◌, length}
 use Rattle.merge.specs.MergedLists.{merged}
-use Rattle.split.specs.Ranges.{key_range}
+use Rattle.reads.specs.Ranges.{key_range}
 use Rattle.scan.proofs.WalkCounts.{IsCountedSoFar}
 use Rattle.scan.proofs.count_walk.count_merged.Given as goal
 

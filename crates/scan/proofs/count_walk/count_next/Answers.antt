@@ -1,6 +1,6 @@
 use Rattle.std.proofs.Common.{sym, ◌∙◌}
 use Rattle.merge.specs.MergedLists.{merged}
-use Rattle.split.specs.Ranges.{key_range}
+use Rattle.reads.specs.Ranges.{key_range}
 use Rattle.scan.proofs.CountSteps.{earlier_amounts, earlier_decided, later_amounts, later_decided}
 use Rattle.scan.proofs.count_walk.count_next.Goals as goal
 

@@ -1,9 +1,9 @@
 use Rattle.std.proofs.Common.{◌≡◌, ℕ, List, Ok, length, map, refl, sym, ap, subst, ◌∙◌, inl}
 use Rattle.std.specs.Prelude.{fold}
-use Rattle.coding.specs.Answers.{fault, UnlessMemory}
-use Rattle.coding.specs.declared.fault.Fault.{Fault}
-use Rattle.coding.specs.declared.fault.FaultName.TheVariants.{Lawless}
-use Rattle.edit.specs.declared.meta.FileMeta.{FileMeta}
+use Rattle.table.specs.Answers.{fault, UnlessMemory}
+use Rattle.table.specs.fault.Fault.{Fault}
+use Rattle.table.specs.fault.FaultName.TheVariants.{Lawless}
+use Rattle.folder.specs.meta.FileMeta.{FileMeta}
 use Rattle.folder.specs.OpenAnswer.{IsStopped}
 use Rattle.folder.proofs.ReportLemmas.{reports_steady}
 use Rattle.reads.specs.TableOrder.{IsNeverLawful}

@@ -1,7 +1,7 @@
 use Rattle.std.proofs.Common.{◌≡◌, ℕ, List, [], ◌∷◌, Some, Ok, sym, ap, subst, ◌∙◌, refl}
 use Rattle.block.specs.EncodedEntry.{Entry}
-use Rattle.ikey.specs.Key.{user_of}
-use Rattle.ikey.specs.declared.kind.Kind.TheVariants.{Put, Delete}
+use Rattle.table.specs.Key.{user_of}
+use Rattle.reads.specs.kind.Kind.TheVariants.{Put, Delete}
 use Rattle.scan.specs.Row.{Row}
 use Rattle.scan.specs.EntryRows.{entry_rows}
 use Rattle.scan.specs.RowParts.{AreTelling}

@@ -1,6 +1,6 @@
 use Rattle.std.proofs.Common.{ap, sym, ◌∙◌}
 use Rattle.block.specs.EncodedEntry.{Entry}
-use Rattle.ikey.specs.Key.{user_of}
+use Rattle.table.specs.Key.{user_of}
 use Rattle.reads.proofs.ByteTests.{bytes_differ, bytes_same}
 use Rattle.scan.proofs.UserEntries.{none_found, other_found, own_found}
 use Rattle.scan.proofs.file_search.of_user.Goals as goal

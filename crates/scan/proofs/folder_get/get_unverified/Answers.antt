@@ -1,10 +1,10 @@
 use Rattle.std.proofs.Common.{◌≡◌, ◌<◌, ◌^◌, Option, Some, None, ap, refl, sym, ◌∙◌, arith}
 use Rattle.std.specs.Option.{option_map, option_and_then}
 use Rattle.block.specs.EncodedEntry.{Entry}
-use Rattle.coding.proofs.Binds.{done, ok_is}
-use Rattle.ikey.specs.Key.{internal_key, kind_of}
-use Rattle.ikey.specs.declared.kind.Kind.TheVariants.{Put}
-use Rattle.ikey.proofs.Keys.{kind_of-internal_key}
+use Rattle.table.proofs.Binds.{done, ok_is}
+use Rattle.table.specs.Key.{internal_key, kind_of}
+use Rattle.reads.specs.kind.Kind.TheVariants.{Put}
+use Rattle.table.proofs.Keys.{kind_of-internal_key}
 use Rattle.reads.specs.Gets.{get_of, value_in}
 use Rattle.reads.specs.Visible.{visible_of}
 use Rattle.reads.proofs.Got.{get_by, get_of_long, visible_value}

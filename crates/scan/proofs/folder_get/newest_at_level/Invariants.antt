@@ -2,7 +2,7 @@ use Rattle.std.proofs.Common.{◌≡◌, List, take}
 use Rattle.std.specs.List.{All, flat_map}
 use Rattle.std.specs.Option.{option_map}
 use Rattle.folder.specs.Reports.{OnlyReads}
-use Rattle.ikey.specs.Key.{user_of, sequence_of}
+use Rattle.table.specs.Key.{user_of, sequence_of}
 use Rattle.reads.specs.Lawful.{IsFileOf}
 use Rattle.reads.specs.Tables.{NumberedContents, table_entries}
 use Rattle.reads.specs.Visible.{IsAnswer, visible_of}

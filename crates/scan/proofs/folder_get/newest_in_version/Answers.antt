@@ -2,12 +2,12 @@ use Rattle.std.proofs.Common.{Bor, ◌≡◌, true, false, Option, Some, None, m
 use Rattle.std.specs.List.{flat_map}
 use Rattle.std.specs.Option.{option_map, is_some}
 use Rattle.block.specs.EncodedEntry.{Entry}
-use Rattle.coding.proofs.Binds.{ok_is}
-use Rattle.edit.specs.VersionOrder.{in_version_order, files_at}
-use Rattle.edit.specs.declared.meta.FileMeta.{FileMeta}
+use Rattle.table.proofs.Binds.{ok_is}
+use Rattle.folder.specs.VersionOrder.{in_version_order, files_at}
+use Rattle.folder.specs.meta.FileMeta.{FileMeta}
 use Rattle.folder.proofs.CountLemmas.{steady}
 use Rattle.folder.proofs.ReportLemmas.{reads_then}
-use Rattle.ikey.specs.Key.{user_of, sequence_of}
+use Rattle.table.specs.Key.{user_of, sequence_of}
 use Rattle.reads.specs.Visible.{VisibleEntry, visible_of, IsAnswer}
 use Rattle.reads.proofs.Versions.{lent_entries, none_more, none_end, found, level_files_of}
 use Rattle.scan.proofs.Giving.{handed}

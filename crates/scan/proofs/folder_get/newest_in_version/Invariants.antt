@@ -1,6 +1,6 @@
 use Rattle.std.proofs.Common.{◌≡◌, List}
 use Rattle.folder.specs.Reports.{OnlyReads}
-use Rattle.ikey.specs.Key.{user_of, sequence_of}
+use Rattle.table.specs.Key.{user_of, sequence_of}
 use Rattle.reads.specs.Lawful.{IsLawful}
 use Rattle.reads.specs.Tables.{NumberedContents}
 use Rattle.reads.proofs.Versions.{NoneBefore}

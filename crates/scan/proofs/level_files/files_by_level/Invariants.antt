@@ -1,5 +1,5 @@
 use Rattle.std.proofs.Common.{◌≡◌, ◌++◌, ◌-◌, [], ◌∷◌, map}
-use Rattle.edit.specs.VersionOrder.{level_files}
+use Rattle.folder.specs.VersionOrder.{level_files}
 use Rattle.folder.specs.Levels.{all_levels, by_level}
 use Rattle.scan.proofs.level_files.files_by_level.Given as goal
 

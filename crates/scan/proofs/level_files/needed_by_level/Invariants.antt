@@ -1,6 +1,6 @@
 use Rattle.std.proofs.Common.{◌≡◌, map, take}
 use Rattle.std.specs.Prelude.{filter}
-use Rattle.split.specs.Ranges.{key_range}
+use Rattle.reads.specs.Ranges.{key_range}
 use Rattle.checks.specs.NeededFiles.{is_file_needed}
 use Rattle.scan.proofs.level_files.needed_by_level.Given as goal
 

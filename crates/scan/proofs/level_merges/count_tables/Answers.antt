@@ -1,11 +1,11 @@
 use Rattle.std.proofs.Common.{◌≡◌, ℕ, suc, List, [], ◌∷◌, drop, length, map, refl, sym, ap, subst, ◌∙◌}
 use Rattle.std.proofs.lemmas.List.{length-map}
 use Rattle.std.proofs.lemmas.Result.{on_ok_weaker}
-use Rattle.coding.proofs.Binds.{ok_is}
+use Rattle.table.proofs.Binds.{ok_is}
 use Rattle.block.specs.EncodedEntry.{Entry}
 use Rattle.folder.proofs.LoadingLemmas.{map_fused}
 use Rattle.merge.specs.MergedLists.{entries_of_lists, merged, sorted_entries}
-use Rattle.split.specs.Ranges.{key_range}
+use Rattle.reads.specs.Ranges.{key_range}
 use Rattle.keep.specs.InRange.{entries_in}
 use Rattle.scan.specs.Counts.{AreAmountsCounted}
 use Rattle.scan.specs.ListParts.{in_parts}

@@ -1,11 +1,11 @@
 use Rattle.std.proofs.Common.{◌≡◌, List, map, sym, ap, ◌∙◌}
 use Rattle.std.proofs.lemmas.List.{map-id}
-use Rattle.coding.proofs.Binds.{ok_is}
-use Rattle.ikey.specs.Key.{user_of}
+use Rattle.table.proofs.Binds.{ok_is}
+use Rattle.table.specs.Key.{user_of}
 use Rattle.block.specs.EncodedEntry.{Entry}
 use Rattle.merge.specs.MergedLists.{entries_of_lists, merged, sorted_entries}
 use Rattle.merge.proofs.SortedEntries.{filter-sorted}
-use Rattle.split.specs.Ranges.{key_range}
+use Rattle.reads.specs.Ranges.{key_range}
 use Rattle.keep.specs.InRange.{entries_in, is_in_range}
 use Rattle.scan.proofs.level_merges.level_merge.Goals as goal
 

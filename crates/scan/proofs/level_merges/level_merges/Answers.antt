@@ -3,9 +3,9 @@ use Rattle.std.specs.List.{sum_by}
 use Rattle.std.proofs.lemmas.List.{append-nil, get_or-map, length-map}
 use Rattle.std.proofs.lemmas.List.Sums.{sum_by-drop_more}
 use Rattle.block.specs.EncodedEntry.{Entry}
-use Rattle.edit.specs.declared.meta.FileMeta.{FileMeta}
+use Rattle.folder.specs.meta.FileMeta.{FileMeta}
 use Rattle.merge.specs.MergedLists.{entries_of_lists, merged, sorted_entries}
-use Rattle.split.specs.Ranges.{key_range}
+use Rattle.reads.specs.Ranges.{key_range}
 use Rattle.keep.specs.InRange.{entries_in}
 use Rattle.scan.specs.ListParts.{in_parts}
 use Rattle.scan.proofs.LevelParts.{made_more, parts_more}

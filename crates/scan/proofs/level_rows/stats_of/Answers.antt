@@ -1,6 +1,6 @@
 use Rattle.std.proofs.Common.{Bor, Vec, Global, ◌≡◌, ◌<◌, ◌+◌, ℕ, List, [], ◌++◌, drop, get_or, length, map, sym, ap, ◌∙◌, append_assoc, arith}
 use Rattle.std.proofs.lemmas.List.{get_or-map, length-map}
-use Rattle.edit.specs.declared.meta.FileMeta.{FileMeta}
+use Rattle.folder.specs.meta.FileMeta.{FileMeta}
 use Rattle.scan.specs.LevelRows.{level_rows}
 use Rattle.scan.specs.Stats.{level_stats, no_amounts}
 use Rattle.scan.specs.declared.level_stats.LevelStats.{LevelStats}

@@ -1,6 +1,6 @@
 use Rattle.std.proofs.Common.{refl, false, sym, ◌∙◌}
 use Rattle.merge.specs.MergedLists.{merged}
-use Rattle.split.specs.Ranges.{key_range}
+use Rattle.reads.specs.Ranges.{key_range}
 use Rattle.keep.specs.CursorsLeft.{is_before}
 use Rattle.keep.proofs.RangeWalks.{fewer, first_some}
 use Rattle.scan.proofs.MergedRows.{skipped}

@@ -1,6 +1,6 @@
 use Rattle.std.proofs.Common.{◌≡◌, length}
 use Rattle.merge.specs.MergedLists.{merged}
-use Rattle.split.specs.Ranges.{key_range}
+use Rattle.reads.specs.Ranges.{key_range}
 use Rattle.keep.specs.InRange.{entries_in}
 use Rattle.scan.proofs.merge_walk.skip_before.Given as goal
 

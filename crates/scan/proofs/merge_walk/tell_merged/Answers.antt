@@ -1,7 +1,7 @@
 use Rattle.std.proofs.Common.{◌≡◌, ℕ, true, List, ◌∷◌, drop, Option, None, Ok, refl, sym, ap, subst, ◌∙◌}
 use Rattle.block.specs.EncodedEntry.{Entry}
 use Rattle.merge.specs.MergedLists.{merged}
-use Rattle.split.specs.Ranges.{key_range}
+use Rattle.reads.specs.Ranges.{key_range}
 use Rattle.keep.specs.InRange.{entries_in}
 use Rattle.keep.specs.CursorsLeft.{is_before}
 use Rattle.keep.proofs.RangeWalks.{fewer, first_some, head_is}

@@ -1,6 +1,6 @@
 use Rattle.std.proofs.Common.{length}
 use Rattle.merge.specs.MergedLists.{merged}
-use Rattle.split.specs.Ranges.{key_range}
+use Rattle.reads.specs.Ranges.{key_range}
 use Rattle.scan.specs.EntryRows.{sorted_rows}
 use Rattle.scan.proofs.MergedRows.{IsWalkedTo}
 use Rattle.scan.proofs.merge_walk.tell_merged.Given as goal

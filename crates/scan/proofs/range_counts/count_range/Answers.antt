@@ -1,9 +1,9 @@
 use Rattle.std.proofs.Common.{◌≡◌, ℕ, List, None, Ok, sym, ap, subst, ◌∙◌, arith}
 use Rattle.std.specs.Prelude.{OnOk}
-use Rattle.coding.proofs.Binds.{ok_is}
-use Rattle.coding.proofs.Refusals.{only_memory}
+use Rattle.table.proofs.Binds.{ok_is}
+use Rattle.table.proofs.Refusals.{only_memory}
 use Rattle.block.specs.EncodedEntry.{Entry}
-use Rattle.split.specs.Ranges.{key_range}
+use Rattle.reads.specs.Ranges.{key_range}
 use Rattle.reads.specs.Tables.{NumberedContents}
 use Rattle.checks.specs.HeldTables.{AreFound, held_numbers, IsFoundAnswer}
 use Rattle.checks.proofs.FoundTables.{held_found, held_unfound}

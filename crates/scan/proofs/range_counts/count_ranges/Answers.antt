@@ -1,12 +1,12 @@
 use Rattle.std.proofs.Common.{◌≡◌, ℕ, ◌+◌, ◌≤◌, List, ◌++◌, drop, length, map, take, refl, sym, ap, subst, ◌∙◌, arith}
 use Rattle.std.proofs.lemmas.List.{length-map, take_at}
 use Rattle.std.proofs.lemmas.List.Elements.{All-nil}
-use Rattle.coding.proofs.Binds.{ok_is}
-use Rattle.coding.proofs.Refusals.{only_memory}
+use Rattle.table.proofs.Binds.{ok_is}
+use Rattle.table.proofs.Refusals.{only_memory}
 use Rattle.folder.proofs.CountLemmas.{steady}
 use Rattle.folder.proofs.ReportLemmas.{reads_then}
-use Rattle.split.proofs.Covers.{covers}
-use Rattle.split.specs.Ranges.{key_range}
+use Rattle.reads.proofs.Covers.{covers}
+use Rattle.reads.specs.Ranges.{key_range}
 use Rattle.reads.specs.Tables.{NumberedContents}
 use Rattle.checks.specs.HeldTables.{AreHeldIn, IsTableIn}
 use Rattle.checks.proofs.FolderTests.{told_still}

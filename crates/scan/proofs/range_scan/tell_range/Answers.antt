@@ -1,11 +1,11 @@
 use Rattle.std.proofs.Common.{Bor, ℕ, true, List, [], map, None, Ok, refl, sym, ap, subst, ◌∙◌, inr, arith}
 use Rattle.std.specs.Prelude.{filter}
-use Rattle.coding.proofs.Binds.{ok_is}
-use Rattle.coding.proofs.Refusals.{only_memory}
+use Rattle.table.proofs.Binds.{ok_is}
+use Rattle.table.proofs.Refusals.{only_memory}
 use Rattle.block.specs.EncodedEntry.{Entry}
 use Rattle.merge.specs.MergedLists.{entries_of_lists, sorted_entries}
-use Rattle.split.specs.Ranges.{key_range}
-use Rattle.edit.specs.declared.meta.FileMeta.{FileMeta}
+use Rattle.reads.specs.Ranges.{key_range}
+use Rattle.folder.specs.meta.FileMeta.{FileMeta}
 use Rattle.reads.specs.TableOrder.{lists_of_files}
 use Rattle.reads.specs.Tables.{NumberedContents}
 use Rattle.checks.specs.HeldTables.{AreFound, IsFoundAnswer}

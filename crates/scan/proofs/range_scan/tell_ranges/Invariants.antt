@@ -1,7 +1,7 @@
 use Rattle.std.proofs.Common.{◌≡◌, ℕ, ◌+◌, ◌-◌, true, List, Option, length, map}
 use Rattle.folder.specs.Calls.{Files, Tells}
 use Rattle.folder.specs.Reports.{OnlyReads}
-use Rattle.split.specs.Ranges.{key_range}
+use Rattle.reads.specs.Ranges.{key_range}
 use Rattle.reads.specs.Tables.{NumberedContents}
 use Rattle.checks.specs.GroupTest.{AreTablesIn}
 use Rattle.checks.specs.HeldTables.{AreHeldIn}

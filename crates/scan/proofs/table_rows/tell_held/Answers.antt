@@ -1,6 +1,6 @@
 use Rattle.std.proofs.Common.{List, refl, sym, subst, ◌∙◌}
-use Rattle.coding.proofs.Binds.{ok_is}
-use Rattle.split.specs.Ranges.{key_range}
+use Rattle.table.proofs.Binds.{ok_is}
+use Rattle.reads.specs.Ranges.{key_range}
 use Rattle.reads.specs.Tables.{NumberedContents}
 use Rattle.scan.specs.EntryRows.{sorted_rows}
 use Rattle.scan.specs.RowParts.{AreTelling}

@@ -1,6 +1,6 @@
 use Rattle.std.proofs.Common.{◌≡◌, Ok, Err, refl, inl, inr}
 use Rattle.std.specs.Prelude.{◌⊎◌}
-use Rattle.coding.specs.Answers.{UnlessMemory}
+use Rattle.table.specs.Answers.{UnlessMemory}
 use Rattle.folder.proofs.CountLemmas.{steady}
 use Rattle.folder.specs.Levels.{file_numbers}
 use Rattle.folder.specs.OpenAnswer.{IsStopped}

@@ -1,7 +1,7 @@
 use Rattle.std.proofs.Common.{Bor, Vec, Global, ◌≡◌, ℕ, ◌+◌, List, Option, length, map, refl, sym, ap, subst}
 use Rattle.std.specs.Option.{MatchOption}
-use Rattle.split.specs.Ranges.{KeyRange, key_range}
-use Rattle.edit.specs.declared.meta.FileMeta.{FileMeta}
+use Rattle.reads.specs.Ranges.{KeyRange, key_range}
+use Rattle.folder.specs.meta.FileMeta.{FileMeta}
 use Rattle.reads.specs.TableOrder.{AreStandingFiles, IsNeverLawful}
 use Rattle.checks.specs.GroupTest.{AreTablesIn}
 use Rattle.checks.proofs.LawfulLemmas.{sound_lawful}

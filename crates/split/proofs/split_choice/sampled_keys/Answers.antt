@@ -1,7 +1,7 @@
 use Rattle.std.proofs.Common.{◌≡◌, ℕ, ◌∙◌, List, Ok, map, length, ap, subst, arith}
 use Rattle.std.proofs.lemmas.List.{length-map}
-use Rattle.coding.specs.Answers.{EqualOrMemory}
-use Rattle.coding.proofs.Binds.{ok_is}
+use Rattle.table.specs.Answers.{EqualOrMemory}
+use Rattle.table.proofs.Binds.{ok_is}
 use Rattle.split.specs.SplitChoice.{every_of}
 use Rattle.split.proofs.Samples.{too_few}
 use Rattle.split.proofs.split_choice.sampled_keys.Goals as goal

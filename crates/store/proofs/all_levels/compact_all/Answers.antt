@@ -5,8 +5,8 @@ use Rattle.folder.specs.OpenAnswer.{IsStopped}
 use Rattle.folder.specs.Orders.{order_cmp, order_short_keys}
 use Rattle.folder.specs.ReadsAs.{IsFileIn, ReadsAs}
 use Rattle.checks.specs.TestedTables.{IsTested}
-use Rattle.coding.specs.Answers.{UnlessMemory}
-use Rattle.coding.specs.declared.fault.Fault.{Fault}
+use Rattle.folder.specs.Answers.{UnlessMemory}
+use Rattle.folder.specs.fault.Fault.{Fault}
 use Rattle.store.specs.declared.descent_end.DescentEnd.{DescentEnd}
 use Rattle.store.specs.declared.descent_end.DescentEnd.TheVariants.{AtBottom}
 use Rattle.store.proofs.Descending.{by_memory, same_tells}

@@ -1,12 +1,12 @@
 use Rattle.std.proofs.Common.{◌≡◌, ◌⊎◌, ℕ, true, Option, None, Result, Ok, Err, refl, sym, ap, subst, ◌∙◌, inl, inr, arith}
-use Rattle.coding.specs.Answers.{UnlessMemory}
-use Rattle.coding.specs.declared.fault.Fault.{Fault}
+use Rattle.folder.specs.Answers.{UnlessMemory}
+use Rattle.folder.specs.fault.Fault.{Fault}
 use Rattle.folder.proofs.CountLemmas.{steady}
 use Rattle.folder.proofs.ReportLemmas.{reports_after, reports_handed, reports_on, reports_steady}
 use Rattle.folder.specs.OpenAnswer.{IsStopped}
 use Rattle.folder.specs.Orders.{order_cmp, order_short_keys}
 use Rattle.std.proofs.lemmas.Result.{err_from_is_err_and}
-use Rattle.edit.specs.Version.{State}
+use Rattle.folder.specs.Version.{State}
 use Rattle.folder.specs.declared.current_version.Opened.{Opened}
 use Rattle.store.specs.AllLevels.{IsDescended, IsEndOf, IsNextRefused, last_tables, version_at_end}
 use Rattle.store.specs.Descent.{IsNextLevel}

@@ -1,7 +1,7 @@
 use Rattle.std.proofs.Common.{◌⊎◌, Err, refl, ap, ◌∙◌, inl, inr}
 use Rattle.std.proofs.lemmas.Result.{err_from_is_err_and}
-use Rattle.coding.proofs.Refusals.{unless_from}
-use Rattle.coding.specs.declared.fault.Fault.{Fault}
+use Rattle.folder.proofs.Refusals.{unless_from}
+use Rattle.folder.specs.fault.Fault.{Fault}
 use Rattle.folder.proofs.ReportLemmas.{reports_after, reports_handed}
 use Rattle.folder.specs.OpenAnswer.{IsStopped}
 use Rattle.folder.specs.Orders.{order_cmp, order_short_keys}

@@ -1,5 +1,5 @@
 use Rattle.std.proofs.Common.{Ok, Err, Some, arith, codes, inl}
-use Rattle.edit.specs.Version.{State}
+use Rattle.folder.specs.Version.{State}
 use Rattle.folder.proofs.CountLemmas.{later_still}
 use Rattle.folder.proofs.OpeningLemmas.{hands_on}
 use Rattle.folder.proofs.ReportLemmas.{reports_handed, reports_then}

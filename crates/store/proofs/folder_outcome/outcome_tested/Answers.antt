@@ -1,6 +1,6 @@
 use Rattle.std.proofs.Common.{◌≡◌, ℕ, List, Result, Ok, arith}
 use Rattle.std.proofs.lemmas.Result.{IfOk-weaker}
-use Rattle.coding.specs.declared.fault.Fault.{Fault}
+use Rattle.folder.specs.fault.Fault.{Fault}
 use Rattle.compact.specs.AnswerIn.{answer_in}
 use Rattle.folder.proofs.OpeningLemmas.{answers_since, hands_on}
 use Rattle.folder.proofs.ReportLemmas.{reads_then, reports_handed, reports_then}

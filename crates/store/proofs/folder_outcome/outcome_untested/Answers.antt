@@ -1,5 +1,5 @@
 use Rattle.std.proofs.Common.{◌≡◌, ℕ, Result, Ok, Err, IfOk, refl, sym, ap, subst, arith}
-use Rattle.coding.specs.declared.fault.Fault.{Fault}
+use Rattle.folder.specs.fault.Fault.{Fault}
 use Rattle.compact.specs.AnswerIn.{answer_in}
 use Rattle.folder.proofs.OpeningLemmas.{answers_since, hands_on}
 use Rattle.folder.proofs.ReportLemmas.{reports_after, reports_handed}

@@ -1,12 +1,12 @@
 use Rattle.std.proofs.Common.{◌≡◌, Bor, List, ℕ, Result, map, sym, ap, subst, ◌∙◌}
 use Rattle.std.specs.Prelude.{◌&&◌, nat_le}
 use Rattle.std.proofs.lemmas.Result.{err_from_is_err_and}
-use Rattle.coding.proofs.Binds.{ok_is}
-use Rattle.coding.specs.Answers.{EqualOrMemory}
-use Rattle.coding.specs.declared.fault.Fault.{Fault}
-use Rattle.coding.specs.declared.fault.FaultName.TheVariants.{SplitCount}
-use Rattle.table.specs.TableContents.{Contents}
-use Rattle.table.specs.TestResult.{test_result}
+use Rattle.folder.proofs.Binds.{ok_is}
+use Rattle.folder.specs.Answers.{EqualOrMemory}
+use Rattle.folder.specs.fault.Fault.{Fault}
+use Rattle.folder.specs.fault.FaultName.TheVariants.{SplitCount}
+use Rattle.reads.specs.TableContents.{Contents}
+use Rattle.reads.specs.TestResult.{test_result}
 use Rattle.pick.specs.PickedInputs.{picked_in}
 use Rattle.pick.specs.declared.picked_inputs.Inputs.{Inputs}
 use Rattle.compact.specs.Inputs.{inputs_reading}

@@ -1,6 +1,6 @@
 use Rattle.std.proofs.Common.{◌≡◌, List, length, map, Ok, Err, sym, ap, subst, ◌∙◌}
-use Rattle.coding.specs.Answers.{UnlessMemory}
-use Rattle.table.specs.TableContents.{Contents}
+use Rattle.folder.specs.Answers.{UnlessMemory}
+use Rattle.reads.specs.TableContents.{Contents}
 use Rattle.install.specs.Install.{table_bytes_of}
 use Rattle.compact.specs.AnswerIn.{answer_in}
 use Rattle.pick.specs.PickedInputs.{picked_in}

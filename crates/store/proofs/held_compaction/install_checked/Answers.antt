@@ -1,12 +1,12 @@
 use Rattle.std.proofs.Common.{◌≡◌, Bor, List, ℕ, None, Result, Ok, map, refl, sym, ap, subst, ◌∙◌, inl}
 use Rattle.std.specs.Prelude.{◌&&◌, nat_le}
-use Rattle.coding.proofs.Binds.{ok_is}
-use Rattle.coding.specs.Answers.{FailsOrMemory, ◌>>=◌}
-use Rattle.coding.specs.declared.fault.Fault.{Fault}
-use Rattle.coding.specs.declared.fault.FaultName.TheVariants.{SplitCount}
+use Rattle.folder.proofs.Binds.{ok_is}
+use Rattle.folder.specs.Answers.{FailsOrMemory, ◌>>=◌}
+use Rattle.folder.specs.fault.Fault.{Fault}
+use Rattle.folder.specs.fault.FaultName.TheVariants.{SplitCount}
 use Rattle.folder.proofs.ReportLemmas.{reports_steady}
-use Rattle.table.specs.TestResult.{test_result}
-use Rattle.table.specs.TableContents.{Contents}
+use Rattle.reads.specs.TestResult.{test_result}
+use Rattle.reads.specs.TableContents.{Contents}
 use Rattle.pick.specs.PickedInputs.{picked_in}
 use Rattle.pick.specs.declared.picked_inputs.Inputs.{Inputs}
 use Rattle.compact.specs.Inputs.{inputs_reading}

@@ -1,10 +1,10 @@
 use Rattle.std.proofs.Common.{◌≡◌, List, None, length, map, Result, Ok, Err, refl, sym, ap, subst, ◌∙◌, inl}
-use Rattle.coding.proofs.Refusals.{unless_from}
-use Rattle.coding.specs.Answers.{UnlessMemory}
-use Rattle.coding.specs.declared.fault.Fault.{Fault}
+use Rattle.folder.proofs.Refusals.{unless_from}
+use Rattle.folder.specs.Answers.{UnlessMemory}
+use Rattle.folder.specs.fault.Fault.{Fault}
 use Rattle.folder.proofs.OpeningLemmas.{refuses}
 use Rattle.folder.proofs.ReportLemmas.{reports_steady}
-use Rattle.table.specs.TableContents.{Contents}
+use Rattle.reads.specs.TableContents.{Contents}
 use Rattle.install.specs.Install.{table_bytes_of}
 use Rattle.pick.specs.PickedInputs.{PickedInputs, picked_in}
 use Rattle.pick.specs.declared.picked_inputs.InputFile.{InputFile}

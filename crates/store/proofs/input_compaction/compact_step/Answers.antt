@@ -1,5 +1,5 @@
 use Rattle.std.proofs.Common.{◌≡◌, None, Result, Ok, sym, ap, subst, ◌∙◌, arith, inl}
-use Rattle.coding.specs.declared.fault.Fault.{Fault}
+use Rattle.folder.specs.fault.Fault.{Fault}
 use Rattle.folder.proofs.OpeningLemmas.{hands_on, answers_since}
 use Rattle.folder.proofs.ReportLemmas.{reports_handed, reports_then}
 use Rattle.pick.specs.PickedInputs.{IsPicked, PickedInputs, picked_in}

@@ -1,5 +1,5 @@
 use Rattle.std.proofs.Common.{◌≡◌, Result, Ok}
-use Rattle.coding.specs.declared.fault.Fault.{Fault}
+use Rattle.folder.specs.fault.Fault.{Fault}
 use Rattle.store.specs.Answers.{IsLoadedAnswer}
 use Rattle.store.specs.InputsCompaction.{IsLevelAnswer}
 use Rattle.store.specs.Outcome.{OutcomeView, outcome_of}

@@ -1,5 +1,5 @@
 use Rattle.std.proofs.Common.{◌≡◌, Bor, List, ℕ, map, take}
-use Rattle.table.specs.TableContents.{Contents}
+use Rattle.reads.specs.TableContents.{Contents}
 use Rattle.store.proofs.input_tables.bytes_of.Given as goal
 
 abbrev pub invariant-loop-table : goal.invariant-loop-table

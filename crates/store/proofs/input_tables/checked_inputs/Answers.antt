@@ -1,10 +1,10 @@
 use Rattle.std.proofs.Common.{◌≡◌, List, length, false, true, Result, sym, ap, subst, ◌∙◌}
 use Rattle.std.proofs.lemmas.Result.{err_from_is_err_and}
-use Rattle.coding.proofs.Binds.{failed}
-use Rattle.coding.proofs.Refusals.{FailsOrMemory-from}
-use Rattle.coding.specs.Answers.{EqualOrMemory}
-use Rattle.coding.specs.declared.fault.Fault.{Fault}
-use Rattle.table.specs.TableContents.{Contents}
+use Rattle.folder.proofs.Binds.{failed}
+use Rattle.folder.proofs.Refusals.{FailsOrMemory-from}
+use Rattle.folder.specs.Answers.{EqualOrMemory}
+use Rattle.folder.specs.fault.Fault.{Fault}
+use Rattle.reads.specs.TableContents.{Contents}
 use Rattle.install.specs.Install.{tables_in}
 use Rattle.store.specs.InputsCompaction.{are_stated, input_tables}
 use Rattle.store.proofs.CheckedInputs.{read_length, tables_are, tables_refused}

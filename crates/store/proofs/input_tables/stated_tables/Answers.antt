@@ -1,10 +1,10 @@
 use Rattle.std.proofs.Common.{◌≡◌, List, length, false, true, Result, Ok, sym, ap, subst, ◌∙◌}
 use Rattle.std.proofs.lemmas.Result.{err_from_is_err_and}
-use Rattle.coding.proofs.Binds.{failed, ok_is}
-use Rattle.coding.proofs.Refusals.{FailsOrMemory-from}
-use Rattle.coding.specs.Answers.{EqualOrMemory}
-use Rattle.coding.specs.declared.fault.Fault.{Fault}
-use Rattle.table.specs.TableContents.{Contents}
+use Rattle.folder.proofs.Binds.{failed, ok_is}
+use Rattle.folder.proofs.Refusals.{FailsOrMemory-from}
+use Rattle.folder.specs.Answers.{EqualOrMemory}
+use Rattle.folder.specs.fault.Fault.{Fault}
+use Rattle.reads.specs.TableContents.{Contents}
 use Rattle.reads.specs.Tables.{NumberedContents}
 use Rattle.checks.specs.TableReadings.{tables_reading}
 use Rattle.checks.specs.HeldBytes.{held_bytes}

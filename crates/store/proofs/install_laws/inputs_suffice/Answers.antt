@@ -1,5 +1,5 @@
 use Rattle.std.proofs.Common.{◌≡◌, None, Result, Ok}
-use Rattle.coding.specs.declared.fault.Fault.{Fault}
+use Rattle.folder.specs.fault.Fault.{Fault}
 use Rattle.store.specs.Answers.{IsLoadedAnswer}
 use Rattle.store.specs.InputsCompaction.{IsLevelAnswer}
 use Rattle.store.specs.Step.{StepView, step_of}

@@ -1,6 +1,6 @@
 use Rattle.std.proofs.Common.{◌≡◌, List, ℕ, Ok, Err, refl, sym, ap, subst, ◌∙◌, arith}
-use Rattle.coding.proofs.Binds.{ok_is}
-use Rattle.coding.specs.Answers.{IsThen}
+use Rattle.folder.proofs.Binds.{ok_is}
+use Rattle.folder.specs.Answers.{IsThen}
 use Rattle.folder.proofs.OpeningLemmas.{hands_on, refuses}
 use Rattle.folder.proofs.ReportLemmas.{reports_after, reports_handed, reports_steady}
 use Rattle.pick.specs.PickedInputs.{IsInputsAnswer, PickedInputs, picked_in}

@@ -1,9 +1,9 @@
 use Rattle.std.proofs.Common.{◌≡◌, ◌++◌, ℕ, List, Result, Ok, Err, codes, refl, sym, ap, ◌∙◌, arith}
 use Rattle.std.specs.Global.{Vec}
 use Rattle.std.specs.Prelude.{string_bytes}
-use Rattle.coding.proofs.Binds.{ok_is}
-use Rattle.coding.specs.Answers.{IsThen}
-use Rattle.coding.specs.declared.fault.Fault.{Fault}
+use Rattle.folder.proofs.Binds.{ok_is}
+use Rattle.folder.specs.Answers.{IsThen}
+use Rattle.folder.specs.fault.Fault.{Fault}
 use Rattle.folder.proofs.OpeningLemmas.{hands_on, refuses}
 use Rattle.folder.proofs.ReportLemmas.{reports_after, reports_handed, reports_steady}
 use Rattle.folder.specs.Names.{current_text}

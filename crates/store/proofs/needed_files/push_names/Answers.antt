@@ -1,7 +1,7 @@
 use Rattle.std.proofs.Common.{◌≡◌, ◌+◌, ◌∷◌, ℕ, List, length, drop, suc, Result, sym, ap, ◌∙◌, arith, drop-cons}
 use Rattle.std.proofs.Math.Seq.{drop-length}
 use Rattle.std.specs.Prelude.{string_bytes}
-use Rattle.coding.specs.declared.fault.Fault.{Fault}
+use Rattle.folder.specs.fault.Fault.{Fault}
 use Rattle.folder.proofs.CountLemmas.{steady}
 use Rattle.folder.proofs.OpeningLemmas.{hands_on}
 use Rattle.folder.proofs.ReportLemmas.{reads_then, reports_handed, reports_on}

@@ -1,9 +1,9 @@
 use Rattle.std.proofs.Common.{◌≡◌, ℕ, List, Result, Ok, Err, sym, ap, subst, ◌∙◌}
-use Rattle.coding.specs.Answers.{UnlessMemory, ◌>>=◌}
-use Rattle.coding.specs.declared.fault.Fault.{Fault}
+use Rattle.folder.specs.Answers.{UnlessMemory, ◌>>=◌}
+use Rattle.folder.specs.fault.Fault.{Fault}
 use Rattle.checks.proofs.LawfulLemmas.{handed_on}
-use Rattle.edit.specs.Edit.{Edit, IsEdit, IsEditRefused, edit_in}
-use Rattle.edit.specs.Version.{State, applied_by}
+use Rattle.folder.specs.Edit.{Edit, IsEdit, IsEditRefused, edit_in}
+use Rattle.folder.specs.Version.{State, applied_by}
 use Rattle.folder.specs.Manifest.{order_name}
 use Rattle.folder.specs.declared.order.Order.{Order}
 use Rattle.store.specs.FolderRequest.{manifest_of}

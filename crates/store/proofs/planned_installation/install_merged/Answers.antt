@@ -1,5 +1,5 @@
 use Rattle.std.proofs.Common.{ℕ, List, Some, Result, Ok, codes, refl, subst, arith, inl}
-use Rattle.coding.specs.declared.fault.Fault.{Fault}
+use Rattle.folder.specs.fault.Fault.{Fault}
 use Rattle.compact.specs.GroupedAnswer.{joined_answer}
 use Rattle.folder.proofs.ReportLemmas.{reports_after, reports_handed, reports_steady}
 use Rattle.folder.specs.Names.{current_text}

@@ -1,7 +1,7 @@
 use Rattle.std.proofs.Common.{◌≡◌, List, ℕ, [], ◌∷◌, sym, subst, ◌∙◌}
 use Rattle.std.proofs.lemmas.Option.{same_Some}
-use Rattle.table.specs.Table.{table}
-use Rattle.cut.specs.Plan.{plan_tables}
+use Rattle.reads.specs.Table.{table}
+use Rattle.compact.specs.Plan.{plan_tables}
 use Rattle.folder.proofs.ReportLemmas.{stopped_device}
 use Rattle.install.specs.Install.{table_calls}
 use Rattle.store.specs.CallsAnswer.{IsCallsAnswer}

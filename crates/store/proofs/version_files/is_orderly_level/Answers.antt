@@ -1,9 +1,9 @@
 use Rattle.std.proofs.Common.{Bor, Option, ◌≡◌, ℕ, List, map, true, refl, sym, subst, ◌∙◌, arith}
 use Rattle.std.specs.List.{All}
 use Rattle.std.proofs.lemmas.List.Elements.{All-map}
-use Rattle.coding.proofs.Binds.{ok_is}
-use Rattle.edit.specs.VersionOrder.{level_files}
-use Rattle.edit.specs.declared.meta.FileMeta.{FileMeta}
+use Rattle.folder.proofs.Binds.{ok_is}
+use Rattle.folder.specs.VersionOrder.{level_files}
+use Rattle.folder.specs.meta.FileMeta.{FileMeta}
 use Rattle.reads.specs.Lawful.{IsBelowNextFile}
 use Rattle.store.specs.InputsCompaction.{RangesRise}
 use Rattle.store.specs.LentFiles.{LentRangesRise}

@@ -1,8 +1,8 @@
 use Rattle.std.proofs.Common.{Bor, ◌≡◌, ℕ, ◌+◌, ◌<◌, true}
 use Rattle.std.specs.Prelude.{slice_index_or}
 use Rattle.std.specs.Ordering.{is_lt}
-use Rattle.ikey.specs.Order.{internal_cmp}
-use Rattle.edit.specs.declared.meta.FileMeta.{FileMeta}
+use Rattle.folder.specs.Order.{internal_cmp}
+use Rattle.folder.specs.meta.FileMeta.{FileMeta}
 use Rattle.store.proofs.version_files.ranges_rise.Given as goal
 
 -- each file so far ends before the one after it begins

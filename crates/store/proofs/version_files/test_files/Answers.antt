@@ -1,8 +1,8 @@
 use Rattle.std.proofs.Common.{◌≡◌, true, refl, subst, sym, ◌∙◌, arith, below_more}
-use Rattle.coding.proofs.Refusals.{unless}
-use Rattle.coding.specs.Answers.{UnlessMemory, fault}
-use Rattle.coding.specs.declared.fault.Fault.{Fault}
-use Rattle.coding.specs.declared.fault.FaultName.TheVariants.{Lawless}
+use Rattle.folder.proofs.Refusals.{unless}
+use Rattle.folder.specs.Answers.{UnlessMemory, fault}
+use Rattle.folder.specs.fault.Fault.{Fault}
+use Rattle.folder.specs.fault.FaultName.TheVariants.{Lawless}
 use Rattle.store.specs.InputsCompaction.{IsOrderly}
 use Rattle.store.proofs.version_files.test_files.Goals as goal
 

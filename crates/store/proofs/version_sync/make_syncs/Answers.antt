@@ -1,5 +1,5 @@
 use Rattle.std.proofs.Common.{◌≡◌, ◌∷◌, [], ◌++◌, ℕ, List, codes, refl, string_bytes, subst, sym, ◌∙◌}
-use Rattle.coding.proofs.Binds.{ok_is}
+use Rattle.folder.proofs.Binds.{ok_is}
 use Rattle.folder.proofs.RunLemmas.{runs_one}
 use Rattle.folder.specs.CallSequence.{MakesCalls}
 use Rattle.folder.specs.Calls.{FolderSynced, Synced}

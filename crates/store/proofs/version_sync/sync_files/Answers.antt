@@ -1,5 +1,5 @@
 use Rattle.std.proofs.Common.{◌+◌, ◌∷◌, [], Bor, ℕ, drop, map, refl, suc, take}
-use Rattle.edit.specs.declared.meta.FileMeta.{FileMeta}
+use Rattle.folder.specs.meta.FileMeta.{FileMeta}
 use Rattle.store.specs.VersionSync.{table_syncs}
 use Rattle.store.proofs.Runs.{run_handed, run_ok, run_same, run_then}
 use Rattle.store.proofs.TableSyncs.{files_around, files_on}

@@ -1,7 +1,7 @@
 use Rattle.std.proofs.Common.{◌≡◌, ◌+◌, ◌-◌, ◌++◌, Bor, ℕ, List, ap, map, refl, sym, ◌∙◌}
-use Rattle.coding.proofs.Binds.{ok_is}
-use Rattle.coding.proofs.Refusals.{only_memory}
-use Rattle.edit.specs.declared.meta.FileMeta.{FileMeta}
+use Rattle.folder.proofs.Binds.{ok_is}
+use Rattle.folder.proofs.Refusals.{only_memory}
+use Rattle.folder.specs.meta.FileMeta.{FileMeta}
 use Rattle.folder.proofs.LoadingLemmas.{level_more, map_fused}
 use Rattle.folder.specs.Levels.{by_level, file_numbers, numbers_at}
 use Rattle.store.specs.VersionSync.{table_syncs}

@@ -1,6 +1,6 @@
 use Rattle.std.proofs.Common.{List, [], Result, Ok}
-use Rattle.coding.specs.declared.fault.Fault.{Fault}
-use Rattle.block.specs.EncodedEntry.{Entry}
+use Rattle.ikey.specs.fault.Fault.{Fault}
+use Rattle.table.specs.EncodedEntry.{Entry}
 use Rattle.board.proofs.CollectedAnswers.{work_gives, work_refuses}
 use Rattle.compact.proofs.InputAnswers.{file_within, table_within, some_answer}
 use Rattle.compact.proofs.inputs.ChecksLabour.work.Goals as goal

@@ -1,5 +1,5 @@
 use Rattle.std.proofs.Common.{◌≡◌, ℕ, List, [], ◌∷◌, string_bytes, sym, subst, ◌∙◌}
-use Rattle.coding.proofs.Binds.{ok_is}
+use Rattle.ikey.proofs.Binds.{ok_is}
 use Rattle.folder.specs.Attempts.{Alters}
 use Rattle.folder.specs.Calls.{Written, step_of}
 use Rattle.folder.specs.Names.{table_name}

@@ -3,7 +3,7 @@ use Rattle.std.proofs.lemmas.Option.{get_or_from_slice_get}
 use Rattle.std.specs.Prelude.{slice_get, slice_range, Some}
 use Rattle.std.specs.Option.{option_map}
 use Rattle.ikey.specs.Key.{IsInternalKey}
-use Rattle.block.specs.EncodedEntry.{Entry}
+use Rattle.reads.specs.EncodedEntry.{Entry}
 use Rattle.keep.specs.KeyBuffer.{start_of}
 use Rattle.keep.proofs.KeyBuffers.{length-entries, entry_at, part_at, internal_at}
 use Rattle.keep.proofs.chunk_slice.ChunkSlice.key.Goals as goal

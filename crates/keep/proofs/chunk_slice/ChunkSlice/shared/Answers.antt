@@ -1,7 +1,7 @@
 use Rattle.std.proofs.Common.{◌≡◌, ◌<◌, List, [], length, sym, ap, ◌∙◌, arith}
 use Rattle.std.proofs.lemmas.Option.{get_or_from_slice_get}
 use Rattle.std.specs.Prelude.{slice_get}
-use Rattle.block.specs.EncodedEntry.{Entry}
+use Rattle.reads.specs.EncodedEntry.{Entry}
 use Rattle.keep.specs.SharedLengths.{shared_lens}
 use Rattle.keep.proofs.KeyBuffers.{length-entries, shared_at}
 use Rattle.keep.proofs.chunk_slice.ChunkSlice.shared.Goals as goal

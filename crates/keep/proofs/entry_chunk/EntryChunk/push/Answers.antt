@@ -1,8 +1,8 @@
 use Rattle.std.proofs.Common.{◌≡◌, ◌+◌, ◌*◌, ◌<◌, ◌≤◌, ℕ, List, [], ◌∷◌, ◌++◌, length, sym, ap, subst, ◌∙◌, rules, arith, length-append}
 use Rattle.std.specs.Prelude.{nat_eq}
 use Rattle.std.specs.List.{common_prefix_len}
-use Rattle.block.specs.EncodedEntry.{Entry}
-use Rattle.block.specs.BuilderView.{last_key}
+use Rattle.reads.specs.EncodedEntry.{Entry}
+use Rattle.reads.specs.BuilderView.{last_key}
 use Rattle.keep.specs.declared.kept_entry.KeptEntry.{KeptEntry}
 use Rattle.keep.specs.KeyBuffer.{entries_at}
 use Rattle.keep.proofs.KeyBuffers.{entries_push, keys_push, keys_bound, length-entries}

@@ -1,8 +1,8 @@
 use Rattle.std.proofs.Common.{◌≡◌, ℕ, List, [], ◌-◌, Some, sym, ap, ◌∙◌, arith}
 use Rattle.std.specs.Prelude.{slice_get}
 use Rattle.std.specs.Option.{option_map}
-use Rattle.block.specs.EncodedEntry.{Entry}
-use Rattle.block.specs.BuilderView.{last_key}
+use Rattle.reads.specs.EncodedEntry.{Entry}
+use Rattle.reads.specs.BuilderView.{last_key}
 use Rattle.keep.specs.Runs.{Run}
 use Rattle.keep.proofs.ChunkLists.{first_of}
 use Rattle.keep.proofs.LastKept.{last_found}

@@ -1,7 +1,7 @@
 use Rattle.std.proofs.Common.{[], sym, ap, ◌∙◌}
 use Rattle.std.specs.Prelude.{nat_eq}
 use Rattle.std.specs.List.{common_prefix_len}
-use Rattle.block.specs.BuilderView.{last_key}
+use Rattle.reads.specs.BuilderView.{last_key}
 use Rattle.keep.specs.Runs.{Run}
 use Rattle.keep.proofs.range_run.RangeRun.push.Goals as goal
 

@@ -1,7 +1,7 @@
 use Rattle.std.proofs.Common.{sym, ap, ◌∙◌}
 use Rattle.std.specs.Prelude.{slice_get}
 use Rattle.std.specs.Option.{option_map}
-use Rattle.block.specs.EncodedEntry.{Entry}
+use Rattle.reads.specs.EncodedEntry.{Entry}
 use Rattle.keep.specs.Runs.{Run}
 use Rattle.keep.proofs.ChunkLists.{first_of}
 use Rattle.keep.proofs.range_run.RangeRun.value.Goals as goal

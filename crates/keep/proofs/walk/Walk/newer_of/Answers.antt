@@ -2,7 +2,7 @@ use Rattle.std.proofs.Common.{ℕ, List, [], sym, ap, ◌∙◌}
 use Rattle.std.specs.Prelude.{nat_eq}
 use Rattle.std.specs.List.{common_prefix_len}
 use Rattle.ikey.specs.Key.{user_of}
-use Rattle.block.specs.BuilderView.{last_key}
+use Rattle.reads.specs.BuilderView.{last_key}
 use Rattle.keep.specs.Versions.{last_version, newer_of}
 use Rattle.keep.specs.WalkedRange.{WalkedRange}
 use Rattle.keep.proofs.walk.Walk.newer_of.Goals as goal

@@ -1,7 +1,7 @@
 use Rattle.std.proofs.Common.{◌≤◌, ℕ, List, [], length, ap, subst, ◌∙◌}
 use Rattle.std.specs.Prelude.{nat_eq}
 use Rattle.std.specs.List.{common_prefix_len}
-use Rattle.block.specs.BuilderView.{last_key}
+use Rattle.reads.specs.BuilderView.{last_key}
 use Rattle.keep.specs.WalkedRange.{WalkedRange}
 use Rattle.keep.proofs.walk.Walk.shared_with.Goals as goal
 

@@ -1,7 +1,7 @@
 use Rattle.std.proofs.Common.{◌≡◌, ℕ, Bool, List, [], ◌∷◌, ◌++◌, Some, Option, sym, ap, ◌∙◌, append-nil}
 use Rattle.ikey.specs.Key.{user_of, sequence_of}
-use Rattle.block.specs.EncodedEntry.{Entry}
-use Rattle.block.specs.BuilderView.{last_key}
+use Rattle.reads.specs.EncodedEntry.{Entry}
+use Rattle.reads.specs.BuilderView.{last_key}
 use Rattle.keep.specs.Runs.{Run}
 use Rattle.keep.specs.Versions.{EntryVersion, StoredVersion, last_version, newer_of, version_of}
 use Rattle.keep.specs.WalkedRange.{WalkedRange}

@@ -1,7 +1,7 @@
 use Rattle.std.proofs.Common.{List, ℕ, refl, length-set, length, map, set, drop, Some, ◌<◌, ◌≡◌, ap, sym, subst, ◌∙◌, arith}
 use Rattle.std.proofs.lemmas.List.{length-map, map-set, with_items_is}
 use Rattle.std.proofs.lemmas.Result.{on_err_weaker}
-use Rattle.block.specs.EncodedEntry.{Entry}
+use Rattle.table.specs.EncodedEntry.{Entry}
 use Rattle.merge.specs.MergedLists.{merged}
 use Rattle.merge.specs.LeastList.{IsAdvanced, IsMerging}
 use Rattle.merge.specs.Tournament.{IsTournament, AreHeads, IsHeaded}

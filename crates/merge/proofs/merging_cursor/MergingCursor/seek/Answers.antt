@@ -2,7 +2,7 @@ use Rattle.std.proofs.Common.{List, length, map, ◌≡◌, sym, ap, subst, ◌�
 use Rattle.std.specs.Vec.{with_items}
 use Rattle.std.proofs.lemmas.List.{with_items_is}
 use Rattle.std.proofs.lemmas.Result.{on_ok_weaker, on_err_weaker}
-use Rattle.block.specs.EncodedEntry.{Entry}
+use Rattle.table.specs.EncodedEntry.{Entry}
 use Rattle.table.specs.EntriesFrom.{entries_from}
 use Rattle.merge.specs.MergedLists.{merged}
 use Rattle.merge.specs.Seeks.{each_from, EachLeavesFrom}

@@ -1,6 +1,6 @@
 use Rattle.std.proofs.Common.{List, length, map, ◌<◌, subst}
 use Rattle.std.specs.Prelude.{IsTrue, ◌↔◌}
-use Rattle.block.specs.EncodedEntry.{Entry}
+use Rattle.table.specs.EncodedEntry.{Entry}
 use Rattle.merge.specs.MergedLists.{entries_of_lists, merged}
 use Rattle.merge.specs.LeastList.{IsMerging}
 use Rattle.merge.proofs.SortedEntries.{sorted_never_falls}

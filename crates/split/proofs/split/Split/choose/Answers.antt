@@ -1,5 +1,5 @@
 use Rattle.std.proofs.Common.{◌≡◌, ℕ, List, map, sym, ap, subst, ◌∙◌}
-use Rattle.coding.proofs.Binds.{ok_is}
+use Rattle.table.proofs.Binds.{ok_is}
 use Rattle.split.specs.SplitChoice.{index_users_of, every_of, IsChoice}
 use Rattle.split.proofs.Lent.{lent_users}
 use Rattle.split.proofs.Samples.{every_first}

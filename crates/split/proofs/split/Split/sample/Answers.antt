@@ -1,5 +1,5 @@
 use Rattle.std.proofs.Common.{◌≡◌, ℕ, List, map, sym, ap, subst, ◌∙◌}
-use Rattle.coding.proofs.Binds.{ok_is}
+use Rattle.table.proofs.Binds.{ok_is}
 use Rattle.split.specs.SplitChoice.{index_sample_of, sample_of, IsChoice}
 use Rattle.split.proofs.Samples.{sampled_in}
 use Rattle.split.proofs.split.Split.sample.Goals as goal

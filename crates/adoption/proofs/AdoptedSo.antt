@@ -13,20 +13,25 @@ use Rattle.keep.proofs.EntryTests.{passed}
 use Rattle.keep.specs.TestResult.{test_result}
 use Rattle.edit.specs.Edit.{Edit, edit_bytes}
 use Rattle.edit.specs.Version.{State, applied, are_new, has_place, undeleted_files, with_file, with_pointer}
+use Rattle.edit.specs.declared.meta.CompactPointer.{CompactPointer}
 use Rattle.edit.specs.declared.meta.NewFile.{NewFile}
 use Rattle.folder.specs.ReadsAs.{IsOneOf}
 use Rattle.install.proofs.Numbers.{numbers_in}
-use Rattle.pick.specs.PickedInputs.{IsInputsAnswer, PickedInputs}
+use Rattle.pick.specs.ClosedChoice.{IsClosedChoice, has_number_of}
+use Rattle.pick.specs.NumberedInputs.{numbered_answer}
+use Rattle.pick.specs.PickedInputs.{PickedInputs}
 use Rattle.store.proofs.Flow.{no_refusal}
 use Rattle.store.specs.FolderRequest.{manifest_of}
 use Rattle.store.specs.InputsCompaction.{IsOrderly, input_numbers}
 use Rattle.adoption.specs.Adoption.{Adoption, IsAdoption, adopted, adoption_by, counted_edit, outputs_in_edit}
-use Rattle.adoption.specs.EditFit.{IsEditFor, IsFitting, are_counted, is_reached, rise_between, rise_within}
+use Rattle.adoption.specs.EditFit.{IsChoiceOf, IsEditFor, IsFitting, are_counted, deleted_numbers, only_pointer, is_reached, rise_between, rise_within}
 
 pub record IsAdoptedSo (cmp : KeyOrder) (v : State) (e : Edit) (a : Adoption) : Type 0 where
   pub orderly : IsOrderly cmp v
-  pub level : ℕ
-  pub picked : IsInputsAnswer cmp v level (Ok a.picked)
+  pub pointer : CompactPointer
+  pub only : Some pointer ≡ only_pointer e.pointers
+  pub numbered : numbered_answer cmp v pointer (deleted_numbers e) ≡ Ok a.picked
+  pub closed : IsClosedChoice cmp v a.picked.level (has_number_of (deleted_numbers e))
   pub fits : IsEditFor v a.picked e
   pub few : nat_lt (manifest_of v) (2 ^ 64 - 1) ≡ true
   pub applies : applied v (adopted v e) ≡ Some a.next
@@ -39,18 +44,31 @@ some_of None f x h = absurd cc
 some_of (Some y) f x h = ap (λ (z : _). Some z) (ok_is y x h)
 
 record IsFitted (cmp : KeyOrder) (v : State) (e : Edit) (p : PickedInputs) : Type 0 where
-  level : ℕ
-  picked : IsInputsAnswer cmp v level (Ok p)
+  pointer : CompactPointer
+  only : Some pointer ≡ only_pointer e.pointers
+  numbered : numbered_answer cmp v pointer (deleted_numbers e) ≡ Ok p
+  closed : IsClosedChoice cmp v p.level (has_number_of (deleted_numbers e))
   fits : IsEditFor v p e
+
+abbrev given_by : KeyOrder → State → Edit → CompactPointer → PickedInputs → Type 0
+given_by cmp v e pointer q = (numbered_answer cmp v pointer (deleted_numbers e) ≡ Ok q) × IsClosedChoice cmp v q.level (has_number_of (deleted_numbers e))
+
+chosen : (cmp : KeyOrder) (v : State) (e : Edit) (pointer : CompactPointer) (q : PickedInputs) → IsChoiceOf cmp v pointer (deleted_numbers e) (Ok q) → given_by cmp v e pointer q
+chosen cmp v e pointer q (Err f, h) = absurd (no_refusal q f h.1)
+chosen cmp v e pointer q (Ok r, (numbered, closed)) = subst (given_by cmp v e pointer) (sym closed.0) (numbered, closed.1)
 
 fitted : (cmp : KeyOrder) (v : State) (e : Edit) (p : PickedInputs) → IsFitting cmp v e (Ok p) → IsFitted cmp v e p
 fitted cmp v e p (Err f, h) = absurd (no_refusal p f h.1)
-fitted cmp v e p (Ok level, (h, (Err f, k))) = absurd (no_refusal p f k.1)
-fitted cmp v e p (Ok level, (h, (Ok q, (choice, fit)))) = record {
-  level = level;
-  picked = subst (λ (x : PickedInputs). IsInputsAnswer cmp v level (Ok x)) (sym fit.0) choice;
-  fits = subst (λ (x : PickedInputs). IsEditFor v x e) (sym fit.0) fit.1;
-}
+fitted cmp v e p (Ok pointer, (h, (Err f, k))) = absurd (no_refusal p f k.1)
+fitted cmp v e p (Ok pointer, (h, (Ok q, (choice, fit)))) =
+    let own = subst (given_by cmp v e pointer) (sym fit.0) (chosen cmp v e pointer q choice) in
+    record {
+      pointer = pointer;
+      only = sym (some_of (only_pointer e.pointers) (fault Apply) pointer (sym h));
+      numbered = own.0;
+      closed = own.1;
+      fits = subst (λ (x : PickedInputs). IsEditFor v x e) (sym fit.0) fit.1;
+    }
 
 -- the version that an edit makes of these files
 abbrev with_files : State → Edit → List NewFile → State
@@ -96,8 +114,10 @@ made_so cmp v e a p orderly fit h =
     let applies : applied v (adopted v e) ≡ Some three.0 = ap (applied v) same ∙ some_of (applied v one.0) (fault Apply) three.0 three.1 in
     subst (IsAdoptedSo cmp v e) made (record {
       orderly = orderly;
-      level = fit.level;
-      picked = fit.picked;
+      pointer = fit.pointer;
+      only = fit.only;
+      numbered = fit.numbered;
+      closed = fit.closed;
       fits = fit.fits;
       few = passed (nat_lt (manifest_of v) (2 ^ 64 - 1)) Numbers two.0 two.1;
       applies = applies;

@@ -16,7 +16,7 @@ use Rattle.folder.specs.OpenAnswer.{FolderAnswers, IsStopped}
 use Rattle.folder.specs.ReadsAs.{IsFileIn}
 use Rattle.folder.specs.declared.folder.Folder.{Ghosts}
 use Rattle.folder.specs.declared.order.Order.{Order}
-use Rattle.install.specs.Install.{SurvivesCrash, next_version_tables, tables_in}
+use Rattle.install.specs.Install.{SurvivesCrash, next_version_tables, tables_in, version_with}
 use Rattle.checks.specs.TestedTables.{IsTested}
 use Rattle.checks.specs.declared.version_totals.VersionTotals.{VersionTotals}
 use Rattle.store.proofs.Flow.{loaded_in, no_refusal}
@@ -29,6 +29,7 @@ use Rattle.adoption.specs.AdoptionLeft.{AdoptedVersion, IsInstallation, Adoption
 use Rattle.adoption.specs.OutcomeLeft.{IsOutcomeLeft, IsTestedLeft}
 use Rattle.adoption.specs.BothFolders.{AnswersFrom, HasEitherFailed}
 use Rattle.adoption.specs.declared.comparison.Comparison.{Comparison}
+use Rattle.folder.proofs.Changes.{change_by}
 
 pub tells_itself : (tells : ToldFiles) → TellsSame tells tells
 tells_itself tells name held = (λ h. h, λ h. h)
@@ -78,28 +79,28 @@ refused_with before now e IsFirst IsAnswer f given =
 
 -- ---- what is left
 
-pub unchanged_since : {T : Type 0} (first before after : List Step) (zero old new : ToldFiles) (q : Result T Fault) → before ≡ first → TellsSame zero old → IsUnchanged before after old new q → IsUnchanged first after zero new q
+pub unchanged_since : {T : Type 0} (first before after : List Step) (zero old new : ToldFiles) (q : Result T Fault) → before ≡ first → TellsSame zero old → IsUnchanged (change_by before after old new) q → IsUnchanged (change_by first after zero new) q
 unchanged_since first before after zero old new q is told u = record { calls = u.calls ∙ is; same = told_since zero old new told u.same; refused = u.refused }
 
 module _ (order : Order) (cmp : KeyOrder) (v : State) (loaded : List (ℕ × List ℕ)) (given : Adoption × List (ℕ × List ℕ)) (first before after : List Step) (zero old new : ToldFiles) (q : Result CompactionStep Fault) (is : before ≡ first) (told : TellsSame zero old) where
-  pub installed_since : IsInstallation cmp order v loaded given before after old new q → IsInstallation cmp order v loaded given first after zero new q
+  pub installed_since : IsInstallation cmp order (version_with v loaded) given (change_by before after old new) q → IsInstallation cmp order (version_with v loaded) given (change_by first after zero new) q
   installed_since i =
       let tables = next_version_tables cmp given.0.next given.1 loaded in
       record {
-        survives = subst (λ (b : List Step). SurvivesCrash cmp order v loaded given.0.next tables b after zero new q) is
+        survives = subst (λ (b : List Step). SurvivesCrash cmp order (version_with v loaded) (version_with given.0.next tables) (change_by b after zero new) q) is
             (survives_on cmp order v given.0.next loaded tables before after zero old new q q (λ P x. x) (still zero old told) i.survives);
         step = i.step;
         refused = i.refused;
       }
 
   -- an outcome that was tested, told from earlier calls on
-  pub tested_since : AdoptedVersion order cmp v loaded given → IsUnchanged before after old new q ⊎ IsInstallation cmp order v loaded given before after old new q → IsTestedLeft order cmp v loaded given first after zero new q
+  pub tested_since : AdoptedVersion cmp v loaded given → IsUnchanged (change_by before after old new) q ⊎ IsInstallation cmp order (version_with v loaded) given (change_by before after old new) q → IsTestedLeft order cmp (version_with v loaded) given (change_by first after zero new) q
   tested_since version (inl u) = inl (unchanged_since first before after zero old new q is told u)
   tested_since version (inr i) = inr (version, installed_since i)
 
   -- the same with what gets answer
-  pub outcome_since : (comparison : Comparison) → ((version : AdoptedVersion order cmp v loaded given) → AdoptionKeepsReads cmp v loaded given.0 comparison version.tables_next) → IsTestedLeft order cmp v loaded given before after old new q
-      → IsOutcomeLeft order cmp v loaded given comparison first after zero new q
+  pub outcome_since : (comparison : Comparison) → ((version : AdoptedVersion cmp v loaded given) → AdoptionKeepsReads cmp v loaded given.0 comparison version.tables_next) → IsTestedLeft order cmp (version_with v loaded) given (change_by before after old new) q
+      → IsOutcomeLeft order cmp (version_with v loaded) given comparison (change_by first after zero new) q
   outcome_since comparison gets (inl u) = inl (unchanged_since first before after zero old new q is told u)
   outcome_since comparison gets (inr i) = inr (record { version = i.0; gets = gets i.0; installation = installed_since i.1 })
 
@@ -108,7 +109,7 @@ module _ (order : Order) (cmp : KeyOrder) (v : State) (loaded : List (ℕ × Lis
 module _ {F G X Y B : Type 0} (view : X → B) (f : Ghosts F) (g : Ghosts G) (one one_now : F) (other other_now : G) where
   -- after a value that one folder gave the other answers
   pub both_behind : (r : Result X Fault) (IsFirst : Result Y Fault → Type 0) (IsNext : Y → Result B Fault → Type 0) (a : Y) → IsFirst (Ok a) → FolderAnswers view (f.failed one) (f.failed one_now) r (IsNext a)
-      → AnswersFrom view f g one one_now other other_now r (IsThen IsFirst IsNext)
+      → AnswersFrom view (HasEitherFailed f g one one_now other other_now) r (IsThen IsFirst IsNext)
   both_behind (Ok x) IsFirst IsNext a h given = (Ok a, (h, given))
   both_behind (Err e) IsFirst IsNext a h given =
       unless_from e (IsStopped (f.failed one) (f.failed one_now) e ⊎ IsNext a (Err e)) (((e ≡ fault Device) × HasEitherFailed f g one one_now other other_now) ⊎ IsThen IsFirst IsNext (Err e))

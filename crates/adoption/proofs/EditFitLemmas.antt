@@ -1,20 +1,22 @@
 -- Whether an edit fits a version.
-use Rattle.std.proofs.Common.{◌≡◌, ℕ, suc, ◌+◌, ◌<◌, ◌≤◌, Bool, true, false, ◌&&◌, List, ◌∷◌, length, drop, drop-cons, add-one, get_or, Option, Some, Ok, Err, MatchBool, refl, sym, ap, subst, ◌∙◌, arith, nat_eq, nat_lt}
-use Rattle.std.proofs.lemmas.Bool.{ltb-false, eqb-true}
+use Rattle.std.proofs.Common.{◌≡◌, ℕ, suc, ◌+◌, ◌<◌, ◌≤◌, Bool, true, false, ◌&&◌, List, ◌∷◌, length, drop, drop-cons, add-one, get_or, Option, Some, Ok, Err, refl, sym, ap, subst, ◌∙◌, arith, nat_eq, nat_lt}
+use Rattle.std.proofs.lemmas.Bool.{eqb-true}
 use Rattle.std.specs.Option.{ok_or}
 use Rattle.std.specs.Bool.{Decides}
 use Rattle.std.specs.Cmp.Lexicographic.{pointwise, pointwise_decides}
 use Rattle.edit.specs.declared.meta.DeletedFile.{DeletedFile}
 use Rattle.edit.specs.Answers.{fault}
 use Rattle.edit.specs.fault.Fault.{Fault}
-use Rattle.edit.specs.fault.FaultName.TheVariants.{Apply, Level, NoInput}
+use Rattle.edit.specs.fault.FaultName.TheVariants.{Apply}
 use Rattle.edit.specs.Comparator.{KeyOrder}
 use Rattle.edit.specs.Edit.{Edit}
 use Rattle.edit.specs.Version.{State}
-use Rattle.edit.specs.VersionOrder.{level_files}
-use Rattle.pick.specs.PickedInputs.{IsInputsAnswer, IsPicked, PickedInputs}
+use Rattle.edit.specs.declared.meta.CompactPointer.{CompactPointer}
+use Rattle.pick.specs.ClosedChoice.{IsClosedChoice, has_number_of}
+use Rattle.pick.specs.PickedInputs.{PickedInputs}
 use Rattle.edit.specs.declared.meta.NewFile.{NewFile}
-use Rattle.adoption.specs.EditFit.{IsChoiceOf, IsEditFor, IsFitting, only_level, rise_between}
+use Rattle.adoption.specs.EditFit.{IsChoiceOf, IsEditFor, IsFitting, IsNumbered, deleted_numbers, only_pointer, rise_between}
+use Rattle.adoption.proofs.FittingInputs.{numbered_so}
 
 -- one more file rises
 pub rises_on : (last high : ℕ) (files : List NewFile) (k : ℕ) (f : NewFile) → k < length files → f ≡ get_or files k f → (nat_lt last f.meta.number && nat_lt f.meta.number high) ≡ true → rise_between last high (drop k files) ≡ rise_between f.meta.number high (drop (k + 1) files)
@@ -49,28 +51,36 @@ same_file a b = (
 pub same_deletions : (xs ys : List DeletedFile) → Decides (pointwise (λ (a b : DeletedFile). nat_eq a.level b.level && nat_eq a.number b.number) xs ys) (xs ≡ ys)
 same_deletions = pointwise_decides same_file
 
--- ---- the level
+-- ---- the closed choice
 
--- the level of picked inputs is at most 5
-pub level_low : (cmp : KeyOrder) (v : State) (level : ℕ) (p : PickedInputs) → IsInputsAnswer cmp v level (Ok p) → p.level ≤ 5
-level_low cmp v level p h = by (nat_lt 5 level) refl (nat_lt 0 (length (level_files cmp v level))) h
-  where
-    by : (a : Bool) → nat_lt 5 level ≡ a → (b : Bool) → MatchBool a (Ok p ≡ Err (fault Level)) (MatchBool b (IsPicked cmp v level p) (Ok p ≡ Err (fault NoInput))) → p.level ≤ 5
-    by true e b is = absurd (cc is)
-    by false e true is = let low = ltb-false 5 level e in let own = is.level_is in omega (arith, low, own)
-    by false e false is = absurd (cc is)
+module _ (cmp : KeyOrder) (v : State) (pointer : CompactPointer) (numbers : List ℕ) where
+  pub level_of : (p : PickedInputs) → IsNumbered cmp v pointer numbers (Ok p) → p.level ≤ 5
+  level_of p h =
+      let so = numbered_so cmp v pointer numbers p h in
+      let same : p.level ≡ pointer.level = ap (λ (q : PickedInputs). q.level) so.these in
+      let low = so.level_low in
+      omega (arith, same, low)
+
+  pub none_closed : (f : Fault) → IsNumbered cmp v pointer numbers (Err f) → IsChoiceOf cmp v pointer numbers (Err f)
+  none_closed f h = (Err f, (h, refl))
+
+  pub not_closed : (p : PickedInputs) → IsNumbered cmp v pointer numbers (Ok p) → (IsClosedChoice cmp v p.level (has_number_of numbers) → ⊥) → IsChoiceOf cmp v pointer numbers (Err (fault Apply))
+  not_closed p h lacks = (Ok p, (h, (refl, lacks)))
+
+  pub closed_so : (p : PickedInputs) → IsNumbered cmp v pointer numbers (Ok p) → IsClosedChoice cmp v p.level (has_number_of numbers) → IsChoiceOf cmp v pointer numbers (Ok p)
+  closed_so p h closed = (Ok p, (h, (refl, closed)))
 
 -- ---- the answer, by its steps
 
-module _ (cmp : KeyOrder) (v : State) (e : Edit) (level : ℕ) (only : Some level ≡ only_level e.pointers) where
-  is_level : Ok level ≡ ok_or (only_level e.pointers) (fault Apply)
-  is_level = ap (λ (o : Option ℕ). ok_or o (fault Apply)) only
+module _ (cmp : KeyOrder) (v : State) (e : Edit) (pointer : CompactPointer) (only : Some pointer ≡ only_pointer e.pointers) where
+  is_pointer : Ok pointer ≡ ok_or (only_pointer e.pointers) (fault Apply)
+  is_pointer = ap (λ (o : Option CompactPointer). ok_or o (fault Apply)) only
 
-  pub no_choice : (f : Fault) → IsChoiceOf cmp v level (Err f) → IsFitting cmp v e (Err f)
-  no_choice f choice = (Ok level, (is_level, (Err f, (choice, refl))))
+  pub no_choice : (f : Fault) → IsChoiceOf cmp v pointer (deleted_numbers e) (Err f) → IsFitting cmp v e (Err f)
+  no_choice f choice = (Ok pointer, (is_pointer, (Err f, (choice, refl))))
 
-  pub no_fit : (p : PickedInputs) → IsChoiceOf cmp v level (Ok p) → (IsEditFor v p e → ⊥) → IsFitting cmp v e (Err (fault Apply))
-  no_fit p choice not = (Ok level, (is_level, (Ok p, (choice, (refl, not)))))
+  pub no_fit : (p : PickedInputs) → IsChoiceOf cmp v pointer (deleted_numbers e) (Ok p) → (IsEditFor v p e → ⊥) → IsFitting cmp v e (Err (fault Apply))
+  no_fit p choice not = (Ok pointer, (is_pointer, (Ok p, (choice, (refl, not)))))
 
-  pub fits_so : (p : PickedInputs) → IsChoiceOf cmp v level (Ok p) → IsEditFor v p e → IsFitting cmp v e (Ok p)
-  fits_so p choice fit = (Ok level, (is_level, (Ok p, (choice, (refl, fit)))))
+  pub fits_so : (p : PickedInputs) → IsChoiceOf cmp v pointer (deleted_numbers e) (Ok p) → IsEditFor v p e → IsFitting cmp v e (Ok p)
+  fits_so p choice fit = (Ok pointer, (is_pointer, (Ok p, (choice, (refl, fit)))))

@@ -12,9 +12,7 @@ use Rattle.edit.specs.declared.meta.FileMeta.{FileMeta}
 use Rattle.folder.specs.Calls.{Files}
 use Rattle.folder.specs.Levels.{by_level, file_numbers, numbers_at}
 use Rattle.folder.specs.LoadedTables.{IsTableAnswer, IsTableOf}
-use Rattle.folder.specs.Manifest.{order_name}
 use Rattle.folder.specs.ReadsAs.{IsFileIn, IsOneOf}
-use Rattle.folder.specs.declared.order.Order.{Order}
 use Rattle.install.specs.Install.{IsEditedBy, next_version_tables, numbers_of, table_bytes_of}
 use Rattle.install.proofs.Numbers.{after_edit, among_append, in_files, in_version, numbers_in, small_added}
 use Rattle.keep.proofs.Members.{first_in, later_in}
@@ -58,7 +56,7 @@ orderly_below cmp v orderly free n m =
     below_of v.next_file (manifest_of v) n free
     (numbered_below v.next_file (level_files cmp v l.0) n (λ f at. All-contains (λ (g : FileMeta). IsBelowNextFile v.next_file g.number) (level_files cmp v l.0) f level.below_next at) l.2)
 
-module _ (order : Order) (cmp : KeyOrder) (v : State) (a : Adoption) (tables : List (ℕ × List ℕ)) (ad : IsAdopted cmp v (a, tables)) where
+module _ (cmp : KeyOrder) (v : State) (a : Adoption) (tables : List (ℕ × List ℕ)) (ad : IsAdopted cmp v (a, tables)) where
   abbrev e : Edit
   e = ad.edit
 
@@ -86,9 +84,8 @@ module _ (order : Order) (cmp : KeyOrder) (v : State) (a : Adoption) (tables : L
       above : (m n : ℕ) → n ≤ max m n
       above m n = grind arith
 
-  pub edited_by : IsEditedBy (order_name order) cmp order v (manifest_of v) tables a.edit a.next
+  pub edited_by : IsEditedBy cmp v (manifest_of v) tables a.edit a.next
   edited_by = record {
-    named = refl;
     edit = adopted v e;
     read = ad.read;
     no_name = refl;
@@ -140,7 +137,7 @@ module _ (order : Order) (cmp : KeyOrder) (v : State) (a : Adoption) (tables : L
     tables_are found h = one_loaded over (file_numbers cmp a.next) found (next_version_tables cmp a.next tables loaded) h (all_loaded (IsFileIn over) (file_numbers cmp a.next) (table_bytes_of (tables ++ loaded)) table_next)
 
     -- if the test of the edited version passed, it is what it should be
-    pub adopted_version : (t : VersionTotals) → IsTested (IsFileIn over) cmp a.next (Ok t) → AdoptedVersion order cmp v loaded (a, tables)
+    pub adopted_version : (t : VersionTotals) → IsTested (IsFileIn over) cmp a.next (Ok t) → AdoptedVersion cmp v loaded (a, tables)
     adopted_version t (Err f, h) = absurd (no_refusal t f h.1)
     adopted_version t (Ok found, (h, (Err f, k))) = absurd (no_refusal t f k.1)
     adopted_version t (Ok found, (h, (Ok ts, k))) = record {

@@ -11,7 +11,8 @@ use Rattle.std.proofs.lemmas.Option.{none-some, same_Some}
 use Rattle.edit.proofs.Binds.{bind_ok, ok_is}
 use Rattle.edit.specs.Answers.{◌>>=◌}
 use Rattle.edit.specs.fault.FaultName.TheVariants.{Bounds}
-use Rattle.edit.specs.Comparator.{KeyOrder}
+use Rattle.edit.specs.Comparator.{IsExact, KeyOrder}
+use Rattle.edit.specs.Key.{IsInternalKey}
 use Rattle.keep.specs.EncodedEntry.{Entry}
 use Rattle.keep.specs.TestResult.{test_result}
 use Rattle.keep.specs.TableContents.{Contents, contents_reading}
@@ -23,12 +24,10 @@ use Rattle.folder.specs.Calls.{Files}
 use Rattle.folder.specs.Levels.{file_numbers}
 use Rattle.folder.specs.LoadedTables.{IsTableAnswer, IsTableOf}
 use Rattle.folder.specs.ReadsAs.{IsFileIn, IsOneOf}
-use Rattle.folder.specs.declared.order.Order.{Order}
 use Rattle.install.specs.Install.{next_version_tables, numbers_of, table_bytes_of}
 use Rattle.install.proofs.Numbers.{in_version, numbers_in}
 use Rattle.merge.specs.MergedLists.{entries_of_lists}
 use Rattle.merge.specs.Union.{IsUnion}
-use Rattle.pick.specs.PickedInputs.{IsPicked}
 use Rattle.pick.specs.declared.picked_inputs.InputFile.{InputFile}
 use Rattle.keep.specs.Readable.{Readable, is_read, readable_of}
 use Rattle.keep.specs.declared.snapshots.Snapshots.{Snapshots}
@@ -40,15 +39,15 @@ use Rattle.compact.specs.EditOf.{deletions_of, edit_of}
 use Rattle.compact.specs.Request.{RequestView}
 use Rattle.compact.specs.ClosedInputs.{is_input}
 use Rattle.compact.specs.EditAfter.{version_after}
-use Rattle.compact.specs.GetsAfter.{GetsAfter, HoldKept, entries_of_inputs, staying_files}
-use Rattle.compact.proofs.AppliedEdit.{edit_applies}
-use Rattle.compact.proofs.VersionInputs.{input_file}
+use Rattle.compact.specs.GetsAfter.{HoldKept, entries_of_inputs, staying_files}
+use Rattle.compact.proofs.AppliedEdit.{edited}
+use Rattle.compact.proofs.Gets.{get_is}
+use Rattle.compact.proofs.SafeInputs.{AreSafe, closed_safe}
 use Rattle.checks.proofs.FoundTables.{checked_parts}
 use Rattle.checks.proofs.LawfulLemmas.{sound_checked, sound_lawful}
 use Rattle.checks.specs.TableReadings.{tables_reading}
 use Rattle.checks.specs.LawfulTables.{IsLawfulTables}
 use Rattle.keep.specs.declared.snapshots.Snapshots.TheVariants.{From}
-use Rattle.store.proofs.Compactions.{picked_of}
 use Rattle.store.proofs.Flow.{no_refusal}
 use Rattle.store.proofs.InputNumbers.{loaded_at, one_table}
 use Rattle.store.proofs.InputsApart.{found_here, found_later}
@@ -65,6 +64,7 @@ use Rattle.adoption.specs.EditFit.{rise_between}
 use Rattle.adoption.specs.KeptEntries.{HoldsKept}
 use Rattle.adoption.proofs.AdoptedSo.{IsAdoptedSo, IsCounted, adopted_so, counted_so, edited_so, rising_all, rising_first}
 use Rattle.adoption.proofs.EditedVersion.{file_below, output_above, output_numbers}
+use Rattle.adoption.proofs.FittingInputs.{AreKeys, fitting_over, pointer_keys, pointer_there}
 use Rattle.adoption.proofs.LaidTables.{among_tables}
 use Rattle.adoption.proofs.SortedMembers.{AreApart, files_from, files_kept, files_there, merged_from, merged_has}
 
@@ -174,8 +174,8 @@ module _ (cmp : KeyOrder) (next_tables : List NumberedContents) (loaded : List (
 
 -- ---- the theorem
 
-module _ (cmp : KeyOrder) (total : IsTotalOrder cmp) (order : Order) (v : State) (a : Adoption) (outputs : List (ℕ × List ℕ)) (ad : IsAdopted cmp v (a, outputs)) (files : Files) (loaded : List (ℕ × List ℕ)) (tables : List NumberedContents)
-    (read : AllZip (IsTableOf (IsFileIn files)) (file_numbers cmp v) loaded) (sound : IsLawfulTables cmp v loaded (Ok tables)) (version : AdoptedVersion order cmp v loaded (a, outputs)) where
+module _ (cmp : KeyOrder) (total : IsTotalOrder cmp) (v : State) (a : Adoption) (outputs : List (ℕ × List ℕ)) (ad : IsAdopted cmp v (a, outputs)) (files : Files) (loaded : List (ℕ × List ℕ)) (tables : List NumberedContents)
+    (read : AllZip (IsTableOf (IsFileIn files)) (file_numbers cmp v) loaded) (sound : IsLawfulTables cmp v loaded (Ok tables)) (version : AdoptedVersion cmp v loaded (a, outputs)) where
   abbrev e : Edit
   e = ad.edit
 
@@ -188,14 +188,18 @@ module _ (cmp : KeyOrder) (total : IsTotalOrder cmp) (order : Order) (v : State)
   lawful : IsLawful cmp v tables
   lawful = sound_lawful cmp v loaded tables sound
 
-  picked : IsPicked cmp v so.level a.picked
-  picked = picked_of cmp v so.level a.picked so.picked
-
   low : All (λ (f : NewFile). f.level ≤ 6) v.files
   low = ad.state.levels.file_levels
 
+  -- its compact pointer is an internal key, since it was read
+  key_internal : IsInternalKey so.pointer.key
+  key_internal = (subst AreKeys (pointer_there e.pointers so.pointer so.only) (pointer_keys a.edit (adopted v e) ad.read)).0
+
+  safe : AreSafe cmp v tables a.picked
+  safe = closed_safe cmp total v tables a.picked lawful (fitting_over cmp total v tables lawful low e a.picked so.pointer so.only key_internal so.numbered so.closed so.fits.deleted)
+
   number_below : (f : NewFile) → Contains v.files f → f.meta.number < manifest_of v
-  number_below f at = file_below order cmp v a outputs ad f.meta.number (in_version cmp v f.meta.number low (one_number v.files f at))
+  number_below f at = file_below cmp v a outputs ad f.meta.number (in_version cmp v f.meta.number low (one_number v.files f at))
 
   -- ---- its files
 
@@ -215,8 +219,8 @@ module _ (cmp : KeyOrder) (total : IsTotalOrder cmp) (order : Order) (v : State)
   undeleted : undeleted_files (deletions_of a.picked.files) v.files ≡ staying_files v a.picked
   undeleted =
       let high : ForSome v.next_file (λ next. next ≤ manifest_of v) = λ next is. let same : manifest_of v ≡ next = same_Some (manifest_of v) next (sym counted.first_free ∙ is) in omega (arith, same) in
-      let edited = (edit_applies cmp total).applies v tables so.level empty_request [] lawful picked high tt in
-      ap (λ (s : State). s.files) (edited_so v (edit_of empty_request []) (version_after v empty_request []) edited)
+      let applies = edited cmp total v tables empty_request [] lawful safe.placed high tt in
+      ap (λ (s : State). s.files) (edited_so v (edit_of empty_request []) (version_after v empty_request []) applies)
 
   files_are : a.next.files ≡ fold with_file (staying_files v a.picked) e.added
   files_are =
@@ -278,7 +282,7 @@ module _ (cmp : KeyOrder) (total : IsTotalOrder cmp) (order : Order) (v : State)
       let o = old_file f old in
       let lt = number_below f old in
       let bytes : n.table.bytes ≡ o.table.bytes = next_bytes f new ∙ (elim (among_tables outputs loaded f.meta.number) as (λ _. table_bytes_of (outputs ++ loaded) f.meta.number ≡ o.table.bytes) [
-        | inl m ↦ (let above = output_above order cmp v a outputs ad f.meta.number m in absurd (omega (arith, lt, above)))
+        | inl m ↦ (let above = output_above cmp v a outputs ad f.meta.number m in absurd (omega (arith, lt, above)))
         | inr same ↦ same ∙ old_bytes f old
       ]) in
       let same : n.table ≡ o.table = same_contents cmp n.table.bytes o.table.bytes n.table o.table bytes n.accepted o.accepted in
@@ -286,7 +290,7 @@ module _ (cmp : KeyOrder) (total : IsTotalOrder cmp) (order : Order) (v : State)
 
   holds_output : (n : ℕ) → IsOneOf (numbers_of outputs) n → HoldsAt cmp next_tables loaded outputs n
   holds_output n m =
-      let f = number_of e.added n (subst (λ (ns : List ℕ). IsOneOf ns n) (sym (output_numbers order cmp v a outputs ad)) m) in
+      let f = number_of e.added n (subst (λ (ns : List ℕ). IsOneOf ns n) (sym (output_numbers cmp v a outputs ad)) m) in
       let at = added_next f.file f.there in
       let h = next_file f.file at in
       record {
@@ -296,7 +300,7 @@ module _ (cmp : KeyOrder) (total : IsTotalOrder cmp) (order : Order) (v : State)
       }
 
   distinct : AreDistinct (numbers_of outputs)
-  distinct = subst AreDistinct (output_numbers order cmp v a outputs ad) (rising_distinct (manifest_of v) counted.high e.added counted.rises)
+  distinct = subst AreDistinct (output_numbers cmp v a outputs ad) (rising_distinct (manifest_of v) counted.high e.added counted.rises)
 
   -- ---- the inputs
 
@@ -307,7 +311,7 @@ module _ (cmp : KeyOrder) (total : IsTotalOrder cmp) (order : Order) (v : State)
   input_entries (i ∷ is) [] found inside h reading = absurd h
   input_entries (i ∷ is) (t ∷ own) found inside h reading =
       let c = checked_parts cmp t own found reading in
-      let f = input_file cmp total v tables lawful so.level a.picked picked i (inside i (first_in i is)) in
+      let f = safe.placed i (inside i (first_in i is)) in
       let number : f.file.meta.number ≡ i.meta.number = ap (λ (m : FileMeta). m.number) f.is in
       let o = old_file f.file f.there in
       let held : IsTableAnswer (IsFileIn files) f.file.meta.number (Ok (table_bytes_of loaded f.file.meta.number)) =
@@ -355,34 +359,34 @@ module _ (cmp : KeyOrder) (total : IsTotalOrder cmp) (order : Order) (v : State)
           in_flat_map table_at a.next.files s.source x (staying_next s.source s.there) (subst (λ (es : List Entry). Contains es x) (sym (staying_entries s.source s.there)) s.held);
       holds_kept = λ x at.
           let o = out_entry x (merged_from cmp out_lists x (subst (λ (es : List Entry). Contains es x) held.same at)) in
-          let f = number_of e.added o.0 (subst (λ (ns : List ℕ). IsOneOf ns o.0) (sym (output_numbers order cmp v a outputs ad)) o.1) in
+          let f = number_of e.added o.0 (subst (λ (ns : List ℕ). IsOneOf ns o.0) (sym (output_numbers cmp v a outputs ad)) o.1) in
           in_flat_map table_at a.next.files f.file x (added_next f.file f.there) (subst (λ (k : ℕ). Contains (table_entries next_tables k) x) f.is o.2);
       only = λ x at.
           let s = from_flat_map table_at a.next.files x at in
           elim (next_from s.source s.there) [
             | inl stays ↦ inl (in_flat_map (λ (f : NewFile). table_entries tables f.meta.number) (staying_files v a.picked) s.source x stays (subst (λ (es : List Entry). Contains es x) (staying_entries s.source stays) s.held))
             | inr fresh ↦
-                let m = subst (λ (ns : List ℕ). IsOneOf ns s.source.meta.number) (output_numbers order cmp v a outputs ad) (one_number e.added s.source fresh) in
+                let m = subst (λ (ns : List ℕ). IsOneOf ns s.source.meta.number) (output_numbers cmp v a outputs ad) (one_number e.added s.source fresh) in
                 inr (subst (λ (es : List Entry). Contains es x) (sym held.same) (merged_has cmp out_lists x (entry_out x s.source.meta.number m s.held)))
           ];
     }
 
-    pub kept_reads : GetsAfter cmp → (user : List ℕ) (at : ℕ) → is_read r at ≡ true → get_of a.next next_tables user at ≡ get_of v tables user at
-    kept_reads law user at is = law v tables so.level a.picked r held.union a.next next_tables lawful low picked union_is holds user at is
+    pub kept_reads : IsExact cmp → (user : List ℕ) (at : ℕ) → is_read r at ≡ true → get_of a.next next_tables user at ≡ get_of v tables user at
+    kept_reads exact user at is = get_is cmp total exact v tables a.picked r held.union a.next next_tables lawful low safe union_is holds user at is
 
 -- ---- from the comparison
 
-module _ (cmp : KeyOrder) (total : IsTotalOrder cmp) (order : Order) (v : State) (a : Adoption) (outputs : List (ℕ × List ℕ)) (ad : IsAdopted cmp v (a, outputs)) (files : Files) (loaded : List (ℕ × List ℕ))
-    (read : AllZip (IsTableOf (IsFileIn files)) (file_numbers cmp v) loaded) (law : GetsAfter cmp) where
-  keeps_compared : (snapshots : Snapshots) (outs : List Contents) (version : AdoptedVersion order cmp v loaded (a, outputs)) → input_tables cmp a.outputs outputs ≡ Ok outs → IsOutputsCompared cmp files a snapshots outs (Ok tt) → AdoptionKeepsReads cmp v loaded a (With snapshots) version.tables_next
+module _ (cmp : KeyOrder) (total : IsTotalOrder cmp) (v : State) (a : Adoption) (outputs : List (ℕ × List ℕ)) (ad : IsAdopted cmp v (a, outputs)) (files : Files) (loaded : List (ℕ × List ℕ))
+    (read : AllZip (IsTableOf (IsFileIn files)) (file_numbers cmp v) loaded) (exact : IsExact cmp) where
+  keeps_compared : (snapshots : Snapshots) (outs : List Contents) (version : AdoptedVersion cmp v loaded (a, outputs)) → input_tables cmp a.outputs outputs ≡ Ok outs → IsOutputsCompared cmp files a snapshots outs (Ok tt) → AdoptionKeepsReads cmp v loaded a (With snapshots) version.tables_next
   keeps_compared snapshots outs version outs_are (Err e, (h, is)) = absurd (no_refusal tt e is)
   keeps_compared snapshots outs version outs_are (Ok own, (own_read, (Err e, (h, is)))) = absurd (no_refusal tt e is)
   keeps_compared snapshots outs version outs_are (Ok own, (own_read, (Ok inputs, (inputs_are, (Err e, (h, is)))))) = absurd (no_refusal tt e is)
   keeps_compared snapshots outs version outs_are (Ok own, (own_read, (Ok inputs, (inputs_are, (Ok passed, (asked, held)))))) =
       λ tables sound user at is.
-      kept_reads cmp total order v a outputs ad files loaded tables read sound version own inputs outs (readable_of snapshots a.last) own_read inputs_are outs_are held law user at is
+      kept_reads cmp total v a outputs ad files loaded tables read sound version own inputs outs (readable_of snapshots a.last) own_read inputs_are outs_are held exact user at is
 
-  pub keeps_reads : (comparison : Comparison) (version : AdoptedVersion order cmp v loaded (a, outputs)) → IsGivenTested cmp files (a, outputs) comparison (Ok tt) → AdoptionKeepsReads cmp v loaded a comparison version.tables_next
+  pub keeps_reads : (comparison : Comparison) (version : AdoptedVersion cmp v loaded (a, outputs)) → IsGivenTested cmp files (a, outputs) comparison (Ok tt) → AdoptionKeepsReads cmp v loaded a comparison version.tables_next
   keeps_reads (With snapshots) version (Err e, (h, is)) = absurd (no_refusal tt e is)
   keeps_reads (With snapshots) version (Ok outs, (outs_are, compared)) = keeps_compared snapshots outs version outs_are compared
   keeps_reads LeftOut version h = tt

@@ -3,6 +3,7 @@ pub mod LaidNames
 pub mod OverlayFiles
 pub mod KeptLemmas
 pub mod ComparedOutputs
+pub mod FittingInputs
 pub mod EditFitLemmas
 pub mod AdoptionSteps
 pub mod AdoptedSo

@@ -5,8 +5,7 @@ use Rattle.edit.specs.fault.Fault.{Fault}
 use Rattle.edit.specs.fault.FaultName.TheVariants.{Device}
 use Rattle.edit.specs.Comparator.{KeyOrder}
 use Rattle.edit.specs.Version.{State}
-use Rattle.folder.specs.Calls.{Files, Step, ToldFiles}
-use Rattle.folder.specs.Manifest.{order_name}
+use Rattle.folder.specs.Calls.{Files}
 use Rattle.folder.specs.ReadsAs.{IsFileIn}
 use Rattle.folder.specs.declared.order.Order.{Order}
 use Rattle.install.specs.Install.{IsEditedBy, SurvivesCrash, next_version_tables}
@@ -21,14 +20,15 @@ use Rattle.store.specs.declared.compaction_step.CompactionStep.{CompactionStep}
 use Rattle.adoption.specs.Adoption.{Adoption, IsGiven, adopted_step}
 use Rattle.adoption.specs.declared.comparison.Comparison.{Comparison}
 use Rattle.adoption.specs.declared.comparison.Comparison.TheVariants.{With, LeftOut}
+use Rattle.folder.specs.FolderChange.{FolderChange}
+use Rattle.install.specs.Install.{LoadedVersion, version_with}
 
 -- The edited version of an outcome. The adopted edit makes it of the version, by a manifest whose
 -- number is next file. Last sequence stays. With the tables that an installation leaves it is
 -- lawful.
-pub record AdoptedVersion (order : Order) (cmp : KeyOrder) (v : State) (loaded : List (ℕ × List ℕ))
+pub record AdoptedVersion (cmp : KeyOrder) (v : State) (loaded : List (ℕ × List ℕ))
     (given : Adoption × List (ℕ × List ℕ)) : Type 0 where
-  pub edited : IsEditedBy (order_name order) cmp order v (manifest_of v) given.1 given.0.edit
-      given.0.next
+  pub edited : IsEditedBy cmp v (manifest_of v) given.1 given.0.edit given.0.next
   pub last : last_of given.0.next ≡ last_of v
   pub tables_next : List NumberedContents
   pub lawful : IsLawfulTables cmp given.0.next
@@ -47,27 +47,25 @@ AdoptionKeepsReads cmp v loaded a LeftOut tables_next = Unit {0}
 -- An outcome was installed, from these calls on. A crash at any moment leaves the version before or
 -- the edited one. At Ok it is the edited one, and the step is that of the outcome. The only faults
 -- are Device and Memory.
-pub record IsInstallation (cmp : KeyOrder) (order : Order) (v : State) (loaded : List (ℕ × List ℕ))
-    (given : Adoption × List (ℕ × List ℕ)) (before after : List Step) (old new : ToldFiles)
+pub record IsInstallation (cmp : KeyOrder) (order : Order) (v : LoadedVersion)
+    (given : Adoption × List (ℕ × List ℕ)) (change : FolderChange)
     (result : Result CompactionStep Fault) : Type 0 where
-  pub survives : SurvivesCrash cmp order v loaded given.0.next
-      (next_version_tables cmp given.0.next given.1 loaded) before after old new result
-  pub step : IfOk result (λ step. step_in step ≡ adopted_step v given)
+  pub survives : SurvivesCrash cmp order v (version_with given.0.next
+      (next_version_tables cmp given.0.next given.1 v.tables)) change result
+  pub step : IfOk result (λ step. step_in step ≡ adopted_step v.version given)
   pub refused : IfErr result (λ e. UnlessMemory e (e ≡ fault Device))
 
 -- It was, and gets answer as they should.
-pub record IsOutcomeInstalled (order : Order) (cmp : KeyOrder) (v : State)
-    (loaded : List (ℕ × List ℕ)) (given : Adoption × List (ℕ × List ℕ)) (comparison : Comparison)
-    (before after : List Step) (old new : ToldFiles) (result : Result CompactionStep Fault)
-    : Type 0 where
-  pub version : AdoptedVersion order cmp v loaded given
-  pub gets : AdoptionKeepsReads cmp v loaded given.0 comparison version.tables_next
-  pub installation : IsInstallation cmp order v loaded given before after old new result
+pub record IsOutcomeInstalled (order : Order) (cmp : KeyOrder) (v : LoadedVersion)
+    (given : Adoption × List (ℕ × List ℕ)) (comparison : Comparison) (change : FolderChange)
+    (result : Result CompactionStep Fault) : Type 0 where
+  pub version : AdoptedVersion cmp v.version v.tables given
+  pub gets : AdoptionKeepsReads cmp v.version v.tables given.0 comparison version.tables_next
+  pub installation : IsInstallation cmp order v given change result
 
 -- the same by the outcome that another folder holds
-abbrev pub IsAdoptionLeft : Order → KeyOrder → State → List (ℕ × List ℕ) → Files → Comparison →
-    List Step → List Step → ToldFiles → ToldFiles → Result CompactionStep Fault → Type 0
-IsAdoptionLeft order cmp v loaded source comparison before after old new result =
-    IsUnchanged before after old new result
-    ⊎ ((given : Adoption × List (ℕ × List ℕ)) × IsGiven cmp (IsFileIn source) v (Ok given)
-    × IsOutcomeInstalled order cmp v loaded given comparison before after old new result)
+abbrev pub IsAdoptionLeft : Order → KeyOrder → LoadedVersion → Files → Comparison →
+    FolderChange → Result CompactionStep Fault → Type 0
+IsAdoptionLeft order cmp v source comparison change result = IsUnchanged change result
+    ⊎ ((given : Adoption × List (ℕ × List ℕ)) × IsGiven cmp (IsFileIn source) v.version (Ok given)
+    × IsOutcomeInstalled order cmp v given comparison change result)

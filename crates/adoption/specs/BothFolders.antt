@@ -12,13 +12,12 @@ abbrev pub HasEitherFailed : {F G : Type 0} → Ghosts F → Ghosts G → F → 
 HasEitherFailed f g one one_now other other_now = DeviceFailed (f.failed one) (f.failed one_now)
     ⊎ DeviceFailed (g.failed other) (g.failed other_now)
 
--- A call on two folders has this answer, seen by view, or Device if the device of one of them
--- failed during the call. Memory aside.
-abbrev pub AnswersFrom : {X Y F G : Type 0} → (X → Y) → Ghosts F → Ghosts G → F → F → G → G →
-    Result X Fault → (Result Y Fault → Type 0) → Type 0
-AnswersFrom view f g one one_now other other_now (Ok x) IsAnswer = IsAnswer (Ok (view x))
-AnswersFrom view f g one one_now other other_now (Err e) IsAnswer = UnlessMemory e
-    (((e ≡ fault Device) × HasEitherFailed f g one one_now other other_now) ⊎ IsAnswer (Err e))
+-- A call on two folders has this answer, seen by view, or Device if it has failed so. Memory aside.
+abbrev pub AnswersFrom : {X Y : Type 0} → (X → Y) → Type 0 → Result X Fault →
+    (Result Y Fault → Type 0) → Type 0
+AnswersFrom view HasFailed (Ok x) IsAnswer = IsAnswer (Ok (view x))
+AnswersFrom view HasFailed (Err e) IsAnswer =
+    UnlessMemory e (((e ≡ fault Device) × HasFailed) ⊎ IsAnswer (Err e))
 
 -- Device is answered only if the device of one of the folders failed during the call. If a count of
 -- failures rose, Device is the answer. No count falls.

@@ -1,7 +1,6 @@
--- Which edits fit a version: those of a compaction of the inputs that a compaction of their level
--- takes now.
+-- Which edits fit a version: those of a compaction of files that are closed inputs of it now.
 use Rattle.std.specs.Prelude.{◌≡◌, ℕ, ◌+◌, nat_eq, nat_lt, nat_le, Bool, true, false, ◌&&◌, List}
-use Rattle.std.specs.Prelude.{[], ◌∷◌}
+use Rattle.std.specs.Prelude.{[], ◌∷◌, map}
 use Rattle.std.specs.Prelude.{Option, Some, None, unwrap_or, Result, Ok, Err}
 use Rattle.std.specs.List.{list_all}
 use Rattle.std.specs.Option.{ok_or}
@@ -12,21 +11,44 @@ use Rattle.edit.specs.Comparator.{KeyOrder}
 use Rattle.edit.specs.Edit.{Edit}
 use Rattle.edit.specs.Version.{State}
 use Rattle.edit.specs.declared.meta.CompactPointer.{CompactPointer}
+use Rattle.edit.specs.declared.meta.DeletedFile.{DeletedFile}
 use Rattle.edit.specs.declared.meta.NewFile.{NewFile}
-use Rattle.pick.specs.PickedInputs.{IsInputsAnswer, PickedInputs}
+use Rattle.pick.specs.ClosedChoice.{IsClosedChoice, has_number_of}
+use Rattle.pick.specs.NumberedInputs.{numbered_answer}
+use Rattle.pick.specs.PickedInputs.{PickedInputs}
 use Rattle.compact.specs.EditOf.{deletions_of}
 
--- the level of a compact pointer, if it is the only one
-abbrev pub only_level : List CompactPointer → Option ℕ
-only_level [] = None
-only_level (pointer ∷ []) = Some pointer.level
-only_level (pointer ∷ (other ∷ pointers)) = None
+-- the compact pointer, if it is the only one
+abbrev pub only_pointer : List CompactPointer → Option CompactPointer
+only_pointer [] = None
+only_pointer (pointer ∷ []) = Some pointer
+only_pointer (pointer ∷ (other ∷ pointers)) = None
 
--- the inputs of a compaction of a level, or Apply if there are none
-abbrev pub IsChoiceOf : KeyOrder → State → ℕ → Result PickedInputs Fault → Type 0
-IsChoiceOf cmp v level (Ok p) = IsInputsAnswer cmp v level (Ok p)
-IsChoiceOf cmp v level (Err e) = (e ≡ fault Apply)
-    × ((refused : Fault) × IsInputsAnswer cmp v level (Err refused))
+-- the numbers of the files that an edit deletes
+abbrev pub deleted_numbers : Edit → List ℕ
+deleted_numbers e = map (λ (d : DeletedFile). d.number) e.deleted
+
+-- the inputs that have these numbers, or Apply if there are none
+abbrev pub IsNumbered : KeyOrder → State → CompactPointer → List ℕ → Result PickedInputs Fault →
+    Type 0
+IsNumbered cmp v pointer numbers (Ok p) = numbered_answer cmp v pointer numbers ≡ Ok p
+IsNumbered cmp v pointer numbers (Err e) = (e ≡ fault Apply)
+    × ((refused : Fault) × (numbered_answer cmp v pointer numbers ≡ Err refused))
+
+-- whether the files of these numbers are a closed choice for the level of inputs: these if they are,
+-- else Apply
+abbrev pub IsClosedOf : KeyOrder → State → List ℕ → PickedInputs → Result PickedInputs Fault →
+    Type 0
+IsClosedOf cmp v numbers p (Ok same) = (same ≡ p)
+    × IsClosedChoice cmp v p.level (has_number_of numbers)
+IsClosedOf cmp v numbers p (Err e) = (e ≡ fault Apply)
+    × (IsClosedChoice cmp v p.level (has_number_of numbers) → ⊥)
+
+-- the inputs that have these numbers; Apply if there are none, or they aren't closed
+abbrev pub IsChoiceOf : KeyOrder → State → CompactPointer → List ℕ → Result PickedInputs Fault →
+    Type 0
+IsChoiceOf cmp v pointer numbers =
+    IsThen (IsNumbered cmp v pointer numbers) (IsClosedOf cmp v numbers)
 
 -- whether the numbers of files rise, from above one number to below another
 abbrev pub rise_between : ℕ → ℕ → List NewFile → Bool
@@ -51,12 +73,10 @@ abbrev pub are_counted : State → Edit → Bool
 are_counted v e = rise_within v.next_file e.next_file e.added
     && is_reached e.last_sequence v.last_sequence
 
--- The edit is one of a compaction of these inputs of a version: it names no comparator, has just
--- their compact pointer, and deletes just them. Its new files are of the next level, and its
--- counters fit.
+-- The edit is one of a compaction of these inputs of a version: it names no comparator, and deletes
+-- just them. Its new files are of the next level, and its counters fit.
 pub record IsEditFor (v : State) (p : PickedInputs) (e : Edit) : Type 0 where
   pub no_name : e.comparator ≡ None
-  pub pointer : e.pointers ≡ p.pointer ∷ []
   pub deleted : e.deleted ≡ deletions_of p.files
   pub levels : list_all (λ (f : NewFile). nat_eq f.level (p.level + 1)) e.added ≡ true
   pub counted : are_counted v e ≡ true
@@ -66,8 +86,9 @@ abbrev pub IsFitOf : State → Edit → PickedInputs → Result PickedInputs Fau
 IsFitOf v e p (Ok same) = (same ≡ p) × IsEditFor v p e
 IsFitOf v e p (Err refused) = (refused ≡ fault Apply) × (IsEditFor v p e → ⊥)
 
--- The inputs of the compaction that has this edit. Apply unless it has just one compact pointer, a
--- compaction of that one's level has inputs, and the edit is one for these.
+-- The inputs of the compaction that has this edit: the files that it deletes. Apply unless it has
+-- just one compact pointer, these files are closed inputs of that one's level, and the edit is one
+-- for them.
 abbrev pub IsFitting : KeyOrder → State → Edit → Result PickedInputs Fault → Type 0
-IsFitting cmp v e = IsThen (λ level. level ≡ ok_or (only_level e.pointers) (fault Apply))
-    (λ level. IsThen (IsChoiceOf cmp v level) (IsFitOf v e))
+IsFitting cmp v e = IsThen (λ pointer. pointer ≡ ok_or (only_pointer e.pointers) (fault Apply))
+    (λ pointer. IsThen (IsChoiceOf cmp v pointer (deleted_numbers e)) (IsFitOf v e))

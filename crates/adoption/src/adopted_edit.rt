@@ -36,7 +36,7 @@ pub(crate) struct AdoptedEdit {
 /// The first that applies:
 ///
 /// - Lawless: a file's number isn't below next file, or the files of a level from 1 on don't rise;
-/// - Apply: the edit isn't one of the inputs that a compaction of its level takes;
+/// - Apply: the edit isn't one of a compaction of closed inputs of the version;
 /// - Numbers: next file is 2^64 - 1;
 /// - Apply: the edit doesn't apply.
 ///

@@ -1,26 +1,27 @@
 //! Whether an edit fits a version.
 
-ghost use Rattle.std.specs.Prelude.{◌≡◌, ◌↔◌, ◌≤◌, ◌&&◌, ◌∷◌, [], nat_eq, nat_lt, IsTrue, IfOk};
-ghost use Rattle.std.specs.Prelude.{IfErr, OnOk};
+ghost use Rattle.std.specs.Prelude.{◌≡◌, ◌↔◌, ◌≤◌, ◌&&◌, nat_eq, nat_lt, IsTrue, IfOk, IfErr};
+ghost use Rattle.std.specs.Prelude.{Ok, OnOk};
 ghost use Rattle.std.specs.List.{list_all};
-ghost use Rattle.edit.specs.Answers.{HoldsOrMemory, fault};
+ghost use Rattle.std.specs.Option.{option_copied};
+ghost use Rattle.edit.specs.Answers.{EqualOrMemory, HoldsOrMemory, fault};
 ghost use Rattle.edit.specs.fault.FaultName.TheVariants.{Memory};
 ghost use Rattle.edit.specs.Edit.{edit_in};
 ghost use Rattle.edit.specs.Version.{IsState};
 ghost use Rattle.pick.specs.PickedInputs.{picked_in};
 ghost use Rattle.pick.specs.declared.input_choice.TheConstants.{LAST_INPUT_LEVEL};
 ghost use Rattle.compact.specs.EditOf.{deletions_of};
-ghost use Rattle.adoption.specs.EditFit.{IsChoiceOf, IsEditFor, IsFitting, are_counted};
-ghost use Rattle.adoption.specs.EditFit.{is_reached, only_level, rise_between, rise_within};
+ghost use Rattle.adoption.specs.EditFit.{IsChoiceOf, IsEditFor, IsFitting, IsNumbered, are_counted};
+ghost use Rattle.adoption.specs.EditFit.{deleted_numbers, is_reached, only_pointer, rise_between};
+ghost use Rattle.adoption.specs.EditFit.{rise_within};
 
 use compact::deletions_of;
 use edit::{CompactPointer, Comparator, Fault, FaultName, NewFile, Version, VersionEdit};
-use pick::{InputFile, Inputs, inputs};
+use pick::{InputFile, Inputs, first_missing, numbered_inputs};
 use std::alloc::Global;
 
-/// The inputs of the compaction that has this edit: those that a compaction of the level of its
-/// compact pointer takes of `version`. Apply if the edit isn't one for them. The only other fault
-/// is Memory.
+/// The inputs of the compaction that has this edit: the files of `version` that it deletes. Apply if
+/// they aren't closed or the edit isn't one for them. The only other fault is Memory.
 pub(crate) fn fitting_inputs<C: Comparator>(
     alloc: Global,
     version: &Version,
@@ -30,34 +31,71 @@ pub(crate) fn fitting_inputs<C: Comparator>(
         (IsFitting C.cmp version.now (edit_in edit.now)) }
     ensures state { OnOk result (IsState version.now.pointers version.now.files) }
 {
-    let Some(level) = only_level(&edit.pointers) else {
+    let Some(pointer) = only_pointer(&edit.pointers) else {
         return Err(Fault::of(FaultName::Apply));
     };
-    let picked = inputs_of::<C>(alloc, version, level)?;
+    let numbers = deleted_numbers(alloc, edit)?;
+    let picked = closed_inputs::<C>(alloc, version, pointer, &numbers)?;
     if !is_edit_for(alloc, version, &picked, edit)? {
         return Err(Fault::of(FaultName::Apply));
     }
     Ok(picked)
 }
 
-/// The level of the only compact pointer; None if there isn't just one.
-fn only_level(pointers: &[CompactPointer]) -> Option<u64>
-    ensures { result ≡ only_level pointers.now }
+/// The only compact pointer; None if there isn't just one.
+fn only_pointer(pointers: &[CompactPointer]) -> Option<&CompactPointer>
+    ensures { option_copied result ≡ only_pointer pointers.now }
 {
     if pointers.len() == 1 {
-        Some(pointers[0].level)
+        Some(&pointers[0])
     } else {
         None
     }
 }
 
-/// The inputs of a compaction of a `level`. Apply if there are none. The only other fault is
-/// Memory.
-fn inputs_of<C: Comparator>(alloc: Global, version: &Version, level: u64) -> Result<Inputs, Fault>
-    ensures picked { HoldsOrMemory picked_in result (IsChoiceOf C.cmp version.now level) }
+/// The numbers of the files that an edit deletes. The only fault is Memory.
+fn deleted_numbers(alloc: Global, edit: &VersionEdit) -> Result<Vec<u64>, Fault>
+    ensures { EqualOrMemory (λ v. v.items) result (Ok (deleted_numbers (edit_in edit.now))) }
+{
+    let mut numbers = Vec::new(alloc);
+    for file in edit.deleted.iter() {
+        numbers.push(file.number)?;
+    }
+    Ok(numbers)
+}
+
+/// The inputs that have these numbers, for a compaction that sets this compact pointer. Apply if
+/// there are none, or they aren't closed. The only other fault is Memory.
+fn closed_inputs<C: Comparator>(
+    alloc: Global,
+    version: &Version,
+    pointer: &CompactPointer,
+    numbers: &[u64],
+) -> Result<Inputs, Fault>
+    ensures picked { HoldsOrMemory picked_in result
+        (IsChoiceOf C.cmp version.now pointer.now numbers.now) }
+    ensures state { OnOk result (IsState version.now.pointers version.now.files) }
+    ensures level { IfOk result (λ p. p.level ≤ LAST_INPUT_LEVEL) }
+{
+    let picked = inputs_of::<C>(alloc, version, pointer, numbers)?;
+    match first_missing::<C>(alloc, version, picked.level, numbers)? {
+        None => Ok(picked),
+        Some(_) => Err(Fault::of(FaultName::Apply)),
+    }
+}
+
+/// The inputs that have these numbers. Apply if there are none. The only other fault is Memory.
+fn inputs_of<C: Comparator>(
+    alloc: Global,
+    version: &Version,
+    pointer: &CompactPointer,
+    numbers: &[u64],
+) -> Result<Inputs, Fault>
+    ensures picked { HoldsOrMemory picked_in result
+        (IsNumbered C.cmp version.now pointer.now numbers.now) }
     ensures state { OnOk result (IsState version.now.pointers version.now.files) }
 {
-    match inputs::<C>(alloc, version, level) {
+    match numbered_inputs::<C>(alloc, version, pointer, numbers) {
         Ok(picked) => Ok(picked),
         Err(refused) => match refused.name {
             FaultName::Memory => Err(Fault::of(FaultName::Memory)),
@@ -79,24 +117,9 @@ fn is_edit_for(
     ensures memory { IfErr result (λ e. e ≡ fault Memory) }
 {
     let deletes = deletes_all(alloc, edit, &picked.files)?;
-    let points = points_to(&edit.pointers, &picked.pointer);
     let stands = are_at_level(&edit.added, picked.level + 1);
     let counts = are_counted(version, edit);
-    Ok(edit.comparator.is_none() && points && deletes && stands && counts)
-}
-
-/// Whether `pointer` is the only one.
-fn points_to(pointers: &[CompactPointer], pointer: &CompactPointer) -> bool
-    ensures { IsTrue result ↔ (pointers.now ≡ pointer.now ∷ []) }
-{
-    pointers.len() == 1 && is_same_pointer(&pointers[0], pointer)
-}
-
-/// Whether two compact pointers have one level and one key.
-fn is_same_pointer(one: &CompactPointer, other: &CompactPointer) -> bool
-    ensures { IsTrue result ↔ (one.now ≡ other.now) }
-{
-    one.level == other.level && one.key.as_key().bytes() == other.key.as_key().bytes()
+    Ok(edit.comparator.is_none() && deletes && stands && counts)
 }
 
 /// Whether an edit deletes these inputs, and no other file.

@@ -14,7 +14,7 @@ use crate::overlay::{Overlay, names_of};
 use crate::refusals::Refusals;
 use checks::{SharedComparator, VersionTotals, Watch, Workers, test_version};
 use edit::{Fault, Version};
-use folder::Folder;
+use folder::{Folder, Readings};
 use std::thread::Threads;
 
 /// The folder in which a version was tested, and the answer.
@@ -79,6 +79,7 @@ fn test_named<C: SharedComparator + 'static, F: Folder + Drop, W: Watch + Sync, 
         tables,
         names,
         refusals: Refusals::none(),
+        readings: Readings::none(),
     };
     let answer = test_version::<C, Overlay<'_, F>, W, R>(workers, &mut overlay, next, memory);
     TestEnd {

@@ -3,8 +3,8 @@
 //!
 //! [`install_outcome`] reads these files from a folder, and tests them against the database folder:
 //!
-//! 1. The edit fits the version: it is an edit of a compaction of the inputs that a compaction of
-//!    its level takes now.
+//! 1. The edit fits the version: it is an edit of a compaction of files of it, and these are closed
+//!    inputs now (`pick::first_missing`). Which closed inputs they are is the caller's choice.
 //! 2. Each output is there and is a table, as the edit states it.
 //! 3. The outputs hold just what a compaction of the inputs keeps, as [`Comparison`] says.
 //! 4. The edited version is lawful with the outputs and the other tables of the folder.

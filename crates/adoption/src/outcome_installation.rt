@@ -9,7 +9,7 @@ ghost use Rattle.folder.specs.Orders.{order_cmp};
 ghost use Rattle.folder.specs.ReadsAs.{ReadsAs};
 ghost use Rattle.folder.specs.Reports.{OnlyReads, ReportsDevice};
 ghost use Rattle.folder.specs.declared.order.Order.{Order};
-ghost use Rattle.install.specs.Install.{IsEditedBy};
+ghost use Rattle.install.specs.Install.{IsEditedBy, version_with};
 ghost use Rattle.store.specs.Compaction.{IsUnchanged};
 ghost use Rattle.store.specs.FolderRequest.{manifest_of};
 ghost use Rattle.store.specs.Step.{step_in};
@@ -21,7 +21,8 @@ ghost use Rattle.adoption.specs.AdoptionLeft.{IsAdoptionLeft, IsInstallation};
 ghost use Rattle.adoption.specs.AdoptionRuns.{IsAdoptionRun};
 ghost use Rattle.adoption.specs.OutcomeLeft.{IsOutcomeLeft};
 ghost use Rattle.adoption.specs.OutcomeLeft.{IsGivenRun, IsTestedLeft};
-ghost use Rattle.adoption.specs.BothFolders.{AnswersFrom, ReportsEither};
+ghost use Rattle.adoption.specs.BothFolders.{AnswersFrom, ReportsEither, HasEitherFailed};
+ghost use Rattle.folder.specs.FolderChange.{change_of};
 
 use crate::adoption_end::AdoptionEnd;
 use crate::comparison::Comparison;
@@ -29,7 +30,6 @@ use crate::edited_test::test_edited;
 use crate::given_outcome::{GivenOutcome, given_outcome};
 use crate::kept_comparison::test_outputs;
 use checks::{SharedComparator, Watch, Workers};
-use compact::gets_after;
 use edit::{Comparator, Fault};
 use folder::{Bytewise, Folder, Opened, Order, Shortlex};
 use install::install;
@@ -55,8 +55,8 @@ use store::{CompactionStep, manifest_of, outcome_step};
 /// - Apply: EDIT isn't an edit of a compaction of this version. Of such an edit each of these
 ///   holds:
 ///   - it has just one compact pointer;
-///   - it deletes the inputs that a compaction of that pointer's level takes, and its pointer is
-///     theirs;
+///   - it deletes files of that pointer's level, and perhaps of the next one, that are closed now
+///     (`pick::first_missing`), whoever chose them;
 ///   - its new files are of the next level, and their numbers rise from above the version's next
 ///     file to below EDIT's;
 ///   - its last sequence isn't above the version's;
@@ -91,22 +91,21 @@ pub fn install_outcome<F: Folder + Drop, G: Folder, W: Watch + Sync, R: Threads 
     ensures answer { (files given : Files) → Tells (F.tells folder) files →
         Tells (G.tells source.old) given →
         files (codes "CURRENT") ≡ Some (current_text opened.now.manifest) →
-        AnswersFrom step_in F.Folder G.Folder folder result.folder source.old
-        source.new result.answer (IsInstalledFrom (order_cmp opened.now.order) files given
+        AnswersFrom step_in (HasEitherFailed F.Folder G.Folder folder result.folder source.old
+        source.new) result.answer (IsInstalledFrom (order_cmp opened.now.order) files given
         opened.now.version comparison.entry) }
     // If moreover they read as this version.
     ensures left { (files given : Files) (loaded : List (ℕ × List ℕ)) →
         Tells (F.tells folder) files → Tells (G.tells source.old) given →
         files (codes "CURRENT") ≡ Some (current_text opened.now.manifest) →
         ReadsAs (order_cmp opened.now.order) opened.now.order opened.now.version loaded files →
-        IsAdoptionLeft opened.now.order (order_cmp opened.now.order) opened.now.version loaded
-        given comparison.entry (F.calls folder) (F.calls result.folder)
-        (F.tells folder) (F.tells result.folder) result.answer }
+        IsAdoptionLeft opened.now.order (order_cmp opened.now.order)
+        (version_with opened.now.version loaded) given comparison.entry
+        (change_of F.Folder folder result.folder) result.answer }
     // Of any folders, also those that tell nothing: no call that writes was made; or an outcome was
     // read, and the calls are those that install it, in their order, up to one that fails.
-    ensures runs { IsAdoptionRun (order_name opened.now.order) (order_cmp opened.now.order)
-        (G.tells source.old) opened.now.version (F.calls folder) (F.calls result.folder)
-        (F.tells folder) (F.tells result.folder) result.answer }
+    ensures runs { IsAdoptionRun (order_name opened.now.order) (order_cmp opened.now.order) (G.tells
+        source.old) opened.now.version (change_of F.Folder folder result.folder) result.answer }
     // If CURRENT is another one, the answer is never Ok.
     ensures other { IsOkOnlyIfCurrent (F.tells folder) opened.now.manifest result.answer }
     ensures device { ReportsEither F.Folder G.Folder folder result.folder source.old
@@ -142,19 +141,17 @@ fn install_from<
     ensures answer { (files given : Files) → Tells (F.tells folder) files →
         Tells (G.tells source.old) given →
         files (codes "CURRENT") ≡ Some (current_text opened.now.manifest) →
-        AnswersFrom step_in F.Folder G.Folder folder result.folder source.old
-        source.new result.answer (IsInstalledFrom C.cmp files given opened.now.version
+        AnswersFrom step_in (HasEitherFailed F.Folder G.Folder folder result.folder source.old
+        source.new) result.answer (IsInstalledFrom C.cmp files given opened.now.version
         comparison.entry) }
     ensures left { (files given : Files) (order : Order) (loaded : List (ℕ × List ℕ)) →
         Tells (F.tells folder) files → Tells (G.tells source.old) given →
         files (codes "CURRENT") ≡ Some (current_text opened.now.manifest) →
         order_name order ≡ C.name_bytes → ReadsAs C.cmp order opened.now.version loaded files →
-        IsAdoptionLeft order C.cmp opened.now.version loaded given comparison.entry
-        (F.calls folder) (F.calls result.folder) (F.tells folder)
-        (F.tells result.folder) result.answer }
+        IsAdoptionLeft order C.cmp (version_with opened.now.version loaded) given comparison.entry
+        (change_of F.Folder folder result.folder) result.answer }
     ensures runs { IsAdoptionRun C.name_bytes C.cmp (G.tells source.old) opened.now.version
-        (F.calls folder) (F.calls result.folder) (F.tells folder) (F.tells result.folder)
-        result.answer }
+        (change_of F.Folder folder result.folder) result.answer }
     ensures other { IsOkOnlyIfCurrent (F.tells folder) opened.now.manifest result.answer }
     ensures device { ReportsEither F.Folder G.Folder folder result.folder source.old
         source.new result.answer }
@@ -196,16 +193,13 @@ fn install_given<
         Tells (F.tells folder) files →
         files (codes "CURRENT") ≡ Some (current_text opened.now.manifest) →
         order_name order ≡ C.name_bytes → ReadsAs C.cmp order opened.now.version loaded files →
-        IsOutcomeLeft order C.cmp opened.now.version loaded (given_in given.now) comparison.entry
-        (F.calls folder) (F.calls result.folder) (F.tells folder)
-        (F.tells result.folder) result.answer }
+        IsOutcomeLeft order C.cmp (version_with opened.now.version loaded) (given_in given.now)
+        comparison.entry (change_of F.Folder folder result.folder) result.answer }
     ensures runs { IsGivenRun C.name_bytes C.cmp opened.now.version (given_in given.now)
-        (F.calls folder) (F.calls result.folder) (F.tells folder) (F.tells result.folder)
-        result.answer }
+        (change_of F.Folder folder result.folder) result.answer }
     ensures other { IsOkOnlyIfCurrent (F.tells folder) opened.now.manifest result.answer }
     ensures device { ReportsDevice F.Folder folder result.folder result.answer }
 {
-    gets_after::<C>();
     let mut folder = folder;
     match test_outputs::<C, F, W, R>(workers, &mut folder, given, comparison) {
         Ok(()) => install_tested::<C, F, W, R>(workers, folder, opened, given, memory),
@@ -238,12 +232,10 @@ fn install_tested<
         Tells (F.tells folder) files →
         files (codes "CURRENT") ≡ Some (current_text opened.now.manifest) →
         order_name order ≡ C.name_bytes → ReadsAs C.cmp order opened.now.version loaded files →
-        IsTestedLeft order C.cmp opened.now.version loaded (given_in given.now)
-        (F.calls folder) (F.calls result.folder) (F.tells folder)
-        (F.tells result.folder) result.answer }
+        IsTestedLeft order C.cmp (version_with opened.now.version loaded) (given_in given.now)
+        (change_of F.Folder folder result.folder) result.answer }
     ensures runs { IsGivenRun C.name_bytes C.cmp opened.now.version (given_in given.now)
-        (F.calls folder) (F.calls result.folder) (F.tells folder) (F.tells result.folder)
-        result.answer }
+        (change_of F.Folder folder result.folder) result.answer }
     ensures other { IsOkOnlyIfCurrent (F.tells folder) opened.now.manifest result.answer }
     ensures device { ReportsDevice F.Folder folder result.folder result.answer }
 {
@@ -285,14 +277,14 @@ fn install_adopted<C: Comparator, F: Folder, R: Threads + Sync>(
     ensures left { (files : Files) (order : Order) (loaded : List (ℕ × List ℕ)) →
         Tells (F.tells folder.old) files →
         files (codes "CURRENT") ≡ Some (current_text opened.now.manifest) →
-        IsEditedBy C.name_bytes C.cmp order opened.now.version (manifest_of opened.now.version)
-        (given_in given.now).1 given.now.outcome.edit.items given.now.next →
-        IsUnchanged (F.calls folder.old) (F.calls folder.new) (F.tells folder.old)
-        (F.tells folder.new) result
-        ⊎ IsInstallation C.cmp order opened.now.version loaded (given_in given.now)
-        (F.calls folder.old) (F.calls folder.new) (F.tells folder.old) (F.tells folder.new) result }
+        order_name order ≡ C.name_bytes →
+        IsEditedBy C.cmp opened.now.version (manifest_of opened.now.version) (given_in given.now).1
+        given.now.outcome.edit.items given.now.next →
+        IsUnchanged (change_of F.Folder folder.old folder.new) result
+        ⊎ IsInstallation C.cmp order (version_with opened.now.version loaded) (given_in given.now)
+        (change_of F.Folder folder.old folder.new) result }
     ensures runs { IsGivenRun C.name_bytes C.cmp opened.now.version (given_in given.now)
-        (F.calls folder.old) (F.calls folder.new) (F.tells folder.old) (F.tells folder.new) result }
+        (change_of F.Folder folder.old folder.new) result }
     ensures other { IsOkOnlyIfCurrent (F.tells folder.old) opened.now.manifest result }
     ensures device { ReportsDevice F.Folder folder.old folder.new result }
 {

@@ -1,20 +1,23 @@
 //! A folder over whose files tables are laid.
 
-ghost use Rattle.std.specs.Prelude.{◌≡◌, [], ◌∷◌, ◌++◌, map, Ok, Err, string_bytes};
+ghost use Rattle.std.specs.Prelude.{◌≡◌, [], ◌∷◌, ◌++◌, map, Ok, Err, IfOk, string_bytes};
 ghost use Rattle.std.specs.Option.{option_map};
 ghost use Rattle.std.specs.Str.{bytes_eq};
 ghost use Rattle.edit.specs.Answers.{EqualOrMemory};
 ghost use Rattle.folder.specs.Calls.{Tried};
-ghost use Rattle.folder.specs.Folder.{IsToldBy, part_of};
+ghost use Rattle.folder.specs.Folder.{IsToldBy, TellsSame, failures_after, part_of};
 ghost use Rattle.folder.specs.Names.{table_name};
 ghost use Rattle.folder.specs.declared.folder.FolderFault.TheVariants.{Memory};
 ghost use Rattle.install.specs.Install.{tables_in};
 ghost use Rattle.adoption.specs.Adoption.{laid_table};
-ghost use Rattle.adoption.specs.Overlay.{names_of, refused_call};
+ghost use Rattle.adoption.specs.Overlay.{names_of, overlay_tells, refused_call};
 
 use crate::refusals::{Refusals, RefusedCall};
 use edit::Fault;
-use folder::{Folder, FolderFault, NoReader, ReadsTables, TableReader, part_of, table_name};
+use folder::{
+    FileRead, Folder, FolderFault, NoReader, Readings, ReadsTables, TableReader, part_of,
+    table_name,
+};
 use std::alloc::Global;
 use std::thread::Threads;
 
@@ -30,6 +33,7 @@ pub(crate) struct Overlay<'o, F> {
     /// The names of the tables, in their order.
     pub names: Vec<String>,
     pub refusals: Refusals,
+    pub readings: Readings,
     ghost named: { map string_bytes names.items ≡ names_of (tables_in tables.now) },
 }
 
@@ -55,6 +59,28 @@ impl<'o, F> Overlay<'o, F> {
     }
 }
 
+impl<'o, F: Folder> Overlay<'o, F> {
+    /// The bytes of a file: of the table of this `name` if one is laid over, else those that are
+    /// read in the folder. None if no file has the name.
+    fn laid_or_read(&mut self, name: &str) -> Result<Option<Vec<u8>>, FolderFault>
+        ensures held { IfOk result
+            (λ held. overlay_tells (F.tells self.old.folder) (tables_in self.old.tables.now)
+            name.now (option_map (λ bytes. bytes.items) held)) }
+        ensures same { TellsSame (F.tells self.old.folder) (F.tells self.new.folder) }
+        ensures calls { F.calls self.new.folder ≡ F.calls self.old.folder }
+        ensures failures { F.failed self.new.folder
+            ≡ failures_after (F.failed self.old.folder) result }
+        ensures tables { self.new.tables ≡ self.old.tables }
+        ensures refused { self.new.refusals.steps ≡ self.old.refusals.steps }
+        ensures readings { self.new.readings.files ≡ self.old.readings.files }
+    {
+        match self.laid(name) {
+            Some(bytes) => Ok(Some(Vec::from_slice(self.alloc, bytes)?)),
+            None => self.folder.read(name),
+        }
+    }
+}
+
 impl<'o, F: Folder> Folder for Overlay<'o, F> {
     ghost use Rattle.install.specs.Install.{tables_in};
     ghost use Rattle.adoption.specs.Overlay.{overlay_calls, overlay_tells};
@@ -65,11 +91,15 @@ impl<'o, F: Folder> Folder for Overlay<'o, F> {
 
     ghost failed = { λ o. F.failed o.folder };
 
+    ghost readings = { λ o. o.readings.files };
+
     fn read(&mut self, name: &str) -> Result<Option<Vec<u8>>, FolderFault> {
-        match self.laid(name) {
-            Some(bytes) => Ok(Some(Vec::from_slice(self.alloc, bytes)?)),
-            None => self.folder.read(name),
-        }
+        let answer = self.laid_or_read(name);
+        self.readings = self.readings.then(&FileRead {
+            name,
+            answer: &answer,
+        });
+        answer
     }
 
     fn read_part(

@@ -1,14 +1,25 @@
 -- What opening a folder answers, step by step.
-use Rattle.std.proofs.Common.{◌≡◌, ◌⊎◌, ℕ, ◌≤◌, List, Option, Some, None, Result, Ok, Err, IsErrAnd, refl, sym, subst, arith, inl, inr, codes}
+use Rattle.std.proofs.Common.{◌≡◌, ◌⊎◌, ℕ, ◌≤◌, List, [], ◌∷◌, ◌++◌, Option, Some, None, Result, Ok, Err, IsErrAnd, refl, sym, ap, subst, ◌∙◌, arith, inl, inr, codes, append_assoc}
 use Rattle.ikey.proofs.Refusals.{unless_from}
 use Rattle.ikey.specs.Answers.{UnlessMemory, HoldsOrMemory}
 use Rattle.ikey.specs.fault.Fault.{Fault}
 use Rattle.edit.specs.Version.{State}
 use Rattle.folder.specs.Folder.{DeviceFailed, TellsSame}
 use Rattle.folder.specs.Manifest.{IsManifestAnswer}
-use Rattle.folder.specs.Names.{IsNumberAnswer, manifest_name}
-use Rattle.folder.specs.OpenAnswer.{FolderAnswers, IsFileReading, IsOpened, IsStopped}
+use Rattle.folder.specs.Names.{IsNumberAnswer, current_text, manifest_name}
+use Rattle.folder.specs.OpenAnswer.{FolderAnswers, IsFileReading, IsOpened, IsStopped, IsVersionRead}
+use Rattle.folder.specs.Readings.{Reading}
 use Rattle.folder.specs.declared.order.Order.{Order}
+
+-- CURRENT was read, and then the manifest that it names
+pub version_read : (before middle after : List Reading) (order : Order) (v : State) (number : ℕ) (current name bytes : List ℕ) → middle ≡ before ++ (codes "CURRENT", Some current) ∷ [] → current ≡ current_text number
+    → after ≡ middle ++ (name, Some bytes) ∷ [] → name ≡ manifest_name number → IsManifestAnswer number bytes (Ok (order, v)) → IsVersionRead before after order v number
+version_read before middle after order v number current name bytes one is two named gives = record {
+  bytes = bytes;
+  read = two ∙ (ap (λ (l : List Reading). l ++ (name, Some bytes) ∷ []) one ∙ (append_assoc before ((codes "CURRENT", Some current) ∷ []) ((name, Some bytes) ∷ [])
+      ∙ (ap (λ (c : List ℕ). before ++ (codes "CURRENT", Some c) ∷ ((name, Some bytes) ∷ [])) is ∙ ap (λ (n : List ℕ). before ++ (codes "CURRENT", Some (current_text number)) ∷ ((n, Some bytes) ∷ [])) named)));
+  gives = gives;
+}
 
 -- a failure after a time is one after an earlier time
 pub failed_since : (before middle now : ℕ) → before ≤ middle → middle ≤ now → DeviceFailed middle now → DeviceFailed before now

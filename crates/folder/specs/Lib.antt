@@ -15,10 +15,12 @@ pub use Rattle.edit.specs.declared.meta
 pub mod Names
 pub mod Folder
 pub mod Calls
+pub mod Readings
 pub mod Manifest
 pub mod Orders
 pub mod OpenAnswer
 pub mod Reports
+pub mod FolderChange
 pub mod Levels
 pub mod LoadedTables
 pub mod Crash

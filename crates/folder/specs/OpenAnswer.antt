@@ -1,6 +1,6 @@
 -- Opening a folder: what is read in which order, and how failures of the device are answered.
-use Rattle.std.specs.Prelude.{◌≡◌, ◌≢◌, ◌⊎◌, ℕ, ◌<◌, List, codes, Some, None, Result, Ok, Err}
-use Rattle.std.specs.Prelude.{IsErrOf, OnOk}
+use Rattle.std.specs.Prelude.{◌≡◌, ◌≢◌, ◌⊎◌, ℕ, ◌<◌, List, [], ◌∷◌, ◌++◌, codes, Some, None, Result}
+use Rattle.std.specs.Prelude.{Ok, Err, IsErrOf, OnOk}
 use Rattle.ikey.specs.Answers.{UnlessMemory, fault, IsThen}
 use Rattle.ikey.specs.fault.Fault.{Fault}
 use Rattle.ikey.specs.fault.FaultName.{FaultName}
@@ -13,6 +13,7 @@ use Rattle.folder.specs.Manifest.{IsManifestAnswer}
 use Rattle.folder.specs.Names.{IsNumberAnswer, current_text, manifest_name}
 use Rattle.folder.specs.declared.order.Order.{Order}
 use Rattle.folder.specs.Calls.{Files, Tells, ToldFiles}
+use Rattle.folder.specs.Readings.{Reading}
 
 -- the device failed during the call, and Device is the answer
 abbrev pub IsStopped : ℕ → ℕ → Fault → Type 0
@@ -45,6 +46,15 @@ abbrev pub IsOpened : ToldFiles → Result (Order × State) Fault → Type 0
 IsOpened tells = IsThen (IsFileReading tells (codes "CURRENT")) (λ current.
     IsThen (IsNumberAnswer current) (λ number.
     IsThen (IsFileReading tells (manifest_name number)) (IsManifestAnswer number)))
+
+-- A version was opened: CURRENT was read, then the manifest of this number, which CURRENT names,
+-- and no other file. The bytes of that manifest give this order and version.
+pub record IsVersionRead (before after : List Reading) (order : Order) (v : State) (manifest : ℕ)
+    : Type 0 where
+  pub bytes : List ℕ
+  pub read : after ≡ before ++ (codes "CURRENT", Some (current_text manifest))
+      ∷ ((manifest_name manifest, Some bytes) ∷ [])
+  pub gives : IsManifestAnswer manifest bytes (Ok (order, v))
 
 -- the refusals that come of what a folder holds; Device and Memory are not among them
 abbrev pub IsOfContents : FaultName → Type 0

@@ -3,6 +3,7 @@ use Rattle.std.specs.Prelude.{ℕ, if◌then◌else◌, List, [], ◌∷◌, Som
 use Rattle.std.specs.Map.{lookup}
 use Rattle.std.specs.Str.{bytes_eq}
 use Rattle.folder.specs.Calls.{Files, Step, with_moved, with_value}
+use Rattle.folder.specs.Readings.{Reading}
 use Rattle.folder.specs.declared.shelf_step.ShelfCall.{ShelfCall}
 use Rattle.folder.specs.declared.shelf_step.ShelfCall.TheVariants.{Create, Remove, Rename, Sync}
 use Rattle.folder.specs.declared.shelf_step.ShelfCall.TheVariants.{SyncFolder}
@@ -37,6 +38,8 @@ pub record ShelfView : Type 0 where
   pub steps : List ShelfStep
   -- all calls that write, in their order
   pub trail : List Step
+  -- the files that were read
+  pub readings : List Reading
   -- how many calls were made and how often the device failed, each up to 2^64 - 1
   pub calls : ℕ
   pub failures : ℕ

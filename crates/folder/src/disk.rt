@@ -13,6 +13,7 @@ use crate::folder::{Folder, FolderFault};
 use crate::made_table::{DiskMaker, MadeTable, files_of, first_failed, sync_made, write_in_turn};
 use crate::order::Order;
 use crate::pending_files::PendingFiles;
+use crate::readings::{FileRead, Readings};
 use crate::system::{Place, done_in, part_in, read_in};
 use crate::system_files::{MakesFiles, SystemFiles};
 use crate::table_loader::{files_due, numbers_in};
@@ -40,6 +41,7 @@ pub struct Disk<'r, R> {
     owner: &'r str,
     failures: u64,
     trail: Trail,
+    readings: Readings,
     kept: PendingFiles,
     last_failure: Option<Failure>,
 }
@@ -49,7 +51,11 @@ impl<'r, R> Model for Disk<'r, R> {
 
     ghost Value = { CallHistory };
 
-    ghost view = { λ d. record { trail = d.trail.steps; failures = d.failures } };
+    ghost view = { λ d. record {
+      trail = d.trail.steps;
+      readings = d.readings.files;
+      failures = d.failures;
+    } };
 }
 
 impl<'r, R: SystemFiles + AllocGlobal> Disk<'r, R> {
@@ -73,6 +79,7 @@ impl<'r, R: SystemFiles + AllocGlobal> Disk<'r, R> {
             owner,
             failures: 0,
             trail: Trail::new(),
+            readings: Readings::none(),
             kept: PendingFiles::new(rt.alloc()),
             last_failure: None,
         }
@@ -128,9 +135,16 @@ impl<'r, R: SystemFiles + AllocGlobal> Folder for Disk<'r, R> {
 
     ghost failed = { λ disk. disk.failures };
 
+    ghost readings = { λ disk. disk.readings };
+
     fn read(&mut self, name: &str) -> Result<Option<Vec<u8>>, FolderFault> {
-        let answer = read_in(self.rt, self.rt.alloc(), self.path, name);
-        self.counted(answer, FolderCall::Read, name)
+        let found = read_in(self.rt, self.rt.alloc(), self.path, name);
+        let answer = self.counted(found, FolderCall::Read, name);
+        self.readings = self.readings.then(&FileRead {
+            name,
+            answer: &answer,
+        });
+        answer
     }
 
     fn read_part(
@@ -229,6 +243,7 @@ impl<'r, R: SystemFiles + AllocGlobal> Disk<'r, R> {
         ensures value { IfOk result (λ value. answer ≡ Ok value) }
         ensures failures { self.new.failures ≡ failures_after self.old.failures result }
         ensures trail { self.new.trail ≡ self.old.trail }
+        ensures readings { self.new.readings ≡ self.old.readings }
     {
         match answer {
             Ok(value) => Ok(value),

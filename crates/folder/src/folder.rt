@@ -57,6 +57,7 @@ pub trait Folder {
     ghost use Rattle.std.specs.Thread.{IsSync};
     ghost use Rattle.folder.specs.Calls.{Step, step_of, Created, Synced, Renamed, Removed};
     ghost use Rattle.folder.specs.Calls.{FolderSynced, TellsAfter, Written};
+    ghost use Rattle.folder.specs.Readings.{Reading, readings_after};
     ghost use Rattle.folder.specs.TableFiles.{table_files};
     ghost use Rattle.folder.specs.Folder.{TellsPart, TellsSame, failures_after};
 
@@ -71,12 +72,17 @@ pub trait Folder {
     /// answer does.
     ghost failed: { Self → ℕ };
 
+    /// The files that [`read`](Folder::read) was asked for, in order, and what it answered of each,
+    /// be it true or not. A call that failed is not among them.
+    ghost readings: { Self → List Reading };
+
     /// The bytes of a file. None if no file has this name.
     fn read(&mut self, name: &str) -> Result<Option<Vec<u8>>, FolderFault>
         ensures held { IfOk result
             (λ held. tells self.old name.now (option_map (λ bytes. bytes.items) held)) }
         ensures same { TellsSame (tells self.old) (tells self.new) }
         ensures calls { calls self.new ≡ calls self.old }
+        ensures readings { readings self.new ≡ readings_after (readings self.old) name.now result }
         ensures failures { failed self.new ≡ failures_after (failed self.old) result };
 
     /// The `len` bytes of a file from `offset` on, or as many as it has there. None if no file has

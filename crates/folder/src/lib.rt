@@ -54,6 +54,7 @@ mod manifest_version;
 mod names;
 mod order;
 mod pending_files;
+mod readings;
 mod shelf;
 mod shelf_step;
 mod source_writer;
@@ -82,6 +83,7 @@ pub use names::{
     temporary_name,
 };
 pub use order::Order;
+pub use readings::{FileRead, Readings};
 pub use shelf::{Failing, Shelf, ShelfMaker, part_of};
 pub use shelf_step::{ShelfCall, ShelfStep};
 pub use source_writer::write_source;

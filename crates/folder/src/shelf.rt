@@ -13,6 +13,7 @@ ghost use Rattle.folder.specs.declared.folder.FolderFault.TheVariants.{Memory};
 
 use crate::folder::{Folder, FolderFault};
 use crate::names::table_name;
+use crate::readings::{FileRead, Readings};
 use crate::shelf_step::{ShelfCall, ShelfStep, Source};
 use crate::table_reader::{NoReader, ReadsTables, TableReader};
 use crate::table_source::SourceTables;
@@ -49,6 +50,7 @@ pub struct Shelf<'a> {
     calls: u64,
     failures: u64,
     trail: Trail,
+    readings: Readings,
 }
 
 /// What keeps tables until they are put on a shelf.
@@ -65,6 +67,7 @@ impl<'a> Model for Shelf<'a> {
       start = map (λ f. (f.0.now, f.1.now)) s.start.now;
       steps = s.steps.items;
       trail = s.trail.steps;
+      readings = s.readings.files;
       calls = s.calls;
       failures = s.failures;
     } };
@@ -82,8 +85,8 @@ impl<'a> Shelf<'a> {
             ≡ record {
               start = map (λ f. (f.0.now, f.1.now)) files.now;
               steps = [];
-              trail =
-                  [];
+              trail = [];
+              readings = [];
               calls = 0;
               failures = 0;
             } }
@@ -96,6 +99,7 @@ impl<'a> Shelf<'a> {
             calls: 0,
             failures: 0,
             trail: Trail::new(),
+            readings: Readings::none(),
         }
     }
 
@@ -147,14 +151,15 @@ impl<'a> Folder for Shelf<'a> {
 
     ghost failed = { λ shelf. shelf.failures };
 
+    ghost readings = { λ shelf. shelf.readings };
+
     fn read(&mut self, name: &str) -> Result<Option<Vec<u8>>, FolderFault> {
-        if let Some(failing) = self.called() {
-            return self.fail(failing.fault);
-        }
-        match self.file(name) {
-            Some(bytes) => Ok(Some(Vec::from_slice(self.alloc, bytes)?)),
-            None => Ok(None),
-        }
+        let answer = self.copy_of(name);
+        self.readings = self.readings.then(&FileRead {
+            name,
+            answer: &answer,
+        });
+        answer
     }
 
     fn read_part(
@@ -256,6 +261,25 @@ impl TableMaker for ShelfMaker {
 }
 
 impl<'a> Shelf<'a> {
+    /// A copy of the bytes of a file. None if no file has this `name`.
+    fn copy_of(&mut self, name: &str) -> Result<Option<Vec<u8>>, FolderFault>
+        ensures held { IfOk result (λ held. held_by self.old name.now
+            ≡ option_map (λ bytes. bytes.items) held) }
+        ensures start { self.new.start ≡ self.old.start }
+        ensures steps { self.new.steps ≡ self.old.steps }
+        ensures failures { self.new.failures ≡ failures_after self.old.failures result }
+        ensures trail { self.new.trail ≡ self.old.trail }
+        ensures readings { self.new.readings ≡ self.old.readings }
+    {
+        if let Some(failing) = self.called() {
+            return self.fail(failing.fault);
+        }
+        match self.file(name) {
+            Some(bytes) => Ok(Some(Vec::from_slice(self.alloc, bytes)?)),
+            None => Ok(None),
+        }
+    }
+
     /// Makes a call that writes, and adds it to the trail.
     fn write(&mut self, call: WriteCall<'_>) -> Result<(), FolderFault>
         ensures calls { self.new.trail ≡ self.old.trail
@@ -404,6 +428,7 @@ impl<'a> Shelf<'a> {
         ensures steps { self.new.steps ≡ self.old.steps }
         ensures failures { self.new.failures ≡ self.old.failures }
         ensures trail { self.new.trail ≡ self.old.trail }
+        ensures readings { self.new.readings ≡ self.old.readings }
     {
         self.calls = self.calls.saturating_add(1);
         match self.failing {
@@ -419,6 +444,7 @@ impl<'a> Shelf<'a> {
         ensures steps { self.new.steps ≡ self.old.steps }
         ensures failures { self.new.failures ≡ failures_after self.old.failures result }
         ensures trail { self.new.trail ≡ self.old.trail }
+        ensures readings { self.new.readings ≡ self.old.readings }
     {
         if fault == FolderFault::Device {
             self.failures = self.failures.saturating_add(1);

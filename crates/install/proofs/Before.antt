@@ -14,17 +14,13 @@ use Rattle.folder.specs.ReadsAs.{StandsAs}
 use Rattle.folder.specs.declared.order.Order.{Order}
 use Rattle.folder.proofs.CrashLemmas.{left_reads, shown_left}
 use Rattle.folder.proofs.WrittenLemmas.{file_passed}
-use Rattle.install.specs.Install.{IsBeforeOrAfter, IsEditedBy, SurvivesCrash, calls_before_rename, temporary_calls}
+use Rattle.install.specs.Install.{IsBeforeOrAfter, IsEditedBy, SurvivesCrash, calls_before_rename, temporary_calls, version_with}
 use Rattle.install.specs.GroupedInstallation.{tables_of_groups}
 use Rattle.install.proofs.Edited.{apart_of}
 use Rattle.install.proofs.Files.{settled_stands}
 use Rattle.install.proofs.Moments.{Apart, leads_split, made_by, moment_made}
 use Rattle.install.proofs.Outputs.{filed, tables_passed}
-
--- the names are apart, under the comparator's name
-apart_named : (name : List ℕ) (cmp : List ℕ → List ℕ → Ordering) (order : Order) (v next : State) (number : ℕ) (outputs : List (ℕ × List ℕ)) (bytes manifest : List ℕ) → number < 2 ^ 64 → IsEditedBy name cmp order v number outputs bytes next
-    → Apart cmp v outputs number manifest
-apart_named name cmp order v next number outputs bytes manifest small h = apart_of cmp order v next number outputs bytes (subst (λ (n : List ℕ). IsEditedBy n cmp order v number outputs bytes next) (sym h.named) h) small manifest
+use Rattle.folder.proofs.Changes.{change_by}
 
 module _ (cmp : List ℕ → List ℕ → Ordering) (order : Order) (v : State) (tables : List (ℕ × List ℕ)) (groups : List (List (ℕ × List ℕ))) (number : ℕ) (manifest : List ℕ) (apart : Apart cmp v (tables_of_groups groups) number manifest) where
   abbrev first_calls : List Call
@@ -46,7 +42,7 @@ module _ (cmp : List ℕ → List ℕ → Ordering) (order : Order) (v : State) 
 
   -- these calls were made and no others, under a refusal
   stays : {T E : Type 0} (calls : List Call) (before now : List Step) (old new : List ℕ → Option (List ℕ) → Type 0) (e : E) → now ≡ before ++ map Done first_calls → MakesCalls {T = T} calls before now old new (Err e)
-      → SurvivesCrash {T = T} cmp order v tables v tables before now old new (Err e)
+      → SurvivesCrash {T = T} cmp order (version_with v tables) (version_with v tables) (change_by before now old new) (Err e)
   stays {T = T} {E = E} calls before now old new e is runs =
       let same : runs.steps ≡ map Done first_calls = append_cancel_left before runs.steps (map Done first_calls) (sym runs.appended ∙ is) in
       let made : AreMade first_calls runs.steps = subst (λ (s : List Step). AreMade first_calls s) (sym same) (made_by {T = Unit {0}} {E = Unit {0}} first_calls (map Done first_calls) (Ok tt) refl) in
@@ -69,9 +65,9 @@ module _ (cmp : List ℕ → List ℕ → Ordering) (order : Order) (v : State) 
       }
 
 -- at Changed the version before stands
-pub stays_before : {T : Type 0} (name : List ℕ) (cmp : List ℕ → List ℕ → Ordering) (order : Order) (v next : State) (tables : List (ℕ × List ℕ)) (groups : List (List (ℕ × List ℕ))) (number : ℕ) (bytes manifest : List ℕ) → number < 2 ^ 64 → IsEditedBy name cmp order v number (tables_of_groups groups) bytes next
+pub stays_before : {T : Type 0} (cmp : List ℕ → List ℕ → Ordering) (order : Order) (v next : State) (tables : List (ℕ × List ℕ)) (groups : List (List (ℕ × List ℕ))) (number : ℕ) (bytes manifest : List ℕ) → number < 2 ^ 64 → IsEditedBy cmp v number (tables_of_groups groups) bytes next
     → (calls : List Call) (before now : List Step) (old new : List ℕ → Option (List ℕ) → Type 0) (r : Result T Fault) → MakesCalls calls before now old new r
-    → IfErr r (λ e. e ≡ fault Changed → now ≡ before ++ map Done (calls_before_rename number groups manifest)) → IfErr r (λ e. e ≡ fault Changed → SurvivesCrash cmp order v tables v tables before now old new r)
-stays_before name cmp order v next tables groups number bytes manifest small h calls before now old new (Ok x) runs left = tt
-stays_before name cmp order v next tables groups number bytes manifest small h calls before now old new (Err e) runs left =
-    λ changed. stays cmp order v tables groups number manifest (apart_named name cmp order v next number (tables_of_groups groups) bytes manifest small h) calls before now old new e (left changed) runs
+    → IfErr r (λ e. e ≡ fault Changed → now ≡ before ++ map Done (calls_before_rename number groups manifest)) → IfErr r (λ e. e ≡ fault Changed → SurvivesCrash cmp order (version_with v tables) (version_with v tables) (change_by before now old new) r)
+stays_before cmp order v next tables groups number bytes manifest small h calls before now old new (Ok x) runs left = tt
+stays_before cmp order v next tables groups number bytes manifest small h calls before now old new (Err e) runs left =
+    λ changed. stays cmp order v tables groups number manifest (apart_of cmp order v next number (tables_of_groups groups) bytes h small manifest) calls before now old new e (left changed) runs

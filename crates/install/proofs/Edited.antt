@@ -152,7 +152,7 @@ complete_below v m least is h =
     let last' = (both_true (is_some v.log_number && is_some v.last_sequence) (option_map_or (nat_lt m) v.next_file false) h).1 in
     ltb-true m least (sym (ap (λ (o : Option ℕ). option_map_or (nat_lt m) o false) is) ∙ last')
 
-module _ (cmp : List ℕ → List ℕ → Ordering) (order : Order) (v next : State) (number : ℕ) (outputs : List (ℕ × List ℕ)) (bytes : List ℕ) (h : IsEditedBy (order_name order) cmp order v number outputs bytes next) (small : number < 2 ^ 64) where
+module _ (cmp : List ℕ → List ℕ → Ordering) (order : Order) (v next : State) (number : ℕ) (outputs : List (ℕ × List ℕ)) (bytes : List ℕ) (h : IsEditedBy cmp v number outputs bytes next) (small : number < 2 ^ 64) where
   output_small : (n : ℕ) → IsOneOf (numbers_of outputs) n → n < 2 ^ 64
   output_small n m = small_added bytes h.edit h.read n (subst (λ (ns : List ℕ). IsOneOf ns n) (sym h.added) m)
 

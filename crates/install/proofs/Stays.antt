@@ -16,6 +16,7 @@ use Rattle.install.specs.ObsoleteFile.{AreObsolete, IsObsoleteFile}
 use Rattle.install.specs.Removal.{StaysAs, removal_calls}
 use Rattle.install.proofs.Names.{no_current}
 use Rattle.install.proofs.Unused.{HasSmallNumbers, unused}
+use Rattle.folder.proofs.Changes.{change_by}
 
 at : (f g : Files) (name : List ℕ) → f ≡ g → f name ≡ g name
 at f g name e = ap (λ (h : Files). h name) e
@@ -33,7 +34,7 @@ module _ (cmp : List ℕ → List ℕ → Ordering) (order : Order) (v : State) 
   }
 
   -- nothing was called
-  pub stays_untouched : (before : List Step) (tells : List ℕ → Option (List ℕ) → Type 0) → StaysAs cmp order v manifest tables before before tells tells
+  pub stays_untouched : (before : List Step) (tells : List ℕ → Option (List ℕ) → Type 0) → StaysAs cmp order v manifest tables (change_by before before tells tells)
   stays_untouched before tells = record {
     any_moment = λ start h. record {
       steps = [];
@@ -122,7 +123,7 @@ module _ (cmp : List ℕ → List ℕ → Ordering) (order : Order) (v : State) 
       stays calls more.0 l'.0 w all.1 more.2 l'.2 (done call start l'.0 all.0 h l'.1)
 
   pub stays_as : {T E : Type 0} (calls : List Call) (before now : List Step) (old new : List ℕ → Option (List ℕ) → Type 0) (r : Result T E) → AllSpare calls → MakesCalls calls before now old new r
-      → StaysAs cmp order v manifest tables before now old new
+      → StaysAs cmp order v manifest tables (change_by before now old new)
   stays_as calls before now old new r all runs =
       let made : AreMade calls runs.steps = made_by calls runs.steps r runs.made in
       record {

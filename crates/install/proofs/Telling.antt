@@ -7,6 +7,7 @@ use Rattle.folder.specs.declared.folder.FolderFault.{FolderFault}
 use Rattle.folder.proofs.RunLemmas.{changes_then, made_behind, made_front}
 use Rattle.install.specs.ToldNames.{AreTold}
 use Rattle.install.specs.Removal.{IsToldRemoval, removal_calls, removed_by}
+use Rattle.folder.proofs.Changes.{change_by}
 
 told_then : {W : Type 0} (tells : W → List ℕ → W → Type 0) (a b : List (List ℕ)) (x y z : W) → AreTold tells x a y → AreTold tells y b z → AreTold tells x (a ++ b) z
 told_then tells [] b x y z h k = let same : y ≡ x = h in subst (λ w. AreTold tells w b z) same k
@@ -24,7 +25,7 @@ removed_append (Tried call ∷ a) b = removed_append a b
 
 module _ {W : Type 0} (tells : W → List ℕ → W → Type 0) where
   -- no call
-  pub run_empty : {T E : Type 0} (before : List Step) (old : List ℕ → Option (List ℕ) → Type 0) (told : W) (x : T) → IsToldRemoval {E = E} tells [] before before old old told told (Ok x)
+  pub run_empty : {T E : Type 0} (before : List Step) (old : List ℕ → Option (List ℕ) → Type 0) (told : W) (x : T) → IsToldRemoval {E = E} tells [] (change_by before before old old) told told (Ok x)
   run_empty before old told x = record {
     runs = record { steps = []; made = refl; appended = sym (append-nil before); change = λ s h. (s, refl, h) };
     told_all = refl;
@@ -32,7 +33,7 @@ module _ {W : Type 0} (tells : W → List ℕ → W → Type 0) where
 
   -- a call that was done, and told
   pub run_removed : {T E : Type 0} (name : List ℕ) (before after : List Step) (old new : List ℕ → Option (List ℕ) → Type 0) (told now : W) (x : T) → after ≡ before ++ Done (Removed name) ∷ [] → TellsAfter (Done (Removed name)) old new
-      → tells told name now → IsToldRemoval {E = E} tells (Removed name ∷ []) before after old new told now (Ok x)
+      → tells told name now → IsToldRemoval {E = E} tells (Removed name ∷ []) (change_by before after old new) told now (Ok x)
   run_removed name before after old new told now x is change h = record {
     runs = record {
       steps = Done (Removed name) ∷ [];
@@ -45,7 +46,7 @@ module _ {W : Type 0} (tells : W → List ℕ → W → Type 0) where
 
   -- a call that failed
   pub run_failed : {U G : Type 0} (P : G → Type 0) (call : Call) (before after : List Step) (old new : List ℕ → Option (List ℕ) → Type 0) (told : W) (r : Result U G) → IsErrAnd r P → after ≡ before ++ Tried call ∷ [] → TellsAfter (Tried call) old new
-      → IsToldRemoval tells (call ∷ []) before after old new told told r
+      → IsToldRemoval tells (call ∷ []) (change_by before after old new) told told r
   run_failed P call before after old new told (Ok x) h is change = absurd h
   run_failed P call before after old new told (Err e) h is change = record {
     runs = record {
@@ -59,7 +60,7 @@ module _ {W : Type 0} (tells : W → List ℕ → W → Type 0) where
 
   -- a sync of the folder
   pub run_synced : {T : Type 0} (before after : List Step) (old new : List ℕ → Option (List ℕ) → Type 0) (told : W) (r : Result T FolderFault) → after ≡ before ++ step_of FolderSynced r ∷ [] → TellsAfter (step_of FolderSynced r) old new
-      → IsToldRemoval tells (FolderSynced ∷ []) before after old new told told r
+      → IsToldRemoval tells (FolderSynced ∷ []) (change_by before after old new) told told r
   run_synced before after old new told (Ok x) is change = record {
     runs = record {
       steps = Done FolderSynced ∷ [];
@@ -77,7 +78,7 @@ module _ {W : Type 0} (tells : W → List ℕ → W → Type 0) where
 
   -- the next calls after the first
   pub run_then : {T E U G : Type 0} (calls more : List Call) (before middle after : List Step) (old between new : List ℕ → Option (List ℕ) → Type 0) (told then now : W) (x : T) (r : Result U G)
-      → IsToldRemoval {E = E} tells calls before middle old between told then (Ok x) → IsToldRemoval tells more middle after between new then now r → IsToldRemoval tells (calls ++ more) before after old new told now r
+      → IsToldRemoval {E = E} tells calls (change_by before middle old between) told then (Ok x) → IsToldRemoval tells more (change_by middle after between new) then now r → IsToldRemoval tells (calls ++ more) (change_by before after old new) told now r
   run_then {E = E} calls more before middle after old between new told then now x r h k = record {
     runs = record {
       steps = h.runs.steps ++ k.runs.steps;
@@ -91,7 +92,7 @@ module _ {W : Type 0} (tells : W → List ℕ → W → Type 0) where
 
   -- what failed among the first calls failed among all
   pub run_handed : {T E U G : Type 0} (P : G → Type 0) (calls more : List Call) (before after : List Step) (old new : List ℕ → Option (List ℕ) → Type 0) (told now : W) (e : E) (r : Result U G) → IsErrAnd r P
-      → IsToldRemoval {T = T} tells calls before after old new told now (Err e) → IsToldRemoval tells (calls ++ more) before after old new told now r
+      → IsToldRemoval {T = T} tells calls (change_by before after old new) told now (Err e) → IsToldRemoval tells (calls ++ more) (change_by before after old new) told now r
   run_handed P calls more before after old new told now e (Ok x) k h = absurd k
   run_handed P calls more before after old new told now e (Err f) k h = record {
     runs = record { steps = h.runs.steps; made = made_front calls more h.runs.steps h.runs.made; appended = h.runs.appended; change = h.runs.change };
@@ -99,8 +100,8 @@ module _ {W : Type 0} (tells : W → List ℕ → W → Type 0) where
   }
 
   -- an answer that says as much
-  pub run_as : {T E U G : Type 0} (calls : List Call) (before after : List Step) (old new : List ℕ → Option (List ℕ) → Type 0) (told now : W) (x : T) (y : U) → IsToldRemoval {E = E} tells calls before after old new told now (Ok x)
-      → IsToldRemoval {E = G} tells calls before after old new told now (Ok y)
+  pub run_as : {T E U G : Type 0} (calls : List Call) (before after : List Step) (old new : List ℕ → Option (List ℕ) → Type 0) (told now : W) (x : T) (y : U) → IsToldRemoval {E = E} tells calls (change_by before after old new) told now (Ok x)
+      → IsToldRemoval {E = G} tells calls (change_by before after old new) told now (Ok y)
   run_as calls before after old new told now x y h = record {
     runs = record { steps = h.runs.steps; made = h.runs.made; appended = h.runs.appended; change = h.runs.change };
     told_all = h.told_all;
@@ -108,31 +109,31 @@ module _ {W : Type 0} (tells : W → List ℕ → W → Type 0) where
 
   -- a refusal that says as much
   pub run_err : {T E U G : Type 0} (P : G → Type 0) (calls : List Call) (before after : List Step) (old new : List ℕ → Option (List ℕ) → Type 0) (told now : W) (e : E) (r : Result U G) → IsErrAnd r P
-      → IsToldRemoval {T = T} tells calls before after old new told now (Err e) → IsToldRemoval tells calls before after old new told now r
+      → IsToldRemoval {T = T} tells calls (change_by before after old new) told now (Err e) → IsToldRemoval tells calls (change_by before after old new) told now r
   run_err P calls before after old new told now e (Ok x) k h = absurd k
   run_err P calls before after old new told now e (Err f) k h = record {
     runs = record { steps = h.runs.steps; made = h.runs.made; appended = h.runs.appended; change = h.runs.change };
     told_all = h.told_all;
   }
 
-  pub run_same : {T E : Type 0} (calls others : List Call) (before after : List Step) (old new : List ℕ → Option (List ℕ) → Type 0) (told now : W) (r : Result T E) → calls ≡ others → IsToldRemoval tells calls before after old new told now r
-      → IsToldRemoval tells others before after old new told now r
-  run_same calls others before after old new told now r same h = subst (λ (c : List Call). IsToldRemoval tells c before after old new told now r) same h
+  pub run_same : {T E : Type 0} (calls others : List Call) (before after : List Step) (old new : List ℕ → Option (List ℕ) → Type 0) (told now : W) (r : Result T E) → calls ≡ others → IsToldRemoval tells calls (change_by before after old new) told now r
+      → IsToldRemoval tells others (change_by before after old new) told now r
+  run_same calls others before after old new told now r same h = subst (λ (c : List Call). IsToldRemoval tells c (change_by before after old new) told now r) same h
 
   -- a removal that failed among all
   pub all_handed : {T E U G : Type 0} (P : G → Type 0) (names : List (List ℕ)) (before after : List Step) (old new : List ℕ → Option (List ℕ) → Type 0) (told now : W) (e : E) (r : Result U G) → IsErrAnd r P
-      → IsToldRemoval {T = T} tells (map Removed names) before after old new told now (Err e) → IsToldRemoval tells (removal_calls names) before after old new told now r
+      → IsToldRemoval {T = T} tells (map Removed names) (change_by before after old new) told now (Err e) → IsToldRemoval tells (removal_calls names) (change_by before after old new) told now r
   all_handed {T = T} P [] before after old new told now e r k h = run_handed {T = T} P [] [] before after old new told now e r k h
   all_handed {T = T} P (name ∷ names) before after old new told now e r k h = run_handed {T = T} P (map Removed (name ∷ names)) (FolderSynced ∷ []) before after old new told now e r k h
 
   -- there was no file
   pub none_removed : {T E U G : Type 0} (names : List (List ℕ)) (before after : List Step) (old new : List ℕ → Option (List ℕ) → Type 0) (told now : W) (x : T) (y : U) → names ≡ []
-      → IsToldRemoval {E = E} tells (map Removed names) before after old new told now (Ok x) → IsToldRemoval {E = G} tells (removal_calls names) before after old new told now (Ok y)
+      → IsToldRemoval {E = E} tells (map Removed names) (change_by before after old new) told now (Ok x) → IsToldRemoval {E = G} tells (removal_calls names) (change_by before after old new) told now (Ok y)
   none_removed {E = E} {G = G} [] before after old new told now x y is h = run_as {E = E} {G = G} [] before after old new told now x y h
   none_removed {E = E} {G = G} (name ∷ names) before after old new told now x y is h = absurd (cc is)
 
   -- a sync of the folder after removals
   pub all_synced : {T E U G : Type 0} (names : List (List ℕ)) (before middle after : List Step) (old between new : List ℕ → Option (List ℕ) → Type 0) (told then now : W) (x : T) (r : Result U G) → (names ≡ [] → ⊥)
-      → IsToldRemoval {E = E} tells (map Removed names) before middle old between told then (Ok x) → IsToldRemoval tells (FolderSynced ∷ []) middle after between new then now r → IsToldRemoval tells (removal_calls names) before after old new told now r
+      → IsToldRemoval {E = E} tells (map Removed names) (change_by before middle old between) told then (Ok x) → IsToldRemoval tells (FolderSynced ∷ []) (change_by middle after between new) then now r → IsToldRemoval tells (removal_calls names) (change_by before after old new) told now r
   all_synced [] before middle after old between new told then now x r some h k = absurd (some refl)
   all_synced {E = E} (name ∷ names) before middle after old between new told then now x r some h k = run_then {E = E} (map Removed (name ∷ names)) (FolderSynced ∷ []) before middle after old between new told then now x r h k

@@ -13,15 +13,15 @@ use Rattle.edit.specs.Version.{State, applied}
 use Rattle.edit.specs.VersionOrder.{snapshot_of}
 use Rattle.edit.specs.declared.meta.NewFile.{NewFile}
 use Rattle.folder.specs.Calls.{Call, Created, Files, FolderSynced, Renamed, Step, Synced, Tells}
-use Rattle.folder.specs.Calls.{ToldFiles, Written}
+use Rattle.folder.specs.Calls.{Written}
 use Rattle.folder.specs.Crash.{Leads, LeavesOnly, World}
 use Rattle.folder.specs.Levels.{file_numbers}
-use Rattle.folder.specs.Manifest.{order_name}
 use Rattle.folder.specs.Names.{current_text, manifest_name, temporary_name}
 use Rattle.folder.specs.OpenAnswer.{IsStopped}
 use Rattle.folder.specs.ReadsAs.{IsOneOf, ReadsAs, StandsAs, StandsBy}
 use Rattle.folder.specs.TableFiles.{named_tables}
 use Rattle.folder.specs.declared.order.Order.{Order}
+use Rattle.folder.specs.FolderChange.{FolderChange}
 
 -- tables of the code as numbers and bytes
 abbrev pub tables_in : List (ℕ × Vec ℕ) → List (ℕ × List ℕ)
@@ -81,11 +81,18 @@ abbrev pub next_version_tables : KeyOrder → State → List (ℕ × List ℕ) �
 next_version_tables cmp next outputs tables =
     map (λ (n : ℕ). (n, table_bytes_of (outputs ++ tables) n)) (file_numbers cmp next)
 
+-- a version with the bytes of its tables, each by its number
+pub record LoadedVersion : Type 0 where
+  pub version : State
+  pub tables : List (ℕ × List ℕ)
+
+abbrev pub version_with : State → List (ℕ × List ℕ) → LoadedVersion
+version_with v tables = record { version = v; tables = tables }
+
 -- The outputs and the bytes of an edit make the next version of this one, by a manifest of this
 -- number.
-pub record IsEditedBy (name : List ℕ) (cmp : KeyOrder) (order : Order) (v : State) (number : ℕ)
-    (outputs : List (ℕ × List ℕ)) (bytes : List ℕ) (next : State) : Type 0 where
-  pub named : order_name order ≡ name
+pub record IsEditedBy (cmp : KeyOrder) (v : State) (number : ℕ) (outputs : List (ℕ × List ℕ))
+    (bytes : List ℕ) (next : State) : Type 0 where
   -- the edit, which names no comparator and sets all counters of a database
   pub edit : Edit
   pub read : IsEdit bytes edit
@@ -126,18 +133,21 @@ abbrev pub AlwaysStandsBy : KeyOrder → Order → State → ℕ → List (ℕ �
 AlwaysStandsBy cmp order v manifest tables start calls = (w : World) → Leads start calls w →
     StandsBy cmp order v manifest tables w
 
--- What an installation of the next version guarantees, of its calls and of what the folder tells
--- before and after them.
-pub record SurvivesCrash {T E : Type 0} (cmp : KeyOrder) (order : Order) (v : State)
-    (tables : List (ℕ × List ℕ)) (next : State) (tables' : List (ℕ × List ℕ))
-    (before after : List Step) (old new : ToldFiles) (result : Result T E) : Type 0 where
+-- What an installation of the next version guarantees, by what it changed of the folder.
+pub record SurvivesCrash {T E : Type 0} (cmp : KeyOrder) (order : Order) (v next : LoadedVersion)
+    (change : FolderChange) (result : Result T E) : Type 0 where
   -- if the folder stands for the version, a crash at any moment leaves it or the next version
-  pub any_moment : (start : World) → AlwaysStandsAs cmp order v tables start before →
-      LeavesOnly start before after (IsBeforeOrAfter cmp order v tables next tables')
+  pub any_moment : (start : World) →
+      AlwaysStandsAs cmp order v.version v.tables start change.before →
+      LeavesOnly start change.before change.after
+      (IsBeforeOrAfter cmp order v.version v.tables next.version next.tables)
   -- then at Ok the folder stands for the next version
-  pub installed : (start : World) → AlwaysStandsAs cmp order v tables start before →
-      OnOk result (AlwaysStandsAs cmp order next tables' start after)
+  pub installed : (start : World) →
+      AlwaysStandsAs cmp order v.version v.tables start change.before →
+      OnOk result (AlwaysStandsAs cmp order next.version next.tables start change.after)
   -- without a crash the folder reads as one of the two, and at Ok as the next version
-  pub read : (files : Files) → Tells old files → ReadsAs cmp order v tables files
-      → (now : Files) × Tells new now × IsBeforeOrAfter cmp order v tables next tables' now
-      × OnOk result (ReadsAs cmp order next tables' now)
+  pub read : (files : Files) → Tells change.old files →
+      ReadsAs cmp order v.version v.tables files
+      → (now : Files) × Tells change.new now
+      × IsBeforeOrAfter cmp order v.version v.tables next.version next.tables now
+      × OnOk result (ReadsAs cmp order next.version next.tables now)

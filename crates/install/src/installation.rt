@@ -13,8 +13,10 @@ ghost use Rattle.folder.specs.Reports.{ReportsDevice};
 ghost use Rattle.folder.specs.declared.order.Order.{Order};
 ghost use Rattle.install.specs.Install.{IsEditedBy, IsStoppedOrChanged, SurvivesCrash};
 ghost use Rattle.install.specs.Install.{calls_before_rename, install_calls, manifest_bytes};
-ghost use Rattle.install.specs.Install.{next_version_tables, tables_in};
-ghost use Rattle.install.specs.GroupedInstallation.{IsGroupedInstallation};
+ghost use Rattle.install.specs.Install.{next_version_tables, tables_in, version_with};
+ghost use Rattle.install.specs.GroupedInstallation.{IsGroupedInstallation, asked_of};
+ghost use Rattle.folder.specs.FolderChange.{change_of};
+ghost use Rattle.folder.specs.Manifest.{order_name};
 
 use crate::install_steps::{install_manifest, write_group};
 use crate::manifest::manifest_bytes;
@@ -58,19 +60,21 @@ pub fn install<C: Comparator, F: Folder, R: Threads + Sync>(
     // If the folder stands for the version, a crash at any moment leaves it or the edited version.
     // At Ok the folder stands for the edited one. Without a crash it reads as one of the two.
     ensures survives { (order : Order) (next : State) (tables : List (ℕ × List ℕ))
-        → IsEditedBy C.name_bytes C.cmp order version.now manifest_number
-        (tables_in outcome.now.tables.items) outcome.now.edit.items next
-        → SurvivesCrash C.cmp order version.now tables next
-        (next_version_tables C.cmp next (tables_in outcome.now.tables.items) tables)
-        (F.calls folder.old) (F.calls folder.new) (F.tells folder.old) (F.tells folder.new) result }
+        → order_name order ≡ C.name_bytes
+        → IsEditedBy C.cmp version.now manifest_number (tables_in outcome.now.tables.items)
+        outcome.now.edit.items next
+        → SurvivesCrash C.cmp order (version_with version.now tables) (version_with next
+        (next_version_tables C.cmp next (tables_in outcome.now.tables.items) tables))
+        (change_of F.Folder folder.old folder.new) result }
 
     // At Changed the same holds with the version before in place of the edited one.
     ensures before { (order : Order) (next : State) (tables : List (ℕ × List ℕ))
-        → IsEditedBy C.name_bytes C.cmp order version.now manifest_number
-        (tables_in outcome.now.tables.items) outcome.now.edit.items next
+        → order_name order ≡ C.name_bytes
+        → IsEditedBy C.cmp version.now manifest_number (tables_in outcome.now.tables.items)
+        outcome.now.edit.items next
         → IfErr result (λ e. e ≡ fault Changed
-        → SurvivesCrash C.cmp order version.now tables version.now tables (F.calls folder.old)
-        (F.calls folder.new) (F.tells folder.old) (F.tells folder.new) result) }
+        → SurvivesCrash C.cmp order (version_with version.now tables)
+        (version_with version.now tables) (change_of F.Folder folder.old folder.new) result) }
 
     // Only Device, Changed and Memory are answered, Device only if the device failed. Then no
     // further call is made.
@@ -101,9 +105,9 @@ fn install_group<C: Comparator, F: Folder, R: Threads + Sync>(
     outcome: &Outcome,
 ) -> Result<(), Fault>
     requires { length C.name_bytes < 2 ^ 32 }
-    ensures { IsGroupedInstallation F.Folder C.name_bytes C.cmp version.now opened manifest_number
-        (tables_in outcome.now.tables.items ∷ []) outcome.now.edit.items folder.old folder.new
-        result }
+    ensures { IsGroupedInstallation F.Folder (asked_of C.name_bytes C.cmp version.now opened
+        manifest_number (tables_in outcome.now.tables.items ∷ []) outcome.now.edit.items) folder.old
+        folder.new result }
 {
     let manifest = manifest_bytes::<C>(alloc, version, &outcome.edit)?;
     write_group(rt, folder, &outcome.tables)?;

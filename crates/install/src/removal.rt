@@ -19,6 +19,8 @@ ghost use Rattle.folder.specs.Orders.{order_cmp};
 ghost use Rattle.folder.specs.Reports.{ReportsDevice};
 ghost use Rattle.install.specs.Removal.{AreRemoved, IsNothingRemoved, IsToldRemoval, StaysAs};
 ghost use Rattle.install.specs.Removal.{removal_calls};
+ghost use Rattle.folder.specs.FolderChange.{change_of};
+ghost use Rattle.install.specs.ObsoleteFile.{AreObsolete};
 
 use crate::obsolete_files::obsolete_names;
 use crate::removal_watch::RemovalWatch;
@@ -45,16 +47,16 @@ pub fn remove_obsolete<F: Folder, W: RemovalWatch>(
 ) -> Result<(), Fault>
     // Nothing was done since memory ran out; or the obsolete ones were removed, up to a call that
     // failed, and then the folder was synced.
-    ensures left { IsNothingRemoved (F.calls folder.old) (F.calls folder.new)
-        (F.tells folder.old) (F.tells folder.new) (watch.old) (watch.new) result
-        ⊎ AreRemoved W.tells (order_cmp opened.now.order) opened.now.version opened.now.manifest
-        (map string_bytes names.now) (F.calls folder.old) (F.calls folder.new)
-        (F.tells folder.old) (F.tells folder.new) (watch.old) (watch.new) result }
+    ensures left { IsNothingRemoved (change_of F.Folder folder.old folder.new) watch.old watch.new
+        result
+        ⊎ AreRemoved W.tells (AreObsolete (order_cmp opened.now.order) opened.now.version
+        opened.now.manifest (map string_bytes names.now)) (change_of F.Folder folder.old folder.new)
+        watch.old watch.new result }
     // If the folder stands for the version by this manifest, a crash at any moment leaves it. In
     // that case the folder also stands for it after the call, be the answer Ok or not.
     ensures stays { (tables : List (ℕ × List ℕ)) → StaysAs (order_cmp opened.now.order)
-        opened.now.order opened.now.version opened.now.manifest tables (F.calls folder.old)
-        (F.calls folder.new) (F.tells folder.old) (F.tells folder.new) }
+        opened.now.order opened.now.version opened.now.manifest tables
+        (change_of F.Folder folder.old folder.new) }
     // Only Device and Memory are answered, Device only if the device failed.
     ensures refused { IfErr result
         (λ e. UnlessMemory e (IsStopped (F.failed folder.old) (F.failed folder.new) e)) }
@@ -71,8 +73,7 @@ fn remove_all<F: Folder, W: RemovalWatch>(
     watch: &mut W,
 ) -> Result<(), FolderFault>
     ensures run { IsToldRemoval W.tells (removal_calls (map (λ name. name.now) names.now))
-        (F.calls folder.old) (F.calls folder.new) (F.tells folder.old) (F.tells folder.new)
-        (watch.old) (watch.new) result }
+        (change_of F.Folder folder.old folder.new) watch.old watch.new result }
     ensures failures { F.failed folder.new ≡ failures_after (F.failed folder.old) result }
 {
     remove_each(folder, names, watch)?;
@@ -89,8 +90,7 @@ fn remove_each<F: Folder, W: RemovalWatch>(
     watch: &mut W,
 ) -> Result<(), FolderFault>
     ensures run { IsToldRemoval W.tells (map Removed (map (λ name. name.now) names.now))
-        (F.calls folder.old) (F.calls folder.new) (F.tells folder.old) (F.tells folder.new)
-        (watch.old) (watch.new) result }
+        (change_of F.Folder folder.old folder.new) watch.old watch.new result }
     ensures failures { F.failed folder.new ≡ failures_after (F.failed folder.old) result }
 {
     for name in names {
@@ -106,8 +106,7 @@ fn remove_one<F: Folder, W: RemovalWatch>(
     watch: &mut W,
 ) -> Result<(), FolderFault>
     ensures run { IsToldRemoval W.tells (Removed name.now ∷ [])
-        (F.calls folder.old) (F.calls folder.new) (F.tells folder.old) (F.tells folder.new)
-        (watch.old) (watch.new) result }
+        (change_of F.Folder folder.old folder.new) watch.old watch.new result }
     ensures failures { F.failed folder.new ≡ failures_after (F.failed folder.old) result }
 {
     folder.remove(name)?;

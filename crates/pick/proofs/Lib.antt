@@ -6,6 +6,7 @@ pub mod Chains
 pub mod FileSpans
 pub mod ChosenInputs
 pub mod LevelInputs
+pub mod TheseInputs
 pub mod LaterLevels
 pub mod OneChoice
 pub mod ToldChoices

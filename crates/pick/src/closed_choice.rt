@@ -122,7 +122,7 @@ fn has_number_of(numbers: &[u64], file: &FileMeta) -> bool
 }
 
 /// The files whose numbers are among these.
-fn chosen_of<'a>(
+pub(crate) fn chosen_of<'a>(
     alloc: Global,
     files: &[&'a FileMeta],
     numbers: &[u64],

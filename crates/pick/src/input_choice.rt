@@ -60,7 +60,7 @@ pub fn inputs<C: Comparator>(alloc: Global, version: &Version, level: u64) -> Re
 }
 
 /// Copies of the inputs of `level` and then those of the next one.
-fn files_of(
+pub(crate) fn files_of(
     alloc: Global,
     level: u64,
     upper: &[&FileMeta],
@@ -79,7 +79,7 @@ fn files_of(
 
 /// The inputs with grandparents, deeper files and the new compact pointer. `range` is that of all
 /// inputs, and `largest` the greatest key of the level's own.
-fn picked<C: Comparator>(
+pub(crate) fn picked<C: Comparator>(
     alloc: Global,
     version: &Version,
     level: u64,

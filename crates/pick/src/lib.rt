@@ -11,7 +11,8 @@
 //! [`inputs`] makes the choice. It also answers the grandparents, all deeper files, and the new
 //! compact pointer. [`is_base`] tells whether a deeper file may have a user key. [`one_choice`] is
 //! the law that a level of a version has one choice. [`first_missing`] tells of any choice whether
-//! it is closed, which is what makes a compaction of it safe.
+//! it is closed, which is what makes a compaction of it safe. [`numbered_inputs`] makes the inputs
+//! of a choice.
 //!
 //! The caller names the level: which level needs a compaction isn't asked here.
 #![tactic(auto)]
@@ -23,10 +24,12 @@ mod closed_choice;
 mod file_copies;
 mod input_choice;
 mod level_files;
+mod numbered_choice;
 mod picked_inputs;
 mod range;
 
 pub use choice_law::one_choice;
 pub use closed_choice::first_missing;
 pub use input_choice::{LAST_INPUT_LEVEL, inputs};
+pub use numbered_choice::numbered_inputs;
 pub use picked_inputs::{InputFile, Inputs, is_base};

@@ -33,7 +33,7 @@ same_opened o p w x m n h =
     let same : one ≡ two = ok_is one two h in
     (ap (λ (t : Order × State × ℕ). t.0) same, ap (λ (t : Order × State × ℕ). t.1) same, ap (λ (t : Order × State × ℕ). t.2) same)
 
-module _ (order : Order) (cmp : List ℕ → List ℕ → Ordering) (v : State) (number : ℕ) (outputs : List (ℕ × List ℕ)) (bytes : List ℕ) (next : State) (edited : IsEditedBy (order_name order) cmp order v number outputs bytes next) where
+module _ (order : Order) (cmp : List ℕ → List ℕ → Ordering) (v : State) (number : ℕ) (outputs : List (ℕ × List ℕ)) (bytes : List ℕ) (next : State) (edited : IsEditedBy cmp v number outputs bytes next) where
   -- the edit that its bytes read as makes the next version
   makes : (e : Edit) → IsEdit bytes e → applied_by (order_name order) v e ≡ Ok next
   makes e is =

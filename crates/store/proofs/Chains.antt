@@ -16,10 +16,11 @@ use Rattle.checks.specs.Readable.{is_read, readable_of}
 use Rattle.checks.proofs.LawfulLemmas.{sound_checked}
 use Rattle.checks.specs.LawfulTables.{IsLawfulTables}
 use Rattle.folder.proofs.Binds.{ok_is}
-use Rattle.install.specs.Install.{IsBeforeOrAfter, next_version_tables}
+use Rattle.install.specs.Install.{IsBeforeOrAfter, next_version_tables, version_with}
 use Rattle.compact.specs.declared.settings.Settings.{Settings}
 use Rattle.store.specs.AllLevels.{AnswersAs, CompactionLink, IsAtLink, AreLinked, IsLink, last_tables, version_at_end}
 use Rattle.store.specs.FolderRequest.{last_of, manifest_of}
+use Rattle.store.specs.OrderView.{order_by}
 
 -- ---- moments
 
@@ -88,8 +89,8 @@ module _ (cmp : List ℕ → List ℕ → Ordering) (order : Order) (v : State) 
   at_next links l files (inr h) = inr (l, link_last links l, h)
 
 module _ (order : Order) (cmp : List ℕ → List ℕ → Ordering) (short_keys : ShortKeys) (s : Settings) (bottom : ℕ) where
-  pub chain_then : (v : State) (loaded : List (ℕ × List ℕ)) (links : List CompactionLink) (l : CompactionLink) → AreLinked order cmp short_keys s bottom v loaded links
-      → IsLink order cmp short_keys s bottom (version_at_end v links) (last_tables loaded links) l → AreLinked order cmp short_keys s bottom v loaded (links ++ l ∷ [])
+  pub chain_then : (v : State) (loaded : List (ℕ × List ℕ)) (links : List CompactionLink) (l : CompactionLink) → AreLinked (order_by order cmp short_keys) s bottom (version_with v loaded) links
+      → IsLink (order_by order cmp short_keys) s bottom (version_with (version_at_end v links) (last_tables loaded links)) l → AreLinked (order_by order cmp short_keys) s bottom (version_with v loaded) (links ++ l ∷ [])
   chain_then v loaded [] l h one = (one, tt)
   chain_then v loaded (k ∷ links) l h one = (h.0, chain_then k.version k.tables links l h.1 one)
 
@@ -103,7 +104,7 @@ module _ (order : Order) (cmp : List ℕ → List ℕ → Ordering) (short_keys 
   one_list : (v : State) (loaded : List (ℕ × List ℕ)) (a b : List NumberedContents) → IsLawfulTables cmp v loaded (Ok a) → IsLawfulTables cmp v loaded (Ok b) → a ≡ b
   one_list v loaded a b h k = ok_is a b (sym (sound_checked cmp v loaded a h) ∙ sound_checked cmp v loaded b k)
 
-  one_kept : (v : State) (loaded : List (ℕ × List ℕ)) (tables : List NumberedContents) (l : CompactionLink) → IsLawfulTables cmp v loaded (Ok tables) → IsLink order cmp short_keys s bottom v loaded l
+  one_kept : (v : State) (loaded : List (ℕ × List ℕ)) (tables : List NumberedContents) (l : CompactionLink) → IsLawfulTables cmp v loaded (Ok tables) → IsLink (order_by order cmp short_keys) s bottom (version_with v loaded) l
       → IsKept v tables l.version l.tables 1
   one_kept v loaded tables l lawful h =
       let e = h.compacted.edited in
@@ -123,7 +124,7 @@ module _ (order : Order) (cmp : List ℕ → List ℕ → Ordering) (short_keys 
       }
 
   -- after a chain of compactions of a lawful version
-  pub chain_kept : (v : State) (loaded : List (ℕ × List ℕ)) (tables : List NumberedContents) (links : List CompactionLink) → IsLawfulTables cmp v loaded (Ok tables) → AreLinked order cmp short_keys s bottom v loaded links
+  pub chain_kept : (v : State) (loaded : List (ℕ × List ℕ)) (tables : List NumberedContents) (links : List CompactionLink) → IsLawfulTables cmp v loaded (Ok tables) → AreLinked (order_by order cmp short_keys) s bottom (version_with v loaded) links
       → IsKept v tables (version_at_end v links) (last_tables loaded links) (length links)
   chain_kept v loaded tables [] lawful h = record { answers = record { tables_next = tables; lawful = lawful; gets = λ user at read. refl }; last = refl; rises = omega arith }
   chain_kept v loaded tables (l ∷ links) lawful h =
@@ -143,15 +144,15 @@ module _ (order : Order) (cmp : List ℕ → List ℕ → Ordering) (short_keys 
       }
 
   -- the number of a manifest after a chain is one of 64 bits
-  small_by : (v : State) (loaded : List (ℕ × List ℕ)) (l : CompactionLink) → IsLink order cmp short_keys s bottom v loaded l → manifest_of l.version < 2 ^ 64
+  small_by : (v : State) (loaded : List (ℕ × List ℕ)) (l : CompactionLink) → IsLink (order_by order cmp short_keys) s bottom (version_with v loaded) l → manifest_of l.version < 2 ^ 64
   small_by v loaded l h = subst (λ (n : State). manifest_of n < 2 ^ 64) (sym h.version_is) h.compacted.edited.small
 
-  pub chain_small : (v : State) (loaded : List (ℕ × List ℕ)) (links : List CompactionLink) → manifest_of v < 2 ^ 64 → AreLinked order cmp short_keys s bottom v loaded links → manifest_of (version_at_end v links) < 2 ^ 64
+  pub chain_small : (v : State) (loaded : List (ℕ × List ℕ)) (links : List CompactionLink) → manifest_of v < 2 ^ 64 → AreLinked (order_by order cmp short_keys) s bottom (version_with v loaded) links → manifest_of (version_at_end v links) < 2 ^ 64
   chain_small v loaded [] small h = small
   chain_small v loaded (l ∷ links) small h = chain_small l.version l.tables links (small_by v loaded l h.0) h.1
 
   -- after some compactions the number of the manifest is above as many, and one of 64 bits
-  pub chain_bound : (v : State) (loaded : List (ℕ × List ℕ)) (tables : List NumberedContents) (links : List CompactionLink) → IsLawfulTables cmp v loaded (Ok tables) → AreLinked order cmp short_keys s bottom v loaded links → 0 < length links → length links + 1 < 2 ^ 64
+  pub chain_bound : (v : State) (loaded : List (ℕ × List ℕ)) (tables : List NumberedContents) (links : List CompactionLink) → IsLawfulTables cmp v loaded (Ok tables) → AreLinked (order_by order cmp short_keys) s bottom (version_with v loaded) links → 0 < length links → length links + 1 < 2 ^ 64
   chain_bound v loaded tables [] lawful h some = absurd (omega arith)
   chain_bound v loaded tables (l ∷ links) lawful h some =
       let rises = (chain_kept v loaded tables (l ∷ links) lawful h).rises in

@@ -25,6 +25,8 @@ use Rattle.store.specs.Compaction.{LevelCompaction}
 use Rattle.store.specs.NumberedJointLaw.{NumberedJointLaw}
 use Rattle.compact.specs.declared.settings.Settings.{Settings}
 use Rattle.folder.specs.Comparator.{ShortKeys}
+use Rattle.install.specs.Install.{version_with}
+use Rattle.store.specs.OrderView.{order_by}
 
 -- the first number is above the manifest's
 first_above : (v : State) (first : Option ℕ) (number : ℕ) → first_output v first ≡ Some number → manifest_of v < number
@@ -69,7 +71,7 @@ thread_of first cmp short_keys v loaded p s answer h =
 pub is_compacted : (cmp : List ℕ → List ℕ → Ordering) (short_keys : ShortKeys) → NumberedJointLaw cmp short_keys
     → (order : Order) (v : State) (loaded : List (ℕ × List ℕ)) (tables : List NumberedContents) (level : ℕ) (first : Option ℕ) (p : PickedInputs) (s : Settings) (answer : Answer)
     → IsLawfulTables cmp v loaded (Ok tables) → IsState v.pointers v.files → IsPicked cmp v level p → unwrap_or v.log_number 0 < 2 ^ 64 → unwrap_or v.previous_log 0 < 2 ^ 64
-    → compaction_from first cmp short_keys v loaded p s ≡ Ok answer → LevelCompaction order cmp short_keys v loaded level first s p answer
+    → compaction_from first cmp short_keys v loaded p s ≡ Ok answer → LevelCompaction (order_by order cmp short_keys) (version_with v loaded) level first s p answer
 is_compacted cmp short_keys joint order v loaded tables level first p s answer sound state picked log previous answered =
     let thread = thread_of first cmp short_keys v loaded p s answer answered in
     record {
@@ -77,7 +79,7 @@ is_compacted cmp short_keys joint order v loaded tables level first p s answer s
       lawful = sound;
       is_picked = picked;
       answered = answered;
-      edited = joint thread.number order v loaded tables level p s answer thread.high (sound_checked cmp v loaded tables sound) (sound_lawful cmp v loaded tables sound) state.levels.file_levels picked log previous thread.same;
+      edited = joint thread.number v loaded tables level p s answer thread.high (sound_checked cmp v loaded tables sound) (sound_lawful cmp v loaded tables sound) state.levels.file_levels picked log previous thread.same;
     }
 
 -- a refusal after a test that passed

@@ -22,7 +22,7 @@ use Rattle.checks.proofs.TakerLemmas.{told_append}
 use Rattle.checks.specs.LawfulTables.{IsLawfulTables}
 use Rattle.checks.specs.Takers.{AreToldInTurn}
 use Rattle.install.proofs.Moments.{nothing_done}
-use Rattle.install.specs.Install.{AlwaysStandsAs, next_version_tables}
+use Rattle.install.specs.Install.{AlwaysStandsAs, next_version_tables, version_with}
 use Rattle.compact.specs.declared.settings.Settings.{Settings}
 use Rattle.store.specs.AllLevels.{AnswersAs, CompactionLink, IsAtLink, AreLinked, IsDescended, IsEndOf, IsNextRefused, last_tables, version_at_end}
 use Rattle.store.specs.Answers.{IsLoadedCompacted}
@@ -36,13 +36,16 @@ use Rattle.store.specs.declared.descent_end.DescentEnd.{DescentEnd}
 use Rattle.store.specs.declared.descent_end.DescentEnd.TheVariants.{Stopped}
 use Rattle.store.proofs.Chains.{at_last, at_more, at_next, chain_bound, chain_kept, chain_then, leaves_then, tables_then, version_then}
 use Rattle.store.proofs.InstallPart.{still}
+use Rattle.folder.proofs.Changes.{change_by, call_by}
+use Rattle.store.specs.OrderView.{order_by, order_view}
+use Rattle.store.specs.Telling.{telling}
 
 module _ (order : Order) (cmp : List ℕ → List ℕ → Ordering) (short_keys : ShortKeys) (s : Settings) (v : State) (loaded : List (ℕ × List ℕ)) (tables : List NumberedContents) (lawful : IsLawfulTables cmp v loaded (Ok tables))
     (before : List Step) {W : Type 0} (tells : W → StepView → Bool → W → Type 0) (told : W) where
   -- the compactions so far, and what they left
   pub record SoFar (now : List Step) (mid : List ℕ → Option (List ℕ) → Type 0) (told_now : W) (manifest : ℕ) (version : State) (bottom count : ℕ) (goes : Bool) : Type 0 where
     pub links : List CompactionLink
-    pub chain : AreLinked order cmp short_keys s bottom v loaded links
+    pub chain : AreLinked (order_by order cmp short_keys) s bottom (version_with v loaded) links
     pub count_is : length links ≡ count
     pub version_is : version ≡ version_at_end v links
     pub told_steps : AreToldInTurn tells told (map (λ (l : CompactionLink). l.step) links) goes told_now
@@ -98,17 +101,17 @@ module _ (order : Order) (cmp : List ℕ → List ℕ → Ordering) (short_keys 
 
     -- ---- it ends with what is left
 
-    pub ended : (bottom_is : IsBottom v bottom) (after : List Step) (new : List ℕ → Option (List ℕ) → Type 0) (failed now_failed : ℕ) (told_after : W) (result : Result DescentEnd Fault)
+    pub ended : (bottom_is : IsBottom v bottom) (old : List ℕ → Option (List ℕ) → Type 0) (after : List Step) (new : List ℕ → Option (List ℕ) → Type 0) (failed now_failed : ℕ) (told_after : W) (result : Result DescentEnd Fault)
         → after ≡ now → TellsSame mid new → told_after ≡ told_now → IfOk result (IsEndOf last bottom goes) → IfErr result (λ e. UnlessMemory e (IsStopped failed now_failed e ⊎ IsNextRefused cmp short_keys s bottom last held e))
-        → IsDescended tells order cmp short_keys s v loaded tables before after new failed now_failed told told_after result
-    ended bottom_is after new failed now_failed told_after result is same told_is end refused =
+        → IsDescended (order_by order cmp short_keys) s (version_with v loaded) tables (call_by before after old new failed now_failed) (telling tells told told_after) result
+    ended bottom_is old after new failed now_failed told_after result is same told_is end refused =
         let all : so_far.links ++ [] ≡ so_far.links = append-nil so_far.links in
         record {
           bottom = bottom;
           is_bottom = bottom_is;
           links = so_far.links;
           begun = [];
-          chain = subst (AreLinked order cmp short_keys s bottom v loaded) (sym all) so_far.chain;
+          chain = subst (AreLinked (order_by order cmp short_keys) s bottom (version_with v loaded)) (sym all) so_far.chain;
           few = omega arith;
           none = on_ok result refl;
           goes = goes;
@@ -133,11 +136,11 @@ module _ (order : Order) (cmp : List ℕ → List ℕ → Ordering) (short_keys 
     -- ---- one more
 
     module _ (level : ℕ) (next_level : IsNextLevel last bottom (Some level)) (after : List Step) (new : List ℕ → Option (List ℕ) → Type 0) where
-      module _ (r : Result CompactionStep Fault) (i : IsStepInstalled order cmp short_keys last held level s now after mid new r) where
+      module _ (r : Result CompactionStep Fault) (i : IsStepInstalled (order_by order cmp short_keys) (version_with last held) level s (change_by now after mid new) r) where
         abbrev link : CompactionLink
         link = record { level = level; step = step_of last i.picked i.answer; version = i.compacted.edited.next; tables = next_version_tables cmp i.compacted.edited.next i.answer.tables held }
 
-        more : AreLinked order cmp short_keys s bottom v loaded (so_far.links ++ link ∷ [])
+        more : AreLinked (order_by order cmp short_keys) s bottom (version_with v loaded) (so_far.links ++ link ∷ [])
         more = chain_then order cmp short_keys s bottom v loaded so_far.links link so_far.chain (record { next_level = next_level; picked = i.picked; answer = i.answer; compacted = i.compacted; step_is = refl; version_is = refl; tables_are = refl })
 
         moments : (start : World) → AlwaysStandsAs cmp order v loaded start before → LeavesOnly start before after (IsAtLink cmp order v loaded (so_far.links ++ link ∷ []))
@@ -146,14 +149,14 @@ module _ (order : Order) (cmp : List ℕ → List ℕ → Ordering) (short_keys 
             (at_more cmp order v loaded so_far.links link) (at_next cmp order v loaded so_far.links link) (so_far.any_moment start stands) (i.survives.any_moment start (so_far.stands start stands))
 
       -- the version that it leaves is the next one
-      next_version : (r : Result CompactionStep Fault) (i : IsStepInstalled order cmp short_keys last held level s now after mid new r) → version_at_end v (so_far.links ++ link r i ∷ []) ≡ i.compacted.edited.next
+      next_version : (r : Result CompactionStep Fault) (i : IsStepInstalled (order_by order cmp short_keys) (version_with last held) level s (change_by now after mid new) r) → version_at_end v (so_far.links ++ link r i ∷ []) ≡ i.compacted.edited.next
       next_version r i = version_then v so_far.links (link r i)
 
-      next_tables : (r : Result CompactionStep Fault) (i : IsStepInstalled order cmp short_keys last held level s now after mid new r) → last_tables loaded (so_far.links ++ link r i ∷ []) ≡ next_version_tables cmp i.compacted.edited.next i.answer.tables held
+      next_tables : (r : Result CompactionStep Fault) (i : IsStepInstalled (order_by order cmp short_keys) (version_with last held) level s (change_by now after mid new) r) → last_tables loaded (so_far.links ++ link r i ∷ []) ≡ next_version_tables cmp i.compacted.edited.next i.answer.tables held
       next_tables r i = tables_then loaded so_far.links (link r i)
 
       -- a compaction that was installed and told
-      pub one_more : (told_after : W) (step : CompactionStep) (on : Bool) (i : IsStepInstalled order cmp short_keys last held level s now after mid new (Ok step)) → goes ≡ true → tells told_now (step_in step) on told_after
+      pub one_more : (told_after : W) (step : CompactionStep) (on : Bool) (i : IsStepInstalled (order_by order cmp short_keys) (version_with last held) level s (change_by now after mid new) (Ok step)) → goes ≡ true → tells told_now (step_in step) on told_after
           → SoFar after new told_after (manifest_of last) i.compacted.edited.next bottom (count + 1) on
       one_more told_after step on i went told_step =
           let l = link (Ok step) i in
@@ -185,9 +188,9 @@ module _ (order : Order) (cmp : List ℕ → List ℕ → Ordering) (short_keys 
           }
 
       -- a compaction that was begun
-      pub begun : (bottom_is : IsBottom v bottom) (failed now_failed : ℕ) (told_after : W) (e : Fault) (i : IsStepInstalled order cmp short_keys last held level s now after mid new (Err e)) → told_after ≡ told_now
-          → UnlessMemory e (IsStopped failed now_failed e ⊎ IsNextRefused cmp short_keys s bottom last held e) → IsDescended tells order cmp short_keys s v loaded tables before after new failed now_failed told told_after (Err e)
-      begun bottom_is failed now_failed told_after e i told_is refused =
+      pub begun : (bottom_is : IsBottom v bottom) (old : List ℕ → Option (List ℕ) → Type 0) (failed now_failed : ℕ) (told_after : W) (e : Fault) (i : IsStepInstalled (order_by order cmp short_keys) (version_with last held) level s (change_by now after mid new) (Err e)) → told_after ≡ told_now
+          → UnlessMemory e (IsStopped failed now_failed e ⊎ IsNextRefused cmp short_keys s bottom last held e) → IsDescended (order_by order cmp short_keys) s (version_with v loaded) tables (call_by before after old new failed now_failed) (telling tells told told_after) (Err e)
+      begun bottom_is old failed now_failed told_after e i told_is refused =
           let l = link (Err e) i in
           let found = i.survives.read so_far.files_now so_far.holds so_far.reads in
           record {
@@ -229,7 +232,7 @@ abbrev pub StepClause : {W : Type 0} → (W → StepView → Bool → W → Type
 StepClause tells order v manifest level s before after old new failed now told told_now result =
     (files : Files) (loaded : List (ℕ × List ℕ)) (tables : List NumberedContents) → Tells old files → files (codes "CURRENT") ≡ Some (current_text manifest)
     → ReadsAs (order_cmp order) order v loaded files → IsLawfulTables (order_cmp order) v loaded (Ok tables)
-    → IsStepTaken tells order (order_cmp order) (order_short_keys order) v loaded level s before after old new failed now told told_now result
+    → IsStepTaken (order_view order) (version_with v loaded) level s (call_by before after old new failed now) (telling tells told told_now) result
 
 ok_refused : {Y : Type 0} (y : Y) (e : Fault) → refusal e ≡ Ok y → ⊥
 ok_refused y e h = cc
@@ -255,16 +258,16 @@ module _ (order : Order) (s : Settings) (v : State) (loaded : List (ℕ × List 
 
   -- what the step left of the last version
   taken : (other : Order) (r : Result (Option Opened) Fault) → other ≡ order → StepClause tells other version manifest level s now after mid new failed now_failed told_now told_after r
-      → IsStepTaken tells order cmp keys after_all tables_held level s now after mid new failed now_failed told_now told_after r
+      → IsStepTaken (order_by order cmp keys) (version_with after_all tables_held) level s (call_by now after mid new failed now_failed) (telling tells told_now told_after) r
   taken other r is given =
       let all = subst (λ (o : Order). StepClause tells o version manifest level s now after mid new failed now_failed told_now told_after r) is given in
       let kept_now = kept order cmp keys s v loaded tables lawful before tells told now mid told_now manifest version bottom count true so_far in
-      subst (λ (w : State). IsStepTaken tells order cmp keys w tables_held level s now after mid new failed now_failed told_now told_after r) so_far.version_is
+      subst (λ (w : State). IsStepTaken (order_by order cmp keys) (version_with w tables_held) level s (call_by now after mid new failed now_failed) (telling tells told_now told_after) r) so_far.version_is
       (all so_far.files_now tables_held kept_now.tables_next so_far.holds so_far.named
       (reads_now order cmp keys s v loaded tables lawful before tells told now mid told_now manifest version bottom count true so_far)
       (lawful_now order cmp keys s v loaded tables lawful before tells told now mid told_now manifest version bottom count true so_far))
 
-  more_by : (r : Result (Option Opened) Fault) (t : IsStepTold tells order cmp keys after_all tables_held level s now after mid new told_now told_after r)
+  more_by : (r : Result (Option Opened) Fault) (t : IsStepTold (order_by order cmp keys) (version_with after_all tables_held) level s (change_by now after mid new) (telling tells told_now told_after) r)
       → SoFar order cmp keys s v loaded tables lawful before tells told after new told_after (manifest_of after_all) t.installed.compacted.edited.next bottom (count + 1) t.goes
   more_by r t = one_more order cmp keys s v loaded tables lawful before tells told now mid told_now manifest version bottom count true so_far level level_now after new told_after t.step t.goes t.installed refl t.told_step
 
@@ -273,7 +276,7 @@ module _ (order : Order) (s : Settings) (v : State) (loaded : List (ℕ × List 
       → SoFar order cmp keys s v loaded tables lawful before tells told after new told_after o.manifest o.version bottom (count + 1) true × (o.order ≡ order)
   more_taken other o is given = by (taken other (Ok (Some o)) is given)
     where
-      by : IsStepTaken tells order cmp keys after_all tables_held level s now after mid new failed now_failed told_now told_after (Ok (Some o))
+      by : IsStepTaken (order_by order cmp keys) (version_with after_all tables_held) level s (call_by now after mid new failed now_failed) (telling tells told_now told_after) (Ok (Some o))
           → SoFar order cmp keys s v loaded tables lawful before tells told after new told_after o.manifest o.version bottom (count + 1) true × (o.order ≡ order)
       by (inl r) = absurd (ok_refused (Some o) r.e (sym r.is))
       by (inr t) = (
@@ -284,31 +287,31 @@ module _ (order : Order) (s : Settings) (v : State) (loaded : List (ℕ × List 
       )
 
   -- it ends after a step
-  ended_after : (bottom_is : IsBottom v bottom) (first_failed : ℕ) (r : Result (Option Opened) Fault) (t : IsStepTold tells order cmp keys after_all tables_held level s now after mid new told_now told_after r) (result : Result DescentEnd Fault)
-      → ((w : State) → IfOk result (IsEndOf w bottom t.goes)) → IfErr result (λ e. e ≡ fault Memory) → IsDescended tells order cmp keys s v loaded tables before after new first_failed now_failed told told_after result
-  ended_after bottom_is first_failed r t result end memory =
+  ended_after : (bottom_is : IsBottom v bottom) (old : List ℕ → Option (List ℕ) → Type 0) (first_failed : ℕ) (r : Result (Option Opened) Fault) (t : IsStepTold (order_by order cmp keys) (version_with after_all tables_held) level s (change_by now after mid new) (telling tells told_now told_after) r) (result : Result DescentEnd Fault)
+      → ((w : State) → IfOk result (IsEndOf w bottom t.goes)) → IfErr result (λ e. e ≡ fault Memory) → IsDescended (order_by order cmp keys) s (version_with v loaded) tables (call_by before after old new first_failed now_failed) (telling tells told told_after) result
+  ended_after bottom_is old first_failed r t result end memory =
       let more = more_by r t in
-      ended order cmp keys s v loaded tables lawful before tells told after new told_after (manifest_of after_all) t.installed.compacted.edited.next bottom (count + 1) t.goes more bottom_is after new first_failed now_failed told_after result
+      ended order cmp keys s v loaded tables lawful before tells told after new told_after (manifest_of after_all) t.installed.compacted.edited.next bottom (count + 1) t.goes more bottom_is old after new first_failed now_failed told_after result
       refl (same_tells new) refl (end (version_at_end v more.links)) (all_memory _ result memory)
     where
       all_memory : (P : Fault → Type 0) (q : Result DescentEnd Fault) → IfErr q (λ e. e ≡ fault Memory) → IfErr q (λ e. UnlessMemory e (P e))
       all_memory P (Ok x) h = tt
       all_memory P (Err e) h = by_memory e P h
 
-  pub stopped_taken : (bottom_is : IsBottom v bottom) (first_failed : ℕ) (other : Order) → other ≡ order → StepClause tells other version manifest level s now after mid new failed now_failed told_now told_after (Ok None)
-      → IsDescended tells order cmp keys s v loaded tables before after new first_failed now_failed told told_after (Ok Stopped)
-  stopped_taken bottom_is first_failed other is given = by (taken other (Ok None) is given)
+  pub stopped_taken : (bottom_is : IsBottom v bottom) (old : List ℕ → Option (List ℕ) → Type 0) (first_failed : ℕ) (other : Order) → other ≡ order → StepClause tells other version manifest level s now after mid new failed now_failed told_now told_after (Ok None)
+      → IsDescended (order_by order cmp keys) s (version_with v loaded) tables (call_by before after old new first_failed now_failed) (telling tells told told_after) (Ok Stopped)
+  stopped_taken bottom_is old first_failed other is given = by (taken other (Ok None) is given)
     where
-      by : IsStepTaken tells order cmp keys after_all tables_held level s now after mid new failed now_failed told_now told_after (Ok None) → IsDescended tells order cmp keys s v loaded tables before after new first_failed now_failed told told_after (Ok Stopped)
+      by : IsStepTaken (order_by order cmp keys) (version_with after_all tables_held) level s (call_by now after mid new failed now_failed) (telling tells told_now told_after) (Ok None) → IsDescended (order_by order cmp keys) s (version_with v loaded) tables (call_by before after old new first_failed now_failed) (telling tells told told_after) (Ok Stopped)
       by (inl r) = absurd (ok_refused None r.e (sym r.is))
-      by (inr t) = ended_after bottom_is first_failed (Ok None) t (Ok Stopped) (λ w. t.went) tt
+      by (inr t) = ended_after bottom_is old first_failed (Ok None) t (Ok Stopped) (λ w. t.went) tt
 
   -- it was refused
-  pub refused_taken : (bottom_is : IsBottom v bottom) (first_failed : ℕ) (other : Order) (e : Fault) → failed ≡ first_failed → other ≡ order → StepClause tells other version manifest level s now after mid new failed now_failed told_now told_after (Err e)
-      → IsDescended tells order cmp keys s v loaded tables before after new first_failed now_failed told told_after (Err e)
-  refused_taken bottom_is first_failed other e count_is is given = by (taken other (Err e) is given)
+  pub refused_taken : (bottom_is : IsBottom v bottom) (old : List ℕ → Option (List ℕ) → Type 0) (first_failed : ℕ) (other : Order) (e : Fault) → failed ≡ first_failed → other ≡ order → StepClause tells other version manifest level s now after mid new failed now_failed told_now told_after (Err e)
+      → IsDescended (order_by order cmp keys) s (version_with v loaded) tables (call_by before after old new first_failed now_failed) (telling tells told told_after) (Err e)
+  refused_taken bottom_is old first_failed other e count_is is given = by (taken other (Err e) is given)
     where
-      why : (r : IsStepRefused order cmp keys after_all tables_held level s now after mid new failed now_failed told_now told_after (Err e))
+      why : (r : IsStepRefused (order_by order cmp keys) (version_with after_all tables_held) level s (call_by now after mid new failed now_failed) (telling tells told_now told_after) (Err e))
           → UnlessMemory e (IsStopped first_failed now_failed e ⊎ IsNextRefused cmp keys s bottom after_all tables_held e)
       why r =
           let same : e ≡ r.e = same_refusal {Y = Option Opened} e r.e r.is in
@@ -319,13 +322,13 @@ module _ (order : Order) (s : Settings) (v : State) (loaded : List (ℕ × List 
             | inr refused ↦ inr (record { level = level; next_level = level_now; refused = refused })
           ]) r.why)
 
-      left : (r : IsStepRefused order cmp keys after_all tables_held level s now after mid new failed now_failed told_now told_after (Err e)) → IsStepLeft order cmp keys after_all tables_held level s now after mid new (Err e)
-          → IsDescended tells order cmp keys s v loaded tables before after new first_failed now_failed told told_after (Err e)
+      left : (r : IsStepRefused (order_by order cmp keys) (version_with after_all tables_held) level s (call_by now after mid new failed now_failed) (telling tells told_now told_after) (Err e)) → IsStepLeft (order_by order cmp keys) (version_with after_all tables_held) level s (change_by now after mid new) (Err e)
+          → IsDescended (order_by order cmp keys) s (version_with v loaded) tables (call_by before after old new first_failed now_failed) (telling tells told told_after) (Err e)
       left r (inl u) =
-          ended order cmp keys s v loaded tables lawful before tells told now mid told_now manifest version bottom count true so_far bottom_is after new first_failed now_failed told_after (Err e) u.calls u.same r.same tt (why r)
+          ended order cmp keys s v loaded tables lawful before tells told now mid told_now manifest version bottom count true so_far bottom_is old after new first_failed now_failed told_after (Err e) u.calls u.same r.same tt (why r)
       left r (inr i) =
-          begun order cmp keys s v loaded tables lawful before tells told now mid told_now manifest version bottom count true so_far level level_now after new bottom_is first_failed now_failed told_after e i r.same (why r)
+          begun order cmp keys s v loaded tables lawful before tells told now mid told_now manifest version bottom count true so_far level level_now after new bottom_is old first_failed now_failed told_after e i r.same (why r)
 
-      by : IsStepTaken tells order cmp keys after_all tables_held level s now after mid new failed now_failed told_now told_after (Err e) → IsDescended tells order cmp keys s v loaded tables before after new first_failed now_failed told told_after (Err e)
-      by (inl r) = left r (subst (λ (x : Fault). IsStepLeft order cmp keys after_all tables_held level s now after mid new (Err x)) (sym (same_refusal {Y = Option Opened} e r.e r.is)) r.left)
-      by (inr t) = ended_after bottom_is first_failed (Err e) t (Err e) (λ w. tt) t.memory
+      by : IsStepTaken (order_by order cmp keys) (version_with after_all tables_held) level s (call_by now after mid new failed now_failed) (telling tells told_now told_after) (Err e) → IsDescended (order_by order cmp keys) s (version_with v loaded) tables (call_by before after old new first_failed now_failed) (telling tells told told_after) (Err e)
+      by (inl r) = left r (subst (λ (x : Fault). IsStepLeft (order_by order cmp keys) (version_with after_all tables_held) level s (change_by now after mid new) (Err x)) (sym (same_refusal {Y = Option Opened} e r.e r.is)) r.left)
+      by (inr t) = ended_after bottom_is old first_failed (Err e) t (Err e) (λ w. tt) t.memory

@@ -10,9 +10,7 @@ use Rattle.folder.specs.Comparator.{ShortKeys, IsExact}
 use Rattle.folder.specs.Version.{State}
 use Rattle.folder.specs.meta.NewFile.{NewFile}
 use Rattle.folder.specs.Levels.{file_numbers}
-use Rattle.folder.specs.Manifest.{order_name}
 use Rattle.folder.specs.ReadsAs.{IsOneOf}
-use Rattle.folder.specs.declared.order.Order.{Order}
 use Rattle.pick.specs.PickedInputs.{IsPicked, PickedInputs}
 use Rattle.pick.specs.declared.picked_inputs.InputFile.{InputFile}
 use Rattle.compact.specs.ClosedInputs.{is_input}
@@ -56,7 +54,7 @@ some_input [] h = absurd (h refl)
 some_input (i ∷ files) h = (i, first_in i files)
 
 module _ (cmp : List ℕ → List ℕ → Ordering) (total : IsTotalOrder cmp) (exact : IsExact cmp) (short_keys : ShortKeys) (applies : EditApplies cmp) (passes : PassedLaw cmp)
-    (number : ℕ) (order : Order) (v : State) (loaded : List (ℕ × List ℕ)) (tables : List NumberedContents) (level : ℕ) (p : PickedInputs) (s : Settings) (answer : Answer) (high : manifest_of v < number)
+    (number : ℕ) (v : State) (loaded : List (ℕ × List ℕ)) (tables : List NumberedContents) (level : ℕ) (p : PickedInputs) (s : Settings) (answer : Answer) (high : manifest_of v < number)
     (checked : tables_reading cmp loaded ≡ Ok tables) (lawful : IsLawful cmp v tables) (low : All (λ (f : NewFile). f.level ≤ 6) v.files) (picked : IsPicked cmp v level p)
     (over : IsOver v tables (request_from number v loaded p s)) (held : HoldOutputs cmp short_keys tables (request_from number v loaded p s) answer) where
   abbrev r : RequestView
@@ -96,9 +94,8 @@ module _ (cmp : List ℕ → List ℕ → Ordering) (total : IsTotalOrder cmp) (
       let le = numbered_above number held.outputs n held.numbered (subst (λ (ts : List (ℕ × List ℕ)). IsOneOf (numbers_of ts) n) held.answer_tables m) in
       omega (arith, le, high)
 
-  pub edited_by : IsEditedBy (order_name order) cmp order v (manifest_of v) answer.tables answer.edit next_version
+  pub edited_by : IsEditedBy cmp v (manifest_of v) answer.tables answer.edit next_version
   edited_by = record {
-    named = refl;
     edit = edit_of r (new_files r held.outputs);
     read = is_edit cmp total exact short_keys v tables level r answer lawful low picked over held;
     no_name = refl;

@@ -13,7 +13,7 @@ use Rattle.folder.specs.Names.{current_text}
 use Rattle.folder.specs.OpenAnswer.{IsOpened, IsStopped}
 use Rattle.folder.specs.ReadsAs.{IsFileIn}
 use Rattle.folder.specs.declared.order.Order.{Order}
-use Rattle.install.specs.Install.{IsEditedBy, SurvivesCrash, next_version_tables}
+use Rattle.install.specs.Install.{IsEditedBy, SurvivesCrash, next_version_tables, version_with}
 use Rattle.install.proofs.Moments.{made_by}
 use Rattle.compact.specs.OneThread.{Answer}
 use Rattle.store.specs.Compaction.{IsInstalled, IsFolderLeft, IsVersionLeft, next_of}
@@ -24,11 +24,14 @@ use Rattle.store.specs.VersionSync.{sync_calls}
 use Rattle.store.specs.declared.compaction_step.CompactionStep.{CompactionStep}
 use Rattle.store.proofs.Synced.{version_stands}
 use Rattle.store.proofs.SyncsTold.{syncs_tell}
+use Rattle.folder.proofs.Changes.{change_by}
+use Rattle.store.specs.OrderView.{order_by, order_view}
+use Rattle.folder.specs.Manifest.{order_name}
 
 -- what survives of one answer does of another one that is a value only if the first is
 pub survives_on : {T E U G : Type 0} (cmp : List ℕ → List ℕ → Ordering) (order : Order) (v next : State) (tables tables' : List (ℕ × List ℕ)) (before after : List Step) (old middle new : List ℕ → Option (List ℕ) → Type 0) (r : Result T E) (q : Result U G)
     → ((P : Type 0) → OnOk r P → OnOk q P) → ((files : Files) → Tells old files → Tells middle files)
-    → SurvivesCrash cmp order v tables next tables' before after middle new r → SurvivesCrash cmp order v tables next tables' before after old new q
+    → SurvivesCrash cmp order (version_with v tables) (version_with next tables') (change_by before after middle new) r → SurvivesCrash cmp order (version_with v tables) (version_with next tables') (change_by before after old new) q
 survives_on cmp order v next tables tables' before after old middle new r q f told h = record {
   any_moment = h.any_moment;
   installed = λ start stands. f _ (h.installed start stands);
@@ -38,8 +41,8 @@ survives_on cmp order v next tables tables' before after old middle new r q f to
 -- what an installation promises of each edited version
 abbrev pub Promises : {T : Type 0} → List ℕ → (List ℕ → List ℕ → Ordering) → State → ℕ → Answer → List Step → List Step → (List ℕ → Option (List ℕ) → Type 0) → (List ℕ → Option (List ℕ) → Type 0) → Result T Fault → Type 0
 Promises name cmp v number answer before after old new r =
-    (order : Order) (next : State) (tables : List (ℕ × List ℕ)) → IsEditedBy name cmp order v number answer.tables answer.edit next
-    → SurvivesCrash cmp order v tables next (next_version_tables cmp next answer.tables tables) before after old new r
+    (order : Order) (next : State) (tables : List (ℕ × List ℕ)) → order_name order ≡ name → IsEditedBy cmp v number answer.tables answer.edit next
+    → SurvivesCrash cmp order (version_with v tables) (version_with next (next_version_tables cmp next answer.tables tables)) (change_by before after old new) r
 
 -- a refusal of the installation is Device or Memory
 pub stopped_named : {T : Type 0} (before now : ℕ) (r : Result T Fault) (e : Fault) → IsErrAnd r (λ f. f ≡ e) → UnlessMemory e (IsStopped before now e) → IfErr r (λ f. UnlessMemory f (f ≡ fault Device))
@@ -69,11 +72,11 @@ still old new same files tells name held = (λ h. (tells name held).0 ((same nam
 -- an installation, told from earlier calls on
 installed_since : (order : Order) (cmp : List ℕ → List ℕ → Ordering) (short_keys : ShortKeys) (v : State) (files : Files) (level : ℕ) (s : Settings)
     (first before after : List Step) (zero old new : List ℕ → Option (List ℕ) → Type 0) (r : Result CompactionStep Fault) → before ≡ first → ((files : Files) → Tells zero files → Tells old files)
-    → IsInstalled order cmp short_keys v files level s before after old new r → IsInstalled order cmp short_keys v files level s first after zero new r
+    → IsInstalled (order_by order cmp short_keys) v files level s (change_by before after old new) r → IsInstalled (order_by order cmp short_keys) v files level s (change_by first after zero new) r
 installed_since order cmp short_keys v files level s first before after zero old new r is told i = record {
   compaction = i.compaction;
-  survives = subst (λ (b : List Step). SurvivesCrash cmp order v i.compaction.loaded (next_of i.compaction) (next_version_tables cmp (next_of i.compaction) i.compaction.answer.tables i.compaction.loaded) b after zero new r) is
-      (survives_on cmp order v (next_of i.compaction) i.compaction.loaded (next_version_tables cmp (next_of i.compaction) i.compaction.answer.tables i.compaction.loaded) before after zero old new r r (λ P x. x) told i.survives);
+  survives = subst (λ (b : List Step). SurvivesCrash cmp order (version_with v i.compaction.loaded) (next_of i.compaction.compacted) (change_by b after zero new) r) is
+      (survives_on cmp order v (next_of i.compaction.compacted).version i.compaction.loaded (next_of i.compaction.compacted).tables before after zero old new r r (λ P x. x) told i.survives);
   step = i.step;
   refused = i.refused;
 }
@@ -81,7 +84,7 @@ installed_since order cmp short_keys v files level s first before after zero old
 -- the version was opened, and its sync was refused
 pub sync_refused : {T : Type 0} (order : Order) (v : State) (manifest : ℕ) (files : Files) (level : ℕ) (s : Settings) (first before after : List Step) (zero old new : List ℕ → Option (List ℕ) → Type 0) (r : Result T Fault) (q : Result CompactionStep Fault)
     → IsOpened (IsFileIn files) (Ok (order, v)) → files (codes "CURRENT") ≡ Some (current_text manifest) → before ≡ first → TellsSame zero old → MakesCalls (sync_calls (order_cmp order) v manifest) before after old new r → OnOk q ⊥
-    → IsFolderLeft files level s first after zero new q
+    → IsFolderLeft files level s (change_by first after zero new) q
 sync_refused order v manifest files level s first before after zero old new r q opened named is same runs refused =
     let calls = sync_calls (order_cmp order) v manifest in
     inr (record {
@@ -107,7 +110,7 @@ all_made {T = T} calls steps r x was made = subst (λ (q : Result T Fault). AreM
 -- the version was opened and synced, and then compacted
 pub synced_left : {T : Type 0} (order : Order) (v : State) (manifest : ℕ) (files : Files) (level : ℕ) (s : Settings) (first before synced after : List Step) (zero old middle new : List ℕ → Option (List ℕ) → Type 0) (r : Result T Fault) (x : T) (q : Result CompactionStep Fault)
     → IsOpened (IsFileIn files) (Ok (order, v)) → files (codes "CURRENT") ≡ Some (current_text manifest) → before ≡ first → TellsSame zero old → r ≡ Ok x → MakesCalls (sync_calls (order_cmp order) v manifest) before synced old middle r
-    → IsVersionLeft order (order_cmp order) (order_short_keys order) v files level s synced after middle new q → IsFolderLeft files level s first after zero new q
+    → IsVersionLeft (order_view order) v files level s (change_by synced after middle new) q → IsFolderLeft files level s (change_by first after zero new) q
 synced_left order v manifest files level s first before synced after zero old middle new r x q opened named is same was runs left =
     let calls = sync_calls (order_cmp order) v manifest in
     let told = λ (fs : Files) (tells : Tells zero fs). syncs_tell (order_cmp order) v manifest before synced old middle r runs fs (still zero old same fs tells) in

@@ -24,20 +24,20 @@ use Rattle.store.proofs.TablesAfter.{read_after, reads_after, same_after}
 
 pub joint : (cmp : List ℕ → List ℕ → Ordering) → IsTotalOrder cmp → IsExact cmp → (short_keys : ShortKeys)
     → EditApplies cmp → PassedLaw cmp → OutputsHold cmp short_keys → VersionAfterLaw cmp short_keys → GetsAfter cmp → NumberedJointLaw cmp short_keys
-joint cmp total exact short_keys applies passes outputs stands gets number order v loaded tables level p s answer high checked lawful low picked log previous answered =
+joint cmp total exact short_keys applies passes outputs stands gets number v loaded tables level p s answer high checked lawful low picked log previous answered =
     let r : RequestView = request_from number v loaded p s in
     let over : IsOver v tables r = is_over cmp total v loaded tables level p checked lawful picked number s high log previous in
     let held : HoldOutputs cmp short_keys tables r answer = outputs v tables level r answer lawful picked over answered in
     let next : State = version_after v r held.outputs in
     let after : IsLawful cmp next (tables_after cmp p answer tables) = stands.lawful v tables level r answer lawful low picked over held in
-    let low_after = low_next cmp total exact short_keys applies passes number order v loaded tables level p s answer high checked lawful low picked over held in
+    let low_after = low_next cmp total exact short_keys applies passes number v loaded tables level p s answer high checked lawful low picked over held in
     let same = same_after cmp loaded tables p answer next checked low_after after in
     let read : List NumberedContents = read_after cmp loaded tables p answer next checked low_after after in
     record {
       next = next;
-      edited = edited_by cmp total exact short_keys applies passes number order v loaded tables level p s answer high checked lawful low picked over held;
+      edited = edited_by cmp total exact short_keys applies passes number v loaded tables level p s answer high checked lawful low picked over held;
       last = refl;
-      some = next_positive cmp total exact short_keys applies passes number order v loaded tables level p s answer high checked lawful low picked over held;
+      some = next_positive cmp total exact short_keys applies passes number v loaded tables level p s answer high checked lawful low picked over held;
       rises = omega (arith, high);
       small = held.few;
       tables_next = read;

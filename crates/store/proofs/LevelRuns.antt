@@ -1,5 +1,5 @@
 -- The calls of one compaction after the other.
-use Rattle.std.proofs.Common.{◌≡◌, ◌⊎◌, ℕ, Bool, true, List, [], ◌∷◌, ◌++◌, append_assoc, map, Option, Some, None, Result, Ok, Err, IfErr, IfOk, IsErrAnd, OnOk, refl, sym, ap, subst, ◌∙◌, inl, inr}
+use Rattle.std.proofs.Common.{◌≡◌, ◌⊎◌, ℕ, Bool, true, List, [], ◌∷◌, ◌++◌, append_assoc, map, Option, Some, None, Result, Ok, Err, IfOk, IsErrAnd, refl, sym, ap, subst, ◌∙◌, inl, inr}
 use Rattle.std.proofs.lemmas.List.{append-nil}
 use Rattle.std.specs.Option.{IfSome}
 use Rattle.std.specs.Prelude.{is_some}
@@ -9,7 +9,6 @@ use Rattle.folder.specs.Version.{State, applied_by}
 use Rattle.folder.specs.Calls.{Call, Done, Step}
 use Rattle.folder.specs.CallSequence.{AreMade, AreMadeBy}
 use Rattle.folder.specs.Manifest.{order_name}
-use Rattle.folder.specs.Orders.{order_cmp, order_short_keys}
 use Rattle.folder.specs.declared.current_version.Opened.{Opened}
 use Rattle.folder.specs.declared.order.Order.{Order}
 use Rattle.install.proofs.Moments.{made_by}
@@ -18,7 +17,7 @@ use Rattle.checks.specs.Takers.{AreToldInTurn}
 use Rattle.compact.specs.declared.settings.Settings.{Settings}
 use Rattle.store.specs.Descent.{IsBottom, IsNextLevel}
 use Rattle.store.specs.FolderRequest.{manifest_of}
-use Rattle.store.specs.LevelRuns.{AreLevelLinks, GroupedAnswer, IsAllLevelsRun, IsDescentRun, IsGroupedAnswer, IsLevelBegun, IsLevelLink, IsStopTold, IsToldOf, LevelLink, MakesNoCalls, calls_of_answer, calls_of_links, step_of_answer, steps_of_links, version_after}
+use Rattle.store.specs.LevelRuns.{AreLevelLinks, GroupedAnswer, IsAllLevelsRun, IsLevelLink, IsStopTold, IsToldOf, LevelLink, MakesNoCalls, calls_of_answer, calls_of_links, step_of_answer, steps_of_links, version_after}
 use Rattle.store.specs.OpenedAfter.{IsOpenedAfter}
 use Rattle.store.specs.Runs.{IsLevelRun}
 use Rattle.store.specs.Step.{StepView, step_in}
@@ -29,6 +28,8 @@ use Rattle.store.specs.declared.descent_end.DescentEnd.TheVariants.{AtBottom, St
 use Rattle.store.proofs.Flow.{no_value}
 use Rattle.store.proofs.InstallPart.{refused_ok}
 use Rattle.store.proofs.StepsTaken.{same_edit}
+use Rattle.folder.proofs.Changes.{change_by}
+use Rattle.store.specs.Telling.{telling}
 
 abbrev Told : Type 1
 Told = List ℕ → Option (List ℕ) → Type 0
@@ -51,7 +52,7 @@ made_then {T = T} calls steps (Err e) is = made_by {T = Unit {0}} {E = Fault} ca
 
 -- a compaction that was refused
 pub begun_refused : {W : Type 0} (tells : W → StepView → Bool → W → Type 0) (order : Order) (v : State) (level : ℕ) (s : Settings) (before after : List Step) (old new : Told) (told : W) (r : Result CompactionStep Fault) (q : Result (Option Opened) Fault) (e : Fault) → IsErrAnd q (λ f. f ≡ e)
-    → IsLevelRun (order_name order) (order_cmp order) (order_short_keys order) v level s before after old new r → MakesNoCalls before after told told q ⊎ IsNextBegun tells order v level s before after told told q
+    → IsLevelRun order v level s (change_by before after old new) r → MakesNoCalls before after told told q ⊎ IsNextBegun order v level s (change_by before after old new) (telling tells told told) q
 begun_refused tells order v level s before after old new told r q e h (inl u) = inl (record { calls = u.calls; untold = refl; refused = no_value q _ h })
 begun_refused tells order v level s before after old new told r q e h (inr i) =
     let installed : GroupedAnswer = record { picked = i.picked; answer = i.answer; groups = i.calls.groups } in
@@ -76,7 +77,7 @@ opened_of order v one other q is h = subst (λ (b : List ℕ). IfOk q (λ o. IfS
 -- a compaction that was installed, whatever is answered after it
 module _ {W : Type 0} (tells : W → StepView → Bool → W → Type 0) (order : Order) (v : State) (level : ℕ) (s : Settings) (before after : List Step) (old new : Told) (told told_now : W) (step : CompactionStep) (q : Result (Option Opened) Fault) where
   begun_at : (goes : Bool) → tells told (step_in step) goes told_now → IfOk q (IsGoTold goes) → IfOk q (λ o. IfSome o (λ next. IsOpenedAfter order v step.edit.items (Ok (next.order, next.version, next.manifest))))
-      → IsLevelRun (order_name order) (order_cmp order) (order_short_keys order) v level s before after old new (Ok step) → MakesNoCalls before after told told_now q ⊎ IsNextBegun tells order v level s before after told told_now q
+      → IsLevelRun order v level s (change_by before after old new) (Ok step) → MakesNoCalls before after told told_now q ⊎ IsNextBegun order v level s (change_by before after old new) (telling tells told told_now) q
   begun_at goes told_step went opened (inl u) = absurd u.refused
   begun_at goes told_step went opened (inr i) =
       let installed : GroupedAnswer = record { picked = i.picked; answer = i.answer; groups = i.calls.groups } in
@@ -94,10 +95,10 @@ module _ {W : Type 0} (tells : W → StepView → Bool → W → Type 0) (order 
 
   pub begun_told : (r : Result CompactionStep Fault) → r ≡ Ok step → (goes : Bool) → tells told (step_in step) goes told_now → IfOk q (IsGoTold goes)
       → IfOk q (λ o. IfSome o (λ next. IsOpenedAfter order v step.edit.items (Ok (next.order, next.version, next.manifest))))
-      → IsLevelRun (order_name order) (order_cmp order) (order_short_keys order) v level s before after old new r → MakesNoCalls before after told told_now q ⊎ IsNextBegun tells order v level s before after told told_now q
+      → IsLevelRun order v level s (change_by before after old new) r → MakesNoCalls before after told told_now q ⊎ IsNextBegun order v level s (change_by before after old new) (telling tells told told_now) q
   begun_told r was goes told_step went opened run =
       begun_at goes told_step went opened
-      (subst (λ (x : Result CompactionStep Fault). IsLevelRun (order_name order) (order_cmp order) (order_short_keys order) v level s before after old new x) was run)
+      (subst (λ (x : Result CompactionStep Fault). IsLevelRun order v level s (change_by before after old new) x) was run)
 
 -- ---- rows of them
 
@@ -177,8 +178,8 @@ go_told tells step told told_now next (inr t) = subst (λ (b : Bool). tells told
 
 module _ {W : Type 0} (tells : W → StepView → Bool → W → Type 0) (order : Order) (s : Settings) (bottom : ℕ) (v : State) (before now : List Step) (told told_now : W) (w : State) (other : Order) (so_far : RunSoFar tells order s bottom v before now told told_now w other) where
   -- no further one was begun
-  pub run_ended : (q : Result DescentEnd Fault) → IsBottom v bottom → IfOk q (λ e. (e ≡ AtBottom) × IsNextLevel w bottom None) → IsAllLevelsRun tells order s v before now told told_now q
-  run_ended q is_bottom end = inr (record {
+  pub run_ended : (old new : Told) (q : Result DescentEnd Fault) → IsBottom v bottom → IfOk q (λ e. (e ≡ AtBottom) × IsNextLevel w bottom None) → IsAllLevelsRun order s v (change_by before now old new) (telling tells told told_now) q
+  run_ended old new q is_bottom end = inr (record {
     bottom = bottom;
     is_bottom = is_bottom;
     links = so_far.links;
@@ -196,10 +197,10 @@ module _ {W : Type 0} (tells : W → StepView → Bool → W → Type 0) (order 
     first = calls_of_links order v so_far.links
 
     -- the last one was begun
-    last_begun : (r : Result (Option Opened) Fault) (q : Result DescentEnd Fault) → ((calls : List Call) (steps : List Step) → AreMadeBy calls steps r → AreMadeBy calls steps q)
+    last_begun : (old mid new : Told) (r : Result (Option Opened) Fault) (q : Result DescentEnd Fault) → ((calls : List Call) (steps : List Step) → AreMadeBy calls steps r → AreMadeBy calls steps q)
         → ((step : StepView) → IsToldOf tells step told_now told_after IsGoTold r → IsToldOf tells step told_now told_after IsStopTold q) → IsBottom v bottom
-        → IsNextBegun tells order at level s (before ++ first) after told_now told_after r → IsAllLevelsRun tells order s v before after told told_after q
-    last_begun r q f g is_bottom b = inr (record {
+        → IsNextBegun order at level s (change_by (before ++ first) after mid new) (telling tells told_now told_after) r → IsAllLevelsRun order s v (change_by before after old new) (telling tells told told_after) q
+    last_begun old mid new r q f g is_bottom b = inr (record {
       bottom = bottom;
       is_bottom = is_bottom;
       links = so_far.links;
@@ -221,26 +222,26 @@ module _ {W : Type 0} (tells : W → StepView → Bool → W → Type 0) (order 
     })
 
     -- what was begun of the version so far
-    begun_so_far : (r : Result (Option Opened) Fault) → IsNextBegun tells other w level s now after told_now told_after r → IsNextBegun tells order at level s (before ++ first) after told_now told_after r
-    begun_so_far r b =
-        subst (λ (t : List Step). IsNextBegun tells order at level s t after told_now told_after r) so_far.calls
-        (subst (λ (x : State). IsNextBegun tells order x level s now after told_now told_after r) so_far.version_is
-        (subst (λ (o : Order). IsNextBegun tells o w level s now after told_now told_after r) so_far.order_is b))
+    begun_so_far : (mid new : Told) (r : Result (Option Opened) Fault) → IsNextBegun other w level s (change_by now after mid new) (telling tells told_now told_after) r → IsNextBegun order at level s (change_by (before ++ first) after mid new) (telling tells told_now told_after) r
+    begun_so_far mid new r b =
+        subst (λ (t : List Step). IsNextBegun order at level s (change_by t after mid new) (telling tells told_now told_after) r) so_far.calls
+        (subst (λ (x : State). IsNextBegun order x level s (change_by now after mid new) (telling tells told_now told_after) r) so_far.version_is
+        (subst (λ (o : Order). IsNextBegun o w level s (change_by now after mid new) (telling tells told_now told_after) r) so_far.order_is b))
 
-    pub run_refused : (e : Fault) → IsBottom v bottom → MakesNoCalls {T = Option Opened} now after told_now told_after (Err e) ⊎ IsNextBegun tells other w level s now after told_now told_after (Err e) → IsAllLevelsRun tells order s v before after told told_after (Err e)
-    run_refused e is_bottom (inl u) =
+    pub run_refused : (old mid new : Told) (e : Fault) → IsBottom v bottom → MakesNoCalls {T = Option Opened} now after told_now told_after (Err e) ⊎ IsNextBegun other w level s (change_by now after mid new) (telling tells told_now told_after) (Err e) → IsAllLevelsRun order s v (change_by before after old new) (telling tells told told_after) (Err e)
+    run_refused old mid new e is_bottom (inl u) =
         let same : after ≡ before ++ first = u.calls ∙ so_far.calls in
         inr (record { bottom = bottom; is_bottom = is_bottom; links = so_far.links; chain = so_far.chain; told_last = told_now; told_steps = so_far.told_steps; last = inl (same, u.untold, tt) })
-    run_refused e is_bottom (inr b) = last_begun (Err e) (Err e) (λ calls steps h. h) (λ step h. refused_told tells step told_now told_after e h) is_bottom (begun_so_far (Err e) b)
+    run_refused old mid new e is_bottom (inr b) = last_begun old mid new (Err e) (Err e) (λ calls steps h. h) (λ step h. refused_told tells step told_now told_after e h) is_bottom (begun_so_far mid new (Err e) b)
 
-    pub run_stopped : (o : Option Opened) → o ≡ None → IsBottom v bottom → MakesNoCalls now after told_now told_after (Ok o) ⊎ IsNextBegun tells other w level s now after told_now told_after (Ok o) → IsAllLevelsRun tells order s v before after told told_after (Ok Stopped)
-    run_stopped o none is_bottom (inl u) = absurd u.refused
-    run_stopped o none is_bottom (inr b) = last_begun (Ok o) (Ok Stopped) (λ calls steps h. h) (λ step h. stop_told tells step told_now told_after o none h) is_bottom (begun_so_far (Ok o) b)
+    pub run_stopped : (old mid new : Told) (o : Option Opened) → o ≡ None → IsBottom v bottom → MakesNoCalls now after told_now told_after (Ok o) ⊎ IsNextBegun other w level s (change_by now after mid new) (telling tells told_now told_after) (Ok o) → IsAllLevelsRun order s v (change_by before after old new) (telling tells told told_after) (Ok Stopped)
+    run_stopped old mid new o none is_bottom (inl u) = absurd u.refused
+    run_stopped old mid new o none is_bottom (inr b) = last_begun old mid new (Ok o) (Ok Stopped) (λ calls steps h. h) (λ step h. stop_told tells step told_now told_after o none h) is_bottom (begun_so_far mid new (Ok o) b)
 
-    pub run_more : (next : Opened) → MakesNoCalls now after told_now told_after (Ok (Some next)) ⊎ IsNextBegun tells other w level s now after told_now told_after (Ok (Some next)) → RunSoFar tells order s bottom v before after told told_after next.version next.order
-    run_more next (inl u) = absurd u.refused
-    run_more next (inr begun) =
-        let b = begun_so_far (Ok (Some next)) begun in
+    pub run_more : (mid new : Told) (next : Opened) → MakesNoCalls now after told_now told_after (Ok (Some next)) ⊎ IsNextBegun other w level s (change_by now after mid new) (telling tells told_now told_after) (Ok (Some next)) → RunSoFar tells order s bottom v before after told told_after next.version next.order
+    run_more mid new next (inl u) = absurd u.refused
+    run_more mid new next (inr begun) =
+        let b = begun_so_far mid new (Ok (Some next)) begun in
         let l : LevelLink = record { level = level; installed = b.begun.installed; next = next.version } in
         let so = opened_so order at b.begun.installed.answer.edit next.order next.version next.manifest b.opened in
         let edited = subst (λ (o : Order). IsOpenedAfter order at b.begun.installed.answer.edit (Ok (o, next.version, manifest_of at))) so.0
@@ -265,10 +266,37 @@ module _ {W : Type 0} (tells : W → StepView → Bool → W → Type 0) (order 
 
 -- ---- all levels, after a test
 
-pub all_since : {W : Type 0} (tells : W → StepView → Bool → W → Type 0) (order : Order) (s : Settings) (v : State) (first before after : List Step) (told told_now : W) (q : Result DescentEnd Fault) → before ≡ first → IsAllLevelsRun tells order s v before after told told_now q → IsAllLevelsRun tells order s v first after told told_now q
-all_since tells order s v first before after told told_now q same run = subst (λ (t : List Step). IsAllLevelsRun tells order s v t after told told_now q) same run
+pub all_since : {W : Type 0} (tells : W → StepView → Bool → W → Type 0) (order : Order) (s : Settings) (v : State) (first before after : List Step) (zero old new : Told) (told told_now : W) (q : Result DescentEnd Fault) → before ≡ first
+    → IsAllLevelsRun order s v (change_by before after old new) (telling tells told told_now) q → IsAllLevelsRun order s v (change_by first after zero new) (telling tells told told_now) q
+all_since tells order s v first before after zero old new told told_now q same (inl u) = inl (record { calls = u.calls ∙ same; untold = u.untold; refused = u.refused })
+all_since tells order s v first before after zero old new told told_now q same (inr d) =
+    let calls = calls_of_links order v d.links in
+    inr (record {
+      bottom = d.bottom;
+      is_bottom = d.is_bottom;
+      links = d.links;
+      chain = d.chain;
+      told_last = d.told_last;
+      told_steps = d.told_steps;
+      last = elim d.last [
+        | inl e ↦ inl (e.0 ∙ ap (λ (t : List Step). t ++ calls) same, e.1, e.2)
+        | inr l ↦ inr (record {
+          level = l.level;
+          next_level = l.next_level;
+          begun = record {
+            installed = l.begun.installed;
+            is_answer = l.begun.is_answer;
+            steps = l.begun.steps;
+            made = l.begun.made;
+            appended = l.begun.appended ∙ ap (λ (t : List Step). (t ++ calls) ++ l.begun.steps) same;
+          };
+          is_told = l.is_told;
+        })
+      ];
+    })
 
 -- nothing was above the bottom
-pub all_at_bottom : {W : Type 0} (tells : W → StepView → Bool → W → Type 0) (order : Order) (s : Settings) (v : State) (before : List Step) (told : W) (bottom : ℕ) → IsBottom v bottom → IsNextLevel v bottom None → IsAllLevelsRun tells order s v before before told told (Ok AtBottom)
-all_at_bottom tells order s v before told bottom is_bottom none =
-    run_ended tells order s bottom v before before told told v order (none_so_far tells order s bottom v before told) (Ok AtBottom) is_bottom (refl, none)
+pub all_at_bottom : {W : Type 0} (tells : W → StepView → Bool → W → Type 0) (order : Order) (s : Settings) (v : State) (before : List Step) (old : Told) (told : W) (bottom : ℕ) → IsBottom v bottom → IsNextLevel v bottom None
+    → IsAllLevelsRun order s v (change_by before before old old) (telling tells told told) (Ok AtBottom)
+all_at_bottom tells order s v before old told bottom is_bottom none =
+    run_ended tells order s bottom v before before told told v order (none_so_far tells order s bottom v before told) old old (Ok AtBottom) is_bottom (refl, none)

@@ -15,7 +15,7 @@ use Rattle.folder.specs.Calls.{Step}
 use Rattle.folder.specs.Folder.{TellsSame}
 use Rattle.folder.specs.OpenAnswer.{FolderAnswers, IsStopped}
 use Rattle.folder.specs.declared.order.Order.{Order}
-use Rattle.install.specs.Install.{SurvivesCrash, next_version_tables}
+use Rattle.install.specs.Install.{SurvivesCrash, next_version_tables, version_with}
 use Rattle.pick.specs.PickedInputs.{PickedInputs}
 use Rattle.compact.specs.OneThread.{Answer, compaction_result}
 use Rattle.compact.specs.Request.{RequestView}
@@ -28,6 +28,8 @@ use Rattle.store.specs.StepLeft.{IsStepLeft}
 use Rattle.store.specs.declared.compaction_step.CompactionStep.{CompactionStep}
 use Rattle.store.proofs.Flow.{no_value}
 use Rattle.store.proofs.InstallPart.{still, survives_on}
+use Rattle.folder.proofs.Changes.{change_by}
+use Rattle.store.specs.OrderView.{order_by}
 
 -- an answer that is another one too
 pub answers_as : {X Y : Type 0} (view : X → Y) (before now : ℕ) (r : Result X Fault) (IsOne IsOther : Result Y Fault → Type 0) → ((a : Result Y Fault) → IsOne a → IsOther a)
@@ -51,13 +53,13 @@ pub step_value : (v : State) (p : PickedInputs) (compacted : Result Answer Fault
 step_value v p compacted answer step answered is = ap (λ (x : StepView). Ok x) is ∙ sym (ap (step_result v p) answered)
 
 -- nothing was written before a refusal
-pub unchanged : {T : Type 0} (steps : List Step) (tells : List ℕ → Option (List ℕ) → Type 0) (r : Result T Fault) (P : Fault → Type 0) → IsErrAnd r P → IsUnchanged steps steps tells tells r
+pub unchanged : {T : Type 0} (steps : List Step) (tells : List ℕ → Option (List ℕ) → Type 0) (r : Result T Fault) (P : Fault → Type 0) → IsErrAnd r P → IsUnchanged (change_by steps steps tells tells) r
 unchanged steps tells r P h = record { calls = refl; same = λ name held. ((λ x. x), (λ x. x)); refused = no_value r P h }
 
 -- a step, told from earlier calls on that only read
 pub step_since : (order : Order) (cmp : List ℕ → List ℕ → Ordering) (short_keys : ShortKeys) (v : State) (loaded : List (ℕ × List ℕ)) (level : ℕ) (s : Settings)
     (first before after : List Step) (zero old new : List ℕ → Option (List ℕ) → Type 0) (r : Result CompactionStep Fault) → before ≡ first → TellsSame zero old
-    → IsStepLeft order cmp short_keys v loaded level s before after old new r → IsStepLeft order cmp short_keys v loaded level s first after zero new r
+    → IsStepLeft (order_by order cmp short_keys) (version_with v loaded) level s (change_by before after old new) r → IsStepLeft (order_by order cmp short_keys) (version_with v loaded) level s (change_by first after zero new) r
 step_since order cmp short_keys v loaded level s first before after zero old new r same told (inl u) =
     inl (record { calls = u.calls ∙ same; same = told_since zero old new told u.same; refused = u.refused })
 step_since order cmp short_keys v loaded level s first before after zero old new r same told (inr i) =
@@ -67,7 +69,7 @@ step_since order cmp short_keys v loaded level s first before after zero old new
       picked = i.picked;
       answer = i.answer;
       compacted = i.compacted;
-      survives = subst (λ (b : List Step). SurvivesCrash cmp order v loaded next tables' b after zero new r) same
+      survives = subst (λ (b : List Step). SurvivesCrash cmp order (version_with v loaded) (version_with next tables') (change_by b after zero new) r) same
           (survives_on cmp order v next loaded tables' before after zero old new r r (λ P x. x) (still zero old told) i.survives);
       named = i.named;
       step = i.step;

@@ -29,6 +29,7 @@ use Rattle.store.specs.VersionSync.{sync_calls}
 use Rattle.store.specs.declared.compaction_step.CompactionStep.{CompactionStep}
 use Rattle.store.proofs.InstallPart.{all_made, refused_ok, still}
 use Rattle.store.proofs.SyncsTold.{syncs_tell}
+use Rattle.folder.proofs.Changes.{change_by}
 
 abbrev Told : Type 1
 Told = List ℕ → Option (List ℕ) → Type 0
@@ -67,7 +68,7 @@ pub install_refused : {T : Type 0} (IsAnswer : PickedInputs → Answer → Type 
     (before after : List Step) (old new : Told) (failed now : ℕ) (r : Result T Fault) (q : Result CompactionStep Fault) (e : Fault) → number ≡ manifest_of v → tables_of_groups groups ≡ answer.tables → IsAnswer picked answer → r ≡ Err e → IsErrAnd q (λ f. f ≡ e)
     → MakesCalls (install_calls number groups (manifest_bytes name cmp v answer.edit)) before after old new r
     → IfErr r (λ f. f ≡ fault Changed → after ≡ before ++ map Done (calls_before_rename number groups (manifest_bytes name cmp v answer.edit)))
-    → IfErr r (λ f. UnlessMemory f (IsStoppedOrChanged failed now f)) → IsRun IsAnswer name cmp v before after old new q
+    → IfErr r (λ f. UnlessMemory f (IsStoppedOrChanged failed now f)) → IsRun IsAnswer name cmp v (change_by before after old new) q
 install_refused IsAnswer name cmp v number groups picked answer before after old new failed now r q e numbered joined is was h runs changed refused =
     let manifest = manifest_bytes name cmp v answer.edit in
     inr (record {
@@ -90,7 +91,7 @@ install_refused IsAnswer name cmp v number groups picked answer before after old
 pub install_done : {T : Type 0} (IsAnswer : PickedInputs → Answer → Type 0) (name : List ℕ) (cmp : List ℕ → List ℕ → Ordering) (v : State) (number : ℕ) (groups : List (List (ℕ × List ℕ))) (picked : PickedInputs) (answer : Answer)
     (before after : List Step) (old new : Told) (r : Result T Fault) (x : T) (step : CompactionStep) → number ≡ manifest_of v → tables_of_groups groups ≡ answer.tables → IsAnswer picked answer → r ≡ Ok x
     → MakesCalls (install_calls number groups (manifest_bytes name cmp v answer.edit)) before after old new r
-    → step_in step ≡ step_of v picked answer → IsRun IsAnswer name cmp v before after old new (Ok step)
+    → step_in step ≡ step_of v picked answer → IsRun IsAnswer name cmp v (change_by before after old new) (Ok step)
 install_done IsAnswer name cmp v number groups picked answer before after old new r x step numbered joined is was runs made =
     let manifest = manifest_bytes name cmp v answer.edit in
     inr (record {
@@ -112,7 +113,7 @@ install_done IsAnswer name cmp v number groups picked answer before after old ne
 
 -- an answer that is another one too
 pub run_as : (IsOne IsOther : PickedInputs → Answer → Type 0) (name : List ℕ) (cmp : List ℕ → List ℕ → Ordering) (v : State) (before after : List Step) (old new : Told) (r : Result CompactionStep Fault)
-    → ((picked : PickedInputs) (answer : Answer) → IsOne picked answer → IsOther picked answer) → IsRun IsOne name cmp v before after old new r → IsRun IsOther name cmp v before after old new r
+    → ((picked : PickedInputs) (answer : Answer) → IsOne picked answer → IsOther picked answer) → IsRun IsOne name cmp v (change_by before after old new) r → IsRun IsOther name cmp v (change_by before after old new) r
 run_as IsOne IsOther name cmp v before after old new r f (inl u) = inl u
 run_as IsOne IsOther name cmp v before after old new r f (inr i) =
     inr (record { picked = i.picked; answer = i.answer; is_answer = f i.picked i.answer i.is_answer; calls = i.calls; step = i.step; refused = i.refused })
@@ -128,7 +129,7 @@ calls_since calls first before after zero old new r same told k = record {
 }
 
 pub installed_since : (IsAnswer : PickedInputs → Answer → Type 0) (name : List ℕ) (cmp : List ℕ → List ℕ → Ordering) (v : State) (first before after : List Step) (zero old new : Told) (r : Result CompactionStep Fault)
-    → before ≡ first → ((files : Files) → Tells zero files → Tells old files) → IsAnswerInstalled IsAnswer name cmp v before after old new r → IsAnswerInstalled IsAnswer name cmp v first after zero new r
+    → before ≡ first → ((files : Files) → Tells zero files → Tells old files) → IsAnswerInstalled IsAnswer name cmp v (change_by before after old new) r → IsAnswerInstalled IsAnswer name cmp v (change_by first after zero new) r
 installed_since IsAnswer name cmp v first before after zero old new r same told i =
     let manifest = manifest_bytes name cmp v i.answer.edit in
     record {
@@ -147,7 +148,7 @@ installed_since IsAnswer name cmp v first before after zero old new r same told 
 
 -- a run, told from earlier calls on that only read
 pub run_since : (IsAnswer : PickedInputs → Answer → Type 0) (name : List ℕ) (cmp : List ℕ → List ℕ → Ordering) (v : State) (first before after : List Step) (zero old new : Told) (r : Result CompactionStep Fault)
-    → before ≡ first → TellsSame zero old → IsRun IsAnswer name cmp v before after old new r → IsRun IsAnswer name cmp v first after zero new r
+    → before ≡ first → TellsSame zero old → IsRun IsAnswer name cmp v (change_by before after old new) r → IsRun IsAnswer name cmp v (change_by first after zero new) r
 run_since IsAnswer name cmp v first before after zero old new r same told (inl u) =
     inl (record { calls = u.calls ∙ same; same = told_since zero old new told u.same; refused = u.refused })
 run_since IsAnswer name cmp v first before after zero old new r same told (inr i) =
@@ -158,7 +159,7 @@ run_since IsAnswer name cmp v first before after zero old new r same told (inr i
 -- only syncs were made, and no value answered
 synced_only : {T : Type 0} (order : Order) (v : State) (manifest : ℕ) (first before synced after : List Step) (zero old middle new : Told) (r : Result T Fault) (q : Result CompactionStep Fault)
     → before ≡ first → TellsSame zero old → MakesCalls (sync_calls (order_cmp order) v manifest) before synced old middle r → after ≡ synced → TellsSame middle new → OnOk q ⊥
-    → IsSynced (sync_calls (order_cmp order) v manifest) first after zero new q
+    → IsSynced (sync_calls (order_cmp order) v manifest) (change_by first after zero new) q
 synced_only order v manifest first before synced after zero old middle new r q is same runs still_calls still_told refused =
     let calls = sync_calls (order_cmp order) v manifest in
     record {
@@ -172,7 +173,7 @@ synced_only order v manifest first before synced after zero old middle new r q i
 -- the version was opened, and its sync was refused
 pub sync_stopped : {T : Type 0} (order : Order) (v : State) (manifest level : ℕ) (s : Settings) (first before after : List Step) (zero old new : Told) (r : Result T Fault) (q : Result CompactionStep Fault)
     → IsOpened zero (Ok (order, v)) → zero (codes "CURRENT") (Some (current_text manifest)) → before ≡ first → TellsSame zero old → MakesCalls (sync_calls (order_cmp order) v manifest) before after old new r → OnOk q ⊥
-    → IsFolderRun level s first after zero new q
+    → IsFolderRun level s (change_by first after zero new) q
 sync_stopped order v manifest level s first before after zero old new r q opened named is same runs refused =
     inr (record {
       order = order;
@@ -186,7 +187,7 @@ sync_stopped order v manifest level s first before after zero old new r q opened
 -- the version was opened and synced, and then its level was compacted
 pub synced_run : {T : Type 0} (order : Order) (v : State) (manifest level : ℕ) (s : Settings) (first before synced after : List Step) (zero old middle new : Told) (r : Result T Fault) (x : T) (q : Result CompactionStep Fault)
     → IsOpened zero (Ok (order, v)) → zero (codes "CURRENT") (Some (current_text manifest)) → before ≡ first → TellsSame zero old → r ≡ Ok x → MakesCalls (sync_calls (order_cmp order) v manifest) before synced old middle r
-    → IsLevelRun (order_name order) (order_cmp order) (order_short_keys order) v level s synced after middle new q → IsFolderRun level s first after zero new q
+    → IsLevelRun order v level s (change_by synced after middle new) q → IsFolderRun level s (change_by first after zero new) q
 synced_run order v manifest level s first before synced after zero old middle new r x q opened named is same was runs run =
     let calls = sync_calls (order_cmp order) v manifest in
     let told = λ (fs : Files) (tells : Tells zero fs). syncs_tell (order_cmp order) v manifest before synced old middle r runs fs (still zero old same fs tells) in

@@ -18,7 +18,7 @@ use Rattle.folder.specs.Manifest.{order_name}
 use Rattle.folder.specs.Names.{current_text, manifest_name, temporary_name}
 use Rattle.folder.specs.ReadsAs.{IsFileIn, ReadsAs}
 use Rattle.folder.specs.declared.order.Order.{Order}
-use Rattle.install.specs.Install.{IsEditedBy, SurvivesCrash, current_calls, install_calls, next_version_tables, table_calls, temporary_calls, write_calls}
+use Rattle.install.specs.Install.{SurvivesCrash, current_calls, install_calls, next_version_tables, table_calls, temporary_calls, write_calls, version_with}
 use Rattle.checks.specs.LawfulTables.{IsLawfulTables}
 use Rattle.reads.specs.Tables.{NumberedContents}
 use Rattle.pick.specs.PickedInputs.{IsInputsAnswer, PickedInputs}
@@ -34,6 +34,8 @@ use Rattle.checks.specs.declared.version_totals.VersionTotals.{VersionTotals}
 use Rattle.store.specs.declared.compaction_step.CompactionStep.{CompactionStep}
 use Rattle.store.proofs.Flow.{first_refused, loaded_in, no_refusal}
 use Rattle.store.proofs.InstallPart.{Promises, all_made, still, survives_on}
+use Rattle.folder.proofs.Changes.{change_by}
+use Rattle.store.specs.OrderView.{order_by}
 
 -- ---- CURRENT after an installation
 
@@ -75,19 +77,18 @@ current_named number groups manifest before after old new r x files was runs tel
 
 pub step_installed : {T : Type 0} (name : List ℕ) (order : Order) (cmp : List ℕ → List ℕ → Ordering) (short_keys : ShortKeys) (v : State) (loaded : List (ℕ × List ℕ)) (level : ℕ) (s : Settings) (picked : PickedInputs) (answer : Answer)
     (first before after : List Step) (zero old new : List ℕ → Option (List ℕ) → Type 0) (r : Result T Fault) (q : Result CompactionStep Fault)
-    → order_name order ≡ name → LevelCompaction order cmp short_keys v loaded level None s picked answer → ((P : Type 0) → OnOk r P → OnOk q P) → before ≡ first → TellsSame zero old
+    → order_name order ≡ name → LevelCompaction (order_by order cmp short_keys) (version_with v loaded) level None s picked answer → ((P : Type 0) → OnOk r P → OnOk q P) → before ≡ first → TellsSame zero old
     → OnOk q (new (codes "CURRENT") (Some (current_text (manifest_of v)))) → IfOk q (λ step. step_in step ≡ step_of v picked answer) → IfErr q (λ e. UnlessMemory e (e ≡ fault Device))
-    → Promises name cmp v (manifest_of v) answer before after old new r → IsStepLeft order cmp short_keys v loaded level s first after zero new q
+    → Promises name cmp v (manifest_of v) answer before after old new r → IsStepLeft (order_by order cmp short_keys) (version_with v loaded) level s (change_by first after zero new) q
 step_installed name order cmp short_keys v loaded level s picked answer first before after zero old new r q is done f same told named step refused promises =
     let next = done.edited.next in
     let tables' = next_version_tables cmp next answer.tables loaded in
-    let edited = subst (λ (n : List ℕ). IsEditedBy n cmp order v (manifest_of v) answer.tables answer.edit next) is done.edited.edited in
     inr (record {
       picked = picked;
       answer = answer;
       compacted = done;
-      survives = subst (λ (b : List Step). SurvivesCrash cmp order v loaded next tables' b after zero new q) same
-          (survives_on cmp order v next loaded tables' before after zero old new r q f (still zero old told) (promises order next loaded edited));
+      survives = subst (λ (b : List Step). SurvivesCrash cmp order (version_with v loaded) (version_with next tables') (change_by b after zero new) q) same
+          (survives_on cmp order v next loaded tables' before after zero old new r q f (still zero old told) (promises order next loaded is done.edited.edited));
       named = named;
       step = step;
       refused = refused;
@@ -97,7 +98,7 @@ step_installed name order cmp short_keys v loaded level s picked answer first be
 pub version_left : (order : Order) (cmp : List ℕ → List ℕ → Ordering) (short_keys : ShortKeys) (files : Files) (v : State) (loaded : List (ℕ × List ℕ)) (level : ℕ) (s : Settings)
     (first before after : List Step) (zero old new : List ℕ → Option (List ℕ) → Type 0) (r : Result CompactionStep Fault)
     → ReadsAs cmp order v loaded files → before ≡ first → TellsSame zero old
-    → IsStepLeft order cmp short_keys v loaded level s before after old new r → IsVersionLeft order cmp short_keys v files level s first after zero new r
+    → IsStepLeft (order_by order cmp short_keys) (version_with v loaded) level s (change_by before after old new) r → IsVersionLeft (order_by order cmp short_keys) v files level s (change_by first after zero new) r
 version_left order cmp short_keys files v loaded level s first before after zero old new r reads same told (inl u) =
     inl (record { calls = u.calls ∙ same; same = told_since zero old new told u.same; refused = u.refused })
 version_left order cmp short_keys files v loaded level s first before after zero old new r reads same told (inr i) =
@@ -105,7 +106,7 @@ version_left order cmp short_keys files v loaded level s first before after zero
     let tables' = next_version_tables cmp next i.answer.tables loaded in
     inr (record {
       compaction = record { loaded = loaded; reads = reads; picked = i.picked; answer = i.answer; compacted = i.compacted };
-      survives = subst (λ (b : List Step). SurvivesCrash cmp order v loaded next tables' b after zero new r) same
+      survives = subst (λ (b : List Step). SurvivesCrash cmp order (version_with v loaded) (version_with next tables') (change_by b after zero new) r) same
           (survives_on cmp order v next loaded tables' before after zero old new r r (λ P x. x) (still zero old told) i.survives);
       step = i.step;
       refused = i.refused;

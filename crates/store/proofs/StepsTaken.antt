@@ -30,6 +30,9 @@ use Rattle.store.specs.Step.{StepView, step_in, step_of}
 use Rattle.store.specs.StepLeft.{IsStepInstalled, IsStepLeft}
 use Rattle.store.specs.declared.compaction_step.CompactionStep.{CompactionStep}
 use Rattle.store.proofs.AfterEdit.{is_opened, not_refused}
+use Rattle.folder.proofs.Changes.{change_by}
+use Rattle.install.specs.Install.{version_with}
+use Rattle.store.specs.OrderView.{order_by}
 
 -- the law of both orders
 pub suffices_by : (order : Order) → InputsSufficeLaw bytewise_cmp bytewise_short_keys → InputsSufficeLaw shortlex_cmp shortlex_short_keys → InputsSufficeLaw (order_cmp order) (order_short_keys order)
@@ -42,12 +45,12 @@ same_edit step v p answer h = ap (λ (x : StepView). x.edit) h
 
 -- a step that was answered was installed
 pub installed_of : (order : Order) (cmp : List ℕ → List ℕ → Ordering) (short_keys : ShortKeys) (v : State) (loaded : List (ℕ × List ℕ)) (level : ℕ) (s : Settings) (before after : List Step) (old new : List ℕ → Option (List ℕ) → Type 0) (step : CompactionStep)
-    → IsStepLeft order cmp short_keys v loaded level s before after old new (Ok step) → IsStepInstalled order cmp short_keys v loaded level s before after old new (Ok step)
+    → IsStepLeft (order_by order cmp short_keys) (version_with v loaded) level s (change_by before after old new) (Ok step) → IsStepInstalled (order_by order cmp short_keys) (version_with v loaded) level s (change_by before after old new) (Ok step)
 installed_of order cmp short_keys v loaded level s before after old new step (inl u) = absurd u.refused
 installed_of order cmp short_keys v loaded level s before after old new step (inr i) = i
 
 module _ (order : Order) (cmp : List ℕ → List ℕ → Ordering) (short_keys : ShortKeys) (v : State) (loaded : List (ℕ × List ℕ)) (level : ℕ) (s : Settings) (before after : List Step) (old new : List ℕ → Option (List ℕ) → Type 0) (step : CompactionStep)
-    (i : IsStepInstalled order cmp short_keys v loaded level s before after old new (Ok step)) where
+    (i : IsStepInstalled (order_by order cmp short_keys) (version_with v loaded) level s (change_by before after old new) (Ok step)) where
   pub opened_next : (r : Result (Option Opened) Fault) → IfOk r (λ o. IfSome o (λ a. IsOpenedAfter order v step.edit.items (Ok (a.order, a.version, a.manifest))))
       → IfOk r (λ o. IfSome o (λ a. (a.order ≡ order) × (a.version ≡ i.compacted.edited.next) × (a.manifest ≡ manifest_of v)))
   opened_next (Ok None) h = tt

@@ -6,7 +6,7 @@ use Rattle.folder.specs.Answers.{UnlessMemory}
 use Rattle.folder.specs.fault.Fault.{Fault}
 use Rattle.folder.specs.Comparator.{KeyOrder, ShortKeys}
 use Rattle.folder.specs.Version.{State}
-use Rattle.folder.specs.Calls.{ToldFiles, Files, Step, Tells}
+use Rattle.folder.specs.Calls.{Files, Tells}
 use Rattle.folder.specs.Crash.{LeavesOnly, World}
 use Rattle.folder.specs.Folder.{TellsSame}
 use Rattle.folder.specs.OpenAnswer.{IsStopped}
@@ -19,7 +19,7 @@ use Rattle.checks.specs.Readable.{is_read, readable_of}
 use Rattle.checks.specs.LawfulTables.{IsLawfulTables}
 use Rattle.checks.specs.Takers.{AreToldInTurn}
 use Rattle.compact.specs.OneThread.{Answer}
-use Rattle.install.specs.Install.{AlwaysStandsAs, next_version_tables}
+use Rattle.install.specs.Install.{AlwaysStandsAs, LoadedVersion, version_with}
 use Rattle.compact.specs.declared.settings.Settings.{Settings}
 use Rattle.store.specs.Answers.{IsLoadedCompacted}
 use Rattle.store.specs.Compaction.{LevelCompaction}
@@ -30,6 +30,9 @@ use Rattle.store.specs.Untold.{IsUntold}
 use Rattle.checks.specs.TestedTables.{IsTested}
 use Rattle.store.specs.declared.descent_end.DescentEnd.{DescentEnd}
 use Rattle.store.specs.declared.descent_end.DescentEnd.TheVariants.{AtBottom, Stopped}
+use Rattle.folder.specs.FolderChange.{FolderChange, FolderCall}
+use Rattle.store.specs.OrderView.{OrderView}
+use Rattle.store.specs.Telling.{Telling}
 
 -- a compaction in a row of them: its level, its step, and the version and the tables that it leaves
 pub record CompactionLink : Type 0 where
@@ -40,23 +43,21 @@ pub record CompactionLink : Type 0 where
 
 -- It is a compaction of this version with these tables, of the first level above the bottom that
 -- has a file. What it leaves is its edited version.
-pub record IsLink (order : Order) (cmp : KeyOrder) (short_keys : ShortKeys) (s : Settings)
-    (bottom : ℕ) (v : State) (loaded : List (ℕ × List ℕ)) (l : CompactionLink) : Type 0 where
-  pub next_level : IsNextLevel v bottom (Some l.level)
+pub record IsLink (by : OrderView) (s : Settings) (bottom : ℕ) (v : LoadedVersion)
+    (l : CompactionLink) : Type 0 where
+  pub next_level : IsNextLevel v.version bottom (Some l.level)
   pub picked : PickedInputs
   pub answer : Answer
-  pub compacted : LevelCompaction order cmp short_keys v loaded l.level None s picked answer
-  pub step_is : l.step ≡ step_of v picked answer
-  pub version_is : l.version ≡ compacted.edited.next
-  pub tables_are : l.tables ≡ next_version_tables cmp compacted.edited.next answer.tables loaded
+  pub compacted : LevelCompaction by v l.level None s picked answer
+  pub step_is : l.step ≡ step_of v.version picked answer
+  pub version_is : l.version ≡ (next_of compacted).version
+  pub tables_are : l.tables ≡ (next_of compacted).tables
 
 -- compactions, each of the version and the tables that the one before it leaves
-abbrev pub AreLinked : Order → KeyOrder → ShortKeys → Settings → ℕ → State → List (ℕ × List ℕ) →
-    List CompactionLink → Type 0
-AreLinked order cmp short_keys s bottom v loaded [] = Unit {0}
-AreLinked order cmp short_keys s bottom v loaded (l ∷ links) =
-    IsLink order cmp short_keys s bottom v loaded l
-    × AreLinked order cmp short_keys s bottom l.version l.tables links
+abbrev pub AreLinked : OrderView → Settings → ℕ → LoadedVersion → List CompactionLink → Type 0
+AreLinked by s bottom v [] = Unit {0}
+AreLinked by s bottom v (l ∷ links) = IsLink by s bottom v l
+    × AreLinked by s bottom (version_with l.version l.tables) links
 
 -- the version that they leave
 abbrev pub version_at_end : State → List CompactionLink → State
@@ -104,59 +105,59 @@ pub record IsNextRefused (cmp : KeyOrder) (short_keys : ShortKeys) (s : Settings
 -- - At Ok none is begun, and the folder reads as that version, and stands for it. It is at the
 --   bottom unless it was told to stop.
 -- - Else the next compaction is refused, or the device failed.
-pub record IsDescended {W : Type 0} (tells : W → StepView → Bool → W → Type 0) (order : Order)
-    (cmp : KeyOrder) (short_keys : ShortKeys) (s : Settings) (v : State)
-    (loaded : List (ℕ × List ℕ)) (tables : List NumberedContents) (before after : List Step)
-    (new : ToldFiles) (failed now : ℕ) (told told_now : W) (result : Result DescentEnd Fault)
-    : Type 0 where
+pub record IsDescended {W : Type 0} (by : OrderView) (s : Settings) (v : LoadedVersion)
+    (tables : List NumberedContents) (call : FolderCall) (told : Telling W)
+    (result : Result DescentEnd Fault) : Type 0 where
   pub bottom : ℕ
-  pub is_bottom : IsBottom v bottom
+  pub is_bottom : IsBottom v.version bottom
   pub links : List CompactionLink
   pub begun : List CompactionLink
-  pub chain : AreLinked order cmp short_keys s bottom v loaded (links ++ begun)
+  pub chain : AreLinked by s bottom v (links ++ begun)
   pub few : length begun ≤ 1
   pub none : OnOk result (begun ≡ [])
   pub goes : Bool
-  pub told_steps : AreToldInTurn tells told (map (λ (l : CompactionLink). l.step) links) goes
-      told_now
-  pub any_moment : (start : World) → AlwaysStandsAs cmp order v loaded start before →
-      LeavesOnly start before after (IsAtLink cmp order v loaded (links ++ begun))
+  pub told_steps : AreToldInTurn told.tells told.old (map (λ (l : CompactionLink). l.step) links)
+      goes told.new
+  pub any_moment : (start : World) →
+      AlwaysStandsAs by.cmp by.order v.version v.tables start call.change.before →
+      LeavesOnly start call.change.before call.change.after
+      (IsAtLink by.cmp by.order v.version v.tables (links ++ begun))
   pub files_now : Files
-  pub holds : Tells new files_now
-  pub read : IsAtLink cmp order v loaded (links ++ begun) files_now
-  pub reads_last : OnOk result
-      (ReadsAs cmp order (version_at_end v links) (last_tables loaded links) files_now)
-  pub answers : AnswersAs cmp s v tables (version_at_end v links) (last_tables loaded links)
-  pub installed : (start : World) → AlwaysStandsAs cmp order v loaded start before → OnOk result
-      (AlwaysStandsAs cmp order (version_at_end v links) (last_tables loaded links) start after)
-  pub ended : IfOk result (IsEndOf (version_at_end v links) bottom goes)
-  pub refused : IfErr result (λ e. UnlessMemory e (IsStopped failed now e
-      ⊎ IsNextRefused cmp short_keys s bottom (version_at_end v links) (last_tables loaded links)
-      e))
+  pub holds : Tells call.change.new files_now
+  pub read : IsAtLink by.cmp by.order v.version v.tables (links ++ begun) files_now
+  pub reads_last : OnOk result (ReadsAs by.cmp by.order (version_at_end v.version links)
+      (last_tables v.tables links) files_now)
+  pub answers : AnswersAs by.cmp s v.version tables (version_at_end v.version links)
+      (last_tables v.tables links)
+  pub installed : (start : World) →
+      AlwaysStandsAs by.cmp by.order v.version v.tables start call.change.before → OnOk result
+      (AlwaysStandsAs by.cmp by.order (version_at_end v.version links) (last_tables v.tables links)
+      start call.change.after)
+  pub ended : IfOk result (IsEndOf (version_at_end v.version links) bottom goes)
+  pub refused : IfErr result (λ e. UnlessMemory e (IsStopped call.failed call.now e
+      ⊎ IsNextRefused by.cmp by.short_keys s bottom (version_at_end v.version links)
+      (last_tables v.tables links) e))
 
 -- No file of the version is above its bottom, so nothing was changed, tested or told.
-pub record IsAtBottom {W : Type 0} (v : State) (before after : List Step) (old new : ToldFiles)
-    (told told_now : W) (result : Result DescentEnd Fault) : Type 0 where
+pub record IsAtBottom {W : Type 0} (v : State) (change : FolderChange) (told told_now : W)
+    (result : Result DescentEnd Fault) : Type 0 where
   pub bottom : ℕ
   pub is_bottom : IsBottom v bottom
   pub none_above : IsNextLevel v bottom None
-  pub calls : after ≡ before
-  pub same : TellsSame old new
+  pub calls : change.after ≡ change.before
+  pub same : TellsSame change.old change.new
   pub untold : told_now ≡ told
   pub answer : result ≡ Ok AtBottom
 
 -- What is left of a folder that opens as a version, of which all levels are compacted after a test
 -- of it. Nothing was changed or told: the test is refused, or the device failed. Or no file is
 -- above the bottom. Or the version is lawful, and compactions were made.
-abbrev pub IsAllLeft : {W : Type 0} → (W → StepView → Bool → W → Type 0) → Order → KeyOrder →
-    ShortKeys → Settings → State → Files → List Step → List Step → ToldFiles → ToldFiles → ℕ → ℕ → W → W →
-    Result DescentEnd Fault → Type 0
-IsAllLeft tells order cmp short_keys s v files before after old new failed now told told_now
-    result =
-    IsUntold before after old new told told_now
-    (λ e. IsStopped failed now e ⊎ IsTested (IsFileIn files) cmp v (Err e)) result
-    ⊎ (IsAtBottom v before after old new told told_now result
+abbrev pub IsAllLeft : {W : Type 0} → OrderView → Settings → State → Files → FolderCall →
+    Telling W → Result DescentEnd Fault → Type 0
+IsAllLeft by s v files call told result =
+    IsUntold call.change told.old told.new
+    (λ e. IsStopped call.failed call.now e ⊎ IsTested (IsFileIn files) by.cmp v (Err e)) result
+    ⊎ (IsAtBottom v call.change told.old told.new result
     ⊎ ((loaded : List (ℕ × List ℕ)) × (tables : List NumberedContents)
-    × ReadsAs cmp order v loaded files × IsLawfulTables cmp v loaded (Ok tables)
-    × IsDescended tells order cmp short_keys s v loaded tables before after new failed now told
-    told_now result))
+    × ReadsAs by.cmp by.order v loaded files × IsLawfulTables by.cmp v loaded (Ok tables)
+    × IsDescended by s (version_with v loaded) tables call told result))

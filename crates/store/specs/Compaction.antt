@@ -5,11 +5,10 @@ use Rattle.folder.specs.Answers.{UnlessMemory, fault}
 use Rattle.folder.specs.fault.Fault.{Fault}
 use Rattle.folder.specs.fault.FaultName.TheVariants.{Device}
 use Rattle.folder.specs.Version.{State}
-use Rattle.folder.specs.Calls.{ToldFiles, Call, Done, Files, FolderSynced, Step, Tells}
+use Rattle.folder.specs.Calls.{Call, Done, Files, FolderSynced, Step, Tells}
 use Rattle.folder.specs.CallSequence.{AreMade}
 use Rattle.folder.specs.Crash.{IsDurable, Leads, World}
 use Rattle.folder.specs.Folder.{TellsSame}
-use Rattle.folder.specs.Manifest.{order_name}
 use Rattle.folder.specs.Names.{current_text}
 use Rattle.folder.specs.OpenAnswer.{IsOpened}
 use Rattle.folder.specs.ReadsAs.{IsFileIn, ReadsAs, RestsOn}
@@ -25,18 +24,20 @@ use Rattle.store.specs.FolderRequest.{compaction_from, last_of, manifest_of}
 use Rattle.store.specs.Step.{step_in, step_of}
 use Rattle.store.specs.VersionSync.{AlwaysReadsBy, sync_calls}
 use Rattle.store.specs.declared.compaction_step.CompactionStep.{CompactionStep}
-use Rattle.folder.specs.Orders.{order_cmp, order_short_keys}
+use Rattle.folder.specs.Orders.{order_cmp}
 use Rattle.compact.specs.declared.settings.Settings.{Settings}
-use Rattle.folder.specs.Comparator.{KeyOrder, ShortKeys}
+use Rattle.folder.specs.Comparator.{KeyOrder}
+use Rattle.folder.specs.FolderChange.{FolderChange, change_since}
+use Rattle.install.specs.Install.{LoadedVersion, version_with}
+use Rattle.store.specs.OrderView.{OrderView, order_view}
 
 -- The edited version of a compaction's answer: the answer's edit makes it of the version, by a
 -- manifest whose number is next file. Last sequence stays, and next file rises. With the tables
 -- that an installation leaves it is lawful, and each get at a readable sequence answers as before.
-pub record EditedVersion (order : Order) (cmp : KeyOrder) (v : State) (loaded : List (ℕ × List ℕ))
+pub record EditedVersion (cmp : KeyOrder) (v : State) (loaded : List (ℕ × List ℕ))
     (tables : List NumberedContents) (s : Settings) (answer : Answer) : Type 0 where
   pub next : State
-  pub edited : IsEditedBy (order_name order) cmp order v (manifest_of v) answer.tables answer.edit
-      next
+  pub edited : IsEditedBy cmp v (manifest_of v) answer.tables answer.edit next
   pub last : last_of next ≡ last_of v
   pub some : 0 < manifest_of v
   pub rises : manifest_of v < manifest_of next
@@ -50,93 +51,89 @@ pub record EditedVersion (order : Order) (cmp : KeyOrder) (v : State) (loaded : 
 -- A compaction of a level of a version with the bytes of its tables. The version is lawful, these
 -- inputs are picked, and this is the answer. Its edit makes the edited version, also by an
 -- installation later on: the outputs' numbers are above the manifest's.
-pub record LevelCompaction (order : Order) (cmp : KeyOrder) (short_keys : ShortKeys) (v : State)
-    (loaded : List (ℕ × List ℕ)) (level : ℕ) (first : Option ℕ) (s : Settings) (p : PickedInputs)
-    (answer : Answer) : Type 0 where
+pub record LevelCompaction (by : OrderView) (v : LoadedVersion) (level : ℕ) (first : Option ℕ)
+    (s : Settings) (p : PickedInputs) (answer : Answer) : Type 0 where
   pub tables : List NumberedContents
-  pub lawful : IsLawfulTables cmp v loaded (Ok tables)
-  pub is_picked : IsPicked cmp v level p
-  pub answered : compaction_from first cmp short_keys v loaded p s ≡ Ok answer
-  pub edited : EditedVersion order cmp v loaded tables s answer
+  pub lawful : IsLawfulTables by.cmp v.version v.tables (Ok tables)
+  pub is_picked : IsPicked by.cmp v.version level p
+  pub answered : compaction_from first by.cmp by.short_keys v.version v.tables p s ≡ Ok answer
+  pub edited : EditedVersion by.cmp v.version v.tables tables s answer
+
+-- the edited version of a compaction, with the tables that an installation of it leaves
+abbrev pub next_of : {by : OrderView} {v : LoadedVersion} {level : ℕ} {first : Option ℕ}
+    {s : Settings} {p : PickedInputs} {answer : Answer} →
+    LevelCompaction by v level first s p answer → LoadedVersion
+next_of {by} {v} {level} {first} {s} {p} {answer} c = version_with c.edited.next
+    (next_version_tables by.cmp c.edited.next answer.tables v.tables)
 
 -- a compaction of a level of this version, as which the files read
-pub record Compaction (order : Order) (cmp : KeyOrder) (short_keys : ShortKeys) (v : State)
-    (files : Files) (level : ℕ) (s : Settings) : Type 0 where
+pub record Compaction (by : OrderView) (v : State) (files : Files) (level : ℕ) (s : Settings)
+    : Type 0 where
   pub loaded : List (ℕ × List ℕ)
-  pub reads : ReadsAs cmp order v loaded files
+  pub reads : ReadsAs by.cmp by.order v loaded files
   pub picked : PickedInputs
   pub answer : Answer
-  pub compacted : LevelCompaction order cmp short_keys v loaded level None s picked answer
-
--- the edited version of a compaction
-abbrev pub next_of : {order : Order} {cmp : KeyOrder} {short_keys : ShortKeys} {v : State}
-    {files : Files} {level : ℕ} {s : Settings} →
-    Compaction order cmp short_keys v files level s → State
-next_of c = c.compacted.edited.next
+  pub compacted : LevelCompaction by (version_with v loaded) level None s picked answer
 
 -- No call that writes was made, and the folder holds what it held.
-pub record IsUnchanged {T : Type 0} (before after : List Step) (old new : ToldFiles)
-    (result : Result T Fault) : Type 0 where
-  pub calls : after ≡ before
-  pub same : TellsSame old new
+pub record IsUnchanged {T : Type 0} (change : FolderChange) (result : Result T Fault)
+    : Type 0 where
+  pub calls : change.after ≡ change.before
+  pub same : TellsSame change.old change.new
   pub refused : OnOk result ⊥
 
 -- The only calls that write were syncs, the first of these, and the folder holds what it held.
-pub record IsSynced {T : Type 0} (syncs : List Call) (before after : List Step)
-    (old new : ToldFiles) (result : Result T Fault) : Type 0 where
+pub record IsSynced {T : Type 0} (syncs : List Call) (change : FolderChange)
+    (result : Result T Fault) : Type 0 where
   pub steps : List Step
   pub made : AreMade syncs steps
-  pub calls : after ≡ before ++ steps
-  pub same : (files : Files) → Tells old files → Tells new files
+  pub calls : change.after ≡ change.before ++ steps
+  pub same : (files : Files) → Tells change.old files → Tells change.new files
   pub refused : OnOk result ⊥
 
 -- A compaction was installed, from these calls on. A crash at any moment leaves the version before
 -- or the edited one. At Ok it is the edited one, and the step is that of the answer. The only
 -- faults are Device and Memory.
-pub record IsInstalled (order : Order) (cmp : KeyOrder) (short_keys : ShortKeys) (v : State)
-    (files : Files) (level : ℕ) (s : Settings) (before after : List Step) (old new : ToldFiles)
-    (result : Result CompactionStep Fault) : Type 0 where
-  pub compaction : Compaction order cmp short_keys v files level s
-  pub survives : SurvivesCrash cmp order v compaction.loaded (next_of compaction)
-      (next_version_tables cmp (next_of compaction) compaction.answer.tables compaction.loaded)
-      before after old new result
+pub record IsInstalled (by : OrderView) (v : State) (files : Files) (level : ℕ) (s : Settings)
+    (change : FolderChange) (result : Result CompactionStep Fault) : Type 0 where
+  pub compaction : Compaction by v files level s
+  pub survives : SurvivesCrash by.cmp by.order (version_with v compaction.loaded)
+      (next_of compaction.compacted) change result
   pub step : IfOk result
       (λ step. step_in step ≡ step_of v compaction.picked compaction.answer)
   pub refused : IfErr result (λ e. UnlessMemory e (e ≡ fault Device))
 
 -- what is left of a folder that reads as this version, which has this order: it is unchanged, or a
 -- compaction was installed
-abbrev pub IsVersionLeft : Order → KeyOrder → ShortKeys → State → Files → ℕ → Settings → List Step →
-    List Step → ToldFiles → ToldFiles → Result CompactionStep Fault → Type 0
-IsVersionLeft order cmp short_keys v files level s before after old new result =
-    IsUnchanged before after old new result
-    ⊎ IsInstalled order cmp short_keys v files level s before after old new result
+abbrev pub IsVersionLeft : OrderView → State → Files → ℕ → Settings → FolderChange →
+    Result CompactionStep Fault → Type 0
+IsVersionLeft by v files level s change result = IsUnchanged change result
+    ⊎ IsInstalled by v files level s change result
 
 -- What is left of a folder that was opened as a version by the manifest of a number. It holds what
 -- it held, and at most the version was synced; or after the sync of it a compaction was installed.
 -- If the folder reads as the version, whatever was synced before, it stands for it after that sync.
-pub record IsOpenedLeft (files : Files) (level : ℕ) (s : Settings) (before after : List Step)
-    (old new : ToldFiles) (result : Result CompactionStep Fault) : Type 0 where
+pub record IsOpenedLeft (files : Files) (level : ℕ) (s : Settings) (change : FolderChange)
+    (result : Result CompactionStep Fault) : Type 0 where
   pub order : Order
   pub version : State
   pub manifest : ℕ
   pub opened : IsOpened (IsFileIn files) (Ok (order, version))
   pub named : files (codes "CURRENT") ≡ Some (current_text manifest)
-  pub left : IsSynced (sync_calls (order_cmp order) version manifest) before after old new result
-      ⊎ IsInstalled order (order_cmp order) (order_short_keys order) version files level s
-      (before ++ map Done (sync_calls (order_cmp order) version manifest)) after old new result
+  pub left : IsSynced (sync_calls (order_cmp order) version manifest) change result
+      ⊎ IsInstalled (order_view order) version files level s
+      (change_since (map Done (sync_calls (order_cmp order) version manifest)) change) result
   pub stands : (tables : List (ℕ × List ℕ)) (start : World) →
-      AlwaysReadsBy (order_cmp order) order version manifest tables start before →
+      AlwaysReadsBy (order_cmp order) order version manifest tables start change.before →
       AlwaysStandsAs (order_cmp order) order version tables start
-      (before ++ map Done (sync_calls (order_cmp order) version manifest))
+      (change.before ++ map Done (sync_calls (order_cmp order) version manifest))
 
 -- What is left of a folder that held these files: it is untouched, as if it can't be opened, or it
 -- was opened.
-abbrev pub IsFolderLeft : Files → ℕ → Settings → List Step → List Step → ToldFiles → ToldFiles →
+abbrev pub IsFolderLeft : Files → ℕ → Settings → FolderChange →
     Result CompactionStep Fault → Type 0
-IsFolderLeft files level s before after old new result =
-    IsUnchanged before after old new result
-    ⊎ IsOpenedLeft files level s before after old new result
+IsFolderLeft files level s change result = IsUnchanged change result
+    ⊎ IsOpenedLeft files level s change result
 
 -- If a sync of the folder keeps each name on which a version rests, the folder stands for the
 -- version after it. It keeps each file that was synced, and each name without a file.

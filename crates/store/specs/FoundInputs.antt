@@ -3,10 +3,9 @@ use Rattle.std.specs.Prelude.{◌≡◌, ◌≢◌, ◌<◌, ◌^◌, ℕ, List,
 use Rattle.folder.specs.Answers.{IsThen, ◌>>=◌}
 use Rattle.folder.specs.fault.Fault.{Fault}
 use Rattle.folder.specs.fault.FaultName.TheVariants.{Device}
-use Rattle.folder.specs.Comparator.{KeyOrder, ShortKeys}
+use Rattle.folder.specs.Comparator.{KeyOrder}
 use Rattle.folder.specs.Version.{State}
 use Rattle.folder.specs.Calls.{Files}
-use Rattle.folder.specs.declared.order.Order.{Order}
 use Rattle.pick.specs.PickedInputs.{IsInputsAnswer, PickedInputs}
 use Rattle.reads.specs.Tables.{NumberedContents}
 use Rattle.checks.specs.HeldTables.{IsCheckedAnswer}
@@ -14,8 +13,9 @@ use Rattle.compact.specs.OneThread.{Answer}
 use Rattle.compact.specs.declared.settings.Settings.{Settings}
 use Rattle.store.specs.Compaction.{LevelCompaction}
 use Rattle.store.specs.InputsCompaction.{IsOrderlyAnswer, input_numbers}
-use Rattle.store.specs.Runs.{IsAnswerForInputs}
 use Rattle.store.specs.Step.{StepView, step_of}
+use Rattle.install.specs.Install.{LoadedVersion}
+use Rattle.store.specs.OrderView.{OrderView}
 
 -- The inputs of a level and their tables. The first refusal counts: of the version's files, of a
 -- level without inputs, of their tables.
@@ -29,12 +29,11 @@ IsInputsFound cmp files v level =
 
 -- if this is what the compaction of inputs answers, and the version's log numbers are below 2 ^ 64,
 -- it makes the edited version
-abbrev pub CanBeInstalled : Order → KeyOrder → ShortKeys → State → List (ℕ × List ℕ) → ℕ →
-    Settings → PickedInputs → Result Answer Fault → Type 0
-CanBeInstalled order cmp short_keys v loaded level s p answered =
-    (answer : Answer) → answered ≡ Ok answer → unwrap_or v.log_number 0 < 2 ^ 64 →
-    unwrap_or v.previous_log 0 < 2 ^ 64 →
-    LevelCompaction order cmp short_keys v loaded level None s p answer
+abbrev pub CanBeInstalled : OrderView → LoadedVersion → ℕ → Settings → PickedInputs →
+    Result Answer Fault → Type 0
+CanBeInstalled by v level s p answered =
+    (answer : Answer) → answered ≡ Ok answer → unwrap_or v.version.log_number 0 < 2 ^ 64 →
+    unwrap_or v.version.previous_log 0 < 2 ^ 64 → LevelCompaction by v level None s p answer
 
 -- the step of what a compaction of these inputs answers, or its refusal
 abbrev pub step_result : State → PickedInputs → Result Answer Fault → Result StepView Fault
@@ -48,8 +47,7 @@ NeverDevice answered = (e : Fault) → answered ≡ Err e → e.name ≢ Device
 abbrev pub IsAnsweredBy : PickedInputs → Result Answer Fault → PickedInputs → Answer → Type 0
 IsAnsweredBy given answered p answer = (p ≡ given) × (answered ≡ Ok answer)
 
--- these are those inputs, and it is what one thread answers for them
-abbrev pub IsAnswerForThese : KeyOrder → ShortKeys → State → List (ℕ × List ℕ) → Settings →
-    PickedInputs → PickedInputs → Answer → Type 0
-IsAnswerForThese cmp short_keys v loaded s given p answer =
-    (p ≡ given) × IsAnswerForInputs cmp short_keys v loaded s p answer
+-- these are those inputs, and it is an answer for them
+abbrev pub IsAnswerForThese : (PickedInputs → Answer → Type 0) → PickedInputs → PickedInputs →
+    Answer → Type 0
+IsAnswerForThese IsAnswer given p answer = (p ≡ given) × IsAnswer p answer

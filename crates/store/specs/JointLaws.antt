@@ -4,7 +4,6 @@ use Rattle.std.specs.List.{All}
 use Rattle.folder.specs.Version.{State}
 use Rattle.folder.specs.meta.NewFile.{NewFile}
 use Rattle.folder.specs.meta.TheConstants.{LAST_LEVEL}
-use Rattle.folder.specs.declared.order.Order.{Order}
 use Rattle.pick.specs.PickedInputs.{IsPicked, PickedInputs}
 use Rattle.reads.specs.Lawful.{IsLawful}
 use Rattle.reads.specs.Tables.{NumberedContents}
@@ -34,11 +33,11 @@ OverLaw cmp =
 -- answers as before.
 abbrev pub JointLaw : KeyOrder → ShortKeys → Type 0
 JointLaw cmp short_keys =
-    (order : Order) (v : State) (loaded : List (ℕ × List ℕ)) (tables : List NumberedContents)
+    (v : State) (loaded : List (ℕ × List ℕ)) (tables : List NumberedContents)
     (level : ℕ) (p : PickedInputs) (s : Settings) (answer : Answer) →
     tables_reading cmp loaded ≡ Ok tables → IsLawful cmp v tables →
     All (λ (f : NewFile). f.level ≤ LAST_LEVEL) v.files → IsPicked cmp v level p →
     (request_of v loaded p s).log_number < 2 ^ 64 →
     (request_of v loaded p s).previous_log < 2 ^ 64 →
     one_thread cmp short_keys (request_of v loaded p s) ≡ Ok answer →
-    EditedVersion order cmp v loaded tables s answer
+    EditedVersion cmp v loaded tables s answer

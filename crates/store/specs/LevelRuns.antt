@@ -23,6 +23,8 @@ use Rattle.store.specs.Runs.{IsAnswerForLevel}
 use Rattle.store.specs.Step.{StepView, step_of}
 use Rattle.store.specs.declared.descent_end.DescentEnd.{DescentEnd}
 use Rattle.store.specs.declared.descent_end.DescentEnd.TheVariants.{AtBottom, Stopped}
+use Rattle.folder.specs.FolderChange.{FolderChange, change_since}
+use Rattle.store.specs.Telling.{Telling, telling}
 
 -- an answer that is installed: with its inputs, and the groups in which its tables are written
 pub record GroupedAnswer : Type 0 where
@@ -109,34 +111,35 @@ abbrev pub IsStopTold : Bool → DescentEnd → Type 0
 IsStopTold goes end = (end ≡ Stopped) × (goes ≡ false)
 
 -- the last compaction of a row, after which none follows: it was refused, or told to stop
-pub record IsLastBegun {W : Type 0} (tells : W → StepView → Bool → W → Type 0) (order : Order)
-    (s : Settings) (bottom : ℕ) (v : State) (before after : List Step) (told told_now : W)
-    (result : Result DescentEnd Fault) : Type 0 where
+pub record IsLastBegun {W : Type 0} (order : Order) (s : Settings) (bottom : ℕ) (v : State)
+    (change : FolderChange) (told : Telling W) (result : Result DescentEnd Fault) : Type 0 where
   pub level : ℕ
   pub next_level : IsNextLevel v bottom (Some level)
-  pub begun : IsLevelBegun order v level s before after result
-  pub is_told : IsToldOf tells (step_of_answer v begun.installed) told told_now IsStopTold result
+  pub begun : IsLevelBegun order v level s change.before change.after result
+  pub is_told : IsToldOf told.tells (step_of_answer v begun.installed) told.old told.new IsStopTold
+      result
 
 -- Compactions of one level after the other were made, each of the version that the one before it
 -- leaves. Each was told, and told to go on. At most one more was begun. If none more was, at Ok no
 -- file is above the bottom.
-pub record IsDescentRun {W : Type 0} (tells : W → StepView → Bool → W → Type 0) (order : Order)
-    (s : Settings) (v : State) (before after : List Step) (told told_now : W)
-    (result : Result DescentEnd Fault) : Type 0 where
+pub record IsDescentRun {W : Type 0} (order : Order) (s : Settings) (v : State)
+    (change : FolderChange) (told : Telling W) (result : Result DescentEnd Fault) : Type 0 where
   pub bottom : ℕ
   pub is_bottom : IsBottom v bottom
   pub links : List LevelLink
   pub chain : AreLevelLinks order s bottom v links
   pub told_last : W
-  pub told_steps : AreToldInTurn tells told (steps_of_links v links) true told_last
-  pub last : ((after ≡ before ++ calls_of_links order v links) × (told_now ≡ told_last)
+  pub told_steps : AreToldInTurn told.tells told.old (steps_of_links v links) true told_last
+  pub last : ((change.after ≡ change.before ++ calls_of_links order v links)
+      × (told.new ≡ told_last)
       × IfOk result (λ e. (e ≡ AtBottom) × IsNextLevel (version_after v links) bottom None))
-      ⊎ IsLastBegun tells order s bottom (version_after v links)
-      (before ++ calls_of_links order v links) after told_last told_now result
+      ⊎ IsLastBegun order s bottom (version_after v links)
+      (change_since (calls_of_links order v links) change)
+      (telling told.tells told_last told.new) result
 
 -- no call that writes was made, and nothing told; or these are the calls, and what was told
-abbrev pub IsAllLevelsRun : {W : Type 0} → (W → StepView → Bool → W → Type 0) → Order → Settings →
-    State → List Step → List Step → W → W → Result DescentEnd Fault → Type 0
-IsAllLevelsRun tells order s v before after told told_now result =
-    MakesNoCalls before after told told_now result
-    ⊎ IsDescentRun tells order s v before after told told_now result
+abbrev pub IsAllLevelsRun : {W : Type 0} → Order → Settings → State → FolderChange → Telling W →
+    Result DescentEnd Fault → Type 0
+IsAllLevelsRun order s v change told result =
+    MakesNoCalls change.before change.after told.old told.new result
+    ⊎ IsDescentRun order s v change told result

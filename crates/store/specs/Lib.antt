@@ -4,6 +4,7 @@ pub use Rattle.split.specs.Ranges
 pub mod FolderRequest
 pub mod Step
 pub mod Answers
+pub mod OrderView
 pub mod InputsCompaction
 pub mod VersionSync
 pub mod Compaction
@@ -17,6 +18,7 @@ pub mod LevelRuns
 pub mod Outcome
 pub mod WholeOutcome
 pub mod FilesToCompact
+pub mod Telling
 pub mod Untold
 -- serves proofs alone
 pub mod CallsAnswer

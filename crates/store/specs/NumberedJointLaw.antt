@@ -4,7 +4,6 @@ use Rattle.std.specs.List.{All}
 use Rattle.folder.specs.Version.{State}
 use Rattle.folder.specs.meta.NewFile.{NewFile}
 use Rattle.folder.specs.meta.TheConstants.{LAST_LEVEL}
-use Rattle.folder.specs.declared.order.Order.{Order}
 use Rattle.pick.specs.PickedInputs.{IsPicked, PickedInputs}
 use Rattle.reads.specs.Lawful.{IsLawful}
 use Rattle.reads.specs.Tables.{NumberedContents}
@@ -19,7 +18,7 @@ use Rattle.folder.specs.Comparator.{KeyOrder, ShortKeys}
 -- the manifest's.
 abbrev pub NumberedJointLaw : KeyOrder → ShortKeys → Type 0
 NumberedJointLaw cmp short_keys =
-    (number : ℕ) (order : Order) (v : State) (loaded : List (ℕ × List ℕ))
+    (number : ℕ) (v : State) (loaded : List (ℕ × List ℕ))
     (tables : List NumberedContents) (level : ℕ) (p : PickedInputs) (s : Settings)
     (answer : Answer) → manifest_of v < number →
     tables_reading cmp loaded ≡ Ok tables → IsLawful cmp v tables →
@@ -27,4 +26,4 @@ NumberedJointLaw cmp short_keys =
     (request_from number v loaded p s).log_number < 2 ^ 64 →
     (request_from number v loaded p s).previous_log < 2 ^ 64 →
     one_thread cmp short_keys (request_from number v loaded p s) ≡ Ok answer →
-    EditedVersion order cmp v loaded tables s answer
+    EditedVersion cmp v loaded tables s answer

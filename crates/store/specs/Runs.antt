@@ -7,7 +7,7 @@ use Rattle.folder.specs.fault.FaultName.TheVariants.{Changed, Device}
 use Rattle.folder.specs.Comparator.{KeyOrder, ShortKeys}
 use Rattle.reads.specs.TableContents.{Contents}
 use Rattle.folder.specs.Version.{State}
-use Rattle.folder.specs.Calls.{Done, Step, ToldFiles}
+use Rattle.folder.specs.Calls.{Done}
 use Rattle.folder.specs.CallSequence.{MakesCalls}
 use Rattle.folder.specs.Manifest.{order_name}
 use Rattle.folder.specs.Names.{current_text}
@@ -24,40 +24,39 @@ use Rattle.store.specs.InputsCompaction.{input_numbers, input_tables}
 use Rattle.store.specs.Step.{step_in, step_of}
 use Rattle.store.specs.VersionSync.{sync_calls}
 use Rattle.store.specs.declared.compaction_step.CompactionStep.{CompactionStep}
+use Rattle.folder.specs.FolderChange.{FolderChange, change_since}
 
 -- The calls of the installation of an answer, up to one that fails. Its tables are written in
 -- groups; the manifest has the version and the answer's edit. At Changed all calls before the
 -- rename were made, and no others.
 pub record AreInstallCalls {T : Type 0} (name : List ℕ) (cmp : KeyOrder) (v : State)
-    (answer : Answer) (before after : List Step) (old new : ToldFiles) (result : Result T Fault)
-    : Type 0 where
+    (answer : Answer) (change : FolderChange) (result : Result T Fault) : Type 0 where
   pub groups : List (List (ℕ × List ℕ))
   pub together : flat_map (λ (g : List (ℕ × List ℕ)). g) groups ≡ answer.tables
   pub runs : MakesCalls
       (install_calls (manifest_of v) groups (manifest_bytes name cmp v answer.edit))
-      before after old new result
-  pub changed : IfErr result (λ e. e ≡ fault Changed → after ≡ before ++ map Done
+      change.before change.after change.old change.new result
+  pub changed : IfErr result (λ e. e ≡ fault Changed → change.after ≡ change.before ++ map Done
       (calls_before_rename (manifest_of v) groups (manifest_bytes name cmp v answer.edit)))
 
 -- An answer like this for some inputs was installed: these are its calls. At Ok the step is that of
 -- the answer. The only faults are Device, Changed and Memory.
 pub record IsAnswerInstalled (IsAnswer : PickedInputs → Answer → Type 0) (name : List ℕ)
-    (cmp : KeyOrder) (v : State) (before after : List Step) (old new : ToldFiles)
-    (result : Result CompactionStep Fault) : Type 0 where
+    (cmp : KeyOrder) (v : State) (change : FolderChange) (result : Result CompactionStep Fault)
+    : Type 0 where
   pub picked : PickedInputs
   pub answer : Answer
   pub is_answer : IsAnswer picked answer
-  pub calls : AreInstallCalls name cmp v answer before after old new result
+  pub calls : AreInstallCalls name cmp v answer change result
   pub step : IfOk result (λ step. step_in step ≡ step_of v picked answer)
   pub refused : IfErr result
       (λ e. UnlessMemory e ((e ≡ fault Device) ⊎ (e ≡ fault Changed)))
 
 -- no call that writes was made; or an answer like this was installed
-abbrev pub IsRun : (PickedInputs → Answer → Type 0) → List ℕ → KeyOrder → State → List Step →
-    List Step → ToldFiles → ToldFiles → Result CompactionStep Fault → Type 0
-IsRun IsAnswer name cmp v before after old new result =
-    IsUnchanged before after old new result
-    ⊎ IsAnswerInstalled IsAnswer name cmp v before after old new result
+abbrev pub IsRun : (PickedInputs → Answer → Type 0) → List ℕ → KeyOrder → State → FolderChange →
+    Result CompactionStep Fault → Type 0
+IsRun IsAnswer name cmp v change result = IsUnchanged change result
+    ⊎ IsAnswerInstalled IsAnswer name cmp v change result
 
 -- What one thread answers for inputs with these tables. Each table is valid, and as its file
 -- states.
@@ -78,29 +77,28 @@ pub record IsAnswerForLevel (cmp : KeyOrder) (short_keys : ShortKeys) (v : State
   pub is_answer : IsAnswerForInputs cmp short_keys v loaded s picked answer
 
 -- no call that writes was made; or one thread's answer for a level of this version was installed
-abbrev pub IsLevelRun : List ℕ → KeyOrder → ShortKeys → State → ℕ → Settings → List Step →
-    List Step → ToldFiles → ToldFiles → Result CompactionStep Fault → Type 0
-IsLevelRun name cmp short_keys v level s before after old new result =
-    IsRun (IsAnswerForLevel cmp short_keys v level s) name cmp v before after old new result
+abbrev pub IsLevelRun : Order → State → ℕ → Settings → FolderChange →
+    Result CompactionStep Fault → Type 0
+IsLevelRun order v level s change result =
+    IsRun (IsAnswerForLevel (order_cmp order) (order_short_keys order) v level s)
+    (order_name order) (order_cmp order) v change result
 
 -- A version was opened by the manifest of a number, as the bytes say that were read. Then the
 -- syncs of it were made, up to one that failed, and no other call that writes. Or all of them were
 -- made, and after them one thread's answer for a level was installed.
-pub record IsOpenedRun (level : ℕ) (s : Settings) (before after : List Step) (old new : ToldFiles)
+pub record IsOpenedRun (level : ℕ) (s : Settings) (change : FolderChange)
     (result : Result CompactionStep Fault) : Type 0 where
   pub order : Order
   pub version : State
   pub manifest : ℕ
-  pub opened : IsOpened old (Ok (order, version))
-  pub named : old (codes "CURRENT") (Some (current_text manifest))
-  pub runs : IsSynced (sync_calls (order_cmp order) version manifest) before after old new result
+  pub opened : IsOpened change.old (Ok (order, version))
+  pub named : change.old (codes "CURRENT") (Some (current_text manifest))
+  pub runs : IsSynced (sync_calls (order_cmp order) version manifest) change result
       ⊎ IsAnswerInstalled
       (IsAnswerForLevel (order_cmp order) (order_short_keys order) version level s)
       (order_name order) (order_cmp order) version
-      (before ++ map Done (sync_calls (order_cmp order) version manifest)) after old new result
+      (change_since (map Done (sync_calls (order_cmp order) version manifest)) change) result
 
 -- no call that writes was made; or a version was opened, and this is what followed
-abbrev pub IsFolderRun : ℕ → Settings → List Step → List Step → ToldFiles → ToldFiles →
-    Result CompactionStep Fault → Type 0
-IsFolderRun level s before after old new result =
-    IsUnchanged before after old new result ⊎ IsOpenedRun level s before after old new result
+abbrev pub IsFolderRun : ℕ → Settings → FolderChange → Result CompactionStep Fault → Type 0
+IsFolderRun level s change result = IsUnchanged change result ⊎ IsOpenedRun level s change result

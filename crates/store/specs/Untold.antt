@@ -1,13 +1,13 @@
 -- What a call leaves that told nothing.
-use Rattle.std.specs.Prelude.{◌≡◌, List, Result, IfErr}
+use Rattle.std.specs.Prelude.{◌≡◌, Result, IfErr}
 use Rattle.folder.specs.Answers.{UnlessMemory}
 use Rattle.folder.specs.fault.Fault.{Fault}
-use Rattle.folder.specs.Calls.{ToldFiles, Step}
 use Rattle.store.specs.Compaction.{IsUnchanged}
+use Rattle.folder.specs.FolderChange.{FolderChange}
 
 -- nothing was changed and nothing told, for a reason unless memory ran out
-pub record IsUntold {T W : Type 0} (before after : List Step) (old new : ToldFiles)
-    (told told_now : W) (IsReason : Fault → Type 0) (result : Result T Fault) : Type 0 where
-  pub unchanged : IsUnchanged before after old new result
+pub record IsUntold {T W : Type 0} (change : FolderChange) (told told_now : W)
+    (IsReason : Fault → Type 0) (result : Result T Fault) : Type 0 where
+  pub unchanged : IsUnchanged change result
   pub same : told_now ≡ told
   pub reason : IfErr result (λ e. UnlessMemory e (IsReason e))

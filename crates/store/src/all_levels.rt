@@ -9,7 +9,7 @@ ghost use Rattle.checks.specs.LawfulTables.{IsLawfulTables};
 ghost use Rattle.folder.specs.Calls.{Files, Tells};
 ghost use Rattle.folder.specs.Names.{current_text};
 ghost use Rattle.folder.specs.OpenAnswer.{FolderAnswers, IsOpened};
-ghost use Rattle.folder.specs.Orders.{order_cmp, order_short_keys};
+ghost use Rattle.folder.specs.Orders.{order_cmp};
 ghost use Rattle.folder.specs.ReadsAs.{IsFileIn, ReadsAs};
 ghost use Rattle.folder.specs.Reports.{OnlyReads, ReportsDevice};
 ghost use Rattle.reads.specs.Tables.{NumberedContents};
@@ -21,6 +21,10 @@ ghost use Rattle.store.specs.OpenedAfter.{IsOpenedAfter};
 ghost use Rattle.store.specs.Step.{step_in};
 ghost use Rattle.store.specs.StepTaken.{IsGoTold, IsNextBegun, IsStepTaken};
 ghost use Rattle.store.specs.Untold.{IsUntold};
+ghost use Rattle.folder.specs.FolderChange.{change_of, call_of};
+ghost use Rattle.install.specs.Install.{version_with};
+ghost use Rattle.store.specs.OrderView.{order_view};
+ghost use Rattle.store.specs.Telling.{telling};
 
 use crate::compaction_step::CompactionStep;
 use crate::descent::{bottom, next_level};
@@ -61,15 +65,13 @@ pub fn compact_all<
     ensures left { (files : Files) → Tells (F.tells folder.old) files →
         files (codes "CURRENT") ≡ Some (current_text opened.manifest) →
         IsOpened (IsFileIn files) (Ok (opened.order, opened.version)) →
-        IsAllLeft T.tells opened.order (order_cmp opened.order) (order_short_keys opened.order)
-        settings.now opened.version files (F.calls folder.old) (F.calls folder.new)
-        (F.tells folder.old) (F.tells folder.new) (F.failed folder.old) (F.failed folder.new)
-        (told.old) (told.new) result }
+        IsAllLeft (order_view opened.order) settings.now opened.version files
+        (call_of F.Folder folder.old folder.new) (telling T.tells told.old told.new) result }
     // Of any folder, also one that tells nothing: the calls are those of such compactions, each of
     // the version that the one before it leaves, up to one that fails. Each is told, and the next
     // one begun only if that is said.
-    ensures runs { IsAllLevelsRun T.tells opened.order settings.now opened.version
-        (F.calls folder.old) (F.calls folder.new) (told.old) (told.new) result }
+    ensures runs { IsAllLevelsRun opened.order settings.now opened.version
+        (change_of F.Folder folder.old folder.new) (telling T.tells told.old told.new) result }
     ensures device { ReportsDevice F.Folder folder.old folder.new result }
 {
     let alloc = workers.alloc();
@@ -105,15 +107,12 @@ pub fn compact_levels<
         files (codes "CURRENT") ≡ Some (current_text opened.manifest) →
         ReadsAs (order_cmp opened.order) opened.order opened.version loaded files →
         IsLawfulTables (order_cmp opened.order) opened.version loaded (Ok tables) →
-        IsUntold (F.calls folder.old) (F.calls folder.new) (F.tells folder.old) (F.tells folder.new)
-        (told.old) (told.new) (λ e. ⊥) result
-        ⊎ IsDescended T.tells opened.order (order_cmp opened.order) (order_short_keys opened.order)
-        settings.now opened.version loaded tables (F.calls folder.old) (F.calls folder.new)
-        (F.tells folder.new) (F.failed folder.old) (F.failed folder.new)
-        (told.old) (told.new) result }
+        IsUntold (change_of F.Folder folder.old folder.new) told.old told.new (λ e. ⊥) result
+        ⊎ IsDescended (order_view opened.order) settings.now (version_with opened.version loaded)
+        tables (call_of F.Folder folder.old folder.new) (telling T.tells told.old told.new) result }
     // Of any folder, as of `compact_all`.
-    ensures runs { IsAllLevelsRun T.tells opened.order settings.now opened.version
-        (F.calls folder.old) (F.calls folder.new) (told.old) (told.new) result }
+    ensures runs { IsAllLevelsRun opened.order settings.now opened.version
+        (change_of F.Folder folder.old folder.new) (telling T.tells told.old told.new) result }
     ensures device { ReportsDevice F.Folder folder.old folder.new result }
 {
     let alloc = workers.alloc();
@@ -146,14 +145,13 @@ fn take_step<F: ReadsTables + WritesTables, T: InstallWatch, W: Watch + Sync, R:
         files (codes "CURRENT") ≡ Some (current_text opened.now.manifest) →
         ReadsAs (order_cmp opened.now.order) opened.now.order opened.now.version loaded files →
         IsLawfulTables (order_cmp opened.now.order) opened.now.version loaded (Ok tables) →
-        IsStepTaken T.tells opened.now.order (order_cmp opened.now.order)
-        (order_short_keys opened.now.order) opened.now.version loaded level settings.now
-        (F.calls folder.old) (F.calls folder.new) (F.tells folder.old) (F.tells folder.new)
-        (F.failed folder.old) (F.failed folder.new) (told.old) (told.new) result }
+        IsStepTaken (order_view opened.now.order) (version_with opened.now.version loaded) level
+        settings.now (call_of F.Folder folder.old folder.new) (telling T.tells told.old told.new)
+        result }
     ensures runs { MakesNoCalls (F.calls folder.old) (F.calls folder.new) (told.old) (told.new)
         result
-        ⊎ IsNextBegun T.tells opened.now.order opened.now.version level settings.now
-        (F.calls folder.old) (F.calls folder.new) (told.old) (told.new) result }
+        ⊎ IsNextBegun opened.now.order opened.now.version level settings.now
+        (change_of F.Folder folder.old folder.new) (telling T.tells told.old told.new) result }
     ensures device { ReportsDevice F.Folder folder.old folder.new result }
 {
     let alloc = workers.alloc();

@@ -11,8 +11,10 @@ ghost use Rattle.folder.specs.Reports.{ReportsDevice};
 ghost use Rattle.folder.specs.declared.order.Order.{Order};
 ghost use Rattle.store.specs.Answers.{IsFolderCompacted, IsVersionCompacted};
 ghost use Rattle.store.specs.Compaction.{IsFolderLeft, IsVersionLeft};
-ghost use Rattle.store.specs.Runs.{IsFolderRun, IsLevelRun};
+ghost use Rattle.store.specs.Runs.{IsFolderRun, IsLevelRun, IsAnswerForLevel, IsRun};
 ghost use Rattle.store.specs.Step.{step_in};
+ghost use Rattle.folder.specs.FolderChange.{change_of};
+ghost use Rattle.store.specs.OrderView.{order_by, order_view};
 
 use crate::compaction_step::CompactionStep;
 use crate::input_compaction::compact_step;
@@ -68,13 +70,12 @@ pub fn compact_dir<F: ReadsTables + WritesTables, W: Watch + Sync, R: Threads + 
     // What is left of the folder: what it held, or the edited version, which is lawful and answers
     // each readable get as before.
     ensures left { (files : Files) → Tells (F.tells folder.old) files →
-        IsFolderLeft files level settings.now (F.calls folder.old) (F.calls folder.new)
-        (F.tells folder.old) (F.tells folder.new) result }
+        IsFolderLeft files level settings.now (change_of F.Folder folder.old folder.new) result }
     // Of any folder, also one that tells nothing: no call that writes was made; or a version was
     // opened, and the calls are its syncs and then those of one thread's answer for this level, in
     // their order, up to one that fails.
-    ensures runs { IsFolderRun level settings.now (F.calls folder.old) (F.calls folder.new)
-        (F.tells folder.old) (F.tells folder.new) result }
+    ensures runs { IsFolderRun level settings.now (change_of F.Folder folder.old folder.new)
+        result }
     ensures device { ReportsDevice F.Folder folder.old folder.new result }
 {
     let alloc = workers.alloc();
@@ -105,15 +106,12 @@ pub fn compact_opened<F: ReadsTables + WritesTables, W: Watch + Sync, R: Threads
     // If moreover they open as this version in this order.
     ensures left { IfCurrent (F.tells folder.old) opened.now.manifest (λ files.
         IsOpened (IsFileIn files) (Ok (opened.now.order, opened.now.version)) →
-        IsVersionLeft opened.now.order (order_cmp opened.now.order)
-        (order_short_keys opened.now.order) opened.now.version files level settings.now
-        (F.calls folder.old) (F.calls folder.new) (F.tells folder.old) (F.tells folder.new)
-        result) }
+        IsVersionLeft (order_view opened.now.order) opened.now.version files level settings.now
+        (change_of F.Folder folder.old folder.new) result) }
     // Of any folder, also one that tells nothing: no call that writes was made; or the calls are
     // those of one thread's answer for this level, in their order, up to one that fails.
-    ensures runs { IsLevelRun (order_name opened.now.order) (order_cmp opened.now.order)
-        (order_short_keys opened.now.order) opened.now.version level settings.now
-        (F.calls folder.old) (F.calls folder.new) (F.tells folder.old) (F.tells folder.new) result }
+    ensures runs { IsLevelRun opened.now.order opened.now.version level settings.now
+        (change_of F.Folder folder.old folder.new) result }
     // If CURRENT is another one, the answer is never Ok.
     ensures other { IsOkOnlyIfCurrent (F.tells folder.old) opened.now.manifest result }
     ensures device { ReportsDevice F.Folder folder.old folder.new result }
@@ -152,10 +150,10 @@ fn compact_version<
         files (codes "CURRENT") ≡ Some (current_text opened.now.manifest) →
         order_name order ≡ C.name_bytes →
         IsOpened (IsFileIn files) (Ok (order, opened.now.version)) →
-        IsVersionLeft order C.cmp C.short_keys opened.now.version files level settings.now
-        (F.calls folder.old) (F.calls folder.new) (F.tells folder.old) (F.tells folder.new) result }
-    ensures runs { IsLevelRun C.name_bytes C.cmp C.short_keys opened.now.version level settings.now
-        (F.calls folder.old) (F.calls folder.new) (F.tells folder.old) (F.tells folder.new) result }
+        IsVersionLeft (order_by order C.cmp C.short_keys) opened.now.version files level
+        settings.now (change_of F.Folder folder.old folder.new) result }
+    ensures runs { IsRun (IsAnswerForLevel C.cmp C.short_keys opened.now.version level settings.now)
+        C.name_bytes C.cmp opened.now.version (change_of F.Folder folder.old folder.new) result }
     ensures other { IsOkOnlyIfCurrent (F.tells folder.old) opened.now.manifest result }
     ensures device { ReportsDevice F.Folder folder.old folder.new result }
 {

@@ -1,6 +1,6 @@
 //! The outcome of a compaction of a folder that is not installed.
 
-ghost use Rattle.std.specs.Prelude.{◌≡◌, ℕ, List, Ok, IfOk};
+ghost use Rattle.std.specs.Prelude.{ℕ, List, Ok, IfOk};
 ghost use Rattle.checks.specs.HeldTables.{AreHeldIn};
 ghost use Rattle.checks.specs.LawfulTables.{IsLawfulTables};
 ghost use Rattle.compact.specs.AnswerIn.{answer_in};
@@ -16,6 +16,8 @@ ghost use Rattle.pick.specs.PickedInputs.{PickedInputs};
 ghost use Rattle.reads.specs.Tables.{NumberedContents};
 ghost use Rattle.store.specs.Compaction.{LevelCompaction};
 ghost use Rattle.store.specs.Outcome.{IsOutcomeOfInputs, IsOutcomeOfVersion, outcome_in};
+ghost use Rattle.install.specs.Install.{version_with};
+ghost use Rattle.store.specs.OrderView.{order_by, order_view};
 
 use crate::answered_steps::level_answer;
 use crate::compaction_outcome::CompactionOutcome;
@@ -57,9 +59,9 @@ pub fn outcome_of_opened<F: ReadsTables, W: Watch + Sync, R: Threads + Sync>(
     ensures compacted { (files : Files) → Tells (F.tells folder.old) files →
         IfOk result (λ o. (loaded : List (ℕ × List ℕ))
         × IsLoaded (IsFileIn files) (file_numbers (order_cmp opened.now.order) opened.now.version)
-        (Ok loaded) × ((p : PickedInputs) × LevelCompaction opened.now.order
-        (order_cmp opened.now.order) (order_short_keys opened.now.order) opened.now.version loaded
-        level first settings.now p (answer_in o.outcome))) }
+        (Ok loaded) × ((p : PickedInputs) × LevelCompaction (order_view opened.now.order)
+        (version_with opened.now.version loaded) level first settings.now p (answer_in
+        o.outcome))) }
     ensures device { ReportsDevice F.Folder folder.old folder.new result }
     ensures reads { OnlyReads F.Folder folder.old folder.new }
 {
@@ -106,9 +108,8 @@ pub fn outcome_of_inputs<F: ReadsTables, W: Watch + Sync, R: Threads + Sync>(
         IsLoaded (IsFileIn files) (file_numbers (order_cmp opened.now.order) opened.now.version)
         (Ok loaded) →
         IsLawfulTables (order_cmp opened.now.order) opened.now.version loaded (Ok tables) →
-        IfOk result (λ o. (p : PickedInputs) × LevelCompaction opened.now.order
-        (order_cmp opened.now.order) (order_short_keys opened.now.order) opened.now.version loaded
-        level first settings.now p (answer_in o.outcome)) }
+        IfOk result (λ o. (p : PickedInputs) × LevelCompaction (order_view opened.now.order)
+        (version_with opened.now.version loaded) level first settings.now p (answer_in o.outcome)) }
     ensures device { ReportsDevice F.Folder folder.old folder.new result }
     ensures reads { OnlyReads F.Folder folder.old folder.new }
 {
@@ -151,8 +152,8 @@ fn outcome_tested<
     ensures compacted { (files : Files) (order : Order) → Tells (F.tells folder.old) files →
         IfOk result (λ o. (loaded : List (ℕ × List ℕ))
         × IsLoaded (IsFileIn files) (file_numbers C.cmp version.now) (Ok loaded)
-        × ((p : PickedInputs) × LevelCompaction order C.cmp C.short_keys version.now loaded level
-        first settings.now p (answer_in o.outcome))) }
+        × ((p : PickedInputs) × LevelCompaction (order_by order C.cmp C.short_keys)
+        (version_with version.now loaded) level first settings.now p (answer_in o.outcome))) }
     ensures device { ReportsDevice F.Folder folder.old folder.new result }
     ensures reads { OnlyReads F.Folder folder.old folder.new }
 {
@@ -194,8 +195,8 @@ fn outcome_untested<
         AreHeldIn C.cmp files held →
         IsLoaded (IsFileIn files) (file_numbers C.cmp version.now) (Ok loaded) →
         IsLawfulTables C.cmp version.now loaded (Ok tables) →
-        IfOk result (λ o. (p : PickedInputs) × LevelCompaction order C.cmp C.short_keys version.now
-        loaded level first settings.now p (answer_in o.outcome)) }
+        IfOk result (λ o. (p : PickedInputs) × LevelCompaction (order_by order C.cmp C.short_keys)
+        (version_with version.now loaded) level first settings.now p (answer_in o.outcome)) }
     ensures device { ReportsDevice F.Folder folder.old folder.new result }
     ensures reads { OnlyReads F.Folder folder.old folder.new }
 {

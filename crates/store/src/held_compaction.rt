@@ -13,7 +13,7 @@ ghost use Rattle.folder.specs.Names.{current_text};
 ghost use Rattle.folder.specs.OpenAnswer.{FolderAnswers, IfCurrent, IsOkOnlyIfCurrent};
 ghost use Rattle.folder.specs.Reports.{ReportsDevice};
 ghost use Rattle.folder.specs.declared.order.Order.{Order};
-ghost use Rattle.install.specs.Install.{table_bytes_of};
+ghost use Rattle.install.specs.Install.{table_bytes_of, version_with};
 ghost use Rattle.pick.specs.PickedInputs.{picked_in};
 ghost use Rattle.compact.specs.Inputs.{inputs_reading};
 ghost use Rattle.split.specs.declared.split.TheConstants.{MAX_RANGES};
@@ -21,9 +21,11 @@ ghost use Rattle.store.specs.FolderRequest.{compaction_from};
 ghost use Rattle.store.specs.FoundInputs.{CanBeInstalled, IsAnswerForThese, IsAnsweredBy};
 ghost use Rattle.store.specs.FoundInputs.{step_result};
 ghost use Rattle.store.specs.InputsCompaction.{IsReadAnswer};
-ghost use Rattle.store.specs.Runs.{IsRun};
+ghost use Rattle.store.specs.Runs.{IsRun, IsAnswerForInputs};
 ghost use Rattle.store.specs.Step.{IsStepFor, step_in};
 ghost use Rattle.store.specs.StepLeft.{IsStepLeft};
+ghost use Rattle.folder.specs.FolderChange.{change_of};
+ghost use Rattle.store.specs.OrderView.{order_by};
 
 use crate::compaction_step::CompactionStep;
 use crate::folder_request::request_of;
@@ -132,15 +134,14 @@ pub(crate) fn install_held<
         Tells (F.tells folder.old) files →
         files (codes "CURRENT") ≡ Some (current_text opened.now.manifest) →
         order_name order ≡ C.name_bytes →
-        CanBeInstalled order C.cmp C.short_keys opened.now.version loaded level settings.now
-        (picked_in picked.now) (compaction_from None C.cmp C.short_keys opened.now.version
-        (held_bytes held.now) (picked_in picked.now) settings.now) →
-        IsStepLeft order C.cmp C.short_keys opened.now.version loaded level settings.now
-        (F.calls folder.old) (F.calls folder.new) (F.tells folder.old) (F.tells folder.new) result }
-    ensures runs { IsRun (IsAnswerForThese C.cmp C.short_keys opened.now.version
-        (held_bytes held.now) settings.now (picked_in picked.now))
-        C.name_bytes C.cmp opened.now.version
-        (F.calls folder.old) (F.calls folder.new) (F.tells folder.old) (F.tells folder.new) result }
+        CanBeInstalled (order_by order C.cmp C.short_keys) (version_with opened.now.version loaded)
+        level settings.now (picked_in picked.now) (compaction_from None C.cmp C.short_keys
+        opened.now.version (held_bytes held.now) (picked_in picked.now) settings.now) →
+        IsStepLeft (order_by order C.cmp C.short_keys) (version_with opened.now.version loaded)
+        level settings.now (change_of F.Folder folder.old folder.new) result }
+    ensures runs { IsRun (IsAnswerForThese (IsAnswerForInputs C.cmp C.short_keys opened.now.version
+        (held_bytes held.now) settings.now) (picked_in picked.now)) C.name_bytes C.cmp
+        opened.now.version (change_of F.Folder folder.old folder.new) result }
     ensures other { IsOkOnlyIfCurrent (F.tells folder.old) opened.now.manifest result }
     ensures device { ReportsDevice F.Folder folder.old folder.new result }
 {
@@ -184,18 +185,17 @@ fn install_checked<
         map (λ t. t.bytes) tables.now
         ≡ map (λ i. table_bytes_of own i.meta.number) picked.now.files.items →
         order_name order ≡ C.name_bytes →
-        CanBeInstalled order C.cmp C.short_keys opened.now.version loaded level settings.now
-        (picked_in picked.now) (compaction_from None C.cmp C.short_keys opened.now.version
-        own (picked_in picked.now) settings.now) →
-        IsStepLeft order C.cmp C.short_keys opened.now.version loaded level settings.now
-        (F.calls folder.old) (F.calls folder.new) (F.tells folder.old) (F.tells folder.new) result }
+        CanBeInstalled (order_by order C.cmp C.short_keys) (version_with opened.now.version loaded)
+        level settings.now (picked_in picked.now) (compaction_from None C.cmp C.short_keys
+        opened.now.version own (picked_in picked.now) settings.now) →
+        IsStepLeft (order_by order C.cmp C.short_keys) (version_with opened.now.version loaded)
+        level settings.now (change_of F.Folder folder.old folder.new) result }
     ensures runs { (own : List (ℕ × List ℕ)) →
         map (λ t. t.bytes) tables.now
         ≡ map (λ i. table_bytes_of own i.meta.number) picked.now.files.items →
         IsRun (IsAnsweredBy (picked_in picked.now) (compaction_from None C.cmp C.short_keys
-        opened.now.version own (picked_in picked.now) settings.now))
-        C.name_bytes C.cmp opened.now.version
-        (F.calls folder.old) (F.calls folder.new) (F.tells folder.old) (F.tells folder.new) result }
+        opened.now.version own (picked_in picked.now) settings.now)) C.name_bytes C.cmp
+        opened.now.version (change_of F.Folder folder.old folder.new) result }
     ensures other { IsOkOnlyIfCurrent (F.tells folder.old) opened.now.manifest result }
     ensures device { ReportsDevice F.Folder folder.old folder.new result }
 {

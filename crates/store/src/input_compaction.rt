@@ -13,9 +13,12 @@ ghost use Rattle.folder.specs.Reports.{ReportsDevice};
 ghost use Rattle.folder.specs.declared.order.Order.{Order};
 ghost use Rattle.reads.specs.Tables.{NumberedContents};
 ghost use Rattle.store.specs.InputsCompaction.{IsInputsCompacted};
-ghost use Rattle.store.specs.Runs.{IsLevelRun};
+ghost use Rattle.store.specs.Runs.{IsLevelRun, IsAnswerForLevel, IsRun};
 ghost use Rattle.store.specs.Step.{step_in};
 ghost use Rattle.store.specs.StepLeft.{IsStepLeft};
+ghost use Rattle.folder.specs.FolderChange.{change_of};
+ghost use Rattle.install.specs.Install.{version_with};
+ghost use Rattle.store.specs.OrderView.{order_by, order_view};
 
 use crate::compaction_step::CompactionStep;
 use crate::held_compaction::install_held;
@@ -61,14 +64,12 @@ pub fn compact_inputs<F: ReadsTables + WritesTables, W: Watch + Sync, R: Threads
         files (codes "CURRENT") ≡ Some (current_text opened.now.manifest) →
         ReadsAs (order_cmp opened.now.order) opened.now.order opened.now.version loaded files →
         IsLawfulTables (order_cmp opened.now.order) opened.now.version loaded (Ok tables) →
-        IsStepLeft opened.now.order (order_cmp opened.now.order)
-        (order_short_keys opened.now.order) opened.now.version loaded level settings.now
-        (F.calls folder.old) (F.calls folder.new) (F.tells folder.old) (F.tells folder.new) result }
+        IsStepLeft (order_view opened.now.order) (version_with opened.now.version loaded) level
+        settings.now (change_of F.Folder folder.old folder.new) result }
     // Of any folder, also one that tells nothing: no call that writes was made; or the calls are
     // those of one thread's answer for this level, in their order, up to one that fails.
-    ensures runs { IsLevelRun (order_name opened.now.order) (order_cmp opened.now.order)
-        (order_short_keys opened.now.order) opened.now.version level settings.now
-        (F.calls folder.old) (F.calls folder.new) (F.tells folder.old) (F.tells folder.new) result }
+    ensures runs { IsLevelRun opened.now.order opened.now.version level settings.now
+        (change_of F.Folder folder.old folder.new) result }
     // If CURRENT is another one, the answer is never Ok.
     ensures other { IsOkOnlyIfCurrent (F.tells folder.old) opened.now.manifest result }
     ensures device { ReportsDevice F.Folder folder.old folder.new result }
@@ -115,10 +116,10 @@ pub(crate) fn compact_step<
         order_name order ≡ C.name_bytes →
         ReadsAs C.cmp order opened.now.version loaded files →
         IsLawfulTables C.cmp opened.now.version loaded (Ok tables) →
-        IsStepLeft order C.cmp C.short_keys opened.now.version loaded level settings.now
-        (F.calls folder.old) (F.calls folder.new) (F.tells folder.old) (F.tells folder.new) result }
-    ensures runs { IsLevelRun C.name_bytes C.cmp C.short_keys opened.now.version level settings.now
-        (F.calls folder.old) (F.calls folder.new) (F.tells folder.old) (F.tells folder.new) result }
+        IsStepLeft (order_by order C.cmp C.short_keys) (version_with opened.now.version loaded)
+        level settings.now (change_of F.Folder folder.old folder.new) result }
+    ensures runs { IsRun (IsAnswerForLevel C.cmp C.short_keys opened.now.version level settings.now)
+        C.name_bytes C.cmp opened.now.version (change_of F.Folder folder.old folder.new) result }
     ensures other { IsOkOnlyIfCurrent (F.tells folder.old) opened.now.manifest result }
     ensures device { ReportsDevice F.Folder folder.old folder.new result }
 {

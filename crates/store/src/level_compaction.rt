@@ -15,6 +15,8 @@ ghost use Rattle.pick.specs.PickedInputs.{picked_in};
 ghost use Rattle.reads.specs.Tables.{NumberedContents};
 ghost use Rattle.store.specs.Compaction.{LevelCompaction};
 ghost use Rattle.store.specs.InputsCompaction.{IsLevelAnswer};
+ghost use Rattle.install.specs.Install.{version_with};
+ghost use Rattle.store.specs.OrderView.{order_by};
 
 use crate::held_compaction::compact_held;
 use crate::input_laws::same_inputs;
@@ -61,8 +63,9 @@ pub(crate) fn level_outcome<
         AreHeldIn C.cmp files held →
         IsLoaded (IsFileIn files) (file_numbers C.cmp version.now) (Ok loaded) →
         IsLawfulTables C.cmp version.now loaded (Ok tables) →
-        IfOk result (λ o. LevelCompaction order C.cmp C.short_keys version.now loaded level first
-        settings.now (picked_in o.picked) (answer_in o.outcome)) }
+        IfOk result (λ o. LevelCompaction (order_by order C.cmp C.short_keys)
+        (version_with version.now loaded) level first settings.now (picked_in o.picked) (answer_in
+        o.outcome)) }
     ensures device { ReportsDevice F.Folder folder.old folder.new result }
     ensures reads { OnlyReads F.Folder folder.old folder.new }
 {

@@ -12,8 +12,8 @@ ghost use Rattle.folder.specs.Names.{current_text};
 ghost use Rattle.folder.specs.OpenAnswer.{FolderAnswers, IfCurrent, IsOkOnlyIfCurrent};
 ghost use Rattle.folder.specs.Reports.{ReportsDevice};
 ghost use Rattle.folder.specs.declared.order.Order.{Order};
-ghost use Rattle.install.specs.Install.{table_calls};
-ghost use Rattle.install.specs.GroupedInstallation.{IsGroupedInstallation};
+ghost use Rattle.install.specs.Install.{table_calls, version_with};
+ghost use Rattle.install.specs.GroupedInstallation.{IsGroupedInstallation, asked_of};
 ghost use Rattle.pick.specs.PickedInputs.{picked_in};
 ghost use Rattle.compact.specs.OneThread.{Answer};
 ghost use Rattle.compact.specs.declared.settings.Settings.{Settings};
@@ -24,6 +24,8 @@ ghost use Rattle.store.specs.FoundInputs.{IsAnsweredBy, NeverDevice, step_result
 ghost use Rattle.store.specs.Runs.{IsRun};
 ghost use Rattle.store.specs.Step.{step_in};
 ghost use Rattle.store.specs.StepLeft.{IsStepLeft};
+ghost use Rattle.folder.specs.FolderChange.{change_of};
+ghost use Rattle.store.specs.OrderView.{order_by};
 
 use crate::answered_steps::planned_step;
 use crate::compaction_step::CompactionStep;
@@ -62,13 +64,12 @@ pub(crate) fn install_merged<
         files (codes "CURRENT") ≡ Some (current_text opened.now.manifest) →
         order_name order ≡ C.name_bytes →
         ((a : Answer) → merged.now ≡ Ok a →
-        LevelCompaction order C.cmp C.short_keys opened.now.version loaded level None s
-        (picked_in picked.now) a) →
-        IsStepLeft order C.cmp C.short_keys opened.now.version loaded level s
-        (F.calls folder.old) (F.calls folder.new) (F.tells folder.old) (F.tells folder.new) result }
-    ensures runs { IsRun (IsAnsweredBy (picked_in picked.now) merged.now)
-        C.name_bytes C.cmp opened.now.version
-        (F.calls folder.old) (F.calls folder.new) (F.tells folder.old) (F.tells folder.new) result }
+        LevelCompaction (order_by order C.cmp C.short_keys) (version_with opened.now.version loaded)
+        level None s (picked_in picked.now) a) →
+        IsStepLeft (order_by order C.cmp C.short_keys) (version_with opened.now.version loaded)
+        level s (change_of F.Folder folder.old folder.new) result }
+    ensures runs { IsRun (IsAnsweredBy (picked_in picked.now) merged.now) C.name_bytes C.cmp
+        opened.now.version (change_of F.Folder folder.old folder.new) result }
     ensures other { IsOkOnlyIfCurrent (F.tells folder.old) opened.now.manifest result }
     ensures device { ReportsDevice F.Folder folder.old folder.new result }
 {
@@ -97,8 +98,8 @@ fn install_planned<
     planned: &Planned<'_, '_, C>,
 ) -> Result<(), Fault>
     requires { length C.name_bytes < 2 ^ 32 }
-    ensures { IsGroupedInstallation F.Folder C.name_bytes C.cmp version.now opened number
-        planned.now.groups planned.now.edit folder.old folder.new result }
+    ensures { IsGroupedInstallation F.Folder (asked_of C.name_bytes C.cmp version.now opened number
+        planned.now.groups planned.now.edit) folder.old folder.new result }
 {
     let alloc = workers.alloc();
     let manifest = manifest_bytes::<C>(alloc, version, planned.edit())?;

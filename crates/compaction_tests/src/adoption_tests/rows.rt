@@ -68,6 +68,49 @@ const MOVED_ON_LEFT: &[u8] = b"\
     \xbb\x17\x1a\xa0\x2f\0\x01\x02\x05\x09\0\x03\x15\x04\x06\x05\x01\x09u\x01\x02\0\0\0\0\0\0\x06\
     \x01\x07\x07\x02\x14q\x09u\0\x04\0\0\0\0\0\0\x09u\0\x04\0\0\0\0\0\0";
 
+/// Two files of level 1 that lie apart.
+/// `log: comparator leveldb.BytewiseComparator, log 3, previous 0, next 9, last 4, file 1 7 114
+/// b@2 put .. b@2 put, file 1 8 127 t@1 put .. v@1 put`
+const TWO_APART: &[u8] = b"\
+    \xb9h\x3b\xf6T\0\x01\x01\x1aleveldb.BytewiseComparator\x02\x03\x09\0\x03\x09\x04\x04\x07\x01\
+    \x07r\x09b\x01\x02\0\0\0\0\0\0\x09b\x01\x02\0\0\0\0\0\0\x07\x01\x08\x7f\x09t\x01\x01\0\0\0\0\0\
+    \0\x09v\x01\x01\0\0\0\0\0\0";
+
+/// `edit: log 3, previous 0, next 11, last 4, pointer 1 b@2 put, delete 1 7, file 2 10 114 b@2 put
+/// .. b@2 put`
+const FIRST_EDIT: &[u8] = b"\
+    \x02\x03\x09\0\x03\x0b\x04\x04\x05\x01\x09b\x01\x02\0\0\0\0\0\0\x06\x01\x07\x07\x02\x0ar\x09b\
+    \x01\x02\0\0\0\0\0\0\x09b\x01\x02\0\0\0\0\0\0";
+
+/// The second file, which a compaction would not take first.
+/// `edit: log 3, previous 0, next 21, last 4, pointer 1 b@2 put, delete 1 8, file 2 20 127 t@1 put
+/// .. v@1 put`
+const SECOND_EDIT: &[u8] = b"\
+    \x02\x03\x09\0\x03\x15\x04\x04\x05\x01\x09b\x01\x02\0\0\0\0\0\0\x06\x01\x08\x07\x02\x14\x7f\x09\
+    t\x01\x01\0\0\0\0\0\0\x09v\x01\x01\0\0\0\0\0\0";
+
+/// Two files of level 0 that overlap.
+/// `log: comparator leveldb.BytewiseComparator, log 3, previous 0, next 9, last 4, file 0 7 125
+/// u@4 del .. u@2 put, file 0 8 127 t@1 put .. v@1 put`
+const TWO_BESIDE: &[u8] = b"\
+    \xfb\x98\xa8\xe4T\0\x01\x01\x1aleveldb.BytewiseComparator\x02\x03\x09\0\x03\x09\x04\x04\x07\0\
+    \x07\x7d\x09u\0\x04\0\0\0\0\0\0\x09u\x01\x02\0\0\0\0\0\0\x07\0\x08\x7f\x09t\x01\x01\0\0\0\0\0\0\
+    \x09v\x01\x01\0\0\0\0\0\0";
+
+/// The older of them alone.
+/// `edit: log 3, previous 0, next 11, last 4, pointer 0 u@2 put, delete 0 7, file 1 10 125 u@4 del
+/// .. u@2 put`
+const ALONE_EDIT: &[u8] = b"\
+    \x02\x03\x09\0\x03\x0b\x04\x04\x05\0\x09u\x01\x02\0\0\0\0\0\0\x06\0\x07\x07\x01\x0a\x7d\x09u\0\
+    \x04\0\0\0\0\0\0\x09u\x01\x02\0\0\0\0\0\0";
+
+/// A file of the next level alone.
+/// `edit: log 3, previous 0, next 21, last 4, pointer 0 b@2 put, delete 1 8, file 1 20 127 t@1 put
+/// .. v@1 put`
+const LOWER_EDIT: &[u8] = b"\
+    \x02\x03\x09\0\x03\x15\x04\x04\x05\0\x09b\x01\x02\0\0\0\0\0\0\x06\x01\x08\x07\x01\x14\x7f\x09t\
+    \x01\x01\0\0\0\0\0\0\x09v\x01\x01\0\0\0\0\0\0";
+
 /// The outcome that was made where it is installed.
 pub(crate) const OWN: Row = Row {
     name: "an outcome where it was made",
@@ -83,6 +126,26 @@ pub(crate) const OWN: Row = Row {
     ],
 };
 
+/// The first of two files of a level.
+pub(crate) const FIRST_PART: Row = Row {
+    name: "the first of two files",
+    manifest: TWO_APART,
+    seven: B,
+    outcome: &[("EDIT", FIRST_EDIT), ("000010.ldb", B)],
+    answer: Ok("output 10 114\ndeleted 1 7\ninstalled MANIFEST-000009\n"),
+    left: &[NINE, ("000010.ldb", B)],
+    ..OWN
+};
+
+/// The second one, which a compaction would not take first.
+pub(crate) const SECOND_PART: Row = Row {
+    name: "the second of two files",
+    outcome: &[("EDIT", SECOND_EDIT), ("000020.ldb", T_AND_V)],
+    answer: Ok("output 20 127\ndeleted 1 8\ninstalled MANIFEST-000009\n"),
+    left: &[NINE, ("000020.ldb", T_AND_V)],
+    ..FIRST_PART
+};
+
 /// One that is refused leaves what was there.
 const REFUSED: Row = Row {
     left: &[("CURRENT", b"MANIFEST-000005\n")],
@@ -92,6 +155,8 @@ const REFUSED: Row = Row {
 /// Outcomes that are installed.
 pub(crate) const INSTALLED: &[Row] = &[
     OWN,
+    FIRST_PART,
+    SECOND_PART,
     Row {
         name: "in a database that was in use meanwhile",
         manifest: MOVED_ON,
@@ -135,6 +200,21 @@ pub(crate) const REFUSED_ROWS: &[Row] = &[
     Row {
         name: "numbers that are taken meanwhile",
         manifest: MOVED_ON,
+        answer: Err(FaultName::Apply),
+        ..REFUSED
+    },
+    Row {
+        name: "a newer file of level 0 that is left beside",
+        manifest: TWO_BESIDE,
+        outcome: &[("EDIT", ALONE_EDIT), ("000010.ldb", TWO_ENTRIES)],
+        answer: Err(FaultName::Apply),
+        ..REFUSED
+    },
+    Row {
+        name: "no file of the level",
+        manifest: TWO_APART,
+        seven: B,
+        outcome: &[("EDIT", LOWER_EDIT), ("000020.ldb", T_AND_V)],
         answer: Err(FaultName::Apply),
         ..REFUSED
     },

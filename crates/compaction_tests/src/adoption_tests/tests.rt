@@ -1,6 +1,6 @@
 //! Outcomes that are installed in folders in memory.
 
-use crate::adoption_tests::rows::{INSTALLED, OWN, REFUSED_ROWS, Row};
+use crate::adoption_tests::rows::{FIRST_PART, INSTALLED, OWN, REFUSED_ROWS, Row, SECOND_PART};
 use crate::store_tests::rows::{CURRENT, Files, T_AND_V};
 use crate::store_tests::tests::step_lines;
 use adoption::{AdoptionEnd, install_outcome};
@@ -93,10 +93,27 @@ fn is_refused_twice<R: Threads + Sync>(rt: &R, alloc: Global, row: &Row) -> bool
     is_answer(alloc, &second.answer, Err(FaultName::Apply)) && holds(&second.folder, row.left)
 }
 
+/// Whether the outcomes of two parts that were made of one version are installed one after the
+/// other. The second manifest is numbered by the next file of the first outcome.
+fn are_installed_in_turn<R: Threads + Sync>(rt: &R, alloc: Global) -> bool {
+    let files = files_of(&FIRST_PART);
+    let first = installed(rt, alloc, Shelf::new(alloc, &files), &FIRST_PART);
+    let second = installed(rt, alloc, first.folder, &SECOND_PART);
+    is_answer(alloc, &first.answer, FIRST_PART.answer)
+        && is_answer(
+            alloc,
+            &second.answer,
+            Ok("output 20 127\ndeleted 1 8\ninstalled MANIFEST-000011\n"),
+        )
+        && holds(&second.folder, &[("CURRENT", b"MANIFEST-000011\n")])
+        && is_refused_twice(rt, alloc, &SECOND_PART)
+}
+
 #[test]
 fn outcomes_that_are_installed(rt: HostRuntime) {
     for row in INSTALLED.iter().chain(REFUSED_ROWS) {
         assert!(rt; is_answered(&rt, rt.alloc(), row), "{}", row.name);
     }
     assert!(rt; is_refused_twice(&rt, rt.alloc(), &OWN));
+    assert!(rt; are_installed_in_turn(&rt, rt.alloc()));
 }

@@ -24,7 +24,7 @@ returns-in_err-step-clause-answer g c files told current =
     c.from_residual.ensures.1 c.in_err-step.ensures (λ h. absurd (no_refusal step e h))
 
 pub returns-in_err-step-clause-left : goal.returns-in_err-step-clause-left
-returns-in_err-step-clause-left g c files order loaded told current edited =
+returns-in_err-step-clause-left g c files order loaded told current named edited =
     inl (record { calls = refl; same = tells_itself (g.F.Folder.tells c.args.folder.now); refused = no_value c.from_residual.result _ c.from_residual.ensures.1 })
 
 pub returns-in_err-step-clause-other : goal.returns-in_err-step-clause-other
@@ -44,7 +44,7 @@ returns-in_err-install-clause-answer g c files told current =
     c.from_residual-in_err-install.ensures.1 (omega arith) c.install.ensures.device.later (c.in_err-install.ensures.same_current files told current)
 
 pub returns-in_err-install-clause-left : goal.returns-in_err-install-clause-left
-returns-in_err-install-clause-left g c files order loaded told current edited =
+returns-in_err-install-clause-left g c files order loaded told current named edited =
     let cmp = g.C.Comparator.cmp in
     let name = g.C.Comparator.name_bytes in
     let calls = g.F.Folder.calls in
@@ -56,10 +56,10 @@ returns-in_err-install-clause-left g c files order loaded told current edited =
     let q = c.from_residual-in_err-install.result in
     let e = c.in_err-install.field-0.0 in
     let h = c.from_residual-in_err-install.ensures.1 in
-    let by = subst (λ (n : ℕ). IsEditedBy name cmp order v n tables given.outcome.edit.items given.next) (sym c.manifest_of-number.ensures) edited in
+    let by = subst (λ (n : ℕ). IsEditedBy cmp v n tables given.outcome.edit.items given.next) (sym c.manifest_of-number.ensures) edited in
     inr (record {
       survives = survives_on cmp order v given.next loaded (next_version_tables cmp given.next tables loaded) (calls c.args.folder.now) (calls c.install.new.folder) (tells c.args.folder.now) (tells c.args.folder.now) (tells c.install.new.folder) c.install.result q
-          (λ P x. refused_on c.install.result q e P h x) (λ files tells. tells) (c.install.ensures.survives order given.next loaded by);
+          (λ P x. refused_on c.install.result q e P h x) (λ files tells. tells) (c.install.ensures.survives order given.next loaded named by);
       step = refused_ok q e _ h;
       refused = stopped_named (failed c.args.folder.now) (failed c.install.new.folder) q e h (c.in_err-install.ensures.same_current files told current);
     })
@@ -75,7 +75,7 @@ returns-clause-answer g c files told current =
     ap (λ (step : StepView). Ok step) (equal_value step_in (adopted_step c.args.opened.now.version (given_in c.args.given.now)) c.in_ok-step.step c.in_ok-step.ensures)
 
 pub returns-clause-left : goal.returns-clause-left
-returns-clause-left g c files order loaded told current edited =
+returns-clause-left g c files order loaded told current named edited =
     let cmp = g.C.Comparator.cmp in
     let name = g.C.Comparator.name_bytes in
     let calls = g.F.Folder.calls in
@@ -84,10 +84,10 @@ returns-clause-left g c files order loaded told current edited =
     let given = c.args.given.now in
     let tables = tables_in given.outcome.tables.items in
     let q : Result CompactionStep Fault = Ok c.in_ok-step.step in
-    let by = subst (λ (n : ℕ). IsEditedBy name cmp order v n tables given.outcome.edit.items given.next) (sym c.manifest_of-number.ensures) edited in
+    let by = subst (λ (n : ℕ). IsEditedBy cmp v n tables given.outcome.edit.items given.next) (sym c.manifest_of-number.ensures) edited in
     inr (record {
       survives = survives_on cmp order v given.next loaded (next_version_tables cmp given.next tables loaded) (calls c.args.folder.now) (calls c.install.new.folder) (tells c.args.folder.now) (tells c.args.folder.now) (tells c.install.new.folder) c.install.result q
-          (λ P x. valued_on c.install.result _ q P c.in_ok-install.was x) (λ files tells. tells) (c.install.ensures.survives order given.next loaded by);
+          (λ P x. valued_on c.install.result _ q P c.in_ok-install.was x) (λ files tells. tells) (c.install.ensures.survives order given.next loaded named by);
       step = equal_value step_in (adopted_step v (given_in given)) c.in_ok-step.step c.in_ok-step.ensures;
       refused = tt;
     })

@@ -26,7 +26,7 @@ returns-in-Ok-clause-answer g c files told current =
 pub returns-in-Ok-clause-left : goal.returns-in-Ok-clause-left
 returns-in-Ok-clause-left g c files order loaded told current named reads =
     let cmp = g.C.Comparator.cmp in
-    let total = (g.met.C.Comparator g.world.𝓛 g.world.𝓜 g.world.𝓡 ((λ s x. x), (λ x. x), (λ x. x), λ x. x)).total in
+    let laws = g.met.C.Comparator g.world.𝓛 g.world.𝓜 g.world.𝓡 ((λ s x. x), (λ x. x), (λ x. x), λ x. x) in
     let tells = g.F.Folder.tells in
     let calls = g.F.Folder.calls in
     let given = given_in c.args.given.now in
@@ -35,7 +35,7 @@ returns-in-Ok-clause-left g c files order loaded told current named reads =
     let end = c.install_tested.result in
     let still = told_still (tells c.args.folder) (tells tested) files c.test_outputs.ensures.reads.same told in
     outcome_since order cmp v loaded given (calls c.args.folder) (calls tested) (calls end.folder) (tells c.args.folder) (tells tested) (tells end.folder) end.answer c.test_outputs.ensures.reads.calls c.test_outputs.ensures.reads.same c.args.comparison
-    (λ version. keeps_reads cmp total order v given.0 given.1 c.requires.adopted files loaded reads.loaded c.gets_after.ensures c.args.comparison version (c.in-Ok.ensures.answer files told))
+    (λ version. keeps_reads cmp laws.total v given.0 given.1 c.requires.adopted files loaded reads.loaded laws.exact c.args.comparison version (c.in-Ok.ensures.answer files told))
     (c.install_tested.ensures.left files order loaded still current named reads)
 
 pub returns-in-Ok-clause-other : goal.returns-in-Ok-clause-other

@@ -1,10 +1,8 @@
-use Rattle.std.proofs.Common.{◌≡◌, ℕ, List, Result, Ok, Err, subst, refl, inl}
+use Rattle.std.proofs.Common.{◌≡◌, Result, Ok, Err, refl, inl}
 use Rattle.edit.specs.fault.Fault.{Fault}
 use Rattle.folder.specs.ReadsAs.{IsFileIn}
-use Rattle.install.specs.Install.{IsEditedBy}
 use Rattle.checks.specs.TestedTables.{IsTested}
 use Rattle.checks.specs.declared.version_totals.VersionTotals.{VersionTotals}
-use Rattle.store.specs.FolderRequest.{manifest_of}
 use Rattle.store.specs.Step.{StepView, step_in}
 use Rattle.store.proofs.Flow.{answers_behind, told_still}
 use Rattle.adoption.specs.Adoption.{IsEditedInstalled, adopted_step, with_tables}
@@ -40,10 +38,9 @@ returns-in-Ok-clause-left g c files order loaded told current named reads =
     let now = c.install_adopted-answer.new.folder in
     let still = told_still (tells c.args.folder) (tells end.folder) files c.test_edited-end.ensures.reads.same told in
     let passed = ok_answers (λ tested. tested) (failed c.args.folder) (failed end.folder) end.answer c.in-Ok.field-0 (IsTested (IsFileIn (with_tables given.1 files)) cmp given.0.next) c.in-Ok.is (tested_with (failed c.args.folder) (failed end.folder) end.answer c.as_slice-tables.result.now c.args.given.now.outcome.tables.items cmp given.0.next files c.as_slice-tables.ensures.value (c.test_edited-end.ensures.answer files told)) in
-    let version = adopted_version order cmp v given.0 given.1 c.requires.adopted files loaded reads.loaded c.in-Ok.field-0 passed in
-    let by = subst (λ (name : List ℕ). IsEditedBy name cmp order v (manifest_of v) given.1 given.0.edit given.0.next) named version.edited in
+    let version = adopted_version cmp v given.0 given.1 c.requires.adopted files loaded reads.loaded c.in-Ok.field-0 passed in
     tested_since order cmp v loaded given (calls c.args.folder) (calls end.folder) (calls now) (tells c.args.folder) (tells end.folder) (tells now) c.install_adopted-answer.result c.test_edited-end.ensures.reads.calls c.test_edited-end.ensures.reads.same version
-    (c.install_adopted-answer.ensures.left files order loaded still current by)
+    (c.install_adopted-answer.ensures.left files order loaded still current named version.edited)
 
 pub returns-in-Ok-clause-other : goal.returns-in-Ok-clause-other
 returns-in-Ok-clause-other g c files told other =

@@ -3,7 +3,7 @@ use Rattle.ikey.specs.Answers.{UnlessMemory}
 use Rattle.folder.specs.Manifest.{IsManifestAnswer}
 use Rattle.folder.specs.Names.{IsNumberAnswer, manifest_name}
 use Rattle.folder.specs.OpenAnswer.{IsFileReading, IsOpened}
-use Rattle.folder.proofs.OpeningLemmas.{hands_on, held_before, manifest_answers, no_current, no_manifest, no_number, refuses}
+use Rattle.folder.proofs.OpeningLemmas.{hands_on, held_before, manifest_answers, no_current, no_manifest, no_number, refuses, version_read}
 use Rattle.folder.proofs.RefusalLemmas.{device_failed, open_refused}
 use Rattle.folder.proofs.ReportLemmas.{reads_then, reports_after, reports_handed, reports_then}
 use Rattle.ikey.proofs.Binds.{ok_is}
@@ -72,6 +72,16 @@ returns-clause-answer g c =
 pub returns-clause-named : goal.returns-clause-named
 returns-clause-named g c =
     subst (λ (bytes : List ℕ). g.F.Folder.tells c.args.folder.now (codes "CURRENT") (Some bytes)) (subst (λ (bytes : List ℕ). IsNumberAnswer bytes (Ok c.in_ok-number.number)) c.deref.ensures.value c.in_ok-number.ensures).1 c.in_ok-current.ensures.answer
+
+pub returns-clause-read : goal.returns-clause-read
+returns-clause-read g c =
+    let number = c.in_ok-number.number in
+    let one = subst (λ (bytes : List ℕ). IsNumberAnswer bytes (Ok number)) c.deref.ensures.value c.in_ok-number.ensures in
+    let named : c.as_str.result.now ≡ manifest_name number = c.as_str.ensures.value ∙ sym (ok_is (manifest_name number) (string_bytes c.in_ok-name.name) c.in_ok-name.ensures) in
+    let readings = g.F.Folder.readings in
+    version_read (readings c.args.folder.now) (readings c.bytes_under.new.folder) (readings c.bytes_under-2.new.folder) c.in_ok-order.order c.in_ok-order.version number c.in_ok-current.current.items c.as_str.result.now c.in_ok-manifest.manifest.items
+    c.in_ok-current.ensures.read one.1 c.in_ok-manifest.ensures.read named
+    (subst (λ (bytes : List ℕ). IsManifestAnswer number bytes (Ok (c.in_ok-order.order, c.in_ok-order.version))) c.deref-2.ensures.value c.in_ok-order.ensures)
 
 pub returns-in_err-current-clause-reads : goal.returns-in_err-current-clause-reads
 returns-in_err-current-clause-reads g c = c.bytes_under.ensures.reads

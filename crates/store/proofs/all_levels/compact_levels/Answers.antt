@@ -20,6 +20,10 @@ use Rattle.store.proofs.NoDevice.{handed_memory}
 use Rattle.store.proofs.StepPart.{refused_err}
 use Rattle.store.proofs.InstallPart.{refused_ok}
 use Rattle.store.proofs.LevelRuns.{none_so_far, run_ended, run_more, run_refused, run_stopped, taken}
+use Rattle.folder.proofs.Changes.{change_by, call_by}
+use Rattle.install.specs.Install.{version_with}
+use Rattle.store.specs.OrderView.{order_view}
+use Rattle.store.specs.Telling.{telling}
 use Rattle.store.proofs.all_levels.compact_levels.Goals as goal
 
 pub returns-in_err-bottom-clause-left : goal.returns-in_err-bottom-clause-left
@@ -63,7 +67,7 @@ returns-in_err-level-clause-left g c files loaded tables told current reads soun
     let keys = order_short_keys o.order in
     let why : Fault → Type 0 = λ x. IsStopped (failed c.args.folder.now) (failed l.folder) x ⊎ IsNextRefused cmp keys s c.in_ok-bottom.bottom (version_at_end o.version sf.links) (last_tables loaded sf.links) x in
     inr (ended o.order cmp keys s o.version loaded tables sound (calls c.args.folder.now) g.T.InstallWatch.tells c.args.told.now (calls l.folder) (tells l.folder) l.told l.opened.manifest l.opened.version c.in_ok-bottom.bottom l._step true sf
-    l.invariant.is_bottom (calls l.folder) (tells l.folder) (failed c.args.folder.now) (failed l.folder) l.told q refl (same_tells (tells l.folder)) refl
+    l.invariant.is_bottom (tells c.args.folder.now) (calls l.folder) (tells l.folder) (failed c.args.folder.now) (failed l.folder) l.told q refl (same_tells (tells l.folder)) refl
     (refused_ok q e (IsEndOf (version_at_end o.version sf.links) c.in_ok-bottom.bottom true) h) (refused_err q e (λ x. UnlessMemory x (why x)) h (by_memory e why c.in_err-level.ensures.memory)))
 
 pub returns-in_err-level-clause-device : goal.returns-in_err-level-clause-device
@@ -86,7 +90,7 @@ returns-in_default-clause-left g c files loaded tables told current reads sound 
     let none = subst (λ (n : Option ℕ). IsNextLevel l.opened.version c.in_ok-bottom.bottom n) c.in_default.is c.in_ok-level.ensures.next in
     let end : IsNextLevel (version_at_end o.version sf.links) c.in_ok-bottom.bottom None = subst (λ (w : State). IsNextLevel w c.in_ok-bottom.bottom None) sf.version_is none in
     inr (ended o.order cmp keys s o.version loaded tables sound (calls c.args.folder.now) g.T.InstallWatch.tells c.args.told.now (calls l.folder) (tells l.folder) l.told l.opened.manifest l.opened.version c.in_ok-bottom.bottom l._step true sf
-    l.invariant.is_bottom (calls l.folder) (tells l.folder) (failed c.args.folder.now) (failed l.folder) l.told (Ok AtBottom) refl (same_tells (tells l.folder)) refl end tt)
+    l.invariant.is_bottom (tells c.args.folder.now) (calls l.folder) (tells l.folder) (failed c.args.folder.now) (failed l.folder) l.told (Ok AtBottom) refl (same_tells (tells l.folder)) refl end tt)
 
 pub returns-in_err-next-clause-left : goal.returns-in_err-next-clause-left
 returns-in_err-next-clause-left g c files loaded tables told current reads sound =
@@ -102,8 +106,8 @@ returns-in_err-next-clause-left g c files loaded tables told current reads sound
     let p = err_from_is_err_and c.from_residual-in_err-next.result c.from_residual-in_err-next.ensures.1 in
     let left = refused_taken o.order s o.version loaded tables sound (calls c.args.folder.now) g.T.InstallWatch.tells c.args.told.now (calls l.folder) (tells l.folder) l.told l.opened.manifest l.opened.version c.in_ok-bottom.bottom l._step sf
     c.in-Some.level (subst (λ (n : Option ℕ). IsNextLevel l.opened.version c.in_ok-bottom.bottom n) c.in-Some.is c.in_ok-level.ensures.next) (calls c.take_step.new.folder) (tells c.take_step.new.folder) (failed l.folder) (failed c.take_step.new.folder) c.take_step.new.told
-    l.invariant.is_bottom (failed c.args.folder.now) l.opened.order e l.invariant.failures all.1 c.in_err-next.ensures.left in
-    inr (subst (λ (r : Result DescentEnd Fault). IsDescended g.T.InstallWatch.tells o.order (order_cmp o.order) (order_short_keys o.order) s o.version loaded tables (calls c.args.folder.now) (calls c.take_step.new.folder) (tells c.take_step.new.folder) (failed c.args.folder.now) (failed c.take_step.new.folder) c.args.told.now c.take_step.new.told r)
+    l.invariant.is_bottom (tells c.args.folder.now) (failed c.args.folder.now) l.opened.order e l.invariant.failures all.1 c.in_err-next.ensures.left in
+    inr (subst (λ (r : Result DescentEnd Fault). IsDescended (order_view o.order) s (version_with o.version loaded) tables (call_by (calls c.args.folder.now) (calls c.take_step.new.folder) (tells c.args.folder.now) (tells c.take_step.new.folder) (failed c.args.folder.now) (failed c.take_step.new.folder)) (telling g.T.InstallWatch.tells c.args.told.now c.take_step.new.told) r)
     (sym (p.1 ∙ ap (λ (f : Fault). Err f) p.2)) left)
 
 pub returns-in_default-clause-device : goal.returns-in_default-clause-device
@@ -133,7 +137,7 @@ returns-in_default-2-clause-left g c files loaded tables told current reads soun
     let sf = all.0 in
     inr (stopped_taken o.order s o.version loaded tables sound (calls c.args.folder.now) g.T.InstallWatch.tells c.args.told.now (calls l.folder) (tells l.folder) l.told l.opened.manifest l.opened.version c.in_ok-bottom.bottom l._step sf
     c.in-Some.level (subst (λ (n : Option ℕ). IsNextLevel l.opened.version c.in_ok-bottom.bottom n) c.in-Some.is c.in_ok-level.ensures.next) (calls c.take_step.new.folder) (tells c.take_step.new.folder) (failed l.folder) (failed c.take_step.new.folder) c.take_step.new.told
-    l.invariant.is_bottom (failed c.args.folder.now) l.opened.order all.1 (subst (λ (x : Option Opened). StepClause g.T.InstallWatch.tells l.opened.order l.opened.version l.opened.manifest c.in-Some.level s (calls l.folder) (calls c.take_step.new.folder) (tells l.folder) (tells c.take_step.new.folder) (failed l.folder) (failed c.take_step.new.folder) l.told c.take_step.new.told (Ok x)) c.in_default-2.is c.in_ok-next.ensures.left))
+    l.invariant.is_bottom (tells c.args.folder.now) (failed c.args.folder.now) l.opened.order all.1 (subst (λ (x : Option Opened). StepClause g.T.InstallWatch.tells l.opened.order l.opened.version l.opened.manifest c.in-Some.level s (calls l.folder) (calls c.take_step.new.folder) (tells l.folder) (tells c.take_step.new.folder) (failed l.folder) (failed c.take_step.new.folder) l.told c.take_step.new.told (Ok x)) c.in_default-2.is c.in_ok-next.ensures.left))
 
 pub loop-step-preserved : goal.loop-step-preserved
 loop-step-preserved g c =
@@ -147,8 +151,8 @@ loop-step-preserved g c =
       is_bottom = l.invariant.is_bottom;
       failures = steady (failed c.args.folder.now) (failed l.folder) (failed c.take_step.new.folder) c.in_ok-next.field-0 c.take_step.result c.in_ok-next.was l.invariant.failures c.take_step.ensures.device.later c.take_step.ensures.device.at_once;
       runs = run_more g.T.InstallWatch.tells o.order s c.in_ok-bottom.bottom o.version (calls c.args.folder.now) (calls l.folder) c.args.told.now l.told l.opened.version l.opened.order l.invariant.runs
-          c.in-Some.level (subst (λ (n : Option ℕ). IsNextLevel l.opened.version c.in_ok-bottom.bottom n) c.in-Some.is c.in_ok-level.ensures.next) (calls c.take_step.new.folder) c.take_step.new.told c.in-Some-2.next
-          (subst (λ (x : Option Opened). MakesNoCalls (calls l.folder) (calls c.take_step.new.folder) l.told c.take_step.new.told (taken x) ⊎ IsNextBegun g.T.InstallWatch.tells l.opened.order l.opened.version c.in-Some.level s (calls l.folder) (calls c.take_step.new.folder) l.told c.take_step.new.told (taken x)) c.in-Some-2.is c.in_ok-next.ensures.runs);
+          c.in-Some.level (subst (λ (n : Option ℕ). IsNextLevel l.opened.version c.in_ok-bottom.bottom n) c.in-Some.is c.in_ok-level.ensures.next) (calls c.take_step.new.folder) c.take_step.new.told (tells l.folder) (tells c.take_step.new.folder) c.in-Some-2.next
+          (subst (λ (x : Option Opened). MakesNoCalls (calls l.folder) (calls c.take_step.new.folder) l.told c.take_step.new.told (taken x) ⊎ IsNextBegun l.opened.order l.opened.version c.in-Some.level s (change_by (calls l.folder) (calls c.take_step.new.folder) (tells l.folder) (tells c.take_step.new.folder)) (telling g.T.InstallWatch.tells l.told c.take_step.new.told) (taken x)) c.in-Some-2.is c.in_ok-next.ensures.runs);
       so_far = λ files loaded tables told current reads sound.
           let all = l.invariant.so_far files loaded tables told current reads sound in
           more_taken o.order s o.version loaded tables sound (calls c.args.folder.now) g.T.InstallWatch.tells c.args.told.now (calls l.folder) (tells l.folder) l.told l.opened.manifest l.opened.version c.in_ok-bottom.bottom l._step all.0
@@ -171,45 +175,50 @@ pub returns-in_err-level-clause-runs : goal.returns-in_err-level-clause-runs
 returns-in_err-level-clause-runs g c =
     let o = c.args.opened in
     let calls = g.F.Folder.calls in
+    let tells = g.F.Folder.tells in
     let l = c.loop-step in
     let q = c.from_residual-in_err-level.result in
     run_ended g.T.InstallWatch.tells o.order c.args.settings.now c.in_ok-bottom.bottom o.version (calls c.args.folder.now) (calls l.folder) c.args.told.now l.told l.opened.version l.opened.order l.invariant.runs
-    q l.invariant.is_bottom (refused_ok q c.in_err-level.field-0.0 (λ e. (e ≡ AtBottom) × IsNextLevel l.opened.version c.in_ok-bottom.bottom None) c.from_residual-in_err-level.ensures.1)
+    (tells c.args.folder.now) (tells l.folder) q l.invariant.is_bottom (refused_ok q c.in_err-level.field-0.0 (λ e. (e ≡ AtBottom) × IsNextLevel l.opened.version c.in_ok-bottom.bottom None) c.from_residual-in_err-level.ensures.1)
 
 pub returns-in_default-clause-runs : goal.returns-in_default-clause-runs
 returns-in_default-clause-runs g c =
     let o = c.args.opened in
     let calls = g.F.Folder.calls in
+    let tells = g.F.Folder.tells in
     let l = c.loop-step in
     run_ended g.T.InstallWatch.tells o.order c.args.settings.now c.in_ok-bottom.bottom o.version (calls c.args.folder.now) (calls l.folder) c.args.told.now l.told l.opened.version l.opened.order l.invariant.runs
-    (Ok AtBottom) l.invariant.is_bottom (refl, subst (λ (n : Option ℕ). IsNextLevel l.opened.version c.in_ok-bottom.bottom n) c.in_default.is c.in_ok-level.ensures.next)
+    (tells c.args.folder.now) (tells l.folder) (Ok AtBottom) l.invariant.is_bottom (refl, subst (λ (n : Option ℕ). IsNextLevel l.opened.version c.in_ok-bottom.bottom n) c.in_default.is c.in_ok-level.ensures.next)
 
 pub returns-in_err-next-clause-runs : goal.returns-in_err-next-clause-runs
 returns-in_err-next-clause-runs g c =
     let o = c.args.opened in
     let calls = g.F.Folder.calls in
+    let tells = g.F.Folder.tells in
     let s = c.args.settings.now in
     let l = c.loop-step in
     let p = err_from_is_err_and c.from_residual-in_err-next.result c.from_residual-in_err-next.ensures.1 in
-    subst (λ (r : Result DescentEnd Fault). IsAllLevelsRun g.T.InstallWatch.tells o.order s o.version (calls c.args.folder.now) (calls c.take_step.new.folder) c.args.told.now c.take_step.new.told r) (sym (p.1 ∙ ap (λ (f : Fault). Err f) p.2))
+    subst (λ (r : Result DescentEnd Fault). IsAllLevelsRun o.order s o.version (change_by (calls c.args.folder.now) (calls c.take_step.new.folder) (tells c.args.folder.now) (tells c.take_step.new.folder)) (telling g.T.InstallWatch.tells c.args.told.now c.take_step.new.told) r) (sym (p.1 ∙ ap (λ (f : Fault). Err f) p.2))
     (run_refused g.T.InstallWatch.tells o.order s c.in_ok-bottom.bottom o.version (calls c.args.folder.now) (calls l.folder) c.args.told.now l.told l.opened.version l.opened.order l.invariant.runs
     c.in-Some.level (subst (λ (n : Option ℕ). IsNextLevel l.opened.version c.in_ok-bottom.bottom n) c.in-Some.is c.in_ok-level.ensures.next) (calls c.take_step.new.folder) c.take_step.new.told
-    c.in_err-next.field-0.0 l.invariant.is_bottom c.in_err-next.ensures.runs)
+    (tells c.args.folder.now) (tells l.folder) (tells c.take_step.new.folder) c.in_err-next.field-0.0 l.invariant.is_bottom c.in_err-next.ensures.runs)
 
 pub returns-in_default-2-clause-runs : goal.returns-in_default-2-clause-runs
 returns-in_default-2-clause-runs g c =
     let o = c.args.opened in
     let calls = g.F.Folder.calls in
+    let tells = g.F.Folder.tells in
     let s = c.args.settings.now in
     let l = c.loop-step in
     run_stopped g.T.InstallWatch.tells o.order s c.in_ok-bottom.bottom o.version (calls c.args.folder.now) (calls l.folder) c.args.told.now l.told l.opened.version l.opened.order l.invariant.runs
     c.in-Some.level (subst (λ (n : Option ℕ). IsNextLevel l.opened.version c.in_ok-bottom.bottom n) c.in-Some.is c.in_ok-level.ensures.next) (calls c.take_step.new.folder) c.take_step.new.told
-    c.in_ok-next.field-0 c.in_default-2.is l.invariant.is_bottom c.in_ok-next.ensures.runs
+    (tells c.args.folder.now) (tells l.folder) (tells c.take_step.new.folder) c.in_ok-next.field-0 c.in_default-2.is l.invariant.is_bottom c.in_ok-next.ensures.runs
 
 pub returns-clause-runs : goal.returns-clause-runs
 returns-clause-runs g c =
     let o = c.args.opened in
     let calls = g.F.Folder.calls in
+    let tells = g.F.Folder.tells in
     let l = c.loop-step in
     run_ended g.T.InstallWatch.tells o.order c.args.settings.now c.in_ok-bottom.bottom o.version (calls c.args.folder.now) (calls l.folder) c.args.told.now l.told l.opened.version l.opened.order l.invariant.runs
-    (Err c.of.result) l.invariant.is_bottom tt
+    (tells c.args.folder.now) (tells l.folder) (Err c.of.result) l.invariant.is_bottom tt

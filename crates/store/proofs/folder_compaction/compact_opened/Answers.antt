@@ -1,11 +1,11 @@
 use Rattle.std.proofs.Common.{subst, sym}
-use Rattle.folder.specs.Manifest.{order_name}
 use Rattle.folder.specs.OpenAnswer.{FolderAnswers}
 use Rattle.folder.specs.declared.order.Order.{Order}
 use Rattle.store.specs.Answers.{IsVersionCompacted}
 use Rattle.store.specs.Runs.{IsLevelRun}
 use Rattle.folder.specs.Orders.{order_cmp, order_short_keys}
 use Rattle.store.specs.Step.{step_in}
+use Rattle.folder.proofs.Changes.{change_by}
 use Rattle.store.proofs.folder_compaction.compact_opened.Goals as goal
 
 pub returns-in-Bytewise-clause-answer : goal.returns-in-Bytewise-clause-answer
@@ -26,12 +26,12 @@ pub returns-in-Bytewise-clause-runs : goal.returns-in-Bytewise-clause-runs
 returns-in-Bytewise-clause-runs g c =
     let calls = g.F.Folder.calls in
     let tells = g.F.Folder.tells in
-    subst (λ (order : Order). IsLevelRun (order_name order) (order_cmp order) (order_short_keys order) c.args.opened.now.version c.args.level c.args.settings.now (calls c.args.folder.now) (calls c.compact_version.new.folder) (tells c.args.folder.now) (tells c.compact_version.new.folder) c.compact_version.result)
+    subst (λ (order : Order). IsLevelRun order c.args.opened.now.version c.args.level c.args.settings.now (change_by (calls c.args.folder.now) (calls c.compact_version.new.folder) (tells c.args.folder.now) (tells c.compact_version.new.folder)) c.compact_version.result)
     (sym c.in-Bytewise.is) c.compact_version.ensures.runs
 
 pub returns-in-Shortlex-clause-runs : goal.returns-in-Shortlex-clause-runs
 returns-in-Shortlex-clause-runs g c =
     let calls = g.F.Folder.calls in
     let tells = g.F.Folder.tells in
-    subst (λ (order : Order). IsLevelRun (order_name order) (order_cmp order) (order_short_keys order) c.args.opened.now.version c.args.level c.args.settings.now (calls c.args.folder.now) (calls c.compact_version-in-Shortlex.new.folder) (tells c.args.folder.now) (tells c.compact_version-in-Shortlex.new.folder) c.compact_version-in-Shortlex.result)
+    subst (λ (order : Order). IsLevelRun order c.args.opened.now.version c.args.level c.args.settings.now (change_by (calls c.args.folder.now) (calls c.compact_version-in-Shortlex.new.folder) (tells c.args.folder.now) (tells c.compact_version-in-Shortlex.new.folder)) c.compact_version-in-Shortlex.result)
     (sym c.in-Shortlex.is) c.compact_version-in-Shortlex.ensures.runs

@@ -14,6 +14,8 @@ use Rattle.checks.specs.HeldTables.{AreHeldIn, IsTableIn}
 use Rattle.checks.specs.LawfulTables.{IsLawfulTables}
 use Rattle.store.specs.Compaction.{LevelCompaction}
 use Rattle.store.specs.Outcome.{IsOutcomeOfInputs, outcome_in}
+use Rattle.install.specs.Install.{version_with}
+use Rattle.store.specs.OrderView.{order_view}
 use Rattle.store.proofs.folder_outcome.outcome_of_inputs.Goals as goal
 
 pub returns-in-Bytewise-clause-answer : goal.returns-in-Bytewise-clause-answer
@@ -27,7 +29,7 @@ pub returns-in-Bytewise-clause-compacted : goal.returns-in-Bytewise-clause-compa
 returns-in-Bytewise-clause-compacted g c files loaded tables told held sound =
     let v = c.args.opened.now.version in
     let is = c.in-Bytewise.is in
-    subst (λ (order : Order). IfOk c.outcome_untested.result (λ o. (p : PickedInputs) × LevelCompaction order (order_cmp order) (order_short_keys order) v loaded c.args.level c.args.first c.args.settings.now p (answer_in o.outcome)))
+    subst (λ (order : Order). IfOk c.outcome_untested.result (λ o. (p : PickedInputs) × LevelCompaction (order_view order) (version_with v loaded) c.args.level c.args.first c.args.settings.now p (answer_in o.outcome)))
     (sym is) (c.outcome_untested.ensures.compacted files Bytewise loaded tables told (subst (AreHeldIn (order_cmp Bytewise) files) (sym c.none-none.ensures) (All-nil (λ (t : NumberedContents). IsTableIn (order_cmp Bytewise) files t.number t.contents)))
     (subst (λ (order : Order). IsLoaded (IsFileIn files) (file_numbers (order_cmp order) v) (Ok loaded)) is held) (subst (λ (order : Order). IsLawfulTables (order_cmp order) v loaded (Ok tables)) is sound))
 
@@ -42,6 +44,6 @@ pub returns-in-Shortlex-clause-compacted : goal.returns-in-Shortlex-clause-compa
 returns-in-Shortlex-clause-compacted g c files loaded tables told held sound =
     let v = c.args.opened.now.version in
     let is = c.in-Shortlex.is in
-    subst (λ (order : Order). IfOk c.outcome_untested-in-Shortlex.result (λ o. (p : PickedInputs) × LevelCompaction order (order_cmp order) (order_short_keys order) v loaded c.args.level c.args.first c.args.settings.now p (answer_in o.outcome)))
+    subst (λ (order : Order). IfOk c.outcome_untested-in-Shortlex.result (λ o. (p : PickedInputs) × LevelCompaction (order_view order) (version_with v loaded) c.args.level c.args.first c.args.settings.now p (answer_in o.outcome)))
     (sym is) (c.outcome_untested-in-Shortlex.ensures.compacted files Shortlex loaded tables told (subst (AreHeldIn (order_cmp Shortlex) files) (sym c.none-none-in-Shortlex.ensures) (All-nil (λ (t : NumberedContents). IsTableIn (order_cmp Shortlex) files t.number t.contents)))
     (subst (λ (order : Order). IsLoaded (IsFileIn files) (file_numbers (order_cmp order) v) (Ok loaded)) is held) (subst (λ (order : Order). IsLawfulTables (order_cmp order) v loaded (Ok tables)) is sound))

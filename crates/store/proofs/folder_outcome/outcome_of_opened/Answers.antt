@@ -10,6 +10,8 @@ use Rattle.folder.specs.declared.order.Order.TheVariants.{Bytewise, Shortlex}
 use Rattle.pick.specs.PickedInputs.{PickedInputs}
 use Rattle.store.specs.Compaction.{LevelCompaction}
 use Rattle.store.specs.Outcome.{IsOutcomeOfVersion, outcome_in}
+use Rattle.install.specs.Install.{version_with}
+use Rattle.store.specs.OrderView.{order_view}
 use Rattle.store.proofs.folder_outcome.outcome_of_opened.Goals as goal
 
 pub returns-in-Bytewise-clause-answer : goal.returns-in-Bytewise-clause-answer
@@ -23,7 +25,7 @@ pub returns-in-Bytewise-clause-compacted : goal.returns-in-Bytewise-clause-compa
 returns-in-Bytewise-clause-compacted g c files told =
     let v = c.args.opened.now.version in
     subst (λ (order : Order). IfOk c.outcome_tested.result (λ o. (loaded : List (ℕ × List ℕ)) × IsLoaded (IsFileIn files) (file_numbers (order_cmp order) v) (Ok loaded)
-    × ((p : PickedInputs) × LevelCompaction order (order_cmp order) (order_short_keys order) v loaded c.args.level c.args.first c.args.settings.now p (answer_in o.outcome))))
+    × ((p : PickedInputs) × LevelCompaction (order_view order) (version_with v loaded) c.args.level c.args.first c.args.settings.now p (answer_in o.outcome))))
     (sym c.in-Bytewise.is) (c.outcome_tested.ensures.compacted files Bytewise told)
 
 pub returns-in-Shortlex-clause-answer : goal.returns-in-Shortlex-clause-answer
@@ -37,5 +39,5 @@ pub returns-in-Shortlex-clause-compacted : goal.returns-in-Shortlex-clause-compa
 returns-in-Shortlex-clause-compacted g c files told =
     let v = c.args.opened.now.version in
     subst (λ (order : Order). IfOk c.outcome_tested-in-Shortlex.result (λ o. (loaded : List (ℕ × List ℕ)) × IsLoaded (IsFileIn files) (file_numbers (order_cmp order) v) (Ok loaded)
-    × ((p : PickedInputs) × LevelCompaction order (order_cmp order) (order_short_keys order) v loaded c.args.level c.args.first c.args.settings.now p (answer_in o.outcome))))
+    × ((p : PickedInputs) × LevelCompaction (order_view order) (version_with v loaded) c.args.level c.args.first c.args.settings.now p (answer_in o.outcome))))
     (sym c.in-Shortlex.is) (c.outcome_tested-in-Shortlex.ensures.compacted files Shortlex told)

@@ -15,6 +15,8 @@ use Rattle.store.specs.Outcome.{IsOutcomeOfInputs, IsOutcomeOfVersion, OutcomeVi
 use Rattle.store.proofs.Answered.{made_as}
 use Rattle.store.proofs.Flow.{first_passed, first_refused, told_still, told_themselves}
 use Rattle.store.proofs.StepPart.{has_passed, version_refused}
+use Rattle.install.specs.Install.{version_with}
+use Rattle.store.specs.OrderView.{order_by}
 use Rattle.store.proofs.folder_outcome.outcome_tested.Goals as goal
 
 pub returns-in_err-found-clause-answer : goal.returns-in_err-found-clause-answer
@@ -61,8 +63,8 @@ returns-clause-compacted g c files order told =
     let tells = g.F.Folder.tells in
     let passed = has_passed cmp (IsFileIn files) files v _ (told_themselves files) (c.in_ok-found.ensures.answer files told) in
     let still = told_still (tells c.args.folder.now) (tells c.test_and_hold.new.folder) files c.test_and_hold.ensures.reads.same told in
-    IfOk-weaker c.outcome_untested.result (λ o. (p : PickedInputs) × LevelCompaction order cmp keys v passed.loaded c.args.level c.args.first s p (answer_in o.outcome))
-    (λ o. (loaded : List (ℕ × List ℕ)) × IsLoaded (IsFileIn files) (file_numbers cmp v) (Ok loaded) × ((p : PickedInputs) × LevelCompaction order cmp keys v loaded c.args.level c.args.first s p (answer_in o.outcome)))
+    IfOk-weaker c.outcome_untested.result (λ o. (p : PickedInputs) × LevelCompaction (order_by order cmp keys) (version_with v passed.loaded) c.args.level c.args.first s p (answer_in o.outcome))
+    (λ o. (loaded : List (ℕ × List ℕ)) × IsLoaded (IsFileIn files) (file_numbers cmp v) (Ok loaded) × ((p : PickedInputs) × LevelCompaction (order_by order cmp keys) (version_with v loaded) c.args.level c.args.first s p (answer_in o.outcome)))
     (λ o h. (passed.loaded, passed.held, h)) (c.outcome_untested.ensures.compacted files order passed.loaded passed.tables still (c.in_ok-found.ensures.held files told) passed.held passed.sound)
 
 pub returns-clause-device : goal.returns-clause-device

@@ -1,7 +1,7 @@
-use Rattle.std.proofs.Common.{◌≡◌, ℕ, Result, Ok, Err, IfOk, refl, sym, ap, subst, arith}
+use Rattle.std.proofs.Common.{◌≡◌, Result, Ok, refl, sym, ap, subst, arith}
 use Rattle.folder.specs.fault.Fault.{Fault}
 use Rattle.compact.specs.AnswerIn.{answer_in}
-use Rattle.folder.proofs.OpeningLemmas.{answers_since, hands_on}
+use Rattle.folder.proofs.OpeningLemmas.{hands_on}
 use Rattle.folder.proofs.ReportLemmas.{reports_after, reports_handed}
 use Rattle.pick.specs.PickedInputs.{PickedInputs, picked_in}
 use Rattle.compact.specs.OneThread.{Answer}
@@ -10,6 +10,8 @@ use Rattle.store.specs.InputsCompaction.{IsLevelAnswer}
 use Rattle.store.specs.Outcome.{IsOutcomeOfInputs, OutcomeView, outcome_in, outcome_of}
 use Rattle.store.proofs.Answered.{equal_answers, equal_never, equal_ok}
 use Rattle.store.proofs.Flow.{first_passed, first_refused}
+use Rattle.install.specs.Install.{version_with}
+use Rattle.store.specs.OrderView.{order_by}
 use Rattle.store.proofs.folder_outcome.outcome_untested.Goals as goal
 
 pub returns-in_err-made-clause-answer : goal.returns-in_err-made-clause-answer
@@ -50,10 +52,10 @@ returns-clause-compacted g c files order loaded tables told are held sound =
     let s = c.args.settings.now in
     let p = picked_in c.in_ok-made.made.picked in
     let answer = answer_in c.in_ok-made.made.outcome in
-    equal_ok outcome_in (outcome_of p answer) c.level_answer.result (λ o. (q : PickedInputs) × LevelCompaction order cmp keys v loaded c.args.level c.args.first s q (answer_in o.outcome))
+    equal_ok outcome_in (outcome_of p answer) c.level_answer.result (λ o. (q : PickedInputs) × LevelCompaction (order_by order cmp keys) (version_with v loaded) c.args.level c.args.first s q (answer_in o.outcome))
     (λ o same. (
       p,
-      subst (λ (a : Answer). LevelCompaction order cmp keys v loaded c.args.level c.args.first s p a) (sym (ap (λ (x : OutcomeView). x.answer) same)) (c.in_ok-made.ensures.compacted files order loaded tables told are held sound),
+      subst (λ (a : Answer). LevelCompaction (order_by order cmp keys) (version_with v loaded) c.args.level c.args.first s p a) (sym (ap (λ (x : OutcomeView). x.answer) same)) (c.in_ok-made.ensures.compacted files order loaded tables told are held sound),
     )) c.level_answer.ensures
 
 pub returns-clause-device : goal.returns-clause-device

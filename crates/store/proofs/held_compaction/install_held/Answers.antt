@@ -122,7 +122,7 @@ returns-clause-runs g c =
     let contents = c.in_ok-tables.tables.items in
     let found = subst (λ (fs : List InputFile). input_tables cmp fs own ≡ Ok contents) c.deref.ensures.value c.in_ok-tables.ensures in
     let bytes = ap (map (λ (t : Contents). t.bytes)) c.deref-2.ensures.value ∙ read_bytes cmp p.files own contents found ∙ c.requires.bytes in
-    run_as (IsAnsweredBy p (compaction_from None cmp keys v own p s)) (IsAnswerForThese cmp keys v own s p)
+    run_as (IsAnsweredBy p (compaction_from None cmp keys v own p s)) (IsAnswerForThese (IsAnswerForInputs cmp keys v own s) p)
     g.C.Comparator.name_bytes cmp v (calls c.args.folder.now) (calls c.install_checked.new.folder) (tells c.args.folder.now) (tells c.install_checked.new.folder) c.install_checked.result
     (λ q answer h. (h.0, subst (λ (x : PickedInputs). IsAnswerForInputs cmp keys v own s x answer) (sym h.0) (record { contents = contents; stated = found; answered = h.1 })))
     (c.install_checked.ensures.runs own bytes)

@@ -6,7 +6,7 @@ use Rattle.pick.specs.PickedInputs.{IsPicked, PickedInputs, picked_in}
 use Rattle.checks.specs.HeldBytes.{held_bytes}
 use Rattle.store.specs.FoundInputs.{IsAnswerForThese, IsInputsFound}
 use Rattle.store.specs.InputsCompaction.{IsInputsCompacted, IsLevelAnswer, IsReadAnswer, input_numbers}
-use Rattle.store.specs.Runs.{IsAnswerForLevel}
+use Rattle.store.specs.Runs.{IsAnswerForLevel, IsAnswerForInputs}
 use Rattle.store.specs.Step.{IsStepFor, StepView, step_in, step_of}
 use Rattle.store.proofs.Answered.{made_as}
 use Rattle.store.proofs.Compactions.{is_compacted, picked_of}
@@ -98,7 +98,7 @@ returns-clause-runs g c =
     let level = IsAnswerForLevel cmp keys v c.args.level s in
     run_since level name cmp v (calls c.args.folder.now) (calls c.level_inputs.new.folder) (calls c.install_held.new.folder) (tells c.args.folder.now) (tells c.level_inputs.new.folder) (tells c.install_held.new.folder) c.install_held.result
     c.level_inputs.ensures.reads.calls c.level_inputs.ensures.reads.same
-    (run_as (IsAnswerForThese cmp keys v own s p) level name cmp v (calls c.level_inputs.new.folder) (calls c.install_held.new.folder) (tells c.level_inputs.new.folder) (tells c.install_held.new.folder) c.install_held.result
+    (run_as (IsAnswerForThese (IsAnswerForInputs cmp keys v own s) p) level name cmp v (calls c.level_inputs.new.folder) (calls c.install_held.new.folder) (tells c.level_inputs.new.folder) (tells c.install_held.new.folder) c.install_held.result
     (λ q answer h. record {
       is_picked = subst (IsPicked cmp v c.args.level) (sym h.0) c.in_ok-inputs.ensures.picked;
       loaded = own;

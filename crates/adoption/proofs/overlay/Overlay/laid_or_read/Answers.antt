@@ -3,7 +3,7 @@ use Rattle.std.specs.Option.{option_map}
 use Rattle.install.specs.Install.{tables_in}
 use Rattle.adoption.proofs.AdoptionSteps.{ok_with}
 use Rattle.adoption.proofs.OverlayFiles.{bytes_end, told_laid, told_plainly}
-use Rattle.adoption.proofs.overlay.OverlayFolder.read.Goals as goal
+use Rattle.adoption.proofs.overlay.Overlay.laid_or_read.Goals as goal
 
 pub returns-in_ok-from_slice-in-Some-clause-held : goal.returns-in_ok-from_slice-in-Some-clause-held
 returns-in_ok-from_slice-in-Some-clause-held g c =

@@ -1,0 +1,43 @@
+-- What a call changes of a folder.
+use Rattle.std.specs.Prelude.{ℕ, List, ◌++◌}
+use Rattle.folder.specs.Calls.{Step, ToldFiles}
+use Rattle.folder.specs.declared.folder.Folder.{Ghosts}
+
+-- The calls that write, up to the end of some call, before and after a part of it that is told of;
+-- and what the folder tells before and after that part.
+pub record FolderChange : Type 1 where
+  pub before : List Step
+  pub after : List Step
+  pub old : ToldFiles
+  pub new : ToldFiles
+
+-- what a call changes of a folder
+abbrev pub change_of : {F : Type 0} → Ghosts F → F → F → FolderChange
+change_of g old new = record {
+  before = g.calls old;
+  after = g.calls new;
+  old = g.tells old;
+  new = g.tells new;
+}
+
+-- the same change, told from after these calls on
+abbrev pub change_since : List Step → FolderChange → FolderChange
+change_since steps change = record {
+  before = change.before ++ steps;
+  after = change.after;
+  old = change.old;
+  new = change.new;
+}
+
+-- what a call changes of a folder, and how often the device had failed before it, and has after it
+pub record FolderCall : Type 1 where
+  pub change : FolderChange
+  pub failed : ℕ
+  pub now : ℕ
+
+abbrev pub call_of : {F : Type 0} → Ghosts F → F → F → FolderCall
+call_of g old new = record {
+  change = change_of g old new;
+  failed = g.failed old;
+  now = g.failed new;
+}

@@ -8,14 +8,14 @@ _sedvokt() {
         at=$((at + 1))
     done
     if ((COMP_CWORD == at)); then
-        words='stats verify get scan manifest dump compact clean job install blocks help'
+        words='stats verify get scan history manifest dump compact clean job install blocks help'
         words="$words -v --verbose -q --quiet -h --help -V --version"
         mapfile -t COMPREPLY < <(compgen -W "$words" -- "$word")
         return
     fi
     case $before in
-    --at | --from | --to | --limit | --level | --memory | --workers | --ranges | --snapshot | \
-        --snapshots | --block-size | --file-size | --first-number)
+    --at | --from | --to | --prefix | --limit | --level | --memory | --workers | --ranges | \
+        --snapshot | --snapshots | --block-size | --file-size | --first-number)
         return
         ;;
     --out)
@@ -32,8 +32,12 @@ _sedvokt() {
     case ${COMP_WORDS[at]} in
     stats) words='--text --json --memory --no-lock' ;;
     verify) words='--table --json --all-faults --memory --no-lock' ;;
-    get) words='--at --text --raw --json --no-verify --memory --no-lock' ;;
-    scan) words='--from --to --at --limit --keys --text --json --no-verify --memory --no-lock' ;;
+    get) words='--stdin --at --text --utf8 --raw --json --no-verify --memory --no-lock' ;;
+    scan)
+        words='--from --to --prefix --at --limit --keys --count --text --utf8 --json --no-verify'
+        words="$words --memory --no-lock"
+        ;;
+    history) words='--text --utf8 --json --no-verify --memory --no-lock' ;;
     manifest) words='--text --json --no-lock' ;;
     dump) words='--text' ;;
     compact)
@@ -44,7 +48,7 @@ _sedvokt() {
     job) words='--level' ;;
     install) words='--snapshot --snapshots --no-verify --memory --clean' ;;
     blocks) words='--at' ;;
-    help) words='stats verify get scan manifest dump compact clean job install blocks' ;;
+    help) words='stats verify get scan history manifest dump compact clean job install blocks' ;;
     *) return ;;
     esac
     [[ ${COMP_WORDS[at]} == help ]] || words="$words -v --verbose -q --quiet -h --help"
@@ -53,7 +57,7 @@ _sedvokt() {
         return
     fi
     case ${COMP_WORDS[at]} in
-    manifest | stats | verify | get | scan | job | compact | install | clean)
+    manifest | stats | verify | get | scan | history | job | compact | install | clean)
         mapfile -t COMPREPLY < <(compgen -d -- "$word")
         ;;
     *) mapfile -t COMPREPLY < <(compgen -f -- "$word") ;;

@@ -1,7 +1,7 @@
 # Completes sedvokt in fish.
 
-set -l commands stats verify get scan manifest dump compact clean job install blocks
-set -l folders stats verify get scan manifest compact clean job install
+set -l commands stats verify get scan history manifest dump compact clean job install blocks
+set -l folders stats verify get scan history manifest compact clean job install
 
 complete -c sedvokt -f
 complete -c sedvokt -s h -l help -d 'Print help'
@@ -14,6 +14,7 @@ complete -c sedvokt -n __fish_use_subcommand -a stats -d 'Print what each level 
 complete -c sedvokt -n __fish_use_subcommand -a verify -d 'Test all tables of a database'
 complete -c sedvokt -n __fish_use_subcommand -a get -d 'Print the value of a key'
 complete -c sedvokt -n __fish_use_subcommand -a scan -d 'Print keys and their values'
+complete -c sedvokt -n __fish_use_subcommand -a history -d 'Print all entries of a key'
 complete -c sedvokt -n __fish_use_subcommand -a manifest -d 'Print the version of a database'
 complete -c sedvokt -n __fish_use_subcommand -a dump -d 'Print the entries of a table'
 complete -c sedvokt -n __fish_use_subcommand -a compact -d 'Merge files of a level into the next'
@@ -27,9 +28,11 @@ complete -c sedvokt -n '__fish_seen_subcommand_from help' -a "$commands"
 complete -c sedvokt -n '__fish_seen_subcommand_from blocks dump' -F
 complete -c sedvokt -n "__fish_seen_subcommand_from $folders" -a '(__fish_complete_directories)'
 complete -c sedvokt -n '__fish_seen_subcommand_from get scan' -l at -x -d 'Read at this sequence'
-complete -c sedvokt -n '__fish_seen_subcommand_from dump manifest stats get scan' -l text \
+complete -c sedvokt -n '__fish_seen_subcommand_from dump manifest stats get scan history' -l text \
     -d 'Keys and values are text'
-complete -c sedvokt -n '__fish_seen_subcommand_from manifest stats verify get scan compact' \
+complete -c sedvokt -n '__fish_seen_subcommand_from get scan history' -l utf8 \
+    -d 'Print keys and values as UTF-8'
+complete -c sedvokt -n '__fish_seen_subcommand_from manifest stats verify get scan history compact' \
     -l json -d 'Print JSON, one object a line'
 complete -c sedvokt -n '__fish_seen_subcommand_from verify' -l table -r -F -d 'Test a table alone'
 complete -c sedvokt -n '__fish_seen_subcommand_from verify' -l all-faults \
@@ -37,15 +40,18 @@ complete -c sedvokt -n '__fish_seen_subcommand_from verify' -l all-faults \
 complete -c sedvokt -n '__fish_seen_subcommand_from get' -l raw -d 'Print the bytes themselves'
 complete -c sedvokt -n '__fish_seen_subcommand_from scan' -l from -x -d 'The first key'
 complete -c sedvokt -n '__fish_seen_subcommand_from scan' -l to -x -d 'The key before which to end'
+complete -c sedvokt -n '__fish_seen_subcommand_from get' -l stdin -d 'Read keys from standard input'
+complete -c sedvokt -n '__fish_seen_subcommand_from scan' -l prefix -x -d 'What keys begin with'
+complete -c sedvokt -n '__fish_seen_subcommand_from scan' -l count -d 'Print how many keys there are'
 complete -c sedvokt -n '__fish_seen_subcommand_from scan' -l limit -x -d 'At most N keys'
 complete -c sedvokt -n '__fish_seen_subcommand_from scan' -l keys -d 'Print keys alone'
 complete -c sedvokt -n '__fish_seen_subcommand_from clean' -l dry-run -d 'Print names, remove none'
-complete -c sedvokt -n '__fish_seen_subcommand_from stats verify get scan compact install' \
+complete -c sedvokt -n '__fish_seen_subcommand_from stats verify get scan history compact install' \
     -l memory -x \
     -d 'MiB of tables that the test may hold'
-complete -c sedvokt -n '__fish_seen_subcommand_from get scan compact' -l no-verify \
+complete -c sedvokt -n '__fish_seen_subcommand_from get scan history compact' -l no-verify \
     -d 'Take the version for lawful'
-complete -c sedvokt -n '__fish_seen_subcommand_from manifest stats verify get scan' -l no-lock \
+complete -c sedvokt -n '__fish_seen_subcommand_from manifest stats verify get scan history' -l no-lock \
     -d 'Neither lock the folder nor look for locks'
 complete -c sedvokt -n '__fish_seen_subcommand_from install' -l no-verify \
     -d 'Do not compare outputs with inputs'

@@ -18,7 +18,7 @@ use Rattle.store.proofs.RunPart.{calls_since, handed_calls, handed_err, passed_c
 use Rattle.adoption.specs.Adoption.{Adoption, adopted_step}
 use Rattle.adoption.specs.AdoptionRuns.{AreAdoptionCalls}
 use Rattle.adoption.specs.OutcomeLeft.{IsGivenRun}
-use Rattle.folder.proofs.Changes.{change_by}
+use Rattle.install.proofs.Changes.{change_by}
 
 abbrev Told : Type 1
 Told = List ℕ → Option (List ℕ) → Type 0

@@ -29,7 +29,7 @@ use Rattle.adoption.specs.AdoptionLeft.{AdoptedVersion, IsInstallation, Adoption
 use Rattle.adoption.specs.OutcomeLeft.{IsOutcomeLeft, IsTestedLeft}
 use Rattle.adoption.specs.BothFolders.{AnswersFrom, HasEitherFailed}
 use Rattle.adoption.specs.declared.comparison.Comparison.{Comparison}
-use Rattle.folder.proofs.Changes.{change_by}
+use Rattle.install.proofs.Changes.{change_by}
 
 pub tells_itself : (tells : ToldFiles) → TellsSame tells tells
 tells_itself tells name held = (λ h. h, λ h. h)

@@ -1,18 +1,20 @@
 -- Whether an edit fits a version.
-use Rattle.std.proofs.Common.{◌≡◌, ℕ, suc, ◌+◌, ◌<◌, ◌≤◌, Bool, true, false, ◌&&◌, List, ◌∷◌, length, drop, drop-cons, add-one, get_or, Option, Some, Ok, Err, refl, sym, ap, subst, ◌∙◌, arith, nat_eq, nat_lt}
-use Rattle.std.proofs.lemmas.Bool.{eqb-true}
+use Rattle.std.proofs.Common.{◌≡◌, ℕ, suc, if◌then◌else◌, Result, None, ◌+◌, ◌<◌, ◌≤◌, Bool, true, false, ◌&&◌, List, ◌∷◌, length, drop, drop-cons, add-one, get_or, Option, Some, Ok, Err, refl, sym, ap, subst, ◌∙◌, arith, nat_eq, nat_lt}
+use Rattle.std.specs.Option.{is_some}
+use Rattle.std.proofs.lemmas.Bool.{eqb-true, ltb-true}
 use Rattle.std.specs.Option.{ok_or}
 use Rattle.std.specs.Bool.{Decides}
 use Rattle.std.specs.Cmp.Lexicographic.{pointwise, pointwise_decides}
 use Rattle.edit.specs.declared.meta.DeletedFile.{DeletedFile}
 use Rattle.edit.specs.Answers.{fault}
 use Rattle.edit.specs.fault.Fault.{Fault}
-use Rattle.edit.specs.fault.FaultName.TheVariants.{Apply}
+use Rattle.edit.specs.fault.FaultName.TheVariants.{Apply, Level}
 use Rattle.edit.specs.Comparator.{KeyOrder}
 use Rattle.edit.specs.Edit.{Edit}
 use Rattle.edit.specs.Version.{State}
 use Rattle.edit.specs.declared.meta.CompactPointer.{CompactPointer}
-use Rattle.pick.specs.ClosedChoice.{IsClosedChoice, has_number_of}
+use Rattle.pick.specs.ClosedChoice.{IsClosedChoice, first_missing, has_number_of, missing_answer}
+use Rattle.pick.specs.declared.picked_inputs.InputFile.{InputFile}
 use Rattle.pick.specs.PickedInputs.{PickedInputs}
 use Rattle.edit.specs.declared.meta.NewFile.{NewFile}
 use Rattle.adoption.specs.EditFit.{IsChoiceOf, IsEditFor, IsFitting, IsNumbered, deleted_numbers, only_pointer, rise_between}
@@ -53,6 +55,17 @@ same_deletions = pointwise_decides same_file
 
 -- ---- the closed choice
 
+abbrev failed : Fault → Result (Option InputFile) Fault
+failed f = Err f
+
+pub none_is : (o : Option InputFile) → is_some o ≡ false → o ≡ None
+none_is None h = refl
+none_is (Some i) h = absurd cc
+
+pub some_is : (o : Option InputFile) → is_some o ≡ true → o ≡ None → ⊥
+some_is None h is = absurd cc
+some_is (Some i) h is = absurd cc
+
 module _ (cmp : KeyOrder) (v : State) (pointer : CompactPointer) (numbers : List ℕ) where
   pub level_of : (p : PickedInputs) → IsNumbered cmp v pointer numbers (Ok p) → p.level ≤ 5
   level_of p h =
@@ -60,6 +73,14 @@ module _ (cmp : KeyOrder) (v : State) (pointer : CompactPointer) (numbers : List
       let same : p.level ≡ pointer.level = ap (λ (q : PickedInputs). q.level) so.these in
       let low = so.level_low in
       omega (arith, same, low)
+
+  -- a level of inputs isn't refused
+  pub never_refused : (p : PickedInputs) → IsNumbered cmp v pointer numbers (Ok p) → (f : Fault) → missing_answer cmp v p.level numbers ≡ Err f → ⊥
+  never_refused p h f is = by (nat_lt 5 p.level) refl is
+    where
+      by : (b : Bool) → nat_lt 5 p.level ≡ b → (if b then Err (fault Level) else Ok (first_missing cmp v p.level (has_number_of numbers))) ≡ failed f → ⊥
+      by true e k = let low = level_of p h in let over = ltb-true 5 p.level e in omega (arith, low, over)
+      by false e k = absurd cc
 
   pub none_closed : (f : Fault) → IsNumbered cmp v pointer numbers (Err f) → IsChoiceOf cmp v pointer numbers (Err f)
   none_closed f h = (Err f, (h, refl))

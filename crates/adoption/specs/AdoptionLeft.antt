@@ -20,7 +20,7 @@ use Rattle.store.specs.declared.compaction_step.CompactionStep.{CompactionStep}
 use Rattle.adoption.specs.Adoption.{Adoption, IsGiven, adopted_step}
 use Rattle.adoption.specs.declared.comparison.Comparison.{Comparison}
 use Rattle.adoption.specs.declared.comparison.Comparison.TheVariants.{With, LeftOut}
-use Rattle.folder.specs.FolderChange.{FolderChange}
+use Rattle.install.specs.FolderChange.{FolderChange}
 use Rattle.install.specs.Install.{LoadedVersion, version_with}
 
 -- The edited version of an outcome. The adopted edit makes it of the version, by a manifest whose

@@ -14,7 +14,7 @@ use Rattle.store.specs.FolderRequest.{manifest_of}
 use Rattle.store.specs.Step.{step_in}
 use Rattle.store.specs.declared.compaction_step.CompactionStep.{CompactionStep}
 use Rattle.adoption.specs.Adoption.{Adoption, IsGiven, adopted_step}
-use Rattle.folder.specs.FolderChange.{FolderChange}
+use Rattle.install.specs.FolderChange.{FolderChange}
 
 -- An outcome was installed: its tables, and a manifest with the version and the adopted edit. The
 -- calls were made up to one that failed. At Changed all calls before the rename were made, and no

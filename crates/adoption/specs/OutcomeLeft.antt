@@ -10,7 +10,7 @@ use Rattle.adoption.specs.Adoption.{Adoption}
 use Rattle.adoption.specs.declared.comparison.Comparison.{Comparison}
 use Rattle.adoption.specs.AdoptionLeft.{AdoptedVersion, IsInstallation, IsOutcomeInstalled}
 use Rattle.adoption.specs.AdoptionRuns.{AreAdoptionCalls}
-use Rattle.folder.specs.FolderChange.{FolderChange}
+use Rattle.install.specs.FolderChange.{FolderChange}
 use Rattle.install.specs.Install.{LoadedVersion}
 
 -- what is left after the test of outputs: the folder is unchanged, or the outcome was installed,

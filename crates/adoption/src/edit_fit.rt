@@ -78,10 +78,11 @@ fn closed_inputs<C: Comparator>(
     ensures level { IfOk result (λ p. p.level ≤ LAST_INPUT_LEVEL) }
 {
     let picked = inputs_of::<C>(alloc, version, pointer, numbers)?;
-    match first_missing::<C>(alloc, version, picked.level, numbers)? {
-        None => Ok(picked),
-        Some(_) => Err(Fault::of(FaultName::Apply)),
+    let missing = first_missing::<C>(alloc, version, picked.level, numbers)?;
+    if missing.is_some() {
+        return Err(Fault::of(FaultName::Apply));
     }
+    Ok(picked)
 }
 
 /// The inputs that have these numbers. Apply if there are none. The only other fault is Memory.

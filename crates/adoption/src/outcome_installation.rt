@@ -22,7 +22,7 @@ ghost use Rattle.adoption.specs.AdoptionRuns.{IsAdoptionRun};
 ghost use Rattle.adoption.specs.OutcomeLeft.{IsOutcomeLeft};
 ghost use Rattle.adoption.specs.OutcomeLeft.{IsGivenRun, IsTestedLeft};
 ghost use Rattle.adoption.specs.BothFolders.{AnswersFrom, ReportsEither, HasEitherFailed};
-ghost use Rattle.folder.specs.FolderChange.{change_of};
+ghost use Rattle.install.specs.FolderChange.{change_of};
 
 use crate::adoption_end::AdoptionEnd;
 use crate::comparison::Comparison;
@@ -31,11 +31,11 @@ use crate::given_outcome::{GivenOutcome, given_outcome};
 use crate::kept_comparison::test_outputs;
 use checks::{SharedComparator, Watch, Workers};
 use edit::{Comparator, Fault};
-use folder::{Bytewise, Folder, Opened, Order, Shortlex};
+use folder::{Bytewise, Folder, Order, Shortlex};
 use install::install;
 use std::alloc::Global;
 use std::thread::Threads;
-use store::{CompactionStep, manifest_of, outcome_step};
+use store::{CompactionStep, SyncedVersion, manifest_of, outcome_step};
 
 /// Installs the outcome that `source` holds in what `folder` was `opened` as. The caller has locked
 /// the folder, and synced what was opened. The answer says what was installed, as that of a
@@ -83,7 +83,7 @@ pub fn install_outcome<F: Folder + Drop, G: Folder, W: Watch + Sync, R: Threads 
     workers: &Workers<'_, R, W>,
     folder: F,
     source: &mut G,
-    opened: &Opened,
+    opened: &SyncedVersion,
     comparison: Comparison<'_>,
     memory: u64,
 ) -> AdoptionEnd<F>
@@ -133,7 +133,7 @@ fn install_from<
     workers: &Workers<'_, R, W>,
     folder: F,
     source: &mut G,
-    opened: &Opened,
+    opened: &SyncedVersion,
     comparison: Comparison<'_>,
     memory: u64,
 ) -> AdoptionEnd<F>
@@ -179,7 +179,7 @@ fn install_given<
 >(
     workers: &Workers<'_, R, W>,
     folder: F,
-    opened: &Opened,
+    opened: &SyncedVersion,
     given: &GivenOutcome,
     comparison: Comparison<'_>,
     memory: u64,
@@ -219,7 +219,7 @@ fn install_tested<
 >(
     workers: &Workers<'_, R, W>,
     folder: F,
-    opened: &Opened,
+    opened: &SyncedVersion,
     given: &GivenOutcome,
     memory: u64,
 ) -> AdoptionEnd<F>
@@ -267,7 +267,7 @@ fn install_adopted<C: Comparator, F: Folder, R: Threads + Sync>(
     rt: &R,
     alloc: Global,
     folder: &mut F,
-    opened: &Opened,
+    opened: &SyncedVersion,
     given: &GivenOutcome,
 ) -> Result<CompactionStep, Fault>
     requires { length C.name_bytes < 2 ^ 32 }

@@ -1,17 +1,17 @@
 -- The lines of values.
-use Rattle.std.proofs.Common.{◌≡◌, ◌≢◌, ℕ, ◌-◌, Bool, true, false, if◌then◌else◌, List, [], ◌++◌, Some, None, All, codes, length, take, refl, sym, ap, subst, ◌∙◌, arith}
+use Rattle.std.proofs.Common.{◌≡◌, ◌≢◌, ℕ, ◌-◌, Bool, true, false, if◌then◌else◌, List, [], ◌++◌, Some, None, All, codes, length, take, refl, inl, sym, ap, subst, ◌∙◌, arith}
 use Rattle.std.specs.Str.{bytes_eq}
 use Rattle.std.proofs.Math.Seq.{take-append_seam}
 use Rattle.std.proofs.lemmas.Bool.{cond_both}
 use Rattle.std.proofs.lemmas.List.{length-append}
-use Rattle.std.proofs.lemmas.List.Elements.{All-cons, All-nil}
+use Rattle.std.proofs.lemmas.List.Elements.{All-cons, All-nil, All-weaker}
 use Rattle.std.proofs.lemmas.Option.{none-some, same_Some}
 use Rattle.std.proofs.lemmas.Slice.Eq.{bytes_eq-Decides}
 use Rattle.hex.specs.Hex.{IsBytes, decode_pairs}
 use Rattle.texts.specs.Escaped.{first_in_value, unescaped}
-use Rattle.texts.specs.Spelling.{IsPrintable, bytes_of, value_text}
+use Rattle.texts.specs.Spelling.{IsPrintable, IsShown, bytes_of, value_text}
 use Rattle.texts.specs.declared.spelling.Spelling.{Spelling}
-use Rattle.texts.specs.declared.spelling.Spelling.TheVariants.{Hexadecimal, Text}
+use Rattle.texts.specs.declared.spelling.Spelling.TheVariants.{Hexadecimal, Text, Utf8}
 use Rattle.texts.proofs.SpellingLemmas.{values_printable, values_read}
 use Rattle.answers.specs.ValueForms.{line_text, lone_text, value_line, value_line_text}
 
@@ -36,6 +36,11 @@ lone_read Text value fits = step (bytes_eq value (codes "none")) refl
     step : (same : Bool) → bytes_eq value (codes "none") ≡ same → bytes_of Text (if same then codes "\\x6eone" else value_text Text value) ≡ Some value
     step true is = escaped_as_text ∙ ap (λ (b : List ℕ). Some b) (sym ((bytes_eq-Decides value (codes "none")).0 is))
     step false is = values_read Text value fits
+lone_read Utf8 value fits = step (bytes_eq value (codes "none")) refl
+  where
+    step : (same : Bool) → bytes_eq value (codes "none") ≡ same → bytes_of Utf8 (if same then codes "\\x6eone" else value_text Utf8 value) ≡ Some value
+    step true is = escaped_as_text ∙ ap (λ (b : List ℕ). Some b) (sym ((bytes_eq-Decides value (codes "none")).0 is))
+    step false is = values_read Utf8 value fits
 
 -- it is not `none`
 lone_other : (spelling : Spelling) (value : List ℕ) → IsBytes value → lone_text spelling value ≢ codes "none"
@@ -46,6 +51,14 @@ lone_other Text value fits e = step (bytes_eq value (codes "none")) refl e
     step true is h = let long = ap length h in absurd (omega arith)
     step false is h =
         let read : value ≡ codes "none" = same_Some _ _ (sym (values_read Text value fits) ∙ ap (bytes_of Text) h ∙ none_as_text) in
+        let same = (bytes_eq-Decides value (codes "none")).1 read in
+        absurd cc
+lone_other Utf8 value fits e = step (bytes_eq value (codes "none")) refl e
+  where
+    step : (same : Bool) → bytes_eq value (codes "none") ≡ same → (if same then codes "\\x6eone" else value_text Utf8 value) ≡ codes "none" → ⊥
+    step true is h = let long = ap length h in absurd (omega arith)
+    step false is h =
+        let read : value ≡ codes "none" = same_Some _ _ (sym (values_read Utf8 value fits) ∙ ap (bytes_of Utf8) h ∙ none_as_text) in
         let same = (bytes_eq-Decides value (codes "none")).1 read in
         absurd cc
 
@@ -68,17 +81,20 @@ none_printable =
     (All-cons P 101 [] (omega arith, omega arith) (All-nil P)))))))
 
 -- the text of a value on a line of its own is printable
-lone_printable : (spelling : Spelling) (value : List ℕ) → IsBytes value → All (IsPrintable first_in_value) (lone_text spelling value)
+lone_printable : (spelling : Spelling) (value : List ℕ) → IsBytes value → All (IsShown spelling first_in_value) (lone_text spelling value)
 lone_printable Hexadecimal value fits = values_printable Hexadecimal value fits
 lone_printable Text value fits =
     cond_both (bytes_eq value (codes "none")) (codes "\\x6eone") (value_text Text value) (All (IsPrintable first_in_value)) (λ _. none_printable) (λ _. values_printable Text value fits)
+lone_printable Utf8 value fits =
+    cond_both (bytes_eq value (codes "none")) (codes "\\x6eone") (value_text Utf8 value) (All (IsShown Utf8 first_in_value))
+    (λ _. All-weaker (IsPrintable first_in_value) (IsShown Utf8 first_in_value) (λ c p. inl p) (codes "\\x6eone") none_printable) (λ _. values_printable Utf8 value fits)
 
 pub value_lines_read : (spelling : Spelling) (value : List ℕ) → IsBytes value → bytes_of spelling (value_line_text spelling value) ≡ Some value
 value_lines_read spelling value fits = ap (bytes_of spelling) (line_text-line (lone_text spelling value)) ∙ lone_read spelling value fits
 
-pub value_lines_printable : (spelling : Spelling) (value : List ℕ) → IsBytes value → All (IsPrintable first_in_value) (value_line_text spelling value)
+pub value_lines_printable : (spelling : Spelling) (value : List ℕ) → IsBytes value → All (IsShown spelling first_in_value) (value_line_text spelling value)
 value_lines_printable spelling value fits =
-    let P : List ℕ → Type 0 = All (IsPrintable first_in_value) in
+    let P : List ℕ → Type 0 = All (IsShown spelling first_in_value) in
     subst P (sym (line_text-line (lone_text spelling value))) (lone_printable spelling value fits)
 
 pub value_lines_differ : (spelling : Spelling) (value : List ℕ) → IsBytes value → value_line spelling (Some value) ≢ value_line spelling None

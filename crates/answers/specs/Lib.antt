@@ -10,6 +10,7 @@ pub mod Questions
 pub mod ScanRow
 pub mod FaultLines
 pub mod Objects
+pub mod HistoryLines
 pub mod VersionObject
 pub mod CompactionLines
 pub mod CompactionObject

@@ -1,23 +1,42 @@
 -- The JSON objects of answers, with members by name, and the line of an object.
-use Rattle.std.specs.Prelude.{ℕ, List, ◌++◌, true, codes, Option, Some, None}
+use Rattle.std.specs.Prelude.{ℕ, List, ◌++◌, true, codes, Option, Some, None, if◌then◌else◌}
+use Rattle.std.specs.Str.{is_utf8}
 use Rattle.serde_json.specs.Data.{Data, boolean, member, no_members, null, number, object, string}
 use Rattle.serde_json.specs.Data.{unsigned}
 use Rattle.serde_json.specs.Written.{compact_text}
 use Rattle.texts.specs.Spelling.{key_text, value_text}
+use Rattle.texts.specs.Text.{text_of_bytes}
 use Rattle.texts.specs.declared.spelling.Spelling.{Spelling}
+use Rattle.texts.specs.declared.spelling.Spelling.TheVariants.{Hexadecimal, Text, Utf8}
 
 -- the line of an object: its text without blanks, and a newline
 abbrev pub json_line : Data → List ℕ
 json_line d = compact_text d ++ codes "\n"
 
+-- `{"hex":H}`: bytes in hexadecimal digits
+abbrev pub hex_object : List ℕ → Data
+hex_object bytes = object (member (codes "hex") (string (text_of_bytes bytes)) no_members)
+
+-- bytes that are UTF-8 as a JSON string of their characters; others as `{"hex":H}`
+abbrev pub utf8_data : List ℕ → Data
+utf8_data bytes = if is_utf8 bytes then string bytes else hex_object bytes
+
 -- a key as a JSON string
 abbrev pub key_data : Spelling → List ℕ → Data
-key_data spelling key = string (key_text spelling key)
+key_data Hexadecimal key = string (key_text Hexadecimal key)
+key_data Text key = string (key_text Text key)
+key_data Utf8 key = utf8_data key
 
--- a value as a JSON string; null for none
+-- a value as a JSON string
+abbrev pub some_data : Spelling → List ℕ → Data
+some_data Hexadecimal value = string (value_text Hexadecimal value)
+some_data Text value = string (value_text Text value)
+some_data Utf8 value = utf8_data value
+
+-- the same; null for none
 abbrev pub value_data : Spelling → Option (List ℕ) → Data
 value_data spelling None = null
-value_data spelling (Some value) = string (value_text spelling value)
+value_data spelling (Some value) = some_data spelling value
 
 -- how many logs have writes that are in no table; null if that isn't known
 abbrev pub logs_data : Option ℕ → Data
@@ -27,6 +46,11 @@ logs_data (Some logs) = number (unsigned logs)
 -- `{"logs":N}`
 abbrev pub logs_object : Option ℕ → Data
 logs_object logs = object (member (codes "logs") (logs_data logs) no_members)
+
+-- `{"count":N,"logs":N}`
+abbrev pub count_object : ℕ → Option ℕ → Data
+count_object count logs = object (member (codes "count") (number (unsigned count))
+    (member (codes "logs") (logs_data logs) no_members))
 
 -- `{"entries":E,"files":F,"lawful":true,"logs":N}`
 abbrev pub lawful_object : ℕ → ℕ → Option ℕ → Data
@@ -55,8 +79,16 @@ abbrev pub value_object : Spelling → List ℕ → Option (List ℕ) → Option
 value_object spelling key value logs =
     value_parts (key_data spelling key) logs (value_data spelling value)
 
--- `{"key":K,"value":V}`, or `{"key":K}` if values are left out
+-- `{"key":K}`
+abbrev pub lone_object : Data → Data
+lone_object key = object (member (codes "key") key no_members)
+
+-- `{"key":K,"value":V}`
+abbrev pub pair_object : Data → Data → Data
+pair_object key value =
+    object (member (codes "key") key (member (codes "value") value no_members))
+
+-- the same of a key and its value, or `{"key":K}` if values are left out
 abbrev pub row_object : Spelling → List ℕ → Option (List ℕ) → Data
-row_object spelling key None = object (member (codes "key") (key_data spelling key) no_members)
-row_object spelling key (Some value) = object (member (codes "key") (key_data spelling key)
-    (member (codes "value") (value_data spelling (Some value)) no_members))
+row_object spelling key None = lone_object (key_data spelling key)
+row_object spelling key (Some value) = pair_object (key_data spelling key) (some_data spelling value)

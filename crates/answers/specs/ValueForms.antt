@@ -3,9 +3,9 @@ use Rattle.std.specs.Prelude.{◌≢◌, ℕ, ◌-◌, List, ◌++◌, codes, le
 use Rattle.std.specs.Prelude.{if◌then◌else◌}
 use Rattle.std.specs.Str.{bytes_eq}
 use Rattle.hex.specs.Hex.{IsBytes}
-use Rattle.texts.specs.Spelling.{value_text}
+use Rattle.texts.specs.Spelling.{key_text, value_text}
 use Rattle.texts.specs.declared.spelling.Spelling.{Spelling}
-use Rattle.texts.specs.declared.spelling.Spelling.TheVariants.{Hexadecimal, Text}
+use Rattle.texts.specs.declared.spelling.Spelling.TheVariants.{Hexadecimal, Text, Utf8}
 use Rattle.answers.specs.declared.question.ValueForm.{ValueForm}
 use Rattle.answers.specs.declared.question.ValueForm.TheVariants.{Line, Raw}
 
@@ -15,11 +15,18 @@ abbrev pub lone_text : Spelling → List ℕ → List ℕ
 lone_text Hexadecimal value = value_text Hexadecimal value
 lone_text Text value =
     if bytes_eq value (codes "none") then codes "\\x6eone" else value_text Text value
+lone_text Utf8 value =
+    if bytes_eq value (codes "none") then codes "\\x6eone" else value_text Utf8 value
 
 -- the line of a value, or of none
 abbrev pub value_line : Spelling → Option (List ℕ) → List ℕ
 value_line spelling None = codes "none\n"
 value_line spelling (Some value) = lone_text spelling value ++ codes "\n"
+
+-- the line of one key of several: `KEY VALUE`, or `KEY none`
+abbrev pub named_value_line : Spelling → List ℕ → Option (List ℕ) → List ℕ
+named_value_line spelling key value =
+    key_text spelling key ++ (codes " " ++ value_line spelling value)
 
 -- what is printed of a value, or of none: its line, or its bytes alone; None if nothing is
 abbrev pub value_answer : ValueForm → Option (List ℕ) → Option (List ℕ)

@@ -5,10 +5,11 @@ ghost use Rattle.table.specs.Answers.{EqualOrMemory};
 ghost use Rattle.table.specs.Saturated.{saturated};
 ghost use Rattle.table.specs.Key.{user_of};
 ghost use Rattle.serde_json.specs.View.{view};
-ghost use Rattle.answers.specs.Objects.{key_data, lawful_object, logs_object, removed_object};
-ghost use Rattle.answers.specs.Objects.{valid_object, value_data, value_object};
+ghost use Rattle.answers.specs.Objects.{count_object, key_data, lawful_object, logs_object};
+ghost use Rattle.answers.specs.Objects.{removed_object, valid_object, value_object};
 ghost use Rattle.answers.specs.Objects.{value_parts};
 
+use crate::json_bytes::{key_json, text_or_null};
 use crate::json_text::capped;
 use serde_json::{Value, json};
 use std::alloc::Global;
@@ -36,6 +37,13 @@ pub fn logs_json(alloc: Global, logs: Option<u64>) -> Result<Value, Fault>
     ensures { EqualOrMemory view result (Ok (logs_object logs)) }
 {
     Ok(json!(in alloc; {"logs": logs})?)
+}
+
+/// The object `{"count":N,"logs":N}`: how many rows there are, and how many logs as after rows.
+pub fn count_json(alloc: Global, count: u64, logs: Option<u64>) -> Result<Value, Fault>
+    ensures { EqualOrMemory view result (Ok (count_object count logs)) }
+{
+    Ok(json!(in alloc; {"count": count, "logs": logs})?)
 }
 
 /// The object `{"bytes":B,"removed":NAME}` of a file that was removed.
@@ -81,27 +89,9 @@ fn value_parts_json(
     Ok(json!(in alloc; {"key": key, "logs": logs, "value": value})?)
 }
 
-/// A key as a JSON string.
-fn key_json(alloc: Global, spelling: Spelling, key: &[u8]) -> Result<Value, Fault>
-    ensures { EqualOrMemory view result (Ok (key_data spelling key.now)) }
-{
-    Ok(Value::from(spelling.key_text(alloc, key)?))
-}
-
 /// The user key of an internal key as a JSON string.
 pub(crate) fn user_json(alloc: Global, spelling: Spelling, key: &KeyBuf) -> Result<Value, Fault>
     ensures { EqualOrMemory view result (Ok (key_data spelling (user_of key.now))) }
 {
     key_json(alloc, spelling, key.as_key().user())
-}
-
-/// A value as a JSON string, null if there is none.
-fn text_or_null(alloc: Global, spelling: Spelling, value: Option<&[u8]>) -> Result<Value, Fault>
-    ensures { EqualOrMemory view result
-        (Ok (value_data spelling (option_map (λ bytes. bytes.now) value.entry))) }
-{
-    match value {
-        Some(bytes) => Ok(Value::from(spelling.value_text(alloc, bytes)?)),
-        None => Ok(Value::Null),
-    }
 }

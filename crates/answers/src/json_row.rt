@@ -5,8 +5,9 @@ ghost use Rattle.std.specs.Prelude.{IsOkUnless, option_map};
 ghost use Rattle.table.specs.Answers.{EqualOrMemory, fault};
 ghost use Rattle.table.specs.fault.FaultName.TheVariants.{Memory};
 ghost use Rattle.serde_json.specs.View.{view};
-ghost use Rattle.answers.specs.Objects.{json_line, row_object};
+ghost use Rattle.answers.specs.Objects.{json_line, lone_object, pair_object, row_object};
 
+use crate::json_bytes::{key_json, some_json};
 use crate::json_text::json_line;
 use serde_json::{Value, json};
 use std::alloc::Global;
@@ -53,8 +54,15 @@ fn row_json(
 fn pair_json(alloc: Global, spelling: Spelling, key: &[u8], value: &[u8]) -> Result<Value, Fault>
     ensures { EqualOrMemory view result (Ok (row_object spelling key.now (Some value.now))) }
 {
-    let key = spelling.key_text(alloc, key)?;
-    let value = spelling.value_text(alloc, value)?;
+    let key = key_json(alloc, spelling, key)?;
+    let value = some_json(alloc, spelling, value)?;
+    pair_parts_json(alloc, key, value)
+}
+
+/// The object of these parts.
+fn pair_parts_json(alloc: Global, key: Value, value: Value) -> Result<Value, Fault>
+    ensures { EqualOrMemory view result (Ok (pair_object (view key) (view value))) }
+{
     Ok(json!(in alloc; {"key": key, "value": value})?)
 }
 
@@ -62,6 +70,13 @@ fn pair_json(alloc: Global, spelling: Spelling, key: &[u8], value: &[u8]) -> Res
 fn lone_key_json(alloc: Global, spelling: Spelling, key: &[u8]) -> Result<Value, Fault>
     ensures { EqualOrMemory view result (Ok (row_object spelling key.now None)) }
 {
-    let key = spelling.key_text(alloc, key)?;
+    let key = key_json(alloc, spelling, key)?;
+    lone_part_json(alloc, key)
+}
+
+/// The object of this part.
+fn lone_part_json(alloc: Global, key: Value) -> Result<Value, Fault>
+    ensures { EqualOrMemory view result (Ok (lone_object (view key))) }
+{
     Ok(json!(in alloc; {"key": key})?)
 }

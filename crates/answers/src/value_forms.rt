@@ -1,11 +1,13 @@
 //! What is printed of the value of a user key.
 
-ghost use Rattle.std.specs.Prelude.{Some, Ok, option_map, string_bytes};
-ghost use Rattle.table.specs.Answers.{EqualOrMemory};
+ghost use Rattle.std.specs.Prelude.{◌≡◌, ◌++◌, ℕ, List, Option, Some, Ok, IsOkUnless, OnOk};
+ghost use Rattle.std.specs.Prelude.{option_map, string_bytes};
+ghost use Rattle.table.specs.Answers.{EqualOrMemory, fault};
+ghost use Rattle.table.specs.fault.FaultName.TheVariants.{Memory};
 ghost use Rattle.texts.specs.Escaped.{first_in_value};
 ghost use Rattle.texts.specs.Spelling.{ArePrintable, ReadBack};
 ghost use Rattle.answers.specs.ValueForms.{ValueLinesDiffer, lone_text, value_answer, value_line};
-ghost use Rattle.answers.specs.ValueForms.{value_line_text};
+ghost use Rattle.answers.specs.ValueForms.{named_value_line, value_line_text};
 
 use crate::question::ValueForm;
 use std::alloc::Global;
@@ -31,6 +33,23 @@ pub fn value_answer(
         ValueForm::Line(spelling) => Ok(Some(value_line(alloc, spelling, value)?)),
         ValueForm::Raw => Ok(value),
     }
+}
+
+/// Appends the line of a key, and of what the line of its value says: `KEY VALUE`, or `KEY none`.
+pub fn push_named_value(
+    lines: &mut Vec<u8>,
+    spelling: Spelling,
+    key: &[u8],
+    line: &[u8],
+) -> Result<(), Fault>
+    ensures ok { (value : Option (List ℕ)) → line.now ≡ value_line spelling value →
+        OnOk result (lines.new.items ≡ lines.old.items ++ named_value_line spelling key.now value) }
+    ensures memory { IsOkUnless result (fault Memory) }
+{
+    spelling.push_key(lines, key)?;
+    lines.push(b' ')?;
+    lines.extend_from_slice(line)?;
+    Ok(())
 }
 
 /// The line of a value, or of none.
@@ -60,7 +79,7 @@ fn lone_text(alloc: Global, spelling: Spelling, value: &[u8]) -> Result<String, 
 {
     match spelling {
         Spelling::Hexadecimal => spelling.value_text(alloc, value),
-        Spelling::Text => {
+        Spelling::Text | Spelling::Utf8 => {
             if value == NONE.as_bytes() {
                 return Ok(String::from_str(alloc, ESCAPED_NONE)?);
             }

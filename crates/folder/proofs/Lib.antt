@@ -19,7 +19,6 @@ pub mod PutLemmas
 pub mod ReadsLemmas
 pub mod CrashLemmas
 pub mod RunLemmas
-pub mod Changes
 pub mod NameEnds
 pub mod WrittenLemmas
 mod AloneLemmas

@@ -20,7 +20,6 @@ pub mod Manifest
 pub mod Orders
 pub mod OpenAnswer
 pub mod Reports
-pub mod FolderChange
 pub mod Levels
 pub mod LoadedTables
 pub mod Crash

@@ -141,7 +141,7 @@ fn clean(
     told: &mut Told,
 ) -> Result<(), Fault> {
     let opened = open(alloc, shelf)?;
-    sync_version(alloc, shelf, &opened)?;
+    let opened = sync_version(alloc, shelf, opened)?.into_opened();
     let names = names_of(alloc, files)?;
     remove_obsolete(alloc, shelf, &opened, &names, told)
 }

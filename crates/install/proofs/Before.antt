@@ -20,7 +20,7 @@ use Rattle.install.proofs.Edited.{apart_of}
 use Rattle.install.proofs.Files.{settled_stands}
 use Rattle.install.proofs.Moments.{Apart, leads_split, made_by, moment_made}
 use Rattle.install.proofs.Outputs.{filed, tables_passed}
-use Rattle.folder.proofs.Changes.{change_by}
+use Rattle.install.proofs.Changes.{change_by}
 
 module _ (cmp : List ℕ → List ℕ → Ordering) (order : Order) (v : State) (tables : List (ℕ × List ℕ)) (groups : List (List (ℕ × List ℕ))) (number : ℕ) (manifest : List ℕ) (apart : Apart cmp v (tables_of_groups groups) number manifest) where
   abbrev first_calls : List Call

@@ -22,7 +22,7 @@ use Rattle.install.proofs.Before.{stays_before}
 use Rattle.install.proofs.Current.{groups_leave}
 use Rattle.install.proofs.InstallRuns.{install_after, install_none, install_stopped}
 use Rattle.install.proofs.Installed.{survives, undone}
-use Rattle.folder.proofs.Changes.{change_by}
+use Rattle.install.proofs.Changes.{change_by}
 use Rattle.folder.specs.Manifest.{order_name}
 
 -- ---- the whole

@@ -18,7 +18,7 @@ use Rattle.install.proofs.Edited.{apart_of, setting_of}
 use Rattle.install.proofs.Moments.{any_moment, chained, install_chain, nothing_done, reads_then, stands_installed}
 use Rattle.install.proofs.Parts.{runs_same}
 use Rattle.install.proofs.Switch.{Setting}
-use Rattle.folder.proofs.Changes.{change_by}
+use Rattle.install.proofs.Changes.{change_by}
 
 -- what is asked of the version before and of the snapshot
 abbrev pub ReadsBack : List ℕ → (List ℕ → List ℕ → Ordering) → State → Type 0

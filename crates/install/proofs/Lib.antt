@@ -4,6 +4,7 @@ mod Stays
 mod Telling
 mod NumberSets
 mod ObsoleteNames
+pub mod Changes
 pub mod Parts
 mod Outputs
 mod Switch
@@ -17,3 +18,4 @@ mod Current
 mod InstallRuns
 mod Before
 pub mod Grouped
+pub mod WorkRows

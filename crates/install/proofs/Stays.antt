@@ -16,7 +16,7 @@ use Rattle.install.specs.ObsoleteFile.{AreObsolete, IsObsoleteFile}
 use Rattle.install.specs.Removal.{StaysAs, removal_calls}
 use Rattle.install.proofs.Names.{no_current}
 use Rattle.install.proofs.Unused.{HasSmallNumbers, unused}
-use Rattle.folder.proofs.Changes.{change_by}
+use Rattle.install.proofs.Changes.{change_by}
 
 at : (f g : Files) (name : List ℕ) → f ≡ g → f name ≡ g name
 at f g name e = ap (λ (h : Files). h name) e

@@ -7,7 +7,7 @@ use Rattle.folder.specs.declared.folder.FolderFault.{FolderFault}
 use Rattle.folder.proofs.RunLemmas.{changes_then, made_behind, made_front}
 use Rattle.install.specs.ToldNames.{AreTold}
 use Rattle.install.specs.Removal.{IsToldRemoval, removal_calls, removed_by}
-use Rattle.folder.proofs.Changes.{change_by}
+use Rattle.install.proofs.Changes.{change_by}
 
 told_then : {W : Type 0} (tells : W → List ℕ → W → Type 0) (a b : List (List ℕ)) (x y z : W) → AreTold tells x a y → AreTold tells y b z → AreTold tells x (a ++ b) z
 told_then tells [] b x y z h k = let same : y ≡ x = h in subst (λ w. AreTold tells w b z) same k

@@ -17,7 +17,7 @@ use Rattle.folder.specs.declared.order.Order.{Order}
 use Rattle.install.specs.Install.{IsEditedBy, IsStoppedOrChanged, SurvivesCrash, version_with}
 use Rattle.install.specs.Install.{calls_before_rename, install_calls, manifest_bytes}
 use Rattle.install.specs.Install.{next_version_tables}
-use Rattle.folder.specs.FolderChange.{change_of}
+use Rattle.install.specs.FolderChange.{change_of}
 use Rattle.folder.specs.Manifest.{order_name}
 
 -- the tables of all groups, in their order

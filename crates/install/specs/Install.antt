@@ -21,7 +21,7 @@ use Rattle.folder.specs.OpenAnswer.{IsStopped}
 use Rattle.folder.specs.ReadsAs.{IsOneOf, ReadsAs, StandsAs, StandsBy}
 use Rattle.folder.specs.TableFiles.{named_tables}
 use Rattle.folder.specs.declared.order.Order.{Order}
-use Rattle.folder.specs.FolderChange.{FolderChange}
+use Rattle.install.specs.FolderChange.{FolderChange}
 
 -- tables of the code as numbers and bytes
 abbrev pub tables_in : List (ℕ × Vec ℕ) → List (ℕ × List ℕ)

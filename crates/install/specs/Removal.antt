@@ -13,7 +13,7 @@ use Rattle.folder.specs.ReadsAs.{ReadsBy}
 use Rattle.folder.specs.declared.order.Order.{Order}
 use Rattle.install.specs.Install.{AlwaysStandsBy}
 use Rattle.install.specs.ToldNames.{AreTold}
-use Rattle.folder.specs.FolderChange.{FolderChange}
+use Rattle.install.specs.FolderChange.{FolderChange}
 
 -- each file is removed, and then the folder is synced; no call is made if there is no file
 abbrev pub removal_calls : List (List ℕ) → List Call

@@ -15,7 +15,7 @@ ghost use Rattle.install.specs.Install.{IsEditedBy, IsStoppedOrChanged, Survives
 ghost use Rattle.install.specs.Install.{calls_before_rename, install_calls, manifest_bytes};
 ghost use Rattle.install.specs.Install.{next_version_tables, tables_in, version_with};
 ghost use Rattle.install.specs.GroupedInstallation.{IsGroupedInstallation, asked_of};
-ghost use Rattle.folder.specs.FolderChange.{change_of};
+ghost use Rattle.install.specs.FolderChange.{change_of};
 ghost use Rattle.folder.specs.Manifest.{order_name};
 
 use crate::install_steps::{install_manifest, write_group};

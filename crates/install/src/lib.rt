@@ -26,11 +26,15 @@
 //! [`obsolete_names`] answers these. [`pending_current`] finds a `CURRENT.N` that goleveldb has not
 //! renamed yet. Beside one, CURRENT may not name the version that is to be kept.
 //!
+//! [`work_laws`] joins installations and removals that follow one another: a crash at any moment
+//! leaves one of their versions.
+//!
 //! Premises of what is said of a crash:
 //!
 //! - nobody else writes the folder;
 //! - it stands for the version: before an installation `StandsAs`, before a removal by its manifest
 //!   (`StandsBy`), as after `sync_version` of `store`;
+//! - the version's order has the comparator's name;
 //! - the outcome makes the edited version of it (`IsEditedBy`);
 //! - the crash model of `folder`.
 #![tactic(auto)]
@@ -43,6 +47,7 @@ mod obsolete_files;
 mod pending_names;
 mod removal;
 mod removal_watch;
+mod row_laws;
 
 pub use edit::Outcome;
 pub use file_kind::FileKind;
@@ -54,3 +59,4 @@ pub use obsolete_files::{is_obsolete_file, obsolete_names};
 pub use pending_names::pending_current;
 pub use removal::remove_obsolete;
 pub use removal_watch::RemovalWatch;
+pub use row_laws::work_laws;

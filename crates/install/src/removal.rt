@@ -1,10 +1,11 @@
 //! The removal of files that a version doesn't need.
 //!
-//! `compact --clean` calls it after each installation, through a folder value of its own, which no
-//! contract joins to that of the steps. Why that changes nothing for them:
+//! `compact --clean` calls it after each installation, through a folder value of its own. Why that
+//! changes nothing for the steps:
 //!
-//! 1. At Ok an installation leaves a folder that stands for the edited version: the premise of the
-//!    removal. After that it is true too, and it is the premise of the next step.
+//! 1. At Ok an installation leaves a folder that stands for the edited version by its manifest: the
+//!    premise of the removal. After that it is true too, and it is the premise of the next step
+//!    ([`work_laws`](crate::work_laws)).
 //! 2. The next step reads CURRENT and tables of its version, none of which was removed, and makes
 //!    files of numbers from next file on. What it had read ahead before, it drops when it makes its
 //!    first file.
@@ -19,7 +20,7 @@ ghost use Rattle.folder.specs.Orders.{order_cmp};
 ghost use Rattle.folder.specs.Reports.{ReportsDevice};
 ghost use Rattle.install.specs.Removal.{AreRemoved, IsNothingRemoved, IsToldRemoval, StaysAs};
 ghost use Rattle.install.specs.Removal.{removal_calls};
-ghost use Rattle.folder.specs.FolderChange.{change_of};
+ghost use Rattle.install.specs.FolderChange.{change_of};
 ghost use Rattle.install.specs.ObsoleteFile.{AreObsolete};
 
 use crate::obsolete_files::obsolete_names;

@@ -2,7 +2,8 @@
 
 use crate::fault_printer::faults_printed;
 use answers::{
-    Question, answer_opened, json_line, lawful_json, manifest_lines, test_opened, version_json,
+    Question, VersionTotals, answer_opened, json_line, lawful_json, manifest_lines, test_opened,
+    version_json,
 };
 use install::Opened;
 use session::{
@@ -84,27 +85,43 @@ fn json_verdict<R: Host>(
     work: &OpenedFolder,
     memory: u64,
 ) -> Result<String, Refusal> {
+    let tested = tested(rt, telling, &work.opened, memory)?;
+    let object = lawful_json(rt.alloc(), tested.files, tested.entries, work.logs)?;
+    Ok(json_line(rt.alloc(), &object)?)
+}
+
+/// Tests whether no table of a version is too large, and then the version.
+pub(crate) fn version_tested<R: Host>(
+    rt: &R,
+    telling: Telling<'_>,
+    opened: &Opened,
+    memory: u64,
+) -> Result<(), Refusal> {
+    sizes_tested(rt, telling.folder, opened)?;
+    tested(rt, telling, opened, memory)?;
+    Ok(())
+}
+
+/// Tests the version of a folder.
+fn tested<R: Host>(
+    rt: &R,
+    telling: Telling<'_>,
+    opened: &Opened,
+    memory: u64,
+) -> Result<VersionTotals, Refusal> {
     let progress = ProgressLine::new(rt, telling);
     let mut folder = Disk::new(rt, telling.folder);
     let tested = test_opened(
         rt,
         rt.alloc(),
         &mut folder,
-        work.opened.order,
-        &work.opened.version,
+        opened.order,
+        &opened.version,
         memory,
         &progress,
     );
     progress.erase();
-    let tested = tested.map_err(|fault| refused_opened(
-        rt,
-        telling.folder,
-        &folder,
-        &work.opened,
-        fault,
-    ))?;
-    let object = lawful_json(rt.alloc(), tested.files, tested.entries, work.logs)?;
-    Ok(json_line(rt.alloc(), &object)?)
+    tested.map_err(|fault| refused_opened(rt, telling.folder, &folder, opened, fault))
 }
 
 /// What the version of a folder answers to a question.

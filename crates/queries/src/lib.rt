@@ -6,6 +6,8 @@
 mod block_files;
 mod fault_printer;
 mod folder_work;
+mod history_printer;
+mod input_keys;
 mod listed_files;
 mod row_printer;
 mod stats_printer;
@@ -14,6 +16,7 @@ mod value_printer;
 
 pub use block_files::merge;
 pub use folder_work::{print_verdict, print_version};
+pub use history_printer::print_history;
 pub use listed_files::{UnneededFiles, unneeded_files};
 pub use row_printer::print_rows;
 pub use stats_printer::print_stats;

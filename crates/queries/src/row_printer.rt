@@ -1,16 +1,17 @@
 //! The rows of a folder, from its path to what is printed.
 
-use answers::{Open, json_line, logs_json, push_row, push_row_json};
-use checks::{Fault, checkers};
-use install::Opened;
-use scan::{RowChoice, RowTaker, scan_unverified, scan_version};
+use answers::{Open, count_json, json_line, logs_json, push_row, push_row_json};
+use checks::{Fault, FaultName, checkers};
+use scan::{RowChoice, RowCounter, RowTaker, prefix_end, scan_unverified, scan_version};
 use session::{
-    Disk, Host, OpenedFolder, ProgressLine, Refusal, Telling, begin_counted, bytes_of, explained,
-    locked_to_read, print_lines, refused_opened, sizes_tested, table_explained, tell_time,
+    Disk, Host, OpenedFolder, Order, ProgressLine, Refusal, Telling, Words, begin_counted,
+    bytes_of, explained, locked_to_read, print_lines, refused_opened, sizes_tested,
+    table_explained, tell_time, told,
 };
+use std::alloc::Global;
 use std::time::Clock;
 use texts::Spelling;
-use usage::{RowOptions, ScanLine, Testing};
+use usage::{RowOptions, RowOutput, ScanLine, Testing};
 
 /// How many bytes of lines are written at once, or somewhat more.
 const AT_ONCE: usize = 65_536;
@@ -34,8 +35,14 @@ pub fn print_rows<R: Host>(
     let _lock = locked_to_read(rt, telling)?;
     let begun = telling.begin(rt);
     let work = begin_counted(rt, telling).map_err(|refusal| explained(rt, telling, refusal))?;
+    let end = end_of(rt.alloc(), folder, work.opened.order, &line.rows)?;
+    let scan = RowScan {
+        work: &work,
+        choice: choice_of(&line.rows, end.as_deref()),
+        testing: &line.testing,
+    };
     if line.testing.is_skipped {
-        rows_printed(rt, telling, &work, line).map_err(|refusal| table_explained(
+        scan_printed(rt, telling, scan, line).map_err(|refusal| table_explained(
             rt.alloc(),
             folder,
             refusal,
@@ -43,10 +50,77 @@ pub fn print_rows<R: Host>(
         tell_time(rt, "scan --no-verify", begun);
     } else {
         sizes_tested(rt, folder, &work.opened).map_err(|refusal| explained(rt, telling, refusal))?;
-        rows_printed(rt, telling, &work, line).map_err(|refusal| explained(rt, telling, refusal))?;
+        scan_printed(rt, telling, scan, line).map_err(|refusal| explained(rt, telling, refusal))?;
         tell_time(rt, "scan", begun);
     }
     Ok(())
+}
+
+/// Where the keys end that are printed; None if nothing ends them. Comparator if they are those
+/// with a prefix, and keys aren't in the order of their bytes.
+fn end_of(
+    alloc: Global,
+    folder: &str,
+    order: Order,
+    rows: &RowOptions,
+) -> Result<Option<Vec<u8>>, Refusal> {
+    let Some(prefix) = &rows.prefix else {
+        return Ok(None);
+    };
+    if order != Order::Bytewise {
+        let words = Words {
+            wrong: "its comparator does not keep the keys with a prefix together",
+            remedy: "give --from and --to",
+        };
+        let fault = Fault::of(FaultName::Comparator);
+        return Err(Refusal::new(fault, told(alloc, folder, words)));
+    }
+    Ok(prefix_end(alloc, prefix)?)
+}
+
+/// What is scanned.
+#[derive(Clone, Copy)]
+struct RowScan<'s> {
+    work: &'s OpenedFolder,
+    choice: RowChoice<'s>,
+    testing: &'s Testing,
+}
+
+/// Prints the rows that are asked for, or how many there are.
+fn scan_printed<R: Host>(
+    rt: &R,
+    telling: Telling<'_>,
+    scan: RowScan<'_>,
+    line: &ScanLine<'_>,
+) -> Result<(), Refusal> {
+    match line.output {
+        RowOutput::Count => count_printed(rt, telling, scan, line.is_json),
+        RowOutput::Keys => rows_printed(rt, telling, scan, line),
+        RowOutput::Pairs => rows_printed(rt, telling, scan, line),
+    }
+}
+
+/// Prints how many rows there are.
+fn count_printed<R: Host>(
+    rt: &R,
+    telling: Telling<'_>,
+    scan: RowScan<'_>,
+    is_json: bool,
+) -> Result<(), Refusal> {
+    let progress = ProgressLine::new(rt, telling);
+    let mut folder = Disk::new(rt, telling.folder);
+    let mut counter = RowCounter { rows: 0 };
+    let scanned = scanned(rt, &mut folder, scan, &progress, &mut counter);
+    progress.erase();
+    let opened = &scan.work.opened;
+    scanned.map_err(|fault| refused_opened(rt, telling.folder, &folder, opened, fault))?;
+    let count = counter.rows;
+    if is_json {
+        let object = count_json(rt.alloc(), count, scan.work.logs)?;
+        print_lines(rt, json_line(rt.alloc(), &object)?.as_bytes())
+    } else {
+        println!(rt; "{count}").map_err(|error| Refusal::of_output(rt.alloc(), &error))
+    }
 }
 
 /// Prints the rows of what a folder was opened as. Those that were told before a refusal are
@@ -54,10 +128,10 @@ pub fn print_rows<R: Host>(
 fn rows_printed<R: Host>(
     rt: &R,
     telling: Telling<'_>,
-    work: &OpenedFolder,
+    scan: RowScan<'_>,
     line: &ScanLine<'_>,
 ) -> Result<(), Refusal> {
-    let testing = &line.testing;
+    let work = scan.work;
     let progress = ProgressLine::new(rt, telling);
     let mut folder = Disk::new(rt, telling.folder);
     let mut printer = RowPrinter {
@@ -67,18 +141,11 @@ fn rows_printed<R: Host>(
             spelling: line.spelling,
             is_json: line.is_json,
         },
-        with_values: line.rows.with_values,
+        with_values: line.output == RowOutput::Pairs,
         lines: Vec::new(rt.alloc()),
         refusal: None,
     };
-    let scanned = scanned(
-        rt,
-        &mut folder,
-        &work.opened,
-        choice_of(&line.rows),
-        testing,
-        &mut printer,
-    );
+    let scanned = scanned(rt, &mut folder, scan, &progress, &mut printer);
     progress.erase();
     printer.end()?;
     scanned.map_err(|fault| refused_opened(rt, telling.folder, &folder, &work.opened, fault))?;
@@ -90,29 +157,38 @@ fn rows_printed<R: Host>(
 }
 
 /// Tells the rows of what a folder was opened as, and tests it before, if that is asked for.
-fn scanned<R: Host>(
+fn scanned<R: Host, T: RowTaker>(
     rt: &R,
     folder: &mut Disk<'_, R>,
-    opened: &Opened,
-    choice: RowChoice<'_>,
-    testing: &Testing,
-    printer: &mut RowPrinter<'_, R>,
+    scan: RowScan<'_>,
+    progress: &ProgressLine<'_, R>,
+    taker: &mut T,
 ) -> Result<(), Fault> {
+    let RowScan {
+        work,
+        choice,
+        testing,
+    } = scan;
+    let opened = &work.opened;
     let memory = bytes_of(testing.memory);
-    let workers = checkers(rt, rt.alloc(), printer.progress);
+    let workers = checkers(rt, rt.alloc(), progress);
     if testing.is_skipped {
         let untold = workers.with_gate(&Open);
-        scan_unverified(&untold, folder, opened, choice, memory, printer)
+        scan_unverified(&untold, folder, opened, choice, memory, taker)
     } else {
-        scan_version(&workers, folder, opened, choice, memory, printer)
+        scan_version(&workers, folder, opened, choice, memory, taker)
     }
 }
 
-/// The rows that are asked for, as a scan takes them.
-fn choice_of(rows: &RowOptions) -> RowChoice<'_> {
+/// The rows that are asked for, as a scan takes them. Those with a prefix end at `end`.
+fn choice_of<'s>(rows: &'s RowOptions, end: Option<&'s [u8]>) -> RowChoice<'s> {
+    let (from, to) = match &rows.prefix {
+        Some(prefix) => (Some(prefix.as_slice()), end),
+        None => (rows.from.as_deref(), rows.to.as_deref()),
+    };
     RowChoice {
-        from: rows.from.as_deref(),
-        to: rows.to.as_deref(),
+        from,
+        to,
         at: rows.at,
         limit: rows.limit,
     }

@@ -1,18 +1,23 @@
-//! The value of a key in a folder, from its path to what is printed.
+//! The values of keys in a folder, from its path to what is printed.
 
-use crate::folder_work::answered;
-use answers::{Question, ValueForm, json_line, unverified_value, value_json};
+use crate::folder_work::{answered, version_tested};
+use crate::input_keys::keys_in_input;
+use answers::{Question, ValueForm, json_line, push_named_value, unverified_value, value_json};
 use checks::Fault;
 use install::Opened;
 use session::{
     Disk, Host, OpenedFolder, Refusal, SystemFiles, Telling, begin_counted, bytes_of, explained,
     locked_to_read, print_lines, refused_opened, sizes_tested, table_explained, tell_time,
 };
+use std::alloc::Global;
 use texts::{Spelling, text_of};
-use usage::GetLine;
+use usage::{GetLine, KeySource};
 
 /// The line of a key without a value. No value has it as its hexadecimal digits.
 const NO_VALUE: &[u8] = b"none\n";
+
+/// How many bytes of lines are written at once, or somewhat more.
+const AT_ONCE: usize = 65_536;
 
 /// What is printed of the value of a key.
 #[derive(Clone, Copy)]
@@ -46,17 +51,128 @@ impl ValueOutput {
     }
 }
 
-/// Prints the value of a key in a folder. The version is tested before, if that is asked for.
+/// Prints the values of keys in a folder. The version is tested before, if that is asked for.
 pub fn print_value<R: Host>(
     rt: &R,
     telling: Telling<'_>,
     line: &GetLine<'_>,
 ) -> Result<(), Refusal> {
-    let _lock = locked_to_read(rt, telling)?;
-    if line.testing.is_skipped {
-        return print_unverified_value(rt, telling, line);
+    match &line.keys {
+        KeySource::Given(keys) => {
+            let _lock = locked_to_read(rt, telling)?;
+            match keys.as_slice() {
+                [key] => print_one_value(rt, telling, line, key),
+                keys => print_values(rt, telling, line, keys),
+            }
+        }
+        KeySource::Input => {
+            let keys = keys_in_input(rt, line.spelling)?;
+            let _lock = locked_to_read(rt, telling)?;
+            print_values(rt, telling, line, &keys)
+        }
     }
-    value_printed(rt, telling, line).map_err(|refusal| explained(rt, telling, refusal))
+}
+
+/// Prints the value of one key.
+fn print_one_value<R: Host>(
+    rt: &R,
+    telling: Telling<'_>,
+    line: &GetLine<'_>,
+    key: &[u8],
+) -> Result<(), Refusal> {
+    if line.testing.is_skipped {
+        return print_unverified_value(rt, telling, line, key);
+    }
+    value_printed(rt, telling, line, key).map_err(|refusal| explained(rt, telling, refusal))
+}
+
+/// Prints the values of keys, a line each, in their order. Those before a refusal are printed.
+fn print_values<R: Host>(
+    rt: &R,
+    telling: Telling<'_>,
+    line: &GetLine<'_>,
+    keys: &[Vec<u8>],
+) -> Result<(), Refusal> {
+    let begun = telling.begin(rt);
+    let work = begin_counted(rt, telling).map_err(|refusal| explained(rt, telling, refusal))?;
+    if line.testing.is_skipped {
+        values_printed(rt, telling, line, &work, keys).map_err(|refusal| table_explained(
+            rt.alloc(),
+            telling.folder,
+            refusal,
+        ))?;
+        tell_time(rt, "get --no-verify", begun);
+        return Ok(());
+    }
+    let memory = bytes_of(line.testing.memory);
+    version_tested(rt, telling, &work.opened, memory).map_err(|refusal| explained(
+        rt, telling, refusal,
+    ))?;
+    values_printed(rt, telling, line, &work, keys).map_err(|refusal| explained(
+        rt, telling, refusal,
+    ))?;
+    tell_time(rt, "get", begun);
+    Ok(())
+}
+
+/// Prints the values of keys in what a folder was opened as, and that was tested.
+fn values_printed<R: Host>(
+    rt: &R,
+    telling: Telling<'_>,
+    line: &GetLine<'_>,
+    work: &OpenedFolder,
+    keys: &[Vec<u8>],
+) -> Result<(), Refusal> {
+    let form = ValueOutput::of(line).form();
+    let mut folder = Disk::new(rt, telling.folder);
+    let mut lines = Vec::new(rt.alloc());
+    for key in keys {
+        let answer = match value_of(rt, &mut folder, &work.opened, key, line, form) {
+            Ok(answer) => answer,
+            Err(fault) => {
+                print_lines(rt, &lines)?;
+                return Err(refused_opened(rt, telling.folder, &folder, &work.opened, fault));
+            }
+        };
+        push_answer(
+            rt.alloc(),
+            &mut lines,
+            line,
+            key,
+            answer.as_deref(),
+            work.logs,
+        )?;
+        if lines.len() >= AT_ONCE {
+            print_lines(rt, &lines)?;
+            lines.clear();
+        }
+    }
+    print_lines(rt, &lines)
+}
+
+/// Appends what is printed of the answer of one key of several.
+fn push_answer(
+    alloc: Global,
+    lines: &mut Vec<u8>,
+    line: &GetLine<'_>,
+    key: &[u8],
+    answer: Option<&[u8]>,
+    logs: Option<u64>,
+) -> Result<(), Fault> {
+    match ValueOutput::of(line) {
+        ValueOutput::Line(spelling) => {
+            push_named_value(lines, spelling, key, answer.unwrap_or(NO_VALUE))
+        }
+        ValueOutput::Raw => {
+            lines.extend_from_slice(answer.unwrap_or(&[]))?;
+            Ok(())
+        }
+        ValueOutput::Json(spelling) => {
+            let object = value_json(alloc, spelling, key, answer, logs)?;
+            lines.extend_from_slice(json_line(alloc, &object)?.as_bytes())?;
+            Ok(())
+        }
+    }
 }
 
 /// Prints the value of a key in a folder. The version was verified before. If a table is refused,
@@ -65,19 +181,20 @@ fn print_unverified_value<R: Host>(
     rt: &R,
     telling: Telling<'_>,
     line: &GetLine<'_>,
+    key: &[u8],
 ) -> Result<(), Refusal> {
     let begun = telling.begin(rt);
     let work = begin_counted(rt, telling).map_err(|refusal| explained(rt, telling, refusal))?;
     let form = ValueOutput::of(line).form();
     let mut folder = Disk::new(rt, telling.folder);
-    let answer = value_of(rt, &mut folder, &work.opened, &line.key, line, form);
+    let answer = value_of(rt, &mut folder, &work.opened, key, line, form);
     let answer = answer.map_err(|fault| table_explained(
         rt.alloc(),
         telling.folder,
         refused_opened(rt, telling.folder, &folder, &work.opened, fault),
     ))?;
     tell_time(rt, "get --no-verify", begun);
-    print_value_answer(rt, telling, line, &work, answer.as_deref())
+    print_value_answer(rt, telling, line, key, &work, answer.as_deref())
 }
 
 /// The answer of the value of a `key` at a line's sequence, without a test of the version.
@@ -100,12 +217,17 @@ fn value_of<R: SystemFiles + AllocGlobal>(
     )
 }
 
-fn value_printed<R: Host>(rt: &R, telling: Telling<'_>, line: &GetLine<'_>) -> Result<(), Refusal> {
+fn value_printed<R: Host>(
+    rt: &R,
+    telling: Telling<'_>,
+    line: &GetLine<'_>,
+    key: &[u8],
+) -> Result<(), Refusal> {
     let begun = telling.begin(rt);
     let work = begin_counted(rt, telling)?;
     sizes_tested(rt, telling.folder, &work.opened)?;
     let question = Question::Value {
-        key: &line.key,
+        key,
         at: line.at,
         form: ValueOutput::of(line).form(),
     };
@@ -117,7 +239,7 @@ fn value_printed<R: Host>(rt: &R, telling: Telling<'_>, line: &GetLine<'_>) -> R
         bytes_of(line.testing.memory),
     )?;
     tell_time(rt, "get", begun);
-    print_value_answer(rt, telling, line, &work, answer.as_deref())
+    print_value_answer(rt, telling, line, key, &work, answer.as_deref())
 }
 
 /// Writes the answer of a key's value to the standard output, as the JSON line of both if that is
@@ -126,11 +248,12 @@ fn print_value_answer<R: Host>(
     rt: &R,
     telling: Telling<'_>,
     line: &GetLine<'_>,
+    key: &[u8],
     work: &OpenedFolder,
     answer: Option<&[u8]>,
 ) -> Result<(), Refusal> {
     if let ValueOutput::Json(spelling) = ValueOutput::of(line) {
-        let object = value_json(rt.alloc(), spelling, &line.key, answer, work.logs)?;
+        let object = value_json(rt.alloc(), spelling, key, answer, work.logs)?;
         print_lines(rt, json_line(rt.alloc(), &object)?.as_bytes())?;
     } else {
         match answer {
@@ -139,7 +262,7 @@ fn print_value_answer<R: Host>(
         }
     }
     if !is_found(line, answer) {
-        tell_text_key(rt, telling, line, &work.opened);
+        tell_text_key(rt, telling, line, key, &work.opened);
     }
     Ok(())
 }
@@ -166,28 +289,30 @@ fn tell_text_key<R: SystemFiles + Eprint + AllocGlobal>(
     rt: &R,
     telling: Telling<'_>,
     line: &GetLine<'_>,
+    key: &[u8],
     opened: &Opened,
 ) {
     let folder = telling.folder;
     if telling.is_quiet || line.spelling != Spelling::Hexadecimal {
         return;
     }
-    if have_value(rt, folder, line, opened) == Ok(true) {
+    if have_value(rt, folder, line, key, opened) == Ok(true) {
         let _ = eprintln!(rt;
             "sedvokt: {folder}: the key was read as hexadecimal; for text give --text"
         );
     }
 }
 
-/// Whether the hexadecimal digits of a line's key, in either case, are a key that has a value.
+/// Whether the hexadecimal digits of a `key`, in either case, are a key that has a value.
 fn have_value<R: SystemFiles + AllocGlobal>(
     rt: &R,
     folder: &str,
     line: &GetLine<'_>,
+    key: &[u8],
     opened: &Opened,
 ) -> Result<bool, Fault> {
     let mut disk = Disk::new(rt, folder);
-    let lower = text_of(rt.alloc(), &line.key)?;
+    let lower = text_of(rt.alloc(), key)?;
     let upper = lower.to_ascii_uppercase(rt.alloc())?;
     let form = ValueForm::Raw;
     let value = value_of(rt, &mut disk, opened, lower.as_bytes(), line, form)?;

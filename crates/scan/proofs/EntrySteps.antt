@@ -8,6 +8,7 @@ use Rattle.scan.specs.EntryRows.{decided_after, entry_rows, is_passed_over, rows
 use Rattle.scan.specs.RowParts.{AreTelling, AreWanted, IsRowPart}
 use Rattle.scan.specs.declared.row_limit.RowLimit.TheVariants.{More}
 use Rattle.scan.proofs.Told.{none_told}
+use Rattle.scan.specs.ToldRows.{telling_by}
 
 module _ (at : ℕ) (decided : Option (List ℕ)) (e : Entry) where
   over_rows : is_passed_over at decided e ≡ true → entry_rows at decided e ≡ []
@@ -27,7 +28,7 @@ module _ (at : ℕ) (decided : Option (List ℕ)) (e : Entry) where
   module _ {T : Type 0} (tells : T → Row → Bool → T → Type 0) (old : T) (left : Option ℕ) (wanted : AreWanted left) where
     -- an entry without a row
     pub nothing_told : entry_rows at decided e ≡ [] → AreTelling tells (entry_rows at decided e) old left old (Ok (More left))
-    nothing_told none = (wanted, subst (λ (rs : List Row). IsRowPart tells rs old left [] old left true) (sym none) (none_told tells [] old old left refl))
+    nothing_told none = (wanted, subst (λ (rs : List Row). IsRowPart (telling_by tells old old) rs left [] left true) (sym none) (none_told tells [] old old left refl))
 
     pub over_told : is_passed_over at decided e ≡ true → AreTelling tells (entry_rows at decided e) old left old (Ok (More left))
     over_told is = nothing_told (over_rows is)

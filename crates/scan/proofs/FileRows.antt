@@ -181,11 +181,11 @@ module _ (cmp : List ℕ → List ℕ → Ordering) (total : IsTotalOrder cmp) (
         moved : (i n k : ℕ) → k < i + suc n → k < suc i + n
         moved i n k lt = omega arith
 
-    rows_of_some : (i n : ℕ) → i + n ≤ length boundaries + 1 → AreRowsOf cmp (IsInSome i n) get (rows_from cmp tables standing at range boundaries i n)
+    rows_of_some : (i n : ℕ) → i + n ≤ length boundaries + 1 → AreRowsOf cmp (IsInSome i n) get (rows_from (file_rows cmp tables standing at) cmp range boundaries i n)
     rows_of_some i zero le = rows_none cmp get (IsInSome i zero) (λ key h. absurd (omega (arith, h.low, h.high)))
     rows_of_some i (suc n) le =
-        rows_same cmp get (λ key. IsIn cmp (part i) key ⊎ IsInSome (suc i) n key) (IsInSome i (suc n)) (rows_from cmp tables standing at range boundaries i (suc n)) (some_in i n) (in_some i n)
-        (rows_append cmp get (IsIn cmp (part i)) (IsInSome (suc i) n) (file_rows cmp tables standing at (part i)) (rows_from cmp tables standing at range boundaries (suc i) n)
+        rows_same cmp get (λ key. IsIn cmp (part i) key ⊎ IsInSome (suc i) n key) (IsInSome i (suc n)) (rows_from (file_rows cmp tables standing at) cmp range boundaries i (suc n)) (some_in i n) (in_some i n)
+        (rows_append cmp get (IsIn cmp (part i)) (IsInSome (suc i) n) (file_rows cmp tables standing at (part i)) (rows_from (file_rows cmp tables standing at) cmp range boundaries (suc i) n)
         (part_rows i) (rows_of_some (suc i) n (omega (arith, le)))
         (λ key later here there. cover.in_order i there.number key later (omega (arith, there.low)) (few i n there.number there.high le) (in_common cmp total range (range_at boundaries i) key here).1 there.there))
       where
@@ -200,7 +200,7 @@ module _ (cmp : List ℕ → List ℕ → Ordering) (total : IsTotalOrder cmp) (
         below : (k : ℕ) → k ≤ length boundaries → k < 0 + (length boundaries + 1)
         below k le = omega arith
 
-    pub version_rows : AreRows cmp v tables range at (rows_from cmp tables standing at range boundaries 0 (length boundaries + 1))
+    pub version_rows : AreRows cmp v tables range at (rows_from (file_rows cmp tables standing at) cmp range boundaries 0 (length boundaries + 1))
     version_rows =
-        let rows : List Row = rows_from cmp tables standing at range boundaries 0 (length boundaries + 1) in
+        let rows : List Row = rows_from (file_rows cmp tables standing at) cmp range boundaries 0 (length boundaries + 1) in
         are_rows range rows (rows_same cmp get (IsInSome 0 (length boundaries + 1)) (IsIn cmp range) rows (λ key h. h.within) everywhere (rows_of_some 0 (length boundaries + 1) (omega arith)))

@@ -5,7 +5,7 @@ use Rattle.table.specs.Answers.{UnlessMemory}
 use Rattle.table.specs.fault.Fault.{Fault}
 use Rattle.table.specs.fault.FaultName.TheVariants as name
 use Rattle.folder.specs.OpenAnswer.{FolderAnswers, HasDeviceFailed, IsStopped}
-use Rattle.scan.specs.SearchAnswers.{Gives, IsExcuse}
+use Rattle.scan.specs.Excuses.{Gives, IsExcuse}
 
 abbrev done : {A : Type 0} → A → Result A Fault
 done x = Ok x

@@ -26,3 +26,6 @@ pub mod Giving
 pub mod Parts
 pub mod IndexAhead
 pub mod UserEntries
+mod HistorySteps
+mod PrefixKeys
+mod CounterLemmas

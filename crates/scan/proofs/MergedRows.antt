@@ -18,6 +18,7 @@ use Rattle.scan.specs.EntryRows.{decided_after, entry_rows, rows_after, sorted_r
 use Rattle.scan.specs.RowParts.{AreBegun, AreEnough, AreTelling, AreWanted, IsRowPart}
 use Rattle.scan.specs.declared.row_limit.RowLimit.TheVariants.{More}
 use Rattle.scan.proofs.Told.{begun_then, enough_then, more_then}
+use Rattle.scan.specs.ToldRows.{telling_by}
 
 -- none of the entries is before the range
 abbrev pub IsAfter : (List ℕ → List ℕ → Ordering) → KeyRange → List Entry → Type 0
@@ -26,7 +27,7 @@ IsAfter cmp range es = AllByRecursion (λ (e : Entry). is_before cmp range.lower
 -- how far the entries of a range were walked: some of their rows were told, and none of the other
 -- entries is before the range
 pub record IsWalkedTo {T : Type 0} (tells : T → Row → Bool → T → Type 0) (cmp : List ℕ → List ℕ → Ordering) (range : KeyRange) (at : ℕ) (rows : List Row) (old : T) (limit : Option ℕ) (es : List Entry) (decided : Option (List ℕ)) (now : T) (left : Option ℕ) : Type 0 where
-  pub part : IsRowPart tells rows old limit (rows_after at decided (entries_in cmp range es)) now left true
+  pub part : IsRowPart (telling_by tells old now) rows limit (rows_after at decided (entries_in cmp range es)) left true
   pub after : IsAfter cmp range es
   pub wanted : AreWanted left
 
@@ -67,8 +68,8 @@ module _ (cmp : List ℕ → List ℕ → Ordering) (total : IsTotalOrder cmp) (
     abbrev behind : List Row
     behind = rows_after at (decided_after at decided e) (entries_in cmp range (drop 1 es))
 
-    here : IsRowPart tells rows old limit (front ++ behind) now left true
-    here = subst (λ (xs : List Entry). IsRowPart tells rows old limit (rows_after at decided xs) now left true) (next_in es e head walked.after first) walked.part
+    here : IsRowPart (telling_by tells old now) rows limit (front ++ behind) left true
+    here = subst (λ (xs : List Entry). IsRowPart (telling_by tells old now) rows limit (rows_after at decided xs) left true) (next_in es e head walked.after first) walked.part
 
     pub walked_enough : AreEnough tells front now left new → AreEnough tells rows old limit new
     walked_enough h = enough_then tells rows front behind old now new limit left here h
@@ -82,8 +83,8 @@ module _ (cmp : List ℕ → List ℕ → Ordering) (total : IsTotalOrder cmp) (
 
     pub walked_more : (less : Option ℕ) (after : Option (List ℕ)) (fs : List Entry) → AreTelling tells front now left new (Ok (More less)) → after ≡ decided_after at decided e → fs ≡ drop 1 es → IsWalkedTo tells cmp range at rows old limit fs after new less
     walked_more less after fs h is rest = record {
-      part = subst (λ (d : Option (List ℕ)). IsRowPart tells rows old limit (rows_after at d (entries_in cmp range fs)) new less true) (sym is)
-          (subst (λ (xs : List Entry). IsRowPart tells rows old limit (rows_after at (decided_after at decided e) (entries_in cmp range xs)) new less true) (sym rest) (more_then tells rows front behind old now new limit left here less h));
+      part = subst (λ (d : Option (List ℕ)). IsRowPart (telling_by tells old new) rows limit (rows_after at d (entries_in cmp range fs)) less true) (sym is)
+          (subst (λ (xs : List Entry). IsRowPart (telling_by tells old new) rows limit (rows_after at (decided_after at decided e) (entries_in cmp range xs)) less true) (sym rest) (more_then tells rows front behind old now new limit left here less h));
       after = subst (IsAfter cmp range) (sym rest) (after_next es e head walked.after);
       wanted = h.0;
     }

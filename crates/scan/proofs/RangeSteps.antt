@@ -10,11 +10,12 @@ use Rattle.scan.specs.EntryRows.{file_rows, rows_from}
 use Rattle.scan.specs.RowParts.{AreBegun, AreEnough, AreTelling, IsRowPart}
 use Rattle.scan.specs.declared.row_limit.RowLimit.TheVariants.{More}
 use Rattle.scan.proofs.Told.{begun_then, enough_then, more_then}
+use Rattle.scan.specs.ToldRows.{telling_by}
 
 module _ (cmp : List ℕ → List ℕ → Ordering) (tables : List NumberedContents) (files : List FileMeta) (at : ℕ) (range : KeyRange) (boundaries : List (List ℕ)) (all : ℕ) where
   -- the rows from a range on
   abbrev pub behind : ℕ → List Row
-  behind k = rows_from cmp tables files at range boundaries k (all - k)
+  behind k = rows_from (file_rows cmp tables files at) cmp range boundaries k (all - k)
 
   abbrev pub own_of : KeyRange → List Row
   own_of part = file_rows cmp tables files at part
@@ -23,25 +24,25 @@ module _ (cmp : List ℕ → List ℕ → Ordering) (tables : List NumberedConte
   next_rows k part lt is =
       let more : all - k ≡ suc (all - (k + 1)) = omega arith in
       let next : suc k ≡ k + 1 = omega arith in
-      ap (rows_from cmp tables files at range boundaries k) more
-      ∙ ap (λ (i : ℕ). own_of (common_of cmp range (range_at boundaries k)) ++ rows_from cmp tables files at range boundaries i (all - (k + 1))) next
+      ap (rows_from (file_rows cmp tables files at) cmp range boundaries k) more
+      ∙ ap (λ (i : ℕ). own_of (common_of cmp range (range_at boundaries k)) ++ rows_from (file_rows cmp tables files at) cmp range boundaries i (all - (k + 1))) next
       ∙ ap (λ (p : KeyRange). own_of p ++ behind (k + 1)) (sym is)
 
   none_behind : (k : ℕ) → all ≡ k → behind k ≡ []
   none_behind k end =
       let none : all - k ≡ 0 = omega arith in
-      ap (rows_from cmp tables files at range boundaries k) none
+      ap (rows_from (file_rows cmp tables files at) cmp range boundaries k) none
 
-  module _ {T : Type 0} (tells : T → Row → Bool → T → Type 0) (rows : List Row) (old now new : T) (limit left : Option ℕ) (k : ℕ) (so_far : IsRowPart tells rows old limit (behind k) now left true) where
+  module _ {T : Type 0} (tells : T → Row → Bool → T → Type 0) (rows : List Row) (old now new : T) (limit left : Option ℕ) (k : ℕ) (so_far : IsRowPart (telling_by tells old now) rows limit (behind k) left true) where
     -- after the last range
-    pub ranges_end : all ≡ k → IsRowPart tells rows old limit [] now left true
-    ranges_end end = subst (λ (rs : List Row). IsRowPart tells rows old limit rs now left true) (none_behind k end) so_far
+    pub ranges_end : all ≡ k → IsRowPart (telling_by tells old now) rows limit [] left true
+    ranges_end end = subst (λ (rs : List Row). IsRowPart (telling_by tells old now) rows limit rs left true) (none_behind k end) so_far
 
     module _ (part : KeyRange) (lt : k < all) (is : part ≡ common_of cmp range (range_at boundaries k)) where
-      here : IsRowPart tells rows old limit (own_of part ++ behind (k + 1)) now left true
-      here = subst (λ (rs : List Row). IsRowPart tells rows old limit rs now left true) (next_rows k part lt is) so_far
+      here : IsRowPart (telling_by tells old now) rows limit (own_of part ++ behind (k + 1)) left true
+      here = subst (λ (rs : List Row). IsRowPart (telling_by tells old now) rows limit rs left true) (next_rows k part lt is) so_far
 
-      pub ranges_more : (less : Option ℕ) → AreTelling tells (own_of part) now left new (Ok (More less)) → IsRowPart tells rows old limit (behind (k + 1)) new less true
+      pub ranges_more : (less : Option ℕ) → AreTelling tells (own_of part) now left new (Ok (More less)) → IsRowPart (telling_by tells old new) rows limit (behind (k + 1)) less true
       ranges_more less h = more_then tells rows (own_of part) (behind (k + 1)) old now new limit left here less h
 
       pub ranges_enough : AreEnough tells (own_of part) now left new → AreEnough tells rows old limit new

@@ -43,7 +43,7 @@ use Rattle.scan.specs.Rows.{AreRows}
 use Rattle.scan.specs.ChosenRows.{chosen_range, chosen_sequence, rows_within}
 use Rattle.scan.specs.EntryRows.{file_rows, rows_after, sorted_rows}
 use Rattle.scan.specs.RowParts.{AreScanned, IsRowPart}
-use Rattle.scan.specs.ToldRows.{IsScan}
+use Rattle.scan.specs.ToldRows.{IsScan, counts_by, telling_by}
 use Rattle.scan.specs.declared.row_choice.RowChoice.{RowChoice}
 use Rattle.scan.proofs.Told.{within_none, within_parts}
 
@@ -89,9 +89,9 @@ tables_in cmp told files v standing loaded tables stand all there sound = record
 module _ {T : Type 0} (tells : T → Row → Bool → T → Type 0) (cmp : List ℕ → List ℕ → Ordering) (v : State) (tables : List NumberedContents) (choice : RowChoice) (old new : T) (before now : ℕ) (rows : List Row)
     (are : AreRows cmp v tables (chosen_range choice) (chosen_sequence v choice.at) rows) where
   abbrev IsOwn : Result (Unit {0}) Fault → Type 0
-  IsOwn r = IsScan tells cmp v tables choice old new before now r
+  IsOwn r = IsScan cmp v tables choice (telling_by tells old new) (counts_by before now) r
 
-  ended : (untold : List Row) (left : Option ℕ) (goes : Bool) → IsRowPart tells rows old choice.limit untold new left goes → (rows_within left untold ≡ []) ⊎ (goes ≡ false) → IsOwn (Ok tt)
+  ended : (untold : List Row) (left : Option ℕ) (goes : Bool) → IsRowPart (telling_by tells old new) rows choice.limit untold left goes → (rows_within left untold ≡ []) ⊎ (goes ≡ false) → IsOwn (Ok tt)
   ended untold left goes p end = record {
     rows = rows;
     are = are;
@@ -99,7 +99,7 @@ module _ {T : Type 0} (tells : T → Row → Bool → T → Type 0) (cmp : List 
     untold = rows_within left untold;
     parts = within_parts rows p.told untold choice.limit left p.parts p.counted;
     goes = goes;
-    taker = p.taker;
+    taken = p.taken;
     answer = (refl, end);
   }
 
@@ -119,7 +119,7 @@ module _ {T : Type 0} (tells : T → Row → Bool → T → Type 0) (cmp : List 
     untold = rows_within begun.left begun.untold;
     parts = within_parts rows begun.part.told begun.untold choice.limit begun.left begun.part.parts begun.part.counted;
     goes = true;
-    taker = begun.part.taker;
+    taken = begun.part.taken;
     answer = unless_from e (IsStopped before now e) (IsStopped before now e ⊎ ((Err e ≡ Ok tt) × ((rows_within begun.left begun.untold ≡ []) ⊎ (true ≡ false)))) (λ s. inl s) stopped;
   }
 
@@ -145,8 +145,8 @@ stopped_handed before middle now (Err f) e is one two h =
 
 -- the count of failures was the same before
 pub scan_since : {T : Type 0} (tells : T → Row → Bool → T → Type 0) (cmp : List ℕ → List ℕ → Ordering) (v : State) (tables : List NumberedContents) (choice : RowChoice) (old new : T) (before middle now : ℕ) (r : Result (Unit {0}) Fault) → middle ≡ before
-    → IsScan tells cmp v tables choice old new middle now r → IsScan tells cmp v tables choice old new before now r
-scan_since tells cmp v tables choice old new before middle now r same h = subst (λ (n : ℕ). IsScan tells cmp v tables choice old new n now r) same h
+    → IsScan cmp v tables choice (telling_by tells old new) (counts_by middle now) r → IsScan cmp v tables choice (telling_by tells old new) (counts_by before now) r
+scan_since tells cmp v tables choice old new before middle now r same h = subst (λ (n : ℕ). IsScan cmp v tables choice (telling_by tells old new) (counts_by n now) r) same h
 
 -- the tables with which the version is lawful
 pub record LawfulTables (cmp : List ℕ → List ℕ → Ordering) (files : Files) (v : State) : Type 0 where

@@ -10,6 +10,7 @@ use Rattle.scan.specs.ChosenRows.{rows_within}
 use Rattle.scan.specs.RowParts.{AreBegun, AreEnough, AreScanned, AreTelling, AreWanted, IsAfterOne, IsRowPart}
 use Rattle.scan.specs.declared.row_limit.RowLimit.{RowLimit}
 use Rattle.scan.specs.declared.row_limit.RowLimit.TheVariants.{More, Enough}
+use Rattle.scan.specs.ToldRows.{telling_by}
 
 regroup : (a b c d : List Row) → a ++ ((b ++ c) ++ d) ≡ (a ++ b) ++ (c ++ d)
 regroup a b c d = simp append_assoc
@@ -27,25 +28,25 @@ count_on left less a b c sum h = ap (option_map (λ n. n + a)) h ∙ by less
 
 module _ {T : Type 0} (tells : T → Row → Bool → T → Type 0) where
   -- nothing is told yet
-  pub none_told : (rows : List Row) (old new : T) (left : Option ℕ) → new ≡ old → IsRowPart tells rows old left rows new left true
-  none_told rows old new left same = record { told = []; parts = refl; taker = (refl, same); counted = count_none left }
+  pub none_told : (rows : List Row) (old new : T) (left : Option ℕ) → new ≡ old → IsRowPart (telling_by tells old new) rows left rows left true
+  none_told rows old new left same = record { told = []; parts = refl; taken = (refl, same); counted = count_none left }
 
   -- and one row is told
-  pub one_told : (r : Row) (old new : T) (left less : Option ℕ) (goes : Bool) → tells old r goes new → left ≡ option_map (λ n. n + 1) less → IsRowPart tells (r ∷ []) old left [] new less goes
-  one_told r old new left less goes h count = record { told = r ∷ []; parts = refl; taker = inl (refl, h); counted = count }
+  pub one_told : (r : Row) (old new : T) (left less : Option ℕ) (goes : Bool) → tells old r goes new → left ≡ option_map (λ n. n + 1) less → IsRowPart (telling_by tells old new) (r ∷ []) left [] less goes
+  one_told r old new left less goes h count = record { told = r ∷ []; parts = refl; taken = inl (refl, h); counted = count }
 
-  pub part_then : (rows front behind untold : List Row) (old mid new : T) (limit left less : Option ℕ) (goes : Bool) → IsRowPart tells rows old limit (front ++ behind) mid left true → IsRowPart tells front mid left untold new less goes
-      → IsRowPart tells rows old limit (untold ++ behind) new less goes
+  pub part_then : (rows front behind untold : List Row) (old mid new : T) (limit left less : Option ℕ) (goes : Bool) → IsRowPart (telling_by tells old mid) rows limit (front ++ behind) left true → IsRowPart (telling_by tells mid new) front left untold less goes
+      → IsRowPart (telling_by tells old new) rows limit (untold ++ behind) less goes
   part_then rows front behind untold old mid new limit left less goes p q = record {
     told = p.told ++ q.told;
     parts = p.parts ∙ ap (λ (rs : List Row). p.told ++ (rs ++ behind)) q.parts ∙ regroup p.told q.told untold behind;
-    taker = told_append tells p.told q.told old mid new goes p.taker q.taker;
+    taken = told_append tells p.told q.told old mid new goes p.taken q.taken;
     counted = p.counted ∙ count_on left less (length p.told) (length q.told) (length (p.told ++ q.told)) (length-append p.told q.told) q.counted;
   }
 
   -- a part, after some of the rows
-  module _ (rows front behind : List Row) (old mid new : T) (limit left : Option ℕ) (p : IsRowPart tells rows old limit (front ++ behind) mid left true) where
-    pub more_then : (less : Option ℕ) → AreTelling tells front mid left new (Ok (More less)) → IsRowPart tells rows old limit behind new less true
+  module _ (rows front behind : List Row) (old mid new : T) (limit left : Option ℕ) (p : IsRowPart (telling_by tells old mid) rows limit (front ++ behind) left true) where
+    pub more_then : (less : Option ℕ) → AreTelling tells front mid left new (Ok (More less)) → IsRowPart (telling_by tells old new) rows limit behind less true
     more_then less h = part_then rows front behind [] old mid new limit left less true p h.1
 
     pub enough_then : AreEnough tells front mid left new → AreEnough tells rows old limit new

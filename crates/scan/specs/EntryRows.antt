@@ -60,10 +60,10 @@ sorted_rows cmp range at lists =
 abbrev pub file_rows : KeyOrder → List NumberedContents → List FileMeta → ℕ → KeyRange → List Row
 file_rows cmp tables files at range = sorted_rows cmp range at (lists_of_files tables files)
 
--- the same in what a range has of each of n ranges, from the i-th of a split on
-abbrev pub rows_from : KeyOrder → List NumberedContents → List FileMeta → ℕ → KeyRange →
-    List (List ℕ) → ℕ → ℕ → List Row
-rows_from cmp tables files at range boundaries i zero = []
-rows_from cmp tables files at range boundaries i (suc n) =
-    file_rows cmp tables files at (common_of cmp range (range_at boundaries i))
-    ++ rows_from cmp tables files at range boundaries (suc i) n
+-- the rows in what a range has of each of n ranges, from the i-th of a split on
+abbrev pub rows_from : (KeyRange → List Row) → KeyOrder → KeyRange → List (List ℕ) → ℕ → ℕ →
+    List Row
+rows_from rows_in cmp range boundaries i zero = []
+rows_from rows_in cmp range boundaries i (suc n) =
+    rows_in (common_of cmp range (range_at boundaries i))
+    ++ rows_from rows_in cmp range boundaries (suc i) n

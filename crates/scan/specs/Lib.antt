@@ -3,6 +3,8 @@ pub use Rattle.reads.specs.kind
 -- what contracts rest on
 pub mod Row
 pub mod Rows
+pub mod Prefixes
+pub mod CountedRows
 pub mod ChosenRows
 pub mod RowsLaw
 pub mod ToldRows
@@ -11,6 +13,8 @@ pub mod HiddenEntries
 pub mod Stats
 pub mod TestedStats
 pub mod FolderTables
+pub mod Excuses
+pub mod UserHistory
 -- serves proofs alone
 pub mod SearchAnswers
 pub mod EntryRows

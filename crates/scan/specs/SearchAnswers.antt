@@ -1,24 +1,15 @@
 -- What the steps of a search in a folder answer.
-use Rattle.std.specs.Prelude.{◌≡◌, ◌⊎◌, ℕ, ◌+◌, nat_le, if◌then◌else◌, List, Option, Some, length}
+use Rattle.std.specs.Prelude.{◌≡◌, ℕ, ◌+◌, nat_le, if◌then◌else◌, List, Option, Some, length}
 use Rattle.std.specs.Prelude.{Result, Ok, Err, string_bytes}
 use Rattle.table.specs.Answers.{fault, ◌>>=◌}
 use Rattle.table.specs.fault.Fault.{Fault}
-use Rattle.table.specs.fault.FaultName.TheVariants.{Device, Memory, Range}
+use Rattle.table.specs.fault.FaultName.TheVariants.{Range}
 use Rattle.table.specs.Footer.{footer_reading}
 use Rattle.table.specs.declared.footer.TheConstants.{FOOTER_LEN}
 use Rattle.table.specs.declared.handle.BlockHandle.{BlockHandle}
 use Rattle.table.specs.declared.trailer.TheConstants.{TRAILER_LEN}
 use Rattle.scan.specs.FolderTables.{TellsJust}
 use Rattle.scan.specs.declared.file_parts.TableFile.{TableFile}
-
--- a fault that comes whatever the folder holds
-abbrev pub IsExcuse : Fault → Type 0
-IsExcuse e = (e ≡ fault Device) ⊎ (e ≡ fault Memory)
-
--- a call answers a value of which P holds, or Device or Memory
-abbrev pub Gives : {X : Type 0} → Result X Fault → (X → Type 0) → Type 0
-Gives (Ok x) P = P x
-Gives (Err e) P = IsExcuse e
 
 -- the folder tells just these bytes of a file, and their number is its length
 abbrev pub IsFileOfBytes : (List ℕ → Option (List ℕ) → Type 0) → TableFile → List ℕ → Type 0

@@ -1,5 +1,5 @@
 -- What a scan of a version tells that is tested first.
-use Rattle.std.specs.Prelude.{◌≡◌, ◌⊎◌, ℕ, Bool, List, Result, Ok, Err, IsErrAnd}
+use Rattle.std.specs.Prelude.{◌≡◌, ◌⊎◌, ℕ, List, Result, Ok, Err, IsErrAnd}
 use Rattle.table.specs.Answers.{UnlessMemory}
 use Rattle.table.specs.fault.Fault.{Fault}
 use Rattle.table.specs.Comparator.{KeyOrder}
@@ -11,25 +11,24 @@ use Rattle.folder.specs.OpenAnswer.{IsStopped}
 use Rattle.reads.specs.Tables.{NumberedContents}
 use Rattle.checks.specs.LawfulTables.{IsLawfulTables}
 use Rattle.checks.specs.TestedTables.{IsTested}
-use Rattle.scan.specs.Row.{Row}
-use Rattle.scan.specs.ToldRows.{IsScan}
+use Rattle.scan.specs.ToldRows.{IsScan, FailureCounts, RowTelling}
 use Rattle.scan.specs.declared.row_choice.RowChoice.{RowChoice}
 
 -- the version is lawful with the tables that a folder tells, and its rows are told
-pub record IsLawfulScan {T : Type 0} (tells : T → Row → Bool → T → Type 0) (held : ToldFiles)
-    (cmp : KeyOrder) (v : State) (choice : RowChoice) (old new : T) (before now : ℕ)
+pub record IsLawfulScan {T : Type 0} (held : ToldFiles) (cmp : KeyOrder) (v : State)
+    (choice : RowChoice) (taker : RowTelling T) (failures : FailureCounts)
     (result : Result (Unit {0}) Fault) : Type 0 where
   pub loaded : List (ℕ × List ℕ)
   pub tables : List NumberedContents
   pub there : IsLoaded held (file_numbers cmp v) (Ok loaded)
   pub lawful : IsLawfulTables cmp v loaded (Ok tables)
-  pub scan : IsScan tells cmp v tables choice old new before now result
+  pub scan : IsScan cmp v tables choice taker failures result
 
 -- Or nothing is told: the device failed, or the version is refused as its test refuses it. Memory
 -- aside.
-abbrev pub IsTestedScan : {T : Type 0} → (T → Row → Bool → T → Type 0) → ToldFiles → KeyOrder →
-    State → RowChoice → T → T → ℕ → ℕ → Result (Unit {0}) Fault → Type 0
-IsTestedScan tells held cmp v choice old new before now result =
-    IsLawfulScan tells held cmp v choice old new before now result
-    ⊎ ((new ≡ old) × IsErrAnd result
-    (λ e. UnlessMemory e (IsStopped before now e ⊎ IsTested held cmp v (Err e))))
+abbrev pub IsTestedScan : {T : Type 0} → ToldFiles → KeyOrder → State → RowChoice →
+    RowTelling T → FailureCounts → Result (Unit {0}) Fault → Type 0
+IsTestedScan held cmp v choice taker failures result =
+    IsLawfulScan held cmp v choice taker failures result
+    ⊎ ((taker.new ≡ taker.old) × IsErrAnd result (λ e. UnlessMemory e
+    (IsStopped failures.before failures.now e ⊎ IsTested held cmp v (Err e))))

@@ -5,7 +5,8 @@ ghost use Rattle.std.specs.Prelude.{string_bytes};
 ghost use Rattle.folder.specs.Reports.{OnlyReads, ReportsDevice};
 ghost use Rattle.table.specs.IndexReading.{stored_at};
 ghost use Rattle.scan.specs.FolderTables.{HoldsTable, TellsJust};
-ghost use Rattle.scan.specs.SearchAnswers.{Gives, IsFileOfBytes, len_with_trailer};
+ghost use Rattle.scan.specs.Excuses.{Gives};
+ghost use Rattle.scan.specs.SearchAnswers.{IsFileOfBytes, len_with_trailer};
 ghost use Rattle.table.specs.declared.trailer.TheConstants.{TRAILER_LEN};
 
 use folder::{Folder, old_table_name, table_name};

@@ -12,7 +12,7 @@ ghost use Rattle.reads.specs.Lawful.{IsFileOf, IsLawful};
 ghost use Rattle.reads.specs.Tables.{NumberedContents, all_entries, table_entries};
 ghost use Rattle.reads.specs.Visible.{IsAnswer, visible_of};
 ghost use Rattle.scan.specs.FolderTables.{HoldTables};
-ghost use Rattle.scan.specs.SearchAnswers.{Gives};
+ghost use Rattle.scan.specs.Excuses.{Gives};
 
 use crate::file_search::newest_in_file;
 use crate::owned_entry::{OwnedEntry, newer, value_of};

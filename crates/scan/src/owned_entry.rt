@@ -11,7 +11,7 @@ use table::KeyBuf;
 
 /// An entry: its internal key, and its value.
 #[derive(Drop)]
-pub(crate) struct OwnedEntry {
+pub struct OwnedEntry {
     pub key: KeyBuf,
     pub value: Vec<u8>,
 }
@@ -43,7 +43,7 @@ pub(crate) fn newer(one: Option<OwnedEntry>, other: Option<OwnedEntry>) -> Optio
 }
 
 /// The sequence of an entry.
-fn sequence(entry: &OwnedEntry) -> u64
+pub(crate) fn sequence(entry: &OwnedEntry) -> u64
     ensures { result ≡ (visible_of entry.now).sequence }
 {
     entry.key.as_key().sequence()

@@ -57,8 +57,9 @@ pub(crate) fn tell_ranges<
     ensures told { (files : Files) (next : Option ℕ) (tables : List NumberedContents) →
         Tells (F.tells folder.old) files →
         AreTablesIn C.cmp files next (map (λ f. f.now) standing.now) tables →
-        AreScanned T.tells (rows_from C.cmp tables (map (λ f. f.now) standing.now)
-        rows.entry.at (key_range rows.entry.range) split.now 0 (length split.now + 1))
+        AreScanned T.tells (rows_from
+        (file_rows C.cmp tables (map (λ f. f.now) standing.now) rows.entry.at) C.cmp
+        (key_range rows.entry.range) split.now 0 (length split.now + 1))
         taker.old rows.entry.limit taker.new result }
     ensures errors { (files : Files) (next : Option ℕ) (tables : List NumberedContents) →
         Tells (F.tells folder.old) files →

@@ -11,7 +11,8 @@ ghost use Rattle.table.specs.declared.trailer.TheConstants.{TRAILER_LEN};
 ghost use Rattle.table.specs.IndexWalk.{block_named};
 ghost use Rattle.table.specs.IndexReading.{block_in, one_handle};
 ghost use Rattle.table.specs.TableContents.{index_in};
-ghost use Rattle.scan.specs.SearchAnswers.{Gives, IsFileOfBytes, index_handle};
+ghost use Rattle.scan.specs.Excuses.{Gives};
+ghost use Rattle.scan.specs.SearchAnswers.{IsFileOfBytes, index_handle};
 
 use crate::file_parts::{TableFile, part, stored_block, stored_len};
 use folder::Folder;

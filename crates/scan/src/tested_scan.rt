@@ -1,11 +1,11 @@
 //! The rows of a version whose tables lie in a folder, after a test of the version.
 
-ghost use Rattle.std.specs.Prelude.{◌≡◌, ℕ};
 ghost use Rattle.folder.specs.Calls.{Files, Tells};
 ghost use Rattle.folder.specs.Orders.{order_cmp};
 ghost use Rattle.folder.specs.ReadsAs.{IsFileIn};
 ghost use Rattle.folder.specs.Reports.{OnlyReads, ReportsDevice};
 ghost use Rattle.scan.specs.TestedScan.{IsTestedScan};
+ghost use Rattle.scan.specs.ToldRows.{telling_by, counts_of};
 
 use crate::row_choice::RowChoice;
 use crate::row_taker::RowTaker;
@@ -30,8 +30,8 @@ pub fn scan_version<F: ReadsTables, T: RowTaker, W: Watch + Sync, R: Threads + S
     taker: &mut T,
 ) -> Result<(), Fault>
     ensures rows { (files : Files) → Tells (F.tells folder.old) files →
-        IsTestedScan T.tells (IsFileIn files) (order_cmp opened.now.order) opened.now.version
-        choice.entry taker.old taker.new (F.failed folder.old) (F.failed folder.new) result }
+        IsTestedScan (IsFileIn files) (order_cmp opened.now.order) opened.now.version choice.entry
+        (telling_by T.tells taker.old taker.new) (counts_of F.Folder folder.old folder.new) result }
     ensures device { ReportsDevice F.Folder folder.old folder.new result }
     ensures reads { OnlyReads F.Folder folder.old folder.new }
 {
@@ -62,8 +62,8 @@ fn scan_version_by<
     taker: &mut T,
 ) -> Result<(), Fault>
     ensures rows { (files : Files) → Tells (F.tells folder.old) files →
-        IsTestedScan T.tells (IsFileIn files) C.cmp version.now choice.entry
-        taker.old taker.new (F.failed folder.old) (F.failed folder.new) result }
+        IsTestedScan (IsFileIn files) C.cmp version.now choice.entry
+        (telling_by T.tells taker.old taker.new) (counts_of F.Folder folder.old folder.new) result }
     ensures device { ReportsDevice F.Folder folder.old folder.new result }
     ensures reads { OnlyReads F.Folder folder.old folder.new }
 {

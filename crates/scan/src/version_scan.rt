@@ -9,7 +9,7 @@ ghost use Rattle.folder.specs.Orders.{order_cmp};
 ghost use Rattle.folder.specs.Reports.{OnlyReads, ReportsDevice};
 ghost use Rattle.reads.specs.Tables.{NumberedContents};
 ghost use Rattle.scan.specs.ChosenRows.{chosen_sequence};
-ghost use Rattle.scan.specs.ToldRows.{IsScan};
+ghost use Rattle.scan.specs.ToldRows.{IsScan, counts_of, telling_by};
 
 use crate::range_scan::{RangeRows, tell_ranges};
 use crate::row_choice::RowChoice;
@@ -47,8 +47,8 @@ pub fn scan_unverified<F: ReadsTables, T: RowTaker, R: Threads + Sync>(
         IsLoaded (F.tells folder.old)
         (file_numbers (order_cmp opened.now.order) opened.now.version) (Ok loaded) →
         IsLawfulTables (order_cmp opened.now.order) opened.now.version loaded (Ok tables) →
-        IsScan T.tells (order_cmp opened.now.order) opened.now.version tables choice.entry
-        taker.old taker.new (F.failed folder.old) (F.failed folder.new) result }
+        IsScan (order_cmp opened.now.order) opened.now.version tables choice.entry
+        (telling_by T.tells taker.old taker.new) (counts_of F.Folder folder.old folder.new) result }
     ensures device { ReportsDevice F.Folder folder.old folder.new result }
     ensures reads { OnlyReads F.Folder folder.old folder.new }
 {
@@ -81,8 +81,8 @@ pub(crate) fn scan_unverified_by<
         Tells (F.tells folder.old) files →
         IsLoaded (F.tells folder.old) (file_numbers C.cmp version.now) (Ok loaded) →
         IsLawfulTables C.cmp version.now loaded (Ok tables) →
-        IsScan T.tells C.cmp version.now tables choice.entry taker.old taker.new
-        (F.failed folder.old) (F.failed folder.new) result }
+        IsScan C.cmp version.now tables choice.entry
+        (telling_by T.tells taker.old taker.new) (counts_of F.Folder folder.old folder.new) result }
     ensures device { ReportsDevice F.Folder folder.old folder.new result }
     ensures reads { OnlyReads F.Folder folder.old folder.new }
 {

@@ -10,6 +10,7 @@ pub trait Host: SystemFiles
     + WholeFiles
     + Print
     + Eprint
+    + Input
     + Clock
     + AllocGlobal
     + Threads
@@ -22,6 +23,7 @@ where
         + WholeFiles
         + Print
         + Eprint
+        + Input
         + Clock
         + AllocGlobal
         + Threads

@@ -54,13 +54,14 @@ pub use detail::Detail;
 pub use edit::LAST_LEVEL;
 pub use edit_inputs::deleted_files;
 pub use explanations::{Words, in_words, of_file};
-pub use files::{read_file, replace_file, sync_folder_of};
+pub use files::{read_file, read_input, replace_file, sync_folder_of};
 pub use filter_blocks::have_filter;
-pub use folder::{Disk, SystemFiles};
+pub use folder::{Bytewise, Comparator, Disk, Order, Shortlex, SystemFiles};
 pub use folder_locks::{locked_to_change, locked_to_read};
 pub use folder_names::names_in;
 pub use folder_refusal::{compaction_explained, explained, path_in, table_explained};
 pub use host::Host;
+pub use ikey::MAX_USER_KEY;
 pub use logs::{Log, logs_with_writes};
 pub use opened_folder::{
     OpenedFolder, begin_counted, begin_work, bytes_of, open_folder, print_lines, refused_at,

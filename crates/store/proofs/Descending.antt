@@ -15,7 +15,7 @@ use Rattle.folder.specs.Names.{current_text}
 use Rattle.folder.specs.OpenAnswer.{IsStopped}
 use Rattle.folder.specs.Orders.{order_cmp, order_short_keys}
 use Rattle.folder.specs.ReadsAs.{ReadsAs}
-use Rattle.folder.specs.declared.current_version.Opened.{Opened}
+use Rattle.store.specs.declared.synced_version.SyncedVersion.{SyncedVersion}
 use Rattle.folder.specs.declared.order.Order.{Order}
 use Rattle.reads.specs.Tables.{NumberedContents}
 use Rattle.checks.proofs.TakerLemmas.{told_append}
@@ -36,9 +36,9 @@ use Rattle.store.specs.declared.descent_end.DescentEnd.{DescentEnd}
 use Rattle.store.specs.declared.descent_end.DescentEnd.TheVariants.{Stopped}
 use Rattle.store.proofs.Chains.{at_last, at_more, at_next, chain_bound, chain_kept, chain_then, leaves_then, tables_then, version_then}
 use Rattle.store.proofs.InstallPart.{still}
-use Rattle.folder.proofs.Changes.{change_by, call_by}
+use Rattle.install.proofs.Changes.{change_by, call_by}
 use Rattle.store.specs.OrderView.{order_by, order_view}
-use Rattle.store.specs.Telling.{telling}
+use Rattle.store.specs.Telling.{telling_by}
 
 module _ (order : Order) (cmp : List ℕ → List ℕ → Ordering) (short_keys : ShortKeys) (s : Settings) (v : State) (loaded : List (ℕ × List ℕ)) (tables : List NumberedContents) (lawful : IsLawfulTables cmp v loaded (Ok tables))
     (before : List Step) {W : Type 0} (tells : W → StepView → Bool → W → Type 0) (told : W) where
@@ -103,7 +103,7 @@ module _ (order : Order) (cmp : List ℕ → List ℕ → Ordering) (short_keys 
 
     pub ended : (bottom_is : IsBottom v bottom) (old : List ℕ → Option (List ℕ) → Type 0) (after : List Step) (new : List ℕ → Option (List ℕ) → Type 0) (failed now_failed : ℕ) (told_after : W) (result : Result DescentEnd Fault)
         → after ≡ now → TellsSame mid new → told_after ≡ told_now → IfOk result (IsEndOf last bottom goes) → IfErr result (λ e. UnlessMemory e (IsStopped failed now_failed e ⊎ IsNextRefused cmp short_keys s bottom last held e))
-        → IsDescended (order_by order cmp short_keys) s (version_with v loaded) tables (call_by before after old new failed now_failed) (telling tells told told_after) result
+        → IsDescended (order_by order cmp short_keys) s (version_with v loaded) tables (call_by before after old new failed now_failed) (telling_by tells told told_after) result
     ended bottom_is old after new failed now_failed told_after result is same told_is end refused =
         let all : so_far.links ++ [] ≡ so_far.links = append-nil so_far.links in
         record {
@@ -189,7 +189,7 @@ module _ (order : Order) (cmp : List ℕ → List ℕ → Ordering) (short_keys 
 
       -- a compaction that was begun
       pub begun : (bottom_is : IsBottom v bottom) (old : List ℕ → Option (List ℕ) → Type 0) (failed now_failed : ℕ) (told_after : W) (e : Fault) (i : IsStepInstalled (order_by order cmp short_keys) (version_with last held) level s (change_by now after mid new) (Err e)) → told_after ≡ told_now
-          → UnlessMemory e (IsStopped failed now_failed e ⊎ IsNextRefused cmp short_keys s bottom last held e) → IsDescended (order_by order cmp short_keys) s (version_with v loaded) tables (call_by before after old new failed now_failed) (telling tells told told_after) (Err e)
+          → UnlessMemory e (IsStopped failed now_failed e ⊎ IsNextRefused cmp short_keys s bottom last held e) → IsDescended (order_by order cmp short_keys) s (version_with v loaded) tables (call_by before after old new failed now_failed) (telling_by tells told told_after) (Err e)
       begun bottom_is old failed now_failed told_after e i told_is refused =
           let l = link (Err e) i in
           let found = i.survives.read so_far.files_now so_far.holds so_far.reads in
@@ -228,11 +228,11 @@ pub by_memory : (e : Fault) (P : Fault → Type 0) → e ≡ fault Memory → Un
 by_memory e P is = subst (λ (x : Fault). UnlessMemory x (P x)) (sym is) tt
 
 -- what a step leaves, by an order
-abbrev pub StepClause : {W : Type 0} → (W → StepView → Bool → W → Type 0) → Order → State → ℕ → ℕ → Settings → List Step → List Step → (List ℕ → Option (List ℕ) → Type 0) → (List ℕ → Option (List ℕ) → Type 0) → ℕ → ℕ → W → W → Result (Option Opened) Fault → Type 0
+abbrev pub StepClause : {W : Type 0} → (W → StepView → Bool → W → Type 0) → Order → State → ℕ → ℕ → Settings → List Step → List Step → (List ℕ → Option (List ℕ) → Type 0) → (List ℕ → Option (List ℕ) → Type 0) → ℕ → ℕ → W → W → Result (Option SyncedVersion) Fault → Type 0
 StepClause tells order v manifest level s before after old new failed now told told_now result =
     (files : Files) (loaded : List (ℕ × List ℕ)) (tables : List NumberedContents) → Tells old files → files (codes "CURRENT") ≡ Some (current_text manifest)
     → ReadsAs (order_cmp order) order v loaded files → IsLawfulTables (order_cmp order) v loaded (Ok tables)
-    → IsStepTaken (order_view order) (version_with v loaded) level s (call_by before after old new failed now) (telling tells told told_now) result
+    → IsStepTaken (order_view order) (version_with v loaded) level s (call_by before after old new failed now) (telling_by tells told told_now) result
 
 ok_refused : {Y : Type 0} (y : Y) (e : Fault) → refusal e ≡ Ok y → ⊥
 ok_refused y e h = cc
@@ -257,26 +257,26 @@ module _ (order : Order) (s : Settings) (v : State) (loaded : List (ℕ × List 
   level_now = subst (λ (w : State). IsNextLevel w bottom (Some level)) so_far.version_is next_level
 
   -- what the step left of the last version
-  taken : (other : Order) (r : Result (Option Opened) Fault) → other ≡ order → StepClause tells other version manifest level s now after mid new failed now_failed told_now told_after r
-      → IsStepTaken (order_by order cmp keys) (version_with after_all tables_held) level s (call_by now after mid new failed now_failed) (telling tells told_now told_after) r
+  taken : (other : Order) (r : Result (Option SyncedVersion) Fault) → other ≡ order → StepClause tells other version manifest level s now after mid new failed now_failed told_now told_after r
+      → IsStepTaken (order_by order cmp keys) (version_with after_all tables_held) level s (call_by now after mid new failed now_failed) (telling_by tells told_now told_after) r
   taken other r is given =
       let all = subst (λ (o : Order). StepClause tells o version manifest level s now after mid new failed now_failed told_now told_after r) is given in
       let kept_now = kept order cmp keys s v loaded tables lawful before tells told now mid told_now manifest version bottom count true so_far in
-      subst (λ (w : State). IsStepTaken (order_by order cmp keys) (version_with w tables_held) level s (call_by now after mid new failed now_failed) (telling tells told_now told_after) r) so_far.version_is
+      subst (λ (w : State). IsStepTaken (order_by order cmp keys) (version_with w tables_held) level s (call_by now after mid new failed now_failed) (telling_by tells told_now told_after) r) so_far.version_is
       (all so_far.files_now tables_held kept_now.tables_next so_far.holds so_far.named
       (reads_now order cmp keys s v loaded tables lawful before tells told now mid told_now manifest version bottom count true so_far)
       (lawful_now order cmp keys s v loaded tables lawful before tells told now mid told_now manifest version bottom count true so_far))
 
-  more_by : (r : Result (Option Opened) Fault) (t : IsStepTold (order_by order cmp keys) (version_with after_all tables_held) level s (change_by now after mid new) (telling tells told_now told_after) r)
+  more_by : (r : Result (Option SyncedVersion) Fault) (t : IsStepTold (order_by order cmp keys) (version_with after_all tables_held) level s (change_by now after mid new) (telling_by tells told_now told_after) r)
       → SoFar order cmp keys s v loaded tables lawful before tells told after new told_after (manifest_of after_all) t.installed.compacted.edited.next bottom (count + 1) t.goes
   more_by r t = one_more order cmp keys s v loaded tables lawful before tells told now mid told_now manifest version bottom count true so_far level level_now after new told_after t.step t.goes t.installed refl t.told_step
 
   -- it goes on
-  pub more_taken : (other : Order) (o : Opened) → other ≡ order → StepClause tells other version manifest level s now after mid new failed now_failed told_now told_after (Ok (Some o))
+  pub more_taken : (other : Order) (o : SyncedVersion) → other ≡ order → StepClause tells other version manifest level s now after mid new failed now_failed told_now told_after (Ok (Some o))
       → SoFar order cmp keys s v loaded tables lawful before tells told after new told_after o.manifest o.version bottom (count + 1) true × (o.order ≡ order)
   more_taken other o is given = by (taken other (Ok (Some o)) is given)
     where
-      by : IsStepTaken (order_by order cmp keys) (version_with after_all tables_held) level s (call_by now after mid new failed now_failed) (telling tells told_now told_after) (Ok (Some o))
+      by : IsStepTaken (order_by order cmp keys) (version_with after_all tables_held) level s (call_by now after mid new failed now_failed) (telling_by tells told_now told_after) (Ok (Some o))
           → SoFar order cmp keys s v loaded tables lawful before tells told after new told_after o.manifest o.version bottom (count + 1) true × (o.order ≡ order)
       by (inl r) = absurd (ok_refused (Some o) r.e (sym r.is))
       by (inr t) = (
@@ -287,8 +287,8 @@ module _ (order : Order) (s : Settings) (v : State) (loaded : List (ℕ × List 
       )
 
   -- it ends after a step
-  ended_after : (bottom_is : IsBottom v bottom) (old : List ℕ → Option (List ℕ) → Type 0) (first_failed : ℕ) (r : Result (Option Opened) Fault) (t : IsStepTold (order_by order cmp keys) (version_with after_all tables_held) level s (change_by now after mid new) (telling tells told_now told_after) r) (result : Result DescentEnd Fault)
-      → ((w : State) → IfOk result (IsEndOf w bottom t.goes)) → IfErr result (λ e. e ≡ fault Memory) → IsDescended (order_by order cmp keys) s (version_with v loaded) tables (call_by before after old new first_failed now_failed) (telling tells told told_after) result
+  ended_after : (bottom_is : IsBottom v bottom) (old : List ℕ → Option (List ℕ) → Type 0) (first_failed : ℕ) (r : Result (Option SyncedVersion) Fault) (t : IsStepTold (order_by order cmp keys) (version_with after_all tables_held) level s (change_by now after mid new) (telling_by tells told_now told_after) r) (result : Result DescentEnd Fault)
+      → ((w : State) → IfOk result (IsEndOf w bottom t.goes)) → IfErr result (λ e. e ≡ fault Memory) → IsDescended (order_by order cmp keys) s (version_with v loaded) tables (call_by before after old new first_failed now_failed) (telling_by tells told told_after) result
   ended_after bottom_is old first_failed r t result end memory =
       let more = more_by r t in
       ended order cmp keys s v loaded tables lawful before tells told after new told_after (manifest_of after_all) t.installed.compacted.edited.next bottom (count + 1) t.goes more bottom_is old after new first_failed now_failed told_after result
@@ -299,22 +299,22 @@ module _ (order : Order) (s : Settings) (v : State) (loaded : List (ℕ × List 
       all_memory P (Err e) h = by_memory e P h
 
   pub stopped_taken : (bottom_is : IsBottom v bottom) (old : List ℕ → Option (List ℕ) → Type 0) (first_failed : ℕ) (other : Order) → other ≡ order → StepClause tells other version manifest level s now after mid new failed now_failed told_now told_after (Ok None)
-      → IsDescended (order_by order cmp keys) s (version_with v loaded) tables (call_by before after old new first_failed now_failed) (telling tells told told_after) (Ok Stopped)
+      → IsDescended (order_by order cmp keys) s (version_with v loaded) tables (call_by before after old new first_failed now_failed) (telling_by tells told told_after) (Ok Stopped)
   stopped_taken bottom_is old first_failed other is given = by (taken other (Ok None) is given)
     where
-      by : IsStepTaken (order_by order cmp keys) (version_with after_all tables_held) level s (call_by now after mid new failed now_failed) (telling tells told_now told_after) (Ok None) → IsDescended (order_by order cmp keys) s (version_with v loaded) tables (call_by before after old new first_failed now_failed) (telling tells told told_after) (Ok Stopped)
+      by : IsStepTaken (order_by order cmp keys) (version_with after_all tables_held) level s (call_by now after mid new failed now_failed) (telling_by tells told_now told_after) (Ok None) → IsDescended (order_by order cmp keys) s (version_with v loaded) tables (call_by before after old new first_failed now_failed) (telling_by tells told told_after) (Ok Stopped)
       by (inl r) = absurd (ok_refused None r.e (sym r.is))
       by (inr t) = ended_after bottom_is old first_failed (Ok None) t (Ok Stopped) (λ w. t.went) tt
 
   -- it was refused
   pub refused_taken : (bottom_is : IsBottom v bottom) (old : List ℕ → Option (List ℕ) → Type 0) (first_failed : ℕ) (other : Order) (e : Fault) → failed ≡ first_failed → other ≡ order → StepClause tells other version manifest level s now after mid new failed now_failed told_now told_after (Err e)
-      → IsDescended (order_by order cmp keys) s (version_with v loaded) tables (call_by before after old new first_failed now_failed) (telling tells told told_after) (Err e)
+      → IsDescended (order_by order cmp keys) s (version_with v loaded) tables (call_by before after old new first_failed now_failed) (telling_by tells told told_after) (Err e)
   refused_taken bottom_is old first_failed other e count_is is given = by (taken other (Err e) is given)
     where
-      why : (r : IsStepRefused (order_by order cmp keys) (version_with after_all tables_held) level s (call_by now after mid new failed now_failed) (telling tells told_now told_after) (Err e))
+      why : (r : IsStepRefused (order_by order cmp keys) (version_with after_all tables_held) level s (call_by now after mid new failed now_failed) (telling_by tells told_now told_after) (Err e))
           → UnlessMemory e (IsStopped first_failed now_failed e ⊎ IsNextRefused cmp keys s bottom after_all tables_held e)
       why r =
-          let same : e ≡ r.e = same_refusal {Y = Option Opened} e r.e r.is in
+          let same : e ≡ r.e = same_refusal {Y = Option SyncedVersion} e r.e r.is in
           subst (λ (x : Fault). UnlessMemory x (IsStopped first_failed now_failed x ⊎ IsNextRefused cmp keys s bottom after_all tables_held x)) (sym same)
           (unless_from r.e (IsStopped failed now_failed r.e ⊎ IsLoadedCompacted cmp keys after_all tables_held level s (Err r.e)) (IsStopped first_failed now_failed r.e ⊎ IsNextRefused cmp keys s bottom after_all tables_held r.e)
           (λ g. elim g [
@@ -322,13 +322,13 @@ module _ (order : Order) (s : Settings) (v : State) (loaded : List (ℕ × List 
             | inr refused ↦ inr (record { level = level; next_level = level_now; refused = refused })
           ]) r.why)
 
-      left : (r : IsStepRefused (order_by order cmp keys) (version_with after_all tables_held) level s (call_by now after mid new failed now_failed) (telling tells told_now told_after) (Err e)) → IsStepLeft (order_by order cmp keys) (version_with after_all tables_held) level s (change_by now after mid new) (Err e)
-          → IsDescended (order_by order cmp keys) s (version_with v loaded) tables (call_by before after old new first_failed now_failed) (telling tells told told_after) (Err e)
+      left : (r : IsStepRefused (order_by order cmp keys) (version_with after_all tables_held) level s (call_by now after mid new failed now_failed) (telling_by tells told_now told_after) (Err e)) → IsStepLeft (order_by order cmp keys) (version_with after_all tables_held) level s (change_by now after mid new) (Err e)
+          → IsDescended (order_by order cmp keys) s (version_with v loaded) tables (call_by before after old new first_failed now_failed) (telling_by tells told told_after) (Err e)
       left r (inl u) =
           ended order cmp keys s v loaded tables lawful before tells told now mid told_now manifest version bottom count true so_far bottom_is old after new first_failed now_failed told_after (Err e) u.calls u.same r.same tt (why r)
       left r (inr i) =
           begun order cmp keys s v loaded tables lawful before tells told now mid told_now manifest version bottom count true so_far level level_now after new bottom_is old first_failed now_failed told_after e i r.same (why r)
 
-      by : IsStepTaken (order_by order cmp keys) (version_with after_all tables_held) level s (call_by now after mid new failed now_failed) (telling tells told_now told_after) (Err e) → IsDescended (order_by order cmp keys) s (version_with v loaded) tables (call_by before after old new first_failed now_failed) (telling tells told told_after) (Err e)
-      by (inl r) = left r (subst (λ (x : Fault). IsStepLeft (order_by order cmp keys) (version_with after_all tables_held) level s (change_by now after mid new) (Err x)) (sym (same_refusal {Y = Option Opened} e r.e r.is)) r.left)
+      by : IsStepTaken (order_by order cmp keys) (version_with after_all tables_held) level s (call_by now after mid new failed now_failed) (telling_by tells told_now told_after) (Err e) → IsDescended (order_by order cmp keys) s (version_with v loaded) tables (call_by before after old new first_failed now_failed) (telling_by tells told told_after) (Err e)
+      by (inl r) = left r (subst (λ (x : Fault). IsStepLeft (order_by order cmp keys) (version_with after_all tables_held) level s (change_by now after mid new) (Err x)) (sym (same_refusal {Y = Option SyncedVersion} e r.e r.is)) r.left)
       by (inr t) = ended_after bottom_is old first_failed (Err e) t (Err e) (λ w. tt) t.memory

@@ -19,10 +19,10 @@ use Rattle.install.specs.Install.{AlwaysStandsAs}
 use Rattle.store.specs.Step.{StepView}
 use Rattle.store.specs.Untold.{IsUntold}
 use Rattle.store.specs.declared.descent_end.DescentEnd.{DescentEnd}
-use Rattle.folder.proofs.Changes.{change_by, call_by}
+use Rattle.install.proofs.Changes.{change_by, call_by}
 use Rattle.install.specs.Install.{version_with}
 use Rattle.store.specs.OrderView.{order_by}
-use Rattle.store.specs.Telling.{telling}
+use Rattle.store.specs.Telling.{telling_by}
 
 pub untold_since : {T W : Type 0} (first before after : List Step) (zero old new : List ℕ → Option (List ℕ) → Type 0) (told told_now : W) (P : Fault → Type 0) (r : Result T Fault) → before ≡ first → TellsSame zero old
     → IsUntold (change_by before after old new) told told_now (λ e. ⊥) r → IsUntold (change_by first after zero new) told told_now P r
@@ -38,7 +38,7 @@ untold_since first before after zero old new told told_now P r is same u = recor
 
 pub descended_since : {W : Type 0} (tells : W → StepView → Bool → W → Type 0) (order : Order) (cmp : List ℕ → List ℕ → Ordering) (short_keys : ShortKeys) (s : Settings) (v : State) (loaded : List (ℕ × List ℕ)) (tables : List NumberedContents) (first before after : List Step) (zero old new : List ℕ → Option (List ℕ) → Type 0)
     (earlier failed now : ℕ) (told told_now : W) (r : Result DescentEnd Fault) → before ≡ first → failed ≡ earlier
-    → IsDescended (order_by order cmp short_keys) s (version_with v loaded) tables (call_by before after old new failed now) (telling tells told told_now) r → IsDescended (order_by order cmp short_keys) s (version_with v loaded) tables (call_by first after zero new earlier now) (telling tells told told_now) r
+    → IsDescended (order_by order cmp short_keys) s (version_with v loaded) tables (call_by before after old new failed now) (telling_by tells told told_now) r → IsDescended (order_by order cmp short_keys) s (version_with v loaded) tables (call_by first after zero new earlier now) (telling_by tells told told_now) r
 descended_since tells order cmp short_keys s v loaded tables first before after zero old new earlier failed now told told_now r is count d =
     let last = version_at_end v d.links in
     let held = last_tables loaded d.links in

@@ -24,7 +24,7 @@ use Rattle.store.specs.VersionSync.{sync_calls}
 use Rattle.store.specs.declared.compaction_step.CompactionStep.{CompactionStep}
 use Rattle.store.proofs.Synced.{version_stands}
 use Rattle.store.proofs.SyncsTold.{syncs_tell}
-use Rattle.folder.proofs.Changes.{change_by}
+use Rattle.install.proofs.Changes.{change_by}
 use Rattle.store.specs.OrderView.{order_by, order_view}
 use Rattle.folder.specs.Manifest.{order_name}
 
@@ -106,6 +106,10 @@ sync_refused order v manifest files level s first before after zero old new r q 
 -- the calls of a sync that was not refused
 pub all_made : {T : Type 0} (calls : List Call) (steps : List Step) (r : Result T Fault) (x : T) → r ≡ Ok x → AreMadeBy calls steps r → steps ≡ map Done calls
 all_made {T = T} calls steps r x was made = subst (λ (q : Result T Fault). AreMadeBy calls steps q) was made
+
+-- what was synced is what was opened
+pub of_opened : (P : Order → State → ℕ → Type 0) (a b : Order) (v w : State) (m n : ℕ) → (a ≡ b) × (v ≡ w) × (m ≡ n) → P a v m → P b w n
+of_opened P a b v w m n same h = subst (λ (k : ℕ). P b w k) same.2 (subst (λ (x : State). P b x m) same.1 (subst (λ (o : Order). P o v m) same.0 h))
 
 -- the version was opened and synced, and then compacted
 pub synced_left : {T : Type 0} (order : Order) (v : State) (manifest : ℕ) (files : Files) (level : ℕ) (s : Settings) (first before synced after : List Step) (zero old middle new : List ℕ → Option (List ℕ) → Type 0) (r : Result T Fault) (x : T) (q : Result CompactionStep Fault)

@@ -9,7 +9,7 @@ use Rattle.folder.specs.Version.{State, applied_by}
 use Rattle.folder.specs.Calls.{Call, Done, Step}
 use Rattle.folder.specs.CallSequence.{AreMade, AreMadeBy}
 use Rattle.folder.specs.Manifest.{order_name}
-use Rattle.folder.specs.declared.current_version.Opened.{Opened}
+use Rattle.store.specs.declared.synced_version.SyncedVersion.{SyncedVersion}
 use Rattle.folder.specs.declared.order.Order.{Order}
 use Rattle.install.proofs.Moments.{made_by}
 use Rattle.checks.proofs.TakerLemmas.{told_append}
@@ -28,14 +28,14 @@ use Rattle.store.specs.declared.descent_end.DescentEnd.TheVariants.{AtBottom, St
 use Rattle.store.proofs.Flow.{no_value}
 use Rattle.store.proofs.InstallPart.{refused_ok}
 use Rattle.store.proofs.StepsTaken.{same_edit}
-use Rattle.folder.proofs.Changes.{change_by}
-use Rattle.store.specs.Telling.{telling}
+use Rattle.install.proofs.Changes.{change_by}
+use Rattle.store.specs.Telling.{telling_by}
 
 abbrev Told : Type 1
 Told = List ℕ → Option (List ℕ) → Type 0
 
 -- what is opened after a compaction, as an answer
-abbrev pub taken : Option Opened → Result (Option Opened) Fault
+abbrev pub taken : Option SyncedVersion → Result (Option SyncedVersion) Fault
 taken o = Ok o
 
 -- ---- one compaction
@@ -51,8 +51,8 @@ made_then calls steps (Ok x) is = is
 made_then {T = T} calls steps (Err e) is = made_by {T = Unit {0}} {E = Fault} calls steps (Ok tt) is
 
 -- a compaction that was refused
-pub begun_refused : {W : Type 0} (tells : W → StepView → Bool → W → Type 0) (order : Order) (v : State) (level : ℕ) (s : Settings) (before after : List Step) (old new : Told) (told : W) (r : Result CompactionStep Fault) (q : Result (Option Opened) Fault) (e : Fault) → IsErrAnd q (λ f. f ≡ e)
-    → IsLevelRun order v level s (change_by before after old new) r → MakesNoCalls before after told told q ⊎ IsNextBegun order v level s (change_by before after old new) (telling tells told told) q
+pub begun_refused : {W : Type 0} (tells : W → StepView → Bool → W → Type 0) (order : Order) (v : State) (level : ℕ) (s : Settings) (before after : List Step) (old new : Told) (told : W) (r : Result CompactionStep Fault) (q : Result (Option SyncedVersion) Fault) (e : Fault) → IsErrAnd q (λ f. f ≡ e)
+    → IsLevelRun order v level s (change_by before after old new) r → MakesNoCalls before after told told q ⊎ IsNextBegun order v level s (change_by before after old new) (telling_by tells told told) q
 begun_refused tells order v level s before after old new told r q e h (inl u) = inl (record { calls = u.calls; untold = refl; refused = no_value q _ h })
 begun_refused tells order v level s before after old new told r q e h (inr i) =
     let installed : GroupedAnswer = record { picked = i.picked; answer = i.answer; groups = i.calls.groups } in
@@ -70,14 +70,14 @@ begun_refused tells order v level s before after old new told r q e h (inr i) =
     })
 
 -- what a folder is opened as after an edit, of the same bytes
-opened_of : (order : Order) (v : State) (one other : List ℕ) (q : Result (Option Opened) Fault) → one ≡ other
+opened_of : (order : Order) (v : State) (one other : List ℕ) (q : Result (Option SyncedVersion) Fault) → one ≡ other
     → IfOk q (λ o. IfSome o (λ next. IsOpenedAfter order v one (Ok (next.order, next.version, next.manifest)))) → IfOk q (λ o. IfSome o (λ next. IsOpenedAfter order v other (Ok (next.order, next.version, next.manifest))))
 opened_of order v one other q is h = subst (λ (b : List ℕ). IfOk q (λ o. IfSome o (λ next. IsOpenedAfter order v b (Ok (next.order, next.version, next.manifest))))) is h
 
 -- a compaction that was installed, whatever is answered after it
-module _ {W : Type 0} (tells : W → StepView → Bool → W → Type 0) (order : Order) (v : State) (level : ℕ) (s : Settings) (before after : List Step) (old new : Told) (told told_now : W) (step : CompactionStep) (q : Result (Option Opened) Fault) where
+module _ {W : Type 0} (tells : W → StepView → Bool → W → Type 0) (order : Order) (v : State) (level : ℕ) (s : Settings) (before after : List Step) (old new : Told) (told told_now : W) (step : CompactionStep) (q : Result (Option SyncedVersion) Fault) where
   begun_at : (goes : Bool) → tells told (step_in step) goes told_now → IfOk q (IsGoTold goes) → IfOk q (λ o. IfSome o (λ next. IsOpenedAfter order v step.edit.items (Ok (next.order, next.version, next.manifest))))
-      → IsLevelRun order v level s (change_by before after old new) (Ok step) → MakesNoCalls before after told told_now q ⊎ IsNextBegun order v level s (change_by before after old new) (telling tells told told_now) q
+      → IsLevelRun order v level s (change_by before after old new) (Ok step) → MakesNoCalls before after told told_now q ⊎ IsNextBegun order v level s (change_by before after old new) (telling_by tells told told_now) q
   begun_at goes told_step went opened (inl u) = absurd u.refused
   begun_at goes told_step went opened (inr i) =
       let installed : GroupedAnswer = record { picked = i.picked; answer = i.answer; groups = i.calls.groups } in
@@ -95,7 +95,7 @@ module _ {W : Type 0} (tells : W → StepView → Bool → W → Type 0) (order 
 
   pub begun_told : (r : Result CompactionStep Fault) → r ≡ Ok step → (goes : Bool) → tells told (step_in step) goes told_now → IfOk q (IsGoTold goes)
       → IfOk q (λ o. IfSome o (λ next. IsOpenedAfter order v step.edit.items (Ok (next.order, next.version, next.manifest))))
-      → IsLevelRun order v level s (change_by before after old new) r → MakesNoCalls before after told told_now q ⊎ IsNextBegun order v level s (change_by before after old new) (telling tells told told_now) q
+      → IsLevelRun order v level s (change_by before after old new) r → MakesNoCalls before after told told_now q ⊎ IsNextBegun order v level s (change_by before after old new) (telling_by tells told told_now) q
   begun_told r was goes told_step went opened run =
       begun_at goes told_step went opened
       (subst (λ (x : Result CompactionStep Fault). IsLevelRun order v level s (change_by before after old new) x) was run)
@@ -162,23 +162,23 @@ opened_so order v bytes o w m (Ok x, (h, is)) = by (applied_by (order_name order
     by (Err e) same = absurd (no_opening o w m e same)
 
 -- a compaction that was told, and ends the row
-stop_told : {W : Type 0} (tells : W → StepView → Bool → W → Type 0) (step : StepView) (told told_now : W) (o : Option Opened) → o ≡ None → IsToldOf tells step told told_now IsGoTold (taken o) → IsToldOf tells step told told_now IsStopTold (Ok Stopped)
+stop_told : {W : Type 0} (tells : W → StepView → Bool → W → Type 0) (step : StepView) (told told_now : W) (o : Option SyncedVersion) → o ≡ None → IsToldOf tells step told told_now IsGoTold (taken o) → IsToldOf tells step told told_now IsStopTold (Ok Stopped)
 stop_told tells step told told_now o none (inl u) = absurd u.1
 stop_told tells step told told_now o none (inr t) = inr (t.0, t.1, (refl, t.2 ∙ ap is_some none))
 
 -- and one after which there is a refusal
-refused_told : {W : Type 0} (tells : W → StepView → Bool → W → Type 0) (step : StepView) (told told_now : W) (e : Fault) → IsToldOf {T = Option Opened} tells step told told_now IsGoTold (Err e) → IsToldOf tells step told told_now IsStopTold (Err e)
+refused_told : {W : Type 0} (tells : W → StepView → Bool → W → Type 0) (step : StepView) (told told_now : W) (e : Fault) → IsToldOf {T = Option SyncedVersion} tells step told told_now IsGoTold (Err e) → IsToldOf tells step told told_now IsStopTold (Err e)
 refused_told tells step told told_now e (inl u) = inl (u.0, tt)
 refused_told tells step told told_now e (inr t) = inr (t.0, t.1, tt)
 
 -- and one after which it goes on
-go_told : {W : Type 0} (tells : W → StepView → Bool → W → Type 0) (step : StepView) (told told_now : W) (next : Opened) → IsToldOf tells step told told_now IsGoTold (taken (Some next)) → tells told step true told_now
+go_told : {W : Type 0} (tells : W → StepView → Bool → W → Type 0) (step : StepView) (told told_now : W) (next : SyncedVersion) → IsToldOf tells step told told_now IsGoTold (taken (Some next)) → tells told step true told_now
 go_told tells step told told_now next (inl u) = absurd u.1
 go_told tells step told told_now next (inr t) = subst (λ (b : Bool). tells told step b told_now) t.2 t.1
 
 module _ {W : Type 0} (tells : W → StepView → Bool → W → Type 0) (order : Order) (s : Settings) (bottom : ℕ) (v : State) (before now : List Step) (told told_now : W) (w : State) (other : Order) (so_far : RunSoFar tells order s bottom v before now told told_now w other) where
   -- no further one was begun
-  pub run_ended : (old new : Told) (q : Result DescentEnd Fault) → IsBottom v bottom → IfOk q (λ e. (e ≡ AtBottom) × IsNextLevel w bottom None) → IsAllLevelsRun order s v (change_by before now old new) (telling tells told told_now) q
+  pub run_ended : (old new : Told) (q : Result DescentEnd Fault) → IsBottom v bottom → IfOk q (λ e. (e ≡ AtBottom) × IsNextLevel w bottom None) → IsAllLevelsRun order s v (change_by before now old new) (telling_by tells told told_now) q
   run_ended old new q is_bottom end = inr (record {
     bottom = bottom;
     is_bottom = is_bottom;
@@ -197,9 +197,9 @@ module _ {W : Type 0} (tells : W → StepView → Bool → W → Type 0) (order 
     first = calls_of_links order v so_far.links
 
     -- the last one was begun
-    last_begun : (old mid new : Told) (r : Result (Option Opened) Fault) (q : Result DescentEnd Fault) → ((calls : List Call) (steps : List Step) → AreMadeBy calls steps r → AreMadeBy calls steps q)
+    last_begun : (old mid new : Told) (r : Result (Option SyncedVersion) Fault) (q : Result DescentEnd Fault) → ((calls : List Call) (steps : List Step) → AreMadeBy calls steps r → AreMadeBy calls steps q)
         → ((step : StepView) → IsToldOf tells step told_now told_after IsGoTold r → IsToldOf tells step told_now told_after IsStopTold q) → IsBottom v bottom
-        → IsNextBegun order at level s (change_by (before ++ first) after mid new) (telling tells told_now told_after) r → IsAllLevelsRun order s v (change_by before after old new) (telling tells told told_after) q
+        → IsNextBegun order at level s (change_by (before ++ first) after mid new) (telling_by tells told_now told_after) r → IsAllLevelsRun order s v (change_by before after old new) (telling_by tells told told_after) q
     last_begun old mid new r q f g is_bottom b = inr (record {
       bottom = bottom;
       is_bottom = is_bottom;
@@ -222,23 +222,23 @@ module _ {W : Type 0} (tells : W → StepView → Bool → W → Type 0) (order 
     })
 
     -- what was begun of the version so far
-    begun_so_far : (mid new : Told) (r : Result (Option Opened) Fault) → IsNextBegun other w level s (change_by now after mid new) (telling tells told_now told_after) r → IsNextBegun order at level s (change_by (before ++ first) after mid new) (telling tells told_now told_after) r
+    begun_so_far : (mid new : Told) (r : Result (Option SyncedVersion) Fault) → IsNextBegun other w level s (change_by now after mid new) (telling_by tells told_now told_after) r → IsNextBegun order at level s (change_by (before ++ first) after mid new) (telling_by tells told_now told_after) r
     begun_so_far mid new r b =
-        subst (λ (t : List Step). IsNextBegun order at level s (change_by t after mid new) (telling tells told_now told_after) r) so_far.calls
-        (subst (λ (x : State). IsNextBegun order x level s (change_by now after mid new) (telling tells told_now told_after) r) so_far.version_is
-        (subst (λ (o : Order). IsNextBegun o w level s (change_by now after mid new) (telling tells told_now told_after) r) so_far.order_is b))
+        subst (λ (t : List Step). IsNextBegun order at level s (change_by t after mid new) (telling_by tells told_now told_after) r) so_far.calls
+        (subst (λ (x : State). IsNextBegun order x level s (change_by now after mid new) (telling_by tells told_now told_after) r) so_far.version_is
+        (subst (λ (o : Order). IsNextBegun o w level s (change_by now after mid new) (telling_by tells told_now told_after) r) so_far.order_is b))
 
-    pub run_refused : (old mid new : Told) (e : Fault) → IsBottom v bottom → MakesNoCalls {T = Option Opened} now after told_now told_after (Err e) ⊎ IsNextBegun other w level s (change_by now after mid new) (telling tells told_now told_after) (Err e) → IsAllLevelsRun order s v (change_by before after old new) (telling tells told told_after) (Err e)
+    pub run_refused : (old mid new : Told) (e : Fault) → IsBottom v bottom → MakesNoCalls {T = Option SyncedVersion} now after told_now told_after (Err e) ⊎ IsNextBegun other w level s (change_by now after mid new) (telling_by tells told_now told_after) (Err e) → IsAllLevelsRun order s v (change_by before after old new) (telling_by tells told told_after) (Err e)
     run_refused old mid new e is_bottom (inl u) =
         let same : after ≡ before ++ first = u.calls ∙ so_far.calls in
         inr (record { bottom = bottom; is_bottom = is_bottom; links = so_far.links; chain = so_far.chain; told_last = told_now; told_steps = so_far.told_steps; last = inl (same, u.untold, tt) })
     run_refused old mid new e is_bottom (inr b) = last_begun old mid new (Err e) (Err e) (λ calls steps h. h) (λ step h. refused_told tells step told_now told_after e h) is_bottom (begun_so_far mid new (Err e) b)
 
-    pub run_stopped : (old mid new : Told) (o : Option Opened) → o ≡ None → IsBottom v bottom → MakesNoCalls now after told_now told_after (Ok o) ⊎ IsNextBegun other w level s (change_by now after mid new) (telling tells told_now told_after) (Ok o) → IsAllLevelsRun order s v (change_by before after old new) (telling tells told told_after) (Ok Stopped)
+    pub run_stopped : (old mid new : Told) (o : Option SyncedVersion) → o ≡ None → IsBottom v bottom → MakesNoCalls now after told_now told_after (Ok o) ⊎ IsNextBegun other w level s (change_by now after mid new) (telling_by tells told_now told_after) (Ok o) → IsAllLevelsRun order s v (change_by before after old new) (telling_by tells told told_after) (Ok Stopped)
     run_stopped old mid new o none is_bottom (inl u) = absurd u.refused
     run_stopped old mid new o none is_bottom (inr b) = last_begun old mid new (Ok o) (Ok Stopped) (λ calls steps h. h) (λ step h. stop_told tells step told_now told_after o none h) is_bottom (begun_so_far mid new (Ok o) b)
 
-    pub run_more : (mid new : Told) (next : Opened) → MakesNoCalls now after told_now told_after (Ok (Some next)) ⊎ IsNextBegun other w level s (change_by now after mid new) (telling tells told_now told_after) (Ok (Some next)) → RunSoFar tells order s bottom v before after told told_after next.version next.order
+    pub run_more : (mid new : Told) (next : SyncedVersion) → MakesNoCalls now after told_now told_after (Ok (Some next)) ⊎ IsNextBegun other w level s (change_by now after mid new) (telling_by tells told_now told_after) (Ok (Some next)) → RunSoFar tells order s bottom v before after told told_after next.version next.order
     run_more mid new next (inl u) = absurd u.refused
     run_more mid new next (inr begun) =
         let b = begun_so_far mid new (Ok (Some next)) begun in
@@ -267,7 +267,7 @@ module _ {W : Type 0} (tells : W → StepView → Bool → W → Type 0) (order 
 -- ---- all levels, after a test
 
 pub all_since : {W : Type 0} (tells : W → StepView → Bool → W → Type 0) (order : Order) (s : Settings) (v : State) (first before after : List Step) (zero old new : Told) (told told_now : W) (q : Result DescentEnd Fault) → before ≡ first
-    → IsAllLevelsRun order s v (change_by before after old new) (telling tells told told_now) q → IsAllLevelsRun order s v (change_by first after zero new) (telling tells told told_now) q
+    → IsAllLevelsRun order s v (change_by before after old new) (telling_by tells told told_now) q → IsAllLevelsRun order s v (change_by first after zero new) (telling_by tells told told_now) q
 all_since tells order s v first before after zero old new told told_now q same (inl u) = inl (record { calls = u.calls ∙ same; untold = u.untold; refused = u.refused })
 all_since tells order s v first before after zero old new told told_now q same (inr d) =
     let calls = calls_of_links order v d.links in
@@ -297,6 +297,6 @@ all_since tells order s v first before after zero old new told told_now q same (
 
 -- nothing was above the bottom
 pub all_at_bottom : {W : Type 0} (tells : W → StepView → Bool → W → Type 0) (order : Order) (s : Settings) (v : State) (before : List Step) (old : Told) (told : W) (bottom : ℕ) → IsBottom v bottom → IsNextLevel v bottom None
-    → IsAllLevelsRun order s v (change_by before before old old) (telling tells told told) (Ok AtBottom)
+    → IsAllLevelsRun order s v (change_by before before old old) (telling_by tells told told) (Ok AtBottom)
 all_at_bottom tells order s v before old told bottom is_bottom none =
     run_ended tells order s bottom v before before told told v order (none_so_far tells order s bottom v before told) old old (Ok AtBottom) is_bottom (refl, none)

@@ -28,7 +28,7 @@ use Rattle.store.specs.StepLeft.{IsStepLeft}
 use Rattle.store.specs.declared.compaction_step.CompactionStep.{CompactionStep}
 use Rattle.store.proofs.Flow.{no_value}
 use Rattle.store.proofs.InstallPart.{still, survives_on}
-use Rattle.folder.proofs.Changes.{change_by}
+use Rattle.install.proofs.Changes.{change_by}
 use Rattle.store.specs.OrderView.{order_by}
 
 -- an answer that is another one too

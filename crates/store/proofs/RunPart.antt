@@ -29,7 +29,7 @@ use Rattle.store.specs.VersionSync.{sync_calls}
 use Rattle.store.specs.declared.compaction_step.CompactionStep.{CompactionStep}
 use Rattle.store.proofs.InstallPart.{all_made, refused_ok, still}
 use Rattle.store.proofs.SyncsTold.{syncs_tell}
-use Rattle.folder.proofs.Changes.{change_by}
+use Rattle.install.proofs.Changes.{change_by}
 
 abbrev Told : Type 1
 Told = List ℕ → Option (List ℕ) → Type 0

@@ -34,7 +34,7 @@ use Rattle.checks.specs.declared.version_totals.VersionTotals.{VersionTotals}
 use Rattle.store.specs.declared.compaction_step.CompactionStep.{CompactionStep}
 use Rattle.store.proofs.Flow.{first_refused, loaded_in, no_refusal}
 use Rattle.store.proofs.InstallPart.{Promises, all_made, still, survives_on}
-use Rattle.folder.proofs.Changes.{change_by}
+use Rattle.install.proofs.Changes.{change_by}
 use Rattle.store.specs.OrderView.{order_by}
 
 -- ---- CURRENT after an installation

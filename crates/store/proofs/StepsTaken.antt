@@ -17,7 +17,7 @@ use Rattle.folder.specs.Shortlex.{shortlex_cmp, shortlex_short_keys}
 use Rattle.folder.specs.Calls.{Step}
 use Rattle.folder.specs.Manifest.{order_name}
 use Rattle.folder.specs.Orders.{order_cmp, order_short_keys}
-use Rattle.folder.specs.declared.current_version.Opened.{Opened}
+use Rattle.store.specs.declared.synced_version.SyncedVersion.{SyncedVersion}
 use Rattle.folder.specs.declared.order.Order.{Order}
 use Rattle.folder.specs.declared.order.Order.TheVariants.{Bytewise, Shortlex}
 use Rattle.pick.specs.PickedInputs.{PickedInputs}
@@ -30,7 +30,7 @@ use Rattle.store.specs.Step.{StepView, step_in, step_of}
 use Rattle.store.specs.StepLeft.{IsStepInstalled, IsStepLeft}
 use Rattle.store.specs.declared.compaction_step.CompactionStep.{CompactionStep}
 use Rattle.store.proofs.AfterEdit.{is_opened, not_refused}
-use Rattle.folder.proofs.Changes.{change_by}
+use Rattle.install.proofs.Changes.{change_by}
 use Rattle.install.specs.Install.{version_with}
 use Rattle.store.specs.OrderView.{order_by}
 
@@ -51,7 +51,7 @@ installed_of order cmp short_keys v loaded level s before after old new step (in
 
 module _ (order : Order) (cmp : List ℕ → List ℕ → Ordering) (short_keys : ShortKeys) (v : State) (loaded : List (ℕ × List ℕ)) (level : ℕ) (s : Settings) (before after : List Step) (old new : List ℕ → Option (List ℕ) → Type 0) (step : CompactionStep)
     (i : IsStepInstalled (order_by order cmp short_keys) (version_with v loaded) level s (change_by before after old new) (Ok step)) where
-  pub opened_next : (r : Result (Option Opened) Fault) → IfOk r (λ o. IfSome o (λ a. IsOpenedAfter order v step.edit.items (Ok (a.order, a.version, a.manifest))))
+  pub opened_next : (r : Result (Option SyncedVersion) Fault) → IfOk r (λ o. IfSome o (λ a. IsOpenedAfter order v step.edit.items (Ok (a.order, a.version, a.manifest))))
       → IfOk r (λ o. IfSome o (λ a. (a.order ≡ order) × (a.version ≡ i.compacted.edited.next) × (a.manifest ≡ manifest_of v)))
   opened_next (Ok None) h = tt
   opened_next (Ok (Some a)) h =
@@ -59,7 +59,7 @@ module _ (order : Order) (cmp : List ℕ → List ℕ → Ordering) (short_keys 
       (subst (λ (b : List ℕ). IsOpenedAfter order v b (Ok (a.order, a.version, a.manifest))) (same_edit step v i.picked i.answer i.step) h)
   opened_next (Err e) h = tt
 
-  pub memory_only : (r : Result (Option Opened) Fault) → IfErr r (λ e. UnlessMemory e (IsOpenedAfter order v step.edit.items (Err e))) → IfErr r (λ e. e ≡ fault Memory)
+  pub memory_only : (r : Result (Option SyncedVersion) Fault) → IfErr r (λ e. UnlessMemory e (IsOpenedAfter order v step.edit.items (Err e))) → IfErr r (λ e. e ≡ fault Memory)
   memory_only (Ok o) h = tt
   memory_only (Err e) h =
       only_memory e (IsOpenedAfter order v step.edit.items (Err e))

@@ -22,7 +22,7 @@ use Rattle.compact.specs.OneThread.{Answer}
 use Rattle.install.specs.Install.{AlwaysStandsAs, LoadedVersion, version_with}
 use Rattle.compact.specs.declared.settings.Settings.{Settings}
 use Rattle.store.specs.Answers.{IsLoadedCompacted}
-use Rattle.store.specs.Compaction.{LevelCompaction}
+use Rattle.store.specs.Compaction.{LevelCompaction, next_of}
 use Rattle.store.specs.Descent.{IsBottom, IsNextLevel}
 use Rattle.store.specs.FolderRequest.{last_of}
 use Rattle.store.specs.Step.{StepView, step_of}
@@ -30,7 +30,7 @@ use Rattle.store.specs.Untold.{IsUntold}
 use Rattle.checks.specs.TestedTables.{IsTested}
 use Rattle.store.specs.declared.descent_end.DescentEnd.{DescentEnd}
 use Rattle.store.specs.declared.descent_end.DescentEnd.TheVariants.{AtBottom, Stopped}
-use Rattle.folder.specs.FolderChange.{FolderChange, FolderCall}
+use Rattle.install.specs.FolderChange.{FolderChange, FolderCall}
 use Rattle.store.specs.OrderView.{OrderView}
 use Rattle.store.specs.Telling.{Telling}
 

@@ -27,7 +27,7 @@ use Rattle.store.specs.declared.compaction_step.CompactionStep.{CompactionStep}
 use Rattle.folder.specs.Orders.{order_cmp}
 use Rattle.compact.specs.declared.settings.Settings.{Settings}
 use Rattle.folder.specs.Comparator.{KeyOrder}
-use Rattle.folder.specs.FolderChange.{FolderChange, change_since}
+use Rattle.install.specs.FolderChange.{FolderChange, change_since}
 use Rattle.install.specs.Install.{LoadedVersion, version_with}
 use Rattle.store.specs.OrderView.{OrderView, order_view}
 

@@ -23,8 +23,8 @@ use Rattle.store.specs.Runs.{IsAnswerForLevel}
 use Rattle.store.specs.Step.{StepView, step_of}
 use Rattle.store.specs.declared.descent_end.DescentEnd.{DescentEnd}
 use Rattle.store.specs.declared.descent_end.DescentEnd.TheVariants.{AtBottom, Stopped}
-use Rattle.folder.specs.FolderChange.{FolderChange, change_since}
-use Rattle.store.specs.Telling.{Telling, telling}
+use Rattle.install.specs.FolderChange.{FolderChange, change_since}
+use Rattle.store.specs.Telling.{Telling, telling_by}
 
 -- an answer that is installed: with its inputs, and the groups in which its tables are written
 pub record GroupedAnswer : Type 0 where
@@ -135,7 +135,7 @@ pub record IsDescentRun {W : Type 0} (order : Order) (s : Settings) (v : State)
       × IfOk result (λ e. (e ≡ AtBottom) × IsNextLevel (version_after v links) bottom None))
       ⊎ IsLastBegun order s bottom (version_after v links)
       (change_since (calls_of_links order v links) change)
-      (telling told.tells told_last told.new) result
+      (telling_by told.tells told_last told.new) result
 
 -- no call that writes was made, and nothing told; or these are the calls, and what was told
 abbrev pub IsAllLevelsRun : {W : Type 0} → Order → Settings → State → FolderChange → Telling W →

@@ -24,7 +24,7 @@ use Rattle.store.specs.InputsCompaction.{input_numbers, input_tables}
 use Rattle.store.specs.Step.{step_in, step_of}
 use Rattle.store.specs.VersionSync.{sync_calls}
 use Rattle.store.specs.declared.compaction_step.CompactionStep.{CompactionStep}
-use Rattle.folder.specs.FolderChange.{FolderChange, change_since}
+use Rattle.install.specs.FolderChange.{FolderChange, change_since}
 
 -- The calls of the installation of an answer, up to one that fails. Its tables are written in
 -- groups; the manifest has the version and the answer's edit. At Changed all calls before the

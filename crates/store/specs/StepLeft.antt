@@ -8,11 +8,11 @@ use Rattle.pick.specs.PickedInputs.{PickedInputs}
 use Rattle.compact.specs.OneThread.{Answer}
 use Rattle.install.specs.Install.{SurvivesCrash, LoadedVersion}
 use Rattle.compact.specs.declared.settings.Settings.{Settings}
-use Rattle.store.specs.Compaction.{IsUnchanged, LevelCompaction}
+use Rattle.store.specs.Compaction.{IsUnchanged, LevelCompaction, next_of}
 use Rattle.store.specs.FolderRequest.{manifest_of}
 use Rattle.store.specs.Step.{step_in, step_of}
 use Rattle.store.specs.declared.compaction_step.CompactionStep.{CompactionStep}
-use Rattle.folder.specs.FolderChange.{FolderChange}
+use Rattle.install.specs.FolderChange.{FolderChange}
 use Rattle.store.specs.OrderView.{OrderView}
 
 -- A compaction of the version was installed, from these calls on. A crash at any moment leaves the

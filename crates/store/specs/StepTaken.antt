@@ -7,7 +7,7 @@ use Rattle.folder.specs.fault.Fault.{Fault}
 use Rattle.folder.specs.fault.FaultName.TheVariants.{Memory}
 use Rattle.folder.specs.Version.{State}
 use Rattle.folder.specs.OpenAnswer.{IsStopped}
-use Rattle.folder.specs.declared.current_version.Opened.{Opened}
+use Rattle.store.specs.declared.synced_version.SyncedVersion.{SyncedVersion}
 use Rattle.folder.specs.declared.order.Order.{Order}
 use Rattle.compact.specs.declared.settings.Settings.{Settings}
 use Rattle.store.specs.Answers.{IsLoadedCompacted}
@@ -17,14 +17,14 @@ use Rattle.store.specs.OpenedAfter.{IsOpenedAfter}
 use Rattle.store.specs.Step.{step_in}
 use Rattle.store.specs.StepLeft.{IsStepInstalled, IsStepLeft}
 use Rattle.store.specs.declared.compaction_step.CompactionStep.{CompactionStep}
-use Rattle.folder.specs.FolderChange.{FolderChange, FolderCall}
+use Rattle.install.specs.FolderChange.{FolderChange, FolderCall}
 use Rattle.install.specs.Install.{LoadedVersion}
 use Rattle.store.specs.OrderView.{OrderView}
 use Rattle.store.specs.Telling.{Telling}
 
 -- it was refused, so nothing was told; by its refusal, or since the device failed
 pub record IsStepRefused {W : Type 0} (by : OrderView) (v : LoadedVersion) (level : ℕ)
-    (s : Settings) (call : FolderCall) (told : Telling W) (result : Result (Option Opened) Fault)
+    (s : Settings) (call : FolderCall) (told : Telling W) (result : Result (Option SyncedVersion) Fault)
     : Type 0 where
   pub e : Fault
   pub is : result ≡ Err e
@@ -40,7 +40,7 @@ IsGoTold goes next = goes ≡ is_some next
 -- it was installed and told; if it is to go on, what it is opened as after it is what was installed
 pub record IsStepTold {W : Type 0} (by : OrderView) (v : LoadedVersion) (level : ℕ)
     (s : Settings) (change : FolderChange) (told : Telling W)
-    (result : Result (Option Opened) Fault) : Type 0 where
+    (result : Result (Option SyncedVersion) Fault) : Type 0 where
   pub step : CompactionStep
   pub installed : IsStepInstalled by v level s change (Ok step)
   pub goes : Bool
@@ -52,14 +52,14 @@ pub record IsStepTold {W : Type 0} (by : OrderView) (v : LoadedVersion) (level :
   pub memory : IfErr result (λ e. e ≡ fault Memory)
 
 abbrev pub IsStepTaken : {W : Type 0} → OrderView → LoadedVersion → ℕ → Settings → FolderCall →
-    Telling W → Result (Option Opened) Fault → Type 0
+    Telling W → Result (Option SyncedVersion) Fault → Type 0
 IsStepTaken by v level s call told result = IsStepRefused by v level s call told result
     ⊎ IsStepTold by v level s call.change told result
 
 -- One of several compactions. What the folder is opened as after it is the version that the
 -- answer's edit makes.
 pub record IsNextBegun {W : Type 0} (order : Order) (v : State) (level : ℕ) (s : Settings)
-    (change : FolderChange) (told : Telling W) (result : Result (Option Opened) Fault)
+    (change : FolderChange) (told : Telling W) (result : Result (Option SyncedVersion) Fault)
     : Type 0 where
   pub begun : IsLevelBegun order v level s change.before change.after result
   pub is_told : IsToldOf told.tells (step_of_answer v begun.installed) told.old told.new IsGoTold

@@ -3,7 +3,7 @@ use Rattle.std.specs.Prelude.{◌≡◌, Result, IfErr}
 use Rattle.folder.specs.Answers.{UnlessMemory}
 use Rattle.folder.specs.fault.Fault.{Fault}
 use Rattle.store.specs.Compaction.{IsUnchanged}
-use Rattle.folder.specs.FolderChange.{FolderChange}
+use Rattle.install.specs.FolderChange.{FolderChange}
 
 -- nothing was changed and nothing told, for a reason unless memory ran out
 pub record IsUntold {T W : Type 0} (change : FolderChange) (told told_now : W)

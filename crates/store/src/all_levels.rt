@@ -21,10 +21,10 @@ ghost use Rattle.store.specs.OpenedAfter.{IsOpenedAfter};
 ghost use Rattle.store.specs.Step.{step_in};
 ghost use Rattle.store.specs.StepTaken.{IsGoTold, IsNextBegun, IsStepTaken};
 ghost use Rattle.store.specs.Untold.{IsUntold};
-ghost use Rattle.folder.specs.FolderChange.{change_of, call_of};
+ghost use Rattle.install.specs.FolderChange.{change_of, call_of};
 ghost use Rattle.install.specs.Install.{version_with};
 ghost use Rattle.store.specs.OrderView.{order_view};
-ghost use Rattle.store.specs.Telling.{telling};
+ghost use Rattle.store.specs.Telling.{telling_by};
 
 use crate::compaction_step::CompactionStep;
 use crate::descent::{bottom, next_level};
@@ -33,11 +33,10 @@ use crate::input_compaction::compact_inputs;
 use crate::install_laws::inputs_suffice;
 use crate::install_watch::InstallWatch;
 use crate::next_opened::opened_after;
+use crate::synced_version::SyncedVersion;
 use checks::{VersionTotals, Watch, Workers, test_version};
 use compact::Settings;
-use folder::{
-    Bytewise, Fault, FaultName, Opened, Order, ReadsTables, Shortlex, Version, WritesTables,
-};
+use folder::{Bytewise, Fault, FaultName, Order, ReadsTables, Shortlex, Version, WritesTables};
 use std::alloc::Global;
 use std::thread::Threads;
 
@@ -52,7 +51,7 @@ pub fn compact_all<
 >(
     workers: &Workers<'_, R, W>,
     folder: &mut F,
-    opened: Opened,
+    opened: SyncedVersion,
     settings: &Settings<'_>,
     memory: u64,
     told: &mut T,
@@ -66,12 +65,12 @@ pub fn compact_all<
         files (codes "CURRENT") ≡ Some (current_text opened.manifest) →
         IsOpened (IsFileIn files) (Ok (opened.order, opened.version)) →
         IsAllLeft (order_view opened.order) settings.now opened.version files
-        (call_of F.Folder folder.old folder.new) (telling T.tells told.old told.new) result }
+        (call_of F.Folder folder.old folder.new) (telling_by T.tells told.old told.new) result }
     // Of any folder, also one that tells nothing: the calls are those of such compactions, each of
     // the version that the one before it leaves, up to one that fails. Each is told, and the next
     // one begun only if that is said.
     ensures runs { IsAllLevelsRun opened.order settings.now opened.version
-        (change_of F.Folder folder.old folder.new) (telling T.tells told.old told.new) result }
+        (change_of F.Folder folder.old folder.new) (telling_by T.tells told.old told.new) result }
     ensures device { ReportsDevice F.Folder folder.old folder.new result }
 {
     let alloc = workers.alloc();
@@ -96,7 +95,7 @@ pub fn compact_levels<
 >(
     workers: &Workers<'_, R, W>,
     folder: &mut F,
-    opened: Opened,
+    opened: SyncedVersion,
     settings: &Settings<'_>,
     told: &mut T,
 ) -> Result<DescentEnd, Fault>
@@ -109,10 +108,10 @@ pub fn compact_levels<
         IsLawfulTables (order_cmp opened.order) opened.version loaded (Ok tables) →
         IsUntold (change_of F.Folder folder.old folder.new) told.old told.new (λ e. ⊥) result
         ⊎ IsDescended (order_view opened.order) settings.now (version_with opened.version loaded)
-        tables (call_of F.Folder folder.old folder.new) (telling T.tells told.old told.new) result }
+        tables (call_of F.Folder folder.old folder.new) (telling_by T.tells told.old told.new) result }
     // Of any folder, as of `compact_all`.
     ensures runs { IsAllLevelsRun opened.order settings.now opened.version
-        (change_of F.Folder folder.old folder.new) (telling T.tells told.old told.new) result }
+        (change_of F.Folder folder.old folder.new) (telling_by T.tells told.old told.new) result }
     ensures device { ReportsDevice F.Folder folder.old folder.new result }
 {
     let alloc = workers.alloc();
@@ -135,23 +134,23 @@ pub fn compact_levels<
 fn take_step<F: ReadsTables + WritesTables, T: InstallWatch, W: Watch + Sync, R: Threads + Sync>(
     workers: &Workers<'_, R, W>,
     folder: &mut F,
-    opened: &Opened,
+    opened: &SyncedVersion,
     level: u64,
     settings: &Settings<'_>,
     told: &mut T,
-) -> Result<Option<Opened>, Fault>
+) -> Result<Option<SyncedVersion>, Fault>
     ensures left { (files : Files) (loaded : List (ℕ × List ℕ)) (tables : List NumberedContents) →
         Tells (F.tells folder.old) files →
         files (codes "CURRENT") ≡ Some (current_text opened.now.manifest) →
         ReadsAs (order_cmp opened.now.order) opened.now.order opened.now.version loaded files →
         IsLawfulTables (order_cmp opened.now.order) opened.now.version loaded (Ok tables) →
         IsStepTaken (order_view opened.now.order) (version_with opened.now.version loaded) level
-        settings.now (call_of F.Folder folder.old folder.new) (telling T.tells told.old told.new)
+        settings.now (call_of F.Folder folder.old folder.new) (telling_by T.tells told.old told.new)
         result }
     ensures runs { MakesNoCalls (F.calls folder.old) (F.calls folder.new) (told.old) (told.new)
         result
         ⊎ IsNextBegun opened.now.order opened.now.version level settings.now
-        (change_of F.Folder folder.old folder.new) (telling T.tells told.old told.new) result }
+        (change_of F.Folder folder.old folder.new) (telling_by T.tells told.old told.new) result }
     ensures device { ReportsDevice F.Folder folder.old folder.new result }
 {
     let alloc = workers.alloc();
@@ -164,11 +163,11 @@ fn take_step<F: ReadsTables + WritesTables, T: InstallWatch, W: Watch + Sync, R:
 /// Tells of the compaction of a `level`. What the folder is opened as after it, if it is to go on.
 fn tell_step<T: InstallWatch>(
     alloc: Global,
-    opened: &Opened,
+    opened: &SyncedVersion,
     level: u64,
     step: &CompactionStep,
     told: &mut T,
-) -> Result<Option<Opened>, Fault>
+) -> Result<Option<SyncedVersion>, Fault>
     ensures told { (goes : Bool) × T.tells told.old (step_in step.now) goes told.new
         × IfOk result (IsGoTold goes) }
     ensures after { IfOk result (λ o. IfSome o (λ after. IsOpenedAfter opened.now.order
@@ -209,7 +208,7 @@ fn is_at_bottom(alloc: Global, version: &Version) -> Result<bool, Fault>
 fn test_opened<F: ReadsTables, W: Watch + Sync, R: Threads + Sync>(
     workers: &Workers<'_, R, W>,
     folder: &mut F,
-    opened: &Opened,
+    opened: &SyncedVersion,
     memory: u64,
 ) -> Result<VersionTotals, Fault>
     ensures answer { (files : Files) → Tells (F.tells folder.old) files →

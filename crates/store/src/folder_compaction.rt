@@ -13,16 +13,17 @@ ghost use Rattle.store.specs.Answers.{IsFolderCompacted, IsVersionCompacted};
 ghost use Rattle.store.specs.Compaction.{IsFolderLeft, IsVersionLeft};
 ghost use Rattle.store.specs.Runs.{IsFolderRun, IsLevelRun, IsAnswerForLevel, IsRun};
 ghost use Rattle.store.specs.Step.{step_in};
-ghost use Rattle.folder.specs.FolderChange.{change_of};
+ghost use Rattle.install.specs.FolderChange.{change_of};
 ghost use Rattle.store.specs.OrderView.{order_by, order_view};
 
 use crate::compaction_step::CompactionStep;
 use crate::input_compaction::compact_step;
 use crate::install_laws::inputs_suffice;
+use crate::synced_version::SyncedVersion;
 use crate::version_sync::sync_version;
 use checks::{SharedComparator, Watch, Workers, test_and_hold};
 use compact::Settings;
-use folder::{Bytewise, Fault, Opened, Order, ReadsTables, Shortlex, WritesTables, open};
+use folder::{Bytewise, Fault, Order, ReadsTables, Shortlex, WritesTables, open};
 use std::thread::Threads;
 
 /// Compacts a `level` of the version that a folder holds, and installs the outcome. The answer says
@@ -80,8 +81,8 @@ pub fn compact_dir<F: ReadsTables + WritesTables, W: Watch + Sync, R: Threads + 
 {
     let alloc = workers.alloc();
     let opened = open(alloc, folder)?;
-    sync_version(alloc, folder, &opened)?;
-    compact_opened(workers, folder, &opened, level, settings, memory)
+    let synced = sync_version(alloc, folder, opened)?;
+    compact_opened(workers, folder, &synced, level, settings, memory)
 }
 
 /// Compacts a `level` of what a folder was `opened` as, and installs the outcome: what
@@ -93,7 +94,7 @@ pub fn compact_dir<F: ReadsTables + WritesTables, W: Watch + Sync, R: Threads + 
 pub fn compact_opened<F: ReadsTables + WritesTables, W: Watch + Sync, R: Threads + Sync>(
     workers: &Workers<'_, R, W>,
     folder: &mut F,
-    opened: &Opened,
+    opened: &SyncedVersion,
     level: u64,
     settings: &Settings<'_>,
     memory: u64,
@@ -136,7 +137,7 @@ fn compact_version<
 >(
     workers: &Workers<'_, R, W>,
     folder: &mut F,
-    opened: &Opened,
+    opened: &SyncedVersion,
     level: u64,
     settings: &Settings<'_>,
     memory: u64,

@@ -24,16 +24,17 @@ ghost use Rattle.store.specs.InputsCompaction.{IsReadAnswer};
 ghost use Rattle.store.specs.Runs.{IsRun, IsAnswerForInputs};
 ghost use Rattle.store.specs.Step.{IsStepFor, step_in};
 ghost use Rattle.store.specs.StepLeft.{IsStepLeft};
-ghost use Rattle.folder.specs.FolderChange.{change_of};
+ghost use Rattle.install.specs.FolderChange.{change_of};
 ghost use Rattle.store.specs.OrderView.{order_by};
 
 use crate::compaction_step::CompactionStep;
 use crate::folder_request::request_of;
 use crate::input_tables::{bytes_of, stated_tables};
 use crate::planned_installation::install_merged;
+use crate::synced_version::SyncedVersion;
 use checks::{HeldTables, SharedComparator, Watch, Work, Workers};
 use compact::{Settings, compact_tables, merge_request};
-use folder::{Comparator, Fault, Opened, Version, WritesTables};
+use folder::{Comparator, Fault, Version, WritesTables};
 use install::Outcome;
 use pick::Inputs;
 use reads::SoundTable;
@@ -118,7 +119,7 @@ pub(crate) fn install_held<
 >(
     workers: &Workers<'_, R, W>,
     folder: &mut F,
-    opened: &Opened,
+    opened: &SyncedVersion,
     picked: &Inputs,
     held: &HeldTables<C>,
     settings: &Settings<'_>,
@@ -159,7 +160,7 @@ fn install_checked<
 >(
     workers: &Workers<'_, R, W>,
     folder: &mut F,
-    opened: &Opened,
+    opened: &SyncedVersion,
     picked: &Inputs,
     tables: &[SoundTable<'_, C>],
     settings: &Settings<'_>,

@@ -16,7 +16,7 @@ ghost use Rattle.store.specs.InputsCompaction.{IsInputsCompacted};
 ghost use Rattle.store.specs.Runs.{IsLevelRun, IsAnswerForLevel, IsRun};
 ghost use Rattle.store.specs.Step.{step_in};
 ghost use Rattle.store.specs.StepLeft.{IsStepLeft};
-ghost use Rattle.folder.specs.FolderChange.{change_of};
+ghost use Rattle.install.specs.FolderChange.{change_of};
 ghost use Rattle.install.specs.Install.{version_with};
 ghost use Rattle.store.specs.OrderView.{order_by, order_view};
 
@@ -25,9 +25,10 @@ use crate::held_compaction::install_held;
 use crate::input_laws::same_inputs;
 use crate::install_laws::numbered_is_installed;
 use crate::level_inputs::level_inputs;
+use crate::synced_version::SyncedVersion;
 use checks::{HeldTables, SharedComparator, Watch, Workers};
 use compact::Settings;
-use folder::{Bytewise, Fault, Opened, Order, ReadsTables, Shortlex, WritesTables};
+use folder::{Bytewise, Fault, Order, ReadsTables, Shortlex, WritesTables};
 use std::thread::Threads;
 
 /// Compacts a `level` of what a folder was `opened` as, and installs the outcome. It reads the
@@ -47,7 +48,7 @@ use std::thread::Threads;
 pub fn compact_inputs<F: ReadsTables + WritesTables, W: Watch + Sync, R: Threads + Sync>(
     workers: &Workers<'_, R, W>,
     folder: &mut F,
-    opened: &Opened,
+    opened: &SyncedVersion,
     level: u64,
     settings: &Settings<'_>,
 ) -> Result<CompactionStep, Fault>
@@ -99,7 +100,7 @@ pub(crate) fn compact_step<
     workers: &Workers<'_, R, W>,
     folder: &mut F,
     held: HeldTables<C>,
-    opened: &Opened,
+    opened: &SyncedVersion,
     level: u64,
     settings: &Settings<'_>,
 ) -> Result<CompactionStep, Fault>

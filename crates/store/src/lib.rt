@@ -3,7 +3,8 @@
 //!
 //! 1. [`Settings`] says which workers, ranges, snapshots and options.
 //! 2. [`compact_dir`] does all of it. Its steps are `folder::open`, [`sync_version`] and
-//!    [`compact_opened`], for callers that need what was opened in between.
+//!    [`compact_opened`], for callers that need what was opened in between. What installs something
+//!    takes a [`SyncedVersion`], which none but the second makes of what was opened.
 //! 3. [`compact_inputs`] reads the inputs alone: its caller knows that the version is lawful. So
 //!    does [`opened_after`] make what a folder is opened as after it, which is the next one's.
 //! 4. [`compact_all`] compacts all levels, one after the other. It tests the version once, and
@@ -57,6 +58,7 @@ mod needed_files;
 mod next_opened;
 mod outcome_writer;
 mod planned_installation;
+mod synced_version;
 mod version_files;
 mod version_sync;
 
@@ -78,5 +80,6 @@ pub use install_watch::InstallWatch;
 pub use needed_files::files_to_compact;
 pub use next_opened::opened_after;
 pub use outcome_writer::{EDIT, write_outcome};
+pub use synced_version::{SyncMark, SyncedVersion};
 pub use version_files::test_files;
 pub use version_sync::sync_version;

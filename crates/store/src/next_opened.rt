@@ -8,7 +8,8 @@ ghost use Rattle.store.specs.OpenedAfter.{IsOpenedAfter};
 
 use crate::compaction_step::CompactionStep;
 use crate::folder_request::manifest_of;
-use folder::{Bytewise, Fault, Opened, Order, Shortlex, Version, VersionEdit};
+use crate::synced_version::{SyncMark, SyncedVersion};
+use folder::{Bytewise, Fault, Order, Shortlex, Version, VersionEdit};
 use std::alloc::Global;
 
 /// What a folder is opened as after a `step`, a compaction of what it was `opened` as. That is its
@@ -17,17 +18,22 @@ use std::alloc::Global;
 ///
 /// Refused as the edit is: EditTag or EditField if its bytes are invalid, Comparator or Apply if it
 /// doesn't fit. The edit of a compaction of a lawful version is never refused. The only other fault
-/// is Memory.
-pub fn opened_after(alloc: Global, opened: &Opened, step: &CompactionStep) -> Result<Opened, Fault>
+/// is Memory. An installation that ended in Ok has synced what it left.
+pub fn opened_after(
+    alloc: Global,
+    opened: &SyncedVersion,
+    step: &CompactionStep,
+) -> Result<SyncedVersion, Fault>
     ensures { HoldsOrMemory (λ o. (o.order, o.version, o.manifest)) result
         (IsOpenedAfter opened.now.order opened.now.version step.now.edit.items) }
 {
     let edit = VersionEdit::decode(alloc, &step.edit)?;
     let version = edited(alloc, opened.order, &opened.version, &edit)?;
-    Ok(Opened {
+    Ok(SyncedVersion {
         order: opened.order,
         version,
         manifest: manifest_of(&opened.version),
+        mark: SyncMark,
     })
 }
 

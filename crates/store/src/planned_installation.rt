@@ -24,16 +24,17 @@ ghost use Rattle.store.specs.FoundInputs.{IsAnsweredBy, NeverDevice, step_result
 ghost use Rattle.store.specs.Runs.{IsRun};
 ghost use Rattle.store.specs.Step.{step_in};
 ghost use Rattle.store.specs.StepLeft.{IsStepLeft};
-ghost use Rattle.folder.specs.FolderChange.{change_of};
+ghost use Rattle.install.specs.FolderChange.{change_of};
 ghost use Rattle.store.specs.OrderView.{order_by};
 
 use crate::answered_steps::planned_step;
 use crate::compaction_step::CompactionStep;
 use crate::folder_request::manifest_of;
 use crate::group_tables::GroupTables;
+use crate::synced_version::SyncedVersion;
 use checks::{SharedComparator, Watch, Workers};
 use compact::{Merged, Planned};
-use folder::{Fault, Opened, Version, WritesTables};
+use folder::{Fault, Version, WritesTables};
 use install::{install_manifest, manifest_bytes, write_source_group};
 use pick::Inputs;
 use std::thread::Threads;
@@ -50,7 +51,7 @@ pub(crate) fn install_merged<
 >(
     workers: &Workers<'_, R, W>,
     folder: &mut F,
-    opened: &Opened,
+    opened: &SyncedVersion,
     merged: &Merged<'_, '_, C>,
     picked: &Inputs,
 ) -> Result<CompactionStep, Fault>

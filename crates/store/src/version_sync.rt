@@ -1,6 +1,6 @@
 //! The sync of what a version rests on.
 
-ghost use Rattle.std.specs.Prelude.{◌≡◌, [], ◌∷◌, ℕ, List, map, IfErr, OnOk};
+ghost use Rattle.std.specs.Prelude.{◌≡◌, [], ◌∷◌, ℕ, List, map, IfErr, IfOk, OnOk};
 ghost use Rattle.folder.specs.Answers.{UnlessMemory};
 ghost use Rattle.folder.specs.CallSequence.{MakesCalls};
 ghost use Rattle.folder.specs.Calls.{Files, Synced, Tells};
@@ -14,6 +14,7 @@ ghost use Rattle.install.specs.Install.{AlwaysStandsBy};
 ghost use Rattle.store.specs.CallsAnswer.{IsCallsAnswer};
 ghost use Rattle.store.specs.VersionSync.{AlwaysReadsBy, sync_calls, table_syncs};
 
+use crate::synced_version::{SyncMark, SyncedVersion};
 use folder::{
     Bytewise, CURRENT, Comparator, Fault, FileMeta, Folder, FolderFault, LEVELS, Opened, Order,
     Shortlex, Version, manifest_name, old_table_name, table_name,
@@ -33,26 +34,41 @@ use std::alloc::Global;
 ///
 /// The faults are Device and Memory. If the device fails a call, no further call is made. The
 /// folder holds what it held.
-pub fn sync_version<F: Folder>(alloc: Global, folder: &mut F, opened: &Opened) -> Result<(), Fault>
+pub fn sync_version<F: Folder>(
+    alloc: Global,
+    folder: &mut F,
+    opened: Opened,
+) -> Result<SyncedVersion, Fault>
     // The calls in their order, each once, up to one that fails.
     ensures runs { MakesCalls
-        (sync_calls (order_cmp opened.now.order) opened.now.version opened.now.manifest)
+        (sync_calls (order_cmp opened.order) opened.version opened.manifest)
         (F.calls folder.old) (F.calls folder.new) (F.tells folder.old) (F.tells folder.new) result }
     ensures same { (files : Files) → Tells (F.tells folder.old) files →
         Tells (F.tells folder.new) files }
     // If the folder reads as this version by this manifest, at Ok it stands for it by that
     // manifest, whatever was synced before.
     ensures stands { (tables : List (ℕ × List ℕ)) (start : World) →
-        AlwaysReadsBy (order_cmp opened.now.order) opened.now.order opened.now.version
-        opened.now.manifest tables start (F.calls folder.old) → OnOk result
-        (AlwaysStandsBy (order_cmp opened.now.order) opened.now.order opened.now.version
-        opened.now.manifest tables start (F.calls folder.new)) }
+        AlwaysReadsBy (order_cmp opened.order) opened.order opened.version
+        opened.manifest tables start (F.calls folder.old) → OnOk result
+        (AlwaysStandsBy (order_cmp opened.order) opened.order opened.version
+        opened.manifest tables start (F.calls folder.new)) }
+    // What is synced is what was opened.
+    ensures synced { IfOk result (λ s. (s.order ≡ opened.order) × (s.version ≡ opened.version)
+        × (s.manifest ≡ opened.manifest)) }
     // Only Device and Memory are answered, Device only if the device failed.
     ensures refused { IfErr result
         (λ e. UnlessMemory e (IsStopped (F.failed folder.old) (F.failed folder.new) e)) }
     ensures device { ReportsDevice F.Folder folder.old folder.new result }
 {
-    make_syncs(alloc, folder, opened)
+    match make_syncs(alloc, folder, &opened) {
+        Ok(()) => Ok(SyncedVersion {
+            order: opened.order,
+            version: opened.version,
+            manifest: opened.manifest,
+            mark: SyncMark,
+        }),
+        Err(fault) => Err(fault),
+    }
 }
 
 /// Syncs CURRENT, the manifest, the tables and the folder.

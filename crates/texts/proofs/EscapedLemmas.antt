@@ -9,7 +9,7 @@ use Rattle.std.proofs.lemmas.Option.{same_Some}
 use Rattle.std.proofs.lemmas.Slice.Eq.{bytes_eq-Decides}
 use Rattle.hex.specs.Hex.{IsBytes, hex_digit_value, lower_digits}
 use Rattle.hex.proofs.HexLemmas.{IsDigits-lower_digits}
-use Rattle.texts.specs.Escaped.{backslash, byte_of_digits, byte_of_escape, byte_of_own, bytes_of_characters, bytes_of_escaped, empty_text, escape, escaped, escaped_byte, first_in_value, is_own, is_plain, joined, unescaped}
+use Rattle.texts.specs.Escaped.{backslash, byte_of_digits, byte_of_escape, byte_of_own, bytes_of_characters, bytes_of_escaped, empty_text, escape, escaped, escaped_byte, first_in_value, is_own, is_shown, joined, unescaped}
 
 -- ---- the first byte of a text
 
@@ -98,21 +98,22 @@ unescaped-escape_of b text fits =
     unescaped-escape (escape b ++ text) b (omega arith) refl value
 
 -- what stands for itself from a later character on is read as itself
-plain_is_own : (first b : ℕ) → first_in_value ≤ first → is_plain first b ≡ true → is_own b ≡ true
-plain_is_own first b late plain = grind (arith, nat_tests)
+shown_is_own : (wide : Bool) (first b : ℕ) → first_in_value ≤ first → is_shown wide first b ≡ true → is_own b ≡ true
+shown_is_own true first b late shown = grind (arith, nat_tests)
+shown_is_own false first b late shown = grind (arith, nat_tests)
 
 -- bytes, each itself or its escape, are read as they are
-unescaped-bytes : (first : ℕ) (bytes : List ℕ) → first_in_value ≤ first → IsBytes bytes → unescaped (flat_map (escaped_byte first) bytes) ≡ Some bytes
+unescaped-bytes : (wide : Bool) (first : ℕ) (bytes : List ℕ) → first_in_value ≤ first → IsBytes bytes → unescaped (flat_map (escaped_byte wide first) bytes) ≡ Some bytes
 unfolding unescaped
-unescaped-bytes first [] late fits = refl
-unescaped-bytes first (b ∷ bytes) late fits = step (is_plain first b) refl (unescaped-bytes first bytes late (λ i. fits (suc i)))
+unescaped-bytes wide first [] late fits = refl
+unescaped-bytes wide first (b ∷ bytes) late fits = step (is_shown wide first b) refl (unescaped-bytes wide first bytes late (λ i. fits (suc i)))
   where
-    step : (plain : Bool) → is_plain first b ≡ plain → unescaped (flat_map (escaped_byte first) bytes) ≡ Some bytes
-        → unescaped ((if plain then b ∷ [] else escape b) ++ flat_map (escaped_byte first) bytes) ≡ Some (b ∷ bytes)
+    step : (plain : Bool) → is_shown wide first b ≡ plain → unescaped (flat_map (escaped_byte wide first) bytes) ≡ Some bytes
+        → unescaped ((if plain then b ∷ [] else escape b) ++ flat_map (escaped_byte wide first) bytes) ≡ Some (b ∷ bytes)
     step true is ih =
-        unescaped-own b (flat_map (escaped_byte first) bytes) (plain_is_own first b late is) ∙ ap (joined (Some b)) ih
+        unescaped-own b (flat_map (escaped_byte wide first) bytes) (shown_is_own wide first b late is) ∙ ap (joined (Some b)) ih
     step false is ih =
-        unescaped-escape_of b (flat_map (escaped_byte first) bytes) (fits 0) ∙ ap (joined (Some b)) ih
+        unescaped-escape_of b (flat_map (escaped_byte wide first) bytes) (fits 0) ∙ ap (joined (Some b)) ih
 
 -- the text of no bytes, read by its characters
 marks_read : unescaped empty_text ≡ Some empty_text
@@ -134,16 +135,16 @@ read_whole text bytes read some other = step (bytes_eq text empty_text) refl tex
     step false is text' h = characters text' h
 
 -- The text of bytes is read as these bytes.
-pub bytes_of_escaped-escaped : (first : ℕ) (bytes : List ℕ) → first_in_value ≤ first → IsBytes bytes → bytes_of_escaped (escaped first bytes) ≡ Some bytes
+pub bytes_of_escaped-escaped : (wide : Bool) (first : ℕ) (bytes : List ℕ) → first_in_value ≤ first → IsBytes bytes → bytes_of_escaped (escaped wide first bytes) ≡ Some bytes
 unfolding unescaped
-bytes_of_escaped-escaped first [] late fits = refl
-bytes_of_escaped-escaped first (b ∷ bytes) late fits = step (bytes_eq (b ∷ bytes) empty_text) refl
+bytes_of_escaped-escaped wide first [] late fits = refl
+bytes_of_escaped-escaped wide first (b ∷ bytes) late fits = step (bytes_eq (b ∷ bytes) empty_text) refl
   where
     step : (same : Bool) → bytes_eq (b ∷ bytes) empty_text ≡ same
-        → bytes_of_escaped (if same then flat_map escape empty_text else flat_map (escaped_byte first) (b ∷ bytes)) ≡ Some (b ∷ bytes)
+        → bytes_of_escaped (if same then flat_map escape empty_text else flat_map (escaped_byte wide first) (b ∷ bytes)) ≡ Some (b ∷ bytes)
     step true is = ap (λ (xs : List ℕ). Some xs) (sym ((bytes_eq-Decides (b ∷ bytes) empty_text).0 is))
     step false is =
-        read_whole (flat_map (escaped_byte first) (b ∷ bytes)) (b ∷ bytes) (unescaped-bytes first (b ∷ bytes) late fits) (λ e. cc)
+        read_whole (flat_map (escaped_byte wide first) (b ∷ bytes)) (b ∷ bytes) (unescaped-bytes wide first (b ∷ bytes) late fits) (λ e. cc)
         (λ e. let same = (bytes_eq-Decides (b ∷ bytes) empty_text).1 e in cc)
 
 -- ---- the loop over a text

@@ -1,5 +1,6 @@
 mod DigitLemmas
 mod EscapedLemmas
 mod PrintableLemmas
+mod WideLemmas
 mod TextLemmas
 pub mod SpellingLemmas

@@ -1,5 +1,5 @@
--- Keys and values as printable ASCII, with `\xHH` for every other byte. A text is read so too, and
--- a character outside ASCII as its bytes.
+-- Keys and values as printable ASCII, with `\xHH` for every other byte, or for those of ASCII
+-- alone. A text is read so too, and a character outside ASCII as its bytes.
 use Rattle.std.specs.Prelude.{ℕ, ◌+◌, ◌*◌, ◌/◌, ◌%◌, ◌==◌, ◌&&◌, ◌||◌, nat_le, not, Bool, List, [], ◌∷◌}
 use Rattle.std.specs.Prelude.{◌++◌, Option, Some, None, codes, slice_index, if◌then◌else◌}
 use Rattle.std.specs.List.{flat_map}
@@ -31,24 +31,20 @@ first_in_value = 32
 abbrev pub escape : ℕ → List ℕ
 escape b = codes "\\x" ++ slice_index lower_digits (b / 16) ∷ slice_index lower_digits (b % 16) ∷ []
 
+-- whether a byte stands for itself, if those outside ASCII do, or don't
+abbrev pub is_shown : Bool → ℕ → ℕ → Bool
+is_shown wide first b = is_plain first b || (wide && nat_le 128 b)
+
 -- a byte itself, or its escape
-abbrev pub escaped_byte : ℕ → ℕ → List ℕ
-escaped_byte first b = if is_plain first b then b ∷ [] else escape b
+abbrev pub escaped_byte : Bool → ℕ → ℕ → List ℕ
+escaped_byte wide first b = if is_shown wide first b then b ∷ [] else escape b
 
 -- the text of bytes; if they are the text of no bytes themselves, each is escaped
-abbrev pub escaped : ℕ → List ℕ → List ℕ
-escaped first [] = empty_text
-escaped first (b ∷ bytes) =
+abbrev pub escaped : Bool → ℕ → List ℕ → List ℕ
+escaped wide first [] = empty_text
+escaped wide first (b ∷ bytes) =
     if bytes_eq (b ∷ bytes) empty_text then flat_map escape empty_text
-    else flat_map (escaped_byte first) (b ∷ bytes)
-
--- the text of a key
-abbrev pub escaped_key : List ℕ → List ℕ
-escaped_key key = escaped first_in_key key
-
--- the text of a value
-abbrev pub escaped_value : List ℕ → List ℕ
-escaped_value value = escaped first_in_value value
+    else flat_map (escaped_byte wide first) (b ∷ bytes)
 
 -- the byte of two digits
 abbrev pub byte_of_digits : Option ℕ → Option ℕ → Option ℕ

@@ -5,6 +5,8 @@
 //! 2. Every other byte is `\x` and two lower-case hexadecimal digits.
 //! 3. No bytes are `""`. The two bytes `""` are `\x22\x22`.
 //!
+//! With `is_wide`, bytes outside ASCII stand for themselves too, as those of UTF-8.
+//!
 //! A text is read by the same rules, with digits of either case. In a key too a space is read, and
 //! any byte may be given as `\xHH`. A character outside ASCII is read as its bytes in UTF-8. No
 //! other text is read: not the empty one, nor one with a lone backslash or a control character.
@@ -51,12 +53,22 @@ pub fn bytes_of_escaped(alloc: Global, text: &str) -> Result<Option<Vec<u8>>, Fa
     unescaped(alloc, text.as_bytes())
 }
 
-/// Appends the text of `bytes`, in which characters from `first` on stand for themselves.
+/// Which bytes stand for themselves.
+#[derive(Clone, Copy)]
+pub(crate) struct OwnBytes {
+    /// The first character of ASCII that does. The last one is `~`, and the backslash doesn't.
+    pub first: u8,
+    /// Whether those outside ASCII do.
+    pub is_wide: bool,
+}
+
+/// Appends the text of `bytes`, of which these stand for themselves.
 ///
 /// It reads back ([`texts_law`](crate::texts_law)). Memory may leave a part of the text after what
 /// was there.
-pub(crate) fn push_escaped(out: &mut Vec<u8>, bytes: &[u8], first: u8) -> Result<(), Fault>
-    ensures ok { OnOk result (out.new.items ≡ out.old.items ++ escaped first bytes.now) }
+pub(crate) fn push_escaped(out: &mut Vec<u8>, bytes: &[u8], own: OwnBytes) -> Result<(), Fault>
+    ensures ok { OnOk result (out.new.items
+        ≡ out.old.items ++ escaped own.is_wide own.first bytes.now) }
     ensures err { OnErr result (take (length out.old.items) out.new.items ≡ out.old.items) }
     ensures memory { IsOkUnless result (fault Memory) }
 {
@@ -68,30 +80,31 @@ pub(crate) fn push_escaped(out: &mut Vec<u8>, bytes: &[u8], first: u8) -> Result
         out.extend_from_slice(QUOTATION_MARKS.as_bytes())?;
         return Ok(());
     }
-    push_bytes(out, bytes, first)
+    push_bytes(out, bytes, own)
 }
 
 /// Appends bytes, each itself or its escape.
-fn push_bytes(out: &mut Vec<u8>, bytes: &[u8], first: u8) -> Result<(), Fault>
+fn push_bytes(out: &mut Vec<u8>, bytes: &[u8], own: OwnBytes) -> Result<(), Fault>
     ensures ok { OnOk result (out.new.items
-        ≡ out.old.items ++ flat_map (escaped_byte first) bytes.now) }
+        ≡ out.old.items ++ flat_map (escaped_byte own.is_wide own.first) bytes.now) }
     ensures err { OnErr result (take (length out.old.items) out.new.items ≡ out.old.items) }
     ensures memory { IsOkUnless result (fault Memory) }
 {
     for byte in bytes {
-        push_byte(out, *byte, first)?;
+        push_byte(out, *byte, own)?;
     }
     Ok(())
 }
 
 /// Appends a byte itself, or its escape.
 #[inline]
-fn push_byte(out: &mut Vec<u8>, byte: u8, first: u8) -> Result<(), Fault>
-    ensures ok { OnOk result (out.new.items ≡ out.old.items ++ escaped_byte first byte) }
+fn push_byte(out: &mut Vec<u8>, byte: u8, own: OwnBytes) -> Result<(), Fault>
+    ensures ok { OnOk result (out.new.items
+        ≡ out.old.items ++ escaped_byte own.is_wide own.first byte) }
     ensures err { OnErr result (out.new.items ≡ out.old.items) }
     ensures memory { IsOkUnless result (fault Memory) }
 {
-    if is_plain(byte, first) {
+    if is_plain(byte, own.first) || (own.is_wide && byte >= 128) {
         out.push(byte)?;
         return Ok(());
     }

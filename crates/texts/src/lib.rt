@@ -4,8 +4,8 @@
 //! 1. [`text_of`] makes the text of bytes as hexadecimal digits, and [`key_of`] reads one, in
 //!    digits of either case.
 //! 2. [`bytes_of_escaped`] reads a text of characters and `\xHH`.
-//! 3. [`Spelling`] says which of the two ways is meant, and has the texts of keys and values.
-//!    [`texts_law`]: they read back.
+//! 3. [`Spelling`] says which of the ways is meant, and has the texts of keys and values.
+//!    [`texts_law`]: they read back. [`is_utf8`]: whether bytes are UTF-8.
 //! 4. [`number_of`] reads a number of decimal digits.
 //!
 //!     61 62    <->    `6162`   or `ab`        no bytes    <->    `-` or `""`
@@ -19,4 +19,4 @@ mod spelling;
 
 pub use escaped::bytes_of_escaped;
 pub use hex_text::{key_of, number_of, text_of};
-pub use spelling::{Spelling, texts_law};
+pub use spelling::{Spelling, is_utf8, texts_law};

@@ -1,16 +1,18 @@
-//! The two ways in which keys and values are written.
+//! The three ways in which keys and values are written.
 
 ghost use Rattle.std.specs.Prelude.{◌≡◌, ◌++◌, length, take, IsOkUnless, Ok, OnErr, OnOk};
 ghost use Rattle.std.specs.Prelude.{option_map, string_bytes};
+ghost use Rattle.std.specs.Str.{is_utf8};
 ghost use Rattle.coding.specs.Answers.{EqualOrMemory, fault};
 ghost use Rattle.coding.specs.declared.fault.FaultName.TheVariants.{Memory};
 ghost use Rattle.texts.specs.Escaped.{first_in_key, first_in_value};
 ghost use Rattle.texts.specs.Spelling.{ArePrintable, ReadBack, bytes_of, key_text, value_text};
 
-use crate::escaped::{FIRST_IN_KEY, FIRST_IN_VALUE, bytes_of_escaped, push_escaped};
+use crate::escaped::{FIRST_IN_KEY, FIRST_IN_VALUE, OwnBytes, bytes_of_escaped, push_escaped};
 use crate::hex_text::{key_of, push_text_of};
 use coding::Fault;
 use std::alloc::Global;
+use std::str;
 
 /// How keys and values are written.
 #[derive(Clone, Copy, PartialEq, Eq)]
@@ -20,6 +22,8 @@ pub enum Spelling {
     /// Printable ASCII, and `\xHH` for every other byte; `""` for no bytes. A character outside
     /// ASCII is read as its bytes in UTF-8.
     Text,
+    /// The same, but bytes that are UTF-8 have their characters outside ASCII as themselves.
+    Utf8,
 }
 
 impl Spelling {
@@ -33,7 +37,8 @@ impl Spelling {
     {
         match self {
             Spelling::Hexadecimal => push_text_of(out, key),
-            Spelling::Text => push_escaped(out, key, FIRST_IN_KEY),
+            Spelling::Text => push_escaped(out, key, own_from(FIRST_IN_KEY, false)),
+            Spelling::Utf8 => push_escaped(out, key, own_from(FIRST_IN_KEY, is_utf8(key))),
         }
     }
 
@@ -47,7 +52,8 @@ impl Spelling {
     {
         match self {
             Spelling::Hexadecimal => push_text_of(out, value),
-            Spelling::Text => push_escaped(out, value, FIRST_IN_VALUE),
+            Spelling::Text => push_escaped(out, value, own_from(FIRST_IN_VALUE, false)),
+            Spelling::Utf8 => push_escaped(out, value, own_from(FIRST_IN_VALUE, is_utf8(value))),
         }
     }
 
@@ -56,7 +62,7 @@ impl Spelling {
     {
         let mut text = Vec::new(alloc);
         self.push_key(&mut text, key)?;
-        // It is ASCII.
+        // It is ASCII, or UTF-8 whose ASCII may be escaped.
         Ok(String::from_utf8(text).unwrap())
     }
 
@@ -65,7 +71,7 @@ impl Spelling {
     {
         let mut text = Vec::new(alloc);
         self.push_value(&mut text, value)?;
-        // It is ASCII.
+        // It is ASCII, or UTF-8 whose ASCII may be escaped.
         Ok(String::from_utf8(text).unwrap())
     }
 
@@ -77,12 +83,28 @@ impl Spelling {
         match self {
             Spelling::Hexadecimal => key_of(alloc, text),
             Spelling::Text => bytes_of_escaped(alloc, text),
+            Spelling::Utf8 => bytes_of_escaped(alloc, text),
         }
     }
 }
 
-/// The law of the text of a key or a value, in either spelling. It is read as the same bytes, and
-/// it is printable ASCII, that of a key without a space. So a line is a key up to its first space,
+/// The bytes that stand for themselves: characters of ASCII from `first` on, and all others if
+/// `is_wide`.
+fn own_from(first: u8, is_wide: bool) -> OwnBytes
+    ensures { result ≡ record { first = first; is_wide = is_wide } }
+{
+    OwnBytes { first, is_wide }
+}
+
+/// Whether bytes are UTF-8.
+pub fn is_utf8(bytes: &[u8]) -> bool
+    ensures { result ≡ is_utf8 bytes.now }
+{
+    str::from_utf8(bytes).is_ok()
+}
+
+/// The law of the text of a key or a value, in each spelling. It is read as the same bytes, and
+/// it is printable ASCII, or such with characters outside ASCII. That of a key has no space. So a line is a key up to its first space,
 /// and what comes after it. A call does nothing.
 pub fn texts_law()
     ensures keys { ReadBack key_text }

@@ -27,7 +27,7 @@ fn folder_cleaned<R: Host>(rt: &R, telling: Telling<'_>) -> Result<(), Refusal> 
     if files.names.is_empty() {
         return Ok(());
     }
-    sync(rt, telling.folder, &opened)?;
+    let opened = sync(rt, telling.folder, opened)?.into_opened();
     remove_files(rt, telling.folder, &opened, &files, false)
 }
 

@@ -4,15 +4,15 @@ use crate::clean_work::clean_installed;
 use crate::compaction_notes::note_of;
 use crate::step_printer::{StepPrinter, explain, print_step, tell_step, unprinted};
 use crate::version_sync::sync;
-use folder::{Bytewise, Disk, Fault, Opened, SystemFiles, Version};
+use folder::{Bytewise, Disk, Fault, FaultName, Opened, SystemFiles, Version};
 use session::{
     Host, LAST_LEVEL, ProgressLine, Refusal, Telling, begin_work, bytes_of, compaction_explained,
     locked_to_change, refused_at, sizes_tested,
 };
 use std::alloc::Global;
 use store::{
-    CompactionStep, DescentEnd, bottom, checkers, compact_inputs, compact_opened, next_level,
-    opened_after,
+    CompactionStep, DescentEnd, SyncedVersion, bottom, checkers, compact_inputs, compact_opened,
+    next_level, opened_after, outcome_of_inputs, outcome_of_opened,
 };
 use usage::{CompactLine, Levels, Settings, Testing};
 
@@ -66,18 +66,64 @@ fn compact_levels<R: Host>(
     if !task.testing.is_skipped {
         sizes_tested(rt, telling.folder, &opened)?;
     }
-    if is_due(rt.alloc(), &opened.version, task.levels)? {
-        telling.tell_replaceable(rt, &opened.version, &[]);
-        sync(rt, telling.folder, &opened)?;
+    if !is_due(rt.alloc(), &opened.version, task.levels)? {
+        return nothing_compacted(rt, telling, &opened, task);
     }
+    telling.tell_replaceable(rt, &opened.version, &[]);
+    let synced = sync(rt, telling.folder, opened)?;
     match task.levels {
-        Levels::One(level) => compact_one(rt, telling, &opened, level, task),
-        Levels::All => compact_all(rt, telling, opened, task),
+        Levels::One(level) => compact_one(rt, telling, &synced, level, task),
+        Levels::All => compact_all(rt, telling, synced, task),
     }
 }
 
-/// Whether there is a level to compact. If there is none, nothing will be written, so nothing has
-/// to outlive a crash.
+/// What is answered if there is no level to compact. Nothing will be written, so nothing has to
+/// outlive a crash.
+fn nothing_compacted<R: Host>(
+    rt: &R,
+    telling: Telling<'_>,
+    opened: &Opened,
+    task: CompactionTask<'_>,
+) -> Result<(), Refusal> {
+    match task.levels {
+        Levels::One(level) => Err(refusal_of_level(rt, telling, opened, level, task)),
+        Levels::All => {
+            let progress = ProgressLine::new(rt, telling);
+            let (order, version) = (opened.order, &opened.version);
+            let steps = StepPrinter::new(rt, telling, &progress, order, version, task)?;
+            progress.erase();
+            steps.end()
+        }
+    }
+}
+
+/// Why a level without inputs can't be compacted. What a folder was opened as is tested before, if
+/// that is asked for.
+fn refusal_of_level<R: Host>(
+    rt: &R,
+    telling: Telling<'_>,
+    opened: &Opened,
+    level: u64,
+    task: CompactionTask<'_>,
+) -> Refusal {
+    let progress = ProgressLine::new(rt, telling);
+    let workers = checkers(rt, rt.alloc(), &progress);
+    let mut folder = Disk::new(rt, telling.folder);
+    let settings = task.settings;
+    let outcome = if task.testing.is_skipped {
+        outcome_of_inputs(&workers, &mut folder, opened, level, None, settings)
+    } else {
+        let memory = bytes_of(task.testing.memory);
+        outcome_of_opened(&workers, &mut folder, opened, level, None, settings, memory)
+    };
+    progress.erase();
+    match outcome {
+        Ok(_) => Fault::of(FaultName::NoInput).into(),
+        Err(fault) => refused_at(rt, telling.folder, &folder, fault),
+    }
+}
+
+/// Whether there is a level to compact.
 fn is_due(alloc: Global, version: &Version, levels: Levels) -> Result<bool, Fault> {
     match levels {
         Levels::One(level) => {
@@ -97,7 +143,7 @@ fn is_due(alloc: Global, version: &Version, levels: Levels) -> Result<bool, Faul
 fn compact_one<R: Host>(
     rt: &R,
     telling: Telling<'_>,
-    opened: &Opened,
+    opened: &SyncedVersion,
     level: u64,
     task: CompactionTask<'_>,
 ) -> Result<(), Refusal> {
@@ -139,7 +185,7 @@ fn compact_one<R: Host>(
 fn explain_one<R: SystemFiles + Eprint + AllocGlobal>(
     rt: &R,
     folder: &str,
-    before: &Opened,
+    before: &SyncedVersion,
     step: &CompactionStep,
     level: u64,
     ranges: u64,
@@ -164,7 +210,7 @@ fn explain_one<R: SystemFiles + Eprint + AllocGlobal>(
 fn tested_compacted<R: Host>(
     rt: &R,
     telling: Telling<'_>,
-    opened: &Opened,
+    opened: &SyncedVersion,
     level: u64,
     settings: &Settings<'_>,
     memory: u64,
@@ -187,7 +233,7 @@ fn tested_compacted<R: Host>(
 fn inputs_compacted<R: Host>(
     rt: &R,
     telling: Telling<'_>,
-    opened: &Opened,
+    opened: &SyncedVersion,
     level: u64,
     settings: &Settings<'_>,
 ) -> Result<CompactionStep, Refusal> {
@@ -209,11 +255,12 @@ fn inputs_compacted<R: Host>(
 fn compact_all<R: Host>(
     rt: &R,
     telling: Telling<'_>,
-    opened: Opened,
+    opened: SyncedVersion,
     task: CompactionTask<'_>,
 ) -> Result<(), Refusal> {
     let progress = ProgressLine::new(rt, telling);
-    let mut steps = StepPrinter::new(rt, telling, &progress, &opened, task)?;
+    let (order, version) = (opened.order, &opened.version);
+    let mut steps = StepPrinter::new(rt, telling, &progress, order, version, task)?;
     let mut folder = Disk::new(rt, telling.folder);
     let end = descended(rt, &mut folder, opened, task, &mut steps);
     progress.erase();
@@ -227,7 +274,7 @@ fn compact_all<R: Host>(
 fn descended<R: Host>(
     rt: &R,
     folder: &mut Disk<'_, R>,
-    opened: Opened,
+    opened: SyncedVersion,
     task: CompactionTask<'_>,
     steps: &mut StepPrinter<'_, R>,
 ) -> Result<DescentEnd, Fault> {

@@ -6,12 +6,12 @@ use crate::outcome_refusal::outcome_explained;
 use crate::step_printer::{print_step_lines, unprinted};
 use crate::version_sync::sync;
 use adoption::{AdoptionEnd, Comparison, install_outcome};
-use folder::{Disk, Opened};
+use folder::Disk;
 use session::{
     Host, ProgressLine, Refusal, Telling, begin_work, bytes_of, explained, locked_to_change,
     refused_at, sizes_tested, tell_time,
 };
-use store::{CompactionStep, checkers};
+use store::{CompactionStep, SyncedVersion, checkers};
 use usage::{InstallLine, Levels};
 
 /// Installs in a folder the outcome that another one has. The folder is locked before anything is
@@ -43,12 +43,11 @@ pub(crate) fn install_compaction<R: Host>(
 }
 
 /// What a folder is opened as, synced.
-fn opened_to_install<R: Host>(rt: &R, telling: Telling<'_>) -> Result<Opened, Refusal> {
+fn opened_to_install<R: Host>(rt: &R, telling: Telling<'_>) -> Result<SyncedVersion, Refusal> {
     let opened = begin_work(rt, telling)?;
     sizes_tested(rt, telling.folder, &opened)?;
     telling.tell_replaceable(rt, &opened.version, &[]);
-    sync(rt, telling.folder, &opened)?;
-    Ok(opened)
+    sync(rt, telling.folder, opened)
 }
 
 /// Installs an outcome in what a folder was opened as.
@@ -56,7 +55,7 @@ fn outcome_installed<R: Host>(
     rt: &R,
     telling: Telling<'_>,
     line: &InstallLine<'_>,
-    opened: &Opened,
+    opened: &SyncedVersion,
 ) -> Result<CompactionStep, Refusal> {
     let memory = bytes_of(line.testing.memory);
     let comparison = if line.testing.is_skipped {

@@ -9,8 +9,8 @@ use crate::outcome_work::{OutcomeTask, write_compaction};
 use answers::{Told, refusal_json, status};
 use folder::{Fault, FaultName};
 use queries::{
-    merge, print_rows, print_stats, print_table, print_table_verdict, print_value, print_verdict,
-    print_version,
+    merge, print_history, print_rows, print_stats, print_table, print_table_verdict, print_value,
+    print_verdict, print_version,
 };
 use session::{Host, Refusal, RefusalParts, Telling, bytes_of, in_words};
 use std::env::Env;
@@ -111,6 +111,7 @@ fn carry_out<R: Host>(rt: &R, line: &Line<'_>, telling: Telling<'_>) -> Result<(
         Line::Table(line) => print_table_verdict(rt, line),
         Line::Get(line) => print_value(rt, telling, line),
         Line::Scan(line) => print_rows(rt, telling, line),
+        Line::History(line) => print_history(rt, telling, line),
         Line::Job(line) => print_job(rt, telling, line),
         Line::Compact(line) => match line.options.work {
             CompactWork::Installed(levels) => compact_folder(rt, telling, line, levels),
@@ -142,6 +143,7 @@ fn is_json(line: &Line<'_>) -> bool {
         Line::Table(line) => line.is_json,
         Line::Get(line) => line.is_json,
         Line::Scan(line) => line.is_json,
+        Line::History(line) => line.is_json,
         Line::Compact(line) => line.options.is_json,
         _ => false,
     }
@@ -158,6 +160,7 @@ fn subject<'a>(line: &Line<'a>) -> &'a str {
         Line::Table(line) => line.table,
         Line::Get(line) => line.folder,
         Line::Scan(line) => line.folder,
+        Line::History(line) => line.folder,
         Line::Job(line) => line.folder,
         Line::Compact(line) => line.folder,
         Line::Install(line) => line.folder,
@@ -190,6 +193,7 @@ fn memory_of(line: &Line<'_>) -> u64 {
         Line::Verify(line) => line.memory,
         Line::Get(line) => line.testing.memory,
         Line::Scan(line) => line.testing.memory,
+        Line::History(line) => line.testing.memory,
         Line::Compact(line) => line.options.testing.memory,
         Line::Install(line) => line.testing.memory,
         _ => MEMORY,

@@ -8,7 +8,7 @@ use answers::{
     CompactionEnd, FileTotal, account_of, account_text, compaction_json, compaction_lines,
     json_line,
 };
-use folder::{Disk, Fault, FaultName, Opened, Order, SystemFiles, Version};
+use folder::{Disk, Fault, FaultName, Order, SystemFiles, Version};
 use session::{
     Beginning, Host, ProgressLine, Refusal, Telling, Words, in_words, print_lines, tell_time, told,
 };
@@ -56,32 +56,33 @@ impl<'t, R> StepPrinter<'t, R> {
 }
 
 impl<'t, R: Eprint + Clock + AllocGlobal> StepPrinter<'t, R> {
-    /// Who prints the steps from what a folder was opened as. The first one begins.
+    /// Who prints the steps from a version of this order. The first one begins.
     pub fn new(
         rt: &'t R,
         telling: Telling<'t>,
         progress: &'t ProgressLine<'t, R>,
-        opened: &Opened,
+        order: Order,
+        version: &Version,
         task: CompactionTask<'_>,
     ) -> Result<StepPrinter<'t, R>, Fault> {
         let steps = StepPrinter {
             rt,
             telling,
             progress,
-            order: opened.order,
+            order,
             ranges: task.settings.ranges,
             file_size: task.settings.options.file_size,
             is_json: task.is_json,
             cleans: task.cleans,
-            bottom: bottom(rt.alloc(), &opened.version)?,
-            before: version_total(rt.alloc(), &opened.version)?,
+            bottom: bottom(rt.alloc(), version)?,
+            before: version_total(rt.alloc(), version)?,
             after: None,
             has_told_filters: false,
             done: 0,
             begun: telling.begin(rt),
             refusal: None,
         };
-        steps.show_left(&opened.version);
+        steps.show_left(version);
         Ok(steps)
     }
 

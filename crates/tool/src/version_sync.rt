@@ -3,14 +3,14 @@
 use folder::{Disk, Opened, SystemFiles, WholeFiles};
 use session::{Refusal, refused_at};
 use std::thread::Threads;
-use store::sync_version;
+use store::{SyncedVersion, sync_version};
 
 /// Syncs what a folder was opened as, so that it outlives a crash.
 pub(crate) fn sync<R: SystemFiles + WholeFiles + AllocGlobal + Threads>(
     rt: &R,
     path: &str,
-    opened: &Opened,
-) -> Result<(), Refusal> {
+    opened: Opened,
+) -> Result<SyncedVersion, Refusal> {
     let mut folder = Disk::new(rt, path);
     folder.sync_ahead(opened.order, &opened.version, opened.manifest);
     let synced = sync_version(rt.alloc(), &mut folder, opened);

@@ -1,12 +1,13 @@
 -- The commands of the program and their arguments.
 use Rattle.std.specs.Prelude.{List, [], ◌∷◌, Some, codes, map, true}
 use Rattle.clap.specs.Words.{App, Rule, Text, new_app, new_rule, with_rule, with_subcommand}
-use Rattle.clap.specs.declared.builder.action.ArgAction.TheVariants.{SetTrue}
+use Rattle.clap.specs.declared.builder.action.ArgAction.TheVariants.{Append, SetTrue}
 use Rattle.clap.specs.declared.builder.value_parser.ValueParser.TheVariants as parser
 use Rattle.usage.specs.declared.descriptions.CommandName.{CommandName}
 use Rattle.usage.specs.declared.descriptions.CommandName.TheVariants.{Blocks, Clean, Compact, Dump}
-use Rattle.usage.specs.declared.descriptions.CommandName.TheVariants.{Get, Install, Job, Manifest}
-use Rattle.usage.specs.declared.descriptions.CommandName.TheVariants.{Scan, Stats, Verify}
+use Rattle.usage.specs.declared.descriptions.CommandName.TheVariants.{Get, History, Install}
+use Rattle.usage.specs.declared.descriptions.CommandName.TheVariants.{Job, Manifest, Scan, Stats}
+use Rattle.usage.specs.declared.descriptions.CommandName.TheVariants.{Verify}
 
 -- the rule, of an argument that must be given
 abbrev pub wanted : Rule → Rule
@@ -15,6 +16,10 @@ wanted rule = record rule { required = true }
 -- a text that is given by its place, as DIR
 abbrev pub place_rule : Text → Rule
 place_rule id = wanted (new_rule id)
+
+-- texts that are given by their places, as KEY..
+abbrev pub places_rule : Text → Rule
+places_rule id = record (new_rule id) { action = Some Append }
 
 -- a flag, as `--all`
 abbrev pub flag_rule : Text → Rule
@@ -63,13 +68,19 @@ app_of_name Stats = command_app (codes "stats") (place_rule (codes "DIR") ∷ fl
 app_of_name Verify = command_app (codes "verify") (new_rule (codes "DIR")
     ∷ value_rule (codes "table") ∷ flag_rule (codes "json") ∷ flag_rule (codes "all-faults")
     ∷ memory_rule ∷ flag_rule (codes "no-lock") ∷ [])
-app_of_name Get = command_app (codes "get") (place_rule (codes "DIR") ∷ place_rule (codes "KEY")
-    ∷ number_rule (codes "at") ∷ flag_rule (codes "text") ∷ flag_rule (codes "raw")
+app_of_name Get = command_app (codes "get") (place_rule (codes "DIR") ∷ places_rule (codes "KEY")
+    ∷ flag_rule (codes "stdin") ∷ number_rule (codes "at") ∷ flag_rule (codes "text")
+    ∷ flag_rule (codes "utf8") ∷ flag_rule (codes "raw") ∷ flag_rule (codes "json")
+    ∷ flag_rule (codes "no-verify") ∷ memory_rule
+    ∷ flag_rule (codes "no-lock") ∷ [])
+app_of_name History = command_app (codes "history") (place_rule (codes "DIR")
+    ∷ place_rule (codes "KEY") ∷ flag_rule (codes "text") ∷ flag_rule (codes "utf8")
     ∷ flag_rule (codes "json") ∷ flag_rule (codes "no-verify") ∷ memory_rule
     ∷ flag_rule (codes "no-lock") ∷ [])
 app_of_name Scan = command_app (codes "scan") (place_rule (codes "DIR") ∷ value_rule (codes "from")
-    ∷ value_rule (codes "to") ∷ number_rule (codes "at") ∷ number_rule (codes "limit")
-    ∷ flag_rule (codes "keys") ∷ flag_rule (codes "text") ∷ flag_rule (codes "json")
+    ∷ value_rule (codes "to") ∷ value_rule (codes "prefix") ∷ number_rule (codes "at")
+    ∷ number_rule (codes "limit") ∷ flag_rule (codes "keys") ∷ flag_rule (codes "count")
+    ∷ flag_rule (codes "text") ∷ flag_rule (codes "utf8") ∷ flag_rule (codes "json")
     ∷ flag_rule (codes "no-verify") ∷ memory_rule ∷ flag_rule (codes "no-lock") ∷ [])
 app_of_name Manifest = command_app (codes "manifest") (place_rule (codes "DIR")
     ∷ flag_rule (codes "text") ∷ flag_rule (codes "json") ∷ flag_rule (codes "no-lock") ∷ [])
@@ -94,5 +105,5 @@ app_of_name Blocks = command_app (codes "blocks") (place_rule (codes "A") ∷ pl
 
 -- the program with its commands
 abbrev pub program_app : App
-program_app = with_commands (map app_of_name (Stats ∷ Verify ∷ Get ∷ Scan ∷ Manifest ∷ Dump
-    ∷ Compact ∷ Clean ∷ Job ∷ Install ∷ Blocks ∷ [])) bare_app
+program_app = with_commands (map app_of_name (Stats ∷ Verify ∷ Get ∷ Scan ∷ History ∷ Manifest
+    ∷ Dump ∷ Compact ∷ Clean ∷ Job ∷ Install ∷ Blocks ∷ [])) bare_app

@@ -5,9 +5,11 @@ use Rattle.clap.specs.declared.builder.arg.Arg.{Arg}
 use Rattle.clap.specs.declared.builder.command.Command.{Command}
 use Rattle.clap.specs.declared.builder.command.Command.TheViews.{out-Command}
 use Rattle.usage.specs.Apps.{command_app, flag_rule, memory_rule, number_rule, place_rule}
+use Rattle.usage.specs.Apps.{places_rule}
 use Rattle.usage.specs.Apps.{value_rule, wanted}
 use Rattle.usage.specs.declared.argument.Argument.{Argument}
-use Rattle.usage.specs.declared.argument.Argument.TheVariants.{Place, FreePlace, Flag, ShortFlag}
+use Rattle.usage.specs.declared.argument.Argument.TheVariants.{Place, FreePlace, FreePlaces}
+use Rattle.usage.specs.declared.argument.Argument.TheVariants.{Flag, ShortFlag}
 use Rattle.usage.specs.declared.argument.Argument.TheVariants.{Value, WantedValue, Number}
 use Rattle.usage.specs.declared.argument.Argument.TheVariants.{WantedNumber, Memory}
 use Rattle.usage.specs.declared.descriptions.Description.{Description}
@@ -30,6 +32,7 @@ IsArgument rule arg = (rule_of arg ≡ rule) × (arg.global ≡ false)
 abbrev pub rule_of_argument : Argument → Rule
 rule_of_argument (Place id help) = place_rule id.now
 rule_of_argument (FreePlace id help) = new_rule id.now
+rule_of_argument (FreePlaces id help) = places_rule id.now
 rule_of_argument (Flag id help) = flag_rule id.now
 rule_of_argument (ShortFlag id letter help) = record (flag_rule id.now) { short = Some letter }
 rule_of_argument (Value id name help) = value_rule id.now

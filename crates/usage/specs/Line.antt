@@ -3,7 +3,7 @@ use Rattle.std.specs.Prelude.{◌≡◌, List, [], Option, Some, None, codes}
 use Rattle.clap.specs.Words.{Row, Text, fault_of, matches_of, subcommand_of}
 use Rattle.usage.specs.Apps.{program_app}
 use Rattle.usage.specs.CompactLine.{HasCompact, HasInstall}
-use Rattle.usage.specs.KeyLines.{HasBlocks, HasGet, HasScan}
+use Rattle.usage.specs.KeyLines.{HasBlocks, HasGet, HasHistory, HasScan}
 use Rattle.usage.specs.Lines.{HasClean, HasDump, HasJob, HasManifest, HasStats, HasTable}
 use Rattle.usage.specs.Lines.{HasVerify}
 use Rattle.usage.specs.Verbosity.{IsVerbosity, is_flagged_below}
@@ -21,6 +21,7 @@ LineGives name rows (line.Stats stats) = (name ≡ codes "stats") × HasStats st
 LineGives name rows (line.Verify verify) = (name ≡ codes "verify") × HasVerify verify rows
 LineGives name rows (line.Table table) = (name ≡ codes "verify") × HasTable table rows
 LineGives name rows (line.Get get) = (name ≡ codes "get") × HasGet get rows
+LineGives name rows (line.History history) = (name ≡ codes "history") × HasHistory history rows
 LineGives name rows (line.Scan scan) = (name ≡ codes "scan") × HasScan scan rows
 LineGives name rows (line.Job job) = (name ≡ codes "job") × HasJob job rows
 LineGives name rows (line.Compact compact) = (name ≡ codes "compact") × HasCompact compact rows

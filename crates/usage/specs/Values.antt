@@ -17,9 +17,11 @@ is_given id rows = is_some (first_of id rows)
 abbrev pub is_flagged : Text → List Row → Bool
 is_flagged id rows = option_map_or (λ text. bytes_eq text (codes "true")) (first_of id rows) false
 
--- how keys and values are written: as text if `--text` is given, else in hexadecimal digits
+-- how keys and values are written: as UTF-8 if `--utf8` is given, else as text if `--text` is, else
+-- in hexadecimal digits
 abbrev pub spelling_of : List Row → Spelling
-spelling_of rows = if is_flagged (codes "text") rows then way.Text else way.Hexadecimal
+spelling_of rows = if is_flagged (codes "utf8") rows then way.Utf8
+    else if is_flagged (codes "text") rows then way.Text else way.Hexadecimal
 
 -- the text is this number of 64 bits: decimal digits, after a plus sign or none
 abbrev pub IsNumber : Text → ℕ → Type 0

@@ -22,6 +22,8 @@ pub(crate) enum Argument<'a> {
     Place(&'a str, &'a str),
     /// The same, of a text that may be left out.
     FreePlace(&'a str, &'a str),
+    /// The same, of several texts.
+    FreePlaces(&'a str, &'a str),
     /// An option without a value.
     Flag(&'a str, &'a str),
     /// The same, which may also be given as a hyphen and this letter.
@@ -45,6 +47,9 @@ pub(crate) fn arg_of<'a>(alloc: Global, argument: Argument<'a>) -> Arg<'a>
     match argument {
         Argument::Place(id, help) => Arg::new(alloc, id).help(help).required(true),
         Argument::FreePlace(id, help) => Arg::new(alloc, id).help(help),
+        Argument::FreePlaces(id, help) => {
+            Arg::new(alloc, id).help(help).action(ArgAction::Append)
+        }
         Argument::Flag(id, help) => flag(alloc, id, help),
         Argument::ShortFlag(id, letter, help) => flag(alloc, id, help).short(letter),
         Argument::Value(id, name, help) => value(alloc, id, name, help),

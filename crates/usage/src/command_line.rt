@@ -6,7 +6,7 @@ ghost use Rattle.usage.specs.Line.{CommandLineGives, IsRead, LineGives, LineOf};
 
 use crate::commands::{program_command, ruled_command};
 use crate::compact_line::{compact_line, install_line};
-use crate::key_lines::{blocks_line, get_line, scan_line};
+use crate::key_lines::{blocks_line, get_line, history_line, scan_line};
 use crate::lines::{
     clean_line, dump_line, job_line, manifest_line, stats_line, table_line, verify_line,
 };
@@ -96,6 +96,7 @@ fn line_in<'a>(
         "verify" if is_given(values, "table") => Ok(Line::Table(table_line(values)?)),
         "verify" => Ok(Line::Verify(verify_line(values)?)),
         "get" => Ok(Line::Get(get_line(alloc, values)?)),
+        "history" => Ok(Line::History(history_line(alloc, values)?)),
         "scan" => Ok(Line::Scan(scan_line(alloc, values)?)),
         "manifest" => Ok(Line::Manifest(manifest_line(values)?)),
         "dump" => Ok(Line::Dump(dump_line(values)?)),

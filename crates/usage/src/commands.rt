@@ -8,8 +8,8 @@ ghost use Rattle.usage.specs.Commands.{rule_of_argument};
 
 use crate::argument::{Argument, arg_of};
 use crate::descriptions::{
-    BLOCKS, CLEAN, COMMANDS, COMPACT, CommandName, DUMP, Description, GET, INSTALL, JOB, MANIFEST,
-    SCAN, STATS, VERBOSITY, VERBOSITY_RULES, VERIFY,
+    BLOCKS, CLEAN, COMMANDS, COMPACT, CommandName, DUMP, Description, GET, HISTORY, INSTALL, JOB,
+    MANIFEST, SCAN, STATS, VERBOSITY, VERBOSITY_RULES, VERIFY,
 };
 use crate::rule::with_rules;
 use clap::Command;
@@ -66,6 +66,7 @@ fn description_of(name: CommandName) -> Description<'static>
         CommandName::Stats => STATS,
         CommandName::Verify => VERIFY,
         CommandName::Get => GET,
+        CommandName::History => HISTORY,
         CommandName::Scan => SCAN,
         CommandName::Manifest => MANIFEST,
         CommandName::Dump => DUMP,

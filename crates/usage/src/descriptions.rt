@@ -26,6 +26,7 @@ pub(crate) enum CommandName {
     Verify,
     Get,
     Scan,
+    History,
     Manifest,
     Dump,
     Compact,
@@ -41,6 +42,7 @@ pub(crate) const COMMANDS: &[CommandName] = &[
     CommandName::Verify,
     CommandName::Get,
     CommandName::Scan,
+    CommandName::History,
     CommandName::Manifest,
     CommandName::Dump,
     CommandName::Compact,
@@ -71,6 +73,13 @@ const FOLDER: Argument<'static> = Argument::Place("DIR", "The folder of the data
 const TEXT: Argument<'static> = Argument::Flag(
     "text",
     "Keys and values are text: printable ASCII, and \\xHH\nfor every other byte",
+);
+
+const UTF8: Argument<'static> = Argument::Flag(
+    "utf8",
+    "Keys and values that are UTF-8 are printed as they\n\
+        are: in JSON wholly, in lines but for ASCII that is not\n\
+        printable; keys are given as with --text",
 );
 
 const JSON: Argument<'static> = Argument::Flag(
@@ -164,28 +173,35 @@ Examples: sedvokt verify DIR
 
 pub(crate) const GET: Description<'static> = Description {
     name: "get",
-    about: "Prints the value of a key, or none",
-    examples: "Prints the value in a line; none if the key has no value.
+    about: "Prints the value of a key, or none; of several keys too",
+    examples: "Prints the value in a line; none if the key has no value. Of several keys, or
+of those in standard input, it prints a line each: KEY VALUE, or KEY none
 
 Examples: sedvokt get DIR k00001 --text
+          sedvokt get DIR k00001 k00002 --text
           sedvokt get DIR 6b3030303031 --at 900
           sedvokt get DIR k00001 --text --no-verify --raw
           sedvokt get DIR k00001 --text --json",
     arguments: &[
         FOLDER,
-        Argument::Place(
+        Argument::FreePlaces(
             "KEY",
-            "The user key: hexadecimal digits, or - for the empty key; text with\n--text",
+            "The user keys: hexadecimal digits, or - for the empty key; text with\n--text",
         ),
+        Argument::Flag("stdin", "The keys are in standard input, one a line"),
         SEQUENCE,
         TEXT,
+        UTF8,
         Argument::Flag("raw", "Prints the bytes of the value, nothing around them"),
         JSON,
         NO_VERIFY,
         Argument::Memory,
         NO_LOCK,
     ],
-    rules: &[Rule::AtMostOne("form", &["raw", "json"])],
+    rules: &[
+        Rule::One("keys", &["KEY", "stdin"]),
+        Rule::AtMostOne("form", &["raw", "json"]),
+    ],
 };
 
 pub(crate) const SCAN: Description<'static> = Description {
@@ -195,6 +211,7 @@ pub(crate) const SCAN: Description<'static> = Description {
 
 Examples: sedvokt scan DIR --text --limit 10
           sedvokt scan DIR --from k00001 --to k00005 --text
+          sedvokt scan DIR --prefix k0003 --text --count
           sedvokt scan DIR --from 6b3030303031 --at 900 --keys",
     arguments: &[
         FOLDER,
@@ -209,6 +226,12 @@ Examples: sedvokt scan DIR --text --limit 10
             "KEY",
             "The user key before which the scan ends, written in\nthe same way",
         ),
+        Argument::Value(
+            "prefix",
+            "KEY",
+            "What each key begins with, written in the same way,\n\
+                in place of --from and --to",
+        ),
         SEQUENCE,
         Argument::Number(
             "limit",
@@ -216,7 +239,36 @@ Examples: sedvokt scan DIR --text --limit 10
             "At most how many keys are printed, in decimal digits",
         ),
         Argument::Flag("keys", "Prints the keys alone"),
+        Argument::Flag("count", "Prints how many keys there are, and none of them"),
         TEXT,
+        UTF8,
+        JSON,
+        NO_VERIFY,
+        Argument::Memory,
+        NO_LOCK,
+    ],
+    rules: &[
+        Rule::AtMostOne("prefix or from", &["prefix", "from"]),
+        Rule::AtMostOne("prefix or to", &["prefix", "to"]),
+        Rule::AtMostOne("printed", &["keys", "count"]),
+    ],
+};
+
+pub(crate) const HISTORY: Description<'static> = Description {
+    name: "history",
+    about: "Prints all entries of a key, the newest first",
+    examples: "Prints a line an entry: LEVEL FILE SEQUENCE put VALUE, or LEVEL FILE SEQUENCE
+del; nothing if there is none.
+
+Example: sedvokt history DIR k00001 --text",
+    arguments: &[
+        FOLDER,
+        Argument::Place(
+            "KEY",
+            "The user key: hexadecimal digits, or - for the empty key; text with\n--text",
+        ),
+        TEXT,
+        UTF8,
         JSON,
         NO_VERIFY,
         Argument::Memory,

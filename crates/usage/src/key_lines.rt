@@ -3,12 +3,15 @@
 ghost use Rattle.std.specs.Prelude.{◌≡◌, IfOk, Some};
 ghost use Rattle.clap.specs.Words.{found_of, rows_of};
 ghost use Rattle.texts.specs.Text.{bytes_of_text};
-ghost use Rattle.usage.specs.KeyLines.{HasBlocks, HasGet, HasRowOptions, HasScan};
+ghost use Rattle.usage.specs.KeyLines.{HasBlocks, HasGet, HasHistory, HasKeys, HasRowOptions};
+ghost use Rattle.usage.specs.KeyLines.{HasRowOutput, HasScan, gives_bound};
 
-use crate::keys::{bound_in, key_in};
-use crate::requests::{BlocksLine, GetLine, RowOptions, ScanLine, Usage};
+use crate::keys::{bound_in, key_in, keys_in};
+use crate::requests::{
+    BlocksLine, GetLine, HistoryLine, KeySource, RowOptions, RowOutput, ScanLine, Usage,
+};
 use crate::values::{
-    Unread, first_text, is_flagged, needed_text, number_given, spelling_given, testing_of,
+    Unread, first_text, is_flagged, is_given, needed_text, number_given, spelling_given, testing_of,
 };
 use clap::ArgMatches;
 use std::alloc::Global;
@@ -41,7 +44,7 @@ fn block_key(alloc: Global, text: &str) -> Result<Vec<u8>, Unread>
     }
 }
 
-/// What is given to `get`. Hexadecimal or Text if the text of its key stands for no bytes.
+/// What is given to `get`. Hexadecimal or Text if the text of a key stands for no bytes.
 pub(crate) fn get_line<'a>(alloc: Global, values: &ArgMatches<'a>) -> Result<GetLine<'a>, Unread>
     ensures { IfOk result (λ line. HasGet line (rows_of (found_of values.now))) }
 {
@@ -53,11 +56,43 @@ pub(crate) fn get_line<'a>(alloc: Global, values: &ArgMatches<'a>) -> Result<Get
     }
     Ok(GetLine {
         folder: needed_text(values, "DIR")?,
-        key: key_in(alloc, spelling, needed_text(values, "KEY")?)?,
+        keys: key_source(alloc, spelling, values)?,
         at: number_given(values, "at")?,
         spelling,
         is_raw,
         is_json,
+        testing: testing_of(values)?,
+    })
+}
+
+/// Where the keys of `get` are. Rules unless either keys are given or `--stdin`.
+fn key_source(
+    alloc: Global,
+    spelling: Spelling,
+    values: &ArgMatches<'_>,
+) -> Result<KeySource, Unread>
+    ensures { IfOk result (λ keys. HasKeys spelling keys (rows_of (found_of values.now))) }
+{
+    match (values.get_strs("KEY"), is_flagged(values, "stdin")) {
+        (Some(texts), false) => Ok(KeySource::Given(keys_in(alloc, spelling, texts)?)),
+        (None, true) => Ok(KeySource::Input),
+        _ => Err(Unread::Rules),
+    }
+}
+
+/// What is given to `history`. Hexadecimal or Text if the text of its key stands for no bytes.
+pub(crate) fn history_line<'a>(
+    alloc: Global,
+    values: &ArgMatches<'a>,
+) -> Result<HistoryLine<'a>, Unread>
+    ensures { IfOk result (λ line. HasHistory line (rows_of (found_of values.now))) }
+{
+    let spelling = spelling_given(values);
+    Ok(HistoryLine {
+        folder: needed_text(values, "DIR")?,
+        key: key_in(alloc, spelling, needed_text(values, "KEY")?)?,
+        spelling,
+        is_json: is_flagged(values, "json"),
         testing: testing_of(values)?,
     })
 }
@@ -70,13 +105,33 @@ pub(crate) fn scan_line<'a>(alloc: Global, values: &ArgMatches<'a>) -> Result<Sc
     Ok(ScanLine {
         folder: needed_text(values, "DIR")?,
         rows: row_options(alloc, spelling, values)?,
+        output: row_output(values)?,
         spelling,
         is_json: is_flagged(values, "json"),
         testing: testing_of(values)?,
     })
 }
 
-/// Which rows a scan prints.
+/// What a scan prints of its rows.
+fn row_output(values: &ArgMatches<'_>) -> Result<RowOutput, Unread>
+    ensures { IfOk result (λ output. HasRowOutput output (rows_of (found_of values.now))) }
+{
+    match (is_flagged(values, "keys"), is_flagged(values, "count")) {
+        (false, false) => Ok(RowOutput::Pairs),
+        (true, false) => Ok(RowOutput::Keys),
+        (false, true) => Ok(RowOutput::Count),
+        (true, true) => Err(Unread::Rules),
+    }
+}
+
+/// Whether a bound of a scan is given.
+fn gives_bound(values: &ArgMatches<'_>) -> bool
+    ensures { result ≡ gives_bound (rows_of (found_of values.now)) }
+{
+    is_given(values, "from") || is_given(values, "to")
+}
+
+/// Which rows a scan prints. Rules if a prefix is given, and a bound too.
 fn row_options(
     alloc: Global,
     spelling: Spelling,
@@ -85,11 +140,14 @@ fn row_options(
     ensures { IfOk result
         (λ options. HasRowOptions spelling options (rows_of (found_of values.now))) }
 {
+    if is_given(values, "prefix") && gives_bound(values) {
+        return Err(Unread::Rules);
+    }
     Ok(RowOptions {
         from: bound_in(alloc, spelling, first_text(values, "from"))?,
         to: bound_in(alloc, spelling, first_text(values, "to"))?,
+        prefix: bound_in(alloc, spelling, first_text(values, "prefix"))?,
         at: number_given(values, "at")?,
         limit: number_given(values, "limit")?,
-        with_values: !is_flagged(values, "keys"),
     })
 }

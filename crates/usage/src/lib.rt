@@ -7,9 +7,11 @@
 //!     stats DIR [--text] [--json] [--memory MIB] [--no-lock]
 //!     verify DIR [--json | --all-faults] [--memory MIB] [--no-lock]
 //!     verify --table FILE [--json]
-//!     get DIR KEY [--at N] [--text] [--raw | --json] [--no-verify] [--memory MIB] [--no-lock]
-//!     scan DIR [--from KEY] [--to KEY] [--at N] [--limit N] [--keys] [--text] [--json]
-//!         [--no-verify] [--memory MIB] [--no-lock]
+//!     get DIR KEY.. | --stdin [--at N] [--text] [--utf8] [--raw | --json] [--no-verify]
+//!         [--memory MIB] [--no-lock]
+//!     scan DIR [--from KEY] [--to KEY] [--prefix KEY] [--at N] [--limit N] [--keys | --count]
+//!         [--text] [--utf8] [--json] [--no-verify] [--memory MIB] [--no-lock]
+//!     history DIR KEY [--text] [--utf8] [--json] [--no-verify] [--memory MIB] [--no-lock]
 //!     manifest DIR [--text] [--json] [--no-lock]
 //!     dump TABLE [--text]
 //!     compact DIR (--level N | --all) [options]
@@ -44,6 +46,6 @@ pub use command_line::line;
 pub use compact::Settings;
 pub use requests::{
     BlocksLine, CleanLine, CommandLine, CompactLine, CompactOptions, CompactWork, DumpLine,
-    GetLine, InstallLine, JobLine, Levels, Line, ManifestLine, RowOptions, ScanLine, StatsLine,
-    TableLine, Testing, Usage, Verbosity, VerdictForm, VerifyLine,
+    GetLine, HistoryLine, InstallLine, JobLine, KeySource, Levels, Line, ManifestLine, RowOptions,
+    RowOutput, ScanLine, StatsLine, TableLine, Testing, Usage, Verbosity, VerdictForm, VerifyLine,
 };

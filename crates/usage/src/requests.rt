@@ -42,8 +42,10 @@ pub enum Line<'a> {
     Verify(VerifyLine<'a>),
     /// Checks whether a file is a table.
     Table(TableLine<'a>),
-    /// Prints the value of a user key at a sequence.
+    /// Prints the values of user keys at a sequence.
     Get(GetLine<'a>),
+    /// Prints all entries of a user key.
+    History(HistoryLine<'a>),
     /// Prints the user keys that have a value at a sequence, in their order.
     Scan(ScanLine<'a>),
     /// Prints the names of the files that a compaction of a level would read.
@@ -127,15 +129,39 @@ pub struct TableLine<'a> {
 pub struct GetLine<'a> {
     /// The path of the folder.
     pub folder: &'a str,
-    /// The user key.
-    pub key: Vec<u8>,
+    /// The user keys.
+    pub keys: KeySource,
     /// The sequence, any number. Without it, the version's last sequence.
     pub at: Option<u64>,
-    /// How the key was given and the value is printed.
+    /// How keys are given and values are printed.
     pub spelling: Spelling,
-    /// Whether the bytes of the value are printed themselves.
+    /// Whether the bytes of the values are printed themselves.
     pub is_raw: bool,
-    /// Whether key and value are printed as JSON. At most one of the two is asked for.
+    /// Whether keys and values are printed as JSON. At most one of the two is asked for.
+    pub is_json: bool,
+    /// How the version is tested before.
+    pub testing: Testing,
+}
+
+/// Where the keys of `get` are.
+#[derive(Drop)]
+pub enum KeySource {
+    /// These are given.
+    Given(Vec<Vec<u8>>),
+    /// They are in the standard input, one a line.
+    Input,
+}
+
+/// What is asked for of `history`.
+#[derive(Drop)]
+pub struct HistoryLine<'a> {
+    /// The path of the folder.
+    pub folder: &'a str,
+    /// The user key.
+    pub key: Vec<u8>,
+    /// How the key was given, and how values are printed.
+    pub spelling: Spelling,
+    /// Whether entries are printed as JSON.
     pub is_json: bool,
     /// How the version is tested before.
     pub testing: Testing,
@@ -146,8 +172,10 @@ pub struct GetLine<'a> {
 pub struct ScanLine<'a> {
     /// The path of the folder.
     pub folder: &'a str,
-    /// Which keys are printed, and whether with their values.
+    /// Which keys are printed.
     pub rows: RowOptions,
+    /// What is printed of them.
+    pub output: RowOutput,
     /// How keys were given, and how keys and values are printed.
     pub spelling: Spelling,
     /// Whether they are printed as JSON.
@@ -212,6 +240,17 @@ pub enum VerdictForm {
     AllFaults,
 }
 
+/// What a scan prints of its rows.
+#[derive(Clone, Copy, PartialEq, Eq)]
+pub enum RowOutput {
+    /// Each key and its value.
+    Pairs,
+    /// The keys alone.
+    Keys,
+    /// How many there are.
+    Count,
+}
+
 /// Which rows a scan prints.
 #[derive(Drop)]
 pub struct RowOptions {
@@ -219,12 +258,12 @@ pub struct RowOptions {
     pub from: Option<Vec<u8>>,
     /// The user key before which the scan ends. Without it, the scan ends with the last one.
     pub to: Option<Vec<u8>>,
+    /// What each user key begins with. With it, neither of the two is given.
+    pub prefix: Option<Vec<u8>>,
     /// The sequence, any number. Without it, the version's last sequence.
     pub at: Option<u64>,
     /// At most how many rows are printed, any number. Without it, all.
     pub limit: Option<u64>,
-    /// Whether each key has its value beside it.
-    pub with_values: bool,
 }
 
 /// What is asked for of `compact` beside its settings.
@@ -283,9 +322,10 @@ pub enum Levels {
 pub enum Usage {
     /// The text of the key of `blocks` is no hexadecimal digits.
     Key,
-    /// The text of a key of `get` or `scan` is no hexadecimal digits, and `--text` isn't given.
+    /// The text of a key of `get`, `history` or `scan` is no hexadecimal digits, and neither
+    /// `--text` nor `--utf8` is given.
     Hexadecimal,
-    /// The text of a key of `get` or `scan` stands for no bytes, and `--text` is given.
+    /// The text of a key of `get`, `history` or `scan` stands for no bytes, and one of them is given.
     Text,
     /// The text of a list of snapshots, of `compact` or `install`, is no list of numbers.
     Snapshots,

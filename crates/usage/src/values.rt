@@ -103,11 +103,13 @@ pub(crate) fn testing_of(values: &ArgMatches<'_>) -> Result<Testing, Unread>
     })
 }
 
-/// How keys and values are written: as text if `--text` is given.
+/// How keys and values are written: as UTF-8 if `--utf8` is given, else as text if `--text` is.
 pub(crate) fn spelling_given(values: &ArgMatches<'_>) -> Spelling
     ensures { result ≡ spelling_of (rows_of (found_of values.now)) }
 {
-    if is_flagged(values, "text") {
+    if is_flagged(values, "utf8") {
+        Spelling::Utf8
+    } else if is_flagged(values, "text") {
         Spelling::Text
     } else {
         Spelling::Hexadecimal

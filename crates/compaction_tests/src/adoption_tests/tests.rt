@@ -9,7 +9,7 @@ use folder::{Shelf, open};
 use std::alloc::Global;
 use std::test::*;
 use std::thread::Threads;
-use store::{CompactionStep, Open, checkers};
+use store::{CompactionStep, Open, SyncedVersion, checkers, sync_version};
 
 /// How many bytes of tables are held while a version is tested.
 const MEMORY: u64 = 1_073_741_824;
@@ -50,6 +50,12 @@ fn holds(folder: &Shelf<'_>, files: Files) -> bool {
     true
 }
 
+/// What a folder is opened as, synced.
+fn synced(alloc: Global, folder: &mut Shelf<'_>) -> Result<SyncedVersion, Fault> {
+    let opened = open(alloc, folder)?;
+    sync_version(alloc, folder, opened)
+}
+
 /// Installs the outcome of a row in a folder.
 fn installed<'f, R: Threads + Sync>(
     rt: &R,
@@ -59,7 +65,7 @@ fn installed<'f, R: Threads + Sync>(
 ) -> AdoptionEnd<Shelf<'f>> {
     let mut folder = folder;
     let mut source = Shelf::new(alloc, row.outcome);
-    match open(alloc, &mut folder) {
+    match synced(alloc, &mut folder) {
         Ok(opened) => {
             let comparison = row.comparison;
             install_outcome(

@@ -16,7 +16,7 @@ use std::test::*;
 use std::thread::Threads;
 use store::{
     CompactionStep, DescentEnd, InstallWatch, Open, Settings, checkers, compact_all, compact_dir,
-    compact_inputs, opened_after,
+    compact_inputs, opened_after, sync_version,
 };
 
 /// How many bytes of tables are held while a version is tested.
@@ -114,6 +114,7 @@ fn is_known_after<R: Threads + Sync + Abort>(rt: &R, alloc: Global, row: &Row) -
     let files = files_of(row);
     let mut folder = Shelf::new(alloc, &files);
     let opened = open(alloc, &mut folder).expect(rt, "an open folder");
+    let opened = sync_version(alloc, &mut folder, opened).expect(rt, "a sync");
     let settings = &row.settings;
     let step = compact_inputs(
         &checkers(rt, alloc, &Open),
@@ -123,7 +124,9 @@ fn is_known_after<R: Threads + Sync + Abort>(rt: &R, alloc: Global, row: &Row) -
         settings,
     )
     .expect(rt, "a compaction");
-    let after = opened_after(alloc, &opened, &step).expect(rt, "memory");
+    let after = opened_after(alloc, &opened, &step)
+        .expect(rt, "memory")
+        .into_opened();
     let again = open(alloc, &mut folder).expect(rt, "an open folder");
     is_answer(&step_lines(alloc, &step), row.answer)
         && holds(&folder, row.left)
@@ -177,6 +180,7 @@ fn descent<R: Threads + Sync>(
     told: &mut Collected,
 ) -> Result<DescentEnd, Fault> {
     let opened = open(alloc, folder)?;
+    let opened = sync_version(alloc, folder, opened)?;
     compact_all(
         &checkers(rt, alloc, &Open),
         folder,

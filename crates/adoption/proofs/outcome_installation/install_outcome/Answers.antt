@@ -9,7 +9,7 @@ use Rattle.adoption.specs.Adoption.{IsInstalledFrom}
 use Rattle.adoption.specs.AdoptionLeft.{IsAdoptionLeft}
 use Rattle.adoption.specs.AdoptionRuns.{IsAdoptionRun}
 use Rattle.adoption.specs.BothFolders.{AnswersFrom, HasEitherFailed}
-use Rattle.folder.proofs.Changes.{change_by}
+use Rattle.install.proofs.Changes.{change_by}
 use Rattle.install.specs.Install.{version_with}
 use Rattle.adoption.proofs.outcome_installation.install_outcome.Goals as goal
 

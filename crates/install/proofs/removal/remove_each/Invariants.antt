@@ -2,7 +2,7 @@ use Rattle.std.proofs.Common.{◌≡◌, Ok, map, take}
 use Rattle.folder.specs.Calls.{Removed}
 use Rattle.folder.specs.declared.folder.FolderFault.{FolderFault}
 use Rattle.install.specs.Removal.{IsToldRemoval}
-use Rattle.folder.proofs.Changes.{change_by}
+use Rattle.install.proofs.Changes.{change_by}
 use Rattle.install.proofs.removal.remove_each.Given as goal
 
 -- the files of the names so far were removed, and told

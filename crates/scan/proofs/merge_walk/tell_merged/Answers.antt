@@ -11,6 +11,7 @@ use Rattle.scan.specs.RowParts.{AreTelling, IsRowPart}
 use Rattle.scan.specs.declared.row_limit.RowLimit.{RowLimit}
 use Rattle.scan.proofs.MergedRows.{at_end, begun_after, merged_rows, walked_begun, walked_enough, walked_left, walked_more}
 use Rattle.scan.proofs.Told.{handed_begun, none_told, refused_first}
+use Rattle.scan.specs.ToldRows.{telling_by}
 use Rattle.scan.proofs.merge_walk.tell_merged.Goals as goal
 
 pub returns-in_err-skip_before-clause-told : goal.returns-in_err-skip_before-clause-told
@@ -32,7 +33,7 @@ loop-merging-init g c =
     ∙ ap (rows_after at None) (sym c.in_ok-skip_before.ensures.same)
     ∙ ap (λ (d : Option (List ℕ)). rows_after at d (entries_in cmp range (merged cmp c.skip_before.new.merging))) (sym c.none-decided.ensures) in
     record {
-      part = subst (λ (rs : List Row). IsRowPart tells rows taker c.args.limit rs taker c.args.limit true) start (none_told tells rows taker taker c.args.limit refl);
+      part = subst (λ (rs : List Row). IsRowPart (telling_by tells taker taker) rows c.args.limit rs c.args.limit true) start (none_told tells rows taker taker c.args.limit refl);
       after = begun_after cmp g.met.C.Comparator.total range c.skip_before.new.merging c.in_ok-skip_before.ensures.begun;
       wanted = c.requires;
     }
@@ -114,5 +115,5 @@ returns-clause-told g c =
     let now = c.loop-merging in
     let none = at_end cmp g.met.C.Comparator.total range now.merging now.invariant.after (sym c.starts_before.ensures ∙ c.loop-merging-test.false) in (
       now.invariant.wanted,
-      subst (λ (es : List Entry). IsRowPart tells (sorted_rows cmp range at c.args.merging.now) c.args.taker.now c.args.limit (rows_after at now.decided es) now.taker now.left true) none now.invariant.part,
+      subst (λ (es : List Entry). IsRowPart (telling_by tells c.args.taker.now now.taker) (sorted_rows cmp range at c.args.merging.now) c.args.limit (rows_after at now.decided es) now.left true) none now.invariant.part,
     )

@@ -17,6 +17,7 @@ use Rattle.scan.specs.EntryRows.{file_rows, rows_after}
 use Rattle.scan.specs.RowParts.{AreTelling, IsRowPart}
 use Rattle.scan.proofs.ScanAnswers.{found_rows, memory_handed, memory_stopped, never_unfound, stopped_or}
 use Rattle.scan.proofs.Told.{handed_begun, none_told, refused_first}
+use Rattle.scan.specs.ToldRows.{telling_by}
 use Rattle.scan.proofs.range_scan.tell_range.Goals as goal
 
 abbrev now_of : Bor FileMeta → FileMeta
@@ -41,7 +42,7 @@ returns-then-is_none-clause-told g c files next tables told are own =
     let taker = c.args.taker.now in
     let none = c.is_empty-is_none.ensures c.if-is_none.true (entries_of_lists (lists_of_files tables (map now_of c.args.standing.now))) in (
       c.is_done-is_over.ensures.wanted c.if-is_over.false,
-      subst (λ (rs : List Row). IsRowPart tells rs taker c.args.rows.limit [] taker c.args.rows.limit true) (sym (ap (λ (es : List Entry). rows_after at None (sorted_entries cmp es)) none)) (none_told tells [] taker taker c.args.rows.limit refl),
+      subst (λ (rs : List Row). IsRowPart (telling_by tells taker taker) rs c.args.rows.limit [] c.args.rows.limit true) (sym (ap (λ (es : List Entry). rows_after at None (sorted_entries cmp es)) none)) (none_told tells [] taker taker c.args.rows.limit refl),
     )
 
 pub returns-in_err-needed-clause-told : goal.returns-in_err-needed-clause-told

@@ -15,6 +15,7 @@ use Rattle.scan.specs.declared.row_limit.RowLimit.{RowLimit}
 use Rattle.scan.proofs.RangeSteps.{ranges_begun, ranges_end, ranges_enough, ranges_more}
 use Rattle.scan.proofs.ScanAnswers.{stopped_handed}
 use Rattle.scan.proofs.Told.{handed_scanned, none_told}
+use Rattle.scan.specs.ToldRows.{telling_by}
 use Rattle.scan.proofs.range_scan.tell_ranges.Goals as goal
 
 abbrev now_of : Bor FileMeta → FileMeta
@@ -24,10 +25,10 @@ pub loop-number-init : goal.loop-number-init
 loop-number-init g c = record {
   told = λ files next tables told are.
       let all : ℕ = length c.args.split.now + 1 in
-      let rows = rows_from g.C.Comparator.cmp tables (map now_of c.args.standing.now) c.args.rows.at (key_range c.args.rows.range) c.args.split.now 0 in
+      let rows = rows_from (file_rows g.C.Comparator.cmp tables (map now_of c.args.standing.now) c.args.rows.at) g.C.Comparator.cmp (key_range c.args.rows.range) c.args.split.now 0 in
       let taker = c.args.taker.now in
       let same : all ≡ all - 0 = omega arith in
-      subst (λ (n : ℕ). IsRowPart g.T.RowTaker.tells (rows all) taker c.args.rows.limit (rows n) taker c.args.rows.limit true) same (none_told g.T.RowTaker.tells (rows all) taker taker c.args.rows.limit refl);
+      subst (λ (n : ℕ). IsRowPart (telling_by g.T.RowTaker.tells taker taker) (rows all) c.args.rows.limit (rows n) c.args.rows.limit true) same (none_told g.T.RowTaker.tells (rows all) taker taker c.args.rows.limit refl);
   held = λ files told. subst (AreHeldIn g.C.Comparator.cmp files) (sym c.none-held.ensures) (All-nil (λ (t : NumberedContents). IsTableIn g.C.Comparator.cmp files t.number t.contents));
   reads = record { same = λ name held. (λ h. h, λ h. h); calls = refl };
   failures = refl;
@@ -49,7 +50,7 @@ loop-number-preserved g c =
     let is = c.common_range-part.ensures ∙ ap (common_of cmp range) c.range.ensures.bounds in
     record {
       told = λ files next tables told are.
-          ranges_more cmp tables standing c.args.rows.at range boundaries all telling (rows_from cmp tables standing c.args.rows.at range boundaries 0 all) c.args.taker.now now.taker c.tell_range.new.taker c.args.rows.limit now.left n (now.invariant.told files next tables told are) part (omega (arith, c.len-number-end.ensures.number)) is c.in-More.less
+          ranges_more cmp tables standing c.args.rows.at range boundaries all telling (rows_from (file_rows cmp tables standing c.args.rows.at) cmp range boundaries 0 all) c.args.taker.now now.taker c.tell_range.new.taker c.args.rows.limit now.left n (now.invariant.told files next tables told are) part (omega (arith, c.len-number-end.ensures.number)) is c.in-More.less
           (subst (λ (w : RowLimit). AreTelling telling (file_rows cmp tables standing c.args.rows.at part) now.taker now.left c.tell_range.new.taker (Ok w)) c.in-More.is
           (c.in_ok-wanted.ensures.told files next tables (told_still (tells c.args.folder.now) (tells now.folder) files now.invariant.reads.same told) are (now.invariant.held files told)));
       held = λ files told. c.in_ok-wanted.ensures.held files (told_still (tells c.args.folder.now) (tells now.folder) files now.invariant.reads.same told) (now.invariant.held files told);
@@ -68,7 +69,7 @@ returns-in_err-wanted-clause-told g c files next tables told are =
     let now = c.loop-number in
     let range = key_range c.args.rows.range in
     let part = key_range c.common_range-part.result in
-    let rows = rows_from cmp tables standing c.args.rows.at range boundaries 0 all in
+    let rows = rows_from (file_rows cmp tables standing c.args.rows.at) cmp range boundaries 0 all in
     let is = c.common_range-part.ensures ∙ ap (common_of cmp range) c.range.ensures.bounds in
     handed_scanned telling rows c.args.taker.now c.tell_range.new.taker c.args.rows.limit c.from_residual.result c.in_err-wanted.field-0.0 c.from_residual.ensures.1
     (ranges_begun cmp tables standing c.args.rows.at range boundaries all telling rows c.args.taker.now now.taker c.tell_range.new.taker c.args.rows.limit now.left now.number (now.invariant.told files next tables told are) part (omega (arith, c.len-number-end.ensures.number)) is
@@ -95,7 +96,7 @@ returns-in_default-clause-told g c files next tables told are =
     let part = key_range c.common_range-part.result in
     let is = c.common_range-part.ensures ∙ ap (common_of cmp range) c.range.ensures.bounds in
     inl
-    (ranges_enough cmp tables standing c.args.rows.at range boundaries all telling (rows_from cmp tables standing c.args.rows.at range boundaries 0 all) c.args.taker.now now.taker c.tell_range.new.taker c.args.rows.limit now.left now.number (now.invariant.told files next tables told are) part (omega (arith, c.len-number-end.ensures.number)) is
+    (ranges_enough cmp tables standing c.args.rows.at range boundaries all telling (rows_from (file_rows cmp tables standing c.args.rows.at) cmp range boundaries 0 all) c.args.taker.now now.taker c.tell_range.new.taker c.args.rows.limit now.left now.number (now.invariant.told files next tables told are) part (omega (arith, c.len-number-end.ensures.number)) is
     (subst (λ (w : RowLimit). AreTelling telling (file_rows cmp tables standing c.args.rows.at part) now.taker now.left c.tell_range.new.taker (Ok w)) c.in_default.is
     (c.in_ok-wanted.ensures.told files next tables (told_still (tells c.args.folder.now) (tells now.folder) files now.invariant.reads.same told) are (now.invariant.held files told))))
 
@@ -109,7 +110,7 @@ returns-clause-told g c files next tables told are =
     let n : ℕ = now.number in
     let range = key_range c.args.rows.range in
     let end : all ≡ n = omega (arith, c.loop-number-test.false, now.auto.number-end, c.len-number-end.ensures.number) in
-    inr (now.left, ranges_end cmp tables standing c.args.rows.at range boundaries all g.T.RowTaker.tells (rows_from cmp tables standing c.args.rows.at range boundaries 0 all) c.args.taker.now now.taker now.taker c.args.rows.limit now.left n (now.invariant.told files next tables told are) end)
+    inr (now.left, ranges_end cmp tables standing c.args.rows.at range boundaries all g.T.RowTaker.tells (rows_from (file_rows cmp tables standing c.args.rows.at) cmp range boundaries 0 all) c.args.taker.now now.taker now.taker c.args.rows.limit now.left n (now.invariant.told files next tables told are) end)
 
 pub returns-clause-cover : goal.returns-clause-cover
 returns-clause-cover g c = covers g.C.Comparator.cmp (g.met.C.Comparator g.world.𝓛 g.world.𝓜 g.world.𝓡 ((λ s x. x), (λ x. x), (λ x. x), λ x. x)).total c.args.split.now c.len-number-end.ensures.split.rising

@@ -5,8 +5,9 @@ use Rattle.reads.specs.Ranges.{key_range}
 use Rattle.reads.specs.Tables.{NumberedContents}
 use Rattle.checks.specs.GroupTest.{AreTablesIn}
 use Rattle.checks.specs.HeldTables.{AreHeldIn}
-use Rattle.scan.specs.EntryRows.{rows_from}
+use Rattle.scan.specs.EntryRows.{rows_from, file_rows}
 use Rattle.scan.specs.RowParts.{IsRowPart}
+use Rattle.scan.specs.ToldRows.{telling_by}
 use Rattle.scan.proofs.range_scan.tell_ranges.Given as goal
 
 -- the rows of the ranges so far were told
@@ -17,7 +18,7 @@ invariant-loop-number g l =
     let all = length l.split + 1 in
     record {
       told : (files : Files) (next : Option ℕ) (tables : List NumberedContents) → Tells (g.F.Folder.tells l.fn.folder) files → AreTablesIn cmp files next standing tables
-          → IsRowPart g.T.RowTaker.tells (rows_from cmp tables standing l.rows.at (key_range l.rows.range) l.split 0 all) l.fn.taker l.fn.rows.limit (rows_from cmp tables standing l.rows.at (key_range l.rows.range) l.split l.number (all - l.number)) l.taker l.left true;
+          → IsRowPart (telling_by g.T.RowTaker.tells l.fn.taker l.taker) (rows_from (file_rows cmp tables standing l.rows.at) cmp (key_range l.rows.range) l.split 0 all) l.fn.rows.limit (rows_from (file_rows cmp tables standing l.rows.at) cmp (key_range l.rows.range) l.split l.number (all - l.number)) l.left true;
       held : (files : Files) → Tells (g.F.Folder.tells l.fn.folder) files → AreHeldIn cmp files l.held;
       reads : OnlyReads g.F.Folder l.fn.folder l.folder;
       failures : g.F.Folder.failed l.folder ≡ g.F.Folder.failed l.fn.folder;

@@ -8,7 +8,7 @@ use Rattle.checks.proofs.LawfulLemmas.{sound_lawful}
 use Rattle.scan.specs.Row.{Row}
 use Rattle.scan.specs.Rows.{AreRows}
 use Rattle.scan.specs.ChosenRows.{chosen_range, chosen_sequence}
-use Rattle.scan.specs.EntryRows.{rows_from}
+use Rattle.scan.specs.EntryRows.{rows_from, file_rows}
 use Rattle.scan.specs.RowParts.{AreScanned}
 use Rattle.scan.proofs.FileRows.{some_rows, version_rows}
 use Rattle.scan.proofs.ScanAnswers.{memory_handed, scan_of, tables_in}
@@ -77,12 +77,12 @@ returns-clause-rows g c files loaded tables all there sound =
     let are : AreTablesIn cmp files v.next_file (map now_of c.deref-2.result.now) tables = subst (λ (fs : List FileMeta). AreTablesIn cmp files v.next_file fs tables) (sym lent) in_files in
     let at : c.sequence_of-at.result ≡ chosen_sequence v choice.at = c.sequence_of-at.ensures in
     let range : key_range c.range-range.result ≡ chosen_range choice = c.range-range.ensures in
-    let rows : List Row = rows_from cmp tables standing (chosen_sequence v choice.at) (chosen_range choice) boundaries 0 (length boundaries + 1) in
+    let rows : List Row = rows_from (file_rows cmp tables standing (chosen_sequence v choice.at)) cmp (chosen_range choice) boundaries 0 (length boundaries + 1) in
     let rows_are : AreRows cmp v tables (chosen_range choice) (chosen_sequence v choice.at) rows =
     version_rows cmp met.total met.exact v tables (chosen_sequence v choice.at) standing stand c.in_ok-standing.ensures.added (sound_lawful cmp v loaded tables sound) (chosen_range choice) boundaries f.ensures.cover in
     let scanned : AreScanned tells rows taker choice.limit f.new.taker f.result =
-    subst (λ (n : ℕ). AreScanned tells (rows_from cmp tables standing n (chosen_range choice) boundaries 0 (length boundaries + 1)) taker choice.limit f.new.taker f.result) at
-    (subst (λ (k : KeyRange). AreScanned tells (rows_from cmp tables standing c.sequence_of-at.result k boundaries 0 (length boundaries + 1)) taker choice.limit f.new.taker f.result) range
-    (subst (λ (fs : List FileMeta). AreScanned tells (rows_from cmp tables fs c.sequence_of-at.result (key_range c.range-range.result) boundaries 0 (length boundaries + 1)) taker choice.limit f.new.taker f.result) lent
+    subst (λ (n : ℕ). AreScanned tells (rows_from (file_rows cmp tables standing n) cmp (chosen_range choice) boundaries 0 (length boundaries + 1)) taker choice.limit f.new.taker f.result) at
+    (subst (λ (k : KeyRange). AreScanned tells (rows_from (file_rows cmp tables standing c.sequence_of-at.result) cmp k boundaries 0 (length boundaries + 1)) taker choice.limit f.new.taker f.result) range
+    (subst (λ (fs : List FileMeta). AreScanned tells (rows_from (file_rows cmp tables fs c.sequence_of-at.result) cmp (key_range c.range-range.result) boundaries 0 (length boundaries + 1)) taker choice.limit f.new.taker f.result) lent
     (f.ensures.told files v.next_file tables all are))) in
     scan_of tells cmp v tables choice taker f.new.taker (failed c.args.folder.now) (failed f.new.folder) rows rows_are f.result scanned (f.ensures.errors files v.next_file tables all are)

@@ -7,7 +7,7 @@ use Rattle.folder.specs.OpenAnswer.{IsStopped}
 use Rattle.folder.specs.Orders.{order_cmp, order_short_keys}
 use Rattle.std.proofs.lemmas.Result.{err_from_is_err_and}
 use Rattle.folder.specs.Version.{State}
-use Rattle.folder.specs.declared.current_version.Opened.{Opened}
+use Rattle.store.specs.declared.synced_version.SyncedVersion.{SyncedVersion}
 use Rattle.store.specs.AllLevels.{IsDescended, IsEndOf, IsNextRefused, last_tables, version_at_end}
 use Rattle.store.specs.Descent.{IsNextLevel}
 use Rattle.store.specs.LevelRuns.{IsAllLevelsRun, MakesNoCalls}
@@ -20,10 +20,10 @@ use Rattle.store.proofs.NoDevice.{handed_memory}
 use Rattle.store.proofs.StepPart.{refused_err}
 use Rattle.store.proofs.InstallPart.{refused_ok}
 use Rattle.store.proofs.LevelRuns.{none_so_far, run_ended, run_more, run_refused, run_stopped, taken}
-use Rattle.folder.proofs.Changes.{change_by, call_by}
+use Rattle.install.proofs.Changes.{change_by, call_by}
 use Rattle.install.specs.Install.{version_with}
 use Rattle.store.specs.OrderView.{order_view}
-use Rattle.store.specs.Telling.{telling}
+use Rattle.store.specs.Telling.{telling_by}
 use Rattle.store.proofs.all_levels.compact_levels.Goals as goal
 
 pub returns-in_err-bottom-clause-left : goal.returns-in_err-bottom-clause-left
@@ -107,7 +107,7 @@ returns-in_err-next-clause-left g c files loaded tables told current reads sound
     let left = refused_taken o.order s o.version loaded tables sound (calls c.args.folder.now) g.T.InstallWatch.tells c.args.told.now (calls l.folder) (tells l.folder) l.told l.opened.manifest l.opened.version c.in_ok-bottom.bottom l._step sf
     c.in-Some.level (subst (λ (n : Option ℕ). IsNextLevel l.opened.version c.in_ok-bottom.bottom n) c.in-Some.is c.in_ok-level.ensures.next) (calls c.take_step.new.folder) (tells c.take_step.new.folder) (failed l.folder) (failed c.take_step.new.folder) c.take_step.new.told
     l.invariant.is_bottom (tells c.args.folder.now) (failed c.args.folder.now) l.opened.order e l.invariant.failures all.1 c.in_err-next.ensures.left in
-    inr (subst (λ (r : Result DescentEnd Fault). IsDescended (order_view o.order) s (version_with o.version loaded) tables (call_by (calls c.args.folder.now) (calls c.take_step.new.folder) (tells c.args.folder.now) (tells c.take_step.new.folder) (failed c.args.folder.now) (failed c.take_step.new.folder)) (telling g.T.InstallWatch.tells c.args.told.now c.take_step.new.told) r)
+    inr (subst (λ (r : Result DescentEnd Fault). IsDescended (order_view o.order) s (version_with o.version loaded) tables (call_by (calls c.args.folder.now) (calls c.take_step.new.folder) (tells c.args.folder.now) (tells c.take_step.new.folder) (failed c.args.folder.now) (failed c.take_step.new.folder)) (telling_by g.T.InstallWatch.tells c.args.told.now c.take_step.new.told) r)
     (sym (p.1 ∙ ap (λ (f : Fault). Err f) p.2)) left)
 
 pub returns-in_default-clause-device : goal.returns-in_default-clause-device
@@ -137,7 +137,7 @@ returns-in_default-2-clause-left g c files loaded tables told current reads soun
     let sf = all.0 in
     inr (stopped_taken o.order s o.version loaded tables sound (calls c.args.folder.now) g.T.InstallWatch.tells c.args.told.now (calls l.folder) (tells l.folder) l.told l.opened.manifest l.opened.version c.in_ok-bottom.bottom l._step sf
     c.in-Some.level (subst (λ (n : Option ℕ). IsNextLevel l.opened.version c.in_ok-bottom.bottom n) c.in-Some.is c.in_ok-level.ensures.next) (calls c.take_step.new.folder) (tells c.take_step.new.folder) (failed l.folder) (failed c.take_step.new.folder) c.take_step.new.told
-    l.invariant.is_bottom (tells c.args.folder.now) (failed c.args.folder.now) l.opened.order all.1 (subst (λ (x : Option Opened). StepClause g.T.InstallWatch.tells l.opened.order l.opened.version l.opened.manifest c.in-Some.level s (calls l.folder) (calls c.take_step.new.folder) (tells l.folder) (tells c.take_step.new.folder) (failed l.folder) (failed c.take_step.new.folder) l.told c.take_step.new.told (Ok x)) c.in_default-2.is c.in_ok-next.ensures.left))
+    l.invariant.is_bottom (tells c.args.folder.now) (failed c.args.folder.now) l.opened.order all.1 (subst (λ (x : Option SyncedVersion). StepClause g.T.InstallWatch.tells l.opened.order l.opened.version l.opened.manifest c.in-Some.level s (calls l.folder) (calls c.take_step.new.folder) (tells l.folder) (tells c.take_step.new.folder) (failed l.folder) (failed c.take_step.new.folder) l.told c.take_step.new.told (Ok x)) c.in_default-2.is c.in_ok-next.ensures.left))
 
 pub loop-step-preserved : goal.loop-step-preserved
 loop-step-preserved g c =
@@ -152,12 +152,12 @@ loop-step-preserved g c =
       failures = steady (failed c.args.folder.now) (failed l.folder) (failed c.take_step.new.folder) c.in_ok-next.field-0 c.take_step.result c.in_ok-next.was l.invariant.failures c.take_step.ensures.device.later c.take_step.ensures.device.at_once;
       runs = run_more g.T.InstallWatch.tells o.order s c.in_ok-bottom.bottom o.version (calls c.args.folder.now) (calls l.folder) c.args.told.now l.told l.opened.version l.opened.order l.invariant.runs
           c.in-Some.level (subst (λ (n : Option ℕ). IsNextLevel l.opened.version c.in_ok-bottom.bottom n) c.in-Some.is c.in_ok-level.ensures.next) (calls c.take_step.new.folder) c.take_step.new.told (tells l.folder) (tells c.take_step.new.folder) c.in-Some-2.next
-          (subst (λ (x : Option Opened). MakesNoCalls (calls l.folder) (calls c.take_step.new.folder) l.told c.take_step.new.told (taken x) ⊎ IsNextBegun l.opened.order l.opened.version c.in-Some.level s (change_by (calls l.folder) (calls c.take_step.new.folder) (tells l.folder) (tells c.take_step.new.folder)) (telling g.T.InstallWatch.tells l.told c.take_step.new.told) (taken x)) c.in-Some-2.is c.in_ok-next.ensures.runs);
+          (subst (λ (x : Option SyncedVersion). MakesNoCalls (calls l.folder) (calls c.take_step.new.folder) l.told c.take_step.new.told (taken x) ⊎ IsNextBegun l.opened.order l.opened.version c.in-Some.level s (change_by (calls l.folder) (calls c.take_step.new.folder) (tells l.folder) (tells c.take_step.new.folder)) (telling_by g.T.InstallWatch.tells l.told c.take_step.new.told) (taken x)) c.in-Some-2.is c.in_ok-next.ensures.runs);
       so_far = λ files loaded tables told current reads sound.
           let all = l.invariant.so_far files loaded tables told current reads sound in
           more_taken o.order s o.version loaded tables sound (calls c.args.folder.now) g.T.InstallWatch.tells c.args.told.now (calls l.folder) (tells l.folder) l.told l.opened.manifest l.opened.version c.in_ok-bottom.bottom l._step all.0
           c.in-Some.level (subst (λ (n : Option ℕ). IsNextLevel l.opened.version c.in_ok-bottom.bottom n) c.in-Some.is c.in_ok-level.ensures.next) (calls c.take_step.new.folder) (tells c.take_step.new.folder) (failed l.folder) (failed c.take_step.new.folder) c.take_step.new.told
-          l.opened.order c.in-Some-2.next all.1 (subst (λ (x : Option Opened). StepClause g.T.InstallWatch.tells l.opened.order l.opened.version l.opened.manifest c.in-Some.level s (calls l.folder) (calls c.take_step.new.folder) (tells l.folder) (tells c.take_step.new.folder) (failed l.folder) (failed c.take_step.new.folder) l.told c.take_step.new.told (Ok x)) c.in-Some-2.is c.in_ok-next.ensures.left);
+          l.opened.order c.in-Some-2.next all.1 (subst (λ (x : Option SyncedVersion). StepClause g.T.InstallWatch.tells l.opened.order l.opened.version l.opened.manifest c.in-Some.level s (calls l.folder) (calls c.take_step.new.folder) (tells l.folder) (tells c.take_step.new.folder) (failed l.folder) (failed c.take_step.new.folder) l.told c.take_step.new.told (Ok x)) c.in-Some-2.is c.in_ok-next.ensures.left);
     }
 
 pub returns-clause-left : goal.returns-clause-left
@@ -198,7 +198,7 @@ returns-in_err-next-clause-runs g c =
     let s = c.args.settings.now in
     let l = c.loop-step in
     let p = err_from_is_err_and c.from_residual-in_err-next.result c.from_residual-in_err-next.ensures.1 in
-    subst (λ (r : Result DescentEnd Fault). IsAllLevelsRun o.order s o.version (change_by (calls c.args.folder.now) (calls c.take_step.new.folder) (tells c.args.folder.now) (tells c.take_step.new.folder)) (telling g.T.InstallWatch.tells c.args.told.now c.take_step.new.told) r) (sym (p.1 ∙ ap (λ (f : Fault). Err f) p.2))
+    subst (λ (r : Result DescentEnd Fault). IsAllLevelsRun o.order s o.version (change_by (calls c.args.folder.now) (calls c.take_step.new.folder) (tells c.args.folder.now) (tells c.take_step.new.folder)) (telling_by g.T.InstallWatch.tells c.args.told.now c.take_step.new.told) r) (sym (p.1 ∙ ap (λ (f : Fault). Err f) p.2))
     (run_refused g.T.InstallWatch.tells o.order s c.in_ok-bottom.bottom o.version (calls c.args.folder.now) (calls l.folder) c.args.told.now l.told l.opened.version l.opened.order l.invariant.runs
     c.in-Some.level (subst (λ (n : Option ℕ). IsNextLevel l.opened.version c.in_ok-bottom.bottom n) c.in-Some.is c.in_ok-level.ensures.next) (calls c.take_step.new.folder) c.take_step.new.told
     (tells c.args.folder.now) (tells l.folder) (tells c.take_step.new.folder) c.in_err-next.field-0.0 l.invariant.is_bottom c.in_err-next.ensures.runs)

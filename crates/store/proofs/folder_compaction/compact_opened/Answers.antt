@@ -5,7 +5,7 @@ use Rattle.store.specs.Answers.{IsVersionCompacted}
 use Rattle.store.specs.Runs.{IsLevelRun}
 use Rattle.folder.specs.Orders.{order_cmp, order_short_keys}
 use Rattle.store.specs.Step.{step_in}
-use Rattle.folder.proofs.Changes.{change_by}
+use Rattle.install.proofs.Changes.{change_by}
 use Rattle.store.proofs.folder_compaction.compact_opened.Goals as goal
 
 pub returns-in-Bytewise-clause-answer : goal.returns-in-Bytewise-clause-answer

@@ -12,7 +12,7 @@ use Rattle.store.specs.InputsCompaction.{IsInputsCompacted}
 use Rattle.store.specs.Runs.{IsLevelRun}
 use Rattle.store.specs.Step.{step_in}
 use Rattle.store.specs.StepLeft.{IsStepLeft}
-use Rattle.folder.proofs.Changes.{change_by}
+use Rattle.install.proofs.Changes.{change_by}
 use Rattle.install.specs.Install.{version_with}
 use Rattle.store.specs.OrderView.{order_view}
 use Rattle.store.proofs.input_compaction.compact_inputs.Goals as goal

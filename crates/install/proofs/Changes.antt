@@ -1,7 +1,7 @@
 -- Changes of a folder, by their parts.
 use Rattle.std.proofs.Common.{ℕ, List}
 use Rattle.folder.specs.Calls.{Step, ToldFiles}
-use Rattle.folder.specs.FolderChange.{FolderCall, FolderChange}
+use Rattle.install.specs.FolderChange.{FolderCall, FolderChange}
 
 abbrev pub change_by : List Step → List Step → ToldFiles → ToldFiles → FolderChange
 change_by before after old new = record { before = before; after = after; old = old; new = new }

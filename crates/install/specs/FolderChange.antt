@@ -3,8 +3,8 @@ use Rattle.std.specs.Prelude.{ℕ, List, ◌++◌}
 use Rattle.folder.specs.Calls.{Step, ToldFiles}
 use Rattle.folder.specs.declared.folder.Folder.{Ghosts}
 
--- The calls that write, up to the end of some call, before and after a part of it that is told of;
--- and what the folder tells before and after that part.
+-- What a call changes of a folder, or the last part of one: all calls that write, as they were
+-- before it and after it, and what the folder tells before and after it.
 pub record FolderChange : Type 1 where
   pub before : List Step
   pub after : List Step
@@ -20,7 +20,7 @@ change_of g old new = record {
   new = g.tells new;
 }
 
--- the same change, told from after these calls on
+-- what it changes after these calls, which it makes first
 abbrev pub change_since : List Step → FolderChange → FolderChange
 change_since steps change = record {
   before = change.before ++ steps;

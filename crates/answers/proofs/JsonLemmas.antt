@@ -27,7 +27,7 @@ no_float_value Text value = refl
 no_float_value Utf8 value = no_float_utf8 value
 
 pair : (key value : Data) (a b : Bool) → has_float key ≡ a → has_float value ≡ b → a ≡ false → b ≡ false → has_float (pair_object key value) ≡ false
-pair key value a b is also none no = rw (is, also, none, no) refl
+pair key value a b is also first second = rw (is, also, first, second) refl
 
 lone : (key : Data) → has_float key ≡ false → has_float (lone_object key) ≡ false
 lone key is = rw is refl

@@ -24,10 +24,10 @@ const TABLE: &[u8] = b"\
     \0\0\0\0\0\0\0\0\0\0\0\0\0\0\0\0\0\0\0\0\0\0\0\0\0\0\0\0\0\0\0\0\0\0W\xfb\x80\x8b\x24uG\xdb";
 
 /// How many bytes of tables are held while a version is tested.
-const MEMORY: u64 = 1_073_741_824;
+pub(crate) const MEMORY: u64 = 1_073_741_824;
 
 /// The files of the folder, none of which is synced. File 7 has its older name.
-const FILES: &[(&str, &[u8])] = &[
+pub(crate) const FILES: &[(&str, &[u8])] = &[
     ("CURRENT", b"MANIFEST-000005\n"),
     ("MANIFEST-000005", MANIFEST),
     ("000007.sst", TABLE),
@@ -67,7 +67,12 @@ const CALLS: &[(&str, &str)] = &[
 const UNSYNCED: usize = 7;
 
 /// Whether a call was done, and is this one.
-fn is_call(step: &ShelfStep, (act, name): (&str, &str)) -> bool {
+fn is_call(step: &ShelfStep, wanted: (&str, &str)) -> bool {
+    step.is_done && is_named(step, wanted)
+}
+
+/// Whether a call is this one.
+pub(crate) fn is_named(step: &ShelfStep, (act, name): (&str, &str)) -> bool {
     let (done, of) = match &step.call {
         ShelfCall::Create(name, _) => ("create", name.as_str()),
         ShelfCall::Sync(name) => ("sync", name.as_str()),
@@ -75,7 +80,7 @@ fn is_call(step: &ShelfStep, (act, name): (&str, &str)) -> bool {
         ShelfCall::Remove(name) => ("remove", name.as_str()),
         ShelfCall::SyncFolder => ("sync", "."),
     };
-    step.is_done && done == act && of == name
+    done == act && of == name
 }
 
 /// Whether the calls, the newest first, are just those.

@@ -23,3 +23,7 @@ mod folder_system_tests;
 mod folder_write_tests;
 #[cfg(test)]
 mod install_tests;
+#[cfg(test)]
+mod silent_folder_tests;
+#[cfg(test)]
+mod silent_shelf;

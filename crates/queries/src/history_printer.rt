@@ -6,7 +6,7 @@ use checks::Fault;
 use install::Opened;
 use scan::{Kind, OwnedEntry, entries_in_file};
 use session::{
-    Bytewise, Comparator, Disk, Host, LAST_LEVEL, MAX_USER_KEY, OpenedFolder, Order, Refusal,
+    Bytewise, Comparator, Disk, FileMeta, Host, LEVELS, MAX_USER_KEY, OpenedFolder, Order, Refusal,
     Shortlex, SystemFiles, Telling, begin_counted, bytes_of, explained, locked_to_read,
     print_lines, refused_opened, table_explained, tell_time,
 };
@@ -108,38 +108,56 @@ fn history_of<R: SystemFiles + AllocGlobal>(
     opened: &Opened,
     key: &[u8],
 ) -> Result<Vec<PlacedEntry>, Fault> {
-    if key.len() > MAX_USER_KEY {
-        return Ok(Vec::new(alloc));
-    }
-    let mut found = Vec::new(alloc);
-    for level in 0..=LAST_LEVEL {
-        match opened.order {
-            Order::Bytewise => {
-                push_level::<Bytewise, R>(alloc, folder, opened, level, key, &mut found)?;
-            }
-            Order::Shortlex => {
-                push_level::<Shortlex, R>(alloc, folder, opened, level, key, &mut found)?;
-            }
-        }
-    }
+    let mut found = match opened.order {
+        Order::Bytewise => entries_of::<Bytewise, R>(alloc, folder, opened, key)?,
+        Order::Shortlex => entries_of::<Shortlex, R>(alloc, folder, opened, key)?,
+    };
     found.sort_unstable_by(|one, other| other.place.sequence.cmp(&one.place.sequence));
     Ok(found)
 }
 
-/// Appends all entries of a key that the files of a level have.
-fn push_level<C: Comparator, R: SystemFiles + AllocGlobal>(
+/// All entries of a key that the files of a version have, by level.
+fn entries_of<C: Comparator, R: SystemFiles + AllocGlobal>(
     alloc: Global,
     folder: &mut Disk<'_, R>,
     opened: &Opened,
+    key: &[u8],
+) -> Result<Vec<PlacedEntry>, Fault> {
+    let mut found = Vec::new(alloc);
+    for level in 0..LEVELS {
+        let files = opened.version.files::<C>(alloc, level)?;
+        push_level::<C, R>(alloc, folder, &files, level, key, &mut found)?;
+    }
+    Ok(found)
+}
+
+/// Appends all entries of a key that these files of a level have.
+fn push_level<C: Comparator, R: SystemFiles + AllocGlobal>(
+    alloc: Global,
+    folder: &mut Disk<'_, R>,
+    files: &[&FileMeta],
     level: u64,
     key: &[u8],
     found: &mut Vec<PlacedEntry>,
 ) -> Result<(), Fault> {
-    for file in &opened.version.files::<C>(alloc, level)? {
-        let entries = entries_in_file::<C, Disk<'_, R>>(alloc, folder, file, key)?;
+    for file in files {
+        let entries = entries_here::<C, R>(alloc, folder, file, key)?;
         push_placed(found, level, file.number, entries)?;
     }
     Ok(())
+}
+
+/// All entries of a key that a file has. No key of a table is longer than the longest one.
+fn entries_here<C: Comparator, R: SystemFiles + AllocGlobal>(
+    alloc: Global,
+    folder: &mut Disk<'_, R>,
+    file: &FileMeta,
+    key: &[u8],
+) -> Result<Vec<OwnedEntry>, Fault> {
+    if key.len() > MAX_USER_KEY {
+        return Ok(Vec::new(alloc));
+    }
+    entries_in_file::<C, Disk<'_, R>>(alloc, folder, file, key)
 }
 
 /// Appends the entries of a file at a level.

@@ -1,45 +1,42 @@
 //! Keys that are read from the standard input.
 
 use checks::{Fault, FaultName};
-use session::{Refusal, RefusalText, read_input};
+use session::{Refusal, RefusalText, read_file};
 use std::alloc::Global;
+use std::rt::Files;
 use std::str;
 use texts::Spelling;
 
+/// The standard input as a file.
+const INPUT: &str = "/dev/stdin";
+
 /// The keys in the standard input, one a line. Key if a line is the text of no key; Size if there
 /// are more than 2^30 bytes.
-pub(crate) fn keys_in_input<R: Input + AllocGlobal>(
+pub(crate) fn keys_in_input<R: Files + AllocGlobal>(
     rt: &R,
     spelling: Spelling,
 ) -> Result<Vec<Vec<u8>>, Refusal> {
-    let alloc = rt.alloc();
-    let bytes = read_input(rt)?;
+    let bytes = read_file(rt, INPUT)?;
+    if bytes.is_empty() {
+        return Ok(Vec::new(rt.alloc()));
+    }
+    // The last line may have no newline.
+    let lines = bytes.strip_suffix(b"\n").unwrap_or(&bytes);
+    keys_of_lines(rt.alloc(), spelling, lines)
+}
+
+/// The keys of lines with a newline between two.
+fn keys_of_lines(alloc: Global, spelling: Spelling, lines: &[u8]) -> Result<Vec<Vec<u8>>, Refusal> {
     let mut keys = Vec::new(alloc);
-    let mut rest = bytes.as_slice();
-    while !rest.is_empty() {
-        let end = line_end(rest);
-        let (line, others) = rest.split_at(end);
+    for line in lines.split(|byte| *byte == b'\n') {
         let Some(key) = key_of_line(alloc, spelling, line)? else {
-            return Err(no_key(alloc, keys.len() + 1, spelling));
+            return Err(no_key(alloc, keys.len().saturating_add(1), spelling));
         };
         if let Err(error) = keys.push(key) {
             return Err(Fault::from(error).into());
         }
-        // The newline is taken off too; the last line may have none.
-        rest = match others.split_first() {
-            Some((_, others)) => others,
-            None => others,
-        };
     }
     Ok(keys)
-}
-
-/// Where the first line of these bytes ends: at its newline, or at the end.
-fn line_end(bytes: &[u8]) -> usize {
-    match bytes.iter().position(|byte| *byte == b'\n') {
-        Some(end) => end,
-        None => bytes.len(),
-    }
 }
 
 /// The key of a line; None if it is the text of none.

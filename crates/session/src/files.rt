@@ -8,9 +8,6 @@ use std::io::{ErrorKind, Read, Write};
 use std::rt::Files;
 use std::{fs, io};
 
-/// What the standard input is called if it is refused.
-const INPUT: &str = "standard input";
-
 /// The bytes of a file; of a pipe, those that come until it is closed. Missing if there is no such
 /// file, Size if there are more than 2^30 bytes, Device if it can't be read.
 pub fn read_file<R: Files + AllocGlobal>(rt: &R, path: &str) -> Result<Vec<u8>, Refusal> {
@@ -37,20 +34,6 @@ fn bytes_at<R: Files + AllocGlobal>(rt: &R, path: &str) -> io::Result<Vec<u8>> {
     file.take(MAX_FILE_LEN + 1).read_to_end(&mut bytes)?;
     if bytes.len() as u64 > MAX_FILE_LEN {
         return Err(ErrorKind::FileTooLarge.into());
-    }
-    Ok(bytes)
-}
-
-/// The bytes of the standard input. Size if there are more than 2^30, Device if it can't be read.
-pub fn read_input<R: Input + AllocGlobal>(rt: &R) -> Result<Vec<u8>, Refusal> {
-    let alloc = rt.alloc();
-    let mut bytes = Vec::new(alloc);
-    let read = rt.reader().take(MAX_FILE_LEN + 1).read_to_end(&mut bytes);
-    if let Err(error) = read {
-        return Err(Refusal::of_call(alloc, INPUT, "read", &error));
-    }
-    if bytes.len() as u64 > MAX_FILE_LEN {
-        return Err(Refusal::of_file(alloc, INPUT, Fault::of(FaultName::Size)));
     }
     Ok(bytes)
 }

@@ -10,7 +10,6 @@ pub trait Host: SystemFiles
     + WholeFiles
     + Print
     + Eprint
-    + Input
     + Clock
     + AllocGlobal
     + Threads
@@ -23,7 +22,6 @@ where
         + WholeFiles
         + Print
         + Eprint
-        + Input
         + Clock
         + AllocGlobal
         + Threads

@@ -51,10 +51,10 @@ mod work_left;
 
 pub use amounts::total_text;
 pub use detail::Detail;
-pub use edit::LAST_LEVEL;
+pub use edit::{FileMeta, LAST_LEVEL, LEVELS};
 pub use edit_inputs::deleted_files;
 pub use explanations::{Words, in_words, of_file};
-pub use files::{read_file, read_input, replace_file, sync_folder_of};
+pub use files::{read_file, replace_file, sync_folder_of};
 pub use filter_blocks::have_filter;
 pub use folder::{Bytewise, Comparator, Disk, Order, Shortlex, SystemFiles};
 pub use folder_locks::{locked_to_change, locked_to_read};

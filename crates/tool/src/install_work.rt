@@ -25,7 +25,7 @@ pub(crate) fn install_compaction<R: Host>(
     let _lock = locked_to_change(rt, telling)?;
     let begun = telling.begin(rt);
     let opened = opened_to_install(rt, telling).map_err(|refusal| explained(rt, telling, refusal))?;
-    let step = outcome_installed(rt, telling, line, &opened).map_err(|refusal| {
+    let step = outcome_installed(&*rt, telling, &*line, &opened).map_err(|refusal| {
         outcome_explained(rt, telling, line, opened.order, refusal)
     })?;
     tell_time(rt, "install", begun);
@@ -51,10 +51,10 @@ fn opened_to_install<R: Host>(rt: &R, telling: Telling<'_>) -> Result<SyncedVers
 }
 
 /// Installs an outcome in what a folder was opened as.
-fn outcome_installed<R: Host>(
-    rt: &R,
-    telling: Telling<'_>,
-    line: &InstallLine<'_>,
+fn outcome_installed<'x, R: Host>(
+    rt: &'x R,
+    telling: Telling<'x>,
+    line: &'x InstallLine<'x>,
     opened: &SyncedVersion,
 ) -> Result<CompactionStep, Refusal> {
     let memory = bytes_of(line.testing.memory);

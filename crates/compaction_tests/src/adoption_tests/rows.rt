@@ -1,7 +1,7 @@
 //! Outcomes that are installed, with the answers and the files left.
 
 use crate::store_tests::rows::{
-    AA, B, B_AA, DELETION_LEFT, FILE_ABOVE, Files, NINE, SHORTLEX, TWO_ENTRIES, U4_DELETED,
+    AA, B, B_AA, DELETION_LEFT, FILE_ABOVE, Files, NINE, SHORTLEX, T_AND_V, TWO_ENTRIES, U4_DELETED,
 };
 use adoption::Comparison;
 use coding::FaultName;

@@ -1,4 +1,5 @@
 use Rattle.std.proofs.Common.{Err, refl, inl}
+use Rattle.folder.proofs.ReportLemmas.{reports_then}
 use Rattle.store.proofs.Flow.{answers_behind, told_still}
 use Rattle.store.specs.Step.{step_in}
 use Rattle.adoption.specs.Adoption.{IsEditedInstalled, IsGivenInstalled, IsGivenTested}
@@ -66,3 +67,6 @@ returns-in-Ok-clause-runs g c =
 pub returns-in-Err-clause-runs : goal.returns-in-Err-clause-runs
 returns-in-Err-clause-runs g c =
     inl (record { calls = c.test_outputs.ensures.reads.calls; same = c.test_outputs.ensures.reads.same; refused = tt })
+
+pub returns-in-Ok-clause-device : goal.returns-in-Ok-clause-device
+returns-in-Ok-clause-device g c = reports_then c.in-Ok.is c.test_outputs.ensures.device c.install_tested.ensures.device

@@ -1,6 +1,10 @@
-use Rattle.std.proofs.Common.{subst, sym}
-use Rattle.folder.specs.OpenAnswer.{FolderAnswers}
+use Rattle.std.proofs.Common.{Ok, refl, subst, sym}
+use Rattle.folder.specs.OpenAnswer.{FolderAnswers, IsOpened}
+use Rattle.folder.specs.ReadsAs.{IsFileIn}
 use Rattle.folder.specs.declared.order.Order.{Order}
+use Rattle.folder.specs.declared.order.Order.TheVariants.{Bytewise, Shortlex}
+use Rattle.store.specs.Compaction.{IsVersionLeft}
+use Rattle.store.specs.OrderView.{order_view}
 use Rattle.store.specs.Answers.{IsVersionCompacted}
 use Rattle.store.specs.Runs.{IsLevelRun}
 use Rattle.folder.specs.Orders.{order_cmp, order_short_keys}
@@ -35,3 +39,21 @@ returns-in-Shortlex-clause-runs g c =
     let tells = g.F.Folder.tells in
     subst (λ (order : Order). IsLevelRun order c.args.opened.now.version c.args.level c.args.settings.now (change_by (calls c.args.folder.now) (calls c.compact_version-in-Shortlex.new.folder) (tells c.args.folder.now) (tells c.compact_version-in-Shortlex.new.folder)) c.compact_version-in-Shortlex.result)
     (sym c.in-Shortlex.is) c.compact_version-in-Shortlex.ensures.runs
+
+pub returns-in-Bytewise-clause-left : goal.returns-in-Bytewise-clause-left
+returns-in-Bytewise-clause-left g c files told current opened =
+    let v = c.args.opened.now.version in
+    let calls = g.F.Folder.calls in
+    let tells = g.F.Folder.tells in
+    let is = c.in-Bytewise.is in
+    subst (λ (order : Order). IsVersionLeft (order_view order) v files c.args.level c.args.settings.now (change_by (calls c.args.folder.now) (calls c.compact_version.new.folder) (tells c.args.folder.now) (tells c.compact_version.new.folder)) c.compact_version.result) (sym is)
+    (c.compact_version.ensures.left files Bytewise told current refl (subst (λ (order : Order). IsOpened (IsFileIn files) (Ok (order, v))) is opened))
+
+pub returns-in-Shortlex-clause-left : goal.returns-in-Shortlex-clause-left
+returns-in-Shortlex-clause-left g c files told current opened =
+    let v = c.args.opened.now.version in
+    let calls = g.F.Folder.calls in
+    let tells = g.F.Folder.tells in
+    let is = c.in-Shortlex.is in
+    subst (λ (order : Order). IsVersionLeft (order_view order) v files c.args.level c.args.settings.now (change_by (calls c.args.folder.now) (calls c.compact_version-in-Shortlex.new.folder) (tells c.args.folder.now) (tells c.compact_version-in-Shortlex.new.folder)) c.compact_version-in-Shortlex.result) (sym is)
+    (c.compact_version-in-Shortlex.ensures.left files Shortlex told current refl (subst (λ (order : Order). IsOpened (IsFileIn files) (Ok (order, v))) is opened))

@@ -1,0 +1,2 @@
+mod Levelled
+mod Tested

@@ -1,0 +1,10 @@
+pub mod Codes
+pub mod Places
+pub mod Files
+pub mod Orders
+pub mod Tables
+pub mod Requests
+pub mod Closed
+pub mod Rooms
+pub mod Outputs
+pub mod Edits

@@ -1,0 +1,55 @@
+//! Inputs of a compaction.
+
+ghost use Rattle.std.specs.Prelude.{◌≡◌};
+ghost use Rattle.c_api.specs.Tables.{counts_of, is_input as lies_lent};
+
+use crate::file::{File, has_keys};
+use crate::place::{Place, is_within};
+use table::Tally;
+
+/// What a check counts of a table's entries.
+#[repr(C)]
+#[derive(Clone, Copy, Drop)]
+pub struct Counts {
+    /// How many entries there are.
+    pub entries: u64,
+    /// The least sequence.
+    pub oldest: u64,
+    /// The greatest sequence.
+    pub newest: u64,
+    /// Whether an entry has the user key and the sequence of the one before it.
+    pub has_twins: bool,
+}
+
+impl Counts {
+    /// What is told of a tally.
+    pub(crate) fn of(tally: Tally) -> Counts
+        ensures { result ≡ counts_of tally }
+    {
+        Counts {
+            entries: tally.entries,
+            oldest: tally.oldest,
+            newest: tally.newest,
+            has_twins: tally.has_twins,
+        }
+    }
+}
+
+/// An input of a compaction.
+#[repr(C)]
+#[derive(Clone, Copy, Drop)]
+pub struct Input {
+    /// What the version states of it.
+    pub file: File,
+    /// The bytes of its table, in the tables that are lent.
+    pub table: Place,
+    /// What its check counted.
+    pub counts: Counts,
+}
+
+/// Whether the keys and the table of an input lie in what is lent.
+pub(crate) fn is_input(keys: &[u8], tables: &[u8], input: &Input) -> bool
+    ensures { result ≡ lies_lent keys.now tables.now input.now }
+{
+    has_keys(keys, &input.file) && is_within(tables, input.table)
+}

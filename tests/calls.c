@@ -1,0 +1,119 @@
+/* Each call of crates/c_api/sedvokt.h, with the table of `u@4 del, u@2 put x` whose path is the
+   first word. Without a second word one call is made in four threads at once, too. Prints what the
+   calls answer. */
+
+#include "sedvokt.h"
+
+#include <fcntl.h>
+#include <pthread.h>
+#include <stdio.h>
+#include <stdlib.h>
+#include <string.h>
+#include <unistd.h>
+
+/* u@4 del, u@2 put */
+static const uint8_t keys[] = {'u', 0, 4, 0, 0, 0, 0, 0, 0, 'u', 1, 2, 0, 0, 0, 0, 0, 0};
+
+static uint8_t table[4096];
+static size_t table_len;
+
+static sedvokt_input input(void) {
+  sedvokt_input it;
+  memset(&it, 0, sizeof it);
+  it.file.number = 5;
+  it.file.size = table_len;
+  it.file.smallest = (sedvokt_place){0, 9};
+  it.file.largest = (sedvokt_place){9, 9};
+  it.table = (sedvokt_place){0, table_len};
+  return it;
+}
+
+static const sedvokt_request request = {
+    SEDVOKT_BYTEWISE, false, 0, 4, 4, 4096, 16, 2097152,
+};
+
+static void *checked(void *answer) {
+  sedvokt_input it = input();
+  *(uint32_t *)answer =
+      sedvokt_check_table(SEDVOKT_BYTEWISE, keys, sizeof keys, table, table_len, &it);
+  return it.counts.entries == 2 ? answer : NULL;
+}
+
+static void check_in_threads(void) {
+  pthread_t threads[4];
+  uint32_t answers[4];
+  for (int i = 0; i < 4; i++)
+    if (pthread_create(&threads[i], NULL, checked, &answers[i])) exit(1);
+  for (int i = 0; i < 4; i++) {
+    void *found;
+    pthread_join(threads[i], &found);
+    printf("check_table in a thread: %u, %s\n", answers[i], found ? "counted" : "not counted");
+  }
+}
+
+static void check(void) {
+  sedvokt_input it = input();
+  const uint64_t none[1] = {0}, five[1] = {5}, both[2] = {5, 7};
+  sedvokt_file files[2] = {it.file, it.file};
+  sedvokt_file_place missing = {9, 9};
+  files[1].number = 7;
+  it.file.size++;
+  printf("check_table of another length: %u\n",
+         sedvokt_check_table(SEDVOKT_BYTEWISE, keys, sizeof keys, table, table_len, &it));
+  it = input();
+  it.table.len--;
+  printf("check_table without the last byte: %u\n",
+         sedvokt_check_table(SEDVOKT_BYTEWISE, keys, sizeof keys, table, table_len, &it));
+  it.table.len += 2;
+  printf("check_table beyond what is lent: %u\n",
+         sedvokt_check_table(SEDVOKT_BYTEWISE, keys, sizeof keys, table, table_len, &it));
+  it = input();
+  printf("check_request: %u\n",
+         sedvokt_check_request(&request, none, 0, keys, sizeof keys, &it, 1, files, 0));
+  printf("check_request without inputs: %u\n",
+         sedvokt_check_request(&request, none, 0, keys, sizeof keys, &it, 0, files, 0));
+  printf("check_closed of both files: %u\n",
+         sedvokt_check_closed(SEDVOKT_BYTEWISE, 0, keys, sizeof keys, files, 2, both, 2, &missing));
+  printf("check_closed of one: %u\n",
+         sedvokt_check_closed(SEDVOKT_BYTEWISE, 0, keys, sizeof keys, files, 2, five, 1, &missing));
+  printf("missing: level %d, number %d\n", (int)missing.level, (int)missing.number);
+}
+
+static void put(void) {
+  static const uint8_t value[1] = {'x'};
+  static const uint8_t edit[] = {
+      2, 3, 9, 0, 3, 8, 4, 4, 5, 0, 9, 'u', 1, 2, 0, 0, 0, 0, 0, 0, 6, 0, 5, 7, 1, 7, 90,
+      9, 'u', 0, 4, 0, 0, 0, 0, 0, 0, 9, 'u', 1, 2, 0, 0, 0, 0, 0, 0,
+  };
+  const sedvokt_entry entries[2] = {{{0, 9}, {0, 0}}, {{9, 9}, {0, 1}}};
+  const sedvokt_numbers numbers = {8, 3, 0, 4};
+  sedvokt_input it = input();
+  sedvokt_file added = it.file;
+  uint8_t room[4096];
+  uint64_t len = 0;
+  uint32_t code = sedvokt_output(&request, keys, sizeof keys, value, 1, entries, 2, room,
+                                 sizeof room, &len);
+  printf("output: %u, %s\n", code,
+         len == table_len && !memcmp(room, table, len) ? "the table" : "other bytes");
+  code = sedvokt_output(&request, keys, sizeof keys, value, 1, entries, 2, room, 9, &len);
+  printf("output without room: %u, %s\n", code, len == table_len ? "its length" : "another");
+  added.level = 1;
+  added.number = 7;
+  added.size = 90;
+  code = sedvokt_edit(SEDVOKT_BYTEWISE, 0, &numbers, keys, sizeof keys, &it, 1, &added, 1, room,
+                      sizeof room, &len);
+  printf("edit: %u, %s\n", code,
+         len == sizeof edit && !memcmp(room, edit, len) ? "the edit" : "other bytes");
+}
+
+int main(int argc, char **argv) {
+  int file = argc > 1 ? open(argv[1], O_RDONLY) : -1;
+  ssize_t len = read(file, table, sizeof table);
+  if (len < 0) return 1;
+  table_len = len;
+  close(file);
+  if (argc == 2) check_in_threads();
+  check();
+  put();
+  return 0;
+}

@@ -10,3 +10,6 @@ pub mod TheseInputs
 pub mod LaterLevels
 pub mod OneChoice
 pub mod ToldChoices
+pub mod ApartChoices
+pub mod PartRanges
+pub mod PartsApart

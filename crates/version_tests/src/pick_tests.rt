@@ -1,7 +1,10 @@
 use coding::{Fault, FaultName};
-use edit::{FileMeta, Version, VersionEdit};
-use ikey::{Bytewise, Shortlex};
-use pick::{InputFile, Inputs, first_missing, inputs, is_base, one_choice};
+use edit::{CompactPointer, FileMeta, Version, VersionEdit};
+use ikey::{Bytewise, InternalKey, KeyBuf, Shortlex};
+use pick::{
+    InputFile, Inputs, apart_is_closed, apart_share_none, finest_parts, first_missing, inputs,
+    is_base, numbered_inputs, one_choice, stays_apart,
+};
 use std::alloc::Global;
 use std::process::Abort;
 use std::test::*;
@@ -297,5 +300,145 @@ fn is_told(rt: &impl Abort, alloc: Global, row: &Choice) -> bool {
 fn closed_choices_and_what_others_miss(rt: HostRuntime) {
     for (place, row) in CHOICES.iter().enumerate() {
         assert!(rt; is_told(&rt, rt.alloc(), row), "choice {place}");
+    }
+}
+
+/// A version, a level, the numbers of chosen files, and their inputs with a compact pointer, or the
+/// refusal.
+type Numbered = (&'static [u8], u64, &'static [u64], Result<Taken, FaultName>);
+
+const NUMBERED: &[Numbered] = &[
+    (
+        LEVELS,
+        1,
+        &[7, 3, 99, 9],
+        Ok(Taken {
+            files: &[(1, 3), (2, 7)],
+            pointer: b"d\x01\x08\0\0\0\0\0\0",
+            grandparents: &[10, 11],
+            deeper: &[9, 10, 11, 12, 13],
+        }),
+    ),
+    (
+        OVERLAPPING,
+        0,
+        &[5],
+        Ok(Taken {
+            files: &[(0, 5)],
+            pointer: b"d\x01\x08\0\0\0\0\0\0",
+            grandparents: &[],
+            deeper: &[],
+        }),
+    ),
+    (LEVELS, 1, &[5], Err(FaultName::NoInput)),
+    (LEVELS, 1, &[], Err(FaultName::NoInput)),
+    (LEVELS, 6, &[13], Err(FaultName::Level)),
+];
+
+/// Whether a choice has the inputs of its row, with a compact pointer that the row gives.
+fn are_numbered_so(rt: &impl Abort, alloc: Global, row: &Numbered) -> bool {
+    let version = version_of(rt, alloc, row.0);
+    let key = InternalKey::parse(b"d\x01\x08\0\0\0\0\0\0").expect(rt, "a key");
+    let pointer = CompactPointer {
+        level: row.1,
+        key: KeyBuf::of(alloc, key).expect(rt, "a copy"),
+    };
+    match (
+        numbered_inputs::<Bytewise>(alloc, &version, &pointer, row.2),
+        &row.3,
+    ) {
+        (Ok(found), Ok(wanted)) => are_taken(&found, row.1, wanted),
+        (Err(refused), Err(wanted)) => refused.name == *wanted,
+        _ => false,
+    }
+}
+
+#[test]
+fn inputs_that_are_chosen_by_number(rt: HostRuntime) {
+    for (place, row) in NUMBERED.iter().enumerate() {
+        assert!(rt; are_numbered_so(&rt, rt.alloc(), row), "choice {place}");
+    }
+}
+
+/// A file that ends before it begins. `edit: file 1 8 100 b@1 put .. a@1 put`
+const TURNED: &[u8] = b"\
+    \x07\x01\x08d\x09b\x01\x01\0\0\0\0\0\0\x09a\x01\x01\0\0\0\0\0\0";
+
+/// A version, a level, and of each part the files and the compact pointer; or the refusal.
+type Parted = (
+    &'static [u8],
+    u64,
+    Result<(&'static [&'static [(u64, u64)]], &'static [u8]), FaultName>,
+);
+
+const PARTED: &[Parted] = &[
+    // Level 0: a chain of overlaps, and a file apart.
+    (
+        OVERLAPPING,
+        0,
+        Ok((
+            &[&[(0, 4), (0, 7), (0, 5)], &[(0, 6)]],
+            b"z\x01\x03\0\0\0\0\0\0",
+        )),
+    ),
+    // Files that share a user key, and one apart.
+    (
+        CHAINED,
+        1,
+        Ok((
+            &[&[(1, 8), (1, 2), (1, 3)], &[(1, 4)]],
+            b"w\x01\x02\0\0\0\0\0\0",
+        )),
+    ),
+    // Each file is a part, and the compact pointer stays.
+    (
+        POINTED,
+        2,
+        Ok((&[&[(2, 4)], &[(2, 2)], &[(2, 3)]], b"f\x01\x05\0\0\0\0\0\0")),
+    ),
+    // Files of the next level, and those that share a user key with these. One is in no part.
+    (
+        LEVELS,
+        1,
+        Ok((
+            &[&[(1, 2), (2, 4), (2, 5), (2, 6), (2, 7)], &[(1, 3)]],
+            b"q\x01\x09\0\0\0\0\0\0",
+        )),
+    ),
+    // One part, and none.
+    (LEVELS, 5, Ok((&[&[(5, 12)]], b"z\x01\x03\0\0\0\0\0\0"))),
+    (CHAINED, 0, Ok((&[], b""))),
+    (LEVELS, 6, Err(FaultName::Level)),
+    (TURNED, 1, Err(FaultName::Lawless)),
+    (TURNED, 0, Err(FaultName::Lawless)),
+];
+
+/// Whether inputs are these parts, each with this compact pointer.
+fn are_parts(found: &[Inputs], parts: &[&[(u64, u64)]], pointer: &[u8]) -> bool {
+    for (part, files) in found.iter().zip(parts) {
+        if !are_files(&part.files, *files) || part.pointer.key.as_key().bytes() != pointer {
+            return false;
+        }
+    }
+    found.len() == parts.len()
+}
+
+/// Whether a level has the parts of its row, or its refusal.
+fn is_parted(rt: &impl Abort, alloc: Global, row: &Parted) -> bool {
+    let version = version_of(rt, alloc, row.0);
+    match (finest_parts::<Bytewise>(alloc, &version, row.1), &row.2) {
+        (Ok(found), Ok(wanted)) => are_parts(&found, wanted.0, wanted.1),
+        (Err(refused), Err(wanted)) => refused.name == *wanted,
+        _ => false,
+    }
+}
+
+#[test]
+fn parts_of_levels(rt: HostRuntime) {
+    apart_is_closed::<Bytewise>();
+    stays_apart::<Shortlex>();
+    apart_share_none::<Bytewise>();
+    for (place, row) in PARTED.iter().enumerate() {
+        assert!(rt; is_parted(&rt, rt.alloc(), row), "row {place}");
     }
 }

@@ -48,6 +48,7 @@ use Rattle.checks.proofs.LawfulLemmas.{sound_checked, sound_lawful}
 use Rattle.checks.specs.TableReadings.{tables_reading}
 use Rattle.checks.specs.LawfulTables.{IsLawfulTables}
 use Rattle.keep.specs.declared.snapshots.Snapshots.TheVariants.{From}
+use Rattle.keep.specs.DropRule.{kept}
 use Rattle.store.proofs.Flow.{no_refusal}
 use Rattle.store.proofs.InputNumbers.{loaded_at, one_table}
 use Rattle.store.proofs.InputsApart.{found_here, found_later}
@@ -352,7 +353,7 @@ module _ (cmp : KeyOrder) (total : IsTotalOrder cmp) (v : State) (a : Adoption) 
     abbrev table_at : NewFile → List Entry
     table_at f = table_entries next_tables f.meta.number
 
-    holds : HoldKept cmp v tables a.picked r held.union a.next next_tables
+    holds : HoldKept v tables a.picked (kept cmp r a.picked.deeper held.union) a.next next_tables
     holds = record {
       holds_staying = λ x at.
           let s = from_flat_map (λ (f : NewFile). table_entries tables f.meta.number) (staying_files v a.picked) x at in

@@ -20,8 +20,8 @@ use edit::{CompactPointer, Comparator, Fault, FaultName, NewFile, Version, Versi
 use pick::{InputFile, Inputs, first_missing, numbered_inputs};
 use std::alloc::Global;
 
-/// The inputs of the compaction that has this edit: the files of `version` that it deletes. Apply if
-/// they aren't closed or the edit isn't one for them. The only other fault is Memory.
+/// The inputs of the compaction that has this edit: the files of `version` that it deletes. Apply
+/// if they aren't closed or the edit isn't one for them. The only other fault is Memory.
 pub(crate) fn fitting_inputs<C: Comparator>(
     alloc: Global,
     version: &Version,

@@ -258,7 +258,7 @@ module _ (cmp : List ℕ → List ℕ → Ordering) (total : IsTotalOrder cmp) (
 
   module _ (v : State) (tables : List NumberedContents) (p : PickedInputs) (r : Readable) (union : List Entry) (after : State) (tables_after : List NumberedContents)
       (lawful : IsLawful cmp v tables) (low : All (λ (f : NewFile). f.level ≤ 6) v.files) (safe : AreSafe cmp v tables p)
-      (is_union : IsUnion cmp (entries_of_inputs tables p) union) (hold : HoldKept cmp v tables p r union after tables_after)
+      (is_union : IsUnion cmp (entries_of_inputs tables p) union) (hold : HoldKept v tables p (kept cmp r p.deeper union) after tables_after)
       (user : List ℕ) (at : ℕ) (read : is_read r at ≡ true) where
     abbrev above : List Entry
     above = entries_read tables user (files_above cmp v p)
@@ -269,7 +269,7 @@ module _ (cmp : List ℕ → List ℕ → Ordering) (total : IsTotalOrder cmp) (
     abbrev below : List Entry
     below = entries_read tables user (files_below cmp v p)
 
-    stand : StandTogether cmp v tables p user above inputs below
+    stand : StandTogether cmp v tables p user
     stand = stand_together cmp total v tables p user lawful low safe
 
     -- the entries of the inputs' tables are those of the union

@@ -451,8 +451,8 @@ module _ (cmp : List ℕ → List ℕ → Ordering) (total : IsTotalOrder cmp) (
       by_side f k (inl i) = inl (in_flat_map (λ (g : NewFile). table_entries tables g.meta.number) (staying_files v r.picked) f e i (subst (λ (l : List Entry). Contains l e) (old_entries f i) k))
       by_side f k (inr s) = inr (subst (λ (l : List Entry). Contains l e) held.holds_kept (in_all s.0 s.1 e (in_output s.0 s.1 f s.2 e k)))
 
-  pub holds_after : HoldKept cmp v tables r.picked readable held.union after (tables_after cmp r.picked answer tables)
-  holds_after = subst (HoldKept cmp v tables r.picked readable held.union after) (sym now_is) (record { holds_staying = hold_staying; holds_kept = hold_kept; only = hold_only })
+  pub holds_after : HoldKept v tables r.picked (kept cmp readable r.picked.deeper held.union) after (tables_after cmp r.picked answer tables)
+  holds_after = subst (HoldKept v tables r.picked (kept cmp readable r.picked.deeper held.union) after) (sym now_is) (record { holds_staying = hold_staying; holds_kept = hold_kept; only = hold_only })
 
 pub stands_after : (cmp : List ℕ → List ℕ → Ordering) → IsTotalOrder cmp → IsExact cmp → (short_keys : ShortKeys) → VersionAfterLaw cmp short_keys
 stands_after cmp total exact short_keys = record {

@@ -316,7 +316,7 @@ module _ (cmp : List ℕ → List ℕ → Ordering) (total : IsTotalOrder cmp) (
       let inside : is_in_none cmp p.deeper (user_of e.key) ≡ false = All-contains (λ (y : Entry). is_in_none cmp p.deeper (user_of y.key) ≡ false) (table_entries tables x.file.meta.number) e (closed.at_base x.file x.there x.deeper) x.held_by in
       false_true (is_in_none cmp p.deeper user) none (subst (λ (u : List ℕ). is_in_none cmp p.deeper u ≡ false) x.own inside))
 
-  pub stand_together : StandTogether cmp v tables p user above inputs below
+  pub stand_together : StandTogether cmp v tables p user
   stand_together = record {
     read = read_is;
     falls = falling;

@@ -25,17 +25,16 @@ staying_files v p = filter (λ (f : NewFile). not (is_input p f.meta.number)) v.
 abbrev pub entries_of_inputs : List NumberedContents → PickedInputs → List (List Entry)
 entries_of_inputs tables p = map (λ (i : InputFile). table_entries tables i.meta.number) p.files
 
--- The files of the version after have the entries of the files that stay, what is kept of the
--- inputs' union, and no other entries.
-pub record HoldKept (cmp : KeyOrder) (v : State) (tables : List NumberedContents) (p : PickedInputs)
-    (r : Readable) (union : List Entry) (after : State) (tables_after : List NumberedContents)
-    : Type 0 where
+-- The files of the version after have the entries of the files that stay, these of the inputs that
+-- are kept, and no other entries.
+pub record HoldKept (v : State) (tables : List NumberedContents) (p : PickedInputs)
+    (kept_ones : List Entry) (after : State) (tables_after : List NumberedContents) : Type 0 where
   pub holds_staying : (e : Entry) → Contains (all_entries tables (staying_files v p)) e →
       Contains (all_entries tables_after after.files) e
-  pub holds_kept : (e : Entry) → Contains (kept cmp r p.deeper union) e →
+  pub holds_kept : (e : Entry) → Contains kept_ones e →
       Contains (all_entries tables_after after.files) e
   pub only : (e : Entry) → Contains (all_entries tables_after after.files) e →
-      Contains (all_entries tables (staying_files v p)) e ⊎ Contains (kept cmp r p.deeper union) e
+      Contains (all_entries tables (staying_files v p)) e ⊎ Contains kept_ones e
 
 -- Let the inputs be picked from a lawful version with files at levels up to 6. If the version after
 -- holds what is kept of their union, each get at a sequence that stays readable answers as before.
@@ -46,6 +45,6 @@ GetsAfter cmp =
     IsLawful cmp v tables → All (λ (f : NewFile). f.level ≤ LAST_LEVEL) v.files →
     IsPicked cmp v level p →
     IsUnion cmp (entries_of_inputs tables p) union →
-    HoldKept cmp v tables p r union after tables_after →
+    HoldKept v tables p (kept cmp r p.deeper union) after tables_after →
     (user : List ℕ) (at : ℕ) → is_read r at ≡ true → get_of after tables_after user at
     ≡ get_of v tables user at

@@ -52,31 +52,51 @@ files_taken cmp v p = filter (λ f. is_input p f.number) (files_read cmp v 0 (p.
 abbrev pub files_below : KeyOrder → State → PickedInputs → List FileMeta
 files_below cmp v p = files_read cmp v (p.level + 2) (5 - p.level)
 
+-- the entries of a user key in the files above the inputs, in the inputs, and below them
+abbrev pub entries_above : KeyOrder → State → List NumberedContents → PickedInputs → List ℕ →
+    List Entry
+entries_above cmp v tables p user = entries_read tables user (files_above cmp v p)
+
+abbrev pub entries_taken : KeyOrder → State → List NumberedContents → PickedInputs → List ℕ →
+    List Entry
+entries_taken cmp v tables p user = entries_read tables user (files_taken cmp v p)
+
+abbrev pub entries_below : KeyOrder → State → List NumberedContents → PickedInputs → List ℕ →
+    List Entry
+entries_below cmp v tables p user = entries_read tables user (files_below cmp v p)
+
+-- all of them
+abbrev pub entries_together : KeyOrder → State → List NumberedContents → PickedInputs → List ℕ →
+    List Entry
+entries_together cmp v tables p user = entries_above cmp v tables p user
+    ++ (entries_taken cmp v tables p user ++ entries_below cmp v tables p user)
+
 -- The entries of a user key in a version's files:
 pub record StandTogether (cmp : KeyOrder) (v : State) (tables : List NumberedContents)
-    (p : PickedInputs) (user : List ℕ) (above inputs below : List Entry) : Type 0 where
+    (p : PickedInputs) (user : List ℕ) : Type 0 where
   -- as they are read they are those above the inputs, those of the inputs, and those below;
-  pub read : entries_read tables user (files_read cmp v 0 LEVELS) ≡ above ++ (inputs ++ below)
+  pub read : entries_read tables user (files_read cmp v 0 LEVELS)
+      ≡ entries_together cmp v tables p user
   -- their sequences fall;
-  pub falls : SequencesFall (above ++ (inputs ++ below))
+  pub falls : SequencesFall (entries_together cmp v tables p user)
   -- those of the inputs are all that the inputs have of the user key, and the others all that the
   -- files have that stay;
   pub of_inputs : AreThoseOf user
-      (flat_map (λ (i : InputFile). table_entries tables i.meta.number) p.files) inputs
-  pub of_user : AreOf user inputs
+      (flat_map (λ (i : InputFile). table_entries tables i.meta.number) p.files)
+      (entries_taken cmp v tables p user)
+  pub of_user : AreOf user (entries_taken cmp v tables p user)
   pub of_others : AreThoseOf user
-      (all_entries tables (filter (λ f. not (is_input p f.meta.number)) v.files)) (above ++ below)
+      (all_entries tables (filter (λ f. not (is_input p f.meta.number)) v.files))
+      (entries_above cmp v tables p user ++ entries_below cmp v tables p user)
   -- there are none below if no deeper file's range holds the user key;
-  pub at_base : is_in_none cmp p.deeper user ≡ true → below ≡ []
+  pub at_base : is_in_none cmp p.deeper user ≡ true → entries_below cmp v tables p user ≡ []
   -- and what the version answers of the user key is what they answer, the newest first.
-  pub answers : (at : ℕ) → get_of v tables user at ≡ answer_at at (above ++ (inputs ++ below))
+  pub answers : (at : ℕ) → get_of v tables user at
+      ≡ answer_at at (entries_together cmp v tables p user)
 
 -- so they are in each lawful version with files at levels up to 6 and picked inputs
 abbrev pub InputsStandTogether : KeyOrder → Type 0
 InputsStandTogether cmp =
     (v : State) (tables : List NumberedContents) (level : ℕ) (p : PickedInputs) (user : List ℕ) →
     IsLawful cmp v tables → All (λ (f : NewFile). f.level ≤ LAST_LEVEL) v.files →
-    IsPicked cmp v level p →
-    StandTogether cmp v tables p user (entries_read tables user (files_above cmp v p))
-    (entries_read tables user (files_taken cmp v p))
-    (entries_read tables user (files_below cmp v p))
+    IsPicked cmp v level p → StandTogether cmp v tables p user

@@ -14,6 +14,7 @@ use Rattle.reads.specs.Tables.{NumberedContents}
 use Rattle.compact.specs.ClosedInputs.{is_input}
 use Rattle.compact.specs.InputsOver.{AreInputsOver}
 use Rattle.keep.specs.Readable.{readable_of, is_read}
+use Rattle.keep.specs.DropRule.{kept}
 use Rattle.compact.specs.Request.{RequestView}
 use Rattle.compact.specs.OneThread.{Answer, one_thread}
 use Rattle.compact.specs.GetsAfter.{HoldKept}
@@ -47,7 +48,8 @@ pub record VersionAfterLaw (cmp : KeyOrder) (short_keys : ShortKeys) : Type 0 wh
       IsLawful cmp v tables → All (λ (f : NewFile). f.level ≤ LAST_LEVEL) v.files →
       IsPicked cmp v level r.picked → IsOver v tables r →
       (held : HoldOutputs cmp short_keys tables r answer) →
-      HoldKept cmp v tables r.picked (readable_of r.snapshots r.last_sequence) held.union
+      HoldKept v tables r.picked
+      (kept cmp (readable_of r.snapshots r.last_sequence) r.picked.deeper held.union)
       (version_after v r held.outputs) (tables_after cmp r.picked answer tables)
 
 -- The edit applies, the version after is lawful, and each get at a sequence that stays readable

@@ -39,7 +39,7 @@ impl<'a> Model for RangeRun<'a> {
 
 impl<'a> RangeRun<'a> {
     /// No entry and no mark.
-    pub(crate) fn new(alloc: Global) -> RangeRun<'a>
+    pub fn new(alloc: Global) -> RangeRun<'a>
         ensures { result ≡ record { kept = []; marks = [] } }
     {
         RangeRun {
@@ -49,7 +49,7 @@ impl<'a> RangeRun<'a> {
     }
 
     /// Appends a kept entry whose key shares `shared` bytes with the last one.
-    pub(crate) fn push(
+    pub fn push(
         &mut self,
         key: InternalKey<'_>,
         value: &'a [u8],
@@ -69,7 +69,7 @@ impl<'a> RangeRun<'a> {
     }
 
     /// The bytes of the last kept key, an internal key; none if there is no entry.
-    pub(crate) fn last_key(&self) -> &[u8]
+    pub fn last_key(&self) -> &[u8]
         ensures value { result.now ≡ last_key [] self.now.kept }
         ensures tagged { 0 < length self.now.kept → TAG_LEN ≤ length result.now }
     {
@@ -81,7 +81,7 @@ impl<'a> RangeRun<'a> {
     }
 
     /// Appends a mark, with `below` grandparents, before the next kept entry.
-    pub(crate) fn push_mark(&mut self, below: usize) -> Result<(), Fault>
+    pub fn push_mark(&mut self, below: usize) -> Result<(), Fault>
         ensures ok { OnOk result (self.new ≡ record {
           kept = self.old.kept;
           marks = self.old.marks ++ record { below = below; kept = length self.old.kept } ∷ [];

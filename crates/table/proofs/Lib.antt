@@ -29,3 +29,4 @@ pub mod NamedBlocks
 pub mod KeyBytes
 pub mod KeyLists
 pub mod OwnedTables
+pub mod ReadTables

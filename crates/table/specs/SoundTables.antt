@@ -5,7 +5,8 @@ use Rattle.block.specs.EncodedEntry.{Entry}
 use Rattle.block.specs.BuilderView.{last_key}
 use Rattle.table.specs.EntryTests.{HaveInternalKeys, first_key}
 use Rattle.table.specs.IndexReading.{IndexEntry, index_reading}
-use Rattle.table.specs.TableContents.{DataBlock, index_in, data_reading, entries_of}
+use Rattle.table.specs.TableContents.{Contents, DataBlock, contents_reading, index_in, data_reading}
+use Rattle.table.specs.TableContents.{entries_of}
 use Rattle.table.specs.Tallies.{tally_of}
 use Rattle.table.specs.declared.bounds.Bounds.{Bounds}
 
@@ -32,3 +33,11 @@ pub record HasBounds (cmp : KeyOrder) (bytes : List ℕ) (named : List Entry)
 pub record IsCheckedTable (cmp : KeyOrder) (bytes : List ℕ) (bounds : Bounds) : Type 0 where
   pub named : List Entry
   pub has : HasBounds cmp bytes named bounds
+
+-- the bytes read as a table of these bounds, of which this is counted
+pub record HasBoundsRead (cmp : KeyOrder) (bytes : List ℕ) (bounds : Bounds) : Type 0 where
+  pub contents : Contents
+  pub read : contents_reading cmp bytes ≡ Ok contents
+  pub first : bounds.smallest ≡ first_key contents.entries
+  pub last : bounds.largest ≡ last_key [] contents.entries
+  pub tally : bounds.tally ≡ tally_of contents.entries

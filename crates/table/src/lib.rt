@@ -3,6 +3,7 @@
 //! 1. A [`TableBuilder`] with its [`Options`] writes a table, entry by entry.
 //! 2. [`check`] reads bytes as a table and answers a [`SoundTable`]. An [`OwnedTable`] keeps its
 //!    bytes with the [`Bounds`] that this check found, and lends a `SoundTable` again and again.
+//!    [`reopen_table`] makes one of bytes that are lent again, with these bounds.
 //! 3. A [`TableCursor`] walks a `SoundTable`, and seeks in it, without a further test. [`Cursor`]
 //!    is what each cursor over sorted entries promises.
 //!
@@ -57,7 +58,7 @@ pub use layout::{push_closing, push_index_entry, push_stored};
 pub use options::{
     DEFAULT_BLOCK_SIZE, DEFAULT_FILE_SIZE, DEFAULT_RESTART_INTERVAL, MAX_BLOCK_SIZE, Options,
 };
-pub use owned_table::OwnedTable;
+pub use owned_table::{OwnedTable, reopen_table};
 pub use parts_law::parts_read_back;
 pub use sound_table::SoundTable;
 pub use table_check::{MAX_TABLE_LEN, MAX_VALUE_LEN, check, reads_tables};

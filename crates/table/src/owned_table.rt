@@ -4,7 +4,7 @@ ghost use Rattle.std.specs.Prelude.{◌≡◌, ◌-◌, Ok, Some, IsOk, IfOk, If
 ghost use Rattle.std.specs.Option.{option_map};
 ghost use Rattle.coding.specs.Answers.{EqualOrMemory, FailsOrMemory};
 ghost use Rattle.table.specs.TableContents.{contents_reading, index_in};
-ghost use Rattle.table.specs.SoundTables.{IsCheckedTable};
+ghost use Rattle.table.specs.SoundTables.{HasBoundsRead, IsCheckedTable};
 
 use crate::bounds::Bounds;
 use crate::footer::{FOOTER_LEN, Footer};
@@ -107,6 +107,15 @@ fn checked_bounds<C: Comparator>(alloc: Global, bytes: &[u8]) -> Result<Bounds, 
 {
     let table = check::<C>(alloc, bytes)?;
     Ok(table.into_bounds())
+}
+
+/// The table of bytes that were checked, with what the check found beside them. No test is made
+/// again: it reads the footer and where the index block is. Takes no memory.
+pub fn reopen_table<C: Comparator>(bytes: &[u8], bounds: Bounds) -> SoundTable<'_, C>
+    requires { HasBoundsRead C.cmp bytes.now bounds }
+    ensures { contents_reading C.cmp bytes.now ≡ Ok result }
+{
+    SoundTable::of(bytes, index_again(bytes), bounds)
 }
 
 /// The index block of bytes that were checked. No test is made again.

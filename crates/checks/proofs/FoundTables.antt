@@ -49,7 +49,7 @@ own_bytes cmp bytes x h =
     ap (λ (c : Contents). c.bytes) (ok_is (contents_of bytes parts.0) x parts.2)
 
 -- what was read can be read again
-again : (cmp : List ℕ → List ℕ → Ordering) (bytes : List ℕ) (x : Contents) → contents_reading cmp bytes ≡ Ok x → contents_reading cmp x.bytes ≡ Ok x
+pub again : (cmp : List ℕ → List ℕ → Ordering) (bytes : List ℕ) (x : Contents) → contents_reading cmp bytes ≡ Ok x → contents_reading cmp x.bytes ≡ Ok x
 again cmp bytes x h = subst (λ (b : List ℕ). contents_reading cmp b ≡ Ok x) (own_bytes cmp bytes x h) h
 
 -- ---- one table for each number

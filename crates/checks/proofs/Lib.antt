@@ -6,6 +6,7 @@ pub mod CommonRanges
 pub mod NeededLemmas
 pub mod FoundTables
 mod ToldTables
+pub mod HeldAnswers
 pub mod FileTables
 mod KeptTables
 mod ReadTables

@@ -13,7 +13,7 @@ use Rattle.checks.specs.HeldTables.{AreFound, held_numbers}
 use Rattle.checks.specs.HeldBytes.{IsToldTable}
 
 -- the table of a number, as whatever tells more tells it
-answered_by : (one other : ToldFiles) → IsToldBy one other → (n : ℕ) (bytes : List ℕ) → IsTableAnswer one n (Ok bytes) → IsTableAnswer other n (Ok bytes)
+pub answered_by : (one other : ToldFiles) → IsToldBy one other → (n : ℕ) (bytes : List ℕ) → IsTableAnswer one n (Ok bytes) → IsTableAnswer other n (Ok bytes)
 answered_by one other by n bytes (inl there) = inl (by (table_name n) (Some bytes) there)
 answered_by one other by n bytes (inr there) = inr (by (table_name n) None there.0, by (old_table_name n) (Some bytes) there.1)
 

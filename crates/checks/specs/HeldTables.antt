@@ -6,25 +6,34 @@ use Rattle.ikey.specs.Answers.{IsThen}
 use Rattle.ikey.specs.fault.Fault.{Fault}
 use Rattle.ikey.specs.Comparator.{KeyOrder}
 use Rattle.table.specs.TableContents.{Contents, contents_reading}
-use Rattle.folder.specs.Calls.{Files}
+use Rattle.folder.specs.Calls.{Files, ToldFiles}
 use Rattle.folder.specs.LoadedTables.{IsLoaded, IsTableAnswer}
 use Rattle.folder.specs.ReadsAs.{IsFileIn}
 use Rattle.reads.specs.Tables.{NumberedContents}
 use Rattle.checks.specs.TableReadings.{tables_reading}
 
--- the table of a number among these files, and what it holds
-pub record IsTableIn (cmp : KeyOrder) (files : Files) (number : ℕ) (x : Contents) : Type 0 where
-  pub there : IsTableAnswer (IsFileIn files) number (Ok x.bytes)
+-- the table of a number, as a folder tells it, and what it holds
+pub record IsTableBy (cmp : KeyOrder) (tells : ToldFiles) (number : ℕ) (x : Contents) : Type 0 where
+  pub there : IsTableAnswer tells number (Ok x.bytes)
   pub read : contents_reading cmp x.bytes ≡ Ok x
+
+-- the same of a folder that tells just these files
+abbrev pub IsTableIn : KeyOrder → Files → ℕ → Contents → Type 0
+IsTableIn cmp files number x = IsTableBy cmp (IsFileIn files) number x
 
 -- the numbers of tables
 abbrev pub held_numbers : List NumberedContents → List ℕ
 held_numbers tables = map (λ (t : NumberedContents). t.number) tables
 
+-- Each of the tables is the one of its number, as a folder tells it. That may be a folder that
+-- allows several answers, or every answer: then each table is one of those that it allows.
+abbrev pub AreHeldBy : KeyOrder → ToldFiles → List NumberedContents → Type 0
+AreHeldBy cmp tells tables =
+    All (λ (t : NumberedContents). IsTableBy cmp tells t.number t.contents) tables
+
 -- each of the tables is the one of its number among the files
 abbrev pub AreHeldIn : KeyOrder → Files → List NumberedContents → Type 0
-AreHeldIn cmp files tables =
-    All (λ (t : NumberedContents). IsTableIn cmp files t.number t.contents) tables
+AreHeldIn cmp files tables = AreHeldBy cmp (IsFileIn files) tables
 
 -- these are the tables of the numbers among the files, in order
 abbrev pub AreFound : KeyOrder → Files → List ℕ → List NumberedContents → Type 0

@@ -10,7 +10,7 @@ ghost use Rattle.folder.specs.Calls.{Files, Tells};
 ghost use Rattle.folder.specs.OpenAnswer.{FolderAnswers};
 ghost use Rattle.folder.specs.Reports.{OnlyReads, ReportsDevice};
 ghost use Rattle.checks.specs.TableAnswers.{IsInvalid, IsRead};
-ghost use Rattle.checks.specs.HeldTables.{IsFoundAnswer, held_numbers};
+ghost use Rattle.checks.specs.HeldTables.{AreHeldBy, IsFoundAnswer, held_numbers};
 ghost use Rattle.checks.specs.TablePlaces.{AreBounds, IsLoadedIfThere};
 
 use crate::held_table::HeldTable;
@@ -39,6 +39,9 @@ pub(crate) fn read_tables<C: SharedComparator, F: ReadsTables, G: Gate + Sync, R
         (F.failed folder.new) result (IsFoundAnswer C.cmp files numbers.now) }
     ensures numbers { IfOk result
         (λ found. IfSome found (λ v. held_numbers v.items ≡ numbers.now)) }
+    // Whatever the folder tells.
+    ensures told { IfOk result
+        (λ found. IfSome found (λ v. AreHeldBy C.cmp (F.tells folder.old) v.items)) }
     ensures device { ReportsDevice F.Folder folder.old folder.new result }
     ensures reads { OnlyReads F.Folder folder.old folder.new }
 {

@@ -5,7 +5,7 @@ ghost use Rattle.ikey.specs.Answers.{EqualOrMemory};
 ghost use Rattle.folder.specs.Calls.{Files, Tells};
 ghost use Rattle.folder.specs.OpenAnswer.{FolderAnswers};
 ghost use Rattle.folder.specs.Reports.{OnlyReads, ReportsDevice};
-ghost use Rattle.checks.specs.HeldTables.{AreHeldIn, AreReadAs, IsFoundAnswer, held_if};
+ghost use Rattle.checks.specs.HeldTables.{AreHeldBy, AreHeldIn, AreReadAs, IsFoundAnswer, held_if};
 ghost use Rattle.checks.specs.HeldTables.{held_numbers};
 
 use crate::found_tables::read_tables;
@@ -89,8 +89,9 @@ pub fn hold_next<C: SharedComparator, F: ReadsTables, G: Gate + Sync, R: Threads
         (F.failed folder.new) result (IsFoundAnswer C.cmp files numbers.now) }
     ensures numbers { IfOk result
         (λ is_held. is_held ≡ true → held_numbers held.new ≡ numbers.now) }
-    ensures held { (files : Files) → Tells (F.tells folder.old) files →
-        AreHeldIn C.cmp files held.old → AreHeldIn C.cmp files held.new }
+    // Of any folder, also one that tells nothing.
+    ensures held { AreHeldBy C.cmp (F.tells folder.old) held.old →
+        AreHeldBy C.cmp (F.tells folder.old) held.new }
     ensures device { ReportsDevice F.Folder folder.old folder.new result }
     ensures reads { OnlyReads F.Folder folder.old folder.new }
 {
@@ -117,6 +118,8 @@ pub(crate) fn hold_tables<C: SharedComparator, F: ReadsTables, G: Gate + Sync, R
         (IsFoundAnswer C.cmp files numbers.now) }
     ensures numbers { IfOk result
         (λ found. IfSome found (λ tables. held_numbers tables ≡ numbers.now)) }
+    ensures held { AreHeldBy C.cmp (F.tells folder.old) held →
+        IfOk result (λ found. IfSome found (AreHeldBy C.cmp (F.tells folder.old))) }
     ensures device { ReportsDevice F.Folder folder.old folder.new result }
     ensures reads { OnlyReads F.Folder folder.old folder.new }
 {

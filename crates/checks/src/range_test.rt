@@ -6,7 +6,7 @@ ghost use Rattle.folder.specs.OpenAnswer.{FolderAnswers};
 ghost use Rattle.folder.specs.Reports.{OnlyReads, ReportsDevice};
 ghost use Rattle.split.specs.Ranges.{IsCover, key_range};
 ghost use Rattle.checks.specs.GroupTest.{IsRangeAnswer, IsRangesAnswer};
-ghost use Rattle.checks.specs.HeldTables.{AreHeldIn};
+ghost use Rattle.checks.specs.HeldTables.{AreHeldBy, AreHeldIn};
 ghost use Rattle.board.specs.declared.limits.TheConstants.{MAX_JOBS};
 
 use crate::held_tables::{HeldTables, hold_next};
@@ -42,8 +42,8 @@ pub(crate) fn test_ranges<
         AreHeldIn C.cmp files held.old →
         FolderAnswers (λ found. found) (F.failed folder.old) (F.failed folder.new) result
         (IsRangesAnswer C.cmp files next (map (λ f. f.now) standing.now) split.now) }
-    ensures held { (files : Files) → Tells (F.tells folder.old) files →
-        AreHeldIn C.cmp files held.old → AreHeldIn C.cmp files held.new }
+    ensures held { AreHeldBy C.cmp (F.tells folder.old) held.old →
+        AreHeldBy C.cmp (F.tells folder.old) held.new }
     ensures cover { IsCover C.cmp split.now }
     ensures device { ReportsDevice F.Folder folder.old folder.new result }
     ensures reads { OnlyReads F.Folder folder.old folder.new }
@@ -75,8 +75,8 @@ fn test_range<C: SharedComparator + 'static, F: ReadsTables, G: Gate + Sync, R: 
         AreHeldIn C.cmp files held.old →
         FolderAnswers (λ found. found) (F.failed folder.old) (F.failed folder.new) result
         (IsRangeAnswer C.cmp files next (map (λ f. f.now) standing.now) (key_range range.entry)) }
-    ensures held { (files : Files) → Tells (F.tells folder.old) files →
-        AreHeldIn C.cmp files held.old → AreHeldIn C.cmp files held.new }
+    ensures held { AreHeldBy C.cmp (F.tells folder.old) held.old →
+        AreHeldBy C.cmp (F.tells folder.old) held.new }
     ensures small { IfOk result (λ found. IfSome found (λ count. count ≤ 2 ^ 100)) }
     ensures device { ReportsDevice F.Folder folder.old folder.new result }
     ensures reads { OnlyReads F.Folder folder.old folder.new }

@@ -6,7 +6,7 @@ ghost use Rattle.folder.specs.OpenAnswer.{FolderAnswers};
 ghost use Rattle.folder.specs.ReadsAs.{IsFileIn};
 ghost use Rattle.folder.specs.Reports.{OnlyReads, ReportsDevice};
 ghost use Rattle.checks.specs.GroupTest.{IsSweepAnswer};
-ghost use Rattle.checks.specs.HeldTables.{AreHeldIn};
+ghost use Rattle.checks.specs.HeldTables.{AreHeldBy, AreHeldIn};
 ghost use Rattle.checks.specs.TestedTables.{IsTested};
 
 use crate::file_groups::group_split;
@@ -79,8 +79,9 @@ pub fn test_and_hold<
     ensures answer { (files : Files) → Tells (F.tells folder.old) files →
         FolderAnswers (λ found. found.tested) (F.failed folder.old) (F.failed folder.new) result
         (IsTested (IsFileIn files) C.cmp version.now) }
-    ensures held { (files : Files) → Tells (F.tells folder.old) files →
-        IfOk result (λ found. AreHeldIn C.cmp files found.tables) }
+    // Of any folder, also one that tells nothing: each table that is handed on is an answer that it
+    // allows for its number.
+    ensures held { IfOk result (λ found. AreHeldBy C.cmp (F.tells folder.old) found.tables) }
     ensures device { ReportsDevice F.Folder folder.old folder.new result }
     ensures reads { OnlyReads F.Folder folder.old folder.new }
 {
@@ -112,8 +113,8 @@ fn tested_entries<C: SharedComparator + 'static, F: ReadsTables, G: Gate + Sync,
         AreHeldIn C.cmp files held.old →
         FolderAnswers (λ found. found) (F.failed folder.old) (F.failed folder.new) result
         (IsSweepAnswer C.cmp files version.now) }
-    ensures held { (files : Files) → Tells (F.tells folder.old) files →
-        AreHeldIn C.cmp files held.old → AreHeldIn C.cmp files held.new }
+    ensures held { AreHeldBy C.cmp (F.tells folder.old) held.old →
+        AreHeldBy C.cmp (F.tells folder.old) held.new }
     ensures device { ReportsDevice F.Folder folder.old folder.new result }
     ensures reads { OnlyReads F.Folder folder.old folder.new }
 {

@@ -4,7 +4,7 @@ ghost use Rattle.std.specs.Prelude.{◌≡◌, ◌<◌, ◌≤◌, IfOk};
 ghost use Rattle.folder.specs.Calls.{Files, Tells};
 ghost use Rattle.folder.specs.OpenAnswer.{FolderAnswers};
 ghost use Rattle.folder.specs.Reports.{OnlyReads, ReportsDevice};
-ghost use Rattle.checks.specs.HeldTables.{AreHeldIn, IsCheckedAnswer, held_numbers};
+ghost use Rattle.checks.specs.HeldTables.{AreHeldBy, AreHeldIn, IsCheckedAnswer, held_numbers};
 
 use crate::first_refusal::check_in_order;
 use crate::held_tables::{HeldTables, hold_tables};
@@ -34,6 +34,10 @@ pub fn checked_tables<C: SharedComparator, F: ReadsTables, G: Gate + Sync, R: Th
         FolderAnswers (λ tables. tables) (F.failed folder.old) (F.failed folder.new) result
         (IsCheckedAnswer C.cmp files numbers.now) }
     ensures numbers { IfOk result (λ tables. held_numbers tables ≡ numbers.now) }
+    // Of any folder, also one that tells nothing: each table is an answer that it allows for its
+    // number.
+    ensures held { AreHeldBy C.cmp (F.tells folder.old) held →
+        IfOk result (AreHeldBy C.cmp (F.tells folder.old)) }
     ensures device { ReportsDevice F.Folder folder.old folder.new result }
     ensures reads { OnlyReads F.Folder folder.old folder.new }
 {

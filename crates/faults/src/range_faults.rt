@@ -8,7 +8,7 @@ ghost use Rattle.folder.specs.Calls.{Files, Tells};
 ghost use Rattle.folder.specs.OpenAnswer.{IsStopped};
 ghost use Rattle.folder.specs.Reports.{OnlyReads, ReportsDevice};
 ghost use Rattle.reads.specs.Ranges.{IsCover, IsIn, key_range};
-ghost use Rattle.checks.specs.HeldTables.{AreHeldIn};
+ghost use Rattle.checks.specs.HeldTables.{AreHeldBy, AreHeldIn};
 ghost use Rattle.faults.specs.VersionFault.{OfKey};
 ghost use Rattle.faults.specs.KeyFaults.{misplaced_keys, read_file, searched_of};
 ghost use Rattle.faults.specs.KeyWalk.{AreMisplacedIn, misplaced_in};
@@ -93,8 +93,8 @@ fn range_faults<C: SharedComparator + 'static, F: ReadsTables, G: Gate + Sync, R
         AreHeldIn C.cmp all held.old → AreSoundIn C.cmp all (map (λ f. f.now) files.now) →
         IfErr result
         (λ e. UnlessMemory e (IsStopped (F.failed folder.old) (F.failed folder.new) e)) }
-    ensures held { (all : Files) → Tells (F.tells folder.old) all →
-        AreHeldIn C.cmp all held.old → AreHeldIn C.cmp all held.new }
+    ensures held { AreHeldBy C.cmp (F.tells folder.old) held.old →
+        AreHeldBy C.cmp (F.tells folder.old) held.new }
     ensures device { ReportsDevice F.Folder folder.old folder.new result }
     ensures reads { OnlyReads F.Folder folder.old folder.new }
 {

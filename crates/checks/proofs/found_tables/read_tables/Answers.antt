@@ -6,6 +6,7 @@ use Rattle.reads.specs.Tables.{NumberedContents}
 use Rattle.checks.specs.TablePlaces.{IsLoadedIfThere}
 use Rattle.checks.proofs.FolderTests.{loaded_in}
 use Rattle.checks.proofs.FoundTables.{none_missing}
+use Rattle.checks.proofs.HeldAnswers.{read_held, told_held}
 use Rattle.checks.proofs.Lent.{lent_table}
 use Rattle.checks.proofs.ReadTables.{read_answers, read_numbered}
 use Rattle.checks.proofs.ToldTables.{told_found, told_numbers}
@@ -45,3 +46,16 @@ returns-in-Some-clause-answer g c files told =
 pub returns-in-Some-clause-numbers : goal.returns-in-Some-clause-numbers
 returns-in-Some-clause-numbers g c =
     told_numbers g.C.Comparator.cmp (g.F.Folder.tells c.args.folder.now) c.in-Some.tables.items c.args.numbers.now c.in-Some.ensures
+
+pub returns-clause-told : goal.returns-clause-told
+returns-clause-told g c =
+    let tells = g.F.Folder.tells c.args.folder.now in
+    let numbers : List ℕ = c.args.numbers.now in
+    let loaded : List (ℕ × List ℕ) = map lent_table c.in-Some-2.loaded.items in
+    let items : Vec NumberedContents Global → List NumberedContents = λ v. v.items in
+    let there = subst (λ (o : Option (Vec (ℕ × Vec ℕ Global) Global)). IsLoadedIfThere tells numbers (Ok (option_map (λ v. map lent_table v.items) o))) c.in-Some-2.is c.in_ok-loaded.ensures.answer in
+    read_held g.C.Comparator.cmp tells items numbers loaded there c.owned_tables.result c.owned_tables.ensures.checked
+
+pub returns-in-Some-clause-told : goal.returns-in-Some-clause-told
+returns-in-Some-clause-told g c =
+    told_held g.C.Comparator.cmp (g.F.Folder.tells c.args.folder.now) c.in-Some.tables.items c.args.numbers.now c.in-Some.ensures

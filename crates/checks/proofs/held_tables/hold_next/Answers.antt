@@ -1,8 +1,7 @@
-use Rattle.std.proofs.Common.{List, Option, Ok, sym, subst, arith}
+use Rattle.std.proofs.Common.{List, Option, IfSome, sym, subst, arith}
 use Rattle.folder.proofs.OpeningLemmas.{hands_on}
 use Rattle.reads.specs.Tables.{NumberedContents}
-use Rattle.checks.specs.HeldTables.{AreHeldIn, IsFoundAnswer}
-use Rattle.checks.proofs.FoundTables.{found_held}
+use Rattle.checks.specs.HeldTables.{AreHeldBy, AreHeldIn, IsFoundAnswer}
 use Rattle.checks.proofs.held_tables.hold_next.Goals as goal
 
 pub returns-in_err-found-clause-answer : goal.returns-in_err-found-clause-answer
@@ -15,8 +14,8 @@ returns-in_err-found-clause-answer g c files told are =
     c.from_residual.ensures.1 (omega arith) c.hold_tables.ensures.device.later (c.in_err-found.ensures.answer files told own) (λ h. absurd h)
 
 pub returns-clause-held : goal.returns-clause-held
-returns-clause-held g c files told are =
+returns-clause-held g c are =
     let cmp = g.C.Comparator.cmp in
-    let own : AreHeldIn cmp files c.replace-before.result = subst (AreHeldIn cmp files) (sym c.replace-before.ensures.value) are in
-    found_held cmp files c.args.numbers.now c.in-Some.tables
-    (subst (λ (o : Option (List NumberedContents)). IsFoundAnswer cmp files c.args.numbers.now (Ok o)) c.in-Some.is (c.in_ok-found.ensures.answer files told own))
+    let tells = g.F.Folder.tells c.args.folder.now in
+    let own : AreHeldBy cmp tells c.replace-before.result = subst (AreHeldBy cmp tells) (sym c.replace-before.ensures.value) are in
+    subst (λ (o : Option (List NumberedContents)). IfSome o (AreHeldBy cmp tells)) c.in-Some.is (c.in_ok-found.ensures.held own)

@@ -2,8 +2,9 @@ use Rattle.std.proofs.Common.{Vec, Global, ◌≡◌, ℕ, List, Option, None, O
 use Rattle.std.specs.Option.{option_map}
 use Rattle.ikey.proofs.Binds.{ok_is}
 use Rattle.reads.specs.Tables.{NumberedContents}
-use Rattle.checks.specs.HeldTables.{AreFound, AreHeldIn, IsFoundAnswer, held_numbers}
+use Rattle.checks.specs.HeldTables.{AreFound, AreHeldBy, AreHeldIn, IsFoundAnswer, held_numbers}
 use Rattle.checks.specs.TablePlaces.{place_numbers, wanted_numbers, placed_tables}
+use Rattle.checks.proofs.HeldAnswers.{placed_held}
 use Rattle.checks.proofs.KeptTables.{placed_found, placed_numbers, placed_unfound}
 use Rattle.checks.proofs.held_tables.hold_tables.Goals as goal
 
@@ -52,3 +53,16 @@ returns-clause-numbers g c =
     let own : held_numbers fresh ≡ wanted = subst (λ (o : Option Read). IfSome o (λ v. held_numbers v.items ≡ wanted)) c.in-Some.is c.in_ok-found.ensures.numbers in
     let placed : placed_tables places fresh ≡ tables = ok_is _ _ c.in_ok-tables.ensures in
     ap held_numbers (sym placed) ∙ placed_numbers held places fresh c.in_ok-places.ensures.kept (own ∙ sym wanted_is) ∙ c.in_ok-places.ensures.numbers
+
+pub returns-clause-held : goal.returns-clause-held
+returns-clause-held g c are =
+    let cmp = g.C.Comparator.cmp in
+    let tells = g.F.Folder.tells c.args.folder.now in
+    let held : List NumberedContents = c.held.inside.tables.items in
+    let places : List (ℕ × Option NumberedContents) = c.in_ok-places.places.items in
+    let fresh : List NumberedContents = c.in-Some.fresh.items in
+    let tables : List NumberedContents = c.in_ok-tables.tables.items in
+    let read : AreHeldBy cmp tells fresh = subst (λ (o : Option Read). IfSome o (λ v. AreHeldBy cmp tells v.items)) c.in-Some.is c.in_ok-found.ensures.told in
+    let own : AreHeldBy cmp tells held = subst (AreHeldBy cmp tells) (sym c.held.view_is) are in
+    let placed : placed_tables places fresh ≡ tables = ok_is _ _ c.in_ok-tables.ensures in
+    subst (AreHeldBy cmp tells) placed (placed_held cmp tells held own places fresh c.in_ok-places.ensures.kept read)

@@ -2,7 +2,7 @@ use Rattle.std.proofs.Common.{◌≡◌, ◌*◌, ◌≤◌, ◌^◌, map}
 use Rattle.folder.specs.Calls.{Files, Tells}
 use Rattle.folder.specs.Reports.{OnlyReads}
 use Rattle.checks.specs.GroupTest.{AreRangesSound}
-use Rattle.checks.specs.HeldTables.{AreHeldIn}
+use Rattle.checks.specs.HeldTables.{AreHeldBy, AreHeldIn}
 use Rattle.checks.proofs.range_test.test_ranges.Given as goal
 
 -- the ranges so far are sound
@@ -12,7 +12,7 @@ invariant-loop-number g l =
     let failed = g.F.Folder.failed in
     record {
       sound : (files : Files) → Tells (tells l.fn.folder) files → AreHeldIn g.C.Comparator.cmp files l.fn.held → AreRangesSound g.C.Comparator.cmp files l.next (map (λ f. f.now) l.standing) l.split l.number l.entries;
-      held : (files : Files) → Tells (tells l.fn.folder) files → AreHeldIn g.C.Comparator.cmp files l.fn.held → AreHeldIn g.C.Comparator.cmp files l.held;
+      held : AreHeldBy g.C.Comparator.cmp (tells l.fn.folder) l.fn.held → AreHeldBy g.C.Comparator.cmp (tells l.fn.folder) l.held;
       small : l.entries ≤ l.number * 2 ^ 100;
       reads : OnlyReads g.F.Folder l.fn.folder l.folder;
       failures : failed l.folder ≡ failed l.fn.folder;

@@ -9,10 +9,11 @@ use Rattle.folder.specs.OpenAnswer.{IsStopped}
 use Rattle.folder.specs.ReadsAs.{IsFileIn}
 use Rattle.reads.specs.Tables.{NumberedContents}
 use Rattle.checks.specs.GroupTest.{IsSweepAnswer}
-use Rattle.checks.specs.HeldTables.{AreHeldIn, IsTableIn}
+use Rattle.checks.specs.HeldTables.{AreHeldBy, AreHeldIn, IsTableIn}
 use Rattle.checks.specs.InOrder.{AreChecked}
 use Rattle.checks.specs.TestedTables.{IsTested}
 use Rattle.checks.proofs.FolderTests.{not_lawful_tested, not_tested, tested_ok, told_still}
+use Rattle.checks.proofs.HeldAnswers.{none_held}
 use Rattle.checks.proofs.version_test.test_and_hold.Goals as goal
 
 pub returns-in_err-found-clause-answer : goal.returns-in_err-found-clause-answer
@@ -58,6 +59,7 @@ returns-clause-answer g c files told =
     (inr (not_lawful_tested cmp files v swept.0 swept.1 checked))
 
 pub returns-in-Some-clause-held : goal.returns-in-Some-clause-held
-returns-in-Some-clause-held g c files told =
+returns-in-Some-clause-held g c =
     let cmp = g.C.Comparator.cmp in
-    c.tested_entries.ensures.held files told (subst (AreHeldIn cmp files) (sym c.none-tables.ensures) (All-nil (λ (t : NumberedContents). IsTableIn cmp files t.number t.contents)))
+    let tells = g.F.Folder.tells c.args.folder.now in
+    c.tested_entries.ensures.held (subst (AreHeldBy cmp tells) (sym c.none-tables.ensures) (none_held cmp tells))

@@ -34,4 +34,4 @@ returns-clause-answer g c files told are =
     (IsRangesAnswer cmp files c.next_file-next.result (map now_of c.deref-2.result.now) boundaries) (IsSweepAnswer cmp files v) over (omega arith) c.test_ranges.ensures.device.later (c.test_ranges.ensures.answer files told are)
 
 pub returns-clause-held : goal.returns-clause-held
-returns-clause-held g c files told are = c.test_ranges.ensures.held files told are
+returns-clause-held g c are = c.test_ranges.ensures.held are

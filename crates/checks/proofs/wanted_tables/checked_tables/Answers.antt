@@ -1,7 +1,7 @@
 use Rattle.std.proofs.Common.{◌≡◌, List, Option, Ok, IfSome, subst, arith}
 use Rattle.folder.proofs.OpeningLemmas.{hands_on}
 use Rattle.reads.specs.Tables.{NumberedContents}
-use Rattle.checks.specs.HeldTables.{IsCheckedAnswer, IsFoundAnswer, held_numbers}
+use Rattle.checks.specs.HeldTables.{AreHeldBy, IsCheckedAnswer, IsFoundAnswer, held_numbers}
 use Rattle.checks.specs.InOrder.{AreChecked}
 use Rattle.checks.proofs.CheckedTables.{found_checked, never_passed, refused_in_order}
 use Rattle.checks.proofs.FolderTests.{told_still}
@@ -25,6 +25,12 @@ returns-in-Some-clause-answer g c files told are =
 pub returns-in-Some-clause-numbers : goal.returns-in-Some-clause-numbers
 returns-in-Some-clause-numbers g c =
     subst (λ (o : Option (List NumberedContents)). IfSome o (λ tables. held_numbers tables ≡ c.args.numbers.now)) c.in-Some.is c.in_ok-found.ensures.numbers
+
+pub returns-in-Some-clause-held : goal.returns-in-Some-clause-held
+returns-in-Some-clause-held g c are =
+    let cmp = g.C.Comparator.cmp in
+    let tells = g.F.Folder.tells c.args.folder.now in
+    subst (λ (o : Option (List NumberedContents)). IfSome o (AreHeldBy cmp tells)) c.in-Some.is (c.in_ok-found.ensures.held are)
 
 pub returns-in_err-check_in_order-clause-answer : goal.returns-in_err-check_in_order-clause-answer
 returns-in_err-check_in_order-clause-answer g c files told are =

@@ -1,13 +1,12 @@
 use Rattle.std.proofs.Common.{Bor, ◌≡◌, ℕ, ◌+◌, ◌-◌, ◌<◌, List, ◌++◌, length, map, refl, sym, ap, subst, ◌∙◌, arith}
-use Rattle.std.proofs.lemmas.List.Elements.{All-nil}
 use Rattle.folder.specs.meta.FileMeta.{FileMeta}
 use Rattle.folder.proofs.CountLemmas.{steady}
 use Rattle.folder.proofs.ReportLemmas.{reads_then}
 use Rattle.reads.proofs.Covers.{covers}
 use Rattle.reads.specs.Ranges.{KeyRange, key_range, range_at}
-use Rattle.reads.specs.Tables.{NumberedContents}
-use Rattle.checks.specs.HeldTables.{AreHeldIn, IsTableIn}
+use Rattle.checks.specs.HeldTables.{AreHeldBy}
 use Rattle.checks.proofs.FolderTests.{told_still}
+use Rattle.checks.proofs.HeldAnswers.{held_in, held_through, none_held}
 use Rattle.faults.specs.VersionFault.{MisplacedKey, VersionFault, OfKey}
 use Rattle.faults.specs.KeyFaults.{misplaced_keys, read_file, searched_of}
 use Rattle.faults.specs.KeyWalk.{misplaced_in}
@@ -32,7 +31,7 @@ loop-number-init g c = record {
       let faults : ℕ → List VersionFault = λ n. map OfKey (keys_from cmp c.args.split.now keys 0 n) in
       let same : all ≡ all - 0 = omega arith in
       subst (λ (n : ℕ). IsPart g.T.FaultTaker.tells (faults all) c.args.taker.now c.args.told.count (faults n) c.args.taker.now c.args.told) same (none_told g.T.FaultTaker.tells (faults all) c.args.taker.now c.args.told c.requires);
-  held = λ files told. subst (AreHeldIn g.C.Comparator.cmp files) (sym c.none-held.ensures) (All-nil (λ (t : NumberedContents). IsTableIn g.C.Comparator.cmp files t.number t.contents));
+  held = subst (AreHeldBy g.C.Comparator.cmp (g.F.Folder.tells c.args.folder.now)) (sym c.none-held.ensures) (none_held g.C.Comparator.cmp (g.F.Folder.tells c.args.folder.now));
   goes = c.requires;
   reads = record { same = λ name held. (λ h. h, λ h. h); calls = refl };
   failures = refl;
@@ -52,7 +51,7 @@ loop-number-preserved g c =
           let all : ℕ = length c.args.split.now + 1 in
           let keys : List MisplacedKey = misplaced_keys cmp entries in
           let own : map misplaced_in c.in_ok-faults.faults.items ≡ keys_in cmp (range_at c.args.split.now now.number) keys =
-          part_is cmp met.total met.exact entries (key_range c.range-range.result) (map misplaced_in c.in_ok-faults.faults.items) (c.in_ok-faults.ensures.faults files (told_still (tells c.args.folder.now) (tells now.folder) files now.invariant.reads.same told) (now.invariant.held files told) sound)
+          part_is cmp met.total met.exact entries (key_range c.range-range.result) (map misplaced_in c.in_ok-faults.faults.items) (c.in_ok-faults.ensures.faults files (told_still (tells c.args.folder.now) (tells now.folder) files now.invariant.reads.same told) (held_in g.C.Comparator.cmp (tells c.args.folder.now) files told now.held now.invariant.held) sound)
           ∙ ap (λ (r : KeyRange). keys_in cmp r keys) c.range-range.ensures.bounds in
           let lt : now.number < all = omega (arith, c.len-number-end.ensures.number, now.auto.number-end, c.loop-number-test.true) in
           let step = told_left cmp c.args.split.now keys all now.number c.in_ok-faults.faults.items lt own in
@@ -60,7 +59,7 @@ loop-number-preserved g c =
           let whole : List VersionFault = map OfKey (keys_from cmp c.args.split.now keys 0 all) in
           told_more g.T.FaultTaker.tells whole (map (λ k. OfKey (misplaced_in k)) c.deref.result.now) behind c.args.taker.now now.taker c.tell_keys-told.new.taker c.args.told.count now.told c.tell_keys-told.result now.invariant.goes
           (subst (λ (fs : List VersionFault). IsPart g.T.FaultTaker.tells whole c.args.taker.now c.args.told.count fs now.taker now.told) (step ∙ ap (λ (ks : List KeyFault). map (λ k. OfKey (misplaced_in k)) ks ++ behind) (sym c.deref.ensures.value)) (now.invariant.told files told sound)) c.tell_keys-told.ensures more;
-      held = λ files told. c.in_ok-faults.ensures.held files (told_still (tells c.args.folder.now) (tells now.folder) files now.invariant.reads.same told) (now.invariant.held files told);
+      held = held_through g.C.Comparator.cmp (tells c.args.folder.now) (tells now.folder) now.invariant.reads.same now.held c.range_faults.new.held c.in_ok-faults.ensures.held now.invariant.held;
       goes = more;
       reads = reads_then now.invariant.reads c.range_faults.ensures.reads;
       failures = steady (failed c.args.folder.now) (failed now.folder) (failed c.range_faults.new.folder) c.in_ok-faults.faults c.range_faults.result c.in_ok-faults.was now.invariant.failures c.range_faults.ensures.device.later c.range_faults.ensures.device.at_once;
@@ -83,7 +82,7 @@ returns-in_err-faults-clause-errors g c files told sound =
     let failed = g.F.Folder.failed in
     let now = c.loop-number in
     stopped_handed (failed c.args.folder.now) (failed now.folder) (failed c.range_faults.new.folder) c.from_residual.result c.in_err-faults.field-0.0 c.from_residual.ensures.1 (omega (arith, now.invariant.failures)) c.range_faults.ensures.device.later
-    (c.in_err-faults.ensures.errors files (told_still (tells c.args.folder.now) (tells now.folder) files now.invariant.reads.same told) (now.invariant.held files told) sound)
+    (c.in_err-faults.ensures.errors files (told_still (tells c.args.folder.now) (tells now.folder) files now.invariant.reads.same told) (held_in g.C.Comparator.cmp (tells c.args.folder.now) files told now.held now.invariant.held) sound)
 
 pub returns-then-not-told-clause-told : goal.returns-then-not-told-clause-told
 returns-then-not-told-clause-told g c files told sound =
@@ -95,7 +94,7 @@ returns-then-not-told-clause-told g c files told sound =
     let all : ℕ = length c.args.split.now + 1 in
     let keys : List MisplacedKey = misplaced_keys cmp entries in
     let own : map misplaced_in c.in_ok-faults.faults.items ≡ keys_in cmp (range_at c.args.split.now now.number) keys =
-    part_is cmp met.total met.exact entries (key_range c.range-range.result) (map misplaced_in c.in_ok-faults.faults.items) (c.in_ok-faults.ensures.faults files (told_still (tells c.args.folder.now) (tells now.folder) files now.invariant.reads.same told) (now.invariant.held files told) sound)
+    part_is cmp met.total met.exact entries (key_range c.range-range.result) (map misplaced_in c.in_ok-faults.faults.items) (c.in_ok-faults.ensures.faults files (told_still (tells c.args.folder.now) (tells now.folder) files now.invariant.reads.same told) (held_in g.C.Comparator.cmp (tells c.args.folder.now) files told now.held now.invariant.held) sound)
     ∙ ap (λ (r : KeyRange). keys_in cmp r keys) c.range-range.ensures.bounds in
     let lt : now.number < all = omega (arith, c.len-number-end.ensures.number, now.auto.number-end, c.loop-number-test.true) in
     let step = told_left cmp c.args.split.now keys all now.number c.in_ok-faults.faults.items lt own in

@@ -1,6 +1,7 @@
 -- Inputs whose tables are held.
 use Rattle.std.proofs.Common.{◌≡◌, ℕ, List, [], ◌∷◌, map, Option, Result, Ok, Err, refl, sym, ap, subst, ◌∙◌}
 use Rattle.std.specs.declared.cmp.Ordering.{Ordering}
+use Rattle.std.proofs.lemmas.List.Elements.{All-head, All-tail}
 use Rattle.folder.proofs.Binds.{done, failed, ok_is}
 use Rattle.folder.specs.Answers.{◌>>=◌}
 use Rattle.folder.specs.fault.Fault.{Fault}
@@ -9,13 +10,13 @@ use Rattle.folder.specs.Comparator.{ShortKeys}
 use Rattle.reads.specs.TestResult.{test_result}
 use Rattle.reads.specs.TableContents.{Contents}
 use Rattle.folder.specs.Version.{State}
-use Rattle.folder.specs.Calls.{Files}
+use Rattle.folder.specs.Calls.{Files, ToldFiles}
 use Rattle.folder.specs.LoadedTables.{IsLoaded}
 use Rattle.folder.specs.ReadsAs.{IsFileIn}
 use Rattle.pick.specs.PickedInputs.{PickedInputs}
 use Rattle.reads.specs.Tables.{NumberedContents}
 use Rattle.checks.specs.TableReadings.{tables_reading}
-use Rattle.checks.specs.HeldTables.{IsCheckedAnswer, held_numbers}
+use Rattle.checks.specs.HeldTables.{AreHeldBy, IsCheckedAnswer, IsTableBy, held_numbers}
 use Rattle.checks.specs.HeldBytes.{held_bytes}
 use Rattle.checks.proofs.FoundTables.{checked_parts}
 use Rattle.compact.specs.OneThread.{Answer}
@@ -29,6 +30,13 @@ use Rattle.store.proofs.Loaded.{own_bytes}
 pub numbers_held : (tables : List NumberedContents) → map (λ (t : ℕ × List ℕ). t.0) (held_bytes tables) ≡ held_numbers tables
 numbers_held [] = refl
 numbers_held (t ∷ tables) = ap (λ (ns : List ℕ). t.number ∷ ns) (numbers_held tables)
+
+-- held tables are those that a read of their numbers may give
+pub bytes_told : (cmp : List ℕ → List ℕ → Ordering) (tells : ToldFiles) (tables : List NumberedContents) → AreHeldBy cmp tells tables → IsLoaded tells (held_numbers tables) (Ok (held_bytes tables))
+bytes_told cmp tells [] h = tt
+bytes_told cmp tells (t ∷ tables) h =
+    let one : IsTableBy cmp tells t.number t.contents = All-head (λ (t : NumberedContents). IsTableBy cmp tells t.number t.contents) t tables h in
+    ((refl, one.there), bytes_told cmp tells tables (All-tail (λ (t : NumberedContents). IsTableBy cmp tells t.number t.contents) t tables h))
 
 module _ (cmp : List ℕ → List ℕ → Ordering) where
   -- tables that were read have the bytes that were loaded

@@ -34,3 +34,11 @@ mod Chains
 mod Descending
 mod DescendingSince
 mod LevelRuns
+mod PartFiles
+mod PartRefusals
+mod PlacedInputs
+mod FoundParts
+mod ClosedJoint
+mod StayingParts
+mod PartAnswers
+mod PartNumbers

@@ -5,15 +5,17 @@ use Rattle.folder.proofs.Refusals.{unless_from}
 use Rattle.folder.specs.Answers.{UnlessMemory, fault}
 use Rattle.folder.specs.fault.Fault.{Fault}
 use Rattle.folder.specs.fault.FaultName.TheVariants.{Changed, Device}
+use Rattle.folder.specs.Comparator.{ShortKeys}
 use Rattle.folder.specs.Version.{State}
-use Rattle.folder.proofs.LoadingLemmas.{told_since}
+use Rattle.folder.proofs.LoadingLemmas.{loaded_before, told_since}
 use Rattle.folder.specs.Calls.{Call, Done, Files, Step, Tells}
-use Rattle.folder.specs.CallSequence.{MakesCalls}
+use Rattle.folder.specs.CallSequence.{MakesCalls, TellsThrough}
 use Rattle.folder.specs.Folder.{TellsSame}
 use Rattle.folder.specs.Manifest.{order_name}
 use Rattle.folder.specs.Names.{current_text}
 use Rattle.folder.specs.OpenAnswer.{IsOpened}
 use Rattle.folder.specs.Orders.{order_cmp, order_short_keys}
+use Rattle.folder.specs.declared.folder.Folder.{Ghosts}
 use Rattle.folder.specs.declared.order.Order.{Order}
 use Rattle.install.specs.GroupedInstallation.{tables_of_groups}
 use Rattle.install.specs.Install.{IsStoppedOrChanged, calls_before_rename, install_calls, manifest_bytes}
@@ -23,6 +25,7 @@ use Rattle.compact.specs.OneThread.{Answer}
 use Rattle.compact.specs.declared.settings.Settings.{Settings}
 use Rattle.store.specs.Compaction.{IsSynced}
 use Rattle.store.specs.FolderRequest.{manifest_of}
+use Rattle.store.specs.InputsCompaction.{input_numbers}
 use Rattle.store.specs.Runs.{IsAnswerForLevel, IsAnswerInstalled, IsFolderRun, IsLevelRun, IsRun}
 use Rattle.store.specs.Step.{step_in, step_of}
 use Rattle.store.specs.VersionSync.{sync_calls}
@@ -154,6 +157,15 @@ run_since IsAnswer name cmp v first before after zero old new r same told (inl u
 run_since IsAnswer name cmp v first before after zero old new r same told (inr i) =
     inr (installed_since IsAnswer name cmp v first before after zero old new r same (still zero old told) i)
 
+-- an answer for a level, of a folder that told the same before
+pub answer_before : (cmp : List ℕ → List ℕ → Ordering) (short_keys : ShortKeys) (old new : Told) → TellsSame old new → (v : State) (level : ℕ) (s : Settings) (picked : PickedInputs) (answer : Answer) → IsAnswerForLevel cmp short_keys new v level s picked answer → IsAnswerForLevel cmp short_keys old v level s picked answer
+answer_before cmp short_keys old new same v level s picked answer h = record {
+  is_picked = h.is_picked;
+  loaded = h.loaded;
+  read = loaded_before old new (input_numbers picked.files) (Ok h.loaded) same h.read;
+  is_answer = h.is_answer;
+}
+
 -- ---- opened and synced folders
 
 -- only syncs were made, and no value answered
@@ -171,27 +183,33 @@ synced_only order v manifest first before synced after zero old middle new r q i
     }
 
 -- the version was opened, and its sync was refused
-pub sync_stopped : {T : Type 0} (order : Order) (v : State) (manifest level : ℕ) (s : Settings) (first before after : List Step) (zero old new : Told) (r : Result T Fault) (q : Result CompactionStep Fault)
-    → IsOpened zero (Ok (order, v)) → zero (codes "CURRENT") (Some (current_text manifest)) → before ≡ first → TellsSame zero old → MakesCalls (sync_calls (order_cmp order) v manifest) before after old new r → OnOk q ⊥
-    → IsFolderRun level s (change_by first after zero new) q
-sync_stopped order v manifest level s first before after zero old new r q opened named is same runs refused =
+pub sync_stopped : {T F : Type 0} (g : Ghosts F) (first last : F) (order : Order) (v : State) (manifest level : ℕ) (s : Settings) (before : List Step) (old : Told) (r : Result T Fault) (q : Result CompactionStep Fault)
+    → IsOpened (g.tells first) (Ok (order, v)) → g.tells first (codes "CURRENT") (Some (current_text manifest)) → before ≡ g.calls first → TellsSame (g.tells first) old
+    → MakesCalls (sync_calls (order_cmp order) v manifest) before (g.calls last) old (g.tells last) r → OnOk q ⊥ → IsFolderRun g level s first last q
+sync_stopped g first last order v manifest level s before old r q opened named is same runs refused =
     inr (record {
       order = order;
       version = v;
       manifest = manifest;
       opened = opened;
       named = named;
-      runs = inl (synced_only order v manifest first before after after zero old new new r q is same runs refl (λ name held. ((λ x. x), (λ x. x))) refused);
+      runs = inl (synced_only order v manifest (g.calls first) before (g.calls last) (g.calls last) (g.tells first) old (g.tells last) (g.tells last) r q is same runs refl (λ name held. ((λ x. x), (λ x. x))) refused);
     })
 
 -- the version was opened and synced, and then its level was compacted
-pub synced_run : {T : Type 0} (order : Order) (v : State) (manifest level : ℕ) (s : Settings) (first before synced after : List Step) (zero old middle new : Told) (r : Result T Fault) (x : T) (q : Result CompactionStep Fault)
-    → IsOpened zero (Ok (order, v)) → zero (codes "CURRENT") (Some (current_text manifest)) → before ≡ first → TellsSame zero old → r ≡ Ok x → MakesCalls (sync_calls (order_cmp order) v manifest) before synced old middle r
-    → IsLevelRun order v level s (change_by synced after middle new) q → IsFolderRun level s (change_by first after zero new) q
-synced_run order v manifest level s first before synced after zero old middle new r x q opened named is same was runs run =
+pub synced_run : {T F : Type 0} (g : Ghosts F) (first at last : F) (order : Order) (v : State) (manifest level : ℕ) (s : Settings) (before : List Step) (old : Told) (r : Result T Fault) (x : T) (q : Result CompactionStep Fault)
+    → IsOpened (g.tells first) (Ok (order, v)) → g.tells first (codes "CURRENT") (Some (current_text manifest)) → before ≡ g.calls first → TellsSame (g.tells first) old → r ≡ Ok x
+    → MakesCalls (sync_calls (order_cmp order) v manifest) before (g.calls at) old (g.tells at) r
+    → IsLevelRun order v level s (change_by (g.calls at) (g.calls last) (g.tells at) (g.tells last)) q → IsFolderRun g level s first last q
+synced_run g first at last order v manifest level s before old r x q opened named is same was runs run =
+    let zero = g.tells first in
+    let synced = g.calls at in
+    let middle = g.tells at in
     let calls = sync_calls (order_cmp order) v manifest in
     let told = λ (fs : Files) (tells : Tells zero fs). syncs_tell (order_cmp order) v manifest before synced old middle r runs fs (still zero old same fs tells) in
     let all : runs.steps ≡ map Done calls = all_made calls runs.steps r x was runs.made in
+    let since : synced ≡ g.calls first ++ map Done calls = runs.appended ∙ (ap (λ (t : List Step). t ++ runs.steps) is ∙ ap (λ (t : List Step). g.calls first ++ t) all) in
+    let through : TellsThrough (map Done calls) old middle = subst (λ (t : List Step). TellsThrough t old middle) all runs.change in
     inr (record {
       order = order;
       version = v;
@@ -199,8 +217,11 @@ synced_run order v manifest level s first before synced after zero old middle ne
       opened = opened;
       named = named;
       runs = elim run [
-        | inl u ↦ inl (synced_only order v manifest first before synced after zero old middle new r q is same runs u.calls u.same u.refused)
-        | inr i ↦ inr (installed_since (IsAnswerForLevel (order_cmp order) (order_short_keys order) v level s) (order_name order) (order_cmp order) v (first ++ map Done calls) synced after zero middle new q
-            (runs.appended ∙ (ap (λ (t : List Step). t ++ runs.steps) is ∙ ap (λ (t : List Step). first ++ t) all)) told i)
+        | inl u ↦ inl (synced_only order v manifest (g.calls first) before synced (g.calls last) zero old middle (g.tells last) r q is same runs u.calls u.same u.refused)
+        | inr i ↦ inr (record {
+          at = at;
+          synced = record { calls = since; change = λ w tells. through w (still zero old same w.files tells) };
+          installed = installed_since (IsAnswerForLevel (order_cmp order) (order_short_keys order) middle v level s) (order_name order) (order_cmp order) v (g.calls first ++ map Done calls) synced (g.calls last) zero middle (g.tells last) q since told i;
+        })
       ];
     })

@@ -6,10 +6,11 @@ use Rattle.std.specs.Prelude.{IfOk, OnOk}
 use Rattle.std.specs.List.{flat_map}
 use Rattle.folder.specs.fault.Fault.{Fault}
 use Rattle.folder.specs.Version.{State}
-use Rattle.folder.specs.Calls.{Call, Done, Step}
+use Rattle.folder.specs.Calls.{Call, Done, Step, ToldFiles}
 use Rattle.folder.specs.CallSequence.{AreMadeBy}
 use Rattle.folder.specs.Manifest.{order_name}
 use Rattle.folder.specs.Orders.{order_cmp, order_short_keys}
+use Rattle.folder.specs.declared.folder.Folder.{Ghosts}
 use Rattle.folder.specs.declared.order.Order.{Order}
 use Rattle.pick.specs.PickedInputs.{PickedInputs}
 use Rattle.compact.specs.OneThread.{Answer}
@@ -19,11 +20,10 @@ use Rattle.compact.specs.declared.settings.Settings.{Settings}
 use Rattle.store.specs.Descent.{IsBottom, IsNextLevel}
 use Rattle.store.specs.FolderRequest.{manifest_of}
 use Rattle.store.specs.OpenedAfter.{IsOpenedAfter}
-use Rattle.store.specs.Runs.{IsAnswerForLevel}
+use Rattle.store.specs.Runs.{HasMade, IsAnswerForLevel}
 use Rattle.store.specs.Step.{StepView, step_of}
 use Rattle.store.specs.declared.descent_end.DescentEnd.{DescentEnd}
 use Rattle.store.specs.declared.descent_end.DescentEnd.TheVariants.{AtBottom, Stopped}
-use Rattle.install.specs.FolderChange.{FolderChange, change_since}
 use Rattle.store.specs.Telling.{Telling, telling_by}
 
 -- an answer that is installed: with its inputs, and the groups in which its tables are written
@@ -32,11 +32,11 @@ pub record GroupedAnswer : Type 0 where
   pub answer : Answer
   pub groups : List (List (ℕ × List ℕ))
 
--- it is one thread's answer for a level of this version
-pub record IsGroupedAnswer (order : Order) (v : State) (level : ℕ) (s : Settings)
+-- it is one thread's answer for a level of this version, with tables that a folder told
+pub record IsGroupedAnswer (order : Order) (told : ToldFiles) (v : State) (level : ℕ) (s : Settings)
     (a : GroupedAnswer) : Type 0 where
-  pub is_answer : IsAnswerForLevel (order_cmp order) (order_short_keys order) v level s a.picked
-      a.answer
+  pub is_answer : IsAnswerForLevel (order_cmp order) (order_short_keys order) told v level s
+      a.picked a.answer
   pub together : flat_map (λ (g : List (ℕ × List ℕ)). g) a.groups ≡ a.answer.tables
 
 -- its step
@@ -49,10 +49,10 @@ calls_of_answer order v a = install_calls (manifest_of v) a.groups
     (manifest_bytes (order_name order) (order_cmp order) v a.answer.edit)
 
 -- One thread's answer for a level was installed, by calls up to one that fails.
-pub record IsLevelBegun {T : Type 0} (order : Order) (v : State) (level : ℕ) (s : Settings)
-    (before after : List Step) (result : Result T Fault) : Type 0 where
+pub record IsLevelBegun {T : Type 0} (order : Order) (told : ToldFiles) (v : State) (level : ℕ)
+    (s : Settings) (before after : List Step) (result : Result T Fault) : Type 0 where
   pub installed : GroupedAnswer
-  pub is_answer : IsGroupedAnswer order v level s installed
+  pub is_answer : IsGroupedAnswer order told v level s installed
   pub steps : List Step
   pub made : AreMadeBy (calls_of_answer order v installed) steps result
   pub appended : after ≡ before ++ steps
@@ -77,18 +77,25 @@ pub record LevelLink : Type 0 where
   pub installed : GroupedAnswer
   pub next : State
 
--- It is a compaction of this version, of the first level above the bottom that has a file.
-pub record IsLevelLink (order : Order) (s : Settings) (bottom : ℕ) (v : State) (l : LevelLink)
-    : Type 0 where
+-- It is a compaction of this version, of the first level above the bottom that has a file. Its
+-- tables are those that the folder told when just the calls so far had been made.
+pub record IsLevelLink {F : Type 0} (g : Ghosts F) (first : F) (so_far : List Step) (order : Order)
+    (s : Settings) (bottom : ℕ) (v : State) (l : LevelLink) : Type 0 where
   pub next_level : IsNextLevel v bottom (Some l.level)
-  pub is_answer : IsGroupedAnswer order v l.level s l.installed
+  pub at : F
+  pub made : HasMade g first so_far at
+  pub is_answer : IsGroupedAnswer order (g.tells at) v l.level s l.installed
   pub edited : IsOpenedAfter order v l.installed.answer.edit (Ok (order, l.next, manifest_of v))
 
--- compactions, each of the version that the one before it leaves
-abbrev pub AreLevelLinks : Order → Settings → ℕ → State → List LevelLink → Type 0
-AreLevelLinks order s bottom v [] = Unit {0}
-AreLevelLinks order s bottom v (l ∷ links) = IsLevelLink order s bottom v l
-    × AreLevelLinks order s bottom l.next links
+-- compactions, each of the version that the one before it leaves, after these calls from the first
+-- folder on
+abbrev pub AreLevelLinks : {F : Type 0} → Ghosts F → F → List Step → Order → Settings → ℕ → State →
+    List LevelLink → Type 0
+AreLevelLinks g first so_far order s bottom v [] = Unit {0}
+AreLevelLinks g first so_far order s bottom v (l ∷ links) =
+    IsLevelLink g first so_far order s bottom v l
+    × AreLevelLinks g first (so_far ++ map Done (calls_of_answer order v l.installed)) order s
+    bottom l.next links
 
 -- the version that they leave
 abbrev pub version_after : State → List LevelLink → State
@@ -111,35 +118,37 @@ abbrev pub IsStopTold : Bool → DescentEnd → Type 0
 IsStopTold goes end = (end ≡ Stopped) × (goes ≡ false)
 
 -- the last compaction of a row, after which none follows: it was refused, or told to stop
-pub record IsLastBegun {W : Type 0} (order : Order) (s : Settings) (bottom : ℕ) (v : State)
-    (change : FolderChange) (told : Telling W) (result : Result DescentEnd Fault) : Type 0 where
+pub record IsLastBegun {F W : Type 0} (g : Ghosts F) (old new : F) (so_far : List Step)
+    (order : Order) (s : Settings) (bottom : ℕ) (v : State) (told : Telling W)
+    (result : Result DescentEnd Fault) : Type 0 where
   pub level : ℕ
   pub next_level : IsNextLevel v bottom (Some level)
-  pub begun : IsLevelBegun order v level s change.before change.after result
+  pub at : F
+  pub made : HasMade g old so_far at
+  pub begun : IsLevelBegun order (g.tells at) v level s (g.calls old ++ so_far) (g.calls new) result
   pub is_told : IsToldOf told.tells (step_of_answer v begun.installed) told.old told.new IsStopTold
       result
 
 -- Compactions of one level after the other were made, each of the version that the one before it
 -- leaves. Each was told, and told to go on. At most one more was begun. If none more was, at Ok no
 -- file is above the bottom.
-pub record IsDescentRun {W : Type 0} (order : Order) (s : Settings) (v : State)
-    (change : FolderChange) (told : Telling W) (result : Result DescentEnd Fault) : Type 0 where
+pub record IsDescentRun {F W : Type 0} (g : Ghosts F) (old new : F) (order : Order)
+    (s : Settings) (v : State) (told : Telling W) (result : Result DescentEnd Fault) : Type 0 where
   pub bottom : ℕ
   pub is_bottom : IsBottom v bottom
   pub links : List LevelLink
-  pub chain : AreLevelLinks order s bottom v links
+  pub chain : AreLevelLinks g old [] order s bottom v links
   pub told_last : W
   pub told_steps : AreToldInTurn told.tells told.old (steps_of_links v links) true told_last
-  pub last : ((change.after ≡ change.before ++ calls_of_links order v links)
+  pub last : ((g.calls new ≡ g.calls old ++ calls_of_links order v links)
       × (told.new ≡ told_last)
       × IfOk result (λ e. (e ≡ AtBottom) × IsNextLevel (version_after v links) bottom None))
-      ⊎ IsLastBegun order s bottom (version_after v links)
-      (change_since (calls_of_links order v links) change)
-      (telling_by told.tells told_last told.new) result
+      ⊎ IsLastBegun g old new (calls_of_links order v links) order s bottom
+      (version_after v links) (telling_by told.tells told_last told.new) result
 
 -- no call that writes was made, and nothing told; or these are the calls, and what was told
-abbrev pub IsAllLevelsRun : {W : Type 0} → Order → Settings → State → FolderChange → Telling W →
-    Result DescentEnd Fault → Type 0
-IsAllLevelsRun order s v change told result =
-    MakesNoCalls change.before change.after told.old told.new result
-    ⊎ IsDescentRun order s v change told result
+abbrev pub IsAllLevelsRun : {F W : Type 0} → Ghosts F → F → F → Order → Settings → State →
+    Telling W → Result DescentEnd Fault → Type 0
+IsAllLevelsRun g old new order s v told result =
+    MakesNoCalls (g.calls old) (g.calls new) told.old told.new result
+    ⊎ IsDescentRun g old new order s v told result

@@ -16,6 +16,9 @@ pub mod Descent
 pub mod AllLevels
 pub mod LevelRuns
 pub mod Outcome
+pub mod OutputRanges
+pub mod PartOutcome
+pub mod ClosedLaws
 pub mod WholeOutcome
 pub mod FilesToCompact
 pub mod Telling
@@ -27,4 +30,5 @@ pub mod InputLaws
 pub mod FoundInputs
 pub mod NameLines
 pub mod NumberedJointLaw
+pub mod PartLaws
 pub mod StepTaken

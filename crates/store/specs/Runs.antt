@@ -7,16 +7,18 @@ use Rattle.folder.specs.fault.FaultName.TheVariants.{Changed, Device}
 use Rattle.folder.specs.Comparator.{KeyOrder, ShortKeys}
 use Rattle.reads.specs.TableContents.{Contents}
 use Rattle.folder.specs.Version.{State}
-use Rattle.folder.specs.Calls.{Done}
-use Rattle.folder.specs.CallSequence.{MakesCalls}
+use Rattle.folder.specs.Calls.{Done, Step, ToldFiles}
+use Rattle.folder.specs.CallSequence.{MakesCalls, TellsThrough}
+use Rattle.folder.specs.LoadedTables.{IsLoaded}
 use Rattle.folder.specs.Manifest.{order_name}
 use Rattle.folder.specs.Names.{current_text}
 use Rattle.folder.specs.OpenAnswer.{IsOpened}
 use Rattle.folder.specs.Orders.{order_cmp, order_short_keys}
+use Rattle.folder.specs.declared.folder.Folder.{Ghosts}
 use Rattle.folder.specs.declared.order.Order.{Order}
 use Rattle.pick.specs.PickedInputs.{IsPicked, PickedInputs}
 use Rattle.compact.specs.OneThread.{Answer}
-use Rattle.install.specs.Install.{calls_before_rename, install_calls, manifest_bytes, numbers_of}
+use Rattle.install.specs.Install.{calls_before_rename, install_calls, manifest_bytes}
 use Rattle.compact.specs.declared.settings.Settings.{Settings}
 use Rattle.store.specs.Compaction.{IsSynced, IsUnchanged}
 use Rattle.store.specs.FolderRequest.{compaction_of, manifest_of}
@@ -24,7 +26,7 @@ use Rattle.store.specs.InputsCompaction.{input_numbers, input_tables}
 use Rattle.store.specs.Step.{step_in, step_of}
 use Rattle.store.specs.VersionSync.{sync_calls}
 use Rattle.store.specs.declared.compaction_step.CompactionStep.{CompactionStep}
-use Rattle.install.specs.FolderChange.{FolderChange, change_since}
+use Rattle.install.specs.FolderChange.{FolderChange, change_of, change_since}
 
 -- The calls of the installation of an answer, up to one that fails. Its tables are written in
 -- groups; the manifest has the version and the answer's edit. At Changed all calls before the
@@ -68,37 +70,57 @@ pub record IsAnswerForInputs (cmp : KeyOrder) (short_keys : ShortKeys) (v : Stat
   pub answered : compaction_of cmp short_keys v loaded p s ≡ Ok answer
 
 -- What one thread answers for the inputs that are picked of a level, with the tables of their
--- numbers.
-pub record IsAnswerForLevel (cmp : KeyOrder) (short_keys : ShortKeys) (v : State) (level : ℕ)
-    (s : Settings) (picked : PickedInputs) (answer : Answer) : Type 0 where
+-- numbers. A read of the folder may give each of these tables, by what the folder tells; one that
+-- tells nothing allows any bytes.
+pub record IsAnswerForLevel (cmp : KeyOrder) (short_keys : ShortKeys) (told : ToldFiles) (v : State)
+    (level : ℕ) (s : Settings) (picked : PickedInputs) (answer : Answer) : Type 0 where
   pub is_picked : IsPicked cmp v level picked
   pub loaded : List (ℕ × List ℕ)
-  pub numbered : numbers_of loaded ≡ input_numbers picked.files
+  pub read : IsLoaded told (input_numbers picked.files) (Ok loaded)
   pub is_answer : IsAnswerForInputs cmp short_keys v loaded s picked answer
 
--- no call that writes was made; or one thread's answer for a level of this version was installed
+-- No call that writes was made; or one thread's answer for a level of this version was installed.
+-- Its tables are those that the folder told at first.
 abbrev pub IsLevelRun : Order → State → ℕ → Settings → FolderChange →
     Result CompactionStep Fault → Type 0
 IsLevelRun order v level s change result =
-    IsRun (IsAnswerForLevel (order_cmp order) (order_short_keys order) v level s)
+    IsRun (IsAnswerForLevel (order_cmp order) (order_short_keys order) change.old v level s)
     (order_name order) (order_cmp order) v change result
+
+-- From the first folder on, just these calls that write were made up to this one.
+pub record HasMade {F : Type 0} (g : Ghosts F) (first : F) (steps : List Step) (at : F)
+    : Type 0 where
+  pub calls : g.calls at ≡ g.calls first ++ steps
+  pub change : TellsThrough steps (g.tells first) (g.tells at)
+
+-- All syncs of a version were made, and after them one thread's answer for a level was installed.
+-- Its tables are those that the folder told after the syncs.
+pub record IsSyncedRun {F : Type 0} (g : Ghosts F) (order : Order) (v : State) (syncs : List Step)
+    (level : ℕ) (s : Settings) (first last : F) (result : Result CompactionStep Fault)
+    : Type 0 where
+  pub at : F
+  pub synced : HasMade g first syncs at
+  pub installed : IsAnswerInstalled
+      (IsAnswerForLevel (order_cmp order) (order_short_keys order) (g.tells at) v level s)
+      (order_name order) (order_cmp order) v (change_since syncs (change_of g first last)) result
 
 -- A version was opened by the manifest of a number, as the bytes say that were read. Then the
 -- syncs of it were made, up to one that failed, and no other call that writes. Or all of them were
 -- made, and after them one thread's answer for a level was installed.
-pub record IsOpenedRun (level : ℕ) (s : Settings) (change : FolderChange)
+pub record IsOpenedRun {F : Type 0} (g : Ghosts F) (level : ℕ) (s : Settings) (first last : F)
     (result : Result CompactionStep Fault) : Type 0 where
   pub order : Order
   pub version : State
   pub manifest : ℕ
-  pub opened : IsOpened change.old (Ok (order, version))
-  pub named : change.old (codes "CURRENT") (Some (current_text manifest))
-  pub runs : IsSynced (sync_calls (order_cmp order) version manifest) change result
-      ⊎ IsAnswerInstalled
-      (IsAnswerForLevel (order_cmp order) (order_short_keys order) version level s)
-      (order_name order) (order_cmp order) version
-      (change_since (map Done (sync_calls (order_cmp order) version manifest)) change) result
+  pub opened : IsOpened (g.tells first) (Ok (order, version))
+  pub named : g.tells first (codes "CURRENT") (Some (current_text manifest))
+  pub runs : IsSynced (sync_calls (order_cmp order) version manifest) (change_of g first last)
+      result
+      ⊎ IsSyncedRun g order version (map Done (sync_calls (order_cmp order) version manifest))
+      level s first last result
 
 -- no call that writes was made; or a version was opened, and this is what followed
-abbrev pub IsFolderRun : ℕ → Settings → FolderChange → Result CompactionStep Fault → Type 0
-IsFolderRun level s change result = IsUnchanged change result ⊎ IsOpenedRun level s change result
+abbrev pub IsFolderRun : {F : Type 0} → Ghosts F → ℕ → Settings → F → F →
+    Result CompactionStep Fault → Type 0
+IsFolderRun g level s first last result = IsUnchanged (change_of g first last) result
+    ⊎ IsOpenedRun g level s first last result

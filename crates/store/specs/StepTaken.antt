@@ -5,6 +5,7 @@ use Rattle.std.specs.Option.{IfSome}
 use Rattle.folder.specs.Answers.{UnlessMemory, fault}
 use Rattle.folder.specs.fault.Fault.{Fault}
 use Rattle.folder.specs.fault.FaultName.TheVariants.{Memory}
+use Rattle.folder.specs.CallSequence.{TellsThrough}
 use Rattle.folder.specs.Version.{State}
 use Rattle.folder.specs.OpenAnswer.{IsStopped}
 use Rattle.store.specs.declared.synced_version.SyncedVersion.{SyncedVersion}
@@ -61,7 +62,8 @@ IsStepTaken by v level s call told result = IsStepRefused by v level s call told
 pub record IsNextBegun {W : Type 0} (order : Order) (v : State) (level : ℕ) (s : Settings)
     (change : FolderChange) (told : Telling W) (result : Result (Option SyncedVersion) Fault)
     : Type 0 where
-  pub begun : IsLevelBegun order v level s change.before change.after result
+  pub begun : IsLevelBegun order change.old v level s change.before change.after result
+  pub through : TellsThrough begun.steps change.old change.new
   pub is_told : IsToldOf told.tells (step_of_answer v begun.installed) told.old told.new IsGoTold
       result
   pub opened : IfOk result (λ o. IfSome o (λ next. IsOpenedAfter order v begun.installed.answer.edit

@@ -67,10 +67,11 @@ pub fn compact_all<
         IsAllLeft (order_view opened.order) settings.now opened.version files
         (call_of F.Folder folder.old folder.new) (telling_by T.tells told.old told.new) result }
     // Of any folder, also one that tells nothing: the calls are those of such compactions, each of
-    // the version that the one before it leaves, up to one that fails. Each is told, and the next
-    // one begun only if that is said.
-    ensures runs { IsAllLevelsRun opened.order settings.now opened.version
-        (change_of F.Folder folder.old folder.new) (telling_by T.tells told.old told.new) result }
+    // the version that the one before it leaves, up to one that fails. The tables of each are what
+    // reads may give after the calls before it. Each is told, and the next one begun only if that
+    // is said.
+    ensures runs { IsAllLevelsRun F.Folder folder.old folder.new opened.order settings.now
+        opened.version (telling_by T.tells told.old told.new) result }
     ensures device { ReportsDevice F.Folder folder.old folder.new result }
 {
     let alloc = workers.alloc();
@@ -110,8 +111,8 @@ pub fn compact_levels<
         ⊎ IsDescended (order_view opened.order) settings.now (version_with opened.version loaded)
         tables (call_of F.Folder folder.old folder.new) (telling_by T.tells told.old told.new) result }
     // Of any folder, as of `compact_all`.
-    ensures runs { IsAllLevelsRun opened.order settings.now opened.version
-        (change_of F.Folder folder.old folder.new) (telling_by T.tells told.old told.new) result }
+    ensures runs { IsAllLevelsRun F.Folder folder.old folder.new opened.order settings.now
+        opened.version (telling_by T.tells told.old told.new) result }
     ensures device { ReportsDevice F.Folder folder.old folder.new result }
 {
     let alloc = workers.alloc();

@@ -74,9 +74,9 @@ pub fn compact_dir<F: ReadsTables + WritesTables, W: Watch + Sync, R: Threads + 
         IsFolderLeft files level settings.now (change_of F.Folder folder.old folder.new) result }
     // Of any folder, also one that tells nothing: no call that writes was made; or a version was
     // opened, and the calls are its syncs and then those of one thread's answer for this level, in
-    // their order, up to one that fails.
-    ensures runs { IsFolderRun level settings.now (change_of F.Folder folder.old folder.new)
-        result }
+    // their order, up to one that fails. The tables of the inputs are what reads after the syncs may
+    // give.
+    ensures runs { IsFolderRun F.Folder level settings.now folder.old folder.new result }
     ensures device { ReportsDevice F.Folder folder.old folder.new result }
 {
     let alloc = workers.alloc();
@@ -110,7 +110,8 @@ pub fn compact_opened<F: ReadsTables + WritesTables, W: Watch + Sync, R: Threads
         IsVersionLeft (order_view opened.now.order) opened.now.version files level settings.now
         (change_of F.Folder folder.old folder.new) result) }
     // Of any folder, also one that tells nothing: no call that writes was made; or the calls are
-    // those of one thread's answer for this level, in their order, up to one that fails.
+    // those of one thread's answer for this level, in their order, up to one that fails. The tables
+    // of the inputs are what reads of the folder may give.
     ensures runs { IsLevelRun opened.now.order opened.now.version level settings.now
         (change_of F.Folder folder.old folder.new) result }
     // If CURRENT is another one, the answer is never Ok.
@@ -153,8 +154,9 @@ fn compact_version<
         IsOpened (IsFileIn files) (Ok (order, opened.now.version)) →
         IsVersionLeft (order_by order C.cmp C.short_keys) opened.now.version files level
         settings.now (change_of F.Folder folder.old folder.new) result }
-    ensures runs { IsRun (IsAnswerForLevel C.cmp C.short_keys opened.now.version level settings.now)
-        C.name_bytes C.cmp opened.now.version (change_of F.Folder folder.old folder.new) result }
+    ensures runs { IsRun (IsAnswerForLevel C.cmp C.short_keys (F.tells folder.old)
+        opened.now.version level settings.now) C.name_bytes C.cmp opened.now.version
+        (change_of F.Folder folder.old folder.new) result }
     ensures other { IsOkOnlyIfCurrent (F.tells folder.old) opened.now.manifest result }
     ensures device { ReportsDevice F.Folder folder.old folder.new result }
 {

@@ -1,7 +1,7 @@
 //! The compaction of a folder that reads its inputs and no other table.
 
 ghost use Rattle.std.specs.Prelude.{◌≡◌, ◌<◌, ◌^◌, ℕ, List, length, codes, Some, Ok};
-ghost use Rattle.checks.specs.HeldTables.{AreHeldIn};
+ghost use Rattle.checks.specs.HeldTables.{AreHeldBy, AreHeldIn};
 ghost use Rattle.checks.specs.LawfulTables.{IsLawfulTables};
 ghost use Rattle.folder.specs.Calls.{Files, Tells};
 ghost use Rattle.folder.specs.Manifest.{order_name};
@@ -68,7 +68,8 @@ pub fn compact_inputs<F: ReadsTables + WritesTables, W: Watch + Sync, R: Threads
         IsStepLeft (order_view opened.now.order) (version_with opened.now.version loaded) level
         settings.now (change_of F.Folder folder.old folder.new) result }
     // Of any folder, also one that tells nothing: no call that writes was made; or the calls are
-    // those of one thread's answer for this level, in their order, up to one that fails.
+    // those of one thread's answer for this level, in their order, up to one that fails. The tables
+    // of the inputs are what reads of the folder may give.
     ensures runs { IsLevelRun opened.now.order opened.now.version level settings.now
         (change_of F.Folder folder.old folder.new) result }
     // If CURRENT is another one, the answer is never Ok.
@@ -119,8 +120,10 @@ pub(crate) fn compact_step<
         IsLawfulTables C.cmp opened.now.version loaded (Ok tables) →
         IsStepLeft (order_by order C.cmp C.short_keys) (version_with opened.now.version loaded)
         level settings.now (change_of F.Folder folder.old folder.new) result }
-    ensures runs { IsRun (IsAnswerForLevel C.cmp C.short_keys opened.now.version level settings.now)
-        C.name_bytes C.cmp opened.now.version (change_of F.Folder folder.old folder.new) result }
+    ensures runs { AreHeldBy C.cmp (F.tells folder.old) held →
+        IsRun (IsAnswerForLevel C.cmp C.short_keys (F.tells folder.old) opened.now.version level
+        settings.now) C.name_bytes C.cmp opened.now.version
+        (change_of F.Folder folder.old folder.new) result }
     ensures other { IsOkOnlyIfCurrent (F.tells folder.old) opened.now.manifest result }
     ensures device { ReportsDevice F.Folder folder.old folder.new result }
 {

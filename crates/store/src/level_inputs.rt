@@ -1,10 +1,11 @@
 //! The inputs of the compaction of a level, with their tables.
 
-ghost use Rattle.std.specs.Prelude.{◌≡◌, map, IfOk, OnOk};
-ghost use Rattle.checks.specs.HeldTables.{AreHeldIn, held_numbers};
+ghost use Rattle.std.specs.Prelude.{◌≡◌, map, IfOk, Ok, OnOk};
+ghost use Rattle.checks.specs.HeldTables.{AreHeldBy, AreHeldIn};
 ghost use Rattle.checks.specs.HeldBytes.{held_bytes};
 ghost use Rattle.folder.specs.Version.{IsState};
 ghost use Rattle.folder.specs.Calls.{Files, Tells};
+ghost use Rattle.folder.specs.LoadedTables.{IsLoaded};
 ghost use Rattle.folder.specs.OpenAnswer.{FolderAnswers};
 ghost use Rattle.folder.specs.Reports.{OnlyReads, ReportsDevice};
 ghost use Rattle.install.specs.Install.{table_bytes_of};
@@ -49,11 +50,12 @@ pub(crate) fn level_inputs<
     ensures bytes { IfOk result (λ i. map (λ t. t.1) (held_bytes i.tables)
         ≡ map (λ input. table_bytes_of (held_bytes i.tables) input.meta.number)
         i.picked.files.items) }
-    // Whatever the folder tells: the inputs are those of the level, the tables those of their
-    // numbers.
+    // Whatever the folder tells: the inputs are those of the level, the tables are what reads of
+    // their numbers may give.
     ensures picked { IfOk result (λ i. IsPicked C.cmp version.now level (picked_in i.picked)) }
-    ensures numbers { IfOk result
-        (λ i. held_numbers i.tables ≡ input_numbers i.picked.files.items) }
+    ensures read { AreHeldBy C.cmp (F.tells folder.old) held →
+        IfOk result (λ i. IsLoaded (F.tells folder.old) (input_numbers i.picked.files.items)
+        (Ok (held_bytes i.tables))) }
     ensures state { OnOk result (IsState version.now.pointers version.now.files) }
     ensures device { ReportsDevice F.Folder folder.old folder.new result }
     ensures reads { OnlyReads F.Folder folder.old folder.new }

@@ -12,7 +12,8 @@
 //!    same without the test. [`bottom`] and [`next_level`] say which levels they take.
 //! 5. [`outcome_of_opened`] and [`outcome_of_inputs`] only read: they answer the outcome, with the
 //!    numbers that are asked for. [`write_outcome`] writes it into another folder.
-//!    [`files_to_compact`] names the files that the second one needs.
+//!    [`files_to_compact`] names the files that the second one needs. [`outcome_of_part`] and
+//!    [`outcome_of_part_inputs`] answer that of one of the [`parts_to_compact`] of a level.
 //! 6. Parts of these calls, for those who install an outcome later: [`test_files`],
 //!    [`load_inputs`], [`checked_inputs`], [`bytes_of`], [`manifest_of`], [`outcome_step`].
 //! 7. All tell a [`Watch`] of the work; [`Open`] is the one that does nothing.
@@ -54,9 +55,15 @@ mod install_laws;
 mod install_watch;
 mod level_compaction;
 mod level_inputs;
+mod level_part;
 mod needed_files;
 mod next_opened;
 mod outcome_writer;
+mod part_choice;
+mod part_compaction;
+mod part_laws;
+mod part_outcome;
+mod part_tables;
 mod planned_installation;
 mod synced_version;
 mod version_files;
@@ -77,9 +84,14 @@ pub use input_compaction::compact_inputs;
 pub use input_tables::{bytes_of, checked_inputs, load_inputs};
 pub use install_laws::{answer_is_installed, inputs_suffice, request_is_over, sync_stands};
 pub use install_watch::InstallWatch;
+pub use level_part::LevelPart;
 pub use needed_files::files_to_compact;
 pub use next_opened::opened_after;
 pub use outcome_writer::{EDIT, write_outcome};
+pub use part_choice::parts_to_compact;
+pub use part_laws::{closed_is_installed, parts_stay};
+pub use part_outcome::{outcome_of_part, outcome_of_part_inputs};
+pub use pick::Inputs;
 pub use synced_version::{SyncMark, SyncedVersion};
 pub use version_files::test_files;
 pub use version_sync::sync_version;

@@ -93,7 +93,7 @@ pub returns-then-branch-clause-runs : goal.returns-then-branch-clause-runs
 returns-then-branch-clause-runs g c =
     let o = c.args.opened in
     let none = c.in_ok-is_at_bottom.ensures.none c.if-branch.true in
-    all_at_bottom g.T.InstallWatch.tells o.order c.args.settings.now o.version (g.F.Folder.calls c.args.folder.now) (g.F.Folder.tells c.args.folder.now) c.args.told.now none.0 none.1 none.2
+    all_at_bottom g.F.Folder g.T.InstallWatch.tells o.order c.args.settings.now o.version c.args.folder.now c.args.told.now none.0 none.1 none.2
 
 pub returns-in_err-test_opened-clause-runs : goal.returns-in_err-test_opened-clause-runs
 returns-in_err-test_opened-clause-runs g c =
@@ -102,6 +102,5 @@ returns-in_err-test_opened-clause-runs g c =
 pub returns-clause-runs : goal.returns-clause-runs
 returns-clause-runs g c =
     let o = c.args.opened in
-    let calls = g.F.Folder.calls in
-    let tells = g.F.Folder.tells in
-    all_since g.T.InstallWatch.tells o.order c.args.settings.now o.version (calls c.args.folder.now) (calls c.test_opened.new.folder) (calls c.compact_levels.new.folder) (tells c.args.folder.now) (tells c.test_opened.new.folder) (tells c.compact_levels.new.folder) c.args.told.now c.compact_levels.new.told c.compact_levels.result c.test_opened.ensures.reads.calls c.compact_levels.ensures.runs
+    all_since g.F.Folder g.T.InstallWatch.tells o.order c.args.settings.now o.version c.args.folder.now c.test_opened.new.folder c.compact_levels.new.folder c.args.told.now c.compact_levels.new.told c.compact_levels.result
+    c.test_opened.ensures.reads.calls c.test_opened.ensures.reads.same c.compact_levels.ensures.runs

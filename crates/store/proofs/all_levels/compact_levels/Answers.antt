@@ -38,7 +38,7 @@ pub loop-step-init : goal.loop-step-init
 loop-step-init g c = record {
   is_bottom = c.in_ok-bottom.ensures.bottom;
   failures = refl;
-  runs = none_so_far g.T.InstallWatch.tells c.args.opened.order c.args.settings.now c.in_ok-bottom.bottom c.args.opened.version (g.F.Folder.calls c.args.folder.now) c.args.told.now;
+  runs = none_so_far g.F.Folder g.T.InstallWatch.tells c.args.opened.order c.args.settings.now c.in_ok-bottom.bottom c.args.opened.version c.args.folder.now c.args.told.now;
   so_far = λ files loaded tables told current reads sound.
       let o = c.args.opened in (
         none_yet o.order (order_cmp o.order) (order_short_keys o.order) c.args.settings.now o.version loaded tables sound (g.F.Folder.calls c.args.folder.now) g.T.InstallWatch.tells c.args.told.now
@@ -150,8 +150,8 @@ loop-step-preserved g c =
     record {
       is_bottom = l.invariant.is_bottom;
       failures = steady (failed c.args.folder.now) (failed l.folder) (failed c.take_step.new.folder) c.in_ok-next.field-0 c.take_step.result c.in_ok-next.was l.invariant.failures c.take_step.ensures.device.later c.take_step.ensures.device.at_once;
-      runs = run_more g.T.InstallWatch.tells o.order s c.in_ok-bottom.bottom o.version (calls c.args.folder.now) (calls l.folder) c.args.told.now l.told l.opened.version l.opened.order l.invariant.runs
-          c.in-Some.level (subst (λ (n : Option ℕ). IsNextLevel l.opened.version c.in_ok-bottom.bottom n) c.in-Some.is c.in_ok-level.ensures.next) (calls c.take_step.new.folder) c.take_step.new.told (tells l.folder) (tells c.take_step.new.folder) c.in-Some-2.next
+      runs = run_more g.F.Folder g.T.InstallWatch.tells o.order s c.in_ok-bottom.bottom o.version c.args.folder.now l.folder c.args.told.now l.told l.opened.version l.opened.order l.invariant.runs
+          c.in-Some.level (subst (λ (n : Option ℕ). IsNextLevel l.opened.version c.in_ok-bottom.bottom n) c.in-Some.is c.in_ok-level.ensures.next) c.take_step.new.folder c.take_step.new.told c.in-Some-2.next
           (subst (λ (x : Option SyncedVersion). MakesNoCalls (calls l.folder) (calls c.take_step.new.folder) l.told c.take_step.new.told (taken x) ⊎ IsNextBegun l.opened.order l.opened.version c.in-Some.level s (change_by (calls l.folder) (calls c.take_step.new.folder) (tells l.folder) (tells c.take_step.new.folder)) (telling_by g.T.InstallWatch.tells l.told c.take_step.new.told) (taken x)) c.in-Some-2.is c.in_ok-next.ensures.runs);
       so_far = λ files loaded tables told current reads sound.
           let all = l.invariant.so_far files loaded tables told current reads sound in
@@ -174,51 +174,41 @@ returns-in_err-bottom-clause-runs g c = inl (record { calls = refl; untold = ref
 pub returns-in_err-level-clause-runs : goal.returns-in_err-level-clause-runs
 returns-in_err-level-clause-runs g c =
     let o = c.args.opened in
-    let calls = g.F.Folder.calls in
-    let tells = g.F.Folder.tells in
     let l = c.loop-step in
     let q = c.from_residual-in_err-level.result in
-    run_ended g.T.InstallWatch.tells o.order c.args.settings.now c.in_ok-bottom.bottom o.version (calls c.args.folder.now) (calls l.folder) c.args.told.now l.told l.opened.version l.opened.order l.invariant.runs
-    (tells c.args.folder.now) (tells l.folder) q l.invariant.is_bottom (refused_ok q c.in_err-level.field-0.0 (λ e. (e ≡ AtBottom) × IsNextLevel l.opened.version c.in_ok-bottom.bottom None) c.from_residual-in_err-level.ensures.1)
+    run_ended g.F.Folder g.T.InstallWatch.tells o.order c.args.settings.now c.in_ok-bottom.bottom o.version c.args.folder.now l.folder c.args.told.now l.told l.opened.version l.opened.order l.invariant.runs
+    q l.invariant.is_bottom (refused_ok q c.in_err-level.field-0.0 (λ e. (e ≡ AtBottom) × IsNextLevel l.opened.version c.in_ok-bottom.bottom None) c.from_residual-in_err-level.ensures.1)
 
 pub returns-in_default-clause-runs : goal.returns-in_default-clause-runs
 returns-in_default-clause-runs g c =
     let o = c.args.opened in
-    let calls = g.F.Folder.calls in
-    let tells = g.F.Folder.tells in
     let l = c.loop-step in
-    run_ended g.T.InstallWatch.tells o.order c.args.settings.now c.in_ok-bottom.bottom o.version (calls c.args.folder.now) (calls l.folder) c.args.told.now l.told l.opened.version l.opened.order l.invariant.runs
-    (tells c.args.folder.now) (tells l.folder) (Ok AtBottom) l.invariant.is_bottom (refl, subst (λ (n : Option ℕ). IsNextLevel l.opened.version c.in_ok-bottom.bottom n) c.in_default.is c.in_ok-level.ensures.next)
+    run_ended g.F.Folder g.T.InstallWatch.tells o.order c.args.settings.now c.in_ok-bottom.bottom o.version c.args.folder.now l.folder c.args.told.now l.told l.opened.version l.opened.order l.invariant.runs
+    (Ok AtBottom) l.invariant.is_bottom (refl, subst (λ (n : Option ℕ). IsNextLevel l.opened.version c.in_ok-bottom.bottom n) c.in_default.is c.in_ok-level.ensures.next)
 
 pub returns-in_err-next-clause-runs : goal.returns-in_err-next-clause-runs
 returns-in_err-next-clause-runs g c =
     let o = c.args.opened in
-    let calls = g.F.Folder.calls in
-    let tells = g.F.Folder.tells in
     let s = c.args.settings.now in
     let l = c.loop-step in
     let p = err_from_is_err_and c.from_residual-in_err-next.result c.from_residual-in_err-next.ensures.1 in
-    subst (λ (r : Result DescentEnd Fault). IsAllLevelsRun o.order s o.version (change_by (calls c.args.folder.now) (calls c.take_step.new.folder) (tells c.args.folder.now) (tells c.take_step.new.folder)) (telling_by g.T.InstallWatch.tells c.args.told.now c.take_step.new.told) r) (sym (p.1 ∙ ap (λ (f : Fault). Err f) p.2))
-    (run_refused g.T.InstallWatch.tells o.order s c.in_ok-bottom.bottom o.version (calls c.args.folder.now) (calls l.folder) c.args.told.now l.told l.opened.version l.opened.order l.invariant.runs
-    c.in-Some.level (subst (λ (n : Option ℕ). IsNextLevel l.opened.version c.in_ok-bottom.bottom n) c.in-Some.is c.in_ok-level.ensures.next) (calls c.take_step.new.folder) c.take_step.new.told
-    (tells c.args.folder.now) (tells l.folder) (tells c.take_step.new.folder) c.in_err-next.field-0.0 l.invariant.is_bottom c.in_err-next.ensures.runs)
+    subst (λ (r : Result DescentEnd Fault). IsAllLevelsRun g.F.Folder c.args.folder.now c.take_step.new.folder o.order s o.version (telling_by g.T.InstallWatch.tells c.args.told.now c.take_step.new.told) r) (sym (p.1 ∙ ap (λ (f : Fault). Err f) p.2))
+    (run_refused g.F.Folder g.T.InstallWatch.tells o.order s c.in_ok-bottom.bottom o.version c.args.folder.now l.folder c.args.told.now l.told l.opened.version l.opened.order l.invariant.runs
+    c.in-Some.level (subst (λ (n : Option ℕ). IsNextLevel l.opened.version c.in_ok-bottom.bottom n) c.in-Some.is c.in_ok-level.ensures.next) c.take_step.new.folder c.take_step.new.told
+    c.in_err-next.field-0.0 l.invariant.is_bottom c.in_err-next.ensures.runs)
 
 pub returns-in_default-2-clause-runs : goal.returns-in_default-2-clause-runs
 returns-in_default-2-clause-runs g c =
     let o = c.args.opened in
-    let calls = g.F.Folder.calls in
-    let tells = g.F.Folder.tells in
     let s = c.args.settings.now in
     let l = c.loop-step in
-    run_stopped g.T.InstallWatch.tells o.order s c.in_ok-bottom.bottom o.version (calls c.args.folder.now) (calls l.folder) c.args.told.now l.told l.opened.version l.opened.order l.invariant.runs
-    c.in-Some.level (subst (λ (n : Option ℕ). IsNextLevel l.opened.version c.in_ok-bottom.bottom n) c.in-Some.is c.in_ok-level.ensures.next) (calls c.take_step.new.folder) c.take_step.new.told
-    (tells c.args.folder.now) (tells l.folder) (tells c.take_step.new.folder) c.in_ok-next.field-0 c.in_default-2.is l.invariant.is_bottom c.in_ok-next.ensures.runs
+    run_stopped g.F.Folder g.T.InstallWatch.tells o.order s c.in_ok-bottom.bottom o.version c.args.folder.now l.folder c.args.told.now l.told l.opened.version l.opened.order l.invariant.runs
+    c.in-Some.level (subst (λ (n : Option ℕ). IsNextLevel l.opened.version c.in_ok-bottom.bottom n) c.in-Some.is c.in_ok-level.ensures.next) c.take_step.new.folder c.take_step.new.told
+    c.in_ok-next.field-0 c.in_default-2.is l.invariant.is_bottom c.in_ok-next.ensures.runs
 
 pub returns-clause-runs : goal.returns-clause-runs
 returns-clause-runs g c =
     let o = c.args.opened in
-    let calls = g.F.Folder.calls in
-    let tells = g.F.Folder.tells in
     let l = c.loop-step in
-    run_ended g.T.InstallWatch.tells o.order c.args.settings.now c.in_ok-bottom.bottom o.version (calls c.args.folder.now) (calls l.folder) c.args.told.now l.told l.opened.version l.opened.order l.invariant.runs
-    (tells c.args.folder.now) (tells l.folder) (Err c.of.result) l.invariant.is_bottom tt
+    run_ended g.F.Folder g.T.InstallWatch.tells o.order c.args.settings.now c.in_ok-bottom.bottom o.version c.args.folder.now l.folder c.args.told.now l.told l.opened.version l.opened.order l.invariant.runs
+    (Err c.of.result) l.invariant.is_bottom tt

@@ -19,7 +19,7 @@ invariant-loop-step g l =
     record {
       is_bottom : IsBottom first.version l.bottom;
       failures : g.F.Folder.failed l.folder ≡ g.F.Folder.failed l.fn.folder;
-      runs : RunSoFar g.T.InstallWatch.tells first.order l.settings l.bottom first.version (calls l.fn.folder) (calls l.folder) l.fn.told l.told l.opened.version l.opened.order;
+      runs : RunSoFar g.F.Folder g.T.InstallWatch.tells first.order l.settings l.bottom first.version l.fn.folder l.folder l.fn.told l.told l.opened.version l.opened.order;
       so_far : (files : Files) (loaded : List (ℕ × List ℕ)) (tables : List NumberedContents) → Tells (tells l.fn.folder) files → files (codes "CURRENT") ≡ Some (current_text first.manifest)
           → ReadsAs (order_cmp first.order) first.order first.version loaded files → (sound : IsLawfulTables (order_cmp first.order) first.version loaded (Ok tables))
           → SoFar first.order (order_cmp first.order) (order_short_keys first.order) l.settings first.version loaded tables sound (calls l.fn.folder) g.T.InstallWatch.tells l.fn.told

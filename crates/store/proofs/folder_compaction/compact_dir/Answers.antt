@@ -64,8 +64,7 @@ returns-in_err-synced-clause-runs g c =
     let tells = g.F.Folder.tells in
     let calls = g.F.Folder.calls in
     let o = c.in_ok-opened.opened in
-    sync_stopped o.order o.version o.manifest c.args.level c.args.settings.now (calls c.args.folder.now) (calls c.open.new.folder) (calls c.sync_version.new.folder)
-    (tells c.args.folder.now) (tells c.open.new.folder) (tells c.sync_version.new.folder) c.sync_version.result c.from_residual-in_err-synced.result
+    sync_stopped g.F.Folder c.args.folder.now c.sync_version.new.folder o.order o.version o.manifest c.args.level c.args.settings.now (calls c.open.new.folder) (tells c.open.new.folder) c.sync_version.result c.from_residual-in_err-synced.result
     c.in_ok-opened.ensures.answer c.in_ok-opened.ensures.named
     c.open.ensures.reads.calls c.open.ensures.reads.same c.sync_version.ensures.runs (no_value c.from_residual-in_err-synced.result _ c.from_residual-in_err-synced.ensures.1)
 
@@ -114,8 +113,7 @@ returns-clause-runs g c =
     let tells = g.F.Folder.tells in
     let calls = g.F.Folder.calls in
     let o = c.in_ok-opened.opened in
-    synced_run o.order o.version o.manifest c.args.level c.args.settings.now (calls c.args.folder.now) (calls c.open.new.folder) (calls c.sync_version.new.folder) (calls c.compact_opened.new.folder)
-    (tells c.args.folder.now) (tells c.open.new.folder) (tells c.sync_version.new.folder) (tells c.compact_opened.new.folder) c.sync_version.result _ c.compact_opened.result
+    synced_run g.F.Folder c.args.folder.now c.sync_version.new.folder c.compact_opened.new.folder o.order o.version o.manifest c.args.level c.args.settings.now (calls c.open.new.folder) (tells c.open.new.folder) c.sync_version.result _ c.compact_opened.result
     c.in_ok-opened.ensures.answer c.in_ok-opened.ensures.named
     c.open.ensures.reads.calls c.open.ensures.reads.same c.in_ok-synced.was c.sync_version.ensures.runs
     (of_opened

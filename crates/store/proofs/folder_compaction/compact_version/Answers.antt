@@ -1,5 +1,6 @@
 use Rattle.std.proofs.Common.{◌≡◌, None, Result, Ok, arith, inl}
 use Rattle.folder.specs.fault.Fault.{Fault}
+use Rattle.checks.proofs.HeldAnswers.{held_in, held_same}
 use Rattle.checks.specs.TestedTables.{IsTested}
 use Rattle.folder.proofs.OpeningLemmas.{answers_since, hands_on}
 use Rattle.folder.proofs.ReportLemmas.{reports_handed, reports_then}
@@ -12,7 +13,7 @@ use Rattle.store.specs.Runs.{IsAnswerForLevel}
 use Rattle.store.specs.Step.{StepView, step_in, step_of}
 use Rattle.store.proofs.Answered.{made_as}
 use Rattle.store.proofs.Flow.{first_passed, no_value, told_still, told_themselves}
-use Rattle.store.proofs.RunPart.{run_since}
+use Rattle.store.proofs.RunPart.{answer_before, run_as, run_since}
 use Rattle.store.proofs.StepPart.{has_passed, test_refused, version_left}
 use Rattle.store.proofs.folder_compaction.compact_version.Goals as goal
 
@@ -60,7 +61,7 @@ returns-clause-answer g c files told current =
     (λ r given. first_passed (IsLoaded (IsFileIn files) (file_numbers cmp v)) (λ loaded. IsLoadedAnswer None cmp short_keys v loaded level s) passed.loaded r passed.held given)
     (c.inputs_suffice.ensures files v passed.loaded passed.tables level s answer passed.held passed.sound h))
     c.test_and_hold.ensures.device.later c.compact_step.ensures.device.later
-    (c.compact_step.ensures.answer files still current (c.in_ok-found.ensures.held files told))
+    (c.compact_step.ensures.answer files still current (held_in g.C.Comparator.cmp (tells c.args.folder.now) files told c.in_ok-found.found.tables c.in_ok-found.ensures.held))
 
 pub returns-clause-left : goal.returns-clause-left
 returns-clause-left g c files order told current named opened =
@@ -74,7 +75,7 @@ returns-clause-left g c files order told current named opened =
     version_left order cmp g.C.Comparator.short_keys files v passed.loaded c.args.level c.args.settings.now
     (calls c.args.folder.now) (calls c.test_and_hold.new.folder) (calls c.compact_step.new.folder) (tells c.args.folder.now) (tells c.test_and_hold.new.folder) (tells c.compact_step.new.folder) c.compact_step.result
     reads c.test_and_hold.ensures.reads.calls c.test_and_hold.ensures.reads.same
-    (c.compact_step.ensures.left files order passed.loaded passed.tables still current (c.in_ok-found.ensures.held files told) named reads passed.sound)
+    (c.compact_step.ensures.left files order passed.loaded passed.tables still current (held_in g.C.Comparator.cmp (tells c.args.folder.now) files told c.in_ok-found.found.tables c.in_ok-found.ensures.held) named reads passed.sound)
 
 pub returns-clause-runs : goal.returns-clause-runs
 returns-clause-runs g c =
@@ -82,9 +83,19 @@ returns-clause-runs g c =
     let v = c.args.opened.now.version in
     let calls = g.F.Folder.calls in
     let tells = g.F.Folder.tells in
-    run_since (IsAnswerForLevel cmp g.C.Comparator.short_keys v c.args.level c.args.settings.now) g.C.Comparator.name_bytes cmp v
-    (calls c.args.folder.now) (calls c.test_and_hold.new.folder) (calls c.compact_step.new.folder) (tells c.args.folder.now) (tells c.test_and_hold.new.folder) (tells c.compact_step.new.folder) c.compact_step.result
-    c.test_and_hold.ensures.reads.calls c.test_and_hold.ensures.reads.same c.compact_step.ensures.runs
+    let name = g.C.Comparator.name_bytes in
+    let first = tells c.args.folder.now in
+    let read = tells c.test_and_hold.new.folder in
+    let same = c.test_and_hold.ensures.reads.same in
+    let keys = g.C.Comparator.short_keys in
+    let s = c.args.settings.now in
+    run_since (IsAnswerForLevel cmp keys first v c.args.level s) name cmp v
+    (calls c.args.folder.now) (calls c.test_and_hold.new.folder) (calls c.compact_step.new.folder) first read (tells c.compact_step.new.folder) c.compact_step.result
+    c.test_and_hold.ensures.reads.calls same
+    (run_as (IsAnswerForLevel cmp keys read v c.args.level s) (IsAnswerForLevel cmp keys first v c.args.level s) name cmp v
+    (calls c.test_and_hold.new.folder) (calls c.compact_step.new.folder) read (tells c.compact_step.new.folder) c.compact_step.result
+    (answer_before cmp keys first read same v c.args.level s)
+    (c.compact_step.ensures.runs (held_same cmp first read same c.in_ok-found.found.tables c.in_ok-found.ensures.held)))
 
 pub returns-clause-other : goal.returns-clause-other
 returns-clause-other g c files told other =

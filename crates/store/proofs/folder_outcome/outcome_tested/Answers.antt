@@ -7,6 +7,7 @@ use Rattle.folder.proofs.ReportLemmas.{reads_then, reports_handed, reports_then}
 use Rattle.folder.specs.Levels.{file_numbers}
 use Rattle.folder.specs.LoadedTables.{IsLoaded}
 use Rattle.folder.specs.ReadsAs.{IsFileIn}
+use Rattle.checks.proofs.HeldAnswers.{held_in}
 use Rattle.checks.specs.TestedTables.{IsTested}
 use Rattle.pick.specs.PickedInputs.{PickedInputs}
 use Rattle.store.specs.Answers.{IsLoadedAnswer, IsVersionAnswer}
@@ -52,7 +53,7 @@ returns-clause-answer g c files told =
     (λ a h. made_as own all (λ made (o : Result OutcomeView Fault). o ≡ Ok (outcome_of made.0 made.1)) a
     (λ r given. first_passed (IsLoaded (IsFileIn files) (file_numbers cmp v)) (λ loaded. IsLoadedAnswer c.args.first cmp keys v loaded c.args.level s) passed.loaded r passed.held given)
     (c.outcome_suffices.ensures c.args.first files v passed.loaded passed.tables c.args.level s a passed.held passed.sound h))
-    c.test_and_hold.ensures.device.later c.outcome_untested.ensures.device.later (c.outcome_untested.ensures.answer files still (c.in_ok-found.ensures.held files told))
+    c.test_and_hold.ensures.device.later c.outcome_untested.ensures.device.later (c.outcome_untested.ensures.answer files still (held_in g.C.Comparator.cmp (tells c.args.folder.now) files told c.in_ok-found.found.tables c.in_ok-found.ensures.held))
 
 pub returns-clause-compacted : goal.returns-clause-compacted
 returns-clause-compacted g c files order told =
@@ -65,7 +66,7 @@ returns-clause-compacted g c files order told =
     let still = told_still (tells c.args.folder.now) (tells c.test_and_hold.new.folder) files c.test_and_hold.ensures.reads.same told in
     IfOk-weaker c.outcome_untested.result (λ o. (p : PickedInputs) × LevelCompaction (order_by order cmp keys) (version_with v passed.loaded) c.args.level c.args.first s p (answer_in o.outcome))
     (λ o. (loaded : List (ℕ × List ℕ)) × IsLoaded (IsFileIn files) (file_numbers cmp v) (Ok loaded) × ((p : PickedInputs) × LevelCompaction (order_by order cmp keys) (version_with v loaded) c.args.level c.args.first s p (answer_in o.outcome)))
-    (λ o h. (passed.loaded, passed.held, h)) (c.outcome_untested.ensures.compacted files order passed.loaded passed.tables still (c.in_ok-found.ensures.held files told) passed.held passed.sound)
+    (λ o h. (passed.loaded, passed.held, h)) (c.outcome_untested.ensures.compacted files order passed.loaded passed.tables still (held_in g.C.Comparator.cmp (tells c.args.folder.now) files told c.in_ok-found.found.tables c.in_ok-found.ensures.held) passed.held passed.sound)
 
 pub returns-clause-device : goal.returns-clause-device
 returns-clause-device g c = reports_then c.in_ok-found.was c.test_and_hold.ensures.device c.outcome_untested.ensures.device

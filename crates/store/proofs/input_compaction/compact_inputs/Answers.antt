@@ -6,7 +6,8 @@ use Rattle.folder.specs.ReadsAs.{ReadsAs}
 use Rattle.folder.specs.declared.order.Order.{Order}
 use Rattle.folder.specs.declared.order.Order.TheVariants.{Bytewise, Shortlex}
 use Rattle.reads.specs.Tables.{NumberedContents}
-use Rattle.checks.specs.HeldTables.{AreHeldIn, IsTableIn}
+use Rattle.checks.proofs.HeldAnswers.{none_held}
+use Rattle.checks.specs.HeldTables.{AreHeldBy, AreHeldIn, IsTableIn}
 use Rattle.checks.specs.LawfulTables.{IsLawfulTables}
 use Rattle.store.specs.InputsCompaction.{IsInputsCompacted}
 use Rattle.store.specs.Runs.{IsLevelRun}
@@ -56,11 +57,11 @@ returns-in-Bytewise-clause-runs g c =
     let calls = g.F.Folder.calls in
     let tells = g.F.Folder.tells in
     subst (λ (order : Order). IsLevelRun order c.args.opened.now.version c.args.level c.args.settings.now (change_by (calls c.args.folder.now) (calls c.compact_step.new.folder) (tells c.args.folder.now) (tells c.compact_step.new.folder)) c.compact_step.result)
-    (sym c.in-Bytewise.is) c.compact_step.ensures.runs
+    (sym c.in-Bytewise.is) (c.compact_step.ensures.runs (subst (AreHeldBy (order_cmp Bytewise) (tells c.args.folder.now)) (sym c.none-none.ensures) (none_held (order_cmp Bytewise) (tells c.args.folder.now))))
 
 pub returns-in-Shortlex-clause-runs : goal.returns-in-Shortlex-clause-runs
 returns-in-Shortlex-clause-runs g c =
     let calls = g.F.Folder.calls in
     let tells = g.F.Folder.tells in
     subst (λ (order : Order). IsLevelRun order c.args.opened.now.version c.args.level c.args.settings.now (change_by (calls c.args.folder.now) (calls c.compact_step-in-Shortlex.new.folder) (tells c.args.folder.now) (tells c.compact_step-in-Shortlex.new.folder)) c.compact_step-in-Shortlex.result)
-    (sym c.in-Shortlex.is) c.compact_step-in-Shortlex.ensures.runs
+    (sym c.in-Shortlex.is) (c.compact_step-in-Shortlex.ensures.runs (subst (AreHeldBy (order_cmp Shortlex) (tells c.args.folder.now)) (sym c.none-none-in-Shortlex.ensures) (none_held (order_cmp Shortlex) (tells c.args.folder.now))))

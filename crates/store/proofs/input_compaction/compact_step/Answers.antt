@@ -1,5 +1,6 @@
 use Rattle.std.proofs.Common.{◌≡◌, None, Result, Ok, sym, ap, subst, ◌∙◌, arith, inl}
 use Rattle.folder.specs.fault.Fault.{Fault}
+use Rattle.folder.specs.LoadedTables.{IsLoaded}
 use Rattle.folder.proofs.OpeningLemmas.{hands_on, answers_since}
 use Rattle.folder.proofs.ReportLemmas.{reports_handed, reports_then}
 use Rattle.pick.specs.PickedInputs.{IsPicked, PickedInputs, picked_in}
@@ -12,7 +13,6 @@ use Rattle.store.proofs.Answered.{made_as}
 use Rattle.store.proofs.Compactions.{is_compacted, picked_of}
 use Rattle.store.proofs.Flow.{first_refused, no_value, told_still}
 use Rattle.store.proofs.FoundInputs.{inputs_found, inputs_refused, level_answer}
-use Rattle.store.proofs.HeldInputs.{numbers_held}
 use Rattle.store.proofs.RunPart.{run_as, run_since}
 use Rattle.store.proofs.PlannedPart.{answers_as, step_since}
 use Rattle.store.proofs.input_compaction.compact_step.Goals as goal
@@ -35,7 +35,7 @@ returns-in_err-inputs-clause-left g c files order loaded tables told current are
     inl (record { calls = c.level_inputs.ensures.reads.calls; same = c.level_inputs.ensures.reads.same; refused = no_value c.from_residual.result _ c.from_residual.ensures.1 })
 
 pub returns-in_err-inputs-clause-runs : goal.returns-in_err-inputs-clause-runs
-returns-in_err-inputs-clause-runs g c =
+returns-in_err-inputs-clause-runs g c are =
     inl (record { calls = c.level_inputs.ensures.reads.calls; same = c.level_inputs.ensures.reads.same; refused = no_value c.from_residual.result _ c.from_residual.ensures.1 })
 
 pub returns-in_err-inputs-clause-other : goal.returns-in_err-inputs-clause-other
@@ -84,7 +84,7 @@ returns-clause-left g c files order loaded tables told current are named reads s
     is_compacted cmp keys c.numbered_is_installed.ensures order v loaded tables c.args.level None p s answer sound c.in_ok-inputs.ensures.state (picked_of cmp v c.args.level p given.picked) log previous (sym same ∙ is)))
 
 pub returns-clause-runs : goal.returns-clause-runs
-returns-clause-runs g c =
+returns-clause-runs g c are =
     let cmp = g.C.Comparator.cmp in
     let keys = g.C.Comparator.short_keys in
     let v = c.args.opened.now.version in
@@ -95,14 +95,15 @@ returns-clause-runs g c =
     let p = picked_in c.in_ok-inputs.inputs.picked in
     let held = c.in_ok-inputs.inputs.tables in
     let own = held_bytes held in
-    let level = IsAnswerForLevel cmp keys v c.args.level s in
+    let told = tells c.args.folder.now in
+    let level = IsAnswerForLevel cmp keys told v c.args.level s in
     run_since level name cmp v (calls c.args.folder.now) (calls c.level_inputs.new.folder) (calls c.install_held.new.folder) (tells c.args.folder.now) (tells c.level_inputs.new.folder) (tells c.install_held.new.folder) c.install_held.result
     c.level_inputs.ensures.reads.calls c.level_inputs.ensures.reads.same
     (run_as (IsAnswerForThese (IsAnswerForInputs cmp keys v own s) p) level name cmp v (calls c.level_inputs.new.folder) (calls c.install_held.new.folder) (tells c.level_inputs.new.folder) (tells c.install_held.new.folder) c.install_held.result
     (λ q answer h. record {
       is_picked = subst (IsPicked cmp v c.args.level) (sym h.0) c.in_ok-inputs.ensures.picked;
       loaded = own;
-      numbered = numbers_held held ∙ c.in_ok-inputs.ensures.numbers ∙ ap (λ (x : PickedInputs). input_numbers x.files) (sym h.0);
+      read = subst (λ (x : PickedInputs). IsLoaded told (input_numbers x.files) (Ok own)) (sym h.0) (c.in_ok-inputs.ensures.read are);
       is_answer = h.1;
     })
     c.install_held.ensures.runs)

@@ -1,6 +1,7 @@
 use Rattle.std.proofs.Common.{◌≡◌, List, ℕ, Ok, Err, refl, sym, ap, subst, ◌∙◌, arith}
 use Rattle.folder.proofs.Binds.{ok_is}
 use Rattle.folder.specs.Answers.{IsThen}
+use Rattle.folder.specs.LoadedTables.{IsLoaded}
 use Rattle.folder.proofs.OpeningLemmas.{hands_on, refuses}
 use Rattle.folder.proofs.ReportLemmas.{reports_after, reports_handed, reports_steady}
 use Rattle.pick.specs.PickedInputs.{IsInputsAnswer, PickedInputs, picked_in}
@@ -11,7 +12,7 @@ use Rattle.store.specs.FoundInputs.{IsInputsFound}
 use Rattle.store.specs.InputsCompaction.{IsOrderlyAnswer, input_numbers}
 use Rattle.store.proofs.Compactions.{picked_of}
 use Rattle.store.proofs.Flow.{first_passed, first_refused, no_refusal}
-use Rattle.store.proofs.HeldInputs.{numbers_held}
+use Rattle.store.proofs.HeldInputs.{bytes_told, numbers_held}
 use Rattle.store.proofs.NoDevice.{handed_other, inputs_answer_other, orderly_other}
 use Rattle.store.proofs.level_inputs.level_inputs.Goals as goal
 
@@ -110,11 +111,14 @@ pub returns-clause-picked : goal.returns-clause-picked
 returns-clause-picked g c =
     picked_of g.C.Comparator.cmp c.args.version.now c.args.level (picked_in c.in_ok-picked.picked) c.in_ok-picked.ensures.picked
 
-pub returns-clause-numbers : goal.returns-clause-numbers
-returns-clause-numbers g c =
+pub returns-clause-read : goal.returns-clause-read
+returns-clause-read g c are =
+    let tells = g.F.Folder.tells c.args.folder.now in
     let p = picked_in c.in_ok-picked.picked in
+    let held = c.in_ok-tables.tables in
     let numbers : c.deref-2.result.now ≡ input_numbers p.files = c.deref-2.ensures.value ∙ sym (ok_is _ _ c.in_ok-numbers.ensures) ∙ ap input_numbers c.deref.ensures.value in
-    c.in_ok-tables.ensures.numbers ∙ numbers
+    subst (λ (ns : List ℕ). IsLoaded tells ns (Ok (held_bytes held))) (c.in_ok-tables.ensures.numbers ∙ numbers)
+    (bytes_told g.C.Comparator.cmp tells held (c.in_ok-tables.ensures.held are))
 
 pub returns-clause-device : goal.returns-clause-device
 returns-clause-device g c = reports_after _ c.in_ok-tables.was c.checked_tables.ensures.device tt

@@ -18,7 +18,7 @@ const MANIFEST: &[u8] = b"\
     \x07r\x09a\x01\x01\0\0\0\0\0\0\x09a\x01\x01\0\0\0\0\0\0";
 
 /// `table: a@1 put x`
-const TABLE: &[u8] = b"\
+pub(crate) const TABLE: &[u8] = b"\
     \0\x09\x01a\x01\x01\0\0\0\0\0\0x\0\0\0\0\x01\0\0\0\0\x84\xdd\x88t\0\0\0\0\x01\0\0\0\0\xc0\xf2\
     \xa1\xb0\0\x09\x02a\x01\x01\0\0\0\0\0\0\0\x15\0\0\0\0\x01\0\0\0\06I\x25\xbf\x1a\x08\x27\x16\0\0\
     \0\0\0\0\0\0\0\0\0\0\0\0\0\0\0\0\0\0\0\0\0\0\0\0\0\0\0\0\0\0\0\0\0\0W\xfb\x80\x8b\x24uG\xdb";
@@ -26,8 +26,11 @@ const TABLE: &[u8] = b"\
 /// How many bytes of tables are held while a version is tested.
 pub(crate) const MEMORY: u64 = 1_073_741_824;
 
+/// Files by their names.
+pub(crate) type Files = &'static [(&'static str, &'static [u8])];
+
 /// The files of the folder, none of which is synced. File 7 has its older name.
-pub(crate) const FILES: &[(&str, &[u8])] = &[
+pub(crate) const FILES: Files = &[
     ("CURRENT", b"MANIFEST-000005\n"),
     ("MANIFEST-000005", MANIFEST),
     ("000007.sst", TABLE),

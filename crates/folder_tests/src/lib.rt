@@ -26,4 +26,6 @@ mod install_tests;
 #[cfg(test)]
 mod silent_folder_tests;
 #[cfg(test)]
+mod silent_rows;
+#[cfg(test)]
 mod silent_shelf;

@@ -1,40 +1,25 @@
-//! The calls of a compaction of a folder that tells contracts nothing, and of the removal after it.
+//! The calls of what changes a folder that tells contracts nothing: compactions, installations, an
+//! outcome that is written, and a removal.
 
-use crate::compaction_crash_tests::{FILES, MEMORY, is_named};
+use crate::compaction_crash_tests::{FILES, Files, MEMORY, is_named};
+use crate::silent_rows::{Act, ROWS, Row};
 use crate::silent_shelf::SilentShelf;
+use adoption::{AdoptionEnd, Comparison, install_outcome};
 use coding::{Fault, FaultName};
+use edit::Version;
 use folder::{Failing, FolderFault, Readings, Shelf, ShelfStep, open};
 use install::{RemovalWatch, remove_obsolete};
-use std::alloc::{AllocError, Global};
+use keep::Snapshots;
+use std::alloc::Global;
 use std::test::*;
 use std::thread::Threads;
-use store::{Open, Settings, checkers, compact_dir, sync_version};
+use store::{
+    CompactionStep, InstallWatch, Open, Settings, SyncedVersion, checkers, compact_all,
+    compact_dir, outcome_of_opened, sync_version, write_outcome,
+};
 
-/// The calls of the compaction of level 1, in order: what each does, and to which name. Of those
-/// that read, no name is given.
-const COMPACTED: &[(&str, &str)] = &[
-    ("read", ""),
-    ("read", ""),
-    ("sync", "CURRENT"),
-    ("sync", "MANIFEST-000005"),
-    ("sync", "000007.ldb"),
-    ("sync", "000007.sst"),
-    ("sync", "."),
-    ("read", ""),
-    ("read", ""),
-    ("create", "000010.ldb"),
-    ("sync", "000010.ldb"),
-    ("create", "MANIFEST-000009"),
-    ("sync", "MANIFEST-000009"),
-    ("create", "000009.dbtmp"),
-    ("sync", "000009.dbtmp"),
-    ("sync", "."),
-    ("read", ""),
-    ("rename", "CURRENT"),
-    ("sync", "."),
-];
-
-/// The same and those of the removal after it, of which it is opened anew.
+/// The calls that write of a compaction of level 1 and of the removal after it, of which it is
+/// opened anew.
 const CLEANED: &[(&str, &str)] = &[
     ("sync", "CURRENT"),
     ("sync", "MANIFEST-000005"),
@@ -60,56 +45,171 @@ const CLEANED: &[(&str, &str)] = &[
     ("sync", "."),
 ];
 
-/// Files that the folder is read short of, and how many calls write then: none, or the syncs.
-const SHORT: &[(&str, usize)] = &[("CURRENT", 0), ("MANIFEST-000005", 0), ("000007.sst", 5)];
-
-/// The folder in memory that tells nothing, without the last byte of a file.
-fn silent<'a>(shelf: Shelf<'a>, short: &'a str) -> SilentShelf<'a> {
+/// A folder in memory that tells nothing, of which a call may fail. The last byte of a file is
+/// never read.
+fn silent<'a>(
+    alloc: Global,
+    files: Files,
+    failing: Option<Failing>,
+    short: &'a str,
+) -> SilentShelf<'a> {
+    let shelf = Shelf::new(alloc, files);
     SilentShelf {
-        shelf,
+        shelf: match failing {
+            Some(failing) => shelf.failing(failing),
+            None => shelf,
+        },
         short,
         readings: Readings::none(),
     }
 }
 
-/// Compacts level 1 of the folder, as the program does.
+/// That a call of a number, from 1, fails. Half of it is done all the same.
+fn failure(call: u64) -> Option<Failing> {
+    Some(Failing {
+        call,
+        fault: FolderFault::Device,
+        is_half_done: true,
+    })
+}
+
+/// Compacts level 1 of a folder, as the program does.
 fn compact_level<R: Threads + Sync>(
     rt: &R,
     alloc: Global,
     folder: &mut SilentShelf<'_>,
 ) -> Result<(), Fault> {
-    compact_dir(
-        &checkers(rt, alloc, &Open),
-        folder,
-        1,
-        &Settings::default(),
-        MEMORY,
-    )?;
-    Ok(())
+    let workers = checkers(rt, alloc, &Open);
+    match compact_dir(&workers, folder, 1, &Settings::default(), MEMORY) {
+        Ok(_) => Ok(()),
+        Err(fault) => Err(fault),
+    }
 }
 
-/// Those of some calls that write.
-fn writes(
+/// Who is told of compactions. It goes on if it says so.
+#[derive(Drop)]
+struct Told {
+    goes_on: bool,
+}
+
+impl InstallWatch for Told {
+    fn installed(
+        &mut self,
+        _level: u64,
+        _step: &CompactionStep,
+        _before: &Version,
+        _after: Option<&Version>,
+    ) -> bool {
+        self.goes_on
+    }
+}
+
+/// What a folder is opened as, synced.
+fn synced(alloc: Global, folder: &mut SilentShelf<'_>) -> Result<SyncedVersion, Fault> {
+    let opened = open(alloc, folder)?;
+    sync_version(alloc, folder, opened)
+}
+
+/// Compacts all levels of a folder, or the first one alone.
+fn compact_levels<R: Threads + Sync>(
+    rt: &R,
     alloc: Global,
-    calls: &'static [(&'static str, &'static str)],
-) -> Result<Vec<(&'static str, &'static str)>, AllocError> {
-    let mut writes = Vec::new(alloc);
+    folder: &mut SilentShelf<'_>,
+    goes_on: bool,
+) -> Result<(), Fault> {
+    let opened = synced(alloc, folder)?;
+    let workers = checkers(rt, alloc, &Open);
+    let told = &mut Told { goes_on };
+    match compact_all(&workers, folder, opened, &Settings::default(), MEMORY, told) {
+        Ok(_) => Ok(()),
+        Err(fault) => Err(fault),
+    }
+}
+
+/// Writes the outcome of a compaction of level 1 of another folder into a folder.
+fn write_level<R: Threads + Sync>(
+    rt: &R,
+    alloc: Global,
+    folder: &mut SilentShelf<'_>,
+    source: &mut SilentShelf<'_>,
+) -> Result<(), Fault> {
+    let opened = open(alloc, source)?;
+    let workers = checkers(rt, alloc, &Open);
+    let settings = Settings::default();
+    let made = outcome_of_opened(&workers, source, &opened, 1, None, &settings, MEMORY)?;
+    write_outcome(rt, folder, &made.outcome)
+}
+
+/// A folder after what was done to it, and the answer.
+#[derive(Drop)]
+struct End<'a> {
+    folder: SilentShelf<'a>,
+    answer: Result<(), Fault>,
+}
+
+/// Installs in a folder the outcome that another one holds.
+fn install_from<'a, R: Threads + Sync>(
+    rt: &R,
+    alloc: Global,
+    folder: SilentShelf<'a>,
+    source: &mut SilentShelf<'_>,
+) -> End<'a> {
+    let mut folder = folder;
+    let opened = match synced(alloc, &mut folder) {
+        Ok(opened) => opened,
+        Err(fault) => {
+            return End {
+                folder,
+                answer: Err(fault),
+            };
+        }
+    };
+    let workers = checkers(rt, alloc, &Open);
+    let comparison = Comparison::With(Snapshots::Listed(&[]));
+    let AdoptionEnd { folder, answer } = install_outcome(
+        &workers, folder, source, &opened, comparison, MEMORY,
+    );
+    End {
+        folder,
+        answer: match answer {
+            Ok(_) => Ok(()),
+            Err(fault) => Err(fault),
+        },
+    }
+}
+
+/// Does this to a folder, with another one that is only read.
+fn done<'a, R: Threads + Sync>(
+    rt: &R,
+    alloc: Global,
+    act: Act,
+    folder: SilentShelf<'a>,
+    source: &mut SilentShelf<'_>,
+) -> End<'a> {
+    if act == Act::Install {
+        return install_from(rt, alloc, folder, source);
+    }
+    let mut folder = folder;
+    let answer = match act {
+        Act::Compact => compact_level(rt, alloc, &mut folder),
+        Act::Write => write_level(rt, alloc, &mut folder, source),
+        _ => compact_levels(rt, alloc, &mut folder, act == Act::CompactAll),
+    };
+    End { folder, answer }
+}
+
+/// Whether the calls that write, the newest first, are those of these.
+fn are_calls(steps: &[ShelfStep], calls: &[(&str, &str)]) -> bool {
+    let mut left = steps;
     for call in calls {
         if call.0 != "read" {
-            writes.push(*call)?;
+            match left.split_last() {
+                Some((step, newer)) if is_named(step, *call) => left = newer,
+                _ => return false,
+            }
         }
     }
-    Ok(writes)
-}
-
-/// Whether the calls, the newest first, are these.
-fn are_calls(steps: &[ShelfStep], calls: &[(&str, &str)]) -> bool {
-    for (step, wanted) in steps.iter().rev().zip(calls) {
-        if !is_named(step, *wanted) {
-            return false;
-        }
-    }
-    steps.len() == calls.len()
+    left.is_empty()
 }
 
 /// Whether all calls were done, the newest first, but for the newest one if it `has_failed`.
@@ -122,35 +222,106 @@ fn are_done(steps: &[ShelfStep], has_failed: bool) -> bool {
     true
 }
 
-/// Whether a compaction of which a call fails makes just the calls up to that one.
-fn ends_at<R: Threads + Sync>(rt: &R, alloc: Global, call: usize) -> Result<bool, Fault> {
-    let shelf = Shelf::new(alloc, FILES).failing(Failing {
-        call: call as u64,
-        fault: FolderFault::Device,
-        is_half_done: true,
-    });
-    let mut folder = silent(shelf, "");
-    let answer = compact_level(rt, alloc, &mut folder);
-    let first = COMPACTED.get(..call).unwrap_or(COMPACTED);
-    let is_read = match first.last() {
-        Some(last) => last.0 == "read",
-        None => true,
+/// Whether of what a row does just the calls up to a place are made, if the one there fails. If
+/// there is none, all of them are made.
+fn ends_at<R: Threads + Sync>(rt: &R, alloc: Global, row: &Row, place: usize) -> bool {
+    let call = (place as u64).saturating_add(1);
+    let folder = silent(alloc, row.files, failure(call), "");
+    let mut source = silent(alloc, row.source, None, "");
+    let end = done(rt, alloc, row.act, folder, &mut source);
+    let steps = end.folder.steps();
+    let made = row
+        .calls
+        .get(..place.saturating_add(1))
+        .unwrap_or(row.calls);
+    let (wanted, has_failed) = match row.calls.get(place) {
+        Some(call) => (Err(Fault::of(FaultName::Device)), call.0 != "read"),
+        None => (Ok(()), false),
     };
-    let wanted = writes(alloc, first)?;
-    Ok(
-        answer == Err(Fault::of(FaultName::Device))
-            && folder.shelf.calls() == call as u64
-            && are_calls(folder.steps(), &wanted)
-            && are_done(folder.steps(), !is_read),
-    )
+    end.answer == wanted
+        && end.folder.shelf.calls() == made.len() as u64
+        && are_calls(steps, made)
+        && are_done(steps, has_failed)
+}
+
+/// Whether `ends_at` holds at each place of a row, and after them.
+fn ends_at_each<R: Threads + Sync>(rt: &R, alloc: Global, row: &Row) -> bool {
+    for place in 0..row.calls.len().saturating_add(1) {
+        if !ends_at(rt, alloc, row, place) {
+            return false;
+        }
+    }
+    true
+}
+
+/// Whether a call of the other folder that fails ends what a row does, after so many calls that
+/// write. Of the other folder none writes.
+fn ends_by<R: Threads + Sync>(rt: &R, alloc: Global, row: &Row, call: u64, count: usize) -> bool {
+    let folder = silent(alloc, row.files, None, "");
+    let mut source = silent(alloc, row.source, failure(call), "");
+    let end = done(rt, alloc, row.act, folder, &mut source);
+    let steps = end.folder.steps();
+    end.answer == Err(Fault::of(FaultName::Device))
+        && source.shelf.calls() == call
+        && source.steps().is_empty()
+        && steps.len() == count
+        && are_done(steps, false)
+}
+
+/// Whether that holds of each call of the other folder.
+fn ends_by_each<R: Threads + Sync>(rt: &R, alloc: Global, row: &Row) -> bool {
+    let (calls, count) = row.source_calls;
+    for call in 0..calls {
+        if !ends_by(rt, alloc, row, call.saturating_add(1), count) {
+            return false;
+        }
+    }
+    true
+}
+
+/// Whether a file that is read short ends what a row does, after so many calls that write.
+fn ends_short<R: Threads + Sync>(
+    rt: &R,
+    alloc: Global,
+    row: &Row,
+    (name, count): (&str, usize),
+) -> bool {
+    let folder = silent(alloc, row.files, None, name);
+    let mut source = silent(alloc, row.source, None, name);
+    let end = done(rt, alloc, row.act, folder, &mut source);
+    let steps = end.folder.steps();
+    end.answer.is_err() && steps.len() == count && are_done(steps, false)
+}
+
+/// Whether that holds of each file of a row that is read short.
+fn ends_short_each<R: Threads + Sync>(rt: &R, alloc: Global, row: &Row) -> bool {
+    for short in row.short {
+        if !ends_short(rt, alloc, row, *short) {
+            return false;
+        }
+    }
+    true
 }
 
 #[test]
-fn calls_up_to_one_that_fails(rt: HostRuntime) -> Result<(), Fault> {
-    for call in 1..COMPACTED.len() + 1 {
-        assert!(rt; ends_at(&rt, rt.alloc(), call)?, "{call}");
+fn calls_of_each_row(rt: HostRuntime) {
+    for row in ROWS {
+        assert!(rt;
+            ends_at_each(&rt, rt.alloc(), row),
+            "{}: a call fails",
+            row.name
+        );
+        assert!(rt;
+            ends_by_each(&rt, rt.alloc(), row),
+            "{}: the other folder fails",
+            row.name
+        );
+        assert!(rt;
+            ends_short_each(&rt, rt.alloc(), row),
+            "{}: a short read",
+            row.name
+        );
     }
-    Ok(())
 }
 
 /// Who is told of removed files.
@@ -168,8 +339,7 @@ fn clean<R: Threads + Sync>(
     folder: &mut SilentShelf<'_>,
 ) -> Result<(), Fault> {
     compact_level(rt, alloc, folder)?;
-    let opened = open(alloc, folder)?;
-    let opened = sync_version(alloc, folder, opened)?.into_opened();
+    let opened = synced(alloc, folder)?.into_opened();
     let mut names = Vec::new(alloc);
     for (name, _) in FILES {
         names.push(String::from_str(alloc, name)?)?;
@@ -179,23 +349,9 @@ fn clean<R: Threads + Sync>(
 }
 
 #[test]
-fn calls_of_a_compaction_and_a_removal(rt: HostRuntime) -> Result<(), Fault> {
-    let mut folder = silent(Shelf::new(rt.alloc(), FILES), "");
-    clean(&rt, rt.alloc(), &mut folder)?;
+fn calls_of_a_compaction_and_a_removal(rt: HostRuntime) {
+    let mut folder = silent(rt.alloc(), FILES, None, "");
+    let answer = clean(&rt, rt.alloc(), &mut folder);
+    assert_eq!(rt; answer, Ok(()));
     assert!(rt; are_calls(folder.steps(), CLEANED) && are_done(folder.steps(), false));
-    Ok(())
-}
-
-/// Whether a file that is read short ends a compaction after so many calls that write.
-fn ends_short<R: Threads + Sync>(rt: &R, alloc: Global, name: &str, count: usize) -> bool {
-    let mut folder = silent(Shelf::new(alloc, FILES), name);
-    let answer = compact_level(rt, alloc, &mut folder);
-    answer.is_err() && folder.steps().len() == count && are_done(folder.steps(), false)
-}
-
-#[test]
-fn files_that_are_read_short(rt: HostRuntime) {
-    for (name, count) in SHORT {
-        assert!(rt; ends_short(&rt, rt.alloc(), name, *count), "{name}");
-    }
 }

@@ -1,7 +1,7 @@
 //! The removal of files that a version doesn't need.
 //!
-//! `compact --clean` calls it after each installation, through a folder value of its own. Why that
-//! changes nothing for the steps:
+//! `compact --all --clean` calls it after each installation, through a folder value of its own. Why
+//! that changes nothing for the steps:
 //!
 //! 1. At Ok an installation leaves a folder that stands for the edited version by its manifest: the
 //!    premise of the removal. After that it is true too, and it is the premise of the next step

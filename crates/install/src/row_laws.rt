@@ -30,8 +30,8 @@ pub fn work_laws()
         AlwaysStandsAs cmp order next.version next.tables start after)
         → after ≡ before ++ map Done (install_calls next.manifest groups manifest)
         → IsWorkDone cmp order v next before after }
-    // A removal, of which `StaysAs` says this (`any_moment`, `stands`), is work that leaves the version
-    // as it is, also one that was refused.
+    // A removal, of which `StaysAs` says this (`any_moment`, `stands`), is work that leaves the
+    // version as it is, also one that was refused.
     ensures removed { (cmp : List ℕ → List ℕ → Ordering) (order : Order) (v : FolderVersion)
         (before after : List Step)
         → ((start : World) → AlwaysStands cmp order v start before →

@@ -59,6 +59,12 @@ lawful_object files entries logs = object (member (codes "entries") (number (uns
     (member (codes "lawful") (boolean true)
     (member (codes "logs") (logs_data logs) no_members))))
 
+-- `{"files":F,"logs":N,"quick":true}`
+abbrev pub quick_object : ℕ → Option ℕ → Data
+quick_object files logs = object (member (codes "files") (number (unsigned files))
+    (member (codes "logs") (logs_data logs)
+    (member (codes "quick") (boolean true) no_members)))
+
 -- `{"entries":E,"valid":true}`
 abbrev pub valid_object : ℕ → Data
 valid_object entries = object (member (codes "entries") (number (unsigned entries))
@@ -68,6 +74,10 @@ valid_object entries = object (member (codes "entries") (number (unsigned entrie
 abbrev pub removed_object : List ℕ → ℕ → Data
 removed_object name bytes = object (member (codes "bytes") (number (unsigned bytes))
     (member (codes "removed") (string name) no_members))
+
+-- `{"name":NAME}`
+abbrev pub name_object : List ℕ → Data
+name_object name = object (member (codes "name") (string name) no_members)
 
 -- `{"key":K,"logs":N,"value":V}`
 abbrev pub value_parts : Data → Option ℕ → Data → Data

@@ -44,8 +44,8 @@ pub fn entry_line(
     }
 }
 
-/// The object `{"file":F,"level":L,"sequence":S,"value":V}` of an entry, with null in place of V for
-/// a deletion.
+/// The object `{"file":F,"level":L,"sequence":S,"value":V}` of an entry, with null in place of V
+/// for a deletion.
 pub fn entry_json(
     alloc: Global,
     spelling: Spelling,

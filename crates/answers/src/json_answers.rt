@@ -1,4 +1,4 @@
-//! The JSON objects of a verdict, of a removed file, and of a value.
+//! The JSON objects of a verdict, of a removed or needed file, and of a value.
 
 ghost use Rattle.std.specs.Prelude.{Ok, option_map};
 ghost use Rattle.table.specs.Answers.{EqualOrMemory};
@@ -6,8 +6,8 @@ ghost use Rattle.table.specs.Saturated.{saturated};
 ghost use Rattle.table.specs.Key.{user_of};
 ghost use Rattle.serde_json.specs.View.{view};
 ghost use Rattle.answers.specs.Objects.{count_object, key_data, lawful_object, logs_object};
-ghost use Rattle.answers.specs.Objects.{removed_object, valid_object, value_object};
-ghost use Rattle.answers.specs.Objects.{value_parts};
+ghost use Rattle.answers.specs.Objects.{name_object, quick_object, removed_object, valid_object};
+ghost use Rattle.answers.specs.Objects.{value_object, value_parts};
 
 use crate::json_bytes::{key_json, text_or_null};
 use crate::json_text::capped;
@@ -31,6 +31,14 @@ pub fn lawful_json(
     Ok(json!(in alloc; {"entries": entries, "files": files, "lawful": true, "logs": logs})?)
 }
 
+/// The object `{"files":F,"logs":N,"quick":true}` of a version of which no data block was read. So
+/// many `logs` as of a lawful one.
+pub fn quick_json(alloc: Global, files: usize, logs: Option<u64>) -> Result<Value, Fault>
+    ensures { EqualOrMemory view result (Ok (quick_object files logs)) }
+{
+    Ok(json!(in alloc; {"files": files, "logs": logs, "quick": true})?)
+}
+
 /// The object `{"logs":N}` after rows: how many logs have writes that are in no table, null if it
 /// isn't known.
 pub fn logs_json(alloc: Global, logs: Option<u64>) -> Result<Value, Fault>
@@ -51,6 +59,13 @@ pub fn removed_json(alloc: Global, name: &str, bytes: u64) -> Result<Value, Faul
     ensures { EqualOrMemory view result (Ok (removed_object name.now bytes)) }
 {
     Ok(json!(in alloc; {"bytes": bytes, "removed": name})?)
+}
+
+/// The object `{"name":NAME}` of a file that a copy needs.
+pub fn name_json(alloc: Global, name: &str) -> Result<Value, Fault>
+    ensures { EqualOrMemory view result (Ok (name_object name.now)) }
+{
+    Ok(json!(in alloc; {"name": name})?)
 }
 
 /// The object `{"entries":E,"valid":true}` of a valid table.

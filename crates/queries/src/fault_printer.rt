@@ -3,6 +3,7 @@
 use answers::{fault_count_line, file_fault_line, key_fault_line};
 use checks::{Fault, FaultName, checkers};
 use faults::{FaultTaker, FileFault, all_faults};
+use install::Opened;
 use session::{
     Disk, Host, ProgressLine, Refusal, Telling, begin_work, print_lines, refused_at, tell_replaced,
     tell_time,
@@ -16,25 +17,60 @@ use texts::Spelling;
 pub fn faults_printed<R: Host>(rt: &R, telling: Telling<'_>, memory: u64) -> Result<(), Refusal> {
     let begun = telling.begin(rt);
     let opened = begin_work(rt, telling)?;
-    let progress = ProgressLine::new(rt, telling);
+    let count = match faults_told(rt, telling, &opened, memory) {
+        Ok(count) => count,
+        Err(refusal) => return Err(refusal),
+    };
+    tell_time(rt, "verify --all-faults", begun);
+    count_printed(rt, count)?;
+    if count > 0 {
+        tell_replaced(rt, telling, &opened);
+        return Err(Refusal::silent(Fault::of(FaultName::Lawless)));
+    }
+    Ok(())
+}
+
+/// Prints all faults of what a folder was opened as, and answers how many there are.
+fn faults_told<R: Host>(
+    rt: &R,
+    telling: Telling<'_>,
+    opened: &Opened,
+    memory: u64,
+) -> Result<u64, Refusal> {
     let mut folder = Disk::new(rt, telling.folder);
+    match faults_scanned(rt, telling, &mut folder, opened, memory) {
+        Ok(Ok(count)) => Ok(count),
+        Ok(Err(fault)) => Err(refused_at(rt, telling.folder, &folder, fault)),
+        Err(refusal) => Err(refusal),
+    }
+}
+
+/// Prints the faults that a test tells, and answers how it ended; or why one could not be printed.
+fn faults_scanned<R: Host>(
+    rt: &R,
+    telling: Telling<'_>,
+    folder: &mut Disk<'_, R>,
+    opened: &Opened,
+    memory: u64,
+) -> Result<Result<u64, Fault>, Refusal> {
+    let progress = ProgressLine::new(rt, telling);
     let mut printer = FaultPrinter {
         rt,
         progress: &progress,
         refusal: None,
     };
     let workers = checkers(rt, rt.alloc(), &progress);
-    let told = all_faults(&workers, &mut folder, &opened, memory, &mut printer);
+    let told = all_faults(&workers, folder, opened, memory, &mut printer);
     progress.erase();
-    printer.end()?;
-    let count = told.map_err(|fault| refused_at(rt, telling.folder, &folder, fault))?;
-    tell_time(rt, "verify --all-faults", begun);
-    print_lines(rt, &fault_count_line(rt.alloc(), count)?)?;
-    if count > 0 {
-        tell_replaced(rt, telling, &opened);
-        return Err(Refusal::silent(Fault::of(FaultName::Lawless)));
+    match printer.end() {
+        Ok(()) => Ok(told),
+        Err(refusal) => Err(refusal),
     }
-    Ok(())
+}
+
+/// Prints how many faults there are.
+fn count_printed<R: Print + AllocGlobal>(rt: &R, count: u64) -> Result<(), Refusal> {
+    print_lines(rt, &fault_count_line(rt.alloc(), count)?)
 }
 
 /// Who prints faults, a line each.

@@ -1,24 +1,16 @@
 //! All entries of a key in a folder, from its path to what is printed.
 
-use crate::folder_work::version_tested;
-use answers::{EntryPlace, entry_json, entry_line, json_line, logs_json};
+use crate::read_work::{begin_explained, push_logs, read_explained, test_explained};
+use answers::{EntryPlace, entry_json, entry_line, json_line};
 use checks::Fault;
 use install::Opened;
-use scan::{Kind, OwnedEntry, entries_in_file};
+use scan::{Kind, PlacedEntry, key_history};
 use session::{
-    Bytewise, Comparator, Disk, FileMeta, Host, LEVELS, MAX_USER_KEY, OpenedFolder, Order, Refusal,
-    Shortlex, SystemFiles, Telling, begin_counted, bytes_of, explained, locked_to_read,
-    print_lines, refused_opened, table_explained, tell_time,
+    Bytewise, Disk, Host, OpenedFolder, Order, Refusal, Shortlex, Telling, locked_to_read,
+    print_lines, refused_opened, tell_time,
 };
 use std::alloc::Global;
 use usage::HistoryLine;
-
-/// An entry of a key, and where it is.
-#[derive(Drop)]
-struct PlacedEntry {
-    place: EntryPlace,
-    entry: OwnedEntry,
-}
 
 /// Prints all entries of a key in a folder, the newest first. The version is tested before, if that
 /// is asked for.
@@ -29,54 +21,81 @@ pub fn print_history<R: Host>(
 ) -> Result<(), Refusal> {
     let _lock = locked_to_read(rt, telling)?;
     let begun = telling.begin(rt);
-    let work = begin_counted(rt, telling).map_err(|refusal| explained(rt, telling, refusal))?;
-    if line.testing.is_skipped {
-        history_printed(rt, telling, line, &work).map_err(|refusal| table_explained(
-            rt.alloc(),
-            telling.folder,
-            refusal,
-        ))?;
-        tell_time(rt, "history --no-verify", begun);
-        return Ok(());
+    let done = history_told(rt, telling, line);
+    if done.is_ok() {
+        let step = if line.testing.is_skipped {
+            "history --no-verify"
+        } else {
+            "history"
+        };
+        tell_time(rt, step, begun);
     }
-    let memory = bytes_of(line.testing.memory);
-    version_tested(rt, telling, &work.opened, memory).map_err(|refusal| explained(
-        rt, telling, refusal,
-    ))?;
-    history_printed(rt, telling, line, &work).map_err(|refusal| explained(rt, telling, refusal))?;
-    tell_time(rt, "history", begun);
-    Ok(())
+    done
 }
 
-/// Prints all entries of a key in what a folder was opened as, and that was tested. After those of
-/// JSON comes the line of the logs, if there is one with writes.
+/// The same of a folder that is locked.
+fn history_told<R: Host>(
+    rt: &R,
+    telling: Telling<'_>,
+    line: &HistoryLine<'_>,
+) -> Result<(), Refusal> {
+    let work = begin_explained(rt, telling)?;
+    test_explained(rt, telling, &work.opened, &line.testing)?;
+    match history_printed(rt, telling, line, &work) {
+        Ok(()) => Ok(()),
+        Err(refusal) => Err(read_explained(rt, telling, &line.testing, refusal)),
+    }
+}
+
+/// Prints all entries of a key in what a folder was opened as. After those of JSON comes the line
+/// of the logs, if there is one with writes.
 fn history_printed<R: Host>(
     rt: &R,
     telling: Telling<'_>,
     line: &HistoryLine<'_>,
     work: &OpenedFolder,
 ) -> Result<(), Refusal> {
+    let entries = history_of(rt, telling.folder, &work.opened, &line.key)?;
+    let mut lines = history_lines(rt.alloc(), line, &entries)?;
+    push_logs(rt.alloc(), &mut lines, line.is_json, work.logs)?;
+    print_lines(rt, &lines)
+}
+
+/// All entries of a key in what a folder was opened as, the newest first.
+fn history_of<R: Host>(
+    rt: &R,
+    path: &str,
+    opened: &Opened,
+    key: &[u8],
+) -> Result<Vec<PlacedEntry>, Refusal> {
     let alloc = rt.alloc();
-    let mut folder = Disk::new(rt, telling.folder);
-    let entries = history_of(alloc, &mut folder, &work.opened, &line.key);
-    let entries = entries.map_err(|fault| refused_opened(
-        rt,
-        telling.folder,
-        &folder,
-        &work.opened,
-        fault,
-    ))?;
+    let version = &opened.version;
+    let mut folder = Disk::new(rt, path);
+    let found = match opened.order {
+        Order::Bytewise => {
+            key_history::<Bytewise, Disk<'_, R>>(alloc, &mut folder, version, key)
+        }
+        Order::Shortlex => {
+            key_history::<Shortlex, Disk<'_, R>>(alloc, &mut folder, version, key)
+        }
+    };
+    match found {
+        Ok(entries) => Ok(entries),
+        Err(fault) => Err(refused_opened(rt, path, &folder, opened, fault)),
+    }
+}
+
+/// What is printed of entries.
+fn history_lines(
+    alloc: Global,
+    line: &HistoryLine<'_>,
+    entries: &[PlacedEntry],
+) -> Result<Vec<u8>, Fault> {
     let mut lines = Vec::new(alloc);
-    for entry in &entries {
+    for entry in entries {
         push_entry(alloc, &mut lines, line, entry)?;
     }
-    if line.is_json && work.logs != Some(0) {
-        let object = logs_json(alloc, work.logs)?;
-        let line = json_line(alloc, &object)?;
-        print_lines(rt, &lines)?;
-        return print_lines(rt, line.as_bytes());
-    }
-    print_lines(rt, &lines)
+    Ok(lines)
 }
 
 /// Appends what is printed of an entry.
@@ -84,97 +103,28 @@ fn push_entry(
     alloc: Global,
     lines: &mut Vec<u8>,
     line: &HistoryLine<'_>,
-    placed: &PlacedEntry,
+    found: &PlacedEntry,
 ) -> Result<(), Fault> {
-    let entry = &placed.entry;
-    let value = match entry.key.as_key().kind() {
-        Kind::Put => Some(entry.value.as_slice()),
-        Kind::Delete => None,
-    };
-    let text = if line.is_json {
-        let object = entry_json(alloc, line.spelling, placed.place, value)?;
-        json_line(alloc, &object)?
-    } else {
-        entry_line(alloc, line.spelling, placed.place, value)?
-    };
+    let text = entry_text(alloc, line, found)?;
     lines.extend_from_slice(text.as_bytes())?;
     Ok(())
 }
 
-/// All entries of a key in a version, the newest first.
-fn history_of<R: SystemFiles + AllocGlobal>(
-    alloc: Global,
-    folder: &mut Disk<'_, R>,
-    opened: &Opened,
-    key: &[u8],
-) -> Result<Vec<PlacedEntry>, Fault> {
-    let mut found = match opened.order {
-        Order::Bytewise => entries_of::<Bytewise, R>(alloc, folder, opened, key)?,
-        Order::Shortlex => entries_of::<Shortlex, R>(alloc, folder, opened, key)?,
+/// What is printed of an entry.
+fn entry_text(alloc: Global, line: &HistoryLine<'_>, found: &PlacedEntry) -> Result<String, Fault> {
+    let key = found.entry.key.as_key();
+    let place = EntryPlace {
+        level: found.level,
+        file: found.file,
+        sequence: key.sequence(),
     };
-    found.sort_unstable_by(|one, other| other.place.sequence.cmp(&one.place.sequence));
-    Ok(found)
-}
-
-/// All entries of a key that the files of a version have, by level.
-fn entries_of<C: Comparator, R: SystemFiles + AllocGlobal>(
-    alloc: Global,
-    folder: &mut Disk<'_, R>,
-    opened: &Opened,
-    key: &[u8],
-) -> Result<Vec<PlacedEntry>, Fault> {
-    let mut found = Vec::new(alloc);
-    for level in 0..LEVELS {
-        let files = opened.version.files::<C>(alloc, level)?;
-        push_level::<C, R>(alloc, folder, &files, level, key, &mut found)?;
+    let value = match key.kind() {
+        Kind::Put => Some(found.entry.value.as_slice()),
+        Kind::Delete => None,
+    };
+    if !line.is_json {
+        return entry_line(alloc, line.spelling, place, value);
     }
-    Ok(found)
-}
-
-/// Appends all entries of a key that these files of a level have.
-fn push_level<C: Comparator, R: SystemFiles + AllocGlobal>(
-    alloc: Global,
-    folder: &mut Disk<'_, R>,
-    files: &[&FileMeta],
-    level: u64,
-    key: &[u8],
-    found: &mut Vec<PlacedEntry>,
-) -> Result<(), Fault> {
-    for file in files {
-        let entries = entries_here::<C, R>(alloc, folder, file, key)?;
-        push_placed(found, level, file.number, entries)?;
-    }
-    Ok(())
-}
-
-/// All entries of a key that a file has. No key of a table is longer than the longest one.
-fn entries_here<C: Comparator, R: SystemFiles + AllocGlobal>(
-    alloc: Global,
-    folder: &mut Disk<'_, R>,
-    file: &FileMeta,
-    key: &[u8],
-) -> Result<Vec<OwnedEntry>, Fault> {
-    if key.len() > MAX_USER_KEY {
-        return Ok(Vec::new(alloc));
-    }
-    entries_in_file::<C, Disk<'_, R>>(alloc, folder, file, key)
-}
-
-/// Appends the entries of a file at a level.
-fn push_placed(
-    found: &mut Vec<PlacedEntry>,
-    level: u64,
-    file: u64,
-    entries: Vec<OwnedEntry>,
-) -> Result<(), Fault> {
-    for entry in entries {
-        let sequence = entry.key.as_key().sequence();
-        let place = EntryPlace {
-            level,
-            file,
-            sequence,
-        };
-        found.push(PlacedEntry { place, entry })?;
-    }
-    Ok(())
+    let object = entry_json(alloc, line.spelling, place, value)?;
+    json_line(alloc, &object)
 }

@@ -1,12 +1,12 @@
 //! The rows of a folder, from its path to what is printed.
 
-use answers::{Open, count_json, json_line, logs_json, push_row, push_row_json};
+use crate::read_work::{begin_explained, push_logs, read_explained};
+use answers::{Open, count_json, json_line, push_row, push_row_json};
 use checks::{Fault, FaultName, checkers};
 use scan::{RowChoice, RowCounter, RowTaker, prefix_end, scan_unverified, scan_version};
 use session::{
-    Disk, Host, OpenedFolder, Order, ProgressLine, Refusal, Telling, Words, begin_counted,
-    bytes_of, explained, locked_to_read, print_lines, refused_opened, sizes_tested,
-    table_explained, tell_time, told,
+    Disk, Host, OpenedFolder, Order, ProgressLine, Refusal, Telling, Words, bytes_of,
+    locked_to_read, print_lines, refused_opened, sizes_tested, tell_time, told,
 };
 use std::alloc::Global;
 use std::time::Clock;
@@ -31,29 +31,50 @@ pub fn print_rows<R: Host>(
     telling: Telling<'_>,
     line: &ScanLine<'_>,
 ) -> Result<(), Refusal> {
-    let folder = telling.folder;
     let _lock = locked_to_read(rt, telling)?;
     let begun = telling.begin(rt);
-    let work = begin_counted(rt, telling).map_err(|refusal| explained(rt, telling, refusal))?;
-    let end = end_of(rt.alloc(), folder, work.opened.order, &line.rows)?;
+    let done = rows_told(rt, telling, line);
+    if done.is_ok() {
+        let step = if line.testing.is_skipped {
+            "scan --no-verify"
+        } else {
+            "scan"
+        };
+        tell_time(rt, step, begun);
+    }
+    done
+}
+
+/// The same of a folder that is locked.
+fn rows_told<R: Host>(rt: &R, telling: Telling<'_>, line: &ScanLine<'_>) -> Result<(), Refusal> {
+    let work = begin_explained(rt, telling)?;
+    let end = end_of(rt.alloc(), telling.folder, work.opened.order, &line.rows)?;
     let scan = RowScan {
         work: &work,
         choice: choice_of(&line.rows, end.as_deref()),
         testing: &line.testing,
     };
-    if line.testing.is_skipped {
-        scan_printed(rt, telling, scan, line).map_err(|refusal| table_explained(
-            rt.alloc(),
-            folder,
-            refusal,
-        ))?;
-        tell_time(rt, "scan --no-verify", begun);
-    } else {
-        sizes_tested(rt, folder, &work.opened).map_err(|refusal| explained(rt, telling, refusal))?;
-        scan_printed(rt, telling, scan, line).map_err(|refusal| explained(rt, telling, refusal))?;
-        tell_time(rt, "scan", begun);
+    match scan_told(rt, telling, scan, line) {
+        Ok(()) => Ok(()),
+        Err(refusal) => Err(read_explained(rt, telling, &line.testing, refusal)),
     }
-    Ok(())
+}
+
+/// The same of what the folder was opened as.
+fn scan_told<R: Host>(
+    rt: &R,
+    telling: Telling<'_>,
+    scan: RowScan<'_>,
+    line: &ScanLine<'_>,
+) -> Result<(), Refusal> {
+    if !scan.testing.is_skipped {
+        sizes_tested(rt, telling.folder, &scan.work.opened)?;
+    }
+    match line.output {
+        RowOutput::Count => count_printed(rt, telling, scan, line.is_json),
+        RowOutput::Keys => rows_printed(rt, telling, scan, line),
+        RowOutput::Pairs => rows_printed(rt, telling, scan, line),
+    }
 }
 
 /// Where the keys end that are printed; None if nothing ends them. Comparator if they are those
@@ -86,20 +107,6 @@ struct RowScan<'s> {
     testing: &'s Testing,
 }
 
-/// Prints the rows that are asked for, or how many there are.
-fn scan_printed<R: Host>(
-    rt: &R,
-    telling: Telling<'_>,
-    scan: RowScan<'_>,
-    line: &ScanLine<'_>,
-) -> Result<(), Refusal> {
-    match line.output {
-        RowOutput::Count => count_printed(rt, telling, scan, line.is_json),
-        RowOutput::Keys => rows_printed(rt, telling, scan, line),
-        RowOutput::Pairs => rows_printed(rt, telling, scan, line),
-    }
-}
-
 /// Prints how many rows there are.
 fn count_printed<R: Host>(
     rt: &R,
@@ -107,19 +114,25 @@ fn count_printed<R: Host>(
     scan: RowScan<'_>,
     is_json: bool,
 ) -> Result<(), Refusal> {
-    let progress = ProgressLine::new(rt, telling);
-    let mut folder = Disk::new(rt, telling.folder);
-    let mut counter = RowCounter { rows: 0 };
-    let scanned = scanned(rt, &mut folder, scan, &progress, &mut counter);
-    progress.erase();
-    let opened = &scan.work.opened;
-    scanned.map_err(|fault| refused_opened(rt, telling.folder, &folder, opened, fault))?;
-    let count = counter.rows;
+    let count = rows_counted(rt, telling, scan)?;
     if is_json {
         let object = count_json(rt.alloc(), count, scan.work.logs)?;
         print_lines(rt, json_line(rt.alloc(), &object)?.as_bytes())
     } else {
         println!(rt; "{count}").map_err(|error| Refusal::of_output(rt.alloc(), &error))
+    }
+}
+
+/// How many rows there are.
+fn rows_counted<R: Host>(rt: &R, telling: Telling<'_>, scan: RowScan<'_>) -> Result<u64, Refusal> {
+    let progress = ProgressLine::new(rt, telling);
+    let mut folder = Disk::new(rt, telling.folder);
+    let mut counter = RowCounter { rows: 0 };
+    let scanned = scanned(rt, &mut folder, scan, &progress, &mut counter);
+    progress.erase();
+    match scanned {
+        Ok(()) => Ok(counter.rows),
+        Err(fault) => { Err(refused_opened(rt, telling.folder, &folder, &scan.work.opened, fault)) }
     }
 }
 
@@ -131,9 +144,33 @@ fn rows_printed<R: Host>(
     scan: RowScan<'_>,
     line: &ScanLine<'_>,
 ) -> Result<(), Refusal> {
-    let work = scan.work;
-    let progress = ProgressLine::new(rt, telling);
     let mut folder = Disk::new(rt, telling.folder);
+    let scanned = match rows_scanned(rt, telling, &mut folder, scan, line) {
+        Ok(scanned) => scanned,
+        Err(refusal) => return Err(refusal),
+    };
+    match scanned {
+        Ok(()) => logs_printed(rt, line.is_json, scan.work.logs),
+        Err(fault) => { Err(refused_opened(rt, telling.folder, &folder, &scan.work.opened, fault)) }
+    }
+}
+
+/// Prints the JSON line of the logs, if answers are JSON and one has writes.
+fn logs_printed<R: Host>(rt: &R, is_json: bool, logs: Option<u64>) -> Result<(), Refusal> {
+    let mut lines = Vec::new(rt.alloc());
+    push_logs(rt.alloc(), &mut lines, is_json, logs)?;
+    print_lines(rt, &lines)
+}
+
+/// Prints the rows that a scan tells, and answers how it ended; or why one could not be printed.
+fn rows_scanned<R: Host>(
+    rt: &R,
+    telling: Telling<'_>,
+    folder: &mut Disk<'_, R>,
+    scan: RowScan<'_>,
+    line: &ScanLine<'_>,
+) -> Result<Result<(), Fault>, Refusal> {
+    let progress = ProgressLine::new(rt, telling);
     let mut printer = RowPrinter {
         rt,
         progress: &progress,
@@ -145,15 +182,12 @@ fn rows_printed<R: Host>(
         lines: Vec::new(rt.alloc()),
         refusal: None,
     };
-    let scanned = scanned(rt, &mut folder, scan, &progress, &mut printer);
+    let scanned = scanned(rt, folder, scan, &progress, &mut printer);
     progress.erase();
-    printer.end()?;
-    scanned.map_err(|fault| refused_opened(rt, telling.folder, &folder, &work.opened, fault))?;
-    if line.is_json && work.logs != Some(0) {
-        let object = logs_json(rt.alloc(), work.logs)?;
-        print_lines(rt, json_line(rt.alloc(), &object)?.as_bytes())?;
+    match printer.end() {
+        Ok(()) => Ok(scanned),
+        Err(refusal) => Err(refusal),
     }
-    Ok(())
 }
 
 /// Tells the rows of what a folder was opened as, and tests it before, if that is asked for.

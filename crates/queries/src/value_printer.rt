@@ -1,7 +1,8 @@
 //! The values of keys in a folder, from its path to what is printed.
 
-use crate::folder_work::{answered, version_tested};
+use crate::folder_work::answered;
 use crate::input_keys::keys_in_input;
+use crate::read_work::{begin_explained, read_explained, test_explained};
 use answers::{Question, ValueForm, json_line, push_named_value, unverified_value, value_json};
 use checks::Fault;
 use install::Opened;
@@ -94,25 +95,31 @@ fn print_values<R: Host>(
     keys: &[Vec<u8>],
 ) -> Result<(), Refusal> {
     let begun = telling.begin(rt);
-    let work = begin_counted(rt, telling).map_err(|refusal| explained(rt, telling, refusal))?;
-    if line.testing.is_skipped {
-        values_printed(rt, telling, line, &work, keys).map_err(|refusal| table_explained(
-            rt.alloc(),
-            telling.folder,
-            refusal,
-        ))?;
-        tell_time(rt, "get --no-verify", begun);
-        return Ok(());
+    let done = values_told(rt, telling, line, keys);
+    if done.is_ok() {
+        let step = if line.testing.is_skipped {
+            "get --no-verify"
+        } else {
+            "get"
+        };
+        tell_time(rt, step, begun);
     }
-    let memory = bytes_of(line.testing.memory);
-    version_tested(rt, telling, &work.opened, memory).map_err(|refusal| explained(
-        rt, telling, refusal,
-    ))?;
-    values_printed(rt, telling, line, &work, keys).map_err(|refusal| explained(
-        rt, telling, refusal,
-    ))?;
-    tell_time(rt, "get", begun);
-    Ok(())
+    done
+}
+
+/// The same without the time.
+fn values_told<R: Host>(
+    rt: &R,
+    telling: Telling<'_>,
+    line: &GetLine<'_>,
+    keys: &[Vec<u8>],
+) -> Result<(), Refusal> {
+    let work = begin_explained(rt, telling)?;
+    test_explained(rt, telling, &work.opened, &line.testing)?;
+    match values_printed(rt, telling, line, &work, keys) {
+        Ok(()) => Ok(()),
+        Err(refusal) => Err(read_explained(rt, telling, &line.testing, refusal)),
+    }
 }
 
 /// Prints the values of keys in what a folder was opened as, and that was tested.
@@ -184,7 +191,7 @@ fn print_unverified_value<R: Host>(
     key: &[u8],
 ) -> Result<(), Refusal> {
     let begun = telling.begin(rt);
-    let work = begin_counted(rt, telling).map_err(|refusal| explained(rt, telling, refusal))?;
+    let work = begin_explained(rt, telling)?;
     let form = ValueOutput::of(line).form();
     let mut folder = Disk::new(rt, telling.folder);
     let answer = value_of(rt, &mut folder, &work.opened, key, line, form);

@@ -27,5 +27,6 @@ pub mod Parts
 pub mod IndexAhead
 pub mod UserEntries
 mod HistorySteps
+pub mod KeyHistories
 mod PrefixKeys
 mod CounterLemmas

@@ -15,7 +15,9 @@ pub mod TestedStats
 pub mod FolderTables
 pub mod Excuses
 pub mod UserHistory
+pub mod KeyHistory
 -- serves proofs alone
+pub mod PlacedEntries
 pub mod SearchAnswers
 pub mod EntryRows
 pub mod RowParts

@@ -56,7 +56,7 @@ pub(crate) fn entries_ahead<'a, C: Comparator>(
 }
 
 /// The block in stored bytes, or the first test that they fail.
-fn block_in(stored: &[u8]) -> Result<SoundBlock<'_>, Fault>
+pub(crate) fn block_in(stored: &[u8]) -> Result<SoundBlock<'_>, Fault>
     requires { TRAILER_LEN ≤ length stored.now }
     ensures { EqualOrMemory (λ block. block.entries) result (block_in stored.now) }
 {

@@ -14,7 +14,9 @@
 //!    reads of each table that may answer its footer, its index block, and the one data block in
 //!    which the entry has to be. What it reads it tests, and nothing else. So its answer is that of
 //!    [`reads::get`] if the version is lawful with the tables, and it doesn't test that.
-//! 6. [`entries_in_file`] finds all entries of a user key in one table, each an [`OwnedEntry`].
+//! 6. [`key_history`] finds all entries of a user key in a version, the newest first, each a
+//!    [`PlacedEntry`]; [`entries_in_file`] those of one table, each an [`OwnedEntry`].
+//! 7. [`test_index`] tests a table by its length, footer and index.
 //!
 //! [`sequence_of`] is the sequence at which a version is read. [`rows_law`] is the law that a
 //! lawful version has just one list of rows.
@@ -32,12 +34,14 @@ mod file_parts;
 mod file_search;
 mod file_total;
 mod folder_get;
+mod index_test;
 mod level_files;
 mod level_merges;
 mod level_rows;
 mod level_stats;
 mod merge_walk;
 mod owned_entry;
+mod placed_entry;
 mod prefix_range;
 mod range_counts;
 mod range_scan;
@@ -50,14 +54,17 @@ mod table_blocks;
 mod table_rows;
 mod tested_scan;
 mod user_entries;
+mod version_history;
 mod version_scan;
 
 pub use amounts::Amounts;
 pub use counted_version::version_stats;
 pub use file_total::FileTotal;
 pub use folder_get::get_unverified;
+pub use index_test::test_index;
 pub use level_stats::{LevelStats, VersionStats};
 pub use owned_entry::OwnedEntry;
+pub use placed_entry::PlacedEntry;
 pub use prefix_range::prefix_end;
 pub use reads::Kind;
 pub use row_choice::RowChoice;
@@ -66,4 +73,5 @@ pub use row_laws::rows_law;
 pub use row_taker::RowTaker;
 pub use tested_scan::scan_version;
 pub use user_entries::entries_in_file;
+pub use version_history::key_history;
 pub use version_scan::{scan_unverified, sequence_of};

@@ -8,7 +8,7 @@ ghost use Rattle.folder.specs.Reports.{OnlyReads, ReportsDevice};
 ghost use Rattle.reads.specs.Ranges.{key_range};
 ghost use Rattle.keep.specs.InRange.{entries_in};
 ghost use Rattle.reads.specs.Tables.{NumberedContents};
-ghost use Rattle.checks.specs.HeldTables.{AreHeldIn};
+ghost use Rattle.checks.specs.HeldTables.{AreHeldBy, AreHeldIn};
 ghost use Rattle.scan.specs.Counts.{AreAmountsCounted, capped_files};
 ghost use Rattle.scan.specs.LevelCounts.{AreLevelsIn, all_of_levels, lists_of_levels};
 ghost use Rattle.scan.specs.Stats.{amounts_of, told_amounts};
@@ -107,8 +107,8 @@ fn count_range<C: SharedComparator + 'static, F: ReadsTables, R: Threads + Sync>
         AreHeldIn C.cmp files held.old →
         IfErr result
         (λ e. UnlessMemory e (IsStopped (F.failed folder.old) (F.failed folder.new) e)) }
-    ensures held { (files : Files) → Tells (F.tells folder.old) files →
-        AreHeldIn C.cmp files held.old → AreHeldIn C.cmp files held.new }
+    ensures held { AreHeldBy C.cmp (F.tells folder.old) held.old →
+        AreHeldBy C.cmp (F.tells folder.old) held.new }
     ensures device { ReportsDevice F.Folder folder.old folder.new result }
     ensures reads { OnlyReads F.Folder folder.old folder.new }
 {

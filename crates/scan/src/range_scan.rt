@@ -10,7 +10,7 @@ ghost use Rattle.block.specs.EncodedEntry.{Entry};
 ghost use Rattle.reads.specs.Ranges.{IsCover, key_range};
 ghost use Rattle.reads.specs.Tables.{NumberedContents};
 ghost use Rattle.checks.specs.GroupTest.{AreTablesIn};
-ghost use Rattle.checks.specs.HeldTables.{AreHeldIn};
+ghost use Rattle.checks.specs.HeldTables.{AreHeldBy, AreHeldIn};
 ghost use Rattle.scan.specs.EntryRows.{file_rows, rows_from};
 ghost use Rattle.scan.specs.RowParts.{AreScanned, AreTelling};
 
@@ -111,8 +111,8 @@ fn tell_range<C: SharedComparator + 'static, F: ReadsTables, T: RowTaker, R: Thr
         AreHeldIn C.cmp files held.old →
         IfErr result
         (λ e. UnlessMemory e (IsStopped (F.failed folder.old) (F.failed folder.new) e)) }
-    ensures held { (files : Files) → Tells (F.tells folder.old) files →
-        AreHeldIn C.cmp files held.old → AreHeldIn C.cmp files held.new }
+    ensures held { AreHeldBy C.cmp (F.tells folder.old) held.old →
+        AreHeldBy C.cmp (F.tells folder.old) held.new }
     ensures device { ReportsDevice F.Folder folder.old folder.new result }
     ensures reads { OnlyReads F.Folder folder.old folder.new }
 {

@@ -132,7 +132,7 @@ fn is_refused_so(file: &RefusedFile, name: FaultName) -> bool {
 }
 
 /// What is told of a refused file of a folder.
-fn file_refusal(alloc: Global, folder: &str, file: &RefusedFile) -> Option<RefusalText> {
+pub fn file_refusal(alloc: Global, folder: &str, file: &RefusedFile) -> Option<RefusalText> {
     let path = path_in(alloc, folder, file.name.as_str())?;
     let path = path.as_str();
     match &file.detail {

@@ -39,6 +39,7 @@ mod progress;
 mod progress_line;
 mod refusal;
 mod refused_files;
+mod refused_logs;
 mod replaceable_files;
 mod replaced_folder;
 mod replayed_logs;
@@ -56,15 +57,18 @@ pub use edit_inputs::deleted_files;
 pub use explanations::{Words, in_words, of_file};
 pub use files::{read_file, replace_file, sync_folder_of};
 pub use filter_blocks::have_filter;
-pub use folder::{Bytewise, Comparator, Disk, Order, Shortlex, SystemFiles};
+pub use folder::{
+    Bytewise, Comparator, Disk, Folder, MAX_FILE_LEN, Order, Shortlex, SystemFiles, manifest_name,
+};
 pub use folder_locks::{locked_to_change, locked_to_read};
 pub use folder_names::names_in;
-pub use folder_refusal::{compaction_explained, explained, path_in, table_explained};
+pub use folder_refusal::{compaction_explained, explained, file_refusal, path_in, table_explained};
 pub use host::Host;
 pub use ikey::MAX_USER_KEY;
 pub use logs::{Log, logs_with_writes};
 pub use opened_folder::{
-    OpenedFolder, begin_counted, begin_work, bytes_of, open_folder, print_lines, refused_at,
+    OpenedFolder, begin_counted, begin_in, begin_work, bytes_of, open_folder, open_in, print_lines,
+    refused_at,
 };
 pub use outcome_diagnosis::refused_outcome;
 pub use progress::progress_text;
@@ -75,6 +79,7 @@ pub use replaceable_files::replaceable_file;
 pub use replaced_folder::{refused_opened, tell_replaced};
 pub use replayed_logs::replayed_log;
 pub use reporter::{Beginning, Telling, tell_time};
+pub use table_file::table_file_name;
 pub use table_sizes::{bytes_of_files, sizes_tested, too_large};
 pub use version_diagnosis::refused_file;
 pub use work_left::WorkLeft;

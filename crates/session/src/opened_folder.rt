@@ -3,12 +3,15 @@
 
 use crate::manifest_notes::tell_impossible;
 use crate::refusal::{Refusal, RefusalText};
+use crate::refused_logs::no_logs;
 use crate::reporter::Telling;
 use crate::table_sizes::{is_too_large, too_large};
 use coding::{Fault, FaultName};
+use edit::Version;
 use folder::{Disk, Opened, SystemFiles, open};
 use std::io;
 use std::io::Write;
+use std::rt::Files;
 use std::time::Clock;
 
 /// The bytes of a MiB.
@@ -35,10 +38,19 @@ pub fn begin_counted<R: SystemFiles + Eprint + Clock + AllocGlobal>(
     rt: &R,
     telling: Telling<'_>,
 ) -> Result<OpenedFolder, Refusal> {
-    match open_folder(rt, telling.folder) {
+    begin_in(rt, telling, &mut Disk::new(rt, telling.folder))
+}
+
+/// The same, of a folder that goes on with the work.
+pub fn begin_in<R: SystemFiles + Eprint + Clock + AllocGlobal>(
+    rt: &R,
+    telling: Telling<'_>,
+    folder: &mut Disk<'_, R>,
+) -> Result<OpenedFolder, Refusal> {
+    match open_in(rt, telling.folder, folder) {
         Ok(opened) => {
             tell_impossible(rt, telling, &opened);
-            let logs = telling.tell_logs(rt, &opened.version)?;
+            let logs = logs_counted(rt, telling, &opened.version)?;
             Ok(OpenedFolder { opened, logs })
         }
         Err(refusal) => {
@@ -48,11 +60,33 @@ pub fn begin_counted<R: SystemFiles + Eprint + Clock + AllocGlobal>(
     }
 }
 
+/// How many logs have writes that are in no table, which is told. If one has some, that is a
+/// refusal, if this is asked for.
+fn logs_counted<R: Files + Eprint + AllocGlobal>(
+    rt: &R,
+    telling: Telling<'_>,
+    version: &Version,
+) -> Result<Option<u64>, Refusal> {
+    if !telling.refuses_logs {
+        return Ok(telling.tell_logs(rt, version)?);
+    }
+    no_logs(rt, telling.folder, version)?;
+    Ok(Some(0))
+}
+
 /// What a folder is opened as.
 pub fn open_folder<R: SystemFiles + AllocGlobal>(rt: &R, path: &str) -> Result<Opened, Refusal> {
-    let mut folder = Disk::new(rt, path);
-    let opened = open(rt.alloc(), &mut folder);
-    opened.map_err(|fault| refused_at(rt, path, &folder, fault))
+    open_in(rt, path, &mut Disk::new(rt, path))
+}
+
+/// The same, of a folder that goes on with the work.
+pub fn open_in<R: SystemFiles + AllocGlobal>(
+    rt: &R,
+    path: &str,
+    folder: &mut Disk<'_, R>,
+) -> Result<Opened, Refusal> {
+    let opened = open(rt.alloc(), folder);
+    opened.map_err(|fault| refused_at(rt, path, folder, fault))
 }
 
 /// The refusal of work on the folder at a path. If the device failed, the call that failed is told.

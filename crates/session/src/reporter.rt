@@ -28,6 +28,8 @@ pub struct Telling<'a> {
     pub is_watched: bool,
     /// Whether the lock of the folder isn't looked at.
     pub ignores_lock: bool,
+    /// Whether a log with writes that are in no table is a refusal.
+    pub refuses_logs: bool,
     /// Whether the account of each compaction is told.
     pub is_explaining: bool,
     /// How many bytes of tables may be held to find the file of a refusal.
@@ -41,7 +43,8 @@ impl<'a> Telling<'a> {
         ensures rest { (result.folder ≡ self.entry.folder)
             × (result.is_quiet ≡ self.entry.is_quiet) × (result.is_verbose ≡ self.entry.is_verbose)
             × (result.is_watched ≡ self.entry.is_watched) × (result.memory ≡ self.entry.memory)
-            × (result.ignores_lock ≡ self.entry.ignores_lock) }
+            × (result.ignores_lock ≡ self.entry.ignores_lock)
+            × (result.refuses_logs ≡ self.entry.refuses_logs) }
     {
         self.is_explaining = is_explaining;
         self

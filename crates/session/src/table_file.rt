@@ -33,7 +33,7 @@ pub(crate) fn table_file<F: Folder>(
 }
 
 /// The name that the table of a number has in the folder: its older one, if that alone is there.
-pub(crate) fn table_file_name<F: Folder>(
+pub fn table_file_name<F: Folder>(
     alloc: Global,
     folder: &mut F,
     number: u64,

@@ -104,8 +104,8 @@ pub fn is_utf8(bytes: &[u8]) -> bool
 }
 
 /// The law of the text of a key or a value, in each spelling. It is read as the same bytes, and
-/// it is printable ASCII, or such with characters outside ASCII. That of a key has no space. So a line is a key up to its first space,
-/// and what comes after it. A call does nothing.
+/// it is printable ASCII, or such with characters outside ASCII. That of a key has no space. So a
+/// line is a key up to its first space, and what comes after it. A call does nothing.
 pub fn texts_law()
     ensures keys { ReadBack key_text }
     ensures values { ReadBack value_text }

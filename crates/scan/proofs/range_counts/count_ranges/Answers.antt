@@ -1,15 +1,14 @@
 use Rattle.std.proofs.Common.{◌≡◌, ℕ, ◌+◌, ◌≤◌, List, ◌++◌, drop, length, map, take, refl, sym, ap, subst, ◌∙◌, arith}
 use Rattle.std.proofs.lemmas.List.{length-map, take_at}
-use Rattle.std.proofs.lemmas.List.Elements.{All-nil}
 use Rattle.table.proofs.Binds.{ok_is}
 use Rattle.table.proofs.Refusals.{only_memory}
 use Rattle.folder.proofs.CountLemmas.{steady}
 use Rattle.folder.proofs.ReportLemmas.{reads_then}
 use Rattle.reads.proofs.Covers.{covers}
 use Rattle.reads.specs.Ranges.{key_range}
-use Rattle.reads.specs.Tables.{NumberedContents}
-use Rattle.checks.specs.HeldTables.{AreHeldIn, IsTableIn}
+use Rattle.checks.specs.HeldTables.{AreHeldBy}
 use Rattle.checks.proofs.FolderTests.{told_still}
+use Rattle.checks.proofs.HeldAnswers.{held_in, held_through, none_held}
 use Rattle.keep.specs.InRange.{entries_in}
 use Rattle.scan.specs.Counts.{AreAmountsCounted, capped_files}
 use Rattle.scan.specs.LevelCounts.{lists_of_levels}
@@ -31,7 +30,7 @@ loop-number-init g c =
       number = ap length is ∙ length-map (metas_of c.args.levels.now) capped_files ∙ length-map c.args.levels.now _;
       counted = λ files next tables told are.
           none_counted g.C.Comparator.cmp c.args.split.now c.args.last (lists_of_levels tables (metas_of c.args.levels.now)) (map capped_files (metas_of c.args.levels.now)) c.in_ok-amounts.amounts.items is;
-      held = λ files told. subst (AreHeldIn g.C.Comparator.cmp files) (sym c.none-held.ensures) (All-nil (λ (t : NumberedContents). IsTableIn g.C.Comparator.cmp files t.number t.contents));
+      held = subst (AreHeldBy g.C.Comparator.cmp (g.F.Folder.tells c.args.folder.now)) (sym c.none-held.ensures) (none_held g.C.Comparator.cmp (g.F.Folder.tells c.args.folder.now));
       reads = record { same = λ name held. (λ h. h, λ h. h); calls = refl };
       failures = refl;
     }
@@ -54,12 +53,12 @@ loop-number-preserved g c =
     record {
       number = ap length written ∙ number ∙ now.invariant.number;
       counted = λ files next tables told are.
-          let counts = c.in_ok-count_range.ensures.counted files next tables (told_still (tells c.args.folder.now) (tells now.folder) files now.invariant.reads.same told) are (now.invariant.held files told) in
+          let counts = c.in_ok-count_range.ensures.counted files next tables (told_still (tells c.args.folder.now) (tells now.folder) files now.invariant.reads.same told) are (held_in g.C.Comparator.cmp (tells c.args.folder.now) files told now.held now.invariant.held) in
           subst (AreCountedTo cmp c.args.split.now c.args.last (lists_of_levels tables levels) (map capped_files levels) (n + 1)) (sym written)
           (range_counted cmp c.args.split.now c.args.last (lists_of_levels tables levels) (map capped_files levels) (covers cmp total c.args.split.now c.len-number-end.ensures.split.rising) n low range c.range-range.ensures.bounds are.once (levels_room cmp files next levels tables are) before after
           (now.invariant.counted files next tables told are)
           (subst (λ (old : List Amounts). AreAmountsCounted c.args.last (map (entries_in cmp range) (lists_of_levels tables levels)) old after) c.deref_mut.ensures.value counts));
-      held = λ files told. c.in_ok-count_range.ensures.held files (told_still (tells c.args.folder.now) (tells now.folder) files now.invariant.reads.same told) (now.invariant.held files told);
+      held = held_through g.C.Comparator.cmp (tells c.args.folder.now) (tells now.folder) now.invariant.reads.same now.held c.count_range.new.held c.in_ok-count_range.ensures.held now.invariant.held;
       reads = reads_then now.invariant.reads c.count_range.ensures.reads;
       failures = steady (failed c.args.folder.now) (failed now.folder) (failed c.count_range.new.folder) c.in_ok-count_range.field-0 c.count_range.result c.in_ok-count_range.was now.invariant.failures c.count_range.ensures.device.later c.count_range.ensures.device.at_once;
     }
@@ -70,7 +69,7 @@ returns-in_err-count_range-clause-errors g c files next tables told are =
     let failed = g.F.Folder.failed in
     let now = c.loop-number in
     stopped_handed (failed c.args.folder.now) (failed now.folder) (failed c.count_range.new.folder) c.from_residual-in_err-count_range.result c.in_err-count_range.field-0.0 c.from_residual-in_err-count_range.ensures.1 (omega (arith, now.invariant.failures)) c.count_range.ensures.device.later
-    (c.in_err-count_range.ensures.errors files next tables (told_still (tells c.args.folder.now) (tells now.folder) files now.invariant.reads.same told) are (now.invariant.held files told))
+    (c.in_err-count_range.ensures.errors files next tables (told_still (tells c.args.folder.now) (tells now.folder) files now.invariant.reads.same told) are (held_in g.C.Comparator.cmp (tells c.args.folder.now) files told now.held now.invariant.held))
 
 pub returns-clause-counted : goal.returns-clause-counted
 returns-clause-counted g c files next tables told are =

@@ -2,7 +2,7 @@ use Rattle.std.proofs.Common.{◌≡◌, ℕ, List, Option, length, map}
 use Rattle.folder.specs.Calls.{Files, Tells}
 use Rattle.folder.specs.Reports.{OnlyReads}
 use Rattle.reads.specs.Tables.{NumberedContents}
-use Rattle.checks.specs.HeldTables.{AreHeldIn}
+use Rattle.checks.specs.HeldTables.{AreHeldBy}
 use Rattle.scan.specs.Counts.{capped_files}
 use Rattle.scan.specs.LevelCounts.{AreLevelsIn, lists_of_levels}
 use Rattle.scan.proofs.LevelRanges.{AreCountedTo}
@@ -17,7 +17,7 @@ invariant-loop-number g l =
       number : length l.amounts.items ≡ length l.levels;
       counted : (files : Files) (next : Option ℕ) (tables : List NumberedContents) → Tells (g.F.Folder.tells l.fn.folder) files → AreLevelsIn cmp files next levels tables
           → AreCountedTo cmp l.split l.last (lists_of_levels tables levels) (map capped_files levels) l.number l.amounts.items;
-      held : (files : Files) → Tells (g.F.Folder.tells l.fn.folder) files → AreHeldIn cmp files l.held;
+      held : AreHeldBy cmp (g.F.Folder.tells l.fn.folder) l.held;
       reads : OnlyReads g.F.Folder l.fn.folder l.folder;
       failures : g.F.Folder.failed l.folder ≡ g.F.Folder.failed l.fn.folder;
     }

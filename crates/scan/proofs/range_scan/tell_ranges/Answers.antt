@@ -1,14 +1,13 @@
 use Rattle.std.proofs.Common.{Bor, ◌≡◌, ℕ, ◌+◌, ◌-◌, true, List, Ok, length, map, refl, sym, ap, subst, ◌∙◌, inl, inr, arith}
-use Rattle.std.proofs.lemmas.List.Elements.{All-nil}
 use Rattle.folder.specs.meta.FileMeta.{FileMeta}
 use Rattle.folder.proofs.CountLemmas.{steady}
 use Rattle.folder.proofs.ReportLemmas.{reads_then}
 use Rattle.reads.proofs.Covers.{covers}
 use Rattle.reads.specs.Ranges.{key_range}
-use Rattle.reads.specs.Tables.{NumberedContents}
-use Rattle.checks.specs.HeldTables.{AreHeldIn, IsTableIn}
+use Rattle.checks.specs.HeldTables.{AreHeldBy}
 use Rattle.checks.specs.RangeOrder.{common_of}
 use Rattle.checks.proofs.FolderTests.{told_still}
+use Rattle.checks.proofs.HeldAnswers.{held_in, held_through, none_held}
 use Rattle.scan.specs.EntryRows.{file_rows, rows_from}
 use Rattle.scan.specs.RowParts.{AreTelling, IsRowPart}
 use Rattle.scan.specs.declared.row_limit.RowLimit.{RowLimit}
@@ -29,7 +28,7 @@ loop-number-init g c = record {
       let taker = c.args.taker.now in
       let same : all ≡ all - 0 = omega arith in
       subst (λ (n : ℕ). IsRowPart (telling_by g.T.RowTaker.tells taker taker) (rows all) c.args.rows.limit (rows n) c.args.rows.limit true) same (none_told g.T.RowTaker.tells (rows all) taker taker c.args.rows.limit refl);
-  held = λ files told. subst (AreHeldIn g.C.Comparator.cmp files) (sym c.none-held.ensures) (All-nil (λ (t : NumberedContents). IsTableIn g.C.Comparator.cmp files t.number t.contents));
+  held = subst (AreHeldBy g.C.Comparator.cmp (g.F.Folder.tells c.args.folder.now)) (sym c.none-held.ensures) (none_held g.C.Comparator.cmp (g.F.Folder.tells c.args.folder.now));
   reads = record { same = λ name held. (λ h. h, λ h. h); calls = refl };
   failures = refl;
 }
@@ -52,8 +51,8 @@ loop-number-preserved g c =
       told = λ files next tables told are.
           ranges_more cmp tables standing c.args.rows.at range boundaries all telling (rows_from (file_rows cmp tables standing c.args.rows.at) cmp range boundaries 0 all) c.args.taker.now now.taker c.tell_range.new.taker c.args.rows.limit now.left n (now.invariant.told files next tables told are) part (omega (arith, c.len-number-end.ensures.number)) is c.in-More.less
           (subst (λ (w : RowLimit). AreTelling telling (file_rows cmp tables standing c.args.rows.at part) now.taker now.left c.tell_range.new.taker (Ok w)) c.in-More.is
-          (c.in_ok-wanted.ensures.told files next tables (told_still (tells c.args.folder.now) (tells now.folder) files now.invariant.reads.same told) are (now.invariant.held files told)));
-      held = λ files told. c.in_ok-wanted.ensures.held files (told_still (tells c.args.folder.now) (tells now.folder) files now.invariant.reads.same told) (now.invariant.held files told);
+          (c.in_ok-wanted.ensures.told files next tables (told_still (tells c.args.folder.now) (tells now.folder) files now.invariant.reads.same told) are (held_in g.C.Comparator.cmp (tells c.args.folder.now) files told now.held now.invariant.held)));
+      held = held_through g.C.Comparator.cmp (tells c.args.folder.now) (tells now.folder) now.invariant.reads.same now.held c.tell_range.new.held c.in_ok-wanted.ensures.held now.invariant.held;
       reads = reads_then now.invariant.reads c.tell_range.ensures.reads;
       failures = steady (failed c.args.folder.now) (failed now.folder) (failed c.tell_range.new.folder) c.in_ok-wanted.wanted c.tell_range.result c.in_ok-wanted.was now.invariant.failures c.tell_range.ensures.device.later c.tell_range.ensures.device.at_once;
     }
@@ -73,7 +72,7 @@ returns-in_err-wanted-clause-told g c files next tables told are =
     let is = c.common_range-part.ensures ∙ ap (common_of cmp range) c.range.ensures.bounds in
     handed_scanned telling rows c.args.taker.now c.tell_range.new.taker c.args.rows.limit c.from_residual.result c.in_err-wanted.field-0.0 c.from_residual.ensures.1
     (ranges_begun cmp tables standing c.args.rows.at range boundaries all telling rows c.args.taker.now now.taker c.tell_range.new.taker c.args.rows.limit now.left now.number (now.invariant.told files next tables told are) part (omega (arith, c.len-number-end.ensures.number)) is
-    (c.in_err-wanted.ensures.told files next tables (told_still (tells c.args.folder.now) (tells now.folder) files now.invariant.reads.same told) are (now.invariant.held files told)))
+    (c.in_err-wanted.ensures.told files next tables (told_still (tells c.args.folder.now) (tells now.folder) files now.invariant.reads.same told) are (held_in g.C.Comparator.cmp (tells c.args.folder.now) files told now.held now.invariant.held)))
 
 pub returns-in_err-wanted-clause-errors : goal.returns-in_err-wanted-clause-errors
 returns-in_err-wanted-clause-errors g c files next tables told are =
@@ -81,7 +80,7 @@ returns-in_err-wanted-clause-errors g c files next tables told are =
     let failed = g.F.Folder.failed in
     let now = c.loop-number in
     stopped_handed (failed c.args.folder.now) (failed now.folder) (failed c.tell_range.new.folder) c.from_residual.result c.in_err-wanted.field-0.0 c.from_residual.ensures.1 (omega (arith, now.invariant.failures)) c.tell_range.ensures.device.later
-    (c.in_err-wanted.ensures.errors files next tables (told_still (tells c.args.folder.now) (tells now.folder) files now.invariant.reads.same told) are (now.invariant.held files told))
+    (c.in_err-wanted.ensures.errors files next tables (told_still (tells c.args.folder.now) (tells now.folder) files now.invariant.reads.same told) are (held_in g.C.Comparator.cmp (tells c.args.folder.now) files told now.held now.invariant.held))
 
 pub returns-in_default-clause-told : goal.returns-in_default-clause-told
 returns-in_default-clause-told g c files next tables told are =
@@ -98,7 +97,7 @@ returns-in_default-clause-told g c files next tables told are =
     inl
     (ranges_enough cmp tables standing c.args.rows.at range boundaries all telling (rows_from (file_rows cmp tables standing c.args.rows.at) cmp range boundaries 0 all) c.args.taker.now now.taker c.tell_range.new.taker c.args.rows.limit now.left now.number (now.invariant.told files next tables told are) part (omega (arith, c.len-number-end.ensures.number)) is
     (subst (λ (w : RowLimit). AreTelling telling (file_rows cmp tables standing c.args.rows.at part) now.taker now.left c.tell_range.new.taker (Ok w)) c.in_default.is
-    (c.in_ok-wanted.ensures.told files next tables (told_still (tells c.args.folder.now) (tells now.folder) files now.invariant.reads.same told) are (now.invariant.held files told))))
+    (c.in_ok-wanted.ensures.told files next tables (told_still (tells c.args.folder.now) (tells now.folder) files now.invariant.reads.same told) are (held_in g.C.Comparator.cmp (tells c.args.folder.now) files told now.held now.invariant.held))))
 
 pub returns-clause-told : goal.returns-clause-told
 returns-clause-told g c files next tables told are =

@@ -4,7 +4,7 @@ use Rattle.folder.specs.Reports.{OnlyReads}
 use Rattle.reads.specs.Ranges.{key_range}
 use Rattle.reads.specs.Tables.{NumberedContents}
 use Rattle.checks.specs.GroupTest.{AreTablesIn}
-use Rattle.checks.specs.HeldTables.{AreHeldIn}
+use Rattle.checks.specs.HeldTables.{AreHeldBy}
 use Rattle.scan.specs.EntryRows.{rows_from, file_rows}
 use Rattle.scan.specs.RowParts.{IsRowPart}
 use Rattle.scan.specs.ToldRows.{telling_by}
@@ -19,7 +19,7 @@ invariant-loop-number g l =
     record {
       told : (files : Files) (next : Option ℕ) (tables : List NumberedContents) → Tells (g.F.Folder.tells l.fn.folder) files → AreTablesIn cmp files next standing tables
           → IsRowPart (telling_by g.T.RowTaker.tells l.fn.taker l.taker) (rows_from (file_rows cmp tables standing l.rows.at) cmp (key_range l.rows.range) l.split 0 all) l.fn.rows.limit (rows_from (file_rows cmp tables standing l.rows.at) cmp (key_range l.rows.range) l.split l.number (all - l.number)) l.left true;
-      held : (files : Files) → Tells (g.F.Folder.tells l.fn.folder) files → AreHeldIn cmp files l.held;
+      held : AreHeldBy cmp (g.F.Folder.tells l.fn.folder) l.held;
       reads : OnlyReads g.F.Folder l.fn.folder l.folder;
       failures : g.F.Folder.failed l.folder ≡ g.F.Folder.failed l.fn.folder;
     }

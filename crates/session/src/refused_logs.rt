@@ -1,0 +1,43 @@
+//! The refusal of a folder whose newest writes are only in a log.
+
+use crate::amounts::grouped;
+use crate::folder_refusal::path_in;
+use crate::logs::{Log, logs_with_writes};
+use crate::refusal::{Refusal, RefusalText};
+use coding::{Fault, FaultName};
+use edit::Version;
+use std::alloc::Global;
+use std::rt::Files;
+
+/// Tests whether no log that LevelDB would replay over a version has a byte. Apply if one has: the
+/// version lacks what is in it. The first of them is told.
+pub(crate) fn no_logs<R: Files + AllocGlobal>(
+    rt: &R,
+    folder: &str,
+    version: &Version,
+) -> Result<(), Refusal> {
+    match logs_with_writes(rt, folder, Some(version)) {
+        Ok(logs) => match logs.first() {
+            None => Ok(()),
+            Some(log) => Err(log_refusal(rt.alloc(), folder, *log)),
+        },
+        Err(error) => Err(Refusal::of_call(rt.alloc(), folder, "list its files", &error)),
+    }
+}
+
+/// The refusal for a log that has writes.
+fn log_refusal(alloc: Global, folder: &str, log: Log) -> Refusal {
+    Refusal::new(Fault::of(FaultName::Apply), log_text(alloc, folder, log))
+}
+
+/// What is told of a log that has writes.
+fn log_text(alloc: Global, folder: &str, log: Log) -> Option<RefusalText> {
+    let number = log.number;
+    let name = format!(in alloc; "{number:06}.log").ok()?;
+    let path = path_in(alloc, folder, name.as_str())?;
+    let bytes = grouped(alloc, log.bytes).ok()?;
+    let unit = if log.bytes == 1 { "byte" } else { "bytes" };
+    let wrong = format!(in alloc; "it has {bytes} {unit} of writes that are in no table");
+    let remedy = "open and close the database once with LevelDB";
+    RefusalText::new(alloc, path.as_str(), wrong, remedy)
+}

@@ -8,14 +8,14 @@ _sedvokt() {
         at=$((at + 1))
     done
     if ((COMP_CWORD == at)); then
-        words='stats verify get scan history manifest dump compact clean job install blocks help'
-        words="$words -v --verbose -q --quiet -h --help -V --version"
+        words='stats verify get scan history manifest dump files compact clean job install blocks'
+        words="$words help -v --verbose -q --quiet -h --help -V --version"
         mapfile -t COMPREPLY < <(compgen -W "$words" -- "$word")
         return
     fi
     case $before in
     --at | --from | --to | --prefix | --limit | --level | --memory | --workers | --ranges | \
-        --snapshot | --snapshots | --block-size | --file-size | --first-number)
+        --snapshot | --snapshots | --block-size | --file-size | --part | --first-number)
         return
         ;;
     --out)
@@ -30,25 +30,31 @@ _sedvokt() {
         ;;
     esac
     case ${COMP_WORDS[at]} in
-    stats) words='--text --json --memory --no-lock' ;;
-    verify) words='--table --json --all-faults --memory --no-lock' ;;
-    get) words='--stdin --at --text --utf8 --raw --json --no-verify --memory --no-lock' ;;
+    stats) words='--text --json --memory --no-logs --no-lock' ;;
+    verify) words='--table --json --all-faults --quick --memory --no-logs --no-lock' ;;
+    get)
+        words='--stdin --at --text --utf8 --raw --json --no-verify --memory --no-logs --no-lock'
+        ;;
     scan)
         words='--from --to --prefix --at --limit --keys --count --text --utf8 --json --no-verify'
-        words="$words --memory --no-lock"
+        words="$words --memory --no-logs --no-lock"
         ;;
-    history) words='--text --utf8 --json --no-verify --memory --no-lock' ;;
-    manifest) words='--text --json --no-lock' ;;
+    history) words='--text --utf8 --json --no-verify --memory --no-logs --no-lock' ;;
+    manifest) words='--text --json --no-logs --no-lock' ;;
     dump) words='--text' ;;
+    files) words='--json --no-lock' ;;
     compact)
-        words='--level --all --out --first-number --no-verify --memory --workers --ranges'
-        words="$words --explain --snapshot --snapshots --block-size --file-size --clean --json"
+        words='--level --all --out --part --first-number --no-verify --no-logs --memory --workers'
+        words="$words --ranges --explain --snapshot --snapshots --block-size --file-size --clean"
+        words="$words --json"
         ;;
     clean) words='--dry-run' ;;
-    job) words='--level' ;;
+    job) words='--level --parts' ;;
     install) words='--snapshot --snapshots --no-verify --memory --clean' ;;
     blocks) words='--at' ;;
-    help) words='stats verify get scan history manifest dump compact clean job install blocks' ;;
+    help)
+        words='stats verify get scan history manifest dump files compact clean job install blocks'
+        ;;
     *) return ;;
     esac
     [[ ${COMP_WORDS[at]} == help ]] || words="$words -v --verbose -q --quiet -h --help"
@@ -57,7 +63,7 @@ _sedvokt() {
         return
     fi
     case ${COMP_WORDS[at]} in
-    manifest | stats | verify | get | scan | history | job | compact | install | clean)
+    manifest | stats | verify | get | scan | history | files | job | compact | install | clean)
         mapfile -t COMPREPLY < <(compgen -d -- "$word")
         ;;
     *) mapfile -t COMPREPLY < <(compgen -f -- "$word") ;;

@@ -1,7 +1,8 @@
 # Completes sedvokt in fish.
 
-set -l commands stats verify get scan history manifest dump compact clean job install blocks
-set -l folders stats verify get scan history manifest compact clean job install
+set -l commands stats verify get scan history manifest dump files compact clean job install blocks
+set -l folders stats verify get scan history manifest files compact clean job install
+set -l readers manifest stats verify get scan history
 
 complete -c sedvokt -f
 complete -c sedvokt -s h -l help -d 'Print help'
@@ -17,6 +18,7 @@ complete -c sedvokt -n __fish_use_subcommand -a scan -d 'Print keys and their va
 complete -c sedvokt -n __fish_use_subcommand -a history -d 'Print all entries of a key'
 complete -c sedvokt -n __fish_use_subcommand -a manifest -d 'Print the version of a database'
 complete -c sedvokt -n __fish_use_subcommand -a dump -d 'Print the entries of a table'
+complete -c sedvokt -n __fish_use_subcommand -a files -d 'Print which files a copy needs'
 complete -c sedvokt -n __fish_use_subcommand -a compact -d 'Merge files of a level into the next'
 complete -c sedvokt -n __fish_use_subcommand -a clean -d 'Remove files that are not needed'
 complete -c sedvokt -n __fish_use_subcommand -a job -d 'Print what a compaction would read'
@@ -32,11 +34,12 @@ complete -c sedvokt -n '__fish_seen_subcommand_from dump manifest stats get scan
     -d 'Keys and values are text'
 complete -c sedvokt -n '__fish_seen_subcommand_from get scan history' -l utf8 \
     -d 'Print keys and values as UTF-8'
-complete -c sedvokt -n '__fish_seen_subcommand_from manifest stats verify get scan history compact' \
+complete -c sedvokt -n "__fish_seen_subcommand_from $readers files compact" \
     -l json -d 'Print JSON, one object a line'
 complete -c sedvokt -n '__fish_seen_subcommand_from verify' -l table -r -F -d 'Test a table alone'
 complete -c sedvokt -n '__fish_seen_subcommand_from verify' -l all-faults \
     -d 'Print what is wrong with each file'
+complete -c sedvokt -n '__fish_seen_subcommand_from verify' -l quick -d 'Read no data block'
 complete -c sedvokt -n '__fish_seen_subcommand_from get' -l raw -d 'Print the bytes themselves'
 complete -c sedvokt -n '__fish_seen_subcommand_from scan' -l from -x -d 'The first key'
 complete -c sedvokt -n '__fish_seen_subcommand_from scan' -l to -x -d 'The key before which to end'
@@ -51,7 +54,9 @@ complete -c sedvokt -n '__fish_seen_subcommand_from stats verify get scan histor
     -d 'MiB of tables that the test may hold'
 complete -c sedvokt -n '__fish_seen_subcommand_from get scan history compact' -l no-verify \
     -d 'Take the version for lawful'
-complete -c sedvokt -n '__fish_seen_subcommand_from manifest stats verify get scan history' -l no-lock \
+complete -c sedvokt -n "__fish_seen_subcommand_from $readers compact" -l no-logs \
+    -d 'Refuse writes that are only in a log'
+complete -c sedvokt -n "__fish_seen_subcommand_from $readers files" -l no-lock \
     -d 'Neither lock the folder nor look for locks'
 complete -c sedvokt -n '__fish_seen_subcommand_from install' -l no-verify \
     -d 'Do not compare outputs with inputs'
@@ -60,11 +65,13 @@ complete -c sedvokt -n '__fish_seen_subcommand_from blocks' -l at -x \
 
 set -l compact '__fish_seen_subcommand_from compact'
 set -l installs '__fish_seen_subcommand_from compact install'
+complete -c sedvokt -n '__fish_seen_subcommand_from job' -l parts -d 'The parts of the level'
 complete -c sedvokt -n '__fish_seen_subcommand_from job compact' -l level -x -a '0 1 2 3 4 5' \
     -d 'The level whose files move down'
 complete -c sedvokt -n $compact -l all -d 'All levels, down to the deepest'
 complete -c sedvokt -n $compact -l out -x -a '(__fish_complete_directories)' \
     -d 'The folder that gets the outcome'
+complete -c sedvokt -n $compact -l part -x -d 'The number of a part of the level'
 complete -c sedvokt -n $compact -l first-number -x -d 'The number of the first new table'
 complete -c sedvokt -n $compact -l workers -x -d 'How many workers do it, 1 to 64'
 complete -c sedvokt -n $compact -l ranges -x -d 'At most how many ranges of keys, 1 to 4096'

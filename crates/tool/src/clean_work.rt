@@ -6,8 +6,8 @@ use folder::{Disk, Fault, FaultName, Opened, SystemFiles, Version};
 use install::{RemovalWatch, remove_obsolete};
 use queries::{UnneededFiles, unneeded_files};
 use session::{
-    Host, Refusal, RefusalText, Telling, begin_work, explained, locked_to_change, locked_to_read,
-    open_folder, print_lines, refused_at, sizes_tested, tell_time,
+    Host, Refusal, RefusalText, Telling, begin_in, begin_work, explained, locked_to_change,
+    locked_to_read, open_in, print_lines, refused_at, sizes_tested, tell_time,
 };
 use std::alloc::Global;
 use std::time::Clock;
@@ -22,13 +22,14 @@ pub(crate) fn clean_folder<R: Host>(rt: &R, telling: Telling<'_>) -> Result<(), 
 }
 
 fn folder_cleaned<R: Host>(rt: &R, telling: Telling<'_>) -> Result<(), Refusal> {
-    let opened = begin_work(rt, telling)?;
+    let mut folder = Disk::new(rt, telling.folder);
+    let opened = begin_in(rt, telling, &mut folder)?.opened;
     let files = files_to_clean(rt, telling, &opened)?;
     if files.names.is_empty() {
         return Ok(());
     }
-    let opened = sync(rt, telling.folder, opened)?.into_opened();
-    remove_files(rt, telling.folder, &opened, &files, false)
+    let opened = sync(rt, telling.folder, &mut folder, opened)?.into_opened();
+    remove_files(rt, telling.folder, &mut folder, &opened, &files, false)
 }
 
 /// Prints the files of a folder that its version doesn't need. Nothing is written.
@@ -70,6 +71,7 @@ fn files_to_clean<R: SystemFiles + Eprint + Clock + AllocGlobal>(
 fn remove_files<R: SystemFiles + Print + AllocGlobal>(
     rt: &R,
     path: &str,
+    folder: &mut Disk<'_, R>,
     opened: &Opened,
     files: &UnneededFiles,
     is_json: bool,
@@ -81,9 +83,8 @@ fn remove_files<R: SystemFiles + Print + AllocGlobal>(
         removed: 0,
         refusal: None,
     };
-    let mut folder = Disk::new(rt, path);
-    let removed = remove_obsolete(rt.alloc(), &mut folder, opened, &files.names, &mut printer);
-    removed.map_err(|fault| refused_at(rt, path, &folder, fault))?;
+    let removed = remove_obsolete(rt.alloc(), folder, opened, &files.names, &mut printer);
+    removed.map_err(|fault| refused_at(rt, path, folder, fault))?;
     printer.end(path)
 }
 
@@ -93,16 +94,17 @@ fn remove_files<R: SystemFiles + Print + AllocGlobal>(
 pub(crate) fn clean_installed<R: SystemFiles + Print + AllocGlobal>(
     rt: &R,
     path: &str,
+    folder: &mut Disk<'_, R>,
     before: &Version,
     is_json: bool,
 ) -> Result<(), Refusal> {
-    let opened = open_folder(rt, path)?;
+    let opened = open_in(rt, path, folder)?;
     if before.next_file() != Some(opened.manifest) {
         return Err(Fault::of(FaultName::Changed).into());
     }
     sizes_tested(rt, path, &opened)?;
     let files = unneeded_files(rt, path, &opened)?;
-    remove_files(rt, path, &opened, &files, is_json)
+    remove_files(rt, path, folder, &opened, &files, is_json)
 }
 
 /// Who prints files when they are removed.

@@ -6,7 +6,7 @@ use crate::step_printer::{StepPrinter, explain, print_step, tell_step, unprinted
 use crate::version_sync::sync;
 use folder::{Bytewise, Disk, Fault, FaultName, Opened, SystemFiles, Version};
 use session::{
-    Host, LAST_LEVEL, ProgressLine, Refusal, Telling, begin_work, bytes_of, compaction_explained,
+    Host, LAST_LEVEL, ProgressLine, Refusal, Telling, begin_in, bytes_of, compaction_explained,
     locked_to_change, refused_at, sizes_tested,
 };
 use std::alloc::Global;
@@ -62,18 +62,19 @@ fn compact_levels<R: Host>(
     telling: Telling<'_>,
     task: CompactionTask<'_>,
 ) -> Result<(), Refusal> {
-    let opened = begin_work(rt, telling)?;
+    let mut folder = Disk::new(rt, telling.folder);
+    let opened = begin_in(rt, telling, &mut folder)?.opened;
     if !task.testing.is_skipped {
         sizes_tested(rt, telling.folder, &opened)?;
     }
     if !is_due(rt.alloc(), &opened.version, task.levels)? {
-        return nothing_compacted(rt, telling, &opened, task);
+        return nothing_compacted(rt, telling, &mut folder, &opened, task);
     }
     telling.tell_replaceable(rt, &opened.version, &[]);
-    let synced = sync(rt, telling.folder, opened)?;
+    let synced = sync(rt, telling.folder, &mut folder, opened)?;
     match task.levels {
-        Levels::One(level) => compact_one(rt, telling, &synced, level, task),
-        Levels::All => compact_all(rt, telling, synced, task),
+        Levels::One(level) => compact_one(rt, telling, &mut folder, &synced, level, task),
+        Levels::All => compact_all(rt, telling, &mut folder, synced, task),
     }
 }
 
@@ -82,11 +83,12 @@ fn compact_levels<R: Host>(
 fn nothing_compacted<R: Host>(
     rt: &R,
     telling: Telling<'_>,
+    folder: &mut Disk<'_, R>,
     opened: &Opened,
     task: CompactionTask<'_>,
 ) -> Result<(), Refusal> {
     match task.levels {
-        Levels::One(level) => Err(refusal_of_level(rt, telling, opened, level, task)),
+        Levels::One(level) => Err(refusal_of_level(rt, telling, folder, opened, level, task)),
         Levels::All => {
             let progress = ProgressLine::new(rt, telling);
             let (order, version) = (opened.order, &opened.version);
@@ -102,24 +104,24 @@ fn nothing_compacted<R: Host>(
 fn refusal_of_level<R: Host>(
     rt: &R,
     telling: Telling<'_>,
+    folder: &mut Disk<'_, R>,
     opened: &Opened,
     level: u64,
     task: CompactionTask<'_>,
 ) -> Refusal {
     let progress = ProgressLine::new(rt, telling);
     let workers = checkers(rt, rt.alloc(), &progress);
-    let mut folder = Disk::new(rt, telling.folder);
     let settings = task.settings;
     let outcome = if task.testing.is_skipped {
-        outcome_of_inputs(&workers, &mut folder, opened, level, None, settings)
+        outcome_of_inputs(&workers, folder, opened, level, None, settings)
     } else {
         let memory = bytes_of(task.testing.memory);
-        outcome_of_opened(&workers, &mut folder, opened, level, None, settings, memory)
+        outcome_of_opened(&workers, folder, opened, level, None, settings, memory)
     };
     progress.erase();
     match outcome {
         Ok(_) => Fault::of(FaultName::NoInput).into(),
-        Err(fault) => refused_at(rt, telling.folder, &folder, fault),
+        Err(fault) => refused_at(rt, telling.folder, folder, fault),
     }
 }
 
@@ -143,17 +145,13 @@ fn is_due(alloc: Global, version: &Version, levels: Levels) -> Result<bool, Faul
 fn compact_one<R: Host>(
     rt: &R,
     telling: Telling<'_>,
+    folder: &mut Disk<'_, R>,
     opened: &SyncedVersion,
     level: u64,
     task: CompactionTask<'_>,
 ) -> Result<(), Refusal> {
     let begun = telling.begin(rt);
-    let step = if task.testing.is_skipped {
-        inputs_compacted(rt, telling, opened, level, task.settings)?
-    } else {
-        let memory = bytes_of(task.testing.memory);
-        tested_compacted(rt, telling, opened, level, task.settings, memory)?
-    };
+    let step = step_made(rt, telling, folder, opened, level, task)?;
     tell_step(rt, level, begun);
     let note = note_of(rt, telling, &opened.version, &step.outputs, &step.deleted);
     print_step(rt, level, &step, task.is_json).map_err(|refusal| unprinted(
@@ -176,7 +174,7 @@ fn compact_one<R: Host>(
         );
     }
     if task.cleans {
-        clean_installed(rt, telling.folder, &opened.version, task.is_json)?;
+        clean_installed(rt, telling.folder, folder, &opened.version, task.is_json)?;
     }
     Ok(())
 }
@@ -206,48 +204,27 @@ fn explain_one<R: SystemFiles + Eprint + AllocGlobal>(
     );
 }
 
-/// Tests what a folder was opened as, and compacts a level of it.
-fn tested_compacted<R: Host>(
+/// Compacts a level of a folder, and installs the outcome. What the folder was opened as is tested
+/// before, if that is asked for; else nothing but the inputs is read.
+fn step_made<R: Host>(
     rt: &R,
     telling: Telling<'_>,
+    folder: &mut Disk<'_, R>,
     opened: &SyncedVersion,
     level: u64,
-    settings: &Settings<'_>,
-    memory: u64,
+    task: CompactionTask<'_>,
 ) -> Result<CompactionStep, Refusal> {
     let progress = ProgressLine::new(rt, telling);
-    let mut folder = Disk::new(rt, telling.folder);
-    let answer = compact_opened(
-        &checkers(rt, rt.alloc(), &progress),
-        &mut folder,
-        opened,
-        level,
-        settings,
-        memory,
-    );
+    let workers = checkers(rt, rt.alloc(), &progress);
+    let settings = task.settings;
+    let made = if task.testing.is_skipped {
+        compact_inputs(&workers, folder, opened, level, settings)
+    } else {
+        let memory = bytes_of(task.testing.memory);
+        compact_opened(&workers, folder, opened, level, settings, memory)
+    };
     progress.erase();
-    answer.map_err(|fault| refused_at(rt, telling.folder, &folder, fault))
-}
-
-/// Compacts a level of a folder, and reads nothing but its inputs.
-fn inputs_compacted<R: Host>(
-    rt: &R,
-    telling: Telling<'_>,
-    opened: &SyncedVersion,
-    level: u64,
-    settings: &Settings<'_>,
-) -> Result<CompactionStep, Refusal> {
-    let progress = ProgressLine::new(rt, telling);
-    let mut folder = Disk::new(rt, telling.folder);
-    let answer = compact_inputs(
-        &checkers(rt, rt.alloc(), &progress),
-        &mut folder,
-        opened,
-        level,
-        settings,
-    );
-    progress.erase();
-    answer.map_err(|fault| refused_at(rt, telling.folder, &folder, fault))
+    made.map_err(|fault| refused_at(rt, telling.folder, folder, fault))
 }
 
 /// Compacts the first level that has a file, again and again, until all files are at the bottom.
@@ -255,18 +232,18 @@ fn inputs_compacted<R: Host>(
 fn compact_all<R: Host>(
     rt: &R,
     telling: Telling<'_>,
+    folder: &mut Disk<'_, R>,
     opened: SyncedVersion,
     task: CompactionTask<'_>,
 ) -> Result<(), Refusal> {
     let progress = ProgressLine::new(rt, telling);
     let (order, version) = (opened.order, &opened.version);
     let mut steps = StepPrinter::new(rt, telling, &progress, order, version, task)?;
-    let mut folder = Disk::new(rt, telling.folder);
-    let end = descended(rt, &mut folder, opened, task, &mut steps);
+    let end = descended(rt, folder, opened, task, &mut steps);
     progress.erase();
     match end {
         Ok(_) => steps.end(),
-        Err(fault) => Err(refused_at(rt, telling.folder, &folder, fault)),
+        Err(fault) => Err(refused_at(rt, telling.folder, folder, fault)),
     }
 }
 

@@ -8,7 +8,7 @@ use crate::version_sync::sync;
 use adoption::{AdoptionEnd, Comparison, install_outcome};
 use folder::Disk;
 use session::{
-    Host, ProgressLine, Refusal, Telling, begin_work, bytes_of, explained, locked_to_change,
+    Host, ProgressLine, Refusal, Telling, begin_in, bytes_of, explained, locked_to_change,
     refused_at, sizes_tested, tell_time,
 };
 use store::{CompactionStep, SyncedVersion, checkers};
@@ -21,33 +21,49 @@ pub(crate) fn install_compaction<R: Host>(
     telling: Telling<'_>,
     line: &InstallLine<'_>,
 ) -> Result<(), Refusal> {
-    let folder = telling.folder;
+    let path = telling.folder;
     let _lock = locked_to_change(rt, telling)?;
     let begun = telling.begin(rt);
-    let opened = opened_to_install(rt, telling).map_err(|refusal| explained(rt, telling, refusal))?;
-    let step = outcome_installed(&*rt, telling, &*line, &opened).map_err(|refusal| {
+    let mut folder = Disk::new(rt, path);
+    let opened = opened_to_install(rt, telling, &mut folder).map_err(|refusal| explained(
+        rt, telling, refusal,
+    ))?;
+    let end = outcome_installed(&*rt, telling, &*line, folder, &opened);
+    let step = end.step.map_err(|refusal| {
         outcome_explained(rt, telling, line, opened.order, refusal)
     })?;
     tell_time(rt, "install", begun);
     let loses_filters = loses_filters(rt, telling, line.out, &opened.version);
     print_step_lines(rt, &step).map_err(|refusal| {
-        unprinted(rt.alloc(), folder, Levels::One(0), refusal)
+        unprinted(rt.alloc(), path, Levels::One(0), refusal)
     })?;
     if loses_filters {
         tell_no_filters(rt, telling);
     }
+    let mut folder = end.folder;
     if line.cleans {
-        clean_installed(rt, folder, &opened.version, false)?;
+        clean_installed(rt, path, &mut folder, &opened.version, false)?;
     }
     Ok(())
 }
 
+/// A folder after an installation, and what was installed.
+#[derive(Drop)]
+struct InstallationEnd<'r, R> {
+    folder: Disk<'r, R>,
+    step: Result<CompactionStep, Refusal>,
+}
+
 /// What a folder is opened as, synced.
-fn opened_to_install<R: Host>(rt: &R, telling: Telling<'_>) -> Result<SyncedVersion, Refusal> {
-    let opened = begin_work(rt, telling)?;
+fn opened_to_install<R: Host>(
+    rt: &R,
+    telling: Telling<'_>,
+    folder: &mut Disk<'_, R>,
+) -> Result<SyncedVersion, Refusal> {
+    let opened = begin_in(rt, telling, folder)?.opened;
     sizes_tested(rt, telling.folder, &opened)?;
     telling.tell_replaceable(rt, &opened.version, &[]);
-    sync(rt, telling.folder, opened)
+    sync(rt, telling.folder, folder, opened)
 }
 
 /// Installs an outcome in what a folder was opened as.
@@ -55,8 +71,9 @@ fn outcome_installed<'x, R: Host>(
     rt: &'x R,
     telling: Telling<'x>,
     line: &'x InstallLine<'x>,
+    folder: Disk<'x, R>,
     opened: &SyncedVersion,
-) -> Result<CompactionStep, Refusal> {
+) -> InstallationEnd<'x, R> {
     let memory = bytes_of(line.testing.memory);
     let comparison = if line.testing.is_skipped {
         Comparison::LeftOut
@@ -67,18 +84,19 @@ fn outcome_installed<'x, R: Host>(
     let mut out = Disk::new(rt, line.out);
     let AdoptionEnd { folder, answer } = install_outcome(
         &checkers(rt, rt.alloc(), &progress),
-        Disk::new(rt, telling.folder),
+        folder,
         &mut out,
         opened,
         comparison,
         memory,
     );
     progress.erase();
-    answer.map_err(|fault| {
+    let step = answer.map_err(|fault| {
         if out.last_failure().is_some() {
             refused_at(rt, line.out, &out, fault)
         } else {
             refused_at(rt, telling.folder, &folder, fault)
         }
-    })
+    });
+    InstallationEnd { folder, step }
 }

@@ -10,13 +10,18 @@ use session::{
     compaction_explained, in_words, print_lines, refused_opened, sizes_tested, told,
 };
 use std::alloc::Global;
-use store::{CompactionOutcome, EDIT, checkers, outcome_of_inputs, outcome_of_opened};
+use store::{
+    CompactionOutcome, EDIT, LevelPart, checkers, outcome_of_inputs, outcome_of_opened,
+    outcome_of_part, outcome_of_part_inputs,
+};
 use usage::CompactLine;
 
 /// What is asked for of such a compaction.
 #[derive(Clone, Copy)]
 pub(crate) struct OutcomeTask<'t> {
     pub level: u64,
+    /// The number of the part of the level, if it is given.
+    pub part: Option<u64>,
     /// The folder that gets the outcome.
     pub out: &'t str,
     /// The number of the first new table, if it is given.
@@ -45,7 +50,7 @@ fn compaction_written<R: Host>(
     let begun = telling.begin(rt);
     let opened = begin_work(rt, telling)?;
     let made = outcome_made(rt, telling, line, task, &opened).map_err(|refusal| {
-        numbers_explained(rt.alloc(), telling.folder, task, &opened, refusal)
+        task_explained(rt.alloc(), telling.folder, task, &opened, refusal)
     })?;
     fill(rt, task.out, telling.folder, &made.outcome)?;
     tell_step(rt, task.level, begun);
@@ -100,15 +105,24 @@ fn outcome_made<R: Host>(
     let memory = bytes_of(line.options.testing.memory);
     let progress = ProgressLine::new(rt, telling);
     let mut folder = Disk::new(rt, telling.folder);
-    let made = outcome_of_opened(
-        &checkers(rt, rt.alloc(), &progress),
-        &mut folder,
-        opened,
-        task.level,
-        task.first_number,
-        &line.settings,
-        memory,
-    );
+    let workers = checkers(rt, rt.alloc(), &progress);
+    let (first, settings) = (task.first_number, &line.settings);
+    let made = match part_of(task) {
+        None => {
+            outcome_of_opened(
+                &workers,
+                &mut folder,
+                opened,
+                task.level,
+                first,
+                settings,
+                memory,
+            )
+        }
+        Some(part) => {
+            outcome_of_part(&workers, &mut folder, opened, part, first, settings, memory)
+        }
+    };
     progress.erase();
     made.map_err(|fault| refused_opened(rt, telling.folder, &folder, opened, fault))
 }
@@ -123,16 +137,40 @@ fn inputs_compacted<R: Host>(
 ) -> Result<CompactionOutcome, Refusal> {
     let progress = ProgressLine::new(rt, telling);
     let mut folder = Disk::new(rt, telling.folder);
-    let made = outcome_of_inputs(
-        &checkers(rt, rt.alloc(), &progress),
-        &mut folder,
-        opened,
-        task.level,
-        task.first_number,
-        &line.settings,
-    );
+    let workers = checkers(rt, rt.alloc(), &progress);
+    let (first, settings) = (task.first_number, &line.settings);
+    let made = match part_of(task) {
+        None => outcome_of_inputs(&workers, &mut folder, opened, task.level, first, settings),
+        Some(part) => outcome_of_part_inputs(&workers, &mut folder, opened, part, first, settings),
+    };
     progress.erase();
     made.map_err(|fault| refused_opened(rt, telling.folder, &folder, opened, fault))
+}
+
+/// The part that is asked for.
+fn part_of(task: OutcomeTask<'_>) -> Option<LevelPart> {
+    let level = task.level;
+    task.part.map(|number| LevelPart { level, number })
+}
+
+/// The refusal, with what is told of a part that isn't there, or of a first number that can't be
+/// used.
+fn task_explained(
+    alloc: Global,
+    folder: &str,
+    task: OutcomeTask<'_>,
+    opened: &Opened,
+    refusal: Refusal,
+) -> Refusal {
+    if refusal.fault.name != FaultName::NoInput {
+        return numbers_explained(alloc, folder, task, opened, refusal);
+    }
+    let Some(part) = task.part else {
+        return refusal;
+    };
+    let wrong = format!(in alloc; "level {} has no part {part}", task.level);
+    let told = RefusalText::new(alloc, folder, wrong, "job --parts shows which it has");
+    Refusal::new(refusal.fault, told)
 }
 
 /// The refusal, with what is told of a first number that can't be used.

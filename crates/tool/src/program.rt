@@ -9,8 +9,8 @@ use crate::outcome_work::{OutcomeTask, write_compaction};
 use answers::{Told, refusal_json, status};
 use folder::{Fault, FaultName};
 use queries::{
-    merge, print_history, print_rows, print_stats, print_table, print_table_verdict, print_value,
-    print_verdict, print_version,
+    merge, print_files, print_history, print_rows, print_stats, print_table, print_table_verdict,
+    print_value, print_verdict, print_version,
 };
 use session::{Host, Refusal, RefusalParts, Telling, bytes_of, in_words};
 use std::env::Env;
@@ -112,16 +112,19 @@ fn carry_out<R: Host>(rt: &R, line: &Line<'_>, telling: Telling<'_>) -> Result<(
         Line::Get(line) => print_value(rt, telling, line),
         Line::Scan(line) => print_rows(rt, telling, line),
         Line::History(line) => print_history(rt, telling, line),
+        Line::Files(line) => print_files(rt, telling, line),
         Line::Job(line) => print_job(rt, telling, line),
         Line::Compact(line) => match line.options.work {
             CompactWork::Installed(levels) => compact_folder(rt, telling, line, levels),
             CompactWork::Written {
                 level,
+                part,
                 out,
                 first_number,
             } => {
                 let task = OutcomeTask {
                     level,
+                    part,
                     out,
                     first_number,
                 };
@@ -144,6 +147,7 @@ fn is_json(line: &Line<'_>) -> bool {
         Line::Get(line) => line.is_json,
         Line::Scan(line) => line.is_json,
         Line::History(line) => line.is_json,
+        Line::Files(line) => line.is_json,
         Line::Compact(line) => line.options.is_json,
         _ => false,
     }
@@ -161,6 +165,7 @@ fn subject<'a>(line: &Line<'a>) -> &'a str {
         Line::Get(line) => line.folder,
         Line::Scan(line) => line.folder,
         Line::History(line) => line.folder,
+        Line::Files(line) => line.folder,
         Line::Job(line) => line.folder,
         Line::Compact(line) => line.folder,
         Line::Install(line) => line.folder,
@@ -178,6 +183,7 @@ fn telling_of<'a>(asked: &CommandLine<'a>, is_watched: bool) -> Telling<'a> {
         is_verbose: asked.verbosity == Verbosity::Verbose,
         is_watched,
         ignores_lock: asked.ignores_lock,
+        refuses_logs: asked.refuses_logs,
         is_explaining: match line {
             Line::Compact(line) => line.options.explains && !is_quiet,
             _ => false,

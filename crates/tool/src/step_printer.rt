@@ -147,6 +147,15 @@ impl<'t, R: SystemFiles + Eprint + Clock + AllocGlobal> StepPrinter<'t, R> {
     }
 }
 
+impl<'t, R: SystemFiles + Print + AllocGlobal> StepPrinter<'t, R> {
+    /// Removes files that the version after a step doesn't need, by a folder value of its own.
+    fn clean(&self, before: &Version) -> Result<(), Refusal> {
+        let path = self.telling.folder;
+        let mut folder = Disk::new(self.rt, path);
+        clean_installed(self.rt, path, &mut folder, before, self.is_json)
+    }
+}
+
 impl<'t, R: Host> InstallWatch for StepPrinter<'t, R> {
     fn installed(
         &mut self,
@@ -168,7 +177,7 @@ impl<'t, R: Host> InstallWatch for StepPrinter<'t, R> {
             self.has_told_filters = note.tell_filters(self.rt, self.telling);
         }
         if self.cleans
-            && let Err(refusal) = clean_installed(self.rt, folder, before, self.is_json)
+            && let Err(refusal) = self.clean(before)
         {
             self.refusal = Some(refusal);
             return false;

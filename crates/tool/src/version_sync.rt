@@ -9,10 +9,10 @@ use store::{SyncedVersion, sync_version};
 pub(crate) fn sync<R: SystemFiles + WholeFiles + AllocGlobal + Threads>(
     rt: &R,
     path: &str,
+    folder: &mut Disk<'_, R>,
     opened: Opened,
 ) -> Result<SyncedVersion, Refusal> {
-    let mut folder = Disk::new(rt, path);
     folder.sync_ahead(opened.order, &opened.version, opened.manifest);
-    let synced = sync_version(rt.alloc(), &mut folder, opened);
-    synced.map_err(|fault| refused_at(rt, path, &folder, fault))
+    let synced = sync_version(rt.alloc(), folder, opened);
+    synced.map_err(|fault| refused_at(rt, path, folder, fault))
 }

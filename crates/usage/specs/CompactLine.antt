@@ -30,12 +30,15 @@ HasLevels AllLevels rows = IsNumberOf (one_of (codes "level") rows) None
 abbrev pub gives_installed : List Row → Bool
 gives_installed rows = is_flagged (codes "clean") rows || is_flagged (codes "explain") rows
 
--- the rows give these levels, and neither `--out` nor `--first-number`; or this level, this text of
--- `--out`, this number of `--first-number`, and no option of a compaction that is installed
+-- the rows give these levels, and none of `--out`, `--part` and `--first-number`; or this level,
+-- this number of `--part`, this text of `--out`, this number of `--first-number`, and no option of
+-- a compaction that is installed
 abbrev pub HasWork : CompactWork → List Row → Type 0
 HasWork (Installed levels) rows = HasLevels levels rows × (first_of (codes "out") rows ≡ None)
+    × IsNumberOf (one_of (codes "part") rows) None
     × IsNumberOf (one_of (codes "first-number") rows) None
-HasWork (Written level out first_number) rows = HasLevels (One level) rows
+HasWork (Written level part out first_number) rows = HasLevels (One level) rows
+    × IsNumberOf (one_of (codes "part") rows) part
     × (first_of (codes "out") rows ≡ Some out.now)
     × IsNumberOf (one_of (codes "first-number") rows) first_number
     × (gives_installed rows ≡ false)

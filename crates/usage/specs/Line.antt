@@ -4,8 +4,8 @@ use Rattle.clap.specs.Words.{Row, Text, fault_of, matches_of, subcommand_of}
 use Rattle.usage.specs.Apps.{program_app}
 use Rattle.usage.specs.CompactLine.{HasCompact, HasInstall}
 use Rattle.usage.specs.KeyLines.{HasBlocks, HasGet, HasHistory, HasScan}
-use Rattle.usage.specs.Lines.{HasClean, HasDump, HasJob, HasManifest, HasStats, HasTable}
-use Rattle.usage.specs.Lines.{HasVerify}
+use Rattle.usage.specs.Lines.{HasClean, HasDump, HasFiles, HasJob, HasManifest, HasStats}
+use Rattle.usage.specs.Lines.{HasTable, HasVerify}
 use Rattle.usage.specs.Verbosity.{IsVerbosity, is_flagged_below}
 use Rattle.usage.specs.declared.requests.CommandLine.{CommandLine}
 use Rattle.usage.specs.declared.requests.Line.{Line}
@@ -23,6 +23,7 @@ LineGives name rows (line.Table table) = (name ≡ codes "verify") × HasTable t
 LineGives name rows (line.Get get) = (name ≡ codes "get") × HasGet get rows
 LineGives name rows (line.History history) = (name ≡ codes "history") × HasHistory history rows
 LineGives name rows (line.Scan scan) = (name ≡ codes "scan") × HasScan scan rows
+LineGives name rows (line.Files files) = (name ≡ codes "files") × HasFiles files rows
 LineGives name rows (line.Job job) = (name ≡ codes "job") × HasJob job rows
 LineGives name rows (line.Compact compact) = (name ≡ codes "compact") × HasCompact compact rows
 LineGives name rows (line.Install install) = (name ≡ codes "install") × HasInstall install rows
@@ -33,11 +34,12 @@ abbrev pub LineOf : Option (Text × List Row) → Line → Type 0
 LineOf None asked = ⊥
 LineOf (Some p) asked = LineGives p.0 p.1 asked
 
--- what a parse asks for: how much is told, whether the lock is ignored, and what its command is
--- asked for
+-- what a parse asks for: how much is told, whether the lock is ignored and logs are refused, and
+-- what its command is asked for
 abbrev pub IsRead : List Row → Option (Text × List Row) → CommandLine → Type 0
 IsRead above parsed asked = IsVerbosity above parsed asked.verbosity
-    × (asked.ignores_lock ≡ is_flagged_below (codes "no-lock") parsed) × LineOf parsed asked.line
+    × (asked.ignores_lock ≡ is_flagged_below (codes "no-lock") parsed)
+    × (asked.refuses_logs ≡ is_flagged_below (codes "no-logs") parsed) × LineOf parsed asked.line
 
 -- What a command line asks for: `clap` finds no fault in the words, and their parse asks for this.
 abbrev pub CommandLineGives : List Text → CommandLine → Type 0

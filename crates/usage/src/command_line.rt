@@ -8,7 +8,7 @@ use crate::commands::{program_command, ruled_command};
 use crate::compact_line::{compact_line, install_line};
 use crate::key_lines::{blocks_line, get_line, history_line, scan_line};
 use crate::lines::{
-    clean_line, dump_line, job_line, manifest_line, stats_line, table_line, verify_line,
+    clean_line, dump_line, files_line, job_line, manifest_line, stats_line, table_line, verify_line,
 };
 use crate::requests::{CommandLine, Line, Usage};
 use crate::values::{Unread, is_given};
@@ -63,6 +63,7 @@ fn command_line<'a>(
     Ok(CommandLine {
         verbosity,
         ignores_lock: is_flagged_below(matches, "no-lock"),
+        refuses_logs: is_flagged_below(matches, "no-logs"),
         line,
     })
 }
@@ -100,6 +101,7 @@ fn line_in<'a>(
         "scan" => Ok(Line::Scan(scan_line(alloc, values)?)),
         "manifest" => Ok(Line::Manifest(manifest_line(values)?)),
         "dump" => Ok(Line::Dump(dump_line(values)?)),
+        "files" => Ok(Line::Files(files_line(values)?)),
         "compact" => Ok(Line::Compact(compact_line(alloc, values, listed)?)),
         "clean" => Ok(Line::Clean(clean_line(values)?)),
         "job" => Ok(Line::Job(job_line(values)?)),

@@ -8,8 +8,8 @@ ghost use Rattle.usage.specs.Commands.{rule_of_argument};
 
 use crate::argument::{Argument, arg_of};
 use crate::descriptions::{
-    BLOCKS, CLEAN, COMMANDS, COMPACT, CommandName, DUMP, Description, GET, HISTORY, INSTALL, JOB,
-    MANIFEST, SCAN, STATS, VERBOSITY, VERBOSITY_RULES, VERIFY,
+    BLOCKS, CLEAN, COMMANDS, COMPACT, CommandName, DUMP, Description, FILES, GET, HISTORY, INSTALL,
+    JOB, MANIFEST, SCAN, STATS, VERBOSITY, VERBOSITY_RULES, VERIFY,
 };
 use crate::rule::with_rules;
 use clap::Command;
@@ -25,7 +25,8 @@ const VERSION: &str = concat!(
 
 /// What is told after the program's help.
 const STATUSES: &str =
-    "DIR is the folder of a LevelDB database that no other program has open. A key is
+    "DIR is the folder of a LevelDB database that no other program has open. Writes
+that are only in a log are not read; --no-logs refuses such a database. A key is
 hexadecimal digits, two a byte; - is the empty key. As text (--text) it is
 printable ASCII, and \\xHH for every other byte; \"\" is the empty key.
 The status is 0 when the work is done, 1 when it is refused, 2 for a fault of
@@ -70,6 +71,7 @@ fn description_of(name: CommandName) -> Description<'static>
         CommandName::Scan => SCAN,
         CommandName::Manifest => MANIFEST,
         CommandName::Dump => DUMP,
+        CommandName::Files => FILES,
         CommandName::Compact => COMPACT,
         CommandName::Clean => CLEAN,
         CommandName::Job => JOB,

@@ -48,17 +48,19 @@ fn options_of<'a>(values: &ArgMatches<'a>) -> Result<CompactOptions<'a>, Unread>
 ///
 /// - not exactly one of `--level` and `--all` is given;
 /// - `--out` is given with an option of a compaction that is installed;
-/// - `--first-number` is given without `--out`.
+/// - `--part` or `--first-number` is given without `--out`.
 fn work_of<'a>(values: &ArgMatches<'a>) -> Result<CompactWork<'a>, Unread>
     ensures { IfOk result (λ work. HasWork work (rows_of (found_of values.now))) }
 {
     let levels = levels_of(values)?;
+    let part = number_given(values, "part")?;
     let first_number = number_given(values, "first-number")?;
-    match (first_text(values, "out"), levels, first_number) {
-        (None, levels, None) => Ok(CompactWork::Installed(levels)),
-        (Some(out), Levels::One(level), first_number) if !gives_installed(values) => {
+    match (first_text(values, "out"), levels, part, first_number) {
+        (None, levels, None, None) => Ok(CompactWork::Installed(levels)),
+        (Some(out), Levels::One(level), part, first_number) if !gives_installed(values) => {
             Ok(CompactWork::Written {
                 level,
+                part,
                 out,
                 first_number,
             })

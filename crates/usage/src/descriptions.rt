@@ -29,6 +29,7 @@ pub(crate) enum CommandName {
     History,
     Manifest,
     Dump,
+    Files,
     Compact,
     Clean,
     Job,
@@ -45,6 +46,7 @@ pub(crate) const COMMANDS: &[CommandName] = &[
     CommandName::History,
     CommandName::Manifest,
     CommandName::Dump,
+    CommandName::Files,
     CommandName::Compact,
     CommandName::Clean,
     CommandName::Job,
@@ -79,7 +81,8 @@ const UTF8: Argument<'static> = Argument::Flag(
     "utf8",
     "Keys and values that are UTF-8 are printed as they\n\
         are: in JSON wholly, in lines but for ASCII that is not\n\
-        printable; keys are given as with --text",
+        printable; others as {\"hex\":..} in JSON, as \\xHH in\n\
+        lines; keys are given as with --text",
 );
 
 const JSON: Argument<'static> = Argument::Flag(
@@ -100,6 +103,12 @@ const NO_LOCK: Argument<'static> = Argument::Flag(
     "Neither locks the folder nor looks whether another\n\
         program has it open: for a copy, or one that must not\n\
         be touched",
+);
+
+const NO_LOGS: Argument<'static> = Argument::Flag(
+    "no-logs",
+    "Fails if writes are only in a log: logs are not read\n\
+        here, LevelDB brings them into tables",
 );
 
 const SEQUENCE: Argument<'static> = Argument::Number(
@@ -135,7 +144,7 @@ pub(crate) const STATS: Description<'static> = Description {
 
 Examples: sedvokt stats DIR --text
           sedvokt stats DIR --json",
-    arguments: &[FOLDER, TEXT, JSON, Argument::Memory, NO_LOCK],
+    arguments: &[FOLDER, TEXT, JSON, Argument::Memory, NO_LOGS, NO_LOCK],
     rules: &[],
 };
 
@@ -145,6 +154,7 @@ pub(crate) const VERIFY: Description<'static> = Description {
     examples: "Prints, as an example, lawful: 4 files, 596 entries
 
 Examples: sedvokt verify DIR
+          sedvokt verify DIR --quick
           sedvokt verify DIR --all-faults
           sedvokt verify --table DIR/000005.ldb",
     arguments: &[
@@ -159,14 +169,24 @@ Examples: sedvokt verify DIR
             "all-faults",
             "Prints what is wrong with each file, and goes on",
         ),
+        Argument::Flag(
+            "quick",
+            "Tests the manifest, and of each table its length,\n\
+                footer and index; reads no data block",
+        ),
         Argument::Memory,
+        NO_LOGS,
         NO_LOCK,
     ],
     rules: &[
         Rule::One("tested", &["DIR", "table"]),
         Rule::AtMostOne("form", &["json", "all-faults"]),
+        Rule::AtMostOne("quick or faults", &["quick", "all-faults"]),
+        Rule::AtMostOne("quick or memory", &["quick", "memory"]),
         Rule::AtMostOne("table or faults", &["table", "all-faults"]),
+        Rule::AtMostOne("table or quick", &["table", "quick"]),
         Rule::AtMostOne("table or memory", &["table", "memory"]),
+        Rule::AtMostOne("table or logs", &["table", "no-logs"]),
         Rule::AtMostOne("table or lock", &["table", "no-lock"]),
     ],
 };
@@ -196,6 +216,7 @@ Examples: sedvokt get DIR k00001 --text
         JSON,
         NO_VERIFY,
         Argument::Memory,
+        NO_LOGS,
         NO_LOCK,
     ],
     rules: &[
@@ -245,6 +266,7 @@ Examples: sedvokt scan DIR --text --limit 10
         JSON,
         NO_VERIFY,
         Argument::Memory,
+        NO_LOGS,
         NO_LOCK,
     ],
     rules: &[
@@ -272,6 +294,7 @@ Example: sedvokt history DIR k00001 --text",
         JSON,
         NO_VERIFY,
         Argument::Memory,
+        NO_LOGS,
         NO_LOCK,
     ],
     rules: &[],
@@ -284,7 +307,7 @@ pub(crate) const MANIFEST: Description<'static> = Description {
 
 Examples: sedvokt manifest DIR
           sedvokt manifest DIR --json --text",
-    arguments: &[FOLDER, TEXT, JSON, NO_LOCK],
+    arguments: &[FOLDER, TEXT, JSON, NO_LOGS, NO_LOCK],
     rules: &[],
 };
 
@@ -295,6 +318,17 @@ pub(crate) const DUMP: Description<'static> = Description {
 
 Example: sedvokt dump DIR/000005.ldb --text",
     arguments: &[Argument::Place("TABLE", "The file of the table"), TEXT],
+    rules: &[],
+};
+
+pub(crate) const FILES: Description<'static> = Description {
+    name: "files",
+    about: "Prints the names of the files that a copy of a database needs",
+    examples: "Prints a line a name: CURRENT, the manifest, the tables by level, and the logs
+that LevelDB would replay.
+
+Example: sedvokt files DIR",
+    arguments: &[FOLDER, JSON, NO_LOCK],
     rules: &[],
 };
 
@@ -313,20 +347,31 @@ Examples: sedvokt compact DIR --level 0 --explain
         Argument::Flag(
             "all",
             "All levels: each that has files, from 0 down, again\n\
-                and again until all files are at the deepest one",
+                and again until all files are at one level: the\n\
+                deepest that has files, or level 1",
         ),
         Argument::Value(
             "out",
             "OUT",
-            "An empty folder, or a new one, that gets the new\n\
-                tables and the version edit; DIR is only read",
+            "With --level: an empty folder, or a new one, that\n\
+                gets the new tables and the version edit; DIR is\n\
+                only read",
+        ),
+        Argument::Number(
+            "part",
+            "P",
+            "With --out: one of the parts of the level alone, by\n\
+                its number, as job --parts prints them",
         ),
         Argument::Number(
             "first-number",
             "K",
-            "The number of the first new table in OUT, above the\nversion's next file number",
+            "The number of the first new table in OUT, above the\n\
+                version's next file number; other parts need other\n\
+                numbers, well apart, and are installed in order",
         ),
         NO_VERIFY,
+        NO_LOGS,
         Argument::Memory,
         Argument::Number(
             "workers",
@@ -368,6 +413,10 @@ Examples: sedvokt compact DIR --level 0 --explain
         Rule::AtMostOne("out or account", &["out", "explain"]),
         // `clap` lets an option go without the one that it needs if something excludes that one.
         Rule::Needs("number", "first-number", "out"),
+        Rule::Needs("one part", "part", "out"),
+        Rule::AtMostOne("part or all", &["part", "all"]),
+        Rule::AtMostOne("part or clean", &["part", "clean"]),
+        Rule::AtMostOne("part or account", &["part", "explain"]),
         Rule::AtMostOne("number or all", &["first-number", "all"]),
         Rule::AtMostOne("number or clean", &["first-number", "clean"]),
         Rule::AtMostOne("number or account", &["first-number", "explain"]),
@@ -395,12 +444,21 @@ Examples: sedvokt clean DIR --dry-run
 pub(crate) const JOB: Description<'static> = Description {
     name: "job",
     about: "Prints the names of the files that a compaction would read",
-    examples: "Prints a line a name: those to copy for compact --out elsewhere.
+    examples: "Prints a line a name: those to copy for compact --out --no-verify elsewhere, of
+a database that was verified. With --parts it prints a line a file:
+part P LEVEL NUMBER BYTES.
 
-Example: sedvokt job DIR --level 0",
+Examples: sedvokt job DIR --level 0
+          sedvokt job DIR --level 1 --parts
+          sedvokt compact DIR --level 1 --part 1 --first-number 1000 --out OUT1",
     arguments: &[
         FOLDER,
         Argument::WantedNumber("level", "N", "The level: 0 to 5"),
+        Argument::Flag(
+            "parts",
+            "The files of the parts of the level, which can be\n\
+                compacted at the same time, each by compact --part",
+        ),
     ],
     rules: &[],
 };

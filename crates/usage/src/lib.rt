@@ -4,20 +4,23 @@
 //! [`CommandLine`]: the command with its values, and how much is told of it. Or it answers a
 //! [`Usage`], why the words ask for nothing.
 //!
-//!     stats DIR [--text] [--json] [--memory MIB] [--no-lock]
-//!     verify DIR [--json | --all-faults] [--memory MIB] [--no-lock]
+//!     stats DIR [--text] [--json] [--memory MIB] [--no-logs] [--no-lock]
+//!     verify DIR [--json | --all-faults] [--memory MIB] [--no-logs] [--no-lock]
+//!     verify DIR --quick [--json] [--no-logs] [--no-lock]
 //!     verify --table FILE [--json]
 //!     get DIR KEY.. | --stdin [--at N] [--text] [--utf8] [--raw | --json] [--no-verify]
-//!         [--memory MIB] [--no-lock]
+//!         [--memory MIB] [--no-logs] [--no-lock]
 //!     scan DIR [--from KEY] [--to KEY] [--prefix KEY] [--at N] [--limit N] [--keys | --count]
-//!         [--text] [--utf8] [--json] [--no-verify] [--memory MIB] [--no-lock]
-//!     history DIR KEY [--text] [--utf8] [--json] [--no-verify] [--memory MIB] [--no-lock]
-//!     manifest DIR [--text] [--json] [--no-lock]
+//!         [--text] [--utf8] [--json] [--no-verify] [--memory MIB] [--no-logs] [--no-lock]
+//!     history DIR KEY [--text] [--utf8] [--json] [--no-verify] [--memory MIB] [--no-logs]
+//!         [--no-lock]
+//!     manifest DIR [--text] [--json] [--no-logs] [--no-lock]
 //!     dump TABLE [--text]
+//!     files DIR [--json] [--no-lock]
 //!     compact DIR (--level N | --all) [options]
-//!     compact DIR --level N --out OUT [--first-number K] [options]
+//!     compact DIR --level N --out OUT [--part P] [--first-number K] [options]
 //!     clean DIR [--dry-run]
-//!     job DIR --level N
+//!     job DIR --level N [--parts]
 //!     install DIR OUT [--snapshot S | --snapshots S,S,..] [--no-verify] [--memory MIB] [--clean]
 //!     blocks A B --at HEXKEY OUT
 //!
@@ -46,6 +49,7 @@ pub use command_line::line;
 pub use compact::Settings;
 pub use requests::{
     BlocksLine, CleanLine, CommandLine, CompactLine, CompactOptions, CompactWork, DumpLine,
-    GetLine, HistoryLine, InstallLine, JobLine, KeySource, Levels, Line, ManifestLine, RowOptions,
-    RowOutput, ScanLine, StatsLine, TableLine, Testing, Usage, Verbosity, VerdictForm, VerifyLine,
+    FilesLine, GetLine, HistoryLine, InstallLine, JobLine, KeySource, Levels, Line, ManifestLine,
+    RowOptions, RowOutput, ScanLine, StatsLine, TableLine, Testing, Usage, Verbosity, VerdictForm,
+    VerifyLine,
 };

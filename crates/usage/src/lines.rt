@@ -2,11 +2,12 @@
 
 ghost use Rattle.std.specs.Prelude.{◌≡◌, IfOk};
 ghost use Rattle.clap.specs.Words.{found_of, rows_of};
-ghost use Rattle.usage.specs.Lines.{HasClean, HasDump, HasForm, HasJob, HasManifest, HasStats};
-ghost use Rattle.usage.specs.Lines.{HasTable, HasVerify, gives_folder};
+ghost use Rattle.usage.specs.Lines.{HasClean, HasDump, HasFiles, HasForm, HasJob, HasManifest};
+ghost use Rattle.usage.specs.Lines.{HasStats, HasTable, HasVerify, gives_folder, reads_blocks};
 
 use crate::requests::{
-    CleanLine, DumpLine, JobLine, ManifestLine, StatsLine, TableLine, VerdictForm, VerifyLine,
+    CleanLine, DumpLine, FilesLine, JobLine, ManifestLine, StatsLine, TableLine, VerdictForm,
+    VerifyLine,
 };
 use crate::values::{
     Unread, is_flagged, is_given, memory_of, needed_text, number_given, spelling_given,
@@ -53,11 +54,23 @@ pub(crate) fn verify_line<'a>(values: &ArgMatches<'a>) -> Result<VerifyLine<'a>,
     if is_given(values, "table") {
         return Err(Unread::Rules);
     }
+    let is_quick = is_flagged(values, "quick");
+    if is_quick && reads_blocks(values) {
+        return Err(Unread::Rules);
+    }
     Ok(VerifyLine {
         folder: needed_text(values, "DIR")?,
         form: form_of(values)?,
+        is_quick,
         memory: memory_of(values)?,
     })
+}
+
+/// Whether something is given that is only for a test that reads data blocks.
+fn reads_blocks(values: &ArgMatches<'_>) -> bool
+    ensures { result ≡ reads_blocks (rows_of (found_of values.now)) }
+{
+    is_flagged(values, "all-faults") || is_given(values, "memory")
 }
 
 /// What `verify` prints of a folder.
@@ -91,8 +104,20 @@ fn gives_folder(values: &ArgMatches<'_>) -> bool
 {
     is_given(values, "DIR")
         || is_flagged(values, "all-faults")
+        || is_flagged(values, "quick")
         || is_given(values, "memory")
+        || is_flagged(values, "no-logs")
         || is_flagged(values, "no-lock")
+}
+
+/// What is given to `files`.
+pub(crate) fn files_line<'a>(values: &ArgMatches<'a>) -> Result<FilesLine<'a>, Unread>
+    ensures { IfOk result (λ line. HasFiles line (rows_of (found_of values.now))) }
+{
+    Ok(FilesLine {
+        folder: needed_text(values, "DIR")?,
+        is_json: is_flagged(values, "json"),
+    })
 }
 
 /// What is given to `job`.
@@ -101,7 +126,11 @@ pub(crate) fn job_line<'a>(values: &ArgMatches<'a>) -> Result<JobLine<'a>, Unrea
 {
     let folder = needed_text(values, "DIR")?;
     match number_given(values, "level")? {
-        Some(level) => Ok(JobLine { folder, level }),
+        Some(level) => Ok(JobLine {
+            folder,
+            level,
+            by_parts: is_flagged(values, "parts"),
+        }),
         None => Err(Unread::Rules),
     }
 }

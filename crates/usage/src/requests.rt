@@ -12,6 +12,8 @@ pub struct CommandLine<'a> {
     pub verbosity: Verbosity,
     /// Whether the lock of the folder isn't looked at.
     pub ignores_lock: bool,
+    /// Whether logs with writes that are in no table are a refusal.
+    pub refuses_logs: bool,
     /// What its command is asked for.
     pub line: Line<'a>,
 }
@@ -48,6 +50,8 @@ pub enum Line<'a> {
     History(HistoryLine<'a>),
     /// Prints the user keys that have a value at a sequence, in their order.
     Scan(ScanLine<'a>),
+    /// Prints the names of the files that a copy of a database folder needs.
+    Files(FilesLine<'a>),
     /// Prints the names of the files that a compaction of a level would read.
     Job(JobLine<'a>),
     /// Compacts a level of a database folder into the next one, or all levels downwards.
@@ -111,6 +115,8 @@ pub struct VerifyLine<'a> {
     pub folder: &'a str,
     /// What is printed.
     pub form: VerdictForm,
+    /// Whether no data block is read. Then not all faults are printed.
+    pub is_quick: bool,
     /// How many MiB of tables the test may hold, 1 to 2^24.
     pub memory: u64,
 }
@@ -184,6 +190,15 @@ pub struct ScanLine<'a> {
     pub testing: Testing,
 }
 
+/// What is asked for of `files`.
+#[derive(Clone, Copy)]
+pub struct FilesLine<'a> {
+    /// The path of the folder.
+    pub folder: &'a str,
+    /// Whether the names are printed as JSON.
+    pub is_json: bool,
+}
+
 /// What is asked for of `job`.
 #[derive(Clone, Copy)]
 pub struct JobLine<'a> {
@@ -191,6 +206,8 @@ pub struct JobLine<'a> {
     pub folder: &'a str,
     /// The level, any number.
     pub level: u64,
+    /// Whether the parts of the level are printed, and not the files that a compaction would read.
+    pub by_parts: bool,
 }
 
 /// What is asked for of `compact`.
@@ -291,6 +308,8 @@ pub enum CompactWork<'a> {
     /// account is told then, and no file is removed.
     Written {
         level: u64,
+        /// The number of the part of the level. Without it, what a compaction picks of the level.
+        part: Option<u64>,
         /// The path of the folder that gets the outcome.
         out: &'a str,
         /// The number of the first new table. Without it, the one after the version's next file
@@ -325,7 +344,8 @@ pub enum Usage {
     /// The text of a key of `get`, `history` or `scan` is no hexadecimal digits, and neither
     /// `--text` nor `--utf8` is given.
     Hexadecimal,
-    /// The text of a key of `get`, `history` or `scan` stands for no bytes, and one of them is given.
+    /// The text of a key of `get`, `history` or `scan` stands for no bytes, and one of them is
+    /// given.
     Text,
     /// The text of a list of snapshots, of `compact` or `install`, is no list of numbers.
     Snapshots,

@@ -79,6 +79,81 @@ static void check(void) {
   printf("missing: level %d, number %d\n", (int)missing.level, (int)missing.number);
 }
 
+/* Both entries are kept if sequence 3 stays readable; none is if 4 and later ones do. */
+static void merge(void) {
+  static const uint8_t wanted[] = {'u', 0, 4, 0, 0, 0, 0, 0, 0, 'u', 1, 2, 0, 0, 0, 0, 0, 0, 'x'};
+  const uint64_t none[1] = {0};
+  sedvokt_request at = request;
+  sedvokt_input it = input();
+  sedvokt_range range;
+  uint8_t bytes[64];
+  sedvokt_lengths lengths[4];
+  sedvokt_mark marks[4];
+  sedvokt_run_size size = {9, 9, 9};
+  memset(&range, 0, sizeof range);
+  at.oldest = 3;
+  /* A table that isn't checked must not be merged. */
+  if (sedvokt_check_table(SEDVOKT_BYTEWISE, keys, sizeof keys, table, table_len, &it)) {
+    printf("merge: 99\nmerge without room: 99\nmerge from u on: 99\nmerge below u: 99\n");
+    printf("merge at 4: 99\n");
+    return;
+  }
+#define MERGE(room)                                                                             \
+  sedvokt_merge(&at, none, 0, keys, sizeof keys, table, table_len, &it, 1, &it.file, 0, &range, \
+                bytes, room, lengths, 4, marks, 4, &size)
+  uint32_t code = MERGE(sizeof bytes);
+  printf("merge: %u, %s\n", code,
+         size.bytes == sizeof wanted && !memcmp(bytes, wanted, sizeof wanted) &&
+                 size.entries == 2 && lengths[0].key == 9 && lengths[0].value == 0 &&
+                 lengths[1].key == 9 && lengths[1].value == 1 && size.marks == 1 &&
+                 marks[0].below == 0 && marks[0].kept == 0
+             ? "both entries"
+             : "others");
+  code = MERGE(18);
+  printf("merge without room: %u, %s\n", code,
+         size.bytes == sizeof wanted ? "its size" : "another");
+  range.lower = (sedvokt_place){0, 1};
+  range.has_lower = true;
+  code = MERGE(sizeof bytes);
+  printf("merge from u on: %u, %d entries\n", code, (int)size.entries);
+  range.upper = range.lower;
+  range.has_upper = true;
+  range.has_lower = false;
+  code = MERGE(sizeof bytes);
+  printf("merge below u: %u, %d entries\n", code, (int)size.entries);
+  range.has_upper = false;
+  at.oldest = 4;
+  code = MERGE(sizeof bytes);
+  printf("merge at 4: %u, %d entries\n", code, (int)size.entries);
+}
+
+/* The runs of two ranges, with an entry each: one output has both. */
+static void plan(void) {
+  static const uint8_t bytes[] = {'u', 0, 4, 0, 0, 0, 0, 0, 0, 'u', 1, 2, 0, 0, 0, 0, 0, 0, 'x'};
+  const sedvokt_lengths lengths[2] = {{9, 0}, {9, 1}};
+  const sedvokt_mark marks[1] = {{0, 0}};
+  sedvokt_run runs[2] = {{{0, 9}, {0, 1}, {0, 1}}, {{9, 10}, {1, 1}, {1, 0}}};
+  sedvokt_input it = input();
+  sedvokt_planned room[2];
+  uint64_t len = 9;
+#define PLAN(room_len)                                                                            \
+  sedvokt_plan(&request, keys, sizeof keys, &it, 1, &it.file, 0, bytes, sizeof bytes, lengths, 2, \
+               marks, 1, runs, 2, room, room_len, &len)
+  uint32_t code = PLAN(2);
+  printf("plan: %u, %s\n", code,
+         len == 1 && room[0].first == 0 && room[0].entries == 2 && room[0].len == table_len
+             ? "one output"
+             : "others");
+  len = 9;
+  code = PLAN(0);
+  printf("plan without room: %u, %s\n", code, len == 1 ? "its length" : "another");
+  runs[1].lengths.len = 2;
+  printf("plan of a length beyond what is lent: %u\n", PLAN(2));
+  runs[1].lengths.len = 1;
+  runs[1].bytes.len = 9;
+  printf("plan of an entry beyond its run: %u\n", PLAN(2));
+}
+
 static void put(void) {
   static const uint8_t value[1] = {'x'};
   static const uint8_t edit[] = {
@@ -114,6 +189,8 @@ int main(int argc, char **argv) {
   close(file);
   if (argc == 2) check_in_threads();
   check();
+  merge();
+  plan();
   put();
   return 0;
 }

@@ -29,7 +29,7 @@ extern "C" {
 #define SEDVOKT_MISUSE 98      /* a place isn't within what is lent, or no internal key is there */
 #define SEDVOKT_MEMORY 99      /* malloc or realloc refused */
 
-/* A part of lent bytes. */
+/* A part of lent bytes, or of another lent array. */
 typedef struct sedvokt_place {
   uint64_t from, len;
 } sedvokt_place;
@@ -77,6 +77,40 @@ typedef struct sedvokt_entry {
   sedvokt_place key, value;
 } sedvokt_entry;
 
+/* A range of user keys: those at or after `lower`, if has_lower, and before `upper`, if has_upper.
+   Both bounds are user keys, in `keys`. */
+typedef struct sedvokt_range {
+  bool has_lower, has_upper;
+  sedvokt_place lower, upper;
+} sedvokt_range;
+
+/* How many bytes the internal key and the value of a kept entry have. The entries lie one behind
+   the other, each as its key and then its value. */
+typedef struct sedvokt_lengths {
+  uint64_t key, value;
+} sedvokt_lengths;
+
+/* A mark: `below` grandparents end before the user key to come, after `kept` entries of the run. */
+typedef struct sedvokt_mark {
+  uint64_t below, kept;
+} sedvokt_mark;
+
+/* How much room a run takes: all bytes of its entries, and how many entries and marks it has. */
+typedef struct sedvokt_run_size {
+  uint64_t bytes, entries, marks;
+} sedvokt_run_size;
+
+/* Where the run of a range lies, in the bytes, lengths and marks that are lent. */
+typedef struct sedvokt_run {
+  sedvokt_place bytes, lengths, marks;
+} sedvokt_run;
+
+/* An output: how many entries of the runs lie before it, how many it has, and the length of its
+   table. */
+typedef struct sedvokt_planned {
+  uint64_t first, entries, len;
+} sedvokt_planned;
+
 /* Tests a request without its tables. `deeper` are all files of the levels from level + 2 on, by
    level and in version order. The first that applies: MISUSE, 34 Comparator, 1 NoInput, 2 Level,
    3 Options, 7 Snapshot, 25 SnapshotList. Without an input of the level it is 2, too. */
@@ -99,6 +133,38 @@ uint32_t sedvokt_check_closed(uint32_t order, uint64_t level, const uint8_t *key
    states (21 Bounds). If the answer is 0, input->counts is set, and nothing else of it. */
 uint32_t sedvokt_check_table(uint32_t order, const uint8_t *keys, size_t keys_len,
                              const uint8_t *tables, size_t tables_len, sedvokt_input *input);
+
+/* Merges the inputs in a range: `bytes`, `lengths` and `marks` begin with its run then. *size is how
+   much room that takes, also if the answer is ROOM, and then nothing else has changed. `deeper` and
+   the refusals of the request are as for sedvokt_check_request; 22 Duplicate if the range has one
+   user key and sequence twice.
+   What you have to keep: sedvokt_check_table answered 0 to each input, with this order, and neither
+   what it set nor any byte of the tables and the keys has changed since. Else the call may read
+   outside of what is lent. */
+uint32_t sedvokt_merge(const sedvokt_request *request,
+                       const uint64_t *snapshots, size_t snapshots_len,
+                       const uint8_t *keys, size_t keys_len,
+                       const uint8_t *tables, size_t tables_len,
+                       const sedvokt_input *inputs, size_t inputs_len,
+                       const sedvokt_file *deeper, size_t deeper_len, const sedvokt_range *range,
+                       uint8_t *bytes, size_t bytes_len,
+                       sedvokt_lengths *lengths, size_t lengths_len,
+                       sedvokt_mark *marks, size_t marks_len, sedvokt_run_size *size);
+
+/* Plans the outputs of the runs of all ranges, in the order of the ranges, each as sedvokt_merge
+   wrote it. They don't depend on how the entries were dealt out to ranges. `inputs` and `deeper`
+   are as for sedvokt_merge. `room` begins with the outputs then; *len is how many they are, also if
+   the answer is ROOM. An output has the entries behind those of the one before it, and the keys of
+   its first and its last one bound it. MISUSE also if lengths and marks aren't those of a run; 34
+   Comparator, 3 Options, 24 TooLarge of an output. */
+uint32_t sedvokt_plan(const sedvokt_request *request, const uint8_t *keys, size_t keys_len,
+                      const sedvokt_input *inputs, size_t inputs_len,
+                      const sedvokt_file *deeper, size_t deeper_len,
+                      const uint8_t *bytes, size_t bytes_len,
+                      const sedvokt_lengths *lengths, size_t lengths_len,
+                      const sedvokt_mark *marks, size_t marks_len,
+                      const sedvokt_run *runs, size_t runs_len,
+                      sedvokt_planned *room, size_t room_len, uint64_t *len);
 
 /* Writes the table of `entries`, with the request's order and options, to the beginning of `room`.
    *len is its length, also if the answer is ROOM. 3 Options, 20 Empty without an entry, 17 Key and

@@ -1,2 +1,9 @@
+mod FaultCodes
 mod Levelled
 mod Tested
+mod RunLists
+mod CheckedInputs
+mod Merging
+mod ToldRuns
+mod Planned
+mod Hosts

@@ -1,3 +1,4 @@
+-- what contracts rest on
 pub mod Codes
 pub mod Places
 pub mod Files
@@ -6,5 +7,14 @@ pub mod Tables
 pub mod Requests
 pub mod Closed
 pub mod Rooms
+pub mod Ranges
+pub mod Runs
+pub mod ToldRuns
+pub mod Merges
+pub mod Plans
 pub mod Outputs
 pub mod Edits
+pub mod Hosts
+-- serves proofs alone
+pub mod InputTables
+pub mod Held

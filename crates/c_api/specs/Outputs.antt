@@ -29,12 +29,6 @@ abbrev pub entry_at : List ℕ → List ℕ → host.Entry → Entry
 entry_at keys values entry =
     record { key = part_at keys entry.key; value = part_at values entry.value }
 
--- the table that is being written after all entries, or the first test that one fails
-abbrev pub entries_reading : declared.Options → List Entry → KeyOrder → Result TableBuilding Fault
-entries_reading o entries cmp = do
-  _ ← entries_test cmp None entries
-  Ok (record { options = o; entries = entries })
-
 -- The table of entries. The first that applies:
 -- - Options: an option is outside its limits;
 -- - Empty: there is no entry;

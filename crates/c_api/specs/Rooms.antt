@@ -3,20 +3,21 @@ use Rattle.std.specs.Prelude.{◌≡◌, ◌⊎◌, ℕ, nat_lt, MatchBool, List
 use Rattle.std.specs.Prelude.{Ok, Err}
 use Rattle.c_api.specs.declared.code.TheConstants.{MEMORY, ROOM}
 
--- the call's number, the room and the length say these bytes: 0, and the room begins with them; or
+-- the call's number, the room and the length say these items: 0, and the room begins with them; or
 -- ROOM if the room is too small, and it is unchanged
-abbrev pub IsPut : ℕ → List ℕ → List ℕ → ℕ → List ℕ → Type 0
-IsPut code old new len bytes = (len ≡ length bytes)
-    × MatchBool (nat_lt (length old) (length bytes)) ((code ≡ ROOM) × (new ≡ old))
-    ((code ≡ 0) × (new ≡ bytes ++ drop (length bytes) old))
+abbrev pub IsPut : {A : Type 0} → ℕ → List A → List A → ℕ → List A → Type 0
+IsPut code old new len items = (len ≡ length items)
+    × MatchBool (nat_lt (length old) (length items)) ((code ≡ ROOM) × (new ≡ old))
+    ((code ≡ 0) × (new ≡ items ++ drop (length items) old))
 
--- they say this answer: its bytes, or the refusal's number, and nothing is changed
-abbrev pub IsWritten : ℕ → List ℕ → List ℕ → ℕ → ℕ → Result (List ℕ) ℕ → Type 0
-IsWritten code old new len_old len_new (Ok bytes) = IsPut code old new len_new bytes
+-- they say this answer: its items, or the refusal's number, and nothing is changed
+abbrev pub IsWritten : {A : Type 0} → ℕ → List A → List A → ℕ → ℕ → Result (List A) ℕ → Type 0
+IsWritten code old new len_old len_new (Ok items) = IsPut code old new len_new items
 IsWritten code old new len_old len_new (Err n) = (code ≡ n) × (new ≡ old) × (len_new ≡ len_old)
 
 -- the same, or 99 for want of memory, and nothing is changed
-abbrev pub IsWrittenOrMemory : ℕ → List ℕ → List ℕ → ℕ → ℕ → Result (List ℕ) ℕ → Type 0
+abbrev pub IsWrittenOrMemory : {A : Type 0} → ℕ → List A → List A → ℕ → ℕ →
+    Result (List A) ℕ → Type 0
 IsWrittenOrMemory code old new len_old len_new answer =
     IsWritten code old new len_old len_new answer
     ⊎ ((code ≡ MEMORY) × (new ≡ old) × (len_new ≡ len_old))

@@ -1,6 +1,6 @@
 //! The numbers that calls answer beside those of the faults.
 
-ghost use Rattle.std.specs.Prelude.{◌≡◌};
+ghost use Rattle.std.specs.Prelude.{◌≡◌, ◌≢◌};
 ghost use Rattle.ikey.specs.Answers.{code_of};
 
 use ikey::Fault;
@@ -20,9 +20,10 @@ pub const MISUSE: u32 = 98;
 /// A growth of memory was refused.
 pub const MEMORY: u32 = 99;
 
-/// The number of a fault.
+/// The number of a fault, which isn't 0.
 pub(crate) fn code_of(fault: Fault) -> u32
-    ensures { result ≡ code_of fault.name }
+    ensures number { result ≡ code_of fault.name }
+    ensures some { result ≢ 0 }
 {
     fault.name.code() as u32
 }

@@ -42,7 +42,7 @@ pub(crate) fn has_keys(keys: &[u8], file: &File) -> bool
 }
 
 /// The internal key at a place.
-fn key_at(keys: &[u8], place: Place) -> InternalKey<'_>
+pub(crate) fn key_at(keys: &[u8], place: Place) -> InternalKey<'_>
     requires { is_key keys.now place ≡ true }
     ensures { result.bytes.now ≡ part_at keys.now place }
 {

@@ -1,6 +1,7 @@
 //! Inputs of a compaction.
 
 ghost use Rattle.std.specs.Prelude.{◌≡◌};
+ghost use Rattle.c_api.specs.InputTables.{tally_in};
 ghost use Rattle.c_api.specs.Tables.{counts_of, is_input as lies_lent};
 
 use crate::file::{File, has_keys};
@@ -31,6 +32,18 @@ impl Counts {
             oldest: tally.oldest,
             newest: tally.newest,
             has_twins: tally.has_twins,
+        }
+    }
+
+    /// The tally of which they are told.
+    pub(crate) fn tally(&self) -> Tally
+        ensures { result ≡ tally_in self.now }
+    {
+        Tally {
+            entries: self.entries,
+            oldest: self.oldest,
+            newest: self.newest,
+            has_twins: self.has_twins,
         }
     }
 }

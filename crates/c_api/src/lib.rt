@@ -2,42 +2,64 @@
 //!
 //! 1. [`sedvokt_check_request`] tests a request without its tables, [`sedvokt_check_closed`] the
 //!    choice of its inputs, and [`sedvokt_check_table`] each input.
-//! 2. [`sedvokt_output`] writes the table of given entries, and [`sedvokt_edit`] the version edit.
+//! 2. [`sedvokt_merge`] merges the inputs in a range of user keys.
+//! 3. [`sedvokt_plan`] tells where the outputs of the runs of all ranges end.
+//! 4. [`sedvokt_output`] writes the table of given entries, and [`sedvokt_edit`] the version edit.
 //!
-//! A call keeps nothing, and requires nothing. What C hands over are numbers, bytes, and structs of
-//! numbers: a [`Place`] names a part of lent bytes. Each call first tests that all places are
-//! within what is lent (`MISUSE`). Then it builds the values of the crates below, asks them, and
-//! answers a number: 0, or the number of a fault. What its clause says is said of the places'
-//! bytes, so the specs have a definition for each struct (`meta_at`, `entry_at`).
+//! A call keeps nothing. Only the merge requires anything: that its inputs were checked. What C
+//! hands over are numbers, bytes, and structs of numbers: a [`Place`] names a part of lent bytes.
+//! Each call first tests that all places are within what is lent (`MISUSE`). Then it builds the
+//! values of the crates below, asks them, and answers a number: 0, or the number of a fault. What
+//! its clause says is said of the places' bytes, so the specs have a definition for each struct
+//! (`meta_at`, `entry_at`).
 //!
-//! The merge between both is missing. So no law says that a host that makes these calls answers as
-//! one thread does.
+//! A run is told in three arrays (`arrays_of`): the bytes of its entries, how long their keys and
+//! values are, and its marks. The host hands it back in its places ([`RunPlaces`]) of three arrays
+//! that hold the runs of all ranges (`run_at`).
+//!
+//! [`host_law`] is the law that a host which makes these calls gets what one thread answers.
 #![tactic(auto)]
 
 mod closed_calls;
 mod code;
 mod edit_calls;
 mod file;
+mod host_laws;
 mod input;
+mod input_tables;
+mod lent;
+mod merge_calls;
 mod order;
 mod output_calls;
 mod picked;
 mod place;
+mod plan_calls;
+mod range_run;
 mod request;
 mod request_calls;
 mod room;
+mod run_arrays;
+mod run_places;
 mod table_calls;
 #[cfg(test)]
 mod tests;
+mod told_run;
+mod user_range;
 
 pub use closed_calls::{FilePlace, sedvokt_check_closed};
 pub use code::{DONE, MEMORY, MISUSE, OPEN_INPUTS, ROOM};
 pub use edit_calls::{Numbers, sedvokt_edit};
 pub use file::File;
+pub use host_laws::host_law;
 pub use input::{Counts, Input};
+pub use merge_calls::sedvokt_merge;
 pub use order::{BYTEWISE, SHORTLEX};
 pub use output_calls::{Entry, sedvokt_output};
 pub use place::Place;
+pub use plan_calls::{PlannedOutput, sedvokt_plan};
 pub use request::HostRequest;
 pub use request_calls::sedvokt_check_request;
+pub use run_arrays::{EntryLengths, RunMark, RunSize};
+pub use run_places::RunPlaces;
 pub use table_calls::sedvokt_check_table;
+pub use user_range::UserRange;

@@ -181,7 +181,7 @@ fn overlapping<C: Comparator>(
 }
 
 /// The grandparents: of the deeper files those of level + 2 whose range overlaps that of `files`.
-fn grandparents_of<C: Comparator>(
+pub(crate) fn grandparents_of<C: Comparator>(
     alloc: Global,
     keys: &[u8],
     level: u64,

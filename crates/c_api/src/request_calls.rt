@@ -69,7 +69,7 @@ fn tested_by(
 }
 
 /// The tests of a request.
-fn tested<C: Comparator>(
+pub(crate) fn tested<C: Comparator>(
     alloc: Global,
     request: &HostRequest,
     snapshots: &[u64],

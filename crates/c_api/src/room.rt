@@ -1,19 +1,27 @@
 //! What is written into the host's room.
 
 ghost use Rattle.c_api.specs.Rooms.{IsWritten};
-ghost use Rattle.std.specs.Prelude.{Ok};
+ghost use Rattle.std.specs.Prelude.{◌≡◌, ◌≤◌, ◌++◌, drop, length, Ok};
 
 use crate::code::{DONE, ROOM};
 
-/// Puts bytes at the beginning of `room`, if that is large enough. `len` is how many they are.
-pub(crate) fn put(bytes: &[u8], room: &mut [u8], len: &mut u64) -> u32
-    ensures { IsWritten result room.old room.new len.old len.new (Ok bytes.now) }
+/// Puts items at the beginning of a room.
+pub(crate) fn fill<T: Copy>(items: &[T], room: &mut [T])
+    requires { length items.now ≤ length room.old }
+    ensures { room.new ≡ items.now ++ drop (length items.now) room.old }
 {
-    *len = bytes.len() as u64;
-    if room.len() < bytes.len() {
+    let (front, _) = room.split_at_mut(items.len());
+    front.copy_from_slice(items);
+}
+
+/// Puts items at the beginning of `room`, if that is large enough. `len` is how many they are.
+pub(crate) fn put<T: Copy>(items: &[T], room: &mut [T], len: &mut u64) -> u32
+    ensures { IsWritten result room.old room.new len.old len.new (Ok items.now) }
+{
+    *len = items.len() as u64;
+    if room.len() < items.len() {
         return ROOM;
     }
-    let (front, _) = room.split_at_mut(bytes.len());
-    front.copy_from_slice(bytes);
+    fill(items, room);
     DONE
 }

@@ -1,6 +1,6 @@
 //! The check of an input.
 
-ghost use Rattle.std.specs.Prelude.{◌≡◌, true};
+ghost use Rattle.std.specs.Prelude.{◌≡◌, true, Ok};
 ghost use Rattle.ikey.specs.Answers.{EqualOrMemory};
 ghost use Rattle.c_api.specs.Codes.{IsAnswerOrMemory};
 ghost use Rattle.c_api.specs.Files.{meta_at as stated_at};
@@ -20,7 +20,7 @@ use std::alloc::Global;
 use table::check;
 
 /// Tests an input: each byte of its table, and whether its length and bounds are as its file
-/// states. `input.counts` is set if the answer is 0.
+/// states. `input.counts` is set if the answer is 0, and then the input may be merged.
 #[unsafe(no_mangle)]
 pub extern "C" fn sedvokt_check_table(
     alloc: Global,
@@ -31,6 +31,8 @@ pub extern "C" fn sedvokt_check_table(
 ) -> u32
     ensures answer { IsAnswerOrMemory result input.old.counts input.new.counts
         (table_answer order keys.now tables.now input.old) }
+    ensures checked { result ≡ 0 →
+        table_answer order keys.now tables.now input.new ≡ Ok input.new.counts }
     ensures file { input.new.file ≡ input.old.file }
     ensures table { input.new.table ≡ input.old.table }
 {

@@ -1,9 +1,10 @@
 //! Each call once, with bytes that another program wrote.
 
 use crate::{
-    BYTEWISE, Counts, DONE, Entry, File, FilePlace, HostRequest, Input, MISUSE, Numbers,
-    OPEN_INPUTS, Place, ROOM, sedvokt_check_closed, sedvokt_check_request, sedvokt_check_table,
-    sedvokt_edit, sedvokt_output,
+    BYTEWISE, Counts, DONE, Entry, EntryLengths, File, FilePlace, HostRequest, Input, MISUSE,
+    Numbers, OPEN_INPUTS, Place, PlannedOutput, ROOM, RunMark, RunPlaces, RunSize, UserRange,
+    sedvokt_check_closed, sedvokt_check_request, sedvokt_check_table, sedvokt_edit, sedvokt_merge,
+    sedvokt_output, sedvokt_plan,
 };
 use std::test::*;
 
@@ -91,6 +92,138 @@ fn requests_are_checked(rt: HostRuntime) {
     };
     let code = sedvokt_check_request(alloc, &deep, &[], KEYS, &inputs, &[]);
     assert_eq!(rt; code, 2);
+}
+
+/// The bytes of a run that keeps both entries.
+const RUN: &[u8] = b"u\0\x04\0\0\0\0\0\0u\x01\x02\0\0\0\0\0\0x";
+
+#[test]
+fn ranges_are_merged(rt: HostRuntime) {
+    let alloc = rt.alloc();
+    let request = HostRequest {
+        oldest: 3,
+        ..REQUEST
+    };
+    let mut input = two_entries(TWO_ENTRIES.len() as u64);
+    let code = sedvokt_check_table(alloc, request.order, KEYS, TWO_ENTRIES, &mut input);
+    assert!(rt; code == DONE);
+    let inputs = [input];
+    let nowhere = Place { from: 0, len: 0 };
+    let range = UserRange {
+        has_lower: false,
+        has_upper: false,
+        lower: nowhere,
+        upper: nowhere,
+    };
+    let mut bytes = [7; 20];
+    let mut lengths = [EntryLengths { key: 7, value: 7 }; 2];
+    let mut marks = [RunMark { below: 7, kept: 7 }; 2];
+    let mut size = RunSize {
+        bytes: 7,
+        entries: 7,
+        marks: 7,
+    };
+    let code = sedvokt_merge(
+        alloc,
+        &request,
+        &[],
+        KEYS,
+        TWO_ENTRIES,
+        &inputs,
+        &[],
+        &range,
+        &mut bytes,
+        &mut lengths,
+        &mut marks,
+        &mut size,
+    );
+    assert_eq!(rt; code, DONE);
+    assert!(rt; bytes.starts_with(RUN));
+    assert_eq!(rt; bytes[RUN.len()], 7);
+    assert_eq!(rt; size.entries, 2);
+    assert_eq!(rt; size.marks, 1);
+    assert_eq!(rt; lengths[1].value, 1);
+    assert_eq!(rt; marks[0].kept, 0);
+}
+
+#[test]
+fn outputs_are_planned(rt: HostRuntime) {
+    let alloc = rt.alloc();
+    let inputs = [two_entries(TWO_ENTRIES.len() as u64)];
+    let lengths = [
+        EntryLengths { key: 9, value: 0 },
+        EntryLengths { key: 9, value: 1 },
+    ];
+    let marks = [RunMark { below: 0, kept: 0 }];
+    // An entry in each of two runs.
+    let mut runs = [
+        RunPlaces {
+            bytes: Place { from: 0, len: 9 },
+            lengths: Place { from: 0, len: 1 },
+            marks: Place { from: 0, len: 1 },
+        },
+        RunPlaces {
+            bytes: Place { from: 9, len: 10 },
+            lengths: Place { from: 1, len: 1 },
+            marks: Place { from: 1, len: 0 },
+        },
+    ];
+    let nothing = PlannedOutput {
+        first: 7,
+        entries: 7,
+        len: 7,
+    };
+    let mut room = [nothing; 2];
+    let mut len = 0;
+    let code = sedvokt_plan(
+        alloc,
+        &REQUEST,
+        KEYS,
+        &inputs,
+        &[],
+        RUN,
+        &lengths,
+        &marks,
+        &runs,
+        &mut room,
+        &mut len,
+    );
+    assert_eq!(rt; code, DONE);
+    assert_eq!(rt; len, 1);
+    assert_eq!(rt; room[0].first, 0);
+    assert_eq!(rt; room[0].entries, 2);
+    assert_eq!(rt; room[0].len, TWO_ENTRIES.len() as u64);
+    assert_eq!(rt; room[1].first, 7);
+    let code = sedvokt_plan(
+        alloc,
+        &REQUEST,
+        KEYS,
+        &inputs,
+        &[],
+        RUN,
+        &lengths,
+        &marks,
+        &runs,
+        &mut [],
+        &mut len,
+    );
+    assert_eq!(rt; code, ROOM);
+    // The value of its entry isn't within the run.
+    runs[1].bytes.len = 9;
+    let code = sedvokt_plan(
+        alloc,
+        &REQUEST,
+        KEYS,
+        &inputs,
+        &[],
+        RUN,
+        &lengths,
+        &marks,
+        &runs,
+        &mut room,
+        &mut len,
+    );
+    assert_eq!(rt; code, MISUSE);
 }
 
 #[test]

@@ -1,0 +1,69 @@
+-- What the code holds, as definitions see it.
+use Rattle.std.specs.Prelude.{ℕ, List, [], ◌∷◌, Result, Ok, None}
+use Rattle.ikey.specs.Answers.{◌>>=◌}
+use Rattle.ikey.specs.fault.Fault.{Fault}
+use Rattle.ikey.specs.Comparator.{KeyOrder}
+use Rattle.table.specs.BuilderView.{TableBuilding}
+use Rattle.table.specs.EncodedEntry.{Entry}
+use Rattle.table.specs.EntryTests.{entries_test}
+use Rattle.table.specs.declared.options.Options as declared
+use Rattle.pick.specs.declared.picked_inputs.Inputs.{Inputs}
+use Rattle.keep.specs.Marks.{CompactionContext, context_of}
+use Rattle.keep.specs.Readable.{floor_of, listed_of}
+use Rattle.c_api.specs.Merges.{AskedMerge}
+use Rattle.c_api.specs.Plans.{AskedPlan}
+use Rattle.c_api.specs.Requests.{snapshots_of}
+use Rattle.c_api.specs.Runs.{Arrays, rooms}
+use Rattle.c_api.specs.ToldRuns.{behind_entry}
+use Rattle.c_api.specs.declared.lent.Lent.{Lent}
+use Rattle.c_api.specs.declared.plan_calls.LentPlan.{LentPlan}
+use Rattle.c_api.specs.declared.run_arrays.EntryLengths.{EntryLengths}
+use Rattle.c_api.specs.declared.run_arrays.RunArrays as arrays
+use Rattle.c_api.specs.declared.run_places.LentArrays.{LentArrays}
+
+-- the arrays that the code holds
+abbrev pub arrays_in : arrays.RunArrays → Arrays
+arrays_in a = rooms a.bytes.items a.lengths.items a.marks.items
+
+-- the arrays that are lent
+abbrev pub arrays_lent : LentArrays → Arrays
+arrays_lent a = rooms a.bytes.now a.lengths.now a.marks.now
+
+-- the bytes behind them
+abbrev pub behind_entries : List ℕ → List EntryLengths → List ℕ
+behind_entries bytes [] = bytes
+behind_entries bytes (l ∷ ls) = behind_entries (behind_entry bytes l) ls
+
+-- the merge that the code holds
+abbrev pub asked_in : Lent → AskedMerge
+asked_in l = record {
+  request = l.request.now;
+  snapshots = snapshots_of l.request.now l.snapshots;
+  keys = l.keys.now;
+  tables = l.tables.now;
+  inputs = l.inputs.now;
+  deeper = l.deeper.now;
+  range = l.range.now;
+}
+
+-- the same, if the code holds what is known of the deeper files
+abbrev pub context_with : AskedMerge → Inputs → CompactionContext
+context_with m inputs = context_of (listed_of m.snapshots)
+    (floor_of m.snapshots m.request.last_sequence) inputs
+
+-- the plan that the code holds
+abbrev pub plan_in : LentPlan → AskedPlan
+plan_in l = record {
+  request = l.request.now;
+  keys = l.keys.now;
+  files = l.files.now;
+  deeper = l.deeper.now;
+  arrays = arrays_lent l.arrays;
+  runs = l.runs.now;
+}
+
+-- the table that is being written after all entries, or the first test that one fails
+abbrev pub entries_reading : declared.Options → List Entry → KeyOrder → Result TableBuilding Fault
+entries_reading o entries cmp = do
+  _ ← entries_test cmp None entries
+  Ok (record { options = o; entries = entries })

@@ -34,6 +34,12 @@ mod Chains
 mod Descending
 mod DescendingSince
 mod LevelRuns
+mod CleanRows
+mod CleanDescending
+mod CleanTaken
+mod CleanParts
+mod CleanLevelRuns
+mod CleanedSince
 mod PartFiles
 mod PartRefusals
 mod PlacedInputs

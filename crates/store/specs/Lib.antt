@@ -15,6 +15,9 @@ pub mod JointLaws
 pub mod Descent
 pub mod AllLevels
 pub mod LevelRuns
+pub mod Cleaning
+pub mod CleanRuns
+pub mod CleanedLevels
 pub mod Outcome
 pub mod OutputRanges
 pub mod PartOutcome

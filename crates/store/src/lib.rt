@@ -9,7 +9,9 @@
 //!    does [`opened_after`] make what a folder is opened as after it, which is the next one's.
 //! 4. [`compact_all`] compacts all levels, one after the other. It tests the version once, and
 //!    tells an [`InstallWatch`] of each compaction that was installed. [`compact_levels`] does the
-//!    same without the test. [`bottom`] and [`next_level`] say which levels they take.
+//!    same without the test. [`compact_all_and_clean`] and [`compact_and_clean`] ask a
+//!    [`CleanWatch`] for names after each, and remove the files that the version doesn't need.
+//!    [`bottom`] and [`next_level`] say which levels they take.
 //! 5. [`outcome_of_opened`] and [`outcome_of_inputs`] only read: they answer the outcome, with the
 //!    numbers that are asked for. [`write_outcome`] writes it into another folder.
 //!    [`files_to_compact`] names the files that the second one needs. [`outcome_of_part`] and
@@ -39,6 +41,8 @@
 
 mod all_levels;
 mod answered_steps;
+mod clean_watch;
+mod cleaned_levels;
 mod compaction_outcome;
 mod compaction_step;
 mod descent;
@@ -72,6 +76,8 @@ mod version_sync;
 pub use all_levels::{compact_all, compact_levels};
 pub use answered_steps::outcome_step;
 pub use checks::{Open, Watch, Work, checkers};
+pub use clean_watch::CleanWatch;
+pub use cleaned_levels::{compact_all_and_clean, compact_and_clean};
 pub use compact::{DeletedFile, Settings};
 pub use compaction_outcome::CompactionOutcome;
 pub use compaction_step::CompactionStep;

@@ -1,6 +1,7 @@
 //! The compaction of a folder, from its path to what is printed.
 
-use crate::clean_work::clean_installed;
+use crate::clean_printer::CleanPrinter;
+use crate::clean_work::{RemovalPrinter, clean_installed};
 use crate::compaction_notes::note_of;
 use crate::step_printer::{StepPrinter, explain, print_step, tell_step, unprinted};
 use crate::version_sync::sync;
@@ -228,7 +229,7 @@ fn step_made<R: Host>(
 }
 
 /// Compacts the first level that has a file, again and again, until all files are at the bottom.
-/// Each step is printed when it is installed.
+/// Each step is printed when it is installed, and each file when it is removed.
 fn compact_all<R: Host>(
     rt: &R,
     telling: Telling<'_>,
@@ -239,7 +240,15 @@ fn compact_all<R: Host>(
     let progress = ProgressLine::new(rt, telling);
     let (order, version) = (opened.order, &opened.version);
     let mut steps = StepPrinter::new(rt, telling, &progress, order, version, task)?;
-    let end = descended(rt, folder, opened, task, &mut steps);
+    let end = if task.cleans {
+        let removals = RemovalPrinter::new(rt, task.is_json);
+        let mut printer = CleanPrinter::new(rt, telling.folder, steps, removals);
+        let end = cleaned(rt, folder, opened, task, &mut printer);
+        steps = printer.into_steps();
+        end
+    } else {
+        descended(rt, folder, opened, task, &mut steps)
+    };
     progress.erase();
     match end {
         Ok(_) => steps.end(),
@@ -275,6 +284,38 @@ fn descended<R: Host>(
             settings,
             memory,
             steps,
+        )
+    }
+}
+
+/// The same, with the files removed after each step that the version doesn't need.
+fn cleaned<R: Host>(
+    rt: &R,
+    folder: &mut Disk<'_, R>,
+    opened: SyncedVersion,
+    task: CompactionTask<'_>,
+    printer: &mut CleanPrinter<'_, R>,
+) -> Result<DescentEnd, Fault> {
+    let progress = printer.progress();
+    let alloc = rt.alloc();
+    let settings = task.settings;
+    if task.testing.is_skipped {
+        store::compact_and_clean(
+            &checkers(rt, alloc, progress),
+            folder,
+            opened,
+            settings,
+            printer,
+        )
+    } else {
+        let memory = bytes_of(task.testing.memory);
+        store::compact_all_and_clean(
+            &checkers(rt, alloc, progress),
+            folder,
+            opened,
+            settings,
+            memory,
+            printer,
         )
     }
 }

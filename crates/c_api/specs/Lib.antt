@@ -10,6 +10,7 @@ pub mod Rooms
 pub mod Ranges
 pub mod Runs
 pub mod ToldRuns
+pub mod Boundaries
 pub mod Merges
 pub mod Plans
 pub mod Outputs

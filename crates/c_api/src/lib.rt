@@ -20,6 +20,7 @@
 //! [`host_law`] is the law that a host which makes these calls gets what one thread answers.
 #![tactic(auto)]
 
+mod boundary_calls;
 mod closed_calls;
 mod code;
 mod edit_calls;
@@ -27,6 +28,7 @@ mod file;
 mod host_laws;
 mod input;
 mod input_tables;
+mod key_arrays;
 mod lent;
 mod merge_calls;
 mod order;
@@ -46,12 +48,14 @@ mod tests;
 mod told_run;
 mod user_range;
 
+pub use boundary_calls::sedvokt_boundaries;
 pub use closed_calls::{FilePlace, sedvokt_check_closed};
 pub use code::{DONE, MEMORY, MISUSE, OPEN_INPUTS, ROOM};
 pub use edit_calls::{Numbers, sedvokt_edit};
 pub use file::File;
 pub use host_laws::host_law;
 pub use input::{Counts, Input};
+pub use key_arrays::KeysSize;
 pub use merge_calls::sedvokt_merge;
 pub use order::{BYTEWISE, SHORTLEX};
 pub use output_calls::{Entry, sedvokt_output};

@@ -1,6 +1,6 @@
 mod Names
 mod Unused
-mod Stays
+pub mod Stays
 mod Telling
 mod NumberSets
 mod ObsoleteNames

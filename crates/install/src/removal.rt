@@ -1,6 +1,6 @@
 //! The removal of files that a version doesn't need.
 //!
-//! `compact --all --clean` calls it after each installation, through a folder value of its own. Why
+//! `compact_and_clean` of `store` calls it after each installation, on the same folder value. Why
 //! that changes nothing for the steps:
 //!
 //! 1. At Ok an installation leaves a folder that stands for the edited version by its manifest: the
@@ -9,7 +9,6 @@
 //! 2. The next step reads CURRENT and tables of its version, none of which was removed, and makes
 //!    files of numbers from next file on. What it had read ahead before, it drops when it makes its
 //!    first file.
-//! 3. Both hand their calls on to one folder of the system, which nobody else changes.
 
 ghost use Rattle.std.specs.Prelude.{◌≡◌, ◌⊎◌, [], ◌∷◌, ℕ, List, map, IfErr, string_bytes};
 ghost use Rattle.edit.specs.Answers.{UnlessMemory};

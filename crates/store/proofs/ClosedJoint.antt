@@ -83,7 +83,7 @@ first_above v (Some asked) number is = by (nat_lt (manifest_of v) asked) refl is
     by true e h = let same : asked ≡ number = cc h in subst (λ (n : ℕ). manifest_of v < n) same (below e)
     by false e h = absurd (cc h)
 
-found_is : {A : Type 0} (o : Option A) (n : FaultName) (x : A) → ok_or o (fault n) ≡ Ok x → o ≡ Some x
+pub found_is : {A : Type 0} (o : Option A) (n : FaultName) (x : A) → ok_or o (fault n) ≡ Ok x → o ≡ Some x
 found_is (Some y) n x h = cc h
 found_is None n x h = absurd (cc h)
 
@@ -171,7 +171,7 @@ module _ (cmp : List ℕ → List ℕ → Ordering) (total : IsTotalOrder cmp) (
       ap (option_map (λ (t : Contents). t.bytes)) f.there
       ∙ ap (λ (b : List ℕ). Some b) (sym (bytes_found loaded i.meta.number f.table.bytes (found_loaded cmp loaded tables i.meta.number f.table checked f.there)))
 
-  over : IsOver v tables r
+  pub over : IsOver v tables r
   over = record {
     bytes = same_map (input_bytes_of tables) (λ (i : InputFile). Some (install.table_bytes_of loaded i.meta.number)) p.files input_bytes ∙ some_mapped (λ (i : InputFile). install.table_bytes_of loaded i.meta.number) p.files;
     numbers = next_below v.next_file number high;
@@ -179,7 +179,7 @@ module _ (cmp : List ℕ → List ℕ → Ordering) (total : IsTotalOrder cmp) (
     previous_log = previous;
   }
 
-  held : HoldOutputs cmp short_keys tables r answer
+  pub held : HoldOutputs cmp short_keys tables r answer
   held = hold_outputs cmp total exact short_keys reads_back v tables r answer lawful safe.placed over answers
 
   abbrev next : State

@@ -180,17 +180,17 @@ opened_so order v bytes o w m (Ok x, (h, is)) = by (applied_by (order_name order
     by (Err e) same = absurd (no_opening o w m e same)
 
 -- a compaction that was told, and ends the row
-stop_told : {W : Type 0} (tells : W → StepView → Bool → W → Type 0) (step : StepView) (told told_now : W) (o : Option SyncedVersion) → o ≡ None → IsToldOf tells step told told_now IsGoTold (taken o) → IsToldOf tells step told told_now IsStopTold (Ok Stopped)
+pub stop_told : {W : Type 0} (tells : W → StepView → Bool → W → Type 0) (step : StepView) (told told_now : W) (o : Option SyncedVersion) → o ≡ None → IsToldOf tells step told told_now IsGoTold (taken o) → IsToldOf tells step told told_now IsStopTold (Ok Stopped)
 stop_told tells step told told_now o none (inl u) = absurd u.1
 stop_told tells step told told_now o none (inr t) = inr (t.0, t.1, (refl, t.2 ∙ ap is_some none))
 
 -- and one after which there is a refusal
-refused_told : {W : Type 0} (tells : W → StepView → Bool → W → Type 0) (step : StepView) (told told_now : W) (e : Fault) → IsToldOf {T = Option SyncedVersion} tells step told told_now IsGoTold (Err e) → IsToldOf tells step told told_now IsStopTold (Err e)
+pub refused_told : {W : Type 0} (tells : W → StepView → Bool → W → Type 0) (step : StepView) (told told_now : W) (e : Fault) → IsToldOf {T = Option SyncedVersion} tells step told told_now IsGoTold (Err e) → IsToldOf tells step told told_now IsStopTold (Err e)
 refused_told tells step told told_now e (inl u) = inl (u.0, tt)
 refused_told tells step told told_now e (inr t) = inr (t.0, t.1, tt)
 
 -- and one after which it goes on
-go_told : {W : Type 0} (tells : W → StepView → Bool → W → Type 0) (step : StepView) (told told_now : W) (next : SyncedVersion) → IsToldOf tells step told told_now IsGoTold (taken (Some next)) → tells told step true told_now
+pub go_told : {W : Type 0} (tells : W → StepView → Bool → W → Type 0) (step : StepView) (told told_now : W) (next : SyncedVersion) → IsToldOf tells step told told_now IsGoTold (taken (Some next)) → tells told step true told_now
 go_told tells step told told_now next (inl u) = absurd u.1
 go_told tells step told told_now next (inr t) = subst (λ (b : Bool). tells told step b told_now) t.2 t.1
 
@@ -302,7 +302,7 @@ module _ {F W : Type 0} (g : Ghosts F) (tells : W → StepView → Bool → W �
 -- ---- all levels, after a test
 
 -- calls since a folder, after one that only read
-made_since : {F : Type 0} (g : Ghosts F) (first read : F) (calls : List Step) (at : F) → g.calls read ≡ g.calls first → TellsSame (g.tells first) (g.tells read) → HasMade g read calls at → HasMade g first calls at
+pub made_since : {F : Type 0} (g : Ghosts F) (first read : F) (calls : List Step) (at : F) → g.calls read ≡ g.calls first → TellsSame (g.tells first) (g.tells read) → HasMade g read calls at → HasMade g first calls at
 made_since g first read calls at same told made = record {
   calls = made.calls ∙ ap (λ (t : List Step). t ++ calls) same;
   change = λ w tells. made.change w (still (g.tells first) (g.tells read) told w.files tells);

@@ -15,13 +15,14 @@ pub mod InputsApart
 mod LentRises
 mod CheckedInputs
 mod HeldInputs
+mod PickedParts
 mod FoundInputs
 mod OrderlyFiles
 pub mod Answered
 pub mod Compactions
 mod LawfulInputs
 pub mod InstallPart
-mod StepPart
+pub mod StepPart
 mod PlannedPart
 pub mod RunPart
 mod NamesThere
@@ -34,11 +35,17 @@ mod Chains
 mod Descending
 mod DescendingSince
 mod LevelRuns
-mod PartFiles
-mod PartRefusals
-mod PlacedInputs
+mod CleanRows
+mod CleanDescending
+mod CleanTaken
+mod CleanParts
+mod CleanLevelRuns
+mod CleanedSince
+pub mod PartFiles
+pub mod PartRefusals
+pub mod PlacedInputs
 mod FoundParts
-mod ClosedJoint
-mod StayingParts
-mod PartAnswers
+pub mod ClosedJoint
+pub mod StayingParts
+pub mod PartAnswers
 mod PartNumbers

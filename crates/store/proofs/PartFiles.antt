@@ -96,7 +96,7 @@ module _ (cmp : List ℕ → List ℕ → Ordering) (v : State) (level : ℕ) wh
       by false true e r is = record { low = let low = ltb-false 5 level e in omega (arith, low); ranges = r; by_key = is }
       by false false e r is = absurd (no_refusal parts (fault Lawless) is)
 
-part_by : (cmp : List ℕ → List ℕ → Ordering) (total : IsTotalOrder cmp) (v : State) (level : ℕ) (parts : List PickedInputs) (p : PickedInputs) → IsPartsAnswer cmp v level (Ok parts) → Contains parts p → IsPartBy cmp v level p
+pub part_by : (cmp : List ℕ → List ℕ → Ordering) (total : IsTotalOrder cmp) (v : State) (level : ℕ) (parts : List PickedInputs) (p : PickedInputs) → IsPartsAnswer cmp v level (Ok parts) → Contains parts p → IsPartBy cmp v level p
 part_by cmp total v level parts p h at = by (part_key cmp v level) told.by_key
   where
     told : AreParts cmp v level parts

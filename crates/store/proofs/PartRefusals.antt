@@ -23,7 +23,7 @@ same_refusal e d h = cc
 named : {Y : Type 0} (e : Fault) (n : FaultName) → n ≢ Device → refusal {Y = Y} e ≡ refusal (fault n) → e.name ≢ Device
 named {Y = Y} e n other h = λ same. other (sym (ap (λ (f : Fault). f.name) (same_refusal {Y = Y} e (fault n) h)) ∙ same)
 
-parts_other : (cmp : List ℕ → List ℕ → Ordering) (v : State) (level : ℕ) (e : Fault) → IsPartsAnswer cmp v level (Err e) → e.name ≢ Device
+pub parts_other : (cmp : List ℕ → List ℕ → Ordering) (v : State) (level : ℕ) (e : Fault) → IsPartsAnswer cmp v level (Err e) → e.name ≢ Device
 parts_other cmp v level e h = by (nat_lt 5 level) (have_ranges cmp (both_files cmp v level)) refl refl h
   where
     by : (a b : Bool) → nat_lt 5 level ≡ a → have_ranges cmp (both_files cmp v level) ≡ b

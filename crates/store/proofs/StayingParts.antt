@@ -78,14 +78,14 @@ module _ (cmp : List ℕ → List ℕ → Ordering) (v : State) (level : ℕ) (k
 -- ---- two parts share no file
 
 module _ (cmp : List ℕ → List ℕ → Ordering) (total : IsTotalOrder cmp) (v : State) (level : ℕ) (ranges : HaveRanges cmp v level) where
-  abbrev AreOfLevel : List FileMeta → Type 0
+  abbrev pub AreOfLevel : List FileMeta → Type 0
   AreOfLevel files = (f : FileMeta) → IsIn files f → IsIn (level_files cmp v level) f
 
   not_in : (before : List (FileMeta → Bool)) (a : FileMeta → Bool) (f : FileMeta) → IsIn before a → is_in_part before f ≡ false → a f ≡ false
   not_in before a f i out = refuted (a f) (λ h. let both : true ≡ false = sym (any_from (λ (part : FileMeta → Bool). part f) before a i h) ∙ out in absurd (cc both))
 
   -- each later part shares none with one before
-  behind : (before : List (FileMeta → Bool)) (files : List FileMeta) (tests : List (FileMeta → Bool)) → ArePartsFrom cmp v level before files tests → AreOfLevel files
+  pub behind : (before : List (FileMeta → Bool)) (files : List FileMeta) (tests : List (FileMeta → Bool)) → ArePartsFrom cmp v level before files tests → AreOfLevel files
       → (first : FileMeta) (a : FileMeta → Bool) → IsIn before a → IsPartAround cmp v level first a
       → (j : ℕ) (b : FileMeta → Bool) → slice_get tests j ≡ Some b → AreDisjointChoices cmp v level a b
   behind before [] tests h own first a i around j b at = absurd (none (subst (λ (l : List (FileMeta → Bool)). slice_get l j ≡ Some b) h at))
@@ -139,7 +139,7 @@ module _ (cmp : List ℕ → List ℕ → Ordering) (v : State) (level : ℕ) (a
       let lowers = filter_same a b (level_files cmp v (level + 1)) (λ f i. same f (in_back (level_files cmp v level) (level_files cmp v (level + 1)) f i)) in
       ap (λ (l : List FileMeta). l ++ filter a (level_files cmp v (level + 1))) uppers ∙ ap (λ (l : List FileMeta). filter b (level_files cmp v level) ++ l) lowers
 
-  apart_among : IsApartChoice cmp v level a → IsApartChoice cmp v level b
+  pub apart_among : IsApartChoice cmp v level a → IsApartChoice cmp v level b
   apart_among h =
       all_from (λ (f : FileMeta). overlaps cmp (both_chosen cmp v level b) f ≡ true → b f ≡ true) (both_files cmp v level)
       (λ f there needed.

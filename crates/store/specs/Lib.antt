@@ -15,9 +15,13 @@ pub mod JointLaws
 pub mod Descent
 pub mod AllLevels
 pub mod LevelRuns
+pub mod Cleaning
+pub mod CleanRuns
+pub mod CleanedLevels
 pub mod Outcome
 pub mod OutputRanges
 pub mod PartOutcome
+pub mod PickedOutcome
 pub mod ClosedLaws
 pub mod WholeOutcome
 pub mod FilesToCompact

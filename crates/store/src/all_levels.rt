@@ -132,7 +132,12 @@ pub fn compact_levels<
 
 /// Compacts a `level` of what a folder was `opened` as, and tells of it. What the folder is opened
 /// as after it, if it is to go on.
-fn take_step<F: ReadsTables + WritesTables, T: InstallWatch, W: Watch + Sync, R: Threads + Sync>(
+pub(crate) fn take_step<
+    F: ReadsTables + WritesTables,
+    T: InstallWatch,
+    W: Watch + Sync,
+    R: Threads + Sync,
+>(
     workers: &Workers<'_, R, W>,
     folder: &mut F,
     opened: &SyncedVersion,
@@ -193,7 +198,7 @@ fn tell_step<T: InstallWatch>(
 }
 
 /// Whether no file of a version is above its bottom.
-fn is_at_bottom(alloc: Global, version: &Version) -> Result<bool, Fault>
+pub(crate) fn is_at_bottom(alloc: Global, version: &Version) -> Result<bool, Fault>
     ensures none { IfOk result (λ b. IsTrue b → (bottom : ℕ) × IsBottom version.now bottom
         × IsNextLevel version.now bottom None) }
     ensures memory { IfErr result (λ e. e ≡ fault Memory) }
@@ -206,7 +211,7 @@ fn is_at_bottom(alloc: Global, version: &Version) -> Result<bool, Fault>
 }
 
 /// Tests the version that a folder was `opened` as. It only reads.
-fn test_opened<F: ReadsTables, W: Watch + Sync, R: Threads + Sync>(
+pub(crate) fn test_opened<F: ReadsTables, W: Watch + Sync, R: Threads + Sync>(
     workers: &Workers<'_, R, W>,
     folder: &mut F,
     opened: &SyncedVersion,

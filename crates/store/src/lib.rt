@@ -9,11 +9,14 @@
 //!    does [`opened_after`] make what a folder is opened as after it, which is the next one's.
 //! 4. [`compact_all`] compacts all levels, one after the other. It tests the version once, and
 //!    tells an [`InstallWatch`] of each compaction that was installed. [`compact_levels`] does the
-//!    same without the test. [`bottom`] and [`next_level`] say which levels they take.
+//!    same without the test. [`compact_all_and_clean`] and [`compact_and_clean`] ask a
+//!    [`CleanWatch`] for names after each, and remove the files that the version doesn't need.
+//!    [`bottom`] and [`next_level`] say which levels they take.
 //! 5. [`outcome_of_opened`] and [`outcome_of_inputs`] only read: they answer the outcome, with the
 //!    numbers that are asked for. [`write_outcome`] writes it into another folder.
 //!    [`files_to_compact`] names the files that the second one needs. [`outcome_of_part`] and
-//!    [`outcome_of_part_inputs`] answer that of one of the [`parts_to_compact`] of a level.
+//!    [`outcome_of_part_inputs`] answer that of one of the [`parts_to_compact`] of a level, and
+//!    [`outcome_of_picked`] that of a part that its caller found.
 //! 6. Parts of these calls, for those who install an outcome later: [`test_files`],
 //!    [`load_inputs`], [`checked_inputs`], [`bytes_of`], [`manifest_of`], [`outcome_step`].
 //! 7. All tell a [`Watch`] of the work; [`Open`] is the one that does nothing.
@@ -39,6 +42,8 @@
 
 mod all_levels;
 mod answered_steps;
+mod clean_watch;
+mod cleaned_levels;
 mod compaction_outcome;
 mod compaction_step;
 mod descent;
@@ -64,6 +69,7 @@ mod part_compaction;
 mod part_laws;
 mod part_outcome;
 mod part_tables;
+mod picked_outcome;
 mod planned_installation;
 mod synced_version;
 mod version_files;
@@ -72,6 +78,8 @@ mod version_sync;
 pub use all_levels::{compact_all, compact_levels};
 pub use answered_steps::outcome_step;
 pub use checks::{Open, Watch, Work, checkers};
+pub use clean_watch::CleanWatch;
+pub use cleaned_levels::{compact_all_and_clean, compact_and_clean};
 pub use compact::{DeletedFile, Settings};
 pub use compaction_outcome::CompactionOutcome;
 pub use compaction_step::CompactionStep;
@@ -92,6 +100,7 @@ pub use part_choice::parts_to_compact;
 pub use part_laws::{closed_is_installed, parts_stay};
 pub use part_outcome::{outcome_of_part, outcome_of_part_inputs};
 pub use pick::Inputs;
+pub use picked_outcome::outcome_of_picked;
 pub use synced_version::{SyncMark, SyncedVersion};
 pub use version_files::test_files;
 pub use version_sync::sync_version;

@@ -25,6 +25,20 @@ pub struct SyncedVersion {
 }
 
 impl SyncedVersion {
+    /// What the folder was opened as, of which this crate knows that its files were synced.
+    pub(crate) fn of_synced(opened: Opened) -> SyncedVersion
+        ensures order { result.order ≡ opened.order }
+        ensures version { result.version ≡ opened.version }
+        ensures manifest { result.manifest ≡ opened.manifest }
+    {
+        SyncedVersion {
+            order: opened.order,
+            version: opened.version,
+            manifest: opened.manifest,
+            mark: SyncMark,
+        }
+    }
+
     /// What the folder was opened as.
     pub fn into_opened(self) -> Opened
         ensures order { result.order ≡ self.order }

@@ -1,0 +1,110 @@
+-- What follows a compaction of a row after which files are removed that the version doesn't need.
+use Rattle.std.specs.Prelude.{◌≡◌, ◌⊎◌, ℕ, Bool, true, false, List, map, string_bytes}
+use Rattle.std.specs.Prelude.{Option, Some, None, Result, Ok, Err, String}
+use Rattle.std.specs.Global.{Global, Vec}
+use Rattle.folder.specs.fault.Fault.{Fault}
+use Rattle.folder.specs.CallSequence.{MakesCalls}
+use Rattle.folder.specs.Folder.{TellsSame}
+use Rattle.folder.specs.Orders.{order_cmp}
+use Rattle.folder.specs.Version.{State}
+use Rattle.folder.specs.declared.order.Order.{Order}
+use Rattle.install.specs.FolderChange.{FolderChange}
+use Rattle.install.specs.ObsoleteFile.{AreObsolete}
+use Rattle.install.specs.Removal.{IsNothingRemoved, removal_calls, removed_by}
+use Rattle.install.specs.ToldNames.{AreTold}
+use Rattle.store.specs.Step.{StepView}
+
+-- Who is told of compactions and of removals: how it changes when it is told of a step, asked for
+-- names, told of a file that was removed, and told that all are.
+pub record CleanTeller (W : Type 0) : Type 1 where
+  pub installs : W → StepView → Bool → W → Type 0
+  pub lists : W → Option (List (List ℕ)) → W → Type 0
+  pub removes : W → List ℕ → W → Type 0
+  pub ends : W → Bool → W → Type 0
+
+abbrev pub teller_by : {W : Type 0} → (W → StepView → Bool → W → Type 0) →
+    (W → Option (List (List ℕ)) → W → Type 0) → (W → List ℕ → W → Type 0) →
+    (W → Bool → W → Type 0) → CleanTeller W
+teller_by installs lists removes ends = record {
+  installs = installs;
+  lists = lists;
+  removes = removes;
+  ends = ends;
+}
+
+-- a version, by the order and the number of the manifest that CURRENT names
+pub record NamedVersion : Type 0 where
+  pub order : Order
+  pub version : State
+  pub manifest : ℕ
+
+abbrev pub named_version : Order → State → ℕ → NamedVersion
+named_version order version manifest = record {
+  order = order;
+  version = version;
+  manifest = manifest;
+}
+
+-- the names that are given to remove, as texts
+abbrev pub names_in : Option (Vec (String Global)) → Option (List (List ℕ))
+names_in None = None
+names_in (Some names) = Some (map string_bytes names.items)
+
+-- The obsolete ones of these names were removed, in their order, and all of it was told. It was
+-- told to go on.
+pub record AreAllRemoved {W : Type 0} (by : CleanTeller W) (v : NamedVersion)
+    (removed : List (List ℕ)) (told told_now : W) : Type 0 where
+  pub names : List (List ℕ)
+  pub listed : W
+  pub lists : by.lists told (Some names) listed
+  pub obsolete : AreObsolete (order_cmp v.order) v.version v.manifest names removed
+  pub told_last : W
+  pub told_all : AreTold by.removes listed removed told_last
+  pub ended : by.ends told_last true told_now
+
+-- all is told to be removed, and a value is answered as it was said whether to go on
+abbrev pub IsEndTold : {W T : Type 0} → (W → Bool → W → Type 0) → W → W → (Bool → T → Type 0) →
+    Result T Fault → Type 0
+IsEndTold ends told told_now IsAsTold (Ok x) =
+    (goes : Bool) × ends told goes told_now × IsAsTold goes x
+IsEndTold ends told told_now IsAsTold (Err e) = told_now ≡ told
+
+-- The obsolete ones of these names were removed, up to a call that failed, and then the folder was
+-- synced. Each was told.
+pub record AreNamesRemoved {W T : Type 0} (by : CleanTeller W) (v : NamedVersion)
+    (names : List (List ℕ)) (change : FolderChange) (told told_now : W)
+    (IsAsTold : Bool → T → Type 0) (result : Result T Fault) : Type 0 where
+  pub removed : List (List ℕ)
+  pub obsolete : AreObsolete (order_cmp v.order) v.version v.manifest names removed
+  pub runs : MakesCalls (removal_calls removed) change.before change.after change.old change.new
+      result
+  pub told_last : W
+  pub told_all : AreTold by.removes told (removed_by runs.steps) told_last
+  pub ended : IsEndTold by.ends told_last told_now IsAsTold result
+
+-- no names were given: nothing was removed, and it stops
+pub record IsNoneListed {W T : Type 0} (change : FolderChange) (told told_now : W)
+    (IsAsTold : Bool → T → Type 0) (result : Result T Fault) : Type 0 where
+  pub calls : change.after ≡ change.before
+  pub same : TellsSame change.old change.new
+  pub untold : told_now ≡ told
+  pub answer : T
+  pub stops : IsAsTold false answer
+  pub is : result ≡ Ok answer
+
+abbrev pub IsListRemoved : {W T : Type 0} → CleanTeller W → NamedVersion → FolderChange → W → W →
+    (Bool → T → Type 0) → Option (List (List ℕ)) → Result T Fault → Type 0
+IsListRemoved by v change told told_now IsAsTold None result =
+    IsNoneListed change told told_now IsAsTold result
+IsListRemoved by v change told told_now IsAsTold (Some names) result =
+    IsNothingRemoved change told told_now result
+    ⊎ AreNamesRemoved by v names change told told_now IsAsTold result
+
+-- It was asked for names of files. If there are any, the obsolete ones were removed.
+pub record IsCleaned {W T : Type 0} (by : CleanTeller W) (v : NamedVersion)
+    (change : FolderChange) (told told_now : W) (IsAsTold : Bool → T → Type 0)
+    (result : Result T Fault) : Type 0 where
+  pub names : Option (List (List ℕ))
+  pub listed : W
+  pub lists : by.lists told names listed
+  pub removal : IsListRemoved by v change listed told_now IsAsTold names result

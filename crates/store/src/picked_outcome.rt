@@ -1,0 +1,81 @@
+//! The outcome of a compaction of inputs that are a part of a level.
+
+ghost use Rattle.std.specs.Prelude.{◌<◌, ◌^◌, ℕ, IfOk, Ok, unwrap_or};
+ghost use Rattle.table.specs.Key.{IsInternalKey};
+ghost use Rattle.checks.specs.HeldTables.{AreHeldBy, AreHeldIn};
+ghost use Rattle.compact.specs.AnswerIn.{answer_in};
+ghost use Rattle.folder.specs.Calls.{Files, Tells};
+ghost use Rattle.folder.specs.OpenAnswer.{FolderAnswers};
+ghost use Rattle.folder.specs.Reports.{OnlyReads, ReportsDevice};
+ghost use Rattle.folder.specs.Version.{IsState};
+ghost use Rattle.pick.specs.PickedInputs.{picked_in};
+ghost use Rattle.store.specs.InputsCompaction.{IsPickedAnswer};
+ghost use Rattle.store.specs.PartOutcome.{IsPartAnswer};
+ghost use Rattle.store.specs.PickedOutcome.{IsPickedCompacted};
+ghost use Rattle.store.specs.declared.level_part.LevelPart.{LevelPart};
+
+use crate::held_compaction::compact_held;
+use crate::input_tables::numbers_of;
+use crate::part_choice::{sets_internal_key, version_is_state};
+use crate::part_laws::parts_in_order;
+use checks::{HeldTables, SharedComparator, Watch, Work, Workers, checked_tables};
+use compact::Settings;
+use folder::{Fault, ReadsTables, Version};
+use install::Outcome;
+use pick::Inputs;
+use std::thread::Threads;
+
+/// The outcome of the compaction of `picked` inputs, which are one of the finest parts of a level.
+/// Nothing is installed: it only reads, and no table but those of the inputs that aren't among
+/// `held`, which are tables of the folder. The outputs have the numbers from `first` on, or else
+/// those after the manifest's.
+///
+/// The first that applies:
+///
+/// - Missing: at the first missing table of an input;
+/// - the first invalid one, as `table::check` refuses it;
+/// - Bounds: one isn't as its file states;
+/// - what [`outcome_of_part_inputs`](crate::outcome_of_part_inputs) is refused as after these.
+pub fn outcome_of_picked<
+    C: SharedComparator + 'static,
+    F: ReadsTables,
+    W: Watch + Sync,
+    R: Threads + Sync,
+>(
+    workers: &Workers<'_, R, W>,
+    folder: &mut F,
+    held: HeldTables<C>,
+    version: &Version,
+    picked: &Inputs,
+    first: Option<u64>,
+    settings: &Settings<'_>,
+) -> Result<Outcome, Fault>
+    requires part { (part : LevelPart)
+        × IsPartAnswer C.cmp version.now part (Ok (picked_in picked.now)) }
+    ensures answer { (files : Files) → Tells (F.tells folder.old) files →
+        AreHeldIn C.cmp files held →
+        FolderAnswers (λ o. (picked_in picked.now, answer_in o)) (F.failed folder.old)
+        (F.failed folder.new) result
+        (IsPickedAnswer first C.cmp C.short_keys files version.now settings.now
+        (picked_in picked.now)) }
+    // Of any folder, also one that tells nothing: the tables are what reads of it may give.
+    ensures compacted { AreHeldBy C.cmp (F.tells folder.old) held →
+        IfOk result (λ o. IsPickedCompacted first C.cmp C.short_keys (F.tells folder.old)
+        version.now settings.now (picked_in picked.now) (answer_in o)) }
+    // The key that the inputs set is an internal key; the version's log numbers are below 2^64.
+    ensures pointer { IsInternalKey picked.now.pointer.key }
+    ensures state { IsState version.now.pointers version.now.files }
+    ensures logs { IfOk result (λ _. (unwrap_or version.now.log_number 0 < 2 ^ 64)
+        × (unwrap_or version.now.previous_log 0 < 2 ^ 64)) }
+    ensures device { ReportsDevice F.Folder folder.old folder.new result }
+    ensures reads { OnlyReads F.Folder folder.old folder.new }
+{
+    let alloc = workers.alloc();
+    parts_in_order::<C>();
+    sets_internal_key(picked);
+    version_is_state::<C>(alloc, version);
+    let numbers = numbers_of(alloc, &picked.files)?;
+    workers.gate().begin(Work::Check, numbers.len() as u64);
+    let tables = checked_tables::<C, F, W, R>(workers, folder, held, &numbers)?;
+    compact_held::<C, W, R>(workers, version, picked, &tables, first, settings)
+}

@@ -7,15 +7,15 @@ use crate::silent_shelf::SilentShelf;
 use adoption::{AdoptionEnd, Comparison, install_outcome};
 use coding::{Fault, FaultName};
 use edit::Version;
-use folder::{Failing, FolderFault, Readings, Shelf, ShelfStep, open};
+use folder::{Failing, FolderFault, Opened, Readings, Shelf, ShelfStep, open};
 use install::{RemovalWatch, remove_obsolete};
 use keep::Snapshots;
 use std::alloc::Global;
 use std::test::*;
 use std::thread::Threads;
 use store::{
-    CompactionStep, InstallWatch, Open, Settings, SyncedVersion, checkers, compact_all,
-    compact_dir, outcome_of_opened, sync_version, write_outcome,
+    CleanWatch, CompactionStep, InstallWatch, Open, Settings, SyncedVersion, checkers, compact_all,
+    compact_all_and_clean, compact_dir, outcome_of_opened, sync_version, write_outcome,
 };
 
 /// The calls that write of a compaction of level 1 and of the removal after it, of which it is
@@ -43,6 +43,26 @@ const CLEANED: &[(&str, &str)] = &[
     ("remove", "000007.sst"),
     ("remove", "MANIFEST-000005"),
     ("sync", "."),
+];
+
+/// The names that are given after each compaction of a folder whose tables are at two levels.
+const LISTED: &[&[&str]] = &[
+    &[
+        "000007.sst",
+        "000008.ldb",
+        "000010.ldb",
+        "CURRENT",
+        "MANIFEST-000005",
+        "MANIFEST-000009",
+    ],
+    &[
+        "000008.ldb",
+        "000010.ldb",
+        "000012.ldb",
+        "CURRENT",
+        "MANIFEST-000009",
+        "MANIFEST-000011",
+    ],
 ];
 
 /// A folder in memory that tells nothing, of which a call may fail. The last byte of a file is
@@ -126,6 +146,61 @@ fn compact_levels<R: Threads + Sync>(
     }
 }
 
+/// Who lists the files of a folder after each compaction. It goes on.
+#[derive(Drop)]
+struct Lister {
+    alloc: Global,
+    /// How many removals are done.
+    done: usize,
+}
+
+impl InstallWatch for Lister {
+    fn installed(
+        &mut self,
+        _level: u64,
+        _step: &CompactionStep,
+        _before: &Version,
+        _after: Option<&Version>,
+    ) -> bool {
+        true
+    }
+}
+
+impl RemovalWatch for Lister {
+    fn removed(&mut self, _name: &str) {}
+}
+
+impl CleanWatch for Lister {
+    fn names(&mut self, _opened: &Opened) -> Option<Vec<String>> {
+        let mut names = Vec::new(self.alloc);
+        for name in *LISTED.get(self.done)? {
+            names.push(String::from_str(self.alloc, name).ok()?).ok()?;
+        }
+        Some(names)
+    }
+
+    fn cleaned(&mut self, _opened: &Opened) -> bool {
+        self.done = self.done.saturating_add(1);
+        true
+    }
+}
+
+/// Compacts all levels of a folder, and removes files after each step.
+fn compact_and_clean<R: Threads + Sync>(
+    rt: &R,
+    alloc: Global,
+    folder: &mut SilentShelf<'_>,
+) -> Result<(), Fault> {
+    let opened = synced(alloc, folder)?;
+    let workers = checkers(rt, alloc, &Open);
+    let told = &mut Lister { alloc, done: 0 };
+    let settings = Settings::default();
+    match compact_all_and_clean(&workers, folder, opened, &settings, MEMORY, told) {
+        Ok(_) => Ok(()),
+        Err(fault) => Err(fault),
+    }
+}
+
 /// Writes the outcome of a compaction of level 1 of another folder into a folder.
 fn write_level<R: Threads + Sync>(
     rt: &R,
@@ -193,6 +268,7 @@ fn done<'a, R: Threads + Sync>(
     let answer = match act {
         Act::Compact => compact_level(rt, alloc, &mut folder),
         Act::Write => write_level(rt, alloc, &mut folder, source),
+        Act::CompactAndClean => compact_and_clean(rt, alloc, &mut folder),
         _ => compact_levels(rt, alloc, &mut folder, act == Act::CompactAll),
     };
     End { folder, answer }

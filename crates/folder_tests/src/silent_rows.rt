@@ -11,6 +11,8 @@ pub(crate) enum Act {
     CompactAll,
     /// The same, but who is told of the first compaction says to stop.
     Stop,
+    /// All levels are compacted, and files are removed after each compaction.
+    CompactAndClean,
     /// An outcome is installed, which another folder holds.
     Install,
     /// The outcome of a compaction of another folder is written into it.
@@ -62,7 +64,8 @@ const DEEP_FILES: Files = &[
 ];
 
 /// One compaction; all of them, the first of which leaves file 10 at level 1 and the second file 12
-/// at level 2, or the first alone; an installation; and a folder that gets an outcome.
+/// at level 2, or the first alone, or with a removal after each; an installation; and a folder that
+/// gets an outcome.
 pub(crate) const ROWS: &[Row] = &[
     Row {
         name: "a compaction",
@@ -177,6 +180,63 @@ pub(crate) const ROWS: &[Row] = &[
         ],
         source_calls: (0, 0),
         short: &[("000008.ldb", 7)],
+    },
+    Row {
+        name: "all levels, with removals",
+        act: Act::CompactAndClean,
+        files: DEEP_FILES,
+        source: &[],
+        calls: &[
+            ("read", ""),
+            ("read", ""),
+            ("sync", "CURRENT"),
+            ("sync", "MANIFEST-000005"),
+            ("sync", "000007.ldb"),
+            ("sync", "000007.sst"),
+            ("sync", "000008.ldb"),
+            ("sync", "000008.sst"),
+            ("sync", "."),
+            ("read", ""),
+            ("read", ""),
+            ("read", ""),
+            ("read", ""),
+            ("read", ""),
+            ("create", "000010.ldb"),
+            ("sync", "000010.ldb"),
+            ("create", "MANIFEST-000009"),
+            ("sync", "MANIFEST-000009"),
+            ("create", "000009.dbtmp"),
+            ("sync", "000009.dbtmp"),
+            ("sync", "."),
+            ("read", ""),
+            ("rename", "CURRENT"),
+            ("sync", "."),
+            ("remove", "000007.sst"),
+            ("remove", "MANIFEST-000005"),
+            ("sync", "."),
+            ("read", ""),
+            ("create", "000012.ldb"),
+            ("sync", "000012.ldb"),
+            ("create", "MANIFEST-000011"),
+            ("sync", "MANIFEST-000011"),
+            ("create", "000011.dbtmp"),
+            ("sync", "000011.dbtmp"),
+            ("sync", "."),
+            ("read", ""),
+            ("rename", "CURRENT"),
+            ("sync", "."),
+            ("remove", "000010.ldb"),
+            ("remove", "MANIFEST-000009"),
+            ("sync", "."),
+        ],
+        source_calls: (0, 0),
+        short: &[
+            ("CURRENT", 0),
+            ("MANIFEST-000005", 0),
+            ("000007.sst", 7),
+            ("000008.ldb", 7),
+            ("000010.ldb", 19),
+        ],
     },
     Row {
         name: "an installation",

@@ -1,0 +1,26 @@
+-- The part at a place.
+use Rattle.std.proofs.Common.{◌≡◌, ℕ, suc, ◌<◌, List, length, map, slice_get, get_or, Some, Option, Ok, refl, sym, ap, ◌∙◌}
+use Rattle.std.specs.Option.{ok_or, option_map}
+use Rattle.std.specs.declared.cmp.Ordering.{Ordering}
+use Rattle.std.proofs.lemmas.Option.{slice_get-map, slice_get_read}
+use Rattle.edit.specs.Version.{State}
+use Rattle.pick.specs.PickedInputs.{PickedInputs, picked_in}
+use Rattle.pick.specs.declared.picked_inputs.Inputs.{Inputs}
+use Rattle.store.specs.PartOutcome.{IsPartAnswer, part_of_number}
+use Rattle.store.specs.declared.level_part.LevelPart.{LevelPart}
+use Rattle.levels.specs.PartsEnd.{IsPartAt}
+use Rattle.edit.specs.Answers.{fault}
+use Rattle.edit.specs.fault.FaultName.TheVariants.{NoInput}
+use Rattle.levels.proofs.PartsBase.{level_parts}
+
+pub got : (parts : List Inputs) (place : ℕ) (part : Inputs) → place < length parts → part ≡ get_or parts place part → slice_get parts place ≡ Some part
+got parts place part lt is = slice_get_read parts (length parts) place part refl lt is
+
+pub part_at : (parts : List Inputs) (place : ℕ) (part : Inputs) → slice_get parts place ≡ Some part → slice_get (map picked_in parts) place ≡ Some (picked_in part)
+part_at parts place part h = slice_get-map picked_in parts place ∙ ap (option_map picked_in) h
+
+-- it is a part of the level
+pub part_is : (cmp : List ℕ → List ℕ → Ordering) (v : State) (parts : List Inputs) (place : ℕ) (part : Inputs) → slice_get parts place ≡ Some part → IsPartAt cmp v parts place → (x : LevelPart) × IsPartAnswer cmp v x (Ok (picked_in part))
+part_is cmp v parts place part h at =
+    let found : part_of_number (suc place) (map picked_in parts) ≡ Ok (picked_in part) = ap (λ (o : Option PickedInputs). ok_or o (fault NoInput)) (part_at parts place part h) in
+    (record { level = at.level; number = suc place }, (Ok (map picked_in parts), (level_parts cmp v at.level (map picked_in parts) at.are_parts, sym found)))

@@ -1,0 +1,108 @@
+-- What the compaction of a whole level answers: of all its parts, from one version.
+use Rattle.std.specs.Prelude.{◌≡◌, ℕ, ◌+◌, ◌-◌, ◌^◌, nat_lt, List, [], ◌∷◌, length, flat_map}
+use Rattle.std.specs.Prelude.{Some, Result, Ok, Err}
+use Rattle.edit.specs.Answers.{IsThen, fault, ◌>>=◌}
+use Rattle.edit.specs.fault.Fault.{Fault}
+use Rattle.edit.specs.fault.FaultName.TheVariants.{NoInput, Numbers}
+use Rattle.edit.specs.Comparator.{KeyOrder, ShortKeys}
+use Rattle.edit.specs.Edit.{Edit, IsEdit, edit_bytes}
+use Rattle.edit.specs.Version.{State}
+use Rattle.keep.specs.TestResult.{test_result}
+use Rattle.folder.specs.Calls.{Files}
+use Rattle.folder.specs.Levels.{file_numbers}
+use Rattle.folder.specs.LoadedTables.{IsLoaded}
+use Rattle.folder.specs.ReadsAs.{IsFileIn}
+use Rattle.pick.specs.Parts.{IsPartsAnswer}
+use Rattle.pick.specs.PickedInputs.{PickedInputs}
+use Rattle.checks.specs.LawfulTables.{IsLawfulTables}
+use Rattle.compact.specs.GroupedAnswer.{table_sizes}
+use Rattle.compact.specs.OneThread.{Answer}
+use Rattle.compact.specs.declared.settings.Settings.{Settings}
+use Rattle.store.specs.FolderRequest.{compaction_from, manifest_of}
+use Rattle.store.specs.Step.{StepView}
+
+-- ---- parts, one after the other
+
+-- the tables of answers, in their order
+abbrev pub tables_of : List Answer → List (ℕ × List ℕ)
+tables_of answers = flat_map (λ (a : Answer). a.tables) answers
+
+-- the bytes of their edits, one after the other
+abbrev pub edits_of : List Answer → List ℕ
+edits_of answers = flat_map (λ (a : Answer). a.edit) answers
+
+-- What the compaction of a part answers whose outputs have the numbers after this one, or Numbers
+-- if none is left after it.
+abbrev pub part_result : KeyOrder → ShortKeys → State → List (ℕ × List ℕ) → Settings → ℕ →
+    PickedInputs → Result Answer Fault
+part_result cmp short_keys v loaded s last p =
+    test_result (nat_lt last (2 ^ 64 - 1)) Numbers >>=
+    λ _. compaction_from (Some (last + 1)) cmp short_keys v loaded p s
+
+-- The number after which the outputs of the next part are numbered: the next file that the edit of
+-- this one sets. If each part were installed before the next one is compacted, a manifest would
+-- have it.
+abbrev pub next_last : ℕ → Answer → ℕ
+next_last last a = last + 1 + length a.tables
+
+-- The answers of parts in their order, each for the same version; or the first refusal. The outputs
+-- have the numbers that they have if each part is installed before the next one is compacted.
+abbrev pub parts_result : KeyOrder → ShortKeys → State → List (ℕ × List ℕ) → Settings → ℕ →
+    List PickedInputs → Result (List Answer) Fault
+parts_result cmp short_keys v loaded s last [] = Ok []
+parts_result cmp short_keys v loaded s last (p ∷ parts) = do
+  a ← part_result cmp short_keys v loaded s last p
+  rest ← parts_result cmp short_keys v loaded s (next_last last a) parts
+  Ok (a ∷ rest)
+
+-- ---- a level
+
+-- parts, or NoInput if there is none
+abbrev pub some_parts : List PickedInputs → Result (List PickedInputs) Fault
+some_parts [] = Err (fault NoInput)
+some_parts (p ∷ parts) = Ok (p ∷ parts)
+
+-- The parts of a level. The first refusal counts: that of them; NoInput, if the level has no file.
+abbrev pub AreLevelParts : KeyOrder → State → ℕ → Result (List PickedInputs) Fault → Type 0
+AreLevelParts cmp v level = IsThen (IsPartsAnswer cmp v level)
+    (λ parts answer. answer ≡ some_parts parts)
+
+-- The answers for all parts of a level of a version with the bytes of its tables. The first refusal
+-- counts: of a table; of a version that isn't lawful; of a level without parts; of their
+-- compactions.
+abbrev pub IsLoadedWhole : KeyOrder → ShortKeys → State → List (ℕ × List ℕ) → ℕ → Settings →
+    Result (List Answer) Fault → Type 0
+IsLoadedWhole cmp short_keys v loaded level s =
+    IsThen (IsLawfulTables cmp v loaded) (λ tables.
+    IsThen (AreLevelParts cmp v level) (λ parts answer.
+    answer ≡ parts_result cmp short_keys v loaded s (manifest_of v) parts))
+
+-- the same with tables in a folder: first all of them are read, by level and in version order
+abbrev pub IsVersionWhole : KeyOrder → ShortKeys → Files → State → ℕ → Settings →
+    Result (List Answer) Fault → Type 0
+IsVersionWhole cmp short_keys files v level s =
+    IsThen (IsLoaded (IsFileIn files) (file_numbers cmp v))
+    (λ loaded. IsLoadedWhole cmp short_keys v loaded level s)
+
+-- ---- its step
+
+-- The step of answers whose edits together are this one: all outputs in order, and the files that
+-- the edit deletes. The number of the manifest is the version's next file.
+abbrev pub whole_step : State → List Answer → Edit → StepView
+whole_step v answers e = record {
+  outputs = table_sizes (tables_of answers);
+  deleted = e.deleted;
+  manifest = manifest_of v;
+  edit = edit_bytes e;
+}
+
+-- the step of answers: their edits, one after the other, read as one edit
+abbrev pub IsWholeStep : State → List Answer → Result StepView Fault → Type 0
+IsWholeStep v answers step = (e : Edit) × IsEdit (edits_of answers) e
+    × (step ≡ Ok (whole_step v answers e))
+
+-- what the compaction of a level of a version answers
+abbrev pub IsWholeCompacted : KeyOrder → ShortKeys → Files → State → ℕ → Settings →
+    Result StepView Fault → Type 0
+IsWholeCompacted cmp short_keys files v level s =
+    IsThen (IsVersionWhole cmp short_keys files v level s) (IsWholeStep v)

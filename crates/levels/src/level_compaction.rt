@@ -1,0 +1,180 @@
+//! The compaction of a whole level.
+
+ghost use Rattle.std.specs.Prelude.{◌≡◌, ◌<◌, ◌^◌, length, codes, unwrap_or, Some, Ok};
+ghost use Rattle.edit.specs.Version.{IsState};
+ghost use Rattle.folder.specs.Calls.{Files, Tells};
+ghost use Rattle.folder.specs.Manifest.{order_name};
+ghost use Rattle.folder.specs.Names.{current_text};
+ghost use Rattle.folder.specs.OpenAnswer.{FolderAnswers, IfCurrent, IsOkOnlyIfCurrent, IsOpened};
+ghost use Rattle.folder.specs.Orders.{order_cmp, order_short_keys};
+ghost use Rattle.folder.specs.ReadsAs.{IsFileIn};
+ghost use Rattle.folder.specs.Reports.{ReportsDevice};
+ghost use Rattle.folder.specs.declared.order.Order.{Order};
+ghost use Rattle.install.specs.FolderChange.{change_of};
+ghost use Rattle.store.specs.OrderView.{order_by, order_view};
+ghost use Rattle.store.specs.Step.{step_in};
+ghost use Rattle.levels.specs.PartsEnd.{IsPartsEnd};
+ghost use Rattle.levels.specs.WholeAnswer.{IsWholeCompacted};
+ghost use Rattle.levels.specs.WholeLeft.{IsWholeLeft};
+ghost use Rattle.levels.specs.WholeRuns.{IsWholeRun};
+
+use crate::level_parts::level_parts;
+use crate::part_writer::write_parts;
+use crate::ready_manifest::ready_manifest;
+use checks::{SharedComparator, Watch, Workers, test_version};
+use compact::passed_law;
+use edit::{Comparator, Fault, Version};
+use folder::{Bytewise, Order, ReadsTables, Shortlex, WritesTables};
+use install::install_manifest;
+use std::alloc::Global;
+use std::thread::Threads;
+use store::{CompactionStep, Settings, SyncedVersion, manifest_of};
+use table::table_reads_back;
+
+/// Compacts a whole `level` of what a folder was `opened` as: all its parts, and installs them by
+/// one manifest. Its number is the version's next file; the outputs have numbers after it.
+///
+/// All tables are tested first, by at most `memory` bytes of them at a time. Then each part is
+/// compacted by all workers, one after the other, and its tables are written. At the end the
+/// manifest is, and CURRENT names it.
+///
+/// The first that applies:
+///
+/// - what [`compact_opened`](store::compact_opened) is refused as before it picks inputs;
+/// - Level: the level is above 5; NoInput: it has no file;
+/// - of each part in turn: Numbers, if no number is left; SplitCount; what `compact::compact` is
+///   refused as, Workers first;
+/// - Changed, as [`compact_opened`](store::compact_opened) has it.
+///
+/// If a part is refused, the tables of those before it stay, and the version doesn't name them. The
+/// same holds if the device fails or memory runs out before CURRENT names the new manifest. So the
+/// folder reads as the version before, or as the one after all parts.
+pub fn compact_level<F: ReadsTables + WritesTables, W: Watch + Sync, R: Threads + Sync>(
+    workers: &Workers<'_, R, W>,
+    folder: &mut F,
+    opened: &SyncedVersion,
+    level: u64,
+    settings: &Settings<'_>,
+    memory: u64,
+) -> Result<CompactionStep, Fault>
+    // If the folder tells files that open as this version in this order: the step, or the first
+    // refusal in this order.
+    ensures answer { IfCurrent (F.tells folder.old) opened.now.manifest (λ files.
+        IsOpened (IsFileIn files) (Ok (opened.now.order, opened.now.version)) →
+        FolderAnswers step_in (F.failed folder.old) (F.failed folder.new) result
+        (IsWholeCompacted (order_cmp opened.now.order) (order_short_keys opened.now.order)
+        files opened.now.version level settings.now)) }
+    // What is left of the folder then: what it held; tables that no version names; or the edited
+    // version, which is lawful and answers each readable get as before.
+    ensures left { IfCurrent (F.tells folder.old) opened.now.manifest (λ files.
+        IsOpened (IsFileIn files) (Ok (opened.now.order, opened.now.version)) →
+        IsWholeLeft (order_view opened.now.order) opened.now.version files level settings.now
+        (change_of F.Folder folder.old folder.new) result) }
+    // Of any folder, also one that tells nothing: no call that writes was made; or the calls are
+    // those of one thread's answers for the parts of this level, in their order, up to one that
+    // fails. The tables of the inputs are what reads of the folder may give.
+    ensures runs { IsWholeRun F.Folder (order_name opened.now.order) (order_cmp opened.now.order)
+        (order_short_keys opened.now.order) opened.now.version level settings.now folder.old
+        folder.new result }
+    // If CURRENT is another one, the answer is never Ok.
+    ensures other { IsOkOnlyIfCurrent (F.tells folder.old) opened.now.manifest result }
+    ensures device { ReportsDevice F.Folder folder.old folder.new result }
+{
+    match opened.order {
+        Order::Bytewise => {
+            compact_version::<Bytewise, F, W, R>(workers, folder, opened, level, settings, memory)
+        }
+        Order::Shortlex => {
+            compact_version::<Shortlex, F, W, R>(workers, folder, opened, level, settings, memory)
+        }
+    }
+}
+
+/// Tests the version that a folder was `opened` as, compacts a whole `level` of it, and installs
+/// the outcome. The comparator's name has fewer than 2^32 bytes.
+fn compact_version<
+    C: SharedComparator + 'static,
+    F: ReadsTables + WritesTables,
+    W: Watch + Sync,
+    R: Threads + Sync,
+>(
+    workers: &Workers<'_, R, W>,
+    folder: &mut F,
+    opened: &SyncedVersion,
+    level: u64,
+    settings: &Settings<'_>,
+    memory: u64,
+) -> Result<CompactionStep, Fault>
+    requires { length C.name_bytes < 2 ^ 32 }
+    ensures answer { (files : Files) (order : Order) → Tells (F.tells folder.old) files →
+        files (codes "CURRENT") ≡ Some (current_text opened.now.manifest) →
+        IsOpened (IsFileIn files) (Ok (order, opened.now.version)) →
+        FolderAnswers step_in (F.failed folder.old) (F.failed folder.new) result
+        (IsWholeCompacted C.cmp C.short_keys files opened.now.version level settings.now) }
+    ensures left { (files : Files) (order : Order) → Tells (F.tells folder.old) files →
+        files (codes "CURRENT") ≡ Some (current_text opened.now.manifest) →
+        order_name order ≡ C.name_bytes →
+        IsOpened (IsFileIn files) (Ok (order, opened.now.version)) →
+        IsWholeLeft (order_by order C.cmp C.short_keys) opened.now.version files level
+        settings.now (change_of F.Folder folder.old folder.new) result }
+    ensures runs { IsWholeRun F.Folder C.name_bytes C.cmp C.short_keys opened.now.version level
+        settings.now folder.old folder.new result }
+    ensures other { IsOkOnlyIfCurrent (F.tells folder.old) opened.now.manifest result }
+    ensures device { ReportsDevice F.Folder folder.old folder.new result }
+{
+    table_reads_back::<C>();
+    passed_law::<C>();
+    small_logs(&opened.version);
+    version_is_state::<C>(workers.alloc(), &opened.version);
+    test_version::<C, F, W, R>(workers, folder, &opened.version, memory)?;
+    compact_parts::<C, F, W, R>(workers, folder, opened, level, settings)
+}
+
+/// Compacts a whole `level` of the version that a folder was `opened` as, and installs the outcome.
+fn compact_parts<
+    C: SharedComparator + 'static,
+    F: ReadsTables + WritesTables,
+    W: Watch + Sync,
+    R: Threads + Sync,
+>(
+    workers: &Workers<'_, R, W>,
+    folder: &mut F,
+    opened: &SyncedVersion,
+    level: u64,
+    settings: &Settings<'_>,
+) -> Result<CompactionStep, Fault>
+    requires { length C.name_bytes < 2 ^ 32 }
+    ensures end { IsPartsEnd F.Folder C.name_bytes C.cmp C.short_keys opened.now.version
+        opened.now.manifest level settings.now folder.old folder.new result }
+    ensures device { ReportsDevice F.Folder folder.old folder.new result }
+{
+    let alloc = workers.alloc();
+    let version = &opened.version;
+    let number = manifest_of(version);
+    let parts = level_parts::<C>(alloc, version, level)?;
+    let written = write_parts::<C, F, W, R>(workers, folder, version, &parts, settings)?;
+    let ready = ready_manifest::<C>(alloc, version, &written.edits)?;
+    install_manifest(alloc, folder, opened.manifest, number, &ready.bytes)?;
+    Ok(CompactionStep {
+        outputs: written.outputs,
+        deleted: ready.deleted,
+        manifest: number,
+        edit: ready.edit,
+    })
+}
+
+/// The log numbers of a version are below 2^64. A call does nothing.
+fn small_logs(version: &Version)
+    ensures { (unwrap_or version.now.log_number 0 < 2 ^ 64)
+        × (unwrap_or version.now.previous_log 0 < 2 ^ 64) }
+{
+    let _log = version.log_number().unwrap_or(0);
+    let _previous = version.previous_log().unwrap_or(0);
+}
+
+/// Files of a version rise by number, pointers by level, and levels are from 0 to 6.
+fn version_is_state<C: Comparator>(alloc: Global, version: &Version)
+    ensures { IsState version.now.pointers version.now.files }
+{
+    let _files = version.files::<C>(alloc, 0);
+}

@@ -1,0 +1,28 @@
+//! Compacts a whole level of a database folder: all its parts, by one installation.
+//!
+//! The finest parts of a level (`pick::finest_parts`) share no file and no user key, so that each
+//! can be compacted by itself. [`compact_level`] does so, one part after the other, each by all
+//! workers and from the same version:
+//!
+//! 1. The version is tested.
+//! 2. Each part is compacted, and its tables are written. Of it only its edit is kept, and the
+//!    numbers and lengths of its tables. So memory is bounded by the part that is worked.
+//! 3. The edits are joined into one. One manifest has it, and CURRENT names that.
+//!
+//! Nothing names the tables before that. So a crash at any moment leaves the version before, or the
+//! one after all parts.
+//!
+//! The outputs have the numbers that they have if each part is installed before the next one is
+//! compacted: between those of two parts is one number that nothing uses.
+//!
+//! Laws: [`edits_join`], [`joined_applies`].
+#![tactic(auto)]
+
+mod join_laws;
+mod level_compaction;
+mod level_parts;
+mod part_writer;
+mod ready_manifest;
+
+pub use join_laws::{edits_join, joined_applies};
+pub use level_compaction::compact_level;

@@ -44,8 +44,8 @@ _sedvokt() {
     dump) words='--text' ;;
     files) words='--json --no-lock' ;;
     compact)
-        words='--level --all --out --part --first-number --no-verify --no-logs --memory --workers'
-        words="$words --ranges --explain --snapshot --snapshots --block-size --file-size --clean"
+        words='--level --all --whole --out --part --first-number --no-verify --no-logs --memory'
+        words="$words --workers --ranges --explain --snapshot --snapshots --block-size --file-size --clean"
         words="$words --json"
         ;;
     clean) words='--dry-run' ;;

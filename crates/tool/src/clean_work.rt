@@ -29,7 +29,7 @@ fn folder_cleaned<R: Host>(rt: &R, telling: Telling<'_>) -> Result<(), Refusal> 
         return Ok(());
     }
     let opened = sync(rt, telling.folder, &mut folder, opened)?.into_opened();
-    remove_files(rt, telling.folder, &mut folder, &opened, &files, false)
+    remove_files(rt, telling.folder, &mut folder, &opened, files, false)
 }
 
 /// Prints the files of a folder that its version doesn't need. Nothing is written.
@@ -73,19 +73,18 @@ fn remove_files<R: SystemFiles + Print + AllocGlobal>(
     path: &str,
     folder: &mut Disk<'_, R>,
     opened: &Opened,
-    files: &UnneededFiles,
+    files: UnneededFiles,
     is_json: bool,
 ) -> Result<(), Refusal> {
-    let mut printer = RemovalPrinter {
-        rt,
-        is_json,
-        lengths: &files.lengths,
-        removed: 0,
-        refusal: None,
-    };
-    let removed = remove_obsolete(rt.alloc(), folder, opened, &files.names, &mut printer);
+    let mut printer = RemovalPrinter::new(rt, is_json);
+    let UnneededFiles { names, lengths } = files;
+    printer.begin(lengths);
+    let removed = remove_obsolete(rt.alloc(), folder, opened, &names, &mut printer);
     removed.map_err(|fault| refused_at(rt, path, folder, fault))?;
-    printer.end(path)
+    match printer.take_refusal(path) {
+        Some(refusal) => Err(refusal),
+        None => Ok(()),
+    }
 }
 
 /// Removes the files of a folder that the version after an installation doesn't need, if its tables
@@ -104,17 +103,17 @@ pub(crate) fn clean_installed<R: SystemFiles + Print + AllocGlobal>(
     }
     sizes_tested(rt, path, &opened)?;
     let files = unneeded_files(rt, path, &opened)?;
-    remove_files(rt, path, folder, &opened, &files, is_json)
+    remove_files(rt, path, folder, &opened, files, is_json)
 }
 
 /// Who prints files when they are removed.
 #[derive(Drop)]
-struct RemovalPrinter<'t, R> {
+pub(crate) struct RemovalPrinter<'t, R> {
     rt: &'t R,
     /// Whether the lines are JSON.
     is_json: bool,
     /// How many bytes each file has, in the order of their removal.
-    lengths: &'t [u64],
+    lengths: Vec<u64>,
     /// How many are removed.
     removed: usize,
     /// Why the first line that could not be printed was not.
@@ -122,13 +121,27 @@ struct RemovalPrinter<'t, R> {
 }
 
 impl<'t, R: AllocGlobal> RemovalPrinter<'t, R> {
-    /// Whether all lines could be printed.
-    fn end(self, folder: &str) -> Result<(), Refusal> {
-        let RemovalPrinter { rt, refusal, .. } = self;
-        match refusal {
-            Some(refusal) => Err(unprinted(rt.alloc(), folder, refusal)),
-            None => Ok(()),
+    /// Who prints files, as JSON if that is asked for. None is to be removed yet.
+    pub fn new(rt: &'t R, is_json: bool) -> RemovalPrinter<'t, R> {
+        RemovalPrinter {
+            rt,
+            is_json,
+            lengths: Vec::new(rt.alloc()),
+            removed: 0,
+            refusal: None,
         }
+    }
+
+    /// Files of these `lengths` will be removed.
+    pub fn begin(&mut self, lengths: Vec<u64>) {
+        self.lengths = lengths;
+        self.removed = 0;
+    }
+
+    /// The refusal if a line of the files of a `folder` could not be printed.
+    pub fn take_refusal(&mut self, folder: &str) -> Option<Refusal> {
+        let refusal = self.refusal.take()?;
+        Some(unprinted(self.rt.alloc(), folder, refusal))
     }
 }
 

@@ -111,21 +111,50 @@ fn are_filters_lost<R: SystemFiles + AllocGlobal>(
     out: &str,
     before: &Version,
 ) -> Result<bool, Fault> {
-    let alloc = rt.alloc();
     let mut outcome = Disk::new(rt, out);
-    let Some(bytes) = outcome.read(EDIT)? else {
+    let Some(edit) = outcome_edit(rt.alloc(), &mut outcome)? else {
         return Ok(false);
     };
-    let edit = VersionEdit::decode(alloc, &bytes)?;
-    let inputs = deleted_files(alloc, before, &edit.deleted)?;
-    if !have_filter(alloc, &mut Disk::new(rt, folder), &inputs)? {
-        return Ok(false);
+    if had_filter(rt, folder, before, &edit)? {
+        has_no_filter(rt.alloc(), &mut outcome, &edit)
+    } else {
+        Ok(false)
     }
+}
+
+/// The edit of an outcome, if it has one.
+pub(crate) fn outcome_edit<R: SystemFiles + AllocGlobal>(
+    alloc: Global,
+    outcome: &mut Disk<'_, R>,
+) -> Result<Option<VersionEdit>, Fault> {
+    match outcome.read(EDIT)? {
+        Some(bytes) => Ok(Some(VersionEdit::decode(alloc, &bytes)?)),
+        None => Ok(None),
+    }
+}
+
+/// Whether a file of a version that this edit deletes has a filter.
+fn had_filter<R: SystemFiles + AllocGlobal>(
+    rt: &R,
+    folder: &str,
+    before: &Version,
+    edit: &VersionEdit,
+) -> Result<bool, Fault> {
+    let inputs = deleted_files(rt.alloc(), before, &edit.deleted)?;
+    have_filter(rt.alloc(), &mut Disk::new(rt, folder), &inputs)
+}
+
+/// Whether no new file of an outcome, which this edit adds, has a filter.
+fn has_no_filter<R: SystemFiles + AllocGlobal>(
+    alloc: Global,
+    outcome: &mut Disk<'_, R>,
+    edit: &VersionEdit,
+) -> Result<bool, Fault> {
     let mut outputs = Vec::with_capacity(alloc, edit.added.len())?;
     for file in &edit.added {
         outputs.push(&file.meta)?;
     }
-    Ok(!have_filter(alloc, &mut outcome, &outputs)?)
+    Ok(!have_filter(alloc, outcome, &outputs)?)
 }
 
 /// Tells what was made of which files.

@@ -1,10 +1,12 @@
 //! The compaction of a folder, from its path to what is printed.
 
-use crate::clean_work::clean_installed;
+use crate::clean_printer::CleanPrinter;
+use crate::clean_work::{RemovalPrinter, clean_installed};
 use crate::compaction_notes::note_of;
 use crate::step_printer::{StepPrinter, explain, print_step, tell_step, unprinted};
 use crate::version_sync::sync;
 use folder::{Bytewise, Disk, Fault, FaultName, Opened, SystemFiles, Version};
+use levels::compact_level;
 use session::{
     Host, LAST_LEVEL, ProgressLine, Refusal, Telling, begin_in, bytes_of, compaction_explained,
     locked_to_change, refused_at, sizes_tested,
@@ -44,7 +46,8 @@ pub(crate) fn compact_folder<R: Host>(
         cleans: line.options.cleans,
     };
     let _lock = locked_to_change(rt, telling)?;
-    compact_levels(rt, telling, task).map_err(|refusal| {
+    let mut folder = Disk::new(rt, telling.folder);
+    compact_levels(rt, telling, &mut folder, task).map_err(|refusal| {
         compaction_explained(rt, telling, one_level(task.levels), task.settings, refusal)
     })
 }
@@ -52,29 +55,44 @@ pub(crate) fn compact_folder<R: Host>(
 /// The level, if one is asked for.
 fn one_level(levels: Levels) -> Option<u64> {
     match levels {
-        Levels::One(level) => Some(level),
+        Levels::One(level) | Levels::Whole(level) => Some(level),
         Levels::All => None,
     }
 }
 
+/// The same in a folder that is locked.
 fn compact_levels<R: Host>(
     rt: &R,
     telling: Telling<'_>,
+    folder: &mut Disk<'_, R>,
     task: CompactionTask<'_>,
 ) -> Result<(), Refusal> {
-    let mut folder = Disk::new(rt, telling.folder);
-    let opened = begin_in(rt, telling, &mut folder)?.opened;
+    let opened = begin_in(rt, telling, folder)?.opened;
     if !task.testing.is_skipped {
         sizes_tested(rt, telling.folder, &opened)?;
     }
-    if !is_due(rt.alloc(), &opened.version, task.levels)? {
-        return nothing_compacted(rt, telling, &mut folder, &opened, task);
+    if is_due(rt.alloc(), &opened.version, task.levels)? {
+        telling.tell_replaceable(rt, &opened.version, &[]);
+        let synced = sync(rt, telling.folder, folder, opened)?;
+        compact_synced(rt, telling, folder, synced, task)
+    } else {
+        nothing_compacted(rt, telling, folder, &opened, task)
     }
-    telling.tell_replaceable(rt, &opened.version, &[]);
-    let synced = sync(rt, telling.folder, &mut folder, opened)?;
+}
+
+/// Compacts what a folder was opened as, after it was synced.
+fn compact_synced<R: Host>(
+    rt: &R,
+    telling: Telling<'_>,
+    folder: &mut Disk<'_, R>,
+    synced: SyncedVersion,
+    task: CompactionTask<'_>,
+) -> Result<(), Refusal> {
     match task.levels {
-        Levels::One(level) => compact_one(rt, telling, &mut folder, &synced, level, task),
-        Levels::All => compact_all(rt, telling, &mut folder, synced, task),
+        Levels::One(level) | Levels::Whole(level) => {
+            compact_one(rt, telling, folder, &synced, level, task)
+        }
+        Levels::All => compact_all(rt, telling, folder, synced, task),
     }
 }
 
@@ -88,7 +106,9 @@ fn nothing_compacted<R: Host>(
     task: CompactionTask<'_>,
 ) -> Result<(), Refusal> {
     match task.levels {
-        Levels::One(level) => Err(refusal_of_level(rt, telling, folder, opened, level, task)),
+        Levels::One(level) | Levels::Whole(level) => {
+            Err(refusal_of_level(rt, telling, folder, opened, level, task))
+        }
         Levels::All => {
             let progress = ProgressLine::new(rt, telling);
             let (order, version) = (opened.order, &opened.version);
@@ -128,7 +148,7 @@ fn refusal_of_level<R: Host>(
 /// Whether there is a level to compact.
 fn is_due(alloc: Global, version: &Version, levels: Levels) -> Result<bool, Fault> {
     match levels {
-        Levels::One(level) => {
+        Levels::One(level) | Levels::Whole(level) => {
             if level >= LAST_LEVEL {
                 return Ok(false);
             }
@@ -204,8 +224,8 @@ fn explain_one<R: SystemFiles + Eprint + AllocGlobal>(
     );
 }
 
-/// Compacts a level of a folder, and installs the outcome. What the folder was opened as is tested
-/// before, if that is asked for; else nothing but the inputs is read.
+/// Compacts a level of a folder, or all of it, and installs the outcome. What the folder was opened
+/// as is tested before, if that is asked for; else nothing but the inputs is read.
 fn step_made<R: Host>(
     rt: &R,
     telling: Telling<'_>,
@@ -217,18 +237,18 @@ fn step_made<R: Host>(
     let progress = ProgressLine::new(rt, telling);
     let workers = checkers(rt, rt.alloc(), &progress);
     let settings = task.settings;
-    let made = if task.testing.is_skipped {
-        compact_inputs(&workers, folder, opened, level, settings)
-    } else {
-        let memory = bytes_of(task.testing.memory);
-        compact_opened(&workers, folder, opened, level, settings, memory)
+    let memory = bytes_of(task.testing.memory);
+    let made = match task.levels {
+        Levels::Whole(level) => compact_level(&workers, folder, opened, level, settings, memory),
+        _ if task.testing.is_skipped => compact_inputs(&workers, folder, opened, level, settings),
+        _ => compact_opened(&workers, folder, opened, level, settings, memory),
     };
     progress.erase();
     made.map_err(|fault| refused_at(rt, telling.folder, folder, fault))
 }
 
 /// Compacts the first level that has a file, again and again, until all files are at the bottom.
-/// Each step is printed when it is installed.
+/// Each step is printed when it is installed, and each file when it is removed.
 fn compact_all<R: Host>(
     rt: &R,
     telling: Telling<'_>,
@@ -239,7 +259,15 @@ fn compact_all<R: Host>(
     let progress = ProgressLine::new(rt, telling);
     let (order, version) = (opened.order, &opened.version);
     let mut steps = StepPrinter::new(rt, telling, &progress, order, version, task)?;
-    let end = descended(rt, folder, opened, task, &mut steps);
+    let end = if task.cleans {
+        let removals = RemovalPrinter::new(rt, task.is_json);
+        let mut printer = CleanPrinter::new(rt, telling.folder, steps, removals);
+        let end = cleaned(rt, folder, opened, task, &mut printer);
+        steps = printer.into_steps();
+        end
+    } else {
+        descended(rt, folder, opened, task, &mut steps)
+    };
     progress.erase();
     match end {
         Ok(_) => steps.end(),
@@ -275,6 +303,38 @@ fn descended<R: Host>(
             settings,
             memory,
             steps,
+        )
+    }
+}
+
+/// The same, with the files removed after each step that the version doesn't need.
+fn cleaned<R: Host>(
+    rt: &R,
+    folder: &mut Disk<'_, R>,
+    opened: SyncedVersion,
+    task: CompactionTask<'_>,
+    printer: &mut CleanPrinter<'_, R>,
+) -> Result<DescentEnd, Fault> {
+    let progress = printer.progress();
+    let alloc = rt.alloc();
+    let settings = task.settings;
+    if task.testing.is_skipped {
+        store::compact_and_clean(
+            &checkers(rt, alloc, progress),
+            folder,
+            opened,
+            settings,
+            printer,
+        )
+    } else {
+        let memory = bytes_of(task.testing.memory);
+        store::compact_all_and_clean(
+            &checkers(rt, alloc, progress),
+            folder,
+            opened,
+            settings,
+            memory,
+            printer,
         )
     }
 }

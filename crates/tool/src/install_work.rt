@@ -8,8 +8,8 @@ use crate::version_sync::sync;
 use adoption::{AdoptionEnd, Comparison, install_outcome};
 use folder::Disk;
 use session::{
-    Host, ProgressLine, Refusal, Telling, begin_in, bytes_of, explained, locked_to_change,
-    refused_at, sizes_tested, tell_time,
+    Beginning, Host, ProgressLine, Refusal, Telling, begin_in, bytes_of, explained,
+    locked_to_change, refused_at, sizes_tested, tell_time,
 };
 use store::{CompactionStep, SyncedVersion, checkers};
 use usage::{InstallLine, Levels};
@@ -21,30 +21,54 @@ pub(crate) fn install_compaction<R: Host>(
     telling: Telling<'_>,
     line: &InstallLine<'_>,
 ) -> Result<(), Refusal> {
-    let path = telling.folder;
     let _lock = locked_to_change(rt, telling)?;
     let begun = telling.begin(rt);
-    let mut folder = Disk::new(rt, path);
-    let opened = opened_to_install(rt, telling, &mut folder).map_err(|refusal| explained(
-        rt, telling, refusal,
-    ))?;
-    let end = outcome_installed(&*rt, telling, &*line, folder, &opened);
-    let step = end.step.map_err(|refusal| {
-        outcome_explained(rt, telling, line, opened.order, refusal)
-    })?;
-    tell_time(rt, "install", begun);
+    let mut folder = Disk::new(rt, telling.folder);
+    match opened_to_install(rt, telling, &mut folder) {
+        Ok(opened) => install_in(&*rt, telling, &*line, folder, &opened, begun),
+        Err(refusal) => Err(explained(rt, telling, refusal)),
+    }
+}
+
+/// Installs an outcome in what a folder was opened as, and prints what was installed.
+fn install_in<'x, R: Host>(
+    rt: &'x R,
+    telling: Telling<'x>,
+    line: &'x InstallLine<'x>,
+    folder: Disk<'x, R>,
+    opened: &SyncedVersion,
+    begun: Option<Beginning>,
+) -> Result<(), Refusal> {
+    let InstallationEnd { mut folder, step } = outcome_installed(rt, telling, line, folder, opened);
+    match step {
+        Ok(step) => {
+            tell_time(rt, "install", begun);
+            tell_installed(rt, telling, line, &mut folder, opened, &step)
+        }
+        Err(refusal) => Err(outcome_explained(rt, telling, line, opened, refusal)),
+    }
+}
+
+/// Prints what was installed, and removes files after it if that is asked for.
+fn tell_installed<R: Host>(
+    rt: &R,
+    telling: Telling<'_>,
+    line: &InstallLine<'_>,
+    folder: &mut Disk<'_, R>,
+    opened: &SyncedVersion,
+    step: &CompactionStep,
+) -> Result<(), Refusal> {
     let loses_filters = loses_filters(rt, telling, line.out, &opened.version);
-    print_step_lines(rt, &step).map_err(|refusal| {
-        unprinted(rt.alloc(), path, Levels::One(0), refusal)
-    })?;
+    if let Err(refusal) = print_step_lines(rt, step) {
+        return Err(unprinted(rt.alloc(), telling.folder, Levels::One(0), refusal));
+    }
     if loses_filters {
         tell_no_filters(rt, telling);
     }
-    let mut folder = end.folder;
-    if line.cleans {
-        clean_installed(rt, path, &mut folder, &opened.version, false)?;
+    if !line.cleans {
+        return Ok(());
     }
-    Ok(())
+    clean_installed(rt, telling.folder, folder, &opened.version, false)
 }
 
 /// A folder after an installation, and what was installed.

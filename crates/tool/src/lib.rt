@@ -6,6 +6,7 @@
 //! error.
 #![tactic(auto)]
 
+mod clean_printer;
 mod clean_work;
 mod compaction_notes;
 mod compaction_work;

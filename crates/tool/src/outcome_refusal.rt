@@ -1,25 +1,29 @@
 //! What is told if the outcome of a compaction is refused.
 
-use folder::{Disk, FaultName, Order};
+use crate::compaction_notes::outcome_edit;
+use folder::{Disk, Fault, FaultName, Order, VersionEdit};
 use session::{
-    Detail, Host, Refusal, RefusalText, RefusedFile, Telling, Words, compaction_explained, of_file,
-    path_in, refused_outcome, told,
+    Detail, Host, Refusal, RefusalText, RefusedFile, Telling, Words, compaction_explained,
+    deleted_files, of_file, path_in, refused_outcome, told,
 };
 use std::alloc::Global;
-use store::EDIT;
+use store::{EDIT, SyncedVersion, manifest_of};
 use usage::{InstallLine, Settings};
 
 /// What to do about an outcome.
 const REMEDY: &str = "make the outcome again";
 
-/// The refusal of an outcome for a folder with this order, with what is told of it. That is the
+/// What to do about an outcome whose numbers were given away since.
+const NUMBER_REMEDY: &str = "make the outcome again with a --first-number above it";
+
+/// The refusal of an outcome for what a folder was `opened` as, with what is told of it. That is the
 /// first file of the outcome that is refused, else the first one of the folder. The name is told
 /// before they are read.
 pub(crate) fn outcome_explained<'a, R: Host>(
     rt: &'a R,
     telling: Telling<'_>,
     line: &InstallLine<'a>,
-    order: Order,
+    opened: &SyncedVersion,
     refusal: Refusal,
 ) -> Refusal {
     let name = refusal.fault.name;
@@ -28,12 +32,80 @@ pub(crate) fn outcome_explained<'a, R: Host>(
     }
     let mut refusal = refusal;
     refusal.tell_name(rt);
-    let mut out = Disk::new(rt, line.out);
-    if let Ok(Some(file)) = refused_outcome(rt.alloc(), &mut out, order, EDIT, name)
-        && file.fault.name == name
-    {
-        return refusal.telling(file_refusal(rt.alloc(), line.out, &file));
+    match outcome_file(rt, line.out, opened.order, name) {
+        Some(file) => refusal.telling(file_refusal(rt.alloc(), line.out, &file)),
+        None if name == FaultName::Apply => refusal.telling(misfit(rt, line.out, opened)),
+        None => explained_of_folder(rt, telling, line, refusal),
     }
+}
+
+/// What is told of an outcome that doesn't fit what a folder was `opened` as.
+fn misfit<R: Host>(rt: &R, out: &str, opened: &SyncedVersion) -> Option<RefusalText> {
+    let alloc = rt.alloc();
+    let path = path_in(alloc, out, EDIT)?;
+    match number_taken(rt, out, opened) {
+        Ok(Some(number)) => {
+            let next = manifest_of(&opened.version);
+            let wrong = format!(in alloc;
+                "its table {number} is not above the next file number of the database, {next}"
+            );
+            RefusalText::new(alloc, path.as_str(), wrong, NUMBER_REMEDY)
+        }
+        _ => {
+            let words = Words {
+                wrong: "it does not fit the version of the database",
+                remedy: REMEDY,
+            };
+            told(alloc, path.as_str(), words)
+        }
+    }
+}
+
+/// The first new file of an outcome whose number isn't above the next file of a version that has
+/// all its inputs.
+fn number_taken<R: Host>(rt: &R, out: &str, opened: &SyncedVersion) -> Result<Option<u64>, Fault> {
+    let alloc = rt.alloc();
+    let Some(edit) = outcome_edit(alloc, &mut Disk::new(rt, out))? else {
+        return Ok(None);
+    };
+    let inputs = deleted_files(alloc, &opened.version, &edit.deleted)?;
+    if inputs.len() == edit.deleted.len() {
+        Ok(first_at_most(&edit, manifest_of(&opened.version)))
+    } else {
+        Ok(None)
+    }
+}
+
+/// The number of the first new file of an edit that isn't above this one.
+fn first_at_most(edit: &VersionEdit, next: u64) -> Option<u64> {
+    for file in &edit.added {
+        if file.meta.number <= next {
+            return Some(file.meta.number);
+        }
+    }
+    None
+}
+
+/// The first file of an outcome that is refused, if that is by this name.
+fn outcome_file<R: Host>(rt: &R, out: &str, order: Order, name: FaultName) -> Option<RefusedFile> {
+    let mut outcome = Disk::new(rt, out);
+    let found = refused_outcome(rt.alloc(), &mut outcome, order, EDIT, name);
+    let file = found.ok()??;
+    if file.fault.name == name {
+        Some(file)
+    } else {
+        None
+    }
+}
+
+/// The refusal of an outcome none of whose files is refused, with what is told of it.
+fn explained_of_folder<'a, R: Host>(
+    rt: &'a R,
+    telling: Telling<'_>,
+    line: &InstallLine<'a>,
+    refusal: Refusal,
+) -> Refusal {
+    let name = refusal.fault.name;
     let settings = Settings {
         snapshots: line.snapshots,
         ..Settings::default()
@@ -56,24 +128,15 @@ fn is_of_no_file(name: FaultName) -> bool {
 /// What is told of an outcome each of whose files by itself is accepted. None if it isn't refused
 /// by this name.
 fn outcome_refusal(alloc: Global, out: &str, name: FaultName) -> Option<RefusalText> {
-    match name {
-        FaultName::Apply => {
-            let words = Words {
-                wrong: "it does not fit the version of the database",
-                remedy: REMEDY,
-            };
-            told(alloc, path_in(alloc, out, EDIT)?.as_str(), words)
-        }
-        FaultName::Lawless => {
-            let words = Words {
-                wrong: "its tables do not have what a compaction keeps, or do not go with those \
-                    of the database",
-                remedy: REMEDY,
-            };
-            told(alloc, out, words)
-        }
-        _ => None,
+    if name != FaultName::Lawless {
+        return None;
     }
+    let words = Words {
+        wrong: "its tables do not have what a compaction keeps, or do not go with those of the \
+            database",
+        remedy: REMEDY,
+    };
+    told(alloc, out, words)
 }
 
 /// What is told of a refused file of an outcome.

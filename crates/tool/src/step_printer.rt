@@ -1,6 +1,5 @@
 //! What is printed and told of the steps of a compaction.
 
-use crate::clean_work::clean_installed;
 use crate::compaction_notes::{CompactionNote, note_of, tell_made, tell_no_step, version_total};
 use crate::compaction_work::CompactionTask;
 use crate::work_left::work_left;
@@ -17,7 +16,7 @@ use std::time::Clock;
 use store::{CompactionStep, InstallWatch, bottom};
 use usage::Levels;
 
-/// Who prints the steps of a compaction of all levels, and has files removed after each.
+/// Who prints the steps of a compaction of all levels.
 #[derive(Drop)]
 pub(crate) struct StepPrinter<'t, R> {
     rt: &'t R,
@@ -29,8 +28,6 @@ pub(crate) struct StepPrinter<'t, R> {
     file_size: u64,
     /// Whether the lines are JSON.
     is_json: bool,
-    /// Whether files that the version doesn't need are removed after each step.
-    cleans: bool,
     /// The level to which all files go.
     bottom: u64,
     /// All files before the first step.
@@ -43,7 +40,7 @@ pub(crate) struct StepPrinter<'t, R> {
     done: u64,
     /// When the step began, if that is told.
     begun: Option<Beginning>,
-    /// Why the lines of a step could not be printed, or files could not be removed after it. No
+    /// Why the lines of a step could not be printed, or why it was refused to go on after it. No
     /// step comes after that one.
     refusal: Option<Refusal>,
 }
@@ -52,6 +49,11 @@ impl<'t, R> StepPrinter<'t, R> {
     /// The line of progress of the steps.
     pub fn progress(&self) -> &'t ProgressLine<'t, R> {
         self.progress
+    }
+
+    /// No step comes after the last one, for this reason.
+    pub fn refuse(&mut self, refusal: Refusal) {
+        self.refusal = Some(refusal);
     }
 }
 
@@ -73,7 +75,6 @@ impl<'t, R: Eprint + Clock + AllocGlobal> StepPrinter<'t, R> {
             ranges: task.settings.ranges,
             file_size: task.settings.options.file_size,
             is_json: task.is_json,
-            cleans: task.cleans,
             bottom: bottom(rt.alloc(), version)?,
             before: version_total(rt.alloc(), version)?,
             after: None,
@@ -86,8 +87,8 @@ impl<'t, R: Eprint + Clock + AllocGlobal> StepPrinter<'t, R> {
         Ok(steps)
     }
 
-    /// Whether all steps could be printed, and files be removed after them. If so, it is told what
-    /// was made of all files.
+    /// Whether all steps could be printed, and none was the last one for a reason. If so, it is told
+    /// what was made of all files.
     pub fn end(self) -> Result<(), Refusal> {
         let (before, after) = (self.before, self.after);
         let (rt, telling) = (self.rt, self.telling);
@@ -136,7 +137,7 @@ impl<'t, R: SystemFiles + Eprint + Clock + AllocGlobal> StepPrinter<'t, R> {
     }
 
     /// Ends a step, and begins the next one.
-    fn end_step(&mut self, after: Option<&Version>) {
+    pub fn end_step(&mut self, after: Option<&Version>) {
         self.done = self.done.saturating_add(1);
         self.after = None;
         if let Some(after) = after {
@@ -147,17 +148,9 @@ impl<'t, R: SystemFiles + Eprint + Clock + AllocGlobal> StepPrinter<'t, R> {
     }
 }
 
-impl<'t, R: SystemFiles + Print + AllocGlobal> StepPrinter<'t, R> {
-    /// Removes files that the version after a step doesn't need, by a folder value of its own.
-    fn clean(&self, before: &Version) -> Result<(), Refusal> {
-        let path = self.telling.folder;
-        let mut folder = Disk::new(self.rt, path);
-        clean_installed(self.rt, path, &mut folder, before, self.is_json)
-    }
-}
-
-impl<'t, R: Host> InstallWatch for StepPrinter<'t, R> {
-    fn installed(
+impl<'t, R: SystemFiles + Print + Eprint + Clock + AllocGlobal> StepPrinter<'t, R> {
+    /// Prints the lines of a step, and tells of it. Whether they could be printed.
+    pub fn print_installed(
         &mut self,
         level: u64,
         step: &CompactionStep,
@@ -176,14 +169,23 @@ impl<'t, R: Host> InstallWatch for StepPrinter<'t, R> {
         if let Some(note) = note {
             self.has_told_filters = note.tell_filters(self.rt, self.telling);
         }
-        if self.cleans
-            && let Err(refusal) = self.clean(before)
-        {
-            self.refusal = Some(refusal);
-            return false;
-        }
-        self.end_step(after);
         true
+    }
+}
+
+impl<'t, R: Host> InstallWatch for StepPrinter<'t, R> {
+    fn installed(
+        &mut self,
+        level: u64,
+        step: &CompactionStep,
+        before: &Version,
+        after: Option<&Version>,
+    ) -> bool {
+        let goes_on = self.print_installed(level, step, before, after);
+        if goes_on {
+            self.end_step(after);
+        }
+        goes_on
     }
 }
 
@@ -228,7 +230,7 @@ pub(crate) fn tell_step<R: Eprint + Clock + AllocGlobal>(
 /// steps it is the last one.
 pub(crate) fn unprinted(alloc: Global, folder: &str, levels: Levels, refusal: Refusal) -> Refusal {
     let words = match levels {
-        Levels::One(_) => Words {
+        Levels::One(_) | Levels::Whole(_) => Words {
             wrong: "the new version is installed, but its lines could not be written",
             remedy: "manifest shows it",
         },

@@ -94,8 +94,8 @@ app_of_name Dump = command_app (codes "dump") (place_rule (codes "TABLE") ∷ fl
 app_of_name Files = command_app (codes "files") (place_rule (codes "DIR")
     ∷ flag_rule (codes "json") ∷ flag_rule (codes "no-lock") ∷ [])
 app_of_name Compact = command_app (codes "compact") (place_rule (codes "DIR")
-    ∷ number_rule (codes "level") ∷ flag_rule (codes "all") ∷ value_rule (codes "out")
-    ∷ number_rule (codes "part") ∷ number_rule (codes "first-number")
+    ∷ number_rule (codes "level") ∷ flag_rule (codes "all") ∷ flag_rule (codes "whole")
+    ∷ value_rule (codes "out") ∷ number_rule (codes "part") ∷ number_rule (codes "first-number")
     ∷ flag_rule (codes "no-verify") ∷ flag_rule (codes "no-logs") ∷ memory_rule
     ∷ number_rule (codes "workers") ∷ number_rule (codes "ranges") ∷ flag_rule (codes "explain")
     ∷ number_rule (codes "snapshot") ∷ value_rule (codes "snapshots")

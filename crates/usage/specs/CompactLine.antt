@@ -17,14 +17,21 @@ use Rattle.usage.specs.declared.requests.CompactWork.{CompactWork}
 use Rattle.usage.specs.declared.requests.CompactWork.TheVariants.{Installed, Written}
 use Rattle.usage.specs.declared.requests.InstallLine.{InstallLine}
 use Rattle.usage.specs.declared.requests.Levels.{Levels}
-use Rattle.usage.specs.declared.requests.Levels.TheVariants.{One, All as AllLevels}
+use Rattle.usage.specs.declared.requests.Levels.TheVariants.{One, Whole, All as AllLevels}
 
--- the rows give this number of `--level`, or `--all`
+-- whether the rows give an option that a compaction of a whole level doesn't have
+abbrev pub excludes_whole : List Row → Bool
+excludes_whole rows = is_flagged (codes "no-verify") rows || is_flagged (codes "explain") rows
+
+-- the rows give this number of `--level`, with or without `--whole`, or `--all` without it
 abbrev pub HasLevels : Levels → List Row → Type 0
 HasLevels (One level) rows = IsNumberOf (one_of (codes "level") rows) (Some level)
-    × (is_flagged (codes "all") rows ≡ false)
+    × (is_flagged (codes "all") rows ≡ false) × (is_flagged (codes "whole") rows ≡ false)
+HasLevels (Whole level) rows = IsNumberOf (one_of (codes "level") rows) (Some level)
+    × (is_flagged (codes "all") rows ≡ false) × (is_flagged (codes "whole") rows ≡ true)
+    × (excludes_whole rows ≡ false)
 HasLevels AllLevels rows = IsNumberOf (one_of (codes "level") rows) None
-    × (is_flagged (codes "all") rows ≡ true)
+    × (is_flagged (codes "all") rows ≡ true) × (is_flagged (codes "whole") rows ≡ false)
 
 -- whether the rows give an option of a compaction that is installed
 abbrev pub gives_installed : List Row → Bool

@@ -4,7 +4,8 @@ ghost use Rattle.std.specs.Prelude.{◌≡◌, IfOk, IfSome, map};
 ghost use Rattle.clap.specs.Words.{found_of, rows_of};
 ghost use Rattle.usage.specs.CompactLine.{AreNumbers, HasCompact, HasInstall, HasLevels};
 ghost use Rattle.usage.specs.CompactLine.{HasOptions, HasSettings, HasSnapshots, HasWork};
-ghost use Rattle.usage.specs.CompactLine.{IsNumberList, gives_installed, gives_snapshots};
+ghost use Rattle.usage.specs.CompactLine.{IsNumberList, excludes_whole, gives_installed};
+ghost use Rattle.usage.specs.CompactLine.{gives_snapshots};
 
 use crate::requests::{CompactLine, CompactOptions, CompactWork, InstallLine, Levels, Usage};
 use crate::values::{
@@ -47,6 +48,7 @@ fn options_of<'a>(values: &ArgMatches<'a>) -> Result<CompactOptions<'a>, Unread>
 /// What is compacted, and where the outcome goes. `Rules` if one of these holds:
 ///
 /// - not exactly one of `--level` and `--all` is given;
+/// - `--whole` is given with `--all`, or with an option that a whole level doesn't have;
 /// - `--out` is given with an option of a compaction that is installed;
 /// - `--part` or `--first-number` is given without `--out`.
 fn work_of<'a>(values: &ArgMatches<'a>) -> Result<CompactWork<'a>, Unread>
@@ -81,11 +83,20 @@ fn levels_of(values: &ArgMatches<'_>) -> Result<Levels, Unread>
     ensures { IfOk result (λ levels. HasLevels levels (rows_of (found_of values.now))) }
 {
     let level = number_given(values, "level")?;
-    match (level, is_flagged(values, "all")) {
-        (Some(level), false) => Ok(Levels::One(level)),
-        (None, true) => Ok(Levels::All),
+    let (is_all, is_whole) = (is_flagged(values, "all"), is_flagged(values, "whole"));
+    match (level, is_all, is_whole) {
+        (Some(level), false, false) => Ok(Levels::One(level)),
+        (Some(level), false, true) if !excludes_whole(values) => Ok(Levels::Whole(level)),
+        (None, true, false) => Ok(Levels::All),
         _ => Err(Unread::Rules),
     }
+}
+
+/// Whether an option is given that a compaction of a whole level doesn't have.
+fn excludes_whole(values: &ArgMatches<'_>) -> bool
+    ensures { result ≡ excludes_whole (rows_of (found_of values.now)) }
+{
+    is_flagged(values, "no-verify") || is_flagged(values, "explain")
 }
 
 /// The settings of a compaction. A number that isn't given has its default.

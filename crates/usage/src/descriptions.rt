@@ -339,6 +339,7 @@ pub(crate) const COMPACT: Description<'static> = Description {
 manifest that is installed.
 
 Examples: sedvokt compact DIR --level 0 --explain
+          sedvokt compact DIR --level 1 --whole
           sedvokt compact DIR --all --snapshots 900,1151 --clean
           sedvokt compact DIR --level 0 --out OUT",
     arguments: &[
@@ -349,6 +350,12 @@ Examples: sedvokt compact DIR --level 0 --explain
             "All levels: each that has files, from 0 down, again\n\
                 and again until all files are at one level: the\n\
                 deepest that has files, or level 1",
+        ),
+        Argument::Flag(
+            "whole",
+            "With --level: all files of the level, in parts that\n\
+                share no user key, one after the other, with one\n\
+                manifest for all of them",
         ),
         Argument::Value(
             "out",
@@ -408,6 +415,12 @@ Examples: sedvokt compact DIR --level 0 --explain
     ],
     rules: &[
         Rule::One("levels", &["level", "all"]),
+        Rule::AtMostOne("whole or all", &["whole", "all"]),
+        Rule::AtMostOne("whole or out", &["whole", "out"]),
+        Rule::AtMostOne("whole or part", &["whole", "part"]),
+        Rule::AtMostOne("whole or number", &["whole", "first-number"]),
+        Rule::AtMostOne("whole or account", &["whole", "explain"]),
+        Rule::AtMostOne("whole or trust", &["whole", "no-verify"]),
         Rule::AtMostOne("out or all", &["out", "all"]),
         Rule::AtMostOne("out or clean", &["out", "clean"]),
         Rule::AtMostOne("out or account", &["out", "explain"]),

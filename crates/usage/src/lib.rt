@@ -17,7 +17,7 @@
 //!     manifest DIR [--text] [--json] [--no-logs] [--no-lock]
 //!     dump TABLE [--text]
 //!     files DIR [--json] [--no-lock]
-//!     compact DIR (--level N | --all) [options]
+//!     compact DIR (--level N [--whole] | --all) [options]
 //!     compact DIR --level N --out OUT [--part P] [--first-number K] [options]
 //!     clean DIR [--dry-run]
 //!     job DIR --level N [--parts]

@@ -332,6 +332,8 @@ pub struct Testing {
 pub enum Levels {
     /// This level, once.
     One(u64),
+    /// All files of this level, with one manifest.
+    Whole(u64),
     /// Each level from 0 down, until all files are at the deepest level that has any.
     All,
 }

@@ -79,6 +79,32 @@ static void check(void) {
   printf("missing: level %d, number %d\n", (int)missing.level, (int)missing.number);
 }
 
+/* The index has one key, the user key u. */
+static void part(void) {
+  sedvokt_input it = input();
+  uint8_t bytes[4];
+  uint64_t lengths[4];
+  sedvokt_keys_size size = {9, 9};
+  /* A table that isn't checked must not be asked. */
+  if (sedvokt_check_table(SEDVOKT_BYTEWISE, keys, sizeof keys, table, table_len, &it)) {
+    printf("boundaries: 99\nboundaries without room: 99\nboundaries of one range: 99\n");
+    printf("boundaries of no range: 99\n");
+    return;
+  }
+#define PART(want, room)                                                                         \
+  sedvokt_boundaries(SEDVOKT_BYTEWISE, keys, sizeof keys, table, table_len, &it, 1, want, bytes, \
+                     room, lengths, 4, &size)
+  uint32_t code = PART(2, sizeof bytes);
+  printf("boundaries: %u, %s\n", code,
+         size.keys == 1 && size.bytes == 1 && lengths[0] == 1 && bytes[0] == 'u' ? "u" : "others");
+  size.bytes = 9;
+  code = PART(2, 0);
+  printf("boundaries without room: %u, %s\n", code, size.bytes == 1 ? "its size" : "another");
+  code = PART(1, sizeof bytes);
+  printf("boundaries of one range: %u, %d keys\n", code, (int)size.keys);
+  printf("boundaries of no range: %u\n", PART(0, sizeof bytes));
+}
+
 /* Both entries are kept if sequence 3 stays readable; none is if 4 and later ones do. */
 static void merge(void) {
   static const uint8_t wanted[] = {'u', 0, 4, 0, 0, 0, 0, 0, 0, 'u', 1, 2, 0, 0, 0, 0, 0, 0, 'x'};
@@ -189,6 +215,7 @@ int main(int argc, char **argv) {
   close(file);
   if (argc == 2) check_in_threads();
   check();
+  part();
   merge();
   plan();
   put();

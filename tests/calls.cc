@@ -61,16 +61,25 @@ bool is(const sedvokt::buffer& given, std::string_view wanted) {
   return given.size() == wanted.size() && !std::memcmp(given.data(), wanted.data(), wanted.size());
 }
 
-// Both entries are kept if sequence 3 stays readable: from u on, and none below.
+// The index has one key, the user key u. Both entries are kept if sequence 3 stays readable: from u
+// on, and none below.
 void merge(const std::string& table) {
   sedvokt::request at = asked;
   at.oldest = 3;
   sedvokt::input inputs[] = {input_of(5, table.size())};
   if (!sedvokt::check_table(SEDVOKT_BYTEWISE, bytes(keys), bytes(table), inputs[0])) return;
-  const sedvokt::range ranges[] = {{false, true, {0, 0}, {0, 1}}, {true, false, {0, 1}, {0, 0}}};
+  sedvokt::user_keys chosen;
+  auto code =
+      sedvokt::boundaries(SEDVOKT_BYTEWISE, bytes(keys), bytes(table), inputs, 2, chosen).code();
+  std::printf("boundaries: %u, %s\n", code,
+              chosen.size() == 1 && is(chosen.bytes, "u") ? "u" : "others");
+  // They lie behind the keys.
+  const std::string all_keys = keys + "u";
+  sedvokt::range ranges[2];
+  if (!chosen.part(keys.size(), ranges)) return;
   sedvokt::run runs[2];
   sedvokt::parallel run(threads);
-  const auto code = run.merges(at, {}, bytes(keys), bytes(table), inputs, {}, ranges, runs).code();
+  code = run.merges(at, {}, bytes(all_keys), bytes(table), inputs, {}, ranges, runs).code();
   std::printf("merges: %u, %d and %d entries, %s\n", code,
               static_cast<int>(runs[0].entries.size()), static_cast<int>(runs[1].entries.size()),
               is(runs[1].bytes, keys + "x") && runs[1].entries[1].value == 1 ? "both" : "others");

@@ -100,6 +100,11 @@ typedef struct sedvokt_run_size {
   uint64_t bytes, entries, marks;
 } sedvokt_run_size;
 
+/* How much room user keys take: the bytes of all of them, and how many they are. */
+typedef struct sedvokt_keys_size {
+  uint64_t bytes, keys;
+} sedvokt_keys_size;
+
 /* Where the run of a range lies, in the bytes, lengths and marks that are lent. */
 typedef struct sedvokt_run {
   sedvokt_place bytes, lengths, marks;
@@ -134,13 +139,25 @@ uint32_t sedvokt_check_closed(uint32_t order, uint64_t level, const uint8_t *key
 uint32_t sedvokt_check_table(uint32_t order, const uint8_t *keys, size_t keys_len,
                              const uint8_t *tables, size_t tables_len, sedvokt_input *input);
 
+/* Chooses boundaries for at most `want` ranges: fewer than `want` user keys of the tables' indexes,
+   at even places of a sample of these. They rise. Range i is then from boundary i - 1, if there is
+   one, to boundary i, if there is one. `bytes` begins with their bytes, one behind the other, and
+   `lengths` with the length of each. *size is how much room that takes, also if the answer is ROOM,
+   and then nothing else has changed. 34 Comparator; 5 SplitCount unless `want` is 1 to 4,096.
+   What you have to keep is what sedvokt_merge asks of its inputs, tables and keys. */
+uint32_t sedvokt_boundaries(uint32_t order, const uint8_t *keys, size_t keys_len,
+                            const uint8_t *tables, size_t tables_len,
+                            const sedvokt_input *inputs, size_t inputs_len, uint64_t want,
+                            uint8_t *bytes, size_t bytes_len,
+                            uint64_t *lengths, size_t lengths_len, sedvokt_keys_size *size);
+
 /* Merges the inputs in a range: `bytes`, `lengths` and `marks` begin with its run then. *size is how
    much room that takes, also if the answer is ROOM, and then nothing else has changed. `deeper` and
    the refusals of the request are as for sedvokt_check_request; 22 Duplicate if the range has one
    user key and sequence twice.
    What you have to keep: sedvokt_check_table answered 0 to each input, with this order, and neither
    what it set nor any byte of the tables and the keys has changed since. Else the call may read
-   outside of what is lent. */
+   outside of what is lent. More bytes may lie behind the keys, as those of the bounds. */
 uint32_t sedvokt_merge(const sedvokt_request *request,
                        const uint64_t *snapshots, size_t snapshots_len,
                        const uint8_t *keys, size_t keys_len,

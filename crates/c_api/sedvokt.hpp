@@ -149,6 +149,50 @@ inline status check_table(uint32_t order, lent keys, lent tables, input& of) noe
   return sedvokt_check_table(order, keys.data(), keys.size(), tables.data(), tables.size(), &of);
 }
 
+/* User keys, one behind the other, and how long each is. */
+struct user_keys {
+  buffer bytes;
+  owned<uint64_t> lengths;
+
+  size_t size() const noexcept { return lengths.size(); }
+
+  /* Sets size() + 1 ranges, between the keys as boundaries, if the keys that are lent have `bytes`
+     from place `from` on. False: there is no place for so many ranges. */
+  bool part(uint64_t from, span<range> ranges) const noexcept {
+    if (ranges.size() <= size()) return false;
+    place key = {from, 0};
+    for (size_t at = 0; at <= size(); at++) {
+      range& here = ranges[at];
+      here.has_lower = at != 0;
+      here.has_upper = at != size();
+      here.lower = key;
+      key = {key.from + key.len, here.has_upper ? lengths[at] : 0};
+      here.upper = key;
+    }
+    return true;
+  }
+};
+
+/* sedvokt_boundaries, into `to`. The inputs are as for merge. */
+inline status boundaries(uint32_t order, lent keys, lent tables, span<const input> inputs,
+                         uint64_t want, user_keys& to) noexcept {
+  sedvokt_keys_size size = {4096, want < 4096 ? want : 4096};
+  uint32_t code = SEDVOKT_ROOM;
+  for (int tries = 0; tries < 2 && code == SEDVOKT_ROOM; tries++) {
+    if (!to.bytes.make_room(static_cast<size_t>(size.bytes)) ||
+        !to.lengths.make_room(static_cast<size_t>(size.keys)))
+      return SEDVOKT_MEMORY;
+    code = sedvokt_boundaries(order, keys.data(), keys.size(), tables.data(), tables.size(),
+                              inputs.data(), inputs.size(), want, to.bytes.room_data(),
+                              to.bytes.room(), to.lengths.room_data(), to.lengths.room(), &size);
+  }
+  if (code == SEDVOKT_DONE) {
+    to.bytes.has(size.bytes);
+    to.lengths.has(size.keys);
+  }
+  return code;
+}
+
 /* The run of a range: its entries one behind the other, each as its key and then its value; their
    lengths; and the marks. */
 struct run {

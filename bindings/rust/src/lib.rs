@@ -13,7 +13,7 @@ use std::error::Error;
 use std::fmt::{Display, Formatter};
 use std::num::NonZeroU32;
 
-pub use checked::{Checked, Run};
+pub use checked::{Boundaries, Checked, Run};
 pub use runs::{plan, Runs};
 pub use sys::{
     Counts, Entry, File, FilePlace, Input, Lengths, Mark, Numbers, Place, Planned, Range, Request,

@@ -116,6 +116,14 @@ pub struct RunSize {
     pub marks: u64,
 }
 
+/// How much room user keys take.
+#[repr(C)]
+#[derive(Clone, Copy, Debug, Default, PartialEq, Eq)]
+pub struct KeysSize {
+    pub bytes: u64,
+    pub keys: u64,
+}
+
 /// Where the run of a range lies, in the bytes, lengths and marks that are lent.
 #[repr(C)]
 #[derive(Clone, Copy, Debug, Default, PartialEq, Eq)]
@@ -167,6 +175,22 @@ extern "C" {
         tables: *const u8,
         tables_len: usize,
         input: *mut Input,
+    ) -> u32;
+
+    pub fn sedvokt_boundaries(
+        order: u32,
+        keys: *const u8,
+        keys_len: usize,
+        tables: *const u8,
+        tables_len: usize,
+        inputs: *const Input,
+        inputs_len: usize,
+        want: u64,
+        bytes: *mut u8,
+        bytes_len: usize,
+        lengths: *mut u64,
+        lengths_len: usize,
+        size: *mut KeysSize,
     ) -> u32;
 
     pub fn sedvokt_merge(

@@ -104,14 +104,17 @@ fn outputs_are_planned() {
     };
     let mut inputs = [input(5)];
     let checked = Checked::new(BYTEWISE, KEYS, TABLE, &mut inputs).unwrap();
+    // The index has one key, the user key u.
+    let boundaries = checked.boundaries(2).unwrap();
+    assert_eq!(
+        (&boundaries.bytes[..], &boundaries.lengths[..]),
+        (&b"u"[..], &[1][..])
+    );
+    let keys = [KEYS, &boundaries.bytes].concat();
+    let checked = checked.over(&keys).unwrap();
+    assert!(checked.over(&keys[1..]).is_err());
     let mut runs = Runs::default();
-    for (has_lower, has_upper) in [(false, true), (true, false)] {
-        let range = Range {
-            has_lower,
-            has_upper,
-            lower: place(0, 1),
-            upper: place(0, 1),
-        };
+    for range in boundaries.ranges(KEYS.len() as u64).unwrap() {
         runs.push(&checked.merge(&request, &[], &[], &range).unwrap())
             .unwrap();
     }

@@ -1,5 +1,5 @@
 -- A host that makes these calls, and one thread.
-use Rattle.std.proofs.Common.{◌≡◌, ℕ, suc, Bool, true, false, List, [], ◌∷◌, ◌++◌, map, take, drop, length, Some, Result, Ok, Err, refl, sym, ap, ◌∙◌, append_assoc, arith}
+use Rattle.std.proofs.Common.{◌≡◌, ℕ, suc, Bool, true, false, List, [], ◌∷◌, ◌++◌, map, take, drop, length, Some, Result, Ok, Err, refl, sym, ap, ◌∙◌, append_assoc}
 use Rattle.std.specs.Prelude.{nat_eq, nat_le, ◌&&◌, cond, if◌then◌else◌}
 use Rattle.std.specs.List.{list_all}
 use Rattle.std.specs.declared.cmp.Ordering.{Ordering}
@@ -37,7 +37,7 @@ use Rattle.c_api.specs.declared.run_arrays.EntryLengths.{EntryLengths}
 
 -- ---- what is read back
 
-take_front : (a b : List ℕ) → take (length a) (a ++ b) ≡ a
+pub take_front : (a b : List ℕ) → take (length a) (a ++ b) ≡ a
 take_front [] b = refl
 take_front (x ∷ a) b = ap (λ (l : List ℕ). x ∷ l) (take_front a b)
 
@@ -45,7 +45,7 @@ drop_front : (a b : List ℕ) → drop (length a) (a ++ b) ≡ b
 drop_front [] b = refl
 drop_front (x ∷ a) b = drop_front a b
 
-abbrev told_lengths : List ℕ → List ℕ → EntryLengths
+abbrev pub told_lengths : List ℕ → List ℕ → EntryLengths
 told_lengths k v = record { key = length k; value = length v }
 
 abbrev told_entry : List ℕ → List ℕ → Entry
@@ -56,7 +56,7 @@ entry_back k v rest =
     ap (λ (x : List ℕ). told_entry x (take (length v) (drop (length k) (k ++ (v ++ rest))))) (take_front k (v ++ rest))
     ∙ ap (λ (x : List ℕ). told_entry k x) (ap (take (length v)) (drop_front k (v ++ rest)) ∙ take_front v rest)
 
-behind_back : (k v rest : List ℕ) → behind_entry (k ++ (v ++ rest)) (told_lengths k v) ≡ rest
+pub behind_back : (k v rest : List ℕ) → behind_entry (k ++ (v ++ rest)) (told_lengths k v) ≡ rest
 behind_back k v rest = ap (drop (length v)) (drop_front k (v ++ rest)) ∙ drop_front v rest
 
 entries_back : (es : List Entry) → entries_told (bytes_of es) (map lengths_of es) ≡ es
@@ -104,11 +104,11 @@ last_step true x f = refl
 last_step false x f = refl
 
 module _ (cmp : List ℕ → List ℕ → Ordering) (b : CompactionContext) where
-  abbrev by_range : Result (List (List Entry)) Fault → KeyRange → Result Run Fault
+  abbrev pub by_range : Result (List (List Entry)) Fault → KeyRange → Result Run Fault
   by_range read range = read >>= λ entries. range_run cmp b entries range
 
   -- the runs of all ranges
-  abbrev by_ranges : Result (List (List Entry)) Fault → List KeyRange → Result (List Run) Fault
+  abbrev pub by_ranges : Result (List (List Entry)) Fault → List KeyRange → Result (List Run) Fault
   by_ranges read [] = Ok []
   by_ranges read (range ∷ ranges) = by_range read range >>= λ run. by_ranges read ranges >>= λ runs. Ok (run ∷ runs)
 
@@ -121,7 +121,7 @@ module _ (cmp : List ℕ → List ℕ → Ordering) (b : CompactionContext) wher
       ap (λ (rest : Result (List Run) Fault). range_run cmp b inputs range >>= λ run. rest >>= λ runs. Ok (run ∷ runs)) (each_merged inputs ranges)
       ∙ step (are_distinct (entries_in cmp range (merged cmp inputs))) (list_all are_distinct (parts inputs ranges)) (run_of cmp b (entries_in cmp range (merged cmp inputs))) (map (run_of cmp b) (parts inputs ranges))
 
-  all_merged : RangesCompose cmp → (inputs : List (List Entry)) (boundaries : List (List ℕ)) → IsSplit cmp boundaries → by_ranges (Ok inputs) (ranges_of boundaries) ≡ runs_reading cmp b boundaries inputs
+  pub all_merged : RangesCompose cmp → (inputs : List (List Entry)) (boundaries : List (List ℕ)) → IsSplit cmp boundaries → by_ranges (Ok inputs) (ranges_of boundaries) ≡ runs_reading cmp b boundaries inputs
   all_merged compose inputs boundaries split =
       each_merged inputs (ranges_of boundaries)
       ∙ ap (λ (d : Bool). unless_twice d (runs_of cmp b boundaries (merged cmp inputs))) (compose.refused inputs boundaries split)
@@ -133,12 +133,12 @@ module _ (cmp : List ℕ → List ℕ → Ordering) (b : CompactionContext) wher
     pub is : read ≡ Ok entries
     pub runs_are : by_ranges (Ok entries) (ranges_of boundaries) ≡ Ok runs
 
-  read_runs : (read : Result (List (List Entry)) Fault) (boundaries : List (List ℕ)) (runs : List Run) → by_ranges read (ranges_of boundaries) ≡ Ok runs → ReadRuns read boundaries runs
+  pub read_runs : (read : Result (List (List Entry)) Fault) (boundaries : List (List ℕ)) (runs : List Run) → by_ranges read (ranges_of boundaries) ≡ Ok runs → ReadRuns read boundaries runs
   read_runs (Ok entries) boundaries runs h = record { entries = entries; is = refl; runs_are = h }
   read_runs (Err e) [] runs h = absurd cc
   read_runs (Err e) (k ∷ ks) runs h = absurd cc
 
-  refused_runs : {D : Type 0} (k : List Entry → Result D Fault) → RangesCompose cmp → (read : Result (List (List Entry)) Fault) (boundaries : List (List ℕ)) (e : Fault) → IsSplit cmp boundaries
+  pub refused_runs : {D : Type 0} (k : List Entry → Result D Fault) → RangesCompose cmp → (read : Result (List (List Entry)) Fault) (boundaries : List (List ℕ)) (e : Fault) → IsSplit cmp boundaries
       → by_ranges read (ranges_of boundaries) ≡ Err e → (read >>= λ lists. (union_reading cmp lists >>= k)) ≡ Err e
   refused_runs k compose (Ok entries) boundaries e split h =
       let same : runs_reading cmp b boundaries entries ≡ Err e = sym (all_merged compose entries boundaries split) ∙ h in
@@ -160,7 +160,7 @@ united true mg f k runs h = record { distinct = refl; runs_are = cc; goes_on = r
 united false mg f k runs h = absurd cc
 
 -- the merges of a request
-merges_are : (cmp : List ℕ → List ℕ → Ordering) (m : AskedMerge) (ranges : List KeyRange) → by_ranges cmp (context_at cmp m) (inputs_result m cmp) ranges ≡ merges_reading cmp m ranges
+pub merges_are : (cmp : List ℕ → List ℕ → Ordering) (m : AskedMerge) (ranges : List KeyRange) → by_ranges cmp (context_at cmp m) (inputs_result m cmp) ranges ≡ merges_reading cmp m ranges
 merges_are cmp m [] = refl
 merges_are cmp m (range ∷ ranges) =
     ap (λ (rest : Result (List Run) Fault). range_reading cmp m range >>= λ run. rest >>= λ runs. Ok (run ∷ runs)) (merges_are cmp m ranges)
@@ -193,6 +193,9 @@ module _ (cmp : List ℕ → List ℕ → Ordering) (short_keys : ShortKeys) (m 
 
   pub host_tested : (e : Fault) → request_result m cmp ≡ Err e → one_thread cmp short_keys whole ≡ Err e
   host_tested e h = ap behind (result_is ∙ h)
+
+  pub host_unread : request_result m cmp ≡ Ok tt → (e : Fault) → inputs_result m cmp ≡ Err e → one_thread cmp short_keys whole ≡ Err e
+  host_unread passed e h = ap behind (result_is ∙ passed) ∙ ap (λ (i : Result (List (List Entry)) Fault). i >>= λ lists. (union_reading cmp lists >>= ending)) h
 
   module _ (passed : request_result m cmp ≡ Ok tt) (boundaries : List (List ℕ)) (split : IsSplit cmp boundaries) where
     pub host_refused : RangesCompose cmp → (e : Fault) → merges_reading cmp m (ranges_of boundaries) ≡ Err e → one_thread cmp short_keys whole ≡ Err e

@@ -4,6 +4,9 @@ mod Tested
 mod RunLists
 mod CheckedInputs
 mod Merging
+mod KeyLists
 mod ToldRuns
 mod Planned
 mod Hosts
+mod HeldRuns
+mod HostWork

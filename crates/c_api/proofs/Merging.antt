@@ -1,5 +1,5 @@
 -- The steps of the merge of a range.
-use Rattle.std.proofs.Common.{◌≡◌, ℕ, Bool, true, false, ◌&&◌, List, [], ◌∷◌, map, Option, Some, None, Result, Ok, Err, refl, sym, ap, subst, ◌∙◌}
+use Rattle.std.proofs.Common.{◌≡◌, ℕ, Bool, true, false, ◌&&◌, List, [], ◌∷◌, map, Option, Some, None, Result, Ok, Err, refl, ap, subst}
 use Rattle.std.specs.Prelude.{if◌then◌else◌}
 use Rattle.std.specs.List.{AllByRecursion, list_all}
 use Rattle.std.specs.declared.cmp.Ordering.{Ordering}
@@ -12,7 +12,7 @@ use Rattle.reads.specs.EncodedEntry.{Entry}
 use Rattle.compact.specs.snapshots.Snapshots.{Snapshots}
 use Rattle.compact.specs.Request.{request_test}
 use Rattle.keep.specs.Marks.{CompactionContext}
-use Rattle.keep.specs.Runs.{Run, range_run}
+use Rattle.keep.specs.Runs.{range_run}
 use Rattle.ikey.proofs.Refusals.{unless_from}
 use Rattle.edit.proofs.Binds.{ok_is}
 use Rattle.keep.proofs.OnAnswers.{ok_not_err}
@@ -105,7 +105,7 @@ pub read_of : {P Q : Input → Type 0} (each : (i : Input) → P i → Q i) (is 
 read_of each [] h = tt
 read_of each (i ∷ is) h = (each i h.0, read_of each is h.1)
 
-answered : {A : Type 0} (lent : Bool) (r : Result A Fault) (n : ℕ) (x : A) → ◌≡◌ {A = Result A ℕ} (if lent then coded r else Err n) (Ok x) → ◌≡◌ {A = Result A Fault} r (Ok x)
+pub answered : {A : Type 0} (lent : Bool) (r : Result A Fault) (n : ℕ) (x : A) → ◌≡◌ {A = Result A ℕ} (if lent then coded r else Err n) (Ok x) → ◌≡◌ {A = Result A Fault} r (Ok x)
 answered true (Ok y) n x h = cc
 answered true (Err e) n x h = absurd cc
 answered false r n x h = absurd cc

@@ -1,5 +1,5 @@
 -- What the code holds, as definitions see it.
-use Rattle.std.specs.Prelude.{ℕ, List, [], ◌∷◌, Result, Ok, None}
+use Rattle.std.specs.Prelude.{◌≡◌, ℕ, List, [], ◌∷◌, Result, Ok, None}
 use Rattle.ikey.specs.Answers.{◌>>=◌}
 use Rattle.ikey.specs.fault.Fault.{Fault}
 use Rattle.ikey.specs.Comparator.{KeyOrder}
@@ -10,11 +10,15 @@ use Rattle.table.specs.declared.options.Options as declared
 use Rattle.pick.specs.declared.picked_inputs.Inputs.{Inputs}
 use Rattle.keep.specs.Marks.{CompactionContext, context_of}
 use Rattle.keep.specs.Readable.{floor_of, listed_of}
+use Rattle.c_api.specs.Boundaries.{AreBoundaries, AreChosen, AskedBoundaries, KeyArrays}
+use Rattle.c_api.specs.Boundaries.{arrays_of_keys, key_arrays}
 use Rattle.c_api.specs.Merges.{AskedMerge}
 use Rattle.c_api.specs.Plans.{AskedPlan}
 use Rattle.c_api.specs.Requests.{snapshots_of}
 use Rattle.c_api.specs.Runs.{Arrays, rooms}
 use Rattle.c_api.specs.ToldRuns.{behind_entry}
+use Rattle.c_api.specs.declared.boundary_calls.LentBoundaries.{LentBoundaries}
+use Rattle.c_api.specs.declared.key_arrays.KeyArrays as key_lists
 use Rattle.c_api.specs.declared.lent.Lent.{Lent}
 use Rattle.c_api.specs.declared.plan_calls.LentPlan.{LentPlan}
 use Rattle.c_api.specs.declared.run_arrays.EntryLengths.{EntryLengths}
@@ -67,3 +71,26 @@ abbrev pub entries_reading : declared.Options → List Entry → KeyOrder → Re
 entries_reading o entries cmp = do
   _ ← entries_test cmp None entries
   Ok (record { options = o; entries = entries })
+
+-- the boundaries that the code is asked for
+abbrev pub boundaries_in : LentBoundaries → AskedBoundaries
+boundaries_in l = record {
+  order = l.order;
+  keys = l.keys.now;
+  tables = l.tables.now;
+  inputs = l.inputs.now;
+  want = l.want;
+}
+
+-- the arrays that the code holds
+abbrev pub keys_in : key_lists.KeyArrays → KeyArrays
+keys_in a = key_arrays a.bytes.items a.lengths.items
+
+-- arrays tell chosen boundaries, in an order and in that of its number
+abbrev pub TellChosen : KeyOrder → AskedBoundaries → KeyArrays → Type 0
+TellChosen cmp m a =
+    (boundaries : List (List ℕ)) × AreChosen cmp m boundaries × (a ≡ arrays_of_keys boundaries)
+
+abbrev pub TellBoundaries : AskedBoundaries → KeyArrays → Type 0
+TellBoundaries m a =
+    (boundaries : List (List ℕ)) × AreBoundaries m boundaries × (a ≡ arrays_of_keys boundaries)

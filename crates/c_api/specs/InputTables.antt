@@ -1,6 +1,6 @@
 -- The tables of inputs that were checked.
-use Rattle.std.specs.Prelude.{◌≡◌, ℕ, Bool, List, [], Result, Ok, Err}
-use Rattle.std.specs.List.{AllByRecursion, list_all}
+use Rattle.std.specs.Prelude.{◌≡◌, ℕ, List, [], Result, Ok, Err}
+use Rattle.std.specs.List.{AllByRecursion}
 use Rattle.ikey.specs.Comparator.{KeyOrder}
 use Rattle.ikey.specs.fault.Fault.{Fault}
 use Rattle.reads.specs.EncodedEntry.{Entry}
@@ -9,7 +9,7 @@ use Rattle.table.specs.declared.tally.Tally.{Tally}
 use Rattle.compact.specs.Inputs.{input_reading}
 use Rattle.c_api.specs.Files.{meta_at}
 use Rattle.c_api.specs.Places.{part_at}
-use Rattle.c_api.specs.Tables.{counts_reading, is_input}
+use Rattle.c_api.specs.Tables.{counts_reading}
 use Rattle.c_api.specs.declared.input.Counts.{Counts}
 use Rattle.c_api.specs.declared.input.Input.{Input}
 

@@ -10,11 +10,13 @@ pub mod Rooms
 pub mod Ranges
 pub mod Runs
 pub mod ToldRuns
+pub mod Boundaries
 pub mod Merges
 pub mod Plans
 pub mod Outputs
 pub mod Edits
 pub mod Hosts
+pub mod HostWork
 -- serves proofs alone
 pub mod InputTables
 pub mod Held

@@ -6,9 +6,8 @@ use Rattle.ikey.specs.fault.Fault.{Fault}
 use Rattle.ikey.specs.Comparator.{KeyOrder}
 use Rattle.edit.specs.declared.meta.FileMeta.{FileMeta}
 use Rattle.reads.specs.EncodedEntry.{Entry}
-use Rattle.pick.specs.declared.picked_inputs.Inputs.{Inputs}
-use Rattle.keep.specs.Marks.{CompactionContext, context_of}
-use Rattle.keep.specs.Readable.{floor_of, listed_of, readable_of}
+use Rattle.keep.specs.Marks.{CompactionContext}
+use Rattle.keep.specs.Readable.{readable_of}
 use Rattle.keep.specs.Runs.{Run, range_run}
 use Rattle.compact.specs.Inputs.{inputs_reading}
 use Rattle.compact.specs.snapshots.Snapshots.{Snapshots}
@@ -18,12 +17,10 @@ use Rattle.c_api.specs.Orders.{by_order}
 use Rattle.c_api.specs.Places.{part_at}
 use Rattle.c_api.specs.Ranges.{is_range, range_in}
 use Rattle.c_api.specs.Requests.{files_of, grandparents_of, input_file, request_reading}
-use Rattle.c_api.specs.Requests.{snapshots_of}
 use Rattle.c_api.specs.Tables.{is_input, table_answer}
 use Rattle.c_api.specs.declared.code.TheConstants.{MISUSE}
 use Rattle.c_api.specs.declared.file.File.{File}
 use Rattle.c_api.specs.declared.input.Input.{Input}
-use Rattle.c_api.specs.declared.lent.Lent.{Lent}
 use Rattle.c_api.specs.declared.request.HostRequest.{HostRequest}
 use Rattle.c_api.specs.declared.user_range.UserRange.{UserRange}
 

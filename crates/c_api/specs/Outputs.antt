@@ -1,11 +1,10 @@
 -- The bytes of one output.
-use Rattle.std.specs.Prelude.{ℕ, Bool, ◌&&◌, if◌then◌else◌, List, map, None, Result, Ok, Err}
+use Rattle.std.specs.Prelude.{ℕ, Bool, ◌&&◌, if◌then◌else◌, List, map, None, Result, Err}
 use Rattle.std.specs.List.{list_all}
 use Rattle.ikey.specs.Answers.{◌>>=◌}
 use Rattle.ikey.specs.fault.Fault.{Fault}
 use Rattle.ikey.specs.fault.FaultName.TheVariants.{Empty, Options}
 use Rattle.ikey.specs.Comparator.{KeyOrder, ShortKeys}
-use Rattle.table.specs.BuilderView.{TableBuilding}
 use Rattle.table.specs.EncodedEntry.{Entry}
 use Rattle.table.specs.EntryTests.{entries_test, is_some_list}
 use Rattle.table.specs.Options.{are_in_limits}

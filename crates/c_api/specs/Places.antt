@@ -1,5 +1,5 @@
 -- Places in what is lent.
-use Rattle.std.specs.Prelude.{ℕ, ◌-◌, nat_le, Bool, ◌&&◌, List, length, take, drop}
+use Rattle.std.specs.Prelude.{◌-◌, nat_le, Bool, ◌&&◌, List, length, take, drop}
 use Rattle.c_api.specs.declared.place.Place.{Place}
 
 -- whether all of a place lies within items

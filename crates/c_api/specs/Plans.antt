@@ -22,7 +22,6 @@ use Rattle.c_api.specs.Runs.{Arrays}
 use Rattle.c_api.specs.ToldRuns.{is_run, run_at}
 use Rattle.c_api.specs.declared.code.TheConstants.{MISUSE}
 use Rattle.c_api.specs.declared.file.File.{File}
-use Rattle.c_api.specs.declared.plan_calls.LentPlan.{LentPlan}
 use Rattle.c_api.specs.declared.plan_calls.PlannedOutput.{PlannedOutput}
 use Rattle.c_api.specs.declared.request.HostRequest.{HostRequest}
 use Rattle.c_api.specs.declared.run_places.RunPlaces.{RunPlaces}

@@ -1,6 +1,6 @@
 -- The host's request, as a compaction's request.
 use Rattle.std.specs.Prelude.{ℕ, ◌+◌, nat_eq, nat_le, Bool, ◌&&◌, if◌then◌else◌, List, [], ◌∷◌, map}
-use Rattle.std.specs.Prelude.{filter, Option, None, Some, Result, Ok, Err}
+use Rattle.std.specs.Prelude.{filter, Option, None, Some, Result, Err}
 use Rattle.std.specs.Borrow.{Bor}
 use Rattle.std.specs.List.{list_all}
 use Rattle.ikey.specs.Answers.{fault}

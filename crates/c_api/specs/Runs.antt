@@ -6,7 +6,6 @@ use Rattle.keep.specs.Runs.{Run}
 use Rattle.keep.specs.declared.mark.Mark.{Mark}
 use Rattle.c_api.specs.declared.code.TheConstants.{MEMORY, ROOM}
 use Rattle.c_api.specs.declared.run_arrays.EntryLengths.{EntryLengths}
-use Rattle.c_api.specs.declared.run_arrays.RunArrays as declared
 use Rattle.c_api.specs.declared.run_arrays.RunMark.{RunMark}
 use Rattle.c_api.specs.declared.run_arrays.RunSize.{RunSize}
 

@@ -10,7 +10,6 @@ use Rattle.c_api.specs.Runs.{Arrays, rooms}
 use Rattle.c_api.specs.declared.place.Place.{Place}
 use Rattle.c_api.specs.declared.run_arrays.EntryLengths.{EntryLengths}
 use Rattle.c_api.specs.declared.run_arrays.RunMark.{RunMark}
-use Rattle.c_api.specs.declared.run_places.LentArrays.{LentArrays}
 use Rattle.c_api.specs.declared.run_places.RunPlaces.{RunPlaces}
 
 -- where the value lies, if bytes begin with an entry of these lengths

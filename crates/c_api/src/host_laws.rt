@@ -1,5 +1,6 @@
 //! The law of a host that makes these calls.
 
+ghost use Rattle.c_api.specs.HostWork.{CallsLaw};
 ghost use Rattle.c_api.specs.Hosts.{HostLaw};
 
 use ikey::Comparator;
@@ -9,4 +10,10 @@ use ikey::Comparator;
 /// thread's. A call does nothing.
 pub fn host_law<C: Comparator>()
     ensures { HostLaw C.cmp C.short_keys }
+{}
+
+/// The law that a host which keeps to what the calls ask has at the end what one thread answers: the
+/// tables and the edit, or the number of the first refusal. A call does nothing.
+pub fn calls_law<C: Comparator>()
+    ensures { CallsLaw C.cmp C.short_keys }
 {}

@@ -7,10 +7,13 @@ ghost use Rattle.ikey.specs.fault.FaultName.TheVariants.{Memory};
 ghost use Rattle.keep.specs.InRange.{entries_in};
 ghost use Rattle.keep.specs.MergedLists.{entries_of_lists};
 ghost use Rattle.reads.specs.Ranges.{key_range};
+ghost use Rattle.c_api.specs.Boundaries.{tables_read};
 ghost use Rattle.c_api.specs.Files.{has_keys};
 ghost use Rattle.c_api.specs.InputTables.{AreRead, bounds_at, entries_at, IsRead};
 ghost use Rattle.c_api.specs.Merges.{are_inputs};
+ghost use Rattle.c_api.specs.Places.{part_at};
 ghost use Rattle.c_api.specs.Tables.{is_input};
+ghost use Rattle.table.specs.TableContents.{contents_reading};
 
 use crate::file::key_at;
 use crate::input::Input;
@@ -43,12 +46,33 @@ fn input_table<'t, C: Comparator>(
 ) -> Result<SoundTable<'t, C>, Fault>
     requires lent { is_input keys.now tables.now input.now ≡ true }
     requires read { IsRead C.cmp keys.now tables.now input.now }
-    ensures { EqualOrMemory (λ table. table.entries) result
+    ensures entries { EqualOrMemory (λ table. table.entries) result
         (Ok (entries_at C.cmp keys.now tables.now input.now)) }
+    ensures contents { IfOk result
+        (λ table. contents_reading C.cmp (part_at tables.now input.now.table) ≡ Ok table) }
 {
     let bounds = bounds_of(alloc, keys, input)?;
     let bytes = part_of(tables, input.table);
     Ok(reopen_table::<C>(bytes, bounds))
+}
+
+/// The tables of inputs that were checked.
+pub(crate) fn input_tables<'t, C: Comparator>(
+    alloc: Global,
+    keys: &[u8],
+    tables: &'t [u8],
+    inputs: &[Input],
+) -> Result<Vec<SoundTable<'t, C>>, Fault>
+    requires lent { are_inputs keys.now tables.now inputs.now ≡ true }
+    requires read { AreRead C.cmp keys.now tables.now inputs.now }
+    ensures { EqualOrMemory (λ all. all.items) result
+        (Ok (tables_read C.cmp tables.now inputs.now)) }
+{
+    let mut all = Vec::with_capacity(alloc, inputs.len())?;
+    for input in inputs {
+        all.push(input_table::<C>(alloc, keys, tables, input)?)?;
+    }
+    Ok(all)
 }
 
 /// A cursor over each input's table that reaches into `range`, without the entries before the

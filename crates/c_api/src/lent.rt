@@ -28,7 +28,7 @@ pub(crate) struct Lent<'a> {
 }
 
 /// Whether all inputs lie in what is lent.
-fn are_inputs(keys: &[u8], tables: &[u8], inputs: &[Input]) -> bool
+pub(crate) fn are_inputs(keys: &[u8], tables: &[u8], inputs: &[Input]) -> bool
     ensures { result ≡ are_within keys.now tables.now inputs.now }
 {
     inputs.iter().all(|input| is_input(keys, tables, input))

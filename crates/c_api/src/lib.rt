@@ -17,9 +17,11 @@
 //! values are, and its marks. The host hands it back in its places ([`RunPlaces`]) of three arrays
 //! that hold the runs of all ranges (`run_at`).
 //!
-//! [`host_law`] is the law that a host which makes these calls gets what one thread answers.
+//! [`calls_law`] is the law that a host which makes these calls has at the end what one thread
+//! answers; [`host_law`] is the part of it that is about the merges of the ranges.
 #![tactic(auto)]
 
+mod boundary_calls;
 mod closed_calls;
 mod code;
 mod edit_calls;
@@ -27,6 +29,7 @@ mod file;
 mod host_laws;
 mod input;
 mod input_tables;
+mod key_arrays;
 mod lent;
 mod merge_calls;
 mod order;
@@ -46,12 +49,14 @@ mod tests;
 mod told_run;
 mod user_range;
 
+pub use boundary_calls::sedvokt_boundaries;
 pub use closed_calls::{FilePlace, sedvokt_check_closed};
 pub use code::{DONE, MEMORY, MISUSE, OPEN_INPUTS, ROOM};
 pub use edit_calls::{Numbers, sedvokt_edit};
 pub use file::File;
-pub use host_laws::host_law;
+pub use host_laws::{calls_law, host_law};
 pub use input::{Counts, Input};
+pub use key_arrays::KeysSize;
 pub use merge_calls::sedvokt_merge;
 pub use order::{BYTEWISE, SHORTLEX};
 pub use output_calls::{Entry, sedvokt_output};

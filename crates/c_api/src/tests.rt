@@ -1,10 +1,10 @@
 //! Each call once, with bytes that another program wrote.
 
 use crate::{
-    BYTEWISE, Counts, DONE, Entry, EntryLengths, File, FilePlace, HostRequest, Input, MISUSE,
-    Numbers, OPEN_INPUTS, Place, PlannedOutput, ROOM, RunMark, RunPlaces, RunSize, UserRange,
-    sedvokt_check_closed, sedvokt_check_request, sedvokt_check_table, sedvokt_edit, sedvokt_merge,
-    sedvokt_output, sedvokt_plan,
+    BYTEWISE, Counts, DONE, Entry, EntryLengths, File, FilePlace, HostRequest, Input, KeysSize,
+    MISUSE, Numbers, OPEN_INPUTS, Place, PlannedOutput, ROOM, RunMark, RunPlaces, RunSize,
+    UserRange, sedvokt_boundaries, sedvokt_check_closed, sedvokt_check_request,
+    sedvokt_check_table, sedvokt_edit, sedvokt_merge, sedvokt_output, sedvokt_plan,
 };
 use std::test::*;
 
@@ -92,6 +92,48 @@ fn requests_are_checked(rt: HostRuntime) {
     };
     let code = sedvokt_check_request(alloc, &deep, &[], KEYS, &inputs, &[]);
     assert_eq!(rt; code, 2);
+}
+
+#[test]
+fn boundaries_are_chosen(rt: HostRuntime) {
+    let alloc = rt.alloc();
+    let mut input = two_entries(TWO_ENTRIES.len() as u64);
+    let code = sedvokt_check_table(alloc, BYTEWISE, KEYS, TWO_ENTRIES, &mut input);
+    assert!(rt; code == DONE);
+    let inputs = [input];
+    let mut bytes = [7; 2];
+    let mut lengths = [7; 2];
+    let mut size = KeysSize { bytes: 7, keys: 7 };
+    // The index has one key, the user key u.
+    let code = sedvokt_boundaries(
+        alloc,
+        BYTEWISE,
+        KEYS,
+        TWO_ENTRIES,
+        &inputs,
+        2,
+        &mut bytes,
+        &mut lengths,
+        &mut size,
+    );
+    assert_eq!(rt; code, DONE);
+    assert_eq!(rt; size.bytes, 1);
+    assert_eq!(rt; size.keys, 1);
+    assert_eq!(rt; bytes[0], b'u');
+    assert_eq!(rt; bytes[1], 7);
+    assert_eq!(rt; lengths[0], 1);
+    let code = sedvokt_boundaries(
+        alloc,
+        BYTEWISE,
+        KEYS,
+        TWO_ENTRIES,
+        &inputs,
+        0,
+        &mut bytes,
+        &mut lengths,
+        &mut size,
+    );
+    assert_eq!(rt; code, 5);
 }
 
 /// The bytes of a run that keeps both entries.

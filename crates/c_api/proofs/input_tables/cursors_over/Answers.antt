@@ -1,4 +1,4 @@
-use Rattle.std.proofs.Common.{◌≡◌, ◌++◌, ◌∷◌, [], ℕ, List, map, take, get_or, sym, ap, ◌∙◌, arith}
+use Rattle.std.proofs.Common.{◌≡◌, ◌++◌, ℕ, List, map, take, get_or, sym, ap, ◌∙◌}
 use Rattle.edit.proofs.Binds.{ok_is}
 use Rattle.reads.specs.EncodedEntry.{Entry}
 use Rattle.reads.specs.Ranges.{KeyRange, key_range}
@@ -23,7 +23,7 @@ loop-input-preserved g c =
     let x : Input = get_or all i no_input in
     let lt = c.loop-input-test.true in
     let olds : List (List Entry) = map E (take i all) in
-    let own : E x ≡ c.in_ok-table.table.entries = ok_is (E x) c.in_ok-table.table.entries c.in_ok-table.ensures in
+    let own : E x ≡ c.in_ok-table.table.entries = ok_is (E x) c.in_ok-table.table.entries c.in_ok-table.ensures.entries in
     record {
       lent = (one_tested (is_input keys tables) all i no_input lt c.loop-input.invariant.lent).1;
       read = (one_of (IsRead cmp keys tables) all i no_input lt c.loop-input.invariant.read).1;

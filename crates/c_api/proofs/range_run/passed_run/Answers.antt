@@ -1,4 +1,4 @@
-use Rattle.std.proofs.Common.{◌≡◌, List, map, Result, sym, ap, subst, ◌∙◌}
+use Rattle.std.proofs.Common.{map, Result, sym, ap, subst, ◌∙◌}
 use Rattle.ikey.specs.Answers.{EqualOrMemory}
 use Rattle.ikey.specs.fault.Fault.{Fault}
 use Rattle.edit.proofs.Binds.{ok_is}

@@ -1,10 +1,9 @@
-use Rattle.std.proofs.Common.{◌≡◌, ℕ, List, map, Result, sym, ap, subst, ◌∙◌}
-use Rattle.std.specs.List.Sorted.{IsStrictlyIncreasing}
+use Rattle.std.proofs.Common.{◌≡◌, ℕ, List, map, Result, ap, subst, ◌∙◌}
 use Rattle.ikey.specs.Answers.{EqualOrMemory}
 use Rattle.ikey.specs.fault.Fault.{Fault}
 use Rattle.reads.specs.EncodedEntry.{Entry}
 use Rattle.reads.specs.Ranges.{KeyRange, key_range}
-use Rattle.keep.specs.Marks.{CompactionContext, context_of}
+use Rattle.keep.specs.Marks.{context_of}
 use Rattle.keep.specs.Readable.{floor_of, listed_of}
 use Rattle.keep.specs.Runs.{Run, range_run}
 use Rattle.keep.proofs.Reaching.{run_same}

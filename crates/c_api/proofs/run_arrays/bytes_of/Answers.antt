@@ -1,4 +1,4 @@
-use Rattle.std.proofs.Common.{◌≡◌, ◌<◌, ◌++◌, ℕ, List, Option, Some, length, sym, ap, ◌∙◌, arith}
+use Rattle.std.proofs.Common.{◌<◌, ◌++◌, ℕ, List, Option, Some, length, sym, ap, ◌∙◌, arith}
 use Rattle.reads.specs.EncodedEntry.{Entry}
 use Rattle.c_api.proofs.RunLists.{bytes_more}
 use Rattle.c_api.proofs.run_arrays.bytes_of.Goals as goal

@@ -1,9 +1,5 @@
-use Rattle.std.proofs.Common.{◌≡◌, ◌-◌, ◌≤◌, ℕ, List, length, get_or, sym, ap, ◌∙◌, arith}
-use Rattle.ikey.specs.fault.Fault.{Fault}
-use Rattle.keep.specs.Runs.{Run}
-use Rattle.c_api.specs.declared.run_arrays.EntryLengths.{EntryLengths}
-use Rattle.c_api.specs.declared.run_arrays.RunMark.{RunMark}
-use Rattle.c_api.proofs.ToldRuns.{few, front, next, no_mark, read_all, read_on}
+use Rattle.std.proofs.Common.{arith}
+use Rattle.c_api.proofs.ToldRuns.{few, front, next, read_on}
 use Rattle.c_api.proofs.told_run.told_run.Goals as goal
 
 pub overflow_sub-count : goal.overflow_sub-count

@@ -1,0 +1,18 @@
+use Rattle.std.proofs.Common.{◌≡◌, ◌<◌, ◌++◌, ◌∷◌, [], ℕ, List, length, sym, ap, ◌∙◌, arith}
+use Rattle.std.specs.Option.{option_map}
+use Rattle.std.specs.Prelude.{slice_get, Some}
+use Rattle.c_api.proofs.KeyLists.{keys_more}
+use Rattle.c_api.proofs.RunLists.{map_got}
+use Rattle.c_api.proofs.key_arrays.KeyArrays.of.Goals as goal
+
+pub loop-number-preserved : goal.loop-number-preserved
+loop-number-preserved g c =
+    let all : List (List ℕ) = c.args.split.now in
+    let i = c.loop-number.number in
+    let key : List ℕ = c.boundary-key.result.now in
+    let lt : i < length all = omega (arith, c.loop-number-test.true, c.len-number-end.ensures.number) in
+    let here : option_map length (slice_get all i) ≡ Some (length key) = ap (option_map length) c.boundary-key.ensures in
+    record {
+      bytes = c.in_ok-extend_from_slice.ensures.items ∙ ap (λ (bs : List ℕ). bs ++ key) c.loop-number.invariant.bytes ∙ sym (keys_more all i key lt c.boundary-key.ensures);
+      lengths = c.in_ok-push.ensures.items ∙ ap (λ (ls : List ℕ). ls ++ length key ∷ []) c.loop-number.invariant.lengths ∙ sym (map_got length all i [] (length key) lt here);
+    }

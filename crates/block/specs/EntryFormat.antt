@@ -16,6 +16,27 @@ length_at bytes =
     and_then (varint_reading (2 ^ 32) bytes)
     (λ x. Some (record { field = x.0; rest = drop x.1 bytes }))
 
+-- the lengths of an encoded entry
+pub record EntryLengths : Type 0 where
+  pub shared : ℕ
+  pub unshared : ℕ
+  pub value : ℕ
+
+-- the three lengths at the front of bytes
+abbrev pub lengths_at : List ℕ → Option (FieldReading EntryLengths)
+lengths_at bytes =
+    and_then (length_at bytes) (λ shared.
+    and_then (length_at shared.rest) (λ unshared.
+    and_then (length_at unshared.rest) (λ value.
+    Some (record {
+      field = record {
+        shared = shared.field;
+        unshared = unshared.field;
+        value = value.field;
+      };
+      rest = value.rest;
+    }))))
+
 -- the encoded entry of these lengths, if the bytes begin with the unshared bytes of its key and its
 -- value
 abbrev pub entry_of_lengths : ℕ → ℕ → ℕ → List ℕ → Option (FieldReading EncodedEntry)

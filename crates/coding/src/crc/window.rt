@@ -58,8 +58,14 @@ fn take_out(taken: &mut [u8; LEN], chunks: &[[u8; 16]])
         IsRegisterOf (take 266 taken.new)
         (register_after_bits register (bits_of (concat chunks.now))) }
 {
+    let (pairs, last) = chunks.as_chunks::<2>();
     let mut place = REACH;
-    for chunk in chunks {
+    for pair in pairs {
+        with_taken(&pair[0], taken, place).copy_to_slice(&mut taken[place..]);
+        with_taken(&pair[1], taken, place + 16).copy_to_slice(&mut taken[place + 16..]);
+        place += 32;
+    }
+    if let Some(chunk) = last.first() {
         with_taken(chunk, taken, place).copy_to_slice(&mut taken[place..]);
         place += 16;
     }

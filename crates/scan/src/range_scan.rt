@@ -39,7 +39,8 @@ pub(crate) struct RangeRows<'k> {
 /// Tells the wanted `rows` that the tables of the `standing` files have.
 ///
 /// It goes from range to range of the split, and reads the tables that one needs when it comes to
-/// it. They are held until no later range needs them. It only reads.
+/// it. They are held until no later range needs them. `held` are tables of the folder: those that
+/// the first range needs aren't read. It only reads.
 pub(crate) fn tell_ranges<
     C: SharedComparator + 'static,
     F: ReadsTables,
@@ -50,9 +51,11 @@ pub(crate) fn tell_ranges<
     folder: &mut F,
     standing: &[&FileMeta],
     split: &Split<C>,
+    held: HeldTables<C>,
     rows: RangeRows<'_>,
     taker: &mut T,
 ) -> Result<(), Fault>
+    requires { AreHeldBy C.cmp (F.tells folder.old) held }
     // If the folder tells files that hold these tables, and each is what the version states.
     ensures told { (files : Files) (next : Option ℕ) (tables : List NumberedContents) →
         Tells (F.tells folder.old) files →
@@ -70,7 +73,7 @@ pub(crate) fn tell_ranges<
     ensures device { ReportsDevice F.Folder folder.old folder.new result }
     ensures reads { OnlyReads F.Folder folder.old folder.new }
 {
-    let mut held = HeldTables::none(workers.alloc());
+    let mut held = held;
     let mut left = rows.limit;
     for number in 0..split.len() {
         let part = common_range::<C>(rows.range, split.range(number));

@@ -8,7 +8,7 @@ use Rattle.reads.proofs.Covers.{covers}
 use Rattle.reads.specs.Ranges.{key_range}
 use Rattle.checks.specs.HeldTables.{AreHeldBy}
 use Rattle.checks.proofs.FolderTests.{told_still}
-use Rattle.checks.proofs.HeldAnswers.{held_in, held_through, none_held}
+use Rattle.checks.proofs.HeldAnswers.{held_in, held_through}
 use Rattle.keep.specs.InRange.{entries_in}
 use Rattle.scan.specs.Counts.{AreAmountsCounted, capped_files}
 use Rattle.scan.specs.LevelCounts.{lists_of_levels}
@@ -30,7 +30,7 @@ loop-number-init g c =
       number = ap length is ∙ length-map (metas_of c.args.levels.now) capped_files ∙ length-map c.args.levels.now _;
       counted = λ files next tables told are.
           none_counted g.C.Comparator.cmp c.args.split.now c.args.last (lists_of_levels tables (metas_of c.args.levels.now)) (map capped_files (metas_of c.args.levels.now)) c.in_ok-amounts.amounts.items is;
-      held = subst (AreHeldBy g.C.Comparator.cmp (g.F.Folder.tells c.args.folder.now)) (sym c.none-held.ensures) (none_held g.C.Comparator.cmp (g.F.Folder.tells c.args.folder.now));
+      held = c.requires;
       reads = record { same = λ name held. (λ h. h, λ h. h); calls = refl };
       failures = refl;
     }

@@ -7,7 +7,7 @@ use Rattle.reads.specs.Ranges.{key_range}
 use Rattle.checks.specs.HeldTables.{AreHeldBy}
 use Rattle.checks.specs.RangeOrder.{common_of}
 use Rattle.checks.proofs.FolderTests.{told_still}
-use Rattle.checks.proofs.HeldAnswers.{held_in, held_through, none_held}
+use Rattle.checks.proofs.HeldAnswers.{held_in, held_through}
 use Rattle.scan.specs.EntryRows.{file_rows, rows_from}
 use Rattle.scan.specs.RowParts.{AreTelling, IsRowPart}
 use Rattle.scan.specs.declared.row_limit.RowLimit.{RowLimit}
@@ -28,7 +28,7 @@ loop-number-init g c = record {
       let taker = c.args.taker.now in
       let same : all ≡ all - 0 = omega arith in
       subst (λ (n : ℕ). IsRowPart (telling_by g.T.RowTaker.tells taker taker) (rows all) c.args.rows.limit (rows n) c.args.rows.limit true) same (none_told g.T.RowTaker.tells (rows all) taker taker c.args.rows.limit refl);
-  held = subst (AreHeldBy g.C.Comparator.cmp (g.F.Folder.tells c.args.folder.now)) (sym c.none-held.ensures) (none_held g.C.Comparator.cmp (g.F.Folder.tells c.args.folder.now));
+  held = c.requires;
   reads = record { same = λ name held. (λ h. h, λ h. h); calls = refl };
   failures = refl;
 }

@@ -12,7 +12,7 @@ returns-in-Bytewise-clause-rows g c files loaded tables all there sound =
     let v = c.args.opened.now.version in
     let tells = g.F.Folder.tells c.args.folder.now in
     let failed = g.F.Folder.failed in
-    let f = c.scan_unverified_by in
+    let f = c.scan_held in
     subst (λ (order : Order). IsScan (order_cmp order) v tables c.args.choice (telling_by g.T.RowTaker.tells c.args.taker.now f.new.taker) (counts_by (failed c.args.folder.now) (failed f.new.folder)) f.result) (sym c.in-Bytewise.is)
     (f.ensures.rows files loaded tables all
     (subst (λ (order : Order). IsLoaded tells (file_numbers (order_cmp order) v) (Ok loaded)) c.in-Bytewise.is there)
@@ -23,7 +23,7 @@ returns-in-Shortlex-clause-rows g c files loaded tables all there sound =
     let v = c.args.opened.now.version in
     let tells = g.F.Folder.tells c.args.folder.now in
     let failed = g.F.Folder.failed in
-    let f = c.scan_unverified_by-in-Shortlex in
+    let f = c.scan_held-in-Shortlex in
     subst (λ (order : Order). IsScan (order_cmp order) v tables c.args.choice (telling_by g.T.RowTaker.tells c.args.taker.now f.new.taker) (counts_by (failed c.args.folder.now) (failed f.new.folder)) f.result) (sym c.in-Shortlex.is)
     (f.ensures.rows files loaded tables all
     (subst (λ (order : Order). IsLoaded tells (file_numbers (order_cmp order) v) (Ok loaded)) c.in-Shortlex.is there)

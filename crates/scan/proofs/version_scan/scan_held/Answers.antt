@@ -13,7 +13,7 @@ use Rattle.scan.specs.RowParts.{AreScanned}
 use Rattle.scan.proofs.FileRows.{some_rows, version_rows}
 use Rattle.scan.proofs.ScanAnswers.{memory_handed, scan_of, tables_in}
 use Rattle.scan.proofs.Told.{handed_scanned, refused_first}
-use Rattle.scan.proofs.version_scan.scan_unverified_by.Goals as goal
+use Rattle.scan.proofs.version_scan.scan_held.Goals as goal
 
 abbrev now_of : Bor FileMeta → FileMeta
 now_of f = f.now

@@ -73,7 +73,7 @@ void merge(const std::string& table) {
       sedvokt::boundaries(SEDVOKT_BYTEWISE, bytes(keys), bytes(table), inputs, 2, chosen).code();
   std::printf("boundaries: %u, %s\n", code,
               chosen.size() == 1 && is(chosen.bytes, "u") ? "u" : "others");
-  // They lie behind the keys.
+  // They lie after the keys.
   const std::string all_keys = keys + "u";
   sedvokt::range ranges[2];
   if (!chosen.part(keys.size(), ranges)) return;

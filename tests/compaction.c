@@ -49,7 +49,7 @@ static sedvokt_range ranges[MOST_RANGES];
 static size_t ranges_len;
 static uint32_t answers[MOST_OUTPUTS];
 
-/* All runs, each behind the one before it, and the room that each gets for its merge. */
+/* All runs, each after the one before it, and the room that each gets for its merge. */
 static uint8_t bytes[2 * MOST_BYTES];
 static sedvokt_lengths lengths[2 * MOST_ENTRIES];
 static sedvokt_mark marks[MOST_ENTRIES];

@@ -172,7 +172,7 @@ def names_in(text):
 
 
 class Worked:
-    """The rows of the tests of `compact`, with what has to come of each: they were worked by hand."""
+    """The rows of the tests of `compact`, with what has to come of each, worked by hand."""
 
     def __init__(self):
         source = read(f"{FOLDER}/rows.rt").decode()
@@ -224,7 +224,8 @@ class Worked:
     def answer(self, row):
         """The line that has to come and the files, of which EDIT may be missing; or None if the
         row is about what a host does itself."""
-        refused = re.match(r"Answer::Refused\(FaultName::(\w+), (?:Some\((\d+)\)|None)", row["answer"])
+        refused = re.match(r"Answer::Refused\(FaultName::(\w+), (?:Some\((\d+)\)|None)",
+                           row["answer"])
         if refused:
             if refused[1] in ("Workers", "Numbers"):
                 return None
@@ -261,7 +262,8 @@ def of_mixed():
     for name, more in (("compacted", {}), ("listed", {"snapshots": [900, 1151]}),
                        ("from", {"oldest": 900})):
         asked = Asked(files=sorted(version.files, key=lambda it: (it[0], it[1])), inputs=inputs,
-                      last=version.numbers[4], first=28, log=version.numbers[2], closed=True, **more)
+                      last=version.numbers[4], first=28, log=version.numbers[2], closed=True,
+                       **more)
         yield f"mixed, {name}", asked, "1 outputs", {"000028.ldb": read(f"{folder}.{name}.ldb")}
 
 
@@ -360,7 +362,7 @@ def history(some, keys):
 
 
 def spread(some, entries, order):
-    """These in tables of the levels, so that what is newer lies above. A list of levels and tables."""
+    """These in tables of the levels, what is newer above: a list of levels and tables."""
     runs = some.randrange(1, 5)
     places = [(0, at) for at in range(runs)] + [(level, 0) for level in range(1, 5)]
     dealt = {it: [] for it in places}
@@ -455,7 +457,8 @@ def each_random(count, seed, program, sedvokt, told=print):
     done = same = 0
     at = seed
     while done < count:
-        with tempfile.TemporaryDirectory(dir="/dev/shm" if os.path.isdir("/dev/shm") else None) as it:
+        memory = "/dev/shm" if os.path.isdir("/dev/shm") else None
+        with tempfile.TemporaryDirectory(dir=memory) as it:
             answer = one_random(random.Random(at), program, sedvokt, it)
         if answer is not None:
             done += 1

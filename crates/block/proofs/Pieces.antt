@@ -8,6 +8,7 @@ use Rattle.coding.specs.Varint.{groups, varint, varint_reading}
 use Rattle.block.specs.EncodedEntry.{Entry, EncodedEntry, encoded_entry_bytes, key_after, entries_after, IsEncodedEntryAfter, AreEncodedEntries}
 use Rattle.coding.specs.Answers.{and_then}
 use Rattle.block.specs.EntryFormat.{FieldReading, length_at, entry_of_lengths, encoded_entry_at}
+use Rattle.block.specs.EntryLengths.{EntryLengths, lengths_at}
 use Rattle.block.specs.EntriesOfBytes.{entries_of_bytes, entries_of_encoded}
 use Rattle.coding.proofs.Varints.{varint_reading-varint, varint_reading-small, reads_varint, length-varint_pos}
 
@@ -73,6 +74,30 @@ front_entry_at-two (x ∷ []) long a b large byte some last = absurd (omega arit
 front_entry_at-two (x ∷ y ∷ []) long a b large byte some last = absurd (omega arith)
 front_entry_at-two (x ∷ y ∷ z ∷ []) long a b large byte some last = absurd (omega arith)
 front_entry_at-two (x ∷ y ∷ z ∷ w ∷ rest) long a b large byte some last = rw (length_at-small x (y ∷ z ∷ w ∷ rest) a, length_at-small y (z ∷ w ∷ rest) b, length_at-two z w rest large byte some last) refl
+
+-- the entry of three lengths and what is after them
+abbrev pub entry_at_lengths : FieldReading EntryLengths → Option (FieldReading EncodedEntry)
+entry_at_lengths x = entry_of_lengths x.field.shared x.field.unshared x.field.value x.rest
+
+lengths_by_value : (shared unshared : ℕ) (value : Option (FieldReading ℕ)) → and_then value (λ v. entry_of_lengths shared unshared v.field v.rest)
+    ≡ and_then (and_then value (λ v. found (record { shared = shared; unshared = unshared; value = v.field }) v.rest)) entry_at_lengths
+lengths_by_value shared unshared None = refl
+lengths_by_value shared unshared (Some v) = refl
+
+lengths_by_unshared : (shared : ℕ) (unshared : Option (FieldReading ℕ)) → and_then unshared (λ u. and_then (length_at u.rest) (λ v. entry_of_lengths shared u.field v.field v.rest))
+    ≡ and_then (and_then unshared (λ u. and_then (length_at u.rest) (λ v. found (record { shared = shared; unshared = u.field; value = v.field }) v.rest))) entry_at_lengths
+lengths_by_unshared shared None = refl
+lengths_by_unshared shared (Some u) = lengths_by_value shared u.field (length_at u.rest)
+
+lengths_by_shared : (shared : Option (FieldReading ℕ)) → and_then shared (λ s. and_then (length_at s.rest) (λ u. and_then (length_at u.rest) (λ v. entry_of_lengths s.field u.field v.field v.rest)))
+    ≡ and_then (and_then shared (λ s. and_then (length_at s.rest) (λ u. and_then (length_at u.rest) (λ v. found (record { shared = s.field; unshared = u.field; value = v.field }) v.rest)))) entry_at_lengths
+lengths_by_shared None = refl
+lengths_by_shared (Some s) = lengths_by_unshared s.field (length_at s.rest)
+
+-- the entry at the front is that of the lengths at the front
+pub encoded_entry_at-lengths : (bytes : List ℕ) → encoded_entry_at bytes ≡ and_then (lengths_at bytes) entry_at_lengths
+unfolding encoded_entry_at
+encoded_entry_at-lengths bytes = lengths_by_shared (length_at bytes)
 
 -- what is after the three lengths
 tail_at : List ℕ → List ℕ → List ℕ → List ℕ

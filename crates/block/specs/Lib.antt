@@ -10,6 +10,7 @@ pub mod CheckedBytes
 pub mod EntriesOfBytes
 pub mod BuilderState
 pub mod BlockParts
+pub mod EntryLengths
 pub mod FrontField
 pub mod CursorPlace
 pub mod FoldedLines

@@ -25,3 +25,15 @@ pub(crate) struct FrontLength<'a> {
     pub rest: &'a [u8],
     ghost fits: { length < 2 ^ 32 },
 }
+
+/// The three lengths of an entry at the front of bytes, and the bytes after them.
+#[derive(Clone, Copy)]
+pub(crate) struct FrontLengths<'a> {
+    pub shared: usize,
+    pub unshared: usize,
+    pub value: usize,
+    pub rest: &'a [u8],
+    ghost shared_fits: { shared < 2 ^ 32 },
+    ghost unshared_fits: { unshared < 2 ^ 32 },
+    ghost value_fits: { value < 2 ^ 32 },
+}

@@ -3,9 +3,10 @@
 ghost use Rattle.std.specs.Prelude.{◌≡◌, ◌<◌, ◌^◌};
 ghost use Rattle.std.specs.Option.{option_map};
 ghost use Rattle.block.specs.EntryFormat.{length_at, entry_of_lengths, encoded_entry_at};
-ghost use Rattle.block.specs.FrontField.{front_field};
+ghost use Rattle.block.specs.EntryLengths.{lengths_at};
+ghost use Rattle.block.specs.FrontField.{front_field, front_lengths};
 
-use crate::front::{FrontEntry, FrontLength};
+use crate::front::{FrontEntry, FrontLength, FrontLengths};
 use coding::read_u32_varint;
 
 /// The entry at the front of bytes, if there is one.
@@ -34,21 +35,33 @@ pub(crate) fn front_entry_at(bytes: &[u8]) -> Option<FrontEntry<'_>>
                 behind,
             )
         }
-        _ => front_entry_by_varints(bytes),
+        _ => {
+            let lengths = lengths_by_varints(bytes)?;
+            entry_of_lengths(
+                lengths.shared,
+                lengths.unshared,
+                lengths.value,
+                lengths.rest,
+            )
+        }
     }
 }
 
-/// The entry at the front of bytes, whose lengths may have several bytes.
+/// The lengths at the front of bytes, which may have several bytes each, and the bytes after them.
 #[cold]
 #[inline(never)]
-#[tactic(auto, unfolding(crate::specs::EntryFormat::encoded_entry_at))]
-fn front_entry_by_varints(bytes: &[u8]) -> Option<FrontEntry<'_>>
-    ensures { option_map front_field result ≡ encoded_entry_at bytes.now }
+fn lengths_by_varints(bytes: &[u8]) -> Option<FrontLengths<'_>>
+    ensures { option_map front_lengths result ≡ lengths_at bytes.now }
 {
     let shared = length_at(bytes)?;
     let unshared = length_at(shared.rest)?;
     let value = length_at(unshared.rest)?;
-    entry_of_lengths(shared.length, unshared.length, value.length, value.rest)
+    Some(FrontLengths {
+        shared: shared.length,
+        unshared: unshared.length,
+        value: value.length,
+        rest: value.rest,
+    })
 }
 
 /// The entry of these lengths, if `bytes` begin with the unshared bytes of its key and its value.

@@ -1,5 +1,5 @@
 -- Bytes that are taken out of a message, and added to those after them, leave the register as it is.
-use Rattle.std.proofs.Common.{◌≡◌, ℕ, zero, suc, ◌+◌, ◌-◌, ◌*◌, ◌/◌, ◌%◌, ◌^◌, ◌<◌, ◌≤◌, Bool, true, false, ◌&&◌, nat_eq, get_or, List, [], ◌∷◌, ◌++◌, length, take, drop, replicate, bit_xor, refl, sym, ap, ap₂, ◌∙◌, arith, append_assoc, append-nil, length-append, length-take-le, length-drop, take-append-drop, take-take, take-add, take_at, drop-drop, drop_at, pow_pos, pow-suc}
+use Rattle.std.proofs.Common.{◌≡◌, ℕ, zero, suc, ◌+◌, ◌-◌, ◌*◌, ◌/◌, ◌%◌, ◌^◌, ◌<◌, ◌≤◌, Bool, true, false, ◌&&◌, nat_eq, get_or, slice_get, None, Some, List, [], ◌∷◌, ◌++◌, length, take, drop, replicate, bit_xor, refl, sym, ap, ap₂, ◌∙◌, arith, append_assoc, append-nil, length-append, length-take-le, length-drop, take-append-drop, take-take, take-add, take_at, drop-drop, drop_at, pow_pos, pow-suc}
 use Rattle.std.proofs.lemmas.Bool.{and_parts, eqb-true}
 use Rattle.std.proofs.lemmas.List.{drop-append-le, drop-take, drop-replicate, length-replicate, replicate-append-replicate, take-append-le, take-replicate}
 use Rattle.std.proofs.lemmas.List.Edits.{take-paste}
@@ -7,6 +7,7 @@ use Rattle.std.proofs.lemmas.List.Folds.{concat-append}
 use Rattle.std.proofs.lemmas.Nat.{div_below, mod_below, xor_lt}
 use Rattle.std.proofs.lemmas.Simd.{length-zip2, put_chunk_is}
 use Rattle.std.specs.List.{AllByRecursion, concat}
+use Rattle.std.specs.Simd.{first_chunks}
 use lib.Bits.{xor_assoc, xor_comm, xor_zero_l, xor_zero_r, xor_self}
 use lib.Lanes.{zip2, put_chunk}
 use lib.Seq.{paste}
@@ -461,21 +462,84 @@ stored place n taken sum h s room =
     ∙ take_at (front ++ sum) (rest ++ post) (place + 16) count
 
 -- one chunk more is taken out
-pub out_more : (old taken new : List ℕ) (chunks : List (List ℕ)) (i place : ℕ) (d sum : List ℕ) → 266 ≤ place → place + 16 ≤ 1290 → length taken ≡ 1290
-    → i < length chunks → length (get_or chunks i d) ≡ 16
-    → sum ≡ chunk_sum the_lags (take place taken) (get_or chunks i d)
+pub out_more : (taken new chunk : List ℕ) (place : ℕ) (sum : List ℕ) → 266 ≤ place → place ≤ 1274 → length taken ≡ 1290
+    → length chunk ≡ 16 → sum ≡ chunk_sum the_lags (take place taken) chunk
     → new ≡ put_mid place (1290 - place) taken (put_chunk 0 (mid_of place (1290 - place) taken) sum)
-    → ((r : ℕ) → IsRegisterOf (take 266 old) r → IsRegisterOf (take place taken) (fed r (concat (take i chunks))))
-    → (r : ℕ) → IsRegisterOf (take 266 old) r → IsRegisterOf (take (place + 16) new) (fed r (concat (take (i + 1) chunks)))
-out_more old taken new chunks i place d sum far room len inside h sum_is new_is stands r first =
+    → (r : ℕ) → IsRegisterOf (take place taken) r → IsRegisterOf (take (place + 16) new) (fed r chunk)
+out_more taken new chunk place sum far room len h sum_is new_is r stands =
     let front = take place taken in
-    let chunk = get_or chunks i d in
     let count : length front ≡ place = length-take-le place taken (omega arith) in
     let long : 266 ≤ length front = omega arith in
     let sixteen : length sum ≡ 16 = ap length sum_is ∙ length-chunk_sum the_lags front chunk the_lags_within long h in
-    ap (register_of_taken the_lags) (ap (take (place + 16)) new_is ∙ stored place 1290 taken sum len sixteen room ∙ ap (λ t. front ++ t) sum_is)
-    ∙ stands_more (fed r (concat (take i chunks))) front chunk long h (stands r first)
-    ∙ ap (register_after_steps 2128) (chunks_next r chunks i d inside)
+    ap (register_of_taken the_lags) (ap (take (place + 16)) new_is ∙ stored place 1290 taken sum len sixteen (omega arith) ∙ ap (λ t. front ++ t) sum_is)
+    ∙ stands_more r front chunk long h stands
+
+-- two chunks are taken out
+both_of : (pair : List (List ℕ)) → length pair ≡ 2 → concat pair ≡ get_or pair 0 [] ++ get_or pair 1 []
+both_of [] h = absurd (omega arith)
+both_of (a ∷ []) h = absurd (omega arith)
+both_of (a ∷ b ∷ []) h = ap (λ t. a ++ t) (append-nil b)
+both_of (a ∷ b ∷ c ∷ more) h = absurd (omega arith)
+
+pub out_pair : (old middle new : List ℕ) (place : ℕ) (pair : List (List ℕ)) → length pair ≡ 2
+    → ((r : ℕ) → IsRegisterOf (take place old) r → IsRegisterOf (take (place + 16) middle) (fed r (get_or pair 0 [])))
+    → ((r : ℕ) → IsRegisterOf (take (place + 16) middle) r → IsRegisterOf (take (place + 16 + 16) new) (fed r (get_or pair 1 [])))
+    → (r : ℕ) → IsRegisterOf (take place old) r → IsRegisterOf (take (place + 32) new) (fed r (concat pair))
+out_pair old middle new place pair two first second r stands =
+    let far : place + 32 ≡ place + 16 + 16 = omega arith in
+    ap (λ n. register_of_taken the_lags (take n new)) far
+    ∙ second (fed r (get_or pair 0 [])) (first r stands)
+    ∙ ap (register_after_steps 2128)
+    (sym (fed_bytes-append r (get_or pair 0 []) (get_or pair 1 [])) ∙ ap (fed r) (sym (both_of pair two)))
+
+-- a pair of a list that is seen as pairs
+pair_at : (i k : ℕ) (chunks : List (List ℕ)) → i < k → get_or (first_chunks 2 k chunks) i [] ≡ take 2 (drop (2 * i) chunks)
+pair_at i zero chunks inside = absurd (omega arith)
+pair_at zero (suc k) chunks inside = refl
+pair_at (suc i) (suc k) chunks inside =
+    let count : 2 * suc i ≡ 2 + 2 * i = omega arith in
+    pair_at i k (drop 2 chunks) (omega arith)
+    ∙ ap (take 2) (drop-drop (2 * i) 2 chunks ∙ ap (λ n. drop n chunks) (sym count))
+
+-- a pair more is taken out
+pub pairs_more : (taken new : List ℕ) (chunks pair : List (List ℕ)) (i k place next : ℕ) (pairs : List (List (List ℕ)))
+    → pairs ≡ first_chunks 2 k chunks → pair ≡ get_or pairs i [] → i < k → next ≡ place + 32
+    → ((r : ℕ) → IsRegisterOf (take place taken) r → IsRegisterOf (take (place + 32) new) (fed r (concat pair)))
+    → (r : ℕ) → IsRegisterOf (take place taken) (fed r (concat (take (2 * i) chunks)))
+    → IsRegisterOf (take next new) (fed r (concat (take (2 * (i + 1)) chunks)))
+pairs_more taken new chunks pair i k place next pairs pairs_are pair_is inside next_is step r stands =
+    let done = concat (take (2 * i) chunks) in
+    let here : pair ≡ take 2 (drop (2 * i) chunks) =
+    pair_is ∙ ap (λ t. get_or t i []) pairs_are ∙ pair_at i k chunks inside in
+    let count : 2 * (i + 1) ≡ 2 * i + 2 = omega arith in
+    let more : concat (take (2 * (i + 1)) chunks) ≡ done ++ concat pair =
+    ap (λ n. concat (take n chunks)) count ∙ ap concat (take-add (2 * i) 2 chunks)
+    ∙ concat-append (take (2 * i) chunks) (take 2 (drop (2 * i) chunks))
+    ∙ ap (λ t. done ++ concat t) (sym here) in
+    ap (λ n. register_of_taken the_lags (take n new)) next_is
+    ∙ step (fed r done) stands
+    ∙ ap (register_after_steps 2128) (sym (fed_bytes-append r done (concat pair)) ∙ ap (fed r) (sym more))
+
+-- what is left after the pairs
+pub is_one : (last : List (List ℕ)) (chunk : List ℕ) → slice_get last 0 ≡ Some chunk → 1 ≤ length last
+is_one [] chunk h = absurd cc
+is_one (x ∷ more) chunk h = omega arith
+
+pub one_left : (last : List (List ℕ)) (chunk : List ℕ) → length last ≤ 1 → slice_get last 0 ≡ Some chunk → chunk ≡ concat last
+one_left [] chunk few h = absurd cc
+one_left (x ∷ []) chunk few h = let same : chunk ≡ x = cc in same ∙ sym (append-nil x)
+one_left (x ∷ y ∷ more) chunk few h = absurd (omega arith)
+
+pub none_left : (last : List (List ℕ)) → slice_get last 0 ≡ None → concat last ≡ []
+none_left [] h = refl
+none_left (x ∷ more) h = absurd cc
+
+pub pairs_end : (r i k : ℕ) (chunks last : List (List ℕ)) → i ≡ k → last ≡ drop (k * 2) chunks
+    → fed (fed r (concat (take (2 * i) chunks))) (concat last) ≡ fed r (concat chunks)
+pairs_end r i k chunks last all last_is =
+    let count : k * 2 ≡ 2 * i = omega arith in
+    ap (λ t. fed (fed r (concat (take (2 * i) chunks))) (concat t)) (last_is ∙ ap (λ n. drop n chunks) count)
+    ∙ chunks_apart r (2 * i) chunks
 
 -- the last 266 bytes are moved to the front
 pub moved : (place register : ℕ) (taken : List ℕ) → 266 ≤ place → place ≤ length taken → IsRegisterOf (take place taken) register

@@ -52,6 +52,7 @@ impl KeyBuf {
     }
 
     /// Replaces this key by a copy of `key`, in the same memory if that is enough.
+    #[inline(always)]
     pub fn set(&mut self, key: InternalKey) -> Result<(), Fault>
         ensures ok { OnOk result (self.new ≡ key.entry.bytes.now) }
         ensures err { OnErr result (self.new ≡ self.old) }

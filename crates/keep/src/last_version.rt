@@ -62,6 +62,7 @@ impl LastVersion {
 
     /// The sequence of the previous entry if it has the user key of `key`, else None. `kept` is the
     /// last kept key, with which `key` shares `shared` bytes.
+    #[inline(always)]
     pub fn newer_of(&self, key: InternalKey<'_>, kept: &[u8], shared: usize) -> Option<u64>
         requires shared { shared ≡ common_prefix_len nat_eq kept.now key.bytes.now }
         requires tagged { self.now.is_kept ≡ true → TAG_LEN ≤ length kept.now }

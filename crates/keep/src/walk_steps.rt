@@ -70,6 +70,7 @@ impl<'a> Walk<'a> {
 
     /// The sequence of the previous entry if it has the user key of `key`, else None. `key` shares
     /// `shared` bytes with the last kept key.
+    #[inline(always)]
     fn newer_of(&self, key: InternalKey<'_>, shared: usize) -> Option<u64>
         requires { shared ≡ common_prefix_len nat_eq (last_key [] self.now.run.kept) key.bytes.now }
         ensures { result ≡ newer_of self.now.last (user_of key.entry.bytes.now) }
@@ -79,6 +80,7 @@ impl<'a> Walk<'a> {
 
     /// Keeps or drops an entry, whose key shares `shared` bytes with the last kept key. `newer` is
     /// the previous entry's sequence if it has the same user key.
+    #[inline(always)]
     fn take(
         &mut self,
         keeps: bool,
@@ -109,6 +111,7 @@ impl<'a> Walk<'a> {
 
     /// Walks the next entry: it is kept or dropped. Faults: Duplicate if it has the user key and
     /// the sequence of the previous entry, else only Memory.
+    #[inline(always)]
     pub fn step<C: Comparator>(
         &mut self,
         rule: &Rule<'_>,

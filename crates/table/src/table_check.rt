@@ -184,6 +184,7 @@ fn indexed_blocks<'a>(
 }
 
 /// Tests an entry after the key `before`, and answers its key.
+#[inline(always)]
 fn test_entry<'k, C: Comparator>(
     before: Option<InternalKey<'_>>,
     key: &'k [u8],

@@ -117,6 +117,7 @@ impl<'a, C: Comparator> Cursor<'a, C> for TableCursor<'a, C> {
     }
 
     /// Takes off the next entry. The only fault is Memory, which leaves the cursor unchanged.
+    #[inline(always)]
     fn advance(&mut self) -> Result<(), Fault> {
         if !self.block.is_last() || !self.index.valid() {
             return self.block.advance();

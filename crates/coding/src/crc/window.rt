@@ -6,7 +6,7 @@
 //!
 //! A window holds the bytes that were taken out last, which are added to the next ones.
 
-ghost use Rattle.std.specs.Prelude.{◌≡◌, ℕ, ◌<◌, ◌≤◌, ◌^◌, length, take};
+ghost use Rattle.std.specs.Prelude.{◌≡◌, ℕ, ◌+◌, ◌<◌, ◌≤◌, ◌^◌, length, take};
 ghost use Rattle.std.specs.List.{concat};
 ghost use Rattle.coding.specs.Crc.{bits_of};
 ghost use Rattle.coding.specs.CrcRegister.{register_after_bits};
@@ -58,12 +58,42 @@ fn take_out(taken: &mut [u8; LEN], chunks: &[[u8; 16]])
         IsRegisterOf (take 266 taken.new)
         (register_after_bits register (bits_of (concat chunks.now))) }
 {
+    let (pairs, last) = chunks.as_chunks::<2>();
     let mut place = REACH;
-    for chunk in chunks {
-        with_taken(chunk, taken, place).copy_to_slice(&mut taken[place..]);
+    for pair in pairs {
+        take_pair(taken, pair, place);
+        place += 32;
+    }
+    if let Some(chunk) = last.first() {
+        take_one(taken, chunk, place);
         place += 16;
     }
     taken.copy_within(place - REACH..place, 0);
+}
+
+/// Takes out the bytes of two chunks, which are stored from `place` on.
+#[inline(always)]
+fn take_pair(taken: &mut [u8; LEN], pair: &[[u8; 16]; 2], place: usize)
+    requires from { 266 ≤ place }
+    requires to { place ≤ 1258 }
+    ensures { (register : ℕ) → IsRegisterOf (take place taken.old) register →
+        IsRegisterOf (take (place + 32) taken.new)
+        (register_after_bits register (bits_of (concat pair.now))) }
+{
+    take_one(taken, &pair[0], place);
+    take_one(taken, &pair[1], place + 16);
+}
+
+/// Takes out the bytes of a chunk, which are stored from `place` on.
+#[inline(always)]
+fn take_one(taken: &mut [u8; LEN], chunk: &[u8; 16], place: usize)
+    requires from { 266 ≤ place }
+    requires to { place ≤ 1274 }
+    ensures { (register : ℕ) → IsRegisterOf (take place taken.old) register →
+        IsRegisterOf (take (place + 16) taken.new)
+        (register_after_bits register (bits_of chunk.now)) }
+{
+    with_taken(chunk, taken, place).copy_to_slice(&mut taken[place..]);
 }
 
 /// The register after the [`LEFT`] last chunks.

@@ -1,4 +1,5 @@
 mod DigitLemmas
+mod DigitChunks
 mod EscapedLemmas
 mod PrintableLemmas
 mod WideLemmas

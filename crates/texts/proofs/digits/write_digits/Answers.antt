@@ -1,11 +1,14 @@
-use Rattle.std.proofs.Common.{arith}
-use Rattle.hex.specs.Hex.{lower_digits}
-use Rattle.hex.proofs.Pairs.{encode_done, encode_step}
+use Rattle.std.proofs.Common.{◌-◌, length, arith}
+use Rattle.texts.proofs.DigitChunks.{digits_less, digits_none}
 use Rattle.texts.proofs.digits.write_digits.Goals as goal
 
-pub loop-place-preserved : goal.loop-place-preserved
-loop-place-preserved c =
-    encode_step lower_digits c.args.bytes.now c.loop-place.room c.loop-place.place _ _ (omega arith) (omega arith) c.digit_of.ensures c.digit_of-in-loop-place.ensures c.loop-place.invariant
+pub loop-place-init : goal.loop-place-init
+loop-place-init c = record {
+  inside = omega arith;
+  len = c.requires;
+  front = digits_none;
+}
 
-pub returns : goal.returns
-returns c = encode_done lower_digits c.args.bytes.now _ c.loop-place.place (omega arith) (omega arith) c.loop-place.invariant
+pub write_chunk-requires-2-clause-front : goal.write_chunk-requires-2-clause-front
+write_chunk-requires-2-clause-front c =
+    digits_less c.loop-place.room c.args.bytes.now (length c.args.bytes.now - 16) c.loop-place.place c.loop-place-test.false c.loop-place.invariant.front

@@ -3,6 +3,7 @@
 ghost use Rattle.std.specs.Prelude.{◌≡◌, ℕ, ◌≤◌, ◌-◌, ◌^◌, List, Ok, IfOk, IfErr};
 ghost use Rattle.table.specs.Answers.{UnlessMemory, fault};
 ghost use Rattle.table.specs.fault.FaultName.TheVariants.{Lawless};
+ghost use Rattle.checks.specs.HeldTables.{AreHeldBy};
 ghost use Rattle.checks.specs.LawfulTables.{IsLawfulTables};
 ghost use Rattle.checks.specs.TestedTables.{entry_count};
 ghost use Rattle.folder.specs.Calls.{Files, Tells};
@@ -23,7 +24,9 @@ use crate::level_rows::stats_of;
 use crate::level_stats::VersionStats;
 use crate::range_counts::count_ranges;
 use crate::version_scan::sequence_of;
-use checks::{Open, SharedComparator, Split, Watch, Workers, group_split, test_version};
+use checks::{
+    HeldTables, Open, SharedComparator, Split, Watch, Workers, group_split, test_and_hold,
+};
 use folder::{Bytewise, Opened, Order, ReadsTables, Shortlex, Version};
 use reads::files_newest_first;
 use std::alloc::Global;
@@ -37,9 +40,9 @@ use table::{Fault, FaultName};
 /// Refused as `checks::test_version` refuses the version; else only as Device or Memory. The test
 /// is told to the gate of `workers`, which is `&Open` if nobody watches.
 ///
-/// After the test all tables are read once more, a range of user keys after the other, and each is
-/// checked by `workers`. At most `memory` bytes of them are in memory at once, if no single user
-/// key needs more. No contract says so.
+/// At most `memory` bytes of tables are in memory at once, if no single user key needs more. If all
+/// of the version's have no more together, none is read again after the test. Else they are, a
+/// range of user keys after the other, and each is checked by `workers`. No contract says so.
 pub fn version_stats<F: ReadsTables, W: Watch + Sync, R: Threads + Sync>(
     workers: &Workers<'_, R, W>,
     folder: &mut F,
@@ -77,16 +80,18 @@ fn version_stats_by<
     ensures device { ReportsDevice F.Folder folder.old folder.new result }
     ensures reads { OnlyReads F.Folder folder.old folder.new }
 {
-    test_version::<C, F, W, R>(workers, folder, version, memory)?;
-    unverified_stats::<C, F, R>(&workers.with_gate(&Open), folder, version, memory)
+    let found = test_and_hold::<C, F, W, R>(workers, folder, version, memory)?;
+    let untold = workers.with_gate(&Open);
+    unverified_stats::<C, F, R>(&untold, folder, version, found.tables, memory)
 }
 
 /// The same of a version that is lawful with the tables in the folder, which isn't tested. The
-/// number of their entries fits.
+/// number of their entries fits. `held` are tables of the folder.
 fn unverified_stats<C: SharedComparator + 'static, F: ReadsTables, R: Threads + Sync>(
     workers: &Workers<'_, R, Open>,
     folder: &mut F,
     version: &Version,
+    held: HeldTables<C>,
     memory: u64,
 ) -> Result<VersionStats, Fault>
     ensures stats { (files : Files) (loaded : List (ℕ × List ℕ)) (tables : List NumberedContents) →
@@ -94,6 +99,7 @@ fn unverified_stats<C: SharedComparator + 'static, F: ReadsTables, R: Threads + 
         IsLoaded (F.tells folder.old) (file_numbers C.cmp version.now) (Ok loaded) →
         IsLawfulTables C.cmp version.now loaded (Ok tables) →
         entry_count tables ≤ 2 ^ 128 - 1 →
+        AreHeldBy C.cmp (F.tells folder.old) held →
         FolderAnswers seen_stats (F.failed folder.old) (F.failed folder.new) result
         (λ answer. answer ≡ Ok (version_stats C.cmp version.now tables)) }
     ensures device { ReportsDevice F.Folder folder.old folder.new result }
@@ -103,7 +109,7 @@ fn unverified_stats<C: SharedComparator + 'static, F: ReadsTables, R: Threads + 
     let split = level_split::<C>(alloc, version, memory)?;
     let levels = files_by_level::<C>(alloc, version)?;
     let last = sequence_of(version, None);
-    let amounts = count_ranges::<C, F, R>(workers, folder, &levels, &split, last)?;
+    let amounts = count_ranges::<C, F, R>(workers, folder, &levels, &split, held, last)?;
     stats_of::<C>(alloc, &levels, &amounts)
 }
 

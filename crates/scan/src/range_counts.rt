@@ -35,24 +35,28 @@ struct SeenRange<'k> {
 /// sequence `last`.
 ///
 /// It goes from range to range of the split, and reads the tables that one needs when it comes to
-/// it. They are held until no later range needs them. It only reads.
+/// it. They are held until no later range needs them. `held` are tables of the folder: those that
+/// the first range needs aren't read. It only reads.
 pub(crate) fn count_ranges<C: SharedComparator + 'static, F: ReadsTables, R: Threads + Sync>(
     workers: &Workers<'_, R, Open>,
     folder: &mut F,
     levels: &[Vec<&FileMeta>],
     split: &Split<C>,
+    held: HeldTables<C>,
     last: u64,
 ) -> Result<Vec<Amounts>, Fault>
     // If the folder tells files that hold these tables, and each is what the version states.
     ensures counted { (files : Files) (next : Option ℕ) (tables : List NumberedContents) →
         Tells (F.tells folder.old) files →
         AreLevelsIn C.cmp files next (map (λ fs. map (λ f. f.now) fs.items) levels.now) tables →
+        AreHeldBy C.cmp (F.tells folder.old) held →
         IfOk result (λ v. v.items ≡ map (λ fs. told_amounts (amounts_of last
         (all_of_levels tables (map (λ fs. map (λ f. f.now) fs.items) levels.now)) tables fs))
         (map (λ fs. map (λ f. f.now) fs.items) levels.now)) }
     ensures errors { (files : Files) (next : Option ℕ) (tables : List NumberedContents) →
         Tells (F.tells folder.old) files →
         AreLevelsIn C.cmp files next (map (λ fs. map (λ f. f.now) fs.items) levels.now) tables →
+        AreHeldBy C.cmp (F.tells folder.old) held →
         IfErr result
         (λ e. UnlessMemory e (IsStopped (F.failed folder.old) (F.failed folder.new) e)) }
     ensures number { IfOk result (λ v. length v.items ≡ length levels.now) }
@@ -61,7 +65,7 @@ pub(crate) fn count_ranges<C: SharedComparator + 'static, F: ReadsTables, R: Thr
 {
     let alloc = workers.alloc();
     let mut amounts = amounts_by_level(alloc, levels)?;
-    let mut held = HeldTables::none(alloc);
+    let mut held = held;
     for number in 0..split.len() {
         let range = split.range(number);
         let seen = SeenRange { range, last };

@@ -39,7 +39,8 @@ pub(crate) struct RangeRows<'k> {
 /// Tells the wanted `rows` that the tables of the `standing` files have.
 ///
 /// It goes from range to range of the split, and reads the tables that one needs when it comes to
-/// it. They are held until no later range needs them. It only reads.
+/// it. They are held until no later range needs them. `held` are tables of the folder: those that
+/// the first range needs aren't read. It only reads.
 pub(crate) fn tell_ranges<
     C: SharedComparator + 'static,
     F: ReadsTables,
@@ -50,6 +51,7 @@ pub(crate) fn tell_ranges<
     folder: &mut F,
     standing: &[&FileMeta],
     split: &Split<C>,
+    held: HeldTables<C>,
     rows: RangeRows<'_>,
     taker: &mut T,
 ) -> Result<(), Fault>
@@ -57,6 +59,7 @@ pub(crate) fn tell_ranges<
     ensures told { (files : Files) (next : Option ℕ) (tables : List NumberedContents) →
         Tells (F.tells folder.old) files →
         AreTablesIn C.cmp files next (map (λ f. f.now) standing.now) tables →
+        AreHeldBy C.cmp (F.tells folder.old) held →
         AreScanned T.tells (rows_from
         (file_rows C.cmp tables (map (λ f. f.now) standing.now) rows.entry.at) C.cmp
         (key_range rows.entry.range) split.now 0 (length split.now + 1))
@@ -64,13 +67,14 @@ pub(crate) fn tell_ranges<
     ensures errors { (files : Files) (next : Option ℕ) (tables : List NumberedContents) →
         Tells (F.tells folder.old) files →
         AreTablesIn C.cmp files next (map (λ f. f.now) standing.now) tables →
+        AreHeldBy C.cmp (F.tells folder.old) held →
         IfErr result
         (λ e. UnlessMemory e (IsStopped (F.failed folder.old) (F.failed folder.new) e)) }
     ensures cover { IsCover C.cmp split.now }
     ensures device { ReportsDevice F.Folder folder.old folder.new result }
     ensures reads { OnlyReads F.Folder folder.old folder.new }
 {
-    let mut held = HeldTables::none(workers.alloc());
+    let mut held = held;
     let mut left = rows.limit;
     for number in 0..split.len() {
         let part = common_range::<C>(rows.range, split.range(number));

@@ -9,8 +9,8 @@ ghost use Rattle.scan.specs.ToldRows.{telling_by, counts_of};
 
 use crate::row_choice::RowChoice;
 use crate::row_taker::RowTaker;
-use crate::version_scan::scan_unverified_by;
-use checks::{Open, SharedComparator, Watch, Workers, test_version};
+use crate::version_scan::scan_held;
+use checks::{Open, SharedComparator, Watch, Workers, test_and_hold};
 use folder::{Bytewise, Opened, Order, ReadsTables, Shortlex, Version};
 use std::thread::Threads;
 use table::Fault;
@@ -21,6 +21,9 @@ use table::Fault;
 /// Refused as `checks::test_version` refuses the version, before any row is told; else only as
 /// Device or Memory. The test is told to the gate of `workers`, which is
 /// `&Open` if nobody watches.
+///
+/// At most `memory` bytes of tables are in memory at once, if no single user key needs more. If all
+/// of the version's have no more together, none is read again after the test. No contract says so.
 pub fn scan_version<F: ReadsTables, T: RowTaker, W: Watch + Sync, R: Threads + Sync>(
     workers: &Workers<'_, R, W>,
     folder: &mut F,
@@ -67,7 +70,8 @@ fn scan_version_by<
     ensures device { ReportsDevice F.Folder folder.old folder.new result }
     ensures reads { OnlyReads F.Folder folder.old folder.new }
 {
-    test_version::<C, F, W, R>(workers, folder, version, memory)?;
+    let found = test_and_hold::<C, F, W, R>(workers, folder, version, memory)?;
     let untold = workers.with_gate(&Open);
-    scan_unverified_by::<C, F, T, R>(&untold, folder, version, choice, memory, taker)
+    let held = found.tables;
+    scan_held::<C, F, T, R>(&untold, folder, version, held, choice, memory, taker)
 }

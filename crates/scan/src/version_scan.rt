@@ -1,6 +1,7 @@
 //! The rows of a version whose tables lie in a folder, without a test of the version.
 
 ghost use Rattle.std.specs.Prelude.{◌≡◌, ℕ, List, Ok};
+ghost use Rattle.checks.specs.HeldTables.{AreHeldBy};
 ghost use Rattle.checks.specs.LawfulTables.{IsLawfulTables};
 ghost use Rattle.folder.specs.Calls.{Files, Tells};
 ghost use Rattle.folder.specs.Levels.{file_numbers};
@@ -14,7 +15,7 @@ ghost use Rattle.scan.specs.ToldRows.{IsScan, counts_of, telling_by};
 use crate::range_scan::{RangeRows, tell_ranges};
 use crate::row_choice::RowChoice;
 use crate::row_taker::RowTaker;
-use checks::{Open, SharedComparator, Workers, group_split};
+use checks::{HeldTables, Open, SharedComparator, Workers, group_split};
 use folder::{Bytewise, Opened, Order, ReadsTables, Shortlex, Version};
 use reads::files_newest_first;
 use std::thread::Threads;
@@ -53,18 +54,22 @@ pub fn scan_unverified<F: ReadsTables, T: RowTaker, R: Threads + Sync>(
     ensures reads { OnlyReads F.Folder folder.old folder.new }
 {
     let version = &opened.version;
+    let most = memory.min(SCANNED_BYTES);
     match opened.order {
         Order::Bytewise => {
-            scan_unverified_by::<Bytewise, F, T, R>(workers, folder, version, choice, memory, taker)
+            let held = HeldTables::none(workers.alloc());
+            scan_held::<Bytewise, F, T, R>(workers, folder, version, held, choice, most, taker)
         }
         Order::Shortlex => {
-            scan_unverified_by::<Shortlex, F, T, R>(workers, folder, version, choice, memory, taker)
+            let held = HeldTables::none(workers.alloc());
+            scan_held::<Shortlex, F, T, R>(workers, folder, version, held, choice, most, taker)
         }
     }
 }
 
-/// The same by this comparator.
-pub(crate) fn scan_unverified_by<
+/// The same by this comparator, where at most `memory` bytes of tables are in memory. `held` are
+/// tables of the folder: those that the first range needs aren't read.
+pub(crate) fn scan_held<
     C: SharedComparator + 'static,
     F: ReadsTables,
     T: RowTaker,
@@ -73,6 +78,7 @@ pub(crate) fn scan_unverified_by<
     workers: &Workers<'_, R, Open>,
     folder: &mut F,
     version: &Version,
+    held: HeldTables<C>,
     choice: RowChoice<'_>,
     memory: u64,
     taker: &mut T,
@@ -81,6 +87,7 @@ pub(crate) fn scan_unverified_by<
         Tells (F.tells folder.old) files →
         IsLoaded (F.tells folder.old) (file_numbers C.cmp version.now) (Ok loaded) →
         IsLawfulTables C.cmp version.now loaded (Ok tables) →
+        AreHeldBy C.cmp (F.tells folder.old) held →
         IsScan C.cmp version.now tables choice.entry
         (telling_by T.tells taker.old taker.new) (counts_of F.Folder folder.old folder.new) result }
     ensures device { ReportsDevice F.Folder folder.old folder.new result }
@@ -90,12 +97,12 @@ pub(crate) fn scan_unverified_by<
     let Some(standing) = files_newest_first::<C>(alloc, version)? else {
         return Err(Fault::of(FaultName::Lawless));
     };
-    let split = group_split::<C>(alloc, &standing, memory.min(SCANNED_BYTES))?;
+    let split = group_split::<C>(alloc, &standing, memory)?;
     let at = sequence_of(version, choice.at);
     let range = choice.range();
     let limit = choice.limit;
     let rows = RangeRows { range, at, limit };
-    tell_ranges::<C, F, T, R>(workers, folder, &standing, &split, rows, taker)
+    tell_ranges::<C, F, T, R>(workers, folder, &standing, &split, held, rows, taker)
 }
 
 /// The sequence `at`, or the version's last one if it isn't given.

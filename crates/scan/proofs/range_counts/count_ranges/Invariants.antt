@@ -15,9 +15,9 @@ invariant-loop-number g l =
     let levels = map (λ fs. map (λ f. f.now) fs.items) l.levels in
     record {
       number : length l.amounts.items ≡ length l.levels;
-      counted : (files : Files) (next : Option ℕ) (tables : List NumberedContents) → Tells (g.F.Folder.tells l.fn.folder) files → AreLevelsIn cmp files next levels tables
+      counted : (files : Files) (next : Option ℕ) (tables : List NumberedContents) → Tells (g.F.Folder.tells l.fn.folder) files → AreLevelsIn cmp files next levels tables → AreHeldBy cmp (g.F.Folder.tells l.fn.folder) l.fn.held
           → AreCountedTo cmp l.split l.last (lists_of_levels tables levels) (map capped_files levels) l.number l.amounts.items;
-      held : AreHeldBy cmp (g.F.Folder.tells l.fn.folder) l.held;
+      held : AreHeldBy cmp (g.F.Folder.tells l.fn.folder) l.fn.held → AreHeldBy cmp (g.F.Folder.tells l.fn.folder) l.held;
       reads : OnlyReads g.F.Folder l.fn.folder l.folder;
       failures : g.F.Folder.failed l.folder ≡ g.F.Folder.failed l.fn.folder;
     }

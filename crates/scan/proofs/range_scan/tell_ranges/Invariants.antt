@@ -17,9 +17,9 @@ invariant-loop-number g l =
     let standing = map (λ f. f.now) l.standing in
     let all = length l.split + 1 in
     record {
-      told : (files : Files) (next : Option ℕ) (tables : List NumberedContents) → Tells (g.F.Folder.tells l.fn.folder) files → AreTablesIn cmp files next standing tables
+      told : (files : Files) (next : Option ℕ) (tables : List NumberedContents) → Tells (g.F.Folder.tells l.fn.folder) files → AreTablesIn cmp files next standing tables → AreHeldBy cmp (g.F.Folder.tells l.fn.folder) l.fn.held
           → IsRowPart (telling_by g.T.RowTaker.tells l.fn.taker l.taker) (rows_from (file_rows cmp tables standing l.rows.at) cmp (key_range l.rows.range) l.split 0 all) l.fn.rows.limit (rows_from (file_rows cmp tables standing l.rows.at) cmp (key_range l.rows.range) l.split l.number (all - l.number)) l.left true;
-      held : AreHeldBy cmp (g.F.Folder.tells l.fn.folder) l.held;
+      held : AreHeldBy cmp (g.F.Folder.tells l.fn.folder) l.fn.held → AreHeldBy cmp (g.F.Folder.tells l.fn.folder) l.held;
       reads : OnlyReads g.F.Folder l.fn.folder l.folder;
       failures : g.F.Folder.failed l.folder ≡ g.F.Folder.failed l.fn.folder;
     }

@@ -13,13 +13,13 @@ use Rattle.scan.specs.RowParts.{AreScanned}
 use Rattle.scan.proofs.FileRows.{some_rows, version_rows}
 use Rattle.scan.proofs.ScanAnswers.{memory_handed, scan_of, tables_in}
 use Rattle.scan.proofs.Told.{handed_scanned, refused_first}
-use Rattle.scan.proofs.version_scan.scan_unverified_by.Goals as goal
+use Rattle.scan.proofs.version_scan.scan_held.Goals as goal
 
 abbrev now_of : Bor FileMeta → FileMeta
 now_of f = f.now
 
 pub returns-in_err-standing-clause-rows : goal.returns-in_err-standing-clause-rows
-returns-in_err-standing-clause-rows g c files loaded tables all there sound =
+returns-in_err-standing-clause-rows g c files loaded tables all there sound own =
     let met = g.met.C.Comparator g.world.𝓛 g.world.𝓜 g.world.𝓡 ((λ s x. x), (λ x. x), (λ x. x), λ x. x) in
     let cmp = g.C.Comparator.cmp in
     let v = c.args.version.now in
@@ -35,14 +35,14 @@ returns-in_err-standing-clause-rows g c files loaded tables all there sound =
     (memory_handed (failed c.args.folder.now) (failed c.args.folder.now) r e c.from_residual.ensures.1 c.in_err-standing.ensures.memory)
 
 pub returns-in_default-clause-rows : goal.returns-in_default-clause-rows
-returns-in_default-clause-rows g c files loaded tables all there sound =
+returns-in_default-clause-rows g c files loaded tables all there sound own =
     let cmp = g.C.Comparator.cmp in
     let v = c.args.version.now in
     let never : IsNeverLawful cmp v = subst (λ (o : Option (Vec (Bor FileMeta) Global)). MatchOption o (IsNeverLawful cmp v) (λ fs. AreStandingFiles cmp v (map now_of fs.items))) c.in_default.is c.in_ok-standing.ensures.standing in
     absurd (never tables (sound_lawful cmp v loaded tables sound))
 
 pub returns-in_err-split-clause-rows : goal.returns-in_err-split-clause-rows
-returns-in_err-split-clause-rows g c files loaded tables all there sound =
+returns-in_err-split-clause-rows g c files loaded tables all there sound own =
     let met = g.met.C.Comparator g.world.𝓛 g.world.𝓜 g.world.𝓡 ((λ s x. x), (λ x. x), (λ x. x), λ x. x) in
     let cmp = g.C.Comparator.cmp in
     let v = c.args.version.now in
@@ -58,7 +58,7 @@ returns-in_err-split-clause-rows g c files loaded tables all there sound =
     (memory_handed (failed c.args.folder.now) (failed c.args.folder.now) r e c.from_residual-in_err-split.ensures.1 c.in_err-split.ensures.memory)
 
 pub returns-clause-rows : goal.returns-clause-rows
-returns-clause-rows g c files loaded tables all there sound =
+returns-clause-rows g c files loaded tables all there sound own =
     let met = g.met.C.Comparator g.world.𝓛 g.world.𝓜 g.world.𝓡 ((λ s x. x), (λ x. x), (λ x. x), λ x. x) in
     let cmp = g.C.Comparator.cmp in
     let v = c.args.version.now in
@@ -84,5 +84,5 @@ returns-clause-rows g c files loaded tables all there sound =
     subst (λ (n : ℕ). AreScanned tells (rows_from (file_rows cmp tables standing n) cmp (chosen_range choice) boundaries 0 (length boundaries + 1)) taker choice.limit f.new.taker f.result) at
     (subst (λ (k : KeyRange). AreScanned tells (rows_from (file_rows cmp tables standing c.sequence_of-at.result) cmp k boundaries 0 (length boundaries + 1)) taker choice.limit f.new.taker f.result) range
     (subst (λ (fs : List FileMeta). AreScanned tells (rows_from (file_rows cmp tables fs c.sequence_of-at.result) cmp (key_range c.range-range.result) boundaries 0 (length boundaries + 1)) taker choice.limit f.new.taker f.result) lent
-    (f.ensures.told files v.next_file tables all are))) in
-    scan_of tells cmp v tables choice taker f.new.taker (failed c.args.folder.now) (failed f.new.folder) rows rows_are f.result scanned (f.ensures.errors files v.next_file tables all are)
+    (f.ensures.told files v.next_file tables all are own))) in
+    scan_of tells cmp v tables choice taker f.new.taker (failed c.args.folder.now) (failed f.new.folder) rows rows_are f.result scanned (f.ensures.errors files v.next_file tables all are own)

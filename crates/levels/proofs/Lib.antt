@@ -16,3 +16,7 @@ pub mod PartsSoFar
 pub mod PartsOver
 pub mod PartsAt
 pub mod PartWritten
+pub mod OpenedNext
+pub mod WholeDescent
+pub mod WholeLinks
+pub mod WholeSince

@@ -131,7 +131,7 @@ fn compact_version<
 }
 
 /// Compacts a whole `level` of the version that a folder was `opened` as, and installs the outcome.
-fn compact_parts<
+pub(crate) fn compact_parts<
     C: SharedComparator + 'static,
     F: ReadsTables + WritesTables,
     W: Watch + Sync,
@@ -164,7 +164,7 @@ fn compact_parts<
 }
 
 /// The log numbers of a version are below 2^64. A call does nothing.
-fn small_logs(version: &Version)
+pub(crate) fn small_logs(version: &Version)
     ensures { (unwrap_or version.now.log_number 0 < 2 ^ 64)
         × (unwrap_or version.now.previous_log 0 < 2 ^ 64) }
 {
@@ -173,7 +173,7 @@ fn small_logs(version: &Version)
 }
 
 /// Files of a version rise by number, pointers by level, and levels are from 0 to 6.
-fn version_is_state<C: Comparator>(alloc: Global, version: &Version)
+pub(crate) fn version_is_state<C: Comparator>(alloc: Global, version: &Version)
     ensures { IsState version.now.pointers version.now.files }
 {
     let _files = version.files::<C>(alloc, 0);

@@ -15,14 +15,20 @@
 //! The outputs have the numbers that they have if each part is installed before the next one is
 //! compacted: between those of two parts is one number that nothing uses.
 //!
+//! [`compact_whole_levels`] does so with one level after the other, until all files are in one
+//! level. It tests the version once.
+//!
 //! Laws: [`edits_join`], [`joined_applies`].
 #![tactic(auto)]
 
+mod all_levels;
 mod join_laws;
 mod level_compaction;
 mod level_parts;
 mod part_writer;
 mod ready_manifest;
+mod tested_level;
 
+pub use all_levels::compact_whole_levels;
 pub use join_laws::{edits_join, joined_applies};
 pub use level_compaction::compact_level;

@@ -1,0 +1,80 @@
+use Rattle.std.proofs.Common.{◌⊎◌, Err, refl, ap, ◌∙◌, inl, inr}
+use Rattle.std.proofs.lemmas.Result.{err_from_is_err_and}
+use Rattle.edit.proofs.Refusals.{unless_from}
+use Rattle.edit.specs.fault.Fault.{Fault}
+use Rattle.folder.proofs.ReportLemmas.{reports_after, reports_handed}
+use Rattle.folder.specs.OpenAnswer.{IsStopped}
+use Rattle.folder.specs.Orders.{order_cmp, order_short_keys}
+use Rattle.install.proofs.Changes.{change_by}
+use Rattle.install.specs.Install.{version_with}
+use Rattle.store.specs.OpenedAfter.{IsOpenedAfter}
+use Rattle.store.specs.OrderView.{order_view}
+use Rattle.store.proofs.NoDevice.{never_device_at}
+use Rattle.levels.specs.LevelMade.{IsRefusedSo}
+use Rattle.levels.specs.WholeAnswer.{IsWholeCompacted}
+use Rattle.levels.proofs.OpenedNext.{installed_of, memory_only, opened_next, opened_other}
+use Rattle.levels.proofs.WholeLinks.{made_refused, made_told}
+use Rattle.levels.proofs.all_levels.take_level.Goals as goal
+
+pub returns-in_err-step-clause-left : goal.returns-in_err-step-clause-left
+returns-in_err-step-clause-left g c files loaded tables told current reads sound =
+    let o = c.args.opened.now in
+    let failed = g.F.Folder.failed in
+    let s = c.args.settings.now in
+    let e = c.in_err-step.field-0.0 in
+    let p = err_from_is_err_and c.from_residual.result c.from_residual.ensures.1 in
+    let refused = IsWholeCompacted (order_cmp o.order) (order_short_keys o.order) files o.version c.args.level s (Err e) in
+    inl (record {
+      e = e;
+      is = p.1 ∙ ap (λ (f : Fault). Err f) p.2;
+      left = c.in_err-step.ensures.left files loaded tables told current reads sound;
+      why = unless_from e (IsStopped (failed c.args.folder.now) (failed c.compact_tested.new.folder) e ⊎ refused)
+          (IsStopped (failed c.args.folder.now) (failed c.compact_tested.new.folder) e ⊎ IsRefusedSo (order_view o.order) (version_with o.version loaded) c.args.level s e)
+          (λ h. elim h [ inl stopped ↦ inl stopped | inr so ↦ inr (record { files = files; reads = reads; refused = so }) ])
+          (c.in_err-step.ensures.answer files loaded tables told current reads sound);
+      same = refl;
+    })
+
+pub returns-in_err-step-clause-device : goal.returns-in_err-step-clause-device
+returns-in_err-step-clause-device g c = reports_handed c.from_residual.result c.in_err-step.was c.compact_tested.ensures.device c.from_residual.ensures.1
+
+pub returns-clause-left : goal.returns-clause-left
+returns-clause-left g c files loaded tables told current reads sound =
+    let o = c.args.opened.now in
+    let calls = g.F.Folder.calls in
+    let tells = g.F.Folder.tells in
+    let s = c.args.settings.now in
+    let cmp = order_cmp o.order in
+    let keys = order_short_keys o.order in
+    let change = change_by (calls c.args.folder.now) (calls c.compact_tested.new.folder) (tells c.args.folder.now) (tells c.compact_tested.new.folder) in
+    let step = c.in_ok-step.step in
+    let i = installed_of (order_view o.order) (version_with o.version loaded) c.args.level s change step (c.in_ok-step.ensures.left files loaded tables told current reads sound) in
+    inr (record {
+      step = step;
+      installed = i;
+      goes = c.tell_level.ensures.told.0;
+      told_step = c.tell_level.ensures.told.1;
+      went = c.tell_level.ensures.told.2;
+      opened = opened_next o.order cmp keys o.version loaded c.args.level s change step i c.tell_level.result c.tell_level.ensures.after;
+      memory = memory_only o.order cmp keys o.version loaded c.args.level s change step i c.tell_level.result c.tell_level.ensures.refused;
+    })
+
+pub returns-clause-device : goal.returns-clause-device
+returns-clause-device g c =
+    let o = c.args.opened.now in
+    let failed = g.F.Folder.failed in
+    reports_after c.tell_level.result c.in_ok-step.was c.compact_tested.ensures.device
+    (never_device_at (failed c.args.folder.now) (failed c.compact_tested.new.folder) c.tell_level.result (λ e. IsOpenedAfter o.order o.version c.in_ok-step.step.edit.items (Err e))
+    (opened_other o.order o.version c.in_ok-step.step.edit.items) c.tell_level.ensures.refused)
+
+pub returns-in_err-step-clause-runs : goal.returns-in_err-step-clause-runs
+returns-in_err-step-clause-runs g c =
+    let o = c.args.opened.now in
+    made_refused g.F.Folder g.T.InstallWatch.tells o.order c.args.settings.now o.version c.args.folder.now c.compact_tested.new.folder c.args.told.now c.args.told.now c.args.level
+    c.compact_tested.result c.from_residual.result c.in_err-step.field-0.0 c.in_err-step.was refl c.from_residual.ensures.1 c.compact_tested.ensures.runs
+
+pub returns-clause-runs : goal.returns-clause-runs
+returns-clause-runs g c =
+    let o = c.args.opened.now in
+    made_told g.F.Folder g.T.InstallWatch.tells o.order c.args.settings.now o.version c.args.folder.now c.compact_tested.new.folder c.args.told.now c.tell_level.new.told c.args.level
+    c.compact_tested.result c.tell_level.result c.in_ok-step.step c.in_ok-step.was c.tell_level.ensures.told.0 c.tell_level.ensures.told.1 c.tell_level.ensures.told.2 c.tell_level.ensures.after c.compact_tested.ensures.runs

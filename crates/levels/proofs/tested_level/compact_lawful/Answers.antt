@@ -1,0 +1,24 @@
+use Rattle.levels.proofs.Ends.{end_answer, end_left, end_runs}
+use Rattle.levels.proofs.tested_level.compact_lawful.Goals as goal
+
+pub returns-clause-answer : goal.returns-clause-answer
+returns-clause-answer g c files order loaded tables told current reads sound =
+    let cmp = g.C.Comparator.cmp in
+    let keys = g.C.Comparator.short_keys in
+    let laws = g.met.C.Comparator g.world.𝓛 g.world.𝓜 g.world.𝓡 ((λ s x. x), (λ x. x), (λ x. x), λ x. x) in
+    let v = c.args.opened.now.version in
+    end_answer cmp laws.total laws.exact keys c.table_reads_back.ensures c.passed_law.ensures g.F.Folder order g.C.Comparator.name_bytes c.args.folder.now c.compact_parts.new.folder files told v c.args.opened.now.manifest current loaded tables reads sound
+    c.version_is_state.ensures c.small_logs.ensures.0 c.small_logs.ensures.1 c.args.settings.now c.args.level c.compact_parts.result c.compact_parts.ensures.end
+
+pub returns-clause-left : goal.returns-clause-left
+returns-clause-left g c files order loaded tables told current named reads sound =
+    let cmp = g.C.Comparator.cmp in
+    let keys = g.C.Comparator.short_keys in
+    let laws = g.met.C.Comparator g.world.𝓛 g.world.𝓜 g.world.𝓡 ((λ s x. x), (λ x. x), (λ x. x), λ x. x) in
+    let v = c.args.opened.now.version in
+    end_left cmp laws.total laws.exact keys c.table_reads_back.ensures c.passed_law.ensures g.F.Folder order g.C.Comparator.name_bytes c.args.folder.now c.compact_parts.new.folder files told v c.args.opened.now.manifest current loaded tables reads sound
+    c.version_is_state.ensures c.small_logs.ensures.0 c.small_logs.ensures.1 c.args.settings.now c.args.level c.compact_parts.result named c.compact_parts.ensures.end
+
+pub returns-clause-runs : goal.returns-clause-runs
+returns-clause-runs g c =
+    end_runs g.F.Folder g.C.Comparator.name_bytes g.C.Comparator.cmp g.C.Comparator.short_keys c.args.opened.now.version c.args.opened.now.manifest c.args.level c.args.settings.now c.args.folder.now c.compact_parts.new.folder c.compact_parts.result c.compact_parts.ensures.end

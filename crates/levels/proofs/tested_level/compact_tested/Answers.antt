@@ -1,0 +1,58 @@
+use Rattle.std.proofs.Common.{Ok, refl, subst, sym}
+use Rattle.checks.specs.LawfulTables.{IsLawfulTables}
+use Rattle.folder.specs.OpenAnswer.{FolderAnswers}
+use Rattle.folder.specs.Manifest.{order_name}
+use Rattle.folder.specs.Orders.{order_cmp, order_short_keys}
+use Rattle.folder.specs.ReadsAs.{ReadsAs}
+use Rattle.folder.specs.declared.order.Order.{Order}
+use Rattle.folder.specs.declared.order.Order.TheVariants.{Bytewise, Shortlex}
+use Rattle.install.proofs.Changes.{change_by}
+use Rattle.install.specs.Install.{version_with}
+use Rattle.store.specs.OrderView.{order_view}
+use Rattle.store.specs.Step.{step_in}
+use Rattle.levels.specs.LevelTaken.{IsLevelLeft}
+use Rattle.levels.specs.WholeAnswer.{IsWholeCompacted}
+use Rattle.levels.specs.WholeRuns.{IsWholeRun}
+use Rattle.levels.proofs.tested_level.compact_tested.Goals as goal
+
+pub returns-in-Bytewise-clause-answer : goal.returns-in-Bytewise-clause-answer
+returns-in-Bytewise-clause-answer g c files loaded tables told current reads sound =
+    let failed = g.F.Folder.failed in
+    let v = c.args.opened.now.version in
+    subst (λ (order : Order). FolderAnswers step_in (failed c.args.folder.now) (failed c.compact_lawful.new.folder) c.compact_lawful.result (IsWholeCompacted (order_cmp order) (order_short_keys order) files v c.args.level c.args.settings.now))
+    (sym c.in-Bytewise.is) (c.compact_lawful.ensures.answer files Bytewise loaded tables told current (subst (λ (order : Order). ReadsAs (order_cmp order) order v loaded files) c.in-Bytewise.is reads) (subst (λ (order : Order). IsLawfulTables (order_cmp order) v loaded (Ok tables)) c.in-Bytewise.is sound))
+
+pub returns-in-Shortlex-clause-answer : goal.returns-in-Shortlex-clause-answer
+returns-in-Shortlex-clause-answer g c files loaded tables told current reads sound =
+    let failed = g.F.Folder.failed in
+    let v = c.args.opened.now.version in
+    subst (λ (order : Order). FolderAnswers step_in (failed c.args.folder.now) (failed c.compact_lawful-in-Shortlex.new.folder) c.compact_lawful-in-Shortlex.result (IsWholeCompacted (order_cmp order) (order_short_keys order) files v c.args.level c.args.settings.now))
+    (sym c.in-Shortlex.is) (c.compact_lawful-in-Shortlex.ensures.answer files Shortlex loaded tables told current (subst (λ (order : Order). ReadsAs (order_cmp order) order v loaded files) c.in-Shortlex.is reads) (subst (λ (order : Order). IsLawfulTables (order_cmp order) v loaded (Ok tables)) c.in-Shortlex.is sound))
+
+pub returns-in-Bytewise-clause-runs : goal.returns-in-Bytewise-clause-runs
+returns-in-Bytewise-clause-runs g c =
+    subst (λ (order : Order). IsWholeRun g.F.Folder (order_name order) (order_cmp order) (order_short_keys order) c.args.opened.now.version c.args.level c.args.settings.now c.args.folder.now c.compact_lawful.new.folder c.compact_lawful.result)
+    (sym c.in-Bytewise.is) c.compact_lawful.ensures.runs
+
+pub returns-in-Shortlex-clause-runs : goal.returns-in-Shortlex-clause-runs
+returns-in-Shortlex-clause-runs g c =
+    subst (λ (order : Order). IsWholeRun g.F.Folder (order_name order) (order_cmp order) (order_short_keys order) c.args.opened.now.version c.args.level c.args.settings.now c.args.folder.now c.compact_lawful-in-Shortlex.new.folder c.compact_lawful-in-Shortlex.result)
+    (sym c.in-Shortlex.is) c.compact_lawful-in-Shortlex.ensures.runs
+
+pub returns-in-Bytewise-clause-left : goal.returns-in-Bytewise-clause-left
+returns-in-Bytewise-clause-left g c files loaded tables told current reads sound =
+    let v = c.args.opened.now.version in
+    let calls = g.F.Folder.calls in
+    let tells = g.F.Folder.tells in
+    let is = c.in-Bytewise.is in
+    subst (λ (order : Order). IsLevelLeft (order_view order) (version_with v loaded) c.args.level c.args.settings.now (change_by (calls c.args.folder.now) (calls c.compact_lawful.new.folder) (tells c.args.folder.now) (tells c.compact_lawful.new.folder)) c.compact_lawful.result) (sym is)
+    (c.compact_lawful.ensures.left files Bytewise loaded tables told current refl (subst (λ (order : Order). ReadsAs (order_cmp order) order v loaded files) is reads) (subst (λ (order : Order). IsLawfulTables (order_cmp order) v loaded (Ok tables)) is sound))
+
+pub returns-in-Shortlex-clause-left : goal.returns-in-Shortlex-clause-left
+returns-in-Shortlex-clause-left g c files loaded tables told current reads sound =
+    let v = c.args.opened.now.version in
+    let calls = g.F.Folder.calls in
+    let tells = g.F.Folder.tells in
+    let is = c.in-Shortlex.is in
+    subst (λ (order : Order). IsLevelLeft (order_view order) (version_with v loaded) c.args.level c.args.settings.now (change_by (calls c.args.folder.now) (calls c.compact_lawful-in-Shortlex.new.folder) (tells c.args.folder.now) (tells c.compact_lawful-in-Shortlex.new.folder)) c.compact_lawful-in-Shortlex.result) (sym is)
+    (c.compact_lawful-in-Shortlex.ensures.left files Shortlex loaded tables told current refl (subst (λ (order : Order). ReadsAs (order_cmp order) order v loaded files) is reads) (subst (λ (order : Order). IsLawfulTables (order_cmp order) v loaded (Ok tables)) is sound))

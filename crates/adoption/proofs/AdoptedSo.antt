@@ -89,6 +89,20 @@ edited_if false files f next h = absurd (none-some next h)
 pub edited_so : (v : State) (e : Edit) (next : State) → applied v e ≡ Some next → with_files v e (fold with_file (undeleted_files e.deleted v.files) e.added) ≡ next
 edited_so v e next h = edited_if (list_all (has_place v.files) e.deleted && are_new (undeleted_files e.deleted v.files) e.added) (fold with_file (undeleted_files e.deleted v.files) e.added) (with_files v e) next h
 
+two_parts : (a b : Bool) → (a && b) ≡ true → (a ≡ true) × (b ≡ true)
+two_parts true b h = (refl, h)
+two_parts false b h = absurd cc
+
+tested_if : (b : Bool) (files : List NewFile) (f : List NewFile → State) (next : State) → option_map f (if b then Some files else None) ≡ Some next → b ≡ true
+tested_if true files f next h = refl
+tested_if false files f next h = absurd (none-some next h)
+
+-- an edit that applies deletes files of the version
+pub places_so : (v : State) (e : Edit) (next : State) → applied v e ≡ Some next → list_all (has_place v.files) e.deleted ≡ true
+places_so v e next h =
+    (two_parts (list_all (has_place v.files) e.deleted) (are_new (undeleted_files e.deleted v.files) e.added)
+    (tested_if (list_all (has_place v.files) e.deleted && are_new (undeleted_files e.deleted v.files) e.added) (fold with_file (undeleted_files e.deleted v.files) e.added) (with_files v e) next h)).0
+
 -- the edit that is installed, if a number is left
 pub counted_is : (v : State) (e x : Edit) → counted_edit v e ≡ Ok x → adopted v e ≡ x
 counted_is v e x h =
@@ -137,10 +151,6 @@ pub numbers_same : (added : List NewFile) → input_numbers (outputs_in_edit add
 numbers_same [] = refl
 numbers_same (f ∷ added) = ap (λ (ns : List ℕ). f.meta.number ∷ ns) (numbers_same added)
 
-two_parts : (a b : Bool) → (a && b) ≡ true → (a ≡ true) × (b ≡ true)
-two_parts true b h = (refl, h)
-two_parts false b h = absurd cc
-
 pub rising_first : (low high : ℕ) (f : NewFile) (files : List NewFile) → rise_between low high (f ∷ files) ≡ true → (low < f.meta.number) × (f.meta.number < high) × (rise_between f.meta.number high files ≡ true)
 rising_first low high f files h =
     let parts = two_parts (nat_lt low f.meta.number && nat_lt f.meta.number high) (rise_between f.meta.number high files) h in
@@ -158,6 +168,12 @@ rising_all low high (f ∷ files) n h (inr m) =
     let b = rest.0 in
     (omega (arith, a, b), rest.1)
 
+-- numbers that rise to below another are below it
+pub rising_below : (low high : Option ℕ) (files : List NewFile) (n : ℕ) → rise_within low high files ≡ true → IsOneOf (numbers_in files) n → n < unwrap_or high 0
+rising_below None high files n h m = absurd cc
+rising_below (Some low) None files n h m = absurd cc
+rising_below (Some low) (Some high) files n h m = (rising_all low high files n h m).1
+
 record IsRising (v : State) (e : Edit) : Type 0 where
   low : ℕ
   is_low : v.next_file ≡ Some low
@@ -174,6 +190,7 @@ pub record IsCounted (v : State) (e : Edit) : Type 0 where
   pub first_free : v.next_file ≡ Some (manifest_of v)
   pub high : ℕ
   pub rises : rise_between (manifest_of v) high e.added ≡ true
+  pub within : rise_within v.next_file e.next_file e.added ≡ true
   pub reached : is_reached e.last_sequence v.last_sequence ≡ true
 
 pub counted_so : (v : State) (e : Edit) → are_counted v e ≡ true → IsCounted v e
@@ -185,5 +202,6 @@ counted_so v e h =
       first_free = r.is_low ∙ ap (λ (n : ℕ). Some n) own;
       high = r.high;
       rises = subst (λ (n : ℕ). rise_between n r.high e.added ≡ true) own r.rises;
+      within = both.0;
       reached = both.1;
     }

@@ -110,7 +110,7 @@ module _ (cmp : KeyOrder) (v : State) (a : Adoption) (tables : List (ℕ × List
 
   -- ---- its tables
 
-  there : (n : ℕ) → IsOneOf (file_numbers cmp a.next) n → IsOneOf (numbers_of tables) n ⊎ IsOneOf (file_numbers cmp v) n
+  pub there : (n : ℕ) → IsOneOf (file_numbers cmp a.next) n → IsOneOf (numbers_of tables) n ⊎ IsOneOf (file_numbers cmp v) n
   there n m = elim (after_edit v a.next (adopted v e) so.applies n (in_files cmp a.next n m)) [
     | inl fresh ↦ inl (subst (λ (ns : List ℕ). IsOneOf ns n) output_numbers fresh)
     | inr old ↦ inr (in_version cmp v n ad.state.levels.file_levels old)

@@ -12,3 +12,8 @@ pub mod EditedVersion
 pub mod SortedMembers
 pub mod KeptReads
 pub mod AdoptionCalls
+pub mod TakenTurns
+pub mod TakenTables
+pub mod TakenEnds
+pub mod TakenSteps
+pub mod JoinedEnds

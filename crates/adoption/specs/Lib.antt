@@ -5,9 +5,12 @@ pub mod Adoption
 pub mod AdoptionLeft
 pub mod AdoptionRuns
 pub mod BothFolders
+pub mod AdoptedOutcome
+pub mod TakenOutcomes
+pub mod TakenIn
 -- serves proofs alone
 pub mod AdoptionIn
 pub mod Overlay
 pub mod OutcomeLeft
-pub mod AdoptedOutcome
 pub mod Beginnings
+pub mod TakingSteps

@@ -12,6 +12,9 @@
 //! Then it is installed as a compaction is, so that a crash at any moment leaves the version before
 //! or the edited one.
 //!
+//! Several outcomes are installed by one manifest with [`take_outcome`] for each of them and then
+//! [`install_taken`]. Each is tested against the version that those before it leave.
+//!
 //! The database may have been in use meanwhile. So the counters of the edit that is installed are
 //! those of the version now.
 #![tactic(auto)]
@@ -22,12 +25,18 @@ mod comparison;
 mod edit_fit;
 mod edited_test;
 mod given_outcome;
+mod joined_installation;
 mod kept_comparison;
 mod kept_entries;
 mod outcome_installation;
+mod outcome_taking;
 mod overlay;
 mod refusals;
+mod taken_outcomes;
 
 pub use adoption_end::AdoptionEnd;
 pub use comparison::Comparison;
+pub use joined_installation::install_taken;
 pub use outcome_installation::install_outcome;
+pub use outcome_taking::take_outcome;
+pub use taken_outcomes::{TakenOutcome, TakenOutcomes, TakingEnd};

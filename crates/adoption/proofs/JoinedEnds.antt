@@ -1,0 +1,156 @@
+-- What the installation of outcomes that were taken in leaves of a folder, from its steps.
+use Rattle.std.proofs.Common.{◌≡◌, ◌⊎◌, ℕ, ◌<◌, ◌^◌, List, [], ◌∷◌, Result, Ok, Err, IfErr, IfOk, IsErrAnd, refl, sym, ap, subst, ◌∙◌, inl, inr}
+use Rattle.std.specs.Cmp.{IsTotalOrder}
+use Rattle.edit.proofs.Edits.{not_both}
+use Rattle.edit.proofs.Refusals.{unless_from}
+use Rattle.edit.specs.Answers.{UnlessMemory, fault}
+use Rattle.edit.specs.fault.Fault.{Fault}
+use Rattle.edit.specs.fault.FaultName.TheVariants.{Apply}
+use Rattle.edit.specs.Comparator.{KeyOrder}
+use Rattle.edit.specs.Edit.{IsEdit, IsEditRefused, edit_bytes}
+use Rattle.edit.specs.Version.{State}
+use Rattle.folder.specs.Calls.{Call, Files, Tells}
+use Rattle.folder.specs.CallSequence.{MakesCalls}
+use Rattle.folder.specs.ReadsAs.{ReadsAs}
+use Rattle.folder.specs.Reports.{OnlyReads, ReportsDevice}
+use Rattle.folder.specs.declared.folder.Folder.{Ghosts}
+use Rattle.folder.specs.declared.order.Order.{Order}
+use Rattle.folder.proofs.CountLemmas.{stops_ok, stops_on}
+use Rattle.install.specs.FolderChange.{change_of}
+use Rattle.install.specs.GroupedInstallation.{IsGroupedInstallation, asked_of}
+use Rattle.install.specs.Install.{IsEditedBy, SurvivesCrash, current_calls, manifest_calls, next_version_tables, table_calls, version_with}
+use Rattle.install.specs.InstallCalls.{IsInstallCalls}
+use Rattle.install.proofs.Grouped.{groups_installed}
+use Rattle.store.proofs.Flow.{no_value}
+use Rattle.store.proofs.InstallPart.{refused_ok}
+use Rattle.store.specs.FolderRequest.{manifest_of}
+use Rattle.adoption.specs.TakenIn.{AreInstalledTogether, AreTaken, IsTakenInstalled, IsTakingStopped, version_in}
+use Rattle.adoption.specs.TakenOutcomes.{AreTakenInTurn, Given, IsLawfulIfAny, edits_in, given_tables, groups_of}
+use Rattle.adoption.specs.TakingSteps.{IsJoinedEnd, IsJoinedManifest, IsManifestInstalled, IsUnready}
+use Rattle.adoption.specs.declared.comparison.Comparison.{Comparison}
+use Rattle.adoption.specs.declared.taken_outcomes.TakenOutcomes.{TakenOutcomes}
+use Rattle.adoption.proofs.TakenEnds.{nothing_since}
+use Rattle.adoption.proofs.TakenSteps.{nothing_written}
+use Rattle.adoption.proofs.TakenTurns.{edited_in_turn, groups_joined, one_edit_of}
+
+-- ---- the same calls, under another answer
+
+calls_err : {F X Y : Type 0} {g : Ghosts F} (one two : List Call) (opened : ℕ) (old new : F) (e : Fault) → IsInstallCalls {X = X} g one two opened old new (Err e) → IsInstallCalls {X = Y} g one two opened old new (Err e)
+calls_err {X = X} {Y = Y} {g = g} one two opened old new e h = record {
+  runs = record { steps = h.runs.steps; made = h.runs.made; appended = h.runs.appended; change = h.runs.change };
+  left = h.left;
+  refused = h.refused;
+  same_current = h.same_current;
+  other_current = h.other_current;
+  device = record { device = h.device.device; at_once = stops_on {X = Y} {Z = X} (g.failed old) (g.failed new) (Err e) (Err e) e refl refl h.device.at_once; later = h.device.later };
+}
+
+calls_ok : {F X Y : Type 0} {g : Ghosts F} (one two : List Call) (opened : ℕ) (old new : F) (x : X) (y : Y) → IsInstallCalls g one two opened old new (Ok x) → IsInstallCalls g one two opened old new (Ok y)
+calls_ok {X = X} {Y = Y} {g = g} one two opened old new x y h = record {
+  runs = record { steps = h.runs.steps; made = h.runs.made; appended = h.runs.appended; change = h.runs.change };
+  left = tt;
+  refused = tt;
+  same_current = λ files told is. tt;
+  other_current = λ files told other. h.other_current files told other;
+  device = record { device = tt; at_once = stops_ok {X = Y} {Z = X} (g.failed old) (g.failed new) x (Ok x) (Ok y) refl h.device.at_once; later = h.device.later };
+}
+
+pub handed_install : {F X Y : Type 0} {g : Ghosts F} (one two : List Call) (opened : ℕ) (old new : F) (r : Result X Fault) (q : Result Y Fault) (e : Fault) → r ≡ Err e → IsErrAnd q (λ f. f ≡ e) → IsInstallCalls g one two opened old new r → IsInstallCalls g one two opened old new q
+handed_install one two opened old new r (Ok y) e was is h = absurd is
+handed_install {X = X} {Y = Y} {g = g} one two opened old new r (Err f) e was is h =
+    subst (λ (d : Fault). IsInstallCalls {X = Y} g one two opened old new (Err d)) (sym is) (calls_err {X = X} {Y = Y} {g = g} one two opened old new e (subst (λ (x : Result X Fault). IsInstallCalls g one two opened old new x) was h))
+
+pub done_install : {F X Y : Type 0} {g : Ghosts F} (one two : List Call) (opened : ℕ) (old new : F) (r : Result X Fault) (x : X) (y : Y) → r ≡ Ok x → IsInstallCalls g one two opened old new r → IsInstallCalls {X = Y} g one two opened old new (Ok y)
+done_install {X = X} {g = g} one two opened old new r x y was h = calls_ok {g = g} one two opened old new x y (subst (λ (z : Result X Fault). IsInstallCalls g one two opened old new z) was h)
+
+-- ---- the ends of the last step
+
+module _ {F : Type 0} (g : Ghosts F) (name : List ℕ) (cmp : KeyOrder) (t : TakenOutcomes) (old : F) where
+  pub unready_end : (r : Result ℕ Fault) (e : Fault) → IsErrAnd r (λ f. f ≡ e) → UnlessMemory e (IsEditRefused t.edits.items e) → IsJoinedEnd g name cmp t old old r
+  unready_end (Ok n) e h why = absurd h
+  unready_end (Err f) e h why = inl (record {
+    nothing = nothing_written g old (Err f) e h;
+    why = subst (λ (d : Fault). UnlessMemory d (IsEditRefused t.edits.items d)) (sym h) why;
+  })
+
+  module _ (new : F) (manifest : List ℕ) (ready : IsJoinedManifest name cmp t.opened.now.version t.edits.items manifest) where
+    abbrev number : ℕ
+    number = manifest_of t.opened.now.version
+
+    pub manifest_refused : {X : Type 0} (q : Result X Fault) (r : Result ℕ Fault) (e : Fault) → q ≡ Err e → IsErrAnd r (λ f. f ≡ e) → IsInstallCalls g (manifest_calls number manifest) (current_calls number) t.opened.now.manifest old new q → IsJoinedEnd g name cmp t old new r
+    manifest_refused q r e was h calls = inr (record {
+      manifest = manifest;
+      ready = ready;
+      calls = handed_install (manifest_calls number manifest) (current_calls number) t.opened.now.manifest old new q r e was h calls;
+      number = refused_ok r e (λ (n : ℕ). n ≡ number) h;
+    })
+
+    pub manifest_done : {X : Type 0} (q : Result X Fault) (x : X) (n : ℕ) → q ≡ Ok x → n ≡ number → IsInstallCalls g (manifest_calls number manifest) (current_calls number) t.opened.now.manifest old new q → IsJoinedEnd g name cmp t old new (Ok n)
+    manifest_done q x n was is calls = inr (record {
+      manifest = manifest;
+      ready = ready;
+      calls = done_install (manifest_calls number manifest) (current_calls number) t.opened.now.manifest old new q x n was calls;
+      number = is;
+    })
+
+-- ---- the end
+
+module _ {F : Type 0} (g : Ghosts F) (name : List ℕ) (cmp : KeyOrder) (total : IsTotalOrder cmp) (comparison : Comparison) (t : TakenOutcomes) (start old new : F) (some : t.edits.items ≡ [] → ⊥) where
+  abbrev first : State
+  first = t.opened.now.version
+
+  abbrev v : State
+  v = version_in t
+
+  abbrev AreWritten : List Given → Type 0
+  AreWritten outcomes = MakesCalls {T = Unit {0}} {E = Fault} (table_calls (groups_of outcomes)) (g.calls start) (g.calls old) (g.tells start) (g.tells old) (Ok tt)
+
+  abbrev AreLawful : List Given → Type 0
+  AreLawful outcomes = (files : Files) (order : Order) (loaded : List (ℕ × List ℕ)) → Tells (g.tells start) files → ReadsAs cmp order first loaded files → IsLawfulIfAny cmp first loaded comparison outcomes v
+
+  -- the edits read as an edit
+  unready : (outcomes : List Given) → AreTakenInTurn cmp first outcomes v → t.edits.items ≡ edits_in outcomes → (e : Fault) → IsEditRefused t.edits.items e → ⊥
+  unready [] turn is e h = some is
+  unready (o ∷ before) turn is e h =
+      let one = one_edit_of cmp first v o before turn in
+      not_both t.edits.items e one.edit h (subst (λ (b : List ℕ). IsEdit b one.edit) (sym is) one.read)
+
+  installed : (outcomes : List Given) → AreTakenInTurn cmp first outcomes v → t.edits.items ≡ edits_in outcomes → AreWritten outcomes → ReportsDevice {X = Unit {0}} g start old (Ok tt) → AreLawful outcomes → (r : Result ℕ Fault) → IsManifestInstalled g name cmp t old new r
+      → AreInstalledTogether g name cmp comparison first v t.opened.now.manifest start new r
+  installed [] turn is written device lawful r i = absurd (some is)
+  installed (o ∷ before) turn is written device lawful r i =
+      let outcomes = o ∷ before in
+      let one = one_edit_of cmp first v o before turn in
+      let edit = i.ready.edit in
+      let read = subst (λ (b : List ℕ). IsEdit b edit) is i.ready.read in
+      let edited = edited_in_turn cmp first v outcomes one edit (edit_bytes edit) read i.ready.again in
+      let number = manifest_of first in
+      let all : IsGroupedInstallation g (asked_of name cmp first t.opened.now.manifest number (groups_of outcomes) (edit_bytes edit)) start new r =
+      groups_installed name cmp first t.opened.now.manifest number (groups_of outcomes) (edit_bytes edit) i.manifest one.low total i.ready.manifest i.ready.state i.ready.snapshot start old new tt r written device.at_once device.later i.calls in
+      record {
+        outcomes = outcomes;
+        in_turn = turn;
+        edit = edit;
+        read = read;
+        edited = edited;
+        runs = all.runs;
+        changed = all.left;
+        survives = λ order loaded named. subst (λ (ts : List (ℕ × List ℕ)). IsEditedBy cmp first number ts (edit_bytes edit) v → SurvivesCrash cmp order (version_with first loaded) (version_with v (next_version_tables cmp v ts loaded)) (change_of g start new) r)
+            (groups_joined outcomes) (all.survives order v loaded named) edited;
+        before = λ order loaded named. all.before order v loaded named (subst (λ (ts : List (ℕ × List ℕ)). IsEditedBy cmp first number ts (edit_bytes edit) v) (sym (groups_joined outcomes)) edited);
+        refused = all.refused;
+        same_current = all.same_current;
+        other_current = λ files told other. no_value r _ (all.other_current files told other);
+        lawful = λ files order loaded told reads. lawful files order loaded told reads;
+        number = i.number;
+      }
+
+  pub installed_end : (r : Result ℕ Fault) → IsJoinedEnd g name cmp t old new r → IsTakenInstalled g name cmp comparison start old new t r
+  installed_end (Ok n) (inl u) taken = absurd u.nothing.refused
+  installed_end (Err e) (inl u) taken =
+      inr (inl (nothing_since g cmp first comparison start old v t.edits.items taken new e u.nothing, unless_from e (IsEditRefused t.edits.items e) ⊥ (unready taken.outcomes taken.in_turn taken.edits_are e) u.why))
+  installed_end r (inr i) taken = inr (inr (installed taken.outcomes taken.in_turn taken.edits_are taken.runs taken.device taken.lawful r i))
+
+-- no outcome was taken
+pub none_end : {F : Type 0} (g : Ghosts F) (name : List ℕ) (cmp : KeyOrder) (comparison : Comparison) (t : TakenOutcomes) (start old : F) (r : Result ℕ Fault) → t.edits.items ≡ [] → IsErrAnd r (λ e. e ≡ fault Apply) → IsTakenInstalled g name cmp comparison start old old t r
+none_end g name cmp comparison t start old r none is taken = inl (record { none = none; reads = record { same = λ n held. ((λ x. x), (λ x. x)); calls = refl }; refused = is })

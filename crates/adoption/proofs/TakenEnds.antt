@@ -1,0 +1,210 @@
+-- What taking an outcome in leaves of a folder, from its steps.
+use Rattle.std.proofs.Common.{◌≡◌, ◌⊎◌, ℕ, ◌<◌, ◌≤◌, Bool, true, false, List, [], ◌∷◌, ◌++◌, map, Some, Result, Ok, Err, IfErr, IfOk, IsErrAnd, OnOk, refl, sym, ap, subst, ◌∙◌, inl, inr, arith}
+use Rattle.std.specs.List.{AllZip}
+use Rattle.std.specs.Cmp.{IsTotalOrder}
+use Rattle.std.proofs.lemmas.List.{map-append}
+use Rattle.edit.proofs.Refusals.{unless}
+use Rattle.edit.specs.Answers.{UnlessMemory, fault}
+use Rattle.edit.specs.fault.Fault.{Fault}
+use Rattle.edit.specs.fault.FaultName.TheVariants.{Apply}
+use Rattle.edit.specs.Comparator.{IsExact, KeyOrder}
+use Rattle.edit.specs.Version.{State}
+use Rattle.folder.specs.Calls.{Call, Done, Files, Step, Tells, ToldFiles}
+use Rattle.folder.specs.CallSequence.{MakesCalls, TellsThrough}
+use Rattle.folder.specs.Folder.{TellsSame}
+use Rattle.folder.specs.Levels.{file_numbers}
+use Rattle.folder.specs.LoadedTables.{IsTableOf}
+use Rattle.folder.specs.Names.{table_name}
+use Rattle.folder.specs.OpenAnswer.{IsStopped}
+use Rattle.folder.specs.ReadsAs.{IsFileIn, IsOneOf, ReadsAs}
+use Rattle.folder.specs.Reports.{ReportsDevice}
+use Rattle.folder.specs.declared.folder.Folder.{Ghosts}
+use Rattle.folder.specs.declared.order.Order.{Order}
+use Rattle.folder.specs.declared.order.Order.TheVariants.{Bytewise}
+use Rattle.folder.proofs.ReportLemmas.{reports_after, reports_then}
+use Rattle.folder.proofs.RunLemmas.{runs_then}
+use Rattle.install.specs.GroupedInstallation.{tables_of_groups}
+use Rattle.install.specs.Install.{SurvivesCrash, next_version_tables, numbers_of, table_bytes_of, table_calls, version_with}
+use Rattle.install.proofs.Changes.{change_by}
+use Rattle.keep.specs.Gets.{get_of}
+use Rattle.keep.specs.Tables.{NumberedContents}
+use Rattle.checks.specs.LawfulTables.{IsLawfulTables}
+use Rattle.store.specs.FolderRequest.{manifest_of}
+use Rattle.store.proofs.InstallPart.{still}
+use Rattle.store.proofs.RunPart.{calls_since}
+use Rattle.levels.specs.PartsEnd.{IsNothingWritten}
+use Rattle.levels.proofs.Ends.{ended_calls}
+use Rattle.levels.proofs.LaidTables.{laid_twice}
+use Rattle.levels.proofs.TablesStand.{version_stays}
+use Rattle.adoption.specs.Adoption.{Adoption, IsGiven}
+use Rattle.adoption.specs.AdoptedOutcome.{IsAdopted}
+use Rattle.adoption.specs.AdoptionLeft.{AdoptedVersion, AdoptionKeepsReads}
+use Rattle.adoption.specs.TakenIn.{AreTaken, IsTakingEnd, IsTakingStopped, version_in}
+use Rattle.adoption.specs.TakenOutcomes.{AreTakenInTurn, Given, IsGivenNext, IsLawfulAfter, IsLawfulIfAny, KeepReadsInTurn, edits_in, given_if, given_tables, groups_of, has_opened_inputs}
+use Rattle.adoption.specs.TakingSteps.{AreTestedOutputs, IsTakingOf, IsTestedNext, IsWritten}
+use Rattle.adoption.specs.declared.comparison.Comparison.{Comparison}
+use Rattle.adoption.specs.declared.comparison.Comparison.TheVariants.{LeftOut, With}
+use Rattle.adoption.specs.declared.taken_outcomes.TakenOutcome.{TakenOutcome}
+use Rattle.adoption.specs.declared.taken_outcomes.TakenOutcomes.{TakenOutcomes}
+use Rattle.adoption.proofs.AdoptionSteps.{given_held}
+use Rattle.adoption.proofs.EditedVersion.{adopted_version, output_above, there}
+use Rattle.adoption.proofs.KeptReads.{keeps_reads}
+use Rattle.adoption.proofs.TakenTables.{TablesAfter, loaded_in_turn, names_apart, tables_after}
+use Rattle.adoption.proofs.TakenTurns.{AreOneEdit, groups_joined, one_edit_of}
+
+-- ---- gets
+
+-- the gets of one more outcome, after those before it
+gets_more : (cmp : KeyOrder) (first v : State) (loaded held : List (ℕ × List ℕ)) (comparison : Comparison) (a : Adoption) (tables : List (ℕ × List ℕ)) (o : Given) (before : List Given) (next : List NumberedContents)
+    → (here : IsLawfulAfter cmp first loaded comparison (o ∷ before) v) → held ≡ next_version_tables cmp v (given_tables (o ∷ before)) loaded → AdoptionKeepsReads cmp v held a comparison next → KeepReadsInTurn cmp first loaded comparison ((a, tables) ∷ (o ∷ before)) a.next next
+gets_more cmp first v loaded held (With snapshots) a tables o before next here is kept =
+    λ found sound user at readable. kept here.tables_next (subst (λ (ts : List (ℕ × List ℕ)). IsLawfulTables cmp v ts (Ok here.tables_next)) (sym is) here.lawful) user at readable.0 ∙ here.gets found sound user at readable.1
+gets_more cmp first v loaded held LeftOut a tables o before next here is kept = tt
+
+gets_alone : (cmp : KeyOrder) (first : State) (loaded : List (ℕ × List ℕ)) (comparison : Comparison) (a : Adoption) (tables : List (ℕ × List ℕ)) (next : List NumberedContents) → AdoptionKeepsReads cmp first loaded a comparison next
+    → KeepReadsInTurn cmp first loaded comparison ((a, tables) ∷ []) a.next next
+gets_alone cmp first loaded (With snapshots) a tables next kept = λ found sound user at readable. kept found sound user at readable.0
+gets_alone cmp first loaded LeftOut a tables next kept = tt
+
+-- ---- the version after one more
+
+-- what is known of the folder in which the outcome was tested
+record IsTestedAt (cmp : KeyOrder) (v : State) (a : Adoption) (tables : List (ℕ × List ℕ)) (comparison : Comparison) (now : Files) (held : List (ℕ × List ℕ)) : Type 0 where
+  version : AdoptedVersion cmp v held (a, tables)
+  gets : AdoptionKeepsReads cmp v held a comparison version.tables_next
+
+module _ (cmp : KeyOrder) (total : IsTotalOrder cmp) (exact : IsExact cmp) (first v : State) (comparison : Comparison) {F : Type 0} (g : Ghosts F) (a : Adoption) (tables : List (ℕ × List ℕ)) (old : F)
+    (outputs : AreTestedOutputs g cmp comparison (a, tables) old) (tested : IsTestedNext g cmp (a, tables) old) where
+  tested_at : (w : State) → IsAdopted cmp w (a, tables) → (now : Files) → Tells (g.tells old) now → (held : List (ℕ × List ℕ)) → AllZip (IsTableOf (IsFileIn now)) (file_numbers cmp w) held → IsTestedAt cmp w a tables comparison now held
+  tested_at w ad now told held read =
+      let t = tested now told in
+      let version = adopted_version cmp w a tables ad now held read t.0 t.1 in
+      record { version = version; gets = keeps_reads cmp total w a tables ad now held read exact comparison version (outputs now told) }
+
+  -- the first outcome
+  alone : (ad : IsAdopted cmp first (a, tables)) (now : Files) → Tells (g.tells old) now → (order : Order) (loaded : List (ℕ × List ℕ)) → ReadsAs cmp order first loaded now → IsLawfulAfter cmp first loaded comparison ((a, tables) ∷ []) a.next
+  alone ad now told order loaded reads =
+      let t = tested_at first ad now told loaded reads.loaded in
+      record { tables_next = t.version.tables_next; lawful = t.version.lawful; gets = gets_alone cmp first loaded comparison a tables t.version.tables_next t.gets }
+
+  -- a later one
+  module _ (o : Given) (before : List Given) (turn : AreTakenInTurn cmp first (o ∷ before) v) (ad : IsAdopted cmp v (a, tables)) where
+    one : AreOneEdit cmp first (o ∷ before) v
+    one = one_edit_of cmp first v o before turn
+
+    abbrev outs : List (ℕ × List ℕ)
+    outs = given_tables (o ∷ before)
+
+    laid : (loaded : List (ℕ × List ℕ)) → next_version_tables cmp a.next tables (next_version_tables cmp v outs loaded) ≡ next_version_tables cmp a.next (outs ++ tables) loaded
+    laid loaded =
+        laid_twice cmp v a.next outs tables loaded (there cmp v a tables ad)
+        (λ n own old. let lt = output_above cmp v a tables ad n own in let x = one.numbers n old in omega (arith, lt, x.1))
+
+    more : (now : Files) → Tells (g.tells old) now → (order : Order) (loaded : List (ℕ × List ℕ)) → ReadsAs cmp order first loaded now → ((n : ℕ) → IsOneOf (numbers_of outs) n → now (table_name n) ≡ Some (table_bytes_of (outs ++ loaded) n))
+        → IsLawfulAfter cmp first loaded comparison (o ∷ before) v → IsLawfulAfter cmp first loaded comparison ((a, tables) ∷ (o ∷ before)) a.next
+    more now told order loaded reads found here =
+        let held = next_version_tables cmp v outs loaded in
+        let t = tested_at v ad now told held (loaded_in_turn cmp first v (o ∷ before) one now loaded reads.loaded found) in
+        record {
+          tables_next = t.version.tables_next;
+          lawful = subst (λ (ts : List (ℕ × List ℕ)). IsLawfulTables cmp a.next ts (Ok t.version.tables_next)) (laid loaded) t.version.lawful;
+          gets = gets_more cmp first v loaded held comparison a tables o before t.version.tables_next here refl t.gets;
+        }
+
+-- ---- the calls
+
+calls_more : (before : List Given) (o : Given) → table_calls (groups_of (o ∷ before)) ≡ table_calls (groups_of before) ++ table_calls (o.1 ∷ [])
+calls_more before o = map-append _ (groups_of before) (o.1 ∷ [])
+
+module _ {F : Type 0} (g : Ghosts F) (cmp : KeyOrder) (first : State) (comparison : Comparison) (start old : F) (v : State) (edits : List ℕ) (t : AreTaken g cmp first comparison start old v edits) where
+  -- what was told when just their tables had been written
+  told_after : TellsThrough (map Done (table_calls (groups_of t.outcomes))) (g.tells start) (g.tells old)
+  told_after = subst (λ (s : List Step). TellsThrough s (g.tells start) (g.tells old)) t.runs.made t.runs.change
+
+  pub read_now : (files : Files) (order : Order) (loaded : List (ℕ × List ℕ)) → Tells (g.tells start) files → ReadsAs cmp order first loaded files → TablesAfter cmp order first loaded (given_tables t.outcomes) (g.tells old)
+  read_now files order loaded told reads =
+      subst (λ (ts : List (ℕ × List ℕ)). TablesAfter cmp order first loaded ts (g.tells old)) (groups_joined t.outcomes)
+      (tables_after cmp order first loaded (groups_of t.outcomes) (names_apart cmp order first v t.outcomes t.in_turn) files (g.tells start) (g.tells old) told reads told_after)
+
+  stopped : {X : Type 0} (outcomes : List Given) (w : State) (turn : AreTakenInTurn cmp first outcomes w) (new : F) (e : Fault) → MakesCalls {T = X} (table_calls (groups_of outcomes)) (g.calls start) (g.calls new) (g.tells start) (g.tells new) (Err e)
+      → IsTakingStopped {T = X} g cmp first start new (Err e)
+  stopped {X = X} outcomes w turn new e runs = record {
+    outcomes = outcomes;
+    v = w;
+    in_turn = turn;
+    runs = runs;
+    survives = λ order loaded. version_stays cmp order first loaded (groups_of outcomes) (names_apart cmp order first w outcomes turn) (g.calls start) (g.calls new) (g.tells start) (g.tells new) e runs;
+    refused = tt;
+  }
+
+  -- nothing was written since
+  pub nothing_since : {X : Type 0} (new : F) (e : Fault) → IsNothingWritten {X = X} g old new (Err e) → IsTakingStopped {T = X} g cmp first start new (Err e)
+  nothing_since {X = X} new e none =
+      stopped t.outcomes v t.in_turn new e
+      (ended_calls {T = Unit {0}} {U = X} (λ f. f ≡ e) (table_calls (groups_of t.outcomes)) (g.calls start) (g.calls new) (g.tells start) (g.tells new) tt (Err e) refl
+      (record { steps = t.runs.steps; made = t.runs.made; appended = none.calls ∙ t.runs.appended; change = λ s told. let last = t.runs.change s told in (last.0, last.1, still (g.tells old) (g.tells new) none.same last.0.files last.2) }))
+
+  module _ (a : Adoption) (tables : List (ℕ × List ℕ)) (ad : IsAdopted cmp v (a, tables)) (opened : has_opened_inputs first (a, tables) ≡ true) (new : F) where
+    abbrev all : List Given
+    all = (a, tables) ∷ t.outcomes
+
+    turn : AreTakenInTurn cmp first all a.next
+    turn = (v, t.in_turn, ad, opened, refl)
+
+    all_runs : {Y : Type 0} (q : Result Y Fault) → MakesCalls (table_calls (tables ∷ [])) (g.calls old) (g.calls new) (g.tells old) (g.tells new) q → MakesCalls (table_calls (groups_of all)) (g.calls start) (g.calls new) (g.tells start) (g.tells new) q
+    all_runs q runs =
+        subst (λ (c : List Call). MakesCalls c (g.calls start) (g.calls new) (g.tells start) (g.tells new) q) (sym (calls_more t.outcomes (a, tables)))
+        (runs_then (table_calls (groups_of t.outcomes)) (table_calls (tables ∷ [])) (g.calls start) (g.calls old) (g.calls new) (g.tells start) (g.tells old) (g.tells new) tt q t.runs runs)
+
+    -- its tables were written up to a call that failed
+    pub written_stopped : {X : Type 0} (e : Fault) → MakesCalls {T = X} (table_calls (tables ∷ [])) (g.calls old) (g.calls new) (g.tells old) (g.tells new) (Err e) → IsTakingStopped {T = X} g cmp first start new (Err e)
+    written_stopped {X = X} e runs = stopped all a.next turn new e (all_runs {Y = X} (Err e) runs)
+
+    -- they all were
+    module _ (total : IsTotalOrder cmp) (exact : IsExact cmp) (outputs : AreTestedOutputs g cmp comparison (a, tables) old) (tested : IsTestedNext g cmp (a, tables) old) where
+      lawful_with : (files : Files) (order : Order) (loaded : List (ℕ × List ℕ)) → Tells (g.tells start) files → ReadsAs cmp order first loaded files → IsLawfulAfter cmp first loaded comparison all a.next
+      lawful_with files order loaded told reads = by t.outcomes t.in_turn (t.lawful files order loaded told reads) (read_now files order loaded told reads)
+        where
+          by : (outcomes : List Given) → AreTakenInTurn cmp first outcomes v → IsLawfulIfAny cmp first loaded comparison outcomes v → TablesAfter cmp order first loaded (given_tables outcomes) (g.tells old) → IsLawfulAfter cmp first loaded comparison ((a, tables) ∷ outcomes) a.next
+          by [] is here after = alone cmp total exact first v comparison g a tables old outputs tested (subst (λ (s : State). IsAdopted cmp s (a, tables)) is ad) after.now after.told order loaded after.reads
+          by (o ∷ before) own here after = more cmp total exact first v comparison g a tables old outputs tested o before own ad after.now after.told order loaded after.reads after.found here
+
+      pub taken_more : {X : Type 0} (x : X) (w : State) (bytes : List ℕ) → w ≡ a.next → bytes ≡ edits ++ a.edit → MakesCalls {E = Fault} (table_calls (tables ∷ [])) (g.calls old) (g.calls new) (g.tells old) (g.tells new) (Ok x) → ReportsDevice g old new (Ok x)
+          → AreTaken g cmp first comparison start new w bytes
+      taken_more {X = X} x w bytes is same runs device = subst (λ (s : State). AreTaken g cmp first comparison start new s bytes) (sym is) (record {
+        outcomes = all;
+        in_turn = turn;
+        edits_are = same ∙ ap (λ (b : List ℕ). b ++ a.edit) t.edits_are;
+        runs = let all_made = all_runs {Y = X} (Ok x) runs in record { steps = all_made.steps; made = all_made.made; appended = all_made.appended; change = all_made.change };
+        device = let both = reports_then {first = Ok tt} refl t.device device in reports_after {first = Ok x} (Ok tt) refl both tt;
+        lawful = lawful_with;
+      })
+
+-- ---- the end of a call
+
+module _ {F : Type 0} (g : Ghosts F) (cmp : KeyOrder) (comparison : Comparison) (old new : F) (t : TakenOutcomes) where
+  pub end_before : (start : F) (e : Fault) → IsNothingWritten {X = TakenOutcome} g old new (Err e) → IsTakingEnd g cmp comparison start old new t (Err e)
+  end_before start e none = λ taken. nothing_since g cmp t.opened.now.version comparison start old (version_in t) t.edits.items taken new e none
+
+  pub end_of : (total : IsTotalOrder cmp) (exact : IsExact cmp) (a : Adoption) (tables : List (ℕ × List ℕ)) → IsAdopted cmp (version_in t) (a, tables) → has_opened_inputs t.opened.now.version (a, tables) ≡ true
+      → (start : F) (r : Result TakenOutcome Fault) → ReportsDevice g old new r → IsTakingOf g cmp comparison (a, tables) old new t r → IsTakingEnd g cmp comparison start old new t r
+  end_of total exact a tables ad opened start (Ok x) device (inl none) = absurd none.refused
+  end_of total exact a tables ad opened start (Ok x) device (inr (outputs, tested, written)) =
+      λ taken. (written.opened, taken_more g cmp t.opened.now.version comparison start old (version_in t) t.edits.items taken a tables ad opened new total exact outputs tested x (version_in x.taken) x.taken.edits.items written.version written.edits written.runs device)
+  end_of total exact a tables ad opened start (Err e) device (inl none) = end_before start e none
+  end_of total exact a tables ad opened start (Err e) device (inr (outputs, tested, written)) =
+      λ taken. written_stopped g cmp t.opened.now.version comparison start old (version_in t) t.edits.items taken a tables ad opened new e written.runs
+
+-- ---- the outcome that a folder holds
+
+pub next_held : (cmp : KeyOrder) (first v : State) (tells : ToldFiles) (files : Files) (r : Result Given Fault) → Tells tells files → IsGivenNext cmp tells first v r → IsGivenNext cmp (IsFileIn files) first v r
+next_held cmp first v tells files r h (Err e, (given, is)) = (Err e, (given_held cmp v tells files (Err e) h given, is))
+next_held cmp first v tells files r h (Ok o, (given, is)) = (Ok o, (given_held cmp v tells files (Ok o) h given, is))
+
+pub next_given : (cmp : KeyOrder) (tells : ToldFiles) (first v : State) (given : Given) → IsGiven cmp tells v (Ok given) → has_opened_inputs first given ≡ true → IsGivenNext cmp tells first v (Ok given)
+next_given cmp tells first v given h opened = (Ok given, (h, ap (λ (b : Bool). given_if b given) (sym opened)))
+
+pub next_unopened : (cmp : KeyOrder) (tells : ToldFiles) (first v : State) (given : Given) (before now : ℕ) (e : Fault) → e ≡ fault Apply → IsGiven cmp tells v (Ok given) → has_opened_inputs first given ≡ false → UnlessMemory e (IsStopped before now e ⊎ IsGivenNext cmp tells first v (Err e))
+next_unopened cmp tells first v given before now e is h other =
+    subst (λ (f : Fault). UnlessMemory f (IsStopped before now f ⊎ IsGivenNext cmp tells first v (Err f))) (sym is)
+    (unless (fault Apply) (IsStopped before now (fault Apply) ⊎ IsGivenNext cmp tells first v (Err (fault Apply))) (inr (Ok given, (h, ap (λ (b : Bool). given_if b given) (sym other)))))

@@ -1,0 +1,283 @@
+//! Takes in an outcome, to install it together with others.
+
+ghost use Rattle.std.specs.Prelude.{◌≡◌, ◌++◌, [], true, Ok, IfErr, IfOk, nat_lt};
+ghost use Rattle.std.specs.List.{list_all};
+ghost use Rattle.edit.specs.Answers.{fault};
+ghost use Rattle.edit.specs.fault.FaultName.TheVariants.{Memory};
+ghost use Rattle.folder.specs.Calls.{Files, Tells};
+ghost use Rattle.folder.specs.OpenAnswer.{FolderAnswers};
+ghost use Rattle.folder.specs.Orders.{order_cmp};
+ghost use Rattle.folder.specs.Reports.{OnlyReads, ReportsDevice};
+ghost use Rattle.adoption.specs.Adoption.{IsEditedInstalled, IsGivenInstalled, adopted_step};
+ghost use Rattle.adoption.specs.AdoptedOutcome.{IsAdopted};
+ghost use Rattle.adoption.specs.AdoptionIn.{given_in};
+ghost use Rattle.adoption.specs.BothFolders.{AnswersFrom, HasEitherFailed, ReportsEither};
+ghost use Rattle.adoption.specs.TakenIn.{IsTakingEnd, step_taken, version_in};
+ghost use Rattle.adoption.specs.TakenOutcomes.{IsGivenNext, IsTakenFrom, has_opened_inputs};
+ghost use Rattle.adoption.specs.TakingSteps.{IsTakingOf, IsTestedTaking, IsWrittenTaking};
+
+use crate::comparison::Comparison;
+use crate::edited_test::test_edited;
+use crate::given_outcome::{GivenOutcome, given_outcome};
+use crate::kept_comparison::test_outputs;
+use crate::taken_outcomes::{TakenOutcome, TakenOutcomes, TakingEnd};
+use checks::{SharedComparator, Watch, Workers};
+use edit::{Comparator, Fault, FaultName, Version};
+use folder::{Bytewise, Folder, Order, Shortlex};
+use install::write_group;
+use pick::InputFile;
+use std::alloc::Global;
+use std::thread::Threads;
+use store::{SyncedVersion, manifest_of, outcome_step};
+
+impl<'o> TakenOutcomes<'o> {
+    /// No outcome yet, for what a folder was `opened` as.
+    pub fn none(alloc: Global, opened: &'o SyncedVersion) -> TakenOutcomes<'o>
+        ensures opened { result.opened.now ≡ opened.now }
+        ensures version { version_in result ≡ opened.now.version }
+        ensures edits { result.edits.items ≡ [] }
+    {
+        TakenOutcomes {
+            opened,
+            next: None,
+            edits: Vec::new(alloc),
+        }
+    }
+}
+
+/// The version that outcomes leave: at first the one that was opened.
+fn version_left<'t, 'o>(taken: &'t TakenOutcomes<'o>) -> &'t Version
+    ensures { result.now ≡ version_in taken.now }
+{
+    match &taken.next {
+        Some(version) => version,
+        None => &taken.opened.version,
+    }
+}
+
+/// Takes in the outcome that `source` holds, after those that were `taken`: tests it as
+/// [`install_outcome`] does, against the version that they leave, and writes its tables. Nothing is
+/// installed yet: [`install_taken`] does that, for all outcomes by one manifest.
+///
+/// Only one outcome is held in memory at a time.
+///
+/// The first that applies:
+///
+/// - what [`install_outcome`] is refused as before it tests outputs, for the version that the
+///   outcomes before leave;
+/// - Apply: an input isn't a file of the version that was opened, but an output of an outcome
+///   before;
+/// - what [`install_outcome`] is refused as before it installs.
+///
+/// If the device fails a call on one of the folders, the answer is Device and no further call is
+/// made. If memory runs out, it is Memory. Whatever the answer, the folder reads as what was opened.
+/// After a refusal there is nothing to install any more, and what was written are tables that no
+/// version names.
+///
+/// [`install_outcome`]: crate::install_outcome
+/// [`install_taken`]: crate::install_taken
+pub fn take_outcome<'o, F: Folder + Drop, G: Folder, W: Watch + Sync, R: Threads + Sync>(
+    workers: &Workers<'_, R, W>,
+    folder: F,
+    source: &mut G,
+    taken: TakenOutcomes<'o>,
+    comparison: Comparison<'_>,
+    memory: u64,
+) -> TakingEnd<'o, F>
+    // If both folders tell files: the step of the outcome, or its first refusal.
+    ensures answer { (files given : Files) → Tells (F.tells folder) files →
+        Tells (G.tells source.old) given →
+        AnswersFrom step_taken (HasEitherFailed F.Folder G.Folder folder result.folder source.old
+        source.new) result.answer (IsTakenFrom (order_cmp taken.entry.opened.now.order) files given
+        taken.entry.opened.now.version (version_in taken.entry) comparison.entry) }
+    // If outcomes were taken in from a folder on, this one was after them; or it was refused, and
+    // the folder stands for what was opened.
+    ensures taken { (first : F) → IsTakingEnd F.Folder (order_cmp taken.entry.opened.now.order)
+        comparison.entry first folder result.folder taken.entry result.answer }
+    ensures device { ReportsEither F.Folder G.Folder folder result.folder source.old
+        source.new result.answer }
+    ensures reads { OnlyReads G.Folder source.old source.new }
+{
+    match taken.opened.order {
+        Order::Bytewise => take_from::<Bytewise, F, G, W, R>(
+            workers, folder, source, taken, comparison, memory,
+        ),
+        Order::Shortlex => take_from::<Shortlex, F, G, W, R>(
+            workers, folder, source, taken, comparison, memory,
+        ),
+    }
+}
+
+/// The same by this comparator.
+fn take_from<
+    'o,
+    C: SharedComparator + 'static,
+    F: Folder + Drop,
+    G: Folder,
+    W: Watch + Sync,
+    R: Threads + Sync,
+>(
+    workers: &Workers<'_, R, W>,
+    folder: F,
+    source: &mut G,
+    taken: TakenOutcomes<'o>,
+    comparison: Comparison<'_>,
+    memory: u64,
+) -> TakingEnd<'o, F>
+    ensures answer { (files given : Files) → Tells (F.tells folder) files →
+        Tells (G.tells source.old) given →
+        AnswersFrom step_taken (HasEitherFailed F.Folder G.Folder folder result.folder source.old
+        source.new) result.answer (IsTakenFrom C.cmp files given taken.entry.opened.now.version
+        (version_in taken.entry) comparison.entry) }
+    ensures taken { (first : F) → IsTakingEnd F.Folder C.cmp comparison.entry first folder
+        result.folder taken.entry result.answer }
+    ensures device { ReportsEither F.Folder G.Folder folder result.folder source.old
+        source.new result.answer }
+    ensures reads { OnlyReads G.Folder source.old source.new }
+{
+    let alloc = workers.alloc();
+    match outcome_after::<C, G>(alloc, source, &taken) {
+        Ok(given) => take_given::<C, F, W, R>(workers, folder, taken, given, comparison, memory),
+        Err(fault) => TakingEnd {
+            folder,
+            answer: Err(fault),
+        },
+    }
+}
+
+/// The outcome that a folder holds, for the version that those before it leave. It only reads.
+///
+/// The first that applies: what [`given_outcome`] refuses; Apply, if an input isn't a file of the
+/// version that was opened.
+fn outcome_after<C: Comparator, G: Folder>(
+    alloc: Global,
+    source: &mut G,
+    taken: &TakenOutcomes<'_>,
+) -> Result<GivenOutcome, Fault>
+    ensures answer { FolderAnswers given_in (G.failed source.old) (G.failed source.new) result
+        (IsGivenNext C.cmp (G.tells source.old) taken.now.opened.now.version
+        (version_in taken.now)) }
+    ensures adopted { IfOk result (λ g. IsAdopted C.cmp (version_in taken.now) (given_in g)
+        × (has_opened_inputs taken.now.opened.now.version (given_in g) ≡ true)) }
+    ensures device { ReportsDevice G.Folder source.old source.new result }
+    ensures reads { OnlyReads G.Folder source.old source.new }
+{
+    let given = given_outcome::<C, G>(alloc, source, version_left(taken))?;
+    if !are_below(&given.picked.files, manifest_of(&taken.opened.version)) {
+        return Err(Fault::of(FaultName::Apply));
+    }
+    Ok(given)
+}
+
+/// Whether the numbers of all files are below this one.
+fn are_below(files: &[InputFile], number: u64) -> bool
+    ensures { result ≡ list_all (λ f. nat_lt f.meta.number number) files.now }
+{
+    files.iter().all(|file| file.meta.number < number)
+}
+
+/// Tests an outcome that was adopted, and writes its tables.
+fn take_given<
+    'o,
+    C: SharedComparator + 'static,
+    F: Folder + Drop,
+    W: Watch + Sync,
+    R: Threads + Sync,
+>(
+    workers: &Workers<'_, R, W>,
+    folder: F,
+    taken: TakenOutcomes<'o>,
+    given: GivenOutcome,
+    comparison: Comparison<'_>,
+    memory: u64,
+) -> TakingEnd<'o, F>
+    requires { IsAdopted C.cmp (version_in taken) (given_in given) }
+    ensures answer { (files : Files) → Tells (F.tells folder) files →
+        FolderAnswers step_taken (F.failed folder) (F.failed result.folder) result.answer
+        (IsGivenInstalled C.cmp files (version_in taken.entry) (given_in given) comparison.entry) }
+    ensures taken { IsTakingOf F.Folder C.cmp comparison.entry (given_in given) folder
+        result.folder taken.entry result.answer }
+    ensures device { ReportsDevice F.Folder folder result.folder result.answer }
+{
+    let mut folder = folder;
+    match test_outputs::<C, F, W, R>(workers, &mut folder, &given, comparison) {
+        Ok(()) => take_tested::<C, F, W, R>(workers, folder, taken, given, memory),
+        Err(fault) => TakingEnd {
+            folder,
+            answer: Err(fault),
+        },
+    }
+}
+
+/// Tests the edited version, and writes the tables of an outcome whose outputs were tested.
+fn take_tested<
+    'o,
+    C: SharedComparator + 'static,
+    F: Folder + Drop,
+    W: Watch + Sync,
+    R: Threads + Sync,
+>(
+    workers: &Workers<'_, R, W>,
+    folder: F,
+    taken: TakenOutcomes<'o>,
+    given: GivenOutcome,
+    memory: u64,
+) -> TakingEnd<'o, F>
+    ensures answer { (files : Files) → Tells (F.tells folder) files →
+        FolderAnswers step_taken (F.failed folder) (F.failed result.folder) result.answer
+        (IsEditedInstalled C.cmp files (version_in taken.entry) (given_in given)) }
+    ensures taken { IsTestedTaking F.Folder C.cmp (given_in given) folder result.folder taken.entry
+        result.answer }
+    ensures device { ReportsDevice F.Folder folder result.folder result.answer }
+{
+    let tables = given.outcome.tables.as_slice();
+    let end = test_edited::<C, F, W, R>(workers, folder, &given.next, tables, memory);
+    match end.answer {
+        Ok(_) => {
+            let mut folder = end.folder;
+            let (rt, alloc) = (workers.threads(), workers.alloc());
+            let answer = write_taken::<F, R>(rt, alloc, &mut folder, taken, given);
+            TakingEnd { folder, answer }
+        }
+        Err(fault) => TakingEnd {
+            folder: end.folder,
+            answer: Err(fault),
+        },
+    }
+}
+
+/// Writes the tables of an outcome that was tested.
+fn write_taken<'o, F: Folder, R: Threads + Sync>(
+    rt: &R,
+    alloc: Global,
+    folder: &mut F,
+    taken: TakenOutcomes<'o>,
+    given: GivenOutcome,
+) -> Result<TakenOutcome<'o>, Fault>
+    ensures answer { FolderAnswers step_taken (F.failed folder.old) (F.failed folder.new) result
+        (λ answer. answer ≡ Ok (adopted_step (version_in taken.entry) (given_in given))) }
+    ensures taken { IsWrittenTaking F.Folder (given_in given) folder.old folder.new taken.entry result }
+    ensures device { ReportsDevice F.Folder folder.old folder.new result }
+{
+    let step = outcome_step(alloc, version_left(&taken), &given.picked, &given.outcome)?;
+    let edits = joined(alloc, &taken.edits, &given.outcome.edit)?;
+    write_group(rt, folder, &given.outcome.tables)?;
+    Ok(TakenOutcome {
+        taken: TakenOutcomes {
+            opened: taken.opened,
+            next: Some(given.next),
+            edits,
+        },
+        step,
+    })
+}
+
+/// Bytes, and then others.
+fn joined(alloc: Global, first: &[u8], then: &[u8]) -> Result<Vec<u8>, Fault>
+    ensures ok { IfOk result (λ v. v.items ≡ first.now ++ then.now) }
+    ensures memory { IfErr result (λ e. e ≡ fault Memory) }
+{
+    let mut bytes = Vec::from_slice(alloc, first)?;
+    bytes.extend_from_slice(then)?;
+    Ok(bytes)
+}

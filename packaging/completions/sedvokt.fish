@@ -69,7 +69,7 @@ complete -c sedvokt -n '__fish_seen_subcommand_from job' -l parts -d 'The parts 
 complete -c sedvokt -n '__fish_seen_subcommand_from job compact' -l level -x -a '0 1 2 3 4 5' \
     -d 'The level whose files move down'
 complete -c sedvokt -n $compact -l all -d 'All levels, down to the deepest'
-complete -c sedvokt -n $compact -l whole -d 'All files of the level, by one manifest'
+complete -c sedvokt -n $compact -l whole -d 'All files of a level, by one manifest'
 complete -c sedvokt -n $compact -l out -x -a '(__fish_complete_directories)' \
     -d 'The folder that gets the outcome'
 complete -c sedvokt -n $compact -l part -x -d 'The number of a part of the level'

@@ -97,8 +97,19 @@ pub(crate) fn clean_installed<R: SystemFiles + Print + AllocGlobal>(
     before: &Version,
     is_json: bool,
 ) -> Result<(), Refusal> {
+    clean_named(rt, path, folder, before.next_file(), is_json)
+}
+
+/// The same after the installation of the manifest of a number.
+pub(crate) fn clean_named<R: SystemFiles + Print + AllocGlobal>(
+    rt: &R,
+    path: &str,
+    folder: &mut Disk<'_, R>,
+    manifest: Option<u64>,
+    is_json: bool,
+) -> Result<(), Refusal> {
     let opened = open_in(rt, path, folder)?;
-    if before.next_file() != Some(opened.manifest) {
+    if manifest != Some(opened.manifest) {
         return Err(Fault::of(FaultName::Changed).into());
     }
     sizes_tested(rt, path, &opened)?;

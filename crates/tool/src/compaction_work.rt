@@ -1,12 +1,12 @@
 //! The compaction of a folder, from its path to what is printed.
 
 use crate::clean_printer::CleanPrinter;
-use crate::clean_work::{RemovalPrinter, clean_installed};
+use crate::clean_work::{RemovalPrinter, clean_installed, clean_named};
 use crate::compaction_notes::note_of;
 use crate::step_printer::{StepPrinter, explain, print_step, tell_step, unprinted};
 use crate::version_sync::sync;
 use folder::{Bytewise, Disk, Fault, FaultName, Opened, SystemFiles, Version};
-use levels::compact_level;
+use levels::{compact_level, compact_whole_levels};
 use session::{
     Host, LAST_LEVEL, ProgressLine, Refusal, Telling, begin_in, bytes_of, compaction_explained,
     locked_to_change, refused_at, sizes_tested,
@@ -56,7 +56,7 @@ pub(crate) fn compact_folder<R: Host>(
 fn one_level(levels: Levels) -> Option<u64> {
     match levels {
         Levels::One(level) | Levels::Whole(level) => Some(level),
-        Levels::All => None,
+        Levels::All | Levels::AllWhole => None,
     }
 }
 
@@ -93,6 +93,7 @@ fn compact_synced<R: Host>(
             compact_one(rt, telling, folder, &synced, level, task)
         }
         Levels::All => compact_all(rt, telling, folder, synced, task),
+        Levels::AllWhole => compact_whole(rt, telling, folder, &synced, task),
     }
 }
 
@@ -109,7 +110,7 @@ fn nothing_compacted<R: Host>(
         Levels::One(level) | Levels::Whole(level) => {
             Err(refusal_of_level(rt, telling, folder, opened, level, task))
         }
-        Levels::All => {
+        Levels::All | Levels::AllWhole => {
             let progress = ProgressLine::new(rt, telling);
             let (order, version) = (opened.order, &opened.version);
             let steps = StepPrinter::new(rt, telling, &progress, order, version, task)?;
@@ -154,7 +155,7 @@ fn is_due(alloc: Global, version: &Version, levels: Levels) -> Result<bool, Faul
             }
             Ok(!version.files::<Bytewise>(alloc, level)?.is_empty())
         }
-        Levels::All => {
+        Levels::All | Levels::AllWhole => {
             let bottom = bottom(alloc, version)?;
             Ok(next_level(alloc, version, bottom)?.is_some())
         }
@@ -273,6 +274,44 @@ fn compact_all<R: Host>(
         Ok(_) => steps.end(),
         Err(fault) => Err(refused_at(rt, telling.folder, folder, fault)),
     }
+}
+
+/// Compacts all of the first level that has a file, and so on, until all files are at the bottom.
+/// Each step is printed when it is installed. After the last one files are removed, if that is
+/// asked for.
+fn compact_whole<R: Host>(
+    rt: &R,
+    telling: Telling<'_>,
+    folder: &mut Disk<'_, R>,
+    opened: &SyncedVersion,
+    task: CompactionTask<'_>,
+) -> Result<(), Refusal> {
+    let progress = ProgressLine::new(rt, telling);
+    let (order, version) = (opened.order, &opened.version);
+    let mut steps = StepPrinter::new(rt, telling, &progress, order, version, task)?;
+    let end = whole_descended(rt, folder, opened, task, &mut steps);
+    progress.erase();
+    end.map_err(|fault| refused_at(rt, telling.folder, folder, fault))?;
+    let manifest = steps.manifest();
+    steps.end()?;
+    if task.cleans {
+        clean_named(rt, telling.folder, folder, manifest, task.is_json)?;
+    }
+    Ok(())
+}
+
+/// Tests what a folder was opened as, and compacts all its levels, each as a whole.
+fn whole_descended<R: Host>(
+    rt: &R,
+    folder: &mut Disk<'_, R>,
+    opened: &SyncedVersion,
+    task: CompactionTask<'_>,
+    steps: &mut StepPrinter<'_, R>,
+) -> Result<DescentEnd, Fault> {
+    let memory = bytes_of(task.testing.memory);
+    let progress = steps.progress();
+    let workers = checkers(rt, rt.alloc(), progress);
+    compact_whole_levels(&workers, folder, opened, task.settings, memory, steps)
 }
 
 /// Compacts all levels of what a folder was opened as, and tests it before, if that is asked for.

@@ -1,21 +1,21 @@
-//! The installation of an outcome, from the paths to what is printed.
+//! The installation of outcomes, from the paths to what is printed.
 
 use crate::clean_work::clean_installed;
 use crate::compaction_notes::{loses_filters, tell_no_filters};
+use crate::install_steps::{InstallationEnd, outcomes_installed};
 use crate::outcome_refusal::outcome_explained;
 use crate::step_printer::{print_step_lines, unprinted};
 use crate::version_sync::sync;
-use adoption::{AdoptionEnd, Comparison, install_outcome};
-use folder::Disk;
+use folder::{Disk, Version};
 use session::{
-    Beginning, Host, ProgressLine, Refusal, Telling, begin_in, bytes_of, explained,
-    locked_to_change, refused_at, sizes_tested, tell_time,
+    Beginning, Host, Refusal, Telling, begin_in, explained, locked_to_change, sizes_tested,
+    tell_time,
 };
-use store::{CompactionStep, SyncedVersion, checkers};
+use store::{CompactionStep, SyncedVersion};
 use usage::{InstallLine, Levels};
 
-/// Installs in a folder the outcome that another one has. The folder is locked before anything is
-/// read of it, and what it was opened as is synced, so that it outlives a crash.
+/// Installs in a folder the outcomes that others have. The folder is locked before anything is read
+/// of it, and what it was opened as is synced, so that it outlives a crash.
 pub(crate) fn install_compaction<R: Host>(
     rt: &R,
     telling: Telling<'_>,
@@ -30,7 +30,7 @@ pub(crate) fn install_compaction<R: Host>(
     }
 }
 
-/// Installs an outcome in what a folder was opened as, and prints what was installed.
+/// Installs outcomes in what a folder was opened as, and prints what was installed.
 fn install_in<'x, R: Host>(
     rt: &'x R,
     telling: Telling<'x>,
@@ -39,13 +39,18 @@ fn install_in<'x, R: Host>(
     opened: &SyncedVersion,
     begun: Option<Beginning>,
 ) -> Result<(), Refusal> {
-    let InstallationEnd { mut folder, step } = outcome_installed(rt, telling, line, folder, opened);
+    let end = outcomes_installed(rt, telling, line, folder, opened);
+    let InstallationEnd {
+        mut folder,
+        done,
+        step,
+    } = end;
     match step {
         Ok(step) => {
             tell_time(rt, "install", begun);
             tell_installed(rt, telling, line, &mut folder, opened, &step)
         }
-        Err(refusal) => Err(outcome_explained(rt, telling, line, opened, refusal)),
+        Err(refusal) => Err(outcome_explained(rt, telling, line, done, opened, refusal)),
     }
 }
 
@@ -58,7 +63,7 @@ fn tell_installed<R: Host>(
     opened: &SyncedVersion,
     step: &CompactionStep,
 ) -> Result<(), Refusal> {
-    let loses_filters = loses_filters(rt, telling, line.out, &opened.version);
+    let loses_filters = lose_filters(rt, telling, line, &opened.version);
     if let Err(refusal) = print_step_lines(rt, step) {
         return Err(unprinted(rt.alloc(), telling.folder, Levels::One(0), refusal));
     }
@@ -69,13 +74,6 @@ fn tell_installed<R: Host>(
         return Ok(());
     }
     clean_installed(rt, telling.folder, folder, &opened.version, false)
-}
-
-/// A folder after an installation, and what was installed.
-#[derive(Drop)]
-struct InstallationEnd<'r, R> {
-    folder: Disk<'r, R>,
-    step: Result<CompactionStep, Refusal>,
 }
 
 /// What a folder is opened as, synced.
@@ -90,37 +88,14 @@ fn opened_to_install<R: Host>(
     sync(rt, telling.folder, folder, opened)
 }
 
-/// Installs an outcome in what a folder was opened as.
-fn outcome_installed<'x, R: Host>(
-    rt: &'x R,
-    telling: Telling<'x>,
-    line: &'x InstallLine<'x>,
-    folder: Disk<'x, R>,
-    opened: &SyncedVersion,
-) -> InstallationEnd<'x, R> {
-    let memory = bytes_of(line.testing.memory);
-    let comparison = if line.testing.is_skipped {
-        Comparison::LeftOut
-    } else {
-        Comparison::With(line.snapshots)
-    };
-    let progress = ProgressLine::new(rt, telling);
-    let mut out = Disk::new(rt, line.out);
-    let AdoptionEnd { folder, answer } = install_outcome(
-        &checkers(rt, rt.alloc(), &progress),
-        folder,
-        &mut out,
-        opened,
-        comparison,
-        memory,
-    );
-    progress.erase();
-    let step = answer.map_err(|fault| {
-        if out.last_failure().is_some() {
-            refused_at(rt, line.out, &out, fault)
-        } else {
-            refused_at(rt, telling.folder, &folder, fault)
-        }
-    });
-    InstallationEnd { folder, step }
+/// Whether it is to be told that filters are gone by one of the outcomes.
+fn lose_filters<R: Host>(
+    rt: &R,
+    telling: Telling<'_>,
+    line: &InstallLine<'_>,
+    before: &Version,
+) -> bool {
+    line.outs
+        .iter()
+        .any(|out| loses_filters(rt, telling, out, before))
 }

@@ -10,6 +10,7 @@ mod clean_printer;
 mod clean_work;
 mod compaction_notes;
 mod compaction_work;
+mod install_steps;
 mod install_work;
 mod job_printer;
 mod out_folder;

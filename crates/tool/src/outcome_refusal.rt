@@ -16,13 +16,14 @@ const REMEDY: &str = "make the outcome again";
 /// What to do about an outcome whose numbers were given away since.
 const NUMBER_REMEDY: &str = "make the outcome again with a --first-number above it";
 
-/// The refusal of an outcome for what a folder was `opened` as, with what is told of it. That is the
-/// first file of the outcome that is refused, else the first one of the folder. The name is told
-/// before they are read.
+/// The refusal of an installation of outcomes in what a folder was `opened` as, with what is told
+/// of it. That is the first refused file of the outcome after those that were taken in, else the
+/// first one of the folder. The name is told before they are read.
 pub(crate) fn outcome_explained<'a, R: Host>(
     rt: &'a R,
     telling: Telling<'_>,
     line: &InstallLine<'a>,
+    done: u64,
     opened: &SyncedVersion,
     refusal: Refusal,
 ) -> Refusal {
@@ -30,20 +31,56 @@ pub(crate) fn outcome_explained<'a, R: Host>(
     if refusal.told.is_some() || is_of_no_file(name) {
         return refusal;
     }
+    let is_first = done == 0;
+    match line.outs.get(done as usize) {
+        Some(out) => {
+            one_explained(
+                rt,
+                telling,
+                line,
+                OutcomePlace { out, is_first },
+                opened,
+                refusal,
+            )
+        }
+        None => refusal,
+    }
+}
+
+/// An outcome among others.
+#[derive(Clone, Copy)]
+struct OutcomePlace<'a> {
+    /// The path of its folder.
+    out: &'a str,
+    /// Whether none is before it.
+    is_first: bool,
+}
+
+/// The refusal of an outcome, with what is told of it.
+fn one_explained<'a, R: Host>(
+    rt: &'a R,
+    telling: Telling<'_>,
+    line: &InstallLine<'a>,
+    place: OutcomePlace<'a>,
+    opened: &SyncedVersion,
+    refusal: Refusal,
+) -> Refusal {
+    let out = place.out;
+    let name = refusal.fault.name;
     let mut refusal = refusal;
     refusal.tell_name(rt);
-    match outcome_file(rt, line.out, opened.order, name) {
-        Some(file) => refusal.telling(file_refusal(rt.alloc(), line.out, &file)),
-        None if name == FaultName::Apply => refusal.telling(misfit(rt, line.out, opened)),
-        None => explained_of_folder(rt, telling, line, refusal),
+    match outcome_file(rt, out, opened.order, name) {
+        Some(file) => refusal.telling(file_refusal(rt.alloc(), out, &file)),
+        None if name == FaultName::Apply => refusal.telling(misfit(rt, place, opened)),
+        None => explained_of_folder(rt, telling, line, out, refusal),
     }
 }
 
 /// What is told of an outcome that doesn't fit what a folder was `opened` as.
-fn misfit<R: Host>(rt: &R, out: &str, opened: &SyncedVersion) -> Option<RefusalText> {
+fn misfit<R: Host>(rt: &R, place: OutcomePlace<'_>, opened: &SyncedVersion) -> Option<RefusalText> {
     let alloc = rt.alloc();
-    let path = path_in(alloc, out, EDIT)?;
-    match number_taken(rt, out, opened) {
+    let path = path_in(alloc, place.out, EDIT)?;
+    match number_taken(rt, place.out, opened) {
         Ok(Some(number)) => {
             let next = manifest_of(&opened.version);
             let wrong = format!(in alloc;
@@ -51,13 +88,19 @@ fn misfit<R: Host>(rt: &R, out: &str, opened: &SyncedVersion) -> Option<RefusalT
             );
             RefusalText::new(alloc, path.as_str(), wrong, NUMBER_REMEDY)
         }
-        _ => {
-            let words = Words {
-                wrong: "it does not fit the version of the database",
-                remedy: REMEDY,
-            };
-            told(alloc, path.as_str(), words)
-        }
+        _ => told(alloc, path.as_str(), misfit_words(place)),
+    }
+}
+
+/// What is wrong with an outcome that doesn't fit.
+fn misfit_words(place: OutcomePlace<'_>) -> Words {
+    Words {
+        wrong: if place.is_first {
+            "it does not fit the version of the database"
+        } else {
+            "it does not fit the version that the outcomes before it leave"
+        },
+        remedy: REMEDY,
     }
 }
 
@@ -103,6 +146,7 @@ fn explained_of_folder<'a, R: Host>(
     rt: &'a R,
     telling: Telling<'_>,
     line: &InstallLine<'a>,
+    out: &str,
     refusal: Refusal,
 ) -> Refusal {
     let name = refusal.fault.name;
@@ -114,7 +158,7 @@ fn explained_of_folder<'a, R: Host>(
     if explained.told.is_some() {
         return explained;
     }
-    explained.telling(outcome_refusal(rt.alloc(), line.out, name))
+    explained.telling(outcome_refusal(rt.alloc(), out, name))
 }
 
 /// Whether a refusal of this name is about no file that can be found.

@@ -38,6 +38,8 @@ pub(crate) struct StepPrinter<'t, R> {
     has_told_filters: bool,
     /// How many steps are done.
     done: u64,
+    /// The number of the manifest of the last step.
+    manifest: Option<u64>,
     /// When the step began, if that is told.
     begun: Option<Beginning>,
     /// Why the lines of a step could not be printed, or why it was refused to go on after it. No
@@ -49,6 +51,11 @@ impl<'t, R> StepPrinter<'t, R> {
     /// The line of progress of the steps.
     pub fn progress(&self) -> &'t ProgressLine<'t, R> {
         self.progress
+    }
+
+    /// The number of the manifest of the last step; None before the first.
+    pub fn manifest(&self) -> Option<u64> {
+        self.manifest
     }
 
     /// No step comes after the last one, for this reason.
@@ -80,6 +87,7 @@ impl<'t, R: Eprint + Clock + AllocGlobal> StepPrinter<'t, R> {
             after: None,
             has_told_filters: false,
             done: 0,
+            manifest: None,
             begun: telling.begin(rt),
             refusal: None,
         };
@@ -158,6 +166,7 @@ impl<'t, R: SystemFiles + Print + Eprint + Clock + AllocGlobal> StepPrinter<'t, 
         after: Option<&Version>,
     ) -> bool {
         self.progress.erase();
+        self.manifest = Some(step.manifest);
         tell_step(self.rt, level, self.begun);
         let folder = self.telling.folder;
         let note = self.note_of(before, step);
@@ -234,7 +243,7 @@ pub(crate) fn unprinted(alloc: Global, folder: &str, levels: Levels, refusal: Re
             wrong: "the new version is installed, but its lines could not be written",
             remedy: "manifest shows it",
         },
-        Levels::All => Words {
+        Levels::All | Levels::AllWhole => Words {
             wrong: "the step is installed, but its lines could not be written, so the work stopped",
             remedy: "run it again",
         },

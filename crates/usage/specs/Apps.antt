@@ -106,8 +106,9 @@ app_of_name Clean = command_app (codes "clean") (place_rule (codes "DIR")
 app_of_name Job = command_app (codes "job") (place_rule (codes "DIR")
     ∷ wanted (number_rule (codes "level")) ∷ flag_rule (codes "parts") ∷ [])
 app_of_name Install = command_app (codes "install") (place_rule (codes "DIR")
-    ∷ place_rule (codes "OUT") ∷ number_rule (codes "snapshot") ∷ value_rule (codes "snapshots")
-    ∷ flag_rule (codes "no-verify") ∷ memory_rule ∷ flag_rule (codes "clean") ∷ [])
+    ∷ wanted (places_rule (codes "OUT")) ∷ number_rule (codes "snapshot")
+    ∷ value_rule (codes "snapshots") ∷ flag_rule (codes "no-verify") ∷ memory_rule
+    ∷ flag_rule (codes "clean") ∷ [])
 app_of_name Blocks = command_app (codes "blocks") (place_rule (codes "A") ∷ place_rule (codes "B")
     ∷ wanted (value_rule (codes "at")) ∷ place_rule (codes "OUT") ∷ [])
 

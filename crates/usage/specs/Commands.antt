@@ -9,7 +9,7 @@ use Rattle.usage.specs.Apps.{places_rule}
 use Rattle.usage.specs.Apps.{value_rule, wanted}
 use Rattle.usage.specs.declared.argument.Argument.{Argument}
 use Rattle.usage.specs.declared.argument.Argument.TheVariants.{Place, FreePlace, FreePlaces}
-use Rattle.usage.specs.declared.argument.Argument.TheVariants.{Flag, ShortFlag}
+use Rattle.usage.specs.declared.argument.Argument.TheVariants.{Flag, Places, ShortFlag}
 use Rattle.usage.specs.declared.argument.Argument.TheVariants.{Value, WantedValue, Number}
 use Rattle.usage.specs.declared.argument.Argument.TheVariants.{WantedNumber, Memory}
 use Rattle.usage.specs.declared.descriptions.Description.{Description}
@@ -33,6 +33,7 @@ abbrev pub rule_of_argument : Argument → Rule
 rule_of_argument (Place id help) = place_rule id.now
 rule_of_argument (FreePlace id help) = new_rule id.now
 rule_of_argument (FreePlaces id help) = places_rule id.now
+rule_of_argument (Places id help) = wanted (places_rule id.now)
 rule_of_argument (Flag id help) = flag_rule id.now
 rule_of_argument (ShortFlag id letter help) = record (flag_rule id.now) { short = Some letter }
 rule_of_argument (Value id name help) = value_rule id.now

@@ -3,7 +3,7 @@ use Rattle.std.specs.Prelude.{◌≡◌, ◌&&◌, ◌||◌, ◌==◌, ℕ, Bool
 use Rattle.std.specs.Prelude.{Some, None, codes}
 use Rattle.std.specs.List.{All, slice_split}
 use Rattle.std.specs.Str.Parse.{digits_value}
-use Rattle.clap.specs.Words.{Row, Text, first_of, one_of}
+use Rattle.clap.specs.Words.{Row, Text, all_of, first_of, one_of}
 use Rattle.texts.specs.Text.{IsNumberText}
 use Rattle.compact.specs.snapshots.Snapshots.{Snapshots}
 use Rattle.compact.specs.snapshots.Snapshots.TheVariants.{From, Listed}
@@ -17,13 +17,14 @@ use Rattle.usage.specs.declared.requests.CompactWork.{CompactWork}
 use Rattle.usage.specs.declared.requests.CompactWork.TheVariants.{Installed, Written}
 use Rattle.usage.specs.declared.requests.InstallLine.{InstallLine}
 use Rattle.usage.specs.declared.requests.Levels.{Levels}
-use Rattle.usage.specs.declared.requests.Levels.TheVariants.{One, Whole, All as AllLevels}
+use Rattle.usage.specs.declared.requests.Levels.TheVariants.{One, Whole, AllWhole}
+use Rattle.usage.specs.declared.requests.Levels.TheVariants.{All as AllLevels}
 
 -- whether the rows give an option that a compaction of a whole level doesn't have
 abbrev pub excludes_whole : List Row → Bool
 excludes_whole rows = is_flagged (codes "no-verify") rows || is_flagged (codes "explain") rows
 
--- the rows give this number of `--level`, with or without `--whole`, or `--all` without it
+-- the rows give this number of `--level`, or `--all`, each with or without `--whole`
 abbrev pub HasLevels : Levels → List Row → Type 0
 HasLevels (One level) rows = IsNumberOf (one_of (codes "level") rows) (Some level)
     × (is_flagged (codes "all") rows ≡ false) × (is_flagged (codes "whole") rows ≡ false)
@@ -32,6 +33,9 @@ HasLevels (Whole level) rows = IsNumberOf (one_of (codes "level") rows) (Some le
     × (excludes_whole rows ≡ false)
 HasLevels AllLevels rows = IsNumberOf (one_of (codes "level") rows) None
     × (is_flagged (codes "all") rows ≡ true) × (is_flagged (codes "whole") rows ≡ false)
+HasLevels AllWhole rows = IsNumberOf (one_of (codes "level") rows) None
+    × (is_flagged (codes "all") rows ≡ true) × (is_flagged (codes "whole") rows ≡ true)
+    × (excludes_whole rows ≡ false)
 
 -- whether the rows give an option of a compaction that is installed
 abbrev pub gives_installed : List Row → Bool
@@ -96,11 +100,11 @@ HasCompact line rows = (first_of (codes "DIR") rows ≡ Some line.folder.now)
 abbrev pub gives_snapshots : List Row → Bool
 gives_snapshots rows = is_given (codes "snapshot") rows || is_given (codes "snapshots") rows
 
--- the rows give these texts of DIR and OUT, these snapshots, these options on the test, no snapshot
--- if it is skipped, and this flag of `--clean`
+-- the rows give this text of DIR, these of OUT in their order, these snapshots, these options on
+-- the test, no snapshot if it is skipped, and this flag of `--clean`
 abbrev pub HasInstall : InstallLine → List Row → Type 0
 HasInstall line rows = (first_of (codes "DIR") rows ≡ Some line.folder.now)
-    × (first_of (codes "OUT") rows ≡ Some line.out.now)
+    × (all_of (codes "OUT") rows ≡ Some (map (λ out. out.now) line.outs.items))
     × HasSnapshots line.snapshots rows × HasTesting line.testing rows
     × ((line.testing.is_skipped && gives_snapshots rows) ≡ false)
     × (line.cleans ≡ is_flagged (codes "clean") rows)

@@ -24,6 +24,8 @@ pub(crate) enum Argument<'a> {
     FreePlace(&'a str, &'a str),
     /// The same, of several texts.
     FreePlaces(&'a str, &'a str),
+    /// Several texts that are given by their places, at least one.
+    Places(&'a str, &'a str),
     /// An option without a value.
     Flag(&'a str, &'a str),
     /// The same, which may also be given as a hyphen and this letter.
@@ -50,6 +52,10 @@ pub(crate) fn arg_of<'a>(alloc: Global, argument: Argument<'a>) -> Arg<'a>
         Argument::FreePlaces(id, help) => {
             Arg::new(alloc, id).help(help).action(ArgAction::Append)
         }
+        Argument::Places(id, help) => Arg::new(alloc, id)
+            .help(help)
+            .action(ArgAction::Append)
+            .required(true),
         Argument::Flag(id, help) => flag(alloc, id, help),
         Argument::ShortFlag(id, letter, help) => flag(alloc, id, help).short(letter),
         Argument::Value(id, name, help) => value(alloc, id, name, help),

@@ -1,7 +1,7 @@
 //! The lines of `compact` and of `install`, which may be given a list of snapshots.
 
-ghost use Rattle.std.specs.Prelude.{◌≡◌, IfOk, IfSome, map};
-ghost use Rattle.clap.specs.Words.{found_of, rows_of};
+ghost use Rattle.std.specs.Prelude.{◌≡◌, IfOk, IfSome, Some, codes, map};
+ghost use Rattle.clap.specs.Words.{all_of, found_of, rows_of};
 ghost use Rattle.usage.specs.CompactLine.{AreNumbers, HasCompact, HasInstall, HasLevels};
 ghost use Rattle.usage.specs.CompactLine.{HasOptions, HasSettings, HasSnapshots, HasWork};
 ghost use Rattle.usage.specs.CompactLine.{IsNumberList, excludes_whole, gives_installed};
@@ -48,7 +48,7 @@ fn options_of<'a>(values: &ArgMatches<'a>) -> Result<CompactOptions<'a>, Unread>
 /// What is compacted, and where the outcome goes. `Rules` if one of these holds:
 ///
 /// - not exactly one of `--level` and `--all` is given;
-/// - `--whole` is given with `--all`, or with an option that a whole level doesn't have;
+/// - `--whole` is given with an option that a whole level doesn't have;
 /// - `--out` is given with an option of a compaction that is installed;
 /// - `--part` or `--first-number` is given without `--out`.
 fn work_of<'a>(values: &ArgMatches<'a>) -> Result<CompactWork<'a>, Unread>
@@ -88,6 +88,7 @@ fn levels_of(values: &ArgMatches<'_>) -> Result<Levels, Unread>
         (Some(level), false, false) => Ok(Levels::One(level)),
         (Some(level), false, true) if !excludes_whole(values) => Ok(Levels::Whole(level)),
         (None, true, false) => Ok(Levels::All),
+        (None, true, true) if !excludes_whole(values) => Ok(Levels::AllWhole),
         _ => Err(Unread::Rules),
     }
 }
@@ -135,11 +136,22 @@ pub(crate) fn install_line<'a>(
     }
     Ok(InstallLine {
         folder: needed_text(values, "DIR")?,
-        out: needed_text(values, "OUT")?,
+        outs: outs_of(alloc, values)?,
         snapshots: snapshots_of(alloc, values, listed)?,
         testing,
         cleans: is_flagged(values, "clean"),
     })
+}
+
+/// The texts of OUT.
+fn outs_of<'a>(alloc: Global, values: &ArgMatches<'a>) -> Result<Vec<&'a str>, Unread>
+    ensures { IfOk result (λ outs. all_of (codes "OUT") (rows_of (found_of values.now))
+        ≡ Some (map (λ out. out.now) outs.items)) }
+{
+    match values.get_strs("OUT") {
+        Some(texts) => Ok(Vec::from_slice(alloc, texts)?),
+        None => Err(Unread::Rules),
+    }
 }
 
 /// Whether snapshots are given.

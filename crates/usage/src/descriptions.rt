@@ -341,6 +341,7 @@ manifest that is installed.
 Examples: sedvokt compact DIR --level 0 --explain
           sedvokt compact DIR --level 1 --whole
           sedvokt compact DIR --all --snapshots 900,1151 --clean
+          sedvokt compact DIR --all --whole
           sedvokt compact DIR --level 0 --out OUT",
     arguments: &[
         FOLDER,
@@ -353,9 +354,9 @@ Examples: sedvokt compact DIR --level 0 --explain
         ),
         Argument::Flag(
             "whole",
-            "With --level: all files of the level, in parts that\n\
-                share no user key, one after the other, with one\n\
-                manifest for all of them",
+            "All files of the level, in parts that share no user\n\
+                key, one after the other, with one manifest for all\n\
+                of them; with --all: so each level, once",
         ),
         Argument::Value(
             "out",
@@ -415,7 +416,6 @@ Examples: sedvokt compact DIR --level 0 --explain
     ],
     rules: &[
         Rule::One("levels", &["level", "all"]),
-        Rule::AtMostOne("whole or all", &["whole", "all"]),
         Rule::AtMostOne("whole or out", &["whole", "out"]),
         Rule::AtMostOne("whole or part", &["whole", "part"]),
         Rule::AtMostOne("whole or number", &["whole", "first-number"]),
@@ -479,15 +479,18 @@ Examples: sedvokt job DIR --level 0
 pub(crate) const INSTALL: Description<'static> = Description {
     name: "install",
     about: "Installs what compact --out made of a database, and prints the same",
-    examples: "Prints what compact prints without --out.
+    examples: "Prints what compact prints without --out. Several outcomes are installed together, by
+one manifest: all of them or none. Each is tested as if those before it were
+installed, so their new tables need numbers that rise in the order of OUT..
 
 Example: sedvokt install DIR OUT
 It is for a database DIR and the folder OUT of the last example of compact.",
     arguments: &[
         FOLDER,
-        Argument::Place(
+        Argument::Places(
             "OUT",
-            "The folder that compact --out made, with the new tables and the edit",
+            "The folder that compact --out made, with the new tables and the\n\
+                edit; several are installed in the order given",
         ),
         SNAPSHOT,
         SNAPSHOTS,

@@ -17,11 +17,11 @@
 //!     manifest DIR [--text] [--json] [--no-logs] [--no-lock]
 //!     dump TABLE [--text]
 //!     files DIR [--json] [--no-lock]
-//!     compact DIR (--level N [--whole] | --all) [options]
+//!     compact DIR (--level N | --all) [--whole] [options]
 //!     compact DIR --level N --out OUT [--part P] [--first-number K] [options]
 //!     clean DIR [--dry-run]
 //!     job DIR --level N [--parts]
-//!     install DIR OUT [--snapshot S | --snapshots S,S,..] [--no-verify] [--memory MIB] [--clean]
+//!     install DIR OUT.. [--snapshot S | --snapshots S,S,..] [--no-verify] [--memory MIB] [--clean]
 //!     blocks A B --at HEXKEY OUT
 //!
 //! Each takes `-v` or `-q`, before its name or after it.

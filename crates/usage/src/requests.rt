@@ -222,15 +222,15 @@ pub struct CompactLine<'a> {
 }
 
 /// What is asked for of `install`.
-#[derive(Clone, Copy)]
+#[derive(Drop)]
 pub struct InstallLine<'a> {
     /// The path of the folder.
     pub folder: &'a str,
-    /// The path of the folder that has the outcome.
-    pub out: &'a str,
+    /// The paths of the folders that have the outcomes, in their order.
+    pub outs: Vec<&'a str>,
     /// The sequences at which gets have to answer as before. None is given if the test is skipped.
     pub snapshots: Snapshots<'a>,
-    /// How the outcome is tested before: it is compared with the inputs, unless the test is
+    /// How each outcome is tested before: it is compared with the inputs, unless the test is
     /// skipped.
     pub testing: Testing,
     /// Whether files that no version needs are removed after the installation.
@@ -336,6 +336,8 @@ pub enum Levels {
     Whole(u64),
     /// Each level from 0 down, until all files are at the deepest level that has any.
     All,
+    /// The same, by all files of a level at once, with one manifest for each level.
+    AllWhole,
 }
 
 /// Why a command line asks for nothing that can be done.

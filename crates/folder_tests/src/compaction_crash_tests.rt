@@ -2,6 +2,7 @@
 //! one, if the last sync of the first failed.
 
 use crate::install_tests::crashes::{made_at, make_left};
+use crate::install_tests::tests::are;
 use coding::Fault;
 use edit::Version;
 use folder::{Failing, Folder, FolderFault, Shelf, ShelfCall, ShelfStep, load, open};
@@ -36,6 +37,12 @@ pub(crate) const FILES: Files = &[
     ("000007.sst", TABLE),
 ];
 
+/// `table: b@1 put x`
+pub(crate) const OTHER: &[u8] = b"\
+    \0\x09\x01b\x01\x01\0\0\0\0\0\0x\0\0\0\0\x01\0\0\0\0\xc7Z78\0\0\0\0\x01\0\0\0\0\xc0\xf2\xa1\
+    \xb0\0\x09\x02b\x01\x01\0\0\0\0\0\0\0\x15\0\0\0\0\x01\0\0\0\0\xae\xd8\xaf\xcf\x1a\x08\x27\x16\0\
+    \0\0\0\0\0\0\0\0\0\0\0\0\0\0\0\0\0\0\0\0\0\0\0\0\0\0\0\0\0\0\0\0\0\0\0W\xfb\x80\x8b\x24uG\xdb";
+
 /// The next files of the version before and of the edited one, whose file 10 is at level 2. Then
 /// that of its successor, whose file 12 is at level 3.
 const BEFORE: u64 = 9;
@@ -43,6 +50,16 @@ const BEFORE: u64 = 9;
 const EDITED: u64 = 11;
 
 const SUCCESSOR: u64 = 13;
+
+/// The tables of the versions that are known by their next files: those three, and the two of
+/// `whole_level_tests`.
+const KNOWN: &[(u64, &[(u64, &[u8])])] = &[
+    (BEFORE, &[(7, TABLE)]),
+    (EDITED, &[(10, TABLE)]),
+    (SUCCESSOR, &[(12, TABLE)]),
+    (19, &[(17, TABLE), (18, OTHER)]),
+    (23, &[(20, TABLE), (22, OTHER)]),
+];
 
 /// The calls that write, in order: what each does, and to which name. The first three make the
 /// files.
@@ -132,30 +149,28 @@ fn is_compacted<R: Threads + Sync>(
     Ok(are_calls(shelf.steps()))
 }
 
-/// The next file of a version whose one table is that of `a`, under its own number. Else 0.
+/// The next file of a version that is known and has its tables. Else 0.
 fn known(version: &Version, tables: &[(u64, Vec<u8>)]) -> u64 {
-    let Some((number, bytes)) = tables.first() else {
-        return 0;
-    };
     let next_file = version.next_file().unwrap_or(0);
-    match (next_file, *number) {
-        (BEFORE, 7) | (EDITED, 10) | (SUCCESSOR, 12)
-            if tables.len() == 1 && bytes.as_slice() == TABLE => next_file,
-        _ => 0,
+    for (of, wanted) in KNOWN {
+        if *of == next_file && are(tables, wanted) {
+            return next_file;
+        }
     }
+    0
 }
 
 /// Opens a folder and loads its tables. The next file if it is known.
-fn opened(alloc: Global, shelf: &mut Shelf<'_>) -> Result<u64, Fault> {
+pub(crate) fn opened(alloc: Global, shelf: &mut Shelf<'_>) -> Result<u64, Fault> {
     let version = open(alloc, shelf)?.version;
     let tables = load::<Bytewise, Shelf<'_>>(alloc, shelf, &version)?;
     Ok(known(&version, &tables))
 }
 
-/// The next file of the known version that a folder reads as after a crash leaves of these calls
-/// what `choice` picks; 0 if there is none. None if there is no such choice.
-fn read_crashed(alloc: Global, steps: &[ShelfStep], choice: u64) -> Option<u64> {
-    let mut shelf = Shelf::new(alloc, &[]);
+/// The next file of the known version that a folder of these files reads as after a crash leaves of
+/// these calls what `choice` picks; 0 if there is none. None if there is no such choice.
+fn read_crashed(alloc: Global, files: Files, steps: &[ShelfStep], choice: u64) -> Option<u64> {
+    let mut shelf = Shelf::new(alloc, files);
     match make_left(&mut shelf, steps, choice) {
         Ok(true) => Some(opened(alloc, &mut shelf).unwrap_or(0)),
         Ok(false) => None,
@@ -163,12 +178,17 @@ fn read_crashed(alloc: Global, steps: &[ShelfStep], choice: u64) -> Option<u64> 
     }
 }
 
-/// Whether crashes may leave one version after these calls, and whether the other one. None if some
-/// crash leaves neither. The versions are known by their next files.
-fn found(alloc: Global, steps: &[ShelfStep], (one, other): (u64, u64)) -> Option<(bool, bool)> {
+/// Whether crashes may leave one version of a folder of these files after these calls, and whether
+/// the other one. None if some crash leaves neither. The versions are known by their next files.
+fn found(
+    alloc: Global,
+    files: Files,
+    steps: &[ShelfStep],
+    (one, other): (u64, u64),
+) -> Option<(bool, bool)> {
     let mut found = (false, false);
     for choice in 0..u64::MAX {
-        match read_crashed(alloc, steps, choice) {
+        match read_crashed(alloc, files, steps, choice) {
             None => break,
             Some(next_file) if next_file == one => found.0 = true,
             Some(next_file) if next_file == other => found.1 = true,
@@ -181,8 +201,9 @@ fn found(alloc: Global, steps: &[ShelfStep], (one, other): (u64, u64)) -> Option
 /// The first moment, beginning with this one, at which a crash leaves what it should not. It should
 /// leave: before the rename, the last call but one, the version before; from inside it to the end
 /// either; after the last call the edited one.
-fn wrong_moment(
+pub(crate) fn wrong_moment(
     alloc: Global,
+    files: Files,
     steps: &[ShelfStep],
     from: usize,
     versions: (u64, u64),
@@ -191,7 +212,7 @@ fn wrong_moment(
     for moment in from..end.saturating_add(1) {
         if let Some(made) = made_at(steps, moment) {
             let wanted = (moment < end, moment.saturating_add(3) >= end);
-            if found(alloc, made, versions) != Some(wanted) {
+            if found(alloc, files, made, versions) != Some(wanted) {
                 return Some(moment);
             }
         }
@@ -212,12 +233,12 @@ fn crashes_of_a_folder_that_was_not_synced(rt: HostRuntime) {
     let versions = (BEFORE, EDITED);
     assert_eq!(rt; is_compacted(&rt, alloc, &mut shelf), Ok(true));
     assert_eq!(rt;
-        found(alloc, unsynced(shelf.steps()), versions),
+        found(alloc, &[], unsynced(shelf.steps()), versions),
         None,
         "nothing is kept yet"
     );
     assert_eq!(rt;
-        wrong_moment(alloc, shelf.steps(), 2 * UNSYNCED + 2, versions),
+        wrong_moment(alloc, &[], shelf.steps(), 2 * UNSYNCED + 2, versions),
         None
     );
 }
@@ -269,7 +290,7 @@ fn wrong_after_the_last_sync<R: Threads + Sync>(
     let count = shelf.steps().len();
     compact_level(rt, alloc, shelf, 2)?;
     let from = calls_before_make(shelf.steps(), count).saturating_mul(2);
-    Ok(wrong_moment(alloc, shelf.steps(), from, (EDITED, SUCCESSOR)))
+    Ok(wrong_moment(alloc, &[], shelf.steps(), from, (EDITED, SUCCESSOR)))
 }
 
 #[test]

@@ -1,6 +1,6 @@
 //! The tests of `folder`, `install` and `clean`: folders that are opened and loaded, and
 //! installations and removals that are cut short or fail. So is a whole compaction of a folder that
-//! was never synced.
+//! was never synced, and that of a whole level.
 #![tactic(auto)]
 
 #[cfg(test)]
@@ -29,3 +29,5 @@ mod silent_folder_tests;
 mod silent_rows;
 #[cfg(test)]
 mod silent_shelf;
+#[cfg(test)]
+mod whole_level_tests;

@@ -205,7 +205,7 @@ fn installed<R: Threads + Sync>(
 }
 
 /// Whether the tables are these.
-fn are(tables: &[(u64, Vec<u8>)], wanted: &[(u64, &[u8])]) -> bool {
+pub(crate) fn are(tables: &[(u64, Vec<u8>)], wanted: &[(u64, &[u8])]) -> bool {
     for (table, one) in tables.iter().zip(wanted) {
         if table.0 != one.0 || table.1.as_slice() != one.1 {
             return false;

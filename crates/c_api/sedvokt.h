@@ -84,7 +84,7 @@ typedef struct sedvokt_range {
   sedvokt_place lower, upper;
 } sedvokt_range;
 
-/* How many bytes the internal key and the value of a kept entry have. The entries lie one behind
+/* How many bytes the internal key and the value of a kept entry have. The entries lie one after
    the other, each as its key and then its value. */
 typedef struct sedvokt_lengths {
   uint64_t key, value;
@@ -141,7 +141,7 @@ uint32_t sedvokt_check_table(uint32_t order, const uint8_t *keys, size_t keys_le
 
 /* Chooses boundaries for at most `want` ranges: fewer than `want` user keys of the tables' indexes,
    at even places of a sample of these. They rise. Range i is then from boundary i - 1, if there is
-   one, to boundary i, if there is one. `bytes` begins with their bytes, one behind the other, and
+   one, to boundary i, if there is one. `bytes` begins with their bytes, one after the other, and
    `lengths` with the length of each. *size is how much room that takes, also if the answer is ROOM,
    and then nothing else has changed. 34 Comparator; 5 SplitCount unless `want` is 1 to 4,096.
    What you have to keep is what sedvokt_merge asks of its inputs, tables and keys. */
@@ -151,13 +151,13 @@ uint32_t sedvokt_boundaries(uint32_t order, const uint8_t *keys, size_t keys_len
                             uint8_t *bytes, size_t bytes_len,
                             uint64_t *lengths, size_t lengths_len, sedvokt_keys_size *size);
 
-/* Merges the inputs in a range: `bytes`, `lengths` and `marks` begin with its run then. *size is how
-   much room that takes, also if the answer is ROOM, and then nothing else has changed. `deeper` and
-   the refusals of the request are as for sedvokt_check_request; 22 Duplicate if the range has one
+/* Merges the inputs in a range: `bytes`, `lengths` and `marks` begin with its run then. *size is
+   how much room that takes, also if the answer is ROOM, and then nothing else has changed. `deeper`
+   and the refusals of the request are as for sedvokt_check_request; 22 Duplicate if the range has one
    user key and sequence twice.
    What you have to keep: sedvokt_check_table answered 0 to each input, with this order, and neither
    what it set nor any byte of the tables and the keys has changed since. Else the call may read
-   outside of what is lent. More bytes may lie behind the keys, as those of the bounds. */
+   outside of what is lent. More bytes may lie after the keys, as those of the bounds. */
 uint32_t sedvokt_merge(const sedvokt_request *request,
                        const uint64_t *snapshots, size_t snapshots_len,
                        const uint8_t *keys, size_t keys_len,
@@ -171,7 +171,7 @@ uint32_t sedvokt_merge(const sedvokt_request *request,
 /* Plans the outputs of the runs of all ranges, in the order of the ranges, each as sedvokt_merge
    wrote it. They don't depend on how the entries were dealt out to ranges. `inputs` and `deeper`
    are as for sedvokt_merge. `room` begins with the outputs then; *len is how many they are, also if
-   the answer is ROOM. An output has the entries behind those of the one before it, and the keys of
+   the answer is ROOM. An output has the entries after those of the one before it, and the keys of
    its first and its last one bound it. MISUSE also if lengths and marks aren't those of a run; 34
    Comparator, 3 Options, 24 TooLarge of an output. */
 uint32_t sedvokt_plan(const sedvokt_request *request, const uint8_t *keys, size_t keys_len,

@@ -149,7 +149,7 @@ inline status check_table(uint32_t order, lent keys, lent tables, input& of) noe
   return sedvokt_check_table(order, keys.data(), keys.size(), tables.data(), tables.size(), &of);
 }
 
-/* User keys, one behind the other, and how long each is. */
+/* User keys, one after the other, and how long each is. */
 struct user_keys {
   buffer bytes;
   owned<uint64_t> lengths;
@@ -193,7 +193,7 @@ inline status boundaries(uint32_t order, lent keys, lent tables, span<const inpu
   return code;
 }
 
-/* The run of a range: its entries one behind the other, each as its key and then its value; their
+/* The run of a range: its entries one after the other, each as its key and then its value; their
    lengths; and the marks. */
 struct run {
   buffer bytes;
@@ -228,7 +228,7 @@ inline status merge(const request& asked, span<const uint64_t> snapshots, lent k
   return code;
 }
 
-/* The runs of ranges, one behind the other, and where each lies. */
+/* The runs of ranges, one after the other, and where each lies. */
 struct runs {
   buffer bytes;
   owned<lengths> entries;

@@ -13,7 +13,7 @@ pub struct Checked<'a> {
     inputs: &'a [Input],
 }
 
-/// The run of a range: its entries one behind the other, each as its key and then its value; their
+/// The run of a range: its entries one after the other, each as its key and then its value; their
 /// lengths; and the marks.
 #[derive(Clone, Debug, Default, PartialEq, Eq)]
 pub struct Run {
@@ -22,7 +22,7 @@ pub struct Run {
     pub marks: Vec<Mark>,
 }
 
-/// User keys that part the inputs: their bytes one behind the other, and how long each is.
+/// User keys that part the inputs: their bytes one after the other, and how long each is.
 #[derive(Clone, Debug, Default, PartialEq, Eq)]
 pub struct Boundaries {
     pub bytes: Vec<u8>,
@@ -71,7 +71,7 @@ impl<'a> Checked<'a> {
         self.inputs
     }
 
-    /// The same inputs over keys with more bytes behind the others, as those of boundaries.
+    /// The same inputs over keys with more bytes after the others, as those of boundaries.
     /// [`MISUSE`] unless `keys` begins with the keys that they were checked with.
     pub fn over(self, keys: &'a [u8]) -> Result<Checked<'a>, Refused> {
         if !keys.starts_with(self.keys) {

@@ -3,7 +3,7 @@
 use crate::sys::{self, File, Input, Lengths, Mark, Place, Planned, Request, RunPlaces};
 use crate::{answered, filled, Refused, Run, MEMORY};
 
-/// The runs of ranges, one behind the other, and where each lies.
+/// The runs of ranges, one after the other, and where each lies.
 #[derive(Clone, Debug, Default, PartialEq, Eq)]
 pub struct Runs {
     pub bytes: Vec<u8>,
@@ -13,7 +13,7 @@ pub struct Runs {
 }
 
 impl Runs {
-    /// Copies a run behind the others. It is of the range behind theirs.
+    /// Copies a run after the others. It is of the range after theirs.
     pub fn push(&mut self, run: &Run) -> Result<(), Refused> {
         let places = RunPlaces {
             bytes: append(&mut self.bytes, &run.bytes)?,
@@ -25,7 +25,7 @@ impl Runs {
     }
 }
 
-/// Copies values behind others, and answers where they lie.
+/// Copies values after others, and answers where they lie.
 fn append<T: Copy>(to: &mut Vec<T>, from: &[T]) -> Result<Place, Refused> {
     if to.try_reserve(from.len()).is_err() {
         answered(MEMORY)?;
@@ -39,7 +39,7 @@ fn append<T: Copy>(to: &mut Vec<T>, from: &[T]) -> Result<Place, Refused> {
 }
 
 /// The outputs of the runs of all ranges. They don't depend on how the entries were dealt out to
-/// ranges. An output has the entries behind those of the one before it.
+/// ranges. An output has the entries after those of the one before it.
 pub fn plan(
     request: &Request,
     keys: &[u8],

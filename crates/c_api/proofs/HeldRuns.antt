@@ -47,7 +47,7 @@ use Rattle.c_api.specs.Hosts.{merges_reading}
 use Rattle.c_api.specs.Merges.{AskedMerge, context_at, inputs_result}
 use Rattle.c_api.specs.Places.{is_within}
 use Rattle.c_api.specs.Runs.{arrays_of, bytes_of, lengths_of, mark_of}
-use Rattle.c_api.specs.ToldRuns.{are_entries, are_marks, begins_entry, behind_entry, is_told, value_place}
+use Rattle.c_api.specs.ToldRuns.{are_entries, are_marks, begins_entry, after_entry, is_told, value_place}
 use Rattle.c_api.specs.declared.run_arrays.EntryLengths.{EntryLengths}
 use Rattle.c_api.specs.declared.run_arrays.RunMark.{RunMark}
 use Rattle.c_api.proofs.Hosts.{ReadRuns, all_merged, behind_back, merges_are, read_runs, take_front, told_lengths}
@@ -193,7 +193,7 @@ entries_lie (e ∷ es) h =
     let ls : List EntryLengths = map lengths_of es in
     let all : List ℕ = e.key ++ (e.value ++ rest) in
     ap (λ (bs : List ℕ). are_entries bs (lengths_of e ∷ ls)) (append_assoc e.key e.value rest)
-    ∙ both_true (begins_entry all (lengths_of e)) (are_entries (behind_entry all (lengths_of e)) ls) (begins e.key e.value rest h.0)
+    ∙ both_true (begins_entry all (lengths_of e)) (are_entries (after_entry all (lengths_of e)) ls) (begins e.key e.value rest h.0)
     (subst (λ (bs : List ℕ). are_entries bs ls ≡ true) (sym (behind_back e.key e.value rest)) (entries_lie es h.1))
 
 -- ---- the runs of all ranges

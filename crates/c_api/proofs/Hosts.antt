@@ -31,7 +31,7 @@ use Rattle.c_api.specs.Hosts.{HostLaw, host_answer, merges_reading, range_readin
 use Rattle.c_api.specs.Merges.{AskedMerge, context_at, inputs_result, request_result, table_at}
 use Rattle.c_api.specs.Requests.{files_of, no_table, pointed_test, pointer_of, request_with}
 use Rattle.c_api.specs.Runs.{arrays_of, bytes_of, lengths_of, mark_of}
-use Rattle.c_api.specs.ToldRuns.{behind_entry, entries_told, first_entry, mark_told, run_told}
+use Rattle.c_api.specs.ToldRuns.{after_entry, entries_told, first_entry, mark_told, run_told}
 use Rattle.c_api.specs.declared.input.Input.{Input}
 use Rattle.c_api.specs.declared.run_arrays.EntryLengths.{EntryLengths}
 
@@ -56,7 +56,7 @@ entry_back k v rest =
     ap (λ (x : List ℕ). told_entry x (take (length v) (drop (length k) (k ++ (v ++ rest))))) (take_front k (v ++ rest))
     ∙ ap (λ (x : List ℕ). told_entry k x) (ap (take (length v)) (drop_front k (v ++ rest)) ∙ take_front v rest)
 
-pub behind_back : (k v rest : List ℕ) → behind_entry (k ++ (v ++ rest)) (told_lengths k v) ≡ rest
+pub behind_back : (k v rest : List ℕ) → after_entry (k ++ (v ++ rest)) (told_lengths k v) ≡ rest
 behind_back k v rest = ap (drop (length v)) (drop_front k (v ++ rest)) ∙ drop_front v rest
 
 entries_back : (es : List Entry) → entries_told (bytes_of es) (map lengths_of es) ≡ es
@@ -65,7 +65,7 @@ entries_back (e ∷ es) =
     let rest : List ℕ = bytes_of es in
     let ls : List EntryLengths = map lengths_of es in
     ap (λ (bs : List ℕ). entries_told bs (lengths_of e ∷ ls)) (append_assoc e.key e.value rest)
-    ∙ ap (λ (x : Entry). x ∷ entries_told (behind_entry (e.key ++ (e.value ++ rest)) (lengths_of e)) ls) (entry_back e.key e.value rest)
+    ∙ ap (λ (x : Entry). x ∷ entries_told (after_entry (e.key ++ (e.value ++ rest)) (lengths_of e)) ls) (entry_back e.key e.value rest)
     ∙ ap (λ (bs : List ℕ). e ∷ entries_told bs ls) (behind_back e.key e.value rest)
     ∙ ap (λ (xs : List Entry). e ∷ xs) (entries_back es)
 

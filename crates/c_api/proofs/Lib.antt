@@ -2,6 +2,7 @@ mod FaultCodes
 mod Levelled
 mod Tested
 mod RunLists
+mod RunWrites
 mod CheckedInputs
 mod Merging
 mod KeyLists

@@ -7,8 +7,8 @@ use Rattle.reads.specs.EncodedEntry.{Entry}
 use Rattle.keep.specs.Runs.{Run}
 use Rattle.keep.specs.declared.mark.Mark.{Mark}
 use Rattle.c_api.specs.Runs.{rooms}
-use Rattle.c_api.specs.ToldRuns.{are_entries, are_marks, begins_entry, behind_entry, entries_told, first_entry, mark_told, run_told}
-use Rattle.c_api.specs.Held.{behind_entries}
+use Rattle.c_api.specs.ToldRuns.{are_entries, are_marks, begins_entry, after_entry, entries_told, first_entry, mark_told, run_told}
+use Rattle.c_api.specs.Held.{entries_passed}
 use Rattle.c_api.specs.declared.run_arrays.EntryLengths.{EntryLengths}
 use Rattle.c_api.specs.declared.run_arrays.RunMark.{RunMark}
 use Rattle.c_api.proofs.Merging.{both_true}
@@ -22,23 +22,23 @@ no_mark = record { below = 0; kept = 0 }
 -- ---- entries
 
 -- entries in two parts
-pub entries_parted : (bytes : List ℕ) (xs ys : List EntryLengths) → entries_told bytes (xs ++ ys) ≡ entries_told bytes xs ++ entries_told (behind_entries bytes xs) ys
+pub entries_parted : (bytes : List ℕ) (xs ys : List EntryLengths) → entries_told bytes (xs ++ ys) ≡ entries_told bytes xs ++ entries_told (entries_passed bytes xs) ys
 entries_parted bytes [] ys = refl
-entries_parted bytes (x ∷ xs) ys = ap (λ (es : List Entry). first_entry bytes x ∷ es) (entries_parted (behind_entry bytes x) xs ys)
+entries_parted bytes (x ∷ xs) ys = ap (λ (es : List Entry). first_entry bytes x ∷ es) (entries_parted (after_entry bytes x) xs ys)
 
 pub front_lies : (bytes : List ℕ) (xs ys : List EntryLengths) → are_entries bytes (xs ++ ys) ≡ true → are_entries bytes xs ≡ true
 front_lies bytes [] ys h = refl
 front_lies bytes (x ∷ xs) ys h =
-    let p = and_parts (begins_entry bytes x) (are_entries (behind_entry bytes x) (xs ++ ys)) h in
-    both_true (begins_entry bytes x) (are_entries (behind_entry bytes x) xs) p.0 (front_lies (behind_entry bytes x) xs ys p.1)
+    let p = and_parts (begins_entry bytes x) (are_entries (after_entry bytes x) (xs ++ ys)) h in
+    both_true (begins_entry bytes x) (are_entries (after_entry bytes x) xs) p.0 (front_lies (after_entry bytes x) xs ys p.1)
 
-pub rest_lies : (bytes : List ℕ) (xs ys : List EntryLengths) → are_entries bytes (xs ++ ys) ≡ true → are_entries (behind_entries bytes xs) ys ≡ true
+pub rest_lies : (bytes : List ℕ) (xs ys : List EntryLengths) → are_entries bytes (xs ++ ys) ≡ true → are_entries (entries_passed bytes xs) ys ≡ true
 rest_lies bytes [] ys h = h
-rest_lies bytes (x ∷ xs) ys h = rest_lies (behind_entry bytes x) xs ys (and_parts (begins_entry bytes x) (are_entries (behind_entry bytes x) (xs ++ ys)) h).1
+rest_lies bytes (x ∷ xs) ys h = rest_lies (after_entry bytes x) xs ys (and_parts (begins_entry bytes x) (are_entries (after_entry bytes x) (xs ++ ys)) h).1
 
 told_length : (bytes : List ℕ) (xs : List EntryLengths) → length (entries_told bytes xs) ≡ length xs
 told_length bytes [] = refl
-told_length bytes (x ∷ xs) = ap suc (told_length (behind_entry bytes x) xs)
+told_length bytes (x ∷ xs) = ap suc (told_length (after_entry bytes x) xs)
 
 -- one entry more
 module _ (bytes : List ℕ) (all : List EntryLengths) (i : ℕ) (lt : i < length all) where
@@ -48,27 +48,27 @@ module _ (bytes : List ℕ) (all : List EntryLengths) (i : ℕ) (lt : i < length
   abbrev later : List EntryLengths
   later = drop (i + 1) all
 
-  pub one_lies : are_entries bytes (drop i all) ≡ true → (begins_entry bytes here ≡ true) × (are_entries (behind_entry bytes here) later ≡ true)
-  one_lies h = and_parts (begins_entry bytes here) (are_entries (behind_entry bytes here) later) (sym (at_drop_more (are_entries bytes) all i no_lengths lt) ∙ h)
+  pub one_lies : are_entries bytes (drop i all) ≡ true → (begins_entry bytes here ≡ true) × (are_entries (after_entry bytes here) later ≡ true)
+  one_lies h = and_parts (begins_entry bytes here) (are_entries (after_entry bytes here) later) (sym (at_drop_more (are_entries bytes) all i no_lengths lt) ∙ h)
 
-  pub one_told : entries_told bytes (drop i all) ≡ first_entry bytes here ∷ entries_told (behind_entry bytes here) later
+  pub one_told : entries_told bytes (drop i all) ≡ first_entry bytes here ∷ entries_told (after_entry bytes here) later
   one_told = at_drop_more (entries_told bytes) all i no_lengths lt
 
-  pub one_behind : behind_entries bytes (drop i all) ≡ behind_entries (behind_entry bytes here) later
-  one_behind = at_drop_more (behind_entries bytes) all i no_lengths lt
+  pub one_behind : entries_passed bytes (drop i all) ≡ entries_passed (after_entry bytes here) later
+  one_behind = at_drop_more (entries_passed bytes) all i no_lengths lt
 
 -- the entries so far of those of a run, and those that are left
 pub record PushedSoFar (bytes : List ℕ) (lengths : List EntryLengths) (old run : Run) (rest : List ℕ) (i : ℕ) : Type 0 where
   pub lies : are_entries rest (drop i lengths) ≡ true
   pub kept : run.kept ++ entries_told rest (drop i lengths) ≡ old.kept ++ entries_told bytes lengths
   pub marks : run.marks ≡ old.marks
-  pub behind : behind_entries rest (drop i lengths) ≡ behind_entries bytes lengths
+  pub behind : entries_passed rest (drop i lengths) ≡ entries_passed bytes lengths
 
 abbrev with_kept : Run → List Entry → Run
 with_kept run es = record { kept = run.kept ++ es; marks = run.marks }
 
 module _ (bytes : List ℕ) (lengths : List EntryLengths) (old run : Run) (rest : List ℕ) (i : ℕ) (so : PushedSoFar bytes lengths old run rest i) where
-  pub pushed_on : i < length lengths → (after : Run) (behind : List ℕ) → after ≡ with_kept run (first_entry rest (get_or lengths i no_lengths) ∷ []) → behind ≡ behind_entry rest (get_or lengths i no_lengths)
+  pub pushed_on : i < length lengths → (after : Run) (behind : List ℕ) → after ≡ with_kept run (first_entry rest (get_or lengths i no_lengths) ∷ []) → behind ≡ after_entry rest (get_or lengths i no_lengths)
       → PushedSoFar bytes lengths old after behind (i + 1)
   pushed_on lt after behind pushed gone =
       let x : EntryLengths = get_or lengths i no_lengths in
@@ -81,7 +81,7 @@ module _ (bytes : List ℕ) (lengths : List EntryLengths) (old run : Run) (rest 
             ∙ ap (λ (es : List Entry). run.kept ++ es) (sym (one_told rest lengths i lt))
             ∙ so.kept;
         marks = ap (λ (r : Run). r.marks) pushed ∙ so.marks;
-        behind = ap (λ (bs : List ℕ). behind_entries bs later) gone ∙ sym (one_behind rest lengths i lt) ∙ so.behind;
+        behind = ap (λ (bs : List ℕ). entries_passed bs later) gone ∙ sym (one_behind rest lengths i lt) ∙ so.behind;
       }
 
   none_left : length lengths ≤ i → drop i lengths ≡ []
@@ -93,8 +93,8 @@ module _ (bytes : List ℕ) (lengths : List EntryLengths) (old run : Run) (rest 
       ap (λ (es : List Entry). let r : Run = record { kept = es; marks = run.marks } in r) kept
       ∙ ap (λ (ms : List Mark). let r : Run = record { kept = old.kept ++ entries_told bytes lengths; marks = ms } in r) so.marks
 
-  pub behind_all : length lengths ≤ i → rest ≡ behind_entries bytes lengths
-  behind_all le = ap (behind_entries rest) (sym (none_left le)) ∙ so.behind
+  pub behind_all : length lengths ≤ i → rest ≡ entries_passed bytes lengths
+  behind_all le = ap (entries_passed rest) (sym (none_left le)) ∙ so.behind
 
 -- ---- marks
 
@@ -147,7 +147,7 @@ module _ (bytes : List ℕ) (lengths : List EntryLengths) (ms : List RunMark) (r
     pub front : (first later : List EntryLengths) → left ≡ first ++ later → are_entries rest first ≡ true
     front first later whole = front_lies rest first later (subst (λ (ls : List EntryLengths). are_entries rest ls ≡ true) whole so.lies)
 
-    pub read_on : (first later : List EntryLengths) (behind : List ℕ) (between after : Run) → left ≡ first ++ later → length first ≡ m.kept - length run.kept → behind ≡ behind_entries rest first
+    pub read_on : (first later : List EntryLengths) (behind : List ℕ) (between after : Run) → left ≡ first ++ later → length first ≡ m.kept - length run.kept → behind ≡ entries_passed rest first
         → between ≡ with_kept run (entries_told rest first) → after ≡ record { kept = between.kept; marks = between.marks ++ record { below = m.below; kept = length between.kept } ∷ [] }
         → ReadSoFar bytes lengths ms after behind later (i + 1)
     read_on first later behind between after whole long gone pushed marked =

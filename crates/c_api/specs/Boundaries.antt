@@ -61,7 +61,7 @@ abbrev pub boundaries_test : AskedBoundaries → Result (Unit {0}) ℕ
 boundaries_test m = if are_inputs m.keys m.tables m.inputs
     then coded (by_order m.order (count_test m)) else Err MISUSE
 
--- user keys in arrays: their bytes one behind the other, and how long each is
+-- user keys in arrays: their bytes one after the other, and how long each is
 pub record KeyArrays : Type 0 where
   pub bytes : List ℕ
   pub lengths : List ℕ

@@ -16,27 +16,22 @@ use Rattle.c_api.specs.Merges.{AskedMerge}
 use Rattle.c_api.specs.Plans.{AskedPlan}
 use Rattle.c_api.specs.Requests.{snapshots_of}
 use Rattle.c_api.specs.Runs.{Arrays, rooms}
-use Rattle.c_api.specs.ToldRuns.{behind_entry}
+use Rattle.c_api.specs.ToldRuns.{after_entry}
 use Rattle.c_api.specs.declared.boundary_calls.LentBoundaries.{LentBoundaries}
 use Rattle.c_api.specs.declared.key_arrays.KeyArrays as key_lists
 use Rattle.c_api.specs.declared.lent.Lent.{Lent}
 use Rattle.c_api.specs.declared.plan_calls.LentPlan.{LentPlan}
 use Rattle.c_api.specs.declared.run_arrays.EntryLengths.{EntryLengths}
-use Rattle.c_api.specs.declared.run_arrays.RunArrays as arrays
 use Rattle.c_api.specs.declared.run_places.LentArrays.{LentArrays}
-
--- the arrays that the code holds
-abbrev pub arrays_in : arrays.RunArrays → Arrays
-arrays_in a = rooms a.bytes.items a.lengths.items a.marks.items
 
 -- the arrays that are lent
 abbrev pub arrays_lent : LentArrays → Arrays
 arrays_lent a = rooms a.bytes.now a.lengths.now a.marks.now
 
--- the bytes behind them
-abbrev pub behind_entries : List ℕ → List EntryLengths → List ℕ
-behind_entries bytes [] = bytes
-behind_entries bytes (l ∷ ls) = behind_entries (behind_entry bytes l) ls
+-- the bytes after them
+abbrev pub entries_passed : List ℕ → List EntryLengths → List ℕ
+entries_passed bytes [] = bytes
+entries_passed bytes (l ∷ ls) = entries_passed (after_entry bytes l) ls
 
 -- the merge that the code holds
 abbrev pub asked_in : Lent → AskedMerge

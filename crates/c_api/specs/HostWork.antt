@@ -129,7 +129,7 @@ host_result w =
     and_next (edit_call w) (λ edit.
     Ok (record { tables = numbered_from w.first tables; edit = edit })))))))
 
--- the entries of planned outputs, one behind the other
+-- the entries of planned outputs, one after the other
 abbrev pub parts_told : List PlannedOutput → List Entry → List (List Entry)
 parts_told [] entries = []
 parts_told (p ∷ ps) entries = take p.entries entries ∷ parts_told ps (drop p.entries entries)
@@ -169,7 +169,7 @@ pub record AreCopied (cmp : KeyOrder) (w : HostWork) (runs : List Run) : Type 0 
   pub numbered : w.first + length (outputs_over cmp w.asked runs) < 2 ^ 64
 
 -- A host lends for each planned output its entries. It passes the outputs as new files of the next
--- level, the inputs as they are, as next file the number behind the outputs, and the last sequence
+-- level, the inputs as they are, as next file the number after the outputs, and the last sequence
 -- of the request.
 pub record AreLentOutputs (w : HostWork) (kept : List Entry) (planned : List PlannedOutput) : Type 0
   where
@@ -221,6 +221,6 @@ pub record CallsLaw (cmp : KeyOrder) (short_keys : ShortKeys) : Type 0 where
   pub boundaries : (m : AskedBoundaries) (boundaries : List (List ℕ)) →
       IsOrder m.order cmp short_keys → boundaries_test m ≡ Ok tt → AreBoundaries m boundaries →
       IsSplit cmp boundaries
-  -- inputs that were checked stay so if more bytes lie behind the keys, as those of boundaries
+  -- inputs that were checked stay so if more bytes lie after the keys, as those of boundaries
   pub checked : (order : ℕ) (keys more tables : List ℕ) (inputs : List Input) →
       AreChecked order keys tables inputs → AreChecked order (keys ++ more) tables inputs

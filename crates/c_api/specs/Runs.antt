@@ -19,7 +19,7 @@ pub record Arrays : Type 0 where
 abbrev pub rooms : List ℕ → List EntryLengths → List RunMark → Arrays
 rooms bytes lengths marks = record { bytes = bytes; lengths = lengths; marks = marks }
 
--- the bytes of entries: each key, and its value behind it
+-- the bytes of entries: each key, and its value after it
 abbrev pub bytes_of : List Entry → List ℕ
 bytes_of entries = flat_map (λ (e : Entry). e.key ++ e.value) entries
 

@@ -16,29 +16,29 @@ use Rattle.c_api.specs.declared.run_places.RunPlaces.{RunPlaces}
 abbrev pub value_place : EntryLengths → Place
 value_place l = record { from = l.key; len = l.value }
 
--- the entry of these lengths with which bytes begin: its key, and its value behind it
+-- the entry of these lengths with which bytes begin: its key, and its value after it
 abbrev pub first_entry : List ℕ → EntryLengths → Entry
 first_entry bytes l =
     record { key = take l.key bytes; value = part_at bytes (value_place l) }
 
--- the bytes behind it
-abbrev pub behind_entry : List ℕ → EntryLengths → List ℕ
-behind_entry bytes l = drop l.value (drop l.key bytes)
+-- the bytes after it
+abbrev pub after_entry : List ℕ → EntryLengths → List ℕ
+after_entry bytes l = drop l.value (drop l.key bytes)
 
 -- whether bytes begin with an entry of these lengths, and its key is an internal key
 abbrev pub begins_entry : List ℕ → EntryLengths → Bool
 begins_entry bytes l =
     is_within bytes (value_place l) && is_ok (internal_key_reading (take l.key bytes))
 
--- whether entries of these lengths lie in bytes, one behind the other
+-- whether entries of these lengths lie in bytes, one after the other
 abbrev pub are_entries : List ℕ → List EntryLengths → Bool
 are_entries bytes [] = true
-are_entries bytes (l ∷ ls) = begins_entry bytes l && are_entries (behind_entry bytes l) ls
+are_entries bytes (l ∷ ls) = begins_entry bytes l && are_entries (after_entry bytes l) ls
 
 -- these entries
 abbrev pub entries_told : List ℕ → List EntryLengths → List Entry
 entries_told bytes [] = []
-entries_told bytes (l ∷ ls) = first_entry bytes l ∷ entries_told (behind_entry bytes l) ls
+entries_told bytes (l ∷ ls) = first_entry bytes l ∷ entries_told (after_entry bytes l) ls
 
 -- whether marks lie between entries in order: each has at least as many entries before it as the
 -- mark before, the first at least `from`, and the last at most `count`

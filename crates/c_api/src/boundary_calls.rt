@@ -30,7 +30,7 @@ pub(crate) struct LentBoundaries<'a> {
     pub want: u64,
 }
 
-/// User keys that part the inputs into at most `want` ranges of about equal size, each key behind
+/// User keys that part the inputs into at most `want` ranges of about equal size, each key after
 /// the one before it. They rise. `lengths` says how long each is. `size` is how much room they
 /// take, also if a room is too small.
 ///

@@ -12,8 +12,8 @@ pub fn host_law<C: Comparator>()
     ensures { HostLaw C.cmp C.short_keys }
 {}
 
-/// The law that a host which keeps to what the calls ask has at the end what one thread answers: the
-/// tables and the edit, or the number of the first refusal. A call does nothing.
+/// The law that a host which keeps to what the calls ask has at the end what one thread answers:
+/// the tables and the edit, or the number of the first refusal. A call does nothing.
 pub fn calls_law<C: Comparator>()
     ensures { CallsLaw C.cmp C.short_keys }
 {}

@@ -33,7 +33,7 @@ fn boundary<C: Comparator>(split: &Split<C>, number: u64) -> &[u8]
     }
 }
 
-/// User keys in arrays: their bytes one behind the other, and how long each is.
+/// User keys in arrays: their bytes one after the other, and how long each is.
 #[derive(Drop)]
 pub(crate) struct KeyArrays {
     pub bytes: Vec<u8>,

@@ -42,6 +42,7 @@ mod request;
 mod request_calls;
 mod room;
 mod run_arrays;
+mod run_entries;
 mod run_places;
 mod table_calls;
 #[cfg(test)]

@@ -15,7 +15,7 @@ use crate::run_arrays::{EntryLengths, RunMark, RunSize, put_run};
 use crate::user_range::UserRange;
 use std::alloc::Global;
 
-/// Merges the inputs in a range of user keys. The kept entries lie one behind the other in `bytes`,
+/// Merges the inputs in a range of user keys. The kept entries lie one after the other in `bytes`,
 /// each as its key and then its value; `lengths` says how long both are. `marks` counts the
 /// grandparents. `size` is how much room these take, also if a room is too small.
 ///

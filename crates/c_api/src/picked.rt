@@ -1,6 +1,7 @@
 //! The inputs of a request, and what is known of the deeper files.
 
-ghost use Rattle.std.specs.Prelude.{◌≡◌, ◌+◌, ◌≤◌, true, map, filter, nat_le, if◌then◌else◌, [], Ok};
+ghost use Rattle.std.specs.Prelude.{◌≡◌, ◌+◌, ◌≤◌, true, map, filter, nat_le, if◌then◌else◌, []};
+ghost use Rattle.std.specs.Prelude.{Ok};
 ghost use Rattle.std.specs.List.{list_all};
 ghost use Rattle.std.specs.Option.{option_copied};
 ghost use Rattle.ikey.specs.Answers.{EqualOrMemory};

@@ -26,7 +26,7 @@ pub(crate) fn part_of<T>(items: &[T], place: Place) -> &[T]
     requires { lies_within items.now place ≡ true }
     ensures { result.now ≡ part_at items.now place }
 {
-    let (_, behind) = items.split_at(place.from as usize);
-    let (part, _) = behind.split_at(place.len as usize);
+    let (_, rest) = items.split_at(place.from as usize);
+    let (part, _) = rest.split_at(place.len as usize);
     part
 }

@@ -30,7 +30,7 @@ use keep::{FileMeta, RangeRun};
 use std::alloc::Global;
 use table::Options;
 
-/// An output of a plan. Its entries are those behind the ones of the output before it.
+/// An output of a plan. Its entries are those after the ones of the output before it.
 #[repr(C)]
 #[derive(Clone, Copy, Drop)]
 pub struct PlannedOutput {

@@ -1,7 +1,8 @@
 //! What is written into the host's room.
 
+ghost use Rattle.std.specs.Simd.Lanes.{put_chunk};
 ghost use Rattle.c_api.specs.Rooms.{IsWritten};
-ghost use Rattle.std.specs.Prelude.{◌≡◌, ◌≤◌, ◌++◌, drop, length, Ok};
+ghost use Rattle.std.specs.Prelude.{◌≡◌, ◌+◌, ◌≤◌, ◌++◌, drop, length, Ok};
 
 use crate::code::{DONE, ROOM};
 
@@ -12,6 +13,16 @@ pub(crate) fn fill<T: Copy>(items: &[T], room: &mut [T])
 {
     let (front, _) = room.split_at_mut(items.len());
     front.copy_from_slice(items);
+}
+
+/// Puts items into a room, from `at` on.
+#[inline(always)]
+pub(crate) fn put_at<T: Copy>(items: &[T], room: &mut [T], at: usize)
+    requires { at + length items.now ≤ length room.old }
+    ensures { room.new ≡ put_chunk at room.old items.now }
+{
+    let (_, rest) = room.split_at_mut(at);
+    fill(items, rest);
 }
 
 /// Puts items at the beginning of `room`, if that is large enough. `len` is how many they are.

@@ -6,8 +6,8 @@ ghost use Rattle.ikey.specs.Answers.{EqualOrMemory, fault};
 ghost use Rattle.ikey.specs.fault.FaultName.TheVariants.{Memory};
 ghost use Rattle.c_api.specs.Runs.{rooms};
 ghost use Rattle.c_api.specs.ToldRuns.{are_entries as lie_in, are_marks as lie_between};
-ghost use Rattle.c_api.specs.ToldRuns.{begins_entry as begins, behind_entry};
-ghost use Rattle.c_api.specs.Held.{behind_entries};
+ghost use Rattle.c_api.specs.ToldRuns.{begins_entry as begins, after_entry};
+ghost use Rattle.c_api.specs.Held.{entries_passed};
 ghost use Rattle.c_api.specs.ToldRuns.{entries_told, first_entry, run_told};
 ghost use Rattle.c_api.specs.ToldRuns.{value_place as place_told};
 
@@ -44,17 +44,17 @@ fn begins_entry(bytes: &[u8], lengths: EntryLengths) -> bool
     is_within(bytes, value_place(lengths)) && InternalKey::parse(key_in(bytes, lengths)).is_ok()
 }
 
-/// The bytes behind an entry.
-fn behind(bytes: &[u8], lengths: EntryLengths) -> &[u8]
+/// The bytes after an entry.
+fn after(bytes: &[u8], lengths: EntryLengths) -> &[u8]
     requires { begins bytes.now lengths ≡ true }
-    ensures { result.now ≡ behind_entry bytes.now lengths }
+    ensures { result.now ≡ after_entry bytes.now lengths }
 {
     let (_, value) = bytes.split_at(lengths.key as usize);
     let (_, rest) = value.split_at(lengths.value as usize);
     rest
 }
 
-/// Whether entries of these lengths lie in bytes, one behind the other.
+/// Whether entries of these lengths lie in bytes, one after the other.
 pub(crate) fn are_entries(bytes: &[u8], lengths: &[EntryLengths]) -> bool
     ensures { result ≡ lie_in bytes.now lengths.now }
 {
@@ -63,7 +63,7 @@ pub(crate) fn are_entries(bytes: &[u8], lengths: &[EntryLengths]) -> bool
         if !begins_entry(rest, *both) {
             return false;
         }
-        rest = behind(rest, *both);
+        rest = after(rest, *both);
     }
     true
 }
@@ -103,7 +103,7 @@ fn push_first<'a>(
     run.push(key, value, shared)
 }
 
-/// Appends the entries of these lengths that lie in bytes, and answers the bytes behind them.
+/// Appends the entries of these lengths that lie in bytes, and answers the bytes after them.
 fn push_entries<'a>(
     run: &mut RangeRun<'a>,
     bytes: &'a [u8],
@@ -114,13 +114,13 @@ fn push_entries<'a>(
       kept = run.old.kept ++ entries_told bytes.now lengths.now;
       marks = run.old.marks;
     }) }
-    ensures rest { IfOk result (λ rest. rest.now ≡ behind_entries bytes.now lengths.now) }
+    ensures rest { IfOk result (λ rest. rest.now ≡ entries_passed bytes.now lengths.now) }
     ensures memory { IsOkUnless result (fault Memory) }
 {
     let mut rest = bytes;
     for both in lengths {
         push_first(run, rest, *both)?;
-        rest = behind(rest, *both);
+        rest = after(rest, *both);
     }
     Ok(rest)
 }
@@ -143,8 +143,8 @@ pub(crate) fn told_run<'a>(
     for mark in marks {
         let count = mark.kept as usize - run.len();
         let (next, later) = left.split_at(count);
-        let behind = push_entries(&mut run, rest, next)?;
-        rest = behind;
+        let passed = push_entries(&mut run, rest, next)?;
+        rest = passed;
         left = later;
         run.push_mark(mark.below as usize)?;
     }

@@ -3,7 +3,8 @@
 ghost use Rattle.std.specs.Prelude.{◌≡◌, true};
 ghost use Rattle.std.specs.Option.{option_map};
 ghost use Rattle.reads.specs.Ranges.{key_range};
-ghost use Rattle.c_api.specs.Ranges.{bound_at, is_bound as lies_lent, is_range as is_lent, range_in};
+ghost use Rattle.c_api.specs.Ranges.{bound_at, is_bound as lies_lent, is_range as is_lent};
+ghost use Rattle.c_api.specs.Ranges.{range_in};
 
 use crate::place::{Place, is_within, part_of};
 use keep::Range;

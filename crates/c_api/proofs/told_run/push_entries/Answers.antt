@@ -4,7 +4,7 @@ use Rattle.c_api.proofs.told_run.push_entries.Goals as goal
 
 pub loop-both-preserved : goal.loop-both-preserved
 loop-both-preserved c =
-    pushed_on c.args.bytes.now c.args.lengths.now c.args.run.now c.loop-both.run c.loop-both.rest.now c.loop-both.both-index c.loop-both.invariant c.loop-both-test.true c.push_first.new.run c.behind-rest.result.now c.in_ok-push_first.ensures.ok c.behind-rest.ensures
+    pushed_on c.args.bytes.now c.args.lengths.now c.args.run.now c.loop-both.run c.loop-both.rest.now c.loop-both.both-index c.loop-both.invariant c.loop-both-test.true c.push_first.new.run c.after-rest.result.now c.in_ok-push_first.ensures.ok c.after-rest.ensures
 
 pub returns-clause-ok : goal.returns-clause-ok
 returns-clause-ok c =

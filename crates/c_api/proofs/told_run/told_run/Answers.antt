@@ -20,5 +20,5 @@ push_entries-requires c =
 pub loop-mark-preserved : goal.loop-mark-preserved
 loop-mark-preserved c =
     read_on c.args.bytes.now c.args.lengths.now c.args.marks.now c.loop-mark.run c.loop-mark.rest.now c.loop-mark.left.now c.loop-mark.mark-index c.loop-mark.invariant c.loop-mark-test.true
-    c.split_at.result.0.now c.split_at.result.1.now c.in_ok-behind.behind.now c.push_entries.new.run c.push_mark.new.self
-    c.split_at.ensures.by_index.0 (omega (arith, c.split_at.ensures.front_len, c.len.ensures.number)) c.in_ok-behind.ensures.rest c.in_ok-behind.ensures.ok c.in_ok-push_mark.ensures.ok
+    c.split_at.result.0.now c.split_at.result.1.now c.in_ok-passed.passed.now c.push_entries.new.run c.push_mark.new.self
+    c.split_at.ensures.by_index.0 (omega (arith, c.split_at.ensures.front_len, c.len.ensures.number)) c.in_ok-passed.ensures.rest c.in_ok-passed.ensures.ok c.in_ok-push_mark.ensures.ok

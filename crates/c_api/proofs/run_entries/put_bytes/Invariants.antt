@@ -1,0 +1,10 @@
+use Rattle.std.proofs.Common.{◌-◌, length}
+use Rattle.c_api.specs.Runs.{bytes_of}
+use Rattle.c_api.proofs.RunWrites.{WrittenSoFar}
+use Rattle.c_api.proofs.run_entries.put_bytes.Given as goal
+
+abbrev pub invariant-loop-place : goal.invariant-loop-place
+invariant-loop-place l = WrittenSoFar bytes_of l.run.kept 0 l.fn.room l.room l.place l.end
+
+abbrev pub decreases-loop-place : goal.decreases-loop-place
+decreases-loop-place l = length l.run.kept - l.place

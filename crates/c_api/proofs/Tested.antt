@@ -13,7 +13,7 @@ use Rattle.c_api.specs.Requests.{no_table}
 use Rattle.c_api.specs.declared.file.File.{File}
 use Rattle.c_api.specs.declared.place.Place.{Place}
 
-last_key_pushed : (before : List ℕ) (es : List Entry) (e : Entry) → last_key before (es ++ e ∷ []) ≡ e.key
+pub last_key_pushed : (before : List ℕ) (es : List Entry) (e : Entry) → last_key before (es ++ e ∷ []) ≡ e.key
 last_key_pushed before [] e = refl
 last_key_pushed before (x ∷ es) e = last_key_pushed x.key es e
 

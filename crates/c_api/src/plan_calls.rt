@@ -8,9 +8,8 @@ ghost use Rattle.cut.specs.Plan.{plan_of};
 ghost use Rattle.table.specs.Options.{AreInLimits};
 ghost use Rattle.table.specs.Table.{table};
 ghost use Rattle.c_api.specs.Orders.{by_orders};
-ghost use Rattle.c_api.specs.Plans.{answer_told, is_plan_lent, outputs_told, plan_answer};
-ghost use Rattle.c_api.specs.Plans.{plan_reading};
-ghost use Rattle.c_api.specs.Held.{plan_in};
+ghost use Rattle.c_api.specs.Plans.{answer_told, outputs_told, plan_answer, plan_reading};
+ghost use Rattle.c_api.specs.Held.{has_files, plan_in, runs_told};
 ghost use Rattle.c_api.specs.Requests.{files_of as all_files};
 ghost use Rattle.c_api.specs.Rooms.{IsWrittenOrMemory};
 ghost use Rattle.c_api.specs.Runs.{rooms};
@@ -57,13 +56,11 @@ pub(crate) struct LentPlan<'a> {
 }
 
 impl<'a> LentPlan<'a> {
-    /// Whether each place lies in what is lent, and a run is told at each.
-    fn is_lent(&self) -> bool
-        ensures { result ≡ is_plan_lent (plan_in self.now) }
+    /// Whether the keys of all files lie in what is lent.
+    fn has_files(&self) -> bool
+        ensures { result ≡ has_files (plan_in self.now) }
     {
-        have_keys(self.keys, self.files)
-            && have_keys(self.keys, self.deeper)
-            && self.arrays.are_runs(self.runs)
+        have_keys(self.keys, self.files) && have_keys(self.keys, self.deeper)
     }
 }
 
@@ -111,31 +108,47 @@ pub extern "C" fn sedvokt_plan(
         },
         runs,
     };
-    if !lent.is_lent() {
+    if !lent.has_files() {
         return MISUSE;
     }
-    match planned_by(alloc, &lent) {
+    let Ok(read) = lent.arrays.runs(alloc, runs) else {
+        return MEMORY;
+    };
+    let Some(read) = read else {
+        return MISUSE;
+    };
+    match planned_by(alloc, &lent, &read) {
         Ok(outputs) => put(&outputs, room, len),
         Err(fault) => code_of(fault),
     }
 }
 
 /// The outputs of a plan, in the request's order.
-fn planned_by(alloc: Global, lent: &LentPlan<'_>) -> Result<Vec<PlannedOutput>, Fault>
-    requires { is_plan_lent (plan_in lent.now) ≡ true }
+fn planned_by(
+    alloc: Global,
+    lent: &LentPlan<'_>,
+    runs: &[RangeRun<'_>],
+) -> Result<Vec<PlannedOutput>, Fault>
+    requires files { has_files (plan_in lent.now) ≡ true }
+    requires runs { runs.now ≡ runs_told (plan_in lent.now) }
     ensures { EqualOrMemory (λ outputs. outputs.items) result
         (by_orders lent.now.request.now.order (plan_reading (plan_in lent.now))) }
 {
     match lent.request.order {
-        BYTEWISE => planned::<Bytewise>(alloc, lent),
-        SHORTLEX => planned::<Shortlex>(alloc, lent),
+        BYTEWISE => planned::<Bytewise>(alloc, lent, runs),
+        SHORTLEX => planned::<Shortlex>(alloc, lent, runs),
         _ => Err(Fault::of(FaultName::Comparator)),
     }
 }
 
 /// The outputs of a plan.
-fn planned<C: Comparator>(alloc: Global, lent: &LentPlan<'_>) -> Result<Vec<PlannedOutput>, Fault>
-    requires { is_plan_lent (plan_in lent.now) ≡ true }
+fn planned<C: Comparator>(
+    alloc: Global,
+    lent: &LentPlan<'_>,
+    runs: &[RangeRun<'_>],
+) -> Result<Vec<PlannedOutput>, Fault>
+    requires files { has_files (plan_in lent.now) ≡ true }
+    requires runs { runs.now ≡ runs_told (plan_in lent.now) }
     ensures { EqualOrMemory (λ outputs. outputs.items) result
         (plan_reading (plan_in lent.now) C.cmp C.short_keys) }
 {
@@ -145,8 +158,7 @@ fn planned<C: Comparator>(alloc: Global, lent: &LentPlan<'_>) -> Result<Vec<Plan
     }
     let level = lent.request.level;
     let grandparents = grandparents_of::<C>(alloc, lent.keys, level, lent.files, lent.deeper)?;
-    let runs = lent.arrays.runs(alloc, lent.runs)?;
-    outputs_of::<C>(alloc, &runs, &grandparents, options)
+    outputs_of::<C>(alloc, runs, &grandparents, options)
 }
 
 /// The outputs of runs.

@@ -1,15 +1,13 @@
 //! Runs that a host hands back, each in its places of three arrays.
 
-ghost use Rattle.std.specs.Prelude.{◌≡◌, true, map, Ok};
-ghost use Rattle.std.specs.List.{list_all};
+ghost use Rattle.std.specs.Prelude.{◌≡◌, true, Ok};
 ghost use Rattle.ikey.specs.Answers.{EqualOrMemory};
 ghost use Rattle.c_api.specs.ToldRuns.{arrays_at, has_parts as have_parts};
-ghost use Rattle.c_api.specs.Held.{arrays_lent};
-ghost use Rattle.c_api.specs.ToldRuns.{is_run as lies_lent, is_told as are_told, run_at, run_told};
+ghost use Rattle.c_api.specs.Held.{arrays_lent, run_if_lent, runs_if_lent, runs_read};
 
 use crate::place::{Place, is_within, part_of};
 use crate::run_arrays::{EntryLengths, RunMark};
-use crate::told_run::{are_entries, are_marks, told_run};
+use crate::told_run::told_run;
 use ikey::Fault;
 use keep::RangeRun;
 use std::alloc::Global;
@@ -56,55 +54,34 @@ impl<'a> LentArrays<'a> {
         }
     }
 
-    /// Whether they tell a run.
-    fn are_told(&self) -> bool
-        ensures { result ≡ are_told (arrays_lent self.now) }
-    {
-        are_entries(self.bytes, self.lengths) && are_marks(self.lengths.len(), self.marks)
-    }
-
-    /// The run that they tell.
-    fn run(&self, alloc: Global) -> Result<RangeRun<'a>, Fault>
-        requires { are_told (arrays_lent self.now) ≡ true }
-        ensures { EqualOrMemory (λ run. run) result (Ok (run_told (arrays_lent self.now))) }
-    {
-        told_run(alloc, self.bytes, self.lengths, self.marks)
-    }
-
-    /// Whether a run is told at its places.
-    fn is_run(&self, places: &RunPlaces) -> bool
-        ensures { result ≡ lies_lent (arrays_lent self.now) places.now }
-    {
-        self.has_parts(places) && self.at(places).are_told()
-    }
-
-    /// Whether each run is told at its places.
-    pub fn are_runs(&self, runs: &[RunPlaces]) -> bool
-        ensures { result ≡ list_all (lies_lent (arrays_lent self.now)) runs.now }
-    {
-        runs.iter().all(|places| self.is_run(places))
-    }
-
-    /// The run at its places.
-    fn run_at(&self, alloc: Global, places: &RunPlaces) -> Result<RangeRun<'a>, Fault>
-        requires { lies_lent (arrays_lent self.now) places.now ≡ true }
+    /// The run at its places; None if no run is told there.
+    fn run_at(&self, alloc: Global, places: &RunPlaces) -> Result<Option<RangeRun<'a>>, Fault>
         ensures { EqualOrMemory (λ run. run) result
-            (Ok (run_at (arrays_lent self.now) places.now)) }
+            (Ok (run_if_lent (arrays_lent self.now) places.now)) }
     {
+        if !self.has_parts(places) {
+            return Ok(None);
+        }
         let arrays = self.at(places);
-        arrays.run(alloc)
+        told_run(alloc, arrays.bytes, arrays.lengths, arrays.marks)
     }
 
-    /// The runs at their places.
-    pub fn runs(&self, alloc: Global, runs: &[RunPlaces]) -> Result<Vec<RangeRun<'a>>, Fault>
-        requires { list_all (lies_lent (arrays_lent self.now)) runs.now ≡ true }
-        ensures { EqualOrMemory (λ all. all.items) result
-            (Ok (map (run_at (arrays_lent self.now)) runs.now)) }
+    /// The runs at their places; None if no run is told at one.
+    pub fn runs(
+        &self,
+        alloc: Global,
+        runs: &[RunPlaces],
+    ) -> Result<Option<Vec<RangeRun<'a>>>, Fault>
+        ensures { EqualOrMemory runs_read result
+            (Ok (runs_if_lent (arrays_lent self.now) runs.now)) }
     {
         let mut all = Vec::with_capacity(alloc, runs.len())?;
         for places in runs {
-            all.push(self.run_at(alloc, places)?)?;
+            let Some(run) = self.run_at(alloc, places)? else {
+                return Ok(None);
+            };
+            all.push(run)?;
         }
-        Ok(all)
+        Ok(Some(all))
     }
 }

@@ -1,15 +1,15 @@
 //! A run that is told in arrays, read back.
 
-ghost use Rattle.std.specs.Prelude.{◌≡◌, ◌≤◌, true, [], ◌∷◌, ◌++◌, length, take, OnOk, IfOk};
-ghost use Rattle.std.specs.Prelude.{IsOkUnless, Ok};
+ghost use Rattle.std.specs.Prelude.{◌≡◌, ◌≤◌, true, false, [], ◌∷◌, ◌++◌, length, take, OnOk};
+ghost use Rattle.std.specs.Prelude.{IfOk, IsOkUnless, MatchOption, Ok};
 ghost use Rattle.ikey.specs.Answers.{EqualOrMemory, fault};
 ghost use Rattle.ikey.specs.fault.FaultName.TheVariants.{Memory};
+ghost use Rattle.reads.specs.BuilderView.{last_key};
 ghost use Rattle.c_api.specs.Runs.{rooms};
 ghost use Rattle.c_api.specs.ToldRuns.{are_entries as lie_in, are_marks as lie_between};
-ghost use Rattle.c_api.specs.ToldRuns.{begins_entry as begins, after_entry};
-ghost use Rattle.c_api.specs.Held.{entries_passed};
-ghost use Rattle.c_api.specs.ToldRuns.{entries_told, first_entry, run_told};
+ghost use Rattle.c_api.specs.ToldRuns.{after_entry, begins_entry as begins, first_entry};
 ghost use Rattle.c_api.specs.ToldRuns.{value_place as place_told};
+ghost use Rattle.c_api.specs.Held.{ArePushed, run_if_lies, run_if_told};
 
 use crate::place::{Place, is_within, part_of};
 use crate::run_arrays::{EntryLengths, RunMark};
@@ -17,6 +17,9 @@ use coding::common_len;
 use ikey::{Fault, InternalKey};
 use keep::RangeRun;
 use std::alloc::Global;
+
+/// The key before the first one.
+const NO_KEY: &[u8] = b"";
 
 /// Where the value lies, if bytes begin with an entry of these lengths.
 fn value_place(lengths: EntryLengths) -> Place
@@ -54,20 +57,6 @@ fn after(bytes: &[u8], lengths: EntryLengths) -> &[u8]
     rest
 }
 
-/// Whether entries of these lengths lie in bytes, one after the other.
-pub(crate) fn are_entries(bytes: &[u8], lengths: &[EntryLengths]) -> bool
-    ensures { result ≡ lie_in bytes.now lengths.now }
-{
-    let mut rest = bytes;
-    for both in lengths {
-        if !begins_entry(rest, *both) {
-            return false;
-        }
-        rest = after(rest, *both);
-    }
-    true
-}
-
 /// Whether marks lie between so many entries, in order.
 pub(crate) fn are_marks(count: usize, marks: &[RunMark]) -> bool
     ensures { result ≡ lie_between 0 count marks.now }
@@ -82,72 +71,113 @@ pub(crate) fn are_marks(count: usize, marks: &[RunMark]) -> bool
     kept <= count as u64
 }
 
-/// Appends the entry with which bytes begin.
+/// What is to be read of a run: the bytes after the entries so far, and the key of the last one.
+#[derive(Clone, Copy)]
+struct Unread<'a> {
+    pub rest: &'a [u8],
+    /// Empty if there is no entry yet.
+    pub last: &'a [u8],
+}
+
+/// Appends the entry with which the bytes begin, and passes it.
 fn push_first<'a>(
     run: &mut RangeRun<'a>,
-    bytes: &'a [u8],
+    from: Unread<'a>,
     lengths: EntryLengths,
-) -> Result<(), Fault>
-    requires { begins bytes.now lengths ≡ true }
+) -> Result<Unread<'a>, Fault>
+    requires begins { begins from.rest.now lengths ≡ true }
+    requires last { from.last.now ≡ last_key [] run.old.kept }
     ensures ok { OnOk result (run.new ≡ record {
-      kept = run.old.kept ++ first_entry bytes.now lengths ∷ [];
+      kept = run.old.kept ++ first_entry from.entry.rest.now lengths ∷ [];
       marks = run.old.marks;
     }) }
+    ensures rest { IfOk result
+        (λ next. next.rest.now ≡ after_entry from.entry.rest.now lengths) }
+    ensures last { IfOk result
+        (λ next. next.last.now ≡ take lengths.key from.entry.rest.now) }
     ensures memory { IsOkUnless result (fault Memory) }
 {
-    let Ok(key) = InternalKey::parse(key_in(bytes, lengths)) else {
+    let last = key_in(from.rest, lengths);
+    let Ok(key) = InternalKey::parse(last) else {
         unreachable!();
     };
-    let value = part_of(bytes, value_place(lengths));
-    let shared = common_len(run.last_key(), key.bytes());
-    run.push(key, value, shared)
+    let value = part_of(from.rest, value_place(lengths));
+    run.push(key, value, common_len(from.last, last))?;
+    Ok(Unread {
+        rest: after(from.rest, lengths),
+        last,
+    })
 }
 
-/// Appends the entries of these lengths that lie in bytes, and answers the bytes after them.
+/// Appends the entries of these lengths that lie in bytes, one after the other, and answers what
+/// comes after them. None if they don't lie there; the run is lost then.
 fn push_entries<'a>(
     run: &mut RangeRun<'a>,
-    bytes: &'a [u8],
+    from: Unread<'a>,
     lengths: &[EntryLengths],
-) -> Result<&'a [u8], Fault>
-    requires { lie_in bytes.now lengths.now ≡ true }
-    ensures ok { OnOk result (run.new ≡ record {
-      kept = run.old.kept ++ entries_told bytes.now lengths.now;
-      marks = run.old.marks;
-    }) }
-    ensures rest { IfOk result (λ rest. rest.now ≡ entries_passed bytes.now lengths.now) }
+) -> Result<Option<Unread<'a>>, Fault>
+    requires { from.last.now ≡ last_key [] run.old.kept }
+    ensures read { IfOk result (λ next. MatchOption next
+        (lie_in from.entry.rest.now lengths.now ≡ false)
+        (λ u. ArePushed from.entry.rest.now lengths.now run.old run.new u.rest.now
+        u.last.now)) }
     ensures memory { IsOkUnless result (fault Memory) }
 {
-    let mut rest = bytes;
+    let mut next = from;
     for both in lengths {
-        push_first(run, rest, *both)?;
-        rest = after(rest, *both);
+        if !begins_entry(next.rest, *both) {
+            return Ok(None);
+        }
+        next = push_first(run, next, *both)?;
     }
-    Ok(rest)
+    Ok(Some(next))
 }
 
-/// The run that arrays tell.
+/// The run that arrays tell; None if they tell none.
 pub(crate) fn told_run<'a>(
     alloc: Global,
     bytes: &'a [u8],
     lengths: &[EntryLengths],
     marks: &[RunMark],
-) -> Result<RangeRun<'a>, Fault>
-    requires entries { lie_in bytes.now lengths.now ≡ true }
-    requires marks { lie_between 0 (length lengths.now) marks.now ≡ true }
+) -> Result<Option<RangeRun<'a>>, Fault>
     ensures { EqualOrMemory (λ run. run) result
-        (Ok (run_told (rooms bytes.now lengths.now marks.now))) }
+        (Ok (run_if_told (rooms bytes.now lengths.now marks.now))) }
+{
+    if !are_marks(lengths.len(), marks) {
+        return Ok(None);
+    }
+    read_run(alloc, bytes, lengths, marks)
+}
+
+/// The run that arrays tell whose marks lie between its entries; None if they tell none.
+fn read_run<'a>(
+    alloc: Global,
+    bytes: &'a [u8],
+    lengths: &[EntryLengths],
+    marks: &[RunMark],
+) -> Result<Option<RangeRun<'a>>, Fault>
+    requires { lie_between 0 (length lengths.now) marks.now ≡ true }
+    ensures { EqualOrMemory (λ run. run) result
+        (Ok (run_if_lies (rooms bytes.now lengths.now marks.now))) }
 {
     let mut run = RangeRun::new(alloc);
-    let mut rest = bytes;
+    let mut next = Unread {
+        rest: bytes,
+        last: NO_KEY,
+    };
     let mut left = lengths;
     for mark in marks {
         let count = mark.kept as usize - run.len();
-        let (next, later) = left.split_at(count);
-        let passed = push_entries(&mut run, rest, next)?;
-        rest = passed;
+        let (before, later) = left.split_at(count);
+        let Some(passed) = push_entries(&mut run, next, before)? else {
+            return Ok(None);
+        };
+        next = passed;
         left = later;
         run.push_mark(mark.below as usize)?;
     }
-    push_entries(&mut run, rest, left)?;
-    Ok(run)
+    if push_entries(&mut run, next, left)?.is_none() {
+        return Ok(None);
+    }
+    Ok(Some(run))
 }

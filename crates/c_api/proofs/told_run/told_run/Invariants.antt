@@ -1,5 +1,0 @@
-use Rattle.c_api.proofs.ToldRuns.{ReadSoFar}
-use Rattle.c_api.proofs.told_run.told_run.Given as goal
-
-abbrev pub invariant-loop-mark : goal.invariant-loop-mark
-invariant-loop-mark l = ReadSoFar l.bytes l.lengths l.marks l.run l.rest l.left l.mark-index

@@ -153,8 +153,8 @@ uint32_t sedvokt_boundaries(uint32_t order, const uint8_t *keys, size_t keys_len
 
 /* Merges the inputs in a range: `bytes`, `lengths` and `marks` begin with its run then. *size is
    how much room that takes, also if the answer is ROOM, and then nothing else has changed. `deeper`
-   and the refusals of the request are as for sedvokt_check_request; 22 Duplicate if the range has one
-   user key and sequence twice.
+   and the refusals of the request are as for sedvokt_check_request; 22 Duplicate if the range has
+   one user key and sequence twice.
    What you have to keep: sedvokt_check_table answered 0 to each input, with this order, and neither
    what it set nor any byte of the tables and the keys has changed since. Else the call may read
    outside of what is lent. More bytes may lie after the keys, as those of the bounds. */

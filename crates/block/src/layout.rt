@@ -32,6 +32,7 @@ ghost use Rattle.coding.specs.declared.fault.FaultName.TheVariants.{Memory};
 ghost use Rattle.coding.specs.Varint.{varint};
 ghost use Rattle.block.specs.EncodedEntry.{encoded_entry_bytes, restart_bytes};
 
+use byteorder::{ByteOrder, LittleEndian};
 use coding::{Fault, common_len, push_varint};
 
 /// The number of entries of an interval so far, with one more. It is 0 again after the interval's
@@ -121,8 +122,12 @@ pub fn push_restarts(out: &mut Vec<u8>, restarts: &[u32]) -> Result<(), Fault>
 {
     out.reserve(4 * restarts.len() + 4)?;
     for restart in restarts {
-        out.extend_from_slice(&restart.to_le_bytes())?;
+        let mut offset = [0u8; 4];
+        LittleEndian::write_u32(&mut offset, *restart);
+        out.extend_from_slice(&offset)?;
     }
-    out.extend_from_slice(&(restarts.len() as u32).to_le_bytes())?;
+    let mut count = [0u8; 4];
+    LittleEndian::write_u32(&mut count, restarts.len() as u32);
+    out.extend_from_slice(&count)?;
     Ok(())
 }

@@ -8,6 +8,7 @@ ghost use Rattle.ikey.specs.Key.{internal_key};
 
 use crate::key::{InternalKey, TAG_LEN};
 use crate::kind::Kind;
+use byteorder::{ByteOrder, LittleEndian};
 use coding::Fault;
 use std::alloc::Global;
 use std::marker::Model;
@@ -44,10 +45,11 @@ impl KeyBuf {
         requires sequence_fits { sequence < 2 ^ 56 }
         ensures { EqualOrMemory (λ own. own) result (Ok (internal_key user.now sequence kind)) }
     {
-        let tag = sequence * 256 + u64::from(kind.number());
+        let mut tag = [0u8; 8];
+        LittleEndian::write_u64(&mut tag, sequence * 256 + u64::from(kind.number()));
         let mut bytes = Vec::with_capacity(alloc, user.len() + TAG_LEN)?;
         bytes.extend_from_slice(user)?;
-        bytes.extend_from_slice(&tag.to_le_bytes())?;
+        bytes.extend_from_slice(&tag)?;
         Ok(KeyBuf { bytes })
     }
 

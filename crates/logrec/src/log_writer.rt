@@ -6,6 +6,7 @@ ghost use Rattle.coding.specs.declared.fault.FaultName.TheVariants.{Memory};
 ghost use Rattle.logrec.specs.Log.{fragment, fragments, written_record};
 
 use crate::format::{HEADER_LEN, MAX_CONTENT_LEN, ZEROS, checksum, room_at, type_of, zeros_len};
+use byteorder::{ByteOrder, LittleEndian};
 use coding::Fault;
 use std::alloc::Global;
 
@@ -61,8 +62,12 @@ fn push_fragment(log: &mut Vec<u8>, kind: u8, content: &[u8]) -> Result<(), Faul
     ensures ok { OnOk result (log.new.items ≡ log.old.items ++ fragment kind content.now) }
     ensures memory { IsOkUnless result (fault Memory) }
 {
-    log.extend_from_slice(&checksum(kind, content).to_le_bytes())?;
-    log.extend_from_slice(&(content.len() as u16).to_le_bytes())?;
+    let mut sum = [0u8; 4];
+    let mut len = [0u8; 2];
+    LittleEndian::write_u32(&mut sum, checksum(kind, content));
+    LittleEndian::write_u16(&mut len, content.len() as u16);
+    log.extend_from_slice(&sum)?;
+    log.extend_from_slice(&len)?;
     log.push(kind)?;
     log.extend_from_slice(content)?;
     Ok(())

@@ -56,8 +56,9 @@ impl Trailer {
         ensures err { OnErr result (out.new.items ≡ out.old.items) }
         ensures memory { IsOkUnless result (fault Memory) }
     {
-        let [first, second, third, fourth] = self.checksum.to_le_bytes();
-        out.extend_from_slice(&[self.block_type, first, second, third, fourth])?;
+        let mut trailer = [self.block_type; 5];
+        LittleEndian::write_u32(&mut trailer[1..], self.checksum);
+        out.extend_from_slice(&trailer)?;
         Ok(())
     }
 }

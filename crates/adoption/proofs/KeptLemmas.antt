@@ -16,7 +16,7 @@ use Rattle.keep.specs.EncodedEntry.{Entry}
 use Rattle.merge.specs.MergedLists.{merged}
 use Rattle.store.specs.Ranges.{KeyRange}
 use Rattle.keep.specs.DropRule.{kept}
-use Rattle.keep.specs.InRange.{entries_in}
+use Rattle.merge.specs.InRange.{entries_in}
 use Rattle.keep.specs.Marks.{CompactionContext}
 use Rattle.keep.specs.Runs.{DistinctLaw, Run, are_distinct, range_run, run_of}
 use Rattle.adoption.specs.KeptEntries.{HoldsKept}

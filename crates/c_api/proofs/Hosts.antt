@@ -16,7 +16,7 @@ use Rattle.reads.specs.MergedLists.{merged}
 use Rattle.reads.specs.Union.{VersionsRise}
 use Rattle.reads.specs.Ranges.{KeyRange}
 use Rattle.reads.specs.Boundaries.{IsSplit}
-use Rattle.keep.specs.InRange.{entries_in}
+use Rattle.merge.specs.InRange.{entries_in}
 use Rattle.keep.specs.Marks.{CompactionContext, largest_rise}
 use Rattle.keep.specs.Runs.{DistinctLaw, RangesCompose, Run, are_distinct, joined_run, range_run, ranges_of, run_of, runs_of}
 use Rattle.keep.specs.declared.mark.Mark.{Mark}

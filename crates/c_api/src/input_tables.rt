@@ -4,7 +4,7 @@ ghost use Rattle.std.specs.Prelude.{◌≡◌, true, map, IfErr, IfOk, Ok};
 ghost use Rattle.std.specs.List.{AllByRecursion};
 ghost use Rattle.ikey.specs.Answers.{EqualOrMemory, fault};
 ghost use Rattle.ikey.specs.fault.FaultName.TheVariants.{Memory};
-ghost use Rattle.keep.specs.InRange.{entries_in};
+ghost use Rattle.merge.specs.InRange.{entries_in};
 ghost use Rattle.keep.specs.MergedLists.{entries_of_lists};
 ghost use Rattle.reads.specs.Ranges.{key_range};
 ghost use Rattle.c_api.specs.Boundaries.{tables_read};
@@ -19,7 +19,8 @@ use crate::file::key_at;
 use crate::input::Input;
 use crate::place::part_of;
 use ikey::{Comparator, Fault, KeyBuf};
-use keep::{Range, TableCursor, add_cursor};
+use keep::{Range, TableCursor};
+use merge::add_cursor;
 use std::alloc::Global;
 use table::{Bounds, SoundTable, Tally, reopen_table};
 

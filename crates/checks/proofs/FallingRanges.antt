@@ -14,7 +14,7 @@ use Rattle.ikey.specs.Key.{IsInternalKey, user_of}
 use Rattle.table.specs.EncodedEntry.{Entry}
 use Rattle.reads.specs.MergedLists.{entries_of_lists}
 use Rattle.split.specs.Ranges.{KeyRange, range_at, IsIn, IsCover}
-use Rattle.keep.specs.InRange.{is_in_range, entries_in, HoldsLaw}
+use Rattle.merge.specs.InRange.{is_in_range, entries_in, HoldsLaw}
 use Rattle.reads.specs.TableOrder.{IsNewer, IsNewerIn, AreFalling, AreFallingIn}
 use Rattle.reads.proofs.Members.{in_filter, from_filter}
 use Rattle.reads.proofs.Pairs.{Pairs, pairs_from, pairs_to}

@@ -12,9 +12,9 @@ use Rattle.table.specs.EncodedEntry.{Entry}
 use Rattle.reads.specs.MergedLists.{entries_of_lists}
 use Rattle.split.specs.Ranges.{KeyRange, IsIn}
 use Rattle.folder.specs.meta.FileMeta.{FileMeta}
-use Rattle.keep.specs.InRange.{entries_in, is_in_range}
-use Rattle.keep.proofs.Distinct.{holds_tells}
-use Rattle.keep.proofs.Reaching.{begins_behind, ends_before, table_never_falls}
+use Rattle.merge.specs.InRange.{entries_in, is_in_range}
+use Rattle.merge.proofs.InRange.{holds_tells}
+use Rattle.merge.proofs.Reaching.{begins_behind, ends_before, table_never_falls}
 use Rattle.reads.specs.StatedFiles.{IsStatedFile}
 use Rattle.reads.specs.TableOrder.{lists_of_files}
 use Rattle.reads.specs.Tables.{NumberedContents, table_entries}

@@ -10,7 +10,7 @@ use Rattle.reads.specs.MergedLists.{entries_of_lists}
 use Rattle.split.specs.Ranges.{KeyRange, IsIn, range_at}
 use Rattle.folder.specs.meta.FileMeta.{FileMeta}
 use Rattle.folder.specs.Calls.{Files}
-use Rattle.keep.proofs.Distinct.{holds_tells}
+use Rattle.merge.proofs.InRange.{holds_tells}
 use Rattle.reads.specs.StatedFiles.{IsStatedFile}
 use Rattle.reads.specs.TableOrder.{AreFallingIn, lists_of_files}
 use Rattle.reads.specs.Tables.{NumberedContents}

@@ -1,8 +1,6 @@
 -- of lower crates, whose words these use
 pub use Rattle.reads.specs.Gets
 pub use Rattle.reads.specs.Tables
-pub use Rattle.keep.specs.Readable
-pub use Rattle.keep.specs.Runs
 -- what contracts rest on
 pub mod TableReadings
 pub mod LawfulTables

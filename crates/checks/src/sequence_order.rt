@@ -14,7 +14,7 @@ use crate::sampled_ranges::sampled_split;
 use crate::table_bounds::tables_to_walk;
 use board::{Gate, Labour, Workers};
 use ikey::{Comparator, Fault, SharedComparator};
-use keep::cursors_from;
+use merge::cursors_from;
 use reads::falls_in;
 use split::{Range, Split};
 use std::alloc::Global;

@@ -17,7 +17,7 @@ use Rattle.edit.specs.declared.meta.FileMeta.{FileMeta}
 use Rattle.pick.specs.declared.picked_inputs.InputFile.{InputFile}
 use Rattle.board.specs.CollectedResults.{collected_results}
 use Rattle.reads.specs.Bounds.{has_bounds}
-use Rattle.keep.proofs.Reaching.{first_from, last_from}
+use Rattle.merge.proofs.Reaching.{first_from, last_from}
 use Rattle.compact.specs.Inputs.{result_at_input, table_matches_metadata, input_reading, inputs_reading}
 use Rattle.compact.specs.JobAnswers.{input_answers}
 

@@ -12,7 +12,7 @@ use Rattle.table.specs.EncodedEntry.{Entry}
 use Rattle.reads.specs.MergedLists.{merged}
 use Rattle.split.specs.Boundaries.{IsSplit}
 use Rattle.split.specs.Ranges.{KeyRange, range_at}
-use Rattle.keep.specs.InRange.{entries_in}
+use Rattle.merge.specs.InRange.{entries_in}
 use Rattle.keep.specs.Marks.{CompactionContext}
 use Rattle.keep.specs.Runs.{Run, run_of, are_distinct, range_run, ranges_from, ranges_of, runs_of, RangesCompose}
 use Rattle.board.specs.CollectedResults.{collected_results}

@@ -2,6 +2,8 @@
 pub use Rattle.table.specs.declared.options
 pub use Rattle.edit.specs.declared.outcome
 pub use Rattle.keep.specs.declared.snapshots
+pub use Rattle.keep.specs.Readable
+pub use Rattle.keep.specs.Runs
 pub use Rattle.cut.specs.Outputs
 pub use Rattle.cut.specs.Plan
 -- what contracts rest on

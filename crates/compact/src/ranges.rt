@@ -11,7 +11,8 @@ ghost use Rattle.compact.specs.RangeMerges.{by_workers, runs_reading};
 
 use board::{Gate, Labour, run};
 use ikey::{Comparator, Fault, SharedComparator};
-use keep::{RangeRun, cursors_from, merge_range, ranges_compose};
+use keep::{RangeRun, merge_range, ranges_compose};
+use merge::cursors_from;
 use pick::Inputs;
 use split::{Range, Split};
 use std::alloc::Global;

@@ -5,9 +5,10 @@ use crate::range_checks_tests::version_after;
 use coding::{Fault, FaultName};
 use ikey::{Bytewise, Kind};
 use keep::{
-    Mark, RangeRun, Snapshots, cursor_from, distinct_law, holds_law, is_rising, largest_rise,
-    merge_range, one_key, range_start_law, ranges_compose, seek_range, starts_before,
+    Mark, RangeRun, Snapshots, distinct_law, is_rising, largest_rise, merge_range, one_key,
+    range_start_law, ranges_compose,
 };
+use merge::{cursor_from, holds_law, seek_range, starts_before};
 use pick::{Inputs, inputs};
 use split::Range;
 use std::alloc::Global;

@@ -14,8 +14,8 @@ use Rattle.table.specs.Comparator.{IsExact, KeyOrder}
 use Rattle.table.specs.Key.{user_of}
 use Rattle.folder.proofs.Inserted.{sorted_all}
 use Rattle.folder.proofs.Inserted as inserted
-use Rattle.keep.specs.InRange.{is_in_range}
-use Rattle.keep.proofs.Distinct.{holds_tells}
+use Rattle.merge.specs.InRange.{is_in_range}
+use Rattle.merge.proofs.InRange.{holds_tells}
 use Rattle.reads.specs.Ranges.{IsCover, IsIn, KeyRange, range_at}
 use Rattle.reads.proofs.FallingEntries.{each_of, of_each}
 use Rattle.reads.proofs.Members.{first_in, first_or_later, from_filter, in_filter, in_map, later_in, none_in}

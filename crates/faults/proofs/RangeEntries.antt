@@ -12,14 +12,14 @@ use Rattle.table.specs.EncodedEntry.{Entry}
 use Rattle.table.specs.TableContents.{Contents}
 use Rattle.folder.specs.meta.FileMeta.{FileMeta}
 use Rattle.folder.specs.Calls.{Files}
-use Rattle.keep.specs.InRange.{entries_in, is_in_range}
-use Rattle.keep.proofs.Distinct.{holds_tells}
-use Rattle.keep.proofs.Reaching.{begins_behind, ends_before, table_never_falls}
+use Rattle.merge.specs.InRange.{entries_in, is_in_range}
+use Rattle.merge.proofs.InRange.{holds_tells}
+use Rattle.merge.proofs.Reaching.{begins_behind, ends_before, table_never_falls}
 use Rattle.reads.specs.Ranges.{IsIn, KeyRange}
 use Rattle.reads.specs.Tables.{NumberedContents}
 use Rattle.checks.specs.HeldTables.{AreFound}
 use Rattle.checks.specs.NeededFiles.{is_file_needed}
-use Rattle.keep.specs.Bounds.{is_user_before}
+use Rattle.merge.specs.Bounds.{is_user_before}
 use Rattle.checks.proofs.FileTables.{numbers_in}
 use Rattle.faults.specs.VersionFault.{MisplacedKey}
 use Rattle.faults.specs.FileFaults.{file_reading}

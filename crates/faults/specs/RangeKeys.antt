@@ -5,7 +5,7 @@ use Rattle.table.specs.Comparator.{KeyOrder}
 use Rattle.reads.specs.Ranges.{KeyRange, range_at}
 use Rattle.folder.specs.meta.FileMeta.{FileMeta}
 use Rattle.folder.specs.Calls.{Files}
-use Rattle.keep.specs.InRange.{entries_in, is_in_range}
+use Rattle.merge.specs.InRange.{entries_in, is_in_range}
 use Rattle.reads.specs.Tables.{NumberedContents}
 use Rattle.faults.specs.VersionFault.{MisplacedKey}
 use Rattle.faults.specs.KeyFaults.{FileEntries, is_sound}

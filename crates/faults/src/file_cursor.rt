@@ -3,14 +3,14 @@
 ghost use Rattle.std.specs.Prelude.{◌≡◌, ◌++◌, List, Ok, IfOk, IfErr, OnOk};
 ghost use Rattle.table.specs.Answers.{fault};
 ghost use Rattle.table.specs.fault.FaultName.TheVariants.{Memory};
-ghost use Rattle.keep.specs.FirstEntry.{first_is};
-ghost use Rattle.keep.specs.InRange.{entries_in};
+ghost use Rattle.merge.specs.FirstEntry.{first_is};
+ghost use Rattle.merge.specs.InRange.{entries_in};
 ghost use Rattle.reads.specs.Ranges.{key_range};
 ghost use Rattle.faults.specs.KeyFaults.{SearchedEntry, searched_in};
 ghost use Rattle.faults.specs.KeyWalk.{after_user, break_of, is_user, with_user};
 
 use crate::entry_order::EntryOrder;
-use keep::cursor_from;
+use merge::cursor_from;
 use reads::{NumberedTable, Range};
 use std::alloc::Global;
 use std::marker::Model;

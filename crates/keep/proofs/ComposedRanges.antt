@@ -22,7 +22,7 @@ use Rattle.merge.proofs.SortedEntries.{sorted_never_falls}
 use Rattle.reads.proofs.Members.{first_in, later_in}
 use Rattle.reads.proofs.Pairs.{Pairs, pairs_from}
 use Rattle.keep.specs.DropRule.{is_same_user, is_snapshot_between, is_obsolete, keeps, kept_after, kept}
-use Rattle.keep.specs.InRange.{is_in_range, entries_in}
+use Rattle.merge.specs.InRange.{is_in_range, entries_in}
 use Rattle.keep.specs.declared.mark.Mark.{Mark}
 use Rattle.keep.specs.Marks.{CompactionContext, grandparents_below, is_first, heads_after, heads, changes_after, changes, marks}
 use Rattle.keep.specs.Runs.{run_of, is_same_version, are_distinct, moved_mark, joined_marks, ranges_from, RangesCompose, KeptInRangeLaw}

@@ -1,13 +1,12 @@
 -- The inputs have a union exactly if no user key has one sequence twice.
-use Rattle.std.proofs.Common.{◌≡◌, ◌≢◌, ℕ, Bool, true, false, List, [], ◌∷◌, Some, None, Option, refl, sym, ap, subst, ◌∙◌}
+use Rattle.std.proofs.Common.{◌≡◌, ℕ, Bool, true, false, List, [], ◌∷◌, refl, sym, ap, subst, ◌∙◌}
 use Rattle.std.specs.Prelude.{nat_eq, nat_lt, ◌&&◌, ◌||◌, not, cond}
 use Rattle.std.specs.List.{list_any, AllByRecursion}
-use Rattle.std.specs.Option.{option_map_or, ForSome}
-use Rattle.std.specs.Ordering.{is_le, is_lt, ordering_then, nat_cmp}
+use Rattle.std.specs.Ordering.{is_le, ordering_then, nat_cmp}
 use Rattle.std.specs.Cmp.{IsTotalOrder}
 use Rattle.std.specs.declared.cmp.Ordering.{Ordering}
 use Rattle.std.specs.declared.cmp.Ordering.TheVariants.{Less, Equal, Greater}
-use Rattle.std.proofs.lemmas.Bool.{eqb-true, eq-eqb, and_parts, and_from, or_parts, both_ways, not-true, false≢true}
+use Rattle.std.proofs.lemmas.Bool.{eqb-true, eq-eqb, and_parts, and_from, or_parts, both_ways, not-true}
 use Rattle.std.proofs.lemmas.Cmp.{tied_itself, nat_cmp_total}
 use Rattle.std.proofs.lemmas.Slice.Eq.{bytes_eq-Decides}
 use Rattle.ikey.specs.Key.{user_of, sequence_of, kind_of, kind_number}
@@ -20,7 +19,6 @@ use Rattle.merge.specs.Union.{key_version_cmp, VersionsRise}
 use Rattle.merge.proofs.SortedEntries.{sorted_never_falls}
 use Rattle.merge.proofs.Unions.{union_is_merged}
 use Rattle.keep.specs.DropRule.{is_same_user}
-use Rattle.keep.specs.InRange.{HoldsLaw}
 use Rattle.keep.specs.Runs.{is_same_version, are_distinct, DistinctLaw}
 
 module _ (cmp : List ℕ → List ℕ → Ordering) (total : IsTotalOrder cmp) (exact : IsExact cmp) where
@@ -96,46 +94,3 @@ module _ (cmp : List ℕ → List ℕ → Ordering) (total : IsTotalOrder cmp) (
         λ is. ((law.0 is).0, distinct_of (merged cmp inputs) (subst (VersionsRise cmp) (law.0 is).0 (law.0 is).1)),
         λ h. law.1 (h.0, subst (VersionsRise cmp) (sym h.0) (rises (merged cmp inputs) (sorted_never_falls cmp total (entries_of_lists inputs)) h.1)),
       )
-
--- ---- ranges
-
-not_less : (o : Ordering) → not (is_lt o) ≡ true → o ≢ Less
-not_less Less h = λ e. false≢true h
-not_less Equal h = λ e. absurd (cc)
-not_less Greater h = λ e. absurd (cc)
-
-not_less_back : (o : Ordering) → o ≢ Less → not (is_lt o) ≡ true
-not_less_back Less h = absurd (h refl)
-not_less_back Equal h = refl
-not_less_back Greater h = refl
-
-less_of : (o : Ordering) → is_lt o ≡ true → o ≡ Less
-less_of Less h = refl
-less_of Equal h = absurd (false≢true h)
-less_of Greater h = absurd (false≢true h)
-
-inside : (k x : List ℕ) → Some k ≡ Some x → k ≡ x
-inside k x e = ap (λ (o : Option (List ℕ)). option_map_or (λ (l : List ℕ). l) o k) e
-
-from_of : (cmp : List ℕ → List ℕ → Ordering) (lower : Option (List ℕ)) (user : List ℕ) → option_map_or (λ l. not (is_lt (cmp user l))) lower true ≡ true → ForSome lower (λ l. cmp user l ≢ Less)
-from_of cmp None user h = λ x e. absurd (cc)
-from_of cmp (Some l) user h = λ x e. subst (λ (k : List ℕ). cmp user k ≢ Less) (inside l x e) (not_less (cmp user l) h)
-
-from_back : (cmp : List ℕ → List ℕ → Ordering) (lower : Option (List ℕ)) (user : List ℕ) → ForSome lower (λ l. cmp user l ≢ Less) → option_map_or (λ l. not (is_lt (cmp user l))) lower true ≡ true
-from_back cmp None user h = refl
-from_back cmp (Some l) user h = not_less_back (cmp user l) (h l refl)
-
-before_of : (cmp : List ℕ → List ℕ → Ordering) (upper : Option (List ℕ)) (user : List ℕ) → option_map_or (λ u. is_lt (cmp user u)) upper true ≡ true → ForSome upper (λ u. cmp user u ≡ Less)
-before_of cmp None user h = λ x e. absurd (cc)
-before_of cmp (Some u) user h = λ x e. subst (λ (k : List ℕ). cmp user k ≡ Less) (inside u x e) (less_of (cmp user u) h)
-
-before_back : (cmp : List ℕ → List ℕ → Ordering) (upper : Option (List ℕ)) (user : List ℕ) → ForSome upper (λ u. cmp user u ≡ Less) → option_map_or (λ u. is_lt (cmp user u)) upper true ≡ true
-before_back cmp None user h = refl
-before_back cmp (Some u) user h = ap is_lt (h u refl)
-
-pub holds_tells : (cmp : List ℕ → List ℕ → Ordering) → HoldsLaw cmp
-holds_tells cmp range user = (
-  λ h. let both = and_parts (option_map_or (λ l. not (is_lt (cmp user l))) range.lower true) (option_map_or (λ u. is_lt (cmp user u)) range.upper true) h in
-      record { from = from_of cmp range.lower user both.0; before = before_of cmp range.upper user both.1 },
-  λ is. and_from (option_map_or (λ l. not (is_lt (cmp user l))) range.lower true) (option_map_or (λ u. is_lt (cmp user u)) range.upper true) (from_back cmp range.lower user is.from) (before_back cmp range.upper user is.before),
-)

@@ -8,8 +8,6 @@ pub mod Distinct
 pub mod Adjacent
 pub mod GrandparentCounts
 pub mod WalkState
-pub mod LeftEntries
-pub mod Bounds
 pub mod KeyBuffers
 pub mod ChunkLists
 pub mod LastKept
@@ -18,6 +16,3 @@ pub mod RangeWalks
 pub mod Neighbours
 pub mod RisingTests
 pub mod OnAnswers
-pub mod Sought
-pub mod TableBytes
-pub mod Reaching

@@ -1,63 +1,29 @@
 -- A walk over the entries of a range, among the cursors that it walks.
-use Rattle.std.proofs.Common.{◌≡◌, ℕ, ◌<◌, ◌≤◌, Bool, true, false, List, [], ◌∷◌, length, drop, Some, None, Option, Ok, Err, refl, sym, ap, subst, ◌∙◌, arith}
-use Rattle.std.specs.Prelude.{slice_get, if◌then◌else◌, IsTrue, ◌↔◌}
+use Rattle.std.proofs.Common.{◌≡◌, ℕ, ◌≤◌, Bool, true, false, List, [], ◌∷◌, drop, None, Option, Ok, Err, sym, ap, subst, ◌∙◌}
+use Rattle.std.specs.Prelude.{if◌then◌else◌}
 use Rattle.std.specs.List.{AllByRecursion}
-use Rattle.std.specs.Option.{option_map}
 use Rattle.std.specs.Cmp.{IsTotalOrder}
 use Rattle.std.specs.declared.cmp.Ordering.{Ordering}
-use Rattle.std.proofs.lemmas.Bool.{both_ways, false≢true}
-use Rattle.std.proofs.lemmas.Option.{same_Some, none-some}
 use Rattle.coding.specs.Answers.{fault}
 use Rattle.coding.specs.declared.fault.FaultName.TheVariants.{Duplicate}
 use Rattle.ikey.specs.Comparator.{IsExact}
 use Rattle.ikey.specs.Key.{user_of}
 use Rattle.reads.specs.EncodedEntry.{Entry}
-use Rattle.merge.specs.MergedLists.{entries_of_lists, merged}
+use Rattle.merge.specs.MergedLists.{entries_of_lists, sorted_entries, merged}
 use Rattle.merge.specs.LeastList.{IsAdvanced}
-use Rattle.merge.proofs.SortedEntries.{sorted_never_falls}
+use Rattle.merge.proofs.SortedEntries.{filter-sorted, sorted_never_falls}
 use Rattle.split.specs.Ranges.{KeyRange}
 use Rattle.keep.specs.WalkedRange.{WalkedRange}
-use Rattle.keep.specs.InRange.{is_in_range, entries_in}
-use Rattle.keep.specs.CursorsLeft.{is_before, is_passed, each_past_range, EachLosesOnly, EachLosesFirst}
+use Rattle.merge.specs.InRange.{is_in_range, entries_in}
+use Rattle.merge.specs.CursorsLeft.{is_before, is_passed, each_past_range, EachLosesOnly, EachLosesFirst}
 use Rattle.keep.specs.Marks.{CompactionContext, grandparents_below}
 use Rattle.keep.specs.Runs.{Run, run_of, are_distinct, range_run}
-use Rattle.keep.specs.FirstEntry.{first_is}
+use Rattle.merge.specs.FirstEntry.{first_is}
 use Rattle.keep.specs.Versions.{newer_of}
 use Rattle.keep.specs.RangeWalk.{is_repeated, walk_after}
-use Rattle.keep.proofs.Bounds.{below_apart, below_passed, before_passed, from_bound, none_in, none_passed, one_in, in_falls}
-use Rattle.keep.proofs.LeftEntries.{each_first_all, each_first_more, each_first_weaker, each_loses_only, each_others, merged_filter, stepped, all_merged_back}
+use Rattle.merge.proofs.Bounds.{below_apart, below_passed, before_passed, from_bound, none_in, none_passed, one_in, in_falls}
+use Rattle.merge.proofs.LeftEntries.{each_first_all, each_first_more, each_first_weaker, each_loses_only, each_others, merged_filter, stepped, all_merged_back}
 use Rattle.keep.proofs.WalkState.{Stands, stands_first, stands_walked, stands_repeated, stands_kept, stands_distinct, stands_passed}
-
--- ---- the first of entries
-
-pub first_some : (test : Entry → Bool) (es : List Entry) → first_is test es ≡ true → 0 < length es
-first_some test [] h = absurd (false≢true h)
-first_some test (e ∷ es) h = omega arith
-
-pub first_none : (test : Entry → Bool) (es : List Entry) (b : Bool) → IsTrue b ↔ (0 < length es) → b ≡ false → false ≡ first_is test es
-first_none test [] b some h = refl
-first_none test (e ∷ es) b some h = absurd (both_ways b h (some.1 (omega arith)))
-
-pub first_there : (b : Bool) (es : List Entry) → IsTrue b ↔ (0 < length es) → b ≡ true → 0 < length es
-first_there b es some h = some.0 h
-
-pub first_by : (test : List ℕ → Bool) (es : List Entry) (key : List ℕ) → option_map (λ e. e.key) (slice_get es 0) ≡ Some key → test key ≡ first_is (λ e. test e.key) es
-first_by test [] key h = absurd (none-some key h)
-first_by test (e ∷ es) key h = ap test (sym (same_Some e.key key h))
-
-pub first_always : (b : Bool) (es : List Entry) → 0 < length es → b ≡ first_is (λ e. b) es
-first_always b [] h = absurd (omega arith)
-first_always b (e ∷ es) h = refl
-
-pub fewer : (test : Entry → Bool) (es fs : List Entry) → first_is test es ≡ true → fs ≡ drop 1 es → length fs < length es
-fewer test [] fs h k = absurd (false≢true h)
-fewer test (e ∷ es) fs h k = let n : length fs ≡ length es = ap length k in omega (arith, n)
-
--- the entry of this key and this value, and those after it
-pub head_is : (es : List Entry) (key value : List ℕ) → option_map (λ e. e.key) (slice_get es 0) ≡ Some key → option_map (λ e. e.value) (slice_get es 0) ≡ Some value → es ≡ record { key = key; value = value } ∷ drop 1 es
-head_is [] key value h k = absurd (none-some key h)
-head_is (e ∷ es) key value h k =
-    ap (λ (u : List ℕ). record { key = u; value = e.value } ∷ es) (same_Some e.key key h) ∙ ap (λ (v : List ℕ). record { key = key; value = v } ∷ es) (same_Some e.value value k)
 
 -- ---- the walk
 
@@ -74,6 +40,12 @@ module _ (cmp : List ℕ → List ℕ → Ordering) (total : IsTotalOrder cmp) w
   begun_same b range olds news h =
       ap (λ (es : List Entry). if are_distinct es then Ok (run_of cmp b es) else Err (fault Duplicate))
       (merged_filter (is_before cmp range.lower false) cmp total (λ e. is_in_range cmp range (user_of e.key)) (below_apart cmp range) olds news h)
+
+  -- lists that have the same in a range give the same run in it
+  pub run_same : (range : KeyRange) (b : CompactionContext) (olds news : List (List Entry)) → entries_in cmp range (entries_of_lists news) ≡ entries_in cmp range (entries_of_lists olds) → range_run cmp b news range ≡ range_run cmp b olds range
+  run_same range b olds news h =
+      ap (λ (es : List Entry). if are_distinct es then Ok (run_of cmp b es) else Err (fault Duplicate))
+      (filter-sorted cmp total (λ e. is_in_range cmp range (user_of e.key)) (entries_of_lists news) ∙ ap (sorted_entries cmp) h ∙ sym (filter-sorted cmp total (λ e. is_in_range cmp range (user_of e.key)) (entries_of_lists olds)))
 
   pub begun_passed : (range : KeyRange) (olds mids news : List (List Entry)) → EachLosesFirst (is_before cmp range.lower false) olds mids → EachLosesFirst (is_passed cmp range) mids news → EachLosesFirst (is_passed cmp range) olds news
   begun_passed range olds mids news h k =

@@ -3,7 +3,6 @@ pub use Rattle.reads.specs.EncodedEntry
 pub use Rattle.reads.specs.TableContents
 pub use Rattle.reads.specs.TestResult
 pub use Rattle.reads.specs.meta
-pub use Rattle.split.specs.Bounds
 pub use Rattle.merge.specs.MergedLists
 pub use Rattle.merge.specs.Union
 pub use Rattle.reads.specs.Gets
@@ -12,14 +11,11 @@ pub use Rattle.reads.specs.Tables
 -- what contracts rest on
 pub mod Readable
 pub mod DropRule
-pub mod InRange
 pub mod RisesBy
 pub mod Marks
 pub mod Runs
-pub mod CursorsLeft
 pub mod RangeStart
 pub mod OneKey
-pub mod FirstEntry
 pub mod SharedLengths
 -- serves proofs alone
 pub mod Versions

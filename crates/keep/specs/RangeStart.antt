@@ -3,7 +3,7 @@ use Rattle.std.specs.Prelude.{◌≡◌, false, List}
 use Rattle.ikey.specs.Comparator.{KeyOrder}
 use Rattle.reads.specs.EncodedEntry.{Entry}
 use Rattle.split.specs.Ranges.{KeyRange}
-use Rattle.keep.specs.CursorsLeft.{is_before, EachLosesOnly}
+use Rattle.merge.specs.CursorsLeft.{is_before, EachLosesOnly}
 use Rattle.keep.specs.Marks.{CompactionContext}
 use Rattle.keep.specs.Runs.{range_run}
 

@@ -14,7 +14,7 @@ use Rattle.merge.specs.Union.{VersionsRise, IsUnion}
 use Rattle.split.specs.Boundaries.{IsSplit}
 use Rattle.split.specs.Ranges.{KeyRange, range_at}
 use Rattle.keep.specs.DropRule.{is_same_user, kept}
-use Rattle.keep.specs.InRange.{entries_in}
+use Rattle.merge.specs.InRange.{entries_in}
 use Rattle.keep.specs.declared.mark.Mark.{Mark}
 use Rattle.keep.specs.Marks.{CompactionContext, marks, changes}
 

@@ -1,7 +1,6 @@
 //! Laws of the drop rule and of ranges, over the definitions alone.
 
 ghost use Rattle.keep.specs.RangeStart.{RangeStartLaw};
-ghost use Rattle.keep.specs.InRange.{HoldsLaw};
 ghost use Rattle.keep.specs.OneKey.{OneKeyLaw};
 ghost use Rattle.keep.specs.Runs.{DistinctLaw, KeptInRangeLaw, RangesCompose};
 
@@ -42,12 +41,6 @@ pub fn kept_in_range<C: Comparator>()
 /// sorted merge is it. A call does nothing.
 pub fn distinct_law<C: Comparator>()
     ensures { DistinctLaw C.cmp }
-{}
-
-/// The law that `is_in_range` holds of just the user keys that a split states of a range. A call
-/// does nothing.
-pub fn holds_law<C: Comparator>()
-    ensures { HoldsLaw C.cmp }
 {}
 
 /// The law that entries before a range take no part in it. A call does nothing.

@@ -8,20 +8,20 @@ ghost use Rattle.coding.specs.Answers.{EqualOrMemory, fault};
 ghost use Rattle.coding.specs.declared.fault.FaultName.TheVariants.{Memory};
 ghost use Rattle.merge.specs.MergedLists.{merged};
 ghost use Rattle.split.specs.Ranges.{key_range};
-ghost use Rattle.keep.specs.CursorsLeft.{is_before, is_passed, each_past_range, EachLosesFirst};
+ghost use Rattle.merge.specs.CursorsLeft.{is_before, is_passed, each_past_range, EachLosesFirst};
 ghost use Rattle.keep.specs.Marks.{context_of, LargestRise};
 ghost use Rattle.keep.specs.Runs.{range_run};
-ghost use Rattle.keep.specs.FirstEntry.{first_is};
+ghost use Rattle.merge.specs.FirstEntry.{first_is};
 
 use crate::range_run::RangeRun;
 use crate::rule::Rule;
 use crate::walk::Walk;
 use coding::Fault;
 use ikey::Comparator;
-use merge::Merging;
+use merge::{Merging, starts_before};
 use pick::Inputs;
 use reads::Cursor;
-use split::{Range, is_before};
+use split::Range;
 use std::alloc::Global;
 
 /// The kept entries and the marks of `range`, of all entries that `cursors` have still to come.
@@ -137,22 +137,4 @@ fn walk_range<'a, C: Comparator, S: Cursor<'a, C> + Drop>(
         merging.advance()?;
     }
     Ok(walk.run)
-}
-
-/// Whether there is an entry to come whose user key is before `bound`. If there is no bound,
-/// `otherwise` says whether the first entry counts as before it.
-#[inline(always)]
-pub fn starts_before<'a, C: Comparator, M: Cursor<'a, C>>(
-    merging: &M,
-    bound: Option<&[u8]>,
-    otherwise: bool,
-) -> bool
-    ensures { result
-        ≡ first_is (is_before C.cmp (option_map (λ limit. limit.now) bound.entry) otherwise)
-        (M.remaining merging.now) }
-{
-    if !merging.valid() {
-        return false;
-    }
-    is_before::<C>(merging.key(), bound, otherwise)
 }

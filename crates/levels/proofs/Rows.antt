@@ -20,14 +20,13 @@ use Rattle.install.proofs.Numbers.{after_edit, among_append, in_files, in_versio
 use Rattle.pick.specs.PickedInputs.{PickedInputs}
 use Rattle.pick.specs.declared.picked_inputs.InputFile.{InputFile}
 use Rattle.keep.specs.Lawful.{IsBelowNextFile, IsLawful}
-use Rattle.keep.specs.Readable.{readable_of}
+use Rattle.keep.specs.Readable.{is_read, readable_of}
 use Rattle.keep.specs.Tables.{NumberedContents}
 use Rattle.keep.specs.Gets.{get_of}
 use Rattle.reads.proofs.FallingEntries.{of_each}
 use Rattle.keep.proofs.Members.{first_in, from_map, later_in, none_in}
 use Rattle.table.specs.ReadBackLaw.{ReadBackLaw}
 use Rattle.checks.specs.LawfulTables.{IsLawfulTables}
-use Rattle.checks.specs.Readable.{is_read}
 use Rattle.checks.proofs.LawfulLemmas.{sound_checked, sound_lawful}
 use Rattle.compact.specs.EditOf.{deletion_of}
 use Rattle.compact.specs.InputsOver.{AreInputsOver, as_file}

@@ -24,11 +24,10 @@ use Rattle.install.proofs.WorkRows.{leaves_then}
 use Rattle.install.specs.Install.{AlwaysStandsAs, IsBeforeOrAfter, next_version_tables, version_with}
 use Rattle.keep.proofs.Members.{first_in, later_in}
 use Rattle.keep.specs.Gets.{get_of}
-use Rattle.keep.specs.Readable.{readable_of}
+use Rattle.keep.specs.Readable.{is_read, readable_of}
 use Rattle.keep.specs.Tables.{NumberedContents}
 use Rattle.checks.proofs.LawfulLemmas.{sound_checked}
 use Rattle.checks.specs.LawfulTables.{IsLawfulTables}
-use Rattle.checks.specs.Readable.{is_read}
 use Rattle.compact.specs.declared.settings.Settings.{Settings}
 use Rattle.store.specs.AllLevels.{AnswersAs, CompactionLink, IsAtLink, IsEndOf, last_tables, version_at_end}
 use Rattle.store.specs.Descent.{IsNextLevel}

@@ -8,3 +8,10 @@ pub mod Seeks
 pub mod Refused
 pub mod OneMerge
 pub mod Unions
+pub mod FirstEntries
+pub mod InRange
+pub mod LeftEntries
+pub mod Bounds
+pub mod Sought
+pub mod TableBytes
+pub mod Reaching

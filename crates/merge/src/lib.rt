@@ -9,17 +9,25 @@
 //!    cursor is next.
 //! 3. [`Merging::into_cursors`] gives the cursors back.
 //!
-//! [`least_place`] finds the next cursor in one pass over all. [`merge_law`] and [`union_law`] are
-//! laws of merges.
+//! [`cursors_from`] and [`add_cursor`] make cursors over the tables that reach into a range of user
+//! keys, [`cursor_from`] over one table, and [`seek_range`] seeks any other cursor.
 //!
-//! No contract says what a step costs: it plays one path of a tournament, one match a round.
+//! [`least_place`] finds the next cursor in one pass over all. [`merge_law`] and [`union_law`] are
+//! laws of merges, [`holds_law`] of ranges.
+//!
+//! No contract says what a step costs: it plays one path of a tournament, one match a round. Nor
+//! that a cursor is made only over a table that reaches into the range.
 #![tactic(auto)]
 
 mod least;
 mod merging_cursor;
+mod range_cursors;
+mod range_start;
 mod tournament;
 mod union_laws;
 
 pub use least::least_place;
 pub use merging_cursor::Merging;
-pub use union_laws::{merge_law, union_law};
+pub use range_cursors::{add_cursor, cursor_from, cursors_from};
+pub use range_start::{seek_range, starts_before};
+pub use union_laws::{holds_law, merge_law, union_law};

@@ -1,5 +1,6 @@
-//! Laws of merges.
+//! Laws of merges and of ranges.
 
+ghost use Rattle.merge.specs.InRange.{HoldsLaw};
 ghost use Rattle.merge.specs.MergedLists.{MergeLaw};
 ghost use Rattle.merge.specs.Union.{UnionLaw};
 
@@ -15,4 +16,10 @@ pub fn merge_law<C: Comparator>()
 /// strictly, by user key and then falling sequence. A call does nothing.
 pub fn union_law<C: Comparator>()
     ensures { UnionLaw C.cmp }
+{}
+
+/// The law that `is_in_range` holds of just the user keys that a split states of a range. A call
+/// does nothing.
+pub fn holds_law<C: Comparator>()
+    ensures { HoldsLaw C.cmp }
 {}

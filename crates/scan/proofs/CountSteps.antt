@@ -7,8 +7,8 @@ use Rattle.std.proofs.lemmas.Option.{same_Some}
 use Rattle.table.specs.Key.{kind_of, user_of}
 use Rattle.reads.specs.kind.Kind.{Kind}
 use Rattle.block.specs.EncodedEntry.{Entry}
-use Rattle.keep.specs.FirstEntry.{first_is}
-use Rattle.keep.specs.CursorsLeft.{is_before}
+use Rattle.merge.specs.FirstEntry.{first_is}
+use Rattle.merge.specs.CursorsLeft.{is_before}
 use Rattle.scan.specs.Counts.{amounts_after, amounts_at, capped_plus, decided_then, entry_amounts}
 use Rattle.scan.specs.EntryRows.{decided_after, is_decided}
 use Rattle.scan.specs.declared.amounts.Amounts.{Amounts}

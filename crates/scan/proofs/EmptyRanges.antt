@@ -9,7 +9,7 @@ use Rattle.std.specs.declared.cmp.Ordering.TheVariants.{Less, Equal, Greater}
 use Rattle.table.specs.Key.{user_of}
 use Rattle.block.specs.EncodedEntry.{Entry}
 use Rattle.reads.specs.Ranges.{KeyRange}
-use Rattle.keep.specs.InRange.{entries_in, is_in_range}
+use Rattle.merge.specs.InRange.{entries_in, is_in_range}
 use Rattle.checks.proofs.CommonRanges.{less_is, not_less}
 
 pub is_not : (b : Bool) → not b ≡ true → b ≡ false

@@ -14,8 +14,8 @@ use Rattle.merge.proofs.SortedEntries.{sorted_never_falls}
 use Rattle.reads.specs.Ranges.{IsCover, IsIn, KeyRange, range_at}
 use Rattle.folder.specs.Version.{State}
 use Rattle.folder.specs.meta.FileMeta.{FileMeta}
-use Rattle.keep.specs.InRange.{entries_in, is_in_range}
-use Rattle.keep.proofs.Distinct.{holds_tells}
+use Rattle.merge.specs.InRange.{entries_in, is_in_range}
+use Rattle.merge.proofs.InRange.{holds_tells}
 use Rattle.reads.specs.Gets.{get_of}
 use Rattle.reads.specs.NewestFirst.{AreThoseOf}
 use Rattle.reads.specs.TableOrder.{AreAllAdded, AreStandingFiles, IsNewer, lists_of_files}

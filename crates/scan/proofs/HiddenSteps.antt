@@ -17,7 +17,7 @@ use Rattle.table.specs.Key.{sequence_of, user_of}
 use Rattle.table.specs.Order.{internal_cmp}
 use Rattle.block.specs.EncodedEntry.{Entry}
 use Rattle.reads.specs.Ranges.{KeyRange}
-use Rattle.keep.specs.InRange.{entries_in, is_in_range}
+use Rattle.merge.specs.InRange.{entries_in, is_in_range}
 use Rattle.reads.proofs.EntriesInOrder.{older}
 use Rattle.reads.proofs.Members.{first_in, first_or_later, in_filter, later_in}
 use Rattle.reads.proofs.Orders.{not_before_itself}

@@ -11,8 +11,8 @@ use Rattle.folder.specs.Calls.{Files}
 use Rattle.table.specs.Key.{user_of}
 use Rattle.merge.specs.MergedLists.{entries_of_lists}
 use Rattle.reads.specs.Ranges.{IsCover, KeyRange, range_at}
-use Rattle.keep.specs.InRange.{entries_in, is_in_range}
-use Rattle.keep.proofs.Distinct.{holds_tells}
+use Rattle.merge.specs.InRange.{entries_in, is_in_range}
+use Rattle.merge.proofs.InRange.{holds_tells}
 use Rattle.reads.specs.Tables.{NumberedContents}
 use Rattle.reads.proofs.Members.{from_filter}
 use Rattle.scan.specs.Counts.{amounts_at, AreAmountsCounted, AreOnce, capped_files, counted, HasRoom, is_version, list_at}

@@ -9,10 +9,10 @@ use Rattle.block.specs.EncodedEntry.{Entry}
 use Rattle.merge.specs.MergedLists.{entries_of_lists, merged}
 use Rattle.merge.proofs.SortedEntries.{filter-sorted, sorted_never_falls}
 use Rattle.reads.specs.Ranges.{KeyRange}
-use Rattle.keep.specs.FirstEntry.{first_is}
-use Rattle.keep.specs.InRange.{entries_in, is_in_range}
-use Rattle.keep.specs.CursorsLeft.{is_before}
-use Rattle.keep.proofs.Bounds.{below_apart, from_bound, none_in, one_in}
+use Rattle.merge.specs.FirstEntry.{first_is}
+use Rattle.merge.specs.InRange.{entries_in, is_in_range}
+use Rattle.merge.specs.CursorsLeft.{is_before}
+use Rattle.merge.proofs.Bounds.{below_apart, from_bound, none_in, one_in}
 use Rattle.scan.specs.Row.{Row}
 use Rattle.scan.specs.EntryRows.{decided_after, entry_rows, rows_after, sorted_rows}
 use Rattle.scan.specs.RowParts.{AreBegun, AreEnough, AreTelling, AreWanted, IsRowPart}

@@ -20,10 +20,10 @@ use Rattle.merge.proofs.Leasts.{place_within}
 use Rattle.merge.proofs.Merges.{joined_at, joined_set}
 use Rattle.merge.proofs.SortedEntries.{sorted_never_falls}
 use Rattle.reads.specs.Ranges.{KeyRange}
-use Rattle.keep.specs.FirstEntry.{first_is}
-use Rattle.keep.specs.InRange.{entries_in, is_in_range}
-use Rattle.keep.specs.CursorsLeft.{is_before}
-use Rattle.keep.proofs.Bounds.{below_apart, from_bound, within}
+use Rattle.merge.specs.FirstEntry.{first_is}
+use Rattle.merge.specs.InRange.{entries_in, is_in_range}
+use Rattle.merge.specs.CursorsLeft.{is_before}
+use Rattle.merge.proofs.Bounds.{below_apart, from_bound, within}
 use Rattle.reads.proofs.EntriesInOrder.{at_most_all, left_is}
 use Rattle.reads.proofs.FallingEntries.{each_of}
 use Rattle.reads.proofs.Members.{first_in, later_in}

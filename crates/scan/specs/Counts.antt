@@ -10,7 +10,7 @@ use Rattle.table.specs.Key.{user_of, sequence_of, kind_of}
 use Rattle.block.specs.EncodedEntry.{Entry}
 use Rattle.folder.specs.meta.FileMeta.{FileMeta}
 use Rattle.merge.specs.MergedLists.{entries_of_lists}
-use Rattle.keep.specs.CursorsLeft.{is_before}
+use Rattle.merge.specs.CursorsLeft.{is_before}
 use Rattle.scan.specs.EntryRows.{decided_after, is_decided}
 use Rattle.scan.specs.HiddenEntries.{is_delete, is_deletion_entry, is_hidden_among}
 use Rattle.scan.specs.Stats.{amounts_plus, no_amounts}

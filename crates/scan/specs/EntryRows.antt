@@ -10,7 +10,7 @@ use Rattle.block.specs.EncodedEntry.{Entry}
 use Rattle.folder.specs.meta.FileMeta.{FileMeta}
 use Rattle.merge.specs.MergedLists.{entries_of_lists, sorted_entries}
 use Rattle.reads.specs.Ranges.{KeyRange, range_at}
-use Rattle.keep.specs.InRange.{entries_in}
+use Rattle.merge.specs.InRange.{entries_in}
 use Rattle.reads.specs.TableOrder.{lists_of_files}
 use Rattle.reads.specs.Tables.{NumberedContents}
 use Rattle.checks.specs.RangeOrder.{common_of}

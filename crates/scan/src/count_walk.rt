@@ -6,13 +6,12 @@ ghost use Rattle.table.specs.fault.FaultName.TheVariants.{Memory};
 ghost use Rattle.block.specs.EncodedEntry.{Entry};
 ghost use Rattle.merge.specs.MergedLists.{merged};
 ghost use Rattle.reads.specs.Ranges.{key_range};
-ghost use Rattle.keep.specs.InRange.{entries_in};
+ghost use Rattle.merge.specs.InRange.{entries_in};
 ghost use Rattle.scan.specs.Counts.{amounts_after, decided_then, AreAmountsCounted};
 
 use crate::amounts::Amounts;
 use crate::decided_user::DecidedUser;
-use keep::starts_before;
-use merge::Merging;
+use merge::{Merging, starts_before};
 use reads::Range;
 use std::alloc::Global;
 use table::{Comparator, Cursor, Fault};

@@ -6,7 +6,7 @@ ghost use Rattle.folder.specs.Calls.{Files, Tells};
 ghost use Rattle.folder.specs.OpenAnswer.{IsStopped};
 ghost use Rattle.folder.specs.Reports.{OnlyReads, ReportsDevice};
 ghost use Rattle.reads.specs.Ranges.{key_range};
-ghost use Rattle.keep.specs.InRange.{entries_in};
+ghost use Rattle.merge.specs.InRange.{entries_in};
 ghost use Rattle.reads.specs.Tables.{NumberedContents};
 ghost use Rattle.checks.specs.HeldTables.{AreHeldBy, AreHeldIn};
 ghost use Rattle.scan.specs.Counts.{AreAmountsCounted, capped_files};

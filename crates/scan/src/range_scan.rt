@@ -5,7 +5,7 @@ ghost use Rattle.table.specs.Answers.{UnlessMemory};
 ghost use Rattle.folder.specs.Calls.{Files, Tells};
 ghost use Rattle.folder.specs.OpenAnswer.{IsStopped};
 ghost use Rattle.folder.specs.Reports.{OnlyReads, ReportsDevice};
-ghost use Rattle.keep.specs.InRange.{entries_in};
+ghost use Rattle.merge.specs.InRange.{entries_in};
 ghost use Rattle.block.specs.EncodedEntry.{Entry};
 ghost use Rattle.reads.specs.Ranges.{IsCover, key_range};
 ghost use Rattle.reads.specs.Tables.{NumberedContents};

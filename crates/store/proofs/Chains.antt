@@ -12,7 +12,7 @@ use Rattle.folder.specs.ReadsAs.{ReadsAs}
 use Rattle.folder.specs.declared.order.Order.{Order}
 use Rattle.reads.specs.Gets.{get_of}
 use Rattle.reads.specs.Tables.{NumberedContents}
-use Rattle.checks.specs.Readable.{is_read, readable_of}
+use Rattle.compact.specs.Readable.{is_read, readable_of}
 use Rattle.checks.proofs.LawfulLemmas.{sound_checked}
 use Rattle.checks.specs.LawfulTables.{IsLawfulTables}
 use Rattle.folder.proofs.Binds.{ok_is}

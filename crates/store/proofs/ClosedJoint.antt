@@ -33,7 +33,7 @@ use Rattle.reads.specs.TestResult.{test_result}
 use Rattle.reads.proofs.Members.{first_in, from_filter, from_flat_map, from_map, in_flat_map, in_map, later_in}
 use Rattle.table.specs.ReadBackLaw.{ReadBackLaw}
 use Rattle.checks.specs.LawfulTables.{IsLawfulTables}
-use Rattle.checks.specs.Readable.{readable_of}
+use Rattle.compact.specs.Readable.{readable_of}
 use Rattle.checks.specs.TableReadings.{tables_reading}
 use Rattle.checks.proofs.LawfulLemmas.{sound, sound_checked, sound_lawful}
 use Rattle.compact.specs.ClosedInputs.{is_input}

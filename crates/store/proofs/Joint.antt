@@ -6,7 +6,7 @@ use Rattle.folder.specs.Comparator.{ShortKeys, IsExact}
 use Rattle.folder.specs.Version.{State}
 use Rattle.reads.specs.Lawful.{IsLawful}
 use Rattle.reads.specs.Tables.{NumberedContents}
-use Rattle.checks.specs.Readable.{readable_of}
+use Rattle.compact.specs.Readable.{readable_of}
 use Rattle.checks.proofs.LawfulLemmas.{sound}
 use Rattle.compact.specs.PassedRequest.{PassedLaw}
 use Rattle.compact.specs.Request.{RequestView}

@@ -18,7 +18,7 @@ use Rattle.folder.specs.meta.FileMeta.{FileMeta}
 use Rattle.reads.specs.MergedLists.{merged}
 use Rattle.pick.specs.PickedInputs.{IsInputsAnswer, PickedInputs}
 use Rattle.pick.specs.declared.picked_inputs.InputFile.{InputFile}
-use Rattle.checks.specs.Runs.{are_distinct}
+use Rattle.compact.specs.Runs.{are_distinct}
 use Rattle.compact.specs.Outputs.{outputs}
 use Rattle.reads.specs.Tables.{NumberedContents}
 use Rattle.checks.specs.TableReadings.{tables_reading}

@@ -15,7 +15,7 @@ use Rattle.folder.specs.declared.order.Order.{Order}
 use Rattle.pick.specs.PickedInputs.{PickedInputs}
 use Rattle.reads.specs.Gets.{get_of}
 use Rattle.reads.specs.Tables.{NumberedContents}
-use Rattle.checks.specs.Readable.{is_read, readable_of}
+use Rattle.compact.specs.Readable.{is_read, readable_of}
 use Rattle.checks.specs.LawfulTables.{IsLawfulTables}
 use Rattle.checks.specs.Takers.{AreToldInTurn}
 use Rattle.compact.specs.OneThread.{Answer}

@@ -8,7 +8,7 @@ use coding::Fault;
 use compact::{Request, compact, matches_metadata};
 use edit::Outcome;
 use ikey::Bytewise;
-use keep::add_cursor;
+use merge::add_cursor;
 use pick::{Inputs, inputs};
 use split::{Range, Split};
 use std::alloc::Global;

@@ -2,9 +2,9 @@ use Rattle.std.proofs.Common.{◌≡◌, ◌++◌, ℕ, List, map, take, get_or,
 use Rattle.edit.proofs.Binds.{ok_is}
 use Rattle.reads.specs.EncodedEntry.{Entry}
 use Rattle.reads.specs.Ranges.{KeyRange, key_range}
-use Rattle.keep.specs.InRange.{entries_in}
+use Rattle.merge.specs.InRange.{entries_in}
 use Rattle.keep.specs.MergedLists.{entries_of_lists}
-use Rattle.keep.proofs.Reaching.{in_pushed}
+use Rattle.merge.proofs.Reaching.{in_pushed}
 use Rattle.c_api.specs.InputTables.{IsRead, entries_at}
 use Rattle.c_api.specs.Tables.{is_input}
 use Rattle.c_api.specs.declared.input.Input.{Input}

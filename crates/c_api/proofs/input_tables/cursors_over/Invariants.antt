@@ -1,5 +1,5 @@
 use Rattle.std.proofs.Common.{◌≡◌, true, map, take, drop}
-use Rattle.keep.specs.InRange.{entries_in}
+use Rattle.merge.specs.InRange.{entries_in}
 use Rattle.keep.specs.MergedLists.{entries_of_lists}
 use Rattle.reads.specs.Ranges.{key_range}
 use Rattle.c_api.specs.InputTables.{AreRead, entries_at}

@@ -6,7 +6,7 @@ use Rattle.reads.specs.Ranges.{KeyRange, key_range}
 use Rattle.keep.specs.Marks.{context_of}
 use Rattle.keep.specs.Readable.{floor_of, listed_of}
 use Rattle.keep.specs.Runs.{Run, range_run}
-use Rattle.keep.proofs.Reaching.{run_same}
+use Rattle.keep.proofs.RangeWalks.{run_same}
 use Rattle.compact.proofs.RangeAnswers.{map_same}
 use Rattle.compact.specs.snapshots.Snapshots.{Snapshots}
 use Rattle.c_api.specs.InputTables.{entries_at}

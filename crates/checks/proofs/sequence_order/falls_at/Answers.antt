@@ -2,8 +2,8 @@ use Rattle.std.proofs.Common.{◌≡◌, List, map, sym, subst}
 use Rattle.table.specs.EncodedEntry.{Entry}
 use Rattle.reads.specs.MergedLists.{entries_of_lists}
 use Rattle.split.specs.Ranges.{KeyRange, key_range, range_at, IsIn}
-use Rattle.keep.specs.InRange.{entries_in}
-use Rattle.keep.proofs.Distinct.{holds_tells}
+use Rattle.merge.specs.InRange.{entries_in}
+use Rattle.merge.proofs.InRange.{holds_tells}
 use Rattle.reads.specs.TableOrder.{AreFallingIn}
 use Rattle.checks.specs.RangeOrder.{common_of}
 use Rattle.checks.specs.CommonRange.{IsInBoth}

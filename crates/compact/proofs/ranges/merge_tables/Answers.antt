@@ -5,7 +5,7 @@ use Rattle.table.specs.EncodedEntry.{Entry}
 use Rattle.split.specs.Ranges.{KeyRange, key_range}
 use Rattle.keep.specs.Marks.{CompactionContext, context_of}
 use Rattle.keep.specs.Runs.{Run, range_run}
-use Rattle.keep.proofs.Reaching.{run_same}
+use Rattle.keep.proofs.RangeWalks.{run_same}
 use Rattle.compact.proofs.RangeAnswers.{map_same}
 use Rattle.compact.proofs.ranges.merge_tables.Goals as goal
 

@@ -2,9 +2,10 @@ use Rattle.std.proofs.Common.{refl, false, List, sym, subst, ◌∙◌}
 use Rattle.std.specs.Option.{option_map}
 use Rattle.reads.specs.EncodedEntry.{Entry}
 use Rattle.merge.specs.MergedLists.{merged}
-use Rattle.keep.specs.CursorsLeft.{is_before, EachLosesFirst}
-use Rattle.keep.proofs.RangeWalks.{first_some, fewer, begins}
-use Rattle.keep.proofs.LeftEntries.{each_first_all}
+use Rattle.merge.specs.CursorsLeft.{is_before, EachLosesFirst}
+use Rattle.merge.proofs.FirstEntries.{first_some, fewer}
+use Rattle.keep.proofs.RangeWalks.{begins}
+use Rattle.merge.proofs.LeftEntries.{each_first_all}
 use Rattle.keep.proofs.range_merge.begin.Goals as goal
 
 pub advance-requires : goal.advance-requires

@@ -1,7 +1,7 @@
 use Rattle.std.proofs.Common.{false, length}
 use Rattle.std.specs.Option.{option_map}
 use Rattle.merge.specs.MergedLists.{merged}
-use Rattle.keep.specs.CursorsLeft.{is_before, EachLosesFirst}
+use Rattle.merge.specs.CursorsLeft.{is_before, EachLosesFirst}
 use Rattle.keep.proofs.range_merge.begin.Given as goal
 
 abbrev pub invariant-loop-merging : goal.invariant-loop-merging

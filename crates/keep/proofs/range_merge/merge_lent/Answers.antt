@@ -2,10 +2,10 @@ use Rattle.std.proofs.Common.{false, Result, subst}
 use Rattle.coding.specs.Answers.{EqualOrMemory}
 use Rattle.coding.specs.declared.fault.Fault.{Fault}
 use Rattle.split.specs.Ranges.{key_range}
-use Rattle.keep.specs.CursorsLeft.{is_before, is_passed, EachLosesFirst}
+use Rattle.merge.specs.CursorsLeft.{is_before, is_passed, EachLosesFirst}
 use Rattle.keep.specs.Runs.{Run}
-use Rattle.keep.proofs.Bounds.{below_passed}
-use Rattle.keep.proofs.LeftEntries.{each_first_weaker, each_loses_only}
+use Rattle.merge.proofs.Bounds.{below_passed}
+use Rattle.merge.proofs.LeftEntries.{each_first_weaker, each_loses_only}
 use Rattle.keep.proofs.OnAnswers.{on_ok, if_err}
 use Rattle.keep.proofs.RangeWalks.{begun_same, begun_passed, all_behind}
 use Rattle.keep.proofs.range_merge.merge_lent.Goals as goal

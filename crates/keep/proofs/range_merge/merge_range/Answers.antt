@@ -4,10 +4,10 @@ use Rattle.coding.specs.Answers.{EqualOrMemory}
 use Rattle.coding.proofs.Refusals.{unless_from}
 use Rattle.reads.specs.EncodedEntry.{Entry}
 use Rattle.split.specs.Ranges.{key_range}
-use Rattle.keep.specs.CursorsLeft.{is_passed, each_past_range, EachLosesFirst}
+use Rattle.merge.specs.CursorsLeft.{is_passed, each_past_range, EachLosesFirst}
 use Rattle.keep.specs.Marks.{context_of}
 use Rattle.keep.specs.Runs.{Run, range_run}
-use Rattle.keep.proofs.LeftEntries.{each_first_all}
+use Rattle.merge.proofs.LeftEntries.{each_first_all}
 use Rattle.keep.proofs.OnAnswers.{on_ok, on_err, if_err, same_ok, ok_not_err}
 use Rattle.keep.proofs.range_merge.merge_range.Goals as goal
 

@@ -5,8 +5,9 @@ use Rattle.reads.specs.EncodedEntry.{Entry}
 use Rattle.merge.specs.MergedLists.{merged}
 use Rattle.split.specs.Ranges.{key_range}
 use Rattle.keep.specs.WalkedRange.{WalkedRange}
-use Rattle.keep.specs.CursorsLeft.{is_before, is_passed, EachLosesFirst}
-use Rattle.keep.proofs.RangeWalks.{first_some, fewer, head_is, IsWalking, walking_first, walking_passed, walking_next, walking_repeats, walking_ends, walking_behind}
+use Rattle.merge.specs.CursorsLeft.{is_before, is_passed, EachLosesFirst}
+use Rattle.merge.proofs.FirstEntries.{first_some, fewer, head_is}
+use Rattle.keep.proofs.RangeWalks.{IsWalking, walking_first, walking_passed, walking_next, walking_repeats, walking_ends, walking_behind}
 use Rattle.keep.proofs.range_merge.walk_range.Goals as goal
 
 pub loop-merging-init : goal.loop-merging-init

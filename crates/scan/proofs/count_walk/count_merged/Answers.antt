@@ -5,8 +5,8 @@ use Rattle.merge.specs.MergedLists.{merged}
 use Rattle.merge.proofs.Leasts.{place_within, some_where_least}
 use Rattle.merge.proofs.Merges.{merged_first}
 use Rattle.reads.specs.Ranges.{key_range}
-use Rattle.keep.specs.FirstEntry.{first_is}
-use Rattle.keep.specs.CursorsLeft.{is_before}
+use Rattle.merge.specs.FirstEntry.{first_is}
+use Rattle.merge.specs.CursorsLeft.{is_before}
 use Rattle.scan.proofs.WalkCounts.{after_number, count_begins, count_ends, count_more, count_stops, new_number}
 use Rattle.scan.proofs.count_walk.count_merged.Goals as goal
 

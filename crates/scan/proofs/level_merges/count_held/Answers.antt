@@ -5,7 +5,7 @@ use Rattle.table.proofs.Binds.{ok_is}
 use Rattle.block.specs.EncodedEntry.{Entry}
 use Rattle.merge.specs.MergedLists.{entries_of_lists}
 use Rattle.reads.specs.Ranges.{key_range}
-use Rattle.keep.specs.InRange.{entries_in}
+use Rattle.merge.specs.InRange.{entries_in}
 use Rattle.reads.specs.Tables.{NumberedContents}
 use Rattle.scan.specs.Counts.{AreAmountsCounted}
 use Rattle.scan.specs.ListParts.{in_parts}

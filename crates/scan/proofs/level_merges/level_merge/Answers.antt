@@ -6,7 +6,7 @@ use Rattle.block.specs.EncodedEntry.{Entry}
 use Rattle.merge.specs.MergedLists.{entries_of_lists, merged, sorted_entries}
 use Rattle.merge.proofs.SortedEntries.{filter-sorted}
 use Rattle.reads.specs.Ranges.{key_range}
-use Rattle.keep.specs.InRange.{entries_in, is_in_range}
+use Rattle.merge.specs.InRange.{entries_in, is_in_range}
 use Rattle.scan.proofs.level_merges.level_merge.Goals as goal
 
 pub returns-clause-merge : goal.returns-clause-merge

@@ -2,7 +2,7 @@ use Rattle.std.proofs.Common.{◌≡◌, ◌+◌, ◌++◌, drop, length, map}
 use Rattle.std.specs.List.{sum_by}
 use Rattle.merge.specs.MergedLists.{entries_of_lists, merged, sorted_entries}
 use Rattle.reads.specs.Ranges.{key_range}
-use Rattle.keep.specs.InRange.{entries_in}
+use Rattle.merge.specs.InRange.{entries_in}
 use Rattle.scan.specs.ListParts.{in_parts}
 use Rattle.scan.proofs.level_merges.level_merges.Given as goal
 

@@ -1,8 +1,8 @@
 use Rattle.std.proofs.Common.{refl, false, sym, ◌∙◌}
 use Rattle.merge.specs.MergedLists.{merged}
 use Rattle.reads.specs.Ranges.{key_range}
-use Rattle.keep.specs.CursorsLeft.{is_before}
-use Rattle.keep.proofs.RangeWalks.{fewer, first_some}
+use Rattle.merge.specs.CursorsLeft.{is_before}
+use Rattle.merge.proofs.FirstEntries.{fewer, first_some}
 use Rattle.scan.proofs.MergedRows.{skipped}
 use Rattle.scan.proofs.merge_walk.skip_before.Goals as goal
 

@@ -1,7 +1,7 @@
 use Rattle.std.proofs.Common.{◌≡◌, length}
 use Rattle.merge.specs.MergedLists.{merged}
 use Rattle.reads.specs.Ranges.{key_range}
-use Rattle.keep.specs.InRange.{entries_in}
+use Rattle.merge.specs.InRange.{entries_in}
 use Rattle.scan.proofs.merge_walk.skip_before.Given as goal
 
 abbrev pub invariant-loop-merging : goal.invariant-loop-merging

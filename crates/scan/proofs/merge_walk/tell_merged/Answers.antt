@@ -2,9 +2,9 @@ use Rattle.std.proofs.Common.{◌≡◌, ℕ, true, List, ◌∷◌, drop, Optio
 use Rattle.block.specs.EncodedEntry.{Entry}
 use Rattle.merge.specs.MergedLists.{merged}
 use Rattle.reads.specs.Ranges.{key_range}
-use Rattle.keep.specs.InRange.{entries_in}
-use Rattle.keep.specs.CursorsLeft.{is_before}
-use Rattle.keep.proofs.RangeWalks.{fewer, first_some, head_is}
+use Rattle.merge.specs.InRange.{entries_in}
+use Rattle.merge.specs.CursorsLeft.{is_before}
+use Rattle.merge.proofs.FirstEntries.{fewer, first_some, head_is}
 use Rattle.scan.specs.Row.{Row}
 use Rattle.scan.specs.EntryRows.{entry_rows, rows_after, sorted_rows}
 use Rattle.scan.specs.RowParts.{AreTelling, IsRowPart}

@@ -8,7 +8,7 @@ use Rattle.reads.proofs.Covers.{covers}
 use Rattle.reads.specs.Ranges.{key_range}
 use Rattle.checks.proofs.FolderTests.{told_still}
 use Rattle.checks.proofs.HeldAnswers.{held_in, held_through}
-use Rattle.keep.specs.InRange.{entries_in}
+use Rattle.merge.specs.InRange.{entries_in}
 use Rattle.scan.specs.Counts.{AreAmountsCounted, capped_files}
 use Rattle.scan.specs.LevelCounts.{lists_of_levels}
 use Rattle.scan.specs.declared.amounts.Amounts.{Amounts}

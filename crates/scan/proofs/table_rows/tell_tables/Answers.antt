@@ -4,7 +4,7 @@ use Rattle.table.proofs.Binds.{ok_is}
 use Rattle.block.specs.EncodedEntry.{Entry}
 use Rattle.merge.specs.MergedLists.{entries_of_lists, sorted_entries}
 use Rattle.reads.specs.Ranges.{key_range}
-use Rattle.keep.specs.InRange.{entries_in}
+use Rattle.merge.specs.InRange.{entries_in}
 use Rattle.scan.specs.Row.{Row}
 use Rattle.scan.specs.EntryRows.{rows_after, sorted_rows}
 use Rattle.scan.specs.RowParts.{AreTelling}

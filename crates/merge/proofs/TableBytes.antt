@@ -6,13 +6,13 @@ use Rattle.std.specs.Cmp.{IsTotalOrder}
 use Rattle.std.specs.declared.cmp.Ordering.{Ordering}
 use Rattle.byteorder.specs.Endian.{little_number}
 use Rattle.byteorder.specs.Numbers.{little_from-lt}
-use Rattle.coding.specs.Varint.{varint}
-use Rattle.ikey.specs.Key.{tag_of, sequence_of}
-use Rattle.reads.specs.EncodedEntry.{Entry, EncodedEntry, encoded_entry_bytes, key_after, entries_after, restarts_of, restart_bytes, IsBlock}
-use Rattle.reads.specs.Trailer.{stored_block, trailer_bytes}
-use Rattle.reads.specs.TableContents.{DataBlock, entries_of, table_reading}
-use Rattle.reads.specs.TableBytes.{IsNamed, AreNamed}
-use Rattle.reads.proofs.Tables.{reads_tables}
+use Rattle.table.specs.Varint.{varint}
+use Rattle.table.specs.Key.{tag_of, sequence_of}
+use Rattle.table.specs.EncodedEntry.{Entry, EncodedEntry, encoded_entry_bytes, key_after, entries_after, restarts_of, restart_bytes, IsBlock}
+use Rattle.table.specs.Trailer.{stored_block, trailer_bytes}
+use Rattle.table.specs.TableContents.{DataBlock, entries_of, table_reading}
+use Rattle.table.specs.TableBytes.{IsNamed, AreNamed}
+use Rattle.table.proofs.Tables.{reads_tables}
 
 abbrev IsByte : ℕ → Type 0
 IsByte x = x < 256

@@ -1,10 +1,10 @@
 use Rattle.std.proofs.Common.{◌<◌, ◌^◌, false, length}
 use Rattle.std.specs.List.{AllByRecursion}
-use Rattle.reads.specs.EncodedEntry.{Entry}
-use Rattle.ikey.specs.Key.{sequence_of}
+use Rattle.table.specs.EncodedEntry.{Entry}
+use Rattle.table.specs.Key.{sequence_of}
 use Rattle.split.specs.Ranges.{key_range}
-use Rattle.keep.specs.CursorsLeft.{is_before, LosesOnly}
-use Rattle.keep.proofs.range_start.seek_range.Given as goal
+use Rattle.merge.specs.CursorsLeft.{is_before, LosesOnly}
+use Rattle.merge.proofs.range_start.seek_range.Given as goal
 
 abbrev pub invariant-loop-cursor : goal.invariant-loop-cursor
 invariant-loop-cursor g l =

@@ -1,10 +1,10 @@
 use Rattle.std.proofs.Common.{List, ◌++◌, ap, ◌∙◌}
-use Rattle.reads.specs.EncodedEntry.{Entry}
+use Rattle.table.specs.EncodedEntry.{Entry}
 use Rattle.merge.specs.MergedLists.{entries_of_lists}
 use Rattle.split.specs.Ranges.{KeyRange, key_range}
-use Rattle.keep.specs.InRange.{entries_in}
-use Rattle.keep.proofs.Reaching.{in_pushed, in_left_out}
-use Rattle.keep.proofs.range_cursors.add_cursor.Goals as goal
+use Rattle.merge.specs.InRange.{entries_in}
+use Rattle.merge.proofs.Reaching.{in_pushed, in_left_out}
+use Rattle.merge.proofs.range_cursors.add_cursor.Goals as goal
 
 pub returns-then-misses-clause-held : goal.returns-then-misses-clause-held
 returns-then-misses-clause-held g c =

@@ -2,9 +2,9 @@
 use Rattle.std.specs.Prelude.{◌≡◌, ◌↔◌, ℕ, Bool, true, not, ◌&&◌, List, filter}
 use Rattle.std.specs.Option.{option_map_or}
 use Rattle.std.specs.Ordering.{is_lt}
-use Rattle.ikey.specs.Key.{user_of}
-use Rattle.ikey.specs.Comparator.{KeyOrder}
-use Rattle.reads.specs.EncodedEntry.{Entry}
+use Rattle.table.specs.Key.{user_of}
+use Rattle.table.specs.Comparator.{KeyOrder}
+use Rattle.table.specs.EncodedEntry.{Entry}
 use Rattle.split.specs.Ranges.{KeyRange, IsIn}
 
 -- whether a range holds a user key: it is at or after the lower bound, if there is one, and before

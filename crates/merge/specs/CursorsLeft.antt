@@ -2,9 +2,9 @@
 use Rattle.std.specs.Prelude.{◌≡◌, ◌⊎◌, ℕ, Bool, true, false, not, ◌||◌}
 use Rattle.std.specs.Prelude.{List, [], ◌∷◌, ◌++◌, map, filter, Option}
 use Rattle.std.specs.List.{AllByRecursion}
-use Rattle.ikey.specs.Key.{user_of}
-use Rattle.ikey.specs.Comparator.{KeyOrder}
-use Rattle.reads.specs.EncodedEntry.{Entry}
+use Rattle.table.specs.Key.{user_of}
+use Rattle.table.specs.Comparator.{KeyOrder}
+use Rattle.table.specs.EncodedEntry.{Entry}
 use Rattle.split.specs.Bounds.{is_user_before}
 use Rattle.split.specs.Ranges.{KeyRange}
 

@@ -1,8 +1,8 @@
 use Rattle.std.proofs.Common.{arith}
 use Rattle.split.specs.Ranges.{key_range}
-use Rattle.keep.proofs.Reaching.{sought_same}
-use Rattle.keep.proofs.TableBytes.{sequences_fit}
-use Rattle.keep.proofs.range_cursors.seek_table.Goals as goal
+use Rattle.merge.proofs.Reaching.{sought_same}
+use Rattle.merge.proofs.TableBytes.{sequences_fit}
+use Rattle.merge.proofs.range_cursors.seek_table.Goals as goal
 
 pub returns-clause-held : goal.returns-clause-held
 returns-clause-held g c =

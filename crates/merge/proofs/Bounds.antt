@@ -11,15 +11,15 @@ use Rattle.std.specs.declared.cmp.Ordering.TheVariants.{Less, Equal, Greater}
 use Rattle.std.proofs.lemmas.Bool.{both_ways, false≢true}
 use Rattle.ikey.specs.declared.kind.Kind.{Kind}
 use Rattle.ikey.specs.declared.kind.Kind.TheVariants.{Delete, Put}
-use Rattle.ikey.specs.Key.{user_of, sequence_of, kind_of, kind_number, internal_key}
-use Rattle.ikey.specs.Order.{internal_cmp}
-use Rattle.ikey.proofs.Keys.{user_of-internal_key, sequence_of-internal_key, kind_of-internal_key}
-use Rattle.reads.specs.EncodedEntry.{Entry}
-use Rattle.reads.specs.EntriesFrom.{NeverFalls}
+use Rattle.table.specs.Key.{user_of, sequence_of, kind_of, kind_number, internal_key}
+use Rattle.table.specs.Order.{internal_cmp}
+use Rattle.table.proofs.Keys.{user_of-internal_key, sequence_of-internal_key, kind_of-internal_key}
+use Rattle.table.specs.EncodedEntry.{Entry}
+use Rattle.table.specs.EntriesFrom.{NeverFalls}
 use Rattle.split.specs.Ranges.{KeyRange}
-use Rattle.keep.specs.InRange.{is_in_range, entries_in}
-use Rattle.keep.specs.CursorsLeft.{is_before, is_passed}
-use Rattle.keep.specs.FirstEntry.{first_is}
+use Rattle.merge.specs.InRange.{is_in_range, entries_in}
+use Rattle.merge.specs.CursorsLeft.{is_before, is_passed}
+use Rattle.merge.specs.FirstEntry.{first_is}
 
 -- ---- the tests of a range
 

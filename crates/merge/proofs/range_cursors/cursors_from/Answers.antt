@@ -1,10 +1,10 @@
 use Rattle.std.proofs.Common.{◌++◌, List, map, take, sym, ap, ◌∙◌, arith}
-use Rattle.reads.specs.EncodedEntry.{Entry}
+use Rattle.table.specs.EncodedEntry.{Entry}
 use Rattle.merge.specs.MergedLists.{entries_of_lists}
 use Rattle.split.specs.Ranges.{KeyRange, key_range}
-use Rattle.keep.specs.InRange.{entries_in}
-use Rattle.keep.proofs.Reaching.{in_pushed, map_next}
-use Rattle.keep.proofs.range_cursors.cursors_from.Goals as goal
+use Rattle.merge.specs.InRange.{entries_in}
+use Rattle.merge.proofs.Reaching.{in_pushed, map_next}
+use Rattle.merge.proofs.range_cursors.cursors_from.Goals as goal
 
 pub loop-table-preserved : goal.loop-table-preserved
 loop-table-preserved g c =

@@ -1,8 +1,8 @@
 use Rattle.std.proofs.Common.{◌≡◌, map, take}
 use Rattle.merge.specs.MergedLists.{entries_of_lists}
 use Rattle.split.specs.Ranges.{key_range}
-use Rattle.keep.specs.InRange.{entries_in}
-use Rattle.keep.proofs.range_cursors.cursors_from.Given as goal
+use Rattle.merge.specs.InRange.{entries_in}
+use Rattle.merge.proofs.range_cursors.cursors_from.Given as goal
 
 abbrev pub invariant-loop-table : goal.invariant-loop-table
 invariant-loop-table g l =

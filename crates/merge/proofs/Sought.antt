@@ -6,13 +6,13 @@ use Rattle.std.specs.Ordering.{is_lt}
 use Rattle.std.specs.declared.cmp.Ordering.{Ordering}
 use Rattle.std.specs.declared.cmp.Ordering.TheVariants.{Less}
 use Rattle.ikey.specs.declared.kind.Kind.TheVariants.{Put}
-use Rattle.ikey.specs.Key.{sequence_of, internal_key}
-use Rattle.ikey.specs.Order.{internal_cmp}
-use Rattle.reads.specs.EncodedEntry.{Entry}
-use Rattle.reads.specs.EntriesFrom.{entries_from, LeavesFrom}
-use Rattle.keep.specs.CursorsLeft.{is_before, LosesOnly}
-use Rattle.keep.proofs.Bounds.{below_first}
-use Rattle.keep.proofs.LeftEntries.{leaves_sought, leaves_from}
+use Rattle.table.specs.Key.{sequence_of, internal_key}
+use Rattle.table.specs.Order.{internal_cmp}
+use Rattle.table.specs.EncodedEntry.{Entry}
+use Rattle.table.specs.EntriesFrom.{entries_from, LeavesFrom}
+use Rattle.merge.specs.CursorsLeft.{is_before, LosesOnly}
+use Rattle.merge.proofs.Bounds.{below_first}
+use Rattle.merge.proofs.LeftEntries.{leaves_sought, leaves_from}
 
 gone : (cmp : List ℕ → List ℕ → Ordering) (user target : List ℕ) → target ≡ internal_key user 72057594037927935 Put → (e : Entry) → sequence_of e.key < 2 ^ 56 → internal_cmp cmp e.key target ≡ Less → is_before cmp (Some user) false e ≡ true
 gone cmp user target is e fits less = ap is_lt (below_first cmp user e.key fits (subst (λ (t : List ℕ). internal_cmp cmp e.key t ≡ Less) is less))

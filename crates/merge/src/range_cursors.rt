@@ -2,19 +2,17 @@
 
 ghost use Rattle.std.specs.Prelude.{◌≡◌, ◌++◌, [], true, map, Ok};
 ghost use Rattle.std.specs.Prelude.{IfOk, IfErr, OnOk, OnErr, IsOkUnless};
-ghost use Rattle.coding.specs.Answers.{fault};
-ghost use Rattle.coding.specs.declared.fault.FaultName.TheVariants.{Memory};
-ghost use Rattle.reads.specs.TableContents.{table_reading};
+ghost use Rattle.table.specs.Answers.{fault};
+ghost use Rattle.table.specs.fault.FaultName.TheVariants.{Memory};
+ghost use Rattle.table.specs.TableContents.{table_reading};
 ghost use Rattle.merge.specs.MergedLists.{entries_of_lists};
 ghost use Rattle.split.specs.Ranges.{key_range};
-ghost use Rattle.keep.specs.InRange.{entries_in};
+ghost use Rattle.merge.specs.InRange.{entries_in};
 
 use crate::range_start::seek_range;
-use coding::Fault;
-use ikey::Comparator;
-use reads::{SoundTable, TableCursor};
 use split::{Range, is_before};
 use std::alloc::Global;
+use table::{Comparator, Fault, SoundTable, TableCursor};
 
 /// A cursor over each table that reaches into `range`, without the entries before the range.
 /// Together they have the entries of the tables in the range, in their order.

@@ -8,16 +8,16 @@ use Rattle.std.specs.declared.cmp.Ordering.{Ordering}
 use Rattle.std.specs.declared.cmp.Ordering.TheVariants.{Less}
 use Rattle.std.proofs.lemmas.Bool.{false≢true}
 use Rattle.std.proofs.lemmas.Option.{same_Some, none-some}
-use Rattle.reads.specs.EncodedEntry.{Entry}
-use Rattle.ikey.specs.Order.{internal_cmp}
-use Rattle.reads.specs.EntriesFrom.{entries_from, LeavesFrom}
+use Rattle.table.specs.EncodedEntry.{Entry}
+use Rattle.table.specs.Order.{internal_cmp}
+use Rattle.table.specs.EntriesFrom.{entries_from, LeavesFrom}
 use Rattle.merge.specs.MergedLists.{entries_with, sorted_entries, entries_of_lists, merged}
 use Rattle.merge.specs.LeastList.{IsAdvanced}
 use Rattle.merge.specs.Seeks.{each_from, EachLeavesFrom}
 use Rattle.merge.proofs.Orders.{less_is}
 use Rattle.merge.proofs.SortedEntries.{filter-sorted}
-use Rattle.keep.specs.CursorsLeft.{LosesOnly, EachLosesOnly, LosesFirst, EachLosesFirst}
-use Rattle.keep.specs.FirstEntry.{first_is}
+use Rattle.merge.specs.CursorsLeft.{LosesOnly, EachLosesOnly, LosesFirst, EachLosesFirst}
+use Rattle.merge.specs.FirstEntry.{first_is}
 
 -- ---- one list
 

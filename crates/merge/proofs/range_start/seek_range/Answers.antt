@@ -1,9 +1,9 @@
 use Rattle.std.proofs.Common.{refl, false, sym, ◌∙◌}
 use Rattle.split.specs.Ranges.{key_range}
-use Rattle.keep.specs.CursorsLeft.{is_before}
-use Rattle.keep.proofs.LeftEntries.{leaves_next}
-use Rattle.keep.proofs.RangeWalks.{first_some, fewer}
-use Rattle.keep.proofs.range_start.seek_range.Goals as goal
+use Rattle.merge.specs.CursorsLeft.{is_before}
+use Rattle.merge.proofs.LeftEntries.{leaves_next}
+use Rattle.merge.proofs.FirstEntries.{first_some, fewer}
+use Rattle.merge.proofs.range_start.seek_range.Goals as goal
 
 pub advance-requires : goal.advance-requires
 advance-requires g c = λ k. ((refl, tt), first_some (is_before g.C.Comparator.cmp (key_range c.args.range).lower false) (g.S.Entries.remaining c.loop-cursor.cursor) (sym c.starts_before.ensures ∙ c.loop-cursor-test.true))

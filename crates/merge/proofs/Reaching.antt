@@ -1,6 +1,6 @@
 -- What tables have in a range, and cursors over those that reach into it.
-use Rattle.std.proofs.Common.{◌≡◌, ℕ, ◌+◌, ◌-◌, ◌<◌, Bool, true, false, cond, List, [], ◌∷◌, ◌++◌, map, take, length, get_or, Some, None, Option, Ok, Err, refl, sym, ap, subst, ◌∙◌}
-use Rattle.std.specs.Prelude.{◌&&◌, not, slice_get, if◌then◌else◌}
+use Rattle.std.proofs.Common.{◌≡◌, ℕ, ◌+◌, ◌-◌, ◌<◌, Bool, true, false, cond, List, [], ◌∷◌, ◌++◌, map, take, length, get_or, Some, None, Option, Ok, refl, sym, ap, subst, ◌∙◌}
+use Rattle.std.specs.Prelude.{◌&&◌, not, slice_get}
 use Rattle.std.specs.List.{AllByRecursion}
 use Rattle.std.specs.Option.{option_map, option_map_or}
 use Rattle.std.specs.Ordering.{is_lt}
@@ -9,28 +9,24 @@ use Rattle.std.specs.declared.cmp.Ordering.{Ordering}
 use Rattle.std.proofs.lemmas.Bool.{false≢true}
 use Rattle.std.proofs.lemmas.List.{map_push, take_more}
 use Rattle.std.proofs.lemmas.Option.{same_Some}
-use Rattle.coding.proofs.Binds.{bind_ok, ok_is}
-use Rattle.coding.specs.Answers.{fault, ◌>>=◌}
-use Rattle.coding.specs.declared.fault.FaultName.TheVariants.{Duplicate}
-use Rattle.ikey.specs.Key.{user_of}
-use Rattle.reads.specs.EncodedEntry.{Entry}
-use Rattle.reads.specs.BuilderView.{last_key}
-use Rattle.reads.specs.TableContents.{Contents, DataBlock, blocks_of, contents_of, contents_reading, data_reading, entries_of, index_in}
-use Rattle.reads.specs.EntriesFrom.{NeverFalls}
-use Rattle.reads.specs.EntryTests.{first_key}
-use Rattle.reads.specs.IndexReading.{IndexEntry, index_reading}
-use Rattle.reads.proofs.CheckedTables.{blocks_by, last_is, read_data}
-use Rattle.reads.proofs.EntryTests.{all_tests, rising}
+use Rattle.table.proofs.Binds.{bind_ok, ok_is}
+use Rattle.table.specs.Answers.{◌>>=◌}
+use Rattle.table.specs.Key.{user_of}
+use Rattle.table.specs.EncodedEntry.{Entry}
+use Rattle.split.specs.BuilderView.{last_key}
+use Rattle.table.specs.TableContents.{Contents, DataBlock, blocks_of, contents_of, contents_reading, data_reading, entries_of, index_in}
+use Rattle.table.specs.EntriesFrom.{NeverFalls}
+use Rattle.table.specs.EntryTests.{first_key}
+use Rattle.table.specs.IndexReading.{IndexEntry, index_reading}
+use Rattle.table.proofs.CheckedTables.{blocks_by, last_is, read_data}
+use Rattle.table.proofs.EntryTests.{all_tests, rising}
 use Rattle.split.proofs.Orders.{rising_never_falls}
-use Rattle.merge.specs.MergedLists.{entries_of_lists, sorted_entries}
-use Rattle.merge.proofs.SortedEntries.{filter-sorted}
+use Rattle.merge.specs.MergedLists.{entries_of_lists}
 use Rattle.split.specs.Ranges.{KeyRange}
-use Rattle.keep.specs.InRange.{is_in_range, entries_in}
-use Rattle.keep.specs.CursorsLeft.{is_before, LosesOnly}
-use Rattle.keep.specs.Marks.{CompactionContext}
-use Rattle.keep.specs.Runs.{run_of, are_distinct, range_run}
-use Rattle.keep.proofs.Bounds.{below_apart, from_bound}
-use Rattle.keep.proofs.LeftEntries.{leaves_filter}
+use Rattle.merge.specs.InRange.{is_in_range, entries_in}
+use Rattle.merge.specs.CursorsLeft.{is_before, LosesOnly}
+use Rattle.merge.proofs.Bounds.{below_apart, from_bound}
+use Rattle.merge.proofs.LeftEntries.{leaves_filter}
 
 -- ---- the first and the last key of entries
 
@@ -145,12 +141,6 @@ module _ (cmp : List ℕ → List ℕ → Ordering) (total : IsTotalOrder cmp) (
   -- a list that has nothing in the range
   pub in_left_out : (lists : List (List Entry)) (l : List Entry) → entries_in cmp range l ≡ [] → entries_in cmp range (entries_of_lists lists) ≡ entries_in cmp range (entries_of_lists lists) ++ entries_in cmp range l
   in_left_out lists l none = sym (ap (λ (es : List Entry). entries_in cmp range (entries_of_lists lists) ++ es) none ∙ append_none (entries_in cmp range (entries_of_lists lists)))
-
-  -- lists that have the same in a range give the same run in it
-  pub run_same : (b : CompactionContext) (olds news : List (List Entry)) → entries_in cmp range (entries_of_lists news) ≡ entries_in cmp range (entries_of_lists olds) → range_run cmp b news range ≡ range_run cmp b olds range
-  run_same b olds news h =
-      ap (λ (es : List Entry). if are_distinct es then Ok (run_of cmp b es) else Err (fault Duplicate))
-      (filter-sorted cmp total (λ e. is_in_range cmp range (user_of e.key)) (entries_of_lists news) ∙ ap (sorted_entries cmp) h ∙ sym (filter-sorted cmp total (λ e. is_in_range cmp range (user_of e.key)) (entries_of_lists olds)))
 
 -- one more of a list, as it is seen
 pub map_next : {X Y : Type 0} (f : X → Y) (xs : List X) (i : ℕ) (x : X) → i < length xs → x ≡ get_or xs i x → map f (take (i + 1) xs) ≡ map f (take i xs) ++ f x ∷ []

@@ -26,8 +26,8 @@ pub mod Crash
 pub mod ReadsAs
 pub mod CallSequence
 pub mod TableFiles
--- serves proofs alone
 pub mod Attempts
+-- serves proofs alone
 pub mod WrittenFiles
 pub mod FreeNames
 pub mod ManifestReading

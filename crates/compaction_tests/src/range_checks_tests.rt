@@ -8,9 +8,10 @@ use checks::{
 };
 use coding::{Fault, FaultName};
 use edit::{Version, VersionEdit};
-use folder::{Opened, Order, Shelf};
+use folder::{Opened, Order};
 use ikey::Bytewise;
 use reads::NumberedTable;
+use shelf::Shelf;
 use std::alloc::Global;
 use std::process::Abort;
 use std::test::*;

@@ -13,7 +13,6 @@ pub mod OpeningLemmas
 pub mod LoadingLemmas
 pub mod ToldLemmas
 mod RefusalLemmas
-mod TableLemmas
 pub mod TellsLemmas
 pub mod PutLemmas
 pub mod ReadsLemmas
@@ -25,5 +24,3 @@ mod AloneLemmas
 pub mod CountLemmas
 pub mod ReportLemmas
 mod MadeLemmas
-mod ShelfLemmas
-mod PartLemmas

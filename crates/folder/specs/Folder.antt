@@ -4,8 +4,7 @@ use Rattle.std.specs.Prelude.{take, drop, Option, Result, Ok, Err}
 use Rattle.std.specs.Option.{option_map}
 use Rattle.ikey.specs.fault.FaultName.{FaultName}
 use Rattle.ikey.specs.fault.FaultName.TheVariants as name
-use Rattle.folder.specs.Calls.{Step, ToldFiles}
-use Rattle.folder.specs.Readings.{Reading}
+use Rattle.folder.specs.Calls.{ToldFiles}
 use Rattle.folder.specs.declared.folder.FolderFault.{FolderFault}
 use Rattle.folder.specs.declared.folder.FolderFault.TheVariants.{Device, Memory}
 
@@ -46,10 +45,3 @@ abbrev pub TellsPart : (List ℕ → Option (List ℕ) → Type 0) → List ℕ 
     Type 0
 TellsPart tells name offset len part = (held : Option (List ℕ))
     × (tells name held × (option_map (part_of offset len) held ≡ part))
-
--- what contracts see of a folder that tells nothing: the calls that write in their order, those
--- that failed too, the files that were read, and how often the device has failed
-pub record CallHistory : Type 0 where
-  pub trail : List Step
-  pub readings : List Reading
-  pub failures : ℕ

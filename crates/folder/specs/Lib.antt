@@ -26,10 +26,8 @@ pub mod Crash
 pub mod ReadsAs
 pub mod CallSequence
 pub mod TableFiles
-pub mod Shelf
--- serves proofs alone
 pub mod Attempts
+-- serves proofs alone
 pub mod WrittenFiles
 pub mod FreeNames
-pub mod Source
 pub mod ManifestReading

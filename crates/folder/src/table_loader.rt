@@ -10,11 +10,9 @@ ghost use Rattle.folder.specs.Reports.{OnlyReads, ReportsDevice};
 
 use crate::current_version::bytes_under;
 use crate::folder::Folder;
-use crate::names::{CURRENT, manifest_name, old_table_name, table_name};
-use crate::order::Order;
-use crate::pending_files::Due;
+use crate::names::{old_table_name, table_name};
 use edit::{FileMeta, LEVELS, Version};
-use ikey::{Bytewise, Comparator, Fault, Shortlex};
+use ikey::{Comparator, Fault};
 use std::alloc::Global;
 
 /// The tables of a version's files with their numbers: by level, and in each level in version
@@ -38,46 +36,6 @@ pub fn load<C: Comparator, F: Folder>(
 {
     let numbers = file_numbers::<C>(alloc, version)?;
     load_numbers(alloc, folder, &numbers)
-}
-
-/// The files on which a version rests: CURRENT, the `manifest` of that number, and each table under
-/// its first name, or its older one. None is synced yet.
-pub(crate) fn files_due(
-    alloc: Global,
-    order: Order,
-    version: &Version,
-    manifest: u64,
-) -> Result<Vec<Due>, Fault> {
-    let numbers = numbers_in(alloc, order, version)?;
-    let mut files = Vec::with_capacity(alloc, numbers.len().saturating_add(2))?;
-    files.push(due(String::from_str(alloc, CURRENT)?, None))?;
-    files.push(due(manifest_name(alloc, manifest)?, None))?;
-    for number in numbers.iter() {
-        let older = old_table_name(alloc, *number)?;
-        files.push(due(table_name(alloc, *number)?, Some(older)))?;
-    }
-    Ok(files)
-}
-
-/// A file that is not synced yet.
-fn due(name: String, older: Option<String>) -> Due {
-    Due {
-        name,
-        older,
-        answer: None,
-    }
-}
-
-/// The numbers of a version's files in an order, as [`load`] asks for their tables.
-pub(crate) fn numbers_in(
-    alloc: Global,
-    order: Order,
-    version: &Version,
-) -> Result<Vec<u64>, Fault> {
-    match order {
-        Order::Bytewise => file_numbers::<Bytewise>(alloc, version),
-        Order::Shortlex => file_numbers::<Shortlex>(alloc, version),
-    }
 }
 
 /// The tables of these `numbers` in order, with their numbers. It only reads.

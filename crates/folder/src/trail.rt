@@ -4,7 +4,6 @@ ghost use Rattle.std.specs.Prelude.{◌≡◌, List, [], ◌∷◌, ◌++◌};
 ghost use Rattle.std.specs.Borrow.{ftrue};
 ghost use Rattle.folder.specs.Calls.{Step};
 
-use crate::failure::FolderCall;
 use crate::table_source::SourceTables;
 use std::marker::Model;
 
@@ -16,6 +15,17 @@ pub struct Trail {
 
 impl Model for Trail {
     ghost also_owns = { λ _. ftrue };
+}
+
+/// A kind of calls on a folder.
+#[derive(Clone, Copy, PartialEq, Eq)]
+pub enum FolderCall {
+    Read,
+    Create,
+    Sync,
+    Rename,
+    Remove,
+    SyncFolder,
 }
 
 /// A call that writes, of one file or of the folder.

@@ -3,8 +3,9 @@
 use crate::install_tests::crashes::{made_at, make_left};
 use crate::install_tests::tests::{BEFORE, MANIFEST, read_as};
 use coding::Fault;
-use folder::{Failing, FolderFault, Opened, Shelf, ShelfStep, open};
+use folder::{FolderFault, Opened, open};
 use install::{RemovalWatch, is_obsolete_file, pending_current, remove_obsolete};
+use shelf::{Failing, Shelf, ShelfStep};
 use std::alloc::Global;
 use std::process::Abort;
 use store::sync_version;

@@ -1,6 +1,7 @@
 //! A folder of the system that is written to and read.
 
 use crate::folder_shelf_tests::gives_parts;
+use disk::Disk;
 use folder::*;
 use std::process::Abort;
 use std::rt::Files;

@@ -2,7 +2,7 @@
 
 use crate::folder_disk_tests::{makes, new_path};
 use coding::{Fault, FaultName};
-use folder::*;
+use disk::{Disk, lock_to_change, lock_to_read};
 use std::fs;
 use std::process::Abort;
 

@@ -4,6 +4,7 @@ use coding::{Fault, FaultName};
 use edit::Version;
 use folder::*;
 use ikey::Bytewise;
+use shelf::{Failing, Shelf};
 use std::alloc::Global;
 use std::process::Abort;
 

@@ -2,7 +2,9 @@
 
 use crate::folder_disk_tests::{makes, new_path};
 use crate::folder_opening_tests::NamedFiles;
+use disk::{Disk, SystemFiles, WholeFiles};
 use folder::*;
+use shelf::Shelf;
 use std::alloc::Global;
 use std::fs;
 use std::process::Abort;

@@ -2,6 +2,7 @@
 
 use coding::{Fault, FaultName};
 use folder::*;
+use shelf::{Failing, Shelf, ShelfStep};
 use std::alloc::Global;
 use std::process::Abort;
 

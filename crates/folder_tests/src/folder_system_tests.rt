@@ -3,6 +3,7 @@
 use crate::folder_disk_tests::{has, make_folder, makes, new_path, remove_folder};
 use crate::folder_opening_tests::{THREE_FILES, version_of};
 use coding::FaultName;
+use disk::Disk;
 use edit::Version;
 use folder::*;
 use std::alloc::Global;

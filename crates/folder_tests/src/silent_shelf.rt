@@ -7,9 +7,10 @@ ghost use Rattle.folder.specs.Folder.{IsToldBy, failures_after};
 ghost use Rattle.folder.specs.TableFiles.{named_tables};
 
 use folder::{
-    FileRead, Folder, FolderFault, NoReader, Readings, ReadsTables, Shelf, ShelfMaker, ShelfStep,
-    SourceTables, TableMaker, TableReader, WritesTables,
+    FileRead, Folder, FolderFault, NoReader, Readings, ReadsTables, SourceTables, TableMaker,
+    TableReader, WritesTables,
 };
+use shelf::{Shelf, ShelfMaker, ShelfStep};
 use std::thread::Threads;
 
 /// A folder in memory that tells contracts nothing of what it holds. Of one file the last byte is

@@ -3,8 +3,9 @@
 
 use crate::compaction_crash_tests::{Files, MEMORY, OTHER, TABLE, is_named, opened, wrong_moment};
 use coding::Fault;
-use folder::{Failing, FolderFault, Shelf, ShelfStep, open};
+use folder::{FolderFault, open};
 use levels::compact_level;
+use shelf::{Failing, Shelf, ShelfStep};
 use std::alloc::Global;
 use std::test::*;
 use std::thread::Threads;

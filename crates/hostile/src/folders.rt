@@ -4,7 +4,7 @@ use crate::worked_bytes::{CURRENT_FIVE, MANIFEST, TABLE_U_TWICE};
 use answers::{ValueForm, get_dir, manifest, verify};
 use board::Open;
 use coding::Fault;
-use folder::Shelf;
+use shelf::Shelf;
 use std::thread::Threads;
 use texts::Spelling;
 

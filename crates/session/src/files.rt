@@ -2,7 +2,7 @@
 
 use crate::refusal::Refusal;
 use coding::{Fault, FaultName};
-use folder::MAX_FILE_LEN;
+use disk::MAX_FILE_LEN;
 use std::fs::{File, OpenFile, OpenOptions, Permissions};
 use std::io::{ErrorKind, Read, Write};
 use std::rt::Files;

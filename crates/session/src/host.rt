@@ -1,6 +1,6 @@
 //! What commands ask of the system that they run on.
 
-use folder::{MakesFiles, SystemFiles, WholeFiles};
+use disk::{MakesFiles, SystemFiles, WholeFiles};
 use std::thread::Threads;
 use std::time::Clock;
 

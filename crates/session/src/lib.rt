@@ -52,14 +52,13 @@ mod work_left;
 
 pub use amounts::total_text;
 pub use detail::Detail;
+pub use disk::{Disk, MAX_FILE_LEN, SystemFiles};
 pub use edit::{FileMeta, LAST_LEVEL, LEVELS};
 pub use edit_inputs::deleted_files;
 pub use explanations::{Words, in_words, of_file};
 pub use files::{read_file, replace_file, sync_folder_of};
 pub use filter_blocks::have_filter;
-pub use folder::{
-    Bytewise, Comparator, Disk, Folder, MAX_FILE_LEN, Order, Shortlex, SystemFiles, manifest_name,
-};
+pub use folder::{Bytewise, Comparator, Folder, Order, Shortlex, manifest_name};
 pub use folder_locks::{locked_to_change, locked_to_read};
 pub use folder_names::names_in;
 pub use folder_refusal::{compaction_explained, explained, file_refusal, path_in, table_explained};

@@ -6,11 +6,9 @@ use crate::folder_refusal::path_in;
 use crate::refusal::{Refusal, RefusalText, told};
 use crate::replaced_folder::replaced_refusal;
 use coding::{Fault, FaultName};
+use disk::{Disk, Failure, MAX_FILE_LEN, SystemFiles};
 use edit::{FileMeta, LEVELS};
-use folder::{
-    CURRENT, Disk, Failure, FolderCall, MAX_FILE_LEN, Opened, SystemFiles, old_table_name,
-    table_name,
-};
+use folder::{CURRENT, FolderCall, Opened, old_table_name, table_name};
 use ikey::Bytewise;
 use std::alloc::Global;
 use std::fs;

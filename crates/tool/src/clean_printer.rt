@@ -2,7 +2,8 @@
 
 use crate::clean_work::RemovalPrinter;
 use crate::step_printer::StepPrinter;
-use folder::{Disk, Fault, FaultName, Opened, SystemFiles, Version};
+use disk::{Disk, SystemFiles};
+use folder::{Fault, FaultName, Opened, Version};
 use install::RemovalWatch;
 use queries::{UnneededFiles, unneeded_files};
 use session::{Host, ProgressLine, Refusal, open_in, sizes_tested};

@@ -2,7 +2,8 @@
 
 use crate::version_sync::sync;
 use answers::{json_line, removed_json};
-use folder::{Disk, Fault, FaultName, Opened, SystemFiles, Version};
+use disk::{Disk, SystemFiles};
+use folder::{Fault, FaultName, Opened, Version};
 use install::{RemovalWatch, remove_obsolete};
 use queries::{UnneededFiles, unneeded_files};
 use session::{

@@ -2,7 +2,8 @@
 //! are gone, and that there was nothing to do.
 
 use answers::FileTotal;
-use folder::{Bytewise, Disk, Fault, FileMeta, Folder, LEVELS, SystemFiles, Version, VersionEdit};
+use disk::{Disk, SystemFiles};
+use folder::{Bytewise, Fault, FileMeta, Folder, LEVELS, Version, VersionEdit};
 use session::{LAST_LEVEL, Telling, deleted_files, have_filter, total_text};
 use std::alloc::Global;
 use std::collections::BTreeSet;

@@ -5,7 +5,8 @@ use crate::clean_work::{RemovalPrinter, clean_installed, clean_named};
 use crate::compaction_notes::note_of;
 use crate::step_printer::{StepPrinter, explain, print_step, tell_step, unprinted};
 use crate::version_sync::sync;
-use folder::{Bytewise, Disk, Fault, FaultName, Opened, SystemFiles, Version};
+use disk::{Disk, SystemFiles};
+use folder::{Bytewise, Fault, FaultName, Opened, Version};
 use levels::{compact_level, compact_whole_levels};
 use session::{
     Host, LAST_LEVEL, ProgressLine, Refusal, Telling, begin_in, bytes_of, compaction_explained,

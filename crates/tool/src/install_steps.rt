@@ -1,7 +1,8 @@
 //! The steps of an installation of outcomes.
 
 use adoption::{Comparison, TakenOutcome, TakenOutcomes, TakingEnd, install_taken, take_outcome};
-use folder::{Disk, Fault};
+use disk::Disk;
+use folder::Fault;
 use session::{Host, ProgressLine, Refusal, Telling, bytes_of, refused_at};
 use std::alloc::Global;
 use std::collections::BTreeSet;

@@ -6,7 +6,8 @@ use crate::install_steps::{InstallationEnd, outcomes_installed};
 use crate::outcome_refusal::outcome_explained;
 use crate::step_printer::{print_step_lines, unprinted};
 use crate::version_sync::sync;
-use folder::{Disk, Version};
+use disk::Disk;
+use folder::Version;
 use session::{
     Beginning, Host, Refusal, Telling, begin_in, explained, locked_to_change, sizes_tested,
     tell_time,

@@ -1,6 +1,7 @@
 //! The files that a compaction of a folder would read, from its path to what is printed.
 
-use folder::{Disk, Fault};
+use disk::Disk;
+use folder::Fault;
 use session::{
     Host, Refusal, Telling, begin_work, compaction_explained, print_lines, refused_opened,
     tell_time,

@@ -22,7 +22,8 @@ mod version_sync;
 mod work_left;
 
 pub use answers::{ValueForm, dump, get_dir, manifest, status, verify};
-pub use folder::{Disk, Folder, FolderFault, Order, Shelf, load, open};
+pub use disk::Disk;
+pub use folder::{Folder, FolderFault, Order, load, open};
 pub use pairing::blocks;
 pub use program::run;
 pub use session::{Host, progress_text};

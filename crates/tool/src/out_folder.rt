@@ -1,6 +1,7 @@
 //! The folder that gets the outcome of a compaction.
 
-use folder::{Disk, Fault, FaultName, OwnedFiles, SystemFiles};
+use disk::{Disk, OwnedFiles, SystemFiles};
+use folder::{Fault, FaultName};
 use install::Outcome;
 use session::{Refusal, Words, refused_at, sync_folder_of, told};
 use std::fs::{File, OpenOptions, TryLockError};

@@ -1,7 +1,8 @@
 //! What is told if the outcome of a compaction is refused.
 
 use crate::compaction_notes::outcome_edit;
-use folder::{Disk, Fault, FaultName, Order, VersionEdit};
+use disk::Disk;
+use folder::{Fault, FaultName, Order, VersionEdit};
 use session::{
     Detail, Host, Refusal, RefusalText, RefusedFile, Telling, Words, compaction_explained,
     deleted_files, of_file, path_in, refused_outcome, told,

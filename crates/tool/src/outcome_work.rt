@@ -4,7 +4,8 @@ use crate::compaction_notes::note_of;
 use crate::out_folder::fill;
 use crate::step_printer::tell_step;
 use answers::{CompactionEnd, compaction_json, compaction_lines, json_line};
-use folder::{Disk, FaultName, Opened};
+use disk::Disk;
+use folder::{FaultName, Opened};
 use session::{
     Host, ProgressLine, Refusal, RefusalText, Telling, Words, begin_work, bytes_of,
     compaction_explained, in_words, print_lines, refused_opened, sizes_tested, told,

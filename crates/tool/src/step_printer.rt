@@ -7,7 +7,8 @@ use answers::{
     CompactionEnd, FileTotal, account_of, account_text, compaction_json, compaction_lines,
     json_line,
 };
-use folder::{Disk, Fault, FaultName, Order, SystemFiles, Version};
+use disk::{Disk, SystemFiles};
+use folder::{Fault, FaultName, Order, Version};
 use session::{
     Beginning, Host, ProgressLine, Refusal, Telling, Words, in_words, print_lines, tell_time, told,
 };

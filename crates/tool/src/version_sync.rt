@@ -1,6 +1,7 @@
 //! The version of a folder is synced before work that changes it.
 
-use folder::{Disk, Opened, SystemFiles, WholeFiles};
+use disk::{Disk, SystemFiles, WholeFiles};
+use folder::Opened;
 use session::{Refusal, refused_at};
 use std::thread::Threads;
 use store::{SyncedVersion, sync_version};

@@ -3,7 +3,7 @@
 use crate::range_checks_tests::{B_AT_TWO, U_AT_NINE, U_AT_ONE};
 use crate::store_tests::rows::{CURRENT, DEFAULTS, Files};
 use crate::store_tests::tests::{MEMORY, step_lines};
-use folder::Shelf;
+use shelf::Shelf;
 use std::process::Abort;
 use std::test::*;
 use store::{Open, checkers, compact_dir};

@@ -7,9 +7,10 @@ use crate::store_tests::rows::{
 use answers::{CompactionEnd, compaction_lines};
 use coding::{Fault, FaultName};
 use edit::Version;
-use folder::{Failing, FolderFault, Opened, Shelf, file_numbers, open};
+use folder::{FolderFault, Opened, file_numbers, open};
 use ikey::Bytewise;
 use keep::Snapshots;
+use shelf::{Failing, Shelf};
 use std::alloc::Global;
 use std::process::Abort;
 use std::test::*;

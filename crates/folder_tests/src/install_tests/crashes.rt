@@ -1,6 +1,7 @@
 //! What a crash leaves of the calls that were made, for tests.
 
-use folder::{Folder, FolderFault, Shelf, ShelfCall, ShelfStep};
+use folder::{Folder, FolderFault};
+use shelf::{Shelf, ShelfCall, ShelfStep};
 
 /// The calls made by a moment, the newest first. At an even moment half as many calls are done. At
 /// an odd one the crash comes inside the next call, which is then among them.

@@ -1,9 +1,10 @@
 use crate::install_tests::crashes::{made_at, make_left};
 use coding::{Fault, FaultName};
 use edit::{Outcome, Version};
-use folder::{Failing, Folder, FolderFault, Order, Shelf, ShelfStep, load, open};
+use folder::{Folder, FolderFault, Order, load, open};
 use ikey::Bytewise;
 use install::{install, install_manifest, manifest_bytes, write_group};
+use shelf::{Failing, Shelf, ShelfStep};
 use std::alloc::Global;
 use std::process::Abort;
 use std::thread::Threads;

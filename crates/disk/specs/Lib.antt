@@ -1,0 +1,2 @@
+-- what contracts rest on
+pub mod CallHistory

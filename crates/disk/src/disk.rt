@@ -1,0 +1,379 @@
+//! A folder of the system.
+
+ghost use Rattle.std.specs.Prelude.{◌≡◌, [], ◌∷◌, ◌++◌, IfOk, Ok};
+ghost use Rattle.std.specs.Thread.{IsSync};
+ghost use Rattle.folder.specs.Calls.{TellsAfter, Written, step_of};
+ghost use Rattle.folder.specs.Folder.{IsToldBy, failures_after, one_more};
+ghost use Rattle.folder.specs.Attempts.{call_in};
+ghost use Rattle.folder.specs.TableFiles.{named_tables, table_files};
+
+use crate::disk_reader::DiskReader;
+use crate::due_files::{files_due, numbers_in};
+use crate::failure::Failure;
+use crate::file_access::access_in;
+use crate::made_table::{DiskMaker, MadeTable, files_of, first_failed, sync_made, write_in_turn};
+use crate::pending_files::PendingFiles;
+use crate::system::{Place, done_in, part_in, read_in};
+use crate::system_files::{MakesFiles, SystemFiles};
+use crate::table_sizes::check_sizes_in;
+use crate::whole_files::{WholeFiles, sync_all};
+use edit::Version;
+use folder::{
+    AnyWrite, Attempt, FileRead, Folder, FolderCall, FolderFault, Order, Readings, ReadsTables,
+    SourceTables, TableReader, Trail, WriteCall, WritesTables,
+};
+use ikey::Fault;
+use std::io;
+use std::io::ErrorKind;
+use std::marker::Model;
+use std::thread::Threads;
+
+/// A folder of the system, at a path. It tells contracts nothing of what it holds.
+///
+/// Names are taken as they are, so they must not have a slash.
+#[derive(Drop)]
+pub struct Disk<'r, R> {
+    rt: &'r R,
+    path: &'r str,
+    /// The path of the folder whose CURRENT says who may use new files.
+    owner: &'r str,
+    failures: u64,
+    trail: Trail,
+    readings: Readings,
+    kept: PendingFiles,
+    last_failure: Option<Failure>,
+}
+
+impl<'r, R> Model for Disk<'r, R> {
+    ghost use Rattle.disk.specs.CallHistory.{CallHistory};
+
+    ghost Value = { CallHistory };
+
+    ghost view = { λ d. record {
+      trail = d.trail.steps;
+      readings = d.readings.files;
+      failures = d.failures;
+    } };
+}
+
+impl<'r, R: SystemFiles + AllocGlobal> Disk<'r, R> {
+    /// The folder at `path`. No call of it has failed yet, and nothing is read.
+    pub fn new(rt: &'r R, path: &'r str) -> Disk<'r, R>
+        ensures failed { ⟦<Disk<'r, R> as Folder>⟧.failed result ≡ 0 }
+        ensures calls { ⟦<Disk<'r, R> as Folder>⟧.calls result ≡ [] }
+    {
+        Disk::owned_as(rt, path, path)
+    }
+
+    /// The same, but the CURRENT of the folder at `owner` says who may use its new files, and whose
+    /// they are.
+    pub fn owned_as(rt: &'r R, path: &'r str, owner: &'r str) -> Disk<'r, R>
+        ensures failed { ⟦<Disk<'r, R> as Folder>⟧.failed result ≡ 0 }
+        ensures calls { ⟦<Disk<'r, R> as Folder>⟧.calls result ≡ [] }
+    {
+        Disk {
+            rt,
+            path,
+            owner,
+            failures: 0,
+            trail: Trail::new(),
+            readings: Readings::none(),
+            kept: PendingFiles::new(rt.alloc()),
+            last_failure: None,
+        }
+    }
+
+    /// Tests the sizes of the tables of `version` before [`load`](folder::load) reads them.
+    ///
+    /// - Missing: a table is missing.
+    /// - TooLarge: none is, and a table has more than 2^30 bytes.
+    /// - Memory: out of memory.
+    ///
+    /// Tables from the first on that the system tells nothing of are not tested, since loading
+    /// fails there.
+    pub fn check_sizes(&self, order: Order, version: &Version) -> Result<(), Fault> {
+        let alloc = self.rt.alloc();
+        let numbers = numbers_in(alloc, order, version)?;
+        check_sizes_in(self.rt, alloc, self.path, &numbers)
+    }
+
+    /// The newest call that failed by the device. None if none did.
+    pub fn last_failure(&self) -> Option<&Failure> {
+        self.last_failure.as_ref()
+    }
+}
+
+impl<'r, R: SystemFiles + WholeFiles + AllocGlobal + Threads> Disk<'r, R> {
+    /// Syncs the files of `version` by several threads, before [`Folder::sync`] of them is asked
+    /// for. These are CURRENT, the manifest of the number `manifest`, and each table, under its
+    /// older name if it has only that.
+    ///
+    /// A later sync of such a file makes no call and answers as this one did, until a file is made,
+    /// renamed or removed. If this one failed, that lasts until the file itself is made, renamed or
+    /// removed. A file that can't be opened now, for whatever reason, is synced when that is asked
+    /// for.
+    pub fn sync_ahead(&mut self, order: Order, version: &Version, manifest: u64)
+        ensures failed { ⟦<Disk<'r, R> as Folder>⟧.failed self.new
+            ≡ ⟦<Disk<'r, R> as Folder>⟧.failed self.old }
+        ensures calls { ⟦<Disk<'r, R> as Folder>⟧.calls self.new
+            ≡ ⟦<Disk<'r, R> as Folder>⟧.calls self.old }
+    {
+        let alloc = self.rt.alloc();
+        if let Ok(mut files) = files_due(alloc, order, version, manifest) {
+            sync_all(self.rt, alloc, self.path, &mut files);
+            self.kept.keep_ahead(files);
+        }
+    }
+}
+
+impl<'r, R: SystemFiles + AllocGlobal> Folder for Disk<'r, R> {
+    ghost tells = { λ _ _ _. Unit {0} };
+
+    ghost calls = { λ disk. disk.trail };
+
+    ghost failed = { λ disk. disk.failures };
+
+    ghost readings = { λ disk. disk.readings };
+
+    fn read(&mut self, name: &str) -> Result<Option<Vec<u8>>, FolderFault> {
+        let found = read_in(self.rt, self.rt.alloc(), self.path, name);
+        let answer = self.counted(found, FolderCall::Read, name);
+        self.readings = self.readings.then(&FileRead {
+            name,
+            answer: &answer,
+        });
+        answer
+    }
+
+    fn read_part(
+        &mut self,
+        name: &str,
+        offset: u64,
+        len: usize,
+    ) -> Result<Option<Vec<u8>>, FolderFault> {
+        let answer = part_in(self.rt, self.rt.alloc(), self.path, name, offset, len);
+        self.counted(answer, FolderCall::Read, name)
+    }
+
+    fn create(&mut self, name: &str, bytes: &[u8]) -> Result<(), FolderFault> {
+        self.write(WriteCall::Create(name, bytes))
+    }
+
+    fn write_tables<T: Threads + Sync>(
+        &mut self,
+        rt: &T,
+        tables: &[(u64, Vec<u8>)],
+    ) -> Result<(), FolderFault> {
+        self.write_all(rt, tables)
+    }
+
+    fn sync(&mut self, name: &str) -> Result<(), FolderFault> {
+        self.write(WriteCall::Sync(name))
+    }
+
+    fn rename(&mut self, from: &str, to: &str) -> Result<(), FolderFault> {
+        self.write(WriteCall::Rename(from, to))
+    }
+
+    fn remove(&mut self, name: &str) -> Result<(), FolderFault> {
+        self.write(WriteCall::Remove(name))
+    }
+
+    fn sync_folder(&mut self) -> Result<(), FolderFault> {
+        self.write(WriteCall::SyncFolder)
+    }
+
+    fn failures(&self) -> u64 {
+        self.failures
+    }
+}
+
+impl<'r, R: SystemFiles + WholeFiles + AllocGlobal> ReadsTables for Disk<'r, R> {
+    type Reader = DiskReader<'r, R>;
+
+    fn reader(&self) -> DiskReader<'r, R>
+        ensures { IsToldBy (⟦<DiskReader<'r, R> as TableReader>⟧.tells result)
+            (⟦<Disk<'r, R> as Folder>⟧.tells self.now) }
+    {
+        DiskReader {
+            rt: self.rt,
+            folder: self.path,
+        }
+    }
+}
+
+impl<'r, R: SystemFiles + MakesFiles + AllocGlobal> WritesTables for Disk<'r, R> {
+    type Maker = DiskMaker<'r, R>;
+
+    fn maker(&mut self) -> DiskMaker<'r, R> {
+        self.kept.forget_ahead("");
+        DiskMaker::new(self.rt, self.path, self.owner)
+    }
+
+    fn sync_tables<T: Threads + Sync>(
+        &mut self,
+        rt: &T,
+        tables: &SourceTables,
+        made: Option<Vec<MadeTable>>,
+    ) -> Result<(), FolderFault>
+        requires { IsSync T.row }
+        ensures calls { ⟦<Disk<'r, R> as Folder>⟧.calls self.new
+            ≡ ⟦<Disk<'r, R> as Folder>⟧.calls self.old
+            ++ step_of (Written (named_tables tables.now.tables)) result ∷ [] }
+        ensures change { TellsAfter (step_of (Written (named_tables tables.now.tables)) result)
+            (⟦<Disk<'r, R> as Folder>⟧.tells self.old) (⟦<Disk<'r, R> as Folder>⟧.tells self.new) }
+        ensures failures { ⟦<Disk<'r, R> as Folder>⟧.failed self.new
+            ≡ failures_after (⟦<Disk<'r, R> as Folder>⟧.failed self.old) result }
+    {
+        self.write_made(rt, tables, made)
+    }
+}
+
+impl<'r, R: SystemFiles + AllocGlobal> Disk<'r, R> {
+    /// What a call of the system answered, on the file of this `name`. A failure other than out of
+    /// memory is `Device`, is counted, and is the last one from then on.
+    fn counted<T>(
+        &mut self,
+        answer: io::Result<T>,
+        call: FolderCall,
+        name: &str,
+    ) -> Result<T, FolderFault>
+        ensures value { IfOk result (λ value. answer ≡ Ok value) }
+        ensures failures { self.new.failures ≡ failures_after self.old.failures result }
+        ensures trail { self.new.trail ≡ self.old.trail }
+        ensures readings { self.new.readings ≡ self.old.readings }
+    {
+        match answer {
+            Ok(value) => Ok(value),
+            Err(error) if error.kind() == ErrorKind::OutOfMemory => Err(FolderFault::Memory),
+            Err(error) => {
+                self.failures = one_more(self.failures);
+                self.last_failure = Some(Failure::new(self.rt.alloc(), call, name, error));
+                Err(FolderFault::Device)
+            }
+        }
+    }
+
+    /// Makes tables and syncs them, and adds that to the trail.
+    fn write_all<T: Threads + Sync>(
+        &mut self,
+        rt: &T,
+        tables: &[(u64, Vec<u8>)],
+    ) -> Result<(), FolderFault>
+        ensures trail { self.new.trail ≡ self.old.trail
+            ++ step_of (Written (table_files tables.now)) result ∷ [] }
+        ensures failures { self.new.failures ≡ failures_after self.old.failures result }
+    {
+        let answer = self.made(rt, tables);
+        self.trail = self.trail.then(&Attempt {
+            call: AnyWrite::Tables(tables),
+            is_done: answer.is_ok(),
+        });
+        answer
+    }
+
+    /// Makes tables and syncs them: by several threads if their numbers rise, else one after the
+    /// other. No more memory is taken after the first one is begun.
+    fn made<T: Threads + Sync>(
+        &mut self,
+        rt: &T,
+        tables: &[(u64, Vec<u8>)],
+    ) -> Result<(), FolderFault>
+        ensures failures { self.new.failures ≡ failures_after self.old.failures result }
+        ensures trail { self.new.trail ≡ self.old.trail }
+    {
+        let Ok(mut files) = files_of(self.rt.alloc(), self.path, tables) else {
+            return Err(FolderFault::Memory);
+        };
+        self.kept.forget_all(&files);
+        let access = access_in(self.rt, self.rt.alloc(), self.owner);
+        if are_rising(tables) {
+            self.rt.write_all(rt, access, tables, &mut files);
+        } else {
+            write_in_turn(self.rt, access, tables, &mut files);
+        }
+        self.counted_all(&files)
+    }
+
+    /// Syncs tables that were made, and adds their writing to the trail.
+    fn write_made<T: Threads + Sync>(
+        &mut self,
+        rt: &T,
+        tables: &SourceTables,
+        made: Option<Vec<MadeTable>>,
+    ) -> Result<(), FolderFault>
+        ensures trail { self.new.trail ≡ self.old.trail
+            ++ step_of (Written (named_tables tables.now.tables)) result ∷ [] }
+        ensures failures { self.new.failures ≡ failures_after self.old.failures result }
+    {
+        let answer = self.synced(rt, made);
+        self.trail = self.trail.then(&Attempt {
+            call: AnyWrite::Made(tables),
+            is_done: answer.is_ok(),
+        });
+        answer
+    }
+
+    /// Syncs tables that were made, by several threads. None if memory ran out before all were.
+    fn synced<T: Threads + Sync>(
+        &mut self,
+        rt: &T,
+        made: Option<Vec<MadeTable>>,
+    ) -> Result<(), FolderFault>
+        ensures failures { self.new.failures ≡ failures_after self.old.failures result }
+        ensures trail { self.new.trail ≡ self.old.trail }
+    {
+        let Some(mut files) = made else {
+            return Err(FolderFault::Memory);
+        };
+        self.kept.forget_all(&files);
+        sync_made(rt, &mut files);
+        self.counted_all(&files)
+    }
+
+    /// What the calls on these files answered together: what the first one did that the device
+    /// failed, or else the first that failed.
+    fn counted_all(&mut self, files: &[MadeTable]) -> Result<(), FolderFault>
+        ensures failures { self.new.failures ≡ failures_after self.old.failures result }
+        ensures trail { self.new.trail ≡ self.old.trail }
+    {
+        match first_failed(files) {
+            Some(place) => {
+                let file = &files[place];
+                self.counted(file.answer, file.call, file.name.as_str())
+            }
+            None => Ok(()),
+        }
+    }
+
+    /// Makes a call that writes, and adds it to the trail.
+    fn write(&mut self, call: WriteCall<'_>) -> Result<(), FolderFault>
+        ensures trail { self.new.trail ≡ self.old.trail
+            ++ step_of (call_in call.entry) result ∷ [] }
+        ensures failures { self.new.failures ≡ failures_after self.old.failures result }
+    {
+        let place = Place {
+            folder: self.path,
+            owner: self.owner,
+        };
+        let done = done_in(self.rt, self.rt.alloc(), place, &mut self.kept, call);
+        let (kind, name) = call.told();
+        let answer = self.counted(done, kind, name);
+        let is_done = answer.is_ok();
+        let call = AnyWrite::One(call);
+        self.trail = self.trail.then(&Attempt { call, is_done });
+        answer
+    }
+}
+
+/// Whether the numbers of tables rise, so that no two are one.
+fn are_rising(tables: &[(u64, Vec<u8>)]) -> bool {
+    tables.is_sorted_by(|table, other| table.0 < other.0)
+}
+
+/// One failure more.
+fn one_more(failures: u64) -> u64
+    ensures { result ≡ one_more failures }
+{
+    failures.saturating_add(1)
+}

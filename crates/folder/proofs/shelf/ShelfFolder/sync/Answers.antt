@@ -1,9 +1,0 @@
-use Rattle.folder.specs.Calls.{Synced, step_of}
-use Rattle.folder.proofs.ShelfLemmas.{wrote}
-use Rattle.folder.proofs.shelf.ShelfFolder.sync.Goals as goal
-
-pub returns-clause-change : goal.returns-clause-change
-returns-clause-change c =
-    let old = c.args.self.now in
-    let new = c.write.new.self in
-    wrote (step_of (Synced c.args.name.now) c.write.result) old.steps new.steps old.start new.start c.write.ensures.start c.write.ensures.change

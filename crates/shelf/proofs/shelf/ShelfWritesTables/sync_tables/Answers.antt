@@ -1,0 +1,31 @@
+use Rattle.std.proofs.Common.{◌≡◌, ℕ, List, [], ◌∷◌, Option, Some, None, IfSome, map, refl, ap, ◌∙◌}
+use Rattle.std.specs.Global.{Vec}
+use Rattle.folder.specs.Calls.{Written, step_of}
+use Rattle.std.specs.List.{AllZip}
+use Rattle.folder.specs.TableFiles.{named_tables}
+use Rattle.shelf.proofs.ShelfLemmas.{wrote}
+use Rattle.shelf.proofs.shelf.ShelfWritesTables.sync_tables.Goals as goal
+
+-- what a folder in memory makes of tables is these tables
+made_is : (made : List (ℕ × Vec ℕ)) (tables : List (ℕ × List ℕ)) → AllZip (λ (m : ℕ × Vec ℕ) (t : ℕ × List ℕ). (m.0, m.1.items) ≡ t) made tables
+    → map (λ (m : ℕ × Vec ℕ). (m.0, m.1.items)) made ≡ tables
+made_is [] [] are = refl
+made_is [] (table ∷ tables) are = absurd are
+made_is (one ∷ made) [] are = absurd are
+made_is (one ∷ made) (table ∷ tables) are =
+    ap (λ (t : ℕ × List ℕ). t ∷ map (λ (m : ℕ × Vec ℕ). (m.0, m.1.items)) made) are.0 ∙ ap (λ (ts : List (ℕ × List ℕ)). table ∷ ts) (made_is made tables are.1)
+
+-- what was made, if all were, is the tables
+all_are : (made : Option (Vec (ℕ × Vec ℕ))) (tables : List (ℕ × List ℕ)) → IfSome made (λ m. AllZip (λ (m : ℕ × Vec ℕ) (t : ℕ × List ℕ). (m.0, m.1.items) ≡ t) m.items tables)
+    → IfSome made (λ m. map (λ (t : ℕ × Vec ℕ). (t.0, t.1.items)) m.items ≡ tables)
+all_are None tables are = tt
+all_are (Some made) tables are = made_is made.items tables are
+
+pub write_made-requires : goal.write_made-requires
+write_made-requires g c = all_are c.args.made c.args.tables.now.tables c.requires
+
+pub returns-clause-change : goal.returns-clause-change
+returns-clause-change g c =
+    let old = c.args.self.now in
+    let new = c.write_made.new.self in
+    wrote (step_of (Written (named_tables c.args.tables.now.tables)) c.write_made.result) old.steps new.steps old.start new.start c.write_made.ensures.start c.write_made.ensures.change

@@ -1,0 +1,5 @@
+-- what contracts rest on
+pub mod Shelf
+-- serves proofs alone
+pub mod Alters
+pub mod Source

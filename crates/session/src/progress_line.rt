@@ -3,7 +3,7 @@
 use crate::progress::progress_text;
 use crate::reporter::{LONG, Telling};
 use crate::work_left::WorkLeft;
-use checks::{Watch, Work};
+use board::{Watch, Work};
 use coding::Fault;
 use folder::Gate;
 use std::sync::atomic::{AtomicBool, AtomicU64, Ordering};

@@ -12,7 +12,8 @@ ghost use Rattle.adoption.specs.Overlay.{names_of};
 
 use crate::overlay::{Overlay, names_of};
 use crate::refusals::Refusals;
-use checks::{SharedComparator, VersionTotals, Watch, Workers, test_version};
+use board::Watch;
+use checks::{SharedComparator, VersionTotals, Workers, test_version};
 use edit::{Fault, Version};
 use folder::{Folder, Readings};
 use std::thread::Threads;

@@ -17,7 +17,7 @@ use crate::question::{Question, ValueForm};
 use crate::unverified_get::unverified_value;
 use crate::version_text::version_lines;
 use crate::version_verdict::{lawful_answer, lawful_line, test_opened};
-use checks::Watch;
+use board::Watch;
 use edit::Version;
 use folder::{Bytewise, Folder, Order, ReadsTables, Shortlex, open};
 use std::alloc::Global;

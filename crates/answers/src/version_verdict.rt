@@ -11,7 +11,8 @@ ghost use Rattle.folder.specs.Reports.{OnlyReads, ReportsDevice};
 ghost use Rattle.checks.specs.TestedTables.{IsTested};
 ghost use Rattle.answers.specs.FolderLines.{lawful_line, quick_line};
 
-use checks::{VersionTotals, Watch, checkers, test_version};
+use board::Watch;
+use checks::{VersionTotals, checkers, test_version};
 use edit::Version;
 use folder::{Bytewise, Order, ReadsTables, Shortlex};
 use std::alloc::Global;

@@ -22,6 +22,8 @@
 //! - A *shift* is what a worker leaves: its seat, its results, and the least job that it failed. A
 //!   *tally* counts what was done at all seats of a closed board.
 //!
+//! A [`Watch`] is a gate that is told to which long work on a folder its jobs belong.
+//!
 //! Not stated: which seat draws what, that a thread runs or how many do, and what the gate is told.
 //! Nor which fault comes if one job fails by `Memory` and another by name. That a run answers
 //! `collected_results` of its answers is proved by its callers.
@@ -39,6 +41,7 @@ mod share;
 mod shift;
 mod tally;
 mod trail;
+mod watch;
 mod worker;
 mod workers;
 
@@ -48,6 +51,7 @@ pub use limits::{MAX_JOBS, MAX_WORKERS};
 pub use pool::{RunFault, run};
 pub use seat::Seat;
 pub use tally::Tally;
+pub use watch::{Watch, Work};
 pub use workers::Workers;
 
 mod board;

@@ -13,8 +13,7 @@
 //! what two ranges have in common. [`bounds_tell`] is the law why some tables need no walk.
 //!
 //! The answer doesn't depend on the workers, nor on the order in which they do their jobs.
-//! [`checkers`] are those of a command. A [`Watch`] is a gate that is told to which long work on a
-//! folder its jobs belong.
+//! [`checkers`] are those of a command.
 #![tactic(auto)]
 
 mod command_workers;
@@ -39,7 +38,6 @@ mod version_check;
 mod version_test;
 mod version_totals;
 mod wanted_tables;
-mod watch;
 mod worker_tables;
 
 pub use board::{Open, Workers};
@@ -58,4 +56,3 @@ pub use version_check::lawful_tables;
 pub use version_test::{test_and_hold, test_version};
 pub use version_totals::VersionTotals;
 pub use wanted_tables::checked_tables;
-pub use watch::{Watch, Work};

@@ -28,7 +28,8 @@ ghost use Rattle.levels.specs.LevelRows.{IsLevelsRun, IsWholeDescended};
 ghost use Rattle.levels.specs.LevelTaken.{IsBottomBelow, IsLevelBegun, IsLevelTaken};
 
 use crate::tested_level::compact_tested;
-use checks::{VersionTotals, Watch, Workers, test_version};
+use board::Watch;
+use checks::{VersionTotals, Workers, test_version};
 use edit::{Fault, FaultName, Version};
 use folder::{Bytewise, Order, ReadsTables, Shortlex, WritesTables};
 use std::alloc::Global;

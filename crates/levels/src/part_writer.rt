@@ -15,7 +15,8 @@ ghost use Rattle.pick.specs.declared.picked_inputs.Inputs.{Inputs};
 ghost use Rattle.levels.specs.PartsEnd.{ArePartsWritten, AreRangeAt, IsOutcomeWritten, IsPartAt};
 ghost use Rattle.levels.specs.PartsEnd.{IsPartWritten, IsRangeWritten};
 
-use checks::{HeldTables, SharedComparator, Watch, Workers};
+use board::Watch;
+use checks::{HeldTables, SharedComparator, Workers};
 use edit::{Fault, FaultName, Outcome, Version};
 use folder::{ReadsTables, WritesTables};
 use install::write_group;

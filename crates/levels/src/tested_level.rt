@@ -20,7 +20,8 @@ ghost use Rattle.levels.specs.WholeAnswer.{IsWholeCompacted};
 ghost use Rattle.levels.specs.WholeRuns.{IsWholeRun};
 
 use crate::level_compaction::{compact_parts, small_logs, version_is_state};
-use checks::{SharedComparator, Watch, Workers};
+use board::Watch;
+use checks::{SharedComparator, Workers};
 use compact::passed_law;
 use edit::Fault;
 use folder::{Bytewise, Order, ReadsTables, Shortlex, WritesTables};

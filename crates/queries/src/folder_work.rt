@@ -7,9 +7,10 @@ use answers::{
     version_json,
 };
 use install::Opened;
+use refusals::explained;
 use session::{
     Disk, Host, OpenedFolder, ProgressLine, Refusal, Telling, begin_counted, begin_work, bytes_of,
-    explained, locked_to_read, print_lines, refused_opened, sizes_tested, tell_time,
+    locked_to_read, print_lines, refused_opened, sizes_tested, tell_time,
 };
 use usage::{ManifestLine, VerdictForm, VerifyLine};
 

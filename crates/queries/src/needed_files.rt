@@ -4,10 +4,10 @@ use crate::version_tables::table_found;
 use answers::{json_line, name_json};
 use checks::Fault;
 use install::{CURRENT, Opened};
+use refusals::explained;
 use session::{
     Bytewise, Comparator, FileMeta, Host, LEVELS, Order, Refusal, Shortlex, SystemFiles, Telling,
-    explained, locked_to_read, manifest_name, names_in, open_folder, print_lines, replayed_log,
-    tell_time,
+    locked_to_read, manifest_name, names_in, open_folder, print_lines, replayed_log, tell_time,
 };
 use std::alloc::Global;
 use std::rt::Files;

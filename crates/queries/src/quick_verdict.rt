@@ -4,11 +4,11 @@ use crate::version_tables::{FoundTable, table_found, table_refused};
 use answers::{json_line, quick_json, quick_line};
 use checks::{Fault, FaultName};
 use install::Opened;
+use refusals::{Detail, RefusedFile};
 use scan::test_index;
 use session::{
-    Bytewise, Comparator, Detail, Disk, FileMeta, Folder, Host, LEVELS, MAX_FILE_LEN, OpenedFolder,
-    Order, Refusal, RefusedFile, Shortlex, Telling, begin_counted, print_lines, tell_time,
-    too_large,
+    Bytewise, Comparator, Disk, FileMeta, Folder, Host, LEVELS, MAX_FILE_LEN, OpenedFolder, Order,
+    Refusal, Shortlex, Telling, begin_counted, print_lines, tell_time, too_large,
 };
 use std::alloc::Global;
 

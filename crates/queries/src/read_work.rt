@@ -4,9 +4,8 @@ use crate::folder_work::version_tested;
 use answers::{json_line, logs_json};
 use checks::Fault;
 use install::Opened;
-use session::{
-    Host, OpenedFolder, Refusal, Telling, begin_counted, bytes_of, explained, table_explained,
-};
+use refusals::{explained, table_explained};
+use session::{Host, OpenedFolder, Refusal, Telling, begin_counted, bytes_of};
 use std::alloc::Global;
 use usage::Testing;
 

@@ -4,9 +4,10 @@ use crate::listed_files::unneeded_files;
 use answers::{json_line, stats_json, stats_text};
 use checks::checkers;
 use install::Opened;
+use refusals::explained;
 use scan::{FileTotal, VersionStats, version_stats};
 use session::{
-    Disk, Host, ProgressLine, Refusal, Telling, begin_work, bytes_of, explained, locked_to_read,
+    Disk, Host, ProgressLine, Refusal, Telling, begin_work, bytes_of, locked_to_read,
     logs_with_writes, print_lines, refused_opened, sizes_tested, tell_time,
 };
 use std::rt::Files;

@@ -6,9 +6,10 @@ use crate::read_work::{begin_explained, read_explained, test_explained};
 use answers::{Question, ValueForm, json_line, push_named_value, unverified_value, value_json};
 use checks::Fault;
 use install::Opened;
+use refusals::{explained, table_explained};
 use session::{
-    Disk, Host, OpenedFolder, Refusal, SystemFiles, Telling, begin_counted, bytes_of, explained,
-    locked_to_read, print_lines, refused_opened, sizes_tested, table_explained, tell_time,
+    Disk, Host, OpenedFolder, Refusal, SystemFiles, Telling, begin_counted, bytes_of,
+    locked_to_read, print_lines, refused_opened, sizes_tested, tell_time,
 };
 use std::alloc::Global;
 use texts::{Spelling, text_of};

@@ -2,9 +2,8 @@
 
 use checks::{Fault, FaultName};
 use install::Opened;
-use session::{
-    Disk, Refusal, RefusedFile, SystemFiles, file_refusal, path_in, refused_opened, table_file_name,
-};
+use refusals::{RefusedFile, file_refusal, table_file_name};
+use session::{Disk, Refusal, SystemFiles, path_in, refused_opened};
 use std::fs;
 use std::io::ErrorKind;
 use std::rt::Files;

@@ -24,9 +24,8 @@ use crate::level_rows::stats_of;
 use crate::level_stats::VersionStats;
 use crate::range_counts::count_ranges;
 use crate::version_scan::sequence_of;
-use checks::{
-    HeldTables, Open, SharedComparator, Split, Watch, Workers, group_split, test_and_hold,
-};
+use board::Watch;
+use checks::{HeldTables, Open, SharedComparator, Split, Workers, group_split, test_and_hold};
 use folder::{Bytewise, Opened, Order, ReadsTables, Shortlex, Version};
 use reads::files_newest_first;
 use std::alloc::Global;

@@ -1,8 +1,7 @@
 //! The locks of a folder that a command holds until it ends.
 
 use crate::explanations::{NO_FOLDER, Words};
-use crate::folder_names::names_in;
-use crate::folder_refusal::{no_database, path_in};
+use crate::folder_names::{names_in, path_in};
 use crate::refusal::{Refusal, RefusalText, told};
 use crate::reporter::Telling;
 use coding::{Fault, FaultName};
@@ -153,4 +152,36 @@ fn lock_refused<R: SystemFiles + AllocGlobal>(rt: &R, path: &str, fault: Fault) 
         }
         _ => Refusal::new(fault, RefusalText::alone(rt.alloc(), path, text)),
     }
+}
+
+/// What is told of a folder without a CURRENT.
+pub fn no_database<R: SystemFiles + AllocGlobal>(rt: &R, folder: &str) -> Option<RefusalText> {
+    let alloc = rt.alloc();
+    match has_manifest(rt, folder) {
+        Ok(true) => {
+            let words = Words {
+                wrong: "it is missing, and the folder has a manifest: the database is damaged",
+                remedy: "restore the folder from a copy, or have LevelDB repair it",
+            };
+            told(alloc, path_in(alloc, folder, CURRENT)?.as_str(), words)
+        }
+        Err(error) if error.kind() == ErrorKind::NotFound => { told(alloc, folder, NO_FOLDER) }
+        _ => {
+            let words = Words {
+                wrong: "this folder holds no LevelDB database: it has no CURRENT",
+                remedy: "give the folder of a database",
+            };
+            told(alloc, folder, words)
+        }
+    }
+}
+
+/// Whether a folder has a file with the name of a manifest.
+fn has_manifest<R: SystemFiles + AllocGlobal>(rt: &R, folder: &str) -> io::Result<bool> {
+    for entry in fs::read_dir(&rt, folder)? {
+        if entry?.file_name().starts_with("MANIFEST-") {
+            return Ok(true);
+        }
+    }
+    Ok(false)
 }

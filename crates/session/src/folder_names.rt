@@ -1,6 +1,7 @@
-//! The names of a folder's files.
+//! The names of a folder's files, and their paths.
 
 use crate::logs::readable;
+use std::alloc::Global;
 use std::rt::Files;
 use std::{fs, io};
 
@@ -15,4 +16,13 @@ pub fn names_in<R: Files + AllocGlobal>(rt: &R, folder: &str) -> io::Result<Vec<
     }
     names.sort_unstable();
     Ok(names)
+}
+
+/// The path of a folder's file.
+pub fn path_in(alloc: Global, folder: &str, name: &str) -> Option<String> {
+    if folder.ends_with('/') {
+        format!(in alloc; "{folder}{name}").ok()
+    } else {
+        format!(in alloc; "{folder}/{name}").ok()
+    }
 }

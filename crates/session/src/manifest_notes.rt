@@ -1,6 +1,6 @@
 //! What is told of a manifest that LevelDB doesn't write, though its version may be lawful here.
 
-use crate::folder_refusal::path_in;
+use crate::folder_names::path_in;
 use crate::reporter::Telling;
 use folder::{Opened, manifest_name};
 use ikey::MAX_SEQUENCE;

@@ -5,7 +5,7 @@ use crate::manifest_notes::tell_impossible;
 use crate::refusal::{Refusal, RefusalText};
 use crate::refused_logs::no_logs;
 use crate::reporter::Telling;
-use crate::table_sizes::{is_too_large, too_large};
+use crate::tested_sizes::{is_too_large, too_large};
 use coding::{Fault, FaultName};
 use disk::{Disk, SystemFiles};
 use edit::Version;

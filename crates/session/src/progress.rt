@@ -1,6 +1,6 @@
 //! The text of a line of progress.
 
-use checks::Work;
+use board::Work;
 use coding::Fault;
 use std::alloc::Global;
 

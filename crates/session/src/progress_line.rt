@@ -2,8 +2,7 @@
 
 use crate::progress::progress_text;
 use crate::reporter::{LONG, Telling};
-use crate::work_left::WorkLeft;
-use checks::{Watch, Work};
+use board::{Watch, Work};
 use coding::Fault;
 use folder::Gate;
 use std::sync::atomic::{AtomicBool, AtomicU64, Ordering};
@@ -17,6 +16,17 @@ const PAUSE: u64 = 100;
 
 /// The bytes of a MB.
 const MEGABYTE: u64 = 1_000_000;
+
+/// What a compaction of all levels has left to do.
+#[derive(Clone, Copy)]
+pub struct WorkLeft {
+    /// The level that is compacted next.
+    pub level: u64,
+    /// About how many steps are left.
+    pub steps: u64,
+    /// How many bytes the files above the bottom have together.
+    pub bytes: u64,
+}
 
 /// A line that tells how far long work is. It is rewritten in place, and erased when the work ends.
 /// If it can't be written, nothing else changes.

@@ -1,7 +1,7 @@
 //! The refusal of a folder whose newest writes are only in a log.
 
-use crate::amounts::grouped;
-use crate::folder_refusal::path_in;
+use crate::amount_texts::grouped;
+use crate::folder_names::path_in;
 use crate::logs::{Log, logs_with_writes};
 use crate::refusal::{Refusal, RefusalText};
 use coding::{Fault, FaultName};

@@ -1,7 +1,7 @@
 //! What is told of a file that is missing since another program changed the folder meanwhile.
 
 use crate::explanations::Words;
-use crate::folder_refusal::path_in;
+use crate::folder_names::path_in;
 use crate::opened_folder::refused_at;
 use crate::refusal::{Refusal, RefusalText, told};
 use crate::reporter::Telling;
@@ -13,13 +13,6 @@ use std::alloc::Global;
 /// What is told of CURRENT if it names another manifest than before.
 const REPLACED: Words = Words {
     wrong: "it names another manifest by now: another program has changed the database meanwhile",
-    remedy: "run it again",
-};
-
-/// What is told of a folder in which a file was missing, and none is when it is read again.
-const FOUND_AGAIN: Words = Words {
-    wrong: "a file was missing, and none is by now: another program has changed the database \
-        meanwhile",
     remedy: "run it again",
 };
 
@@ -78,9 +71,4 @@ fn is_replaced<R: SystemFiles + AllocGlobal>(rt: &R, path: &str, manifest: u64) 
         },
         _ => false,
     }
-}
-
-/// What is told of a folder in which a file was missing, and none is when it is read again.
-pub fn found_again(alloc: Global, path: &str) -> Option<RefusalText> {
-    told(alloc, path, FOUND_AGAIN)
 }

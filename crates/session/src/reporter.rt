@@ -2,8 +2,8 @@
 
 ghost use Rattle.std.specs.Prelude.{◌≡◌, false, IfSome};
 
-use crate::amounts::grouped;
-use crate::folder_refusal::path_in;
+use crate::amount_texts::grouped;
+use crate::folder_names::path_in;
 use crate::logs::{Log, logs_with_writes, replaceable_files};
 use coding::{Fault, FaultName};
 use edit::Version;

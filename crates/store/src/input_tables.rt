@@ -9,7 +9,8 @@ ghost use Rattle.folder.specs.Reports.{OnlyReads, ReportsDevice};
 ghost use Rattle.install.specs.Install.{tables_in};
 ghost use Rattle.store.specs.InputsCompaction.{are_stated, input_numbers, input_tables};
 
-use checks::{HeldTables, SharedComparator, Watch, Workers, check_tables};
+use board::Watch;
+use checks::{HeldTables, SharedComparator, Workers, check_tables};
 use compact::matches_metadata;
 use folder::{Comparator, Fault, FaultName, Folder, load_numbers};
 use pick::InputFile;

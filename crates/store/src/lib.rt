@@ -77,7 +77,8 @@ mod version_sync;
 
 pub use all_levels::{compact_all, compact_levels};
 pub use answered_steps::outcome_step;
-pub use checks::{Open, Watch, Work, checkers};
+pub use board::{Watch, Work};
+pub use checks::{Open, checkers};
 pub use clean_watch::CleanWatch;
 pub use cleaned_levels::{compact_all_and_clean, compact_and_clean};
 pub use compact::{DeletedFile, Settings};

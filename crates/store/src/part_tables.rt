@@ -18,7 +18,8 @@ use crate::level_part::LevelPart;
 use crate::part_choice::{part_inputs, sets_internal_key, version_is_state};
 use crate::part_laws::parts_in_order;
 use crate::version_files::test_files;
-use checks::{HeldTables, SharedComparator, Watch, Work, Workers, checked_tables};
+use board::{Watch, Work};
+use checks::{HeldTables, SharedComparator, Workers, checked_tables};
 use folder::{Fault, ReadsTables, Version};
 use std::thread::Threads;
 

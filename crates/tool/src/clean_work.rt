@@ -6,9 +6,10 @@ use disk::{Disk, SystemFiles};
 use folder::{Fault, FaultName, Opened, Version};
 use install::{RemovalWatch, remove_obsolete};
 use queries::{UnneededFiles, unneeded_files};
+use refusals::explained;
 use session::{
-    Host, Refusal, RefusalText, Telling, begin_in, begin_work, explained, locked_to_change,
-    locked_to_read, open_in, print_lines, refused_at, sizes_tested, tell_time,
+    Host, Refusal, RefusalText, Telling, begin_in, begin_work, locked_to_change, locked_to_read,
+    open_in, print_lines, refused_at, sizes_tested, tell_time,
 };
 use std::alloc::Global;
 use std::time::Clock;

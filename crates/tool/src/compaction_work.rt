@@ -8,9 +8,10 @@ use crate::version_sync::sync;
 use disk::{Disk, SystemFiles};
 use folder::{Bytewise, Fault, FaultName, Opened, Version};
 use levels::{compact_level, compact_whole_levels};
+use refusals::compaction_explained;
 use session::{
-    Host, LAST_LEVEL, ProgressLine, Refusal, Telling, begin_in, bytes_of, compaction_explained,
-    locked_to_change, refused_at, sizes_tested,
+    Host, LAST_LEVEL, ProgressLine, Refusal, Telling, begin_in, bytes_of, locked_to_change,
+    refused_at, sizes_tested,
 };
 use std::alloc::Global;
 use store::{

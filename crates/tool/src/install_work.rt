@@ -8,9 +8,9 @@ use crate::step_printer::{print_step_lines, unprinted};
 use crate::version_sync::sync;
 use disk::Disk;
 use folder::Version;
+use refusals::explained;
 use session::{
-    Beginning, Host, Refusal, Telling, begin_in, explained, locked_to_change, sizes_tested,
-    tell_time,
+    Beginning, Host, Refusal, Telling, begin_in, locked_to_change, sizes_tested, tell_time,
 };
 use store::{CompactionStep, SyncedVersion};
 use usage::{InstallLine, Levels};

@@ -2,10 +2,8 @@
 
 use disk::Disk;
 use folder::Fault;
-use session::{
-    Host, Refusal, Telling, begin_work, compaction_explained, print_lines, refused_opened,
-    tell_time,
-};
+use refusals::compaction_explained;
+use session::{Host, Refusal, Telling, begin_work, print_lines, refused_opened, tell_time};
 use std::alloc::Global;
 use store::{Inputs, files_to_compact, parts_to_compact};
 use usage::{JobLine, Settings};

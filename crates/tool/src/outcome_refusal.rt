@@ -3,10 +3,8 @@
 use crate::compaction_notes::outcome_edit;
 use disk::Disk;
 use folder::{Fault, FaultName, Order, VersionEdit};
-use session::{
-    Detail, Host, Refusal, RefusalText, RefusedFile, Telling, Words, compaction_explained,
-    deleted_files, of_file, path_in, refused_outcome, told,
-};
+use refusals::{Detail, RefusedFile, compaction_explained, refused_outcome};
+use session::{Host, Refusal, RefusalText, Telling, Words, deleted_files, of_file, path_in, told};
 use std::alloc::Global;
 use store::{EDIT, SyncedVersion, manifest_of};
 use usage::{InstallLine, Settings};

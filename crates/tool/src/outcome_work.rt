@@ -6,9 +6,10 @@ use crate::step_printer::tell_step;
 use answers::{CompactionEnd, compaction_json, compaction_lines, json_line};
 use disk::Disk;
 use folder::{FaultName, Opened};
+use refusals::compaction_explained;
 use session::{
-    Host, ProgressLine, Refusal, RefusalText, Telling, Words, begin_work, bytes_of,
-    compaction_explained, in_words, print_lines, refused_opened, sizes_tested, told,
+    Host, ProgressLine, Refusal, RefusalText, Telling, Words, begin_work, bytes_of, in_words,
+    print_lines, refused_opened, sizes_tested, told,
 };
 use std::alloc::Global;
 use store::{

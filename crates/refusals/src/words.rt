@@ -1,136 +1,11 @@
-//! What is told of the refusal of a command on a folder.
+//! What is told of a refused file of a folder.
 
 use crate::detail::Detail;
-use crate::explanations::{NO_FOLDER, Words, of_file};
-use crate::host::Host;
-use crate::refusal::{Refusal, RefusalText, told};
 use crate::refused_files::RefusedFile;
-use crate::replaced_folder::found_again;
-use crate::reporter::Telling;
-use crate::settings_refusal::settings_refusal;
-use crate::version_diagnosis::refused_file;
 use coding::FaultName;
-use compact::Settings;
-use disk::{Disk, SystemFiles};
-use folder::CURRENT;
+use session::{RefusalText, Words, of_file, path_in, told};
 use std::alloc::Global;
-use std::io::ErrorKind;
-use std::{fs, io};
 use texts::text_of;
-
-/// The refusal of a command on a folder, with what is told of it: the first file that is refused
-/// so, for which the folder is read again. The name is told before, on the standard error. The
-/// folder isn't read after Locked, Changed, Device and Memory, nor if it is known already what is
-/// told, or nothing is.
-pub fn explained<R: Host>(rt: &R, telling: Telling<'_>, refusal: Refusal) -> Refusal {
-    if refusal.is_silent || refusal.told.is_some() || is_of_no_file(refusal.fault.name) {
-        return refusal;
-    }
-    let mut refusal = refusal;
-    refusal.tell_name(rt);
-    let told = file_found(rt, telling, refusal.fault.name);
-    refusal.telling(told)
-}
-
-/// The same of a compaction: a refusal of what was asked for is told without reading. The `level`
-/// is None if all were asked for.
-pub fn compaction_explained<R: Host>(
-    rt: &R,
-    telling: Telling<'_>,
-    level: Option<u64>,
-    settings: &Settings<'_>,
-    refusal: Refusal,
-) -> Refusal {
-    if refusal.told.is_some() {
-        return refusal;
-    }
-    let name = refusal.fault.name;
-    match settings_refusal(rt.alloc(), telling.folder, level, settings, name) {
-        None => explained(rt, telling, refusal),
-        told => refusal.telling(told),
-    }
-}
-
-/// The refusal of work for which some tables of the folder at a path are read. Which one it is
-/// about isn't looked for, since that takes all of them.
-pub fn table_explained(alloc: Global, folder: &str, refusal: Refusal) -> Refusal {
-    if refusal.told.is_some() || is_of_no_file(refusal.fault.name) {
-        return refusal;
-    }
-    let wrong = of_file(refusal.fault.name).wrong;
-    let wrong = format!(in alloc; "of a table, {wrong}");
-    let told = RefusalText::new(alloc, folder, wrong, "verify tells of which");
-    Refusal::new(refusal.fault, told)
-}
-
-/// Whether a refusal of this name is about no file that can be found.
-fn is_of_no_file(name: FaultName) -> bool {
-    matches!(
-        name,
-        FaultName::Locked | FaultName::Changed | FaultName::Device | FaultName::Memory
-    )
-}
-
-/// What is told of the folder's first file that is refused by this name. None if there is none, or
-/// if it can't be found. That none is missing any more is told.
-fn file_found<R: Host>(rt: &R, telling: Telling<'_>, name: FaultName) -> Option<RefusalText> {
-    let folder = telling.folder;
-    let mut disk = Disk::new(rt, folder);
-    match refused_file(rt, rt.alloc(), &mut disk, name, telling.memory) {
-        Ok(Some(file)) if is_no_database(&file) => no_database(rt, folder),
-        Ok(Some(file)) if is_refused_so(&file, name) => file_refusal(rt.alloc(), folder, &file),
-        Ok(_) if name == FaultName::Missing => found_again(rt.alloc(), folder),
-        _ => None,
-    }
-}
-
-/// Whether CURRENT is missing.
-fn is_no_database(file: &RefusedFile) -> bool {
-    file.fault.name == FaultName::Missing && file.name.as_str() == CURRENT
-}
-
-/// What is told of a folder without a CURRENT.
-pub fn no_database<R: SystemFiles + AllocGlobal>(rt: &R, folder: &str) -> Option<RefusalText> {
-    let alloc = rt.alloc();
-    match has_manifest(rt, folder) {
-        Ok(true) => {
-            let words = Words {
-                wrong: "it is missing, and the folder has a manifest: the database is damaged",
-                remedy: "restore the folder from a copy, or have LevelDB repair it",
-            };
-            told(alloc, path_in(alloc, folder, CURRENT)?.as_str(), words)
-        }
-        Err(error) if error.kind() == ErrorKind::NotFound => { told(alloc, folder, NO_FOLDER) }
-        _ => {
-            let words = Words {
-                wrong: "this folder holds no LevelDB database: it has no CURRENT",
-                remedy: "give the folder of a database",
-            };
-            told(alloc, folder, words)
-        }
-    }
-}
-
-/// Whether a folder has a file with the name of a manifest.
-fn has_manifest<R: SystemFiles + AllocGlobal>(rt: &R, folder: &str) -> io::Result<bool> {
-    for entry in fs::read_dir(&rt, folder)? {
-        if entry?.file_name().starts_with("MANIFEST-") {
-            return Ok(true);
-        }
-    }
-    Ok(false)
-}
-
-/// Whether a file is why work is refused by this name: that the version is unlawful is told of an
-/// input as Bounds.
-fn is_refused_so(file: &RefusedFile, name: FaultName) -> bool {
-    match &file.detail {
-        Some(Detail::Size { .. } | Detail::Smallest | Detail::Largest) => {
-            name == FaultName::Lawless || name == FaultName::Bounds
-        }
-        _ => file.fault.name == name,
-    }
-}
 
 /// What is told of a refused file of a folder.
 pub fn file_refusal(alloc: Global, folder: &str, file: &RefusedFile) -> Option<RefusalText> {
@@ -142,15 +17,6 @@ pub fn file_refusal(alloc: Global, folder: &str, file: &RefusedFile) -> Option<R
             told(alloc, path, of_missing(file.name.as_str()))
         }
         None => told(alloc, path, of_file(file.fault.name)),
-    }
-}
-
-/// The path of a folder's file.
-pub fn path_in(alloc: Global, folder: &str, name: &str) -> Option<String> {
-    if folder.ends_with('/') {
-        format!(in alloc; "{folder}{name}").ok()
-    } else {
-        format!(in alloc; "{folder}/{name}").ok()
     }
 }
 

@@ -2,7 +2,7 @@
 //! of a file that is too large to be read.
 
 use crate::explanations::{Words, of_file};
-use crate::folder_refusal::path_in;
+use crate::folder_names::path_in;
 use crate::refusal::{Refusal, RefusalText, told};
 use crate::replaced_folder::replaced_refusal;
 use coding::{Fault, FaultName};

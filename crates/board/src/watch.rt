@@ -1,6 +1,6 @@
 //! Who watches long work on a folder.
 
-use board::{Gate, Open};
+use crate::labour::{Gate, Open};
 
 /// Long work in jobs, in two parts.
 #[derive(Clone, Copy, PartialEq, Eq)]

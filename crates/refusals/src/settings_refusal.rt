@@ -1,10 +1,10 @@
 //! What is told if a compaction is refused for what was asked for.
 
-use crate::refusal::RefusalText;
 use coding::FaultName;
 use compact::{MAX_SNAPSHOTS, Settings, Snapshots};
 use folder::MAX_WORKERS;
 use ikey::MAX_SEQUENCE;
+use session::RefusalText;
 use split::MAX_RANGES;
 use std::alloc::Global;
 use table::{MAX_BLOCK_SIZE, MAX_TABLE_LEN};

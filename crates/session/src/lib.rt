@@ -47,6 +47,7 @@ mod reporter;
 mod settings_refusal;
 mod table_file;
 mod table_sizes;
+mod unneeded_files;
 mod version_diagnosis;
 mod work_left;
 
@@ -81,5 +82,6 @@ pub use replayed_logs::replayed_log;
 pub use reporter::{Beginning, Telling, tell_time};
 pub use table_file::table_file_name;
 pub use table_sizes::{bytes_of_files, sizes_tested, too_large};
+pub use unneeded_files::{UnneededFiles, unneeded_files};
 pub use version_diagnosis::refused_file;
 pub use work_left::WorkLeft;

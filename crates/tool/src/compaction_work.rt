@@ -32,7 +32,7 @@ pub(crate) struct CompactionTask<'t> {
 
 /// Compacts a level of a folder, or all of them one after the other. The folder is locked before
 /// anything is read of it. What it was opened as is synced once, so that it outlives a crash.
-pub(crate) fn compact_folder<R: Host>(
+pub fn compact_folder<R: Host>(
     rt: &R,
     telling: Telling<'_>,
     line: &CompactLine<'_>,

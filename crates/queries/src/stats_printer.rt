@@ -6,8 +6,7 @@ use install::Opened;
 use scan::{FileTotal, VersionStats, version_stats};
 use session::{
     Disk, Host, ProgressLine, Refusal, Telling, begin_work, bytes_of, explained, locked_to_read,
-    logs_with_writes, print_lines, refused_opened, sizes_tested, tell_time,
-    unneeded_files,
+    logs_with_writes, print_lines, refused_opened, sizes_tested, tell_time, unneeded_files,
 };
 use std::rt::Files;
 use usage::StatsLine;

@@ -4,9 +4,7 @@ use crate::clean_work::RemovalPrinter;
 use crate::step_printer::StepPrinter;
 use folder::{Disk, Fault, FaultName, Opened, SystemFiles, Version};
 use install::RemovalWatch;
-use session::{
-    Host, ProgressLine, Refusal, UnneededFiles, open_in, sizes_tested, unneeded_files,
-};
+use session::{Host, ProgressLine, Refusal, UnneededFiles, open_in, sizes_tested, unneeded_files};
 use store::{CleanWatch, CompactionStep, InstallWatch};
 
 /// Who prints the steps of a compaction of all levels, lists the files that may be removed after

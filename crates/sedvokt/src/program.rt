@@ -163,18 +163,13 @@ fn subject<'a>(line: &Line<'a>) -> &'a str {
 /// What is to be told of the work that a command line asks for.
 fn telling_of<'a>(asked: &CommandLine<'a>, is_watched: bool) -> Telling<'a> {
     let line = &asked.line;
-    let is_quiet = asked.verbosity == Verbosity::Quiet;
     Telling {
         folder: subject(line),
-        is_quiet,
+        is_quiet: asked.verbosity == Verbosity::Quiet,
         is_verbose: asked.verbosity == Verbosity::Verbose,
         is_watched,
         ignores_lock: asked.ignores_lock,
         refuses_logs: asked.refuses_logs,
-        is_explaining: match line {
-            Line::Compact(line) => line.options.explains && !is_quiet,
-            _ => false,
-        },
         memory: bytes_of(memory_of(line)),
     }
 }

@@ -65,9 +65,9 @@ impl<'t, R: Host> InstallWatch for CleanPrinter<'t, R> {
         level: u64,
         step: &CompactionStep,
         before: &Version,
-        after: Option<&Version>,
+        _after: Option<&Version>,
     ) -> bool {
-        self.steps.print_installed(level, step, before, after)
+        self.steps.print_installed(level, step, before)
     }
 }
 

@@ -338,7 +338,7 @@ pub(crate) const COMPACT: Description<'static> = Description {
     examples: "Prints a line a file: output NUMBER BYTES, or deleted LEVEL NUMBER; then the
 manifest that is installed.
 
-Examples: sedvokt compact DIR --level 0 --explain
+Examples: sedvokt compact DIR --level 0
           sedvokt compact DIR --level 1 --whole
           sedvokt compact DIR --all --snapshots 900,1151 --clean
           sedvokt compact DIR --all --whole
@@ -392,11 +392,6 @@ Examples: sedvokt compact DIR --level 0 --explain
             "Into at most how many ranges of user keys it is\n\
                 split: 1 to 4096; 8 if it is left out",
         ),
-        Argument::Flag(
-            "explain",
-            "Tells on standard error how each compaction went:\n\
-                inputs, ranges, what was kept and dropped, outputs",
-        ),
         SNAPSHOT,
         SNAPSHOTS,
         Argument::Number(
@@ -419,20 +414,16 @@ Examples: sedvokt compact DIR --level 0 --explain
         Rule::AtMostOne("whole or out", &["whole", "out"]),
         Rule::AtMostOne("whole or part", &["whole", "part"]),
         Rule::AtMostOne("whole or number", &["whole", "first-number"]),
-        Rule::AtMostOne("whole or account", &["whole", "explain"]),
         Rule::AtMostOne("whole or trust", &["whole", "no-verify"]),
         Rule::AtMostOne("out or all", &["out", "all"]),
         Rule::AtMostOne("out or clean", &["out", "clean"]),
-        Rule::AtMostOne("out or account", &["out", "explain"]),
         // `clap` lets an option go without the one that it needs if something excludes that one.
         Rule::Needs("number", "first-number", "out"),
         Rule::Needs("one part", "part", "out"),
         Rule::AtMostOne("part or all", &["part", "all"]),
         Rule::AtMostOne("part or clean", &["part", "clean"]),
-        Rule::AtMostOne("part or account", &["part", "explain"]),
         Rule::AtMostOne("number or all", &["first-number", "all"]),
         Rule::AtMostOne("number or clean", &["first-number", "clean"]),
-        Rule::AtMostOne("number or account", &["first-number", "explain"]),
         SNAPSHOT_RULE,
     ],
 };

@@ -290,9 +290,6 @@ pub struct CompactOptions<'a> {
     pub work: CompactWork<'a>,
     /// How the version is tested before.
     pub testing: Testing,
-    /// Whether the account of the compaction is told on the standard error: inputs, ranges, kept
-    /// and dropped entries, outputs.
-    pub explains: bool,
     /// Whether its lines are JSON.
     pub is_json: bool,
     /// Whether files that no version needs are removed after each installation.

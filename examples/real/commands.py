@@ -258,7 +258,7 @@ class Commands:
         lines = self.lines("compact", here, *which, "--workers", "1", "--ranges", "1")
         self.same("install", self.lines("install", elsewhere, outcome), lines)
         self.same("install", files_of(elsewhere) == files_of(here), True)
-        self.lines("compact", cleaned, *which, "--clean", "--explain")
+        self.lines("compact", cleaned, *which, "--clean")
         shown = self.lines("clean", here, "--dry-run")
         wanted = [it.replace("removable", "removed") for it in shown]
         self.same("clean", self.lines("clean", here), wanted)

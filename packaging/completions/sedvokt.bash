@@ -45,7 +45,7 @@ _sedvokt() {
     files) words='--json --no-lock' ;;
     compact)
         words='--level --all --whole --out --part --first-number --no-verify --no-logs --memory'
-        words="$words --workers --ranges --explain --snapshot --snapshots --block-size --file-size --clean"
+        words="$words --workers --ranges --snapshot --snapshots --block-size --file-size --clean"
         words="$words --json"
         ;;
     clean) words='--dry-run' ;;

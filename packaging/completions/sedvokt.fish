@@ -76,7 +76,6 @@ complete -c sedvokt -n $compact -l part -x -d 'The number of a part of the level
 complete -c sedvokt -n $compact -l first-number -x -d 'The number of the first new table'
 complete -c sedvokt -n $compact -l workers -x -d 'How many workers do it, 1 to 64'
 complete -c sedvokt -n $compact -l ranges -x -d 'At most how many ranges of keys, 1 to 4096'
-complete -c sedvokt -n $compact -l explain -d 'Tell how each compaction went, with bars'
 complete -c sedvokt -n $installs -l snapshot -x -d 'The oldest snapshot that stays'
 complete -c sedvokt -n $installs -l snapshots -x -d 'The snapshots that stay, as 3,7,9'
 complete -c sedvokt -n $compact -l block-size -x -d 'Bytes at which a block ends'

@@ -136,8 +136,6 @@ class Commands:
         line = f"lawful: {len(files)} files, {found['entries']} entries"
         self.same("verify", self.lines("verify", folder), [line])
         self.same("faults", self.lines("verify", folder, "--all-faults"), ["faults: 0"])
-        quick = f"quick: {len(files)} files, no data block read"
-        self.same("quick", self.lines("verify", folder, "--quick", "--no-logs"), [quick])
         levels = self.objects("stats", folder)[0]["levels"]
         self.same("stats", sum(it["entries"] for it in levels), found["entries"])
         self.same("stats", sum(it["bytes"] for it in levels), sum(it["size"] for it in files))

@@ -31,7 +31,7 @@ _sedvokt() {
     esac
     case ${COMP_WORDS[at]} in
     stats) words='--text --json --memory --no-logs --no-lock' ;;
-    verify) words='--table --json --all-faults --quick --memory --no-logs --no-lock' ;;
+    verify) words='--table --json --all-faults --memory --no-logs --no-lock' ;;
     get)
         words='--stdin --at --text --utf8 --raw --json --no-verify --memory --no-logs --no-lock'
         ;;

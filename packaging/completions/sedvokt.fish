@@ -39,7 +39,6 @@ complete -c sedvokt -n "__fish_seen_subcommand_from $readers files compact" \
 complete -c sedvokt -n '__fish_seen_subcommand_from verify' -l table -r -F -d 'Test a table alone'
 complete -c sedvokt -n '__fish_seen_subcommand_from verify' -l all-faults \
     -d 'Print what is wrong with each file'
-complete -c sedvokt -n '__fish_seen_subcommand_from verify' -l quick -d 'Read no data block'
 complete -c sedvokt -n '__fish_seen_subcommand_from get' -l raw -d 'Print the bytes themselves'
 complete -c sedvokt -n '__fish_seen_subcommand_from scan' -l from -x -d 'The first key'
 complete -c sedvokt -n '__fish_seen_subcommand_from scan' -l to -x -d 'The key before which to end'

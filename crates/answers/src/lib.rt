@@ -53,7 +53,7 @@ pub use fault_lines::{fault_count_line, file_fault_line, key_fault_line};
 pub use folder_commands::{answer_opened, get_dir, manifest, manifest_lines, verify};
 pub use history_lines::{EntryPlace, entry_json, entry_line};
 pub use json_answers::{
-    count_json, lawful_json, logs_json, name_json, quick_json, removed_json, valid_json, value_json,
+    count_json, lawful_json, logs_json, name_json, removed_json, valid_json, value_json,
 };
 pub use json_compaction::compaction_json;
 pub use json_refusal::{Told, refusal_json};
@@ -70,4 +70,4 @@ pub use table_dump::dump;
 pub use table_verdict::{table_entries, verify_table};
 pub use unverified_get::unverified_value;
 pub use value_forms::{push_named_value, value_answer, value_lines_law};
-pub use version_verdict::{quick_line, test_opened};
+pub use version_verdict::test_opened;

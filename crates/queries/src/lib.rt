@@ -10,7 +10,6 @@ mod folder_work;
 mod history_printer;
 mod input_keys;
 mod needed_files;
-mod quick_verdict;
 mod read_work;
 mod row_printer;
 mod stats_printer;

@@ -154,7 +154,6 @@ pub(crate) const VERIFY: Description<'static> = Description {
     examples: "Prints, as an example, lawful: 4 files, 596 entries
 
 Examples: sedvokt verify DIR
-          sedvokt verify DIR --quick
           sedvokt verify DIR --all-faults
           sedvokt verify --table DIR/000005.ldb",
     arguments: &[
@@ -169,11 +168,6 @@ Examples: sedvokt verify DIR
             "all-faults",
             "Prints what is wrong with each file, and goes on",
         ),
-        Argument::Flag(
-            "quick",
-            "Tests the manifest, and of each table its length,\n\
-                footer and index; reads no data block",
-        ),
         Argument::Memory,
         NO_LOGS,
         NO_LOCK,
@@ -181,10 +175,7 @@ Examples: sedvokt verify DIR
     rules: &[
         Rule::One("tested", &["DIR", "table"]),
         Rule::AtMostOne("form", &["json", "all-faults"]),
-        Rule::AtMostOne("quick or faults", &["quick", "all-faults"]),
-        Rule::AtMostOne("quick or memory", &["quick", "memory"]),
         Rule::AtMostOne("table or faults", &["table", "all-faults"]),
-        Rule::AtMostOne("table or quick", &["table", "quick"]),
         Rule::AtMostOne("table or memory", &["table", "memory"]),
         Rule::AtMostOne("table or logs", &["table", "no-logs"]),
         Rule::AtMostOne("table or lock", &["table", "no-lock"]),

@@ -115,8 +115,6 @@ pub struct VerifyLine<'a> {
     pub folder: &'a str,
     /// What is printed.
     pub form: VerdictForm,
-    /// Whether no data block is read. Then not all faults are printed.
-    pub is_quick: bool,
     /// How many MiB of tables the test may hold, 1 to 2^24.
     pub memory: u64,
 }

@@ -29,6 +29,7 @@ mod folder_names;
 mod folder_refusal;
 mod host;
 mod key_sequences;
+mod listed_files;
 mod logs;
 mod manifest_diagnosis;
 mod manifest_notes;
@@ -47,7 +48,6 @@ mod reporter;
 mod settings_refusal;
 mod table_file;
 mod table_sizes;
-mod unneeded_files;
 mod version_diagnosis;
 mod work_left;
 
@@ -66,6 +66,7 @@ pub use folder_names::names_in;
 pub use folder_refusal::{compaction_explained, explained, file_refusal, path_in, table_explained};
 pub use host::Host;
 pub use ikey::MAX_USER_KEY;
+pub use listed_files::{UnneededFiles, unneeded_files};
 pub use logs::{Log, logs_with_writes};
 pub use opened_folder::{
     OpenedFolder, begin_counted, begin_in, begin_work, bytes_of, open_folder, open_in, print_lines,
@@ -82,6 +83,5 @@ pub use replayed_logs::replayed_log;
 pub use reporter::{Beginning, Telling, tell_time};
 pub use table_file::table_file_name;
 pub use table_sizes::{bytes_of_files, sizes_tested, too_large};
-pub use unneeded_files::{UnneededFiles, unneeded_files};
 pub use version_diagnosis::refused_file;
 pub use work_left::WorkLeft;

@@ -28,11 +28,8 @@ MEMORY = re.compile(
 )
 DEVICE = re.compile(r"sedvokt: .+")
 
-# What is told in place of the bars of --explain, or of the logs.
-INSTEAD = re.compile(
-    r"compacted, but not explained: .*|"
-    r"sedvokt: .*: its files cannot be listed; there may be logs with writes"
-)
+# What is told in place of the logs.
+INSTEAD = re.compile(r"sedvokt: .*: its files cannot be listed; there may be logs with writes")
 
 TIME = re.compile(r"\b\d+ ms$", re.MULTILINE)
 PROGRESS = re.compile(r"\r[^\r\n]*\x1b\[K")

@@ -136,8 +136,6 @@ class Commands:
         line = f"lawful: {len(files)} files, {found['entries']} entries"
         self.same("verify", self.lines("verify", folder), [line])
         self.same("faults", self.lines("verify", folder, "--all-faults"), ["faults: 0"])
-        quick = f"quick: {len(files)} files, no data block read"
-        self.same("quick", self.lines("verify", folder, "--quick", "--no-logs"), [quick])
         levels = self.objects("stats", folder)[0]["levels"]
         self.same("stats", sum(it["entries"] for it in levels), found["entries"])
         self.same("stats", sum(it["bytes"] for it in levels), sum(it["size"] for it in files))
@@ -258,7 +256,7 @@ class Commands:
         lines = self.lines("compact", here, *which, "--workers", "1", "--ranges", "1")
         self.same("install", self.lines("install", elsewhere, outcome), lines)
         self.same("install", files_of(elsewhere) == files_of(here), True)
-        self.lines("compact", cleaned, *which, "--clean", "--explain")
+        self.lines("compact", cleaned, *which, "--clean")
         shown = self.lines("clean", here, "--dry-run")
         wanted = [it.replace("removable", "removed") for it in shown]
         self.same("clean", self.lines("clean", here), wanted)

@@ -31,7 +31,7 @@ _sedvokt() {
     esac
     case ${COMP_WORDS[at]} in
     stats) words='--text --json --memory --no-logs --no-lock' ;;
-    verify) words='--table --json --all-faults --quick --memory --no-logs --no-lock' ;;
+    verify) words='--table --json --all-faults --memory --no-logs --no-lock' ;;
     get)
         words='--stdin --at --text --utf8 --raw --json --no-verify --memory --no-logs --no-lock'
         ;;
@@ -45,7 +45,7 @@ _sedvokt() {
     files) words='--json --no-lock' ;;
     compact)
         words='--level --all --whole --out --part --first-number --no-verify --no-logs --memory'
-        words="$words --workers --ranges --explain --snapshot --snapshots --block-size --file-size --clean"
+        words="$words --workers --ranges --snapshot --snapshots --block-size --file-size --clean"
         words="$words --json"
         ;;
     clean) words='--dry-run' ;;

@@ -39,7 +39,6 @@ complete -c sedvokt -n "__fish_seen_subcommand_from $readers files compact" \
 complete -c sedvokt -n '__fish_seen_subcommand_from verify' -l table -r -F -d 'Test a table alone'
 complete -c sedvokt -n '__fish_seen_subcommand_from verify' -l all-faults \
     -d 'Print what is wrong with each file'
-complete -c sedvokt -n '__fish_seen_subcommand_from verify' -l quick -d 'Read no data block'
 complete -c sedvokt -n '__fish_seen_subcommand_from get' -l raw -d 'Print the bytes themselves'
 complete -c sedvokt -n '__fish_seen_subcommand_from scan' -l from -x -d 'The first key'
 complete -c sedvokt -n '__fish_seen_subcommand_from scan' -l to -x -d 'The key before which to end'
@@ -76,7 +75,6 @@ complete -c sedvokt -n $compact -l part -x -d 'The number of a part of the level
 complete -c sedvokt -n $compact -l first-number -x -d 'The number of the first new table'
 complete -c sedvokt -n $compact -l workers -x -d 'How many workers do it, 1 to 64'
 complete -c sedvokt -n $compact -l ranges -x -d 'At most how many ranges of keys, 1 to 4096'
-complete -c sedvokt -n $compact -l explain -d 'Tell how each compaction went, with bars'
 complete -c sedvokt -n $installs -l snapshot -x -d 'The oldest snapshot that stays'
 complete -c sedvokt -n $installs -l snapshots -x -d 'The snapshots that stay, as 3,7,9'
 complete -c sedvokt -n $compact -l block-size -x -d 'Bytes at which a block ends'

@@ -41,10 +41,6 @@ abbrev pub lawful_line : ℕ → ℕ → List ℕ
 lawful_line files entries = codes "lawful: " ++ (decimal files ++ (codes " files, "
     ++ (decimal entries ++ codes " entries\n")))
 
--- `quick: F files, no data block read`
-abbrev pub quick_line : ℕ → List ℕ
-quick_line files = codes "quick: " ++ (decimal files ++ codes " files, no data block read\n")
-
 -- that line for tables, one for each file of a version
 abbrev pub verified_line : List NumberedContents → List ℕ
 verified_line tables = lawful_line (length tables) (entry_count tables)

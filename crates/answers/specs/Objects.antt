@@ -59,12 +59,6 @@ lawful_object files entries logs = object (member (codes "entries") (number (uns
     (member (codes "lawful") (boolean true)
     (member (codes "logs") (logs_data logs) no_members))))
 
--- `{"files":F,"logs":N,"quick":true}`
-abbrev pub quick_object : ℕ → Option ℕ → Data
-quick_object files logs = object (member (codes "files") (number (unsigned files))
-    (member (codes "logs") (logs_data logs)
-    (member (codes "quick") (boolean true) no_members)))
-
 -- `{"entries":E,"valid":true}`
 abbrev pub valid_object : ℕ → Data
 valid_object entries = object (member (codes "entries") (number (unsigned entries))

@@ -6,7 +6,7 @@ ghost use Rattle.table.specs.Saturated.{saturated};
 ghost use Rattle.table.specs.Key.{user_of};
 ghost use Rattle.serde_json.specs.View.{view};
 ghost use Rattle.answers.specs.Objects.{count_object, key_data, lawful_object, logs_object};
-ghost use Rattle.answers.specs.Objects.{name_object, quick_object, removed_object, valid_object};
+ghost use Rattle.answers.specs.Objects.{name_object, removed_object, valid_object};
 ghost use Rattle.answers.specs.Objects.{value_object, value_parts};
 
 use crate::json_bytes::{key_json, text_or_null};
@@ -29,14 +29,6 @@ pub fn lawful_json(
 {
     let entries = capped(entries);
     Ok(json!(in alloc; {"entries": entries, "files": files, "lawful": true, "logs": logs})?)
-}
-
-/// The object `{"files":F,"logs":N,"quick":true}` of a version of which no data block was read. So
-/// many `logs` as of a lawful one.
-pub fn quick_json(alloc: Global, files: usize, logs: Option<u64>) -> Result<Value, Fault>
-    ensures { EqualOrMemory view result (Ok (quick_object files logs)) }
-{
-    Ok(json!(in alloc; {"files": files, "logs": logs, "quick": true})?)
 }
 
 /// The object `{"logs":N}` after rows: how many logs have writes that are in no table, null if it

@@ -12,17 +12,14 @@
 //!    are decimal and exact, so a reader needs integers of 64 bits.
 //! 5. Keys and values are written as a [`Spelling`](texts::Spelling) says. [`value_lines_law`] is
 //!    the law of the line of a value.
-//! 6. [`stats_text`] and [`account_text`] are tables and bars for people; [`account_of`] reads the
-//!    numbers of a compaction from the folder, after it was installed. [`refusal_json`] tells of a
-//!    refusal. No contract says what these hold: the cases of the program compare them. [`status`]
-//!    is the status of a refusal.
+//! 6. [`stats_text`] is a table with bars for people. [`refusal_json`] tells of a refusal. No
+//!    contract says what these hold: the cases of the program compare them. [`status`] is the
+//!    status of a refusal.
 //!
 //! No contract says which of these the program calls for a command.
 #![tactic(auto)]
 
-mod account;
 mod bars;
-mod compaction_account;
 mod compaction_end;
 mod counters;
 mod exit_status;
@@ -49,16 +46,14 @@ mod value_forms;
 mod version_text;
 mod version_verdict;
 
-pub use account::{Account, LevelInputs, Output, RangeEntries, account_text};
 pub use checks::{Open, VersionTotals};
-pub use compaction_account::account_of;
 pub use compaction_end::CompactionEnd;
 pub use exit_status::status;
 pub use fault_lines::{fault_count_line, file_fault_line, key_fault_line};
 pub use folder_commands::{answer_opened, get_dir, manifest, manifest_lines, verify};
 pub use history_lines::{EntryPlace, entry_json, entry_line};
 pub use json_answers::{
-    count_json, lawful_json, logs_json, name_json, quick_json, removed_json, valid_json, value_json,
+    count_json, lawful_json, logs_json, name_json, removed_json, valid_json, value_json,
 };
 pub use json_compaction::compaction_json;
 pub use json_refusal::{Told, refusal_json};
@@ -75,4 +70,4 @@ pub use table_dump::dump;
 pub use table_verdict::{table_entries, verify_table};
 pub use unverified_get::unverified_value;
 pub use value_forms::{push_named_value, value_answer, value_lines_law};
-pub use version_verdict::{quick_line, test_opened};
+pub use version_verdict::test_opened;

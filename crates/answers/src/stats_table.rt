@@ -100,7 +100,7 @@ fn push_levels(
         let subject = format!(in alloc; "{level}")?;
         push_amounts(text, widths, subject.as_str(), *amounts, stats.all.bytes)?;
         if amounts.bytes > 0 {
-            let bar = bar(alloc, amounts.bytes, most, "")?;
+            let bar = bar(alloc, amounts.bytes, most)?;
             write!(text, "  {bar}")?;
         }
         text.push('\n')?;

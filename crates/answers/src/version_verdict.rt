@@ -1,4 +1,4 @@
-//! Testing the version of a folder, and the line of a lawful one; that of a quick test.
+//! Testing the version of a folder, and the line of a lawful one.
 
 ghost use Rattle.std.specs.Prelude.{Ok, Some, string_bytes};
 ghost use Rattle.std.specs.Option.{option_map};
@@ -9,7 +9,7 @@ ghost use Rattle.folder.specs.Orders.{order_cmp};
 ghost use Rattle.folder.specs.ReadsAs.{IsFileIn};
 ghost use Rattle.folder.specs.Reports.{OnlyReads, ReportsDevice};
 ghost use Rattle.checks.specs.TestedTables.{IsTested};
-ghost use Rattle.answers.specs.FolderLines.{lawful_line, quick_line};
+ghost use Rattle.answers.specs.FolderLines.{lawful_line};
 
 use board::Watch;
 use checks::{VersionTotals, checkers, test_version};
@@ -64,11 +64,4 @@ fn lawful_text(alloc: Global, files: usize, entries: u128) -> Result<String, Fau
     ensures { EqualOrMemory string_bytes result (Ok (lawful_line files entries)) }
 {
     Ok(format!(in alloc; "lawful: {files} files, {entries} entries\n")?)
-}
-
-/// The line of a version with this many files, of which no data block was read.
-pub fn quick_line(alloc: Global, files: usize) -> Result<String, Fault>
-    ensures { EqualOrMemory string_bytes result (Ok (quick_line files)) }
-{
-    Ok(format!(in alloc; "quick: {files} files, no data block read\n")?)
 }

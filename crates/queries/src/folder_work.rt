@@ -1,7 +1,6 @@
 //! The work on a folder, from its path to what is printed.
 
 use crate::fault_printer::faults_printed;
-use crate::quick_verdict::quick_printed;
 use answers::{
     Question, VersionTotals, answer_opened, json_line, lawful_json, manifest_lines, test_opened,
     version_json,
@@ -42,7 +41,7 @@ fn version_printed<R: Host>(
 }
 
 /// Checks the version of a folder, and prints the line of a lawful one, as JSON if that is asked
-/// for; or all faults of its files; or that no fault is in sight without its data blocks.
+/// for; or all faults of its files.
 pub fn print_verdict<R: Host>(
     rt: &R,
     telling: Telling<'_>,
@@ -51,7 +50,6 @@ pub fn print_verdict<R: Host>(
     let _lock = locked_to_read(rt, telling)?;
     let memory = bytes_of(line.memory);
     let printed = match line.form {
-        _ if line.is_quick => quick_printed(rt, telling, line.form == VerdictForm::Json),
         VerdictForm::Line => verdict_printed(rt, telling, false, memory),
         VerdictForm::Json => verdict_printed(rt, telling, true, memory),
         VerdictForm::AllFaults => faults_printed(rt, telling, memory),

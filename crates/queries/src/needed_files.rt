@@ -106,8 +106,7 @@ fn push_level<R: SystemFiles + AllocGlobal>(
     names: &mut Vec<String>,
 ) -> Result<(), Refusal> {
     for file in files {
-        let table = table_found(rt, path, opened, file.number)?;
-        push(names, table.name)?;
+        push(names, table_found(rt, path, opened, file.number)?)?;
     }
     Ok(())
 }

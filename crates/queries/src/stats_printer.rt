@@ -1,6 +1,5 @@
 //! The statistics of a folder, from its path to what is printed.
 
-use crate::listed_files::unneeded_files;
 use answers::{json_line, stats_json, stats_text};
 use checks::checkers;
 use install::Opened;
@@ -8,7 +7,7 @@ use refusals::explained;
 use scan::{FileTotal, VersionStats, version_stats};
 use session::{
     Disk, Host, ProgressLine, Refusal, Telling, begin_work, bytes_of, locked_to_read,
-    logs_with_writes, print_lines, refused_opened, sizes_tested, tell_time,
+    logs_with_writes, print_lines, refused_opened, sizes_tested, tell_time, unneeded_files,
 };
 use std::rt::Files;
 use usage::StatsLine;

@@ -8,30 +8,21 @@ use std::fs;
 use std::io::ErrorKind;
 use std::rt::Files;
 
-/// The file of a table.
-#[derive(Drop)]
-pub(crate) struct FoundTable {
-    /// The name under which it is there.
-    pub name: String,
-    /// How many bytes it has.
-    pub bytes: u64,
-}
-
-/// The file of the table of a number. Missing if it isn't there.
+/// The name under which the table of a number is there. Missing if it isn't.
 pub(crate) fn table_found<R: SystemFiles + AllocGlobal>(
     rt: &R,
     path: &str,
     opened: &Opened,
     number: u64,
-) -> Result<FoundTable, Refusal> {
+) -> Result<String, Refusal> {
     let mut folder = Disk::new(rt, path);
     let name = match table_file_name(rt.alloc(), &mut folder, number) {
         Ok(name) => name,
         Err(fault) => return Err(refused_opened(rt, path, &folder, opened, fault)),
     };
-    match length_of(rt, path, name.as_str()) {
-        Ok(Some(bytes)) => Ok(FoundTable { name, bytes }),
-        Ok(None) => {
+    match is_there(rt, path, name.as_str()) {
+        Ok(true) => Ok(name),
+        Ok(false) => {
             let missing = RefusedFile {
                 name,
                 fault: Fault::of(FaultName::Missing),
@@ -44,7 +35,7 @@ pub(crate) fn table_found<R: SystemFiles + AllocGlobal>(
 }
 
 /// The refusal of a table. If another program changed the folder meanwhile, that is told.
-pub(crate) fn table_refused<R: SystemFiles + AllocGlobal>(
+fn table_refused<R: SystemFiles + AllocGlobal>(
     rt: &R,
     path: &str,
     folder: &Disk<'_, R>,
@@ -58,18 +49,14 @@ pub(crate) fn table_refused<R: SystemFiles + AllocGlobal>(
     refusal.telling(file_refusal(rt.alloc(), path, table))
 }
 
-/// How many bytes a folder's file has. None if it isn't there. Device if the system doesn't tell it.
-fn length_of<R: Files + AllocGlobal>(
-    rt: &R,
-    folder: &str,
-    name: &str,
-) -> Result<Option<u64>, Refusal> {
+/// Whether a folder's file is there. Device if the system doesn't tell it.
+fn is_there<R: Files + AllocGlobal>(rt: &R, folder: &str, name: &str) -> Result<bool, Refusal> {
     let Some(path) = path_in(rt.alloc(), folder, name) else {
         return Err(Fault::of(FaultName::Memory).into());
     };
     match fs::metadata(rt, path.as_str()) {
-        Ok(metadata) => Ok(Some(metadata.len())),
-        Err(error) if error.kind() == ErrorKind::NotFound => Ok(None),
+        Ok(_) => Ok(true),
+        Err(error) if error.kind() == ErrorKind::NotFound => Ok(false),
         Err(error) => {
             Err(Refusal::of_call(rt.alloc(), path.as_str(), "read its length", &error))
         }

@@ -110,14 +110,6 @@ head_of cmp bytes value (i ∷ is) named first = record {
   others = named.1;
 }
 
--- what its first entry is
-pub first_names : (cmp : List ℕ → List ℕ → Ordering) (bytes key value : List ℕ) (index : List Entry) → AllByRecursion (NamesBlock cmp bytes) index → option_map (λ e. e.key) (slice_get index 0) ≡ Some key → option_map (λ e. e.value) (slice_get index 0) ≡ Some value
-    → NamesBlock cmp bytes (record { key = key; value = value })
-first_names cmp bytes key value [] named first also = absurd (none-some key first)
-first_names cmp bytes key value (i ∷ is) named first also =
-    subst (λ (k : List ℕ). NamesBlock cmp bytes (record { key = k; value = value })) (same_Some i.key key first)
-    (subst (λ (v : List ℕ). NamesBlock cmp bytes (record { key = i.key; value = v })) (same_Some i.value value also) named.0)
-
 -- nothing is found in it
 pub goes_on : (cmp : List ℕ → List ℕ → Ordering) (bytes target value : List ℕ) (start index after : List Entry) (found : Option Entry) → Ahead cmp bytes target start index → (h : Head cmp bytes value index)
     → found ≡ slice_get (entries_from cmp target h.entries) 0 → found ≡ None → after ≡ drop 1 index → Ahead cmp bytes target start after

@@ -16,7 +16,6 @@
 //!    [`reads::get`] if the version is lawful with the tables, and it doesn't test that.
 //! 6. [`key_history`] finds all entries of a user key in a version, the newest first, each a
 //!    [`PlacedEntry`]; [`entries_in_file`] those of one table, each an [`OwnedEntry`].
-//! 7. [`test_index`] tests a table by its length, footer and index.
 //!
 //! [`sequence_of`] is the sequence at which a version is read. [`rows_law`] is the law that a
 //! lawful version has just one list of rows.
@@ -34,7 +33,6 @@ mod file_parts;
 mod file_search;
 mod file_total;
 mod folder_get;
-mod index_test;
 mod level_files;
 mod level_merges;
 mod level_rows;
@@ -61,7 +59,6 @@ pub use amounts::Amounts;
 pub use counted_version::version_stats;
 pub use file_total::FileTotal;
 pub use folder_get::get_unverified;
-pub use index_test::test_index;
 pub use level_stats::{LevelStats, VersionStats};
 pub use owned_entry::OwnedEntry;
 pub use placed_entry::PlacedEntry;

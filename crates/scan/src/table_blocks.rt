@@ -70,7 +70,7 @@ pub(crate) fn data_block<F: Folder>(
 }
 
 /// The one handle that bytes are; Handle if they are invalid.
-pub(crate) fn handle_in(value: &[u8]) -> Result<BlockHandle, Fault>
+fn handle_in(value: &[u8]) -> Result<BlockHandle, Fault>
     ensures { result ≡ one_handle (handle_reading value.now) }
 {
     let Some(found) = BlockHandle::read(value) else {

@@ -21,6 +21,7 @@ mod filter_blocks;
 mod folder_locks;
 mod folder_names;
 mod host;
+mod listed_files;
 mod logs;
 mod manifest_notes;
 mod opened_folder;
@@ -45,6 +46,7 @@ pub use folder::{Bytewise, Comparator, Folder, Order, Shortlex, manifest_name};
 pub use folder_locks::{locked_to_change, locked_to_read, no_database};
 pub use folder_names::{names_in, path_in};
 pub use host::Host;
+pub use listed_files::{UnneededFiles, unneeded_files};
 pub use logs::{Log, logs_with_writes};
 pub use opened_folder::{
     OpenedFolder, begin_counted, begin_in, begin_work, bytes_of, open_folder, open_in, print_lines,

@@ -30,26 +30,11 @@ pub struct Telling<'a> {
     pub ignores_lock: bool,
     /// Whether a log with writes that are in no table is a refusal.
     pub refuses_logs: bool,
-    /// Whether the account of each compaction is told.
-    pub is_explaining: bool,
     /// How many bytes of tables may be held to find the file of a refusal.
     pub memory: u64,
 }
 
 impl<'a> Telling<'a> {
-    /// The same, with the account of each compaction told or not.
-    pub fn explaining(mut self, is_explaining: bool) -> Telling<'a>
-        ensures asked { result.is_explaining ≡ is_explaining }
-        ensures rest { (result.folder ≡ self.entry.folder)
-            × (result.is_quiet ≡ self.entry.is_quiet) × (result.is_verbose ≡ self.entry.is_verbose)
-            × (result.is_watched ≡ self.entry.is_watched) × (result.memory ≡ self.entry.memory)
-            × (result.ignores_lock ≡ self.entry.ignores_lock)
-            × (result.refuses_logs ≡ self.entry.refuses_logs) }
-    {
-        self.is_explaining = is_explaining;
-        self
-    }
-
     /// The time at which a step begins, if it may be told. None if the clock can't be read, too.
     pub fn begin<R: Clock>(self, rt: &R) -> Option<Beginning>
         ensures { IfSome result (λ _. self.entry.is_quiet ≡ false) }

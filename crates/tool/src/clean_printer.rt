@@ -5,8 +5,7 @@ use crate::step_printer::StepPrinter;
 use disk::{Disk, SystemFiles};
 use folder::{Fault, FaultName, Opened, Version};
 use install::RemovalWatch;
-use queries::{UnneededFiles, unneeded_files};
-use session::{Host, ProgressLine, Refusal, open_in, sizes_tested};
+use session::{Host, ProgressLine, Refusal, UnneededFiles, open_in, sizes_tested, unneeded_files};
 use store::{CleanWatch, CompactionStep, InstallWatch};
 
 /// Who prints the steps of a compaction of all levels, lists the files that may be removed after
@@ -67,9 +66,9 @@ impl<'t, R: Host> InstallWatch for CleanPrinter<'t, R> {
         level: u64,
         step: &CompactionStep,
         before: &Version,
-        after: Option<&Version>,
+        _after: Option<&Version>,
     ) -> bool {
-        self.steps.print_installed(level, step, before, after)
+        self.steps.print_installed(level, step, before)
     }
 }
 

@@ -5,17 +5,16 @@ use answers::{json_line, removed_json};
 use disk::{Disk, SystemFiles};
 use folder::{Fault, FaultName, Opened, Version};
 use install::{RemovalWatch, remove_obsolete};
-use queries::{UnneededFiles, unneeded_files};
 use refusals::explained;
 use session::{
-    Host, Refusal, RefusalText, Telling, begin_in, begin_work, locked_to_change, locked_to_read,
-    open_in, print_lines, refused_at, sizes_tested, tell_time,
+    Host, Refusal, RefusalText, Telling, UnneededFiles, begin_in, begin_work, locked_to_change,
+    locked_to_read, open_in, print_lines, refused_at, sizes_tested, tell_time, unneeded_files,
 };
 use std::alloc::Global;
 use std::time::Clock;
 
 /// Removes the files of a folder that its version doesn't need, and prints each when it is removed.
-pub(crate) fn clean_folder<R: Host>(rt: &R, telling: Telling<'_>) -> Result<(), Refusal> {
+pub fn clean_folder<R: Host>(rt: &R, telling: Telling<'_>) -> Result<(), Refusal> {
     let _lock = locked_to_change(rt, telling)?;
     let begun = telling.begin(rt);
     folder_cleaned(rt, telling).map_err(|refusal| explained(rt, telling, refusal))?;
@@ -35,7 +34,7 @@ fn folder_cleaned<R: Host>(rt: &R, telling: Telling<'_>) -> Result<(), Refusal> 
 }
 
 /// Prints the files of a folder that its version doesn't need. Nothing is written.
-pub(crate) fn print_removable<R: Host>(rt: &R, telling: Telling<'_>) -> Result<(), Refusal> {
+pub fn print_removable<R: Host>(rt: &R, telling: Telling<'_>) -> Result<(), Refusal> {
     let _lock = locked_to_read(rt, telling)?;
     let begun = telling.begin(rt);
     removable_printed(rt, telling).map_err(|refusal| explained(rt, telling, refusal))?;

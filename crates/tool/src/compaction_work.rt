@@ -3,7 +3,7 @@
 use crate::clean_printer::CleanPrinter;
 use crate::clean_work::{RemovalPrinter, clean_installed, clean_named};
 use crate::compaction_notes::note_of;
-use crate::step_printer::{StepPrinter, explain, print_step, tell_step, unprinted};
+use crate::step_printer::{StepPrinter, print_step, tell_step, unprinted};
 use crate::version_sync::sync;
 use disk::{Disk, SystemFiles};
 use folder::{Bytewise, Fault, FaultName, Opened, Version};
@@ -16,7 +16,7 @@ use session::{
 use std::alloc::Global;
 use store::{
     CompactionStep, DescentEnd, SyncedVersion, bottom, checkers, compact_inputs, compact_opened,
-    next_level, opened_after, outcome_of_inputs, outcome_of_opened,
+    next_level, outcome_of_inputs, outcome_of_opened,
 };
 use usage::{CompactLine, Levels, Settings, Testing};
 
@@ -34,7 +34,7 @@ pub(crate) struct CompactionTask<'t> {
 
 /// Compacts a level of a folder, or all of them one after the other. The folder is locked before
 /// anything is read of it. What it was opened as is synced once, so that it outlives a crash.
-pub(crate) fn compact_folder<R: Host>(
+pub fn compact_folder<R: Host>(
     rt: &R,
     telling: Telling<'_>,
     line: &CompactLine<'_>,
@@ -114,8 +114,7 @@ fn nothing_compacted<R: Host>(
         }
         Levels::All | Levels::AllWhole => {
             let progress = ProgressLine::new(rt, telling);
-            let (order, version) = (opened.order, &opened.version);
-            let steps = StepPrinter::new(rt, telling, &progress, order, version, task)?;
+            let steps = StepPrinter::new(rt, telling, &progress, &opened.version, task)?;
             progress.erase();
             steps.end()
         }
@@ -186,45 +185,10 @@ fn compact_one<R: Host>(
     if let Some(note) = note {
         note.tell(rt, telling);
     }
-    if telling.is_explaining {
-        explain_one(
-            rt,
-            telling.folder,
-            opened,
-            &step,
-            level,
-            task.settings.ranges,
-        );
-    }
     if task.cleans {
         clean_installed(rt, telling.folder, folder, &opened.version, task.is_json)?;
     }
     Ok(())
-}
-
-/// Tells the account of the compaction of a level, after which the version is that of its `step`.
-fn explain_one<R: SystemFiles + Eprint + AllocGlobal>(
-    rt: &R,
-    folder: &str,
-    before: &SyncedVersion,
-    step: &CompactionStep,
-    level: u64,
-    ranges: u64,
-) {
-    let opened = opened_after(rt.alloc(), before, step);
-    let after = match &opened {
-        Ok(opened) => Ok(&opened.version),
-        Err(fault) => Err(*fault),
-    };
-    explain(
-        rt,
-        folder,
-        before.order,
-        &before.version,
-        after,
-        level,
-        ranges,
-    );
 }
 
 /// Compacts a level of a folder, or all of it, and installs the outcome. What the folder was opened
@@ -260,8 +224,7 @@ fn compact_all<R: Host>(
     task: CompactionTask<'_>,
 ) -> Result<(), Refusal> {
     let progress = ProgressLine::new(rt, telling);
-    let (order, version) = (opened.order, &opened.version);
-    let mut steps = StepPrinter::new(rt, telling, &progress, order, version, task)?;
+    let mut steps = StepPrinter::new(rt, telling, &progress, &opened.version, task)?;
     let end = if task.cleans {
         let removals = RemovalPrinter::new(rt, task.is_json);
         let mut printer = CleanPrinter::new(rt, telling.folder, steps, removals);
@@ -289,8 +252,7 @@ fn compact_whole<R: Host>(
     task: CompactionTask<'_>,
 ) -> Result<(), Refusal> {
     let progress = ProgressLine::new(rt, telling);
-    let (order, version) = (opened.order, &opened.version);
-    let mut steps = StepPrinter::new(rt, telling, &progress, order, version, task)?;
+    let mut steps = StepPrinter::new(rt, telling, &progress, &opened.version, task)?;
     let end = whole_descended(rt, folder, opened, task, &mut steps);
     progress.erase();
     end.map_err(|fault| refused_at(rt, telling.folder, folder, fault))?;

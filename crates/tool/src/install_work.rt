@@ -17,7 +17,7 @@ use usage::{InstallLine, Levels};
 
 /// Installs in a folder the outcomes that others have. The folder is locked before anything is read
 /// of it, and what it was opened as is synced, so that it outlives a crash.
-pub(crate) fn install_compaction<R: Host>(
+pub fn install_compaction<R: Host>(
     rt: &R,
     telling: Telling<'_>,
     line: &InstallLine<'_>,

@@ -10,11 +10,7 @@ use usage::{JobLine, Settings};
 
 /// Prints the names of the files that a compaction of a level would read, or the parts of the
 /// level. No table is read, and no lock is taken.
-pub(crate) fn print_job<R: Host>(
-    rt: &R,
-    telling: Telling<'_>,
-    line: &JobLine<'_>,
-) -> Result<(), Refusal> {
+pub fn print_job<R: Host>(rt: &R, telling: Telling<'_>, line: &JobLine<'_>) -> Result<(), Refusal> {
     let printed = if line.by_parts {
         parts_printed(rt, telling, line.level)
     } else {

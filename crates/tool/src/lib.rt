@@ -1,9 +1,8 @@
-//! What the program `sedvokt` does: its files and locks, what it prints, and what it tells of a
-//! refusal and of the work on a folder.
+//! The commands of the program `sedvokt` that change a folder or write into another: their files
+//! and locks, what they print, and what is told of a refusal and of the work on a folder.
 //!
-//! [`run`] is the program. The other names are public calls of the crates below, under the same
-//! names. No contract says which calls `run` makes for a command, nor what is told on the standard
-//! error.
+//! Names of other crates are public calls of these, under the same names. No contract says which
+//! calls are made for a command, nor what is told on the standard error.
 #![tactic(auto)]
 
 mod clean_printer;
@@ -16,16 +15,20 @@ mod job_printer;
 mod out_folder;
 mod outcome_refusal;
 mod outcome_work;
-mod program;
 mod step_printer;
 mod version_sync;
 mod work_left;
 
 pub use answers::{ValueForm, dump, get_dir, manifest, status, verify};
+pub use clean_work::{clean_folder, print_removable};
+pub use compaction_work::compact_folder;
 pub use disk::Disk;
 pub use folder::{Folder, FolderFault, Order, load, open};
+pub use install_work::install_compaction;
+pub use job_printer::print_job;
+pub use out_folder::{OutState, state_of};
+pub use outcome_work::{OutcomeTask, write_compaction};
 pub use pairing::blocks;
-pub use program::run;
 pub use session::{Host, progress_text};
 pub use store::{bottom, compact_dir, next_level};
 pub use texts::{Spelling, key_of, text_of};

@@ -13,7 +13,7 @@ use store::write_outcome;
 
 /// What is at the path of such a folder.
 #[derive(Clone, Copy, PartialEq, Eq)]
-pub(crate) enum OutState {
+pub enum OutState {
     /// Nothing.
     Absent,
     /// A folder without a file.
@@ -23,7 +23,7 @@ pub(crate) enum OutState {
 }
 
 /// What is at a path.
-pub(crate) fn state_of<R: Files + AllocGlobal>(rt: &R, out: &str) -> Result<OutState, Refusal> {
+pub fn state_of<R: Files + AllocGlobal>(rt: &R, out: &str) -> Result<OutState, Refusal> {
     state_at(rt, out).map_err(|error| Refusal::of_call(rt.alloc(), out, "list its files", &error))
 }
 

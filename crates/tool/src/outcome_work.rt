@@ -20,7 +20,7 @@ use usage::CompactLine;
 
 /// What is asked for of such a compaction.
 #[derive(Clone, Copy)]
-pub(crate) struct OutcomeTask<'t> {
+pub struct OutcomeTask<'t> {
     pub level: u64,
     /// The number of the part of the level, if it is given.
     pub part: Option<u64>,
@@ -32,7 +32,7 @@ pub(crate) struct OutcomeTask<'t> {
 
 /// Compacts a level of a folder, which is only read, and writes the outcome into another one. No
 /// lock is taken.
-pub(crate) fn write_compaction<R: Host>(
+pub fn write_compaction<R: Host>(
     rt: &R,
     telling: Telling<'_>,
     line: &CompactLine<'_>,

@@ -3,14 +3,11 @@
 use crate::compaction_notes::{CompactionNote, note_of, tell_made, tell_no_step, version_total};
 use crate::compaction_work::CompactionTask;
 use crate::work_left::work_left;
-use answers::{
-    CompactionEnd, FileTotal, account_of, account_text, compaction_json, compaction_lines,
-    json_line,
-};
+use answers::{CompactionEnd, FileTotal, compaction_json, compaction_lines, json_line};
 use disk::{Disk, SystemFiles};
-use folder::{Fault, FaultName, Order, Version};
+use folder::{Fault, Version};
 use session::{
-    Beginning, Host, ProgressLine, Refusal, Telling, Words, in_words, print_lines, tell_time, told,
+    Beginning, Host, ProgressLine, Refusal, Telling, Words, print_lines, tell_time, told,
 };
 use std::alloc::Global;
 use std::time::Clock;
@@ -23,8 +20,6 @@ pub(crate) struct StepPrinter<'t, R> {
     rt: &'t R,
     telling: Telling<'t>,
     progress: &'t ProgressLine<'t, R>,
-    order: Order,
-    ranges: u64,
     /// The bytes of full blocks that a new file has when it ends.
     file_size: u64,
     /// Whether the lines are JSON.
@@ -66,12 +61,11 @@ impl<'t, R> StepPrinter<'t, R> {
 }
 
 impl<'t, R: Eprint + Clock + AllocGlobal> StepPrinter<'t, R> {
-    /// Who prints the steps from a version of this order. The first one begins.
+    /// Who prints the steps from a version on. The first one begins.
     pub fn new(
         rt: &'t R,
         telling: Telling<'t>,
         progress: &'t ProgressLine<'t, R>,
-        order: Order,
         version: &Version,
         task: CompactionTask<'_>,
     ) -> Result<StepPrinter<'t, R>, Fault> {
@@ -79,8 +73,6 @@ impl<'t, R: Eprint + Clock + AllocGlobal> StepPrinter<'t, R> {
             rt,
             telling,
             progress,
-            order,
-            ranges: task.settings.ranges,
             file_size: task.settings.options.file_size,
             is_json: task.is_json,
             bottom: bottom(rt.alloc(), version)?,
@@ -130,21 +122,6 @@ impl<'t, R: SystemFiles + Eprint + Clock + AllocGlobal> StepPrinter<'t, R> {
         note_of(self.rt, self.telling, before, &step.outputs, &step.deleted)
     }
 
-    /// Tells the account of a step, if that is asked for.
-    fn explain(&self, level: u64, before: &Version, after: Option<&Version>) {
-        if self.telling.is_explaining {
-            explain(
-                self.rt,
-                self.telling.folder,
-                self.order,
-                before,
-                after.ok_or(Fault::of(FaultName::Memory)),
-                level,
-                self.ranges,
-            );
-        }
-    }
-
     /// Ends a step, and begins the next one.
     pub fn end_step(&mut self, after: Option<&Version>) {
         self.done = self.done.saturating_add(1);
@@ -159,13 +136,7 @@ impl<'t, R: SystemFiles + Eprint + Clock + AllocGlobal> StepPrinter<'t, R> {
 
 impl<'t, R: SystemFiles + Print + Eprint + Clock + AllocGlobal> StepPrinter<'t, R> {
     /// Prints the lines of a step, and tells of it. Whether they could be printed.
-    pub fn print_installed(
-        &mut self,
-        level: u64,
-        step: &CompactionStep,
-        before: &Version,
-        after: Option<&Version>,
-    ) -> bool {
+    pub fn print_installed(&mut self, level: u64, step: &CompactionStep, before: &Version) -> bool {
         self.progress.erase();
         self.manifest = Some(step.manifest);
         tell_step(self.rt, level, self.begun);
@@ -175,7 +146,6 @@ impl<'t, R: SystemFiles + Print + Eprint + Clock + AllocGlobal> StepPrinter<'t, 
             self.refusal = Some(unprinted(self.rt.alloc(), folder, Levels::All, refusal));
             return false;
         }
-        self.explain(level, before, after);
         if let Some(note) = note {
             self.has_told_filters = note.tell_filters(self.rt, self.telling);
         }
@@ -191,7 +161,7 @@ impl<'t, R: Host> InstallWatch for StepPrinter<'t, R> {
         before: &Version,
         after: Option<&Version>,
     ) -> bool {
-        let goes_on = self.print_installed(level, step, before, after);
+        let goes_on = self.print_installed(level, step, before);
         if goes_on {
             self.end_step(after);
         }
@@ -250,48 +220,4 @@ pub(crate) fn unprinted(alloc: Global, folder: &str, levels: Levels, refusal: Re
         },
     };
     Refusal::new(refusal.fault, told(alloc, folder, words))
-}
-
-/// Tells the account of the compaction of a level, from the versions before it and after it. If it
-/// can't be told, nothing else changes.
-pub(crate) fn explain<R: SystemFiles + Eprint + AllocGlobal>(
-    rt: &R,
-    folder: &str,
-    order: Order,
-    before: &Version,
-    after: Result<&Version, Fault>,
-    level: u64,
-    ranges: u64,
-) {
-    match explanation(rt, folder, order, before, after, level, ranges) {
-        Ok(lines) => {
-            let _ = rt.eprint(lines.as_str());
-        }
-        Err(fault) => {
-            let wrong = in_words(fault.name).wrong;
-            let _ = eprintln!(rt; "compacted, but not explained: {fault}: {wrong}");
-        }
-    }
-}
-
-/// The lines of that account.
-fn explanation<R: SystemFiles + AllocGlobal>(
-    rt: &R,
-    folder: &str,
-    order: Order,
-    before: &Version,
-    after: Result<&Version, Fault>,
-    level: u64,
-    ranges: u64,
-) -> Result<String, Fault> {
-    let account = account_of(
-        rt.alloc(),
-        &mut Disk::new(rt, folder),
-        order,
-        before,
-        after?,
-        level,
-        ranges,
-    )?;
-    account_text(rt.alloc(), &account)
 }

@@ -20,30 +20,22 @@ use Rattle.usage.specs.declared.requests.Levels.{Levels}
 use Rattle.usage.specs.declared.requests.Levels.TheVariants.{One, Whole, AllWhole}
 use Rattle.usage.specs.declared.requests.Levels.TheVariants.{All as AllLevels}
 
--- whether the rows give an option that a compaction of a whole level doesn't have
-abbrev pub excludes_whole : List Row → Bool
-excludes_whole rows = is_flagged (codes "no-verify") rows || is_flagged (codes "explain") rows
-
--- the rows give this number of `--level`, or `--all`, each with or without `--whole`
+-- the rows give this number of `--level`, or `--all`, each without `--whole`, or with it and without
+-- `--no-verify`
 abbrev pub HasLevels : Levels → List Row → Type 0
 HasLevels (One level) rows = IsNumberOf (one_of (codes "level") rows) (Some level)
     × (is_flagged (codes "all") rows ≡ false) × (is_flagged (codes "whole") rows ≡ false)
 HasLevels (Whole level) rows = IsNumberOf (one_of (codes "level") rows) (Some level)
     × (is_flagged (codes "all") rows ≡ false) × (is_flagged (codes "whole") rows ≡ true)
-    × (excludes_whole rows ≡ false)
+    × (is_flagged (codes "no-verify") rows ≡ false)
 HasLevels AllLevels rows = IsNumberOf (one_of (codes "level") rows) None
     × (is_flagged (codes "all") rows ≡ true) × (is_flagged (codes "whole") rows ≡ false)
 HasLevels AllWhole rows = IsNumberOf (one_of (codes "level") rows) None
     × (is_flagged (codes "all") rows ≡ true) × (is_flagged (codes "whole") rows ≡ true)
-    × (excludes_whole rows ≡ false)
-
--- whether the rows give an option of a compaction that is installed
-abbrev pub gives_installed : List Row → Bool
-gives_installed rows = is_flagged (codes "clean") rows || is_flagged (codes "explain") rows
+    × (is_flagged (codes "no-verify") rows ≡ false)
 
 -- the rows give these levels, and none of `--out`, `--part` and `--first-number`; or this level,
--- this number of `--part`, this text of `--out`, this number of `--first-number`, and no option of
--- a compaction that is installed
+-- this number of `--part`, this text of `--out`, this number of `--first-number`, and no `--clean`
 abbrev pub HasWork : CompactWork → List Row → Type 0
 HasWork (Installed levels) rows = HasLevels levels rows × (first_of (codes "out") rows ≡ None)
     × IsNumberOf (one_of (codes "part") rows) None
@@ -52,12 +44,11 @@ HasWork (Written level part out first_number) rows = HasLevels (One level) rows
     × IsNumberOf (one_of (codes "part") rows) part
     × (first_of (codes "out") rows ≡ Some out.now)
     × IsNumberOf (one_of (codes "first-number") rows) first_number
-    × (gives_installed rows ≡ false)
+    × (is_flagged (codes "clean") rows ≡ false)
 
 -- the rows give this work, these options on the test, and these flags
 abbrev pub HasOptions : CompactOptions → List Row → Type 0
 HasOptions options rows = HasWork options.work rows × HasTesting options.testing rows
-    × (options.explains ≡ is_flagged (codes "explain") rows)
     × (options.is_json ≡ is_flagged (codes "json") rows)
     × (options.cleans ≡ is_flagged (codes "clean") rows)
 

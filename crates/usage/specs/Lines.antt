@@ -1,5 +1,5 @@
 -- What is given to the commands that take neither keys nor a list of numbers.
-use Rattle.std.specs.Prelude.{◌≡◌, ◌&&◌, ◌||◌, Bool, true, false, List, Some, codes}
+use Rattle.std.specs.Prelude.{◌≡◌, ◌||◌, Bool, true, false, List, Some, codes}
 use Rattle.clap.specs.Words.{Row, first_of, one_of}
 use Rattle.usage.specs.Values.{IsNumberOf, IsNumberOr, is_flagged, is_given, spelling_of}
 use Rattle.usage.specs.declared.requests.CleanLine.{CleanLine}
@@ -38,24 +38,18 @@ HasForm Json rows =
 HasForm AllFaults rows =
     (is_flagged (codes "json") rows ≡ false) × (is_flagged (codes "all-faults") rows ≡ true)
 
--- whether the rows give something that is only for a test that reads data blocks
-abbrev pub reads_blocks : List Row → Bool
-reads_blocks rows = is_flagged (codes "all-faults") rows || is_given (codes "memory") rows
-
--- the rows give this text of DIR and none of `--table`, the flag of this form, this flag of
--- `--quick`, which excludes what is only for data blocks, and this number of `--memory`
+-- the rows give this text of DIR and none of `--table`, the flag of this form, and this number of
+-- `--memory`
 abbrev pub HasVerify : VerifyLine → List Row → Type 0
 HasVerify line rows = (first_of (codes "DIR") rows ≡ Some line.folder.now)
     × (is_given (codes "table") rows ≡ false) × HasForm line.form rows
-    × (line.is_quick ≡ is_flagged (codes "quick") rows)
-    × ((line.is_quick && reads_blocks rows) ≡ false)
     × IsNumberOr 128 (one_of (codes "memory") rows) line.memory
 
 -- whether the rows give something of a folder, its test or its lock
 abbrev pub gives_folder : List Row → Bool
 gives_folder rows = is_given (codes "DIR") rows || is_flagged (codes "all-faults") rows
-    || is_flagged (codes "quick") rows || is_given (codes "memory") rows
-    || is_flagged (codes "no-logs") rows || is_flagged (codes "no-lock") rows
+    || is_given (codes "memory") rows || is_flagged (codes "no-logs") rows
+    || is_flagged (codes "no-lock") rows
 
 -- the rows give this text of `--table`, this flag of `--json`, and nothing of a folder
 abbrev pub HasTable : TableLine → List Row → Type 0

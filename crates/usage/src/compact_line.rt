@@ -4,8 +4,7 @@ ghost use Rattle.std.specs.Prelude.{◌≡◌, IfOk, IfSome, Some, codes, map};
 ghost use Rattle.clap.specs.Words.{all_of, found_of, rows_of};
 ghost use Rattle.usage.specs.CompactLine.{AreNumbers, HasCompact, HasInstall, HasLevels};
 ghost use Rattle.usage.specs.CompactLine.{HasOptions, HasSettings, HasSnapshots, HasWork};
-ghost use Rattle.usage.specs.CompactLine.{IsNumberList, excludes_whole, gives_installed};
-ghost use Rattle.usage.specs.CompactLine.{gives_snapshots};
+ghost use Rattle.usage.specs.CompactLine.{IsNumberList, gives_snapshots};
 
 use crate::requests::{CompactLine, CompactOptions, CompactWork, InstallLine, Levels, Usage};
 use crate::values::{
@@ -39,7 +38,6 @@ fn options_of<'a>(values: &ArgMatches<'a>) -> Result<CompactOptions<'a>, Unread>
     Ok(CompactOptions {
         work: work_of(values)?,
         testing: testing_of(values)?,
-        explains: is_flagged(values, "explain"),
         is_json: is_flagged(values, "json"),
         cleans: is_flagged(values, "clean"),
     })
@@ -48,8 +46,8 @@ fn options_of<'a>(values: &ArgMatches<'a>) -> Result<CompactOptions<'a>, Unread>
 /// What is compacted, and where the outcome goes. `Rules` if one of these holds:
 ///
 /// - not exactly one of `--level` and `--all` is given;
-/// - `--whole` is given with an option that a whole level doesn't have;
-/// - `--out` is given with an option of a compaction that is installed;
+/// - `--whole` is given with `--no-verify`;
+/// - `--out` is given with `--clean`;
 /// - `--part` or `--first-number` is given without `--out`.
 fn work_of<'a>(values: &ArgMatches<'a>) -> Result<CompactWork<'a>, Unread>
     ensures { IfOk result (λ work. HasWork work (rows_of (found_of values.now))) }
@@ -59,7 +57,7 @@ fn work_of<'a>(values: &ArgMatches<'a>) -> Result<CompactWork<'a>, Unread>
     let first_number = number_given(values, "first-number")?;
     match (first_text(values, "out"), levels, part, first_number) {
         (None, levels, None, None) => Ok(CompactWork::Installed(levels)),
-        (Some(out), Levels::One(level), part, first_number) if !gives_installed(values) => {
+        (Some(out), Levels::One(level), part, first_number) if !is_flagged(values, "clean") => {
             Ok(CompactWork::Written {
                 level,
                 part,
@@ -71,13 +69,6 @@ fn work_of<'a>(values: &ArgMatches<'a>) -> Result<CompactWork<'a>, Unread>
     }
 }
 
-/// Whether an option of a compaction that is installed is given.
-fn gives_installed(values: &ArgMatches<'_>) -> bool
-    ensures { result ≡ gives_installed (rows_of (found_of values.now)) }
-{
-    is_flagged(values, "clean") || is_flagged(values, "explain")
-}
-
 /// The levels that are asked for.
 fn levels_of(values: &ArgMatches<'_>) -> Result<Levels, Unread>
     ensures { IfOk result (λ levels. HasLevels levels (rows_of (found_of values.now))) }
@@ -86,18 +77,11 @@ fn levels_of(values: &ArgMatches<'_>) -> Result<Levels, Unread>
     let (is_all, is_whole) = (is_flagged(values, "all"), is_flagged(values, "whole"));
     match (level, is_all, is_whole) {
         (Some(level), false, false) => Ok(Levels::One(level)),
-        (Some(level), false, true) if !excludes_whole(values) => Ok(Levels::Whole(level)),
+        (Some(level), false, true) if !is_flagged(values, "no-verify") => Ok(Levels::Whole(level)),
         (None, true, false) => Ok(Levels::All),
-        (None, true, true) if !excludes_whole(values) => Ok(Levels::AllWhole),
+        (None, true, true) if !is_flagged(values, "no-verify") => Ok(Levels::AllWhole),
         _ => Err(Unread::Rules),
     }
-}
-
-/// Whether an option is given that a compaction of a whole level doesn't have.
-fn excludes_whole(values: &ArgMatches<'_>) -> bool
-    ensures { result ≡ excludes_whole (rows_of (found_of values.now)) }
-{
-    is_flagged(values, "no-verify") || is_flagged(values, "explain")
 }
 
 /// The settings of a compaction. A number that isn't given has its default.

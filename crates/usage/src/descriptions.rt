@@ -154,7 +154,6 @@ pub(crate) const VERIFY: Description<'static> = Description {
     examples: "Prints, as an example, lawful: 4 files, 596 entries
 
 Examples: sedvokt verify DIR
-          sedvokt verify DIR --quick
           sedvokt verify DIR --all-faults
           sedvokt verify --table DIR/000005.ldb",
     arguments: &[
@@ -169,11 +168,6 @@ Examples: sedvokt verify DIR
             "all-faults",
             "Prints what is wrong with each file, and goes on",
         ),
-        Argument::Flag(
-            "quick",
-            "Tests the manifest, and of each table its length,\n\
-                footer and index; reads no data block",
-        ),
         Argument::Memory,
         NO_LOGS,
         NO_LOCK,
@@ -181,10 +175,7 @@ Examples: sedvokt verify DIR
     rules: &[
         Rule::One("tested", &["DIR", "table"]),
         Rule::AtMostOne("form", &["json", "all-faults"]),
-        Rule::AtMostOne("quick or faults", &["quick", "all-faults"]),
-        Rule::AtMostOne("quick or memory", &["quick", "memory"]),
         Rule::AtMostOne("table or faults", &["table", "all-faults"]),
-        Rule::AtMostOne("table or quick", &["table", "quick"]),
         Rule::AtMostOne("table or memory", &["table", "memory"]),
         Rule::AtMostOne("table or logs", &["table", "no-logs"]),
         Rule::AtMostOne("table or lock", &["table", "no-lock"]),
@@ -338,7 +329,7 @@ pub(crate) const COMPACT: Description<'static> = Description {
     examples: "Prints a line a file: output NUMBER BYTES, or deleted LEVEL NUMBER; then the
 manifest that is installed.
 
-Examples: sedvokt compact DIR --level 0 --explain
+Examples: sedvokt compact DIR --level 0
           sedvokt compact DIR --level 1 --whole
           sedvokt compact DIR --all --snapshots 900,1151 --clean
           sedvokt compact DIR --all --whole
@@ -392,11 +383,6 @@ Examples: sedvokt compact DIR --level 0 --explain
             "Into at most how many ranges of user keys it is\n\
                 split: 1 to 4096; 8 if it is left out",
         ),
-        Argument::Flag(
-            "explain",
-            "Tells on standard error how each compaction went:\n\
-                inputs, ranges, what was kept and dropped, outputs",
-        ),
         SNAPSHOT,
         SNAPSHOTS,
         Argument::Number(
@@ -419,20 +405,16 @@ Examples: sedvokt compact DIR --level 0 --explain
         Rule::AtMostOne("whole or out", &["whole", "out"]),
         Rule::AtMostOne("whole or part", &["whole", "part"]),
         Rule::AtMostOne("whole or number", &["whole", "first-number"]),
-        Rule::AtMostOne("whole or account", &["whole", "explain"]),
         Rule::AtMostOne("whole or trust", &["whole", "no-verify"]),
         Rule::AtMostOne("out or all", &["out", "all"]),
         Rule::AtMostOne("out or clean", &["out", "clean"]),
-        Rule::AtMostOne("out or account", &["out", "explain"]),
         // `clap` lets an option go without the one that it needs if something excludes that one.
         Rule::Needs("number", "first-number", "out"),
         Rule::Needs("one part", "part", "out"),
         Rule::AtMostOne("part or all", &["part", "all"]),
         Rule::AtMostOne("part or clean", &["part", "clean"]),
-        Rule::AtMostOne("part or account", &["part", "explain"]),
         Rule::AtMostOne("number or all", &["first-number", "all"]),
         Rule::AtMostOne("number or clean", &["first-number", "clean"]),
-        Rule::AtMostOne("number or account", &["first-number", "explain"]),
         SNAPSHOT_RULE,
     ],
 };

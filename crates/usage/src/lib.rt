@@ -6,7 +6,6 @@
 //!
 //!     stats DIR [--text] [--json] [--memory MIB] [--no-logs] [--no-lock]
 //!     verify DIR [--json | --all-faults] [--memory MIB] [--no-logs] [--no-lock]
-//!     verify DIR --quick [--json] [--no-logs] [--no-lock]
 //!     verify --table FILE [--json]
 //!     get DIR KEY.. | --stdin [--at N] [--text] [--utf8] [--raw | --json] [--no-verify]
 //!         [--memory MIB] [--no-logs] [--no-lock]

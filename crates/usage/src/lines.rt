@@ -3,7 +3,7 @@
 ghost use Rattle.std.specs.Prelude.{◌≡◌, IfOk};
 ghost use Rattle.clap.specs.Words.{found_of, rows_of};
 ghost use Rattle.usage.specs.Lines.{HasClean, HasDump, HasFiles, HasForm, HasJob, HasManifest};
-ghost use Rattle.usage.specs.Lines.{HasStats, HasTable, HasVerify, gives_folder, reads_blocks};
+ghost use Rattle.usage.specs.Lines.{HasStats, HasTable, HasVerify, gives_folder};
 
 use crate::requests::{
     CleanLine, DumpLine, FilesLine, JobLine, ManifestLine, StatsLine, TableLine, VerdictForm,
@@ -54,23 +54,11 @@ pub(crate) fn verify_line<'a>(values: &ArgMatches<'a>) -> Result<VerifyLine<'a>,
     if is_given(values, "table") {
         return Err(Unread::Rules);
     }
-    let is_quick = is_flagged(values, "quick");
-    if is_quick && reads_blocks(values) {
-        return Err(Unread::Rules);
-    }
     Ok(VerifyLine {
         folder: needed_text(values, "DIR")?,
         form: form_of(values)?,
-        is_quick,
         memory: memory_of(values)?,
     })
-}
-
-/// Whether something is given that is only for a test that reads data blocks.
-fn reads_blocks(values: &ArgMatches<'_>) -> bool
-    ensures { result ≡ reads_blocks (rows_of (found_of values.now)) }
-{
-    is_flagged(values, "all-faults") || is_given(values, "memory")
 }
 
 /// What `verify` prints of a folder.
@@ -104,7 +92,6 @@ fn gives_folder(values: &ArgMatches<'_>) -> bool
 {
     is_given(values, "DIR")
         || is_flagged(values, "all-faults")
-        || is_flagged(values, "quick")
         || is_given(values, "memory")
         || is_flagged(values, "no-logs")
         || is_flagged(values, "no-lock")

@@ -115,8 +115,6 @@ pub struct VerifyLine<'a> {
     pub folder: &'a str,
     /// What is printed.
     pub form: VerdictForm,
-    /// Whether no data block is read. Then not all faults are printed.
-    pub is_quick: bool,
     /// How many MiB of tables the test may hold, 1 to 2^24.
     pub memory: u64,
 }
@@ -290,9 +288,6 @@ pub struct CompactOptions<'a> {
     pub work: CompactWork<'a>,
     /// How the version is tested before.
     pub testing: Testing,
-    /// Whether the account of the compaction is told on the standard error: inputs, ranges, kept
-    /// and dropped entries, outputs.
-    pub explains: bool,
     /// Whether its lines are JSON.
     pub is_json: bool,
     /// Whether files that no version needs are removed after each installation.

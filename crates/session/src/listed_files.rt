@@ -1,8 +1,10 @@
 //! The files of a folder that its version doesn't need.
 
-use checks::{Fault, FaultName};
+use crate::folder_names::names_in;
+use crate::folder_refusal::path_in;
+use crate::refusal::Refusal;
+use coding::{Fault, FaultName};
 use install::{Opened, obsolete_names};
-use session::{Refusal, names_in, path_in};
 use std::alloc::Global;
 use std::fs;
 use std::io::ErrorKind;

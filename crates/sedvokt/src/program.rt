@@ -1,38 +1,25 @@
 //! The program, from its words to its status.
 
-use crate::clean_work::{clean_folder, print_removable};
-use crate::compaction_work::compact_folder;
-use crate::install_work::install_compaction;
-use crate::job_printer::print_job;
-use crate::out_folder::{OutState, state_of};
-use crate::outcome_work::{OutcomeTask, write_compaction};
-use answers::{Told, refusal_json, status};
-use folder::{Fault, FaultName};
+use crate::reports::{
+    COMMAND_LINE, DONE, report_misuse, report_refusal, report_taken, report_usage,
+};
 use queries::{
     merge, print_files, print_history, print_rows, print_stats, print_table, print_table_verdict,
     print_value, print_verdict, print_version,
 };
-use session::{Host, Refusal, RefusalParts, Telling, bytes_of, in_words};
+use session::{Host, Refusal, Telling, bytes_of};
 use std::env::Env;
 use std::io::ErrorKind;
 use std::rt::Files;
 use std::{env, io};
-use usage::{CommandLine, CompactWork, Line, Usage, Verbosity, VerdictForm, line};
-
-/// The status of work that was done, and of help or a version that was asked for.
-const DONE: u8 = 0;
-
-/// The status of a fault of usage.
-const USAGE: u8 = 2;
-
-/// What is told of a key that has to be hexadecimal digits, and isn't.
-const NO_DIGITS: &str = "usage: key is not hexadecimal";
+use tool::{
+    OutState, OutcomeTask, clean_folder, compact_folder, install_compaction, print_job,
+    print_removable, state_of, write_compaction,
+};
+use usage::{CommandLine, CompactWork, Line, Verbosity, VerdictForm, line};
 
 /// How many MiB of tables are held to find the file of a refusal, if `--memory` doesn't say it.
 const MEMORY: u64 = 128;
-
-/// What is told to be refused if no command is known.
-const COMMAND_LINE: &str = "the command line";
 
 /// Does what the words of the process ask for, and answers the status: 0 done, 1 refused, 2 a fault
 /// of usage, 3 a failing device.
@@ -44,7 +31,7 @@ const COMMAND_LINE: &str = "the command line";
 /// - If nothing can be written to the standard error, the status is the same.
 /// - The work on a folder is told on the standard error as `-v` asks. If `is_watched`, as a
 ///   terminal is, long work shows a line of progress there.
-pub fn run<R: Env + Host>(rt: &R, is_watched: bool) -> u8 {
+pub(crate) fn run<R: Env + Host>(rt: &R, is_watched: bool) -> u8 {
     let words = match words_given(rt) {
         Ok(words) => words,
         Err(error) if error.kind() == ErrorKind::InvalidData => {
@@ -176,18 +163,13 @@ fn subject<'a>(line: &Line<'a>) -> &'a str {
 /// What is to be told of the work that a command line asks for.
 fn telling_of<'a>(asked: &CommandLine<'a>, is_watched: bool) -> Telling<'a> {
     let line = &asked.line;
-    let is_quiet = asked.verbosity == Verbosity::Quiet;
     Telling {
         folder: subject(line),
-        is_quiet,
+        is_quiet: asked.verbosity == Verbosity::Quiet,
         is_verbose: asked.verbosity == Verbosity::Verbose,
         is_watched,
         ignores_lock: asked.ignores_lock,
         refuses_logs: asked.refuses_logs,
-        is_explaining: match line {
-            Line::Compact(line) => line.options.explains && !is_quiet,
-            _ => false,
-        },
         memory: bytes_of(memory_of(line)),
     }
 }
@@ -203,119 +185,5 @@ fn memory_of(line: &Line<'_>) -> u64 {
         Line::Compact(line) => line.options.testing.memory,
         Line::Install(line) => line.testing.memory,
         _ => MEMORY,
-    }
-}
-
-/// Tells a refusal of work on `path`, but for its name if that is told already, and answers its
-/// status.
-fn report_refusal<R: Eprint + AllocGlobal>(
-    rt: &R,
-    path: &str,
-    is_json: bool,
-    refusal: Refusal,
-) -> u8 {
-    let mut refusal = refusal;
-    refusal.tell_name(rt);
-    if !refusal.is_silent {
-        let parts = parts_of(path, &refusal);
-        if is_json {
-            tell_json(rt, &refusal.fault, parts);
-        } else {
-            tell_text(rt, parts);
-        }
-    }
-    status(&refusal.fault)
-}
-
-/// What is told of a refusal of work on `path`.
-fn parts_of<'a>(path: &'a str, refusal: &'a Refusal) -> RefusalParts<'a> {
-    match &refusal.told {
-        Some(text) => text.parts(),
-        None => {
-            let words = in_words(refusal.fault.name);
-            RefusalParts {
-                path,
-                wrong: words.wrong,
-                remedy: Some(words.remedy),
-            }
-        }
-    }
-}
-
-/// Tells them as a JSON object. If there is no memory for that, nothing is told.
-fn tell_json<R: Eprint + AllocGlobal>(rt: &R, fault: &Fault, parts: RefusalParts<'_>) {
-    let told = Told {
-        path: Some(parts.path),
-        wrong: Some(parts.wrong),
-        remedy: parts.remedy,
-    };
-    let alloc = rt.alloc();
-    let Ok(name) = format!(in alloc; "{fault}") else {
-        return;
-    };
-    if let Ok(line) = refusal_json(alloc, name.as_str(), told) {
-        let _ = rt.eprint(line.as_str());
-    }
-}
-
-/// Tells them as text.
-fn tell_text<R: Eprint>(rt: &R, parts: RefusalParts<'_>) {
-    let (path, wrong) = (parts.path, parts.wrong);
-    match parts.remedy {
-        Some(remedy) => {
-            let _ = eprintln!(rt; "sedvokt: {path}: {wrong}; {remedy}");
-        }
-        None => {
-            let _ = eprintln!(rt; "sedvokt: {path}: {wrong}");
-        }
-    }
-}
-
-/// Tells a fault of usage, and answers its status.
-fn report_misuse<R: Eprint>(rt: &R, text: &str) -> u8 {
-    let _ = rt.eprintln(text);
-    USAGE
-}
-
-/// Tells that something is where an empty folder has to be, and answers the status.
-fn report_taken<R: Eprint>(rt: &R, out: &str) -> u8 {
-    let status = report_misuse(rt, "usage: OUT is not an empty folder");
-    let _ = eprintln!(rt; "sedvokt: {out}: give an empty folder, or a path where nothing is");
-    status
-}
-
-/// Tells why a command line asks for nothing, and answers the status.
-fn report_usage<R: Print + Eprint + AllocGlobal>(rt: &R, usage: Usage) -> u8 {
-    match usage {
-        Usage::Key => report_misuse(rt, NO_DIGITS),
-        Usage::Hexadecimal => {
-            let status = report_misuse(rt, NO_DIGITS);
-            let _ = rt.eprintln("sedvokt: with --text a key is given as text");
-            status
-        }
-        Usage::Text => {
-            let status = report_misuse(rt, "usage: key is not text");
-            let _ = rt.eprintln(
-                "sedvokt: with --text a byte is given as \\xHH, a backslash as \\x5c, and the empty \
-                    key as '\"\"'",
-            );
-            status
-        }
-        Usage::Snapshots => report_misuse(rt, "usage: snapshots are not numbers"),
-        Usage::Memory => {
-            let refusal = Refusal::from(Fault::of(FaultName::Memory));
-            report_refusal(rt, COMMAND_LINE, false, refusal)
-        }
-        Usage::Clap(error) if error.use_stderr() => {
-            let _ = rt.eprint(&error);
-            USAGE
-        }
-        Usage::Clap(error) => match rt.print(&error) {
-            Ok(()) => DONE,
-            Err(error) => {
-                let refusal = Refusal::of_output(rt.alloc(), &error);
-                report_refusal(rt, COMMAND_LINE, false, refusal)
-            }
-        },
     }
 }

@@ -1,7 +1,6 @@
 //! The files of a folder that its version doesn't need.
 
-use crate::folder_names::names_in;
-use crate::folder_refusal::path_in;
+use crate::folder_names::{names_in, path_in};
 use crate::refusal::Refusal;
 use coding::{Fault, FaultName};
 use install::{Opened, obsolete_names};

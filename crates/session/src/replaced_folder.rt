@@ -7,7 +7,6 @@ use crate::refusal::{Refusal, RefusalText, told};
 use crate::reporter::Telling;
 use coding::{Fault, FaultName};
 use folder::{CURRENT, Disk, Folder, Opened, SystemFiles, number_in_current};
-use std::alloc::Global;
 
 /// What is told of CURRENT if it names another manifest than before.
 const REPLACED: Words = Words {

@@ -1,6 +1,6 @@
 //! A refusal, and what is told of it.
 
-use crate::explanations::{Words, in_words, of_file};
+use crate::explanations::{Words, of_file};
 use coding::{Fault, FaultName};
 use std::alloc::{AllocError, Global};
 use std::io;

@@ -8,7 +8,6 @@ use crate::reporter::Telling;
 use coding::{Fault, FaultName};
 use disk::{Disk, SystemFiles};
 use folder::{CURRENT, Folder, Opened, number_in_current};
-use std::alloc::Global;
 
 /// What is told of CURRENT if it names another manifest than before.
 const REPLACED: Words = Words {

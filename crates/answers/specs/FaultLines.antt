@@ -13,7 +13,7 @@ use Rattle.table.specs.fault.FaultName.TheVariants.{Duplicate, Numbers, TooLarge
 use Rattle.table.specs.fault.FaultName.TheVariants.{SnapshotList, LogChecksum, LogShape}
 use Rattle.table.specs.fault.FaultName.TheVariants.{EditTag, EditField, Comparator, Apply}
 use Rattle.table.specs.fault.FaultName.TheVariants.{Lawless, Device, Missing, Locked}
-use Rattle.table.specs.fault.FaultName.TheVariants.{Changed, Memory}
+use Rattle.table.specs.fault.FaultName.TheVariants.{Changed, Logs, Memory}
 use Rattle.table.specs.EncodedEntry.{Entry}
 use Rattle.table.specs.Bytewise.{bytewise_cmp}
 use Rattle.table.specs.TableContents.{table_reading}
@@ -61,6 +61,7 @@ name_text Device = codes "Device"
 name_text Missing = codes "Missing"
 name_text Locked = codes "Locked"
 name_text Changed = codes "Changed"
+name_text Logs = codes "Logs"
 name_text Memory = codes "Memory"
 
 -- the line of what is wrong with the file of a number

@@ -103,6 +103,7 @@ fn name_text(name: FaultName) -> &'static str
         FaultName::Missing => "Missing",
         FaultName::Locked => "Locked",
         FaultName::Changed => "Changed",
+        FaultName::Logs => "Logs",
         FaultName::Memory => "Memory",
     }
 }

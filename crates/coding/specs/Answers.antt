@@ -11,7 +11,7 @@ use Rattle.coding.specs.declared.fault.FaultName.TheVariants.{Duplicate, Numbers
 use Rattle.coding.specs.declared.fault.FaultName.TheVariants.{SnapshotList, LogChecksum, LogShape}
 use Rattle.coding.specs.declared.fault.FaultName.TheVariants.{EditTag, EditField, Comparator, Apply}
 use Rattle.coding.specs.declared.fault.FaultName.TheVariants.{Lawless, Device, Missing, Locked}
-use Rattle.coding.specs.declared.fault.FaultName.TheVariants.{Changed, Memory}
+use Rattle.coding.specs.declared.fault.FaultName.TheVariants.{Changed, Logs, Memory}
 
 -- the fault of this name, about no input
 abbrev pub fault : FaultName → Fault
@@ -55,6 +55,7 @@ code_of Device = 40
 code_of Missing = 41
 code_of Locked = 42
 code_of Changed = 43
+code_of Logs = 44
 code_of Memory = 99
 
 -- P, unless the name is Memory and there is no input

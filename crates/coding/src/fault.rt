@@ -85,6 +85,8 @@ pub enum FaultName {
     Locked,
     /// The folder's version changed while the command worked.
     Changed,
+    /// A log has writes that are in no table, and such a database is to be refused.
+    Logs,
     /// A growth of memory was refused.
     Memory,
 }
@@ -131,6 +133,7 @@ impl FaultName {
             FaultName::Missing => 41,
             FaultName::Locked => 42,
             FaultName::Changed => 43,
+            FaultName::Logs => 44,
             FaultName::Memory => 99,
         }
     }

@@ -100,6 +100,7 @@ const CODES: &[(FaultName, u64)] = &[
     (FaultName::Missing, 41),
     (FaultName::Locked, 42),
     (FaultName::Changed, 43),
+    (FaultName::Logs, 44),
     (FaultName::Memory, 99),
 ];
 

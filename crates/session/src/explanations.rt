@@ -35,6 +35,10 @@ fn of_work(name: FaultName) -> Option<Words> {
             "another program changed the database meanwhile",
             "run it again",
         ),
+        FaultName::Logs => (
+            "a log has writes that are in no table",
+            "open and close the database once with LevelDB, with compression off",
+        ),
         FaultName::Device => ("a call of the system failed", "run it again"),
         FaultName::Memory => (
             "there is not enough memory to hold all that is read",

@@ -9,8 +9,8 @@ use edit::Version;
 use std::alloc::Global;
 use std::rt::Files;
 
-/// Tests whether no log that LevelDB would replay over a version has a byte. Apply if one has: the
-/// version lacks what is in it. The first of them is told.
+/// Tests whether no log that LevelDB would replay over a version has a byte. Logs if one has. The
+/// first of them is told.
 pub(crate) fn no_logs<R: Files + AllocGlobal>(
     rt: &R,
     folder: &str,
@@ -27,7 +27,7 @@ pub(crate) fn no_logs<R: Files + AllocGlobal>(
 
 /// The refusal for a log that has writes.
 fn log_refusal(alloc: Global, folder: &str, log: Log) -> Refusal {
-    Refusal::new(Fault::of(FaultName::Apply), log_text(alloc, folder, log))
+    Refusal::new(Fault::of(FaultName::Logs), log_text(alloc, folder, log))
 }
 
 /// What is told of a log that has writes.

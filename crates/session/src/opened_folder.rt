@@ -3,7 +3,7 @@
 
 use crate::manifest_notes::tell_impossible;
 use crate::refusal::{Refusal, RefusalText};
-use crate::refused_logs::no_logs;
+use crate::refused_logs::fail_on_logs;
 use crate::reporter::Telling;
 use crate::tested_sizes::{is_too_large, too_large};
 use coding::{Fault, FaultName};
@@ -71,7 +71,7 @@ fn logs_counted<R: Files + Eprint + AllocGlobal>(
     if !telling.refuses_logs {
         return Ok(telling.tell_logs(rt, version)?);
     }
-    no_logs(rt, telling.folder, version)?;
+    fail_on_logs(rt, telling.folder, version)?;
     Ok(Some(0))
 }
 

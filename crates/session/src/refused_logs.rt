@@ -11,7 +11,7 @@ use std::rt::Files;
 
 /// Tests whether no log that LevelDB would replay over a version has a byte. Logs if one has. The
 /// first of them is told.
-pub(crate) fn no_logs<R: Files + AllocGlobal>(
+pub(crate) fn fail_on_logs<R: Files + AllocGlobal>(
     rt: &R,
     folder: &str,
     version: &Version,

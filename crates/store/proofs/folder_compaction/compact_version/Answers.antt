@@ -25,7 +25,7 @@ returns-in_err-most-clause-answer g c files told current =
     let e = c.in_err-most.field-0.0 in
     let answers = IsVersionCompacted g.C.Comparator.cmp g.C.Comparator.short_keys files c.args.opened.now.version c.args.level c.args.settings.now in
     refuses step_in (failed c.args.folder.now) (failed c.args.folder.now) c.from_residual.result e answers answers
-    c.from_residual.ensures.1 (by_memory e (λ f. answers (Err f)) c.in_err-most.ensures) (λ h. h)
+    c.from_residual.ensures.1 (by_memory e (λ f. answers (Err f)) c.in_err-most.ensures.memory) (λ h. h)
 
 pub returns-in_err-most-clause-left : goal.returns-in_err-most-clause-left
 returns-in_err-most-clause-left g c files order told current named opened =
@@ -40,7 +40,7 @@ returns-in_err-most-clause-other g c files told other = no_value c.from_residual
 
 pub returns-in_err-most-clause-device : goal.returns-in_err-most-clause-device
 returns-in_err-most-clause-device g c =
-    reports_steady c.from_residual.result refl (handed_memory c.from_residual.result c.in_err-most.field-0.0 c.from_residual.ensures.1 c.in_err-most.ensures)
+    reports_steady c.from_residual.result refl (handed_memory c.from_residual.result c.in_err-most.field-0.0 c.from_residual.ensures.1 c.in_err-most.ensures.memory)
 
 pub returns-in_err-found-clause-answer : goal.returns-in_err-found-clause-answer
 returns-in_err-found-clause-answer g c files told current =

@@ -15,7 +15,7 @@ use session::{
 };
 use std::alloc::Global;
 use store::{
-    CompactionStep, DescentEnd, SyncedVersion, bottom, checkers, compact_inputs, compact_opened,
+    CompactionStep, DescentEnd, SyncedVersion, bottom, checkers_of, compact_inputs, compact_opened,
     next_level, outcome_of_inputs, outcome_of_opened,
 };
 use usage::{CompactLine, Levels, Settings, Testing};
@@ -132,7 +132,7 @@ fn refusal_of_level<R: Host>(
     task: CompactionTask<'_>,
 ) -> Refusal {
     let progress = ProgressLine::new(rt, telling);
-    let workers = checkers(rt, rt.alloc(), &progress);
+    let workers = checkers_of(rt, rt.alloc(), task.settings.workers, &progress);
     let settings = task.settings;
     let outcome = if task.testing.is_skipped {
         outcome_of_inputs(&workers, folder, opened, level, None, settings)
@@ -202,7 +202,7 @@ fn step_made<R: Host>(
     task: CompactionTask<'_>,
 ) -> Result<CompactionStep, Refusal> {
     let progress = ProgressLine::new(rt, telling);
-    let workers = checkers(rt, rt.alloc(), &progress);
+    let workers = checkers_of(rt, rt.alloc(), task.settings.workers, &progress);
     let settings = task.settings;
     let memory = bytes_of(task.testing.memory);
     let made = match task.levels {
@@ -274,7 +274,7 @@ fn whole_descended<R: Host>(
 ) -> Result<DescentEnd, Fault> {
     let memory = bytes_of(task.testing.memory);
     let progress = steps.progress();
-    let workers = checkers(rt, rt.alloc(), progress);
+    let workers = checkers_of(rt, rt.alloc(), task.settings.workers, progress);
     compact_whole_levels(&workers, folder, opened, task.settings, memory, steps)
 }
 
@@ -291,7 +291,7 @@ fn descended<R: Host>(
     let settings = task.settings;
     if task.testing.is_skipped {
         store::compact_levels(
-            &checkers(rt, alloc, progress),
+            &checkers_of(rt, alloc, settings.workers, progress),
             folder,
             opened,
             settings,
@@ -300,7 +300,7 @@ fn descended<R: Host>(
     } else {
         let memory = bytes_of(task.testing.memory);
         store::compact_all(
-            &checkers(rt, alloc, progress),
+            &checkers_of(rt, alloc, settings.workers, progress),
             folder,
             opened,
             settings,
@@ -323,7 +323,7 @@ fn cleaned<R: Host>(
     let settings = task.settings;
     if task.testing.is_skipped {
         store::compact_and_clean(
-            &checkers(rt, alloc, progress),
+            &checkers_of(rt, alloc, settings.workers, progress),
             folder,
             opened,
             settings,
@@ -332,7 +332,7 @@ fn cleaned<R: Host>(
     } else {
         let memory = bytes_of(task.testing.memory);
         store::compact_all_and_clean(
-            &checkers(rt, alloc, progress),
+            &checkers_of(rt, alloc, settings.workers, progress),
             folder,
             opened,
             settings,

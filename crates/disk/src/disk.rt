@@ -15,7 +15,7 @@ use crate::made_table::{DiskMaker, MadeTable, files_of, first_failed, write_in_t
 use crate::pending_files::PendingFiles;
 use crate::system::{Place, done_in, part_in, read_in};
 use crate::system_files::{MakesFiles, SystemFiles};
-use crate::table_sizes::check_sizes_in;
+use crate::table_sizes::large_in;
 use crate::whole_files::{WholeFiles, sync_all};
 use edit::Version;
 use folder::{
@@ -83,18 +83,18 @@ impl<'r, R: SystemFiles + AllocGlobal> Disk<'r, R> {
         }
     }
 
-    /// Tests the sizes of the tables of `version` before [`load`](folder::load) reads them.
+    /// The number of the first table of `version`, as [`load`](folder::load) asks for them, that has
+    /// more than 2^30 bytes. None is read.
     ///
     /// - Missing: a table is missing.
-    /// - TooLarge: none is, and a table has more than 2^30 bytes.
     /// - Memory: out of memory.
     ///
     /// Tables from the first on that the system tells nothing of are not tested, since loading
     /// fails there.
-    pub fn check_sizes(&self, order: Order, version: &Version) -> Result<(), Fault> {
+    pub fn large_table(&self, order: Order, version: &Version) -> Result<Option<u64>, Fault> {
         let alloc = self.rt.alloc();
         let numbers = numbers_in(alloc, order, version)?;
-        check_sizes_in(self.rt, alloc, self.path, &numbers)
+        large_in(self.rt, alloc, self.path, &numbers)
     }
 
     /// The newest call that failed by the device. None if none did.

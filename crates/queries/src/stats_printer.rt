@@ -3,11 +3,11 @@
 use answers::{json_line, stats_json, stats_text};
 use checks::checkers;
 use install::Opened;
-use refusals::explained;
+use refusals::{explained, sizes_in_turn};
 use scan::{FileTotal, VersionStats, version_stats};
 use session::{
     Disk, Host, ProgressLine, Refusal, Telling, begin_work, bytes_of, locked_to_read,
-    logs_with_writes, print_lines, refused_opened, sizes_tested, tell_time, unneeded_files,
+    logs_with_writes, print_lines, refused_opened, tell_time, unneeded_files,
 };
 use std::rt::Files;
 use usage::StatsLine;
@@ -30,7 +30,7 @@ fn stats_printed<R: Host>(
 ) -> Result<(), Refusal> {
     let begun = telling.begin(rt);
     let opened = begin_work(rt, telling)?;
-    sizes_tested(rt, telling.folder, &opened)?;
+    sizes_in_turn(rt, telling.folder, &opened)?;
     let logs = logs_counted(rt, telling.folder)?;
     let unnamed = unneeded_counted(rt, telling.folder, &opened)?;
     let stats = version_counted(rt, telling, &opened, bytes_of(line.memory))?;

@@ -6,10 +6,10 @@ use crate::read_work::{begin_explained, read_explained, test_explained};
 use answers::{Question, ValueForm, json_line, push_named_value, unverified_value, value_json};
 use checks::Fault;
 use install::Opened;
-use refusals::{explained, table_explained};
+use refusals::{explained, sizes_in_turn, table_explained};
 use session::{
     Disk, Host, OpenedFolder, Refusal, SystemFiles, Telling, begin_counted, bytes_of,
-    locked_to_read, print_lines, refused_opened, sizes_tested, tell_time,
+    locked_to_read, print_lines, refused_opened, tell_time,
 };
 use std::alloc::Global;
 use texts::{Spelling, text_of};
@@ -233,7 +233,7 @@ fn value_printed<R: Host>(
 ) -> Result<(), Refusal> {
     let begun = telling.begin(rt);
     let work = begin_counted(rt, telling)?;
-    sizes_tested(rt, telling.folder, &work.opened)?;
+    sizes_in_turn(rt, telling.folder, &work.opened)?;
     let question = Question::Value {
         key,
         at: line.at,

@@ -9,13 +9,13 @@ use crate::fault_finder::{FaultFinder, FoundFault};
 use crate::key_sequences::{KeySequences, sequences_of};
 use crate::opening_diagnosis::opening_file;
 use crate::refused_files::RefusedFile;
-use crate::table_file::table_file_name;
+use crate::table_file::{missing_among, table_file_name};
 use checks::{Open, checkers};
 use coding::{Fault, FaultName};
 use edit::{LEVELS, Version};
 use faults::{FileFault, all_faults};
-use folder::{Folder, Opened, Order, ReadsTables, open};
-use ikey::Bytewise;
+use folder::{Folder, Opened, Order, ReadsTables, file_numbers, open};
+use ikey::{Bytewise, Shortlex};
 use std::alloc::Global;
 use std::thread::Threads;
 
@@ -24,6 +24,7 @@ use std::thread::Threads;
 ///
 /// - CURRENT, if it names no manifest;
 /// - the manifest, if the folder can't be opened;
+/// - the first table that is missing, for which none is read;
 /// - else that of the first fault of this name that `faults::all_faults` tells.
 ///
 /// At most `memory` bytes of tables are in memory together, if no single table or user key needs
@@ -47,7 +48,7 @@ pub fn refused_file<F: ReadsTables, R: Threads + Sync>(
     }
 }
 
-/// The file of the first fault of this name.
+/// The first table that is missing, or the file of the first fault of another name.
 fn refused_table<F: ReadsTables, R: Threads + Sync>(
     rt: &R,
     alloc: Global,
@@ -58,6 +59,13 @@ fn refused_table<F: ReadsTables, R: Threads + Sync>(
 ) -> Result<Option<RefusedFile>, Fault>
     ensures reads { OnlyReads F.Folder folder.old folder.new }
 {
+    if name == FaultName::Missing {
+        let numbers = match opened.order {
+            Order::Bytewise => file_numbers::<Bytewise>(alloc, &opened.version)?,
+            Order::Shortlex => file_numbers::<Shortlex>(alloc, &opened.version)?,
+        };
+        return missing_among(alloc, folder, &numbers);
+    }
     let mut finder = FaultFinder::of(alloc, name);
     let workers = checkers(rt, alloc, &Open);
     all_faults(&workers, folder, opened, memory, &mut finder)?;

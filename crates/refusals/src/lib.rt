@@ -6,6 +6,7 @@
 //! 2. [`refused_file`]: which file of a folder is why work is refused. [`refused_outcome`]: the
 //!    same of an outcome of a compaction.
 //! 3. [`file_refusal`]: the words of such a file.
+//! 4. [`sizes_in_turn`]: the refusal of a table that is too large, or of one before it.
 //!
 //! None of these changes a folder. No contract says which file it is, nor what is told.
 #![tactic(auto)]
@@ -22,6 +23,7 @@ mod outcome_diagnosis;
 mod refused_files;
 mod settings_refusal;
 mod table_file;
+mod table_turns;
 mod words;
 
 pub use detail::Detail;
@@ -30,4 +32,5 @@ pub use found_place::refused_file;
 pub use outcome_diagnosis::refused_outcome;
 pub use refused_files::RefusedFile;
 pub use table_file::table_file_name;
+pub use table_turns::sizes_in_turn;
 pub use words::file_refusal;

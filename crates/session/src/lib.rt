@@ -59,5 +59,5 @@ pub use replaceable_files::replaceable_file;
 pub use replaced_folder::{refused_opened, tell_replaced};
 pub use replayed_logs::replayed_log;
 pub use reporter::{Beginning, Telling, tell_time};
-pub use tested_sizes::{bytes_of_files, sizes_tested, too_large};
+pub use tested_sizes::{bytes_of_files, large_table, size_refusal, sizes_tested};
 pub use user_files::{read_file, replace_file, sync_folder_of};

@@ -5,7 +5,7 @@ use crate::manifest_notes::tell_impossible;
 use crate::refusal::{Refusal, RefusalText};
 use crate::refused_logs::fail_on_logs;
 use crate::reporter::Telling;
-use crate::tested_sizes::{is_too_large, too_large};
+use crate::tested_sizes::too_large;
 use coding::{Fault, FaultName};
 use disk::{Disk, SystemFiles};
 use edit::Version;
@@ -91,7 +91,7 @@ pub fn open_in<R: SystemFiles + AllocGlobal>(
 }
 
 /// The refusal of work on the folder at a path. If the device failed, the call that failed is told.
-/// TooLarge if that was to read a file that has more than 2^30 bytes.
+/// If that was to read a file that has more than 2^30 bytes, it is refused as such a file is.
 pub fn refused_at<R: SystemFiles + AllocGlobal>(
     rt: &R,
     path: &str,
@@ -104,7 +104,7 @@ pub fn refused_at<R: SystemFiles + AllocGlobal>(
     if fault.name != FaultName::Device {
         return Refusal::from(fault);
     }
-    if is_too_large(failure) {
+    if failure.is_too_large() {
         return too_large(rt.alloc(), path, failure.name.as_str());
     }
     let told = RefusalText::alone(rt.alloc(), path, format!(in rt.alloc(); "{failure}"));

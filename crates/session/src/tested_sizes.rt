@@ -3,33 +3,56 @@
 
 use crate::explanations::{Words, of_file};
 use crate::folder_names::path_in;
-use crate::refusal::{Refusal, RefusalText, told};
+use crate::refusal::{Refusal, told};
 use crate::replaced_folder::replaced_refusal;
 use coding::{Fault, FaultName};
-use disk::{Disk, Failure, MAX_FILE_LEN, SystemFiles};
-use edit::{FileMeta, LEVELS};
-use folder::{CURRENT, FolderCall, Opened, old_table_name, table_name};
-use ikey::Bytewise;
+use disk::{Disk, SystemFiles};
+use edit::FileMeta;
+use folder::{CURRENT, Opened, old_table_name, table_name};
 use std::alloc::Global;
 use std::fs;
-use std::io::ErrorKind;
+use std::rt::Files;
 
 /// Tests whether each table of a version is there and has at most 2^30 bytes. Missing if one is
-/// missing; else TooLarge if one is too large. None is read.
+/// missing; else Size if one is too large. None is read.
 pub fn sizes_tested<R: SystemFiles + AllocGlobal>(
     rt: &R,
     path: &str,
     opened: &Opened,
 ) -> Result<(), Refusal> {
-    let tested = Disk::new(rt, path).check_sizes(opened.order, &opened.version);
-    tested.map_err(|fault| {
-        let told = if fault.name == FaultName::TooLarge {
-            large_refusal(rt, path, opened)
-        } else {
-            replaced_refusal(rt, path, opened, fault)
-        };
-        Refusal::new(fault, told)
-    })
+    match large_table(rt, path, opened)? {
+        Some(number) => Err(size_refusal(rt, path, number)),
+        None => Ok(()),
+    }
+}
+
+/// The number of the first table of a version that has more than 2^30 bytes. Missing if one is
+/// missing. None is read.
+pub fn large_table<R: SystemFiles + AllocGlobal>(
+    rt: &R,
+    path: &str,
+    opened: &Opened,
+) -> Result<Option<u64>, Refusal> {
+    let found = Disk::new(rt, path).large_table(opened.order, &opened.version);
+    found.map_err(|fault| Refusal::new(fault, replaced_refusal(rt, path, opened, fault)))
+}
+
+/// The refusal of the table of a number, which has more than 2^30 bytes.
+pub fn size_refusal<R: Files + AllocGlobal>(rt: &R, path: &str, number: u64) -> Refusal {
+    match name_there(rt, path, number) {
+        Some(name) => too_large(rt.alloc(), path, name.as_str()),
+        None => Refusal::from(Fault::of(FaultName::Size)),
+    }
+}
+
+/// The name that the table of a number has in a folder: its older one, if the first isn't there.
+fn name_there<R: Files + AllocGlobal>(rt: &R, folder: &str, number: u64) -> Option<String> {
+    let name = table_name(rt.alloc(), number).ok()?;
+    let path = path_in(rt.alloc(), folder, name.as_str())?;
+    if fs::metadata(rt, path.as_str()).is_ok() {
+        return Some(name);
+    }
+    old_table_name(rt.alloc(), number).ok()
 }
 
 /// How many bytes the tables of these files have together, 2^64 - 1 if they have more.
@@ -41,90 +64,40 @@ pub fn bytes_of_files(files: &[&FileMeta]) -> u64 {
     bytes
 }
 
-/// What is told of the first table that is too large. None if there is none.
-fn large_refusal<R: SystemFiles + AllocGlobal>(
-    rt: &R,
-    path: &str,
-    opened: &Opened,
-) -> Option<RefusalText> {
-    for level in 0..LEVELS {
-        let files = opened.version.files::<Bytewise>(rt.alloc(), level).ok()?;
-        let told = large_among(rt, path, &files);
-        if told.is_some() {
-            return told;
-        }
-    }
-    None
-}
-
-/// What is told of the first table of these files that is too large. None if there is none.
-fn large_among<R: SystemFiles + AllocGlobal>(
-    rt: &R,
-    path: &str,
-    files: &[&FileMeta],
-) -> Option<RefusalText> {
-    for file in files {
-        let told = large_of(rt, path, file.number);
-        if told.is_some() {
-            return told;
-        }
-    }
-    None
-}
-
-/// What is told of the table of a number, if it is too large.
-fn large_of<R: SystemFiles + AllocGlobal>(rt: &R, path: &str, number: u64) -> Option<RefusalText> {
-    let name = table_name(rt.alloc(), number).ok()?;
-    let older = old_table_name(rt.alloc(), number).ok()?;
-    let told = refusal_if_large(rt, path, name.as_str());
-    if told.is_some() {
-        return told;
-    }
-    refusal_if_large(rt, path, older.as_str())
-}
-
-/// What is told of the file of this name, if it is too large.
-fn refusal_if_large<R: SystemFiles + AllocGlobal>(
-    rt: &R,
-    folder: &str,
-    name: &str,
-) -> Option<RefusalText> {
-    let path = path_in(rt.alloc(), folder, name)?;
-    match fs::metadata(rt, path.as_str()) {
-        Ok(metadata) if metadata.len() > MAX_FILE_LEN => {
-            told(rt.alloc(), path.as_str(), of_file(FaultName::Size))
-        }
-        _ => None,
-    }
-}
-
-/// Whether a file was not read since it has more than 2^30 bytes.
-pub fn is_too_large(failure: &Failure) -> bool {
-    failure.call == FolderCall::Read && failure.error.kind() == ErrorKind::FileTooLarge
-}
-
-/// The refusal of the file of this name, which was not read since it has more than 2^30 bytes.
-pub fn too_large(alloc: Global, folder: &str, name: &str) -> Refusal {
+/// The refusal of a folder's file of this name, which isn't read since it has more than 2^30 bytes.
+pub(crate) fn too_large(alloc: Global, folder: &str, name: &str) -> Refusal {
+    let (fault, words) = of_large(name);
     let told = match path_in(alloc, folder, name) {
-        Some(path) => told(alloc, path.as_str(), of_large(name)),
+        Some(path) => told(alloc, path.as_str(), words),
         None => None,
     };
-    Refusal::new(Fault::of(FaultName::TooLarge), told)
+    Refusal::new(Fault::of(fault), told)
 }
 
-/// The words of a folder's file of this name that has more than 2^30 bytes.
-fn of_large(name: &str) -> Words {
-    if name == CURRENT {
-        return Words {
-            wrong: "it has more than 1073741824 bytes: the database is damaged",
-            remedy: "restore the folder from a copy",
-        };
+/// How such a file is refused: a table as Size, and CURRENT as Apply, since no manifest's name is
+/// that long. No test refuses any other file for its length, so not to read it is Device.
+fn of_large(name: &str) -> (FaultName, Words) {
+    if name.ends_with(".ldb") || name.ends_with(".sst") {
+        return (FaultName::Size, of_file(FaultName::Size));
     }
-    if name.starts_with("MANIFEST-") {
-        return Words {
-            wrong: "it has more than 1073741824 bytes, the most that is read of a manifest",
-            remedy: "open the database once with LevelDB, which writes the manifest anew",
-        };
-    }
-    of_file(FaultName::Size)
+    let (fault, wrong, remedy) = if name == CURRENT {
+        (
+            FaultName::Apply,
+            "it has more than 1073741824 bytes: the database is damaged",
+            "restore the folder from a copy",
+        )
+    } else if name.starts_with("MANIFEST-") {
+        (
+            FaultName::Device,
+            "it has more than 1073741824 bytes, the most that is read of a manifest",
+            "open the database once with LevelDB, which writes the manifest anew",
+        )
+    } else {
+        (
+            FaultName::Device,
+            "it has more than 1073741824 bytes, the most that is read of a file",
+            "restore the file from a copy",
+        )
+    };
+    (fault, Words { wrong, remedy })
 }

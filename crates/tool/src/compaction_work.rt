@@ -8,10 +8,10 @@ use crate::version_sync::sync;
 use disk::{Disk, SystemFiles};
 use folder::{Bytewise, Fault, FaultName, Opened, Version};
 use levels::{compact_level, compact_whole_levels};
-use refusals::compaction_explained;
+use refusals::{compaction_explained, sizes_in_turn};
 use session::{
     Host, LAST_LEVEL, ProgressLine, Refusal, Telling, begin_in, bytes_of, locked_to_change,
-    refused_at, sizes_tested,
+    refused_at,
 };
 use std::alloc::Global;
 use store::{
@@ -71,7 +71,7 @@ fn compact_levels<R: Host>(
 ) -> Result<(), Refusal> {
     let opened = begin_in(rt, telling, folder)?.opened;
     if !task.testing.is_skipped {
-        sizes_tested(rt, telling.folder, &opened)?;
+        sizes_in_turn(rt, telling.folder, &opened)?;
     }
     if is_due(rt.alloc(), &opened.version, task.levels)? {
         telling.tell_replaceable(rt, &opened.version, &[]);

@@ -6,10 +6,10 @@ use crate::step_printer::tell_step;
 use answers::{CompactionEnd, compaction_json, compaction_lines, json_line};
 use disk::Disk;
 use folder::{FaultName, Opened};
-use refusals::compaction_explained;
+use refusals::{compaction_explained, sizes_in_turn};
 use session::{
     Host, ProgressLine, Refusal, RefusalText, Telling, Words, begin_work, bytes_of, in_words,
-    print_lines, refused_opened, sizes_tested, told,
+    print_lines, refused_opened, told,
 };
 use std::alloc::Global;
 use store::{
@@ -103,7 +103,7 @@ fn outcome_made<R: Host>(
     if line.options.testing.is_skipped {
         return inputs_compacted(rt, telling, line, task, opened);
     }
-    sizes_tested(rt, telling.folder, opened)?;
+    sizes_in_turn(rt, telling.folder, opened)?;
     let memory = bytes_of(line.options.testing.memory);
     let progress = ProgressLine::new(rt, telling);
     let mut folder = Disk::new(rt, telling.folder);

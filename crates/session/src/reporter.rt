@@ -3,6 +3,7 @@
 ghost use Rattle.std.specs.Prelude.{◌≡◌, false, IfSome};
 
 use crate::amount_texts::grouped;
+use crate::explanations::CLOSE_ONCE;
 use crate::folder_names::path_in;
 use crate::logs::{Log, logs_with_writes, replaceable_files};
 use coding::{Fault, FaultName};
@@ -57,12 +58,11 @@ impl<'a> Telling<'a> {
     ) -> Result<Option<u64>, Fault> {
         match logs_with_writes(rt, self.folder, Some(version)) {
             Ok(logs) => {
-                self.tell_each(
-                    rt,
-                    &logs,
-                    "of writes that are in no table; they are not seen here; \
-                    open and close the database once with LevelDB",
-                );
+                if let Ok(about) = format!(in rt.alloc();
+                    "of writes that are in no table; they are not seen here; {CLOSE_ONCE}"
+                ) {
+                    self.tell_each(rt, &logs, about.as_str());
+                }
                 Ok(Some(logs.len() as u64))
             }
             Err(error) if error.kind() == ErrorKind::OutOfMemory => {

@@ -59,7 +59,8 @@ impl<'a> Telling<'a> {
         match logs_with_writes(rt, self.folder, Some(version)) {
             Ok(logs) => {
                 if let Ok(about) = format!(in rt.alloc();
-                    "of writes that are in no table; they are not seen here; {CLOSE_ONCE}"
+                    "of writes that are in no table; they are neither seen nor tested here; \
+                        {CLOSE_ONCE}"
                 ) {
                     self.tell_each(rt, &logs, about.as_str());
                 }

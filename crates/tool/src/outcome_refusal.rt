@@ -148,12 +148,17 @@ fn next_before<R: Host>(
 ) -> Result<Option<u64>, Fault> {
     let mut next = manifest_of(&opened.version);
     for out in line.outs.iter().take(place.done as usize) {
-        match outcome_edit(rt.alloc(), &mut Disk::new(rt, out))? {
-            Some(before) if !before.deleted.iter().any(|file| edit.deleted.contains(file)) => {
-                next = next.max(before.next_file.unwrap_or(0));
-            }
-            _ => return Ok(None),
+        let Some(before) = outcome_edit(rt.alloc(), &mut Disk::new(rt, out))? else {
+            return Ok(None);
+        };
+        if before
+            .deleted
+            .iter()
+            .any(|file| edit.deleted.contains(file))
+        {
+            return Ok(None);
         }
+        next = next.max(before.next_file.unwrap_or(0));
     }
     Ok(Some(next))
 }

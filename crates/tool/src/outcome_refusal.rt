@@ -151,11 +151,7 @@ fn next_before<R: Host>(
         let Some(before) = outcome_edit(rt.alloc(), &mut Disk::new(rt, out))? else {
             return Ok(None);
         };
-        if before
-            .deleted
-            .iter()
-            .any(|file| edit.deleted.contains(file))
-        {
+        if !before.deleted.is_disjoint(&edit.deleted) {
             return Ok(None);
         }
         next = next.max(before.next_file.unwrap_or(0));

@@ -11,9 +11,13 @@ use disk::{Disk, SystemFiles};
 use edit::Version;
 use folder::{Opened, open};
 use std::io;
-use std::io::Write;
+use std::io::{ErrorKind, Write};
 use std::rt::Files;
 use std::time::Clock;
+
+/// What to do if there is no room for a file.
+const NO_ROOM: &str = "clean removes files that no version needs; the database is as it was after \
+    the last step that was told";
 
 /// The bytes of a MiB.
 const MEBIBYTE: u64 = 1 << 20;
@@ -107,7 +111,12 @@ pub fn refused_at<R: SystemFiles + AllocGlobal>(
     if failure.is_too_large() {
         return too_large(rt.alloc(), path, failure.name.as_str());
     }
-    let told = RefusalText::alone(rt.alloc(), path, format!(in rt.alloc(); "{failure}"));
+    let alloc = rt.alloc();
+    let text = format!(in alloc; "{failure}");
+    let told = match failure.error.kind() {
+        ErrorKind::StorageFull => RefusalText::new(alloc, path, text, NO_ROOM),
+        _ => RefusalText::alone(alloc, path, text),
+    };
     Refusal::new(fault, told)
 }
 

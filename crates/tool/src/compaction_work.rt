@@ -1,8 +1,8 @@
 //! The compaction of a folder, from its path to what is printed.
 
 use crate::clean_printer::CleanPrinter;
-use crate::clean_work::{RemovalPrinter, clean_installed, clean_named};
-use crate::compaction_notes::note_of;
+use crate::clean_work::{RemovalPrinter, clean_installed, clean_named, clean_opened};
+use crate::compaction_notes::{note_of, tell_room};
 use crate::step_printer::{StepPrinter, print_step, tell_step, unprinted};
 use crate::version_sync::sync;
 use disk::{Disk, SystemFiles};
@@ -49,9 +49,16 @@ pub fn compact_folder<R: Host>(
     };
     let _lock = locked_to_change(rt, telling)?;
     let mut folder = Disk::new(rt, telling.folder);
-    compact_levels(rt, telling, &mut folder, task).map_err(|refusal| {
-        compaction_explained(rt, telling, one_level(task.levels), task.settings, refusal)
-    })
+    match compact_levels(rt, telling, &mut folder, task) {
+        Ok(()) => {
+            tell_room(rt, telling);
+            Ok(())
+        }
+        Err(refusal) => {
+            let level = one_level(task.levels);
+            Err(compaction_explained(rt, telling, level, task.settings, refusal))
+        }
+    }
 }
 
 /// The level, if one is asked for.
@@ -78,7 +85,7 @@ fn compact_levels<R: Host>(
         let synced = sync(rt, telling.folder, folder, opened)?;
         compact_synced(rt, telling, folder, synced, task)
     } else {
-        nothing_compacted(rt, telling, folder, &opened, task)
+        nothing_compacted(rt, telling, folder, opened, task)
     }
 }
 
@@ -100,23 +107,27 @@ fn compact_synced<R: Host>(
 }
 
 /// What is answered if there is no level to compact. Nothing will be written, so nothing has to
-/// outlive a crash.
+/// outlive a crash; files that the version doesn't need are removed, if that is asked for.
 fn nothing_compacted<R: Host>(
     rt: &R,
     telling: Telling<'_>,
     folder: &mut Disk<'_, R>,
-    opened: &Opened,
+    opened: Opened,
     task: CompactionTask<'_>,
 ) -> Result<(), Refusal> {
     match task.levels {
         Levels::One(level) | Levels::Whole(level) => {
-            Err(refusal_of_level(rt, telling, folder, opened, level, task))
+            Err(refusal_of_level(rt, telling, folder, &opened, level, task))
         }
         Levels::All | Levels::AllWhole => {
             let progress = ProgressLine::new(rt, telling);
             let steps = StepPrinter::new(rt, telling, &progress, &opened.version, task)?;
             progress.erase();
-            steps.end()
+            steps.end()?;
+            if task.cleans {
+                clean_opened(rt, telling, folder, opened, task.is_json)?;
+            }
+            Ok(())
         }
     }
 }

@@ -30,21 +30,21 @@ _sedvokt() {
         ;;
     esac
     case ${COMP_WORDS[at]} in
-    stats) words='--text --json --memory --no-logs --no-lock' ;;
-    verify) words='--table --json --all-faults --memory --no-logs --no-lock' ;;
+    stats) words='--text --json --memory --fail-on-logs --no-lock' ;;
+    verify) words='--table --json --all-faults --memory --fail-on-logs --no-lock' ;;
     get)
-        words='--stdin --at --text --utf8 --raw --json --no-verify --memory --no-logs --no-lock'
+        words='--stdin --at --text --utf8 --raw --json --no-verify --memory --fail-on-logs --no-lock'
         ;;
     scan)
         words='--from --to --prefix --at --limit --keys --count --text --utf8 --json --no-verify'
-        words="$words --memory --no-logs --no-lock"
+        words="$words --memory --fail-on-logs --no-lock"
         ;;
-    history) words='--text --utf8 --json --no-verify --memory --no-logs --no-lock' ;;
-    manifest) words='--text --json --no-logs --no-lock' ;;
+    history) words='--text --utf8 --json --no-verify --memory --fail-on-logs --no-lock' ;;
+    manifest) words='--text --json --fail-on-logs --no-lock' ;;
     dump) words='--text' ;;
     files) words='--json --no-lock' ;;
     compact)
-        words='--level --all --whole --out --part --first-number --no-verify --no-logs --memory'
+        words='--level --all --whole --out --part --first-number --no-verify --fail-on-logs --memory'
         words="$words --workers --ranges --snapshot --snapshots --block-size --file-size --clean"
         words="$words --json"
         ;;

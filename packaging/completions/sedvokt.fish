@@ -53,7 +53,7 @@ complete -c sedvokt -n '__fish_seen_subcommand_from stats verify get scan histor
     -d 'MiB of tables that the test may hold'
 complete -c sedvokt -n '__fish_seen_subcommand_from get scan history compact' -l no-verify \
     -d 'Take the version for lawful'
-complete -c sedvokt -n "__fish_seen_subcommand_from $readers compact" -l no-logs \
+complete -c sedvokt -n "__fish_seen_subcommand_from $readers compact" -l fail-on-logs \
     -d 'Refuse writes that are only in a log'
 complete -c sedvokt -n "__fish_seen_subcommand_from $readers files" -l no-lock \
     -d 'Neither lock the folder nor look for locks'

@@ -10,13 +10,18 @@ use ikey::{Comparator, Fault};
 use split::{MAX_BOUNDARIES, Split};
 use std::alloc::Global;
 
+/// A group isn't ended before this share of `memory` has begun in it.
+const LEAST_SHARE: u64 = 8;
+
 /// A split into ranges so that the tables that reach into a range have at most `memory` bytes
 /// together, as the files state their sizes. They have more only
 ///
 /// - by tables that hold the range's first user key; or
-/// - by tables that begin in it, of which all but the last one have less than 1/4,095 of the bytes
-///   of all files. So that there are never more than 4,096 ranges, a range has as much whatever
-///   `memory` is.
+/// - by tables that begin in it, of which all but the last one have less than an eighth of
+///   `memory`, or less than 1/4,095 of the bytes of all files.
+///
+/// So there are never more than 4,096 ranges. Why an eighth: else each file would begin a range
+/// once the tables that reach through all ranges fill `memory`, and one worker had all the work.
 ///
 /// Each boundary is the smallest user key of a file. `standing` may have any order. Which tables
 /// reach into a range is what [`needed_files`](crate::needed_files()) answers for it.
@@ -73,7 +78,7 @@ impl GroupBytes {
 }
 
 /// Where each group but the last one ends: at the smallest user key of the first file that doesn't
-/// fit, if its part of all files is full. The files are in the order of those keys.
+/// fit, if the least that begins in a group has begun. The files are in the order of those keys.
 fn group_ends<C: Comparator>(
     alloc: Global,
     files: &[&FileMeta],
@@ -81,7 +86,7 @@ fn group_ends<C: Comparator>(
 ) -> Result<Vec<Vec<u8>>, Fault>
     ensures memory { IfErr result (λ e. e ≡ fault Memory) }
 {
-    let part = least_part(files);
+    let part = least_part(files).max(memory / LEAST_SHARE);
     let mut ends = Vec::<Vec<u8>>::new(alloc);
     let mut group = GroupBytes {
         begun: 0,

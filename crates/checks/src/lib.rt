@@ -13,7 +13,7 @@
 //! what two ranges have in common. [`bounds_tell`] is the law why some tables need no walk.
 //!
 //! The answer doesn't depend on the workers, nor on the order in which they do their jobs.
-//! [`checkers`] are those of a command.
+//! [`checkers`] are those of a command, [`checkers_of`] those of one with `--workers`.
 #![tactic(auto)]
 
 mod command_workers;
@@ -41,7 +41,7 @@ mod wanted_tables;
 mod worker_tables;
 
 pub use board::{Open, Workers};
-pub use command_workers::checkers;
+pub use command_workers::{checkers, checkers_of};
 pub use file_groups::group_split;
 pub use held_tables::{HeldTables, hold_next};
 pub use ikey::{Fault, FaultName, SharedComparator};

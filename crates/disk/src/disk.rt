@@ -11,7 +11,7 @@ use crate::disk_reader::DiskReader;
 use crate::due_files::{files_due, numbers_in};
 use crate::failure::Failure;
 use crate::file_access::access_in;
-use crate::made_table::{DiskMaker, MadeTable, files_of, first_failed, sync_made, write_in_turn};
+use crate::made_table::{DiskMaker, MadeTable, files_of, first_failed, write_in_turn};
 use crate::pending_files::PendingFiles;
 use crate::system::{Place, done_in, part_in, read_in};
 use crate::system_files::{MakesFiles, SystemFiles};
@@ -212,7 +212,7 @@ impl<'r, R: SystemFiles + MakesFiles + AllocGlobal> WritesTables for Disk<'r, R>
 
     fn sync_tables<T: Threads + Sync>(
         &mut self,
-        rt: &T,
+        _rt: &T,
         tables: &SourceTables,
         made: Option<Vec<MadeTable>>,
     ) -> Result<(), FolderFault>
@@ -225,7 +225,7 @@ impl<'r, R: SystemFiles + MakesFiles + AllocGlobal> WritesTables for Disk<'r, R>
         ensures failures { ⟦<Disk<'r, R> as Folder>⟧.failed self.new
             ≡ failures_after (⟦<Disk<'r, R> as Folder>⟧.failed self.old) result }
     {
-        self.write_made(rt, tables, made)
+        self.write_made(tables, made)
     }
 }
 
@@ -295,10 +295,9 @@ impl<'r, R: SystemFiles + AllocGlobal> Disk<'r, R> {
         self.counted_all(&files)
     }
 
-    /// Syncs tables that were made, and adds their writing to the trail.
-    fn write_made<T: Threads + Sync>(
+    /// Adds the writing of tables that were made and synced to the trail.
+    fn write_made(
         &mut self,
-        rt: &T,
         tables: &SourceTables,
         made: Option<Vec<MadeTable>>,
     ) -> Result<(), FolderFault>
@@ -306,7 +305,7 @@ impl<'r, R: SystemFiles + AllocGlobal> Disk<'r, R> {
             ++ step_of (Written (named_tables tables.now.tables)) result ∷ [] }
         ensures failures { self.new.failures ≡ failures_after self.old.failures result }
     {
-        let answer = self.synced(rt, made);
+        let answer = self.counted_made(made);
         self.trail = self.trail.then(&Attempt {
             call: AnyWrite::Made(tables),
             is_done: answer.is_ok(),
@@ -314,20 +313,15 @@ impl<'r, R: SystemFiles + AllocGlobal> Disk<'r, R> {
         answer
     }
 
-    /// Syncs tables that were made, by several threads. None if memory ran out before all were.
-    fn synced<T: Threads + Sync>(
-        &mut self,
-        rt: &T,
-        made: Option<Vec<MadeTable>>,
-    ) -> Result<(), FolderFault>
+    /// What the making and syncing of tables answered. None if memory ran out before all were made.
+    fn counted_made(&mut self, made: Option<Vec<MadeTable>>) -> Result<(), FolderFault>
         ensures failures { self.new.failures ≡ failures_after self.old.failures result }
         ensures trail { self.new.trail ≡ self.old.trail }
     {
-        let Some(mut files) = made else {
+        let Some(files) = made else {
             return Err(FolderFault::Memory);
         };
         self.kept.forget_all(&files);
-        sync_made(rt, &mut files);
         self.counted_all(&files)
     }
 

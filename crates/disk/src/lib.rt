@@ -11,8 +11,7 @@
 //!   another one. If it can't be written whole, it is removed again.
 //! - write_tables: each is made as `create` makes it, and synced by the same handle; by up to 16
 //!   threads if their numbers rise. All of them are tried, also after one failed.
-//! - write_source: each is made so by a worker, and after all were made, each is synced by its own
-//!   handle; by up to 16 threads.
+//! - write_source: each is made and synced so by a worker, in one job.
 //! - sync: `sync_all`, through the handle that made the file, or else under its name. If it was
 //!   synced ahead, the answer is what that came to.
 //! - rename is `fs::rename`, remove is `fs::remove_file`, sync_folder is `sync_all` of the folder.

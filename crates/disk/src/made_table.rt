@@ -6,23 +6,20 @@ ghost use Rattle.ikey.specs.fault.FaultName.TheVariants.{Memory};
 
 use crate::file_access::{Access, access_in, new_file};
 use crate::system_files::{MakesFiles, OwnedFiles};
-use crate::whole_files::{THREADS, path_in};
+use crate::whole_files::path_in;
 use folder::{FolderCall, TableMaker, table_name};
 use ikey::Fault;
 use std::alloc::Global;
 use std::fs::File;
 use std::io::{ErrorKind, Write};
 use std::rt::Files;
-use std::thread::Threads;
-use std::{fs, io, thread};
+use std::{fs, io};
 
 /// A table that is to be made a file and synced, or that was.
 #[derive(Drop)]
 pub struct MadeTable {
     pub(crate) name: String,
     path: String,
-    /// The file, from when it was made until it is synced.
-    file: Option<File>,
     /// The last call on it, and what that answered.
     pub(crate) call: FolderCall,
     pub(crate) answer: io::Result<()>,
@@ -38,25 +35,19 @@ impl MadeTable {
         Ok(MadeTable {
             name,
             path,
-            file: None,
             call: FolderCall::Create,
             answer: Ok(()),
         })
     }
 
-    /// Keeps the file that was made, or why it wasn't.
-    fn keep(&mut self, made: io::Result<File>) {
+    /// Syncs the file that was made, by the same handle; or keeps why it wasn't made.
+    fn sync(&mut self, made: io::Result<File>) {
         match made {
-            Ok(file) => self.file = Some(file),
+            Ok(file) => {
+                self.call = FolderCall::Sync;
+                self.answer = file.sync_all();
+            }
             Err(error) => self.answer = Err(error),
-        }
-    }
-
-    /// Syncs the file, if it was made, by the same handle.
-    fn sync(&mut self) {
-        if let Some(file) = self.file.take() {
-            self.call = FolderCall::Sync;
-            self.answer = file.sync_all();
         }
     }
 
@@ -68,8 +59,7 @@ impl MadeTable {
         bytes: &[u8],
     ) {
         let made = file_at(rt, self.path.as_str(), access, bytes);
-        self.keep(made);
-        self.sync();
+        self.sync(made);
     }
 }
 
@@ -107,7 +97,7 @@ impl<'r, R: MakesFiles> TableMaker for DiskMaker<'r, R> {
             Ok(access) => self.rt.made(table.path.as_str(), access, &bytes),
             Err(error) => Err(error),
         };
-        table.keep(made);
+        table.sync(made);
         Ok(table)
     }
 }
@@ -139,11 +129,6 @@ pub(crate) fn write_in_turn<R: OwnedFiles>(
     for (place, file) in files.iter_mut().enumerate() {
         file.write(rt, access, &tables[place].1);
     }
-}
-
-/// Syncs the files that were made, by several threads.
-pub(crate) fn sync_made<T: Threads + Sync>(rt: &T, files: &mut [MadeTable]) {
-    thread::for_each_mut(rt, files, THREADS, &|_, file| file.sync());
 }
 
 /// The place of the first file that the device failed; if it failed none, that of the first one for

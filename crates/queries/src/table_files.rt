@@ -3,7 +3,7 @@
 use answers::{dump, json_line, table_entries, valid_json, verify_table};
 use checks::{Fault, FaultName};
 use install::CURRENT;
-use session::{Refusal, Words, print_lines, read_file, told};
+use session::{CLOSE_ONCE, Refusal, Words, print_lines, read_file, told};
 use std::alloc::Global;
 use std::rt::Files;
 use usage::{DumpLine, TableLine};
@@ -76,9 +76,8 @@ fn of_other_file(path: &str) -> Option<Words> {
     }
     if name.ends_with(".log") {
         return Some(Words {
-            wrong: "it is no table, but a log",
-            remedy: "no command reads logs: open and close the database once with LevelDB, which \
-                makes tables of them",
+            wrong: "it is no table, but a log, which no command reads",
+            remedy: CLOSE_ONCE,
         });
     }
     None

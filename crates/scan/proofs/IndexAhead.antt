@@ -1,5 +1,5 @@
 -- What is ahead in a table, by its index.
-use Rattle.std.proofs.Common.{◌≡◌, ℕ, Bool, true, false, cond, List, [], ◌∷◌, ◌++◌, drop, Option, Some, None, Ok, refl, sym, ap, subst, ◌∙◌}
+use Rattle.std.proofs.Common.{◌≡◌, ◌<◌, ℕ, Bool, true, false, cond, List, [], ◌∷◌, ◌++◌, length, drop, Option, Some, None, Ok, refl, sym, ap, subst, ◌∙◌}
 use Rattle.std.specs.Prelude.{slice_get}
 use Rattle.std.specs.List.{AllByRecursion}
 use Rattle.std.specs.Cmp.{IsTotalOrder}
@@ -97,6 +97,7 @@ pub record Head (cmp : List ℕ → List ℕ → Ordering) (bytes value : List �
   pub entries : List Entry
   pub block : block_named bytes value ≡ Ok entries
   pub keys : HaveKeys entries
+  pub some : 0 < length entries
   pub parts : all_named bytes index ≡ entries ++ all_named bytes (drop 1 index)
   pub others : AllByRecursion (NamesBlock cmp bytes) (drop 1 index)
 
@@ -106,6 +107,7 @@ head_of cmp bytes value (i ∷ is) named first = record {
   entries = entries_named bytes i;
   block = ap (block_named bytes) (sym (same_Some i.value value first)) ∙ named.0.block;
   keys = named.0.keys;
+  some = named.0.some;
   parts = refl;
   others = named.1;
 }

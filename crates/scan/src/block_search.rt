@@ -1,27 +1,28 @@
 //! A search in a block that nobody tested.
 
-ghost use Rattle.std.specs.Prelude.{◌≡◌, ◌≢◌, ◌<◌, ◌≤◌, List, Ok, true, length, slice_get, IfErr};
-ghost use Rattle.std.specs.Prelude.{IfOk};
+ghost use Rattle.std.specs.Prelude.{◌≡◌, ◌≢◌, ◌<◌, ◌≤◌, List, [], Ok, true, length, slice_get};
+ghost use Rattle.std.specs.Prelude.{IfErr, IfOk};
 ghost use Rattle.table.specs.Answers.{EqualOrMemory};
-ghost use Rattle.table.specs.fault.FaultName.TheVariants.{Device};
+ghost use Rattle.table.specs.fault.FaultName.TheVariants.{Device, Empty};
 ghost use Rattle.block.specs.EncodedEntry.{Entry};
 ghost use Rattle.table.specs.EntriesFrom.{entries_from};
 ghost use Rattle.table.specs.EntryTests.{HaveKeys};
 ghost use Rattle.table.specs.IndexReading.{block_in};
 ghost use Rattle.table.specs.RestartSearch.{first_is_below};
 ghost use Rattle.scan.specs.Excuses.{Gives};
+ghost use Rattle.scan.specs.SearchAnswers.{Refuses};
 ghost use Rattle.table.specs.declared.trailer.TheConstants.{TRAILER_LEN};
 
 use crate::owned_entry::OwnedEntry;
 use block::{BlockCursor, SoundBlock};
 use std::alloc::Global;
 use std::cmp::Ordering;
-use table::{Comparator, Fault, InternalKey, KeyBuf, contents};
+use table::{Comparator, Fault, FaultName, InternalKey, KeyBuf, contents};
 
 /// The first entry of a stored block at or above `target`. None if all are below.
 ///
-/// Refused as the block is, or as the first key on the way that is no internal key. The only other
-/// fault is Memory.
+/// Refused as the block is, Empty if it has no entry, or as the first key on the way that is no
+/// internal key. The only other fault is Memory.
 pub(crate) fn first_in_block<C: Comparator>(
     alloc: Global,
     stored: &[u8],
@@ -29,7 +30,7 @@ pub(crate) fn first_in_block<C: Comparator>(
 ) -> Result<Option<OwnedEntry>, Fault>
     requires { TRAILER_LEN ≤ length stored.now }
     ensures given { (entries : List Entry) → block_in stored.now ≡ Ok entries → HaveKeys entries →
-        Gives result
+        0 < length entries → Gives result
         (λ found. found ≡ slice_get (entries_from C.cmp target.entry.bytes.now entries) 0) }
     ensures other { IfErr result (λ e. e.name ≢ Device) }
 {
@@ -46,11 +47,16 @@ pub(crate) fn entries_ahead<'a, C: Comparator>(
 ) -> Result<BlockCursor<'a>, Fault>
     requires { TRAILER_LEN ≤ length stored.now }
     ensures given { (entries : List Entry) → block_in stored.now ≡ Ok entries → HaveKeys entries →
+        0 < length entries →
         Gives result (λ cursor. cursor ≡ entries_from C.cmp target.entry.bytes.now entries) }
+    ensures empty { block_in stored.now ≡ Ok [] → Refuses result Empty }
     ensures other { IfErr result (λ e. e.name ≢ Device) }
 {
     let block = block_in(stored)?;
     let mut cursor = BlockCursor::new(alloc, &block)?;
+    if !cursor.valid() {
+        return Err(Fault::of(FaultName::Empty));
+    }
     walk_to::<C>(&mut cursor, target)?;
     Ok(cursor)
 }

@@ -1,6 +1,6 @@
 //! A search in a table's file.
 
-ghost use Rattle.std.specs.Prelude.{◌≡◌, ℕ, List, Ok, length, slice_get};
+ghost use Rattle.std.specs.Prelude.{◌≡◌, ℕ, List, [], Ok, length, slice_get};
 ghost use Rattle.std.specs.List.{AllByRecursion};
 ghost use Rattle.std.specs.Option.{option_map};
 ghost use Rattle.block.specs.EncodedEntry.{Entry};
@@ -8,12 +8,13 @@ ghost use Rattle.folder.specs.Reports.{OnlyReads, ReportsDevice};
 ghost use Rattle.table.specs.Key.{kind_of, sequence_of, user_of};
 ghost use Rattle.reads.specs.kind.Kind.TheVariants.{Put};
 ghost use Rattle.reads.specs.Visible.{IsAnswer, visible_of};
+ghost use Rattle.table.specs.fault.FaultName.TheVariants.{Empty};
 ghost use Rattle.table.specs.IndexWalk.{Indexes, NamesBlock, all_named};
 ghost use Rattle.table.specs.EntriesFrom.{EntriesRise, entries_from};
 ghost use Rattle.table.specs.TableContents.{Contents, contents_reading, index_in};
 ghost use Rattle.scan.specs.FolderTables.{HoldsTable};
 ghost use Rattle.scan.specs.Excuses.{Gives};
-ghost use Rattle.scan.specs.SearchAnswers.{IsFileOfBytes};
+ghost use Rattle.scan.specs.SearchAnswers.{IsFileOfBytes, Refuses};
 
 use crate::block_search::{entries_ahead, first_in_block};
 use crate::file_parts::{TableFile, name_of};
@@ -39,6 +40,9 @@ pub(crate) fn newest_in_file<C: Comparator, F: Folder>(
         Gives result (λ found. IsAnswer table.entries
         (user_of target.entry.bytes.now) (sequence_of target.entry.bytes.now)
         (option_map visible_of found)) }
+    // A table whose index has no entry is refused.
+    ensures empty { (bytes : List ℕ) → HoldsTable (F.tells folder.old) file.now.number bytes →
+        file.now.size ≡ length bytes → index_in bytes ≡ Ok [] → Refuses result Empty }
     ensures device { ReportsDevice F.Folder folder.old folder.new result }
     ensures reads { OnlyReads F.Folder folder.old folder.new }
 {
@@ -66,7 +70,8 @@ fn of_user<C: Comparator>(first: Option<OwnedEntry>, target: InternalKey<'_>) ->
     Some(entry)
 }
 
-/// The first entry of a table at or above `target`. None if all are below.
+/// The first entry of a table at or above `target`. None if all are below; Empty if its index has
+/// no entry.
 fn first_in_table<C: Comparator, F: Folder>(
     alloc: Global,
     folder: &mut F,
@@ -78,6 +83,8 @@ fn first_in_table<C: Comparator, F: Folder>(
         Indexes C.cmp bytes names entries →
         Gives result
         (λ found. found ≡ slice_get (entries_from C.cmp target.entry.bytes.now entries) 0) }
+    ensures empty { (bytes : List ℕ) → IsFileOfBytes (F.tells folder.old) file.now bytes →
+        index_in bytes ≡ Ok [] → Refuses result Empty }
     ensures device { ReportsDevice F.Folder folder.old folder.new result }
     ensures reads { OnlyReads F.Folder folder.old folder.new }
 {

@@ -16,7 +16,7 @@ use tool::{
     OutState, OutcomeTask, clean_folder, compact_folder, install_compaction, print_job,
     print_removable, state_of, write_compaction,
 };
-use usage::{CommandLine, CompactWork, Line, Verbosity, VerdictForm, line};
+use usage::{CommandLine, CompactWork, Line, Usage, Verbosity, VerdictForm, line};
 
 /// How many MiB of tables are held to find the file of a refusal, if `--memory` doesn't say it.
 const MEMORY: u64 = 128;
@@ -45,6 +45,9 @@ pub(crate) fn run<R: Env + Host>(rt: &R, is_watched: bool) -> u8 {
     let mut listed = Vec::new(rt.alloc());
     match line(rt.alloc(), words.as_slice(), &mut listed) {
         Ok(asked) => answer(rt, &asked, is_watched),
+        Err(Usage::Clap(_)) if words.iter().any(|word| word == "--no-logs") => {
+            report_misuse(rt, "usage: --no-logs is called --fail-on-logs")
+        }
         Err(usage) => report_usage(rt, usage),
     }
 }

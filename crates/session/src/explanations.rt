@@ -9,6 +9,10 @@ pub struct Words {
     pub remedy: &'static str,
 }
 
+/// How writes in a log become tables that are read here.
+pub const CLOSE_ONCE: &str = "open and close the database once with LevelDB, with compression off \
+    and the same filter, if any";
+
 /// The words of a path where no folder is.
 pub const NO_FOLDER: Words = Words {
     wrong: "there is no such folder",
@@ -35,10 +39,7 @@ fn of_work(name: FaultName) -> Option<Words> {
             "another program changed the database meanwhile",
             "run it again",
         ),
-        FaultName::Logs => (
-            "a log has writes that are in no table",
-            "open and close the database once with LevelDB, with compression off",
-        ),
+        FaultName::Logs => ("a log has writes that are in no table", CLOSE_ONCE),
         FaultName::Device => ("a call of the system failed", "run it again"),
         FaultName::Memory => (
             "there is not enough memory to hold all that is read",

@@ -15,6 +15,9 @@ use std::os::unix::fs::MetadataExt;
 use std::rt::Files;
 use std::{fs, io};
 
+/// The call that failed if a folder can't be locked.
+const LOCKING: &str = "make or lock its file LOCK";
+
 /// Locks the folder at a path against every other program that reads or changes it. If it has no
 /// CURRENT, its logs are told of. Changed if it has a text of CURRENT that isn't renamed yet: what
 /// it names would be lost.
@@ -29,7 +32,7 @@ pub fn locked_to_change<R: SystemFiles + Eprint + AllocGlobal>(
             if fault.name == FaultName::Missing {
                 telling.tell_unopened_logs(rt);
             }
-            return Err(unlocked(rt, path, fault));
+            return Err(unlocked(rt, path, fault, true));
         }
     };
     match pending_in(rt, path) {
@@ -49,7 +52,7 @@ pub fn locked_to_read<R: SystemFiles + Eprint + AllocGlobal>(
     let lock = if telling.ignores_lock {
         None
     } else {
-        lock_to_read(rt, rt.alloc(), path).map_err(|fault| unlocked(rt, path, fault))?
+        lock_to_read(rt, rt.alloc(), path).map_err(|fault| unlocked(rt, path, fault, false))?
     };
     if !telling.is_quiet
         && let Ok(Some(pending)) = pending_in(rt, path)
@@ -83,10 +86,15 @@ fn pending_refusal(alloc: Global, pending: &str) -> Refusal {
     Refusal::new(Fault::of(FaultName::Changed), told(alloc, pending, words))
 }
 
-/// The refusal of a folder that can't be locked.
-fn unlocked<R: SystemFiles + AllocGlobal>(rt: &R, path: &str, fault: Fault) -> Refusal {
+/// The refusal of a folder that can't be locked, to change it or to read it.
+fn unlocked<R: SystemFiles + AllocGlobal>(
+    rt: &R,
+    path: &str,
+    fault: Fault,
+    changes: bool,
+) -> Refusal {
     match fault.name {
-        FaultName::Device => device_refusal(rt, path, fault),
+        FaultName::Device => device_refusal(rt, path, fault, changes),
         FaultName::Locked => Refusal::new(fault, shared_refusal(rt, path)),
         FaultName::Missing => Refusal::new(fault, no_database(rt, path)),
         _ => Refusal::from(fault),
@@ -108,50 +116,74 @@ fn shared_refusal<R: SystemFiles + AllocGlobal>(rt: &R, path: &str) -> Option<Re
 }
 
 /// The refusal of a folder that can't be locked since the device failed.
-fn device_refusal<R: SystemFiles + AllocGlobal>(rt: &R, path: &str, fault: Fault) -> Refusal {
+fn device_refusal<R: SystemFiles + AllocGlobal>(
+    rt: &R,
+    path: &str,
+    fault: Fault,
+    changes: bool,
+) -> Refusal {
     match fs::metadata(rt, path) {
         Err(error) if error.kind() == ErrorKind::NotFound => {
             Refusal::new(fault, told(rt.alloc(), path, NO_FOLDER))
         }
         Err(error) => Refusal::of_call(rt.alloc(), path, "read", &error),
-        Ok(metadata) if metadata.is_dir() => file_refused(rt, path, fault),
+        Ok(metadata) if metadata.is_dir() => file_refused(rt, path, fault, changes),
         Ok(_) => {
             let words = Words {
                 wrong: "it is no folder",
-                remedy: "give the folder of a database",
+                remedy: "give the folder of a database; dump and verify --table take a table",
             };
             Refusal::new(fault, told(rt.alloc(), path, words))
         }
     }
 }
 
-/// The refusal of a folder whose CURRENT can't be looked for, or whose LOCK can't be locked.
-fn file_refused<R: SystemFiles + AllocGlobal>(rt: &R, path: &str, fault: Fault) -> Refusal {
+/// The refusal of a folder whose CURRENT can't be looked for, or whose LOCK can't be locked, in the
+/// system's words if it has some.
+fn file_refused<R: SystemFiles + AllocGlobal>(
+    rt: &R,
+    path: &str,
+    fault: Fault,
+    changes: bool,
+) -> Refusal {
     if let Some(current) = path_in(rt.alloc(), path, CURRENT)
         && let Err(error) = fs::metadata(rt, current.as_str())
         && error.kind() != ErrorKind::NotFound
     {
         return Refusal::of_call(rt.alloc(), path, "read CURRENT", &error);
     }
-    lock_refused(rt, path, fault)
+    match lock_tried(rt, path, changes) {
+        Err(error) if !is_of_others(error.kind()) => {
+            Refusal::of_call(rt.alloc(), path, LOCKING, &error)
+        }
+        _ => {
+            let text = format!(in rt.alloc(); "cannot {LOCKING}");
+            Refusal::new(fault, RefusalText::alone(rt.alloc(), path, text))
+        }
+    }
 }
 
-/// The refusal of a folder whose LOCK can't be locked, in the system's words if it can't be opened.
-fn lock_refused<R: SystemFiles + AllocGlobal>(rt: &R, path: &str, fault: Fault) -> Refusal {
-    let text = String::from_str(rt.alloc(), "cannot make or lock its file LOCK");
-    let Ok(lock) = format!(in rt.alloc(); "{path}/LOCK") else {
-        return Refusal::from(fault);
+/// Whether a call failed only since a file isn't there, or is.
+fn is_of_others(kind: ErrorKind) -> bool {
+    matches!(kind, ErrorKind::NotFound | ErrorKind::AlreadyExists)
+}
+
+/// Opens LOCK. If it is to be changed, it is made, and a file beside it, as its lock needs it.
+fn lock_tried<R: SystemFiles + AllocGlobal>(rt: &R, folder: &str, changes: bool) -> io::Result<()> {
+    let Some(lock) = path_in(rt.alloc(), folder, "LOCK") else {
+        return Err(ErrorKind::OutOfMemory.into());
     };
-    let opened = OpenOptions::new()
-        .read(true)
-        .write(true)
-        .open(rt, lock.as_str());
-    match opened {
-        Err(error) if error.kind() != ErrorKind::NotFound => {
-            Refusal::of_call(rt.alloc(), path, "open LOCK", &error)
-        }
-        _ => Refusal::new(fault, RefusalText::alone(rt.alloc(), path, text)),
+    let mut how = OpenOptions::new();
+    how.read(true).write(true).create(changes);
+    how.open(rt, lock.as_str())?;
+    if !changes {
+        return Ok(());
     }
+    let Some(beside) = path_in(rt.alloc(), folder, "LOCK-wal") else {
+        return Err(ErrorKind::OutOfMemory.into());
+    };
+    how.create_new(true).open(rt, beside.as_str())?;
+    fs::remove_file(rt, beside.as_str())
 }
 
 /// What is told of a folder without a CURRENT.

@@ -40,7 +40,7 @@ pub use amount_texts::total_text;
 pub use disk::{Disk, MAX_FILE_LEN, SystemFiles};
 pub use edit::{FileMeta, LAST_LEVEL, LEVELS};
 pub use edit_inputs::deleted_files;
-pub use explanations::{Words, in_words, of_file};
+pub use explanations::{CLOSE_ONCE, Words, in_words, of_file};
 pub use filter_blocks::have_filter;
 pub use folder::{Bytewise, Comparator, Folder, Order, Shortlex, manifest_name};
 pub use folder_locks::{locked_to_change, locked_to_read, no_database};

@@ -3,7 +3,7 @@
 
 use crate::manifest_notes::tell_impossible;
 use crate::refusal::{Refusal, RefusalText};
-use crate::refused_logs::no_logs;
+use crate::refused_logs::fail_on_logs;
 use crate::reporter::Telling;
 use crate::tested_sizes::too_large;
 use coding::{Fault, FaultName};
@@ -11,9 +11,13 @@ use disk::{Disk, SystemFiles};
 use edit::Version;
 use folder::{Opened, open};
 use std::io;
-use std::io::Write;
+use std::io::{ErrorKind, Write};
 use std::rt::Files;
 use std::time::Clock;
+
+/// What to do if there is no room for a file.
+const NO_ROOM: &str = "clean removes files that no version needs; the database is as it was after \
+    the last step that was told";
 
 /// The bytes of a MiB.
 const MEBIBYTE: u64 = 1 << 20;
@@ -71,7 +75,7 @@ fn logs_counted<R: Files + Eprint + AllocGlobal>(
     if !telling.refuses_logs {
         return Ok(telling.tell_logs(rt, version)?);
     }
-    no_logs(rt, telling.folder, version)?;
+    fail_on_logs(rt, telling.folder, version)?;
     Ok(Some(0))
 }
 
@@ -107,7 +111,12 @@ pub fn refused_at<R: SystemFiles + AllocGlobal>(
     if failure.is_too_large() {
         return too_large(rt.alloc(), path, failure.name.as_str());
     }
-    let told = RefusalText::alone(rt.alloc(), path, format!(in rt.alloc(); "{failure}"));
+    let alloc = rt.alloc();
+    let text = format!(in alloc; "{failure}");
+    let told = match failure.error.kind() {
+        ErrorKind::StorageFull => RefusalText::new(alloc, path, text, NO_ROOM),
+        _ => RefusalText::alone(alloc, path, text),
+    };
     Refusal::new(fault, told)
 }
 

@@ -1,6 +1,7 @@
 //! The refusal of a folder whose newest writes are only in a log.
 
 use crate::amount_texts::grouped;
+use crate::explanations::CLOSE_ONCE;
 use crate::folder_names::path_in;
 use crate::logs::{Log, logs_with_writes};
 use crate::refusal::{Refusal, RefusalText};
@@ -11,7 +12,7 @@ use std::rt::Files;
 
 /// Tests whether no log that LevelDB would replay over a version has a byte. Logs if one has. The
 /// first of them is told.
-pub(crate) fn no_logs<R: Files + AllocGlobal>(
+pub(crate) fn fail_on_logs<R: Files + AllocGlobal>(
     rt: &R,
     folder: &str,
     version: &Version,
@@ -38,6 +39,5 @@ fn log_text(alloc: Global, folder: &str, log: Log) -> Option<RefusalText> {
     let bytes = grouped(alloc, log.bytes).ok()?;
     let unit = if log.bytes == 1 { "byte" } else { "bytes" };
     let wrong = format!(in alloc; "it has {bytes} {unit} of writes that are in no table");
-    let remedy = "open and close the database once with LevelDB";
-    RefusalText::new(alloc, path.as_str(), wrong, remedy)
+    RefusalText::new(alloc, path.as_str(), wrong, CLOSE_ONCE)
 }

@@ -3,6 +3,7 @@
 ghost use Rattle.std.specs.Prelude.{◌≡◌, false, IfSome};
 
 use crate::amount_texts::grouped;
+use crate::explanations::CLOSE_ONCE;
 use crate::folder_names::path_in;
 use crate::logs::{Log, logs_with_writes, replaceable_files};
 use coding::{Fault, FaultName};
@@ -57,12 +58,12 @@ impl<'a> Telling<'a> {
     ) -> Result<Option<u64>, Fault> {
         match logs_with_writes(rt, self.folder, Some(version)) {
             Ok(logs) => {
-                self.tell_each(
-                    rt,
-                    &logs,
-                    "of writes that are in no table; they are not seen here; \
-                    open and close the database once with LevelDB",
-                );
+                if let Ok(about) = format!(in rt.alloc();
+                    "of writes that are in no table; they are neither seen nor tested here; \
+                        {CLOSE_ONCE}"
+                ) {
+                    self.tell_each(rt, &logs, about.as_str());
+                }
                 Ok(Some(logs.len() as u64))
             }
             Err(error) if error.kind() == ErrorKind::OutOfMemory => {
@@ -119,9 +120,8 @@ impl<'a> Telling<'a> {
         }
     }
 
-    /// Tells of the files that compactions from this version on may replace, a line each, but for
-    /// those that are removed now. Nothing is told if the folder can't be listed: that is told with
-    /// its logs.
+    /// Tells of the files that compactions from this version on may replace, but for those that are
+    /// removed now. Nothing is told if the folder can't be listed: that is told with its logs.
     pub fn tell_replaceable<R: Files + Eprint + AllocGlobal>(
         self,
         rt: &R,
@@ -134,19 +134,19 @@ impl<'a> Telling<'a> {
         let Ok(names) = replaceable_files(rt, self.folder, version) else {
             return;
         };
+        let (mut count, mut first) = (0u64, "");
         for name in &names {
             if !removed.contains(name) {
-                self.tell_replaceable_file(rt, name.as_str());
+                first = if count == 0 { name.as_str() } else { first };
+                count = count.saturating_add(1);
             }
         }
-    }
-
-    /// Tells of a file that a compaction may replace.
-    fn tell_replaceable_file<R: Eprint + AllocGlobal>(self, rt: &R, name: &str) {
-        if let Some(path) = path_in(rt.alloc(), self.folder, name) {
+        if count > 0 {
+            let folder = self.folder;
             let _ = eprintln!(rt;
-                "sedvokt: {path}: the manifest says that its number is free; a new file may \
-                    replace it"
+                "sedvokt: {folder}: files with a number that the manifest says is free: {count}, \
+                    as {first}; new ones may replace them, and nothing needs them, unless the \
+                    folder was copied while it changed: then restore it from a whole copy"
             );
         }
     }

@@ -1,6 +1,7 @@
 //! Whole files, read and replaced.
 
-use crate::refusal::Refusal;
+use crate::explanations::Words;
+use crate::refusal::{Refusal, told};
 use coding::{Fault, FaultName};
 use disk::MAX_FILE_LEN;
 use std::fs::{File, OpenFile, OpenOptions, Permissions};
@@ -8,12 +9,22 @@ use std::io::{ErrorKind, Read, Write};
 use std::rt::Files;
 use std::{fs, io};
 
+/// The words of a folder where a file is asked for.
+const A_FOLDER: Words = Words {
+    wrong: "it is a folder, and a file is wanted",
+    remedy: "verify, scan and get take the folder of a database",
+};
+
 /// The bytes of a file; of a pipe, those that come until it is closed. Missing if there is no such
 /// file, Size if there are more than 2^30 bytes, Device if it can't be read.
 pub fn read_file<R: Files + AllocGlobal>(rt: &R, path: &str) -> Result<Vec<u8>, Refusal> {
     let alloc = rt.alloc();
     bytes_at(rt, path).map_err(|error| match error.kind() {
         ErrorKind::NotFound => Refusal::of_missing(alloc, path),
+        ErrorKind::IsADirectory => Refusal::new(
+            Fault::of(FaultName::Device),
+            told(alloc, path, A_FOLDER),
+        ),
         ErrorKind::FileTooLarge => Refusal::of_file(alloc, path, Fault::of(FaultName::Size)),
         _ => Refusal::of_call(alloc, path, "read", &error),
     })

@@ -20,6 +20,7 @@ use crate::compaction_step::CompactionStep;
 use crate::input_compaction::compact_step;
 use crate::install_laws::inputs_suffice;
 use crate::synced_version::SyncedVersion;
+use crate::test_memory::test_memory;
 use crate::version_sync::sync_version;
 use board::Watch;
 use checks::{SharedComparator, Workers, test_and_hold};
@@ -90,8 +91,9 @@ pub fn compact_dir<F: ReadsTables + WritesTables, W: Watch + Sync, R: Threads + 
 /// [`compact_dir`] does after the folder was opened and the version synced. The number of the
 /// manifest is the version's next file; the outputs have the numbers after it.
 ///
-/// All tables are tested first. Then it does what [`compact_inputs`](crate::compact_inputs) does;
-/// the tables of inputs that the test still holds are not read again.
+/// All tables are tested first; the test holds `memory` bytes of them, or as many as the inputs
+/// have. Then it does what [`compact_inputs`](crate::compact_inputs) does; the tables of inputs that
+/// the test still holds are not read again.
 pub fn compact_opened<F: ReadsTables + WritesTables, W: Watch + Sync, R: Threads + Sync>(
     workers: &Workers<'_, R, W>,
     folder: &mut F,
@@ -163,6 +165,7 @@ fn compact_version<
 {
     inputs_suffice::<C>();
     let version = &opened.version;
-    let found = test_and_hold::<C, F, W, R>(workers, folder, version, memory)?;
+    let most = test_memory::<C>(workers.alloc(), version, level, memory)?;
+    let found = test_and_hold::<C, F, W, R>(workers, folder, version, most)?;
     compact_step::<C, F, W, R>(workers, folder, found.tables, opened, level, settings)
 }

@@ -72,13 +72,14 @@ mod part_tables;
 mod picked_outcome;
 mod planned_installation;
 mod synced_version;
+mod test_memory;
 mod version_files;
 mod version_sync;
 
 pub use all_levels::{compact_all, compact_levels};
 pub use answered_steps::outcome_step;
 pub use board::{Watch, Work};
-pub use checks::{Open, checkers};
+pub use checks::{Open, checkers, checkers_of};
 pub use clean_watch::CleanWatch;
 pub use cleaned_levels::{compact_all_and_clean, compact_and_clean};
 pub use compact::{DeletedFile, Settings};

@@ -25,12 +25,24 @@ pub fn clean_folder<R: Host>(rt: &R, telling: Telling<'_>) -> Result<(), Refusal
 fn folder_cleaned<R: Host>(rt: &R, telling: Telling<'_>) -> Result<(), Refusal> {
     let mut folder = Disk::new(rt, telling.folder);
     let opened = begin_in(rt, telling, &mut folder)?.opened;
+    clean_opened(rt, telling, &mut folder, opened, false)
+}
+
+/// Removes the files that the version that a folder was opened as doesn't need, and prints them, as
+/// JSON if that is asked for.
+pub(crate) fn clean_opened<R: Host>(
+    rt: &R,
+    telling: Telling<'_>,
+    folder: &mut Disk<'_, R>,
+    opened: Opened,
+    is_json: bool,
+) -> Result<(), Refusal> {
     let files = files_to_clean(rt, telling, &opened)?;
     if files.names.is_empty() {
         return Ok(());
     }
-    let opened = sync(rt, telling.folder, &mut folder, opened)?.into_opened();
-    remove_files(rt, telling.folder, &mut folder, &opened, files, false)
+    let opened = sync(rt, telling.folder, folder, opened)?.into_opened();
+    remove_files(rt, telling.folder, folder, &opened, files, is_json)
 }
 
 /// Prints the files of a folder that its version doesn't need. Nothing is written.

@@ -1,10 +1,13 @@
 //! What is told of a compaction on the standard error: what was made of which files, that filters
-//! are gone, and that there was nothing to do.
+//! are gone, that there was nothing to do, and which files can go.
 
 use answers::FileTotal;
 use disk::{Disk, SystemFiles};
 use folder::{Bytewise, Fault, FileMeta, Folder, LEVELS, Version, VersionEdit};
-use session::{LAST_LEVEL, Telling, deleted_files, have_filter, total_text};
+use session::{
+    LAST_LEVEL, Refusal, Telling, deleted_files, have_filter, open_folder, total_text,
+    unneeded_files,
+};
 use std::alloc::Global;
 use std::collections::BTreeSet;
 use store::{DeletedFile, EDIT};
@@ -174,6 +177,34 @@ pub(crate) fn tell_made<R: Eprint + AllocGlobal>(
     if let (Ok(before), Ok(after)) = (before, after) {
         let _ = eprintln!(rt; "{before} into {after}");
     }
+}
+
+/// Tells how many files the version of a folder doesn't need, and what removes them. Nothing is told
+/// if there is none, or if they can't be counted.
+pub(crate) fn tell_room<R: SystemFiles + Eprint + AllocGlobal>(rt: &R, telling: Telling<'_>) {
+    if telling.is_quiet {
+        return;
+    }
+    let folder = telling.folder;
+    if let Ok(total) = unneeded_total(rt, folder)
+        && total.files > 0
+        && let Ok(files) = total_text(rt.alloc(), total.files, total.bytes)
+    {
+        let _ = eprintln!(rt; "{files} can go: sedvokt clean {folder}");
+    }
+}
+
+/// The files of a folder that its version doesn't need.
+fn unneeded_total<R: SystemFiles + AllocGlobal>(
+    rt: &R,
+    folder: &str,
+) -> Result<FileTotal, Refusal> {
+    let opened = open_folder(rt, folder)?;
+    let mut total = FileTotal::none();
+    for bytes in &unneeded_files(rt, folder, &opened)?.lengths {
+        total = total.with(*bytes);
+    }
+    Ok(total)
 }
 
 /// Tells that there was no step to do, if all `files` are at the `bottom`.

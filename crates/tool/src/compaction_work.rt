@@ -1,8 +1,8 @@
 //! The compaction of a folder, from its path to what is printed.
 
 use crate::clean_printer::CleanPrinter;
-use crate::clean_work::{RemovalPrinter, clean_installed, clean_named};
-use crate::compaction_notes::note_of;
+use crate::clean_work::{RemovalPrinter, clean_installed, clean_named, clean_opened};
+use crate::compaction_notes::{note_of, tell_room};
 use crate::step_printer::{StepPrinter, print_step, tell_step, unprinted};
 use crate::version_sync::sync;
 use disk::{Disk, SystemFiles};
@@ -15,7 +15,7 @@ use session::{
 };
 use std::alloc::Global;
 use store::{
-    CompactionStep, DescentEnd, SyncedVersion, bottom, checkers, compact_inputs, compact_opened,
+    CompactionStep, DescentEnd, SyncedVersion, bottom, checkers_of, compact_inputs, compact_opened,
     next_level, outcome_of_inputs, outcome_of_opened,
 };
 use usage::{CompactLine, Levels, Settings, Testing};
@@ -49,9 +49,16 @@ pub fn compact_folder<R: Host>(
     };
     let _lock = locked_to_change(rt, telling)?;
     let mut folder = Disk::new(rt, telling.folder);
-    compact_levels(rt, telling, &mut folder, task).map_err(|refusal| {
-        compaction_explained(rt, telling, one_level(task.levels), task.settings, refusal)
-    })
+    match compact_levels(rt, telling, &mut folder, task) {
+        Ok(()) => {
+            tell_room(rt, telling);
+            Ok(())
+        }
+        Err(refusal) => {
+            let level = one_level(task.levels);
+            Err(compaction_explained(rt, telling, level, task.settings, refusal))
+        }
+    }
 }
 
 /// The level, if one is asked for.
@@ -78,7 +85,7 @@ fn compact_levels<R: Host>(
         let synced = sync(rt, telling.folder, folder, opened)?;
         compact_synced(rt, telling, folder, synced, task)
     } else {
-        nothing_compacted(rt, telling, folder, &opened, task)
+        nothing_compacted(rt, telling, folder, opened, task)
     }
 }
 
@@ -100,23 +107,27 @@ fn compact_synced<R: Host>(
 }
 
 /// What is answered if there is no level to compact. Nothing will be written, so nothing has to
-/// outlive a crash.
+/// outlive a crash; files that the version doesn't need are removed, if that is asked for.
 fn nothing_compacted<R: Host>(
     rt: &R,
     telling: Telling<'_>,
     folder: &mut Disk<'_, R>,
-    opened: &Opened,
+    opened: Opened,
     task: CompactionTask<'_>,
 ) -> Result<(), Refusal> {
     match task.levels {
         Levels::One(level) | Levels::Whole(level) => {
-            Err(refusal_of_level(rt, telling, folder, opened, level, task))
+            Err(refusal_of_level(rt, telling, folder, &opened, level, task))
         }
         Levels::All | Levels::AllWhole => {
             let progress = ProgressLine::new(rt, telling);
             let steps = StepPrinter::new(rt, telling, &progress, &opened.version, task)?;
             progress.erase();
-            steps.end()
+            steps.end()?;
+            if task.cleans {
+                clean_opened(rt, telling, folder, opened, task.is_json)?;
+            }
+            Ok(())
         }
     }
 }
@@ -132,7 +143,7 @@ fn refusal_of_level<R: Host>(
     task: CompactionTask<'_>,
 ) -> Refusal {
     let progress = ProgressLine::new(rt, telling);
-    let workers = checkers(rt, rt.alloc(), &progress);
+    let workers = checkers_of(rt, rt.alloc(), task.settings.workers, &progress);
     let settings = task.settings;
     let outcome = if task.testing.is_skipped {
         outcome_of_inputs(&workers, folder, opened, level, None, settings)
@@ -202,7 +213,7 @@ fn step_made<R: Host>(
     task: CompactionTask<'_>,
 ) -> Result<CompactionStep, Refusal> {
     let progress = ProgressLine::new(rt, telling);
-    let workers = checkers(rt, rt.alloc(), &progress);
+    let workers = checkers_of(rt, rt.alloc(), task.settings.workers, &progress);
     let settings = task.settings;
     let memory = bytes_of(task.testing.memory);
     let made = match task.levels {
@@ -274,7 +285,7 @@ fn whole_descended<R: Host>(
 ) -> Result<DescentEnd, Fault> {
     let memory = bytes_of(task.testing.memory);
     let progress = steps.progress();
-    let workers = checkers(rt, rt.alloc(), progress);
+    let workers = checkers_of(rt, rt.alloc(), task.settings.workers, progress);
     compact_whole_levels(&workers, folder, opened, task.settings, memory, steps)
 }
 
@@ -291,7 +302,7 @@ fn descended<R: Host>(
     let settings = task.settings;
     if task.testing.is_skipped {
         store::compact_levels(
-            &checkers(rt, alloc, progress),
+            &checkers_of(rt, alloc, settings.workers, progress),
             folder,
             opened,
             settings,
@@ -300,7 +311,7 @@ fn descended<R: Host>(
     } else {
         let memory = bytes_of(task.testing.memory);
         store::compact_all(
-            &checkers(rt, alloc, progress),
+            &checkers_of(rt, alloc, settings.workers, progress),
             folder,
             opened,
             settings,
@@ -323,7 +334,7 @@ fn cleaned<R: Host>(
     let settings = task.settings;
     if task.testing.is_skipped {
         store::compact_and_clean(
-            &checkers(rt, alloc, progress),
+            &checkers_of(rt, alloc, settings.workers, progress),
             folder,
             opened,
             settings,
@@ -332,7 +343,7 @@ fn cleaned<R: Host>(
     } else {
         let memory = bytes_of(task.testing.memory);
         store::compact_all_and_clean(
-            &checkers(rt, alloc, progress),
+            &checkers_of(rt, alloc, settings.workers, progress),
             folder,
             opened,
             settings,

@@ -1,7 +1,7 @@
 //! The installation of outcomes, from the paths to what is printed.
 
 use crate::clean_work::clean_installed;
-use crate::compaction_notes::{loses_filters, tell_no_filters};
+use crate::compaction_notes::{loses_filters, tell_no_filters, tell_room};
 use crate::install_steps::{InstallationEnd, outcomes_installed};
 use crate::outcome_refusal::outcome_explained;
 use crate::step_printer::{print_step_lines, unprinted};
@@ -71,10 +71,11 @@ fn tell_installed<R: Host>(
     if loses_filters {
         tell_no_filters(rt, telling);
     }
-    if !line.cleans {
-        return Ok(());
+    if line.cleans {
+        clean_installed(rt, telling.folder, folder, &opened.version, false)?;
     }
-    clean_installed(rt, telling.folder, folder, &opened.version, false)
+    tell_room(rt, telling);
+    Ok(())
 }
 
 /// What a folder is opened as, synced.

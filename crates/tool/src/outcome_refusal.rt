@@ -15,6 +15,10 @@ const REMEDY: &str = "make the outcome again";
 /// What to do about an outcome whose numbers were given away since.
 const NUMBER_REMEDY: &str = "make the outcome again with a --first-number above it";
 
+/// The same if outcomes before it have them.
+const ORDER_REMEDY: &str = "give the outcomes in the order of their numbers, or make this one \
+    again with a --first-number above it";
+
 /// The refusal of an installation of outcomes in what a folder was `opened` as, with what is told
 /// of it. That is the first refused file of the outcome after those that were taken in, else the
 /// first one of the folder. The name is told before they are read.
@@ -30,14 +34,13 @@ pub(crate) fn outcome_explained<'a, R: Host>(
     if refusal.told.is_some() || is_of_no_file(name) {
         return refusal;
     }
-    let is_first = done == 0;
     match line.outs.get(done as usize) {
         Some(out) => {
             one_explained(
                 rt,
                 telling,
                 line,
-                OutcomePlace { out, is_first },
+                OutcomePlace { out, done },
                 opened,
                 refusal,
             )
@@ -51,8 +54,8 @@ pub(crate) fn outcome_explained<'a, R: Host>(
 struct OutcomePlace<'a> {
     /// The path of its folder.
     out: &'a str,
-    /// Whether none is before it.
-    is_first: bool,
+    /// How many are before it.
+    done: u64,
 }
 
 /// The refusal of an outcome, with what is told of it.
@@ -70,22 +73,31 @@ fn one_explained<'a, R: Host>(
     refusal.tell_name(rt);
     match outcome_file(rt, out, opened.order, name) {
         Some(file) => refusal.telling(file_refusal(rt.alloc(), out, &file)),
-        None if name == FaultName::Apply => refusal.telling(misfit(rt, place, opened)),
+        None if name == FaultName::Apply => refusal.telling(misfit(rt, line, place, opened)),
         None => explained_of_folder(rt, telling, line, out, refusal),
     }
 }
 
 /// What is told of an outcome that doesn't fit what a folder was `opened` as.
-fn misfit<R: Host>(rt: &R, place: OutcomePlace<'_>, opened: &SyncedVersion) -> Option<RefusalText> {
+fn misfit<R: Host>(
+    rt: &R,
+    line: &InstallLine<'_>,
+    place: OutcomePlace<'_>,
+    opened: &SyncedVersion,
+) -> Option<RefusalText> {
     let alloc = rt.alloc();
     let path = path_in(alloc, place.out, EDIT)?;
-    match number_taken(rt, place.out, opened) {
-        Ok(Some(number)) => {
-            let next = manifest_of(&opened.version);
+    match number_taken(rt, line, place, opened) {
+        Ok(Some((number, next))) => {
+            let (whose, remedy) = if place.done == 0 {
+                ("the database", NUMBER_REMEDY)
+            } else {
+                ("the outcomes before it", ORDER_REMEDY)
+            };
             let wrong = format!(in alloc;
-                "its table {number} is not above the next file number of the database, {next}"
+                "its table {number} is not above the next file number of {whose}, {next}"
             );
-            RefusalText::new(alloc, path.as_str(), wrong, NUMBER_REMEDY)
+            RefusalText::new(alloc, path.as_str(), wrong, remedy)
         }
         _ => told(alloc, path.as_str(), misfit_words(place)),
     }
@@ -94,7 +106,7 @@ fn misfit<R: Host>(rt: &R, place: OutcomePlace<'_>, opened: &SyncedVersion) -> O
 /// What is wrong with an outcome that doesn't fit.
 fn misfit_words(place: OutcomePlace<'_>) -> Words {
     Words {
-        wrong: if place.is_first {
+        wrong: if place.done == 0 {
             "it does not fit the version of the database"
         } else {
             "it does not fit the version that the outcomes before it leave"
@@ -103,19 +115,48 @@ fn misfit_words(place: OutcomePlace<'_>) -> Words {
     }
 }
 
-/// The first new file of an outcome whose number isn't above the next file of a version that has
-/// all its inputs.
-fn number_taken<R: Host>(rt: &R, out: &str, opened: &SyncedVersion) -> Result<Option<u64>, Fault> {
+/// The number of the first new file of an outcome that isn't above the next file number that it
+/// comes to, and that. None if there is none, or if an input isn't there.
+fn number_taken<R: Host>(
+    rt: &R,
+    line: &InstallLine<'_>,
+    place: OutcomePlace<'_>,
+    opened: &SyncedVersion,
+) -> Result<Option<(u64, u64)>, Fault> {
     let alloc = rt.alloc();
-    let Some(edit) = outcome_edit(alloc, &mut Disk::new(rt, out))? else {
+    let Some(edit) = outcome_edit(alloc, &mut Disk::new(rt, place.out))? else {
         return Ok(None);
     };
     let inputs = deleted_files(alloc, &opened.version, &edit.deleted)?;
-    if inputs.len() == edit.deleted.len() {
-        Ok(first_at_most(&edit, manifest_of(&opened.version)))
-    } else {
-        Ok(None)
+    if inputs.len() != edit.deleted.len() {
+        return Ok(None);
     }
+    let Some(next) = next_before(rt, line, place, opened, &edit)? else {
+        return Ok(None);
+    };
+    Ok(first_at_most(&edit, next).map(|number| (number, next)))
+}
+
+/// The next file number that the outcomes before one with this edit leave. None if one of them
+/// deletes an input of it.
+fn next_before<R: Host>(
+    rt: &R,
+    line: &InstallLine<'_>,
+    place: OutcomePlace<'_>,
+    opened: &SyncedVersion,
+    edit: &VersionEdit,
+) -> Result<Option<u64>, Fault> {
+    let mut next = manifest_of(&opened.version);
+    for out in line.outs.iter().take(place.done as usize) {
+        let Some(before) = outcome_edit(rt.alloc(), &mut Disk::new(rt, out))? else {
+            return Ok(None);
+        };
+        if !before.deleted.is_disjoint(&edit.deleted) {
+            return Ok(None);
+        }
+        next = next.max(before.next_file.unwrap_or(0));
+    }
+    Ok(Some(next))
 }
 
 /// The number of the first new file of an edit that isn't above this one.

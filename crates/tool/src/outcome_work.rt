@@ -13,7 +13,7 @@ use session::{
 };
 use std::alloc::Global;
 use store::{
-    CompactionOutcome, EDIT, LevelPart, checkers, outcome_of_inputs, outcome_of_opened,
+    CompactionOutcome, EDIT, LevelPart, checkers_of, outcome_of_inputs, outcome_of_opened,
     outcome_of_part, outcome_of_part_inputs,
 };
 use usage::CompactLine;
@@ -107,7 +107,7 @@ fn outcome_made<R: Host>(
     let memory = bytes_of(line.options.testing.memory);
     let progress = ProgressLine::new(rt, telling);
     let mut folder = Disk::new(rt, telling.folder);
-    let workers = checkers(rt, rt.alloc(), &progress);
+    let workers = checkers_of(rt, rt.alloc(), line.settings.workers, &progress);
     let (first, settings) = (task.first_number, &line.settings);
     let made = match part_of(task) {
         None => {
@@ -139,7 +139,7 @@ fn inputs_compacted<R: Host>(
 ) -> Result<CompactionOutcome, Refusal> {
     let progress = ProgressLine::new(rt, telling);
     let mut folder = Disk::new(rt, telling.folder);
-    let workers = checkers(rt, rt.alloc(), &progress);
+    let workers = checkers_of(rt, rt.alloc(), line.settings.workers, &progress);
     let (first, settings) = (task.first_number, &line.settings);
     let made = match part_of(task) {
         None => outcome_of_inputs(&workers, &mut folder, opened, task.level, first, settings),

@@ -39,7 +39,8 @@ LineOf (Some p) asked = LineGives p.0 p.1 asked
 abbrev pub IsRead : List Row → Option (Text × List Row) → CommandLine → Type 0
 IsRead above parsed asked = IsVerbosity above parsed asked.verbosity
     × (asked.ignores_lock ≡ is_flagged_below (codes "no-lock") parsed)
-    × (asked.refuses_logs ≡ is_flagged_below (codes "no-logs") parsed) × LineOf parsed asked.line
+    × (asked.refuses_logs ≡ is_flagged_below (codes "fail-on-logs") parsed)
+    × LineOf parsed asked.line
 
 -- What a command line asks for: `clap` finds no fault in the words, and their parse asks for this.
 abbrev pub CommandLineGives : List Text → CommandLine → Type 0

@@ -48,7 +48,7 @@ HasVerify line rows = (first_of (codes "DIR") rows ≡ Some line.folder.now)
 -- whether the rows give something of a folder, its test or its lock
 abbrev pub gives_folder : List Row → Bool
 gives_folder rows = is_given (codes "DIR") rows || is_flagged (codes "all-faults") rows
-    || is_given (codes "memory") rows || is_flagged (codes "no-logs") rows
+    || is_given (codes "memory") rows || is_flagged (codes "fail-on-logs") rows
     || is_flagged (codes "no-lock") rows
 
 -- the rows give this text of `--table`, this flag of `--json`, and nothing of a folder

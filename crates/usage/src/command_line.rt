@@ -63,7 +63,7 @@ fn command_line<'a>(
     Ok(CommandLine {
         verbosity,
         ignores_lock: is_flagged_below(matches, "no-lock"),
-        refuses_logs: is_flagged_below(matches, "no-logs"),
+        refuses_logs: is_flagged_below(matches, "fail-on-logs"),
         line,
     })
 }

@@ -26,9 +26,9 @@ const VERSION: &str = concat!(
 /// What is told after the program's help.
 const STATUSES: &str =
     "DIR is the folder of a LevelDB database that no other program has open. Writes
-that are only in a log are not read; --no-logs refuses such a database. A key is
-hexadecimal digits, two a byte; - is the empty key. As text (--text) it is
-printable ASCII, and \\xHH for every other byte; \"\" is the empty key.
+that are only in a log are not read; --fail-on-logs refuses such a database.
+A key is hexadecimal digits, two a byte; - is the empty key. As text (--text)
+it is printable ASCII, and \\xHH for every other byte; \"\" is the empty key.
 The status is 0 when the work is done, 1 when it is refused, 2 for a fault of
 usage and 3 when a device fails.";
 

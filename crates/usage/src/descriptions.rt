@@ -105,8 +105,8 @@ const NO_LOCK: Argument<'static> = Argument::Flag(
         be touched",
 );
 
-const NO_LOGS: Argument<'static> = Argument::Flag(
-    "no-logs",
+const FAIL_ON_LOGS: Argument<'static> = Argument::Flag(
+    "fail-on-logs",
     "Fails if writes are only in a log: logs are not read\n\
         here, LevelDB brings them into tables",
 );
@@ -144,7 +144,7 @@ pub(crate) const STATS: Description<'static> = Description {
 
 Examples: sedvokt stats DIR --text
           sedvokt stats DIR --json",
-    arguments: &[FOLDER, TEXT, JSON, Argument::Memory, NO_LOGS, NO_LOCK],
+    arguments: &[FOLDER, TEXT, JSON, Argument::Memory, FAIL_ON_LOGS, NO_LOCK],
     rules: &[],
 };
 
@@ -169,7 +169,7 @@ Examples: sedvokt verify DIR
             "Prints what is wrong with each file, and goes on",
         ),
         Argument::Memory,
-        NO_LOGS,
+        FAIL_ON_LOGS,
         NO_LOCK,
     ],
     rules: &[
@@ -177,7 +177,7 @@ Examples: sedvokt verify DIR
         Rule::AtMostOne("form", &["json", "all-faults"]),
         Rule::AtMostOne("table or faults", &["table", "all-faults"]),
         Rule::AtMostOne("table or memory", &["table", "memory"]),
-        Rule::AtMostOne("table or logs", &["table", "no-logs"]),
+        Rule::AtMostOne("table or logs", &["table", "fail-on-logs"]),
         Rule::AtMostOne("table or lock", &["table", "no-lock"]),
     ],
 };
@@ -207,7 +207,7 @@ Examples: sedvokt get DIR k00001 --text
         JSON,
         NO_VERIFY,
         Argument::Memory,
-        NO_LOGS,
+        FAIL_ON_LOGS,
         NO_LOCK,
     ],
     rules: &[
@@ -257,7 +257,7 @@ Examples: sedvokt scan DIR --text --limit 10
         JSON,
         NO_VERIFY,
         Argument::Memory,
-        NO_LOGS,
+        FAIL_ON_LOGS,
         NO_LOCK,
     ],
     rules: &[
@@ -285,7 +285,7 @@ Example: sedvokt history DIR k00001 --text",
         JSON,
         NO_VERIFY,
         Argument::Memory,
-        NO_LOGS,
+        FAIL_ON_LOGS,
         NO_LOCK,
     ],
     rules: &[],
@@ -298,7 +298,7 @@ pub(crate) const MANIFEST: Description<'static> = Description {
 
 Examples: sedvokt manifest DIR
           sedvokt manifest DIR --json --text",
-    arguments: &[FOLDER, TEXT, JSON, NO_LOGS, NO_LOCK],
+    arguments: &[FOLDER, TEXT, JSON, FAIL_ON_LOGS, NO_LOCK],
     rules: &[],
 };
 
@@ -370,7 +370,7 @@ Examples: sedvokt compact DIR --level 0
                 numbers, well apart, and are installed in order",
         ),
         NO_VERIFY,
-        NO_LOGS,
+        FAIL_ON_LOGS,
         Argument::Memory,
         Argument::Number(
             "workers",

@@ -4,16 +4,16 @@
 //! [`CommandLine`]: the command with its values, and how much is told of it. Or it answers a
 //! [`Usage`], why the words ask for nothing.
 //!
-//!     stats DIR [--text] [--json] [--memory MIB] [--no-logs] [--no-lock]
-//!     verify DIR [--json | --all-faults] [--memory MIB] [--no-logs] [--no-lock]
+//!     stats DIR [--text] [--json] [--memory MIB] [--fail-on-logs] [--no-lock]
+//!     verify DIR [--json | --all-faults] [--memory MIB] [--fail-on-logs] [--no-lock]
 //!     verify --table FILE [--json]
 //!     get DIR KEY.. | --stdin [--at N] [--text] [--utf8] [--raw | --json] [--no-verify]
-//!         [--memory MIB] [--no-logs] [--no-lock]
+//!         [--memory MIB] [--fail-on-logs] [--no-lock]
 //!     scan DIR [--from KEY] [--to KEY] [--prefix KEY] [--at N] [--limit N] [--keys | --count]
-//!         [--text] [--utf8] [--json] [--no-verify] [--memory MIB] [--no-logs] [--no-lock]
-//!     history DIR KEY [--text] [--utf8] [--json] [--no-verify] [--memory MIB] [--no-logs]
+//!         [--text] [--utf8] [--json] [--no-verify] [--memory MIB] [--fail-on-logs] [--no-lock]
+//!     history DIR KEY [--text] [--utf8] [--json] [--no-verify] [--memory MIB] [--fail-on-logs]
 //!         [--no-lock]
-//!     manifest DIR [--text] [--json] [--no-logs] [--no-lock]
+//!     manifest DIR [--text] [--json] [--fail-on-logs] [--no-lock]
 //!     dump TABLE [--text]
 //!     files DIR [--json] [--no-lock]
 //!     compact DIR (--level N | --all) [--whole] [options]

@@ -93,7 +93,7 @@ fn gives_folder(values: &ArgMatches<'_>) -> bool
     is_given(values, "DIR")
         || is_flagged(values, "all-faults")
         || is_given(values, "memory")
-        || is_flagged(values, "no-logs")
+        || is_flagged(values, "fail-on-logs")
         || is_flagged(values, "no-lock")
 }
 

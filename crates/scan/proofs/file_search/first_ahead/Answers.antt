@@ -17,7 +17,7 @@ names-preserved g c =
           let a = c.names.invariant.ahead bytes file named in
           let h = head_of cmp bytes c.value.result.now c.names.index a.named c.value.ensures in
           let block = ap block_in c.deref.ensures.value ∙ c.in_ok-stored.ensures.given bytes h.entries (file_later _ _ c.args.file.now bytes c.names.invariant.reads.same file) h.block in
-          passed cmp bytes t c.value.result.now c.args.index.now c.names.index _ c.in_ok-first.first a h (c.in_ok-first.ensures.given h.entries block h.keys) c.if-is_some.ensures c.in_ok-advance.ensures.ok;
+          passed cmp bytes t c.value.result.now c.args.index.now c.names.index _ c.in_ok-first.first a h (c.in_ok-first.ensures.given h.entries block h.keys h.some) c.if-is_some.ensures c.in_ok-advance.ensures.ok;
       reads = reads_then c.names.invariant.reads c.data_block.ensures.reads;
       failures = steady (failed c.args.folder.now) (failed c.names.folder) (failed c.data_block.new.folder) c.in_ok-stored.stored c.data_block.result c.in_ok-stored.was c.names.invariant.failures c.data_block.ensures.device.later c.data_block.ensures.device.at_once;
     }
@@ -33,7 +33,7 @@ returns-in_err-first-clause-given g c bytes file named =
     let a = c.names.invariant.ahead bytes file named in
     let h = head_of g.C.Comparator.cmp bytes c.value.result.now c.names.index a.named c.value.ensures in
     let block = ap block_in c.deref.ensures.value ∙ c.in_ok-stored.ensures.given bytes h.entries (file_later _ _ c.args.file.now bytes c.names.invariant.reads.same file) h.block in
-    handed c.from_residual-in_err-first.result c.in_err-first.field-0.0 _ c.from_residual-in_err-first.ensures.1 (c.in_err-first.ensures.given h.entries block h.keys)
+    handed c.from_residual-in_err-first.result c.in_err-first.field-0.0 _ c.from_residual-in_err-first.ensures.1 (c.in_err-first.ensures.given h.entries block h.keys h.some)
 
 pub returns-then-is_some-clause-given : goal.returns-then-is_some-clause-given
 returns-then-is_some-clause-given g c bytes file named =
@@ -41,4 +41,4 @@ returns-then-is_some-clause-given g c bytes file named =
     let a = c.names.invariant.ahead bytes file named in
     let h = head_of cmp bytes c.value.result.now c.names.index a.named c.value.ensures in
     let block = ap block_in c.deref.ensures.value ∙ c.in_ok-stored.ensures.given bytes h.entries (file_later _ _ c.args.file.now bytes c.names.invariant.reads.same file) h.block in
-    reached cmp bytes c.args.target.bytes.now c.value.result.now c.args.index.now c.names.index c.in_ok-first.first a h (c.in_ok-first.ensures.given h.entries block h.keys) c.if-is_some.ensures
+    reached cmp bytes c.args.target.bytes.now c.value.result.now c.args.index.now c.names.index c.in_ok-first.first a h (c.in_ok-first.ensures.given h.entries block h.keys h.some) c.if-is_some.ensures

@@ -1,9 +1,9 @@
-use Rattle.std.proofs.Common.{◌≡◌, None, Result, Ok, arith, inl}
+use Rattle.std.proofs.Common.{◌≡◌, None, Result, Ok, Err, arith, inl, refl}
 use Rattle.folder.specs.fault.Fault.{Fault}
 use Rattle.checks.proofs.HeldAnswers.{held_in, held_same}
 use Rattle.checks.specs.TestedTables.{IsTested}
-use Rattle.folder.proofs.OpeningLemmas.{answers_since, hands_on}
-use Rattle.folder.proofs.ReportLemmas.{reports_handed, reports_then}
+use Rattle.folder.proofs.OpeningLemmas.{answers_since, hands_on, refuses}
+use Rattle.folder.proofs.ReportLemmas.{reports_handed, reports_steady, reports_then}
 use Rattle.folder.specs.Levels.{file_numbers}
 use Rattle.folder.specs.LoadedTables.{IsLoaded}
 use Rattle.folder.specs.ReadsAs.{IsFileIn, ReadsAs}
@@ -12,10 +12,35 @@ use Rattle.store.specs.InputsCompaction.{IsInputsCompacted}
 use Rattle.store.specs.Runs.{IsAnswerForLevel}
 use Rattle.store.specs.Step.{StepView, step_in, step_of}
 use Rattle.store.proofs.Answered.{made_as}
+use Rattle.store.proofs.Descending.{by_memory, same_tells}
 use Rattle.store.proofs.Flow.{first_passed, no_value, told_still, told_themselves}
+use Rattle.store.proofs.NoDevice.{handed_memory}
 use Rattle.store.proofs.RunPart.{answer_before, run_as, run_since}
 use Rattle.store.proofs.StepPart.{has_passed, test_refused, version_left}
 use Rattle.store.proofs.folder_compaction.compact_version.Goals as goal
+
+pub returns-in_err-most-clause-answer : goal.returns-in_err-most-clause-answer
+returns-in_err-most-clause-answer g c files told current =
+    let failed = g.F.Folder.failed in
+    let e = c.in_err-most.field-0.0 in
+    let answers = IsVersionCompacted g.C.Comparator.cmp g.C.Comparator.short_keys files c.args.opened.now.version c.args.level c.args.settings.now in
+    refuses step_in (failed c.args.folder.now) (failed c.args.folder.now) c.from_residual.result e answers answers
+    c.from_residual.ensures.1 (by_memory e (λ f. answers (Err f)) c.in_err-most.ensures.memory) (λ h. h)
+
+pub returns-in_err-most-clause-left : goal.returns-in_err-most-clause-left
+returns-in_err-most-clause-left g c files order told current named opened =
+    inl (record { calls = refl; same = same_tells (g.F.Folder.tells c.args.folder.now); refused = no_value c.from_residual.result _ c.from_residual.ensures.1 })
+
+pub returns-in_err-most-clause-runs : goal.returns-in_err-most-clause-runs
+returns-in_err-most-clause-runs g c =
+    inl (record { calls = refl; same = same_tells (g.F.Folder.tells c.args.folder.now); refused = no_value c.from_residual.result _ c.from_residual.ensures.1 })
+
+pub returns-in_err-most-clause-other : goal.returns-in_err-most-clause-other
+returns-in_err-most-clause-other g c files told other = no_value c.from_residual.result _ c.from_residual.ensures.1
+
+pub returns-in_err-most-clause-device : goal.returns-in_err-most-clause-device
+returns-in_err-most-clause-device g c =
+    reports_steady c.from_residual.result refl (handed_memory c.from_residual.result c.in_err-most.field-0.0 c.from_residual.ensures.1 c.in_err-most.ensures.memory)
 
 pub returns-in_err-found-clause-answer : goal.returns-in_err-found-clause-answer
 returns-in_err-found-clause-answer g c files told current =
@@ -24,24 +49,24 @@ returns-in_err-found-clause-answer g c files told current =
     let tells = g.F.Folder.tells c.args.folder.now in
     let failed = g.F.Folder.failed in
     let e = c.in_err-found.field-0.0 in
-    hands_on step_in (failed c.args.folder.now) (failed c.args.folder.now) (failed c.test_and_hold.new.folder) c.from_residual.result e (IsTested (IsFileIn files) cmp v)
+    hands_on step_in (failed c.args.folder.now) (failed c.args.folder.now) (failed c.test_and_hold.new.folder) c.from_residual-in_err-found.result e (IsTested (IsFileIn files) cmp v)
     (IsVersionCompacted cmp g.C.Comparator.short_keys files v c.args.level c.args.settings.now)
-    c.from_residual.ensures.1 (omega arith) c.test_and_hold.ensures.device.later (c.in_err-found.ensures.answer files told)
+    c.from_residual-in_err-found.ensures.1 (omega arith) c.test_and_hold.ensures.device.later (c.in_err-found.ensures.answer files told)
     (λ h. test_refused cmp g.C.Comparator.short_keys (IsFileIn files) files v c.args.level c.args.settings.now e (told_themselves files) h)
 
 pub returns-in_err-found-clause-left : goal.returns-in_err-found-clause-left
 returns-in_err-found-clause-left g c files order told current named opened =
-    inl (record { calls = c.test_and_hold.ensures.reads.calls; same = c.test_and_hold.ensures.reads.same; refused = no_value c.from_residual.result _ c.from_residual.ensures.1 })
+    inl (record { calls = c.test_and_hold.ensures.reads.calls; same = c.test_and_hold.ensures.reads.same; refused = no_value c.from_residual-in_err-found.result _ c.from_residual-in_err-found.ensures.1 })
 
 pub returns-in_err-found-clause-runs : goal.returns-in_err-found-clause-runs
 returns-in_err-found-clause-runs g c =
-    inl (record { calls = c.test_and_hold.ensures.reads.calls; same = c.test_and_hold.ensures.reads.same; refused = no_value c.from_residual.result _ c.from_residual.ensures.1 })
+    inl (record { calls = c.test_and_hold.ensures.reads.calls; same = c.test_and_hold.ensures.reads.same; refused = no_value c.from_residual-in_err-found.result _ c.from_residual-in_err-found.ensures.1 })
 
 pub returns-in_err-found-clause-other : goal.returns-in_err-found-clause-other
-returns-in_err-found-clause-other g c files told other = no_value c.from_residual.result _ c.from_residual.ensures.1
+returns-in_err-found-clause-other g c files told other = no_value c.from_residual-in_err-found.result _ c.from_residual-in_err-found.ensures.1
 
 pub returns-in_err-found-clause-device : goal.returns-in_err-found-clause-device
-returns-in_err-found-clause-device g c = reports_handed c.from_residual.result c.in_err-found.was c.test_and_hold.ensures.device c.from_residual.ensures.1
+returns-in_err-found-clause-device g c = reports_handed c.from_residual-in_err-found.result c.in_err-found.was c.test_and_hold.ensures.device c.from_residual-in_err-found.ensures.1
 
 pub returns-clause-answer : goal.returns-clause-answer
 returns-clause-answer g c files told current =

@@ -6,7 +6,8 @@ use Rattle.table.specs.fault.Fault.{Fault}
 use Rattle.table.specs.fault.FaultName.{FaultName}
 use Rattle.table.specs.fault.FaultName.TheVariants as name
 use Rattle.folder.specs.OpenAnswer.{FolderAnswers, HasDeviceFailed, IsStopped}
-use Rattle.scan.specs.Excuses.{Gives, IsExcuse, Refuses}
+use Rattle.scan.specs.Excuses.{Gives, IsExcuse}
+use Rattle.scan.specs.SearchAnswers.{Refuses}
 
 abbrev done : {A : Type 0} → A → Result A Fault
 done x = Ok x

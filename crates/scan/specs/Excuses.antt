@@ -1,8 +1,7 @@
 -- Calls on a folder that answer a value, or why they can't.
-use Rattle.std.specs.Prelude.{◌≡◌, ◌⊎◌, Result, Ok, Err, IsErrAnd}
+use Rattle.std.specs.Prelude.{◌≡◌, ◌⊎◌, Result, Ok, Err}
 use Rattle.table.specs.Answers.{fault}
 use Rattle.table.specs.fault.Fault.{Fault}
-use Rattle.table.specs.fault.FaultName.{FaultName}
 use Rattle.table.specs.fault.FaultName.TheVariants.{Device, Memory}
 
 -- a fault that comes whatever the folder holds
@@ -13,7 +12,3 @@ IsExcuse e = (e ≡ fault Device) ⊎ (e ≡ fault Memory)
 abbrev pub Gives : {X : Type 0} → Result X Fault → (X → Type 0) → Type 0
 Gives (Ok x) P = P x
 Gives (Err e) P = IsExcuse e
-
--- a call is refused by this name, or by Device or Memory
-abbrev pub Refuses : {X : Type 0} → Result X Fault → FaultName → Type 0
-Refuses result name = IsErrAnd result (λ e. (e ≡ fault name) ⊎ IsExcuse e)

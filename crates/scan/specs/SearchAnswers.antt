@@ -1,13 +1,15 @@
 -- What the steps of a search in a folder answer.
-use Rattle.std.specs.Prelude.{◌≡◌, ℕ, ◌+◌, nat_le, if◌then◌else◌, List, Option, Some, length}
-use Rattle.std.specs.Prelude.{Result, Ok, Err, string_bytes}
+use Rattle.std.specs.Prelude.{◌≡◌, ◌⊎◌, ℕ, ◌+◌, nat_le, if◌then◌else◌, List, Option, Some, length}
+use Rattle.std.specs.Prelude.{Result, Ok, Err, IsErrAnd, string_bytes}
 use Rattle.table.specs.Answers.{fault, ◌>>=◌}
 use Rattle.table.specs.fault.Fault.{Fault}
+use Rattle.table.specs.fault.FaultName.{FaultName}
 use Rattle.table.specs.fault.FaultName.TheVariants.{Range}
 use Rattle.table.specs.Footer.{footer_reading}
 use Rattle.table.specs.declared.footer.TheConstants.{FOOTER_LEN}
 use Rattle.table.specs.declared.handle.BlockHandle.{BlockHandle}
 use Rattle.table.specs.declared.trailer.TheConstants.{TRAILER_LEN}
+use Rattle.scan.specs.Excuses.{IsExcuse}
 use Rattle.scan.specs.FolderTables.{TellsJust}
 use Rattle.scan.specs.declared.file_parts.TableFile.{TableFile}
 
@@ -31,3 +33,7 @@ index_handle size bytes = do
   _ ← len_with_trailer size footer.metaindex
   _ ← len_with_trailer size footer.index
   Ok footer.index
+
+-- a call is refused by this name, or by Device or Memory
+abbrev pub Refuses : {X : Type 0} → Result X Fault → FaultName → Type 0
+Refuses result name = IsErrAnd result (λ e. (e ≡ fault name) ⊎ IsExcuse e)

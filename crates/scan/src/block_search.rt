@@ -9,7 +9,8 @@ ghost use Rattle.table.specs.EntriesFrom.{entries_from};
 ghost use Rattle.table.specs.EntryTests.{HaveKeys};
 ghost use Rattle.table.specs.IndexReading.{block_in};
 ghost use Rattle.table.specs.RestartSearch.{first_is_below};
-ghost use Rattle.scan.specs.Excuses.{Gives, Refuses};
+ghost use Rattle.scan.specs.Excuses.{Gives};
+ghost use Rattle.scan.specs.SearchAnswers.{Refuses};
 ghost use Rattle.table.specs.declared.trailer.TheConstants.{TRAILER_LEN};
 
 use crate::owned_entry::OwnedEntry;

@@ -13,8 +13,8 @@ ghost use Rattle.table.specs.IndexWalk.{Indexes, NamesBlock, all_named};
 ghost use Rattle.table.specs.EntriesFrom.{EntriesRise, entries_from};
 ghost use Rattle.table.specs.TableContents.{Contents, contents_reading, index_in};
 ghost use Rattle.scan.specs.FolderTables.{HoldsTable};
-ghost use Rattle.scan.specs.Excuses.{Gives, Refuses};
-ghost use Rattle.scan.specs.SearchAnswers.{IsFileOfBytes};
+ghost use Rattle.scan.specs.Excuses.{Gives};
+ghost use Rattle.scan.specs.SearchAnswers.{IsFileOfBytes, Refuses};
 
 use crate::block_search::{entries_ahead, first_in_block};
 use crate::file_parts::{TableFile, name_of};

@@ -50,13 +50,22 @@ fn key_of_line(alloc: Global, spelling: Spelling, line: &[u8]) -> Result<Option<
 /// The refusal of the line of this number.
 fn no_key(alloc: Global, number: usize, line: &[u8], spelling: Spelling) -> Refusal {
     let (is, remedy) = if line.is_empty() {
-        ("is empty", "leave it out; the empty key is -, with --text \"\"")
+        (
+            "is empty",
+            "leave it out; the empty key is -, with --text \"\"",
+        )
     } else if line.ends_with(b"\r") {
-        ("ends with a carriage return", "end lines with a newline alone")
+        (
+            "ends with a carriage return",
+            "end lines with a newline alone",
+        )
     } else if spelling == Spelling::Hexadecimal {
         ("is no key", "give hexadecimal digits, or texts with --text")
     } else {
-        ("is no key", "give a byte as \\xHH, and a backslash as \\x5c")
+        (
+            "is no key",
+            "give a byte as \\xHH, and a backslash as \\x5c",
+        )
     };
     let wrong = format!(in alloc; "line {number} {is}");
     let told = RefusalText::new(alloc, "standard input", wrong, remedy);

@@ -3,7 +3,7 @@
 
 use crate::manifest_notes::tell_impossible;
 use crate::refusal::{Refusal, RefusalText};
-use crate::refused_logs::fail_on_logs;
+use crate::refused_logs::{fail_on_logs, missing_log};
 use crate::reporter::Telling;
 use crate::tested_sizes::too_large;
 use coding::{Fault, FaultName};
@@ -66,7 +66,7 @@ pub fn begin_in<R: SystemFiles + Eprint + Clock + AllocGlobal>(
 }
 
 /// How many logs have writes that are in no table, which is told. If one has some, that is a
-/// refusal, if this is asked for.
+/// refusal, if this is asked for; then it is also told if the log that the version names is missing.
 fn logs_counted<R: Files + Eprint + AllocGlobal>(
     rt: &R,
     telling: Telling<'_>,
@@ -75,7 +75,14 @@ fn logs_counted<R: Files + Eprint + AllocGlobal>(
     if !telling.refuses_logs {
         return Ok(telling.tell_logs(rt, version)?);
     }
-    fail_on_logs(rt, telling.folder, version)?;
+    let folder = telling.folder;
+    fail_on_logs(rt, folder, version)?;
+    if let Some(number) = missing_log(rt, folder, version)? {
+        let _ = eprintln!(rt;
+            "sedvokt: {folder}: the manifest names {number:06}.log, and it is missing; the newest \
+                writes may be lacking"
+        );
+    }
     Ok(Some(0))
 }
 

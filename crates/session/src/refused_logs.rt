@@ -8,6 +8,8 @@ use crate::refusal::{Refusal, RefusalText};
 use coding::{Fault, FaultName};
 use edit::Version;
 use std::alloc::Global;
+use std::fs;
+use std::io::ErrorKind;
 use std::rt::Files;
 
 /// Tests whether no log that LevelDB would replay over a version has a byte. Logs if one has. The
@@ -23,6 +25,26 @@ pub(crate) fn fail_on_logs<R: Files + AllocGlobal>(
             Some(log) => Err(log_refusal(rt.alloc(), folder, *log)),
         },
         Err(error) => Err(Refusal::of_call(rt.alloc(), folder, "list its files", &error)),
+    }
+}
+
+/// The number of the log that a version names, if it isn't there; LevelDB leaves it there also if it
+/// is empty. None if the version names none, which is number 0.
+pub(crate) fn missing_log<R: Files + AllocGlobal>(
+    rt: &R,
+    folder: &str,
+    version: &Version,
+) -> Result<Option<u64>, Refusal> {
+    let number = version.log_number().unwrap_or(0);
+    let Ok(path) = format!(in rt.alloc(); "{folder}/{number:06}.log") else {
+        return Err(Fault::of(FaultName::Memory).into());
+    };
+    match fs::metadata(rt, path.as_str()) {
+        Err(error) if error.kind() != ErrorKind::NotFound => {
+            Err(Refusal::of_call(rt.alloc(), path.as_str(), "read its length", &error))
+        }
+        Err(_) if number > 0 => Ok(Some(number)),
+        _ => Ok(None),
     }
 }
 

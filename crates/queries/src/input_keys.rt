@@ -30,7 +30,7 @@ fn keys_of_lines(alloc: Global, spelling: Spelling, lines: &[u8]) -> Result<Vec<
     let mut keys = Vec::new(alloc);
     for line in lines.split(|byte| *byte == b'\n') {
         let Some(key) = key_of_line(alloc, spelling, line)? else {
-            return Err(no_key(alloc, keys.len().saturating_add(1), spelling));
+            return Err(no_key(alloc, keys.len().saturating_add(1), line, spelling));
         };
         if let Err(error) = keys.push(key) {
             return Err(Fault::from(error).into());
@@ -48,12 +48,26 @@ fn key_of_line(alloc: Global, spelling: Spelling, line: &[u8]) -> Result<Option<
 }
 
 /// The refusal of the line of this number.
-fn no_key(alloc: Global, number: usize, spelling: Spelling) -> Refusal {
-    let remedy = match spelling {
-        Spelling::Hexadecimal => "give hexadecimal digits, or texts with --text",
-        Spelling::Text | Spelling::Utf8 => "give a byte as \\xHH, and a backslash as \\x5c",
+fn no_key(alloc: Global, number: usize, line: &[u8], spelling: Spelling) -> Refusal {
+    let (is, remedy) = if line.is_empty() {
+        (
+            "is empty",
+            "leave it out; the empty key is -, with --text \"\"",
+        )
+    } else if line.ends_with(b"\r") {
+        (
+            "ends with a carriage return",
+            "end lines with a newline alone",
+        )
+    } else if spelling == Spelling::Hexadecimal {
+        ("is no key", "give hexadecimal digits, or texts with --text")
+    } else {
+        (
+            "is no key",
+            "give a byte as \\xHH, and a backslash as \\x5c",
+        )
     };
-    let wrong = format!(in alloc; "line {number} is no key");
+    let wrong = format!(in alloc; "line {number} {is}");
     let told = RefusalText::new(alloc, "standard input", wrong, remedy);
     Refusal::new(Fault::of(FaultName::Key), told)
 }

@@ -45,7 +45,7 @@ pub(crate) fn run<R: Env + Host>(rt: &R, is_watched: bool) -> u8 {
     let mut listed = Vec::new(rt.alloc());
     match line(rt.alloc(), words.as_slice(), &mut listed) {
         Ok(asked) => answer(rt, &asked, is_watched),
-        Err(Usage::Clap(_)) if words.iter().any(|word| word == "--no-logs") => {
+        Err(Usage::Clap(_)) if words.iter().any(|word| word.as_str() == "--no-logs") => {
             report_misuse(rt, "usage: --no-logs is called --fail-on-logs")
         }
         Err(usage) => report_usage(rt, usage),

@@ -153,7 +153,7 @@ fn file_refused<R: SystemFiles + AllocGlobal>(
         return Refusal::of_call(rt.alloc(), path, "read CURRENT", &error);
     }
     match lock_tried(rt, path, changes) {
-        Err(error) if !is_of_others(error.kind()) => {
+        Err(error) if error.kind() != ErrorKind::AlreadyExists => {
             Refusal::of_call(rt.alloc(), path, LOCKING, &error)
         }
         _ => {
@@ -163,19 +163,19 @@ fn file_refused<R: SystemFiles + AllocGlobal>(
     }
 }
 
-/// Whether a call failed only since a file isn't there, or is.
-fn is_of_others(kind: ErrorKind) -> bool {
-    matches!(kind, ErrorKind::NotFound | ErrorKind::AlreadyExists)
-}
-
-/// Opens LOCK. If it is to be changed, it is made, and a file beside it, as its lock needs it.
+/// Opens LOCK, if it is there. If the folder is to be changed, a file beside it is made, as the lock
+/// needs it, and removed.
 fn lock_tried<R: SystemFiles + AllocGlobal>(rt: &R, folder: &str, changes: bool) -> io::Result<()> {
     let Some(lock) = path_in(rt.alloc(), folder, "LOCK") else {
         return Err(ErrorKind::OutOfMemory.into());
     };
     let mut how = OpenOptions::new();
-    how.read(true).write(true).create(changes);
-    how.open(rt, lock.as_str())?;
+    how.read(true).write(true);
+    if let Err(error) = how.open(rt, lock.as_str())
+        && error.kind() != ErrorKind::NotFound
+    {
+        return Err(error);
+    }
     if !changes {
         return Ok(());
     }

@@ -37,7 +37,7 @@ mod tested_sizes;
 mod user_files;
 
 pub use amount_texts::total_text;
-pub use disk::{Disk, MAX_FILE_LEN, SystemFiles};
+pub use disk::{Disk, SystemFiles};
 pub use edit::{FileMeta, LAST_LEVEL, LEVELS};
 pub use edit_inputs::deleted_files;
 pub use explanations::{CLOSE_ONCE, Words, in_words, of_file};

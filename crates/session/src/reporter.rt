@@ -134,7 +134,8 @@ impl<'a> Telling<'a> {
         let Ok(names) = replaceable_files(rt, self.folder, version) else {
             return;
         };
-        let (mut count, mut first) = (0u64, "");
+        let mut count = 0u64;
+        let mut first = "";
         for name in &names {
             if !removed.contains(name) {
                 first = if count == 0 { name.as_str() } else { first };

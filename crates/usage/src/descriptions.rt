@@ -471,8 +471,9 @@ It is for a database DIR and the folder OUT of the last example of compact.",
         FOLDER,
         Argument::Places(
             "OUT",
-            "The folder that compact --out made, with the new tables and the\n\
-                edit; several are installed in the order given",
+            "The folder that compact --out made, with the new\n\
+                tables and the edit; several are installed in the\n\
+                order given",
         ),
         SNAPSHOT,
         SNAPSHOTS,

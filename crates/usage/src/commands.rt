@@ -116,6 +116,7 @@ fn named<'a>(alloc: Global, description: Description<'a>) -> Command<'a>
     ensures { IsCommand (new_app description.entry.name.now) result }
 {
     Command::new(alloc, description.name)
+        .override_usage(description.usage)
         .about(description.about)
         .after_help(description.examples)
 }

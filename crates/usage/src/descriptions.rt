@@ -9,6 +9,8 @@ use crate::rule::Rule;
 #[derive(Clone, Copy)]
 pub(crate) struct Description<'a> {
     pub name: &'a str,
+    /// What is given to it, in the order in which one types.
+    pub usage: &'a str,
     /// What it does and prints, in a line.
     pub about: &'a str,
     /// The form of what it prints, and examples, which are told after its help.
@@ -139,6 +141,7 @@ const SNAPSHOT_RULE: Rule<'static> = Rule::AtMostOne("readable", &["snapshot", "
 
 pub(crate) const STATS: Description<'static> = Description {
     name: "stats",
+    usage: "sedvokt stats DIR [OPTIONS]",
     about: "Prints the files, bytes and entries of each level",
     examples: "Prints a table with a line a level, and the least and largest key of each.
 
@@ -150,6 +153,7 @@ Examples: sedvokt stats DIR --text
 
 pub(crate) const VERIFY: Description<'static> = Description {
     name: "verify",
+    usage: "sedvokt verify <DIR|--table FILE> [OPTIONS]",
     about: "Tests a database, or one table, and prints that it is lawful",
     examples: "Prints, as an example, lawful: 4 files, 596 entries
 
@@ -184,6 +188,7 @@ Examples: sedvokt verify DIR
 
 pub(crate) const GET: Description<'static> = Description {
     name: "get",
+    usage: "sedvokt get DIR <KEY..|--stdin> [OPTIONS]",
     about: "Prints the value of a key, or none; of several keys too",
     examples: "Prints the value in a line; none if the key has no value. Of several keys, or
 of those in standard input, it prints a line each: KEY VALUE, or KEY none
@@ -218,6 +223,7 @@ Examples: sedvokt get DIR k00001 --text
 
 pub(crate) const SCAN: Description<'static> = Description {
     name: "scan",
+    usage: "sedvokt scan DIR [OPTIONS]",
     about: "Prints the keys that have a value, in their order, with their values",
     examples: "Prints a line a key: KEY VALUE
 
@@ -269,6 +275,7 @@ Examples: sedvokt scan DIR --text --limit 10
 
 pub(crate) const HISTORY: Description<'static> = Description {
     name: "history",
+    usage: "sedvokt history DIR KEY [OPTIONS]",
     about: "Prints all entries of a key, the newest first",
     examples: "Prints a line an entry: LEVEL FILE SEQUENCE put VALUE, or LEVEL FILE SEQUENCE
 del; nothing if there is none.
@@ -293,6 +300,7 @@ Example: sedvokt history DIR k00001 --text",
 
 pub(crate) const MANIFEST: Description<'static> = Description {
     name: "manifest",
+    usage: "sedvokt manifest DIR [OPTIONS]",
     about: "Prints what the manifest says: numbers, and the files of each level",
     examples: "Prints a line a number, and a line a file: file LEVEL NUMBER BYTES
 
@@ -304,6 +312,7 @@ Examples: sedvokt manifest DIR
 
 pub(crate) const DUMP: Description<'static> = Description {
     name: "dump",
+    usage: "sedvokt dump TABLE [OPTIONS]",
     about: "Prints the entries of one table",
     examples: "Prints a line an entry: KEY SEQUENCE put VALUE, or KEY SEQUENCE del
 
@@ -314,6 +323,7 @@ Example: sedvokt dump DIR/000005.ldb --text",
 
 pub(crate) const FILES: Description<'static> = Description {
     name: "files",
+    usage: "sedvokt files DIR [OPTIONS]",
     about: "Prints the names of the files that a copy of a database needs",
     examples: "Prints a line a name: CURRENT, the manifest, the tables by level, and the logs
 that LevelDB would replay.
@@ -325,6 +335,7 @@ Example: sedvokt files DIR",
 
 pub(crate) const COMPACT: Description<'static> = Description {
     name: "compact",
+    usage: "sedvokt compact DIR <--level N|--all> [OPTIONS]",
     about: "Compacts a level, or all, and prints which files are new and gone",
     examples: "Prints a line a file: output NUMBER BYTES, or deleted LEVEL NUMBER; then the
 manifest that is installed.
@@ -421,6 +432,7 @@ Examples: sedvokt compact DIR --level 0
 
 pub(crate) const CLEAN: Description<'static> = Description {
     name: "clean",
+    usage: "sedvokt clean DIR [OPTIONS]",
     about: "Removes the files that a database does not need; prints their names",
     examples: "Prints a line a file: removed NAME BYTES, or removable NAME BYTES
 
@@ -438,6 +450,7 @@ Examples: sedvokt clean DIR --dry-run
 
 pub(crate) const JOB: Description<'static> = Description {
     name: "job",
+    usage: "sedvokt job DIR --level N [OPTIONS]",
     about: "Prints the names of the files that a compaction would read",
     examples: "Prints a line a name: those to copy for compact --out --no-verify elsewhere, of
 a database that was verified. With --parts it prints a line a file:
@@ -460,6 +473,7 @@ Examples: sedvokt job DIR --level 0
 
 pub(crate) const INSTALL: Description<'static> = Description {
     name: "install",
+    usage: "sedvokt install DIR OUT.. [OPTIONS]",
     about: "Installs what compact --out made of a database, and prints the same",
     examples: "Prints what compact prints without --out. Several outcomes are installed together, by
 one manifest: all of them or none. Each is tested as if those before it were
@@ -494,6 +508,7 @@ It is for a database DIR and the folder OUT of the last example of compact.",
 
 pub(crate) const BLOCKS: Description<'static> = Description {
     name: "blocks",
+    usage: "sedvokt blocks A B --at HEXKEY OUT [OPTIONS]",
     about: "Merges two blocks into one, and prints how much it has",
     examples: "Prints, as an example, 2 entries, 34 bytes
 

@@ -1,9 +1,8 @@
-//! Folders in memory: one is asked by the calls that no command of the program makes, the tables of
-//! one are loaded, and in one an outcome is installed.
+//! Folders in memory, asked by calls that no command of the program makes, loaded and written.
 
 use crate::case::are_outputs;
 use crate::embedding::store::{FILES as STORED_FILES, LOWER, NEWER, OLDER};
-use crate::fault::is_memory;
+use crate::fault::{is_memory, wanted};
 use crate::worked_bytes::{CURRENT_FIVE, DELETION_LEFT, MANIFEST, TABLE_U_DELETED, TABLE_U_TWICE};
 use answers::{ValueForm, get_dir, manifest, verify};
 use board::Open;
@@ -80,26 +79,14 @@ const STORED: &[(&str, &[u8])] = &[
     ("000007.ldb", NEWER),
 ];
 
-/// The tables of its version, loaded. If memory was refused, they are loaded again.
-fn loaded(
-    alloc: Global,
-    shelf: &mut Shelf<'_>,
-    version: &Version,
-) -> Result<Vec<(u64, Vec<u8>)>, Fault> {
-    let answer = load::<Bytewise, Shelf<'_>>(alloc, shelf, version);
-    if !is_memory(&answer) {
-        return answer;
-    }
-    load::<Bytewise, Shelf<'_>>(alloc, shelf, version)
-}
-
-/// Whether those tables are loaded, and nothing is written.
+/// Whether the tables of its version are loaded. Nothing may be written, whatever the answer is.
 pub fn are_loaded(alloc: Global) -> Result<bool, Fault> {
     let edit = VersionEdit::decode(alloc, STORED_FILES)?;
     let version = Version::empty(alloc).applied::<Bytewise>(edit)?;
     let mut shelf = Shelf::new(alloc, STORED);
-    let tables = loaded(alloc, &mut shelf, &version)?;
-    Ok(shelf.steps().is_empty() && are_outputs(&tables, &[(7, NEWER), (6, OLDER), (5, LOWER)]))
+    let answer = load::<Bytewise, Shelf<'_>>(alloc, &mut shelf, &version);
+    wanted(shelf.steps().is_empty())?;
+    Ok(are_outputs(&answer?, &[(7, NEWER), (6, OLDER), (5, LOWER)]))
 }
 
 /// Whether the folder is opened as a version of this one table.

@@ -17,8 +17,8 @@
 //! | a board | `Board::new` | seats, jobs, counts |
 //! | a block is walked (2) | `BlockCursor`: `new`, `advance` | entries |
 //! | a folder is asked | `manifest`, `verify`, `get_dir` | lines |
-//! | tables are loaded (4) | `load` | tables, the folder |
-//! | an outcome (4) | `open`, `install` | the version and its tables |
+//! | tables are loaded | `load` | tables |
+//! | an outcome (4) | `open`, `install`, `load` | tables of the version left |
 //! | compactions (5) | `compact`, two workers, three ranges | outcome, or `Trailer` |
 //!
 //! If a call was refused, the next try makes all anew, except:
@@ -27,7 +27,7 @@
 //! 2. `advance`, `seek` and `take` are made again on the same cursors. After `advance` the entry
 //!    has to be the same.
 //! 3. The cursors may only have lost entries before the key, or before the end of the range.
-//! 4. It is called again on the same folder, which has to be as it was, or as it is to be.
+//! 4. `install` is called again on the same folder, if that has the version before.
 //! 5. The next try has the same inputs and split.
 //!
 //! The cases `refused_memory` and `refused_compaction` of `tests/run` try the commands so.

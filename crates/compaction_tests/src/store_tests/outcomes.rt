@@ -1,9 +1,7 @@
 //! Outcomes of folders in memory that are not installed, and the folders that they are written
 //! into.
 
-use crate::store_tests::rows::{
-    CURRENT, Files, KEPT, ONE_FILE, REFUSALS, Row, TWO_ENTRIES, U4_DELETED,
-};
+use crate::store_tests::rows::{CURRENT, Files, KEPT, ONE_FILE, Row, TWO_ENTRIES, U4_DELETED};
 use crate::store_tests::tests::{MEMORY, files_of, holds};
 use answers::{CompactionEnd, compaction_lines};
 use coding::{Fault, FaultName};
@@ -157,24 +155,6 @@ fn outcomes_that_are_written(rt: HostRuntime) {
             "{:?}",
             asked.first
         );
-    }
-}
-
-/// Whether the outcome of a row is refused, with a test of its version and without.
-fn is_refused<R: Threads + Sync + Abort>(rt: &R, alloc: Global, row: &'static Row) -> bool {
-    let asked = OutcomeRow {
-        row,
-        first: None,
-        answer: row.answer,
-        written: NO_FILES,
-    };
-    is_outcome(rt, alloc, &asked, true) && is_outcome(rt, alloc, &asked, false)
-}
-
-#[test]
-fn outcomes_that_are_refused(rt: HostRuntime) {
-    for row in REFUSALS {
-        assert!(rt; is_refused(&rt, rt.alloc(), row), "{}", row.name);
     }
 }
 

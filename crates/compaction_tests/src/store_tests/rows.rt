@@ -203,7 +203,7 @@ pub(crate) const DESCENTS: &[Descent] = &[
 ];
 
 /// The tables and manifests that are left. `tests/cases` has the settings at their limits and past
-/// them, more refusals and more.
+/// them, all refusals and more.
 pub(crate) const ROWS: &[Row] = &[
     Row {
         name: "a deletion, and its manifest",
@@ -223,7 +223,7 @@ pub(crate) const ROWS: &[Row] = &[
     },
 ];
 
-/// A compaction by no worker. It leaves the version.
+/// A compaction by no worker, which is refused and leaves the version.
 const BY_NONE: Row = Row {
     name: "no worker",
     settings: Settings {
@@ -231,11 +231,11 @@ const BY_NONE: Row = Row {
         ..DEFAULTS
     },
     answer: Err(FaultName::Workers),
-    left: &[("CURRENT", CURRENT), ("000007.ldb", TWO_ENTRIES)],
+    left: &[("CURRENT", CURRENT)],
     ..PLAIN
 };
 
-/// Refusals, in their order.
+/// Refusals.
 pub(crate) const REFUSALS: &[Row] = &[
     Row {
         name: "the lowest level",
@@ -245,7 +245,7 @@ pub(crate) const REFUSALS: &[Row] = &[
         ..BY_NONE
     },
     Row {
-        name: "a level of no file, and no worker",
+        name: "a level of no file, by no worker",
         level: 2,
         answer: Err(FaultName::NoInput),
         ..BY_NONE

@@ -3,7 +3,7 @@
 //! The store has two tables at level 0 and one at level 1, and the edit that made its version. It
 //! compacts level 0 by one worker, and once more by four workers over two ranges. Both answer the
 //! same bytes. Then it applies the edit. `docs/EMBEDDING.md` explains the steps.
-mod store;
+pub mod store;
 
 use crate::embedding::store::{FILES, TABLES};
 use anyhow::{Result, ensure};

@@ -8,7 +8,7 @@ use crate::builders::{block_built, edited, logged, table_built};
 use crate::case::{Case, carried, is_answer, picked, three_ranges};
 use crate::cursors::{block_walked, merged, sought, table_walked};
 use crate::fault::{is_memory, wanted};
-use crate::folders::folder_asked;
+use crate::folders::{are_loaded, folder_asked, is_installed};
 use crate::holding_gate::{Held, Wait, Wanting};
 use crate::numbers::numbers_read;
 use crate::plans::{chosen, joined, planned, range_merged, seated};
@@ -143,6 +143,8 @@ fn is_right<R: AllocGlobal + Threads + Sync>(rt: &R, row: Row) -> Result<bool, F
         Row::Board => seated(alloc),
         Row::BlockCursor => block_walked(alloc),
         Row::Folder => folder_asked(rt),
+        Row::Load => are_loaded(alloc),
+        Row::Install => is_installed(rt),
     }
 }
 

@@ -17,7 +17,9 @@
 //! | a board | `Board::new` | seats, jobs, counts |
 //! | a block is walked (2) | `BlockCursor`: `new`, `advance` | entries |
 //! | a folder is asked | `manifest`, `verify`, `get_dir` | lines |
-//! | compactions (4) | `compact`, two workers, three ranges | outcome, or `Trailer` |
+//! | tables are loaded | `load` | tables |
+//! | an outcome (4) | `open`, `install`, `load` | tables of the version left |
+//! | compactions (5) | `compact`, two workers, three ranges | outcome, or `Trailer` |
 //!
 //! If a call was refused, the next try makes all anew, except:
 //!
@@ -25,7 +27,8 @@
 //! 2. `advance`, `seek` and `take` are made again on the same cursors. After `advance` the entry
 //!    has to be the same.
 //! 3. The cursors may only have lost entries before the key, or before the end of the range.
-//! 4. The next try has the same inputs and split.
+//! 4. `install` is called again on the same folder, if that has the version before.
+//! 5. The next try has the same inputs and split.
 //!
 //! The cases `refused_memory` and `refused_compaction` of `tests/run` try the commands so.
 //!
@@ -69,6 +72,8 @@ pub enum Row {
     Board,
     BlockCursor,
     Folder,
+    Load,
+    Install,
 }
 
 /// The rows, but for compactions.
@@ -97,6 +102,8 @@ pub const GROWTHS: &[(Row, &str)] = &[
         Row::Folder,
         "  a folder is shown, verified and asked for a key",
     ),
+    (Row::Load, "  the tables of a version are loaded"),
+    (Row::Install, "  an outcome is installed"),
 ];
 
 /// How the workers of a compaction do their jobs, and what is refused of it.

@@ -203,7 +203,7 @@ pub(crate) const DESCENTS: &[Descent] = &[
 ];
 
 /// The tables and manifests that are left. `tests/cases` has the settings at their limits and past
-/// them, the refusals and more.
+/// them, all refusals and more.
 pub(crate) const ROWS: &[Row] = &[
     Row {
         name: "a deletion, and its manifest",
@@ -221,4 +221,34 @@ pub(crate) const ROWS: &[Row] = &[
         left: &[NINE, ("000010.ldb", B), ("000011.ldb", AA)],
         ..PLAIN
     },
+];
+
+/// A compaction by no worker, which is refused and leaves the version.
+const BY_NONE: Row = Row {
+    name: "no worker",
+    settings: Settings {
+        workers: 0,
+        ..DEFAULTS
+    },
+    answer: Err(FaultName::Workers),
+    left: &[("CURRENT", CURRENT)],
+    ..PLAIN
+};
+
+/// Refusals.
+pub(crate) const REFUSALS: &[Row] = &[
+    Row {
+        name: "the lowest level",
+        level: 6,
+        settings: DEFAULTS,
+        answer: Err(FaultName::Level),
+        ..BY_NONE
+    },
+    Row {
+        name: "a level of no file, by no worker",
+        level: 2,
+        answer: Err(FaultName::NoInput),
+        ..BY_NONE
+    },
+    BY_NONE,
 ];

@@ -1,7 +1,7 @@
 //! Compactions of folders in memory.
 
 use crate::store_tests::rows::{
-    CURRENT, DEFAULTS, DESCENTS, Descent, Files, KEPT, LINES, ONE_FILE, PLAIN, ROWS, Row,
+    CURRENT, DEFAULTS, DESCENTS, Descent, Files, KEPT, LINES, ONE_FILE, PLAIN, REFUSALS, ROWS, Row,
     TWO_ENTRIES,
 };
 use answers::{CompactionEnd, compaction_lines};
@@ -231,7 +231,7 @@ fn are_defaults(settings: &Settings<'_>) -> bool {
 #[test]
 fn folders_that_are_compacted(rt: HostRuntime) {
     assert!(rt; are_defaults(&Settings::default()));
-    for row in ROWS {
+    for row in ROWS.iter().chain(REFUSALS) {
         assert!(rt; is_compacted(&rt, rt.alloc(), row), "{}", row.name);
     }
 }

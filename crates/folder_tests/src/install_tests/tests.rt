@@ -339,15 +339,11 @@ fn run_again<R: Threads + Sync>(rt: &R, alloc: Global, shelf: &mut Shelf<'_>, ro
 }
 
 /// Whether an answer is the fault of the call that fails, no call was made after it, and the device
-/// failed if that is the fault.
+/// failed once.
 fn is_last(shelf: &Shelf<'_>, answer: Result<(), Fault>, failing: Failing) -> bool {
-    let failures = match failing.fault {
-        FolderFault::Device => 1,
-        FolderFault::Memory => 0,
-    };
     answer == Err(Fault::from(failing.fault))
         && shelf.calls() == failing.call
-        && shelf.failures() == failures
+        && shelf.failures() == 1
 }
 
 /// How many calls open a folder, load its tables and install the outcome of a row.
@@ -373,28 +369,23 @@ fn ends_there<R: Threads + Sync>(
     } else {
         (BEFORE, row.edited)
     };
-    // A crash leaves the same in each of the four ways, since the calls are the same.
-    let is_other = failing.is_half_done || failing.fault == FolderFault::Memory;
+    // A crash leaves the same in both ways, since the calls are the same.
     let left = Some((true, failing.call >= rename));
     is_last(shelf, answer, failing)
-        && (is_other || found(alloc, shelf.steps(), (BEFORE, row.edited)) == left)
+        && (failing.is_half_done || found(alloc, shelf.steps(), (BEFORE, row.edited)) == left)
         && read_as(alloc, shelf) == read
         && run_again(rt, alloc, shelf, row) == again
 }
 
-/// The first call of reading and installing a row for whose failure this is wrong: by the device or
-/// by memory, half done or not at all.
+/// The first call of reading and installing a row for whose failure this is wrong: half done or not
+/// at all. `hostile` refuses memory.
 fn wrong_failure<R: Threads + Sync>(rt: &R, alloc: Global, row: &Row) -> Option<usize> {
     let calls = calls_of(row);
-    for way in 0..calls.saturating_mul(4) {
+    for way in 0..calls.saturating_mul(2) {
         let failing = Failing {
-            call: way / 4 + 1,
-            fault: if way % 2 == 0 {
-                FolderFault::Device
-            } else {
-                FolderFault::Memory
-            },
-            is_half_done: way % 4 > 1,
+            call: way / 2 + 1,
+            fault: FolderFault::Device,
+            is_half_done: way % 2 == 1,
         };
         let mut shelf = Shelf::new(alloc, FILES).failing(failing);
         if !ends_there(rt, alloc, &mut shelf, row, failing) {

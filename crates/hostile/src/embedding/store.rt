@@ -13,21 +13,21 @@ pub const FILES: &[u8] = b"\
 pub const TABLES: &[&[u8]] = &[NEWER, OLDER, LOWER];
 
 /// The table of file 7. `table: a@9 put new, b@8 del`
-const NEWER: &[u8] = b"\
+pub const NEWER: &[u8] = b"\
     \0\x09\x03a\x01\x09\0\0\0\0\0\0new\0\x09\0b\0\x08\0\0\0\0\0\0\0\0\0\0\x01\0\0\0\0\xe6\xc3\x18\
     \x1a\0\0\0\0\x01\0\0\0\0\xc0\xf2\xa1\xb0\0\x09\x02b\0\x08\0\0\0\0\0\0\0\x23\0\0\0\0\x01\0\0\0\
     \0\xb5\x1cZ\x06\x28\x085\x16\0\0\0\0\0\0\0\0\0\0\0\0\0\0\0\0\0\0\0\0\0\0\0\0\0\0\0\0\0\0\0\0\0\
     \0\0\0W\xfb\x80\x8b\x24uG\xdb";
 
 /// The table of file 6. `table: a@5 put old, c@6 put x`
-const OLDER: &[u8] = b"\
+pub const OLDER: &[u8] = b"\
     \0\x09\x03a\x01\x05\0\0\0\0\0\0old\0\x09\x01c\x01\x06\0\0\0\0\0\0x\0\0\0\0\x01\0\0\0\0E\xb6\
     \x80N\0\0\0\0\x01\0\0\0\0\xc0\xf2\xa1\xb0\0\x09\x02c\x01\x06\0\0\0\0\0\0\0\x24\0\0\0\0\x01\0\0\
     \0\0\x7fV\x97\xd3\x29\x086\x16\0\0\0\0\0\0\0\0\0\0\0\0\0\0\0\0\0\0\0\0\0\0\0\0\0\0\0\0\0\0\0\0\
     \0\0\0\0W\xfb\x80\x8b\x24uG\xdb";
 
 /// The table of file 5. `table: b@3 put gone, d@4 put y`
-const LOWER: &[u8] = b"\
+pub const LOWER: &[u8] = b"\
     \0\x09\x04b\x01\x03\0\0\0\0\0\0gone\0\x09\x01d\x01\x04\0\0\0\0\0\0y\0\0\0\0\x01\0\0\0\0\xf3\
     \xdfcW\0\0\0\0\x01\0\0\0\0\xc0\xf2\xa1\xb0\0\x09\x02d\x01\x04\0\0\0\0\0\0\0\x25\0\0\0\0\x01\0\
     \0\0\0\x10\xb4\x17\xe5\x2a\x087\x16\0\0\0\0\0\0\0\0\0\0\0\0\0\0\0\0\0\0\0\0\0\0\0\0\0\0\0\0\0\

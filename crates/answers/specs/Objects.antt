@@ -53,18 +53,18 @@ count_object count logs = object (member (codes "count") (number (unsigned count
     (member (codes "logs") (number_or_null logs) no_members))
 
 -- `{"entries":E,"files":F,"lawful":true,"logs":N,"missing_log":M}`
-abbrev pub lawful_parts : ℕ → ℕ → Option ℕ → Data → Data
+abbrev pub lawful_parts : ℕ → ℕ → Data → Data → Data
 lawful_parts files entries logs missing =
     object (member (codes "entries") (number (unsigned entries))
     (member (codes "files") (number (unsigned files))
     (member (codes "lawful") (boolean true)
-    (member (codes "logs") (number_or_null logs)
+    (member (codes "logs") logs
     (member (codes "missing_log") missing no_members)))))
 
--- that of a missing log; null in place of M if none is missing
+-- that of how many logs have writes, and of a missing log: null if that isn't known, if none is
 abbrev pub lawful_object : ℕ → ℕ → Option ℕ → Option ℕ → Data
 lawful_object files entries logs missing =
-    lawful_parts files entries logs (number_or_null missing)
+    lawful_parts files entries (number_or_null logs) (number_or_null missing)
 
 -- `{"entries":E,"valid":true}`
 abbrev pub valid_object : ℕ → Data

@@ -1,6 +1,6 @@
 //! The JSON objects of a verdict, of a removed or needed file, and of a value.
 
-ghost use Rattle.std.specs.Prelude.{◌≡◌, Ok, option_map};
+ghost use Rattle.std.specs.Prelude.{◌≡◌, IfOk, Ok, option_map};
 ghost use Rattle.table.specs.Answers.{EqualOrMemory};
 ghost use Rattle.table.specs.Saturated.{saturated};
 ghost use Rattle.table.specs.Key.{user_of};
@@ -12,7 +12,7 @@ ghost use Rattle.answers.specs.Objects.{valid_object, value_object, value_parts}
 use crate::json_bytes::{key_json, text_or_null};
 use crate::json_text::capped;
 use serde_json::{Value, json};
-use std::alloc::Global;
+use std::alloc::{AllocError, Global};
 use table::{Fault, KeyBuf};
 use texts::Spelling;
 
@@ -29,29 +29,31 @@ pub fn lawful_json(
     ensures { EqualOrMemory view result
         (Ok (lawful_object files (saturated entries) logs missing)) }
 {
+    let entries = capped(entries);
+    let logs = number_or_null(logs);
     let missing = number_or_null(missing);
-    lawful_parts_json(alloc, files, entries, logs, missing)
+    let object = lawful_parts_json(alloc, files, entries, logs, missing)?;
+    Ok(object)
 }
 
 /// The object of these parts.
 fn lawful_parts_json(
     alloc: Global,
     files: usize,
-    entries: u128,
-    logs: Option<u64>,
+    entries: u64,
+    logs: Value,
     missing: Value,
-) -> Result<Value, Fault>
-    ensures { EqualOrMemory view result
-        (Ok (lawful_parts files (saturated entries) logs (view missing))) }
+) -> Result<Value, AllocError>
+    ensures { IfOk result
+        (λ v. view v ≡ lawful_parts files entries (view logs) (view missing)) }
 {
-    let entries = capped(entries);
-    Ok(json!(in alloc; {
+    json!(in alloc; {
         "entries": entries,
         "files": files,
         "lawful": true,
         "logs": logs,
         "missing_log": missing
-    })?)
+    })
 }
 
 /// A number, null if there is none.

@@ -1,14 +1,10 @@
-use Rattle.std.proofs.Common.{Ok, subst}
+use Rattle.std.proofs.Common.{ℕ, Ok, sym, ap, ap₂, ◌∙◌}
 use Rattle.serde_json.specs.Data.{Data}
-use Rattle.serde_json.specs.View.{view}
-use Rattle.table.specs.Answers.{EqualOrMemory}
-use Rattle.table.specs.Saturated.{saturated}
-use Rattle.answers.specs.Objects.{lawful_parts}
+use Rattle.answers.specs.Objects.{lawful_object, lawful_parts}
 use Rattle.answers.proofs.json_answers.lawful_json.Goals as goal
 
 pub returns : goal.returns
 returns c =
-    subst (λ (m : Data). EqualOrMemory view c.lawful_parts_json.result
-        (Ok (lawful_parts c.args.files (saturated c.args.entries) c.args.logs m)))
-    c.number_or_null-missing.ensures
-    c.lawful_parts_json.ensures
+    ap (λ (d : Data). Ok d) (sym (c.in_ok-object.ensures
+    ∙ ap₂ (λ (l m : Data). lawful_parts c.args.files c.capped-entries.result l m) c.number_or_null-logs.ensures c.number_or_null-missing.ensures
+    ∙ ap (λ (n : ℕ). lawful_object c.args.files n c.args.logs c.args.missing) c.capped-entries.ensures))

@@ -38,26 +38,33 @@ abbrev pub value_data : Spelling → Option (List ℕ) → Data
 value_data spelling None = null
 value_data spelling (Some value) = some_data spelling value
 
--- how many logs have writes that are in no table; null if that isn't known
-abbrev pub logs_data : Option ℕ → Data
-logs_data None = null
-logs_data (Some logs) = number (unsigned logs)
+-- a number; null for none
+abbrev pub number_or_null : Option ℕ → Data
+number_or_null None = null
+number_or_null (Some n) = number (unsigned n)
 
--- `{"logs":N}`
+-- `{"logs":N}`: how many logs have writes that are in no table; null if that isn't known
 abbrev pub logs_object : Option ℕ → Data
-logs_object logs = object (member (codes "logs") (logs_data logs) no_members)
+logs_object logs = object (member (codes "logs") (number_or_null logs) no_members)
 
 -- `{"count":N,"logs":N}`
 abbrev pub count_object : ℕ → Option ℕ → Data
 count_object count logs = object (member (codes "count") (number (unsigned count))
-    (member (codes "logs") (logs_data logs) no_members))
+    (member (codes "logs") (number_or_null logs) no_members))
 
--- `{"entries":E,"files":F,"lawful":true,"logs":N}`
-abbrev pub lawful_object : ℕ → ℕ → Option ℕ → Data
-lawful_object files entries logs = object (member (codes "entries") (number (unsigned entries))
+-- `{"entries":E,"files":F,"lawful":true,"logs":N,"missing_log":M}`
+abbrev pub lawful_parts : ℕ → ℕ → Data → Data → Data
+lawful_parts files entries logs missing =
+    object (member (codes "entries") (number (unsigned entries))
     (member (codes "files") (number (unsigned files))
     (member (codes "lawful") (boolean true)
-    (member (codes "logs") (logs_data logs) no_members))))
+    (member (codes "logs") logs
+    (member (codes "missing_log") missing no_members)))))
+
+-- that of how many logs have writes, and of a missing log: null if that isn't known, if none is
+abbrev pub lawful_object : ℕ → ℕ → Option ℕ → Option ℕ → Data
+lawful_object files entries logs missing =
+    lawful_parts files entries (number_or_null logs) (number_or_null missing)
 
 -- `{"entries":E,"valid":true}`
 abbrev pub valid_object : ℕ → Data
@@ -76,7 +83,7 @@ name_object name = object (member (codes "name") (string name) no_members)
 -- `{"key":K,"logs":N,"value":V}`
 abbrev pub value_parts : Data → Option ℕ → Data → Data
 value_parts key logs value = object (member (codes "key") key
-    (member (codes "logs") (logs_data logs) (member (codes "value") value no_members)))
+    (member (codes "logs") (number_or_null logs) (member (codes "value") value no_members)))
 
 -- that of a key and its value; null in place of V for a key without a value
 abbrev pub value_object : Spelling → List ℕ → Option (List ℕ) → Option ℕ → Data

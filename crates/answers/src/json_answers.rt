@@ -1,34 +1,69 @@
 //! The JSON objects of a verdict, of a removed or needed file, and of a value.
 
-ghost use Rattle.std.specs.Prelude.{Ok, option_map};
+ghost use Rattle.std.specs.Prelude.{◌≡◌, IfOk, Ok, option_map};
 ghost use Rattle.table.specs.Answers.{EqualOrMemory};
 ghost use Rattle.table.specs.Saturated.{saturated};
 ghost use Rattle.table.specs.Key.{user_of};
 ghost use Rattle.serde_json.specs.View.{view};
-ghost use Rattle.answers.specs.Objects.{count_object, key_data, lawful_object, logs_object};
-ghost use Rattle.answers.specs.Objects.{name_object, removed_object, valid_object};
-ghost use Rattle.answers.specs.Objects.{value_object, value_parts};
+ghost use Rattle.answers.specs.Objects.{count_object, key_data, lawful_object, lawful_parts};
+ghost use Rattle.answers.specs.Objects.{logs_object, name_object, number_or_null, removed_object};
+ghost use Rattle.answers.specs.Objects.{valid_object, value_object, value_parts};
 
 use crate::json_bytes::{key_json, text_or_null};
 use crate::json_text::capped;
 use serde_json::{Value, json};
-use std::alloc::Global;
+use std::alloc::{AllocError, Global};
 use table::{Fault, KeyBuf};
 use texts::Spelling;
 
-/// The object `{"entries":E,"files":F,"lawful":true,"logs":N}` of a lawful version. So many `logs`
-/// have writes that are in no table: null if that isn't known. Of more than 2^64 - 1 entries that
-/// number stands.
+/// The object `{"entries":E,"files":F,"lawful":true,"logs":N,"missing_log":M}` of a lawful version.
+/// So many `logs` have writes that are in no table: null if that isn't known. The log `missing` is
+/// named and isn't there: null if none is. Of more than 2^64 - 1 entries that number stands.
 pub fn lawful_json(
     alloc: Global,
     files: usize,
     entries: u128,
     logs: Option<u64>,
+    missing: Option<u64>,
 ) -> Result<Value, Fault>
-    ensures { EqualOrMemory view result (Ok (lawful_object files (saturated entries) logs)) }
+    ensures { EqualOrMemory view result
+        (Ok (lawful_object files (saturated entries) logs missing)) }
 {
     let entries = capped(entries);
-    Ok(json!(in alloc; {"entries": entries, "files": files, "lawful": true, "logs": logs})?)
+    let logs = number_or_null(logs);
+    let missing = number_or_null(missing);
+    let object = lawful_parts_json(alloc, files, entries, logs, missing)?;
+    Ok(object)
+}
+
+/// The object of these parts.
+fn lawful_parts_json(
+    alloc: Global,
+    files: usize,
+    entries: u64,
+    logs: Value,
+    missing: Value,
+) -> Result<Value, AllocError>
+    ensures { IfOk result
+        (λ v. view v ≡ lawful_parts files entries (view logs) (view missing)) }
+{
+    json!(in alloc; {
+        "entries": entries,
+        "files": files,
+        "lawful": true,
+        "logs": logs,
+        "missing_log": missing
+    })
+}
+
+/// A number, null if there is none.
+fn number_or_null(number: Option<u64>) -> Value
+    ensures { view result ≡ number_or_null number }
+{
+    match number {
+        Some(number) => Value::from(number),
+        None => Value::Null,
+    }
 }
 
 /// The object `{"logs":N}` after rows: how many logs have writes that are in no table, null if it

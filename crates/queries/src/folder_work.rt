@@ -9,7 +9,7 @@ use install::Opened;
 use refusals::{explained, sizes_in_turn};
 use session::{
     Disk, Host, OpenedFolder, ProgressLine, Refusal, Telling, begin_counted, begin_work, bytes_of,
-    locked_to_read, print_lines, refused_opened, tell_time,
+    locked_to_read, missing_log, print_lines, refused_opened, tell_time,
 };
 use usage::{ManifestLine, VerdictForm, VerifyLine};
 
@@ -90,7 +90,11 @@ fn json_verdict<R: Host>(
     memory: u64,
 ) -> Result<String, Refusal> {
     let tested = tested(rt, telling, &work.opened, memory)?;
-    let object = lawful_json(rt.alloc(), tested.files, tested.entries, work.logs)?;
+    let missing = match work.logs {
+        Some(_) => missing_log(rt, telling.folder, &work.opened.version)?,
+        None => None,
+    };
+    let object = lawful_json(rt.alloc(), tested.files, tested.entries, work.logs, missing)?;
     Ok(json_line(rt.alloc(), &object)?)
 }
 

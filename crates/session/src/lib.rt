@@ -55,6 +55,7 @@ pub use opened_folder::{
 pub use progress::progress_text;
 pub use progress_line::{ProgressLine, WorkLeft};
 pub use refusal::{Refusal, RefusalParts, RefusalText, told};
+pub use refused_logs::missing_log;
 pub use replaceable_files::replaceable_file;
 pub use replaced_folder::{refused_opened, tell_replaced};
 pub use replayed_logs::replayed_log;

@@ -30,7 +30,7 @@ pub(crate) fn fail_on_logs<R: Files + AllocGlobal>(
 
 /// The number of the log that a version names, if it isn't there; LevelDB leaves it there also if it
 /// is empty. None if the version names none, which is number 0.
-pub(crate) fn missing_log<R: Files + AllocGlobal>(
+pub fn missing_log<R: Files + AllocGlobal>(
     rt: &R,
     folder: &str,
     version: &Version,

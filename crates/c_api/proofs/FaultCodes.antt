@@ -8,7 +8,7 @@ use Rattle.ikey.specs.fault.FaultName.TheVariants.{Trailer, Compressed, BlockTyp
 use Rattle.ikey.specs.fault.FaultName.TheVariants.{Order, Empty, Bounds, Duplicate, Numbers, TooLarge}
 use Rattle.ikey.specs.fault.FaultName.TheVariants.{SnapshotList, LogChecksum, LogShape, EditTag, EditField, Comparator}
 use Rattle.ikey.specs.fault.FaultName.TheVariants.{Apply, Lawless, Device, Missing, Locked, Changed}
-use Rattle.ikey.specs.fault.FaultName.TheVariants.{Memory}
+use Rattle.ikey.specs.fault.FaultName.TheVariants.{Logs, Memory}
 
 pub code_some : (n : FaultName) → code_of n ≡ 0 → ⊥
 code_some NoInput h = absurd cc
@@ -47,4 +47,5 @@ code_some Device h = absurd cc
 code_some Missing h = absurd cc
 code_some Locked h = absurd cc
 code_some Changed h = absurd cc
+code_some Logs h = absurd cc
 code_some Memory h = absurd cc

@@ -4,7 +4,9 @@
 use crate::compaction_crash_tests::{FILES, Files, MEMORY, is_named};
 use crate::silent_rows::{Act, ROWS, Row};
 use crate::silent_shelf::SilentShelf;
-use adoption::{AdoptionEnd, Comparison, install_outcome};
+use adoption::{
+    Comparison, TakenOutcome, TakenOutcomes, TakingEnd, install_taken, take_outcome,
+};
 use coding::{Fault, FaultName};
 use edit::Version;
 use folder::{FolderFault, Opened, Readings, open};
@@ -242,16 +244,24 @@ fn install_from<'a, R: Threads + Sync>(
     };
     let workers = checkers(rt, alloc, &Open);
     let comparison = Comparison::With(Snapshots::Listed(&[]));
-    let AdoptionEnd { folder, answer } = install_outcome(
-        &workers, folder, source, &opened, comparison, MEMORY,
+    let none = TakenOutcomes::none(alloc, &opened);
+    let TakingEnd { folder, answer } = take_outcome(
+        &workers, folder, source, none, comparison, MEMORY,
     );
-    End {
-        folder,
-        answer: match answer {
-            Ok(_) => Ok(()),
-            Err(fault) => Err(fault),
-        },
-    }
+    let mut folder = folder;
+    let answer = install_one(alloc, &mut folder, answer);
+    End { folder, answer }
+}
+
+/// Installs an outcome that was taken in.
+fn install_one(
+    alloc: Global,
+    folder: &mut SilentShelf<'_>,
+    taken: Result<TakenOutcome<'_>, Fault>,
+) -> Result<(), Fault> {
+    let one = taken?;
+    install_taken(alloc, folder, &one.taken)?;
+    Ok(())
 }
 
 /// Does this to a folder, with another one that is only read.

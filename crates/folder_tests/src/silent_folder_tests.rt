@@ -4,9 +4,7 @@
 use crate::compaction_crash_tests::{FILES, Files, MEMORY, is_named};
 use crate::silent_rows::{Act, ROWS, Row};
 use crate::silent_shelf::SilentShelf;
-use adoption::{
-    Comparison, TakenOutcome, TakenOutcomes, TakingEnd, install_taken, take_outcome,
-};
+use adoption::{Comparison, TakenOutcome, TakenOutcomes, TakingEnd, install_taken, take_outcome};
 use coding::{Fault, FaultName};
 use edit::Version;
 use folder::{FolderFault, Opened, Readings, open};

@@ -28,10 +28,10 @@ ghost use Rattle.store.specs.OrderView.{order_view};
 ghost use Rattle.store.specs.StepTaken.{IsGoTold};
 ghost use Rattle.store.specs.Untold.{IsUntold};
 
-use crate::level_step::{is_at_bottom, take_step, test_opened};
 use crate::clean_watch::CleanWatch;
 use crate::descent::{bottom, next_level};
 use crate::descent_end::DescentEnd;
+use crate::level_step::{is_at_bottom, take_step, test_opened};
 use crate::synced_version::SyncedVersion;
 use board::Watch;
 use checks::Workers;

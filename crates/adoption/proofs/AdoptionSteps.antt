@@ -8,28 +8,19 @@ use Rattle.edit.specs.fault.FaultName.TheVariants.{Device, Memory}
 use Rattle.edit.specs.Comparator.{KeyOrder}
 use Rattle.edit.specs.Edit.{Edit}
 use Rattle.edit.specs.Version.{State}
-use Rattle.folder.proofs.LoadingLemmas.{told_since}
 use Rattle.folder.proofs.OpeningLemmas.{held_before}
-use Rattle.folder.specs.Calls.{Files, Step, Tells, ToldFiles}
+use Rattle.folder.specs.Calls.{Files, Tells, ToldFiles}
 use Rattle.folder.specs.Folder.{TellsSame}
 use Rattle.folder.specs.OpenAnswer.{FolderAnswers, IsStopped}
 use Rattle.folder.specs.ReadsAs.{IsFileIn}
 use Rattle.folder.specs.declared.folder.Folder.{Ghosts}
-use Rattle.folder.specs.declared.order.Order.{Order}
-use Rattle.install.specs.Install.{SurvivesCrash, next_version_tables, tables_in, version_with}
+use Rattle.install.specs.Install.{tables_in}
 use Rattle.checks.specs.TestedTables.{IsTested}
 use Rattle.checks.specs.declared.version_totals.VersionTotals.{VersionTotals}
 use Rattle.store.proofs.Flow.{loaded_in, no_refusal}
-use Rattle.store.proofs.InstallPart.{still, survives_on}
-use Rattle.store.specs.Compaction.{IsUnchanged}
-use Rattle.store.specs.declared.compaction_step.CompactionStep.{CompactionStep}
 use Rattle.store.specs.InputsCompaction.{input_numbers}
 use Rattle.adoption.specs.Adoption.{Adoption, IsEditGiven, IsGiven, with_tables}
-use Rattle.adoption.specs.AdoptionLeft.{AdoptedVersion, IsInstallation, AdoptionKeepsReads}
-use Rattle.adoption.specs.OutcomeLeft.{IsOutcomeLeft, IsTestedLeft}
 use Rattle.adoption.specs.BothFolders.{AnswersFrom, HasEitherFailed}
-use Rattle.adoption.specs.declared.comparison.Comparison.{Comparison}
-use Rattle.install.proofs.Changes.{change_by}
 
 pub tells_itself : (tells : ToldFiles) → TellsSame tells tells
 tells_itself tells name held = (λ h. h, λ h. h)
@@ -76,33 +67,6 @@ pub refused_with : {Y Z : Type 0} (before now : ℕ) (e : Fault) (IsFirst : Resu
     → (IsFirst (Err e) → IsAnswer (Err e)) → UnlessMemory e (IsStopped before now e ⊎ IsFirst (Err e)) → UnlessMemory e (IsStopped before now e ⊎ IsAnswer (Err e))
 refused_with before now e IsFirst IsAnswer f given =
     unless_from e (IsStopped before now e ⊎ IsFirst (Err e)) (IsStopped before now e ⊎ IsAnswer (Err e)) (λ g. elim g [ inl stopped ↦ inl stopped | inr found ↦ inr (f found) ]) given
-
--- ---- what is left
-
-pub unchanged_since : {T : Type 0} (first before after : List Step) (zero old new : ToldFiles) (q : Result T Fault) → before ≡ first → TellsSame zero old → IsUnchanged (change_by before after old new) q → IsUnchanged (change_by first after zero new) q
-unchanged_since first before after zero old new q is told u = record { calls = u.calls ∙ is; same = told_since zero old new told u.same; refused = u.refused }
-
-module _ (order : Order) (cmp : KeyOrder) (v : State) (loaded : List (ℕ × List ℕ)) (given : Adoption × List (ℕ × List ℕ)) (first before after : List Step) (zero old new : ToldFiles) (q : Result CompactionStep Fault) (is : before ≡ first) (told : TellsSame zero old) where
-  pub installed_since : IsInstallation cmp order (version_with v loaded) given (change_by before after old new) q → IsInstallation cmp order (version_with v loaded) given (change_by first after zero new) q
-  installed_since i =
-      let tables = next_version_tables cmp given.0.next given.1 loaded in
-      record {
-        survives = subst (λ (b : List Step). SurvivesCrash cmp order (version_with v loaded) (version_with given.0.next tables) (change_by b after zero new) q) is
-            (survives_on cmp order v given.0.next loaded tables before after zero old new q q (λ P x. x) (still zero old told) i.survives);
-        step = i.step;
-        refused = i.refused;
-      }
-
-  -- an outcome that was tested, told from earlier calls on
-  pub tested_since : AdoptedVersion cmp v loaded given → IsUnchanged (change_by before after old new) q ⊎ IsInstallation cmp order (version_with v loaded) given (change_by before after old new) q → IsTestedLeft order cmp (version_with v loaded) given (change_by first after zero new) q
-  tested_since version (inl u) = inl (unchanged_since first before after zero old new q is told u)
-  tested_since version (inr i) = inr (version, installed_since i)
-
-  -- the same with what gets answer
-  pub outcome_since : (comparison : Comparison) → ((version : AdoptedVersion cmp v loaded given) → AdoptionKeepsReads cmp v loaded given.0 comparison version.tables_next) → IsTestedLeft order cmp (version_with v loaded) given (change_by before after old new) q
-      → IsOutcomeLeft order cmp (version_with v loaded) given comparison (change_by first after zero new) q
-  outcome_since comparison gets (inl u) = inl (unchanged_since first before after zero old new q is told u)
-  outcome_since comparison gets (inr i) = inr (record { version = i.0; gets = gets i.0; installation = installed_since i.1 })
 
 -- ---- two folders
 

@@ -11,7 +11,6 @@ pub mod LaidTables
 pub mod EditedVersion
 pub mod SortedMembers
 pub mod KeptReads
-pub mod AdoptionCalls
 pub mod TakenTurns
 pub mod TakenTables
 pub mod TakenEnds

@@ -193,10 +193,3 @@ abbrev pub IsGivenInstalled : KeyOrder → Files → State → Adoption × List 
 IsGivenInstalled cmp files v given comparison =
     IsThen (IsGivenTested cmp files given comparison) (λ passed.
     IsEditedInstalled cmp files v given)
-
--- the answer for the outcome that a folder holds
-abbrev pub IsInstalledFrom : KeyOrder → Files → Files → State → Comparison →
-    Result StepView Fault → Type 0
-IsInstalledFrom cmp files source v comparison =
-    IsThen (IsGiven cmp (IsFileIn source) v) (λ given.
-    IsGivenInstalled cmp files v given comparison)

@@ -2,8 +2,6 @@
 pub mod EditFit
 pub mod KeptEntries
 pub mod Adoption
-pub mod AdoptionLeft
-pub mod AdoptionRuns
 pub mod BothFolders
 pub mod AdoptedOutcome
 pub mod TakenOutcomes
@@ -11,6 +9,6 @@ pub mod TakenIn
 -- serves proofs alone
 pub mod AdoptionIn
 pub mod Overlay
-pub mod OutcomeLeft
+pub mod AdoptionLeft
 pub mod Beginnings
 pub mod TakingSteps

@@ -1,7 +1,7 @@
 //! Installs the outcome of a compaction that was carried out elsewhere: its output tables, and a
 //! file EDIT that has its version edit.
 //!
-//! [`install_outcome`] reads these files from a folder, and tests them against the database folder:
+//! [`take_outcome`] reads these files from a folder, and tests them against the database folder:
 //!
 //! 1. The edit fits the version: it is an edit of a compaction of files of it, and these are closed
 //!    inputs now (`pick::first_missing`). Which closed inputs they are is the caller's choice.
@@ -9,18 +9,15 @@
 //! 3. The outputs hold just what a compaction of the inputs keeps, as [`Comparison`] says.
 //! 4. The edited version is lawful with the outputs and the other tables of the folder.
 //!
-//! Then it is installed as a compaction is, so that a crash at any moment leaves the version before
-//! or the edited one.
-//!
-//! Several outcomes are installed by one manifest with [`take_outcome`] for each of them and then
-//! [`install_taken`]. Each is tested against the version that those before it leave.
+//! Each outcome is tested against the version that those before it leave, and its tables are
+//! written. Then [`install_taken`] installs all of them by one manifest, as a compaction is: a crash
+//! at any moment leaves the version before all of them or the one after.
 //!
 //! The database may have been in use meanwhile. So the counters of the edit that is installed are
 //! those of the version now.
 #![tactic(auto)]
 
 mod adopted_edit;
-mod adoption_end;
 mod comparison;
 mod edit_fit;
 mod edited_test;
@@ -28,15 +25,12 @@ mod given_outcome;
 mod joined_installation;
 mod kept_comparison;
 mod kept_entries;
-mod outcome_installation;
 mod outcome_taking;
 mod overlay;
 mod refusals;
 mod taken_outcomes;
 
-pub use adoption_end::AdoptionEnd;
 pub use comparison::Comparison;
 pub use joined_installation::install_taken;
-pub use outcome_installation::install_outcome;
 pub use outcome_taking::take_outcome;
 pub use taken_outcomes::{TakenOutcome, TakenOutcomes, TakingEnd};

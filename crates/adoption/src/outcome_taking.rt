@@ -56,26 +56,53 @@ fn version_left<'t, 'o>(taken: &'t TakenOutcomes<'o>) -> &'t Version
     }
 }
 
-/// Takes in the outcome that `source` holds, after those that were `taken`: tests it as
-/// [`install_outcome`] does, against the version that they leave, and writes its tables. Nothing is
-/// installed yet: [`install_taken`] does that, for all outcomes by one manifest.
+/// Takes in the outcome that `source` holds, after those that were `taken`: tests it against the
+/// version that they leave, and writes its tables. Nothing is installed yet: [`install_taken`] does
+/// that, for all outcomes by one manifest. The caller has locked the folder, and synced what was
+/// opened.
+///
+/// `source` holds the outputs as tables, and the version edit in a file EDIT. The edit that is
+/// installed has its files and its compact pointer. Its log numbers and its last sequence are those
+/// of the version, and its next file is the greater of EDIT's and the one after the manifest. So if
+/// the version is still the one that was compacted, the folder gets what a compaction of it would
+/// have left there.
 ///
 /// Only one outcome is held in memory at a time.
 ///
 /// The first that applies:
 ///
-/// - what [`install_outcome`] is refused as before it tests outputs, for the version that the
-///   outcomes before leave;
+/// - Missing: there is no EDIT;
+/// - EditTag or EditField: its bytes are no edit;
+/// - Lawless: a file's number isn't below next file, or the files of a level from 1 on don't rise;
+/// - Apply: EDIT isn't an edit of a compaction of this version. Of such an edit each of these
+///   holds:
+///   - it has just one compact pointer;
+///   - it deletes files of that pointer's level, and perhaps of the next one, that are closed now
+///     (`pick::first_missing`), whoever chose them;
+///   - its new files are of the next level, and their numbers rise from above the version's next
+///     file to below EDIT's;
+///   - its last sequence isn't above the version's;
+///   - it names no comparator;
+/// - Numbers: next file is 2^64 - 1;
+/// - Missing: at the first output that is missing;
 /// - Apply: an input isn't a file of the version that was opened, but an output of an outcome
 ///   before;
-/// - what [`install_outcome`] is refused as before it installs.
+/// - the first invalid output, as `table::check` refuses it;
+/// - Bounds: an output isn't as EDIT states it;
+/// - if outputs are compared, of the inputs' tables: Missing at the first missing one; the first
+///   invalid one; Bounds; Options, if there are more than 256. Then Snapshot or SnapshotList of the
+///   snapshots. Then Lawless, if the outputs don't hold just what a compaction of the inputs keeps;
+/// - of the edited version: Missing at the first missing table, by level and in version order; the
+///   first invalid one; Lawless, if it isn't lawful.
 ///
 /// If the device fails a call on one of the folders, the answer is Device and no further call is
 /// made. If memory runs out, it is Memory. Whatever the answer, the folder reads as what was opened.
 /// After a refusal there is nothing to install any more, and what was written are tables that no
 /// version names.
 ///
-/// [`install_outcome`]: crate::install_outcome
+/// The work is told to the gate of `workers`, which is `&Open` if nobody watches. The test of the
+/// edited version holds at most `memory` bytes of tables, as `checks::test_version` does.
+///
 /// [`install_taken`]: crate::install_taken
 pub fn take_outcome<'o, F: Folder + Drop, G: Folder, W: Watch + Sync, R: Threads + Sync>(
     workers: &Workers<'_, R, W>,

@@ -4,7 +4,7 @@
 use crate::compaction_crash_tests::{FILES, Files, MEMORY, is_named};
 use crate::silent_rows::{Act, ROWS, Row};
 use crate::silent_shelf::SilentShelf;
-use adoption::{AdoptionEnd, Comparison, install_outcome};
+use adoption::{Comparison, TakenOutcome, TakenOutcomes, TakingEnd, install_taken, take_outcome};
 use coding::{Fault, FaultName};
 use edit::Version;
 use folder::{FolderFault, Opened, Readings, open};
@@ -16,7 +16,7 @@ use std::test::*;
 use std::thread::Threads;
 use store::{
     CleanWatch, CompactionStep, InstallWatch, Open, Settings, SyncedVersion, checkers, compact_all,
-    compact_all_and_clean, compact_dir, outcome_of_opened, sync_version, write_outcome,
+    compact_dir, outcome_of_opened, sync_version, write_outcome,
 };
 
 /// The calls that write of a compaction of level 1 and of the removal after it, of which it is
@@ -107,50 +107,20 @@ fn compact_level<R: Threads + Sync>(
     }
 }
 
-/// Who is told of compactions. It goes on if it says so.
-#[derive(Drop)]
-struct Told {
-    goes_on: bool,
-}
-
-impl InstallWatch for Told {
-    fn installed(
-        &mut self,
-        _level: u64,
-        _step: &CompactionStep,
-        _before: &Version,
-        _after: Option<&Version>,
-    ) -> bool {
-        self.goes_on
-    }
-}
-
 /// What a folder is opened as, synced.
 fn synced(alloc: Global, folder: &mut SilentShelf<'_>) -> Result<SyncedVersion, Fault> {
     let opened = open(alloc, folder)?;
     sync_version(alloc, folder, opened)
 }
 
-/// Compacts all levels of a folder, or the first one alone.
-fn compact_levels<R: Threads + Sync>(
-    rt: &R,
-    alloc: Global,
-    folder: &mut SilentShelf<'_>,
-    goes_on: bool,
-) -> Result<(), Fault> {
-    let opened = synced(alloc, folder)?;
-    let workers = checkers(rt, alloc, &Open);
-    let told = &mut Told { goes_on };
-    match compact_all(&workers, folder, opened, &Settings::default(), MEMORY, told) {
-        Ok(_) => Ok(()),
-        Err(fault) => Err(fault),
-    }
-}
-
-/// Who lists the files of a folder after each compaction. It goes on.
+/// Who is told of compactions, and lists the files of the folder after each.
 #[derive(Drop)]
 struct Lister {
     alloc: Global,
+    /// Whether to go on after a compaction.
+    goes_on: bool,
+    /// Whether files are listed. Else the list is empty.
+    cleans: bool,
     /// How many removals are done.
     done: usize,
 }
@@ -163,7 +133,7 @@ impl InstallWatch for Lister {
         _before: &Version,
         _after: Option<&Version>,
     ) -> bool {
-        true
+        self.goes_on
     }
 }
 
@@ -174,6 +144,9 @@ impl RemovalWatch for Lister {
 impl CleanWatch for Lister {
     fn names(&mut self, _opened: &Opened) -> Option<Vec<String>> {
         let mut names = Vec::new(self.alloc);
+        if !self.cleans {
+            return Some(names);
+        }
         for name in *LISTED.get(self.done)? {
             names.push(String::from_str(self.alloc, name).ok()?).ok()?;
         }
@@ -186,17 +159,23 @@ impl CleanWatch for Lister {
     }
 }
 
-/// Compacts all levels of a folder, and removes files after each step.
-fn compact_and_clean<R: Threads + Sync>(
+/// Compacts all levels of a folder, or the first one alone, and perhaps removes files after each.
+fn compact_levels<R: Threads + Sync>(
     rt: &R,
     alloc: Global,
     folder: &mut SilentShelf<'_>,
+    act: Act,
 ) -> Result<(), Fault> {
     let opened = synced(alloc, folder)?;
     let workers = checkers(rt, alloc, &Open);
-    let told = &mut Lister { alloc, done: 0 };
-    let settings = Settings::default();
-    match compact_all_and_clean(&workers, folder, opened, &settings, MEMORY, told) {
+    let cleans = act == Act::CompactAndClean;
+    let told = &mut Lister {
+        alloc,
+        goes_on: cleans || act == Act::CompactAll,
+        cleans,
+        done: 0,
+    };
+    match compact_all(&workers, folder, opened, &Settings::default(), MEMORY, told) {
         Ok(_) => Ok(()),
         Err(fault) => Err(fault),
     }
@@ -242,16 +221,24 @@ fn install_from<'a, R: Threads + Sync>(
     };
     let workers = checkers(rt, alloc, &Open);
     let comparison = Comparison::With(Snapshots::Listed(&[]));
-    let AdoptionEnd { folder, answer } = install_outcome(
-        &workers, folder, source, &opened, comparison, MEMORY,
+    let none = TakenOutcomes::none(alloc, &opened);
+    let TakingEnd { folder, answer } = take_outcome(
+        &workers, folder, source, none, comparison, MEMORY,
     );
-    End {
-        folder,
-        answer: match answer {
-            Ok(_) => Ok(()),
-            Err(fault) => Err(fault),
-        },
-    }
+    let mut folder = folder;
+    let answer = install_one(alloc, &mut folder, answer);
+    End { folder, answer }
+}
+
+/// Installs an outcome that was taken in.
+fn install_one(
+    alloc: Global,
+    folder: &mut SilentShelf<'_>,
+    taken: Result<TakenOutcome<'_>, Fault>,
+) -> Result<(), Fault> {
+    let one = taken?;
+    install_taken(alloc, folder, &one.taken)?;
+    Ok(())
 }
 
 /// Does this to a folder, with another one that is only read.
@@ -269,8 +256,7 @@ fn done<'a, R: Threads + Sync>(
     let answer = match act {
         Act::Compact => compact_level(rt, alloc, &mut folder),
         Act::Write => write_level(rt, alloc, &mut folder, source),
-        Act::CompactAndClean => compact_and_clean(rt, alloc, &mut folder),
-        _ => compact_levels(rt, alloc, &mut folder, act == Act::CompactAll),
+        _ => compact_levels(rt, alloc, &mut folder, act),
     };
     End { folder, answer }
 }

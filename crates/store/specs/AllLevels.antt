@@ -1,38 +1,31 @@
 -- Compactions of one level after the other.
-use Rattle.std.specs.Prelude.{◌≡◌, ◌⊎◌, ℕ, ◌≤◌, Bool, true, false, List, [], ◌∷◌, ◌++◌, length, map}
+use Rattle.std.specs.Prelude.{◌≡◌, ◌⊎◌, ℕ, Bool, true, false, List, [], ◌∷◌}
 use Rattle.std.specs.Prelude.{Some, None}
-use Rattle.std.specs.Prelude.{Result, Ok, Err, IfErr, IfOk, OnOk, Contains}
-use Rattle.folder.specs.Answers.{UnlessMemory}
+use Rattle.std.specs.Prelude.{Result, Ok, Err, Contains}
 use Rattle.folder.specs.fault.Fault.{Fault}
 use Rattle.folder.specs.Comparator.{KeyOrder, ShortKeys}
 use Rattle.folder.specs.Version.{State}
-use Rattle.folder.specs.Calls.{Files, Tells}
-use Rattle.folder.specs.Crash.{LeavesOnly, World}
+use Rattle.folder.specs.Calls.{Files}
 use Rattle.folder.specs.Folder.{TellsSame}
-use Rattle.folder.specs.OpenAnswer.{IsStopped}
-use Rattle.folder.specs.ReadsAs.{IsFileIn, ReadsAs}
+use Rattle.folder.specs.ReadsAs.{ReadsAs}
 use Rattle.folder.specs.declared.order.Order.{Order}
 use Rattle.pick.specs.PickedInputs.{PickedInputs}
 use Rattle.reads.specs.Gets.{get_of}
 use Rattle.reads.specs.Tables.{NumberedContents}
 use Rattle.compact.specs.Readable.{is_read, readable_of}
 use Rattle.checks.specs.LawfulTables.{IsLawfulTables}
-use Rattle.checks.specs.Takers.{AreToldInTurn}
 use Rattle.compact.specs.OneThread.{Answer}
-use Rattle.install.specs.Install.{AlwaysStandsAs, LoadedVersion, version_with}
+use Rattle.install.specs.Install.{LoadedVersion, version_with}
 use Rattle.compact.specs.declared.settings.Settings.{Settings}
 use Rattle.store.specs.Answers.{IsLoadedCompacted}
 use Rattle.store.specs.Compaction.{LevelCompaction, next_of}
 use Rattle.store.specs.Descent.{IsBottom, IsNextLevel}
 use Rattle.store.specs.FolderRequest.{last_of}
 use Rattle.store.specs.Step.{StepView, step_of}
-use Rattle.store.specs.Untold.{IsUntold}
-use Rattle.checks.specs.TestedTables.{IsTested}
 use Rattle.store.specs.declared.descent_end.DescentEnd.{DescentEnd}
 use Rattle.store.specs.declared.descent_end.DescentEnd.TheVariants.{AtBottom, Stopped}
-use Rattle.install.specs.FolderChange.{FolderChange, FolderCall}
+use Rattle.install.specs.FolderChange.{FolderChange}
 use Rattle.store.specs.OrderView.{OrderView}
-use Rattle.store.specs.Telling.{Telling}
 
 -- a compaction in a row of them: its level, its step, and the version and the tables that it leaves
 pub record CompactionLink : Type 0 where
@@ -96,48 +89,6 @@ pub record IsNextRefused (cmp : KeyOrder) (short_keys : ShortKeys) (s : Settings
   pub next_level : IsNextLevel v bottom (Some level)
   pub refused : IsLoadedCompacted cmp short_keys v loaded level s (Err e)
 
--- What compactions of one level after the other leave of a folder that reads as a version, lawful
--- with its tables. They were made one after the other, and told, and after each but the last one it
--- was told to go on. At most one more was begun.
--- - A crash at any moment leaves the version before or after one of them; without a crash the
---   folder reads as one of these.
--- - The version after those that were told is lawful, and answers as the first one.
--- - At Ok none is begun, and the folder reads as that version, and stands for it. It is at the
---   bottom unless it was told to stop.
--- - Else the next compaction is refused, or the device failed.
-pub record IsDescended {W : Type 0} (by : OrderView) (s : Settings) (v : LoadedVersion)
-    (tables : List NumberedContents) (call : FolderCall) (told : Telling W)
-    (result : Result DescentEnd Fault) : Type 0 where
-  pub bottom : ℕ
-  pub is_bottom : IsBottom v.version bottom
-  pub links : List CompactionLink
-  pub begun : List CompactionLink
-  pub chain : AreLinked by s bottom v (links ++ begun)
-  pub few : length begun ≤ 1
-  pub none : OnOk result (begun ≡ [])
-  pub goes : Bool
-  pub told_steps : AreToldInTurn told.tells told.old (map (λ (l : CompactionLink). l.step) links)
-      goes told.new
-  pub any_moment : (start : World) →
-      AlwaysStandsAs by.cmp by.order v.version v.tables start call.change.before →
-      LeavesOnly start call.change.before call.change.after
-      (IsAtLink by.cmp by.order v.version v.tables (links ++ begun))
-  pub files_now : Files
-  pub holds : Tells call.change.new files_now
-  pub read : IsAtLink by.cmp by.order v.version v.tables (links ++ begun) files_now
-  pub reads_last : OnOk result (ReadsAs by.cmp by.order (version_at_end v.version links)
-      (last_tables v.tables links) files_now)
-  pub answers : AnswersAs by.cmp s v.version tables (version_at_end v.version links)
-      (last_tables v.tables links)
-  pub installed : (start : World) →
-      AlwaysStandsAs by.cmp by.order v.version v.tables start call.change.before → OnOk result
-      (AlwaysStandsAs by.cmp by.order (version_at_end v.version links) (last_tables v.tables links)
-      start call.change.after)
-  pub ended : IfOk result (IsEndOf (version_at_end v.version links) bottom goes)
-  pub refused : IfErr result (λ e. UnlessMemory e (IsStopped call.failed call.now e
-      ⊎ IsNextRefused by.cmp by.short_keys s bottom (version_at_end v.version links)
-      (last_tables v.tables links) e))
-
 -- No file of the version is above its bottom, so nothing was changed, tested or told.
 pub record IsAtBottom {W : Type 0} (v : State) (change : FolderChange) (told told_now : W)
     (result : Result DescentEnd Fault) : Type 0 where
@@ -148,16 +99,3 @@ pub record IsAtBottom {W : Type 0} (v : State) (change : FolderChange) (told tol
   pub same : TellsSame change.old change.new
   pub untold : told_now ≡ told
   pub answer : result ≡ Ok AtBottom
-
--- What is left of a folder that opens as a version, of which all levels are compacted after a test
--- of it. Nothing was changed or told: the test is refused, or the device failed. Or no file is
--- above the bottom. Or the version is lawful, and compactions were made.
-abbrev pub IsAllLeft : {W : Type 0} → OrderView → Settings → State → Files → FolderCall →
-    Telling W → Result DescentEnd Fault → Type 0
-IsAllLeft by s v files call told result =
-    IsUntold call.change told.old told.new
-    (λ e. IsStopped call.failed call.now e ⊎ IsTested (IsFileIn files) by.cmp v (Err e)) result
-    ⊎ (IsAtBottom v call.change told.old told.new result
-    ⊎ ((loaded : List (ℕ × List ℕ)) × (tables : List NumberedContents)
-    × ReadsAs by.cmp by.order v loaded files × IsLawfulTables by.cmp v loaded (Ok tables)
-    × IsDescended by s (version_with v loaded) tables call told result))

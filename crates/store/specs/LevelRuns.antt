@@ -1,12 +1,12 @@
 -- Which calls the compactions of all levels make on a folder, be it one that tells what it holds or
 -- not, and what is told of them.
-use Rattle.std.specs.Prelude.{◌≡◌, ◌⊎◌, ℕ, Bool, true, false, List, [], ◌∷◌, ◌++◌, map, Some, None}
+use Rattle.std.specs.Prelude.{◌≡◌, ◌⊎◌, ℕ, Bool, false, List, ◌++◌, Some}
 use Rattle.std.specs.Prelude.{Result, Ok}
 use Rattle.std.specs.Prelude.{IfOk, OnOk}
 use Rattle.std.specs.List.{flat_map}
 use Rattle.folder.specs.fault.Fault.{Fault}
 use Rattle.folder.specs.Version.{State}
-use Rattle.folder.specs.Calls.{Call, Done, Step, ToldFiles}
+use Rattle.folder.specs.Calls.{Call, Step, ToldFiles}
 use Rattle.folder.specs.CallSequence.{AreMadeBy}
 use Rattle.folder.specs.Manifest.{order_name}
 use Rattle.folder.specs.Orders.{order_cmp, order_short_keys}
@@ -15,16 +15,15 @@ use Rattle.folder.specs.declared.order.Order.{Order}
 use Rattle.pick.specs.PickedInputs.{PickedInputs}
 use Rattle.compact.specs.OneThread.{Answer}
 use Rattle.install.specs.Install.{install_calls, manifest_bytes}
-use Rattle.checks.specs.Takers.{AreToldInTurn}
 use Rattle.compact.specs.declared.settings.Settings.{Settings}
-use Rattle.store.specs.Descent.{IsBottom, IsNextLevel}
+use Rattle.store.specs.Descent.{IsNextLevel}
 use Rattle.store.specs.FolderRequest.{manifest_of}
 use Rattle.store.specs.OpenedAfter.{IsOpenedAfter}
 use Rattle.store.specs.Runs.{HasMade, IsAnswerForLevel}
 use Rattle.store.specs.Step.{StepView, step_of}
 use Rattle.store.specs.declared.descent_end.DescentEnd.{DescentEnd}
-use Rattle.store.specs.declared.descent_end.DescentEnd.TheVariants.{AtBottom, Stopped}
-use Rattle.store.specs.Telling.{Telling, telling_by}
+use Rattle.store.specs.declared.descent_end.DescentEnd.TheVariants.{Stopped}
+use Rattle.store.specs.Telling.{Telling}
 
 -- an answer that is installed: with its inputs, and the groups in which its tables are written
 pub record GroupedAnswer : Type 0 where
@@ -87,32 +86,6 @@ pub record IsLevelLink {F : Type 0} (g : Ghosts F) (first : F) (so_far : List St
   pub is_answer : IsGroupedAnswer order (g.tells at) v l.level s l.installed
   pub edited : IsOpenedAfter order v l.installed.answer.edit (Ok (order, l.next, manifest_of v))
 
--- compactions, each of the version that the one before it leaves, after these calls from the first
--- folder on
-abbrev pub AreLevelLinks : {F : Type 0} → Ghosts F → F → List Step → Order → Settings → ℕ → State →
-    List LevelLink → Type 0
-AreLevelLinks g first so_far order s bottom v [] = Unit {0}
-AreLevelLinks g first so_far order s bottom v (l ∷ links) =
-    IsLevelLink g first so_far order s bottom v l
-    × AreLevelLinks g first (so_far ++ map Done (calls_of_answer order v l.installed)) order s
-    bottom l.next links
-
--- the version that they leave
-abbrev pub version_after : State → List LevelLink → State
-version_after v [] = v
-version_after v (l ∷ links) = version_after l.next links
-
--- the calls that they made, none of which failed
-abbrev pub calls_of_links : Order → State → List LevelLink → List Step
-calls_of_links order v [] = []
-calls_of_links order v (l ∷ links) = map Done (calls_of_answer order v l.installed)
-    ++ calls_of_links order l.next links
-
--- what is told of them
-abbrev pub steps_of_links : State → List LevelLink → List StepView
-steps_of_links v [] = []
-steps_of_links v (l ∷ links) = step_of_answer v l.installed ∷ steps_of_links l.next links
-
 -- it stopped, as it was told to
 abbrev pub IsStopTold : Bool → DescentEnd → Type 0
 IsStopTold goes end = (end ≡ Stopped) × (goes ≡ false)
@@ -128,27 +101,3 @@ pub record IsLastBegun {F W : Type 0} (g : Ghosts F) (old new : F) (so_far : Lis
   pub begun : IsLevelBegun order (g.tells at) v level s (g.calls old ++ so_far) (g.calls new) result
   pub is_told : IsToldOf told.tells (step_of_answer v begun.installed) told.old told.new IsStopTold
       result
-
--- Compactions of one level after the other were made, each of the version that the one before it
--- leaves. Each was told, and told to go on. At most one more was begun. If none more was, at Ok no
--- file is above the bottom.
-pub record IsDescentRun {F W : Type 0} (g : Ghosts F) (old new : F) (order : Order)
-    (s : Settings) (v : State) (told : Telling W) (result : Result DescentEnd Fault) : Type 0 where
-  pub bottom : ℕ
-  pub is_bottom : IsBottom v bottom
-  pub links : List LevelLink
-  pub chain : AreLevelLinks g old [] order s bottom v links
-  pub told_last : W
-  pub told_steps : AreToldInTurn told.tells told.old (steps_of_links v links) true told_last
-  pub last : ((g.calls new ≡ g.calls old ++ calls_of_links order v links)
-      × (told.new ≡ told_last)
-      × IfOk result (λ e. (e ≡ AtBottom) × IsNextLevel (version_after v links) bottom None))
-      ⊎ IsLastBegun g old new (calls_of_links order v links) order s bottom
-      (version_after v links) (telling_by told.tells told_last told.new) result
-
--- no call that writes was made, and nothing told; or these are the calls, and what was told
-abbrev pub IsAllLevelsRun : {F W : Type 0} → Ghosts F → F → F → Order → Settings → State →
-    Telling W → Result DescentEnd Fault → Type 0
-IsAllLevelsRun g old new order s v told result =
-    MakesNoCalls (g.calls old) (g.calls new) told.old told.new result
-    ⊎ IsDescentRun g old new order s v told result

@@ -8,10 +8,9 @@
 //! 3. [`compact_inputs`] reads the inputs alone: its caller knows that the version is lawful. So
 //!    does [`opened_after`] make what a folder is opened as after it, which is the next one's.
 //! 4. [`compact_all`] compacts all levels, one after the other. It tests the version once, and
-//!    tells an [`InstallWatch`] of each compaction that was installed. [`compact_levels`] does the
-//!    same without the test. [`compact_all_and_clean`] and [`compact_and_clean`] ask a
-//!    [`CleanWatch`] for names after each, and remove the files that the version doesn't need.
-//!    [`bottom`] and [`next_level`] say which levels they take.
+//!    tells a [`CleanWatch`] of each compaction that was installed. Then it asks it for names, and
+//!    removes the files of these that the version doesn't need. [`compact_levels`] does the same
+//!    without the test. [`bottom`] and [`next_level`] say which levels they take.
 //! 5. [`outcome_of_opened`] and [`outcome_of_inputs`] only read: they answer the outcome, with the
 //!    numbers that are asked for. [`write_outcome`] writes it into another folder.
 //!    [`files_to_compact`] names the files that the second one needs. [`outcome_of_part`] and
@@ -43,7 +42,6 @@
 mod all_levels;
 mod answered_steps;
 mod clean_watch;
-mod cleaned_levels;
 mod compaction_outcome;
 mod compaction_step;
 mod descent;
@@ -61,6 +59,7 @@ mod install_watch;
 mod level_compaction;
 mod level_inputs;
 mod level_part;
+mod level_step;
 mod needed_files;
 mod next_opened;
 mod outcome_writer;
@@ -81,7 +80,6 @@ pub use answered_steps::outcome_step;
 pub use board::{Watch, Work};
 pub use checks::{Open, checkers, checkers_of};
 pub use clean_watch::CleanWatch;
-pub use cleaned_levels::{compact_all_and_clean, compact_and_clean};
 pub use compact::{DeletedFile, Settings};
 pub use compaction_outcome::CompactionOutcome;
 pub use compaction_step::CompactionStep;
@@ -92,6 +90,7 @@ pub use folder_outcome::{outcome_of_inputs, outcome_of_opened};
 pub use folder_request::manifest_of;
 pub use input_compaction::compact_inputs;
 pub use input_tables::{bytes_of, checked_inputs, load_inputs};
+pub use install::RemovalWatch;
 pub use install_laws::{answer_is_installed, inputs_suffice, request_is_over, sync_stands};
 pub use install_watch::InstallWatch;
 pub use level_part::LevelPart;

@@ -3,7 +3,7 @@
 use crate::adoption_tests::rows::{FIRST_PART, INSTALLED, OWN, REFUSED_ROWS, Row, SECOND_PART};
 use crate::store_tests::rows::{CURRENT, Files, T_AND_V};
 use crate::store_tests::tests::step_lines;
-use adoption::{AdoptionEnd, install_outcome};
+use adoption::{TakenOutcome, TakenOutcomes, TakingEnd, install_taken, take_outcome};
 use coding::{Fault, FaultName};
 use folder::open;
 use shelf::Shelf;
@@ -57,32 +57,54 @@ fn synced(alloc: Global, folder: &mut Shelf<'_>) -> Result<SyncedVersion, Fault>
     sync_version(alloc, folder, opened)
 }
 
+/// A folder in which an outcome was to be installed, and the answer.
+#[derive(Drop)]
+struct End<'f> {
+    folder: Shelf<'f>,
+    answer: Result<CompactionStep, Fault>,
+}
+
 /// Installs the outcome of a row in a folder.
 fn installed<'f, R: Threads + Sync>(
     rt: &R,
     alloc: Global,
     folder: Shelf<'f>,
     row: &Row,
-) -> AdoptionEnd<Shelf<'f>> {
+) -> End<'f> {
     let mut folder = folder;
     let mut source = Shelf::new(alloc, row.outcome);
-    match synced(alloc, &mut folder) {
-        Ok(opened) => {
-            let comparison = row.comparison;
-            install_outcome(
-                &checkers(rt, alloc, &Open),
+    let opened = match synced(alloc, &mut folder) {
+        Ok(opened) => opened,
+        Err(fault) => {
+            return End {
                 folder,
-                &mut source,
-                &opened,
-                comparison,
-                MEMORY,
-            )
+                answer: Err(fault),
+            };
         }
-        Err(fault) => AdoptionEnd {
-            folder,
-            answer: Err(fault),
-        },
-    }
+    };
+    let TakingEnd { folder, answer } = take_outcome(
+        &checkers(rt, alloc, &Open),
+        folder,
+        &mut source,
+        TakenOutcomes::none(alloc, &opened),
+        row.comparison,
+        MEMORY,
+    );
+    let mut folder = folder;
+    let answer = named(alloc, &mut folder, answer);
+    End { folder, answer }
+}
+
+/// Installs an outcome that was taken in: the step, with the manifest's number.
+fn named(
+    alloc: Global,
+    folder: &mut Shelf<'_>,
+    taken: Result<TakenOutcome<'_>, Fault>,
+) -> Result<CompactionStep, Fault> {
+    let one = taken?;
+    let mut step = one.step;
+    step.manifest = install_taken(alloc, folder, &one.taken)?;
+    Ok(step)
 }
 
 /// Whether the installation of a row has its answer and leaves its files.

@@ -16,8 +16,8 @@ use std::process::Abort;
 use std::test::*;
 use std::thread::Threads;
 use store::{
-    CompactionStep, DescentEnd, InstallWatch, Open, Settings, checkers, compact_all, compact_dir,
-    compact_inputs, opened_after, sync_version,
+    CleanWatch, CompactionStep, DescentEnd, InstallWatch, Open, RemovalWatch, Settings, checkers,
+    compact_all, compact_dir, compact_inputs, opened_after, sync_version,
 };
 
 /// How many bytes of tables are held while a version is tested.
@@ -169,6 +169,20 @@ impl InstallWatch for Collected {
         }
         self.left = self.left.saturating_sub(1);
         self.left > 0
+    }
+}
+
+impl RemovalWatch for Collected {
+    fn removed(&mut self, _name: &str) {}
+}
+
+impl CleanWatch for Collected {
+    fn names(&mut self, _opened: &Opened) -> Option<Vec<String>> {
+        Some(Vec::new(self.alloc))
+    }
+
+    fn cleaned(&mut self, _opened: &Opened) -> bool {
+        true
     }
 }
 

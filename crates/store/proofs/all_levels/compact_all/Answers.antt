@@ -10,11 +10,14 @@ use Rattle.folder.specs.fault.Fault.{Fault}
 use Rattle.store.specs.declared.descent_end.DescentEnd.{DescentEnd}
 use Rattle.store.specs.declared.descent_end.DescentEnd.TheVariants.{AtBottom}
 use Rattle.store.proofs.Descending.{by_memory, same_tells}
-use Rattle.store.proofs.DescendingSince.{descended_since, untold_since}
+use Rattle.store.proofs.CleanedSince.{cleaned_since}
+use Rattle.store.proofs.DescendingSince.{untold_since}
 use Rattle.store.proofs.Flow.{no_value, told_still, told_themselves}
 use Rattle.store.proofs.NoDevice.{handed_memory}
 use Rattle.store.proofs.StepPart.{has_passed, refused_err}
-use Rattle.store.proofs.LevelRuns.{all_at_bottom, all_since}
+use Rattle.store.proofs.CleanLevelRuns.{all_cleans_since, none_to_clean}
+use Rattle.store.specs.CleanedLevels.{folder_version}
+use Rattle.store.specs.Cleaning.{teller_by}
 use Rattle.store.proofs.all_levels.compact_all.Goals as goal
 
 pub returns-in_err-test_opened-clause-left : goal.returns-in_err-test_opened-clause-left
@@ -51,8 +54,8 @@ returns-clause-left g c files told current opened =
         passed.tables,
         reads,
         passed.sound,
-        descended_since g.T.InstallWatch.tells o.order cmp (order_short_keys o.order) c.args.settings.now o.version passed.loaded passed.tables (calls c.args.folder.now) (calls c.test_opened.new.folder) (calls c.compact_levels.new.folder) (tells c.args.folder.now) (tells c.test_opened.new.folder) (tells c.compact_levels.new.folder)
-            (failed c.args.folder.now) (failed c.test_opened.new.folder) (failed c.compact_levels.new.folder) _ _ c.compact_levels.result c.test_opened.ensures.reads.calls count d,
+        cleaned_since o.order cmp (order_short_keys o.order) c.args.settings.now (folder_version o.version o.manifest passed.loaded) passed.tables (calls c.args.folder.now) (calls c.test_opened.new.folder) (calls c.compact_levels.new.folder) (tells c.args.folder.now) (tells c.test_opened.new.folder) (tells c.compact_levels.new.folder)
+            (failed c.args.folder.now) (failed c.test_opened.new.folder) (failed c.compact_levels.new.folder) c.compact_levels.result c.test_opened.ensures.reads.calls count d,
       ))
     ]
 
@@ -93,7 +96,7 @@ pub returns-then-branch-clause-runs : goal.returns-then-branch-clause-runs
 returns-then-branch-clause-runs g c =
     let o = c.args.opened in
     let none = c.in_ok-is_at_bottom.ensures.none c.if-branch.true in
-    all_at_bottom g.F.Folder g.T.InstallWatch.tells o.order c.args.settings.now o.version c.args.folder.now c.args.told.now none.0 none.1 none.2
+    none_to_clean g.F.Folder (teller_by g.T.InstallWatch.tells g.T.CleanWatch.lists g.T.RemovalWatch.tells g.T.CleanWatch.ends) o.order c.args.settings.now o.version c.args.folder.now c.args.told.now none.0 none.1 none.2
 
 pub returns-in_err-test_opened-clause-runs : goal.returns-in_err-test_opened-clause-runs
 returns-in_err-test_opened-clause-runs g c =
@@ -102,5 +105,5 @@ returns-in_err-test_opened-clause-runs g c =
 pub returns-clause-runs : goal.returns-clause-runs
 returns-clause-runs g c =
     let o = c.args.opened in
-    all_since g.F.Folder g.T.InstallWatch.tells o.order c.args.settings.now o.version c.args.folder.now c.test_opened.new.folder c.compact_levels.new.folder c.args.told.now c.compact_levels.new.told c.compact_levels.result
+    all_cleans_since g.F.Folder (teller_by g.T.InstallWatch.tells g.T.CleanWatch.lists g.T.RemovalWatch.tells g.T.CleanWatch.ends) o.order c.args.settings.now o.version c.args.folder.now c.test_opened.new.folder c.compact_levels.new.folder c.args.told.now c.compact_levels.new.told c.compact_levels.result
     c.test_opened.ensures.reads.calls c.test_opened.ensures.reads.same c.compact_levels.ensures.runs

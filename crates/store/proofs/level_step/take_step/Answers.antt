@@ -11,7 +11,7 @@ use Rattle.store.specs.OpenedAfter.{IsOpenedAfter}
 use Rattle.store.proofs.NoDevice.{never_device_at}
 use Rattle.store.proofs.StepsTaken.{installed_of, memory_only, opened_next, opened_other, suffices_by}
 use Rattle.store.proofs.LevelRuns.{begun_refused, begun_told}
-use Rattle.store.proofs.all_levels.take_step.Goals as goal
+use Rattle.store.proofs.level_step.take_step.Goals as goal
 
 pub returns-in_err-step-clause-left : goal.returns-in_err-step-clause-left
 returns-in_err-step-clause-left g c files loaded tables told current reads sound =

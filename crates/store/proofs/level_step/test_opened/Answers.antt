@@ -4,7 +4,7 @@ use Rattle.folder.specs.Orders.{order_cmp}
 use Rattle.folder.specs.declared.order.Order.{Order}
 use Rattle.checks.specs.TestedTables.{IsTested}
 use Rattle.folder.specs.ReadsAs.{IsFileIn}
-use Rattle.store.proofs.all_levels.test_opened.Goals as goal
+use Rattle.store.proofs.level_step.test_opened.Goals as goal
 
 pub returns-in-Bytewise-clause-answer : goal.returns-in-Bytewise-clause-answer
 returns-in-Bytewise-clause-answer g c files told =

@@ -13,7 +13,7 @@ use Rattle.store.proofs.CleanParts.{cut_part, done_part, stays_of}
 use Rattle.store.proofs.Descending.{same_tells}
 use Rattle.store.proofs.InstallPart.{refused_ok}
 use Rattle.store.proofs.StepPart.{refused_err}
-use Rattle.store.proofs.cleaned_levels.clean.Goals as goal
+use Rattle.store.proofs.all_levels.clean.Goals as goal
 
 -- ---- no names were given
 

@@ -1,6 +1,6 @@
 use Rattle.std.proofs.Common.{ℕ, Option, subst}
 use Rattle.store.specs.Descent.{IsNextLevel}
-use Rattle.store.proofs.all_levels.is_at_bottom.Goals as goal
+use Rattle.store.proofs.level_step.is_at_bottom.Goals as goal
 
 pub next_level-requires : goal.next_level-requires
 next_level-requires c = c.in_ok-bottom.ensures.bottom.1

@@ -15,8 +15,8 @@ use std::alloc::Global;
 use std::test::*;
 use std::thread::Threads;
 use store::{
-    CleanWatch, CompactionStep, InstallWatch, Open, Settings, SyncedVersion, checkers, compact_all,
-    compact_dir, outcome_of_opened, sync_version, write_outcome,
+    Choice, CleanWatch, CompactionStep, InstallWatch, Open, Settings, SyncedVersion, checkers,
+    compact_all, compact_dir, outcome, sync_version, write_outcome,
 };
 
 /// The calls that write of a compaction of level 1 and of the removal after it, of which it is
@@ -191,7 +191,16 @@ fn write_level<R: Threads + Sync>(
     let opened = open(alloc, source)?;
     let workers = checkers(rt, alloc, &Open);
     let settings = Settings::default();
-    let made = outcome_of_opened(&workers, source, &opened, 1, None, &settings, MEMORY)?;
+    let level = Choice::Picked(1);
+    let made = outcome(
+        &workers,
+        source,
+        &opened,
+        level,
+        None,
+        &settings,
+        Some(MEMORY),
+    )?;
     write_outcome(rt, folder, &made.outcome)
 }
 

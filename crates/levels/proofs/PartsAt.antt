@@ -6,8 +6,9 @@ use Rattle.std.proofs.lemmas.Option.{slice_get-map, slice_get_read}
 use Rattle.edit.specs.Version.{State}
 use Rattle.pick.specs.PickedInputs.{PickedInputs, picked_in}
 use Rattle.pick.specs.declared.picked_inputs.Inputs.{Inputs}
-use Rattle.store.specs.PartOutcome.{IsPartAnswer, part_of_number}
-use Rattle.store.specs.declared.level_part.LevelPart.{LevelPart}
+use Rattle.store.specs.Choice.{IsChosen, part_of_number}
+use Rattle.store.specs.declared.choice.Choice.{Choice}
+use Rattle.store.specs.declared.choice.Choice.TheVariants.{Part}
 use Rattle.levels.specs.PartsEnd.{IsPartAt}
 use Rattle.edit.specs.Answers.{fault}
 use Rattle.edit.specs.fault.FaultName.TheVariants.{NoInput}
@@ -20,7 +21,7 @@ pub part_at : (parts : List Inputs) (place : ℕ) (part : Inputs) → slice_get 
 part_at parts place part h = slice_get-map picked_in parts place ∙ ap (option_map picked_in) h
 
 -- it is a part of the level
-pub part_is : (cmp : List ℕ → List ℕ → Ordering) (v : State) (parts : List Inputs) (place : ℕ) (part : Inputs) → slice_get parts place ≡ Some part → IsPartAt cmp v parts place → (x : LevelPart) × IsPartAnswer cmp v x (Ok (picked_in part))
+pub part_is : (cmp : List ℕ → List ℕ → Ordering) (v : State) (parts : List Inputs) (place : ℕ) (part : Inputs) → slice_get parts place ≡ Some part → IsPartAt cmp v parts place → (x : Choice) × IsChosen cmp v x (Ok (picked_in part))
 part_is cmp v parts place part h at =
     let found : part_of_number (suc place) (map picked_in parts) ≡ Ok (picked_in part) = ap (λ (o : Option PickedInputs). ok_or o (fault NoInput)) (part_at parts place part h) in
-    (record { level = at.level; number = suc place }, (Ok (map picked_in parts), (level_parts cmp v at.level (map picked_in parts) at.are_parts, sym found)))
+    (Part at.level (suc place), (Ok (map picked_in parts), (level_parts cmp v at.level (map picked_in parts) at.are_parts, sym found)))

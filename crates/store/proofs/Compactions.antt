@@ -20,7 +20,7 @@ use Rattle.checks.specs.LawfulTables.{IsLawfulTables}
 use Rattle.checks.proofs.LawfulLemmas.{sound_checked, sound_lawful}
 use Rattle.compact.specs.OneThread.{Answer, compaction_result, one_thread}
 use Rattle.compact.specs.Request.{RequestView}
-use Rattle.store.specs.FolderRequest.{compaction_from, first_output, manifest_of, numbered_request, request_from}
+use Rattle.store.specs.FolderRequest.{compaction_from, compaction_of, first_output, manifest_of, numbered_request, request_from}
 use Rattle.store.specs.Compaction.{LevelCompaction}
 use Rattle.store.specs.NumberedJointLaw.{NumberedJointLaw}
 use Rattle.compact.specs.declared.settings.Settings.{Settings}
@@ -69,11 +69,11 @@ thread_of first cmp short_keys v loaded p s answer h =
 
 -- what a compaction answers can be installed
 pub is_compacted : (cmp : List ℕ → List ℕ → Ordering) (short_keys : ShortKeys) → NumberedJointLaw cmp short_keys
-    → (order : Order) (v : State) (loaded : List (ℕ × List ℕ)) (tables : List NumberedContents) (level : ℕ) (first : Option ℕ) (p : PickedInputs) (s : Settings) (answer : Answer)
+    → (order : Order) (v : State) (loaded : List (ℕ × List ℕ)) (tables : List NumberedContents) (level : ℕ) (p : PickedInputs) (s : Settings) (answer : Answer)
     → IsLawfulTables cmp v loaded (Ok tables) → IsState v.pointers v.files → IsPicked cmp v level p → unwrap_or v.log_number 0 < 2 ^ 64 → unwrap_or v.previous_log 0 < 2 ^ 64
-    → compaction_from first cmp short_keys v loaded p s ≡ Ok answer → LevelCompaction (order_by order cmp short_keys) (version_with v loaded) level first s p answer
-is_compacted cmp short_keys joint order v loaded tables level first p s answer sound state picked log previous answered =
-    let thread = thread_of first cmp short_keys v loaded p s answer answered in
+    → compaction_of cmp short_keys v loaded p s ≡ Ok answer → LevelCompaction (order_by order cmp short_keys) (version_with v loaded) level s p answer
+is_compacted cmp short_keys joint order v loaded tables level p s answer sound state picked log previous answered =
+    let thread = thread_of None cmp short_keys v loaded p s answer answered in
     record {
       tables = tables;
       lawful = sound;

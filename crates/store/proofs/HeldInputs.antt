@@ -1,5 +1,5 @@
 -- Inputs whose tables are held.
-use Rattle.std.proofs.Common.{◌≡◌, ℕ, List, [], ◌∷◌, map, Option, Result, Ok, Err, refl, sym, ap, subst, ◌∙◌}
+use Rattle.std.proofs.Common.{◌≡◌, ℕ, List, [], ◌∷◌, map, Option, Result, Ok, Err, IfOk, refl, sym, ap, subst, ◌∙◌}
 use Rattle.std.specs.declared.cmp.Ordering.{Ordering}
 use Rattle.std.proofs.lemmas.List.Elements.{All-head, All-tail}
 use Rattle.folder.proofs.Binds.{done, failed, ok_is}
@@ -37,6 +37,12 @@ bytes_told cmp tells [] h = tt
 bytes_told cmp tells (t ∷ tables) h =
     let one : IsTableBy cmp tells t.number t.contents = All-head (λ (t : NumberedContents). IsTableBy cmp tells t.number t.contents) t tables h in
     ((refl, one.there), bytes_told cmp tells tables (All-tail (λ (t : NumberedContents). IsTableBy cmp tells t.number t.contents) t tables h))
+
+-- so are those that a call hands on, of these numbers
+pub told_bytes : {X : Type 0} (cmp : List ℕ → List ℕ → Ordering) (tells : ToldFiles) (numbers asked : List ℕ) → asked ≡ numbers → (r : Result (List NumberedContents) X)
+    → IfOk r (λ ts. held_numbers ts ≡ asked) → IfOk r (AreHeldBy cmp tells) → IfOk r (λ ts. IsLoaded tells numbers (Ok (held_bytes ts)))
+told_bytes cmp tells numbers asked same (Ok ts) these held = subst (λ (ns : List ℕ). IsLoaded tells ns (Ok (held_bytes ts))) (these ∙ same) (bytes_told cmp tells ts held)
+told_bytes cmp tells numbers asked same (Err e) these held = tt
 
 module _ (cmp : List ℕ → List ℕ → Ordering) where
   -- tables that were read have the bytes that were loaded

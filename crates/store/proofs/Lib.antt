@@ -16,11 +16,9 @@ mod LentRises
 mod CheckedInputs
 mod HeldInputs
 mod PickedParts
-mod FoundInputs
 mod OrderlyFiles
 pub mod Answered
 pub mod Compactions
-mod LawfulInputs
 pub mod InstallPart
 pub mod StepPart
 mod PlannedPart
@@ -44,7 +42,7 @@ mod CleanedSince
 pub mod PartFiles
 pub mod PartRefusals
 pub mod PlacedInputs
-mod FoundParts
+mod ChosenInputs
 pub mod ClosedJoint
 pub mod StayingParts
 pub mod PartAnswers

@@ -35,8 +35,8 @@ use Rattle.reads.specs.Tables.{NumberedContents}
 use Rattle.compact.specs.InputsOver.{AreInputsOver, as_file, input_numbers}
 use Rattle.compact.proofs.ClosedLevels.{in_level}
 use Rattle.compact.proofs.Closing.{in_files_from}
-use Rattle.store.specs.PartOutcome.{IsPartAnswer, part_of_number}
-use Rattle.store.specs.declared.level_part.LevelPart.{LevelPart}
+use Rattle.store.specs.Choice.{IsChosen, part_of_number}
+use Rattle.store.specs.declared.choice.Choice.TheVariants.{Part}
 use Rattle.store.proofs.InputsApart.{AreTwoInputs}
 
 abbrev done : PickedInputs → Result PickedInputs Fault
@@ -115,9 +115,9 @@ part_by cmp total v level parts p h at = by (part_key cmp v level) told.by_key
           these = sym x.is;
         }
 
-pub part_so : (cmp : List ℕ → List ℕ → Ordering) (total : IsTotalOrder cmp) (v : State) (part : LevelPart) (p : PickedInputs) → IsPartAnswer cmp v part (Ok p) → IsPartBy cmp v part.level p
-part_so cmp total v part p (Err e, (h, is)) = absurd (no_refusal p e is)
-part_so cmp total v part p (Ok parts, (h, is)) = part_by cmp total v part.level parts p h (numbered_in part.number parts p (sym is))
+pub part_so : (cmp : List ℕ → List ℕ → Ordering) (total : IsTotalOrder cmp) (v : State) (level number : ℕ) (p : PickedInputs) → IsChosen cmp v (Part level number) (Ok p) → IsPartBy cmp v level p
+part_so cmp total v level number p (Err e, (h, is)) = absurd (no_refusal p e is)
+part_so cmp total v level number p (Ok parts, (h, is)) = part_by cmp total v level parts p h (numbered_in number parts p (sym is))
 
 -- ---- its files
 
@@ -146,7 +146,7 @@ closed_among cmp v level a b above below closed = record {
     lowers = filter_same a b (level_files cmp v (level + 1)) below
 
 -- a file by its level and its metadata
-made : (f : NewFile) (level : ℕ) (m : FileMeta) → f.level ≡ level → f.meta ≡ m → f ≡ record { level = level; meta = m }
+pub made : (f : NewFile) (level : ℕ) (m : FileMeta) → f.level ≡ level → f.meta ≡ m → f ≡ record { level = level; meta = m }
 made f level m own is = ap (λ (n : ℕ). record { level = n; meta = f.meta }) own ∙ ap (λ (x : FileMeta). record { level = level; meta = x }) is
 
 module _ (cmp : List ℕ → List ℕ → Ordering) (total : IsTotalOrder cmp) (v : State) (level : ℕ) (test : FileMeta → Bool) (key : List ℕ) where

@@ -8,7 +8,7 @@ use Rattle.folder.specs.Answers.{fault}
 use Rattle.folder.specs.fault.FaultName.TheVariants.{NoInput}
 use Rattle.pick.specs.PickedInputs.{PickedInputs, picked_in}
 use Rattle.pick.specs.declared.picked_inputs.Inputs.{Inputs}
-use Rattle.store.specs.PartOutcome.{part_of_number}
+use Rattle.store.specs.Choice.{part_of_number}
 
 pub numbered_at : (parts : List Inputs) (number : ℕ) (x : Inputs) → 0 < number → number ≤ length parts → x ≡ get_or parts (number - 1) x → part_of_number number (map picked_in parts) ≡ Ok (picked_in x)
 numbered_at parts zero x some le is = absurd (omega (arith, some))

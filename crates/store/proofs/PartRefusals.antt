@@ -1,4 +1,4 @@
--- No refusal of a part is Device.
+-- No refusal of a choice of inputs is Device.
 use Rattle.std.proofs.Common.{◌≡◌, ◌≢◌, ℕ, zero, suc, Bool, true, false, nat_lt, List, [], ◌∷◌, Some, None, Option, Result, Ok, Err, refl, sym, ap, subst, ◌∙◌}
 use Rattle.std.specs.Prelude.{MatchBool, slice_get}
 use Rattle.std.specs.Option.{ok_or}
@@ -11,8 +11,11 @@ use Rattle.folder.specs.Version.{State}
 use Rattle.pick.specs.ApartChoice.{both_files}
 use Rattle.pick.specs.Parts.{IsPartsAnswer, have_ranges}
 use Rattle.pick.specs.PickedInputs.{PickedInputs}
-use Rattle.store.specs.PartOutcome.{IsPartAnswer, part_of_number}
-use Rattle.store.specs.declared.level_part.LevelPart.{LevelPart}
+use Rattle.store.specs.Choice.{IsChosen, part_of_number}
+use Rattle.store.specs.InputsCompaction.{IsChoiceAnswer}
+use Rattle.store.specs.declared.choice.Choice.{Choice}
+use Rattle.store.specs.declared.choice.Choice.TheVariants.{Part, Picked}
+use Rattle.store.proofs.NoDevice.{inputs_answer_other, orderly_other}
 
 abbrev refusal : {Y : Type 0} → Fault → Result Y Fault
 refusal e = Err e
@@ -40,6 +43,11 @@ number_other : (number : ℕ) (parts : List PickedInputs) (e : Fault) → refusa
 number_other zero parts e h = named {Y = PickedInputs} e NoInput (λ same. cc same) h
 number_other (suc place) parts e h = place_other (slice_get parts place) e h
 
-pub part_answer_other : (cmp : List ℕ → List ℕ → Ordering) (v : State) (part : LevelPart) (e : Fault) → IsPartAnswer cmp v part (Err e) → e.name ≢ Device
-part_answer_other cmp v part e (Err d, (h, is)) = subst (λ (f : Fault). f.name ≢ Device) (sym (same_refusal {Y = PickedInputs} e d is)) (parts_other cmp v part.level d h)
-part_answer_other cmp v part e (Ok parts, (h, is)) = number_other part.number parts e is
+chosen_other : (cmp : List ℕ → List ℕ → Ordering) (v : State) (choice : Choice) (e : Fault) → IsChosen cmp v choice (Err e) → e.name ≢ Device
+chosen_other cmp v (Picked level) e h = inputs_answer_other cmp v level e h
+chosen_other cmp v (Part level number) e (Err d, (h, is)) = subst (λ (f : Fault). f.name ≢ Device) (sym (same_refusal {Y = PickedInputs} e d is)) (parts_other cmp v level d h)
+chosen_other cmp v (Part level number) e (Ok parts, (h, is)) = number_other number parts e is
+
+pub choice_other : (cmp : List ℕ → List ℕ → Ordering) (v : State) (choice : Choice) (e : Fault) → IsChoiceAnswer cmp v choice (Err e) → e.name ≢ Device
+choice_other cmp v choice e (Err d, (h, is)) = subst (λ (f : Fault). f.name ≢ Device) (sym (same_refusal {Y = PickedInputs} e d is)) (orderly_other cmp v d h)
+choice_other cmp v choice e (Ok passed, (h, k)) = chosen_other cmp v choice e k

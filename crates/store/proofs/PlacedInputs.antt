@@ -37,13 +37,10 @@ use Rattle.compact.specs.InputsOver.{as_file}
 use Rattle.compact.specs.declared.settings.Settings.{Settings}
 use Rattle.store.specs.FolderRequest.{compaction_from, first_output, last_of}
 use Rattle.store.specs.InputsCompaction.{IsOrderlyAnswer, are_stated, input_numbers, input_tables}
-use Rattle.store.specs.PartOutcome.{IsLoadedPart, IsPartAnswer, IsPartCompacted}
-use Rattle.store.specs.Step.{with_inputs}
-use Rattle.store.specs.declared.level_part.LevelPart.{LevelPart}
 use Rattle.store.proofs.InputNumbers.{loaded_at, none_missing, number_among, of_levels, one_table, same_bytes}
 use Rattle.store.proofs.Loaded.{bytes_found, found_loaded}
 use Rattle.store.proofs.OrderlyFiles.{orderly}
-use Rattle.store.proofs.PartFiles.{ArePlaced, part_placed, part_so}
+use Rattle.store.proofs.PartFiles.{ArePlaced}
 
 -- what is asked with these bytes of the inputs
 abbrev request_with : ℕ → State → PickedInputs → Settings → List (List ℕ) → RequestView
@@ -165,15 +162,3 @@ module _ (cmp : List ℕ → List ℕ → Ordering) (total : IsTotalOrder cmp) (
           ap (λ (r : Result (List NumberedContents) Fault). r >>= λ ts. test_result (are_stated p.files ts) Bounds >>= λ _. Ok (map (λ (t : NumberedContents). t.contents) ts)) all.reading
           ∙ ap (λ (b : Bool). test_result b Bounds >>= λ _. Ok (map (λ (t : NumberedContents). t.contents) all.found)) all.stated in
           no_refusal (map (λ (t : NumberedContents). t.contents) all.found) e (sym value ∙ h)
-
-  of_part : (part : LevelPart) (p : PickedInputs) → IsPartAnswer cmp v part (Ok p) → ArePlaced v p
-  of_part part p h = part_placed cmp total v part.level p (part_so cmp total v part p h)
-
-  -- the answer for a part by its inputs alone is the one by all tables
-  pub part_suffices : (first : Option ℕ) (short_keys : ShortKeys) (part : LevelPart) (s : Settings) (answer : Result (PickedInputs × Answer) Fault) → IsPartCompacted first cmp short_keys files v part s answer → IsLoadedPart first cmp short_keys v loaded part s answer
-  part_suffices first short_keys part s answer (Err e, (h, rest)) = absurd (passes e h)
-  part_suffices first short_keys part s answer (Ok passed, (h, (Err e, (k, is)))) = (Ok tables, (sound, (Err e, (k, is))))
-  part_suffices first short_keys part s answer (Ok passed, (h, (Ok p, (k, (Err e, (l, is)))))) = absurd (not_missing p (of_part part p k) e l)
-  part_suffices first short_keys part s answer (Ok passed, (h, (Ok p, (k, (Ok own, (l, (Err e, (m, is)))))))) = absurd (tables_pass p (of_part part p k) own l e m)
-  part_suffices first short_keys part s answer (Ok passed, (h, (Ok p, (k, (Ok own, (l, (Ok found, (m, is)))))))) =
-      (Ok tables, (sound, (Ok p, (k, is ∙ ap (with_inputs p) (same_compaction p (of_part part p k) own l first short_keys s)))))

@@ -26,7 +26,7 @@ use Rattle.compact.specs.OneThread.{Answer}
 use Rattle.compact.specs.declared.settings.Settings.{Settings}
 use Rattle.store.specs.Answers.{IsVersionAnswer, IsVersionCompacted}
 use Rattle.store.specs.Compaction.{IsVersionLeft, LevelCompaction}
-use Rattle.store.specs.FolderRequest.{compaction_from, manifest_of}
+use Rattle.store.specs.FolderRequest.{compaction_of, manifest_of}
 use Rattle.store.specs.Step.{StepView, step_in, step_of, with_inputs}
 use Rattle.store.specs.StepLeft.{IsStepLeft}
 use Rattle.checks.specs.TestedTables.{IsTested, totals_of}
@@ -77,7 +77,7 @@ current_named number groups manifest before after old new r x files was runs tel
 
 pub step_installed : {T : Type 0} (name : List ℕ) (order : Order) (cmp : List ℕ → List ℕ → Ordering) (short_keys : ShortKeys) (v : State) (loaded : List (ℕ × List ℕ)) (level : ℕ) (s : Settings) (picked : PickedInputs) (answer : Answer)
     (first before after : List Step) (zero old new : List ℕ → Option (List ℕ) → Type 0) (r : Result T Fault) (q : Result CompactionStep Fault)
-    → order_name order ≡ name → LevelCompaction (order_by order cmp short_keys) (version_with v loaded) level None s picked answer → ((P : Type 0) → OnOk r P → OnOk q P) → before ≡ first → TellsSame zero old
+    → order_name order ≡ name → LevelCompaction (order_by order cmp short_keys) (version_with v loaded) level s picked answer → ((P : Type 0) → OnOk r P → OnOk q P) → before ≡ first → TellsSame zero old
     → OnOk q (new (codes "CURRENT") (Some (current_text (manifest_of v)))) → IfOk q (λ step. step_in step ≡ step_of v picked answer) → IfErr q (λ e. UnlessMemory e (e ≡ fault Device))
     → Promises name cmp v (manifest_of v) answer before after old new r → IsStepLeft (order_by order cmp short_keys) (version_with v loaded) level s (change_by first after zero new) q
 step_installed name order cmp short_keys v loaded level s picked answer first before after zero old new r q is done f same told named step refused promises =
@@ -151,12 +151,12 @@ test_ends cmp IsNext tells files v e told (Ok loaded, (l, (Err d, (k, is)))) =
     (Ok loaded, (loaded_in tells files (file_numbers cmp v) (Ok loaded) told l, (Err d, (k, ap (λ (x : Fault). Err x) (same_refusal {Y = VersionTotals} e d is)))))
 test_ends cmp IsNext tells files v e told (Ok loaded, (l, (Ok tables, (k, is)))) = absurd (no_refusal (totals_of tables) e (sym is))
 
-pub version_refused : (first : Option ℕ) (cmp : List ℕ → List ℕ → Ordering) (short_keys : ShortKeys) (tells : List ℕ → Option (List ℕ) → Type 0) (files : Files) (v : State) (level : ℕ) (s : Settings) (e : Fault)
-    → Tells tells files → IsTested tells cmp v (Err e) → IsVersionAnswer first cmp short_keys files v level s (Err e)
-version_refused first cmp short_keys tells files v level s e told h =
-    test_ends cmp (λ loaded tables. IsThen (IsInputsAnswer cmp v level) (λ p (a : Result (PickedInputs × Answer) Fault). a ≡ with_inputs p (compaction_from first cmp short_keys v loaded p s))) tells files v e told h
+version_refused : (cmp : List ℕ → List ℕ → Ordering) (short_keys : ShortKeys) (tells : List ℕ → Option (List ℕ) → Type 0) (files : Files) (v : State) (level : ℕ) (s : Settings) (e : Fault)
+    → Tells tells files → IsTested tells cmp v (Err e) → IsVersionAnswer cmp short_keys files v level s (Err e)
+version_refused cmp short_keys tells files v level s e told h =
+    test_ends cmp (λ loaded tables. IsThen (IsInputsAnswer cmp v level) (λ p (a : Result (PickedInputs × Answer) Fault). a ≡ with_inputs p (compaction_of cmp short_keys v loaded p s))) tells files v e told h
 
 pub test_refused : (cmp : List ℕ → List ℕ → Ordering) (short_keys : ShortKeys) (tells : List ℕ → Option (List ℕ) → Type 0) (files : Files) (v : State) (level : ℕ) (s : Settings) (e : Fault)
     → Tells tells files → IsTested tells cmp v (Err e) → IsVersionCompacted cmp short_keys files v level s (Err e)
 test_refused cmp short_keys tells files v level s e told h =
-    first_refused (IsVersionAnswer None cmp short_keys files v level s) (λ made (step : Result StepView Fault). step ≡ Ok (step_of v made.0 made.1)) e (version_refused None cmp short_keys tells files v level s e told h)
+    first_refused (IsVersionAnswer cmp short_keys files v level s) (λ made (step : Result StepView Fault). step ≡ Ok (step_of v made.0 made.1)) e (version_refused cmp short_keys tells files v level s e told h)

@@ -41,7 +41,7 @@ pub record IsLink (by : OrderView) (s : Settings) (bottom : ℕ) (v : LoadedVers
   pub next_level : IsNextLevel v.version bottom (Some l.level)
   pub picked : PickedInputs
   pub answer : Answer
-  pub compacted : LevelCompaction by v l.level None s picked answer
+  pub compacted : LevelCompaction by v l.level s picked answer
   pub step_is : l.step ≡ step_of v.version picked answer
   pub version_is : l.version ≡ (next_of compacted).version
   pub tables_are : l.tables ≡ (next_of compacted).tables

@@ -14,11 +14,11 @@ use Rattle.checks.specs.LawfulTables.{IsLawfulTables}
 use Rattle.compact.specs.InputsOver.{AreInputsOver}
 use Rattle.compact.specs.OneThread.{Answer}
 use Rattle.compact.specs.declared.settings.Settings.{Settings}
+use Rattle.store.specs.Choice.{part_of_number}
 use Rattle.store.specs.Compaction.{EditedVersion}
 use Rattle.store.specs.FolderRequest.{compaction_from}
 use Rattle.store.specs.InputsCompaction.{input_numbers}
 use Rattle.store.specs.OutputRanges.{IsOldOrOutput}
-use Rattle.store.specs.PartOutcome.{part_of_number}
 
 -- an edited version whose new files lie within the range of these inputs
 pub record EditedWithin (cmp : KeyOrder) (v : State) (loaded : List (ℕ × List ℕ))

@@ -1,6 +1,6 @@
 -- What a compaction makes of a folder.
 use Rattle.std.specs.Prelude.{◌≡◌, ◌⊎◌, ℕ, ◌<◌, ◌^◌, true, List, [], ◌∷◌, ◌++◌, map, codes}
-use Rattle.std.specs.Prelude.{Option, Some, None, Result, Ok, IfErr, IfOk, OnOk}
+use Rattle.std.specs.Prelude.{Some, Result, Ok, IfErr, IfOk, OnOk}
 use Rattle.folder.specs.Answers.{UnlessMemory, fault}
 use Rattle.folder.specs.fault.Fault.{Fault}
 use Rattle.folder.specs.fault.FaultName.TheVariants.{Device}
@@ -20,7 +20,7 @@ use Rattle.compact.specs.Readable.{is_read, readable_of}
 use Rattle.checks.specs.LawfulTables.{IsLawfulTables}
 use Rattle.compact.specs.OneThread.{Answer}
 use Rattle.install.specs.Install.{IsEditedBy, AlwaysStandsAs, SurvivesCrash, next_version_tables}
-use Rattle.store.specs.FolderRequest.{compaction_from, last_of, manifest_of}
+use Rattle.store.specs.FolderRequest.{compaction_of, last_of, manifest_of}
 use Rattle.store.specs.Step.{step_in, step_of}
 use Rattle.store.specs.VersionSync.{AlwaysReadsBy, sync_calls}
 use Rattle.store.specs.declared.compaction_step.CompactionStep.{CompactionStep}
@@ -49,21 +49,19 @@ pub record EditedVersion (cmp : KeyOrder) (v : State) (loaded : List (ℕ × Lis
       get_of next tables_next user at ≡ get_of v tables user at
 
 -- A compaction of a level of a version with the bytes of its tables. The version is lawful, these
--- inputs are picked, and this is the answer. Its edit makes the edited version, also by an
--- installation later on: the outputs' numbers are above the manifest's.
-pub record LevelCompaction (by : OrderView) (v : LoadedVersion) (level : ℕ) (first : Option ℕ)
-    (s : Settings) (p : PickedInputs) (answer : Answer) : Type 0 where
+-- inputs are picked, and this is the answer. Its edit makes the edited version.
+pub record LevelCompaction (by : OrderView) (v : LoadedVersion) (level : ℕ) (s : Settings)
+    (p : PickedInputs) (answer : Answer) : Type 0 where
   pub tables : List NumberedContents
   pub lawful : IsLawfulTables by.cmp v.version v.tables (Ok tables)
   pub is_picked : IsPicked by.cmp v.version level p
-  pub answered : compaction_from first by.cmp by.short_keys v.version v.tables p s ≡ Ok answer
+  pub answered : compaction_of by.cmp by.short_keys v.version v.tables p s ≡ Ok answer
   pub edited : EditedVersion by.cmp v.version v.tables tables s answer
 
 -- the edited version of a compaction, with the tables that an installation of it leaves
-abbrev pub next_of : {by : OrderView} {v : LoadedVersion} {level : ℕ} {first : Option ℕ}
-    {s : Settings} {p : PickedInputs} {answer : Answer} →
-    LevelCompaction by v level first s p answer → LoadedVersion
-next_of {by} {v} {level} {first} {s} {p} {answer} c = version_with c.edited.next
+abbrev pub next_of : {by : OrderView} {v : LoadedVersion} {level : ℕ} {s : Settings}
+    {p : PickedInputs} {answer : Answer} → LevelCompaction by v level s p answer → LoadedVersion
+next_of {by} {v} {level} {s} {p} {answer} c = version_with c.edited.next
     (next_version_tables by.cmp c.edited.next answer.tables v.tables)
 
 -- a compaction of a level of this version, as which the files read
@@ -73,7 +71,7 @@ pub record Compaction (by : OrderView) (v : State) (files : Files) (level : ℕ)
   pub reads : ReadsAs by.cmp by.order v loaded files
   pub picked : PickedInputs
   pub answer : Answer
-  pub compacted : LevelCompaction by (version_with v loaded) level None s picked answer
+  pub compacted : LevelCompaction by (version_with v loaded) level s picked answer
 
 -- No call that writes was made, and the folder holds what it held.
 pub record IsUnchanged {T : Type 0} (change : FolderChange) (result : Result T Fault)

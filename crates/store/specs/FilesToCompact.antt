@@ -9,8 +9,8 @@ use Rattle.folder.specs.Comparator.{KeyOrder}
 use Rattle.folder.specs.Version.{State}
 use Rattle.folder.specs.Calls.{Files}
 use Rattle.folder.specs.Names.{manifest_name, old_table_name, table_name}
-use Rattle.pick.specs.PickedInputs.{IsInputsAnswer}
-use Rattle.store.specs.InputsCompaction.{IsOrderlyAnswer, input_numbers}
+use Rattle.store.specs.InputsCompaction.{IsChoiceAnswer, input_numbers}
+use Rattle.store.specs.declared.choice.Choice.TheVariants.{Picked}
 
 -- the name under which the table of a number is there, or Missing if it is under neither
 abbrev pub name_there : Files → ℕ → Result (List ℕ) Fault
@@ -36,6 +36,6 @@ name_line name = name ++ codes "\n"
 -- without inputs; Missing if a table of theirs is missing.
 abbrev pub AreFilesToCompact : KeyOrder → Files → State → ℕ → ℕ → Result (List ℕ) Fault → Type 0
 AreFilesToCompact cmp files v manifest level =
-    IsThen (IsOrderlyAnswer cmp v) (λ passed. IsThen (IsInputsAnswer cmp v level) (λ p answer.
+    IsThen (IsChoiceAnswer cmp v (Picked level)) (λ p answer.
     answer ≡ (names_there files (input_numbers p.files) >>= λ names.
-    Ok (flat_map name_line (codes "CURRENT" ∷ manifest_name manifest ∷ names)))))
+    Ok (flat_map name_line (codes "CURRENT" ∷ manifest_name manifest ∷ names))))

@@ -1,31 +1,16 @@
--- The inputs of a level, as they are found, and what their compaction is to be for an installation.
-use Rattle.std.specs.Prelude.{◌≡◌, ◌≢◌, ◌<◌, ◌^◌, ℕ, List, unwrap_or, None, Result, Ok, Err}
-use Rattle.folder.specs.Answers.{IsThen, ◌>>=◌}
+-- What the compaction of inputs is to be for an installation.
+use Rattle.std.specs.Prelude.{◌≡◌, ◌≢◌, ◌<◌, ◌^◌, ℕ, unwrap_or, Result, Ok, Err}
+use Rattle.folder.specs.Answers.{◌>>=◌}
 use Rattle.folder.specs.fault.Fault.{Fault}
 use Rattle.folder.specs.fault.FaultName.TheVariants.{Device}
-use Rattle.folder.specs.Comparator.{KeyOrder}
 use Rattle.folder.specs.Version.{State}
-use Rattle.folder.specs.Calls.{Files}
-use Rattle.pick.specs.PickedInputs.{IsInputsAnswer, PickedInputs}
-use Rattle.reads.specs.Tables.{NumberedContents}
-use Rattle.checks.specs.HeldTables.{IsCheckedAnswer}
+use Rattle.pick.specs.PickedInputs.{PickedInputs}
 use Rattle.compact.specs.OneThread.{Answer}
 use Rattle.compact.specs.declared.settings.Settings.{Settings}
 use Rattle.store.specs.Compaction.{LevelCompaction}
-use Rattle.store.specs.InputsCompaction.{IsOrderlyAnswer, input_numbers}
 use Rattle.store.specs.Step.{StepView, step_of}
 use Rattle.install.specs.Install.{LoadedVersion}
 use Rattle.store.specs.OrderView.{OrderView}
-
--- The inputs of a level and their tables. The first refusal counts: of the version's files, of a
--- level without inputs, of their tables.
-abbrev pub IsInputsFound : KeyOrder → Files → State → ℕ →
-    Result (PickedInputs × List NumberedContents) Fault → Type 0
-IsInputsFound cmp files v level =
-    IsThen (IsOrderlyAnswer cmp v) (λ passed.
-    IsThen (IsInputsAnswer cmp v level) (λ p.
-    IsThen (IsCheckedAnswer cmp files (input_numbers p.files)) (λ tables answer.
-    answer ≡ Ok (p, tables))))
 
 -- if this is what the compaction of inputs answers, and the version's log numbers are below 2 ^ 64,
 -- it makes the edited version
@@ -33,7 +18,7 @@ abbrev pub CanBeInstalled : OrderView → LoadedVersion → ℕ → Settings →
     Result Answer Fault → Type 0
 CanBeInstalled by v level s p answered =
     (answer : Answer) → answered ≡ Ok answer → unwrap_or v.version.log_number 0 < 2 ^ 64 →
-    unwrap_or v.version.previous_log 0 < 2 ^ 64 → LevelCompaction by v level None s p answer
+    unwrap_or v.version.previous_log 0 < 2 ^ 64 → LevelCompaction by v level s p answer
 
 -- the step of what a compaction of these inputs answers, or its refusal
 abbrev pub step_result : State → PickedInputs → Result Answer Fault → Result StepView Fault

@@ -18,7 +18,8 @@ use Rattle.folder.specs.Calls.{Files}
 use Rattle.folder.specs.Levels.{file_numbers}
 use Rattle.folder.specs.LoadedTables.{IsLoaded}
 use Rattle.folder.specs.ReadsAs.{IsFileIn}
-use Rattle.pick.specs.PickedInputs.{IsInputsAnswer, PickedInputs}
+use Rattle.pick.specs.Parts.{IsPartsAnswer}
+use Rattle.pick.specs.PickedInputs.{PickedInputs}
 use Rattle.pick.specs.declared.picked_inputs.InputFile.{InputFile}
 use Rattle.reads.specs.Lawful.{IsBelowNextFile}
 use Rattle.reads.specs.Tables.{NumberedContents}
@@ -28,8 +29,11 @@ use Rattle.compact.specs.Inputs.{table_matches_metadata}
 use Rattle.compact.specs.OneThread.{Answer}
 use Rattle.compact.specs.declared.settings.Settings.{Settings}
 use Rattle.store.specs.Answers.{IsLoadedCompacted}
+use Rattle.store.specs.Choice.{IsChosen}
 use Rattle.store.specs.FolderRequest.{compaction_from}
 use Rattle.store.specs.Step.{IsStepFor, StepView, with_inputs}
+use Rattle.store.specs.declared.choice.Choice.{Choice}
+use Rattle.store.specs.declared.choice.Choice.TheVariants.{Picked}
 
 -- the largest key of each file is below the smallest of the next one
 abbrev pub RangesRise : KeyOrder → List FileMeta → Type 0
@@ -52,6 +56,14 @@ IsOrderly cmp v = (level : ℕ) → level ≤ LAST_LEVEL → IsOrderlyLevel cmp 
 abbrev pub IsOrderlyAnswer : KeyOrder → State → Result (Unit {0}) Fault → Type 0
 IsOrderlyAnswer cmp v (Ok passed) = IsOrderly cmp v
 IsOrderlyAnswer cmp v (Err e) = (e ≡ fault Lawless) × (IsOrderly cmp v → ⊥)
+
+-- the inputs of a choice of a version whose files were tested; no table is read
+abbrev pub IsChoiceAnswer : KeyOrder → State → Choice → Result PickedInputs Fault → Type 0
+IsChoiceAnswer cmp v choice = IsThen (IsOrderlyAnswer cmp v) (λ passed. IsChosen cmp v choice)
+
+-- the parts of a level of such a version
+abbrev pub ArePartsFound : KeyOrder → State → ℕ → Result (List PickedInputs) Fault → Type 0
+ArePartsFound cmp v level = IsThen (IsOrderlyAnswer cmp v) (λ passed. IsPartsAnswer cmp v level)
 
 -- the numbers of inputs in their order
 abbrev pub input_numbers : List InputFile → List ℕ
@@ -87,21 +99,19 @@ IsPickedAnswer first cmp short_keys files v s p =
     IsThen (IsLoaded (IsFileIn files) (input_numbers p.files))
     (IsReadAnswer first cmp short_keys v s p)
 
--- The answer for a level of a version, with the inputs. The first refusal counts: of the version's
--- files, of which no table is read; of a level without inputs; of their tables; of their
--- compaction. The outputs' numbers are those after the manifest's, or from a first one on that is
--- asked for.
-abbrev pub IsLevelAnswer : Option ℕ → KeyOrder → ShortKeys → Files → State → ℕ → Settings →
+-- The answer for a choice of inputs of a version, with the inputs. The first refusal counts: of the
+-- choice; of the inputs' tables; of their compaction. The outputs' numbers are those after the
+-- manifest's, or from a first one on that is asked for.
+abbrev pub IsChosenAnswer : Option ℕ → KeyOrder → ShortKeys → Files → State → Choice → Settings →
     Result (PickedInputs × Answer) Fault → Type 0
-IsLevelAnswer first cmp short_keys files v level s =
-    IsThen (IsOrderlyAnswer cmp v) (λ passed.
-    IsThen (IsInputsAnswer cmp v level) (IsPickedAnswer first cmp short_keys files v s))
+IsChosenAnswer first cmp short_keys files v choice s =
+    IsThen (IsChoiceAnswer cmp v choice) (IsPickedAnswer first cmp short_keys files v s)
 
--- its step, or its refusal
+-- its step for what the rules pick of a level, or its refusal
 abbrev pub IsInputsCompacted : KeyOrder → ShortKeys → Files → State → ℕ → Settings →
     Result StepView Fault → Type 0
 IsInputsCompacted cmp short_keys files v level s =
-    IsStepFor v (IsLevelAnswer None cmp short_keys files v level s)
+    IsStepFor v (IsChosenAnswer None cmp short_keys files v (Picked level) s)
 
 -- If a version is lawful with the tables that a folder holds, this is the answer of the compaction
 -- that tests all of them.

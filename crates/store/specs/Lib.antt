@@ -5,6 +5,7 @@ pub mod FolderRequest
 pub mod Step
 pub mod Answers
 pub mod OrderView
+pub mod Choice
 pub mod InputsCompaction
 pub mod VersionSync
 pub mod Compaction
@@ -20,7 +21,6 @@ pub mod CleanRuns
 pub mod CleanedLevels
 pub mod Outcome
 pub mod OutputRanges
-pub mod PartOutcome
 pub mod PickedOutcome
 pub mod ClosedLaws
 pub mod WholeOutcome
@@ -34,5 +34,4 @@ pub mod InputLaws
 pub mod FoundInputs
 pub mod NameLines
 pub mod NumberedJointLaw
-pub mod PartLaws
 pub mod StepTaken

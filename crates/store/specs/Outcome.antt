@@ -1,20 +1,31 @@
 -- The outcome of a compaction that is not installed: what is answered, and the calls that write it.
-use Rattle.std.specs.Prelude.{◌≡◌, ℕ, List, [], ◌∷◌, ◌++◌, codes, Option, Result, Ok}
+use Rattle.std.specs.Prelude.{◌≡◌, ℕ, List, [], ◌∷◌, ◌++◌, codes, Option, None, Some, Result, Ok}
+use Rattle.std.specs.List.{All}
 use Rattle.folder.specs.Answers.{IsThen}
 use Rattle.folder.specs.fault.Fault.{Fault}
 use Rattle.folder.specs.Comparator.{KeyOrder, ShortKeys}
 use Rattle.folder.specs.Version.{State}
 use Rattle.folder.specs.meta.DeletedFile.{DeletedFile}
 use Rattle.folder.specs.Calls.{Call, Files, FolderSynced, Renamed}
+use Rattle.folder.specs.ReadsAs.{IsFileIn}
 use Rattle.pick.specs.PickedInputs.{PickedInputs}
+use Rattle.reads.specs.Tables.{NumberedContents}
+use Rattle.checks.specs.LawfulTables.{IsLawfulTables}
+use Rattle.checks.specs.TestedTables.{IsTested}
 use Rattle.compact.specs.AnswerIn.{answer_in}
 use Rattle.compact.specs.EditOf.{deletions_of}
 use Rattle.compact.specs.GroupedAnswer.{table_sizes}
+use Rattle.compact.specs.InputsOver.{AreInputsOver}
 use Rattle.compact.specs.OneThread.{Answer}
-use Rattle.install.specs.Install.{table_calls, write_calls}
+use Rattle.install.specs.Install.{LoadedVersion, table_calls, write_calls}
 use Rattle.compact.specs.declared.settings.Settings.{Settings}
-use Rattle.store.specs.Answers.{IsVersionAnswer}
-use Rattle.store.specs.InputsCompaction.{IsLevelAnswer}
+use Rattle.store.specs.Choice.{IsChosen}
+use Rattle.store.specs.Compaction.{EditedVersion}
+use Rattle.store.specs.FolderRequest.{compaction_from}
+use Rattle.store.specs.InputsCompaction.{IsChosenAnswer}
+use Rattle.store.specs.OrderView.{OrderView}
+use Rattle.store.specs.OutputRanges.{IsOldOrOutput}
+use Rattle.store.specs.declared.choice.Choice.{Choice}
 use Rattle.store.specs.declared.compaction_outcome.CompactionOutcome.{CompactionOutcome}
 
 -- an outcome as contracts see it: the number and the length of each output, the inputs by level and
@@ -40,23 +51,33 @@ outcome_of p answer = record {
   answer = answer;
 }
 
--- the outcome of what is answered so for some inputs, or its refusal
-abbrev pub IsOutcomeFor : (Result (PickedInputs × Answer) Fault → Type 0) →
-    Result OutcomeView Fault → Type 0
-IsOutcomeFor IsMade = IsThen IsMade (λ made outcome. outcome ≡ Ok (outcome_of made.0 made.1))
+-- what the test of a version answers, if one is asked for with a number of bytes to hold
+abbrev pub IsTestAnswer : Option ℕ → Files → KeyOrder → State → Result (Unit {0}) Fault → Type 0
+IsTestAnswer None files cmp v = λ answer. answer ≡ Ok tt
+IsTestAnswer (Some memory) files cmp v =
+    IsThen (IsTested (IsFileIn files) cmp v) (λ totals answer. answer ≡ Ok tt)
 
--- The outcome of a level of a version, of which the inputs alone are read. The outputs' numbers are
--- those after the manifest's, or from a first one on that is asked for.
-abbrev pub IsOutcomeOfInputs : Option ℕ → KeyOrder → ShortKeys → Files → State → ℕ → Settings →
+-- The outcome of a choice of inputs of a version, or its refusal. The outputs' numbers are those
+-- after the manifest's, or from a first one on that is asked for.
+abbrev pub IsOutcome : Option ℕ → KeyOrder → ShortKeys → Files → State → Choice → Settings →
     Result OutcomeView Fault → Type 0
-IsOutcomeOfInputs first cmp short_keys files v level s =
-    IsOutcomeFor (IsLevelAnswer first cmp short_keys files v level s)
+IsOutcome first cmp short_keys files v choice s =
+    IsThen (IsChosenAnswer first cmp short_keys files v choice s)
+    (λ made outcome. outcome ≡ Ok (outcome_of made.0 made.1))
 
--- the outcome of a level of a version, of which all tables are read
-abbrev pub IsOutcomeOfVersion : Option ℕ → KeyOrder → ShortKeys → Files → State → ℕ → Settings →
-    Result OutcomeView Fault → Type 0
-IsOutcomeOfVersion first cmp short_keys files v level s =
-    IsOutcomeFor (IsVersionAnswer first cmp short_keys files v level s)
+-- A compaction of a choice of inputs of a version with the bytes of its tables. The version is
+-- lawful, these inputs are chosen, so they are closed inputs over it, and this is the answer. Its
+-- edit makes the edited version, also by an installation later on: the outputs' numbers are above
+-- the manifest's. The outputs lie within the range of the inputs.
+pub record ChosenCompaction (by : OrderView) (v : LoadedVersion) (choice : Choice)
+    (first : Option ℕ) (s : Settings) (p : PickedInputs) (answer : Answer) : Type 0 where
+  pub tables : List NumberedContents
+  pub lawful : IsLawfulTables by.cmp v.version v.tables (Ok tables)
+  pub is_chosen : IsChosen by.cmp v.version choice (Ok p)
+  pub over : AreInputsOver by.cmp v.version p
+  pub answered : compaction_from first by.cmp by.short_keys v.version v.tables p s ≡ Ok answer
+  pub edited : EditedVersion by.cmp v.version v.tables tables s answer
+  pub within : All (IsOldOrOutput by.cmp v.version p) edited.next.files
 
 -- the calls that name a written edit: the folder is synced, then it gets its name, and then the
 -- folder is synced again

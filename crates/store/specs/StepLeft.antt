@@ -1,5 +1,5 @@
 -- What a compaction of a version leaves that is known to be lawful.
-use Rattle.std.specs.Prelude.{◌≡◌, ◌⊎◌, ℕ, codes, Some, None, Result, IfErr, IfOk, OnOk}
+use Rattle.std.specs.Prelude.{◌≡◌, ◌⊎◌, ℕ, codes, Some, Result, IfErr, IfOk, OnOk}
 use Rattle.folder.specs.Answers.{UnlessMemory, fault}
 use Rattle.folder.specs.fault.Fault.{Fault}
 use Rattle.folder.specs.fault.FaultName.TheVariants.{Device}
@@ -22,7 +22,7 @@ pub record IsStepInstalled (by : OrderView) (v : LoadedVersion) (level : ℕ) (s
     (change : FolderChange) (result : Result CompactionStep Fault) : Type 0 where
   pub picked : PickedInputs
   pub answer : Answer
-  pub compacted : LevelCompaction by v level None s picked answer
+  pub compacted : LevelCompaction by v level s picked answer
   pub survives : SurvivesCrash by.cmp by.order v (next_of compacted) change result
   pub named : OnOk result
       (change.new (codes "CURRENT") (Some (current_text (manifest_of v.version))))

@@ -12,7 +12,6 @@ ghost use Rattle.store.specs.Step.{step_in, step_of};
 use crate::compaction_outcome::CompactionOutcome;
 use crate::compaction_step::CompactionStep;
 use crate::folder_request::manifest_of;
-use crate::level_compaction::LevelOutcome;
 use compact::{Planned, deletions_of};
 use folder::{Comparator, Fault, Version};
 use install::Outcome;
@@ -61,17 +60,21 @@ pub fn outcome_step(
     })
 }
 
-/// The answer of a compaction that isn't installed.
-pub(crate) fn level_answer(alloc: Global, made: LevelOutcome) -> Result<CompactionOutcome, Fault>
+/// The answer of a compaction of `picked` inputs that isn't installed.
+pub(crate) fn outcome_answer(
+    alloc: Global,
+    picked: &Inputs,
+    outcome: Outcome,
+) -> Result<CompactionOutcome, Fault>
     ensures { EqualOrMemory outcome_in result
-        (Ok (outcome_of (picked_in made.picked) (answer_in made.outcome))) }
+        (Ok (outcome_of (picked_in picked.now) (answer_in outcome))) }
 {
-    let outputs = sizes_of(alloc, &made.outcome.tables)?;
-    let deleted = deletions_of(alloc, &made.picked.files)?;
+    let outputs = sizes_of(alloc, &outcome.tables)?;
+    let deleted = deletions_of(alloc, &picked.files)?;
     Ok(CompactionOutcome {
         outputs,
         deleted,
-        outcome: made.outcome,
+        outcome,
     })
 }
 

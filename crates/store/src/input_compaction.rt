@@ -20,11 +20,13 @@ ghost use Rattle.install.specs.FolderChange.{change_of};
 ghost use Rattle.install.specs.Install.{version_with};
 ghost use Rattle.store.specs.OrderView.{order_by, order_view};
 
+use crate::choice::{Choice, chosen};
 use crate::compaction_step::CompactionStep;
 use crate::held_compaction::install_held;
+use crate::held_inputs::held_inputs;
 use crate::input_laws::same_inputs;
 use crate::install_laws::numbered_is_installed;
-use crate::level_inputs::level_inputs;
+use crate::part_choice::version_is_state;
 use crate::synced_version::SyncedVersion;
 use board::Watch;
 use checks::{HeldTables, SharedComparator, Workers};
@@ -131,13 +133,8 @@ pub(crate) fn compact_step<
     numbered_is_installed::<C>();
     same_inputs::<C>();
     let version = &opened.version;
-    let inputs = level_inputs::<C, F, W, R>(workers, folder, held, version, level)?;
-    install_held::<C, F, W, R>(
-        workers,
-        folder,
-        opened,
-        &inputs.picked,
-        &inputs.tables,
-        settings,
-    )
+    version_is_state::<C>(workers.alloc(), version);
+    let picked = chosen::<C>(workers.alloc(), version, Choice::Picked(level))?;
+    let tables = held_inputs::<C, F, W, R>(workers, folder, held, version, &picked)?;
+    install_held::<C, F, W, R>(workers, folder, opened, &picked, &tables, settings)
 }

@@ -1,13 +1,14 @@
 //! Laws of the inputs of a compaction.
 
-ghost use Rattle.store.specs.InputLaws.{InputsInOrderLaw, OutcomeSufficesLaw, SameInputsLaw};
+ghost use Rattle.store.specs.InputLaws.{ChosenInOrder, ChosenInstalled, SameInputsLaw};
 
+use crate::part_laws::closed_is_installed;
 use folder::Comparator;
 
-/// Inputs have numbers of their own, so each has the bytes that were read for it. A call does
-/// nothing.
-pub(crate) fn inputs_in_order<C: Comparator>()
-    ensures { InputsInOrderLaw C.cmp }
+/// Chosen inputs have numbers of their own, so each has the bytes that were read for it. A call
+/// does nothing.
+pub(crate) fn chosen_in_order<C: Comparator>()
+    ensures { ChosenInOrder C.cmp }
 {}
 
 /// The tables of inputs that are read alone are those that were read with all others. A call does
@@ -16,7 +17,10 @@ pub(crate) fn same_inputs<C: Comparator>()
     ensures { SameInputsLaw C.cmp C.short_keys }
 {}
 
-/// The outcome of the inputs of a lawful version is the one by all its tables. A call does nothing.
-pub(crate) fn outcome_suffices<C: Comparator>()
-    ensures { OutcomeSufficesLaw C.cmp C.short_keys }
-{}
+/// Chosen inputs of a lawful version are closed, so what their compaction answers can be installed.
+/// A call does nothing.
+pub(crate) fn chosen_is_installed<C: Comparator>()
+    ensures { ChosenInstalled C.cmp C.short_keys }
+{
+    closed_is_installed::<C>();
+}

@@ -11,11 +11,11 @@
 //!    tells a [`CleanWatch`] of each compaction that was installed. Then it asks it for names, and
 //!    removes the files of these that the version doesn't need. [`compact_levels`] does the same
 //!    without the test. [`bottom`] and [`next_level`] say which levels they take.
-//! 5. [`outcome_of_opened`] and [`outcome_of_inputs`] only read: they answer the outcome, with the
-//!    numbers that are asked for. [`write_outcome`] writes it into another folder.
-//!    [`files_to_compact`] names the files that the second one needs. [`outcome_of_part`] and
-//!    [`outcome_of_part_inputs`] answer that of one of the [`parts_to_compact`] of a level, and
-//!    [`outcome_of_picked`] that of a part that its caller found.
+//! 5. [`outcome`] only reads: it answers the outcome of a [`Choice`] of inputs, with the numbers that
+//!    are asked for, after a test of the version or without one. [`write_outcome`] writes it into
+//!    another folder. [`files_to_compact`] names the files that it needs of a level without a test;
+//!    [`parts_to_compact`] are the parts of a level. [`outcome_of_picked`] answers the outcome of
+//!    inputs that its caller found.
 //! 6. Parts of these calls, for those who install an outcome later: [`test_files`],
 //!    [`load_inputs`], [`checked_inputs`], [`bytes_of`], [`manifest_of`], [`outcome_step`].
 //! 7. All tell a [`Watch`] of the work; [`Open`] is the one that does nothing.
@@ -41,33 +41,29 @@
 
 mod all_levels;
 mod answered_steps;
+mod choice;
+mod chosen_outcome;
 mod clean_watch;
 mod compaction_outcome;
 mod compaction_step;
 mod descent;
 mod descent_end;
 mod folder_compaction;
-mod folder_outcome;
 mod folder_request;
 mod group_tables;
 mod held_compaction;
+mod held_inputs;
 mod input_compaction;
 mod input_laws;
 mod input_tables;
 mod install_laws;
 mod install_watch;
-mod level_compaction;
-mod level_inputs;
-mod level_part;
 mod level_step;
 mod needed_files;
 mod next_opened;
 mod outcome_writer;
 mod part_choice;
-mod part_compaction;
 mod part_laws;
-mod part_outcome;
-mod part_tables;
 mod picked_outcome;
 mod planned_installation;
 mod synced_version;
@@ -79,6 +75,8 @@ pub use all_levels::{compact_all, compact_levels};
 pub use answered_steps::outcome_step;
 pub use board::{Watch, Work};
 pub use checks::{Open, checkers, checkers_of};
+pub use choice::Choice;
+pub use chosen_outcome::outcome;
 pub use clean_watch::CleanWatch;
 pub use compact::{DeletedFile, Settings};
 pub use compaction_outcome::CompactionOutcome;
@@ -86,20 +84,17 @@ pub use compaction_step::CompactionStep;
 pub use descent::{bottom, next_level};
 pub use descent_end::DescentEnd;
 pub use folder_compaction::{compact_dir, compact_opened};
-pub use folder_outcome::{outcome_of_inputs, outcome_of_opened};
 pub use folder_request::manifest_of;
 pub use input_compaction::compact_inputs;
 pub use input_tables::{bytes_of, checked_inputs, load_inputs};
 pub use install::RemovalWatch;
 pub use install_laws::{answer_is_installed, inputs_suffice, request_is_over, sync_stands};
 pub use install_watch::InstallWatch;
-pub use level_part::LevelPart;
 pub use needed_files::files_to_compact;
 pub use next_opened::opened_after;
 pub use outcome_writer::{EDIT, write_outcome};
 pub use part_choice::parts_to_compact;
 pub use part_laws::{closed_is_installed, parts_stay};
-pub use part_outcome::{outcome_of_part, outcome_of_part_inputs};
 pub use pick::Inputs;
 pub use picked_outcome::outcome_of_picked;
 pub use synced_version::{SyncMark, SyncedVersion};

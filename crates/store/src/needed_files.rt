@@ -14,15 +14,15 @@ ghost use Rattle.store.specs.FilesToCompact.{AreFilesToCompact, name_line, name_
 ghost use Rattle.store.specs.InputsCompaction.{input_numbers};
 ghost use Rattle.store.specs.NameLines.{line_after, lines_after};
 
-use crate::version_files::test_files;
+use crate::choice::{Choice, chosen};
 use folder::{
     Bytewise, Comparator, Fault, FaultName, Folder, FolderFault, Opened, Order, Shortlex,
     current_text, old_table_name, table_name,
 };
-use pick::{InputFile, inputs};
+use pick::InputFile;
 use std::alloc::Global;
 
-/// The names of the files that [`outcome_of_inputs`](crate::outcome_of_inputs) needs of a folder to
+/// The names of the files that [`outcome`](crate::outcome) without a test needs of a folder to
 /// compact a `level` of what it was `opened` as, a line each. These are CURRENT, the manifest, and
 /// of each input in order the name under which its table is there, `%06d.ldb`, or else `%06d.sst`.
 /// It only reads, and no byte of a table.
@@ -64,8 +64,7 @@ fn level_files<C: Comparator, F: Folder>(
     ensures device { ReportsDevice F.Folder folder.old folder.new result }
     ensures reads { OnlyReads F.Folder folder.old folder.new }
 {
-    test_files::<C>(alloc, &opened.version)?;
-    let picked = inputs::<C>(alloc, &opened.version, level)?;
+    let picked = chosen::<C>(alloc, &opened.version, Choice::Picked(level))?;
     let mut text = opened_lines(alloc, opened.manifest)?;
     push_names(alloc, folder, &picked.files, &mut text)?;
     Ok(text.into_bytes())

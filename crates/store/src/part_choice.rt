@@ -1,16 +1,15 @@
-//! The parts of a level, and the inputs that one of them is.
+//! The parts of a level.
 
 ghost use Rattle.std.specs.Prelude.{map};
 ghost use Rattle.table.specs.Key.{IsInternalKey};
-ghost use Rattle.folder.specs.Answers.{EqualOrMemory, HoldsOrMemory};
+ghost use Rattle.folder.specs.Answers.{HoldsOrMemory};
 ghost use Rattle.folder.specs.Orders.{order_cmp};
 ghost use Rattle.folder.specs.Version.{IsState};
 ghost use Rattle.pick.specs.PickedInputs.{picked_in};
-ghost use Rattle.store.specs.PartOutcome.{ArePartsFound, IsPartAnswer, part_of_number};
+ghost use Rattle.store.specs.InputsCompaction.{ArePartsFound};
 
-use crate::level_part::LevelPart;
 use crate::version_files::test_files;
-use folder::{Bytewise, Comparator, Fault, FaultName, Opened, Order, Shortlex, Version};
+use folder::{Bytewise, Comparator, Fault, Opened, Order, Shortlex, Version};
 use pick::{Inputs, finest_parts};
 use std::alloc::Global;
 
@@ -41,32 +40,6 @@ fn tested_parts<C: Comparator>(
 {
     test_files::<C>(alloc, version)?;
     finest_parts::<C>(alloc, version, level)
-}
-
-/// The inputs that are a part of a version.
-///
-/// The first that applies: what [`finest_parts`] is refused as; NoInput, if there is no part of
-/// that number.
-pub(crate) fn part_inputs<C: Comparator>(
-    alloc: Global,
-    version: &Version,
-    part: LevelPart,
-) -> Result<Inputs, Fault>
-    ensures { HoldsOrMemory picked_in result (IsPartAnswer C.cmp version.now part) }
-{
-    let parts = finest_parts::<C>(alloc, version, part.level)?;
-    part_at(parts, part.number)
-}
-
-/// The part of a `number`, the first of which is 1. NoInput if there is none of it.
-fn part_at(mut parts: Vec<Inputs>, number: u64) -> Result<Inputs, Fault>
-    ensures { EqualOrMemory picked_in result
-        (part_of_number number (map picked_in parts.items)) }
-{
-    if number == 0 || number > parts.len() as u64 {
-        return Err(Fault::of(FaultName::NoInput));
-    }
-    Ok(parts.swap_remove((number - 1) as usize))
 }
 
 /// The key that inputs set is an internal key. A call does nothing.

@@ -1,6 +1,6 @@
-//! The outcome of a compaction of inputs that are a part of a level.
+//! The outcome of a compaction of inputs that were chosen.
 
-ghost use Rattle.std.specs.Prelude.{◌<◌, ◌^◌, ℕ, IfOk, Ok, unwrap_or};
+ghost use Rattle.std.specs.Prelude.{◌<◌, ◌^◌, IfOk, Ok, unwrap_or};
 ghost use Rattle.table.specs.Key.{IsInternalKey};
 ghost use Rattle.checks.specs.HeldTables.{AreHeldBy, AreHeldIn};
 ghost use Rattle.compact.specs.AnswerIn.{answer_in};
@@ -9,26 +9,25 @@ ghost use Rattle.folder.specs.OpenAnswer.{FolderAnswers};
 ghost use Rattle.folder.specs.Reports.{OnlyReads, ReportsDevice};
 ghost use Rattle.folder.specs.Version.{IsState};
 ghost use Rattle.pick.specs.PickedInputs.{picked_in};
+ghost use Rattle.store.specs.Choice.{IsChosen};
 ghost use Rattle.store.specs.InputsCompaction.{IsPickedAnswer};
-ghost use Rattle.store.specs.PartOutcome.{IsPartAnswer};
 ghost use Rattle.store.specs.PickedOutcome.{IsPickedCompacted};
-ghost use Rattle.store.specs.declared.level_part.LevelPart.{LevelPart};
+ghost use Rattle.store.specs.declared.choice.Choice.{Choice};
 
 use crate::held_compaction::compact_held;
-use crate::input_tables::numbers_of;
+use crate::held_inputs::held_inputs;
 use crate::part_choice::{sets_internal_key, version_is_state};
-use crate::part_laws::parts_in_order;
-use board::{Watch, Work};
-use checks::{HeldTables, SharedComparator, Workers, checked_tables};
+use board::Watch;
+use checks::{HeldTables, SharedComparator, Workers};
 use compact::Settings;
 use folder::{Fault, ReadsTables, Version};
 use install::Outcome;
 use pick::Inputs;
 use std::thread::Threads;
 
-/// The outcome of the compaction of `picked` inputs, which are one of the finest parts of a level.
-/// Nothing is installed: it only reads, and no table but those of the inputs that aren't among
-/// `held`, which are tables of the folder. The outputs have the numbers from `first` on, or else
+/// The outcome of the compaction of `picked` inputs, which are those of a choice. Nothing is
+/// installed: it only reads, and no table but those of the inputs that aren't among `held`, which
+/// are tables of the folder. The outputs have the numbers from `first` on, or else
 /// those after the manifest's.
 ///
 /// The first that applies:
@@ -36,7 +35,7 @@ use std::thread::Threads;
 /// - Missing: at the first missing table of an input;
 /// - the first invalid one, as `table::check` refuses it;
 /// - Bounds: one isn't as its file states;
-/// - what [`outcome_of_part_inputs`](crate::outcome_of_part_inputs) is refused as after these.
+/// - what [`outcome`](crate::outcome) is refused as after these.
 pub fn outcome_of_picked<
     C: SharedComparator + 'static,
     F: ReadsTables,
@@ -51,8 +50,8 @@ pub fn outcome_of_picked<
     first: Option<u64>,
     settings: &Settings<'_>,
 ) -> Result<Outcome, Fault>
-    requires part { (part : LevelPart)
-        × IsPartAnswer C.cmp version.now part (Ok (picked_in picked.now)) }
+    requires chosen { (choice : Choice)
+        × IsChosen C.cmp version.now choice (Ok (picked_in picked.now)) }
     ensures answer { (files : Files) → Tells (F.tells folder.old) files →
         AreHeldIn C.cmp files held →
         FolderAnswers (λ o. (picked_in picked.now, answer_in o)) (F.failed folder.old)
@@ -71,12 +70,8 @@ pub fn outcome_of_picked<
     ensures device { ReportsDevice F.Folder folder.old folder.new result }
     ensures reads { OnlyReads F.Folder folder.old folder.new }
 {
-    let alloc = workers.alloc();
-    parts_in_order::<C>();
     sets_internal_key(picked);
-    version_is_state::<C>(alloc, version);
-    let numbers = numbers_of(alloc, &picked.files)?;
-    workers.gate().begin(Work::Check, numbers.len() as u64);
-    let tables = checked_tables::<C, F, W, R>(workers, folder, held, &numbers)?;
+    version_is_state::<C>(workers.alloc(), version);
+    let tables = held_inputs::<C, F, W, R>(workers, folder, held, version, picked)?;
     compact_held::<C, W, R>(workers, version, picked, &tables, first, settings)
 }

@@ -5,7 +5,7 @@
 //! that fails midway, the tables that were written stay: the version doesn't name them.
 
 ghost use Rattle.std.specs.Prelude.{◌≡◌, ◌∷◌, [], ◌<◌, ◌^◌, ℕ, List, length, codes, Some, Ok};
-ghost use Rattle.std.specs.Prelude.{None, slice_get};
+ghost use Rattle.std.specs.Prelude.{slice_get};
 ghost use Rattle.folder.specs.Calls.{Files, Tells};
 ghost use Rattle.folder.specs.Manifest.{order_name};
 ghost use Rattle.folder.specs.Names.{current_text};
@@ -67,7 +67,7 @@ pub(crate) fn install_merged<
         order_name order ≡ C.name_bytes →
         ((a : Answer) → merged.now ≡ Ok a →
         LevelCompaction (order_by order C.cmp C.short_keys) (version_with opened.now.version loaded)
-        level None s (picked_in picked.now) a) →
+        level s (picked_in picked.now) a) →
         IsStepLeft (order_by order C.cmp C.short_keys) (version_with opened.now.version loaded)
         level s (change_of F.Folder folder.old folder.new) result }
     ensures runs { IsRun (IsAnsweredBy (picked_in picked.now) merged.now) C.name_bytes C.cmp

@@ -3,6 +3,7 @@
 use crate::clean_printer::CleanPrinter;
 use crate::clean_work::{RemovalPrinter, clean_installed, clean_named, clean_opened};
 use crate::compaction_notes::{note_of, tell_room};
+use crate::outcome_work::test_of;
 use crate::step_printer::{StepPrinter, print_step, tell_step, unprinted};
 use crate::version_sync::sync;
 use disk::{Disk, SystemFiles};
@@ -15,8 +16,8 @@ use session::{
 };
 use std::alloc::Global;
 use store::{
-    CompactionStep, DescentEnd, SyncedVersion, bottom, checkers_of, compact_inputs, compact_opened,
-    next_level, outcome_of_inputs, outcome_of_opened,
+    Choice, CompactionStep, DescentEnd, SyncedVersion, bottom, checkers_of, compact_inputs,
+    compact_opened, next_level, outcome,
 };
 use usage::{CompactLine, Levels, Settings, Testing};
 
@@ -144,15 +145,10 @@ fn refusal_of_level<R: Host>(
 ) -> Refusal {
     let progress = ProgressLine::new(rt, telling);
     let workers = checkers_of(rt, rt.alloc(), task.settings.workers, &progress);
-    let settings = task.settings;
-    let outcome = if task.testing.is_skipped {
-        outcome_of_inputs(&workers, folder, opened, level, None, settings)
-    } else {
-        let memory = bytes_of(task.testing.memory);
-        outcome_of_opened(&workers, folder, opened, level, None, settings, memory)
-    };
+    let (choice, test) = (Choice::Picked(level), test_of(task.testing));
+    let made = outcome(&workers, folder, opened, choice, None, task.settings, test);
     progress.erase();
-    match outcome {
+    match made {
         Ok(_) => Fault::of(FaultName::NoInput).into(),
         Err(fault) => refused_at(rt, telling.folder, folder, fault),
     }

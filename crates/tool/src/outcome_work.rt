@@ -12,11 +12,8 @@ use session::{
     print_lines, refused_opened, told,
 };
 use std::alloc::Global;
-use store::{
-    CompactionOutcome, EDIT, LevelPart, checkers_of, outcome_of_inputs, outcome_of_opened,
-    outcome_of_part, outcome_of_part_inputs,
-};
-use usage::CompactLine;
+use store::{Choice, CompactionOutcome, EDIT, checkers_of, outcome};
+use usage::{CompactLine, Testing};
 
 /// What is asked for of such a compaction.
 #[derive(Clone, Copy)]
@@ -92,7 +89,8 @@ fn unprinted(alloc: Global, out: &str, refusal: Refusal) -> Refusal {
     Refusal::new(refusal.fault, told)
 }
 
-/// The outcome of the compaction. The version is tested before, if that is asked for.
+/// The outcome of the compaction. The version is tested before, if that is asked for; else nothing
+/// but the inputs is read.
 fn outcome_made<R: Host>(
     rt: &R,
     telling: Telling<'_>,
@@ -100,59 +98,39 @@ fn outcome_made<R: Host>(
     task: OutcomeTask<'_>,
     opened: &Opened,
 ) -> Result<CompactionOutcome, Refusal> {
-    if line.options.testing.is_skipped {
-        return inputs_compacted(rt, telling, line, task, opened);
+    let testing = &line.options.testing;
+    if !testing.is_skipped {
+        sizes_in_turn(rt, telling.folder, opened)?;
     }
-    sizes_in_turn(rt, telling.folder, opened)?;
-    let memory = bytes_of(line.options.testing.memory);
     let progress = ProgressLine::new(rt, telling);
     let mut folder = Disk::new(rt, telling.folder);
-    let workers = checkers_of(rt, rt.alloc(), line.settings.workers, &progress);
-    let (first, settings) = (task.first_number, &line.settings);
-    let made = match part_of(task) {
-        None => {
-            outcome_of_opened(
-                &workers,
-                &mut folder,
-                opened,
-                task.level,
-                first,
-                settings,
-                memory,
-            )
-        }
-        Some(part) => {
-            outcome_of_part(&workers, &mut folder, opened, part, first, settings, memory)
-        }
-    };
+    let made = outcome(
+        &checkers_of(rt, rt.alloc(), line.settings.workers, &progress),
+        &mut folder,
+        opened,
+        choice_of(task),
+        task.first_number,
+        &line.settings,
+        test_of(testing),
+    );
     progress.erase();
     made.map_err(|fault| refused_opened(rt, telling.folder, &folder, opened, fault))
 }
 
-/// The same without a test: nothing but the inputs is read.
-fn inputs_compacted<R: Host>(
-    rt: &R,
-    telling: Telling<'_>,
-    line: &CompactLine<'_>,
-    task: OutcomeTask<'_>,
-    opened: &Opened,
-) -> Result<CompactionOutcome, Refusal> {
-    let progress = ProgressLine::new(rt, telling);
-    let mut folder = Disk::new(rt, telling.folder);
-    let workers = checkers_of(rt, rt.alloc(), line.settings.workers, &progress);
-    let (first, settings) = (task.first_number, &line.settings);
-    let made = match part_of(task) {
-        None => outcome_of_inputs(&workers, &mut folder, opened, task.level, first, settings),
-        Some(part) => outcome_of_part_inputs(&workers, &mut folder, opened, part, first, settings),
-    };
-    progress.erase();
-    made.map_err(|fault| refused_opened(rt, telling.folder, &folder, opened, fault))
+/// The inputs that are asked for.
+fn choice_of(task: OutcomeTask<'_>) -> Choice {
+    match task.part {
+        None => Choice::Picked(task.level),
+        Some(number) => Choice::Part(task.level, number),
+    }
 }
 
-/// The part that is asked for.
-fn part_of(task: OutcomeTask<'_>) -> Option<LevelPart> {
-    let level = task.level;
-    task.part.map(|number| LevelPart { level, number })
+/// How many bytes of tables the test of a version holds, if it is asked for.
+pub(crate) fn test_of(testing: &Testing) -> Option<u64> {
+    if testing.is_skipped {
+        return None;
+    }
+    Some(bytes_of(testing.memory))
 }
 
 /// The refusal, with what is told of a part that isn't there, or of a first number that can't be

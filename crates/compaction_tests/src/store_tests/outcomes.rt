@@ -13,8 +13,7 @@ use std::process::Abort;
 use std::test::*;
 use std::thread::Threads;
 use store::{
-    CompactionOutcome, EDIT, Open, checkers, files_to_compact, outcome_of_inputs,
-    outcome_of_opened, write_outcome,
+    Choice, CompactionOutcome, EDIT, Open, checkers, files_to_compact, outcome, write_outcome,
 };
 
 /// The compaction of a folder, the first number that is asked for, the answer, and the files of the
@@ -76,27 +75,17 @@ fn outcome_of<R: Threads + Sync>(
     is_tested: bool,
 ) -> Result<CompactionOutcome, Fault> {
     let opened = open(alloc, folder)?;
-    let (level, first, settings) = (asked.row.level, asked.first, &asked.row.settings);
-    if is_tested {
-        outcome_of_opened(
-            &checkers(rt, alloc, &Open),
-            folder,
-            &opened,
-            level,
-            first,
-            settings,
-            MEMORY,
-        )
-    } else {
-        outcome_of_inputs(
-            &checkers(rt, alloc, &Open),
-            folder,
-            &opened,
-            level,
-            first,
-            settings,
-        )
-    }
+    let choice = Choice::Picked(asked.row.level);
+    let test = if is_tested { Some(MEMORY) } else { None };
+    outcome(
+        &checkers(rt, alloc, &Open),
+        folder,
+        &opened,
+        choice,
+        asked.first,
+        &asked.row.settings,
+        test,
+    )
 }
 
 /// Whether an outcome is written as these files, by two calls each, one that names the edit, and

@@ -11,8 +11,8 @@ use Rattle.levels.proofs.PartsAt.{got, part_is}
 use Rattle.levels.proofs.PartWritten.{held_none, numbered, part_done, part_refused, part_unnumbered, unnumbered}
 use Rattle.levels.proofs.part_writer.write_part.Goals as goal
 
-pub outcome_of_picked-requires-clause-part : goal.outcome_of_picked-requires-clause-part
-outcome_of_picked-requires-clause-part g c κs within =
+pub outcome_of_picked-requires-clause-chosen : goal.outcome_of_picked-requires-clause-chosen
+outcome_of_picked-requires-clause-chosen g c κs within =
     part_is g.C.Comparator.cmp c.args.version.now c.args.parts.now c.args.place c.index-parts-place.result
     (got c.args.parts.now c.args.place c.index-parts-place.result c.requires.within c.index-parts-place.is) c.requires
 

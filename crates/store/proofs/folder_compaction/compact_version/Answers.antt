@@ -79,11 +79,11 @@ returns-clause-answer g c files told current =
     let failed = g.F.Folder.failed in
     let passed = has_passed cmp (IsFileIn files) files v _ (told_themselves files) (c.in_ok-found.ensures.answer files told) in
     let still = told_still (tells c.args.folder.now) (tells c.test_and_hold.new.folder) files c.test_and_hold.ensures.reads.same told in
-    let own = IsLoadedAnswer None cmp short_keys v passed.loaded level s in
-    let all = IsVersionAnswer None cmp short_keys files v level s in
+    let own = IsLoadedAnswer cmp short_keys v passed.loaded level s in
+    let all = IsVersionAnswer cmp short_keys files v level s in
     answers_since step_in (failed c.args.folder.now) (failed c.test_and_hold.new.folder) (failed c.compact_step.new.folder) c.compact_step.result (IsInputsCompacted cmp short_keys files v level s) (IsVersionCompacted cmp short_keys files v level s)
     (λ answer h. made_as own all (λ made (step : Result StepView Fault). step ≡ Ok (step_of v made.0 made.1)) answer
-    (λ r given. first_passed (IsLoaded (IsFileIn files) (file_numbers cmp v)) (λ loaded. IsLoadedAnswer None cmp short_keys v loaded level s) passed.loaded r passed.held given)
+    (λ r given. first_passed (IsLoaded (IsFileIn files) (file_numbers cmp v)) (λ loaded. IsLoadedAnswer cmp short_keys v loaded level s) passed.loaded r passed.held given)
     (c.inputs_suffice.ensures files v passed.loaded passed.tables level s answer passed.held passed.sound h))
     c.test_and_hold.ensures.device.later c.compact_step.ensures.device.later
     (c.compact_step.ensures.answer files still current (held_in g.C.Comparator.cmp (tells c.args.folder.now) files told c.in_ok-found.found.tables c.in_ok-found.ensures.held))

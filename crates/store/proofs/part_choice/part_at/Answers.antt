@@ -1,9 +1,0 @@
-use Rattle.std.proofs.Common.{◌≡◌, ℕ, ◌<◌, ◌≤◌, length, arith}
-use Rattle.store.proofs.PartNumbers.{numbered_at}
-use Rattle.store.proofs.part_choice.part_at.Goals as goal
-
--- src/part_choice.rt:62:1
-pub returns : goal.returns
-returns c =
-    numbered_at c.args.parts.items c.args.number c.swap_remove.result (omega (arith, c.if-number-eq0.false))
-    (omega (arith, c.len.ensures, c.if-number-len.false)) c.swap_remove.ensures.value

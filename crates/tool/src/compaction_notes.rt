@@ -5,8 +5,7 @@ use answers::FileTotal;
 use disk::{Disk, SystemFiles};
 use folder::{Bytewise, Fault, FileMeta, Folder, LEVELS, Version, VersionEdit};
 use session::{
-    LAST_LEVEL, Refusal, Telling, deleted_files, have_filter, open_folder, total_text,
-    unneeded_files,
+    LAST_LEVEL, Refusal, Telling, deleted_files, have_filter, open_in, total_text, unneeded_files,
 };
 use std::alloc::Global;
 use std::collections::BTreeSet;
@@ -199,7 +198,7 @@ fn unneeded_total<R: SystemFiles + AllocGlobal>(
     rt: &R,
     folder: &str,
 ) -> Result<FileTotal, Refusal> {
-    let opened = open_folder(rt, folder)?;
+    let opened = open_in(rt, folder, &mut Disk::new(rt, folder))?;
     let mut total = FileTotal::none();
     for bytes in &unneeded_files(rt, folder, &opened)?.lengths {
         total = total.with(*bytes);

@@ -7,21 +7,10 @@ use refusals::sizes_in_turn;
 use scan::{RowChoice, RowCounter, RowTaker, prefix_end, scan_unverified, scan_version};
 use session::{Host, Order, ProgressLine, Refusal, Session, Words, bytes_of, print_lines, told};
 use std::time::Clock;
-use texts::Spelling;
 use usage::{RowOptions, RowOutput, ScanLine, Testing};
 
 /// How many bytes of lines are written at once, or somewhat more.
 const AT_ONCE: usize = 65_536;
-
-/// How rows are printed.
-#[derive(Clone, Copy)]
-struct RowForm {
-    spelling: Spelling,
-    /// Whether each is printed as JSON.
-    is_json: bool,
-    /// Whether each key has its value beside it.
-    with_values: bool,
-}
 
 /// Prints the rows of a folder that are asked for, or answers the line of their number. Its version
 /// is tested before, if that is asked for.
@@ -94,11 +83,7 @@ fn print_rows<R: Host>(
     let mut printer = RowPrinter {
         rt,
         progress: &progress,
-        form: RowForm {
-            spelling: line.spelling,
-            is_json: line.is_json,
-            with_values: line.output == RowOutput::Pairs,
-        },
+        line,
         lines: Vec::new(rt.alloc()),
         refusal: None,
     };
@@ -150,7 +135,7 @@ fn choice_of<'s>(rows: &'s RowOptions, end: Option<&'s [u8]>) -> RowChoice<'s> {
 struct RowPrinter<'t, R> {
     rt: &'t R,
     progress: &'t ProgressLine<'t, R>,
-    form: RowForm,
+    line: &'t ScanLine<'t>,
     /// The lines that are not written yet.
     lines: Vec<u8>,
     /// Why a row could not be printed. No row comes after it.
@@ -160,13 +145,13 @@ struct RowPrinter<'t, R> {
 impl<'t, R: Print + Eprint + Clock + AllocGlobal> RowPrinter<'t, R> {
     /// Adds the line of a row, and writes the lines if there are enough of them.
     fn push(&mut self, key: &[u8], value: &[u8]) -> Result<(), Refusal> {
-        let value = if self.form.with_values {
+        let value = if self.line.output == RowOutput::Pairs {
             Some(value)
         } else {
             None
         };
-        let spelling = self.form.spelling;
-        if self.form.is_json {
+        let spelling = self.line.spelling;
+        if self.line.is_json {
             push_row_json(self.rt.alloc(), &mut self.lines, spelling, key, value)?;
         } else {
             push_row(&mut self.lines, spelling, key, value)?;
@@ -181,9 +166,10 @@ impl<'t, R: Print + Eprint + Clock + AllocGlobal> RowPrinter<'t, R> {
 
     /// The lines that are not written yet, unless a row could not be printed.
     fn end(self) -> Result<Vec<u8>, Refusal> {
-        match self.refusal {
+        let RowPrinter { lines, refusal, .. } = self;
+        match refusal {
             Some(refusal) => Err(refusal),
-            None => Ok(self.lines),
+            None => Ok(lines),
         }
     }
 }

@@ -13,38 +13,6 @@ const NO_VALUE: &[u8] = b"none\n";
 /// How many bytes of lines are written at once, or somewhat more.
 const AT_ONCE: usize = 65_536;
 
-/// What is printed of the value of a key.
-#[derive(Clone, Copy)]
-enum ValueOutput {
-    /// Its line, in a spelling.
-    Line(Spelling),
-    /// Its bytes.
-    Raw,
-    /// The JSON line of the key and its value, in a spelling.
-    Json(Spelling),
-}
-
-impl ValueOutput {
-    /// What is printed of the value that a line asks for.
-    fn of(line: &GetLine<'_>) -> ValueOutput {
-        if line.is_raw {
-            ValueOutput::Raw
-        } else if line.is_json {
-            ValueOutput::Json(line.spelling)
-        } else {
-            ValueOutput::Line(line.spelling)
-        }
-    }
-
-    /// The form in which the value is asked for.
-    fn form(self) -> ValueForm {
-        match self {
-            ValueOutput::Line(spelling) => ValueForm::Line(spelling),
-            ValueOutput::Raw | ValueOutput::Json(_) => ValueForm::Raw,
-        }
-    }
-}
-
 /// Prints the values of these keys in a folder, in their order, and answers what is left to print.
 /// Those before a refusal are printed. The version is tested before, if that is asked for.
 pub fn values_answer<R: Host>(
@@ -75,7 +43,11 @@ fn push_value<R: Host>(
     line: &GetLine<'_>,
     key: &[u8],
 ) -> Result<(), Refusal> {
-    let form = ValueOutput::of(line).form();
+    let form = if line.is_raw || line.is_json {
+        ValueForm::Raw
+    } else {
+        ValueForm::Line(line.spelling)
+    };
     let answer = value_of(session, line, key, form);
     let answer = session.done(answer)?;
     push_answer(session, lines, line, key, answer.as_deref())?;
@@ -112,21 +84,16 @@ fn push_answer<R: Host>(
     key: &[u8],
     answer: Option<&[u8]>,
 ) -> Result<(), Fault> {
-    let alloc = session.rt.alloc();
-    match ValueOutput::of(line) {
-        ValueOutput::Line(spelling) if !is_alone(line) => {
-            push_named_value(lines, spelling, key, answer.unwrap_or(NO_VALUE))
-        }
-        ValueOutput::Line(_) | ValueOutput::Raw => {
-            lines.extend_from_slice(answer.unwrap_or(&[]))?;
-            Ok(())
-        }
-        ValueOutput::Json(spelling) => {
-            let object = value_json(alloc, spelling, key, answer, session.logs)?;
-            lines.extend_from_slice(json_line(alloc, &object)?.as_bytes())?;
-            Ok(())
-        }
+    if line.is_json {
+        let alloc = session.rt.alloc();
+        let object = value_json(alloc, line.spelling, key, answer, session.logs)?;
+        lines.extend_from_slice(json_line(alloc, &object)?.as_bytes())?;
+    } else if line.is_raw || is_alone(line) {
+        lines.extend_from_slice(answer.unwrap_or(&[]))?;
+    } else {
+        push_named_value(lines, line.spelling, key, answer.unwrap_or(NO_VALUE))?;
     }
+    Ok(())
 }
 
 /// Whether one key alone is given.

@@ -13,108 +13,114 @@ pub(crate) struct Needs<'a> {
     pub subject: &'a str,
     /// Whether answers and refusals are JSON.
     pub is_json: bool,
-    /// How many MiB of tables may be held.
-    pub memory: u64,
     /// What it does with the folder.
     pub access: Access,
-    /// Whether tables are read of a version that isn't tested before.
-    pub is_untested: bool,
     /// As what it is told how long it took; None if it tells that of its steps.
     pub step: Option<&'static str>,
+    /// How many MiB of tables may be held.
+    pub memory: u64,
+    /// Whether tables are read of a version that isn't tested before.
+    pub is_untested: bool,
 }
 
 impl<'a> Needs<'a> {
-    /// Those of a command that changes no folder, and tells no time.
-    fn of(subject: &'a str, is_json: bool) -> Needs<'a> {
-        Needs {
-            subject,
-            is_json,
-            memory: MEMORY,
-            access: Access::None,
-            is_untested: false,
-            step: None,
-        }
-    }
-
-    /// The same of one that does this with the folder.
-    fn to(self, access: Access) -> Needs<'a> {
-        Needs { access, ..self }
-    }
-
-    /// The same of one that is told by this name how long it took.
-    fn timed(self, step: &'static str) -> Needs<'a> {
-        let step = Some(step);
-        Needs { step, ..self }
-    }
-
     /// The same of one that may hold as many MiB of tables.
     fn holding(self, memory: u64) -> Needs<'a> {
         Needs { memory, ..self }
     }
 
-    /// The same of one that reads a folder by this name, and by the other one if it isn't tested
-    /// before.
-    fn reads(self, tested: &'static str, untested: &'static str, testing: Testing) -> Needs<'a> {
-        let is_untested = testing.is_skipped;
-        let step = if is_untested { untested } else { tested };
-        let needs = Needs {
-            is_untested,
-            ..self
-        };
-        needs.to(Access::Read).timed(step).holding(testing.memory)
+    /// The same of one that tests the version so; if that is left out, this is told in place of the
+    /// step.
+    fn testing(self, testing: Testing, untested: &'static str) -> Needs<'a> {
+        let needs = self.holding(testing.memory);
+        if !testing.is_skipped {
+            return needs;
+        }
+        Needs {
+            step: Some(untested),
+            is_untested: true,
+            ..needs
+        }
     }
 }
 
 /// What a command line needs.
 pub(crate) fn needs_of<'a>(line: &Line<'a>) -> Needs<'a> {
     match line {
-        Line::Blocks(line) => Needs::of(line.a, false),
-        Line::Dump(line) => Needs::of(line.table, false),
-        Line::Table(line) => Needs::of(line.table, line.is_json),
-        Line::Manifest(line) => Needs::of(line.folder, line.is_json)
-            .to(Access::Read)
-            .timed("manifest"),
-        Line::Stats(line) => Needs::of(line.folder, line.is_json)
-            .to(Access::Read)
-            .timed("stats")
-            .holding(line.memory),
-        Line::Verify(line) => Needs::of(line.folder, line.form == VerdictForm::Json)
-            .to(Access::Read)
-            .timed(if line.form == VerdictForm::AllFaults {
-                "verify --all-faults"
-            } else {
-                "verify"
-            })
-            .holding(line.memory),
-        Line::Get(line) => {
-            Needs::of(line.folder, line.is_json).reads("get", "get --no-verify", line.testing)
+        Line::Blocks(line) => of_files(line.a, false),
+        Line::Dump(line) => of_files(line.table, false),
+        Line::Table(line) => of_files(line.table, line.is_json),
+        Line::Manifest(line) => of(line.folder, line.is_json, Access::Read, Some("manifest")),
+        Line::Stats(line) => {
+            of(line.folder, line.is_json, Access::Read, Some("stats")).holding(line.memory)
         }
-        Line::Scan(line) => {
-            Needs::of(line.folder, line.is_json).reads("scan", "scan --no-verify", line.testing)
+        Line::Verify(line) => {
+            let is_json = line.form == VerdictForm::Json;
+            of(
+                line.folder,
+                is_json,
+                Access::Read,
+                Some(verdict_step(line.form)),
+            )
+            .holding(line.memory)
         }
-        Line::History(line) => Needs::of(line.folder, line.is_json).reads(
-            "history",
-            "history --no-verify",
+        Line::Get(line) => of(line.folder, line.is_json, Access::Read, Some("get")).testing(
             line.testing,
+            "get --no-verify",
         ),
-        Line::Files(line) => Needs::of(line.folder, line.is_json)
-            .to(Access::List)
-            .timed("files"),
-        Line::Job(line) => Needs::of(line.folder, false).timed("job"),
-        Line::Compact(line) => Needs::of(line.folder, line.options.is_json)
-            .to(match line.options.work {
+        Line::Scan(line) => of(line.folder, line.is_json, Access::Read, Some("scan")).testing(
+            line.testing,
+            "scan --no-verify",
+        ),
+        Line::History(line) => of(line.folder, line.is_json, Access::Read, Some("history")).testing(
+            line.testing,
+            "history --no-verify",
+        ),
+        Line::Files(line) => of(line.folder, line.is_json, Access::List, Some("files")),
+        Line::Job(line) => of(line.folder, false, Access::None, Some("job")),
+        Line::Compact(line) => {
+            let access = match line.options.work {
                 CompactWork::Installed(_) => Access::Change,
                 CompactWork::Written { .. } => Access::None,
-            })
-            .holding(line.options.testing.memory),
-        Line::Install(line) => Needs::of(line.folder, false)
-            .to(Access::Change)
-            .holding(line.testing.memory),
-        Line::Clean(line) if line.is_dry_run => Needs::of(line.folder, false)
-            .to(Access::Read)
-            .timed("clean --dry-run"),
-        Line::Clean(line) => Needs::of(line.folder, false)
-            .to(Access::Change)
-            .timed("clean"),
+            };
+            of(line.folder, line.options.is_json, access, None).holding(line.options.testing.memory)
+        }
+        Line::Install(line) => {
+            of(line.folder, false, Access::Change, None).holding(line.testing.memory)
+        }
+        Line::Clean(line) if line.is_dry_run => {
+            of(line.folder, false, Access::Read, Some("clean --dry-run"))
+        }
+        Line::Clean(line) => of(line.folder, false, Access::Change, Some("clean")),
+    }
+}
+
+/// What `verify` is told as.
+fn verdict_step(form: VerdictForm) -> &'static str {
+    match form {
+        VerdictForm::Line | VerdictForm::Json => "verify",
+        VerdictForm::AllFaults => "verify --all-faults",
+    }
+}
+
+/// What a command needs that is about files alone, or about a table.
+fn of_files(subject: &str, is_json: bool) -> Needs<'_> {
+    of(subject, is_json, Access::None, None)
+}
+
+/// What a command needs that does this with a folder.
+fn of<'a>(
+    subject: &'a str,
+    is_json: bool,
+    access: Access,
+    step: Option<&'static str>,
+) -> Needs<'a> {
+    Needs {
+        subject,
+        is_json,
+        access,
+        step,
+        memory: MEMORY,
+        is_untested: false,
     }
 }

@@ -37,12 +37,12 @@ mod tested_sizes;
 mod user_files;
 
 pub use amount_texts::total_text;
-pub use disk::{Disk, SystemFiles};
+pub use disk::Disk;
 pub use edit::{FileMeta, LAST_LEVEL, LEVELS};
 pub use edit_inputs::deleted_files;
 pub use explanations::{CLOSE_ONCE, Words, in_words, of_file};
 pub use filter_blocks::have_filter;
-pub use folder::{Bytewise, Comparator, Folder, Order, Shortlex, manifest_name};
+pub use folder::{Bytewise, Comparator, Order, Shortlex, manifest_name};
 pub use folder_locks::{Access, locked, no_database};
 pub use folder_names::{names_in, path_in};
 pub use host::Host;

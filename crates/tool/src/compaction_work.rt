@@ -216,21 +216,33 @@ fn descended<'r, R: Host>(
 /// asked for.
 fn compact_whole<R: Host>(change: Change<'_, R>, line: &CompactLine<'_>) -> Result<(), Refusal> {
     let mut change = change;
-    let (rt, telling, settings) = (change.rt, change.telling, &line.settings);
+    let (rt, telling) = (change.rt, change.telling);
     let progress = change.progress();
     let version = &change.opened.version;
     let mut steps = StepPrinter::new(rt, telling, &progress, version, line, false)?;
-    let workers = checkers_of(rt, rt.alloc(), settings.workers, &progress);
-    let memory = bytes_of(line.options.testing.memory);
-    let folder = &mut change.disk;
-    let opened = &change.opened;
-    let end = compact_whole_levels(&workers, folder, opened, settings, memory, &mut steps);
-    change.ended(&progress, end)?;
+    whole_levels_made(&mut change, line, &progress, &mut steps)?;
     let manifest = steps.manifest();
     steps.end()?;
     if line.options.cleans {
         let is_json = line.options.is_json;
         clean_named(rt, telling.folder, &mut change.disk, manifest, is_json)?;
     }
+    Ok(())
+}
+
+/// The same, told to who prints the steps.
+fn whole_levels_made<'r, R: Host>(
+    change: &mut Change<'r, R>,
+    line: &CompactLine<'_>,
+    progress: &ProgressLine<'r, R>,
+    steps: &mut StepPrinter<'_, R>,
+) -> Result<(), Refusal> {
+    let settings = &line.settings;
+    let workers = checkers_of(change.rt, change.rt.alloc(), settings.workers, progress);
+    let memory = bytes_of(line.options.testing.memory);
+    let folder = &mut change.disk;
+    let opened = &change.opened;
+    let end = compact_whole_levels(&workers, folder, opened, settings, memory, steps);
+    change.ended(progress, end)?;
     Ok(())
 }

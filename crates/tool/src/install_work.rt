@@ -1,7 +1,7 @@
 //! The installation of outcomes.
 
 use crate::clean_work::clean_named;
-use crate::compaction_notes::{loses_filters, tell_no_filters, tell_room};
+use crate::compaction_notes::{note_of, tell_room};
 use crate::folder_change::Change;
 use crate::install_steps::{InstallationEnd, outcomes_installed};
 use crate::outcome_refusal::outcome_explained;
@@ -61,28 +61,16 @@ fn tell_installed<R: Host>(
     step: &CompactionStep,
 ) -> Result<(), Refusal> {
     let mut folder = folder;
-    let loses_filters = lose_filters(rt, telling, line, before);
+    let note = note_of(rt, telling, before, &step.outputs, &step.deleted);
     if let Err(refusal) = print_installed(rt, 0, step, false) {
         return Err(unprinted(rt.alloc(), telling.folder, DoneWork::Version, refusal));
     }
-    if loses_filters {
-        tell_no_filters(rt, telling);
+    if let Some(note) = note {
+        note.tell_filters(rt, telling);
     }
     if line.cleans {
         clean_named(rt, telling.folder, &mut folder, before.next_file(), false)?;
     }
     tell_room(rt, telling);
     Ok(())
-}
-
-/// Whether it is to be told that filters are gone by one of the outcomes.
-fn lose_filters<R: Host>(
-    rt: &R,
-    telling: Telling<'_>,
-    line: &InstallLine<'_>,
-    before: &Version,
-) -> bool {
-    line.outs
-        .iter()
-        .any(|out| loses_filters(rt, telling, out, before))
 }

@@ -99,13 +99,21 @@ impl<'t, R: Eprint + Clock + AllocGlobal> StepPrinter<'t, R> {
     /// Whether all steps could be printed, and none was the last one for a reason. If so, it is told
     /// what was made of all files.
     pub fn end(self) -> Result<(), Refusal> {
-        let (before, after) = (self.before, self.after);
-        let (rt, telling) = (self.rt, self.telling);
-        if let Some(refusal) = self.refusal {
+        let StepPrinter {
+            rt,
+            telling,
+            bottom,
+            before,
+            after,
+            done,
+            refusal,
+            ..
+        } = self;
+        if let Some(refusal) = refusal {
             return Err(refusal);
         }
-        if self.done == 0 {
-            tell_no_step(rt, telling, self.bottom, before.files);
+        if done == 0 {
+            tell_no_step(rt, telling, bottom, before.files);
         } else if let Some(after) = after {
             tell_made(rt, telling, before, after);
         }
@@ -190,7 +198,9 @@ impl<'t, R: Host> CleanWatch for StepPrinter<'t, R> {
         let folder = self.telling.folder;
         let mut disk = Disk::new(self.rt, folder);
         match files_named(self.rt, folder, &mut disk, Some(opened.manifest)) {
-            Ok((_, UnneededFiles { names, lengths })) => {
+            Ok(found) => {
+                let (_, files) = found;
+                let UnneededFiles { names, lengths } = files;
                 if let Some(removals) = &mut self.removals {
                     removals.begin(lengths);
                 }

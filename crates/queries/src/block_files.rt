@@ -14,18 +14,16 @@ const NO_ENTRIES: &[u8] = b"\0\0\0\0\x01\0\0\0";
 /// What to do about a file that is no such block.
 const REMEDY: &str = "give a block of a table, without its trailer";
 
-/// Merges the blocks in two files into one, and prints how large it is.
-pub fn merge<R: Files + Print + AllocGlobal + Threads + Sync>(
+/// Merges the blocks in two files into one, and answers the line of how large it is.
+pub fn blocks_answer<R: Files + AllocGlobal + Threads + Sync>(
     rt: &R,
     line: &BlocksLine<'_>,
-) -> Result<(), Refusal> {
+) -> Result<Vec<u8>, Refusal> {
     let (entries, block) = merged(rt, line)?;
-    replace_file(rt, line.out, block.as_slice())?;
     let length = block.len();
-    println!(rt; "{entries} entries, {length} bytes").map_err(|error| Refusal::of_output(
-        rt.alloc(),
-        &error,
-    ))
+    let text = format!(in rt.alloc(); "{entries} entries, {length} bytes\n").map_err(Fault::from)?;
+    replace_file(rt, line.out, block.as_slice())?;
+    Ok(text.into_bytes())
 }
 
 /// The block of the entries of the blocks in two files, and the number of entries.

@@ -1,76 +1,53 @@
-//! All faults of a folder's version, from its path to what is printed.
+//! All faults of a folder's version, which are printed as they are found.
 
 use answers::{fault_count_line, file_fault_line, key_fault_line};
 use checks::{Fault, FaultName, checkers};
 use faults::{FaultTaker, FileFault, all_faults};
-use install::Opened;
-use session::{
-    Disk, Host, ProgressLine, Refusal, Telling, begin_work, print_lines, refused_at, tell_replaced,
-    tell_time,
-};
+use session::{Host, ProgressLine, Refusal, Session, print_lines, tell_replaced};
 use std::time::Clock;
 use texts::Spelling;
 
-/// Prints all faults of a folder, and how many there are. If there is one, it is refused, and
-/// nothing else is told, but that another program changed the folder meanwhile. The test may hold
-/// this many bytes of tables.
-pub fn faults_printed<R: Host>(rt: &R, telling: Telling<'_>, memory: u64) -> Result<(), Refusal> {
-    let begun = telling.begin(rt);
-    let opened = begin_work(rt, telling)?;
-    let count = match faults_told(rt, telling, &opened, memory) {
-        Ok(count) => count,
-        Err(refusal) => return Err(refusal),
-    };
-    tell_time(rt, "verify --all-faults", begun);
-    count_printed(rt, count)?;
-    if count > 0 {
-        tell_replaced(rt, telling, &opened);
-        return Err(Refusal::silent(Fault::of(FaultName::Lawless)));
+/// Prints all faults of a folder. The answer is the line of none. If there is one, their number is
+/// printed too, and they are refused; nothing else is told, but that another program changed the
+/// folder meanwhile. The test may hold this many bytes of tables.
+pub(crate) fn print_faults<R: Host>(
+    session: &mut Session<'_, R>,
+    memory: u64,
+) -> Result<Vec<u8>, Refusal> {
+    let count = faults_told(session, memory)?;
+    let rt = session.rt;
+    let line = fault_count_line(rt.alloc(), count)?;
+    if count == 0 {
+        return Ok(line);
     }
-    Ok(())
+    session.tell_time("verify --all-faults");
+    print_lines(rt, &line)?;
+    tell_replaced(rt, session.telling, &session.opened);
+    Err(Refusal::silent(Fault::of(FaultName::Lawless)))
 }
 
-/// Prints all faults of what a folder was opened as, and answers how many there are.
-fn faults_told<R: Host>(
-    rt: &R,
-    telling: Telling<'_>,
-    opened: &Opened,
-    memory: u64,
-) -> Result<u64, Refusal> {
-    let mut folder = Disk::new(rt, telling.folder);
-    match faults_scanned(rt, telling, &mut folder, opened, memory) {
-        Ok(Ok(count)) => Ok(count),
-        Ok(Err(fault)) => Err(refused_at(rt, telling.folder, &folder, fault)),
-        Err(refusal) => Err(refusal),
-    }
-}
-
-/// Prints the faults that a test tells, and answers how it ended; or why one could not be printed.
-fn faults_scanned<R: Host>(
-    rt: &R,
-    telling: Telling<'_>,
-    folder: &mut Disk<'_, R>,
-    opened: &Opened,
-    memory: u64,
-) -> Result<Result<u64, Fault>, Refusal> {
-    let progress = ProgressLine::new(rt, telling);
+/// Prints all faults, and answers how many there are.
+fn faults_told<R: Host>(session: &mut Session<'_, R>, memory: u64) -> Result<u64, Refusal> {
+    let rt = session.rt;
+    let progress = session.progress();
     let mut printer = FaultPrinter {
         rt,
         progress: &progress,
         refusal: None,
     };
     let workers = checkers(rt, rt.alloc(), &progress);
-    let told = all_faults(&workers, folder, opened, memory, &mut printer);
-    progress.erase();
-    match printer.end() {
-        Ok(()) => Ok(told),
-        Err(refusal) => Err(refusal),
+    let told = all_faults(
+        &workers,
+        &mut session.disk,
+        &session.opened,
+        memory,
+        &mut printer,
+    );
+    let count = session.ended(&progress, told);
+    match printer.refusal {
+        Some(refusal) => Err(refusal),
+        None => count,
     }
-}
-
-/// Prints how many faults there are.
-fn count_printed<R: Print + AllocGlobal>(rt: &R, count: u64) -> Result<(), Refusal> {
-    print_lines(rt, &fault_count_line(rt.alloc(), count)?)
 }
 
 /// Who prints faults, a line each.
@@ -97,14 +74,6 @@ impl<'t, R: Print + Eprint + Clock + AllocGlobal> FaultPrinter<'t, R> {
 
     fn printed(&self, line: Result<Vec<u8>, Fault>) -> Result<(), Refusal> {
         print_lines(self.rt, &line?)
-    }
-
-    /// Whether all faults could be printed.
-    fn end(self) -> Result<(), Refusal> {
-        match self.refusal {
-            Some(refusal) => Err(refusal),
-            None => Ok(()),
-        }
     }
 }
 

@@ -1,87 +1,40 @@
-//! All entries of a key in a folder, from its path to what is printed.
+//! All entries of a key in a folder.
 
-use crate::read_work::{begin_explained, push_logs, read_explained, test_explained};
+use crate::json_logs::push_logs;
+use crate::version_verdict::test_unless_skipped;
 use answers::{EntryPlace, entry_json, entry_line, json_line};
 use checks::Fault;
-use install::Opened;
 use scan::{Kind, PlacedEntry, key_history};
-use session::{
-    Bytewise, Disk, Host, OpenedFolder, Order, Refusal, Shortlex, Telling, locked_to_read,
-    print_lines, refused_opened, tell_time,
-};
+use session::{Bytewise, Disk, Host, Order, Refusal, Session, Shortlex};
 use std::alloc::Global;
 use usage::HistoryLine;
 
-/// Prints all entries of a key in a folder, the newest first. The version is tested before, if that
-/// is asked for.
-pub fn print_history<R: Host>(
-    rt: &R,
-    telling: Telling<'_>,
+/// What is printed of all entries of a key in a folder, the newest first. After those of JSON comes
+/// the line of the logs, if there is one with writes.
+pub fn history_answer<R: Host>(
+    session: &mut Session<'_, R>,
     line: &HistoryLine<'_>,
-) -> Result<(), Refusal> {
-    let _lock = locked_to_read(rt, telling)?;
-    let begun = telling.begin(rt);
-    let done = history_told(rt, telling, line);
-    if done.is_ok() {
-        let step = if line.testing.is_skipped {
-            "history --no-verify"
-        } else {
-            "history"
-        };
-        tell_time(rt, step, begun);
-    }
-    done
+) -> Result<Vec<u8>, Refusal> {
+    test_unless_skipped(session, &line.testing)?;
+    let alloc = session.rt.alloc();
+    let found = history_of(session, &line.key);
+    let entries = session.done(found)?;
+    let mut lines = history_lines(alloc, line, &entries)?;
+    push_logs(alloc, &mut lines, line.is_json, session.logs)?;
+    Ok(lines)
 }
 
-/// The same of a folder that is locked.
-fn history_told<R: Host>(
-    rt: &R,
-    telling: Telling<'_>,
-    line: &HistoryLine<'_>,
-) -> Result<(), Refusal> {
-    let work = begin_explained(rt, telling)?;
-    test_explained(rt, telling, &work.opened, &line.testing)?;
-    match history_printed(rt, telling, line, &work) {
-        Ok(()) => Ok(()),
-        Err(refusal) => Err(read_explained(rt, telling, &line.testing, refusal)),
-    }
-}
-
-/// Prints all entries of a key in what a folder was opened as. After those of JSON comes the line
-/// of the logs, if there is one with writes.
-fn history_printed<R: Host>(
-    rt: &R,
-    telling: Telling<'_>,
-    line: &HistoryLine<'_>,
-    work: &OpenedFolder,
-) -> Result<(), Refusal> {
-    let entries = history_of(rt, telling.folder, &work.opened, &line.key)?;
-    let mut lines = history_lines(rt.alloc(), line, &entries)?;
-    push_logs(rt.alloc(), &mut lines, line.is_json, work.logs)?;
-    print_lines(rt, &lines)
-}
-
-/// All entries of a key in what a folder was opened as, the newest first.
-fn history_of<R: Host>(
-    rt: &R,
-    path: &str,
-    opened: &Opened,
+/// All entries of a key, the newest first.
+fn history_of<'r, R: Host>(
+    session: &mut Session<'r, R>,
     key: &[u8],
-) -> Result<Vec<PlacedEntry>, Refusal> {
-    let alloc = rt.alloc();
-    let version = &opened.version;
-    let mut folder = Disk::new(rt, path);
-    let found = match opened.order {
-        Order::Bytewise => {
-            key_history::<Bytewise, Disk<'_, R>>(alloc, &mut folder, version, key)
-        }
-        Order::Shortlex => {
-            key_history::<Shortlex, Disk<'_, R>>(alloc, &mut folder, version, key)
-        }
-    };
-    match found {
-        Ok(entries) => Ok(entries),
-        Err(fault) => Err(refused_opened(rt, path, &folder, opened, fault)),
+) -> Result<Vec<PlacedEntry>, Fault> {
+    let alloc = session.rt.alloc();
+    let version = &session.opened.version;
+    let disk = &mut session.disk;
+    match session.opened.order {
+        Order::Bytewise => key_history::<Bytewise, Disk<'r, R>>(alloc, disk, version, key),
+        Order::Shortlex => key_history::<Shortlex, Disk<'r, R>>(alloc, disk, version, key),
     }
 }
 
@@ -93,21 +46,9 @@ fn history_lines(
 ) -> Result<Vec<u8>, Fault> {
     let mut lines = Vec::new(alloc);
     for entry in entries {
-        push_entry(alloc, &mut lines, line, entry)?;
+        lines.extend_from_slice(entry_text(alloc, line, entry)?.as_bytes())?;
     }
     Ok(lines)
-}
-
-/// Appends what is printed of an entry.
-fn push_entry(
-    alloc: Global,
-    lines: &mut Vec<u8>,
-    line: &HistoryLine<'_>,
-    found: &PlacedEntry,
-) -> Result<(), Fault> {
-    let text = entry_text(alloc, line, found)?;
-    lines.extend_from_slice(text.as_bytes())?;
-    Ok(())
 }
 
 /// What is printed of an entry.

@@ -12,7 +12,7 @@ const INPUT: &str = "/dev/stdin";
 
 /// The keys in the standard input, one a line. Key if a line is the text of no key; Size if there
 /// are more than 2^30 bytes.
-pub(crate) fn keys_in_input<R: Files + AllocGlobal>(
+pub fn keys_in_input<R: Files + AllocGlobal>(
     rt: &R,
     spelling: Spelling,
 ) -> Result<Vec<Vec<u8>>, Refusal> {

@@ -6,22 +6,23 @@
 
 mod block_files;
 mod fault_printer;
-mod folder_work;
 mod history_printer;
 mod input_keys;
+mod json_logs;
 mod needed_files;
-mod read_work;
 mod row_printer;
 mod stats_printer;
 mod table_files;
 mod value_printer;
 mod version_tables;
+mod version_verdict;
 
-pub use block_files::merge;
-pub use folder_work::{print_verdict, print_version};
-pub use history_printer::print_history;
-pub use needed_files::print_files;
-pub use row_printer::print_rows;
-pub use stats_printer::print_stats;
-pub use table_files::{print_table, print_table_verdict};
-pub use value_printer::print_value;
+pub use block_files::blocks_answer;
+pub use history_printer::history_answer;
+pub use input_keys::keys_in_input;
+pub use needed_files::files_answer;
+pub use row_printer::rows_answer;
+pub use stats_printer::stats_answer;
+pub use table_files::{table_answer, table_verdict};
+pub use value_printer::values_answer;
+pub use version_verdict::{verdict_answer, version_answer};

@@ -1,57 +1,43 @@
-//! The names of the files that a copy of a folder needs, from its path to what is printed.
+//! The names of the files that a copy of a folder needs.
 
 use crate::version_tables::table_found;
 use answers::{json_line, name_json};
 use checks::Fault;
-use install::{CURRENT, Opened};
-use refusals::explained;
+use install::CURRENT;
 use session::{
-    Bytewise, Comparator, FileMeta, Host, LEVELS, Order, Refusal, Shortlex, SystemFiles, Telling,
-    locked_to_read, manifest_name, names_in, open_folder, print_lines, replayed_log, tell_time,
+    Bytewise, Comparator, FileMeta, Host, LEVELS, Order, Refusal, Session, Shortlex, manifest_name,
+    names_in, replayed_log,
 };
 use std::alloc::Global;
-use std::rt::Files;
 use usage::FilesLine;
 
-/// Prints the names of the files that a copy of a folder needs: CURRENT, the manifest, the tables
-/// by level and in version order, and the logs that LevelDB would replay. No table is read.
-pub fn print_files<R: Host>(
-    rt: &R,
-    telling: Telling<'_>,
+/// The names of the files that a copy of a folder needs, a line each: CURRENT, the manifest, the
+/// tables by level and in version order, and the logs that LevelDB would replay. No table is read.
+pub fn files_answer<R: Host>(
+    session: &Session<'_, R>,
     line: &FilesLine<'_>,
-) -> Result<(), Refusal> {
-    let _lock = locked_to_read(rt, telling)?;
-    match files_printed(rt, telling, line) {
-        Ok(()) => Ok(()),
-        Err(refusal) => Err(explained(rt, telling, refusal)),
-    }
-}
-
-fn files_printed<R: Host>(
-    rt: &R,
-    telling: Telling<'_>,
-    line: &FilesLine<'_>,
-) -> Result<(), Refusal> {
-    let begun = telling.begin(rt);
-    let opened = open_folder(rt, telling.folder)?;
-    let names = needed_names(rt, telling.folder, &opened)?;
-    tell_time(rt, "files", begun);
-    let lines = name_lines(rt.alloc(), &names, line.is_json)?;
-    print_lines(rt, &lines)
-}
-
-/// The names of these files, a line each.
-fn name_lines(alloc: Global, names: &[String], is_json: bool) -> Result<Vec<u8>, Fault> {
+) -> Result<Vec<u8>, Refusal> {
+    let alloc = session.rt.alloc();
     let mut lines = Vec::new(alloc);
-    for name in names {
-        push_name(alloc, &mut lines, name.as_str(), is_json)?;
+    push_name(alloc, &mut lines, line, CURRENT)?;
+    let manifest = manifest_name(alloc, session.opened.manifest)?;
+    push_name(alloc, &mut lines, line, manifest.as_str())?;
+    match session.opened.order {
+        Order::Bytewise => push_tables::<Bytewise, R>(session, &mut lines, line)?,
+        Order::Shortlex => push_tables::<Shortlex, R>(session, &mut lines, line)?,
     }
+    push_logs(session, &mut lines, line)?;
     Ok(lines)
 }
 
 /// Appends the line of a name.
-fn push_name(alloc: Global, lines: &mut Vec<u8>, name: &str, is_json: bool) -> Result<(), Fault> {
-    if is_json {
+fn push_name(
+    alloc: Global,
+    lines: &mut Vec<u8>,
+    line: &FilesLine<'_>,
+    name: &str,
+) -> Result<(), Fault> {
+    if line.is_json {
         lines.extend_from_slice(json_line(alloc, &name_json(alloc, name)?)?.as_bytes())?;
         return Ok(());
     }
@@ -60,78 +46,51 @@ fn push_name(alloc: Global, lines: &mut Vec<u8>, name: &str, is_json: bool) -> R
     Ok(())
 }
 
-/// The names of the files that a copy of what a folder was opened as needs.
-fn needed_names<R: SystemFiles + AllocGlobal>(
-    rt: &R,
-    path: &str,
-    opened: &Opened,
-) -> Result<Vec<String>, Refusal> {
-    let mut names = opening_names(rt.alloc(), opened)?;
-    match opened.order {
-        Order::Bytewise => push_tables::<Bytewise, R>(rt, path, opened, &mut names)?,
-        Order::Shortlex => push_tables::<Shortlex, R>(rt, path, opened, &mut names)?,
-    }
-    push_logs(rt, path, opened, &mut names)?;
-    Ok(names)
-}
-
-/// The names of the files that were read to open a folder.
-fn opening_names(alloc: Global, opened: &Opened) -> Result<Vec<String>, Fault> {
-    let mut names = Vec::new(alloc);
-    names.push(String::from_str(alloc, CURRENT)?)?;
-    names.push(manifest_name(alloc, opened.manifest)?)?;
-    Ok(names)
-}
-
-/// Appends the names of the tables of a version, by level and in version order.
-fn push_tables<C: Comparator, R: SystemFiles + AllocGlobal>(
-    rt: &R,
-    path: &str,
-    opened: &Opened,
-    names: &mut Vec<String>,
+/// Appends the tables of a version, by level and in version order.
+fn push_tables<C: Comparator, R: Host>(
+    session: &Session<'_, R>,
+    lines: &mut Vec<u8>,
+    line: &FilesLine<'_>,
 ) -> Result<(), Refusal> {
     for level in 0..LEVELS {
-        let files = opened.version.files::<C>(rt.alloc(), level)?;
-        push_level(rt, path, opened, &files, names)?;
+        let files = session
+            .opened
+            .version
+            .files::<C>(session.rt.alloc(), level)?;
+        push_level(session, lines, line, &files)?;
     }
     Ok(())
 }
 
 /// Appends those of these files.
-fn push_level<R: SystemFiles + AllocGlobal>(
-    rt: &R,
-    path: &str,
-    opened: &Opened,
+fn push_level<R: Host>(
+    session: &Session<'_, R>,
+    lines: &mut Vec<u8>,
+    line: &FilesLine<'_>,
     files: &[&FileMeta],
-    names: &mut Vec<String>,
 ) -> Result<(), Refusal> {
     for file in files {
-        push(names, table_found(rt, path, opened, file.number)?)?;
+        let name = table_found(session, file.number)?;
+        push_name(session.rt.alloc(), lines, line, name.as_str())?;
     }
     Ok(())
 }
 
-/// Appends the names of the logs that LevelDB would replay over a version.
-fn push_logs<R: Files + AllocGlobal>(
-    rt: &R,
-    path: &str,
-    opened: &Opened,
-    names: &mut Vec<String>,
+/// Appends the logs that LevelDB would replay over a version.
+fn push_logs<R: Host>(
+    session: &Session<'_, R>,
+    lines: &mut Vec<u8>,
+    line: &FilesLine<'_>,
 ) -> Result<(), Refusal> {
-    let listed = match names_in(rt, path) {
-        Ok(listed) => listed,
+    let (rt, path) = (session.rt, session.telling.folder);
+    let names = match names_in(rt, path) {
+        Ok(names) => names,
         Err(error) => return Err(Refusal::of_call(rt.alloc(), path, "list its files", &error)),
     };
-    for name in listed {
-        if replayed_log(Some(&opened.version), name.as_str()).is_some() {
-            push(names, name)?;
+    for name in &names {
+        if replayed_log(Some(&session.opened.version), name.as_str()).is_some() {
+            push_name(rt.alloc(), lines, line, name.as_str())?;
         }
     }
-    Ok(())
-}
-
-/// Appends a name.
-fn push(names: &mut Vec<String>, name: String) -> Result<(), Fault> {
-    names.push(name)?;
     Ok(())
 }

@@ -3,52 +3,44 @@
 use answers::{dump, json_line, table_entries, valid_json, verify_table};
 use checks::{Fault, FaultName};
 use install::CURRENT;
-use session::{CLOSE_ONCE, Refusal, Words, print_lines, read_file, told};
+use session::{CLOSE_ONCE, Refusal, Words, read_file, told};
 use std::alloc::Global;
 use std::rt::Files;
 use usage::{DumpLine, TableLine};
 
-/// Prints the entries of a table.
-pub fn print_table<R: Files + Print + AllocGlobal>(
+/// The lines of the entries of a table.
+pub fn table_answer<R: Files + AllocGlobal>(
     rt: &R,
     line: &DumpLine<'_>,
-) -> Result<(), Refusal> {
+) -> Result<Vec<u8>, Refusal> {
     let bytes = read_file(rt, line.table)?;
-    let lines = dump(rt.alloc(), line.spelling, &bytes);
-    print_or_refuse(rt, line.table, lines)
+    match dump(rt.alloc(), line.spelling, &bytes) {
+        Ok(lines) => Ok(lines),
+        Err(fault) => Err(refusal_of(rt.alloc(), line.table, fault)),
+    }
 }
 
-/// Tests whether a file is a table, and prints the line of one, as JSON if that is asked for.
-pub fn print_table_verdict<R: Files + Print + AllocGlobal>(
+/// Tests whether a file is a table, and answers the line of one, as JSON if that is asked for.
+pub fn table_verdict<R: Files + AllocGlobal>(
     rt: &R,
     line: &TableLine<'_>,
-) -> Result<(), Refusal> {
+) -> Result<Vec<u8>, Refusal> {
     let bytes = read_file(rt, line.table)?;
     let verdict = if line.is_json {
-        json_verdict(rt, &bytes)
+        json_verdict(rt.alloc(), &bytes)
     } else {
         verify_table(rt.alloc(), &bytes)
     };
-    print_or_refuse(rt, line.table, verdict)
+    match verdict {
+        Ok(verdict) => Ok(verdict),
+        Err(fault) => Err(refusal_of(rt.alloc(), line.table, fault)),
+    }
 }
 
 /// The JSON line of a table.
-fn json_verdict<R: AllocGlobal>(rt: &R, bytes: &[u8]) -> Result<Vec<u8>, Fault> {
-    let entries = table_entries(rt.alloc(), bytes)?;
-    let object = valid_json(rt.alloc(), entries)?;
-    Ok(json_line(rt.alloc(), &object)?.into_bytes())
-}
-
-/// Prints the lines of a table's file, or refuses it.
-fn print_or_refuse<R: Print + AllocGlobal>(
-    rt: &R,
-    table: &str,
-    lines: Result<Vec<u8>, Fault>,
-) -> Result<(), Refusal> {
-    match lines {
-        Ok(lines) => print_lines(rt, &lines),
-        Err(fault) => Err(refusal_of(rt.alloc(), table, fault)),
-    }
+fn json_verdict(alloc: Global, bytes: &[u8]) -> Result<Vec<u8>, Fault> {
+    let object = valid_json(alloc, table_entries(alloc, bytes)?)?;
+    Ok(json_line(alloc, &object)?.into_bytes())
 }
 
 /// The refusal of a file as a table. If its name is that of another file of a database, it is told

@@ -1,52 +1,45 @@
-//! The file of a version's table, and what is told if it is refused.
+//! The file of a version's table, and what is told if it is missing.
 
 use checks::{Fault, FaultName};
-use install::Opened;
 use refusals::{RefusedFile, file_refusal, table_file_name};
-use session::{Disk, Refusal, SystemFiles, path_in, refused_opened};
+use session::{Disk, Host, Refusal, Session, path_in, refused_opened};
 use std::fs;
 use std::io::ErrorKind;
 use std::rt::Files;
 
 /// The name under which the table of a number is there. Missing if it isn't.
-pub(crate) fn table_found<R: SystemFiles + AllocGlobal>(
-    rt: &R,
-    path: &str,
-    opened: &Opened,
+pub(crate) fn table_found<R: Host>(
+    session: &Session<'_, R>,
     number: u64,
 ) -> Result<String, Refusal> {
+    let (rt, path) = (session.rt, session.telling.folder);
     let mut folder = Disk::new(rt, path);
     let name = match table_file_name(rt.alloc(), &mut folder, number) {
         Ok(name) => name,
-        Err(fault) => return Err(refused_opened(rt, path, &folder, opened, fault)),
+        Err(fault) => return Err(refused_opened(rt, path, &folder, &session.opened, fault)),
     };
     match is_there(rt, path, name.as_str()) {
         Ok(true) => Ok(name),
-        Ok(false) => {
-            let missing = RefusedFile {
-                name,
-                fault: Fault::of(FaultName::Missing),
-                detail: None,
-            };
-            Err(table_refused(rt, path, &folder, opened, &missing))
-        }
+        Ok(false) => Err(missing(session, name)),
         Err(refusal) => Err(refusal),
     }
 }
 
-/// The refusal of a table. If another program changed the folder meanwhile, that is told.
-fn table_refused<R: SystemFiles + AllocGlobal>(
-    rt: &R,
-    path: &str,
-    folder: &Disk<'_, R>,
-    opened: &Opened,
-    table: &RefusedFile,
-) -> Refusal {
-    let refusal = refused_opened(rt, path, folder, opened, table.fault);
-    if refusal.told.is_some() || table.fault.name == FaultName::Memory {
+/// The refusal that a table of this name is missing. If another program changed the folder
+/// meanwhile, that is told.
+fn missing<R: Host>(session: &Session<'_, R>, name: String) -> Refusal {
+    let (rt, path) = (session.rt, session.telling.folder);
+    let fault = Fault::of(FaultName::Missing);
+    let refusal = refused_opened(rt, path, &session.disk, &session.opened, fault);
+    if refusal.told.is_some() {
         return refusal;
     }
-    refusal.telling(file_refusal(rt.alloc(), path, table))
+    let table = RefusedFile {
+        name,
+        fault,
+        detail: None,
+    };
+    refusal.telling(file_refusal(rt.alloc(), path, &table))
 }
 
 /// Whether a folder's file is there. Device if the system doesn't tell it.

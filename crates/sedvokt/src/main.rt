@@ -2,6 +2,7 @@
 //! refusal. No contract says which call that is, nor what is told on the standard error.
 #![tactic(auto)]
 
+mod needs;
 mod program;
 mod reports;
 

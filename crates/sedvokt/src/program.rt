@@ -1,25 +1,24 @@
 //! The program, from its words to its status.
 
+use crate::needs::{Needs, needs_of};
 use crate::reports::{
     COMMAND_LINE, DONE, report_misuse, report_refusal, report_taken, report_usage,
 };
 use queries::{
-    merge, print_files, print_history, print_rows, print_stats, print_table, print_table_verdict,
-    print_value, print_verdict, print_version,
+    blocks_answer, files_answer, history_answer, keys_in_input, rows_answer, stats_answer,
+    table_answer, table_verdict, values_answer, verdict_answer, version_answer,
 };
-use session::{Host, Refusal, Telling, bytes_of};
+use refusals::{compaction_explained, explained, table_explained};
+use session::{Access, Host, Refusal, Session, Telling, bytes_of, locked, print_lines, tell_time};
 use std::env::Env;
 use std::io::ErrorKind;
 use std::rt::Files;
 use std::{env, io};
 use tool::{
-    OutState, OutcomeTask, clean_folder, compact_folder, install_compaction, print_job,
-    print_removable, state_of, write_compaction,
+    OutState, clean_folder, compact_folder, install_outcomes, job_answer, removable_answer,
+    state_of, write_compaction,
 };
-use usage::{CommandLine, CompactWork, Line, Usage, Verbosity, VerdictForm, line};
-
-/// How many MiB of tables are held to find the file of a refusal, if `--memory` doesn't say it.
-const MEMORY: u64 = 128;
+use usage::{CommandLine, CompactWork, KeySource, Levels, Line, Settings, Usage, Verbosity, line};
 
 /// Does what the words of the process ask for, and answers the status: 0 done, 1 refused, 2 a fault
 /// of usage, 3 a failing device.
@@ -54,15 +53,20 @@ pub(crate) fn run<R: Env + Host>(rt: &R, is_watched: bool) -> u8 {
 
 /// Does what a command line asks for, tells why not if it is refused, and answers the status.
 fn answer<R: Host>(rt: &R, asked: &CommandLine<'_>, is_watched: bool) -> u8 {
-    let line = &asked.line;
-    let done = match taken_folder(rt, line) {
+    let needs = needs_of(&asked.line);
+    let done = match taken_folder(rt, &asked.line) {
         Ok(Some(out)) => return report_taken(rt, out),
-        Ok(None) => carry_out(rt, line, telling_of(asked, is_watched)),
+        Ok(None) => carry_out(
+            rt,
+            telling_of(asked, &needs, is_watched),
+            &asked.line,
+            &needs,
+        ),
         Err(refusal) => Err(refusal),
     };
     match done {
         Ok(()) => DONE,
-        Err(refusal) => report_refusal(rt, subject(line), is_json(line), refusal),
+        Err(refusal) => report_refusal(rt, needs.subject, needs.is_json, refusal),
     }
 }
 
@@ -91,102 +95,144 @@ fn words_given<R: Env + AllocGlobal>(rt: &R) -> io::Result<Vec<String>> {
 }
 
 /// Does what a command line asks for.
-fn carry_out<R: Host>(rt: &R, line: &Line<'_>, telling: Telling<'_>) -> Result<(), Refusal> {
+fn carry_out<R: Host>(
+    rt: &R,
+    telling: Telling<'_>,
+    line: &Line<'_>,
+    needs: &Needs<'_>,
+) -> Result<(), Refusal> {
     match line {
-        Line::Blocks(line) => merge(rt, line),
-        Line::Dump(line) => print_table(rt, line),
-        Line::Manifest(line) => print_version(rt, telling, line),
-        Line::Stats(line) => print_stats(rt, telling, line),
-        Line::Verify(line) => print_verdict(rt, telling, line),
-        Line::Table(line) => print_table_verdict(rt, line),
-        Line::Get(line) => print_value(rt, telling, line),
-        Line::Scan(line) => print_rows(rt, telling, line),
-        Line::History(line) => print_history(rt, telling, line),
-        Line::Files(line) => print_files(rt, telling, line),
-        Line::Job(line) => print_job(rt, telling, line),
-        Line::Compact(line) => match line.options.work {
-            CompactWork::Installed(levels) => compact_folder(rt, telling, line, levels),
-            CompactWork::Written {
-                level,
-                part,
-                out,
-                first_number,
-            } => {
-                let task = OutcomeTask {
-                    level,
-                    part,
-                    out,
-                    first_number,
-                };
-                write_compaction(rt, telling, line, task)
-            }
+        Line::Blocks(line) => print_lines(rt, &blocks_answer(rt, line)?),
+        Line::Dump(line) => print_lines(rt, &table_answer(rt, line)?),
+        Line::Table(line) => print_lines(rt, &table_verdict(rt, line)?),
+        line => {
+            let keys = keys_of(rt, line)?;
+            let _lock = locked(rt, telling, needs.access)?;
+            work_on_folder(rt, telling, line, &keys, needs)
+        }
+    }
+}
+
+/// The keys in the standard input, if they are asked for.
+fn keys_of<R: Host>(rt: &R, line: &Line<'_>) -> Result<Vec<Vec<u8>>, Refusal> {
+    match line {
+        Line::Get(line) => match line.keys {
+            KeySource::Input => keys_in_input(rt, line.spelling),
+            KeySource::Given(_) => Ok(Vec::new(rt.alloc())),
         },
-        Line::Install(line) => install_compaction(rt, telling, line),
-        Line::Clean(line) if line.is_dry_run => print_removable(rt, telling),
-        Line::Clean(_) => clean_folder(rt, telling),
+        _ => Ok(Vec::new(rt.alloc())),
     }
 }
 
-/// Whether answers and refusals are JSON.
-fn is_json(line: &Line<'_>) -> bool {
-    match line {
-        Line::Manifest(line) => line.is_json,
-        Line::Stats(line) => line.is_json,
-        Line::Verify(line) => line.form == VerdictForm::Json,
-        Line::Table(line) => line.is_json,
-        Line::Get(line) => line.is_json,
-        Line::Scan(line) => line.is_json,
-        Line::History(line) => line.is_json,
-        Line::Files(line) => line.is_json,
-        Line::Compact(line) => line.options.is_json,
-        _ => false,
+/// The same of a folder that is locked. It is opened, then comes the work, then how long all of it
+/// took, and then what is left to print.
+fn work_on_folder<R: Host>(
+    rt: &R,
+    telling: Telling<'_>,
+    line: &Line<'_>,
+    input: &[Vec<u8>],
+    needs: &Needs<'_>,
+) -> Result<(), Refusal> {
+    let session = match Session::open(rt, telling, needs.access) {
+        Ok(session) => session,
+        Err(refusal) => return Err(explained(rt, telling, refusal)),
+    };
+    let begun = session.begun;
+    let answer = match needs.access {
+        Access::Change => changed(session, line),
+        _ => read(session, line, input),
+    };
+    match answer {
+        Ok(lines) => {
+            if let Some(step) = needs.step {
+                tell_time(rt, step, begun);
+            }
+            print_lines(rt, &lines)
+        }
+        Err(refusal) => Err(explained_by(rt, telling, line, needs, refusal)),
     }
 }
 
-/// The path that a command line is about: the folder, the table or the first block.
-fn subject<'a>(line: &Line<'a>) -> &'a str {
+/// What is left to print of a folder that is only read.
+fn read<R: Host>(
+    session: Session<'_, R>,
+    line: &Line<'_>,
+    input: &[Vec<u8>],
+) -> Result<Vec<u8>, Refusal> {
+    let mut session = session;
     match line {
-        Line::Blocks(line) => line.a,
-        Line::Dump(line) => line.table,
-        Line::Manifest(line) => line.folder,
-        Line::Stats(line) => line.folder,
-        Line::Verify(line) => line.folder,
-        Line::Table(line) => line.table,
-        Line::Get(line) => line.folder,
-        Line::Scan(line) => line.folder,
-        Line::History(line) => line.folder,
-        Line::Files(line) => line.folder,
-        Line::Job(line) => line.folder,
-        Line::Compact(line) => line.folder,
-        Line::Install(line) => line.folder,
-        Line::Clean(line) => line.folder,
+        Line::Manifest(line) => version_answer(&session, line),
+        Line::Stats(line) => stats_answer(&mut session, line),
+        Line::Verify(line) => verdict_answer(&mut session, line),
+        Line::Get(line) => match &line.keys {
+            KeySource::Given(keys) => values_answer(&mut session, line, keys),
+            KeySource::Input => values_answer(&mut session, line, input),
+        },
+        Line::Scan(line) => rows_answer(&mut session, line),
+        Line::History(line) => history_answer(&mut session, line),
+        Line::Files(line) => files_answer(&session, line),
+        Line::Job(line) => job_answer(&mut session, line),
+        Line::Compact(line) => {
+            write_compaction(&mut session, line)?;
+            Ok(Vec::new(session.rt.alloc()))
+        }
+        _ => removable_answer(&session),
+    }
+}
+
+/// Changes a folder. What was done is printed as it is done.
+fn changed<R: Host>(session: Session<'_, R>, line: &Line<'_>) -> Result<Vec<u8>, Refusal> {
+    let alloc = session.rt.alloc();
+    match line {
+        Line::Compact(line) => compact_folder(session, line)?,
+        Line::Install(line) => install_outcomes(session, line)?,
+        _ => clean_folder(session)?,
+    }
+    Ok(Vec::new(alloc))
+}
+
+/// The refusal of the work on an opened folder, with what is told of it. If tables were read that
+/// are not tested, the folder isn't read again to tell of which one it is.
+fn explained_by<R: Host>(
+    rt: &R,
+    telling: Telling<'_>,
+    line: &Line<'_>,
+    needs: &Needs<'_>,
+    refusal: Refusal,
+) -> Refusal {
+    match line {
+        Line::Install(_) => refusal,
+        Line::Job(line) => {
+            let settings = Settings::default();
+            compaction_explained(rt, telling, Some(line.level), &settings, refusal)
+        }
+        Line::Compact(line) => {
+            let level = level_of(line.options.work);
+            compaction_explained(rt, telling, level, &line.settings, refusal)
+        }
+        _ if needs.is_untested => table_explained(rt.alloc(), telling.folder, refusal),
+        _ => explained(rt, telling, refusal),
+    }
+}
+
+/// The level that is compacted, if it is one alone.
+fn level_of(work: CompactWork<'_>) -> Option<u64> {
+    match work {
+        CompactWork::Written { level, .. }
+        | CompactWork::Installed(Levels::One(level) | Levels::Whole(level)) => Some(level),
+        CompactWork::Installed(Levels::All | Levels::AllWhole) => None,
     }
 }
 
 /// What is to be told of the work that a command line asks for.
-fn telling_of<'a>(asked: &CommandLine<'a>, is_watched: bool) -> Telling<'a> {
-    let line = &asked.line;
+fn telling_of<'a>(asked: &CommandLine<'a>, needs: &Needs<'a>, is_watched: bool) -> Telling<'a> {
     Telling {
-        folder: subject(line),
+        folder: needs.subject,
         is_quiet: asked.verbosity == Verbosity::Quiet,
         is_verbose: asked.verbosity == Verbosity::Verbose,
         is_watched,
         ignores_lock: asked.ignores_lock,
         refuses_logs: asked.refuses_logs,
-        memory: bytes_of(memory_of(line)),
-    }
-}
-
-/// How many MiB of tables a command line lets be held: 128 if its command has no `--memory`.
-fn memory_of(line: &Line<'_>) -> u64 {
-    match line {
-        Line::Stats(line) => line.memory,
-        Line::Verify(line) => line.memory,
-        Line::Get(line) => line.testing.memory,
-        Line::Scan(line) => line.testing.memory,
-        Line::History(line) => line.testing.memory,
-        Line::Compact(line) => line.options.testing.memory,
-        Line::Install(line) => line.testing.memory,
-        _ => MEMORY,
+        memory: bytes_of(needs.memory),
     }
 }

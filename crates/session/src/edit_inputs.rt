@@ -4,17 +4,18 @@ ghost use Rattle.std.specs.Prelude.{◌≤◌};
 ghost use Rattle.edit.specs.declared.meta.TheConstants.{LAST_LEVEL};
 
 use coding::Fault;
-use edit::{DeletedFile, FileMeta, LEVELS, Version};
+use edit::{DeletedFile, LEVELS, Version};
 use ikey::Bytewise;
 use std::alloc::Global;
 use std::collections::BTreeSet;
 
-/// The files of a version that are `deleted`: the inputs of a compaction.
-pub fn deleted_files<'v>(
+/// The number and the length of each file of a version that is `deleted`: of the inputs of a
+/// compaction.
+pub fn deleted_files(
     alloc: Global,
-    version: &'v Version,
+    version: &Version,
     deleted: &BTreeSet<DeletedFile>,
-) -> Result<Vec<&'v FileMeta>, Fault> {
+) -> Result<Vec<(u64, u64)>, Fault> {
     let mut files = Vec::new(alloc);
     for level in 0..LEVELS {
         push_deleted(alloc, &mut files, version, deleted, level)?;
@@ -23,10 +24,10 @@ pub fn deleted_files<'v>(
 }
 
 /// Appends those of a level.
-fn push_deleted<'v>(
+fn push_deleted(
     alloc: Global,
-    files: &mut Vec<&'v FileMeta>,
-    version: &'v Version,
+    files: &mut Vec<(u64, u64)>,
+    version: &Version,
     deleted: &BTreeSet<DeletedFile>,
     level: u64,
 ) -> Result<(), Fault>
@@ -35,7 +36,7 @@ fn push_deleted<'v>(
     for file in version.files::<Bytewise>(alloc, level)? {
         let number = file.number;
         if deleted.contains(&DeletedFile { level, number }) {
-            files.push(file)?;
+            files.push((number, file.size))?;
         }
     }
     Ok(())

@@ -3,7 +3,6 @@
 ghost use Rattle.folder.specs.Reports.{OnlyReads};
 
 use coding::Fault;
-use edit::FileMeta;
 use folder::{Folder, old_table_name, table_name};
 use std::alloc::Global;
 use table::{BlockHandle, FOOTER_LEN, Footer};
@@ -14,20 +13,20 @@ const FILTER: &[u8] = b"filter.";
 /// How many bytes of a metaindex are read: LevelDB's has one short name.
 const METAINDEX_LEN: u64 = 4_096;
 
-/// Whether one of these tables of a folder has a filter block, by the name of one in its metaindex.
-/// It only reads: of each table its footer and its metaindex, until one has a filter.
+/// Whether one of these tables of a folder, given by number and length, has a filter block, by the
+/// name of one in its metaindex. It only reads: of each table its footer and its metaindex, until one has a filter.
 ///
 /// A table that can't be read has none. Device: a call failed, and no further call is made. Memory:
 /// out of memory.
 pub fn have_filter<F: Folder>(
     alloc: Global,
     folder: &mut F,
-    files: &[&FileMeta],
+    files: &[(u64, u64)],
 ) -> Result<bool, Fault>
     ensures reads { OnlyReads F.Folder folder.old folder.new }
 {
     for file in files {
-        if has_filter(alloc, folder, file)? {
+        if has_filter(alloc, folder, *file)? {
             return Ok(true);
         }
     }
@@ -35,14 +34,14 @@ pub fn have_filter<F: Folder>(
 }
 
 /// Whether a table has a filter block.
-fn has_filter<F: Folder>(alloc: Global, folder: &mut F, file: &FileMeta) -> Result<bool, Fault>
+fn has_filter<F: Folder>(alloc: Global, folder: &mut F, file: (u64, u64)) -> Result<bool, Fault>
     ensures reads { OnlyReads F.Folder folder.old folder.new }
 {
     let Some(handle) = metaindex_of(alloc, folder, file)? else {
         return Ok(false);
     };
     let len = handle.size.min(METAINDEX_LEN) as usize;
-    match part_of(alloc, folder, file.number, handle.offset, len)? {
+    match part_of(alloc, folder, file.0, handle.offset, len)? {
         Some(bytes) => Ok(names_filter(&bytes)),
         None => Ok(false),
     }
@@ -52,12 +51,13 @@ fn has_filter<F: Folder>(alloc: Global, folder: &mut F, file: &FileMeta) -> Resu
 fn metaindex_of<F: Folder>(
     alloc: Global,
     folder: &mut F,
-    file: &FileMeta,
+    file: (u64, u64),
 ) -> Result<Option<BlockHandle>, Fault>
     ensures reads { OnlyReads F.Folder folder.old folder.new }
 {
-    let offset = file.size.saturating_sub(FOOTER_LEN as u64);
-    let Some(bytes) = part_of(alloc, folder, file.number, offset, FOOTER_LEN)? else {
+    let (number, size) = file;
+    let offset = size.saturating_sub(FOOTER_LEN as u64);
+    let Some(bytes) = part_of(alloc, folder, number, offset, FOOTER_LEN)? else {
         return Ok(None);
     };
     if bytes.len() != FOOTER_LEN {

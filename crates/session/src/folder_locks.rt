@@ -18,10 +18,36 @@ use std::{fs, io};
 /// The call that failed if a folder can't be locked.
 const LOCKING: &str = "make or lock its file LOCK";
 
+/// What a command needs of a folder.
+#[derive(Clone, Copy, PartialEq, Eq)]
+pub enum Access {
+    /// It is read, and nobody is kept out.
+    None,
+    /// It is read, while none of this program changes it.
+    Read,
+    /// The same, and the answer lists its logs.
+    List,
+    /// It is changed, while nobody else uses it.
+    Change,
+}
+
+/// Locks the folder at a path as a command needs it. None if there is no lock to take.
+pub fn locked<R: SystemFiles + Eprint + AllocGlobal>(
+    rt: &R,
+    telling: Telling<'_>,
+    access: Access,
+) -> Result<Option<FolderLock>, Refusal> {
+    match access {
+        Access::None => Ok(None),
+        Access::Read | Access::List => locked_to_read(rt, telling),
+        Access::Change => Ok(Some(locked_to_change(rt, telling)?)),
+    }
+}
+
 /// Locks the folder at a path against every other program that reads or changes it. If it has no
 /// CURRENT, its logs are told of. Changed if it has a text of CURRENT that isn't renamed yet: what
 /// it names would be lost.
-pub fn locked_to_change<R: SystemFiles + Eprint + AllocGlobal>(
+fn locked_to_change<R: SystemFiles + Eprint + AllocGlobal>(
     rt: &R,
     telling: Telling<'_>,
 ) -> Result<FolderLock, Refusal> {
@@ -44,7 +70,7 @@ pub fn locked_to_change<R: SystemFiles + Eprint + AllocGlobal>(
 
 /// Locks the folder at a path against every program that changes it. None if it has no lock to
 /// take, or if locks are ignored. If it has a text of CURRENT that isn't renamed yet, that is told.
-pub fn locked_to_read<R: SystemFiles + Eprint + AllocGlobal>(
+fn locked_to_read<R: SystemFiles + Eprint + AllocGlobal>(
     rt: &R,
     telling: Telling<'_>,
 ) -> Result<Option<FolderLock>, Refusal> {

@@ -37,21 +37,18 @@ mod tested_sizes;
 mod user_files;
 
 pub use amount_texts::total_text;
-pub use disk::{Disk, SystemFiles};
+pub use disk::Disk;
 pub use edit::{FileMeta, LAST_LEVEL, LEVELS};
 pub use edit_inputs::deleted_files;
 pub use explanations::{CLOSE_ONCE, Words, in_words, of_file};
 pub use filter_blocks::have_filter;
-pub use folder::{Bytewise, Comparator, Folder, Order, Shortlex, manifest_name};
-pub use folder_locks::{locked_to_change, locked_to_read, no_database};
+pub use folder::{Bytewise, Comparator, Order, Shortlex, manifest_name};
+pub use folder_locks::{Access, locked, no_database};
 pub use folder_names::{names_in, path_in};
 pub use host::Host;
 pub use listed_files::{UnneededFiles, unneeded_files};
 pub use logs::{Log, logs_with_writes};
-pub use opened_folder::{
-    OpenedFolder, begin_counted, begin_in, begin_work, bytes_of, open_folder, open_in, print_lines,
-    refused_at,
-};
+pub use opened_folder::{Session, bytes_of, open_in, print_lines, refused_at};
 pub use progress::progress_text;
 pub use progress_line::{ProgressLine, WorkLeft};
 pub use refusal::{Refusal, RefusalParts, RefusalText, told};

@@ -1,10 +1,13 @@
 //! The work on a folder as each command begins it and ends it: it is opened, refusals are told, and
 //! lines are printed.
 
+use crate::folder_locks::Access;
 use crate::manifest_notes::tell_impossible;
+use crate::progress_line::ProgressLine;
 use crate::refusal::{Refusal, RefusalText};
 use crate::refused_logs::{fail_on_logs, missing_log};
-use crate::reporter::Telling;
+use crate::replaced_folder::refused_opened;
+use crate::reporter::{Beginning, Telling, tell_time};
 use crate::tested_sizes::too_large;
 use coding::{Fault, FaultName};
 use disk::{Disk, SystemFiles};
@@ -22,46 +25,88 @@ const NO_ROOM: &str = "clean removes files that no version needs; the database i
 /// The bytes of a MiB.
 const MEBIBYTE: u64 = 1 << 20;
 
-/// What a folder was opened as, and its logs.
+/// A folder that a command works on, and what it was opened as.
 #[derive(Drop)]
-pub struct OpenedFolder {
+pub struct Session<'r, R> {
+    pub rt: &'r R,
+    pub telling: Telling<'r>,
+    /// When the work began, if that is told.
+    pub begun: Option<Beginning>,
+    pub disk: Disk<'r, R>,
     pub opened: Opened,
     /// How many logs have writes that are in no table. None if the folder can't be listed.
     pub logs: Option<u64>,
 }
 
-/// Opens a folder, and tells of its manifest, if LevelDB writes none like it, and of its logs.
-pub fn begin_work<R: SystemFiles + Eprint + Clock + AllocGlobal>(
-    rt: &R,
-    telling: Telling<'_>,
-) -> Result<Opened, Refusal> {
-    Ok(begin_counted(rt, telling)?.opened)
-}
-
-/// The same, with the number of its logs.
-pub fn begin_counted<R: SystemFiles + Eprint + Clock + AllocGlobal>(
-    rt: &R,
-    telling: Telling<'_>,
-) -> Result<OpenedFolder, Refusal> {
-    begin_in(rt, telling, &mut Disk::new(rt, telling.folder))
-}
-
-/// The same, of a folder that goes on with the work.
-pub fn begin_in<R: SystemFiles + Eprint + Clock + AllocGlobal>(
-    rt: &R,
-    telling: Telling<'_>,
-    folder: &mut Disk<'_, R>,
-) -> Result<OpenedFolder, Refusal> {
-    match open_in(rt, telling.folder, folder) {
-        Ok(opened) => {
+impl<'r, R: SystemFiles + Eprint + Clock + AllocGlobal> Session<'r, R> {
+    /// Opens a folder. It is told of its manifest, if LevelDB writes none like it, and of its logs,
+    /// unless the answer lists these.
+    pub fn open(
+        rt: &'r R,
+        telling: Telling<'r>,
+        access: Access,
+    ) -> Result<Session<'r, R>, Refusal> {
+        let begun = telling.begin(rt);
+        let mut disk = Disk::new(rt, telling.folder);
+        let opened = match open_in(rt, telling.folder, &mut disk) {
+            Ok(opened) => opened,
+            Err(refusal) => {
+                if access != Access::List {
+                    telling.tell_unopened_logs(rt);
+                }
+                return Err(refusal);
+            }
+        };
+        let logs = if access == Access::List {
+            None
+        } else {
             tell_impossible(rt, telling, &opened);
-            let logs = logs_counted(rt, telling, &opened.version)?;
-            Ok(OpenedFolder { opened, logs })
+            logs_counted(rt, telling, &opened.version)?
+        };
+        Ok(Session {
+            rt,
+            telling,
+            begun,
+            disk,
+            opened,
+            logs,
+        })
+    }
+
+    /// The line of progress of work that begins.
+    pub fn progress(&self) -> ProgressLine<'r, R> {
+        ProgressLine::new(self.rt, self.telling)
+    }
+
+    /// What the work came to that a line of progress showed, which is erased.
+    pub fn ended<T: Drop>(
+        &self,
+        progress: &ProgressLine<'_, R>,
+        answer: Result<T, Fault>,
+    ) -> Result<T, Refusal> {
+        progress.erase();
+        self.done(answer)
+    }
+
+    /// What a call of the folder came to.
+    pub fn done<T: Drop>(&self, answer: Result<T, Fault>) -> Result<T, Refusal> {
+        match answer {
+            Ok(answer) => Ok(answer),
+            Err(fault) => {
+                Err(refused_opened(
+                    self.rt,
+                    self.telling.folder,
+                    &self.disk,
+                    &self.opened,
+                    fault,
+                ))
+            }
         }
-        Err(refusal) => {
-            telling.tell_unopened_logs(rt);
-            Err(refusal)
-        }
+    }
+
+    /// Tells how long the work took.
+    pub fn tell_time(&self, step: &str) {
+        tell_time(self.rt, step, self.begun);
     }
 }
 
@@ -87,11 +132,6 @@ fn logs_counted<R: Files + Eprint + AllocGlobal>(
 }
 
 /// What a folder is opened as.
-pub fn open_folder<R: SystemFiles + AllocGlobal>(rt: &R, path: &str) -> Result<Opened, Refusal> {
-    open_in(rt, path, &mut Disk::new(rt, path))
-}
-
-/// The same, of a folder that goes on with the work.
 pub fn open_in<R: SystemFiles + AllocGlobal>(
     rt: &R,
     path: &str,

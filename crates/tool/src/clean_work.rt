@@ -1,78 +1,65 @@
-//! The files of a folder that its version doesn't need, from its path to what is printed.
+//! The files of a folder that its version doesn't need, which are listed or removed.
 
-use crate::version_sync::sync;
+use crate::folder_change::Change;
+use crate::printed_work::{DoneWork, unprinted};
 use answers::{json_line, removed_json};
 use disk::{Disk, SystemFiles};
-use folder::{Fault, FaultName, Opened, Version};
+use folder::{Fault, FaultName, Opened};
 use install::{RemovalWatch, remove_obsolete};
-use refusals::explained;
 use session::{
-    Host, Refusal, RefusalText, Telling, UnneededFiles, begin_in, begin_work, locked_to_change,
-    locked_to_read, open_in, print_lines, refused_at, sizes_tested, tell_time, unneeded_files,
+    Host, Refusal, Session, UnneededFiles, open_in, print_lines, refused_at, sizes_tested,
+    unneeded_files,
 };
-use std::alloc::Global;
-use std::time::Clock;
 
 /// Removes the files of a folder that its version doesn't need, and prints each when it is removed.
-pub fn clean_folder<R: Host>(rt: &R, telling: Telling<'_>) -> Result<(), Refusal> {
-    let _lock = locked_to_change(rt, telling)?;
-    let begun = telling.begin(rt);
-    folder_cleaned(rt, telling).map_err(|refusal| explained(rt, telling, refusal))?;
-    tell_time(rt, "clean", begun);
-    Ok(())
+pub fn clean_folder<R: Host>(session: Session<'_, R>) -> Result<(), Refusal> {
+    clean_opened(session, false)
 }
 
-fn folder_cleaned<R: Host>(rt: &R, telling: Telling<'_>) -> Result<(), Refusal> {
-    let mut folder = Disk::new(rt, telling.folder);
-    let opened = begin_in(rt, telling, &mut folder)?.opened;
-    clean_opened(rt, telling, &mut folder, opened, false)
-}
-
-/// Removes the files that the version that a folder was opened as doesn't need, and prints them, as
-/// JSON if that is asked for.
-pub(crate) fn clean_opened<R: Host>(
-    rt: &R,
-    telling: Telling<'_>,
-    folder: &mut Disk<'_, R>,
-    opened: Opened,
-    is_json: bool,
-) -> Result<(), Refusal> {
-    let files = files_to_clean(rt, telling, &opened)?;
+/// The same; the lines are JSON if that is asked for.
+pub(crate) fn clean_opened<R: Host>(session: Session<'_, R>, is_json: bool) -> Result<(), Refusal> {
+    let files = files_to_clean(&session)?;
     if files.names.is_empty() {
         return Ok(());
     }
-    let opened = sync(rt, telling.folder, folder, opened)?.into_opened();
-    remove_files(rt, telling.folder, folder, &opened, files, is_json)
+    let Change {
+        rt,
+        telling,
+        mut disk,
+        opened,
+        ..
+    } = Change::begin(session)?;
+    remove_files(
+        rt,
+        telling.folder,
+        &mut disk,
+        &opened.into_opened(),
+        files,
+        is_json,
+    )
 }
 
-/// Prints the files of a folder that its version doesn't need. Nothing is written.
-pub fn print_removable<R: Host>(rt: &R, telling: Telling<'_>) -> Result<(), Refusal> {
-    let _lock = locked_to_read(rt, telling)?;
-    let begun = telling.begin(rt);
-    removable_printed(rt, telling).map_err(|refusal| explained(rt, telling, refusal))?;
-    tell_time(rt, "clean --dry-run", begun);
-    Ok(())
+/// The lines of the files that a folder's version doesn't need. Nothing is written.
+pub fn removable_answer<R: Host>(session: &Session<'_, R>) -> Result<Vec<u8>, Refusal> {
+    let files = files_to_clean(session)?;
+    Ok(removable_lines(session, &files)?.into_bytes())
 }
 
-fn removable_printed<R: Host>(rt: &R, telling: Telling<'_>) -> Result<(), Refusal> {
-    let opened = begin_work(rt, telling)?;
-    let files = files_to_clean(rt, telling, &opened)?;
+fn removable_lines<R: Host>(
+    session: &Session<'_, R>,
+    files: &UnneededFiles,
+) -> Result<String, Fault> {
+    let mut lines = String::new(session.rt.alloc());
     for (name, bytes) in files.names.iter().zip(&files.lengths) {
-        println!(rt; "removable {name} {bytes}").map_err(|error| Refusal::of_output(
-            rt.alloc(),
-            &error,
-        ))?;
+        writeln!(lines, "removable {name} {bytes}")?;
     }
-    Ok(())
+    Ok(lines)
 }
 
-/// The files of a folder that the version that it was opened as doesn't need, if its tables are
-/// there. Of files that stay and that a new one may replace it is told.
-fn files_to_clean<R: SystemFiles + Eprint + Clock + AllocGlobal>(
-    rt: &R,
-    telling: Telling<'_>,
-    opened: &Opened,
-) -> Result<UnneededFiles, Refusal> {
+/// The files of a folder that its version doesn't need, if its tables are there. Of files that stay
+/// and that a new one may replace it is told.
+fn files_to_clean<R: Host>(session: &Session<'_, R>) -> Result<UnneededFiles, Refusal> {
+    let (rt, telling, opened) = (session.rt, session.telling, &session.opened);
     sizes_tested(rt, telling.folder, opened)?;
     let files = unneeded_files(rt, telling.folder, opened)?;
     telling.tell_replaceable(rt, &opened.version, &files.names);
@@ -92,28 +79,17 @@ fn remove_files<R: SystemFiles + Print + AllocGlobal>(
     let mut printer = RemovalPrinter::new(rt, is_json);
     let UnneededFiles { names, lengths } = files;
     printer.begin(lengths);
-    let removed = remove_obsolete(rt.alloc(), folder, opened, &names, &mut printer);
-    removed.map_err(|fault| refused_at(rt, path, folder, fault))?;
+    if let Err(fault) = remove_obsolete(rt.alloc(), folder, opened, &names, &mut printer) {
+        return Err(refused_at(rt, path, folder, fault));
+    }
     match printer.take_refusal(path) {
         Some(refusal) => Err(refusal),
         None => Ok(()),
     }
 }
 
-/// Removes the files of a folder that the version after an installation doesn't need, if its tables
-/// are there, and prints them, as JSON if that is asked for. The next file of the version `before`
-/// is the number of the manifest that was installed. Changed if CURRENT names another one.
-pub(crate) fn clean_installed<R: SystemFiles + Print + AllocGlobal>(
-    rt: &R,
-    path: &str,
-    folder: &mut Disk<'_, R>,
-    before: &Version,
-    is_json: bool,
-) -> Result<(), Refusal> {
-    clean_named(rt, path, folder, before.next_file(), is_json)
-}
-
-/// The same after the installation of the manifest of a number.
+/// Removes the files of a folder that the version doesn't need that was installed by the manifest
+/// of this number, as [`files_named`] lists them. They are printed, as JSON if that is asked for.
 pub(crate) fn clean_named<R: SystemFiles + Print + AllocGlobal>(
     rt: &R,
     path: &str,
@@ -121,13 +97,25 @@ pub(crate) fn clean_named<R: SystemFiles + Print + AllocGlobal>(
     manifest: Option<u64>,
     is_json: bool,
 ) -> Result<(), Refusal> {
+    let (opened, files) = files_named(rt, path, folder, manifest)?;
+    remove_files(rt, path, folder, &opened, files, is_json)
+}
+
+/// What a folder is opened as, and the files that it doesn't need, if its tables are there. Changed
+/// if CURRENT names another manifest than that of this number. It only reads.
+pub(crate) fn files_named<R: SystemFiles + AllocGlobal>(
+    rt: &R,
+    path: &str,
+    folder: &mut Disk<'_, R>,
+    manifest: Option<u64>,
+) -> Result<(Opened, UnneededFiles), Refusal> {
     let opened = open_in(rt, path, folder)?;
     if manifest != Some(opened.manifest) {
         return Err(Fault::of(FaultName::Changed).into());
     }
     sizes_tested(rt, path, &opened)?;
     let files = unneeded_files(rt, path, &opened)?;
-    remove_files(rt, path, folder, &opened, files, is_json)
+    Ok((opened, files))
 }
 
 /// Who prints files when they are removed.
@@ -165,7 +153,7 @@ impl<'t, R: AllocGlobal> RemovalPrinter<'t, R> {
     /// The refusal if a line of the files of a `folder` could not be printed.
     pub fn take_refusal(&mut self, folder: &str) -> Option<Refusal> {
         let refusal = self.refusal.take()?;
-        Some(unprinted(self.rt.alloc(), folder, refusal))
+        Some(unprinted(self.rt.alloc(), folder, DoneWork::Removal, refusal))
     }
 }
 
@@ -177,9 +165,10 @@ impl<'t, R: Print + AllocGlobal> RemovalPrinter<'t, R> {
             let line = json_line(alloc, &removed_json(alloc, name, length)?)?;
             return print_lines(self.rt, line.as_bytes());
         }
-        println!(self.rt; "removed {name} {length}").map_err(|error| Refusal::of_output(
-            alloc, &error,
-        ))
+        match println!(self.rt; "removed {name} {length}") {
+            Ok(()) => Ok(()),
+            Err(error) => Err(Refusal::of_output(alloc, &error)),
+        }
     }
 }
 
@@ -196,11 +185,4 @@ impl<'t, R: Print + AllocGlobal> RemovalWatch for RemovalPrinter<'t, R> {
             self.refusal = Some(refusal);
         }
     }
-}
-
-/// The refusal that the lines of removed files can't be written. The files are removed by then.
-fn unprinted(alloc: Global, folder: &str, refusal: Refusal) -> Refusal {
-    let wrong = "the files are removed, but their lines could not be written";
-    let told = RefusalText::alone(alloc, folder, String::from_str(alloc, wrong));
-    Refusal::new(refusal.fault, told)
 }

@@ -3,14 +3,13 @@
 
 use answers::FileTotal;
 use disk::{Disk, SystemFiles};
-use folder::{Bytewise, Fault, FileMeta, Folder, LEVELS, Version, VersionEdit};
+use folder::{Bytewise, Fault, FileMeta, LEVELS, Version};
 use session::{
-    LAST_LEVEL, Refusal, Telling, deleted_files, have_filter, open_folder, total_text,
-    unneeded_files,
+    LAST_LEVEL, Refusal, Telling, deleted_files, have_filter, open_in, total_text, unneeded_files,
 };
 use std::alloc::Global;
 use std::collections::BTreeSet;
-use store::{DeletedFile, EDIT};
+use store::DeletedFile;
 
 /// All files of a version.
 pub(crate) fn version_total(alloc: Global, version: &Version) -> Result<FileTotal, Fault> {
@@ -30,10 +29,10 @@ fn with_files(total: FileTotal, files: &[&FileMeta]) -> FileTotal {
     total
 }
 
-/// New files, of which these are the numbers and the lengths.
-fn outputs_total(outputs: &[(u64, u64)]) -> FileTotal {
+/// Files of which these are the numbers and the lengths.
+fn total_of(files: &[(u64, u64)]) -> FileTotal {
     let mut total = FileTotal::none();
-    for (_, size) in outputs {
+    for (_, size) in files {
         total = total.with(*size);
     }
     total
@@ -46,12 +45,12 @@ pub(crate) struct CompactionNote {
     taken: FileTotal,
     /// The new tables.
     made: FileTotal,
-    /// Whether an input has a filter block.
-    has_filter: bool,
+    /// Whether an input has a filter block, and no new table has.
+    loses_filters: bool,
 }
 
 /// What is to be told of the compaction of the version `before` that made these `outputs` of the
-/// files that it `deleted`. The ends of its inputs are read. None if nothing is, or if it can't be
+/// files that it `deleted`. The ends of its tables are read. None if nothing is, or if it can't be
 /// known.
 pub(crate) fn note_of<R: SystemFiles + AllocGlobal>(
     rt: &R,
@@ -66,10 +65,20 @@ pub(crate) fn note_of<R: SystemFiles + AllocGlobal>(
     let inputs = deleted_files(rt.alloc(), before, deleted).ok()?;
     let mut folder = Disk::new(rt, telling.folder);
     Some(CompactionNote {
-        taken: with_files(FileTotal::none(), &inputs),
-        made: outputs_total(outputs),
-        has_filter: have_filter(rt.alloc(), &mut folder, &inputs) == Ok(true),
+        taken: total_of(&inputs),
+        made: total_of(outputs),
+        loses_filters: are_filters_lost(rt.alloc(), &mut folder, &inputs, outputs) == Ok(true),
     })
+}
+
+/// Whether one of these inputs has a filter block, and no output has.
+fn are_filters_lost<R: SystemFiles + AllocGlobal>(
+    alloc: Global,
+    folder: &mut Disk<'_, R>,
+    inputs: &[(u64, u64)],
+    outputs: &[(u64, u64)],
+) -> Result<bool, Fault> {
+    Ok(have_filter(alloc, folder, inputs)? && !have_filter(alloc, folder, outputs)?)
 }
 
 impl CompactionNote {
@@ -81,84 +90,15 @@ impl CompactionNote {
 
     /// Tells if filters are gone, and answers whether they are.
     pub fn tell_filters<R: Eprint>(self, rt: &R, telling: Telling<'_>) -> bool {
-        if self.has_filter {
-            tell_no_filters(rt, telling);
+        let folder = telling.folder;
+        if self.loses_filters {
+            let _ = eprintln!(rt;
+                "sedvokt: {folder}: the old tables have filters, and the new ones have none: a \
+                    lookup of a key that is not there reads a block of each table that it looks in"
+            );
         }
-        self.has_filter
+        self.loses_filters
     }
-}
-
-/// Tells that filters are gone.
-pub(crate) fn tell_no_filters<R: Eprint>(rt: &R, telling: Telling<'_>) {
-    let folder = telling.folder;
-    let _ = eprintln!(rt;
-        "sedvokt: {folder}: the old tables have filters, and the new ones have none: a lookup of a \
-            key that is not there reads a block of each table that it looks in"
-    );
-}
-
-/// Whether it is to be told that filters are gone, since the outcome in the folder `out` is
-/// installed over the version `before`. False if that can't be known.
-pub(crate) fn loses_filters<R: SystemFiles + AllocGlobal>(
-    rt: &R,
-    telling: Telling<'_>,
-    out: &str,
-    before: &Version,
-) -> bool {
-    !telling.is_quiet && are_filters_lost(rt, telling.folder, out, before) == Ok(true)
-}
-
-/// Whether a file that the edit of an outcome deletes has a filter, and no new one has.
-fn are_filters_lost<R: SystemFiles + AllocGlobal>(
-    rt: &R,
-    folder: &str,
-    out: &str,
-    before: &Version,
-) -> Result<bool, Fault> {
-    let mut outcome = Disk::new(rt, out);
-    let Some(edit) = outcome_edit(rt.alloc(), &mut outcome)? else {
-        return Ok(false);
-    };
-    if had_filter(rt, folder, before, &edit)? {
-        has_no_filter(rt.alloc(), &mut outcome, &edit)
-    } else {
-        Ok(false)
-    }
-}
-
-/// The edit of an outcome, if it has one.
-pub(crate) fn outcome_edit<R: SystemFiles + AllocGlobal>(
-    alloc: Global,
-    outcome: &mut Disk<'_, R>,
-) -> Result<Option<VersionEdit>, Fault> {
-    match outcome.read(EDIT)? {
-        Some(bytes) => Ok(Some(VersionEdit::decode(alloc, &bytes)?)),
-        None => Ok(None),
-    }
-}
-
-/// Whether a file of a version that this edit deletes has a filter.
-fn had_filter<R: SystemFiles + AllocGlobal>(
-    rt: &R,
-    folder: &str,
-    before: &Version,
-    edit: &VersionEdit,
-) -> Result<bool, Fault> {
-    let inputs = deleted_files(rt.alloc(), before, &edit.deleted)?;
-    have_filter(rt.alloc(), &mut Disk::new(rt, folder), &inputs)
-}
-
-/// Whether no new file of an outcome, which this edit adds, has a filter.
-fn has_no_filter<R: SystemFiles + AllocGlobal>(
-    alloc: Global,
-    outcome: &mut Disk<'_, R>,
-    edit: &VersionEdit,
-) -> Result<bool, Fault> {
-    let mut outputs = Vec::with_capacity(alloc, edit.added.len())?;
-    for file in &edit.added {
-        outputs.push(&file.meta)?;
-    }
-    Ok(!have_filter(alloc, outcome, &outputs)?)
 }
 
 /// Tells what was made of which files.
@@ -199,7 +139,7 @@ fn unneeded_total<R: SystemFiles + AllocGlobal>(
     rt: &R,
     folder: &str,
 ) -> Result<FileTotal, Refusal> {
-    let opened = open_folder(rt, folder)?;
+    let opened = open_in(rt, folder, &mut Disk::new(rt, folder))?;
     let mut total = FileTotal::none();
     for bytes in &unneeded_files(rt, folder, &opened)?.lengths {
         total = total.with(*bytes);

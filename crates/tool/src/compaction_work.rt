@@ -1,156 +1,56 @@
-//! The compaction of a folder, from its path to what is printed.
+//! The compaction of a folder, whose outcomes are installed.
 
-use crate::clean_printer::CleanPrinter;
-use crate::clean_work::{RemovalPrinter, clean_installed, clean_named, clean_opened};
+use crate::clean_work::{clean_named, clean_opened};
 use crate::compaction_notes::{note_of, tell_room};
-use crate::outcome_work::test_of;
-use crate::step_printer::{StepPrinter, print_step, tell_step, unprinted};
-use crate::version_sync::sync;
-use disk::{Disk, SystemFiles};
-use folder::{Bytewise, Fault, FaultName, Opened, Version};
+use crate::folder_change::Change;
+use crate::outcome_work::{OutcomeTask, outcome_of};
+use crate::printed_work::{DoneWork, tell_step, unprinted};
+use crate::step_printer::{StepPrinter, print_installed};
+use disk::Disk;
+use folder::{Bytewise, Fault, FaultName, Version};
 use levels::{compact_level, compact_whole_levels};
-use refusals::{compaction_explained, sizes_in_turn};
-use session::{
-    Host, LAST_LEVEL, ProgressLine, Refusal, Telling, begin_in, bytes_of, locked_to_change,
-    refused_at,
-};
+use refusals::sizes_in_turn;
+use session::{Host, LAST_LEVEL, ProgressLine, Refusal, Session, bytes_of, refused_at};
 use std::alloc::Global;
 use store::{
-    Choice, CompactionStep, DescentEnd, SyncedVersion, bottom, checkers_of, compact_inputs,
-    compact_opened, next_level, outcome,
+    CompactionStep, DescentEnd, SyncedVersion, bottom, checkers_of, compact_inputs, compact_opened,
+    next_level,
 };
-use usage::{CompactLine, Levels, Settings, Testing};
+use usage::{CompactLine, CompactWork, Levels};
 
-/// What is asked for of a compaction.
-#[derive(Clone, Copy)]
-pub(crate) struct CompactionTask<'t> {
-    pub levels: Levels,
-    pub settings: &'t Settings<'t>,
-    pub testing: &'t Testing,
-    /// Whether its lines are JSON.
-    pub is_json: bool,
-    /// Whether files that the version doesn't need are removed after each installation.
-    pub cleans: bool,
+/// Compacts a level of a folder, or all of them one after the other. What it was opened as is
+/// synced once, so that it outlives a crash.
+pub fn compact_folder<R: Host>(
+    session: Session<'_, R>,
+    line: &CompactLine<'_>,
+) -> Result<(), Refusal> {
+    let (rt, telling) = (session.rt, session.telling);
+    if let CompactWork::Installed(levels) = line.options.work {
+        compact_levels(session, line, levels)?;
+        tell_room(rt, telling);
+    }
+    Ok(())
 }
 
-/// Compacts a level of a folder, or all of them one after the other. The folder is locked before
-/// anything is read of it. What it was opened as is synced once, so that it outlives a crash.
-pub fn compact_folder<R: Host>(
-    rt: &R,
-    telling: Telling<'_>,
+/// The same of these levels. If none is to be compacted, nothing has to outlive a crash.
+fn compact_levels<R: Host>(
+    session: Session<'_, R>,
     line: &CompactLine<'_>,
     levels: Levels,
 ) -> Result<(), Refusal> {
-    let task = CompactionTask {
-        levels,
-        settings: &line.settings,
-        testing: &line.options.testing,
-        is_json: line.options.is_json,
-        cleans: line.options.cleans,
-    };
-    let _lock = locked_to_change(rt, telling)?;
-    let mut folder = Disk::new(rt, telling.folder);
-    match compact_levels(rt, telling, &mut folder, task) {
-        Ok(()) => {
-            tell_room(rt, telling);
-            Ok(())
-        }
-        Err(refusal) => {
-            let level = one_level(task.levels);
-            Err(compaction_explained(rt, telling, level, task.settings, refusal))
-        }
+    let (rt, telling) = (session.rt, session.telling);
+    if !line.options.testing.is_skipped {
+        sizes_in_turn(rt, telling.folder, &session.opened)?;
     }
-}
-
-/// The level, if one is asked for.
-fn one_level(levels: Levels) -> Option<u64> {
+    if !is_due(rt.alloc(), &session.opened.version, levels)? {
+        return nothing_compacted(session, line, levels);
+    }
+    telling.tell_replaceable(rt, &session.opened.version, &[]);
+    let change = Change::begin(session)?;
     match levels {
-        Levels::One(level) | Levels::Whole(level) => Some(level),
-        Levels::All | Levels::AllWhole => None,
-    }
-}
-
-/// The same in a folder that is locked.
-fn compact_levels<R: Host>(
-    rt: &R,
-    telling: Telling<'_>,
-    folder: &mut Disk<'_, R>,
-    task: CompactionTask<'_>,
-) -> Result<(), Refusal> {
-    let opened = begin_in(rt, telling, folder)?.opened;
-    if !task.testing.is_skipped {
-        sizes_in_turn(rt, telling.folder, &opened)?;
-    }
-    if is_due(rt.alloc(), &opened.version, task.levels)? {
-        telling.tell_replaceable(rt, &opened.version, &[]);
-        let synced = sync(rt, telling.folder, folder, opened)?;
-        compact_synced(rt, telling, folder, synced, task)
-    } else {
-        nothing_compacted(rt, telling, folder, opened, task)
-    }
-}
-
-/// Compacts what a folder was opened as, after it was synced.
-fn compact_synced<R: Host>(
-    rt: &R,
-    telling: Telling<'_>,
-    folder: &mut Disk<'_, R>,
-    synced: SyncedVersion,
-    task: CompactionTask<'_>,
-) -> Result<(), Refusal> {
-    match task.levels {
-        Levels::One(level) | Levels::Whole(level) => {
-            compact_one(rt, telling, folder, &synced, level, task)
-        }
-        Levels::All => compact_all(rt, telling, folder, synced, task),
-        Levels::AllWhole => compact_whole(rt, telling, folder, &synced, task),
-    }
-}
-
-/// What is answered if there is no level to compact. Nothing will be written, so nothing has to
-/// outlive a crash; files that the version doesn't need are removed, if that is asked for.
-fn nothing_compacted<R: Host>(
-    rt: &R,
-    telling: Telling<'_>,
-    folder: &mut Disk<'_, R>,
-    opened: Opened,
-    task: CompactionTask<'_>,
-) -> Result<(), Refusal> {
-    match task.levels {
-        Levels::One(level) | Levels::Whole(level) => {
-            Err(refusal_of_level(rt, telling, folder, &opened, level, task))
-        }
-        Levels::All | Levels::AllWhole => {
-            let progress = ProgressLine::new(rt, telling);
-            let steps = StepPrinter::new(rt, telling, &progress, &opened.version, task)?;
-            progress.erase();
-            steps.end()?;
-            if task.cleans {
-                clean_opened(rt, telling, folder, opened, task.is_json)?;
-            }
-            Ok(())
-        }
-    }
-}
-
-/// Why a level without inputs can't be compacted. What a folder was opened as is tested before, if
-/// that is asked for.
-fn refusal_of_level<R: Host>(
-    rt: &R,
-    telling: Telling<'_>,
-    folder: &mut Disk<'_, R>,
-    opened: &Opened,
-    level: u64,
-    task: CompactionTask<'_>,
-) -> Refusal {
-    let progress = ProgressLine::new(rt, telling);
-    let workers = checkers_of(rt, rt.alloc(), task.settings.workers, &progress);
-    let (choice, test) = (Choice::Picked(level), test_of(task.testing));
-    let made = outcome(&workers, folder, opened, choice, None, task.settings, test);
-    progress.erase();
-    match made {
-        Ok(_) => Fault::of(FaultName::NoInput).into(),
-        Err(fault) => refused_at(rt, telling.folder, folder, fault),
+        Levels::One(level) | Levels::Whole(level) => compact_one(change, line, levels, level),
+        Levels::All => compact_all(change, line),
+        Levels::AllWhole => compact_whole(change, line),
     }
 }
 
@@ -170,30 +70,76 @@ fn is_due(alloc: Global, version: &Version, levels: Levels) -> Result<bool, Faul
     }
 }
 
+/// What is answered if there is no level to compact: why a level can't be; of all levels, files
+/// that the version doesn't need are removed, if that is asked for.
+fn nothing_compacted<R: Host>(
+    session: Session<'_, R>,
+    line: &CompactLine<'_>,
+    levels: Levels,
+) -> Result<(), Refusal> {
+    match levels {
+        Levels::One(level) | Levels::Whole(level) => Err(refusal_of_level(session, line, level)),
+        Levels::All | Levels::AllWhole => {
+            let (rt, telling) = (session.rt, session.telling);
+            let progress = session.progress();
+            let version = &session.opened.version;
+            StepPrinter::new(rt, telling, &progress, version, line, false)?.end()?;
+            if line.options.cleans {
+                clean_opened(session, line.options.is_json)?;
+            }
+            Ok(())
+        }
+    }
+}
+
+/// Why a level without inputs can't be compacted. What a folder was opened as is tested before, if
+/// that is asked for.
+fn refusal_of_level<R: Host>(
+    session: Session<'_, R>,
+    line: &CompactLine<'_>,
+    level: u64,
+) -> Refusal {
+    let mut session = session;
+    let task = OutcomeTask {
+        level,
+        part: None,
+        first_number: None,
+    };
+    match outcome_of(&mut session, line, task) {
+        Ok(_) => Fault::of(FaultName::NoInput).into(),
+        Err(refusal) => refusal,
+    }
+}
+
 /// Compacts a level of a folder, and prints what was made.
 fn compact_one<R: Host>(
-    rt: &R,
-    telling: Telling<'_>,
-    folder: &mut Disk<'_, R>,
-    opened: &SyncedVersion,
+    change: Change<'_, R>,
+    line: &CompactLine<'_>,
+    levels: Levels,
     level: u64,
-    task: CompactionTask<'_>,
 ) -> Result<(), Refusal> {
+    let mut change = change;
+    let (rt, telling) = (change.rt, change.telling);
     let begun = telling.begin(rt);
-    let step = step_made(rt, telling, folder, opened, level, task)?;
+    let step = step_made(&mut change, line, levels, level)?;
     tell_step(rt, level, begun);
-    let note = note_of(rt, telling, &opened.version, &step.outputs, &step.deleted);
-    print_step(rt, level, &step, task.is_json).map_err(|refusal| unprinted(
-        rt.alloc(),
-        telling.folder,
-        task.levels,
-        refusal,
-    ))?;
+    let note = note_of(
+        rt,
+        telling,
+        &change.opened.version,
+        &step.outputs,
+        &step.deleted,
+    );
+    let is_json = line.options.is_json;
+    if let Err(refusal) = print_installed(rt, level, &step, is_json) {
+        return Err(unprinted(rt.alloc(), telling.folder, DoneWork::Version, refusal));
+    }
     if let Some(note) = note {
         note.tell(rt, telling);
     }
-    if task.cleans {
-        clean_installed(rt, telling.folder, folder, &opened.version, task.is_json)?;
+    if line.options.cleans {
+        let manifest = change.opened.version.next_file();
+        clean_named(rt, telling.folder, &mut change.disk, manifest, is_json)?;
     }
     Ok(())
 }
@@ -201,150 +147,99 @@ fn compact_one<R: Host>(
 /// Compacts a level of a folder, or all of it, and installs the outcome. What the folder was opened
 /// as is tested before, if that is asked for; else nothing but the inputs is read.
 fn step_made<R: Host>(
-    rt: &R,
-    telling: Telling<'_>,
-    folder: &mut Disk<'_, R>,
-    opened: &SyncedVersion,
+    change: &mut Change<'_, R>,
+    line: &CompactLine<'_>,
+    levels: Levels,
     level: u64,
-    task: CompactionTask<'_>,
 ) -> Result<CompactionStep, Refusal> {
-    let progress = ProgressLine::new(rt, telling);
-    let workers = checkers_of(rt, rt.alloc(), task.settings.workers, &progress);
-    let settings = task.settings;
-    let memory = bytes_of(task.testing.memory);
-    let made = match task.levels {
+    let rt = change.rt;
+    let progress = change.progress();
+    let (settings, testing) = (&line.settings, &line.options.testing);
+    let workers = checkers_of(rt, rt.alloc(), settings.workers, &progress);
+    let memory = bytes_of(testing.memory);
+    let folder = &mut change.disk;
+    let opened = &change.opened;
+    let made = match levels {
         Levels::Whole(level) => compact_level(&workers, folder, opened, level, settings, memory),
-        _ if task.testing.is_skipped => compact_inputs(&workers, folder, opened, level, settings),
+        _ if testing.is_skipped => compact_inputs(&workers, folder, opened, level, settings),
         _ => compact_opened(&workers, folder, opened, level, settings, memory),
     };
-    progress.erase();
-    made.map_err(|fault| refused_at(rt, telling.folder, folder, fault))
+    change.ended(&progress, made)
 }
 
 /// Compacts the first level that has a file, again and again, until all files are at the bottom.
 /// Each step is printed when it is installed, and each file when it is removed.
-fn compact_all<R: Host>(
-    rt: &R,
-    telling: Telling<'_>,
-    folder: &mut Disk<'_, R>,
-    opened: SyncedVersion,
-    task: CompactionTask<'_>,
-) -> Result<(), Refusal> {
-    let progress = ProgressLine::new(rt, telling);
-    let mut steps = StepPrinter::new(rt, telling, &progress, &opened.version, task)?;
-    let end = if task.cleans {
-        let removals = RemovalPrinter::new(rt, task.is_json);
-        let mut printer = CleanPrinter::new(rt, telling.folder, steps, removals);
-        let end = cleaned(rt, folder, opened, task, &mut printer);
-        steps = printer.into_steps();
-        end
-    } else {
-        descended(rt, folder, opened, task, &mut steps)
-    };
+fn compact_all<R: Host>(change: Change<'_, R>, line: &CompactLine<'_>) -> Result<(), Refusal> {
+    let progress = change.progress();
+    let Change {
+        rt,
+        telling,
+        mut disk,
+        opened,
+        ..
+    } = change;
+    let cleans = line.options.cleans;
+    let mut steps = StepPrinter::new(rt, telling, &progress, &opened.version, line, cleans)?;
+    let end = descended(rt, &mut disk, opened, line, &progress, &mut steps);
     progress.erase();
     match end {
         Ok(_) => steps.end(),
-        Err(fault) => Err(refused_at(rt, telling.folder, folder, fault)),
+        Err(fault) => Err(refused_at(rt, telling.folder, &disk, fault)),
+    }
+}
+
+/// Compacts all levels of what a folder was opened as, and tests it before, if that is asked for.
+/// Files that the version doesn't need are removed after each step, if that is.
+fn descended<'r, R: Host>(
+    rt: &'r R,
+    folder: &mut Disk<'r, R>,
+    opened: SyncedVersion,
+    line: &CompactLine<'_>,
+    progress: &ProgressLine<'r, R>,
+    steps: &mut StepPrinter<'_, R>,
+) -> Result<DescentEnd, Fault> {
+    let (settings, testing) = (&line.settings, &line.options.testing);
+    let workers = checkers_of(rt, rt.alloc(), settings.workers, progress);
+    if testing.is_skipped {
+        store::compact_levels(&workers, folder, opened, settings, steps)
+    } else {
+        let memory = bytes_of(testing.memory);
+        store::compact_all(&workers, folder, opened, settings, memory, steps)
     }
 }
 
 /// Compacts all of the first level that has a file, and so on, until all files are at the bottom.
 /// Each step is printed when it is installed. After the last one files are removed, if that is
 /// asked for.
-fn compact_whole<R: Host>(
-    rt: &R,
-    telling: Telling<'_>,
-    folder: &mut Disk<'_, R>,
-    opened: &SyncedVersion,
-    task: CompactionTask<'_>,
-) -> Result<(), Refusal> {
-    let progress = ProgressLine::new(rt, telling);
-    let mut steps = StepPrinter::new(rt, telling, &progress, &opened.version, task)?;
-    let end = whole_descended(rt, folder, opened, task, &mut steps);
-    progress.erase();
-    end.map_err(|fault| refused_at(rt, telling.folder, folder, fault))?;
+fn compact_whole<R: Host>(change: Change<'_, R>, line: &CompactLine<'_>) -> Result<(), Refusal> {
+    let mut change = change;
+    let (rt, telling) = (change.rt, change.telling);
+    let progress = change.progress();
+    let version = &change.opened.version;
+    let mut steps = StepPrinter::new(rt, telling, &progress, version, line, false)?;
+    whole_levels_made(&mut change, line, &progress, &mut steps)?;
     let manifest = steps.manifest();
     steps.end()?;
-    if task.cleans {
-        clean_named(rt, telling.folder, folder, manifest, task.is_json)?;
+    if line.options.cleans {
+        let is_json = line.options.is_json;
+        clean_named(rt, telling.folder, &mut change.disk, manifest, is_json)?;
     }
     Ok(())
 }
 
-/// Tests what a folder was opened as, and compacts all its levels, each as a whole.
-fn whole_descended<R: Host>(
-    rt: &R,
-    folder: &mut Disk<'_, R>,
-    opened: &SyncedVersion,
-    task: CompactionTask<'_>,
+/// The same, told to who prints the steps.
+fn whole_levels_made<'r, R: Host>(
+    change: &mut Change<'r, R>,
+    line: &CompactLine<'_>,
+    progress: &ProgressLine<'r, R>,
     steps: &mut StepPrinter<'_, R>,
-) -> Result<DescentEnd, Fault> {
-    let memory = bytes_of(task.testing.memory);
-    let progress = steps.progress();
-    let workers = checkers_of(rt, rt.alloc(), task.settings.workers, progress);
-    compact_whole_levels(&workers, folder, opened, task.settings, memory, steps)
-}
-
-/// Compacts all levels of what a folder was opened as, and tests it before, if that is asked for.
-fn descended<R: Host>(
-    rt: &R,
-    folder: &mut Disk<'_, R>,
-    opened: SyncedVersion,
-    task: CompactionTask<'_>,
-    steps: &mut StepPrinter<'_, R>,
-) -> Result<DescentEnd, Fault> {
-    let progress = steps.progress();
-    let alloc = rt.alloc();
-    let settings = task.settings;
-    if task.testing.is_skipped {
-        store::compact_levels(
-            &checkers_of(rt, alloc, settings.workers, progress),
-            folder,
-            opened,
-            settings,
-            steps,
-        )
-    } else {
-        let memory = bytes_of(task.testing.memory);
-        store::compact_all(
-            &checkers_of(rt, alloc, settings.workers, progress),
-            folder,
-            opened,
-            settings,
-            memory,
-            steps,
-        )
-    }
-}
-
-/// The same, with the files removed after each step that the version doesn't need.
-fn cleaned<R: Host>(
-    rt: &R,
-    folder: &mut Disk<'_, R>,
-    opened: SyncedVersion,
-    task: CompactionTask<'_>,
-    printer: &mut CleanPrinter<'_, R>,
-) -> Result<DescentEnd, Fault> {
-    let progress = printer.progress();
-    let alloc = rt.alloc();
-    let settings = task.settings;
-    if task.testing.is_skipped {
-        store::compact_and_clean(
-            &checkers_of(rt, alloc, settings.workers, progress),
-            folder,
-            opened,
-            settings,
-            printer,
-        )
-    } else {
-        let memory = bytes_of(task.testing.memory);
-        store::compact_all_and_clean(
-            &checkers_of(rt, alloc, settings.workers, progress),
-            folder,
-            opened,
-            settings,
-            memory,
-            printer,
-        )
-    }
+) -> Result<(), Refusal> {
+    let settings = &line.settings;
+    let workers = checkers_of(change.rt, change.rt.alloc(), settings.workers, progress);
+    let memory = bytes_of(line.options.testing.memory);
+    let folder = &mut change.disk;
+    let opened = &change.opened;
+    let end = compact_whole_levels(&workers, folder, opened, settings, memory, steps);
+    change.ended(progress, end)?;
+    Ok(())
 }

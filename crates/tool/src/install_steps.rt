@@ -58,38 +58,28 @@ pub(crate) fn outcomes_installed<'x, R: Host>(
         line,
         progress: &progress,
     };
-    let GatheredEnd {
+    let mut end = GatheredEnd {
         folder,
+        done: 0,
+        gathered: Ok(Gathered {
+            taken: TakenOutcomes::none(rt.alloc(), opened),
+            step: no_step(rt.alloc()),
+        }),
+    };
+    for out in line.outs.iter() {
+        end = with_outcome(&task, end, out);
+    }
+    progress.erase();
+    let GatheredEnd {
+        mut folder,
         done,
         gathered,
-    } = all_gathered(&task, folder, opened);
-    progress.erase();
-    let mut folder = folder;
+    } = end;
     let step = match gathered {
         Ok(gathered) => gathered_installed(rt, telling, &mut folder, gathered),
         Err(refusal) => Err(refusal),
     };
     InstallationEnd { folder, done, step }
-}
-
-/// Takes in all outcomes, one after the other, up to the first that is refused.
-fn all_gathered<'x, 'o, R: Host>(
-    task: &InstallTask<'_, 'x, R>,
-    folder: Disk<'x, R>,
-    opened: &'o SyncedVersion,
-) -> GatheredEnd<'x, 'o, R> {
-    let mut end = GatheredEnd {
-        folder,
-        done: 0,
-        gathered: Ok(Gathered {
-            taken: TakenOutcomes::none(task.rt.alloc(), opened),
-            step: no_step(task.rt.alloc()),
-        }),
-    };
-    for out in task.line.outs.iter() {
-        end = with_outcome(task, end, out);
-    }
-    end
 }
 
 /// The same with the outcome of one more folder, if none was refused.
@@ -137,20 +127,17 @@ fn outcome_taken<'x, 'o, R: Host>(
         comparison,
         bytes_of(line.testing.memory),
     );
-    match with_taken(answer, step) {
-        Ok(gathered) => GatheredEnd {
-            folder,
-            done: done.saturating_add(1),
-            gathered: Ok(gathered),
-        },
-        Err(fault) => {
-            let refusal = refused_of_either(task, out, &source, &folder, fault);
-            GatheredEnd {
-                folder,
-                done,
-                gathered: Err(refusal),
-            }
-        }
+    let (taken, gathered) = match with_taken(answer, step) {
+        Ok(gathered) => (1, Ok(gathered)),
+        Err(fault) => (
+            0,
+            Err(refused_of_either(task, out, &source, &folder, fault)),
+        ),
+    };
+    GatheredEnd {
+        folder,
+        done: done.saturating_add(taken),
+        gathered,
     }
 }
 
@@ -206,13 +193,12 @@ fn gathered_installed<R: Host>(
     folder: &mut Disk<'_, R>,
     gathered: Gathered<'_>,
 ) -> Result<CompactionStep, Refusal> {
-    let Gathered { taken, step } = gathered;
-    let mut step = step;
-    step.manifest = install_taken(rt.alloc(), folder, &taken).map_err(|fault| refused_at(
-        rt,
-        telling.folder,
-        folder,
-        fault,
-    ))?;
-    Ok(step)
+    let Gathered { taken, mut step } = gathered;
+    match install_taken(rt.alloc(), folder, &taken) {
+        Ok(manifest) => {
+            step.manifest = manifest;
+            Ok(step)
+        }
+        Err(fault) => Err(refused_at(rt, telling.folder, folder, fault)),
+    }
 }

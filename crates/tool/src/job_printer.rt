@@ -1,45 +1,25 @@
-//! The files that a compaction of a folder would read, from its path to what is printed.
+//! The files that a compaction of a folder would read.
 
-use disk::Disk;
 use folder::Fault;
-use refusals::compaction_explained;
-use session::{Host, Refusal, Telling, begin_work, print_lines, refused_opened, tell_time};
+use session::{Host, Refusal, Session};
 use std::alloc::Global;
 use store::{Inputs, files_to_compact, parts_to_compact};
-use usage::{JobLine, Settings};
+use usage::JobLine;
 
-/// Prints the names of the files that a compaction of a level would read, or the parts of the
-/// level. No table is read, and no lock is taken.
-pub fn print_job<R: Host>(rt: &R, telling: Telling<'_>, line: &JobLine<'_>) -> Result<(), Refusal> {
-    let printed = if line.by_parts {
-        parts_printed(rt, telling, line.level)
-    } else {
-        job_printed(rt, telling, line.level)
-    };
-    printed.map_err(|refusal| {
-        compaction_explained(rt, telling, Some(line.level), &Settings::default(), refusal)
-    })
-}
-
-fn job_printed<R: Host>(rt: &R, telling: Telling<'_>, level: u64) -> Result<(), Refusal> {
-    let begun = telling.begin(rt);
-    let opened = begin_work(rt, telling)?;
-    let mut folder = Disk::new(rt, telling.folder);
-    let lines = files_to_compact(rt.alloc(), &mut folder, &opened, level);
-    let lines = lines.map_err(|fault| refused_opened(rt, telling.folder, &folder, &opened, fault))?;
-    tell_time(rt, "job", begun);
-    print_lines(rt, &lines)
-}
-
-fn parts_printed<R: Host>(rt: &R, telling: Telling<'_>, level: u64) -> Result<(), Refusal> {
-    let begun = telling.begin(rt);
-    let opened = begin_work(rt, telling)?;
-    let folder = Disk::new(rt, telling.folder);
-    let parts = parts_to_compact(rt.alloc(), &opened, level);
-    let parts = parts.map_err(|fault| refused_opened(rt, telling.folder, &folder, &opened, fault))?;
-    let lines = part_lines(rt.alloc(), &parts)?;
-    tell_time(rt, "job", begun);
-    print_lines(rt, lines.as_bytes())
+/// The names of the files that a compaction of a level would read, or the parts of the level. No
+/// table is read.
+pub fn job_answer<R: Host>(
+    session: &mut Session<'_, R>,
+    line: &JobLine<'_>,
+) -> Result<Vec<u8>, Refusal> {
+    let alloc = session.rt.alloc();
+    if line.by_parts {
+        let parts = parts_to_compact(alloc, &session.opened, line.level);
+        let parts = session.done(parts)?;
+        return Ok(part_lines(alloc, &parts)?.into_bytes());
+    }
+    let lines = files_to_compact(alloc, &mut session.disk, &session.opened, line.level);
+    session.done(lines)
 }
 
 /// The lines of parts: one a file.

@@ -5,29 +5,29 @@
 //! calls are made for a command, nor what is told on the standard error.
 #![tactic(auto)]
 
-mod clean_printer;
 mod clean_work;
 mod compaction_notes;
 mod compaction_work;
+mod folder_change;
 mod install_steps;
 mod install_work;
 mod job_printer;
 mod out_folder;
 mod outcome_refusal;
 mod outcome_work;
+mod printed_work;
 mod step_printer;
-mod version_sync;
 mod work_left;
 
 pub use answers::{ValueForm, dump, get_dir, manifest, status, verify};
-pub use clean_work::{clean_folder, print_removable};
+pub use clean_work::{clean_folder, removable_answer};
 pub use compaction_work::compact_folder;
 pub use disk::Disk;
 pub use folder::{Folder, FolderFault, Order, load, open};
-pub use install_work::install_compaction;
-pub use job_printer::print_job;
+pub use install_work::install_outcomes;
+pub use job_printer::job_answer;
 pub use out_folder::{OutState, state_of};
-pub use outcome_work::{OutcomeTask, write_compaction};
+pub use outcome_work::write_compaction;
 pub use pairing::blocks;
 pub use session::{Host, progress_text};
 pub use store::{bottom, compact_dir, next_level};

@@ -1,8 +1,7 @@
 //! What is told if the outcome of a compaction is refused.
 
-use crate::compaction_notes::outcome_edit;
 use disk::Disk;
-use folder::{Fault, FaultName, Order, VersionEdit};
+use folder::{Fault, FaultName, Folder, Order, VersionEdit};
 use refusals::{Detail, RefusedFile, compaction_explained, refused_outcome};
 use session::{Host, Refusal, RefusalText, Telling, Words, deleted_files, of_file, path_in, told};
 use std::alloc::Global;
@@ -34,85 +33,53 @@ pub(crate) fn outcome_explained<'a, R: Host>(
     if refusal.told.is_some() || is_of_no_file(name) {
         return refusal;
     }
-    match line.outs.get(done as usize) {
-        Some(out) => {
-            one_explained(
-                rt,
-                telling,
-                line,
-                OutcomePlace { out, done },
-                opened,
-                refusal,
-            )
-        }
-        None => refusal,
-    }
-}
-
-/// An outcome among others.
-#[derive(Clone, Copy)]
-struct OutcomePlace<'a> {
-    /// The path of its folder.
-    out: &'a str,
-    /// How many are before it.
-    done: u64,
-}
-
-/// The refusal of an outcome, with what is told of it.
-fn one_explained<'a, R: Host>(
-    rt: &'a R,
-    telling: Telling<'_>,
-    line: &InstallLine<'a>,
-    place: OutcomePlace<'a>,
-    opened: &SyncedVersion,
-    refusal: Refusal,
-) -> Refusal {
-    let out = place.out;
-    let name = refusal.fault.name;
+    let Some(out) = line.outs.get(done as usize) else {
+        return refusal;
+    };
     let mut refusal = refusal;
     refusal.tell_name(rt);
     match outcome_file(rt, out, opened.order, name) {
         Some(file) => refusal.telling(file_refusal(rt.alloc(), out, &file)),
-        None if name == FaultName::Apply => refusal.telling(misfit(rt, line, place, opened)),
+        None if name == FaultName::Apply => { refusal.telling(misfit(rt, line, out, done, opened)) }
         None => explained_of_folder(rt, telling, line, out, refusal),
     }
 }
 
-/// What is told of an outcome that doesn't fit what a folder was `opened` as.
+/// What is told of an outcome, with as many before it, that doesn't fit what a folder was `opened`
+/// as.
 fn misfit<R: Host>(
     rt: &R,
     line: &InstallLine<'_>,
-    place: OutcomePlace<'_>,
+    out: &str,
+    done: u64,
     opened: &SyncedVersion,
 ) -> Option<RefusalText> {
     let alloc = rt.alloc();
-    let path = path_in(alloc, place.out, EDIT)?;
-    match number_taken(rt, line, place, opened) {
-        Ok(Some((number, next))) => {
-            let (whose, remedy) = if place.done == 0 {
-                ("the database", NUMBER_REMEDY)
-            } else {
-                ("the outcomes before it", ORDER_REMEDY)
-            };
-            let wrong = format!(in alloc;
-                "its table {number} is not above the next file number of {whose}, {next}"
-            );
-            RefusalText::new(alloc, path.as_str(), wrong, remedy)
-        }
-        _ => told(alloc, path.as_str(), misfit_words(place)),
+    let path = path_in(alloc, out, EDIT)?;
+    let (whose, remedy, whole) = if done == 0 {
+        (
+            "the database",
+            NUMBER_REMEDY,
+            "it does not fit the version of the database",
+        )
+    } else {
+        (
+            "the outcomes before it",
+            ORDER_REMEDY,
+            "it does not fit the version that the outcomes before it leave",
+        )
+    };
+    if let Ok(Some((number, next))) = number_taken(rt, line, out, done, opened) {
+        let wrong = format!(in alloc;
+            "its table {number} is not above the next file number of {whose}, {next}"
+        );
+        return RefusalText::new(alloc, path.as_str(), wrong, remedy);
     }
-}
-
-/// What is wrong with an outcome that doesn't fit.
-fn misfit_words(place: OutcomePlace<'_>) -> Words {
-    Words {
-        wrong: if place.done == 0 {
-            "it does not fit the version of the database"
-        } else {
-            "it does not fit the version that the outcomes before it leave"
-        },
+    let words = Words {
+        wrong: whole,
         remedy: REMEDY,
-    }
+    };
+    told(alloc, path.as_str(), words)
 }
 
 /// The number of the first new file of an outcome that isn't above the next file number that it
@@ -120,21 +87,29 @@ fn misfit_words(place: OutcomePlace<'_>) -> Words {
 fn number_taken<R: Host>(
     rt: &R,
     line: &InstallLine<'_>,
-    place: OutcomePlace<'_>,
+    out: &str,
+    done: u64,
     opened: &SyncedVersion,
 ) -> Result<Option<(u64, u64)>, Fault> {
-    let alloc = rt.alloc();
-    let Some(edit) = outcome_edit(alloc, &mut Disk::new(rt, place.out))? else {
+    let Some(edit) = outcome_edit(rt, out)? else {
         return Ok(None);
     };
-    let inputs = deleted_files(alloc, &opened.version, &edit.deleted)?;
+    let inputs = deleted_files(rt.alloc(), &opened.version, &edit.deleted)?;
     if inputs.len() != edit.deleted.len() {
         return Ok(None);
     }
-    let Some(next) = next_before(rt, line, place, opened, &edit)? else {
+    let Some(next) = next_before(rt, line, done, opened, &edit)? else {
         return Ok(None);
     };
     Ok(first_at_most(&edit, next).map(|number| (number, next)))
+}
+
+/// The edit of the outcome in a folder, if it has one.
+fn outcome_edit<R: Host>(rt: &R, out: &str) -> Result<Option<VersionEdit>, Fault> {
+    match Disk::new(rt, out).read(EDIT)? {
+        Some(bytes) => Ok(Some(VersionEdit::decode(rt.alloc(), &bytes)?)),
+        None => Ok(None),
+    }
 }
 
 /// The next file number that the outcomes before one with this edit leave. None if one of them
@@ -142,13 +117,13 @@ fn number_taken<R: Host>(
 fn next_before<R: Host>(
     rt: &R,
     line: &InstallLine<'_>,
-    place: OutcomePlace<'_>,
+    done: u64,
     opened: &SyncedVersion,
     edit: &VersionEdit,
 ) -> Result<Option<u64>, Fault> {
     let mut next = manifest_of(&opened.version);
-    for out in line.outs.iter().take(place.done as usize) {
-        let Some(before) = outcome_edit(rt.alloc(), &mut Disk::new(rt, out))? else {
+    for out in line.outs.iter().take(done as usize) {
+        let Some(before) = outcome_edit(rt, out)? else {
             return Ok(None);
         };
         if !before.deleted.is_disjoint(&edit.deleted) {
@@ -195,10 +170,15 @@ fn explained_of_folder<'a, R: Host>(
         ..Settings::default()
     };
     let explained = compaction_explained(rt, telling, None, &settings, refusal);
-    if explained.told.is_some() {
+    if explained.told.is_some() || name != FaultName::Lawless {
         return explained;
     }
-    explained.telling(outcome_refusal(rt.alloc(), out, name))
+    let words = Words {
+        wrong: "its tables do not have what a compaction keeps, or do not go with those of the \
+            database",
+        remedy: REMEDY,
+    };
+    explained.telling(told(rt.alloc(), out, words))
 }
 
 /// Whether a refusal of this name is about no file that can be found.
@@ -207,20 +187,6 @@ fn is_of_no_file(name: FaultName) -> bool {
         name,
         FaultName::Changed | FaultName::Device | FaultName::Memory
     )
-}
-
-/// What is told of an outcome each of whose files by itself is accepted. None if it isn't refused
-/// by this name.
-fn outcome_refusal(alloc: Global, out: &str, name: FaultName) -> Option<RefusalText> {
-    if name != FaultName::Lawless {
-        return None;
-    }
-    let words = Words {
-        wrong: "its tables do not have what a compaction keeps, or do not go with those of the \
-            database",
-        remedy: REMEDY,
-    };
-    told(alloc, out, words)
 }
 
 /// What is told of a refused file of an outcome.

@@ -1,124 +1,120 @@
-//! A compaction whose outcome goes into a folder of its own, from the paths to what is printed.
+//! A compaction whose outcome goes into a folder of its own.
 
 use crate::compaction_notes::note_of;
 use crate::out_folder::fill;
-use crate::step_printer::tell_step;
-use answers::{CompactionEnd, compaction_json, compaction_lines, json_line};
-use disk::Disk;
+use crate::printed_work::{DoneWork, print_compaction, tell_step, unprinted};
+use answers::CompactionEnd;
 use folder::{FaultName, Opened};
-use refusals::{compaction_explained, sizes_in_turn};
-use session::{
-    Host, ProgressLine, Refusal, RefusalText, Telling, Words, begin_work, bytes_of, in_words,
-    print_lines, refused_opened, told,
-};
+use refusals::sizes_in_turn;
+use session::{Host, Refusal, RefusalText, Session, Words, bytes_of, in_words, told};
 use std::alloc::Global;
 use store::{Choice, CompactionOutcome, EDIT, checkers_of, outcome};
-use usage::{CompactLine, Testing};
+use usage::{CompactLine, CompactWork, Testing};
 
 /// What is asked for of such a compaction.
 #[derive(Clone, Copy)]
-pub struct OutcomeTask<'t> {
+pub(crate) struct OutcomeTask {
     pub level: u64,
     /// The number of the part of the level, if it is given.
     pub part: Option<u64>,
-    /// The folder that gets the outcome.
-    pub out: &'t str,
     /// The number of the first new table, if it is given.
     pub first_number: Option<u64>,
 }
 
-/// Compacts a level of a folder, which is only read, and writes the outcome into another one. No
-/// lock is taken.
+/// Compacts a level of a folder, which is only read, and writes the outcome into another one. What
+/// was made is printed then.
 pub fn write_compaction<R: Host>(
-    rt: &R,
-    telling: Telling<'_>,
+    session: &mut Session<'_, R>,
     line: &CompactLine<'_>,
-    task: OutcomeTask<'_>,
 ) -> Result<(), Refusal> {
-    compaction_written(rt, telling, line, task).map_err(|refusal| {
-        compaction_explained(rt, telling, Some(task.level), &line.settings, refusal)
-    })
-}
-
-fn compaction_written<R: Host>(
-    rt: &R,
-    telling: Telling<'_>,
-    line: &CompactLine<'_>,
-    task: OutcomeTask<'_>,
-) -> Result<(), Refusal> {
-    let begun = telling.begin(rt);
-    let opened = begin_work(rt, telling)?;
-    let made = outcome_made(rt, telling, line, task, &opened).map_err(|refusal| {
-        task_explained(rt.alloc(), telling.folder, task, &opened, refusal)
-    })?;
-    fill(rt, task.out, telling.folder, &made.outcome)?;
-    tell_step(rt, task.level, begun);
-    let note = note_of(rt, telling, &opened.version, &made.outputs, &made.deleted);
-    outcome_printed(rt, line, task, &made).map_err(|refusal| unprinted(
-        rt.alloc(),
-        task.out,
-        refusal,
-    ))?;
-    if let Some(note) = note {
-        note.tell(rt, telling);
+    match line.options.work {
+        CompactWork::Installed(_) => Ok(()),
+        CompactWork::Written {
+            level,
+            part,
+            out,
+            first_number,
+        } => {
+            let task = OutcomeTask {
+                level,
+                part,
+                first_number,
+            };
+            outcome_written(session, line, task, out)
+        }
     }
-    Ok(())
 }
 
-/// Prints the lines of an outcome, or its JSON line.
-fn outcome_printed<R: Print + AllocGlobal>(
-    rt: &R,
+fn outcome_written<R: Host>(
+    session: &mut Session<'_, R>,
     line: &CompactLine<'_>,
-    task: OutcomeTask<'_>,
-    made: &CompactionOutcome,
+    task: OutcomeTask,
+    out: &str,
 ) -> Result<(), Refusal> {
-    let alloc = rt.alloc();
+    let made = outcome_made(session, line, task)?;
+    let (rt, telling, level) = (session.rt, session.telling, task.level);
+    fill(rt, out, telling.folder, &made.outcome)?;
+    tell_step(rt, level, session.begun);
+    let note = note_of(
+        rt,
+        telling,
+        &session.opened.version,
+        &made.outputs,
+        &made.deleted,
+    );
     let end = CompactionEnd::Written(EDIT);
-    if !line.options.is_json {
-        let lines = compaction_lines(alloc, &made.outputs, &made.deleted, end)?;
-        return print_lines(rt, lines.as_bytes());
+    let is_json = line.options.is_json;
+    match print_compaction(rt, level, &made.outputs, &made.deleted, end, is_json) {
+        Ok(()) => {
+            if let Some(note) = note {
+                note.tell(rt, telling);
+            }
+            Ok(())
+        }
+        Err(refusal) => Err(unprinted(rt.alloc(), out, DoneWork::Outcome, refusal)),
     }
-    let object = compaction_json(alloc, task.level, &made.outputs, &made.deleted, end)?;
-    print_lines(rt, json_line(alloc, &object)?.as_bytes())
 }
 
-/// The refusal that the lines of an outcome can't be written. It is in its folder by then.
-fn unprinted(alloc: Global, out: &str, refusal: Refusal) -> Refusal {
-    let wrong = "the outcome is written, but its lines could not be written";
-    let told = RefusalText::alone(alloc, out, String::from_str(alloc, wrong));
-    Refusal::new(refusal.fault, told)
-}
-
-/// The outcome of the compaction. The version is tested before, if that is asked for; else nothing
-/// but the inputs is read.
+/// The outcome of the compaction, or why there is none. The version is tested before, if that is
+/// asked for.
 fn outcome_made<R: Host>(
-    rt: &R,
-    telling: Telling<'_>,
+    session: &mut Session<'_, R>,
     line: &CompactLine<'_>,
-    task: OutcomeTask<'_>,
-    opened: &Opened,
+    task: OutcomeTask,
 ) -> Result<CompactionOutcome, Refusal> {
-    let testing = &line.options.testing;
-    if !testing.is_skipped {
-        sizes_in_turn(rt, telling.folder, opened)?;
+    let (rt, folder) = (session.rt, session.telling.folder);
+    if !line.options.testing.is_skipped {
+        sizes_in_turn(rt, folder, &session.opened)?;
     }
-    let progress = ProgressLine::new(rt, telling);
-    let mut folder = Disk::new(rt, telling.folder);
+    match outcome_of(session, line, task) {
+        Ok(made) => Ok(made),
+        Err(refusal) => Err(task_explained(rt.alloc(), folder, task, &session.opened, refusal)),
+    }
+}
+
+/// The outcome of the compaction. The version is tested before, if that is asked for, but for the
+/// sizes of its tables. If it isn't, nothing but the inputs is read.
+pub(crate) fn outcome_of<R: Host>(
+    session: &mut Session<'_, R>,
+    line: &CompactLine<'_>,
+    task: OutcomeTask,
+) -> Result<CompactionOutcome, Refusal> {
+    let rt = session.rt;
+    let progress = session.progress();
     let made = outcome(
         &checkers_of(rt, rt.alloc(), line.settings.workers, &progress),
-        &mut folder,
-        opened,
+        &mut session.disk,
+        &session.opened,
         choice_of(task),
         task.first_number,
         &line.settings,
-        test_of(testing),
+        test_of(&line.options.testing),
     );
-    progress.erase();
-    made.map_err(|fault| refused_opened(rt, telling.folder, &folder, opened, fault))
+    session.ended(&progress, made)
 }
 
 /// The inputs that are asked for.
-fn choice_of(task: OutcomeTask<'_>) -> Choice {
+fn choice_of(task: OutcomeTask) -> Choice {
     match task.part {
         None => Choice::Picked(task.level),
         Some(number) => Choice::Part(task.level, number),
@@ -126,7 +122,7 @@ fn choice_of(task: OutcomeTask<'_>) -> Choice {
 }
 
 /// How many bytes of tables the test of a version holds, if it is asked for.
-pub(crate) fn test_of(testing: &Testing) -> Option<u64> {
+fn test_of(testing: &Testing) -> Option<u64> {
     if testing.is_skipped {
         return None;
     }
@@ -138,7 +134,7 @@ pub(crate) fn test_of(testing: &Testing) -> Option<u64> {
 fn task_explained(
     alloc: Global,
     folder: &str,
-    task: OutcomeTask<'_>,
+    task: OutcomeTask,
     opened: &Opened,
     refusal: Refusal,
 ) -> Refusal {
@@ -157,7 +153,7 @@ fn task_explained(
 fn numbers_explained(
     alloc: Global,
     folder: &str,
-    task: OutcomeTask<'_>,
+    task: OutcomeTask,
     opened: &Opened,
     refusal: Refusal,
 ) -> Refusal {

@@ -1,20 +1,21 @@
-//! What is printed and told of the steps of a compaction.
+//! What is printed and told of the steps of a compaction, and of the files that are removed after
+//! each.
 
+use crate::clean_work::{RemovalPrinter, files_named};
 use crate::compaction_notes::{CompactionNote, note_of, tell_made, tell_no_step, version_total};
-use crate::compaction_work::CompactionTask;
+use crate::printed_work::{DoneWork, print_compaction, tell_step, unprinted};
 use crate::work_left::work_left;
-use answers::{CompactionEnd, FileTotal, compaction_json, compaction_lines, json_line};
+use answers::{CompactionEnd, FileTotal};
 use disk::{Disk, SystemFiles};
-use folder::{Fault, Version};
-use session::{
-    Beginning, Host, ProgressLine, Refusal, Telling, Words, print_lines, tell_time, told,
-};
-use std::alloc::Global;
+use folder::{Fault, Opened, Version};
+use install::RemovalWatch;
+use session::{Beginning, Host, ProgressLine, Refusal, Telling, UnneededFiles};
 use std::time::Clock;
-use store::{CompactionStep, InstallWatch, bottom};
-use usage::Levels;
+use store::{CleanWatch, CompactionStep, InstallWatch, bottom};
+use usage::CompactLine;
 
-/// Who prints the steps of a compaction of all levels.
+/// Who prints the steps of a compaction of all levels. If files are removed after each, it lists
+/// these, and prints them.
 #[derive(Drop)]
 pub(crate) struct StepPrinter<'t, R> {
     rt: &'t R,
@@ -24,6 +25,8 @@ pub(crate) struct StepPrinter<'t, R> {
     file_size: u64,
     /// Whether the lines are JSON.
     is_json: bool,
+    /// Who prints the files that are removed after each step. None if none is removed then.
+    removals: Option<RemovalPrinter<'t, R>>,
     /// The level to which all files go.
     bottom: u64,
     /// All files before the first step.
@@ -53,30 +56,35 @@ impl<'t, R> StepPrinter<'t, R> {
     pub fn manifest(&self) -> Option<u64> {
         self.manifest
     }
-
-    /// No step comes after the last one, for this reason.
-    pub fn refuse(&mut self, refusal: Refusal) {
-        self.refusal = Some(refusal);
-    }
 }
 
 impl<'t, R: Eprint + Clock + AllocGlobal> StepPrinter<'t, R> {
-    /// Who prints the steps from a version on. The first one begins.
+    /// Who prints the steps from a version on. The first one begins. Files are removed after each
+    /// if `cleans`.
     pub fn new(
         rt: &'t R,
         telling: Telling<'t>,
         progress: &'t ProgressLine<'t, R>,
         version: &Version,
-        task: CompactionTask<'_>,
+        line: &CompactLine<'_>,
+        cleans: bool,
     ) -> Result<StepPrinter<'t, R>, Fault> {
+        let bottom = bottom(rt.alloc(), version)?;
+        let before = version_total(rt.alloc(), version)?;
+        let is_json = line.options.is_json;
         let steps = StepPrinter {
             rt,
             telling,
             progress,
-            file_size: task.settings.options.file_size,
-            is_json: task.is_json,
-            bottom: bottom(rt.alloc(), version)?,
-            before: version_total(rt.alloc(), version)?,
+            file_size: line.settings.options.file_size,
+            is_json,
+            removals: if cleans {
+                Some(RemovalPrinter::new(rt, is_json))
+            } else {
+                None
+            },
+            bottom,
+            before,
             after: None,
             has_told_filters: false,
             done: 0,
@@ -91,13 +99,21 @@ impl<'t, R: Eprint + Clock + AllocGlobal> StepPrinter<'t, R> {
     /// Whether all steps could be printed, and none was the last one for a reason. If so, it is told
     /// what was made of all files.
     pub fn end(self) -> Result<(), Refusal> {
-        let (before, after) = (self.before, self.after);
-        let (rt, telling) = (self.rt, self.telling);
-        if let Some(refusal) = self.refusal {
+        let StepPrinter {
+            rt,
+            telling,
+            bottom,
+            before,
+            after,
+            done,
+            refusal,
+            ..
+        } = self;
+        if let Some(refusal) = refusal {
             return Err(refusal);
         }
-        if self.done == 0 {
-            tell_no_step(rt, telling, self.bottom, before.files);
+        if done == 0 {
+            tell_no_step(rt, telling, bottom, before.files);
         } else if let Some(after) = after {
             tell_made(rt, telling, before, after);
         }
@@ -142,8 +158,8 @@ impl<'t, R: SystemFiles + Print + Eprint + Clock + AllocGlobal> StepPrinter<'t, 
         tell_step(self.rt, level, self.begun);
         let folder = self.telling.folder;
         let note = self.note_of(before, step);
-        if let Err(refusal) = print_step(self.rt, level, step, self.is_json) {
-            self.refusal = Some(unprinted(self.rt.alloc(), folder, Levels::All, refusal));
+        if let Err(refusal) = print_installed(self.rt, level, step, self.is_json) {
+            self.refusal = Some(unprinted(self.rt.alloc(), folder, DoneWork::Step, refusal));
             return false;
         }
         if let Some(note) = note {
@@ -162,62 +178,64 @@ impl<'t, R: Host> InstallWatch for StepPrinter<'t, R> {
         after: Option<&Version>,
     ) -> bool {
         let goes_on = self.print_installed(level, step, before);
-        if goes_on {
+        if goes_on && self.removals.is_none() {
             self.end_step(after);
         }
         goes_on
     }
 }
 
+impl<'t, R: Host> RemovalWatch for StepPrinter<'t, R> {
+    fn removed(&mut self, name: &str) {
+        if let Some(removals) = &mut self.removals {
+            removals.removed(name);
+        }
+    }
+}
+
+impl<'t, R: Host> CleanWatch for StepPrinter<'t, R> {
+    fn names(&mut self, opened: &Opened) -> Option<Vec<String>> {
+        if self.removals.is_none() {
+            return Some(Vec::new(self.rt.alloc()));
+        }
+        let folder = self.telling.folder;
+        let mut disk = Disk::new(self.rt, folder);
+        match files_named(self.rt, folder, &mut disk, Some(opened.manifest)) {
+            Ok(found) => {
+                let (_, files) = found;
+                let UnneededFiles { names, lengths } = files;
+                if let Some(removals) = &mut self.removals {
+                    removals.begin(lengths);
+                }
+                Some(names)
+            }
+            Err(refusal) => {
+                self.refusal = Some(refusal);
+                None
+            }
+        }
+    }
+
+    fn cleaned(&mut self, opened: &Opened) -> bool {
+        let Some(removals) = &mut self.removals else {
+            return true;
+        };
+        self.refusal = removals.take_refusal(self.telling.folder);
+        if self.refusal.is_some() {
+            return false;
+        }
+        self.end_step(Some(&opened.version));
+        true
+    }
+}
+
 /// Prints the lines of a compaction of a level, which is installed, or its JSON line.
-pub(crate) fn print_step<R: Print + AllocGlobal>(
+pub(crate) fn print_installed<R: Print + AllocGlobal>(
     rt: &R,
     level: u64,
     step: &CompactionStep,
     is_json: bool,
 ) -> Result<(), Refusal> {
-    if !is_json {
-        return print_step_lines(rt, step);
-    }
-    let alloc = rt.alloc();
     let end = CompactionEnd::Installed(step.manifest);
-    let object = compaction_json(alloc, level, &step.outputs, &step.deleted, end)?;
-    print_lines(rt, json_line(alloc, &object)?.as_bytes())
-}
-
-/// Prints the lines of a compaction that is installed.
-pub(crate) fn print_step_lines<R: Print + AllocGlobal>(
-    rt: &R,
-    step: &CompactionStep,
-) -> Result<(), Refusal> {
-    let end = CompactionEnd::Installed(step.manifest);
-    let lines = compaction_lines(rt.alloc(), &step.outputs, &step.deleted, end)?;
-    print_lines(rt, lines.as_bytes())
-}
-
-/// Tells how long the compaction of a level took, if its beginning is known.
-pub(crate) fn tell_step<R: Eprint + Clock + AllocGlobal>(
-    rt: &R,
-    level: u64,
-    begun: Option<Beginning>,
-) {
-    if let Ok(step) = format!(in rt.alloc(); "compact --level {level}") {
-        tell_time(rt, step.as_str(), begun);
-    }
-}
-
-/// The refusal that a compaction's lines can't be written. It is installed by then. Of several
-/// steps it is the last one.
-pub(crate) fn unprinted(alloc: Global, folder: &str, levels: Levels, refusal: Refusal) -> Refusal {
-    let words = match levels {
-        Levels::One(_) | Levels::Whole(_) => Words {
-            wrong: "the new version is installed, but its lines could not be written",
-            remedy: "manifest shows it",
-        },
-        Levels::All | Levels::AllWhole => Words {
-            wrong: "the step is installed, but its lines could not be written, so the work stopped",
-            remedy: "run it again",
-        },
-    };
-    Refusal::new(refusal.fault, told(alloc, folder, words))
+    print_compaction(rt, level, &step.outputs, &step.deleted, end, is_json)
 }

@@ -1,0 +1,101 @@
+//! The version of a folder, and its test.
+
+use crate::fault_printer::print_faults;
+use answers::{
+    Question, VersionTotals, answer_opened, json_line, lawful_json, manifest_lines, test_opened,
+    version_json,
+};
+use refusals::sizes_in_turn;
+use session::{Host, Refusal, Session, bytes_of, missing_log};
+use usage::{ManifestLine, Testing, VerdictForm, VerifyLine};
+
+/// What is printed of the version of a folder.
+pub fn version_answer<R: Host>(
+    session: &Session<'_, R>,
+    line: &ManifestLine<'_>,
+) -> Result<Vec<u8>, Refusal> {
+    let alloc = session.rt.alloc();
+    let (order, version) = (session.opened.order, &session.opened.version);
+    if !line.is_json {
+        return Ok(manifest_lines(alloc, line.spelling, order, version)?);
+    }
+    let object = version_json(alloc, line.spelling, order, version)?;
+    Ok(json_line(alloc, &object)?.into_bytes())
+}
+
+/// Tests the version of a folder. The answer is what is printed of a lawful one.
+pub fn verdict_answer<R: Host>(
+    session: &mut Session<'_, R>,
+    line: &VerifyLine<'_>,
+) -> Result<Vec<u8>, Refusal> {
+    let memory = bytes_of(line.memory);
+    match line.form {
+        VerdictForm::Line => lawful_answer(session, memory),
+        VerdictForm::Json => lawful_object(session, memory),
+        VerdictForm::AllFaults => print_faults(session, memory),
+    }
+}
+
+/// The line of a lawful version.
+fn lawful_answer<R: Host>(session: &mut Session<'_, R>, memory: u64) -> Result<Vec<u8>, Refusal> {
+    let rt = session.rt;
+    sizes_in_turn(rt, session.telling.folder, &session.opened)?;
+    let progress = session.progress();
+    let answer = answer_opened(
+        rt,
+        rt.alloc(),
+        &mut session.disk,
+        session.opened.order,
+        &session.opened.version,
+        Question::Lawful,
+        memory,
+        &progress,
+    );
+    match session.ended(&progress, answer)? {
+        Some(line) => Ok(line),
+        None => Ok(Vec::new(rt.alloc())),
+    }
+}
+
+/// The JSON line of a lawful version.
+fn lawful_object<R: Host>(session: &mut Session<'_, R>, memory: u64) -> Result<Vec<u8>, Refusal> {
+    let tested = version_tested(session, memory)?;
+    let (rt, logs) = (session.rt, session.logs);
+    let missing = match logs {
+        Some(_) => missing_log(rt, session.telling.folder, &session.opened.version)?,
+        None => None,
+    };
+    let object = lawful_json(rt.alloc(), tested.files, tested.entries, logs, missing)?;
+    Ok(json_line(rt.alloc(), &object)?.into_bytes())
+}
+
+/// Tests a version before it is read, unless that is left out.
+pub(crate) fn test_unless_skipped<R: Host>(
+    session: &mut Session<'_, R>,
+    testing: &Testing,
+) -> Result<(), Refusal> {
+    if !testing.is_skipped {
+        version_tested(session, bytes_of(testing.memory))?;
+    }
+    Ok(())
+}
+
+/// Tests the sizes of a version's tables, and then the version.
+fn version_tested<R: Host>(
+    session: &mut Session<'_, R>,
+    memory: u64,
+) -> Result<VersionTotals, Refusal> {
+    let rt = session.rt;
+    sizes_in_turn(rt, session.telling.folder, &session.opened)?;
+    let progress = session.progress();
+    let tested = test_opened(
+        rt,
+        rt.alloc(),
+        &mut session.disk,
+        session.opened.order,
+        &session.opened.version,
+        memory,
+        &progress,
+    );
+    session.ended(&progress, tested)
+}

@@ -1,7 +1,8 @@
 //! The commands that only read: a version, its test, its files, its rows and values, a table, two
 //! blocks.
 //!
-//! No contract says which calls are made for a command, nor what is printed.
+//! Each answers what is left to print, after it was told how long the work took. No contract says
+//! which calls are made for a command, nor what is printed.
 #![tactic(auto)]
 
 mod block_files;

@@ -1,6 +1,6 @@
-//! What the commands of the program have in common: locks and files, how a folder is opened, a
-//! refusal and its words, what is told of logs and of progress on the standard error, and lines
-//! that are printed.
+//! What the commands of the program have in common: locks and files, a folder that is opened once
+//! ([`Session`]), a refusal and its words, what is told of logs and of progress on the standard
+//! error, and lines that are printed.
 //!
 //! What is read of a folder again to tell of the work on it:
 //!

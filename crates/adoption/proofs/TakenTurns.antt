@@ -25,9 +25,9 @@ use Rattle.compact.proofs.Closing.{any_at}
 use Rattle.compact.proofs.VersionInputs.{any_passes}
 use Rattle.store.proofs.TablesAfter.{one_number}
 use Rattle.store.specs.FolderRequest.{manifest_of}
-use Rattle.levels.specs.JoinedEdits.{joined_edit}
-use Rattle.levels.proofs.DeletedSets.{tied}
-use Rattle.levels.proofs.JoinedBytes.{edits_join}
+use Rattle.install.specs.JoinedEdits.{joined_edit}
+use Rattle.install.proofs.DeletedSets.{tied}
+use Rattle.install.proofs.JoinedBytes.{edits_join}
 use Rattle.levels.proofs.JoinedFiles.{joined_applies}
 use Rattle.adoption.specs.Adoption.{Adoption, adopted, adopted_next}
 use Rattle.adoption.specs.AdoptedOutcome.{IsAdopted}

@@ -47,7 +47,7 @@ written_current [] s next h is = ap (λ (v : FolderView). v.files CURRENT) is
 written_current (file ∷ files) s next h is =
     written_current files (with_synced (with_contents s file.0 (Some file.1)) file.0) next h.1 is ∙ put_other s.files file.0 (Some file.1) CURRENT (λ e. h.0 (sym e))
 
-shows_current : (call : Call) (s next : FolderView) → LeavesCurrent call → Shows (Done call) s next → next.files CURRENT ≡ s.files CURRENT
+pub shows_current : (call : Call) (s next : FolderView) → LeavesCurrent call → Shows (Done call) s next → next.files CURRENT ≡ s.files CURRENT
 shows_current (Created name bytes) s next h is = ap (λ (v : FolderView). v.files CURRENT) is ∙ put_other s.files name (Some bytes) CURRENT (λ e. h (sym e))
 shows_current (Written files) s next h is = written_current files s next h is
 shows_current (Synced name) s next h is = ap (λ (v : FolderView). v.files CURRENT) is

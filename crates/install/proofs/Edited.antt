@@ -31,7 +31,7 @@ use Rattle.install.proofs.Outputs.{AreApart, filed}
 use Rattle.install.proofs.Switch.{Setting, manifest_no_temporary, table_no_current, table_no_temporary, temporary_no_current, manifest_no_current}
 
 -- no two numbers are one
-abbrev AreDistinct : List ℕ → Type 0
+abbrev pub AreDistinct : List ℕ → Type 0
 AreDistinct [] = Unit {0}
 AreDistinct (n ∷ numbers) = (IsOneOf numbers n → ⊥) × AreDistinct numbers
 
@@ -65,7 +65,7 @@ same_or : {A : Type 0} (o a b : Option A) → is_some o ≡ true → option_or o
 same_or None a b h = absurd (cc h)
 same_or (Some x) a b h = refl
 
-some_or : {A : Type 0} (o a : Option A) → is_some o ≡ true → is_some (option_or o a) ≡ true
+pub some_or : {A : Type 0} (o a : Option A) → is_some o ≡ true → is_some (option_or o a) ≡ true
 some_or None a h = absurd (cc h)
 some_or (Some x) a h = refl
 
@@ -134,7 +134,7 @@ other_filed [] done name h other = other
 other_filed (t ∷ outputs) done name h other = other_filed outputs ((table_name t.0, t.1) ∷ done) name h (h t.0, other)
 
 -- the tables' names are apart
-outputs_apart : (cmp : List ℕ → List ℕ → Ordering) (v : State) (outputs : List (ℕ × List ℕ)) (done : List (List ℕ × List ℕ)) → ((n : ℕ) → IsOneOf (numbers_of outputs) n → IsFree cmp v (table_name n) × (n < 2 ^ 64) × AllOther (table_name n) done)
+pub outputs_apart : (cmp : List ℕ → List ℕ → Ordering) (v : State) (outputs : List (ℕ × List ℕ)) (done : List (List ℕ × List ℕ)) → ((n : ℕ) → IsOneOf (numbers_of outputs) n → IsFree cmp v (table_name n) × (n < 2 ^ 64) × AllOther (table_name n) done)
     → AreDistinct (numbers_of outputs) → AreApart cmp v outputs done
 outputs_apart cmp v [] done h distinct = tt
 outputs_apart cmp v (t ∷ outputs) done h distinct =
@@ -147,13 +147,13 @@ outputs_apart cmp v (t ∷ outputs) done h distinct =
     )
 
 -- a manifest that completes the version has a number below the first free one
-complete_below : (v : State) (m least : ℕ) → v.next_file ≡ Some least → is_complete m v ≡ true → m < least
+pub complete_below : (v : State) (m least : ℕ) → v.next_file ≡ Some least → is_complete m v ≡ true → m < least
 complete_below v m least is h =
     let last' = (both_true (is_some v.log_number && is_some v.last_sequence) (option_map_or (nat_lt m) v.next_file false) h).1 in
     ltb-true m least (sym (ap (λ (o : Option ℕ). option_map_or (nat_lt m) o false) is) ∙ last')
 
 module _ (cmp : List ℕ → List ℕ → Ordering) (order : Order) (v next : State) (number : ℕ) (outputs : List (ℕ × List ℕ)) (bytes : List ℕ) (h : IsEditedBy cmp v number outputs bytes next) (small : number < 2 ^ 64) where
-  output_small : (n : ℕ) → IsOneOf (numbers_of outputs) n → n < 2 ^ 64
+  pub output_small : (n : ℕ) → IsOneOf (numbers_of outputs) n → n < 2 ^ 64
   output_small n m = small_added bytes h.edit h.read n (subst (λ (ns : List ℕ). IsOneOf ns n) (sym h.added) m)
 
   -- the files of the next version are outputs, or were there
@@ -187,7 +187,7 @@ module _ (cmp : List ℕ → List ℕ → Ordering) (order : Order) (v next : St
     old_table = λ k was same. low_apart (old_table_name k) (manifest_name number) 116 (old_table_end k) (manifest_end number small) (omega arith) (sym same);
   }
 
-  distinct : AreDistinct (numbers_of outputs)
+  pub distinct : AreDistinct (numbers_of outputs)
   distinct =
       let parts = option_parts (made v h.edit) (files_after v.files h.edit.deleted h.edit.added) next h.edited in
       let tests = some_tested (list_all (has_place v.files) h.edit.deleted && are_new (undeleted_files h.edit.deleted v.files) h.edit.added) _ parts.0 None refl parts.1 in

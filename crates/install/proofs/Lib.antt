@@ -19,3 +19,11 @@ mod InstallRuns
 mod Before
 pub mod Grouped
 pub mod WorkRows
+mod NamedReads
+mod Pieces
+mod Survival
+mod Sound
+pub mod DeletedSets
+pub mod JoinedBytes
+mod NothingNamed
+mod WideTexts

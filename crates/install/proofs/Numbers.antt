@@ -70,7 +70,7 @@ module _ {A : Type 0} (number : A → ℕ) where
   kept cmp tie (x ∷ xs) k n m = kept_by (cmp k x) x k xs (insert_key cmp xs k) n (tie k x) (kept cmp tie xs k n) m
 
   -- what stood in one of the two stands in order
-  to_order : (cmp : A → A → Ordering) → ((a b : A) → cmp a b ≡ Equal → number a ≡ number b) → (xs files : List A) (n : ℕ) → IsOneOf (map number xs) n ⊎ IsOneOf (map number files) n → IsOneOf (map number (fold (insert_key cmp) xs files)) n
+  pub to_order : (cmp : A → A → Ordering) → ((a b : A) → cmp a b ≡ Equal → number a ≡ number b) → (xs files : List A) (n : ℕ) → IsOneOf (map number xs) n ⊎ IsOneOf (map number files) n → IsOneOf (map number (fold (insert_key cmp) xs files)) n
   to_order cmp tie xs [] n (inl m) = m
   to_order cmp tie xs [] n (inr m) = absurd m
   to_order cmp tie xs (f ∷ files) n (inl m) = to_order cmp tie (insert_key cmp xs f) files n (inl (kept cmp tie xs f n (inr m)))

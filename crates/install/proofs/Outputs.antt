@@ -29,7 +29,7 @@ abbrev pub AreApart : (List ℕ → List ℕ → Ordering) → State → List (�
 AreApart cmp v [] done = Unit {0}
 AreApart cmp v (t ∷ tables) done = IsFree cmp v (table_name t.0) × AllOther (table_name t.0) done × AreApart cmp v tables ((table_name t.0, t.1) ∷ done)
 
-filed_joined : (one two : List (ℕ × List ℕ)) (done : List (List ℕ × List ℕ)) → filed (one ++ two) done ≡ filed two (filed one done)
+pub filed_joined : (one two : List (ℕ × List ℕ)) (done : List (List ℕ × List ℕ)) → filed (one ++ two) done ≡ filed two (filed one done)
 filed_joined [] two done = refl
 filed_joined (t ∷ one) two done = filed_joined one two ((table_name t.0, t.1) ∷ done)
 

@@ -15,7 +15,7 @@ use Rattle.install.proofs.Moments.{chained, install_chain, leads_split}
 -- ---- moments
 
 -- a moment of some steps and then others is one of the first, or after them one of the others
-moment_split : (one two sofar : List Step) → IsMoment (one ++ two) sofar → IsMoment one sofar ⊎ ((later : List Step) × (sofar ≡ one ++ later) × IsMoment two later)
+pub moment_split : (one two sofar : List Step) → IsMoment (one ++ two) sofar → IsMoment one sofar ⊎ ((later : List Step) × (sofar ≡ one ++ later) × IsMoment two later)
 moment_split [] two sofar h = inr (sofar, refl, h)
 moment_split (x ∷ one) two [] h = inl tt
 moment_split (x ∷ one) two (now ∷ sofar) (inl done) = elim (moment_split one two sofar done.1) [
@@ -43,7 +43,7 @@ leaves_as start a b P Q f h = record { steps = h.steps; all = h.all; each = λ s
 -- ---- after an installation CURRENT names its manifest
 
 -- the calls of an installation that were all done, with the last seven one by one
-abbrev last_seven : ℕ → List ℕ → List Step
+abbrev pub last_seven : ℕ → List ℕ → List Step
 last_seven number manifest = Done (Created (manifest_name number) manifest) ∷ (Done (Synced (manifest_name number)) ∷ (Done (Created (temporary_name number) (current_text number)) ∷ (Done (Synced (temporary_name number)) ∷ (Done FolderSynced
     ∷ (Done (Renamed (temporary_name number) (codes "CURRENT")) ∷ (Done FolderSynced ∷ []))))))
 
@@ -55,7 +55,7 @@ done_calls number groups manifest =
 file_at : (name : List ℕ) (s t : FolderView) → s ≡ t → s.files name ≡ t.files name
 file_at name s t is = ap (λ (x : FolderView). x.files name) is
 
-seven_name : (number : ℕ) (manifest : List ℕ) (start w : World) → Leads start (last_seven number manifest) w → w.shown.files (codes "CURRENT") ≡ Some (current_text number)
+pub seven_name : (number : ℕ) (manifest : List ℕ) (start w : World) → Leads start (last_seven number manifest) w → w.shown.files (codes "CURRENT") ≡ Some (current_text number)
 seven_name number manifest start w a =
     let b = a.2 in
     let c = b.2 in

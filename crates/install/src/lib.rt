@@ -29,6 +29,10 @@
 //! [`work_laws`] joins installations and removals that follow one another: a crash at any moment
 //! leaves one of their versions.
 //!
+//! [`work_survives`] says that of any row of pieces of work, with each version's manifest. A piece
+//! writes the tables of an outcome, or names the version that outcomes make, or removes files. So
+//! several outcomes may be written before one manifest names what they make.
+//!
 //! Premises of what is said of a crash:
 //!
 //! - nobody else writes the folder;
@@ -48,6 +52,7 @@ mod pending_names;
 mod removal;
 mod removal_watch;
 mod row_laws;
+mod work_survival;
 
 pub use edit::Outcome;
 pub use file_kind::FileKind;
@@ -60,3 +65,4 @@ pub use pending_names::pending_current;
 pub use removal::remove_obsolete;
 pub use removal_watch::RemovalWatch;
 pub use row_laws::work_laws;
+pub use work_survival::{nothing_named, work_survives};

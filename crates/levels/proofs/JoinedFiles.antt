@@ -17,8 +17,8 @@ use Rattle.edit.proofs.Inserted.{sorted_all}
 use Rattle.edit.proofs.Kept.{new_on, taken_is}
 use Rattle.edit.proofs.RisingFiles.{number_total, rising_filter, same_file}
 use Rattle.edit.proofs.Tested.{both_false, both_true, by_test, is_eq-nat_cmp, list_any-filter, not_is_true}
-use Rattle.levels.specs.JoinedEdits.{JoinedApplies, joined_edit}
-use Rattle.levels.proofs.DeletedSets.{all_puts, any_puts}
+use Rattle.install.specs.JoinedEdits.{JoinedApplies, joined_edit}
+use Rattle.install.proofs.DeletedSets.{all_puts, any_puts}
 
 -- ---- a file that passes a test is put in before it or after it
 

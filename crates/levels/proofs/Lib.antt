@@ -1,5 +1,3 @@
-pub mod DeletedSets
-pub mod JoinedBytes
 pub mod JoinedFiles
 pub mod FreeOutputs
 pub mod LaidTables

@@ -40,10 +40,10 @@ use Rattle.store.specs.Compaction.{EditedVersion}
 use Rattle.store.specs.FolderRequest.{compaction_from, last_of, manifest_of}
 use Rattle.store.specs.OutputRanges.{IsOldOrOutput}
 use Rattle.store.proofs.TablesAfter.{HasNumber, number_of, one_number}
-use Rattle.levels.specs.JoinedEdits.{joined_edit}
+use Rattle.install.specs.JoinedEdits.{joined_edit}
 use Rattle.levels.specs.WholeAnswer.{edits_of, next_last, part_result, tables_of}
-use Rattle.levels.proofs.DeletedSets.{tied}
-use Rattle.levels.proofs.JoinedBytes.{edits_join}
+use Rattle.install.proofs.DeletedSets.{tied}
+use Rattle.install.proofs.JoinedBytes.{edits_join}
 use Rattle.levels.proofs.JoinedFiles.{joined_applies}
 use Rattle.levels.proofs.LaidTables.{laid_before, laid_twice}
 use Rattle.levels.proofs.PartStep.{Stepped, added_numbers, edit_next, after, count_is, numbers_within, own_edit, part_answered, same_request, stays_in, stepped, thread_at}

@@ -1,5 +1,4 @@
 -- what contracts rest on
-pub mod JoinedEdits
 pub mod WholeAnswer
 pub mod WholeLeft
 pub mod WholeRuns

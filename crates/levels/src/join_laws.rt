@@ -1,6 +1,6 @@
 //! Laws of two edits as one.
 
-ghost use Rattle.levels.specs.JoinedEdits.{EditsJoin, JoinedApplies};
+ghost use Rattle.install.specs.JoinedEdits.{EditsJoin, JoinedApplies};
 
 /// The bytes of two edits, one after the other, read as the two as one. A call does nothing.
 pub fn edits_join()

@@ -1,4 +1,4 @@
-use Rattle.levels.proofs.JoinedBytes as lemma
+use Rattle.install.proofs.JoinedBytes as lemma
 use Rattle.levels.proofs.join_laws.edits_join.Goals as goal
 
 pub returns : goal.returns

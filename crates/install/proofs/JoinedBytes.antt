@@ -10,8 +10,8 @@ use Rattle.edit.specs.Edit.{Edit, deleted_cmp, edit_from, empty_edit, with_field
 use Rattle.edit.specs.declared.meta.CompactPointer.{CompactPointer}
 use Rattle.edit.specs.declared.meta.DeletedFile.{DeletedFile}
 use Rattle.edit.specs.declared.meta.NewFile.{NewFile}
-use Rattle.levels.specs.JoinedEdits.{EditsJoin, joined_edit}
-use Rattle.levels.proofs.DeletedSets.{put_later, put_sorted}
+use Rattle.install.specs.JoinedEdits.{EditsJoin, joined_edit}
+use Rattle.install.proofs.DeletedSets.{put_later, put_sorted}
 
 abbrev AreSets : Edit → Type 0
 AreSets e = IsStrictlySortedBy deleted_cmp e.deleted

@@ -1,0 +1,18 @@
+//! What work on a folder leaves of it.
+
+ghost use Rattle.install.specs.NothingNamed.{NothingIsNamed};
+ghost use Rattle.install.specs.Work.{WorkSurvives};
+
+use folder::Folder;
+
+/// Whatever pieces of work follow one another, a crash at any moment leaves a version that was
+/// named. A call does nothing.
+pub fn work_survives<F: Folder>(_folder: &F)
+    ensures { WorkSurvives F.Folder }
+{}
+
+/// A manifest whose edit is that of no outcome names no version. So work can't name one before it
+/// has written an outcome. A call does nothing.
+pub fn nothing_named()
+    ensures { NothingIsNamed }
+{}

@@ -83,7 +83,7 @@ fn print_rows<R: Host>(
     let mut printer = RowPrinter {
         rt,
         progress: &progress,
-        line,
+        line: &*line,
         lines: Vec::new(rt.alloc()),
         refusal: None,
     };

@@ -7,7 +7,7 @@ use queries::{
     merge, print_files, print_history, print_rows, print_stats, print_table, print_table_verdict,
     print_value, print_verdict, print_version,
 };
-use session::{Host, Refusal, Telling, bytes_of};
+use session::{Host, Refusal, RefusedTable, Telling, bytes_of};
 use std::env::Env;
 use std::io::ErrorKind;
 use std::rt::Files;
@@ -55,9 +55,10 @@ pub(crate) fn run<R: Env + Host>(rt: &R, is_watched: bool) -> u8 {
 /// Does what a command line asks for, tells why not if it is refused, and answers the status.
 fn answer<R: Host>(rt: &R, asked: &CommandLine<'_>, is_watched: bool) -> u8 {
     let line = &asked.line;
+    let refused = RefusedTable::none();
     let done = match taken_folder(rt, line) {
         Ok(Some(out)) => return report_taken(rt, out),
-        Ok(None) => carry_out(rt, line, telling_of(asked, is_watched)),
+        Ok(None) => carry_out(rt, line, telling_of(asked, is_watched, &refused)),
         Err(refusal) => Err(refusal),
     };
     match done {
@@ -164,7 +165,11 @@ fn subject<'a>(line: &Line<'a>) -> &'a str {
 }
 
 /// What is to be told of the work that a command line asks for.
-fn telling_of<'a>(asked: &CommandLine<'a>, is_watched: bool) -> Telling<'a> {
+fn telling_of<'a>(
+    asked: &CommandLine<'a>,
+    is_watched: bool,
+    refused: &'a RefusedTable,
+) -> Telling<'a> {
     let line = &asked.line;
     Telling {
         folder: subject(line),
@@ -174,6 +179,7 @@ fn telling_of<'a>(asked: &CommandLine<'a>, is_watched: bool) -> Telling<'a> {
         ignores_lock: asked.ignores_lock,
         refuses_logs: asked.refuses_logs,
         memory: bytes_of(memory_of(line)),
+        refused,
     }
 }
 

@@ -2,7 +2,7 @@
 
 use checks::{Fault, FaultName};
 use install::Opened;
-use refusals::{RefusedFile, file_refusal, table_file_name};
+use refusals::{missing_file, table_file_name};
 use session::{Disk, Refusal, SystemFiles, path_in, refused_opened};
 use std::fs;
 use std::io::ErrorKind;
@@ -22,31 +22,25 @@ pub(crate) fn table_found<R: SystemFiles + AllocGlobal>(
     };
     match is_there(rt, path, name.as_str()) {
         Ok(true) => Ok(name),
-        Ok(false) => {
-            let missing = RefusedFile {
-                name,
-                fault: Fault::of(FaultName::Missing),
-                detail: None,
-            };
-            Err(table_refused(rt, path, &folder, opened, &missing))
-        }
+        Ok(false) => Err(missing_refused(rt, path, &folder, opened, name.as_str())),
         Err(refusal) => Err(refusal),
     }
 }
 
-/// The refusal of a table. If another program changed the folder meanwhile, that is told.
-fn table_refused<R: SystemFiles + AllocGlobal>(
+/// The refusal of a table of this name that is missing. If another program changed the folder
+/// meanwhile, that is told.
+fn missing_refused<R: SystemFiles + AllocGlobal>(
     rt: &R,
     path: &str,
     folder: &Disk<'_, R>,
     opened: &Opened,
-    table: &RefusedFile,
+    name: &str,
 ) -> Refusal {
-    let refusal = refused_opened(rt, path, folder, opened, table.fault);
-    if refusal.told.is_some() || table.fault.name == FaultName::Memory {
+    let refusal = refused_opened(rt, path, folder, opened, Fault::of(FaultName::Missing));
+    if refusal.told.is_some() {
         return refusal;
     }
-    refusal.telling(file_refusal(rt.alloc(), path, table))
+    refusal.telling(missing_file(rt.alloc(), path, name))
 }
 
 /// Whether a folder's file is there. Device if the system doesn't tell it.

@@ -3,7 +3,7 @@
 use crate::compaction_notes::outcome_edit;
 use disk::Disk;
 use folder::{Fault, FaultName, Order, VersionEdit};
-use refusals::{Detail, RefusedFile, compaction_explained, refused_outcome};
+use refusals::{Stated, compaction_explained, file_fault, is_there, table_file_name, unlike_edit};
 use session::{Host, Refusal, RefusalText, Telling, Words, deleted_files, of_file, path_in, told};
 use std::alloc::Global;
 use store::{EDIT, SyncedVersion, manifest_of};
@@ -11,6 +11,15 @@ use usage::{InstallLine, Settings};
 
 /// What to do about an outcome.
 const REMEDY: &str = "make the outcome again";
+
+/// What is wrong with an outcome without EDIT.
+const NO_EDIT: &str = "it is missing: the folder has no whole outcome";
+
+/// What EDIT states of a table.
+const BY_EDIT: Stated = Stated {
+    by: "EDIT",
+    remedy: REMEDY,
+};
 
 /// What to do about an outcome whose numbers were given away since.
 const NUMBER_REMEDY: &str = "make the outcome again with a --first-number above it";
@@ -34,85 +43,127 @@ pub(crate) fn outcome_explained<'a, R: Host>(
     if refusal.told.is_some() || is_of_no_file(name) {
         return refusal;
     }
-    match line.outs.get(done as usize) {
-        Some(out) => {
-            one_explained(
-                rt,
-                telling,
-                line,
-                OutcomePlace { out, done },
-                opened,
-                refusal,
-            )
-        }
-        None => refusal,
-    }
-}
-
-/// An outcome among others.
-#[derive(Clone, Copy)]
-struct OutcomePlace<'a> {
-    /// The path of its folder.
-    out: &'a str,
-    /// How many are before it.
-    done: u64,
-}
-
-/// The refusal of an outcome, with what is told of it.
-fn one_explained<'a, R: Host>(
-    rt: &'a R,
-    telling: Telling<'_>,
-    line: &InstallLine<'a>,
-    place: OutcomePlace<'a>,
-    opened: &SyncedVersion,
-    refusal: Refusal,
-) -> Refusal {
-    let out = place.out;
-    let name = refusal.fault.name;
+    let Some(out) = line.outs.get(done as usize) else {
+        return refusal;
+    };
     let mut refusal = refusal;
     refusal.tell_name(rt);
-    match outcome_file(rt, out, opened.order, name) {
-        Some(file) => refusal.telling(file_refusal(rt.alloc(), out, &file)),
-        None if name == FaultName::Apply => refusal.telling(misfit(rt, line, place, opened)),
-        None => explained_of_folder(rt, telling, line, out, refusal),
+    let told = file_told(rt, telling, out, opened.order, name);
+    if told.is_some() {
+        return refusal.telling(told);
+    }
+    if name == FaultName::Apply {
+        return refusal.telling(misfit(rt, line, out, done, opened));
+    }
+    explained_of_folder(rt, telling, line, out, refusal)
+}
+
+/// What is told of the file of an outcome that is refused by this name. None if none is.
+fn file_told<R: Host>(
+    rt: &R,
+    telling: Telling<'_>,
+    out: &str,
+    order: Order,
+    name: FaultName,
+) -> Option<RefusalText> {
+    let alloc = rt.alloc();
+    let mut outcome = Disk::new(rt, out);
+    let edit = match outcome_edit(alloc, &mut outcome) {
+        Ok(Some(edit)) => edit,
+        Ok(None) if name == FaultName::Missing => return words_told(alloc, out, EDIT, NO_EDIT),
+        Err(fault) if fault.name == name => {
+            return words_told(alloc, out, EDIT, edit_words(name));
+        }
+        _ => return None,
+    };
+    match name {
+        FaultName::Missing => {
+            let table = first_missing(rt, out, &edit)?;
+            words_told(
+                alloc,
+                out,
+                table.as_str(),
+                "it is missing, and EDIT names it",
+            )
+        }
+        FaultName::Bounds => {
+            let (number, fault) = unlike_edit(alloc, &mut outcome, order, &edit).ok()??;
+            let table = table_file_name(alloc, &mut outcome, number).ok()?;
+            file_fault(
+                alloc,
+                path_in(alloc, out, table.as_str())?.as_str(),
+                fault,
+                BY_EDIT,
+            )
+        }
+        name => {
+            let number = telling.refused.number()?;
+            if !edit.added.iter().any(|file| file.meta.number == number) {
+                return None;
+            }
+            let table = table_file_name(alloc, &mut outcome, number).ok()?;
+            words_told(alloc, out, table.as_str(), of_file(name).wrong)
+        }
     }
 }
 
-/// What is told of an outcome that doesn't fit what a folder was `opened` as.
+/// What is told of an outcome's file of this name.
+fn words_told(alloc: Global, out: &str, file: &str, wrong: &'static str) -> Option<RefusalText> {
+    let words = Words {
+        wrong,
+        remedy: REMEDY,
+    };
+    told(alloc, path_in(alloc, out, file)?.as_str(), words)
+}
+
+/// What is wrong with an EDIT that is refused by this name.
+fn edit_words(name: FaultName) -> &'static str {
+    match name {
+        FaultName::EditTag => "it has an unknown tag",
+        FaultName::EditField => "a field of it cannot be read",
+        name => of_file(name).wrong,
+    }
+}
+
+/// The name of the first new table of an edit that an outcome lacks.
+fn first_missing<R: Host>(rt: &R, out: &str, edit: &VersionEdit) -> Option<String> {
+    let mut outcome = Disk::new(rt, out);
+    for file in &edit.added {
+        let table = table_file_name(rt.alloc(), &mut outcome, file.meta.number).ok()?;
+        if !is_there(rt, out, table.as_str()) {
+            return Some(table);
+        }
+    }
+    None
+}
+
+/// What is told of an outcome, after `done` others, that doesn't fit what a folder was `opened` as.
 fn misfit<R: Host>(
     rt: &R,
     line: &InstallLine<'_>,
-    place: OutcomePlace<'_>,
+    out: &str,
+    done: u64,
     opened: &SyncedVersion,
 ) -> Option<RefusalText> {
     let alloc = rt.alloc();
-    let path = path_in(alloc, place.out, EDIT)?;
-    match number_taken(rt, line, place, opened) {
-        Ok(Some((number, next))) => {
-            let (whose, remedy) = if place.done == 0 {
-                ("the database", NUMBER_REMEDY)
-            } else {
-                ("the outcomes before it", ORDER_REMEDY)
-            };
-            let wrong = format!(in alloc;
-                "its table {number} is not above the next file number of {whose}, {next}"
-            );
-            RefusalText::new(alloc, path.as_str(), wrong, remedy)
-        }
-        _ => told(alloc, path.as_str(), misfit_words(place)),
+    let (whose, left, remedy) = if done == 0 {
+        ("the database", "of the database", NUMBER_REMEDY)
+    } else {
+        (
+            "the outcomes before it",
+            "that the outcomes before it leave",
+            ORDER_REMEDY,
+        )
+    };
+    let path = path_in(alloc, out, EDIT)?;
+    if let Ok(Some((number, next))) = number_taken(rt, line, out, done, opened) {
+        let wrong = format!(in alloc;
+            "its table {number} is not above the next file number of {whose}, {next}"
+        );
+        return RefusalText::new(alloc, path.as_str(), wrong, remedy);
     }
-}
-
-/// What is wrong with an outcome that doesn't fit.
-fn misfit_words(place: OutcomePlace<'_>) -> Words {
-    Words {
-        wrong: if place.done == 0 {
-            "it does not fit the version of the database"
-        } else {
-            "it does not fit the version that the outcomes before it leave"
-        },
-        remedy: REMEDY,
-    }
+    let wrong = format!(in alloc; "it does not fit the version {left}");
+    RefusalText::new(alloc, path.as_str(), wrong, REMEDY)
 }
 
 /// The number of the first new file of an outcome that isn't above the next file number that it
@@ -120,35 +171,21 @@ fn misfit_words(place: OutcomePlace<'_>) -> Words {
 fn number_taken<R: Host>(
     rt: &R,
     line: &InstallLine<'_>,
-    place: OutcomePlace<'_>,
+    out: &str,
+    done: u64,
     opened: &SyncedVersion,
 ) -> Result<Option<(u64, u64)>, Fault> {
     let alloc = rt.alloc();
-    let Some(edit) = outcome_edit(alloc, &mut Disk::new(rt, place.out))? else {
+    let Some(edit) = outcome_edit(alloc, &mut Disk::new(rt, out))? else {
         return Ok(None);
     };
     let inputs = deleted_files(alloc, &opened.version, &edit.deleted)?;
     if inputs.len() != edit.deleted.len() {
         return Ok(None);
     }
-    let Some(next) = next_before(rt, line, place, opened, &edit)? else {
-        return Ok(None);
-    };
-    Ok(first_at_most(&edit, next).map(|number| (number, next)))
-}
-
-/// The next file number that the outcomes before one with this edit leave. None if one of them
-/// deletes an input of it.
-fn next_before<R: Host>(
-    rt: &R,
-    line: &InstallLine<'_>,
-    place: OutcomePlace<'_>,
-    opened: &SyncedVersion,
-    edit: &VersionEdit,
-) -> Result<Option<u64>, Fault> {
     let mut next = manifest_of(&opened.version);
-    for out in line.outs.iter().take(place.done as usize) {
-        let Some(before) = outcome_edit(rt.alloc(), &mut Disk::new(rt, out))? else {
+    for out in line.outs.iter().take(done as usize) {
+        let Some(before) = outcome_edit(alloc, &mut Disk::new(rt, out))? else {
             return Ok(None);
         };
         if !before.deleted.is_disjoint(&edit.deleted) {
@@ -156,29 +193,8 @@ fn next_before<R: Host>(
         }
         next = next.max(before.next_file.unwrap_or(0));
     }
-    Ok(Some(next))
-}
-
-/// The number of the first new file of an edit that isn't above this one.
-fn first_at_most(edit: &VersionEdit, next: u64) -> Option<u64> {
-    for file in &edit.added {
-        if file.meta.number <= next {
-            return Some(file.meta.number);
-        }
-    }
-    None
-}
-
-/// The first file of an outcome that is refused, if that is by this name.
-fn outcome_file<R: Host>(rt: &R, out: &str, order: Order, name: FaultName) -> Option<RefusedFile> {
-    let mut outcome = Disk::new(rt, out);
-    let found = refused_outcome(rt.alloc(), &mut outcome, order, EDIT, name);
-    let file = found.ok()??;
-    if file.fault.name == name {
-        Some(file)
-    } else {
-        None
-    }
+    let taken = edit.added.iter().find(|file| file.meta.number <= next);
+    Ok(taken.map(|file| (file.meta.number, next)))
 }
 
 /// The refusal of an outcome none of whose files is refused, with what is told of it.
@@ -195,10 +211,15 @@ fn explained_of_folder<'a, R: Host>(
         ..Settings::default()
     };
     let explained = compaction_explained(rt, telling, None, &settings, refusal);
-    if explained.told.is_some() {
+    if explained.told.is_some() || name != FaultName::Lawless {
         return explained;
     }
-    explained.telling(outcome_refusal(rt.alloc(), out, name))
+    let words = Words {
+        wrong: "its tables do not have what a compaction keeps, or do not go with those of the \
+            database",
+        remedy: REMEDY,
+    };
+    explained.telling(told(rt.alloc(), out, words))
 }
 
 /// Whether a refusal of this name is about no file that can be found.
@@ -207,49 +228,4 @@ fn is_of_no_file(name: FaultName) -> bool {
         name,
         FaultName::Changed | FaultName::Device | FaultName::Memory
     )
-}
-
-/// What is told of an outcome each of whose files by itself is accepted. None if it isn't refused
-/// by this name.
-fn outcome_refusal(alloc: Global, out: &str, name: FaultName) -> Option<RefusalText> {
-    if name != FaultName::Lawless {
-        return None;
-    }
-    let words = Words {
-        wrong: "its tables do not have what a compaction keeps, or do not go with those of the \
-            database",
-        remedy: REMEDY,
-    };
-    told(alloc, out, words)
-}
-
-/// What is told of a refused file of an outcome.
-fn file_refusal(alloc: Global, out: &str, file: &RefusedFile) -> Option<RefusalText> {
-    let path = path_in(alloc, out, file.name.as_str())?;
-    let path = path.as_str();
-    let wrong = match &file.detail {
-        Some(Detail::Size { held, stated }) => {
-            let wrong = format!(in alloc; "it has {held} bytes, and EDIT says {stated}");
-            return RefusalText::new(alloc, path, wrong, REMEDY);
-        }
-        Some(Detail::Smallest) => "its smallest key is not the one that EDIT says",
-        Some(Detail::Largest) => "its largest key is not the one that EDIT says",
-        _ => words_of(file.name.as_str(), file.fault.name),
-    };
-    let words = Words {
-        wrong,
-        remedy: REMEDY,
-    };
-    told(alloc, path, words)
-}
-
-/// What is wrong with an outcome's file of this name.
-fn words_of(file: &str, name: FaultName) -> &'static str {
-    match name {
-        FaultName::Missing if file == EDIT => "it is missing: the folder has no whole outcome",
-        FaultName::Missing => "it is missing, and EDIT names it",
-        FaultName::EditTag => "it has an unknown tag",
-        FaultName::EditField => "a field of it cannot be read",
-        name => of_file(name).wrong,
-    }
 }

@@ -12,13 +12,18 @@ pub enum Work {
     Compact,
 }
 
-/// A gate that is told to which work the jobs belong that pass it.
+/// A gate that is told to which work the jobs belong that pass it, and which table refuses it.
 pub trait Watch: Gate {
     /// The following jobs belong to `work`: `jobs` in its first part, then those of its second,
     /// whose number isn't known yet.
     fn begin(&self, work: Work, jobs: u64);
+
+    /// The table of this number is why the work is refused.
+    fn refused(&self, number: u64);
 }
 
 impl Watch for Open {
     fn begin(&self, _work: Work, _jobs: u64) {}
+
+    fn refused(&self, _number: u64) {}
 }

@@ -12,7 +12,6 @@ use Rattle.folder.specs.Folder.{IsToldBy, TellsSame}
 use Rattle.folder.specs.LoadedTables.{IsTableAnswer, IsTableOf}
 use Rattle.folder.specs.ReadsAs.{IsFileIn}
 use Rattle.reads.specs.Tables.{NumberedContents}
-use Rattle.checks.specs.HeldBytes.{IsToldTable}
 use Rattle.checks.specs.HeldTables.{AreHeldBy, AreHeldIn, IsTableBy}
 use Rattle.checks.specs.TableAnswers.{IsInvalid, IsRead}
 use Rattle.checks.specs.TablePlaces.{HasKept, placed_tables}
@@ -53,14 +52,6 @@ module _ (cmp : List ℕ → List ℕ → Ordering) where
 
     pub none_held : AreHeldBy cmp tells []
     none_held = All-nil IsOf
-
-    -- tables that were read and checked in one job
-    pub told_held : (tables : List NumberedContents) (numbers : List ℕ) → AllZip (IsToldTable cmp tells) tables numbers → AreHeldBy cmp tells tables
-    told_held [] [] h = All-nil IsOf
-    told_held [] (n ∷ numbers) h = absurd h
-    told_held (t ∷ tables) [] h = absurd h
-    told_held (t ∷ tables) (n ∷ numbers) h =
-        All-cons IsOf t tables (record { there = subst (λ (k : ℕ). IsTableAnswer tells k (Ok t.contents.bytes)) (sym h.0.numbered) h.0.there; read = h.0.read }) (told_held tables numbers h.1)
 
     -- tables that were loaded, and then checked
     loaded_held : (numbers : List ℕ) (loaded : List (ℕ × List ℕ)) (tables : List NumberedContents) → AllZip (IsTableOf tells) numbers loaded → tables_reading cmp loaded ≡ Ok tables → AreHeldBy cmp tells tables

@@ -1,5 +1,5 @@
 -- Held tables that are kept, and those that are read beside them.
-use Rattle.std.proofs.Common.{◌≡◌, ℕ, ◌+◌, ◌<◌, List, [], ◌∷◌, ◌++◌, length, take, get_or, Option, Some, None, Ok, IfSome, refl, sym, ap, ap₂, subst, ◌∙◌}
+use Rattle.std.proofs.Common.{◌≡◌, ℕ, ◌+◌, ◌<◌, Bool, true, false, List, [], ◌∷◌, ◌++◌, length, take, get_or, Option, Some, None, Ok, IfSome, refl, sym, ap, ap₂, subst, ◌∙◌}
 use Rattle.std.specs.Prelude.{Contains}
 use Rattle.std.specs.List.{All, cons_option}
 use Rattle.std.specs.Option.{option_to_list}
@@ -8,7 +8,7 @@ use Rattle.std.proofs.lemmas.List.Elements.{All-contains, All-head, All-tail, fi
 use Rattle.std.proofs.lemmas.List.{take_more}
 use Rattle.folder.specs.Calls.{Files}
 use Rattle.reads.specs.Tables.{NumberedContents}
-use Rattle.checks.specs.HeldTables.{AreFound, AreHeldIn, IsFoundAnswer, IsTableIn, held_numbers}
+use Rattle.checks.specs.HeldTables.{AreFound, AreHeldIn, IsFoundAnswer, IsTableIn, held_if, held_numbers}
 use Rattle.checks.specs.TablePlaces.{HasKept, wanted_number, place_numbers, wanted_numbers, placed_tables}
 
 -- a place with the table that was taken for it
@@ -53,6 +53,12 @@ module _ (cmp : List ℕ → List ℕ → Ordering) (files : Files) where
 
   pub placed_unfound : (places : List (ℕ × Option NumberedContents)) → IsFoundAnswer cmp files (wanted_numbers places) (Ok None) → IsFoundAnswer cmp files (place_numbers places) (Ok None)
   placed_unfound places none tables h = let some = wanted_found places tables h in none some.0 some.1
+
+-- so it is answered of all if it is of those that are to be read
+pub placed_answer : (cmp : List ℕ → List ℕ → Ordering) (files : Files) (held : List NumberedContents) → AreHeldIn cmp files held → (places : List (ℕ × Option NumberedContents)) (fresh : List NumberedContents) (are_all : Bool) → All (HasKept held) places
+    → IsFoundAnswer cmp files (wanted_numbers places) (Ok (held_if are_all fresh)) → IsFoundAnswer cmp files (place_numbers places) (Ok (held_if are_all (placed_tables places fresh)))
+placed_answer cmp files held are places fresh true kept h = placed_found held cmp files are places fresh kept h
+placed_answer cmp files held are places fresh false kept h = placed_unfound cmp files places h
 
 -- the numbers that are wanted, a place more
 wanted_one : (o : Option ℕ) → cons_option o [] ≡ option_to_list o

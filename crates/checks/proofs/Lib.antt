@@ -15,6 +15,7 @@ mod SweepLemmas
 mod CountLemmas
 mod NeededSteps
 mod OrderLemmas
+mod SoundNumbers
 pub mod FolderTests
 mod WalkLemmas
 mod TableSizes

@@ -1,6 +1,6 @@
 -- Held tables that are kept, and those that are read.
 use Rattle.std.specs.Prelude.{◌≡◌, ℕ, List, [], ◌∷◌, map, Contains, Option, Some, None}
-use Rattle.std.specs.Prelude.{Result, Ok, Err}
+use Rattle.std.specs.Prelude.{Result, Ok, Err, IfSome}
 use Rattle.std.specs.List.{AllZip, filter_map}
 use Rattle.ikey.specs.Answers.{fault}
 use Rattle.ikey.specs.fault.Fault.{Fault}
@@ -11,8 +11,14 @@ use Rattle.table.specs.declared.bounds.Bounds.{Bounds}
 use Rattle.folder.specs.Calls.{ToldFiles}
 use Rattle.folder.specs.LoadedTables.{IsLoaded}
 use Rattle.reads.specs.Tables.{NumberedContents}
+use Rattle.checks.specs.HeldBytes.{IsToldTable}
 
 -- ---- which are kept
+
+-- the place of this number has no table, or the one of the number as a folder tells it
+abbrev pub IsToldPlace : KeyOrder → ToldFiles → ℕ × Option NumberedContents → ℕ → Type 0
+IsToldPlace cmp tells place number = (place.0 ≡ number)
+    × IfSome place.1 (λ (t : NumberedContents). IsToldTable cmp tells t number)
 
 -- the place of a number has no table, or one of those that are held, of this number
 abbrev pub HasKept : List NumberedContents → ℕ × Option NumberedContents → Type 0

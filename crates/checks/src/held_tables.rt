@@ -8,7 +8,7 @@ ghost use Rattle.folder.specs.Reports.{OnlyReads, ReportsDevice};
 ghost use Rattle.checks.specs.HeldTables.{AreHeldBy, AreHeldIn, AreReadAs, IsFoundAnswer, held_if};
 ghost use Rattle.checks.specs.HeldTables.{held_numbers};
 
-use crate::found_tables::read_tables;
+use crate::found_tables::{FoundTables, read_tables};
 use crate::held_table::HeldTable;
 use crate::table_places::{placed_tables, reused_places, wanted_numbers};
 use board::{Gate, Workers};
@@ -49,6 +49,25 @@ impl<C: Comparator> HeldTables<C> {
         }
     }
 
+    /// These tables.
+    pub(crate) fn of(tables: Vec<HeldTable<C>>) -> HeldTables<C>
+        ensures { result ≡ tables.items }
+    {
+        HeldTables { tables }
+    }
+
+    /// The numbers of the tables, in order.
+    pub(crate) fn numbers(&self, alloc: Global) -> Result<Vec<u64>, Fault>
+        ensures { EqualOrMemory (λ v. v.items) result (Ok (held_numbers self.now)) }
+    {
+        let tables = self.tables.as_slice();
+        let mut numbers = Vec::with_capacity(alloc, tables.len())?;
+        for table in tables {
+            numbers.push(table.number())?;
+        }
+        Ok(numbers)
+    }
+
     /// The tables in order, lent. No test is made again.
     ///
     /// It takes the memory of two keys for each.
@@ -70,8 +89,8 @@ impl<C: Comparator> HeldTables<C> {
 ///
 /// `held` are tables of this folder, whose files are as they were when they were read. Those with
 /// one of the numbers are kept: they are neither read nor checked again. The others are dropped
-/// before a table is read. If the answer isn't true, none is held any more. `workers` check the
-/// tables that are read, each a job.
+/// before a table is read. If the answer is false, those that are neither missing nor invalid are
+/// held; if it is an error, none. `workers` check the tables that are read, each a job.
 ///
 /// If the device fails a call, the answer is Device and no further call is made. If memory runs
 /// out, it is Memory.
@@ -97,29 +116,27 @@ pub fn hold_next<C: SharedComparator, F: ReadsTables, G: Gate + Sync, R: Threads
 {
     let before = mem::replace(held, HeldTables::none(workers.alloc()));
     let found = hold_tables::<C, F, G, R>(workers, folder, before, numbers)?;
-    let Some(tables) = found else {
-        return Ok(false);
-    };
+    let FoundTables { tables, are_all } = found;
     *held = tables;
-    Ok(true)
+    Ok(are_all)
 }
 
-/// The tables of a folder with these `numbers`, in order. None if one of them is missing or
-/// invalid. All else is as [`hold_next`] has it.
+/// The tables of a folder with these `numbers`, in order. Those that are missing or invalid are
+/// left out. All else is as [`hold_next`] has it.
 pub(crate) fn hold_tables<C: SharedComparator, F: ReadsTables, G: Gate + Sync, R: Threads + Sync>(
     workers: &Workers<'_, R, G>,
     folder: &mut F,
     held: HeldTables<C>,
     numbers: &[u64],
-) -> Result<Option<HeldTables<C>>, Fault>
+) -> Result<FoundTables<C>, Fault>
     ensures answer { (files : Files) → Tells (F.tells folder.old) files →
         AreHeldIn C.cmp files held →
-        FolderAnswers (λ found. found) (F.failed folder.old) (F.failed folder.new) result
-        (IsFoundAnswer C.cmp files numbers.now) }
+        FolderAnswers (λ found. held_if found.are_all found.tables) (F.failed folder.old)
+        (F.failed folder.new) result (IsFoundAnswer C.cmp files numbers.now) }
     ensures numbers { IfOk result
-        (λ found. IfSome found (λ tables. held_numbers tables ≡ numbers.now)) }
+        (λ found. found.are_all ≡ true → held_numbers found.tables ≡ numbers.now) }
     ensures held { AreHeldBy C.cmp (F.tells folder.old) held →
-        IfOk result (λ found. IfSome found (AreHeldBy C.cmp (F.tells folder.old))) }
+        IfOk result (λ found. AreHeldBy C.cmp (F.tells folder.old) found.tables) }
     ensures device { ReportsDevice F.Folder folder.old folder.new result }
     ensures reads { OnlyReads F.Folder folder.old folder.new }
 {
@@ -127,9 +144,10 @@ pub(crate) fn hold_tables<C: SharedComparator, F: ReadsTables, G: Gate + Sync, R
     let places = reused_places(alloc, held.tables, numbers)?;
     let wanted = wanted_numbers(alloc, &places)?;
     let found = read_tables::<C, F, G, R>(workers, folder, &wanted)?;
-    let Some(fresh) = found else {
-        return Ok(None);
-    };
-    let tables = placed_tables(alloc, places, fresh)?;
-    Ok(Some(HeldTables { tables }))
+    let FoundTables {
+        tables: fresh,
+        are_all,
+    } = found;
+    let tables = HeldTables::of(placed_tables(alloc, places, fresh.tables)?);
+    Ok(FoundTables { tables, are_all })
 }

@@ -16,6 +16,7 @@
 //! [`checkers`] are those of a command, [`checkers_of`] those of one with `--workers`.
 #![tactic(auto)]
 
+mod checked_so_far;
 mod command_workers;
 mod entry_counts;
 mod file_groups;

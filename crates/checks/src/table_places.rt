@@ -35,6 +35,13 @@ impl<C: Comparator> Model for TablePlace<C> {
 }
 
 impl<C: Comparator> TablePlace<C> {
+    /// The place of the table with this number.
+    pub fn of(number: u64, kept: Option<HeldTable<C>>) -> TablePlace<C>
+        ensures { result ≡ (number, kept) }
+    {
+        TablePlace { number, kept }
+    }
+
     /// The number, if the place has no table.
     fn wanted(&self) -> Option<u64>
         ensures { result ≡ wanted_number self.now }
@@ -73,10 +80,7 @@ pub(crate) fn reused_places<C: Comparator>(
     let mut places = Vec::with_capacity(alloc, numbers.len())?;
     for number in numbers {
         let kept = taken(&mut ahead, *number);
-        places.push(TablePlace {
-            number: *number,
-            kept,
-        })?;
+        places.push(TablePlace::of(*number, kept))?;
     }
     Ok(places)
 }

@@ -8,7 +8,7 @@ ghost use Rattle.checks.specs.LawfulTables.{IsLawfulTables};
 
 use crate::rounds::check_tables;
 use crate::sequence_order::all_entries_fall;
-use board::{Gate, Workers};
+use board::{Gate, Watch, Workers};
 use folder::Version;
 use ikey::{Fault, FaultName, SharedComparator};
 use reads::{NumberedTable, tables_newest_first};
@@ -18,15 +18,15 @@ use std::thread::Threads;
 ///
 /// The first that applies: the refusal of the first invalid table, as of `check_tables`; then that
 /// of the version, as of `reads::lawful`. The only other fault is Memory.
-pub fn lawful_tables<'t, C: SharedComparator + 'static, G: Gate + Sync, R: Threads + Sync>(
-    workers: &Workers<'_, R, G>,
+pub fn lawful_tables<'t, C: SharedComparator + 'static, W: Watch + Sync, R: Threads + Sync>(
+    workers: &Workers<'_, R, W>,
     version: &Version,
     loaded: &'t [(u64, Vec<u8>)],
 ) -> Result<Vec<NumberedTable<'t, C>>, Fault>
     ensures { HoldsOrMemory (λ v. v.items) result
         (IsLawfulTables C.cmp version.now (map (λ t. (t.0, t.1.items)) loaded.now)) }
 {
-    let tables = check_tables::<C, G, R>(workers, loaded)?;
+    let tables = check_tables::<C, W, R>(workers, loaded)?;
     lawful(workers, version, &tables)?;
     Ok(tables)
 }

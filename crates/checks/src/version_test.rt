@@ -7,10 +7,12 @@ ghost use Rattle.folder.specs.ReadsAs.{IsFileIn};
 ghost use Rattle.folder.specs.Reports.{OnlyReads, ReportsDevice};
 ghost use Rattle.checks.specs.GroupTest.{IsSweepAnswer};
 ghost use Rattle.checks.specs.HeldTables.{AreHeldBy, AreHeldIn};
+ghost use Rattle.checks.specs.InOrder.{AreSoundIn};
 ghost use Rattle.checks.specs.TestedTables.{IsTested};
 
+use crate::checked_so_far::CheckedTables;
 use crate::file_groups::group_split;
-use crate::first_refusal::check_in_order;
+use crate::first_refusal::check_others;
 use crate::held_tables::HeldTables;
 use crate::range_test::test_ranges;
 use crate::rounds::MAX_TABLES;
@@ -37,7 +39,8 @@ use std::thread::Threads;
 /// that, one range of user keys is tested after the other, with the tables that reach into it. A
 /// table is read and checked for the first range that needs it, and held until the last one has
 /// been tested. No contract says so. `workers` check the tables and walk over their entries.
-/// If something is wrong, all tables are read again, in order, for the first refusal.
+/// If something is wrong, those that weren't checked by then are read in order, for the first
+/// refusal, and those that were found invalid are read again.
 ///
 /// The work is told to the gate of `workers`, which is `&Open` if nobody watches.
 pub fn test_version<
@@ -87,33 +90,44 @@ pub fn test_and_hold<
     let alloc = workers.alloc();
     let numbers = file_numbers::<C>(alloc, version)?;
     workers.gate().begin(Work::Check, numbers.len() as u64);
-    let mut tables = HeldTables::none(alloc);
-    let found = tested_entries::<C, F, W, R>(workers, folder, version, memory, &mut tables)?;
+    let held = HeldTables::none(alloc);
+    let mut checked = CheckedTables {
+        held,
+        sound: Vec::new(alloc),
+    };
+    let found = tested_entries::<C, F, W, R>(workers, folder, version, memory, &mut checked)?;
+    let CheckedTables {
+        held: tables,
+        sound,
+    } = checked;
     if let Some(entries) = found {
         let files = numbers.len();
         let tested = VersionTotals { files, entries };
         return Ok(TestedVersion { tested, tables });
     }
     drop(tables);
-    check_in_order::<C, F, W, R>(workers, folder, &numbers)?;
+    check_others::<C, F, W, R>(workers, folder, &sound, &numbers)?;
     Err(Fault::of(FaultName::Lawless))
 }
 
 /// How many entries the tables of a version have, if it is lawful with them. Else None. It only
-/// reads. `held` are tables of the folder; those of the last range replace them.
+/// reads. The tables that are held are of the folder; those of the last range replace them.
 fn tested_entries<C: SharedComparator + 'static, F: ReadsTables, G: Gate + Sync, R: Threads + Sync>(
     workers: &Workers<'_, R, G>,
     folder: &mut F,
     version: &Version,
     memory: u64,
-    held: &mut HeldTables<C>,
+    checked: &mut CheckedTables<C>,
 ) -> Result<Option<u128>, Fault>
     ensures answer { (files : Files) → Tells (F.tells folder.old) files →
-        AreHeldIn C.cmp files held.old →
+        AreHeldIn C.cmp files checked.old.held →
         FolderAnswers (λ found. found) (F.failed folder.old) (F.failed folder.new) result
         (IsSweepAnswer C.cmp files version.now) }
-    ensures held { AreHeldBy C.cmp (F.tells folder.old) held.old →
-        AreHeldBy C.cmp (F.tells folder.old) held.new }
+    ensures held { AreHeldBy C.cmp (F.tells folder.old) checked.old.held →
+        AreHeldBy C.cmp (F.tells folder.old) checked.new.held }
+    ensures sound { IfOk result (λ _. (files : Files) → Tells (F.tells folder.old) files →
+        AreHeldIn C.cmp files checked.old.held → AreSoundIn C.cmp files checked.old.sound.items →
+        AreSoundIn C.cmp files checked.new.sound.items) }
     ensures device { ReportsDevice F.Folder folder.old folder.new result }
     ensures reads { OnlyReads F.Folder folder.old folder.new }
 {
@@ -126,5 +140,5 @@ fn tested_entries<C: SharedComparator + 'static, F: ReadsTables, G: Gate + Sync,
     }
     let split = group_split::<C>(alloc, &standing, memory)?;
     let next = version.next_file();
-    test_ranges::<C, F, G, R>(workers, folder, &standing, next, &split, held)
+    test_ranges::<C, F, G, R>(workers, folder, &standing, next, &split, checked)
 }

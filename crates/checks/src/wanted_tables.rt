@@ -6,9 +6,10 @@ ghost use Rattle.folder.specs.OpenAnswer.{FolderAnswers};
 ghost use Rattle.folder.specs.Reports.{OnlyReads, ReportsDevice};
 ghost use Rattle.checks.specs.HeldTables.{AreHeldBy, AreHeldIn, IsCheckedAnswer, held_numbers};
 
-use crate::first_refusal::check_in_order;
+use crate::first_refusal::check_others;
+use crate::found_tables::FoundTables;
 use crate::held_tables::{HeldTables, hold_tables};
-use board::{Gate, Workers};
+use board::{Watch, Workers};
 use folder::ReadsTables;
 use ikey::{Fault, FaultName, SharedComparator};
 use std::thread::Threads;
@@ -23,8 +24,8 @@ use std::thread::Threads;
 ///
 /// `held` are tables of this folder; those with one of the numbers are neither read nor checked
 /// again, as [`hold_next`] has it. `workers` check the others.
-pub fn checked_tables<C: SharedComparator, F: ReadsTables, G: Gate + Sync, R: Threads + Sync>(
-    workers: &Workers<'_, R, G>,
+pub fn checked_tables<C: SharedComparator, F: ReadsTables, W: Watch + Sync, R: Threads + Sync>(
+    workers: &Workers<'_, R, W>,
     folder: &mut F,
     held: HeldTables<C>,
     numbers: &[u64],
@@ -41,10 +42,13 @@ pub fn checked_tables<C: SharedComparator, F: ReadsTables, G: Gate + Sync, R: Th
     ensures device { ReportsDevice F.Folder folder.old folder.new result }
     ensures reads { OnlyReads F.Folder folder.old folder.new }
 {
-    let found = hold_tables::<C, F, G, R>(workers, folder, held, numbers)?;
-    if let Some(tables) = found {
+    let found = hold_tables::<C, F, W, R>(workers, folder, held, numbers)?;
+    let FoundTables { tables, are_all } = found;
+    if are_all {
         return Ok(tables);
     }
-    check_in_order::<C, F, G, R>(workers, folder, numbers)?;
+    let sound = tables.numbers(workers.alloc())?;
+    drop(tables);
+    check_others::<C, F, W, R>(workers, folder, &sound, numbers)?;
     Err(Fault::of(FaultName::Lawless))
 }

@@ -7,10 +7,11 @@ ghost use Rattle.std.specs.List.{AllZip};
 ghost use Rattle.ikey.specs.Answers.{fault};
 ghost use Rattle.ikey.specs.fault.FaultName.TheVariants.{Memory};
 ghost use Rattle.table.specs.TableContents.{contents_reading};
-ghost use Rattle.checks.specs.HeldBytes.{IsToldTable};
+ghost use Rattle.checks.specs.TablePlaces.{IsToldPlace};
 
 use crate::held_table::HeldTable;
 use crate::rounds::MAX_TABLES;
+use crate::table_places::TablePlace;
 use board::{Gate, Labour, Workers};
 use folder::{ReadsTables, TableReader};
 use ikey::{Comparator, Fault, FaultName, SharedComparator};
@@ -29,69 +30,65 @@ struct TablesToCheck<'p, C, D> {
 }
 
 impl<'p, C: Comparator, D: TableReader> Labour for TablesToCheck<'p, C, D> {
-    type Out = HeldTable<C>;
+    type Out = TablePlace<C>;
 
     ghost use Rattle.std.specs.Prelude.{length, slice_get, None, IfSome};
-    ghost use Rattle.checks.specs.HeldBytes.{IsToldTable};
+    ghost use Rattle.checks.specs.TablePlaces.{IsToldPlace};
 
     ghost jobs = { λ s. length s.numbers.now };
 
     ghost refusal = { λ _ _. None };
 
-    ghost gives = { λ s job table. IfSome (slice_get s.numbers.now job)
-        (IsToldTable C.cmp (D.tells s.reader.now) table) };
+    ghost gives = { λ s job place. IfSome (slice_get s.numbers.now job)
+        (IsToldPlace C.cmp (D.tells s.reader.now) place) };
 
-    fn work(&self, job: u64) -> Result<HeldTable<C>, Fault> {
+    fn work(&self, job: u64) -> Result<TablePlace<C>, Fault> {
         let number = self.numbers[job as usize];
         match self.reader.table(self.alloc, number) {
-            Some(bytes) => valid_table(self.alloc, number, bytes),
-            // It ends the run. Nobody sees which fault did.
-            None => Err(Fault::of(FaultName::Memory)),
+            Some(bytes) => Ok(TablePlace::of(number, valid_table(self.alloc, number, bytes))),
+            None => Ok(TablePlace::of(number, None)),
         }
     }
 }
 
-/// The table of a `number` and these bytes. Memory if it is invalid, or if memory ran out.
-fn valid_table<C: Comparator>(
-    alloc: Global,
-    number: u64,
-    bytes: Vec<u8>,
-) -> Result<HeldTable<C>, Fault>
-    ensures ok { IfOk result (λ t. (t.number ≡ number) × (t.contents.bytes ≡ bytes.items)
+/// The table of a `number` and these bytes. None if it is invalid, or if memory ran out.
+fn valid_table<C: Comparator>(alloc: Global, number: u64, bytes: Vec<u8>) -> Option<HeldTable<C>>
+    ensures { IfSome result (λ t. (t.number ≡ number) × (t.contents.bytes ≡ bytes.items)
         × (contents_reading C.cmp bytes.items ≡ Ok t.contents)) }
-    ensures memory { IfErr result (λ e. e ≡ fault Memory) }
 {
     match OwnedTable::check(alloc, bytes) {
-        Ok(table) => Ok(HeldTable::of(number, table)),
-        Err(_) => Err(Fault::of(FaultName::Memory)),
+        Ok(table) => Some(HeldTable::of(number, table)),
+        Err(_) => None,
     }
 }
 
-/// The tables of a folder with these numbers, in order, each read and checked by one of
-/// `workers`. None if one can't be had or is invalid, or if memory ran out.
-pub(crate) fn worker_tables<C: SharedComparator, F: ReadsTables, G: Gate + Sync, R: Threads + Sync>(
+/// The places of the tables of a folder with these numbers, in order. Each has its table, read and
+/// checked by one of `workers`, unless that can't be had or is invalid.
+pub(crate) fn worker_places<C: SharedComparator, F: ReadsTables, G: Gate + Sync, R: Threads + Sync>(
     workers: &Workers<'_, R, G>,
     folder: &F,
     numbers: &[u64],
-) -> Option<Vec<HeldTable<C>>>
-    ensures { IfSome result
-        (λ v. AllZip (IsToldTable C.cmp (F.tells folder.now)) v.items numbers.now) }
+) -> Result<Vec<TablePlace<C>>, Fault>
+    ensures places { IfOk result
+        (λ v. AllZip (IsToldPlace C.cmp (F.tells folder.now)) v.items numbers.now) }
+    ensures memory { IfErr result (λ e. e ≡ fault Memory) }
 {
     let reader = folder.reader();
-    tables_of(workers, &reader, numbers)
+    places_of(workers, &reader, numbers)
 }
 
-/// The same tables, as the `reader` of the folder gives them.
-fn tables_of<C: SharedComparator, D: TableReader, G: Gate + Sync, R: Threads + Sync>(
+/// The same places, as the `reader` of the folder gives their tables.
+fn places_of<C: SharedComparator, D: TableReader, G: Gate + Sync, R: Threads + Sync>(
     workers: &Workers<'_, R, G>,
     reader: &D,
     numbers: &[u64],
-) -> Option<Vec<HeldTable<C>>>
-    ensures { IfSome result
-        (λ v. AllZip (IsToldTable C.cmp (D.tells reader.now)) v.items numbers.now) }
+) -> Result<Vec<TablePlace<C>>, Fault>
+    ensures places { IfOk result
+        (λ v. AllZip (IsToldPlace C.cmp (D.tells reader.now)) v.items numbers.now) }
+    ensures memory { IfErr result (λ e. e ≡ fault Memory) }
 {
     if numbers.len() > MAX_TABLES {
-        return None;
+        return Err(Fault::of(FaultName::Memory));
     }
     let jobs = numbers.len() as u64;
     let checks = TablesToCheck {
@@ -100,5 +97,6 @@ fn tables_of<C: SharedComparator, D: TableReader, G: Gate + Sync, R: Threads + S
         numbers,
         order: PhantomData,
     };
-    workers.run(&checks, jobs).ok()
+    let places = workers.run(&checks, jobs)?;
+    Ok(places)
 }

@@ -9,20 +9,20 @@ ghost use Rattle.folder.specs.TableFiles.{named_tables, table_files};
 
 use crate::disk_reader::DiskReader;
 use crate::due_files::{files_due, numbers_in};
-use crate::failure::Failure;
+use crate::failure::{Failure, text_kept};
 use crate::file_access::access_in;
 use crate::made_table::{DiskMaker, MadeTable, files_of, first_failed, write_in_turn};
 use crate::pending_files::PendingFiles;
 use crate::system::{Place, done_in, part_in, read_in};
 use crate::system_files::{MakesFiles, SystemFiles};
-use crate::table_sizes::large_in;
+use crate::table_sizes::{Sizes, sizes_in};
 use crate::whole_files::{WholeFiles, sync_all};
 use edit::Version;
 use folder::{
     AnyWrite, Attempt, FileRead, Folder, FolderCall, FolderFault, Order, Readings, ReadsTables,
-    SourceTables, TableReader, Trail, WriteCall, WritesTables,
+    SourceTables, TableReader, Trail, WriteCall, WritesTables, table_name,
 };
-use ikey::Fault;
+use ikey::{Fault, FaultName};
 use std::io;
 use std::io::ErrorKind;
 use std::marker::Model;
@@ -42,6 +42,9 @@ pub struct Disk<'r, R> {
     readings: Readings,
     kept: PendingFiles,
     last_failure: Option<Failure>,
+    /// The name of the file that was read last, or of the table that was found missing since. Empty
+    /// if there is none, or no memory for it.
+    last_read: String,
 }
 
 impl<'r, R> Model for Disk<'r, R> {
@@ -80,6 +83,7 @@ impl<'r, R: SystemFiles + AllocGlobal> Disk<'r, R> {
             readings: Readings::none(),
             kept: PendingFiles::new(rt.alloc()),
             last_failure: None,
+            last_read: String::new(rt.alloc()),
         }
     }
 
@@ -91,15 +95,32 @@ impl<'r, R: SystemFiles + AllocGlobal> Disk<'r, R> {
     ///
     /// Tables from the first on that the system tells nothing of are not tested, since loading
     /// fails there.
-    pub fn large_table(&self, order: Order, version: &Version) -> Result<Option<u64>, Fault> {
+    pub fn large_table(&mut self, order: Order, version: &Version) -> Result<Option<u64>, Fault> {
         let alloc = self.rt.alloc();
         let numbers = numbers_in(alloc, order, version)?;
-        large_in(self.rt, alloc, self.path, &numbers)
+        match sizes_in(self.rt, alloc, self.path, &numbers)? {
+            Sizes::Missing(number) => {
+                self.last_read = table_name(alloc, number)?;
+                Err(Fault::of(FaultName::Missing))
+            }
+            Sizes::TooLarge(number) => Ok(Some(number)),
+            Sizes::Readable => Ok(None),
+        }
     }
 
     /// The newest call that failed by the device. None if none did.
     pub fn last_failure(&self) -> Option<&Failure> {
         self.last_failure.as_ref()
+    }
+
+    /// The name of the file that was read last, whether it was there or not; or of the table that
+    /// [`Disk::large_table`] found missing since. None if there is none.
+    pub fn last_read(&self) -> Option<&str> {
+        if self.last_read.is_empty() {
+            None
+        } else {
+            Some(self.last_read.as_str())
+        }
     }
 }
 
@@ -136,6 +157,7 @@ impl<'r, R: SystemFiles + AllocGlobal> Folder for Disk<'r, R> {
     ghost readings = { λ disk. disk.readings };
 
     fn read(&mut self, name: &str) -> Result<Option<Vec<u8>>, FolderFault> {
+        self.last_read = text_kept(self.rt.alloc(), name);
         let found = read_in(self.rt, self.rt.alloc(), self.path, name);
         let answer = self.counted(found, FolderCall::Read, name);
         self.readings = self.readings.then(&FileRead {
@@ -151,6 +173,7 @@ impl<'r, R: SystemFiles + AllocGlobal> Folder for Disk<'r, R> {
         offset: u64,
         len: usize,
     ) -> Result<Option<Vec<u8>>, FolderFault> {
+        self.last_read = text_kept(self.rt.alloc(), name);
         let answer = part_in(self.rt, self.rt.alloc(), self.path, name, offset, len);
         self.counted(answer, FolderCall::Read, name)
     }

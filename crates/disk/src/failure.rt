@@ -26,13 +26,9 @@ pub struct Failure {
 impl Failure {
     /// The failure of a call on the file of this `name`.
     pub(crate) fn new(alloc: Global, call: FolderCall, name: &str, error: io::Error) -> Failure {
-        let name = match String::from_str(alloc, name) {
-            Ok(name) => name,
-            Err(_) => String::new(alloc),
-        };
         Failure {
             call,
-            name,
+            name: text_kept(alloc, name),
             error,
             words: words_in(alloc, &error).unwrap_or(String::new(alloc)),
         }
@@ -55,6 +51,11 @@ impl Display for Failure {
             f.write_str(self.words.as_str())
         }
     }
+}
+
+/// A copy of a text. Empty if memory for it is refused.
+pub(crate) fn text_kept(alloc: Global, text: &str) -> String {
+    String::from_str(alloc, text).unwrap_or(String::new(alloc))
 }
 
 /// What is said of a call before the name of its file.

@@ -2,7 +2,7 @@
 
 use crate::system::{MAX_FILE_LEN, length_in};
 use folder::{old_table_name, table_name};
-use ikey::{Fault, FaultName};
+use ikey::Fault;
 use std::alloc::Global;
 use std::rt::Files;
 
@@ -16,24 +16,35 @@ enum Size {
     Unknown,
 }
 
-/// The first of these `numbers` whose table has more than 2^30 bytes. Missing if a table is missing.
-/// Those from the first one on that the system tells nothing of are left out.
-pub(crate) fn large_in<R: Files>(
+/// What is known of tables before they are read.
+#[derive(Clone, Copy)]
+pub(crate) enum Sizes {
+    /// Each is there and can be read.
+    Readable,
+    /// Each is there, and that of this number is the first with more than 2^30 bytes.
+    TooLarge(u64),
+    /// That of this number is the first that is missing.
+    Missing(u64),
+}
+
+/// What is known of the tables of these `numbers`. Those from the first one on that the system tells
+/// nothing of are left out.
+pub(crate) fn sizes_in<R: Files>(
     rt: &R,
     alloc: Global,
     folder: &str,
     numbers: &[u64],
-) -> Result<Option<u64>, Fault> {
-    let mut large = None;
+) -> Result<Sizes, Fault> {
+    let mut sizes = Sizes::Readable;
     for number in numbers {
-        match size_in(rt, alloc, folder, *number)? {
-            Size::Missing => return Err(Fault::of(FaultName::Missing)),
-            Size::Unknown => break,
-            Size::TooLarge if large.is_none() => large = Some(*number),
+        match (size_in(rt, alloc, folder, *number)?, sizes) {
+            (Size::Missing, _) => return Ok(Sizes::Missing(*number)),
+            (Size::Unknown, _) => return Ok(sizes),
+            (Size::TooLarge, Sizes::Readable) => sizes = Sizes::TooLarge(*number),
             _ => {}
         }
     }
-    Ok(large)
+    Ok(sizes)
 }
 
 /// What is known of the table of a number.

@@ -1,7 +1,7 @@
 //! The file of a version's table, and what is told if it is missing.
 
 use checks::{Fault, FaultName};
-use refusals::{RefusedFile, file_refusal, table_file_name};
+use refusals::{missing_file, table_file_name};
 use session::{Disk, Host, Refusal, Session, path_in, refused_opened};
 use std::fs;
 use std::io::ErrorKind;
@@ -34,12 +34,7 @@ fn missing<R: Host>(session: &Session<'_, R>, name: String) -> Refusal {
     if refusal.told.is_some() {
         return refusal;
     }
-    let table = RefusedFile {
-        name,
-        fault,
-        detail: None,
-    };
-    refusal.telling(file_refusal(rt.alloc(), path, &table))
+    refusal.telling(missing_file(rt.alloc(), path, name.as_str()))
 }
 
 /// Whether a folder's file is there. Device if the system doesn't tell it.

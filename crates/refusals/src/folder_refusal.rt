@@ -1,35 +1,39 @@
 //! What is told of the refusal of a command on a folder.
 
-use crate::detail::Detail;
-use crate::found_place::refused_file;
-use crate::refused_files::RefusedFile;
+use crate::manifest_refusal::manifest_refusal;
 use crate::settings_refusal::settings_refusal;
-use crate::words::file_refusal;
+use crate::table_file::table_file_name;
+use crate::unlawful_version::unlawful_refusal;
+use crate::words::missing_file;
 use coding::FaultName;
 use compact::Settings;
 use disk::Disk;
-use folder::CURRENT;
-use session::{Host, Refusal, RefusalText, Telling, Words, no_database, of_file, told};
+use folder::{CURRENT, Folder};
+use session::{Host, Refusal, RefusalText, Telling, Words, no_database, of_file, path_in, told};
 use std::alloc::Global;
+use std::fs;
+use std::rt::Files;
 
-/// What is told of a folder in which a file was missing, and none is when it is read again.
+/// What is told of a folder in which a file was missing, and is there by now.
 const FOUND_AGAIN: Words = Words {
     wrong: "a file was missing, and none is by now: another program has changed the database \
         meanwhile",
     remedy: "run it again",
 };
 
-/// The refusal of a command on a folder, with what is told of it: the first file that is refused
-/// so, for which the folder is read again. The name is told before, on the standard error. The
-/// folder isn't read after Locked, Changed, Device and Memory, nor if it is known already what is
-/// told, or nothing is.
+/// The refusal of a command on a folder, with what is told of it: the file that is refused. The name
+/// is told before, on the standard error.
+///
+/// The file is known, and is read again alone, if it is a manifest. Only of an unlawful version are
+/// all tables read again. Nothing is read after Locked, Changed, Device and Memory, nor if it is
+/// known already what is told, or nothing is.
 pub fn explained<R: Host>(rt: &R, telling: Telling<'_>, refusal: Refusal) -> Refusal {
     if refusal.is_silent || refusal.told.is_some() || is_of_no_file(refusal.fault.name) {
         return refusal;
     }
     let mut refusal = refusal;
     refusal.tell_name(rt);
-    let told = file_found(rt, telling, refusal.fault.name);
+    let told = file_told(rt, telling, &refusal);
     refusal.telling(told)
 }
 
@@ -72,31 +76,69 @@ fn is_of_no_file(name: FaultName) -> bool {
     )
 }
 
-/// What is told of the folder's first file that is refused by this name. None if there is none, or
-/// if it can't be found. That none is missing any more is told.
-fn file_found<R: Host>(rt: &R, telling: Telling<'_>, name: FaultName) -> Option<RefusalText> {
+/// What is told of the file that is refused. None if it isn't known, or if it is no file.
+fn file_told<R: Host>(rt: &R, telling: Telling<'_>, refusal: &Refusal) -> Option<RefusalText> {
     let folder = telling.folder;
-    let mut disk = Disk::new(rt, folder);
-    match refused_file(rt, rt.alloc(), &mut disk, name, telling.memory) {
-        Ok(Some(file)) if is_no_database(&file) => no_database(rt, folder),
-        Ok(Some(file)) if is_refused_so(&file, name) => file_refusal(rt.alloc(), folder, &file),
-        Ok(_) if name == FaultName::Missing => told(rt.alloc(), folder, FOUND_AGAIN),
-        _ => None,
+    match refusal.fault.name {
+        FaultName::Lawless | FaultName::Bounds => {
+            unlawful_refusal(rt, telling, refusal.fault.name)
+        }
+        FaultName::Missing => missing_told(rt, folder, refusal.file.as_ref()?.as_str()),
+        FaultName::LogShape
+        | FaultName::LogChecksum
+        | FaultName::EditTag
+        | FaultName::EditField
+        | FaultName::Comparator
+        | FaultName::Apply => {
+            let file = refusal.file.as_ref()?.as_str();
+            let found = manifest_refusal(
+                rt.alloc(),
+                &mut Disk::new(rt, folder),
+                folder,
+                file,
+                refusal.fault.name,
+            );
+            found.ok()?
+        }
+        name => {
+            let number = telling.refused.number()?;
+            let file = table_file_name(rt.alloc(), &mut Disk::new(rt, folder), number).ok()?;
+            let path = path_in(rt.alloc(), folder, file.as_str())?;
+            told(rt.alloc(), path.as_str(), of_file(name))
+        }
     }
 }
 
-/// Whether CURRENT is missing.
-fn is_no_database(file: &RefusedFile) -> bool {
-    file.fault.name == FaultName::Missing && file.name.as_str() == CURRENT
+/// What is told of the folder's file of this name, which was missing. If it is there by now, that is
+/// told.
+fn missing_told<R: Host>(rt: &R, folder: &str, file: &str) -> Option<RefusalText> {
+    let alloc = rt.alloc();
+    let newer = match file.strip_suffix(".sst") {
+        Some(stem) => format!(in alloc; "{stem}.ldb").ok()?,
+        None => String::from_str(alloc, file).ok()?,
+    };
+    let is_found = is_there(rt, folder, file) || is_there(rt, folder, newer.as_str());
+    if is_found || file.starts_with("MANIFEST-") && !is_named(rt, folder, file) {
+        return told(alloc, folder, FOUND_AGAIN);
+    }
+    if file == CURRENT {
+        return no_database(rt, folder);
+    }
+    missing_file(alloc, folder, newer.as_str())
 }
 
-/// Whether a file is why work is refused by this name: that the version is unlawful is told of an
-/// input as Bounds.
-fn is_refused_so(file: &RefusedFile, name: FaultName) -> bool {
-    match &file.detail {
-        Some(Detail::Size { .. } | Detail::Smallest | Detail::Largest) => {
-            name == FaultName::Lawless || name == FaultName::Bounds
-        }
-        _ => file.fault.name == name,
+/// Whether CURRENT still names the manifest of this name.
+fn is_named<R: Host>(rt: &R, folder: &str, manifest: &str) -> bool {
+    match Disk::new(rt, folder).read(CURRENT) {
+        Ok(Some(bytes)) => bytes.strip_suffix(b"\n") == Some(manifest.as_bytes()),
+        _ => false,
+    }
+}
+
+/// Whether a folder has a file of this name.
+pub fn is_there<R: Files + AllocGlobal>(rt: &R, folder: &str, name: &str) -> bool {
+    match path_in(rt.alloc(), folder, name) {
+        Some(path) => fs::metadata(rt, path.as_str()).is_ok(),
+        None => false,
     }
 }

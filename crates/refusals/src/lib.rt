@@ -1,36 +1,29 @@
-//! What is told of a refusal of work on a folder: the file that is refused, for which the folder is
-//! read again, and words for it.
+//! What is told of a refusal of work on a folder: the file that is refused, and words for it.
 //!
 //! 1. [`explained`]: a refusal with what is told of it. [`compaction_explained`]: the same of a
-//!    compaction. [`table_explained`]: the same without reading.
-//! 2. [`refused_file`]: which file of a folder is why work is refused. [`refused_outcome`]: the
-//!    same of an outcome of a compaction.
-//! 3. [`file_refusal`]: the words of such a file.
-//! 4. [`sizes_in_turn`]: the refusal of a table that is too large, or of one before it.
+//!    compaction. [`table_explained`]: the same without looking for the file.
+//! 2. [`sizes_in_turn`]: the refusal of a table that is too large, or of one before it.
+//! 3. [`unlike_edit`]: which new table is not as an edit states it. [`file_fault`]: what is told of
+//!    such a table.
+//! 4. [`missing_file`]: what is told of a missing file. [`is_there`]: whether a file is.
+//!    [`table_file_name`]: the name of a table.
 //!
 //! None of these changes a folder. No contract says which file it is, nor what is told.
 #![tactic(auto)]
 
-mod detail;
-mod fault_finder;
-mod field_diagnosis;
+mod edit_fields;
 mod folder_refusal;
-mod found_place;
 mod key_sequences;
-mod manifest_diagnosis;
-mod opening_diagnosis;
-mod outcome_diagnosis;
-mod refused_files;
+mod manifest_refusal;
 mod settings_refusal;
+mod stated_tables;
 mod table_file;
 mod table_turns;
+mod unlawful_version;
 mod words;
 
-pub use detail::Detail;
-pub use folder_refusal::{compaction_explained, explained, table_explained};
-pub use found_place::refused_file;
-pub use outcome_diagnosis::refused_outcome;
-pub use refused_files::RefusedFile;
+pub use folder_refusal::{compaction_explained, explained, is_there, table_explained};
+pub use stated_tables::unlike_edit;
 pub use table_file::table_file_name;
 pub use table_turns::sizes_in_turn;
-pub use words::file_refusal;
+pub use words::{Stated, file_fault, missing_file};

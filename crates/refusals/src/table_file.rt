@@ -2,7 +2,6 @@
 
 ghost use Rattle.folder.specs.Reports.{OnlyReads};
 
-use crate::refused_files::{RefusedFile, missing};
 use coding::Fault;
 use folder::{Folder, old_table_name, table_name};
 use std::alloc::Global;
@@ -49,37 +48,5 @@ pub fn table_file_name<F: Folder>(
     match folder.read_part(old_name.as_str(), 0, 1)? {
         Some(_) => Ok(old_name),
         None => Ok(name),
-    }
-}
-
-/// The answer that the first of these tables is missing that is. None if none is. One that can't be
-/// read is not missing.
-pub(crate) fn missing_among<F: Folder>(
-    alloc: Global,
-    folder: &mut F,
-    numbers: &[u64],
-) -> Result<Option<RefusedFile>, Fault>
-    ensures reads { OnlyReads F.Folder folder.old folder.new }
-{
-    for number in numbers {
-        if is_missing(alloc, folder, *number)? {
-            return missing(alloc, *number);
-        }
-    }
-    Ok(None)
-}
-
-/// Whether the folder has no table of this number.
-fn is_missing<F: Folder>(alloc: Global, folder: &mut F, number: u64) -> Result<bool, Fault>
-    ensures reads { OnlyReads F.Folder folder.old folder.new }
-{
-    let name = table_name(alloc, number)?;
-    let old_name = old_table_name(alloc, number)?;
-    match folder.read_part(name.as_str(), 0, 1) {
-        Ok(None) => match folder.read_part(old_name.as_str(), 0, 1) {
-            Ok(None) => Ok(true),
-            _ => Ok(false),
-        },
-        _ => Ok(false),
     }
 }

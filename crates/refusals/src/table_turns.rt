@@ -1,13 +1,11 @@
 //! The tables of a version, of which one is too large to be read: each is refused in its turn.
 
-use crate::refused_files::{RefusedFile, missing, refused};
-use crate::table_file::table_file;
-use crate::words::file_refusal;
+use crate::table_file::{TableFile, table_file};
 use coding::{Fault, FaultName};
 use disk::{Disk, SystemFiles};
 use folder::{Opened, Order, Version, file_numbers};
 use ikey::{Bytewise, Comparator, Shortlex};
-use session::{Refusal, large_table, refused_opened, size_refusal};
+use session::{Refusal, large_table, path_in, refused_opened, size_refusal};
 use std::alloc::Global;
 use table::check;
 
@@ -22,61 +20,42 @@ pub fn sizes_in_turn<R: SystemFiles + AllocGlobal>(
     let Some(large) = large_table(rt, path, opened)? else {
         return Ok(());
     };
+    let alloc = rt.alloc();
     let mut folder = Disk::new(rt, path);
-    match refused_before(rt.alloc(), &mut folder, opened, large) {
+    let version = &opened.version;
+    let found = match opened.order {
+        Order::Bytewise => refused_before::<Bytewise, R>(alloc, &mut folder, version, large),
+        Order::Shortlex => refused_before::<Shortlex, R>(alloc, &mut folder, version, large),
+    };
+    match found {
         Ok(None) => Err(size_refusal(rt, path, large)),
-        Ok(Some(file)) => {
-            let told = file_refusal(rt.alloc(), path, &file);
-            Err(Refusal::new(file.fault, told))
-        }
+        Ok(Some((file, fault))) => match path_in(alloc, path, file.as_str()) {
+            Some(file) => Err(Refusal::of_file(alloc, file.as_str(), fault)),
+            None => Err(Refusal::from(fault)),
+        },
         Err(fault) => Err(refused_opened(rt, path, &folder, opened, fault)),
     }
 }
 
-/// The first table that is invalid before that of this number.
-fn refused_before<R: SystemFiles + AllocGlobal>(
-    alloc: Global,
-    folder: &mut Disk<'_, R>,
-    opened: &Opened,
-    number: u64,
-) -> Result<Option<RefusedFile>, Fault> {
-    match opened.order {
-        Order::Bytewise => refused_among::<Bytewise, R>(alloc, folder, &opened.version, number),
-        Order::Shortlex => refused_among::<Shortlex, R>(alloc, folder, &opened.version, number),
-    }
-}
-
-/// The same in a comparator's order.
-fn refused_among<C: Comparator, R: SystemFiles + AllocGlobal>(
+/// The name of the first table that is invalid before that of the number `end`, and why it is.
+fn refused_before<C: Comparator, R: SystemFiles + AllocGlobal>(
     alloc: Global,
     folder: &mut Disk<'_, R>,
     version: &Version,
     end: u64,
-) -> Result<Option<RefusedFile>, Fault> {
+) -> Result<Option<(String, Fault)>, Fault> {
     for number in &file_numbers::<C>(alloc, version)? {
         if *number == end {
             return Ok(None);
         }
-        let found = refused_table::<C, R>(alloc, folder, *number)?;
-        if found.is_some() {
-            return Ok(found);
+        let Some(TableFile { name, bytes }) = table_file(alloc, folder, *number)? else {
+            return Err(Fault::of(FaultName::Missing));
+        };
+        match check::<C>(alloc, &bytes) {
+            Ok(_) => {}
+            Err(fault) if fault.name == FaultName::Memory => return Err(fault),
+            Err(fault) => return Ok(Some((name, fault))),
         }
     }
     Ok(None)
-}
-
-/// The table of a number, if it is invalid.
-fn refused_table<C: Comparator, R: SystemFiles + AllocGlobal>(
-    alloc: Global,
-    folder: &mut Disk<'_, R>,
-    number: u64,
-) -> Result<Option<RefusedFile>, Fault> {
-    let Some(file) = table_file(alloc, folder, number)? else {
-        return missing(alloc, number);
-    };
-    match check::<C>(alloc, &file.bytes) {
-        Ok(_) => Ok(None),
-        Err(fault) if fault.name == FaultName::Memory => Err(fault),
-        Err(fault) => refused(alloc, file.name.as_str(), fault, None),
-    }
 }

@@ -9,7 +9,9 @@ use queries::{
     table_answer, table_verdict, values_answer, verdict_answer, version_answer,
 };
 use refusals::{compaction_explained, explained, table_explained};
-use session::{Access, Host, Refusal, Session, Telling, bytes_of, locked, print_lines, tell_time};
+use session::{
+    Access, Host, Refusal, RefusedTable, Session, Telling, bytes_of, locked, print_lines, tell_time,
+};
 use std::env::Env;
 use std::io::ErrorKind;
 use std::rt::Files;
@@ -54,11 +56,12 @@ pub(crate) fn run<R: Env + Host>(rt: &R, is_watched: bool) -> u8 {
 /// Does what a command line asks for, tells why not if it is refused, and answers the status.
 fn answer<R: Host>(rt: &R, asked: &CommandLine<'_>, is_watched: bool) -> u8 {
     let needs = needs_of(&asked.line);
+    let refused = RefusedTable::none();
     let done = match taken_folder(rt, &asked.line) {
         Ok(Some(out)) => return report_taken(rt, out),
         Ok(None) => carry_out(
             rt,
-            telling_of(asked, &needs, is_watched),
+            telling_of(asked, &needs, is_watched, &refused),
             &asked.line,
             &needs,
         ),
@@ -225,7 +228,12 @@ fn level_of(work: CompactWork<'_>) -> Option<u64> {
 }
 
 /// What is to be told of the work that a command line asks for.
-fn telling_of<'a>(asked: &CommandLine<'a>, needs: &Needs<'a>, is_watched: bool) -> Telling<'a> {
+fn telling_of<'a>(
+    asked: &CommandLine<'a>,
+    needs: &Needs<'a>,
+    is_watched: bool,
+    refused: &'a RefusedTable,
+) -> Telling<'a> {
     Telling {
         folder: needs.subject,
         is_quiet: asked.verbosity == Verbosity::Quiet,
@@ -234,5 +242,6 @@ fn telling_of<'a>(asked: &CommandLine<'a>, needs: &Needs<'a>, is_watched: bool) 
         ignores_lock: asked.ignores_lock,
         refuses_logs: asked.refuses_logs,
         memory: bytes_of(needs.memory),
+        refused,
     }
 }

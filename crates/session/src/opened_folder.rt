@@ -150,10 +150,10 @@ pub fn refused_at<R: SystemFiles + AllocGlobal>(
     fault: Fault,
 ) -> Refusal {
     let Some(failure) = folder.last_failure() else {
-        return Refusal::from(fault);
+        return Refusal::at(rt.alloc(), fault, folder.last_read());
     };
     if fault.name != FaultName::Device {
-        return Refusal::from(fault);
+        return Refusal::at(rt.alloc(), fault, folder.last_read());
     }
     if failure.is_too_large() {
         return too_large(rt.alloc(), path, failure.name.as_str());

@@ -1,6 +1,7 @@
 //! A line of progress on the standard error.
 
 use crate::progress::progress_text;
+use crate::refused_table::RefusedTable;
 use crate::reporter::{LONG, Telling};
 use board::{Watch, Work};
 use coding::Fault;
@@ -33,6 +34,8 @@ pub struct WorkLeft {
 #[derive(Drop)]
 pub struct ProgressLine<'r, R> {
     rt: &'r R,
+    /// Where the number of a table is kept that is refused.
+    refused: &'r RefusedTable,
     /// When the work began. None if no line is shown.
     begun: Option<Instant>,
     /// Whether tables are merged; else they are checked.
@@ -57,10 +60,11 @@ pub struct ProgressLine<'r, R> {
 
 impl<'r, R: Eprint + Clock + AllocGlobal> ProgressLine<'r, R> {
     /// The line of work that begins, shown if somebody watches.
-    pub fn new(rt: &'r R, telling: Telling<'_>) -> ProgressLine<'r, R> {
+    pub fn new(rt: &'r R, telling: Telling<'r>) -> ProgressLine<'r, R> {
         let patience = if telling.is_verbose { PATIENCE } else { LONG };
         ProgressLine {
             rt,
+            refused: telling.refused,
             begun: if telling.is_watched && !telling.is_quiet {
                 Instant::now(rt).ok()
             } else {
@@ -166,5 +170,9 @@ impl<'r, R: Eprint + Clock + AllocGlobal> Watch for ProgressLine<'r, R> {
             .store(work == Work::Compact, Ordering::SeqCst);
         self.jobs.store(jobs, Ordering::SeqCst);
         self.done.store(0, Ordering::SeqCst);
+    }
+
+    fn refused(&self, number: u64) {
+        self.refused.keep(number);
     }
 }

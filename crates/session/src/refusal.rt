@@ -17,6 +17,8 @@ pub struct Refusal {
     pub is_silent: bool,
     /// Whether its name is told already.
     pub is_named: bool,
+    /// The name of the folder's file that was read last. None if that isn't known.
+    pub file: Option<String>,
 }
 
 /// What is told of a refusal.
@@ -100,17 +102,24 @@ impl Refusal {
             told,
             is_silent: false,
             is_named: false,
+            file: None,
         }
+    }
+
+    /// The refusal of work on a folder of which the file of this name was read last.
+    pub fn at(alloc: Global, fault: Fault, file: Option<&str>) -> Refusal {
+        let mut refusal = Refusal::new(fault, None);
+        if let Some(name) = file {
+            refusal.file = String::from_str(alloc, name).ok();
+        }
+        refusal
     }
 
     /// The refusal of which nothing is told, since the answer tells it.
     pub fn silent(fault: Fault) -> Refusal {
-        Refusal {
-            fault,
-            told: None,
-            is_silent: true,
-            is_named: false,
-        }
+        let mut refusal = Refusal::new(fault, None);
+        refusal.is_silent = true;
+        refusal
     }
 
     /// Tells its name on the standard error, unless that is told already or nothing is. If it can't

@@ -6,6 +6,7 @@ use crate::amount_texts::grouped;
 use crate::explanations::CLOSE_ONCE;
 use crate::folder_names::path_in;
 use crate::logs::{Log, logs_with_writes, replaceable_files};
+use crate::refused_table::RefusedTable;
 use coding::{Fault, FaultName};
 use edit::Version;
 use std::io::ErrorKind;
@@ -33,6 +34,8 @@ pub struct Telling<'a> {
     pub refuses_logs: bool,
     /// How many bytes of tables may be held to find the file of a refusal.
     pub memory: u64,
+    /// Which table is refused, if one is.
+    pub refused: &'a RefusedTable,
 }
 
 impl<'a> Telling<'a> {

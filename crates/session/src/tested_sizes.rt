@@ -4,7 +4,7 @@
 use crate::explanations::{Words, of_file};
 use crate::folder_names::path_in;
 use crate::refusal::{Refusal, told};
-use crate::replaced_folder::replaced_refusal;
+use crate::replaced_folder::refused_opened;
 use coding::{Fault, FaultName};
 use disk::{Disk, SystemFiles};
 use edit::FileMeta;
@@ -33,8 +33,9 @@ pub fn large_table<R: SystemFiles + AllocGlobal>(
     path: &str,
     opened: &Opened,
 ) -> Result<Option<u64>, Refusal> {
-    let found = Disk::new(rt, path).large_table(opened.order, &opened.version);
-    found.map_err(|fault| Refusal::new(fault, replaced_refusal(rt, path, opened, fault)))
+    let mut folder = Disk::new(rt, path);
+    let found = folder.large_table(opened.order, &opened.version);
+    found.map_err(|fault| refused_opened(rt, path, &folder, opened, fault))
 }
 
 /// The refusal of the table of a number, which has more than 2^30 bytes.

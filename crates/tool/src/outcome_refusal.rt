@@ -2,7 +2,7 @@
 
 use disk::Disk;
 use folder::{Fault, FaultName, Folder, Order, VersionEdit};
-use refusals::{Detail, RefusedFile, compaction_explained, refused_outcome};
+use refusals::{Stated, compaction_explained, file_fault, is_there, table_file_name, unlike_edit};
 use session::{Host, Refusal, RefusalText, Telling, Words, deleted_files, of_file, path_in, told};
 use std::alloc::Global;
 use store::{EDIT, SyncedVersion, manifest_of};
@@ -10,6 +10,15 @@ use usage::{InstallLine, Settings};
 
 /// What to do about an outcome.
 const REMEDY: &str = "make the outcome again";
+
+/// What is wrong with an outcome without EDIT.
+const NO_EDIT: &str = "it is missing: the folder has no whole outcome";
+
+/// What EDIT states of a table.
+const BY_EDIT: Stated = Stated {
+    by: "EDIT",
+    remedy: REMEDY,
+};
 
 /// What to do about an outcome whose numbers were given away since.
 const NUMBER_REMEDY: &str = "make the outcome again with a --first-number above it";
@@ -38,11 +47,93 @@ pub(crate) fn outcome_explained<'a, R: Host>(
     };
     let mut refusal = refusal;
     refusal.tell_name(rt);
-    match outcome_file(rt, out, opened.order, name) {
-        Some(file) => refusal.telling(file_refusal(rt.alloc(), out, &file)),
-        None if name == FaultName::Apply => { refusal.telling(misfit(rt, line, out, done, opened)) }
-        None => explained_of_folder(rt, telling, line, out, refusal),
+    let told = file_told(rt, telling, out, opened.order, name);
+    if told.is_some() {
+        return refusal.telling(told);
     }
+    if name == FaultName::Apply {
+        return refusal.telling(misfit(rt, line, out, done, opened));
+    }
+    explained_of_folder(rt, telling, line, out, refusal)
+}
+
+/// What is told of the file of an outcome that is refused by this name. None if none is.
+fn file_told<R: Host>(
+    rt: &R,
+    telling: Telling<'_>,
+    out: &str,
+    order: Order,
+    name: FaultName,
+) -> Option<RefusalText> {
+    let alloc = rt.alloc();
+    let edit = match outcome_edit(rt, out) {
+        Ok(Some(edit)) => edit,
+        Ok(None) if name == FaultName::Missing => return words_told(alloc, out, EDIT, NO_EDIT),
+        Err(fault) if fault.name == name => {
+            return words_told(alloc, out, EDIT, edit_words(name));
+        }
+        _ => return None,
+    };
+    let mut outcome = Disk::new(rt, out);
+    match name {
+        FaultName::Missing => {
+            let table = first_missing(rt, out, &edit)?;
+            words_told(
+                alloc,
+                out,
+                table.as_str(),
+                "it is missing, and EDIT names it",
+            )
+        }
+        FaultName::Bounds => {
+            let (number, fault) = unlike_edit(alloc, &mut outcome, order, &edit).ok()??;
+            let table = table_file_name(alloc, &mut outcome, number).ok()?;
+            file_fault(
+                alloc,
+                path_in(alloc, out, table.as_str())?.as_str(),
+                fault,
+                BY_EDIT,
+            )
+        }
+        name => {
+            let number = telling.refused.number()?;
+            if !edit.added.iter().any(|file| file.meta.number == number) {
+                return None;
+            }
+            let table = table_file_name(alloc, &mut outcome, number).ok()?;
+            words_told(alloc, out, table.as_str(), of_file(name).wrong)
+        }
+    }
+}
+
+/// What is told of an outcome's file of this name.
+fn words_told(alloc: Global, out: &str, file: &str, wrong: &'static str) -> Option<RefusalText> {
+    let words = Words {
+        wrong,
+        remedy: REMEDY,
+    };
+    told(alloc, path_in(alloc, out, file)?.as_str(), words)
+}
+
+/// What is wrong with an EDIT that is refused by this name.
+fn edit_words(name: FaultName) -> &'static str {
+    match name {
+        FaultName::EditTag => "it has an unknown tag",
+        FaultName::EditField => "a field of it cannot be read",
+        name => of_file(name).wrong,
+    }
+}
+
+/// The name of the first new table of an edit that an outcome lacks.
+fn first_missing<R: Host>(rt: &R, out: &str, edit: &VersionEdit) -> Option<String> {
+    let mut outcome = Disk::new(rt, out);
+    for file in &edit.added {
+        let table = table_file_name(rt.alloc(), &mut outcome, file.meta.number).ok()?;
+        if !is_there(rt, out, table.as_str()) {
+            return Some(table);
+        }
+    }
+    None
 }
 
 /// What is told of an outcome, with as many before it, that doesn't fit what a folder was `opened`
@@ -144,18 +235,6 @@ fn first_at_most(edit: &VersionEdit, next: u64) -> Option<u64> {
     None
 }
 
-/// The first file of an outcome that is refused, if that is by this name.
-fn outcome_file<R: Host>(rt: &R, out: &str, order: Order, name: FaultName) -> Option<RefusedFile> {
-    let mut outcome = Disk::new(rt, out);
-    let found = refused_outcome(rt.alloc(), &mut outcome, order, EDIT, name);
-    let file = found.ok()??;
-    if file.fault.name == name {
-        Some(file)
-    } else {
-        None
-    }
-}
-
 /// The refusal of an outcome none of whose files is refused, with what is told of it.
 fn explained_of_folder<'a, R: Host>(
     rt: &'a R,
@@ -187,35 +266,4 @@ fn is_of_no_file(name: FaultName) -> bool {
         name,
         FaultName::Changed | FaultName::Device | FaultName::Memory
     )
-}
-
-/// What is told of a refused file of an outcome.
-fn file_refusal(alloc: Global, out: &str, file: &RefusedFile) -> Option<RefusalText> {
-    let path = path_in(alloc, out, file.name.as_str())?;
-    let path = path.as_str();
-    let wrong = match &file.detail {
-        Some(Detail::Size { held, stated }) => {
-            let wrong = format!(in alloc; "it has {held} bytes, and EDIT says {stated}");
-            return RefusalText::new(alloc, path, wrong, REMEDY);
-        }
-        Some(Detail::Smallest) => "its smallest key is not the one that EDIT says",
-        Some(Detail::Largest) => "its largest key is not the one that EDIT says",
-        _ => words_of(file.name.as_str(), file.fault.name),
-    };
-    let words = Words {
-        wrong,
-        remedy: REMEDY,
-    };
-    told(alloc, path, words)
-}
-
-/// What is wrong with an outcome's file of this name.
-fn words_of(file: &str, name: FaultName) -> &'static str {
-    match name {
-        FaultName::Missing if file == EDIT => "it is missing: the folder has no whole outcome",
-        FaultName::Missing => "it is missing, and EDIT names it",
-        FaultName::EditTag => "it has an unknown tag",
-        FaultName::EditField => "a field of it cannot be read",
-        name => of_file(name).wrong,
-    }
 }

@@ -16,7 +16,7 @@ returns-clause-refusal g c =
     let more : List (ℕ × List ℕ) = map lent_table c.args.loaded.now in
     let none = sym c.is_some.ensures ∙ c.if-is_some.false in
     let Answers : Result (Option Fault) Fault → Type 0 = λ r. IfOk r (λ found. (before : List (ℕ × List ℕ)) → IsFirstRefusal cmp before c.args.first → IsFirstRefusal cmp (before ++ more) found) in
-    elim c.match-check_tables.branch [
+    elim c.match-check_rounds.branch [
       | in-Ok w ↦ subst Answers (sym w.result-is) (none_refused cmp more c.args.first _ none w.in-Ok.ensures)
       | in-Err+in-Memory w ↦ subst Answers (sym w.result-is) tt
       | in-Err+in_default w ↦ subst Answers (sym w.result-is) (now_refused cmp more c.args.first w.in-Err.refused none (other_name w.in-Err.refused _ w.in_default.not-Memory w.in-Err.ensures))

@@ -1,61 +1,79 @@
-use Rattle.std.proofs.Common.{Vec, Global, ℕ, List, Option, Ok, Err, map, subst}
+use Rattle.std.proofs.Common.{Vec, Global, ◌≡◌, ℕ, List, [], Option, None, Ok, IfSome, sym, ap, subst, ◌∙◌}
 use Rattle.std.specs.Option.{option_map}
-use Rattle.ikey.specs.Answers.{fault}
-use Rattle.ikey.specs.fault.FaultName.TheVariants.{Missing}
+use Rattle.ikey.proofs.Binds.{ok_is}
 use Rattle.reads.specs.Tables.{NumberedContents}
-use Rattle.checks.specs.TablePlaces.{IsLoadedIfThere}
-use Rattle.checks.proofs.FolderTests.{loaded_in}
-use Rattle.checks.proofs.FoundTables.{none_missing}
-use Rattle.checks.proofs.HeldAnswers.{read_held, told_held}
-use Rattle.checks.proofs.Lent.{lent_table}
-use Rattle.checks.proofs.ReadTables.{read_answers, read_numbered}
-use Rattle.checks.proofs.ToldTables.{told_found, told_numbers}
+use Rattle.checks.specs.HeldTables.{AreFound, AreHeldBy, IsFoundAnswer, held_numbers}
+use Rattle.checks.specs.TablePlaces.{place_numbers, placed_tables, wanted_numbers}
+use Rattle.checks.proofs.HeldAnswers.{held_in, none_held, placed_held}
+use Rattle.checks.proofs.KeptTables.{placed_found, placed_numbers, placed_unfound}
+use Rattle.checks.proofs.ToldTables.{had_held, had_kept, places_numbers, tables_had}
 use Rattle.checks.proofs.found_tables.read_tables.Goals as goal
 
-pub returns-in_default-2-clause-answer : goal.returns-in_default-2-clause-answer
-returns-in_default-2-clause-answer g c files told =
+abbrev Read : Type 0
+Read = Vec NumberedContents Global
+
+abbrev read_items : Read → List NumberedContents
+read_items v = v.items
+
+pub returns-in_default-clause-answer : goal.returns-in_default-clause-answer
+returns-in_default-clause-answer g c files told =
+    let cmp = g.C.Comparator.cmp in
     let tells = g.F.Folder.tells c.args.folder.now in
-    let numbers : List ℕ = c.args.numbers.now in
-    none_missing g.C.Comparator.cmp files numbers (fault Missing) (loaded_in tells files numbers (Err (fault Missing)) told
-    (subst (λ (o : Option (Vec (ℕ × Vec ℕ Global) Global)). IsLoadedIfThere tells numbers (Ok (option_map (λ v. map lent_table v.items) o))) c.in_default-2.is c.in_ok-loaded.ensures.answer))
+    let places : List (ℕ × Option NumberedContents) = c.in_ok-places.places.items in
+    let wanted : List ℕ = c.deref-2.result.now in
+    let wanted_is : wanted_numbers places ≡ wanted = ap wanted_numbers (sym c.deref.ensures.value) ∙ ok_is _ _ c.in_ok-wanted.ensures ∙ sym c.deref-2.ensures.value in
+    let none : IsFoundAnswer cmp files wanted (Ok None) =
+    subst (λ (o : Option Read). IsFoundAnswer cmp files wanted (Ok (option_map read_items o))) c.in_default.is (c.in_ok-found.ensures.answer files told) in
+    subst (λ (ns : List ℕ). IsFoundAnswer cmp files ns (Ok None)) (places_numbers cmp tells places c.args.numbers.now c.in_ok-places.ensures.places)
+    (placed_unfound cmp files places (subst (λ (ns : List ℕ). IsFoundAnswer cmp files ns (Ok None)) (sym wanted_is) none))
+
+pub returns-in_default-clause-told : goal.returns-in_default-clause-told
+returns-in_default-clause-told g c =
+    let cmp = g.C.Comparator.cmp in
+    let tells = g.F.Folder.tells c.args.folder.now in
+    let places : List (ℕ × Option NumberedContents) = c.in_ok-places.places.items in
+    let are = c.in_ok-places.ensures.places in
+    let none : AreHeldBy cmp tells c.new.result.items = subst (AreHeldBy cmp tells) (sym c.new.ensures.items) (none_held cmp tells) in
+    subst (AreHeldBy cmp tells) (ok_is _ _ c.in_ok-had.ensures ∙ sym c.of.ensures)
+    (placed_held cmp tells (tables_had cmp tells places) (had_held cmp tells places c.args.numbers.now are) places c.new.result.items (had_kept cmp tells places c.args.numbers.now are) none)
 
 pub returns-clause-answer : goal.returns-clause-answer
 returns-clause-answer g c files told =
+    let cmp = g.C.Comparator.cmp in
     let tells = g.F.Folder.tells c.args.folder.now in
-    let failed = g.F.Folder.failed in
-    let numbers : List ℕ = c.args.numbers.now in
-    let loaded : List (ℕ × List ℕ) = map lent_table c.in-Some-2.loaded.items in
-    let items : Vec NumberedContents Global → List NumberedContents = λ v. v.items in
-    let there = loaded_in tells files numbers (Ok loaded) told
-    (subst (λ (o : Option (Vec (ℕ × Vec ℕ Global) Global)). IsLoadedIfThere tells numbers (Ok (option_map (λ v. map lent_table v.items) o))) c.in-Some-2.is c.in_ok-loaded.ensures.answer) in
-    read_answers g.C.Comparator.cmp files numbers loaded there items (failed c.args.folder.now) (failed c.load_if_there.new.folder) c.owned_tables.result c.owned_tables.ensures.memory c.owned_tables.ensures.checked
+    let places : List (ℕ × Option NumberedContents) = c.in_ok-places.places.items in
+    let are = c.in_ok-places.ensures.places in
+    let had = tables_had cmp tells places in
+    let held = had_held cmp tells places c.args.numbers.now are in
+    let fresh : List NumberedContents = c.in-Some.fresh.items in
+    let wanted : List ℕ = c.deref-2.result.now in
+    let wanted_is : wanted_numbers places ≡ wanted = ap wanted_numbers (sym c.deref.ensures.value) ∙ ok_is _ _ c.in_ok-wanted.ensures ∙ sym c.deref-2.ensures.value in
+    let found : AreFound cmp files wanted fresh =
+    subst (λ (o : Option Read). IsFoundAnswer cmp files wanted (Ok (option_map read_items o))) c.in-Some.is (c.in_ok-found.ensures.answer files told) in
+    subst (λ (ns : List ℕ). AreFound cmp files ns c.of.result) (places_numbers cmp tells places c.args.numbers.now are)
+    (subst (AreFound cmp files (place_numbers places)) (ok_is _ _ c.in_ok-tables.ensures ∙ sym c.of.ensures)
+    (placed_found had cmp files (held_in cmp tells files told had held) places fresh (had_kept cmp tells places c.args.numbers.now are) (subst (λ (ns : List ℕ). AreFound cmp files ns fresh) (sym wanted_is) found)))
 
 pub returns-clause-numbers : goal.returns-clause-numbers
-returns-clause-numbers g c =
+returns-clause-numbers g c all =
+    let cmp = g.C.Comparator.cmp in
     let tells = g.F.Folder.tells c.args.folder.now in
-    let numbers : List ℕ = c.args.numbers.now in
-    let loaded : List (ℕ × List ℕ) = map lent_table c.in-Some-2.loaded.items in
-    let items : Vec NumberedContents Global → List NumberedContents = λ v. v.items in
-    let there = subst (λ (o : Option (Vec (ℕ × Vec ℕ Global) Global)). IsLoadedIfThere tells numbers (Ok (option_map (λ v. map lent_table v.items) o))) c.in-Some-2.is c.in_ok-loaded.ensures.answer in
-    read_numbered g.C.Comparator.cmp items tells numbers loaded there c.owned_tables.result c.owned_tables.ensures.checked
-
-pub returns-in-Some-clause-answer : goal.returns-in-Some-clause-answer
-returns-in-Some-clause-answer g c files told =
-    told_found g.C.Comparator.cmp (g.F.Folder.tells c.args.folder.now) files told c.in-Some.tables.items c.args.numbers.now c.in-Some.ensures
-
-pub returns-in-Some-clause-numbers : goal.returns-in-Some-clause-numbers
-returns-in-Some-clause-numbers g c =
-    told_numbers g.C.Comparator.cmp (g.F.Folder.tells c.args.folder.now) c.in-Some.tables.items c.args.numbers.now c.in-Some.ensures
+    let places : List (ℕ × Option NumberedContents) = c.in_ok-places.places.items in
+    let are = c.in_ok-places.ensures.places in
+    let fresh : List NumberedContents = c.in-Some.fresh.items in
+    let wanted : List ℕ = c.deref-2.result.now in
+    let wanted_is : wanted_numbers places ≡ wanted = ap wanted_numbers (sym c.deref.ensures.value) ∙ ok_is _ _ c.in_ok-wanted.ensures ∙ sym c.deref-2.ensures.value in
+    let own : held_numbers fresh ≡ wanted = subst (λ (o : Option Read). IfSome o (λ v. held_numbers v.items ≡ wanted)) c.in-Some.is c.in_ok-found.ensures.numbers in
+    ap held_numbers (c.of.ensures ∙ sym (ok_is _ _ c.in_ok-tables.ensures))
+    ∙ placed_numbers (tables_had cmp tells places) places fresh (had_kept cmp tells places c.args.numbers.now are) (own ∙ sym wanted_is)
+    ∙ places_numbers cmp tells places c.args.numbers.now are
 
 pub returns-clause-told : goal.returns-clause-told
 returns-clause-told g c =
+    let cmp = g.C.Comparator.cmp in
     let tells = g.F.Folder.tells c.args.folder.now in
-    let numbers : List ℕ = c.args.numbers.now in
-    let loaded : List (ℕ × List ℕ) = map lent_table c.in-Some-2.loaded.items in
-    let items : Vec NumberedContents Global → List NumberedContents = λ v. v.items in
-    let there = subst (λ (o : Option (Vec (ℕ × Vec ℕ Global) Global)). IsLoadedIfThere tells numbers (Ok (option_map (λ v. map lent_table v.items) o))) c.in-Some-2.is c.in_ok-loaded.ensures.answer in
-    read_held g.C.Comparator.cmp tells items numbers loaded there c.owned_tables.result c.owned_tables.ensures.checked
-
-pub returns-in-Some-clause-told : goal.returns-in-Some-clause-told
-returns-in-Some-clause-told g c =
-    told_held g.C.Comparator.cmp (g.F.Folder.tells c.args.folder.now) c.in-Some.tables.items c.args.numbers.now c.in-Some.ensures
+    let places : List (ℕ × Option NumberedContents) = c.in_ok-places.places.items in
+    let are = c.in_ok-places.ensures.places in
+    let read : AreHeldBy cmp tells c.in-Some.fresh.items = subst (λ (o : Option Read). IfSome o (λ v. AreHeldBy cmp tells v.items)) c.in-Some.is c.in_ok-found.ensures.told in
+    subst (AreHeldBy cmp tells) (ok_is _ _ c.in_ok-tables.ensures ∙ sym c.of.ensures)
+    (placed_held cmp tells (tables_had cmp tells places) (had_held cmp tells places c.args.numbers.now are) places c.in-Some.fresh.items (had_kept cmp tells places c.args.numbers.now are) read)

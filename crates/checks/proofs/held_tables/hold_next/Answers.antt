@@ -1,6 +1,5 @@
-use Rattle.std.proofs.Common.{List, Option, IfSome, sym, subst, arith}
+use Rattle.std.proofs.Common.{sym, subst, arith}
 use Rattle.folder.proofs.OpeningLemmas.{hands_on}
-use Rattle.reads.specs.Tables.{NumberedContents}
 use Rattle.checks.specs.HeldTables.{AreHeldBy, AreHeldIn, IsFoundAnswer}
 use Rattle.checks.proofs.held_tables.hold_next.Goals as goal
 
@@ -18,4 +17,8 @@ returns-clause-held g c are =
     let cmp = g.C.Comparator.cmp in
     let tells = g.F.Folder.tells c.args.folder.now in
     let own : AreHeldBy cmp tells c.replace-before.result = subst (AreHeldBy cmp tells) (sym c.replace-before.ensures.value) are in
-    subst (λ (o : Option (List NumberedContents)). IfSome o (AreHeldBy cmp tells)) c.in-Some.is (c.in_ok-found.ensures.held own)
+    c.in_ok-found.ensures.held own
+
+pub returns-clause-answer : goal.returns-clause-answer
+returns-clause-answer g c files told are =
+    c.in_ok-found.ensures.answer files told (subst (AreHeldIn g.C.Comparator.cmp files) (sym c.replace-before.ensures.value) are)

@@ -8,10 +8,13 @@ use Rattle.reads.specs.Tables.{NumberedContents}
 use Rattle.split.specs.Ranges.{key_range}
 use Rattle.checks.specs.GroupTest.{IsRangeAnswer}
 use Rattle.checks.specs.HeldTables.{AreFound, IsFoundAnswer}
+use Rattle.checks.specs.InOrder.{AreSoundIn}
 use Rattle.checks.specs.NeededFiles.{is_file_needed}
 use Rattle.checks.proofs.FileTables.{lent_numbers}
 use Rattle.checks.proofs.FolderTests.{range_answers, range_unfound}
 use Rattle.checks.proofs.FoundTables.{held_found, held_unfound}
+use Rattle.checks.proofs.HeldAnswers.{held_on}
+use Rattle.checks.proofs.SoundNumbers.{of_any, sound_more}
 use Rattle.checks.proofs.WalkLemmas.{few_kept}
 use Rattle.checks.proofs.range_test.test_range.Goals as goal
 
@@ -63,3 +66,18 @@ returns-clause-answer g c files told are =
     let metas : map now_of c.deref-3.result.now ≡ needed = ap (map now_of) c.deref-3.ensures.value ∙ c.in_ok-needed.ensures.needed in
     range_answers cmp (g.met.C.Comparator g.world.𝓛 g.world.𝓜 g.world.𝓡 ((λ s x. x), (λ x. x), (λ x. x), λ x. x)).total files c.args.next standing range (failed c.args.folder.now) (failed c.hold_next.new.folder) c.walk_range.result (map now_of c.deref-3.result.now) tables metas
     (subst (λ (ns : List ℕ). AreFound cmp files ns tables) same found) c.walk_range.ensures.memory c.walk_range.ensures.walked
+
+pub returns-then-not-is_held-clause-sound : goal.returns-then-not-is_held-clause-sound
+returns-then-not-is_held-clause-sound g c files told are sound =
+    let cmp = g.C.Comparator.cmp in
+    let tells = g.F.Folder.tells c.args.folder.now in
+    let held = held_on cmp tells files told c.args.checked.now.held c.hold_next.new.held c.hold_next.ensures.held are in
+    subst (AreSoundIn cmp files) (sym c.in_ok-note.ensures.sound) (sound_more cmp files c.args.checked.now.sound.items c.hold_next.new.held sound held)
+
+pub returns-clause-sound : goal.returns-clause-sound
+returns-clause-sound g c =
+    let cmp = g.C.Comparator.cmp in
+    let tells = g.F.Folder.tells c.args.folder.now in
+    of_any c.walk_range.result (λ files told are sound.
+    let held = held_on cmp tells files told c.args.checked.now.held c.hold_next.new.held c.hold_next.ensures.held are in
+    subst (AreSoundIn cmp files) (sym c.in_ok-note.ensures.sound) (sound_more cmp files c.args.checked.now.sound.items c.hold_next.new.held sound held))

@@ -15,6 +15,7 @@ pub loop-number-init : goal.loop-number-init
 loop-number-init g c = record {
   sound = λ files told are. ranges_none g.C.Comparator.cmp files c.args.next (map (λ f. f.now) c.args.standing.now) c.args.split.now;
   held = λ are. are;
+  known = λ files told are sound. sound;
   small = omega arith;
   reads = record { same = λ name held. (λ h. h, λ h. h); calls = refl };
   failures = refl;
@@ -28,7 +29,7 @@ returns-in_err-found-clause-answer g c files told are =
     let metas : List FileMeta = map (λ f. f.now) c.args.standing.now in
     hands_on (λ found. found) (failed c.args.folder.now) (failed c.loop-number.folder) (failed c.test_range.new.folder) c.from_residual.result c.in_err-found.field-0.0 (IsRangeAnswer cmp files c.args.next metas (key_range c.range-range.result)) (IsRangesAnswer cmp files c.args.next metas c.args.split.now)
     c.from_residual.ensures.1 (omega (arith, c.loop-number.invariant.failures)) c.test_range.ensures.device.later
-    (c.in_err-found.ensures.answer files (told_still (tells c.args.folder.now) (tells c.loop-number.folder) files c.loop-number.invariant.reads.same told) (held_on cmp (tells c.args.folder.now) files told c.args.held.now c.loop-number.held c.loop-number.invariant.held are)) (λ h. absurd h)
+    (c.in_err-found.ensures.answer files (told_still (tells c.args.folder.now) (tells c.loop-number.folder) files c.loop-number.invariant.reads.same told) (held_on cmp (tells c.args.folder.now) files told c.args.checked.now.held c.loop-number.checked.held c.loop-number.invariant.held are)) (λ h. absurd h)
 
 pub returns-in_default-clause-answer : goal.returns-in_default-clause-answer
 returns-in_default-clause-answer g c files told are =
@@ -36,7 +37,7 @@ returns-in_default-clause-answer g c files told are =
     let cmp = g.C.Comparator.cmp in
     let metas : List FileMeta = map (λ f. f.now) c.args.standing.now in
     subst (λ o. IsRangeAnswer cmp files c.args.next metas (key_range c.range-range.result) (Ok o)) c.in_default.is
-    (c.in_ok-found.ensures.answer files (told_still (tells c.args.folder.now) (tells c.loop-number.folder) files c.loop-number.invariant.reads.same told) (held_on cmp (tells c.args.folder.now) files told c.args.held.now c.loop-number.held c.loop-number.invariant.held are))
+    (c.in_ok-found.ensures.answer files (told_still (tells c.args.folder.now) (tells c.loop-number.folder) files c.loop-number.invariant.reads.same told) (held_on cmp (tells c.args.folder.now) files told c.args.checked.now.held c.loop-number.checked.held c.loop-number.invariant.held are))
 
 pub loop-number-preserved : goal.loop-number-preserved
 loop-number-preserved g c =
@@ -51,11 +52,14 @@ loop-number-preserved g c =
       sound = λ files told are.
           let one : IsRangeSound cmp files c.args.next metas (key_range c.range-range.result) c.in-Some.count =
           subst (λ o. IsRangeAnswer cmp files c.args.next metas (key_range c.range-range.result) (Ok o)) c.in-Some.is
-          (c.in_ok-found.ensures.answer files (told_still (tells c.args.folder.now) (tells c.loop-number.folder) files c.loop-number.invariant.reads.same told) (held_on cmp (tells c.args.folder.now) files told c.args.held.now c.loop-number.held c.loop-number.invariant.held are)) in
+          (c.in_ok-found.ensures.answer files (told_still (tells c.args.folder.now) (tells c.loop-number.folder) files c.loop-number.invariant.reads.same told) (held_on cmp (tells c.args.folder.now) files told c.args.checked.now.held c.loop-number.checked.held c.loop-number.invariant.held are)) in
           let next : suc n ≡ n + 1 = omega arith in
           subst (λ (m : ℕ). AreRangesSound cmp files c.args.next metas boundaries m (c.loop-number.entries + c.in-Some.count)) next
           (ranges_more cmp files c.args.next metas boundaries n c.loop-number.entries c.in-Some.count (c.loop-number.invariant.sound files told are) (subst (λ (r : KeyRange). IsRangeSound cmp files c.args.next metas r c.in-Some.count) c.range-range.ensures.bounds one));
-      held = λ are. held_through cmp (tells c.args.folder.now) (tells c.loop-number.folder) c.loop-number.invariant.reads.same c.loop-number.held c.test_range.new.held c.test_range.ensures.held (c.loop-number.invariant.held are);
+      held = λ are. held_through cmp (tells c.args.folder.now) (tells c.loop-number.folder) c.loop-number.invariant.reads.same c.loop-number.checked.held c.test_range.new.checked.held c.test_range.ensures.held (c.loop-number.invariant.held are);
+      known = λ files told are sound.
+          c.in_ok-found.ensures.sound files (told_still (tells c.args.folder.now) (tells c.loop-number.folder) files c.loop-number.invariant.reads.same told) (held_on cmp (tells c.args.folder.now) files told c.args.checked.now.held c.loop-number.checked.held c.loop-number.invariant.held are)
+          (c.loop-number.invariant.known files told are sound);
       small = omega (arith, few, c.loop-number.invariant.small);
       reads = reads_then c.loop-number.invariant.reads c.test_range.ensures.reads;
       failures = steady (failed c.args.folder.now) (failed c.loop-number.folder) (failed c.test_range.new.folder) c.in_ok-found.found c.test_range.result c.in_ok-found.was c.loop-number.invariant.failures c.test_range.ensures.device.later c.test_range.ensures.device.at_once;
@@ -71,15 +75,25 @@ returns-clause-answer g c files told are =
 pub returns-in_err-found-clause-held : goal.returns-in_err-found-clause-held
 returns-in_err-found-clause-held g c are =
     let tells = g.F.Folder.tells in
-    held_through g.C.Comparator.cmp (tells c.args.folder.now) (tells c.loop-number.folder) c.loop-number.invariant.reads.same c.loop-number.held c.test_range.new.held c.test_range.ensures.held (c.loop-number.invariant.held are)
+    held_through g.C.Comparator.cmp (tells c.args.folder.now) (tells c.loop-number.folder) c.loop-number.invariant.reads.same c.loop-number.checked.held c.test_range.new.checked.held c.test_range.ensures.held (c.loop-number.invariant.held are)
 
 pub returns-in_default-clause-held : goal.returns-in_default-clause-held
 returns-in_default-clause-held g c are =
     let tells = g.F.Folder.tells in
-    held_through g.C.Comparator.cmp (tells c.args.folder.now) (tells c.loop-number.folder) c.loop-number.invariant.reads.same c.loop-number.held c.test_range.new.held c.test_range.ensures.held (c.loop-number.invariant.held are)
+    held_through g.C.Comparator.cmp (tells c.args.folder.now) (tells c.loop-number.folder) c.loop-number.invariant.reads.same c.loop-number.checked.held c.test_range.new.checked.held c.test_range.ensures.held (c.loop-number.invariant.held are)
 
 pub returns-clause-held : goal.returns-clause-held
 returns-clause-held g c are = c.loop-number.invariant.held are
 
 pub returns-clause-cover : goal.returns-clause-cover
 returns-clause-cover g c = covers g.C.Comparator.cmp (g.met.C.Comparator g.world.𝓛 g.world.𝓜 g.world.𝓡 ((λ s x. x), (λ x. x), (λ x. x), λ x. x)).total c.args.split.now c.len-number-end.ensures.split.rising
+
+pub returns-in_default-clause-sound : goal.returns-in_default-clause-sound
+returns-in_default-clause-sound g c files told are sound =
+    let tells = g.F.Folder.tells in
+    let cmp = g.C.Comparator.cmp in
+    c.in_ok-found.ensures.sound files (told_still (tells c.args.folder.now) (tells c.loop-number.folder) files c.loop-number.invariant.reads.same told) (held_on cmp (tells c.args.folder.now) files told c.args.checked.now.held c.loop-number.checked.held c.loop-number.invariant.held are)
+    (c.loop-number.invariant.known files told are sound)
+
+pub returns-clause-sound : goal.returns-clause-sound
+returns-clause-sound g c = c.loop-number.invariant.known

@@ -35,3 +35,9 @@ returns-clause-answer g c files told are =
 
 pub returns-clause-held : goal.returns-clause-held
 returns-clause-held g c are = c.test_ranges.ensures.held are
+
+pub returns-in_default-clause-sound : goal.returns-in_default-clause-sound
+returns-in_default-clause-sound g c files told are sound = sound
+
+pub returns-clause-sound : goal.returns-clause-sound
+returns-clause-sound g c = c.test_ranges.ensures.sound

@@ -1,47 +1,32 @@
-//! Why a field of a manifest's edit is refused as EditField.
+//! Which limit an edit passes whose field is refused.
 
-ghost use Rattle.folder.specs.Reports.{OnlyReads};
-
-use crate::detail::Detail;
-use coding::{Fault, read_u64_varint};
+use coding::read_u64_varint;
 use edit::LAST_LEVEL;
-use folder::Folder;
 use ikey::{MAX_USER_KEY, TAG_LEN};
-use logrec::RecordReader;
-use std::alloc::Global;
 
 /// The most bytes of an internal key that is compacted here.
 const MAX_KEY: u64 = (MAX_USER_KEY + TAG_LEN) as u64;
 
-/// What is read of an edit up to a place: the bytes after it, or why no more is read. None if that
-/// is no limit.
-type Reading<T> = Result<T, Option<Detail>>;
-
-/// What is known of the refusal of the manifest of this `name` as EditField: its first field that
-/// can't be read has a long key or names a deep level. None if it is refused for another reason. It
-/// only reads.
-pub(crate) fn field_detail<F: Folder>(
-    alloc: Global,
-    folder: &mut F,
-    name: &str,
-) -> Result<Option<Detail>, Fault>
-    ensures reads { OnlyReads F.Folder folder.old folder.new }
-{
-    let Some(bytes) = folder.read(name)? else {
-        return Ok(None);
-    };
-    limit_in(alloc, &bytes)
+/// A limit of a field that an edit passes.
+#[derive(Clone, Copy)]
+pub(crate) enum Limit {
+    /// A key is longer than any that is compacted here.
+    Key,
+    /// This level is above 6.
+    Level(u64),
 }
 
-/// The same, of the bytes of a manifest. It takes the memory of one record at a time.
-fn limit_in(alloc: Global, bytes: &[u8]) -> Result<Option<Detail>, Fault> {
-    let mut records = RecordReader::new(bytes);
-    while let Some(encoded) = records.next(alloc)? {
-        if let Err(detail) = fields_read(&encoded) {
-            return Ok(detail);
-        }
+/// What is read of an edit up to a place: the bytes after it, or why no more is read. None if that
+/// is no limit.
+type Reading<T> = Result<T, Option<Limit>>;
+
+/// The limit that the first field of an edit passes which can't be read. None if it is refused for
+/// another reason.
+pub(crate) fn limit_passed(record: &[u8]) -> Option<Limit> {
+    match fields_read(record) {
+        Ok(()) => None,
+        Err(limit) => limit,
     }
-    Ok(None)
 }
 
 /// Reads all fields of an edit. Each has a byte at least.
@@ -76,20 +61,20 @@ fn after_file(bytes: &[u8]) -> Reading<&[u8]> {
     after_key(after_key(rest)?)
 }
 
-/// The bytes after a level. DeepLevel if it is above 6.
+/// The bytes after a level. Level if it is above 6.
 fn after_level(bytes: &[u8]) -> Reading<&[u8]> {
     let (level, rest) = number(bytes)?;
     if level > LAST_LEVEL {
-        return Err(Some(Detail::DeepLevel(level)));
+        return Err(Some(Limit::Level(level)));
     }
     Ok(rest)
 }
 
-/// The bytes after a key. LongKey if it is longer than any that is compacted here.
+/// The bytes after a key. Key if it is longer than any that is compacted here.
 fn after_key(bytes: &[u8]) -> Reading<&[u8]> {
     let (key, rest) = slice(bytes)?;
     if key.len() as u64 > MAX_KEY {
-        return Err(Some(Detail::LongKey));
+        return Err(Some(Limit::Key));
     }
     Ok(rest)
 }

@@ -3,7 +3,7 @@ use Rattle.std.proofs.lemmas.Result.{err_from_is_err_and}
 use Rattle.checks.specs.TableReadings.{tables_reading}
 use Rattle.checks.proofs.Lent.{lent_table}
 use Rattle.checks.proofs.TableRounds.{round_more, round_refused}
-use Rattle.checks.proofs.rounds.check_tables.Goals as goal
+use Rattle.checks.proofs.rounds.check_rounds.Goals as goal
 
 pub returns-in_err-checked : goal.returns-in_err-checked
 returns-in_err-checked g c =

@@ -2,7 +2,7 @@ use Rattle.std.proofs.Common.{map, ◌≡◌, length}
 use Rattle.checks.specs.TableReadings.{tables_reading}
 use Rattle.checks.proofs.Lent.{lent_table}
 use Rattle.checks.proofs.TableRounds.{tables_after}
-use Rattle.checks.proofs.rounds.check_tables.Given as goal
+use Rattle.checks.proofs.rounds.check_rounds.Given as goal
 
 abbrev pub invariant-loop-rest : goal.invariant-loop-rest
 invariant-loop-rest g l =

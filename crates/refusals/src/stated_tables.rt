@@ -1,0 +1,60 @@
+//! Which new table is not as an edit states it. No contract says which one it is.
+
+ghost use Rattle.folder.specs.Reports.{OnlyReads};
+
+use crate::table_file::table_file;
+use coding::Fault;
+use edit::{FileMeta, VersionEdit};
+use faults::FileFault;
+use folder::{Folder, Order};
+use ikey::{Bytewise, Comparator, Shortlex};
+use std::alloc::Global;
+use table::check;
+
+/// The number of the first new table of an edit that is not as the edit states it, in its order, and
+/// what is wrong with it. None if there is none before one that can't be read. It only reads.
+pub fn unlike_edit<F: Folder>(
+    alloc: Global,
+    folder: &mut F,
+    order: Order,
+    edit: &VersionEdit,
+) -> Result<Option<(u64, FileFault)>, Fault>
+    ensures reads { OnlyReads F.Folder folder.old folder.new }
+{
+    for file in &edit.added {
+        let found = match order {
+            Order::Bytewise => unlike_stated::<Bytewise, F>(alloc, folder, &file.meta)?,
+            Order::Shortlex => unlike_stated::<Shortlex, F>(alloc, folder, &file.meta)?,
+        };
+        if let Some(fault) = found {
+            return Ok(Some((file.meta.number, fault)));
+        }
+    }
+    Ok(None)
+}
+
+/// In what a table is not as it is stated. None if it is, or if it is missing.
+fn unlike_stated<C: Comparator, F: Folder>(
+    alloc: Global,
+    folder: &mut F,
+    meta: &FileMeta,
+) -> Result<Option<FileFault>, Fault>
+    ensures reads { OnlyReads F.Folder folder.old folder.new }
+{
+    let Some(file) = table_file(alloc, folder, meta.number)? else {
+        return Ok(None);
+    };
+    let sound = check::<C>(alloc, &file.bytes)?;
+    let held = file.bytes.len() as u64;
+    let stated = meta.size;
+    if held != stated {
+        return Ok(Some(FileFault::Length { held, stated }));
+    }
+    if sound.smallest().bytes() != meta.smallest.as_key().bytes() {
+        return Ok(Some(FileFault::Smallest));
+    }
+    if sound.largest().bytes() != meta.largest.as_key().bytes() {
+        return Ok(Some(FileFault::Largest));
+    }
+    Ok(None)
+}

@@ -119,47 +119,55 @@ module _ (cmp : List ℕ → List ℕ → Ordering) (files : Files) (sound : Lis
   whole : (numbers : List ℕ) (some : List (ℕ × List ℕ)) → AreTables (unknown numbers) some → Whole numbers some
   whole [] [] h = record { all = []; there = tt; answers = record { refused = λ e k. k; passed = λ tables k. (tables, k) } }
   whole [] (t ∷ some) h = absurd h
-  whole (n ∷ numbers) some h = by (is_unknown sound n) refl some h
+  whole (n ∷ numbers) some h = by (is_unknown sound n) refl (λ others k. whole numbers others k) some h
     where
-      by : (b : Bool) → is_unknown sound n ≡ b → (some : List (ℕ × List ℕ)) → AreTables (cond b (n ∷ unknown numbers) (unknown numbers)) some → Whole (n ∷ numbers) some
-      by true is [] h = absurd h
-      by true is (t ∷ some) h =
-          let rest = whole numbers some h.1 in
+      by : (b : Bool) → is_unknown sound n ≡ b → ((others : List (ℕ × List ℕ)) → AreTables (unknown numbers) others → Whole numbers others) → (some : List (ℕ × List ℕ)) → AreTables (cond b (n ∷ unknown numbers) (unknown numbers)) some → Whole (n ∷ numbers) some
+      by true is ahead [] h = absurd h
+      by true is ahead (t ∷ some) h =
+          let rest = ahead some h.1 in
           record { all = t ∷ rest.all; there = (h.0, rest.there); answers = behind cmp t some rest.all rest.answers }
-      by false is some h =
-          let rest = whole numbers some h in
+      by false is ahead some h =
+          let rest = ahead some h in
           let k = known n is in
           record { all = (n, k.bytes) ∷ rest.all; there = ((refl, k.there), rest.there); answers = beside cmp (n, k.bytes) k.one some rest.all k.valid rest.answers }
 
   -- the first missing one is the first of all
-  still_missing : (numbers : List ℕ) (e : Fault) → IsFirstMissing (IsFileIn files) (unknown numbers) e → IsFirstMissing (IsFileIn files) numbers e
-  still_missing numbers e m = by_parts numbers m.before m.tables m.number m.behind m.parts m.read m.missing
-    where
-      first : (numbers : List ℕ) (n number : ℕ) → n ≡ number → IsTableAnswer (IsFileIn files) number (Err e) → IsFirstMissing (IsFileIn files) (n ∷ numbers) e
-      first numbers n number same missing = record { before = []; tables = []; number = n; behind = numbers; parts = refl; read = tt; missing = subst (λ (k : ℕ). IsTableAnswer (IsFileIn files) k (Err e)) (sym same) missing }
+  module _ (e : Fault) where
+    abbrev Misses : List ℕ → Type 0
+    Misses numbers = IsFirstMissing (IsFileIn files) numbers e
 
-      later : (numbers : List ℕ) (n : ℕ) (t : ℕ × List ℕ) → IsTableOf (IsFileIn files) n t → IsFirstMissing (IsFileIn files) numbers e → IsFirstMissing (IsFileIn files) (n ∷ numbers) e
-      later numbers n t own m = record { before = n ∷ m.before; tables = t ∷ m.tables; number = m.number; behind = m.behind; parts = ap (λ (ns : List ℕ). n ∷ ns) m.parts; read = (own, m.read); missing = m.missing }
+    first : (numbers : List ℕ) (n number : ℕ) → n ≡ number → IsTableAnswer (IsFileIn files) number (Err e) → Misses (n ∷ numbers)
+    first numbers n number same missing = record { before = []; tables = []; number = n; behind = numbers; parts = refl; read = tt; missing = subst (λ (k : ℕ). IsTableAnswer (IsFileIn files) k (Err e)) (sym same) missing }
 
-      by_parts : (numbers before : List ℕ) (tables : List (ℕ × List ℕ)) (number : ℕ) (behind : List ℕ) → unknown numbers ≡ before ++ number ∷ behind → AreTables before tables → IsTableAnswer (IsFileIn files) number (Err e) → IsFirstMissing (IsFileIn files) numbers e
-      by_parts [] [] tables number behind parts read missing = absurd (cc parts)
-      by_parts [] (b ∷ before) tables number behind parts read missing = absurd (cc parts)
-      by_parts (n ∷ numbers) before tables number behind parts read missing = by (is_unknown sound n) refl before tables parts read
+    later : (numbers : List ℕ) (n : ℕ) (t : ℕ × List ℕ) → IsTableOf (IsFileIn files) n t → Misses numbers → Misses (n ∷ numbers)
+    later numbers n t own m = record { before = n ∷ m.before; tables = t ∷ m.tables; number = m.number; behind = m.behind; parts = ap (λ (ns : List ℕ). n ∷ ns) m.parts; read = (own, m.read); missing = m.missing }
+
+    module _ (number : ℕ) (behind : List ℕ) (missing : IsTableAnswer (IsFileIn files) number (Err e)) where
+      abbrev Splits : List ℕ → List ℕ → Type 0
+      Splits some numbers = (before : List ℕ) (tables : List (ℕ × List ℕ)) → some ≡ before ++ number ∷ behind → AreTables before tables → Misses numbers
+
+      missed : (numbers : List ℕ) → Splits (unknown numbers) numbers
+      missed [] [] tables parts read = absurd (cc parts)
+      missed [] (b ∷ before) tables parts read = absurd (cc parts)
+      missed (n ∷ numbers) before tables parts read = by (is_unknown sound n) refl (λ bs ts p r. missed numbers bs ts p r) before tables parts read
         where
-          by : (b : Bool) → is_unknown sound n ≡ b → (before : List ℕ) (tables : List (ℕ × List ℕ)) → cond b (n ∷ unknown numbers) (unknown numbers) ≡ before ++ number ∷ behind → AreTables before tables → IsFirstMissing (IsFileIn files) (n ∷ numbers) e
-          by true is [] tables parts read = let same : n ≡ number = cc parts in first numbers n number same missing
-          by true is (b ∷ before) [] parts read = absurd read
-          by true is (b ∷ before) (t ∷ tables) parts read =
+          by : (b : Bool) → is_unknown sound n ≡ b → Splits (unknown numbers) numbers → Splits (cond b (n ∷ unknown numbers) (unknown numbers)) (n ∷ numbers)
+          by true is ahead [] tables parts read = let same : n ≡ number = cc parts in first numbers n number same missing
+          by true is ahead (b ∷ before) [] parts read = absurd read
+          by true is ahead (b ∷ before) (t ∷ tables) parts read =
               let same : b ≡ n = cc parts in
               let rest : unknown numbers ≡ before ++ number ∷ behind = cc parts in
-              later numbers n t (subst (λ (k : ℕ). IsTableOf (IsFileIn files) k t) same read.0) (by_parts numbers before tables number behind rest read.1 missing)
-          by false is before tables parts read =
+              later numbers n t (subst (λ (k : ℕ). IsTableOf (IsFileIn files) k t) same read.0) (ahead before tables rest read.1)
+          by false is ahead before tables parts read =
               let k = known n is in
-              later numbers n (n, k.bytes) (refl, k.there) (by_parts numbers before tables number behind parts read missing)
+              later numbers n (n, k.bytes) (refl, k.there) (ahead before tables parts read)
+
+    still_missing : (numbers : List ℕ) → Misses (unknown numbers) → Misses numbers
+    still_missing numbers m = missed m.number m.behind m.missing numbers m.before m.tables m.parts m.read
 
   -- what is answered of those that aren't known is answered of all
   pub all_checked : (numbers : List ℕ) (a : Result (Unit {0}) Fault) → AreChecked cmp files (unknown numbers) a → AreChecked cmp files numbers a
-  all_checked numbers a (Err d, h) = (Err d, (still_missing numbers d h.0, h.1))
+  all_checked numbers a (Err d, h) = (Err d, (still_missing d numbers h.0, h.1))
   all_checked numbers a (Ok loaded, (there, (Err d, h))) =
       let all = whole numbers loaded there in
       (Ok all.all, (all.there, (Err d, (all.answers.refused d h.0, h.1))))

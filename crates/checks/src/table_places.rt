@@ -80,7 +80,10 @@ pub(crate) fn reused_places<C: Comparator>(
     let mut places = Vec::with_capacity(alloc, numbers.len())?;
     for number in numbers {
         let kept = taken(&mut ahead, *number);
-        places.push(TablePlace::of(*number, kept))?;
+        places.push(TablePlace {
+            number: *number,
+            kept,
+        })?;
     }
     Ok(places)
 }

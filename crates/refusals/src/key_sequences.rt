@@ -12,30 +12,13 @@ use table::{Cursor, TableCursor, check};
 /// The sequences that a table has of a user key.
 #[derive(Clone, Copy)]
 pub(crate) struct KeySequences {
-    greatest: u64,
-    least: u64,
+    pub greatest: u64,
+    pub least: u64,
     /// The first one that it has twice.
-    repeated: Option<u64>,
+    pub repeated: Option<u64>,
 }
 
 impl KeySequences {
-    /// The sequence of the last entry before a step to one that isn't older; of the repeated one, if
-    /// both are in one file.
-    pub fn last(self, is_one_file: bool) -> u64 {
-        match self.repeated {
-            Some(repeated) if is_one_file => repeated,
-            _ => self.least,
-        }
-    }
-
-    /// The same of the first entry after the step.
-    pub fn first(self, is_one_file: bool) -> u64 {
-        match self.repeated {
-            Some(repeated) if is_one_file => repeated,
-            _ => self.greatest,
-        }
-    }
-
     /// The same with the next sequence in the table's order.
     fn with(self, sequence: u64) -> KeySequences {
         let is_repeated = self.repeated.is_none() && sequence == self.least;

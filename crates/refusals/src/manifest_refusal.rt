@@ -155,7 +155,8 @@ impl EditsSeen {
         if adds_twice(alloc, &edit.added)? {
             self.adds_twice = true;
         }
-        if let Some(name) = edit.comparator {
+        let named = edit.comparator;
+        if let Some(name) = named {
             self.name(name);
         }
         Ok(())

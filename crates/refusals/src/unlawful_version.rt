@@ -189,14 +189,16 @@ fn key_told<F: Folder>(
     let Some(second) = sequences_of(alloc, folder, order, other, user)? else {
         return Ok(None);
     };
-    let is_one = file == other;
+    let (here, there) = match first.repeated {
+        Some(repeated) if file == other => (repeated, repeated),
+        _ => (first.least, second.greatest),
+    };
     let name = table_file_name(alloc, folder, file)?;
     let other = table_file_name(alloc, folder, other)?;
     let Some(path) = path_in(alloc, path, name.as_str()) else {
         return Ok(None);
     };
     let key = text_of(alloc, user)?;
-    let (here, there) = (first.last(is_one), second.first(is_one));
     let wrong = if here != there {
         format!(in alloc;
             "user key {key} has sequence {here} here, and the newer {there} in {other}, which is \

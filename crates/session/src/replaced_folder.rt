@@ -3,7 +3,7 @@
 use crate::explanations::Words;
 use crate::folder_names::path_in;
 use crate::opened_folder::refused_at;
-use crate::refusal::{Refusal, RefusalText, told};
+use crate::refusal::{Refusal, told};
 use crate::reporter::Telling;
 use coding::{Fault, FaultName};
 use disk::{Disk, SystemFiles};
@@ -24,25 +24,13 @@ pub fn refused_opened<R: SystemFiles + AllocGlobal>(
     opened: &Opened,
     fault: Fault,
 ) -> Refusal {
-    match replaced_refusal(rt, path, opened, fault) {
-        None => refused_at(rt, path, folder, fault),
-        told => Refusal::new(fault, told),
+    if fault.name == FaultName::Missing
+        && is_replaced(rt, path, opened.manifest)
+        && let Some(current) = path_in(rt.alloc(), path, CURRENT)
+    {
+        return Refusal::new(fault, told(rt.alloc(), current.as_str(), REPLACED));
     }
-}
-
-/// What is told of a folder in which a file is missing, if CURRENT names another manifest than when
-/// it was opened. None if it names that one, or if something else is refused.
-pub fn replaced_refusal<R: SystemFiles + AllocGlobal>(
-    rt: &R,
-    path: &str,
-    opened: &Opened,
-    fault: Fault,
-) -> Option<RefusalText> {
-    if fault.name != FaultName::Missing || !is_replaced(rt, path, opened.manifest) {
-        return None;
-    }
-    let current = path_in(rt.alloc(), path, CURRENT)?;
-    told(rt.alloc(), current.as_str(), REPLACED)
+    refused_at(rt, path, folder, fault)
 }
 
 /// Tells if CURRENT names another manifest than when the folder was `opened`: a file that is

@@ -50,8 +50,8 @@ returns-clause-answer g c files told =
     let wanted_is : wanted_numbers places ≡ wanted = ap wanted_numbers (sym c.deref.ensures.value) ∙ ok_is _ _ c.in_ok-wanted.ensures ∙ sym c.deref-2.ensures.value in
     let found : AreFound cmp files wanted fresh =
     subst (λ (o : Option Read). IsFoundAnswer cmp files wanted (Ok (option_map read_items o))) c.in-Some.is (c.in_ok-found.ensures.answer files told) in
-    subst (λ (ns : List ℕ). AreFound cmp files ns c.of.result) (places_numbers cmp tells places c.args.numbers.now are)
-    (subst (AreFound cmp files (place_numbers places)) (ok_is _ _ c.in_ok-tables.ensures ∙ sym c.of.ensures)
+    subst (λ (ns : List ℕ). AreFound cmp files ns c.of-2.result) (places_numbers cmp tells places c.args.numbers.now are)
+    (subst (AreFound cmp files (place_numbers places)) (ok_is _ _ c.in_ok-tables.ensures ∙ sym c.of-2.ensures)
     (placed_found had cmp files (held_in cmp tells files told had held) places fresh (had_kept cmp tells places c.args.numbers.now are) (subst (λ (ns : List ℕ). AreFound cmp files ns fresh) (sym wanted_is) found)))
 
 pub returns-clause-numbers : goal.returns-clause-numbers
@@ -64,7 +64,7 @@ returns-clause-numbers g c all =
     let wanted : List ℕ = c.deref-2.result.now in
     let wanted_is : wanted_numbers places ≡ wanted = ap wanted_numbers (sym c.deref.ensures.value) ∙ ok_is _ _ c.in_ok-wanted.ensures ∙ sym c.deref-2.ensures.value in
     let own : held_numbers fresh ≡ wanted = subst (λ (o : Option Read). IfSome o (λ v. held_numbers v.items ≡ wanted)) c.in-Some.is c.in_ok-found.ensures.numbers in
-    ap held_numbers (c.of.ensures ∙ sym (ok_is _ _ c.in_ok-tables.ensures))
+    ap held_numbers (c.of-2.ensures ∙ sym (ok_is _ _ c.in_ok-tables.ensures))
     ∙ placed_numbers (tables_had cmp tells places) places fresh (had_kept cmp tells places c.args.numbers.now are) (own ∙ sym wanted_is)
     ∙ places_numbers cmp tells places c.args.numbers.now are
 
@@ -75,5 +75,5 @@ returns-clause-told g c =
     let places : List (ℕ × Option NumberedContents) = c.in_ok-places.places.items in
     let are = c.in_ok-places.ensures.places in
     let read : AreHeldBy cmp tells c.in-Some.fresh.items = subst (λ (o : Option Read). IfSome o (λ v. AreHeldBy cmp tells v.items)) c.in-Some.is c.in_ok-found.ensures.told in
-    subst (AreHeldBy cmp tells) (ok_is _ _ c.in_ok-tables.ensures ∙ sym c.of.ensures)
+    subst (AreHeldBy cmp tells) (ok_is _ _ c.in_ok-tables.ensures ∙ sym c.of-2.ensures)
     (placed_held cmp tells (tables_had cmp tells places) (had_held cmp tells places c.args.numbers.now are) places c.in-Some.fresh.items (had_kept cmp tells places c.args.numbers.now are) read)

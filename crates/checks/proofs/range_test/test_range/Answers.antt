@@ -1,4 +1,4 @@
-use Rattle.std.proofs.Common.{Bor, ◌≡◌, ℕ, ◌≤◌, ◌^◌, List, None, Ok, length, map, sym, ap, subst, ◌∙◌, arith}
+use Rattle.std.proofs.Common.{Bor, IfOk, ◌≡◌, ℕ, ◌≤◌, ◌^◌, List, None, Ok, length, map, sym, ap, subst, ◌∙◌, arith}
 use Rattle.std.specs.Prelude.{filter}
 use Rattle.std.proofs.lemmas.List.{length-map}
 use Rattle.ikey.proofs.Binds.{ok_is}
@@ -6,8 +6,8 @@ use Rattle.folder.specs.meta.FileMeta.{FileMeta}
 use Rattle.folder.proofs.OpeningLemmas.{hands_on}
 use Rattle.reads.specs.Tables.{NumberedContents}
 use Rattle.split.specs.Ranges.{key_range}
-use Rattle.checks.specs.GroupTest.{IsRangeAnswer}
-use Rattle.checks.specs.HeldTables.{AreFound, IsFoundAnswer}
+use Rattle.checks.specs.GroupTest.{IsRangeAnswer, IsWalkAnswer}
+use Rattle.checks.specs.HeldTables.{AreFound, AreHeldBy, IsFoundAnswer}
 use Rattle.checks.specs.InOrder.{AreSoundIn}
 use Rattle.checks.specs.NeededFiles.{is_file_needed}
 use Rattle.checks.proofs.FileTables.{lent_numbers}
@@ -65,7 +65,8 @@ returns-clause-answer g c files told are =
     let found : AreFound cmp files numbers tables = held_found cmp files numbers c.in_ok-is_held.is_held tables c.if-not-is_held.false (c.in_ok-is_held.ensures.answer files told are) in
     let metas : map now_of c.deref-3.result.now ≡ needed = ap (map now_of) c.deref-3.ensures.value ∙ c.in_ok-needed.ensures.needed in
     range_answers cmp (g.met.C.Comparator g.world.𝓛 g.world.𝓜 g.world.𝓡 ((λ s x. x), (λ x. x), (λ x. x), λ x. x)).total files c.args.next standing range (failed c.args.folder.now) (failed c.hold_next.new.folder) c.walk_range.result (map now_of c.deref-3.result.now) tables metas
-    (subst (λ (ns : List ℕ). AreFound cmp files ns tables) same found) c.walk_range.ensures.memory c.walk_range.ensures.walked
+    (subst (λ (ns : List ℕ). AreFound cmp files ns tables) same found) c.walk_range.ensures.memory
+    (subst (λ (ts : List NumberedContents). IfOk c.walk_range.result (IsWalkAnswer cmp c.args.next range (map now_of c.deref-3.result.now) ts)) c.note.ensures.held c.walk_range.ensures.walked)
 
 pub returns-then-not-is_held-clause-sound : goal.returns-then-not-is_held-clause-sound
 returns-then-not-is_held-clause-sound g c files told are sound =
@@ -81,3 +82,15 @@ returns-clause-sound g c =
     of_any c.walk_range.result (λ files told are sound.
     let held = held_on cmp tells files told c.args.checked.now.held c.hold_next.new.held c.hold_next.ensures.held are in
     subst (AreSoundIn cmp files) (sym c.in_ok-note.ensures.sound) (sound_more cmp files c.args.checked.now.sound.items c.hold_next.new.held sound held))
+
+pub returns-in_err-note-clause-held : goal.returns-in_err-note-clause-held
+returns-in_err-note-clause-held g c are =
+    subst (AreHeldBy g.C.Comparator.cmp (g.F.Folder.tells c.args.folder.now)) (sym c.note.ensures.held) (c.hold_next.ensures.held are)
+
+pub returns-then-not-is_held-clause-held : goal.returns-then-not-is_held-clause-held
+returns-then-not-is_held-clause-held g c are =
+    subst (AreHeldBy g.C.Comparator.cmp (g.F.Folder.tells c.args.folder.now)) (sym c.note.ensures.held) (c.hold_next.ensures.held are)
+
+pub returns-clause-held : goal.returns-clause-held
+returns-clause-held g c are =
+    subst (AreHeldBy g.C.Comparator.cmp (g.F.Folder.tells c.args.folder.now)) (sym c.note.ensures.held) (c.hold_next.ensures.held are)

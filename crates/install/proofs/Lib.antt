@@ -22,6 +22,7 @@ pub mod WorkRows
 mod NamedReads
 mod Pieces
 mod Survival
+mod TwoPieces
 mod Sound
 pub mod DeletedSets
 pub mod JoinedBytes

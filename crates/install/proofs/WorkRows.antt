@@ -37,7 +37,7 @@ leaves_then start a b c P Q R f g one two = record {
   ];
 }
 
-leaves_as : (start : World) (a b : List Step) (P Q : Files → Type 0) → ((f : Files) → P f → Q f) → LeavesOnly start a b P → LeavesOnly start a b Q
+pub leaves_as : (start : World) (a b : List Step) (P Q : Files → Type 0) → ((f : Files) → P f → Q f) → LeavesOnly start a b P → LeavesOnly start a b Q
 leaves_as start a b P Q f h = record { steps = h.steps; all = h.all; each = λ sofar moment files left. f files (h.each sofar moment files left) }
 
 -- ---- after an installation CURRENT names its manifest

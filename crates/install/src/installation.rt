@@ -9,12 +9,16 @@ ghost use Rattle.folder.specs.CallSequence.{MakesCalls};
 ghost use Rattle.folder.specs.Calls.{Done, Files, Tells};
 ghost use Rattle.folder.specs.Names.{current_text};
 ghost use Rattle.folder.specs.OpenAnswer.{IsStopped};
+ghost use Rattle.folder.specs.Orders.{order_cmp};
 ghost use Rattle.folder.specs.Reports.{ReportsDevice};
 ghost use Rattle.folder.specs.declared.order.Order.{Order};
 ghost use Rattle.install.specs.Install.{IsEditedBy, IsStoppedOrChanged, SurvivesCrash};
 ghost use Rattle.install.specs.Install.{calls_before_rename, install_calls, manifest_bytes};
 ghost use Rattle.install.specs.Install.{next_version_tables, tables_in, version_with};
 ghost use Rattle.install.specs.GroupedInstallation.{IsGroupedInstallation, asked_of};
+ghost use Rattle.install.specs.Installation.{IsInstallation, place_with};
+ghost use Rattle.install.specs.Naming.{IsNamedEdit, manifest_of};
+ghost use Rattle.install.specs.ReadsOf.{NamedVersion};
 ghost use Rattle.install.specs.FolderChange.{change_of};
 ghost use Rattle.folder.specs.Manifest.{order_name};
 
@@ -56,6 +60,16 @@ pub fn install<C: Comparator, F: Folder, R: Threads + Sync>(
     ensures left { IfErr result (λ e. e ≡ fault Changed → F.calls folder.new ≡ F.calls folder.old
         ++ map Done (calls_before_rename manifest_number (tables_in outcome.now.tables.items ∷ [])
         (manifest_bytes C.name_bytes C.cmp version.now outcome.now.edit.items))) }
+
+    // If the manifest's number is the version's next file, these are two pieces of work: the tables
+    // are written, and then the edited version is named.
+    ensures work { (v next : NamedVersion) → order_name v.order ≡ C.name_bytes
+        → order_cmp v.order ≡ C.cmp → v.version ≡ version.now
+        → manifest_number ≡ manifest_of version.now
+        → IsNamedEdit v (tables_in outcome.now.tables.items) outcome.now.edit.items next
+        → IsInstallation F.Folder (place_with v (tables_in outcome.now.tables.items)
+        outcome.now.edit.items next) (tables_in outcome.now.tables.items ∷ []) folder.old folder.new
+        result }
 
     // If the folder stands for the version, a crash at any moment leaves it or the edited version.
     // At Ok the folder stands for the edited one. Without a crash it reads as one of the two.
@@ -105,9 +119,16 @@ fn install_group<C: Comparator, F: Folder, R: Threads + Sync>(
     outcome: &Outcome,
 ) -> Result<(), Fault>
     requires { length C.name_bytes < 2 ^ 32 }
-    ensures { IsGroupedInstallation F.Folder (asked_of C.name_bytes C.cmp version.now opened
+    ensures grouped { IsGroupedInstallation F.Folder (asked_of C.name_bytes C.cmp version.now opened
         manifest_number (tables_in outcome.now.tables.items ∷ []) outcome.now.edit.items) folder.old
         folder.new result }
+    ensures work { (v next : NamedVersion) → order_name v.order ≡ C.name_bytes
+        → order_cmp v.order ≡ C.cmp → v.version ≡ version.now
+        → manifest_number ≡ manifest_of version.now
+        → IsNamedEdit v (tables_in outcome.now.tables.items) outcome.now.edit.items next
+        → IsInstallation F.Folder (place_with v (tables_in outcome.now.tables.items)
+        outcome.now.edit.items next) (tables_in outcome.now.tables.items ∷ []) folder.old folder.new
+        result }
 {
     let manifest = manifest_bytes::<C>(alloc, version, &outcome.edit)?;
     write_group(rt, folder, &outcome.tables)?;

@@ -1,5 +1,6 @@
 //! What work on a folder leaves of it.
 
+ghost use Rattle.install.specs.Installation.{InstallationSurvives};
 ghost use Rattle.install.specs.NothingNamed.{NothingIsNamed};
 ghost use Rattle.install.specs.Work.{WorkSurvives};
 
@@ -9,6 +10,12 @@ use folder::Folder;
 /// named. A call does nothing.
 pub fn work_survives<F: Folder>(_folder: &F)
     ensures { WorkSurvives F.Folder }
+{}
+
+/// So a crash at any moment of an installation leaves the version before or the edited one, each
+/// with its manifest. A call does nothing.
+pub fn installation_survives<F: Folder>(_folder: &F)
+    ensures { InstallationSurvives F.Folder }
 {}
 
 /// A manifest whose edit is that of no outcome names no version. So work can't name one before it

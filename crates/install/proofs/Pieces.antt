@@ -1,6 +1,6 @@
 -- Each piece of work: what it leaves, whatever part of its calls was made.
-use Rattle.std.proofs.Common.{◌≡◌, ◌≢◌, ◌⊎◌, ◌<◌, ◌≤◌, ◌^◌, ◌+◌, ℕ, suc, List, [], ◌∷◌, ◌++◌, map, codes, unwrap_or, is_some, true, not, ◌&&◌, Option, Some, None, Result, Ok, Err, refl, sym, ap, subst, ◌∙◌, inl, inr, arith}
-use Rattle.std.proofs.lemmas.Cmp.{nat_list_cmp_total}
+use Rattle.std.proofs.Common.{◌≡◌, ◌≢◌, ◌⊎◌, ◌<◌, ◌≤◌, ◌^◌, ◌+◌, ℕ, suc, List, [], ◌∷◌, ◌++◌, map, codes, unwrap_or, is_some, true, not, ◌&&◌, Option, Some, None, Result, Ok, Err, refl, sym, ap, subst, ◌∙◌, inl, inr, arith, length}
+use Rattle.std.proofs.lemmas.Cmp.{nat_cmp_total, nat_list_cmp_total, on_total, then_total}
 use Rattle.std.proofs.lemmas.List.{append-nil, map-append}
 use Rattle.std.proofs.lemmas.Option.{same_Some}
 use Rattle.std.proofs.lemmas.Bool.{eqb-true}
@@ -30,7 +30,6 @@ use Rattle.folder.specs.Orders.{order_cmp}
 use Rattle.folder.specs.ReadsAs.{Current, IsOneOf, ReadsAs, StandsAs, StandsBy}
 use Rattle.folder.specs.declared.order.Order.{Order}
 use Rattle.folder.specs.declared.order.Order.TheVariants.{Bytewise, Shortlex}
-use Rattle.ikey.specs.ShortlexLaws.{shortlex_total}
 use Rattle.folder.proofs.CrashLemmas.{is_completed, left_reads, stands_folder_synced, stands_still}
 use Rattle.folder.proofs.NameEnds.{ends_apart, low_apart, manifest_end, old_table_end, table_end}
 use Rattle.folder.proofs.NameLemmas.{table_alike, texts_alike}
@@ -397,7 +396,7 @@ module _ (v : NamedVersion) (tables : List (ℕ × List ℕ)) (has : HasSmallNum
 
 order_total : (order : Order) → IsTotalOrder (order_cmp order)
 order_total Bytewise = nat_list_cmp_total
-order_total Shortlex = shortlex_total
+order_total Shortlex = then_total (on_total length nat_cmp_total) nat_list_cmp_total
 
 -- some of two rows of calls is some of the first, or all of them and some of the second
 made_split : (one two : List Call) (steps : List Step) → AreMade (one ++ two) steps → AreMade one steps ⊎ ((more : List Step) × (steps ≡ map Done one ++ more) × AreMade two more)

@@ -29,7 +29,7 @@ use Rattle.edit.specs.declared.meta.CompactPointer.{CompactPointer}
 use Rattle.edit.specs.declared.meta.DeletedFile.{DeletedFile}
 use Rattle.edit.specs.declared.meta.FileMeta.{FileMeta}
 use Rattle.edit.specs.declared.meta.NewFile.{NewFile}
-use Rattle.ikey.specs.Key.{IsInternalKey}
+use Rattle.edit.specs.Key.{IsInternalKey}
 use Rattle.folder.specs.Calls.{Files}
 use Rattle.folder.specs.Manifest.{order_name, version_after_edits}
 use Rattle.folder.specs.Orders.{order_cmp}

@@ -14,9 +14,9 @@ use ikey::{Comparator, Fault};
 use std::alloc::Global;
 use std::marker::Model;
 
-/// The most tables of a group. Why so few: a folder may keep the files of a group open until it
+/// The most tables of a group. Why not all: a folder may keep the files of a group open until it
 /// syncs them.
-pub const MAX_TABLES: usize = 64;
+pub const MAX_TABLES: usize = 256;
 
 /// The planned outputs of a compaction in groups, and the bytes of its edit. Contracts see the
 /// tables of each group.

@@ -1,6 +1,6 @@
 -- How outputs are cut, entry by entry and stop by stop.
-use Rattle.std.proofs.Common.{◌≡◌, ℕ, zero, suc, ◌+◌, ◌-◌, ◌<◌, ◌≤◌, Bool, true, false, List, [], ◌∷◌, ◌++◌, length, take, drop, refl, sym, ap, subst, ◌∙◌, append_assoc, append-nil, arith}
-use Rattle.std.specs.Prelude.{if◌then◌else◌, Result, Ok, Err, IfOk}
+use Rattle.std.proofs.Common.{◌≡◌, ℕ, zero, suc, ◌+◌, ◌-◌, ◌<◌, ◌≤◌, true, false, List, [], ◌∷◌, ◌++◌, length, take, drop, refl, sym, ap, subst, ◌∙◌, append_assoc, append-nil, arith}
+use Rattle.std.specs.Prelude.{Result, Ok, Err, IfOk}
 use Rattle.std.specs.List.{AllByRecursion, flat_map}
 use Rattle.std.proofs.lemmas.Bool.{false≢true}
 use Rattle.std.proofs.lemmas.List.{drop-drop}
@@ -15,22 +15,14 @@ use Rattle.cut.specs.OutputCuts.{OutputsInProgress, outputs_left}
 use Rattle.cut.specs.PlannedBlocks.{block_lists}
 use Rattle.cut.specs.OutputInProgress.{entries_in_blocks, HasLen, ArePlanned, ends_by}
 use Rattle.cut.specs.Outputs.{ends_before, outputs_after, outputs_in, segments}
+use Rattle.cut.proofs.Whole.{all_open, all_by}
 
 module _ (o : Options) where
   -- ---- the entries of data blocks
 
-  open_all : (latest : List Entry) → entries_of_lists (open_block latest) ≡ latest
-  open_all [] = refl
-  open_all (e ∷ es) = append-nil (e ∷ es)
-
-  behind_by : (full : Bool) (latest : List Entry) (e : Entry) (es : List Entry) → entries_of_lists (blocks_after o (e ∷ []) es) ≡ e ∷ es → entries_of_lists (blocks_after o (latest ++ e ∷ []) es) ≡ (latest ++ e ∷ []) ++ es
-      → entries_of_lists (if full then latest ∷ blocks_after o (e ∷ []) es else blocks_after o (latest ++ e ∷ []) es) ≡ latest ++ e ∷ es
-  behind_by true latest e es flushed grown = ap (λ (xs : List Entry). latest ++ xs) flushed
-  behind_by false latest e es flushed grown = grown ∙ append_assoc latest (e ∷ []) es
-
   behind_all : (latest es : List Entry) → entries_of_lists (blocks_after o latest es) ≡ latest ++ es
-  behind_all latest [] = open_all latest ∙ sym (append-nil latest)
-  behind_all latest (e ∷ es) = behind_by (is_full o latest) latest e es (behind_all (e ∷ []) es) (behind_all (latest ++ e ∷ []) es)
+  behind_all latest [] = all_open latest ∙ sym (append-nil latest)
+  behind_all latest (e ∷ es) = all_by (is_full o latest) latest e es (blocks_after o (e ∷ []) es) (blocks_after o (latest ++ e ∷ []) es) (behind_all (e ∷ []) es) (behind_all (latest ++ e ∷ []) es)
 
   pub data_blocks_all : (q : List Entry) → entries_of_lists (data_blocks o q) ≡ q
   unfolding data_blocks

@@ -1,5 +1,5 @@
 -- A block that takes in entries, one after the other, until it is full.
-use Rattle.std.proofs.Common.{◌≡◌, ℕ, zero, suc, ◌+◌, ◌-◌, ◌^◌, ◌<◌, ◌≤◌, false, List, [], ◌∷◌, ◌++◌, length, take, drop, min, refl, sym, ap, subst, ◌∙◌, append_assoc, append-nil, inl, inr, arith}
+use Rattle.std.proofs.Common.{◌≡◌, ℕ, ◌+◌, ◌-◌, ◌^◌, ◌<◌, ◌≤◌, false, List, [], ◌∷◌, ◌++◌, length, take, drop, min, refl, sym, ap, subst, ◌∙◌, append_assoc, append-nil, inl, inr, arith}
 use Rattle.std.specs.Prelude.{Option, Some, None, slice_get}
 use Rattle.std.specs.List.{last_or}
 use Rattle.std.specs.Option.{option_map}
@@ -11,6 +11,7 @@ use Rattle.block.specs.EncodedEntry.{Entry}
 use Rattle.block.specs.BlockFormat.{block}
 use Rattle.table.specs.declared.options.Options.{Options}
 use Rattle.table.specs.DataBlocks.{is_full}
+use Rattle.keep.proofs.ChunkLists.{first_dropped}
 use Rattle.cut.proofs.Lists.{length_le_block}
 use Rattle.cut.proofs.Places.{drop_next, last_joined, last_counted}
 use Rattle.cut.specs.BlockInProgress.{BlockInProgress, IsMetered, block_after_entries, last_entry_key, next_since, added_size}
@@ -54,11 +55,6 @@ pub last_in : (m : BlockInProgress) (taken : ℕ) → 0 < taken → taken ≤ le
 last_in m taken some within =
     ap (option_map (λ (e : Entry). e.key)) (last_joined None m.entries (take taken m.behind) ∙ last_counted (last_or None m.entries) m.behind taken some within)
 
-first_at : (n : ℕ) (xs : List Entry) → slice_get (drop n xs) 0 ≡ slice_get xs n
-first_at zero xs = refl
-first_at (suc n) [] = refl
-first_at (suc n) (x ∷ xs) = first_at n xs
-
 pub filling_more : (o : Options) (m : BlockInProgress) (taken : ℕ) (rest : List Entry) (before : Option (List ℕ)) (len since added : ℕ) → IsFilling o m taken rest before len since
     → o.block_size ≤ 4194304 → m.interval ≡ o.restart_interval → is_full o (m.entries ++ take taken m.behind) ≡ false → 0 < length rest
     → option_map (λ (e : Entry). saturated (added_size since before e.key (length e.value))) (slice_get rest 0) ≡ Some added
@@ -78,7 +74,7 @@ filling_more o m taken rest before len since added h le interval part some added
           (metered_push m.interval q rest len since added before h.metered few added_is h.before_is);
       rest_is = ap (drop 1) h.rest_is ∙ sym (drop_next taken m.behind);
       before_is =
-          ap (option_map (λ (e : Entry). e.key)) (ap (λ (xs : List Entry). slice_get xs 0) h.rest_is ∙ first_at taken m.behind ∙ ap (slice_get m.behind) place)
+          ap (option_map (λ (e : Entry). e.key)) (ap (λ (xs : List Entry). slice_get xs 0) h.rest_is ∙ first_dropped taken m.behind ∙ ap (slice_get m.behind) place)
           ∙ sym (last_in m (taken + 1) (omega arith) within);
       within = within;
       part = λ n below. elim (cases_lt n taken) [

@@ -15,10 +15,10 @@ pub mod Segments
 pub mod MeteredLengths
 pub mod Whole
 pub mod Apart
-pub mod VarintLengths
 pub mod Stopped
 pub mod Metered
 pub mod Filled
+pub mod Stretches
 pub mod Opened
 pub mod Cuts
 pub mod TableLengths

@@ -15,7 +15,7 @@ use Rattle.block.specs.BlockFormat.{block}
 use Rattle.block.specs.BuilderView.{last_key}
 use Rattle.block.proofs.Written.{common, piece_at_restart}
 use Rattle.cut.specs.Lengths.{added_len}
-use Rattle.cut.specs.Sizes.{encoded_entry_size}
+use Rattle.keep.specs.Sizes.{encoded_entry_size}
 use Rattle.cut.specs.BlockInProgress.{IsMetered, last_entry_key, next_since, added_size}
 use Rattle.cut.proofs.MeteredLengths.{lengths_law}
 

@@ -9,11 +9,10 @@ use Rattle.block.specs.BlockFormat.{block, encoded_entry_of, encoded_entries_fro
 use Rattle.block.specs.BuilderView.{last_key}
 use Rattle.block.proofs.Built.{pieces_from-push}
 use Rattle.block.proofs.Written.{length-block, piece_at_restart, restarts_from-push}
-use Rattle.table.specs.Footer.{footer_bytes}
 use Rattle.table.specs.Trailer.{stored_block}
-use Rattle.table.proofs.Footers.{length-footer_bytes}
+use Rattle.table.proofs.Indexes.{length-closing}
 use Rattle.table.proofs.Stored.{length-stored}
-use Rattle.table.specs.Table.{closing_bytes, footer_at, metaindex, stored_blocks}
+use Rattle.table.specs.Table.{stored_blocks}
 use Rattle.cut.specs.Lengths.{LengthsLaw, added_len, restart_len}
 
 flat_more : (ps : List EncodedEntry) (p : EncodedEntry) → length (flat_map encoded_entry_bytes (ps ++ p ∷ [])) ≡ length (flat_map encoded_entry_bytes ps) + length (encoded_entry_bytes p)
@@ -85,20 +84,5 @@ stored_more interval parts p =
     ∙ length-append (stored_blocks interval parts) (stored_block (block interval p))
     ∙ ap (λ (n : ℕ). length (stored_blocks interval parts) + n) (length-stored (block interval p))
 
-closing_len : (at : ℕ) (index : List Entry) → length (closing_bytes at index) ≡ length (block 1 index) + 66
-unfolding closing_bytes
-closing_len at index =
-    let footer = footer_bytes (footer_at at (length (block 1 index))) in
-    let none : length (block 1 []) ≡ 8 = length-block 1 [] in
-    omega (
-      arith,
-      length-append (stored_block metaindex) (stored_block (block 1 index) ++ footer),
-      length-append (stored_block (block 1 index)) footer,
-      length-stored metaindex,
-      length-stored (block 1 index),
-      length-footer_bytes (footer_at at (length (block 1 index))),
-      none,
-    )
-
 pub lengths_law : LengthsLaw
-lengths_law = record { none = λ interval. length-block interval []; more = more; stored = stored_more; closed = closing_len }
+lengths_law = record { none = λ interval. length-block interval []; more = more; stored = stored_more; closed = length-closing }

@@ -25,26 +25,17 @@ use Rattle.cut.specs.BlockInProgress.{BlockInProgress, block_after_entries, last
 use Rattle.cut.specs.Outputs.{ends_before, outputs_after}
 use Rattle.cut.specs.PlannedBlocks.{block_lists}
 use Rattle.cut.specs.OutputInProgress.{entries_in_blocks, stored_len, HasLen, IsFlushed, ends_by, IsOpen}
+use Rattle.cut.proofs.Grouped.{all_more}
+use Rattle.cut.proofs.Metered.{ended_is}
 use Rattle.cut.proofs.MeteredLengths.{lengths_law}
+use Rattle.cut.proofs.Places.{last_pushed}
 
 -- ---- the last key
 
-last_push : (o : Option Entry) (q : List Entry) (e : Entry) → last_or o (q ++ e ∷ []) ≡ Some e
-last_push o [] e = refl
-last_push o (x ∷ xs) e = last_push (Some x) xs e
-
 pub ended_push : (q : List Entry) (e : Entry) → last_entry_key (q ++ e ∷ []) ≡ Some e.key
-ended_push q e = ap (option_map (λ (x : Entry). x.key)) (last_push None q e)
-
-ended_is : (x : Entry) (xs : List Entry) → option_map (λ (e : Entry). e.key) (last_or (Some x) xs) ≡ Some (last_key x.key xs)
-ended_is x [] = refl
-ended_is x (y ∷ ys) = ended_is y ys
+ended_push q e = ap (option_map (λ (x : Entry). x.key)) (last_pushed None q e)
 
 -- ---- lists
-
-all_push : {X : Type 0} (P : X → Type 0) (xs : List X) (x : X) → AllByRecursion P xs → P x → AllByRecursion P (xs ++ x ∷ [])
-all_push P [] x h p = (p, tt)
-all_push P (y ∷ ys) x h p = (h.0, all_push P ys x h.1 p)
 
 pub parts_push : (blocks : List PlannedBlock) (b : PlannedBlock) → block_lists (blocks ++ b ∷ []) ≡ block_lists blocks ++ b.entries.entries ∷ []
 parts_push [] b = refl
@@ -170,8 +161,8 @@ module _ (o : Options) where
         limits = h.limits;
         interval = ap (λ (m : BlockInProgress). m.interval) after_is ∙ interval;
         part = ap (is_full o) none;
-        full = all_push (IsFlushed o) blocks b h.full whole;
-        lens = all_push (HasLen o) blocks b h.lens has_len;
+        full = all_more (IsFlushed o) blocks b h.full whole;
+        lens = all_more (HasLen o) blocks b h.lens has_len;
         cuts = λ rest.
             ap (λ (xs : List Entry). blocks_after o [] (xs ++ rest)) entries
             ∙ grew rest

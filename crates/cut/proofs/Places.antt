@@ -41,7 +41,7 @@ past_run (q ∷ qs) r entry e =
 
 -- ---- a slice with one entry more
 
-last_pushed : {X : Type 0} (o : Option X) (xs : List X) (x : X) → last_or o (xs ++ x ∷ []) ≡ Some x
+pub last_pushed : {X : Type 0} (o : Option X) (xs : List X) (x : X) → last_or o (xs ++ x ∷ []) ≡ Some x
 last_pushed o [] x = refl
 last_pushed o (y ∷ xs) x = last_pushed (Some y) xs x
 

@@ -1,7 +1,7 @@
 -- How long a table is, by the lengths of its data blocks.
 use Rattle.std.proofs.Common.{◌≡◌, ◌≢◌, ℕ, zero, suc, ◌+◌, ◌-◌, ◌%◌, ◌^◌, ◌<◌, ◌≤◌, true, cond, eqb, List, [], ◌∷◌, ◌++◌, length, drop, get_or, min, refl, sym, ap, subst, ◌∙◌, append_assoc, append-nil, inl, inr, arith}
 use Rattle.std.specs.Prelude.{Some, None, slice_get}
-use Rattle.std.specs.List.{AllByRecursion, last_or}
+use Rattle.std.specs.List.{AllByRecursion}
 use Rattle.std.specs.Option.{option_map}
 use Rattle.std.specs.declared.cmp.Ordering.{Ordering}
 use Rattle.std.proofs.lemmas.Bool.{cases_lt, lt-ltb, le-ltb}
@@ -27,9 +27,9 @@ use Rattle.cut.specs.Lengths.{added_len}
 use Rattle.cut.specs.BlockInProgress.{last_entry_key}
 use Rattle.cut.specs.PlannedBlocks.{block_lists}
 use Rattle.cut.specs.OutputInProgress.{entries_in_blocks, stored_len, HasLen, ArePlanned}
-use Rattle.cut.specs.Sizes.{encoded_entry_size}
+use Rattle.keep.specs.Sizes.{encoded_entry_size}
 use Rattle.cut.specs.TableLength.{capped_length, lens_of, planned_index_key, planned_index_entries, index_sizes, table_size}
-use Rattle.cut.proofs.Metered.{length-piece}
+use Rattle.cut.proofs.Metered.{ended_is, length-piece}
 use Rattle.cut.proofs.MeteredLengths.{lengths_law}
 use Rattle.ikey.specs.Comparator.{ShortKeys}
 
@@ -115,10 +115,6 @@ index_len_all keys blocks i offset len some le h =
     omega (arith, h.sizes, h.fits, left, length-index (planned_index_entries keys 0 blocks) (index_some keys 0 blocks some))
 
 -- ---- the keys of the index
-
-ended_is : (x : Entry) (xs : List Entry) → option_map (λ (e : Entry). e.key) (last_or (Some x) xs) ≡ Some (last_key x.key xs)
-ended_is x [] = refl
-ended_is x (y ∷ ys) = ended_is y ys
 
 pub some_ended : (q : List Entry) → q ≢ [] → last_entry_key q ≡ None → ⊥
 some_ended [] some none = some refl

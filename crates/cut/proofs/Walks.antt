@@ -12,9 +12,11 @@ use Rattle.block.specs.BuilderView.{last_key, with_entry}
 use Rattle.block.proofs.Built.{next_shared}
 use Rattle.keep.specs.Runs.{Run}
 use Rattle.keep.specs.SharedLengths.{shared_lens}
+use Rattle.keep.proofs.ChunkLists.{first_dropped}
 use Rattle.cut.specs.RunPlace.{kept_of_runs, IsPlaceInRuns}
 use Rattle.cut.specs.EntryWalkView.{EntryWalkView, shared_with_before, left_out_len}
 use Rattle.cut.specs.ChunkWalk.{IsInSlice}
+use Rattle.cut.proofs.Metered.{ended_is}
 use Rattle.cut.proofs.Places.{drop_next}
 
 abbrev pub key_of : Entry → List ℕ
@@ -45,11 +47,6 @@ first_taken zero xs i lt = absurd (omega arith)
 first_taken (suc n) [] i lt = refl
 first_taken (suc n) (x ∷ xs) zero lt = refl
 first_taken (suc n) (x ∷ xs) (suc i) lt = first_taken n xs i (omega arith)
-
-first_dropped : (n : ℕ) (xs : List Entry) → slice_get (drop n xs) 0 ≡ slice_get xs n
-first_dropped zero xs = refl
-first_dropped (suc n) [] = refl
-first_dropped (suc n) (x ∷ xs) = first_dropped n xs
 
 -- ---- where a walk is
 
@@ -154,13 +151,9 @@ pub left_within : (since left : ℕ) (before : Option (List ℕ)) (es : List Ent
 left_within since left before es key l k = omega (arith, left_first since left before es key l k, left_fits (eqb since 0) before key)
 
 -- after entries of a block it is what the definition of the block has
-known : (x : Entry) (xs : List Entry) → option_map key_of (last_or (Some x) xs) ≡ Some (last_key x.key xs)
-known x [] = refl
-known x (y ∷ ys) = known y ys
-
 shared_after : (q : List Entry) (key : List ℕ) → shared_with_before (option_map key_of (last_or None q)) key ≡ common_prefix_len nat_eq (last_key [] q) key
 shared_after [] key = refl
-shared_after (x ∷ xs) key = ap (λ (b : Option (List ℕ)). shared_with_before b key) (known x xs)
+shared_after (x ∷ xs) key = ap (λ (b : Option (List ℕ)). shared_with_before b key) (ended_is x xs)
 
 pub left_next : (since left : ℕ) (q es : List Entry) (before : Option (List ℕ)) (key : List ℕ) → before ≡ option_map key_of (last_or None q)
     → option_map (λ (e : Entry). left_out_len since before e.key) (slice_get es 0) ≡ Some left → option_map key_of (slice_get es 0) ≡ Some key → left ≡ next_shared since (last_key [] q) key
@@ -180,4 +173,4 @@ last_with (e ∷ q) key value = last_after e.key q key value
 
 pub last_next : (q : List Entry) (key value : List ℕ) → option_map key_of (last_or None (with_entry q key value)) ≡ Some key
 last_next [] key value = refl
-last_next (e ∷ q) key value = known e (with_entry q key value) ∙ ap (λ (k : List ℕ). Some k) (last_after e.key q key value)
+last_next (e ∷ q) key value = ended_is e (with_entry q key value) ∙ ap (λ (k : List ℕ). Some k) (last_after e.key q key value)

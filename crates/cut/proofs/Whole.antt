@@ -11,21 +11,22 @@ use Rattle.table.specs.DataBlocks.{open_block}
 use Rattle.keep.specs.MergedLists.{entries_of_lists}
 use Rattle.cut.specs.Outputs.{ends_before, outputs_after, outputs_in, segments}
 
+-- ---- the entries of lists, by whether one ends before the next entry
+
+pub all_open : (latest : List Entry) → entries_of_lists (open_block latest) ≡ latest
+all_open [] = refl
+all_open (e ∷ es) = append-nil (e ∷ es)
+
+pub all_by : (b : Bool) (latest : List Entry) (e : Entry) (es : List Entry) (after grown : List (List Entry)) → entries_of_lists after ≡ e ∷ es → entries_of_lists grown ≡ (latest ++ e ∷ []) ++ es → entries_of_lists (if b then latest ∷ after else grown) ≡ latest ++ e ∷ es
+all_by true latest e es after grown ended more = ap (λ (xs : List Entry). latest ++ xs) ended
+all_by false latest e es after grown ended more = more ∙ append_assoc latest (e ∷ []) es
+
 module _ (o : Options) where
   -- ---- the entries of a segment
 
-  all_open : (latest : List Entry) → entries_of_lists (open_block latest) ≡ latest
-  all_open [] = refl
-  all_open (e ∷ es) = append-nil (e ∷ es)
-
-  all_by : (b : Bool) (latest : List Entry) (e : Entry) (es : List Entry) → entries_of_lists (outputs_after o (e ∷ []) es) ≡ e ∷ es → entries_of_lists (outputs_after o (latest ++ e ∷ []) es) ≡ (latest ++ e ∷ []) ++ es
-      → entries_of_lists (if b then latest ∷ outputs_after o (e ∷ []) es else outputs_after o (latest ++ e ∷ []) es) ≡ latest ++ e ∷ es
-  all_by true latest e es ended grown = ap (λ (xs : List Entry). latest ++ xs) ended
-  all_by false latest e es ended grown = grown ∙ append_assoc latest (e ∷ []) es
-
   pub all_behind : (latest es : List Entry) → entries_of_lists (outputs_after o latest es) ≡ latest ++ es
   all_behind latest [] = all_open latest ∙ sym (append-nil latest)
-  all_behind latest (e ∷ es) = all_by (ends_before o latest e) latest e es (all_behind (e ∷ []) es) (all_behind (latest ++ e ∷ []) es)
+  all_behind latest (e ∷ es) = all_by (ends_before o latest e) latest e es (outputs_after o (e ∷ []) es) (outputs_after o (latest ++ e ∷ []) es) (all_behind (e ∷ []) es) (all_behind (latest ++ e ∷ []) es)
 
   abbrev pub IsSome : List Entry → Type 0
   IsSome q = q ≢ []

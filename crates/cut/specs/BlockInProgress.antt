@@ -1,13 +1,13 @@
 -- A data block that is measured entry by entry, before any of its bytes is made.
 use Rattle.std.specs.Prelude.{◌≡◌, ℕ, ◌+◌, ◌-◌, ◌%◌, ◌^◌, ◌≤◌, ◌==◌, ◌&&◌, if◌then◌else◌}
-use Rattle.std.specs.Prelude.{List, ◌++◌, length, take, drop, Option, None}
+use Rattle.std.specs.Prelude.{List, [], ◌∷◌, ◌++◌, length, take, drop, Option, Some, None}
 use Rattle.std.specs.List.{last_or}
 use Rattle.std.specs.Option.{is_some, option_map}
 use Rattle.coding.specs.Saturated.{saturated}
 use Rattle.block.specs.EncodedEntry.{Entry}
 use Rattle.block.specs.BlockFormat.{block}
 use Rattle.cut.specs.EntryWalkView.{left_out_len}
-use Rattle.cut.specs.Sizes.{encoded_entry_size}
+use Rattle.keep.specs.Sizes.{encoded_entry_size}
 use Rattle.block.specs.declared.builder.TheConstants.{MAX_RESTART_INTERVAL}
 
 -- an open data block: its restart interval, its entries, and the entries still to come
@@ -49,3 +49,14 @@ added_size since before key value =
     encoded_entry_size (left_out_len since before key) (length key - left_out_len since before key)
     value
     + (if since == 0 && is_some before then 4 else 0)
+
+-- the key before the entries after some; `before` is the key before these
+abbrev pub key_after : Option (List ℕ) → List Entry → Option (List ℕ)
+key_after before [] = before
+key_after before (e ∷ es) = key_after (Some e.key) es
+
+-- how many bytes entries add to a block if no restart points at them
+abbrev pub stretch_size : Option (List ℕ) → List Entry → ℕ
+stretch_size before [] = 0
+stretch_size before (e ∷ es) =
+    added_size 1 before e.key (length e.value) + stretch_size (Some e.key) es

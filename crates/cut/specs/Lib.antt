@@ -16,7 +16,6 @@ pub mod SpanPlaces
 pub mod PlaceKey
 pub mod ChunkWalk
 pub mod BlockInProgress
-pub mod Sizes
 pub mod OverlapStops
 pub mod OutputInProgress
 pub mod OutputCuts

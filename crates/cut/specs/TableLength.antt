@@ -7,7 +7,7 @@ use Rattle.table.specs.declared.trailer.TheConstants.{TRAILER_LEN}
 use Rattle.table.specs.Table.{IndexKeys, index_key, handle_entry}
 use Rattle.cut.specs.declared.planned_block.PlannedBlock.{PlannedBlock}
 use Rattle.cut.specs.PlannedBlocks.{block_lists}
-use Rattle.cut.specs.Sizes.{encoded_entry_size}
+use Rattle.keep.specs.Sizes.{encoded_entry_size}
 use Rattle.cut.specs.declared.table_len.TheConstants.{CLOSING_LEN}
 use Rattle.table.specs.declared.table_check.TheConstants.{MAX_TABLE_LEN}
 

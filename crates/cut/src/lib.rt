@@ -36,7 +36,6 @@ mod cursor;
 mod data_blocks;
 mod entry_ref;
 mod entry_span;
-mod lengths;
 mod open_block;
 mod open_output;
 mod output_cuts;

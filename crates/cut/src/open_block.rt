@@ -1,7 +1,7 @@
 //! The data block of a plan that takes the next entry.
 
-ghost use Rattle.std.specs.Prelude.{◌≡◌, ℕ, ◌↔◌, ◌≤◌, ◌<◌, false, [], length, slice_get};
-ghost use Rattle.std.specs.Prelude.{IsTrue, Some};
+ghost use Rattle.std.specs.Prelude.{◌≡◌, ℕ, ◌+◌, ◌↔◌, ◌≤◌, ◌<◌, ◌==◌, if◌then◌else◌, false, []};
+ghost use Rattle.std.specs.Prelude.{length, slice_get, IsTrue, Some};
 ghost use Rattle.std.specs.Option.{option_map};
 ghost use Rattle.coding.specs.Saturated.{saturated};
 ghost use Rattle.block.specs.BlockFormat.{block};
@@ -12,14 +12,20 @@ ghost use Rattle.block.specs.declared.builder.TheConstants.{MAX_RESTART_INTERVAL
 
 use crate::cursor::EntryCursor;
 use crate::entry_span::EntrySpan;
-use crate::lengths::{EMPTY_LEN, RESTART_LEN, encoded_entry_len};
 use crate::planned_block::PlannedBlock;
 use crate::walk::EntryWalk;
-use block::next_since;
+use block::{EMPTY_BLOCK_LEN, next_since};
 use ikey::InternalKey;
+use keep::encoded_entry_len;
 use std::marker::Model;
 use std::mem;
 use table::Options;
+
+/// The bytes of a restart, and of the count of restarts.
+pub(crate) const RESTART_LEN: u64 = block::RESTART_LEN as u64;
+
+/// The bytes of a block without entries.
+pub(crate) const EMPTY_LEN: u64 = EMPTY_BLOCK_LEN as u64;
 
 /// An open data block: its restart interval, its entries, and the entries still to come.
 #[derive(Drop)]
@@ -69,6 +75,34 @@ fn added_len(since: u64, walk: &EntryWalk<'_, '_>) -> u64
     entry.saturating_add(restart)
 }
 
+/// How many of the next entries, at most `most`, no restart points at: up to the end of the
+/// interval, or none if one points at the next entry.
+#[inline(always)]
+fn before_restart(since: u64, interval: u64, most: u64) -> u64
+    requires { since ≤ interval }
+    ensures some { 0 < result → 0 < since }
+    ensures within { since + result ≤ interval }
+    ensures most { result ≤ most }
+{
+    if since == 0 {
+        return 0;
+    }
+    (interval - since).min(most)
+}
+
+/// The number of entries after the last whole interval, `count` after it had `since`.
+#[inline(always)]
+fn since_after(since: u64, count: u64, interval: u64) -> u64
+    requires { since + count ≤ interval }
+    ensures { result ≡ (if since + count == interval then 0 else since + count) }
+{
+    if since + count == interval {
+        0
+    } else {
+        since + count
+    }
+}
+
 impl<'r, 'a> OpenBlock<'r, 'a> {
     /// No entries, before those from `place` on, at a restart interval from 1 to 1,024.
     pub fn new(interval: u64, place: EntryCursor<'r, 'a>) -> OpenBlock<'r, 'a>
@@ -107,6 +141,11 @@ impl<'r, 'a> OpenBlock<'r, 'a> {
         walk.advance();
         let mut taken = 1;
         while taken < most && len < options.block_size && walk.valid() {
+            let ahead = before_restart(since, self.interval, most - taken - 1);
+            let stretch = walk.pass(ahead, options.block_size - len);
+            len += stretch.len;
+            since = since_after(since, stretch.count, self.interval);
+            taken += stretch.count;
             len = len.saturating_add(added_len(since, &walk));
             since = next_since(since, self.interval);
             walk.advance();

@@ -17,10 +17,11 @@ ghost use Rattle.table.specs.declared.table_check.TheConstants.{MAX_TABLE_LEN};
 ghost use Rattle.cut.specs.TableLength.{planned_index_entries, planned_index_key, lens_of};
 ghost use Rattle.cut.specs.TableLength.{table_size};
 
-use crate::lengths::{EMPTY_LEN, RESTART_LEN, encoded_entry_len, varint_len};
+use crate::open_block::{EMPTY_LEN, RESTART_LEN};
 use crate::planned_block::PlannedBlock;
 use coding::Fault;
 use ikey::{Comparator, KeyBuf, internal_separator, internal_successor};
+use keep::{encoded_entry_len, varint_len};
 use std::alloc::Global;
 use table::{FOOTER_LEN, MAX_TABLE_LEN, TRAILER_LEN};
 

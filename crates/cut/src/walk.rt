@@ -1,8 +1,12 @@
 //! A walk over the kept entries of runs.
 
-ghost use Rattle.std.specs.Prelude.{◌≡◌, ◌<◌, ◌≤◌, ◌↔◌, length, drop, slice_get, IsTrue, Some};
+ghost use Rattle.std.specs.Prelude.{◌≡◌, ◌+◌, ◌<◌, ◌≤◌, ◌↔◌, [], length, take, drop, slice_get};
+ghost use Rattle.std.specs.Prelude.{IsTrue, Some};
 ghost use Rattle.std.specs.Option.{option_map};
 ghost use Rattle.cut.specs.EntryWalkView.{left_out_len};
+ghost use Rattle.block.specs.BuilderView.{last_key};
+ghost use Rattle.keep.specs.Sizes.{later_entries_size};
+ghost use Rattle.cut.specs.BlockInProgress.{key_after, stretch_size};
 
 use crate::cursor::EntryCursor;
 use coding::common_len;
@@ -24,6 +28,14 @@ pub struct EntryWalk<'r, 'a> {
     before: Option<InternalKey<'r>>,
 }
 
+/// Entries that a walk passes at once: how many, and how many bytes they add to a block if no
+/// restart points at them.
+#[derive(Drop)]
+pub(crate) struct Stretch {
+    pub count: u64,
+    pub len: u64,
+}
+
 impl<'r, 'a> Model for EntryWalk<'r, 'a> {
     ghost use Rattle.std.specs.Prelude.{drop};
     ghost use Rattle.std.specs.Option.{option_map};
@@ -39,6 +51,35 @@ impl<'r, 'a> Model for EntryWalk<'r, 'a> {
 
     ghost invariant = { λ w. IsInSlice w.start w.slice w.passed
         (option_map (λ key. key.bytes.now) w.before) };
+}
+
+/// The entries from `place` on that add fewer than `room` bytes, none from `end` on, found by
+/// halving.
+fn fitting(slice: &ChunkSlice<'_, '_>, place: usize, mut end: usize, room: u64) -> Stretch
+    requires before { 0 < place }
+    requires rises { place ≤ end }
+    requires within { end < length slice.now }
+    requires room { 0 < room }
+    ensures within { place + result.count ≤ end }
+    ensures room { result.len < room }
+    ensures len { result.len ≡ later_entries_size (last_key [] (take place slice.now))
+        (take result.count (drop place slice.now)) }
+{
+    let mut fits = place;
+    let mut len = 0;
+    let mut probe = end;
+    while fits < end {
+        let sum = slice.len_of(place, probe);
+        if sum < room {
+            fits = probe;
+            len = sum;
+        } else {
+            end = probe - 1;
+        }
+        probe = end - (end - fits) / 2;
+    }
+    let count = (fits - place) as u64;
+    Stretch { count, len }
 }
 
 impl<'r, 'a> EntryWalk<'r, 'a> {
@@ -138,5 +179,32 @@ impl<'r, 'a> EntryWalk<'r, 'a> {
         self.slice = next.slice();
         self.start = next;
         self.passed = 0;
+    }
+
+    /// Passes entries, at most `most`, that add fewer than `room` bytes to a block if no restart
+    /// points at them. It may pass none; at least one entry stays.
+    pub(crate) fn pass(&mut self, most: u64, room: u64) -> Stretch
+        requires any { 0 < length self.old.rest }
+        requires room { 0 < room }
+        ensures most { result.count ≤ most }
+        ensures within { result.count < length self.old.rest }
+        ensures room { result.len < room }
+        ensures len { result.len
+            ≡ stretch_size self.old.before (take result.count self.old.rest) }
+        ensures new { self.new ≡ record {
+          before = key_after self.old.before (take result.count self.old.rest);
+          rest = drop result.count self.old.rest;
+        } }
+    {
+        let place = self.passed;
+        if place == 0 {
+            return Stretch { count: 0, len: 0 };
+        }
+        let behind = self.slice.len() - 1 - place;
+        let end = place + most.min(behind as u64) as usize;
+        let stretch = fitting(&self.slice, place, end, room);
+        self.passed = place + stretch.count as usize;
+        self.before = Some(self.slice.key(self.passed - 1));
+        stretch
     }
 }

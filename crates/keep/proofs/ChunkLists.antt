@@ -108,7 +108,7 @@ first_taken zero xs some = absurd (omega arith)
 first_taken (suc n) [] some = refl
 first_taken (suc n) (x ∷ xs) some = refl
 
-first_dropped : (n : ℕ) (xs : List Entry) → slice_get (drop n xs) 0 ≡ slice_get xs n
+pub first_dropped : (n : ℕ) (xs : List Entry) → slice_get (drop n xs) 0 ≡ slice_get xs n
 first_dropped zero xs = refl
 first_dropped (suc n) [] = refl
 first_dropped (suc n) (x ∷ xs) = first_dropped n xs

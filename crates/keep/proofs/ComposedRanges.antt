@@ -70,7 +70,7 @@ all_map : (P Q : Entry → Type 0) (xs : List Entry) → ((e : Entry) → P e �
 all_map P Q [] f h = tt
 all_map P Q (x ∷ xs) f h = (f x h.0, all_map P Q xs f h.1)
 
-all_any : (P : Entry → Type 0) (xs : List Entry) → ((e : Entry) → P e) → AllByRecursion P xs
+pub all_any : (P : Entry → Type 0) (xs : List Entry) → ((e : Entry) → P e) → AllByRecursion P xs
 all_any P [] f = tt
 all_any P (x ∷ xs) f = (f x, all_any P xs f)
 

@@ -1,5 +1,5 @@
 -- Entries as they are stored in a range's run.
-use Rattle.std.proofs.Common.{◌≡◌, ℕ, zero, suc, ◌+◌, ◌*◌, ◌-◌, ◌<◌, ◌≤◌, List, [], ◌∷◌, ◌++◌, length, map, min, take, drop, get_or, Some, refl, sym, ap, subst, ◌∙◌, arith, length-append}
+use Rattle.std.proofs.Common.{◌≡◌, ℕ, zero, suc, ◌+◌, ◌*◌, ◌-◌, ◌^◌, ◌<◌, ◌≤◌, List, [], ◌∷◌, ◌++◌, length, map, min, take, drop, get_or, Some, refl, sym, ap, subst, ◌∙◌, arith, length-append}
 use Rattle.std.specs.Prelude.{nat_eq, slice_get, slice_range}
 use Rattle.std.specs.List.{AllByRecursion, common_prefix_len}
 use Rattle.std.specs.Option.{option_map}
@@ -11,8 +11,11 @@ use Rattle.reads.specs.EncodedEntry.{Entry}
 use Rattle.reads.specs.BuilderView.{last_key}
 use Rattle.merge.proofs.Orders.{all_append}
 use Rattle.keep.specs.declared.kept_entry.KeptEntry.{KeptEntry}
-use Rattle.keep.specs.KeyBuffer.{entries_at, start_of, AreBufferEnds, AreKeys}
+use Rattle.coding.specs.Saturated.{saturated}
+use Rattle.keep.specs.KeyBuffer.{entries_at, start_of, AreBufferEnds, AreKeys, AreSums, IsNextSum}
 use Rattle.keep.specs.SharedLengths.{shared_lens}
+use Rattle.keep.specs.Sizes.{encoded_entry_size, later_entry_size, later_entries_size}
+use Rattle.keep.proofs.ChunkSums.{sums_push, sums_drop, sums_between}
 
 ends_last : (at last : ℕ) (ks : List KeptEntry) → AreBufferEnds at last ks → at ≤ last
 ends_last at last [] h = omega (arith, h)
@@ -89,9 +92,25 @@ tail_at (x ∷ xs) (y ∷ ys) (suc i) some h = ap (λ (zs : List ℕ). slice_get
 abbrev shared_of : KeptEntry → ℕ
 shared_of k = k.shared
 
+abbrev sum_of : KeptEntry → ℕ
+sum_of k = k.sum
+
+length-sums : (at : ℕ) (keys : List ℕ) (ks : List KeptEntry) → length (map sum_of ks) ≡ length (entries_at at keys ks)
+length-sums at keys ks = length-map ks sum_of ∙ sym (length-entries at keys ks)
+
+-- the sum of an entry that is pushed, by what its key shares
+next_of : (ns : List ℕ) (es : List Entry) (k : KeptEntry) (key : List ℕ) → length ns ≡ length es → (0 < length es → k.shared ≡ common_prefix_len nat_eq (last_key [] es) key)
+    → IsNextSum ns (saturated (encoded_entry_size k.shared (length key - k.shared) (length k.value.now))) k.sum → IsNextSum ns (later_entry_size (last_key [] es) (record { key = key; value = k.value.now })) k.sum
+next_of [] es k key same shared sum n at = absurd (none-some n at)
+next_of (m ∷ ns) es k key same shared sum n at =
+    let size : encoded_entry_size k.shared (length key - k.shared) (length k.value.now) ≡ later_entry_size (last_key [] es) (record { key = key; value = k.value.now }) =
+    ap (λ (s : ℕ). encoded_entry_size s (length key - s) (length k.value.now)) (shared (omega (arith, same))) in
+    omega (arith, sum n at, size)
+
 pub keys_push : (keys key : List ℕ) (ks : List KeptEntry) (k : KeptEntry) → AreKeys 0 keys ks → k.end ≡ length (keys ++ key) → IsInternalKey key
-    → (0 < length (entries_at 0 keys ks) → k.shared ≡ common_prefix_len nat_eq (last_key [] (entries_at 0 keys ks)) key) → AreKeys 0 (keys ++ key) (ks ++ k ∷ [])
-keys_push keys key ks k h e internal shared =
+    → (0 < length (entries_at 0 keys ks) → k.shared ≡ common_prefix_len nat_eq (last_key [] (entries_at 0 keys ks)) key)
+    → IsNextSum (map sum_of ks) (saturated (encoded_entry_size k.shared (length key - k.shared) (length k.value.now))) k.sum → AreKeys 0 (keys ++ key) (ks ++ k ∷ [])
+keys_push keys key ks k h e internal shared sum =
     let es : List Entry = entries_at 0 keys ks in
     let f : Entry = record { key = key; value = k.value.now } in
     let grown : entries_at 0 (keys ++ key) (ks ++ k ∷ []) ≡ es ++ f ∷ [] = entries_push 0 keys key ks k h.ends e in
@@ -106,6 +125,9 @@ keys_push keys key ks k h e internal shared =
           ∙ tail_grown (map shared_of ks) (shared_lens [] es) k.shared (common_prefix_len nat_eq (last_key [] es) key) same h.shared (λ some. shared (omega (arith, some, length-shared [] es)))
           ∙ ap (drop 1) (sym (shared_push [] es f))
           ∙ ap (λ (gs : List Entry). drop 1 (shared_lens [] gs)) (sym grown);
+      sums =
+          rw (map-append sum_of ks (k ∷ []), grown)
+          (sums_push (map sum_of ks) es k.sum f (length-sums 0 keys ks) h.sums (next_of (map sum_of ks) es k key (length-sums 0 keys ks) shared sum));
     }
 
 -- an internal key has at most 65,543 bytes, so there is an end to the bytes of all
@@ -158,6 +180,17 @@ shared_at at keys ks i k h some lt e =
     ∙ slice_get-map shared_of ks i
     ∙ ap (option_map shared_of) (slice_get_read ks (length ks) i k refl lt e)
 
+-- the lengths of entries, by the sums of the last of them and of the one before the first
+pub len_between : (at : ℕ) (keys : List ℕ) (ks : List KeptEntry) (place end : ℕ) (a b : KeptEntry) → AreKeys at keys ks → 0 < place → place ≤ end → slice_get ks (place - 1) ≡ Some a → slice_get ks (end - 1) ≡ Some b → b.sum < 2 ^ 64 - 1
+    → b.sum ≡ a.sum + later_entries_size (last_key [] (take place (entries_at at keys ks))) (take (end - place) (drop place (entries_at at keys ks)))
+len_between at keys ks zero end a b h some rises first last lt = absurd (omega arith)
+len_between at keys ks (suc i) end a b h some rises first last lt =
+    let start : suc i - 1 ≡ i = omega arith in
+    sums_between [] (map sum_of ks) (entries_at at keys ks) i (end - 1) (end - suc i) a.sum b.sum h.sums (length-sums at keys ks) (omega arith)
+    (slice_get-map sum_of ks i ∙ ap (option_map sum_of) (ap (slice_get ks) (sym start) ∙ first))
+    (slice_get-map sum_of ks (end - 1) ∙ ap (option_map sum_of) last)
+    lt
+
 -- ---- those from one on
 
 entries_drop : (n at : ℕ) (keys : List ℕ) (ks : List KeptEntry) → entries_at (start_of at ks n) keys (drop n ks) ≡ drop n (entries_at at keys ks)
@@ -195,6 +228,7 @@ keys_drop n keys ks h =
           ∙ ap (drop 1) (shared_drop n [] es)
           ∙ tail_same (last_key [] (take n es)) [] (drop n es)
           ∙ ap (λ (fs : List Entry). drop 1 (shared_lens [] fs)) (sym (entries_drop n 0 keys ks));
+      sums = rw (sym (drop-map sum_of n ks), entries_drop n 0 keys ks) (sums_drop n (map sum_of ks) es h.sums);
     }
 
 pub entries_from : (n : ℕ) (keys : List ℕ) (ks : List KeptEntry) → entries_at (start_of 0 ks n) keys (drop n ks) ≡ drop n (entries_at 0 keys ks)

@@ -8,6 +8,8 @@ pub mod Distinct
 pub mod Adjacent
 pub mod GrandparentCounts
 pub mod WalkState
+pub mod VarintLengths
+pub mod ChunkSums
 pub mod KeyBuffers
 pub mod ChunkLists
 pub mod LastKept

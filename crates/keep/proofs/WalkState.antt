@@ -22,7 +22,7 @@ use Rattle.keep.specs.DropRule.{is_same_user, is_snapshot_between, is_hidden, is
 use Rattle.keep.specs.Marks.{CompactionContext, grandparents_below, is_first, heads_after, changes_after, marks}
 use Rattle.keep.specs.Runs.{run_of, is_same_version, are_distinct}
 use Rattle.keep.specs.RangeWalk.{is_repeated, is_hidden_by, keeps_after, new_marks, walk_after_head, walk_after}
-use Rattle.keep.proofs.ComposedRanges.{ch}
+use Rattle.keep.proofs.ComposedRanges.{all_any, ch}
 use Rattle.keep.proofs.Adjacent.{repeats, apart_behind, distinct_apart}
 use Rattle.keep.proofs.GrandparentCounts.{below_grows}
 
@@ -48,10 +48,6 @@ pub record Stands (cmp : List ℕ → List ℕ → Ordering) (b : CompactionCont
   pub apart : apart_behind before rest ≡ are_distinct all
   pub reached : AllByRecursion (λ e. w.passed ≤ grandparents_below cmp b.grandparents e.key) rest
   pub falls : NeverFalls cmp rest
-
-all_any : (P : Entry → Type 0) (xs : List Entry) → ((e : Entry) → P e) → AllByRecursion P xs
-all_any P [] f = tt
-all_any P (x ∷ xs) f = (f x, all_any P xs f)
 
 -- ---- what the code asks of the entry before is what the definitions ask
 

@@ -17,6 +17,7 @@ pub mod Runs
 pub mod RangeStart
 pub mod OneKey
 pub mod SharedLengths
+pub mod Sizes
 -- serves proofs alone
 pub mod Versions
 pub mod KeyBuffer

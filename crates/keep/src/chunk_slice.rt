@@ -1,9 +1,12 @@
 //! Consecutive kept entries of a chunk.
 
-ghost use Rattle.std.specs.Prelude.{◌≡◌, ◌<◌, ◌≤◌, [], drop, length, slice_get, slice_range, Some};
+ghost use Rattle.std.specs.Prelude.{◌≡◌, ◌+◌, ◌-◌, ◌^◌, ◌<◌, ◌≤◌, [], take, drop, length, Some};
+ghost use Rattle.std.specs.Prelude.{slice_get, slice_range};
 ghost use Rattle.std.specs.Option.{option_map};
+ghost use Rattle.reads.specs.BuilderView.{last_key};
 ghost use Rattle.keep.specs.KeyBuffer.{entries_at, start_of, AreKeys};
 ghost use Rattle.keep.specs.SharedLengths.{shared_lens};
+ghost use Rattle.keep.specs.Sizes.{later_entries_size};
 
 use crate::kept_entry::KeptEntry;
 use ikey::InternalKey;
@@ -80,6 +83,24 @@ impl<'k, 'a> ChunkSlice<'k, 'a> {
         ensures { slice_get (shared_lens [] self.now) place ≡ Some result }
     {
         entry_of(self.kept, place).shared as usize
+    }
+
+    /// The lengths that the entries from `place` on and before `end` have in a block if no restart
+    /// points at them, added up; 2^64 - 1 if that isn't known. An entry before them has to be in
+    /// the slice.
+    #[inline(always)]
+    pub fn len_of(&self, place: usize, end: usize) -> u64
+        requires before { 0 < place }
+        requires rises { place ≤ end }
+        requires within { end ≤ length self.now }
+        ensures { result < 2 ^ 64 - 1 → result ≡ later_entries_size
+            (last_key [] (take place self.now)) (take (end - place) (drop place self.now)) }
+    {
+        let sum = entry_of(self.kept, end - 1).sum;
+        if sum == u64::MAX {
+            return sum;
+        }
+        sum - entry_of(self.kept, place - 1).sum
     }
 
     /// The value of the entry at `place`, a slice of an input's bytes.

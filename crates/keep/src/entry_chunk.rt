@@ -2,17 +2,20 @@
 //!
 //!     keys    key 0 | key 1 | key 2 | ...      one buffer
 //!     kept    end of key i in it, the length that it shares with key i - 1,
-//!             and value i                      a slice of an input's bytes
+//!             value i                          a slice of an input's bytes
+//!             and the lengths up to entry i in a block, added up
 
 ghost use Rattle.std.specs.Prelude.{◌≡◌, ◌<◌, [], ◌∷◌, ◌++◌, length, drop, OnOk, OnErr};
-ghost use Rattle.std.specs.Prelude.{IsOkUnless, Ok, ◌≤◌, nat_eq};
+ghost use Rattle.std.specs.Prelude.{IsOkUnless, Ok, ◌≤◌, nat_eq, map};
 ghost use Rattle.std.specs.List.{common_prefix_len};
 ghost use Rattle.reads.specs.BuilderView.{last_key};
 ghost use Rattle.coding.specs.Answers.{EqualOrMemory, fault};
 ghost use Rattle.coding.specs.declared.fault.FaultName.TheVariants.{Memory};
+ghost use Rattle.keep.specs.KeyBuffer.{IsNextSum};
 
 use crate::chunk_slice::ChunkSlice;
 use crate::kept_entry::KeptEntry;
+use crate::lengths::encoded_entry_len;
 use coding::Fault;
 use ikey::InternalKey;
 use std::alloc::Global;
@@ -81,10 +84,12 @@ impl<'a> EntryChunk<'a> {
         self.kept.reserve(1)?;
         self.keys.extend_from_slice(key.bytes())?;
         let end = self.keys.len();
+        let len = encoded_entry_len(shared, key.bytes().len() - shared, value.len());
         let entry = KeptEntry {
             end: end as u32,
             shared: shared as u32,
             value,
+            sum: next_sum(&self.kept, len),
         };
         self.kept.push(entry).unwrap();
         Ok(())
@@ -104,5 +109,15 @@ impl<'a> EntryChunk<'a> {
         ensures { result ≡ drop place self.now }
     {
         ChunkSlice::of(&self.keys, &self.kept, place)
+    }
+}
+
+/// The sum of lengths up to an entry of this length after those kept; 0 if it is the first.
+fn next_sum(kept: &[KeptEntry<'_>], len: u64) -> u64
+    ensures { IsNextSum (map (λ k. k.sum) kept.now) len result }
+{
+    match kept.last() {
+        Some(last) => last.sum.saturating_add(len),
+        None => 0,
     }
 }

@@ -22,7 +22,7 @@ use std::marker::Model;
 /// The kept entries of a range, and its marks.
 ///
 /// Entries lie in chunks of 4,096. A chunk has its keys in one buffer; values are slices of the
-/// inputs' bytes. So an entry takes 24 bytes and those of its key, and no allocation of its own.
+/// inputs' bytes. So an entry takes 32 bytes and those of its key, and no allocation of its own.
 #[derive(Drop)]
 pub struct RangeRun<'a> {
     kept: EntryChunks<'a>,

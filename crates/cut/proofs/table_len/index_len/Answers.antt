@@ -4,7 +4,7 @@ use Rattle.coding.specs.Saturated.{saturated}
 use Rattle.table.specs.Table.{IndexKeys, index_keys}
 use Rattle.keep.proofs.OnAnswers.{same_ok}
 use Rattle.cut.specs.declared.planned_block.PlannedBlock.{PlannedBlock}
-use Rattle.cut.specs.Sizes.{encoded_entry_size}
+use Rattle.keep.specs.Sizes.{encoded_entry_size}
 use Rattle.cut.specs.TableLength.{planned_index_key}
 use Rattle.cut.proofs.TableLengths.{IsIndexLen, index_len_more, index_len_all}
 use Rattle.cut.proofs.table_len.index_len.Goals as goal

@@ -1,13 +1,15 @@
-use Rattle.std.proofs.Common.{◌≡◌, ◌<◌, ◌-◌, ◌++◌, List, ℕ, length, take, drop, false, sym, ap, subst, ◌∙◌, append-nil, arith}
+use Rattle.std.proofs.Common.{◌≡◌, ◌<◌, ◌+◌, ◌-◌, ◌++◌, List, ℕ, length, take, drop, false, sym, ap, subst, ◌∙◌, append-nil, arith}
 use Rattle.std.specs.Prelude.{Some, Option, slice_get}
 use Rattle.std.specs.Option.{option_map}
+use Rattle.std.proofs.lemmas.List.{length-drop}
 use Rattle.coding.specs.Saturated.{saturated}
 use Rattle.block.specs.EncodedEntry.{Entry}
 use Rattle.table.specs.DataBlocks.{is_full}
 use Rattle.cut.specs.EntryWalkView.{EntryWalkView}
-use Rattle.cut.specs.BlockInProgress.{BlockInProgress, IsMetered, added_size, next_since, last_entry_key}
+use Rattle.cut.specs.BlockInProgress.{BlockInProgress, IsMetered, added_size, next_since, last_entry_key, key_after}
 use Rattle.cut.proofs.Filled.{IsFilling, filling_first, filling_more, filling_part, last_in}
 use Rattle.cut.proofs.Metered.{since_below}
+use Rattle.cut.proofs.Stretches.{after_stretch, filling_stretch}
 use Rattle.cut.proofs.open_block.OpenBlock.take_in.Goals as goal
 
 pub new-walk-requires : goal.new-walk-requires
@@ -50,19 +52,32 @@ loop-taken-init c =
 pub loop-taken-preserved : goal.loop-taken-preserved
 loop-taken-preserved c =
     let m : BlockInProgress = c.args.self.now in
-    let walk : EntryWalkView = c.loop-taken.walk in
-    let h : IsFilling c.args.options m c.loop-taken.taken walk.rest walk.before c.loop-taken.len c.loop-taken.since = c.loop-taken.invariant.0 in
-    let some : 0 < length walk.rest = c.valid.ensures.0 c.if-valid.true in
-    let part : is_full c.args.options (m.entries ++ take c.loop-taken.taken m.behind) ≡ false =
-    filling_part c.args.options m c.loop-taken.taken walk.rest walk.before c.loop-taken.len c.loop-taken.since h c.loop-taken.invariant.1 c.requires.limits.block_size_le c.requires.interval c.if-len-options.true in
+    let was : EntryWalkView = c.loop-taken.walk in
+    let walk : EntryWalkView = c.pass-stretch.new.self in
+    let n : ℕ = c.pass-stretch.result.count in
+    let ahead = c.before_restart-ahead.ensures in
+    let passed = c.pass-stretch.ensures in
+    let same : c.self.inside.interval ≡ m.interval = ap (λ (x : BlockInProgress). x.interval) c.self.view_is in
+    let below : c.loop-taken.len + c.pass-stretch.result.len < c.args.options.block_size = omega (arith, passed.room, c.if-len-options.true) in
+    let rest : walk.rest ≡ drop n was.rest = ap (λ (w : EntryWalkView). w.rest) passed.new in
+    let before : walk.before ≡ key_after was.before (take n was.rest) = ap (λ (w : EntryWalkView). w.before) passed.new in
+    let since_is : c.since_after-since.result ≡ after_stretch m.interval (c.loop-taken.since + n) =
+    c.since_after-since.ensures ∙ ap (λ (r : ℕ). after_stretch r (c.loop-taken.since + n)) same in
+    let h : IsFilling c.args.options m (c.loop-taken.taken + n) walk.rest walk.before (c.loop-taken.len + c.pass-stretch.result.len) c.since_after-since.result =
+    rw (rest, before, passed.len, since_is)
+    (filling_stretch n c.args.options m c.loop-taken.taken was.rest was.before c.loop-taken.len c.loop-taken.since c.loop-taken.invariant.0 c.loop-taken.invariant.1 c.requires.limits.block_size_le c.requires.interval
+    (λ some. ahead.some (omega (arith, some, passed.most))) (omega (arith, ahead.within, passed.most, same)) (omega (arith, passed.within)) (omega (arith, below, passed.len))) in
+    let some : 0 < length walk.rest = omega (arith, passed.within, ap length rest, length-drop n was.rest) in
+    let part : is_full c.args.options (m.entries ++ take (c.loop-taken.taken + n) m.behind) ≡ false =
+    filling_part c.args.options m (c.loop-taken.taken + n) walk.rest walk.before (c.loop-taken.len + c.pass-stretch.result.len) c.since_after-since.result h (omega (arith, c.loop-taken.invariant.1)) c.requires.limits.block_size_le c.requires.interval below in
     let later : c.advance-in-loop-taken.new.self.rest ≡ drop 1 walk.rest = ap (λ (w : EntryWalkView). w.rest) c.advance-in-loop-taken.ensures in
     let last : c.advance-in-loop-taken.new.self.before ≡ option_map (λ (e : Entry). e.key) (slice_get walk.rest 0) = ap (λ (w : EntryWalkView). w.before) c.advance-in-loop-taken.ensures in
-    let since : c.next_since-since-in-loop-taken.result ≡ next_since m.interval c.loop-taken.since =
-    c.next_since-since-in-loop-taken.ensures ∙ ap (λ (x : BlockInProgress). next_since x.interval c.loop-taken.since) c.self.view_is in (
+    let since : c.next_since-since-in-loop-taken.result ≡ next_since m.interval c.since_after-since.result =
+    c.next_since-since-in-loop-taken.ensures ∙ ap (λ (r : ℕ). next_since r c.since_after-since.result) same in (
       rw (later, last, c.saturating_add-len-in-loop-taken.ensures, since)
-          (filling_more c.args.options m c.loop-taken.taken walk.rest walk.before c.loop-taken.len c.loop-taken.since c.added_len-in-loop-taken.result h c.requires.limits.block_size_le c.requires.interval part some c.added_len-in-loop-taken.ensures),
+          (filling_more c.args.options m (c.loop-taken.taken + n) walk.rest walk.before (c.loop-taken.len + c.pass-stretch.result.len) c.since_after-since.result c.added_len-in-loop-taken.result h c.requires.limits.block_size_le c.requires.interval part some c.added_len-in-loop-taken.ensures),
       omega arith,
-      omega (arith, c.loop-taken-test.true),
+      omega (arith, c.loop-taken-test.true, ahead.most, passed.most),
     )
 
 pub push_all-requires-clause-last : goal.push_all-requires-clause-last

@@ -12,19 +12,19 @@ pub invariant_of-self-2 : goal.invariant_of-self-2
 invariant_of-self-2 c =
     let was = c.self.inside in
     let key : List ℕ = c.args.key.bytes.now in
-    let k : KeptEntry = record { end = c.len-end.result; shared = c.args.shared; value = c.args.value } in
+    let k : KeptEntry = record { end = c.len-end.result; shared = c.args.shared; value = c.args.value; sum = c.next_sum.result } in
     let keys : c.extend_from_slice.new.self.items ≡ was.keys.items ++ key = search rules in
     let kept : c.push.new.self.items ≡ was.kept.items ++ k ∷ [] = search rules in
     let end : k.end ≡ length (was.keys.items ++ key) = search rules in
     let shared : 0 < length (entries_at 0 was.keys.items was.kept.items) → k.shared ≡ common_prefix_len nat_eq (last_key [] (entries_at 0 was.keys.items was.kept.items)) key =
     λ some. c.requires.shared (subst (λ (es : List Entry). 0 < length es) c.self.view_is some) ∙ ap (λ (es : List Entry). common_prefix_len nat_eq (last_key [] es) key) (sym c.self.view_is) in
-    rw (keys, kept) (keys_push was.keys.items key was.kept.items k c.self.invariant end c.args.key.lawful shared)
+    rw (keys, kept) (keys_push was.keys.items key was.kept.items k c.self.invariant end c.args.key.lawful shared (search rules))
 
 pub returns-clause-ok : goal.returns-clause-ok
 returns-clause-ok c =
     let was = c.self.inside in
     let key : List ℕ = c.args.key.bytes.now in
-    let k : KeptEntry = record { end = c.len-end.result; shared = c.args.shared; value = c.args.value } in
+    let k : KeptEntry = record { end = c.len-end.result; shared = c.args.shared; value = c.args.value; sum = c.next_sum.result } in
     let keys : c.extend_from_slice.new.self.items ≡ was.keys.items ++ key = search rules in
     let kept : c.push.new.self.items ≡ was.kept.items ++ k ∷ [] = search rules in
     let end : k.end ≡ length (was.keys.items ++ key) = search rules in

@@ -1,20 +1,12 @@
-//! Lengths of what a block will have, before any of its bytes is made.
+//! The lengths of entries in a block, before any of its bytes is made.
 
 ghost use Rattle.std.specs.Prelude.{◌≡◌, ◌≤◌, length};
 ghost use Rattle.coding.specs.Varint.{varint};
 ghost use Rattle.coding.specs.Saturated.{saturated};
-ghost use Rattle.cut.specs.Sizes.{encoded_entry_size};
-
-use block::EMPTY_BLOCK_LEN;
-
-/// The bytes of a restart, and of the count of restarts.
-pub(crate) const RESTART_LEN: u64 = block::RESTART_LEN as u64;
-
-/// The bytes of a block without entries.
-pub(crate) const EMPTY_LEN: u64 = EMPTY_BLOCK_LEN as u64;
+ghost use Rattle.keep.specs.Sizes.{encoded_entry_size};
 
 /// The length of a number as a varint: 1 to 10 bytes.
-pub(crate) fn varint_len(number: u64) -> u64
+pub fn varint_len(number: u64) -> u64
     ensures value { result ≡ length (varint number) }
     ensures within { result ≤ 10 }
 {
@@ -30,7 +22,7 @@ pub(crate) fn varint_len(number: u64) -> u64
 /// The length of an entry in a block: three varints, and the unshared bytes and the value.
 /// `shared`, `unshared` and `value` are in bytes. A sum of 2^64 or more is answered as 2^64 - 1.
 #[inline(always)]
-pub(crate) fn encoded_entry_len(shared: usize, unshared: usize, value: usize) -> u64
+pub fn encoded_entry_len(shared: usize, unshared: usize, value: usize) -> u64
     ensures { result ≡ saturated (encoded_entry_size shared unshared value) }
 {
     if shared < 128 && unshared < 128 && value < 128 {

@@ -1,5 +1,5 @@
-use Rattle.cut.proofs.VarintLengths.{IsCounted}
-use Rattle.cut.proofs.lengths.varint_len.Given as goal
+use Rattle.keep.proofs.VarintLengths.{IsCounted}
+use Rattle.keep.proofs.lengths.varint_len.Given as goal
 
 abbrev pub invariant-loop-rest : goal.invariant-loop-rest
 invariant-loop-rest l = IsCounted l.number l.len l.rest

@@ -1,6 +1,6 @@
 use Rattle.std.proofs.Common.{arith}
-use Rattle.cut.proofs.VarintLengths.{counted_first, counted_more, counted_last}
-use Rattle.cut.proofs.lengths.varint_len.Goals as goal
+use Rattle.keep.proofs.VarintLengths.{counted_first, counted_more, counted_last}
+use Rattle.keep.proofs.lengths.varint_len.Goals as goal
 
 pub loop-rest-init : goal.loop-rest-init
 loop-rest-init c = counted_first c.args.number (omega arith)

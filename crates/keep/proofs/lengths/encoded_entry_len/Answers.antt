@@ -1,7 +1,7 @@
 use Rattle.std.proofs.Common.{◌≡◌, length, ap, arith}
 use Rattle.coding.specs.Varint.{varint}
 use Rattle.coding.proofs.Varints.{varint_small}
-use Rattle.cut.proofs.lengths.encoded_entry_len.Goals as goal
+use Rattle.keep.proofs.lengths.encoded_entry_len.Goals as goal
 
 pub returns-then-value-lt128 : goal.returns-then-value-lt128
 returns-then-value-lt128 c =

@@ -189,7 +189,7 @@ fn set_len(rt: &(impl Files + Abort), path: &str, len: u64) {
 
 /// Whether the first table of a version that is too large is answered so, or the fault's name.
 fn has_large(
-    disk: &Disk<'_, HostRuntime>,
+    disk: &mut Disk<'_, HostRuntime>,
     version: &Version,
     wanted: Result<Option<u64>, FaultName>,
 ) -> bool {
@@ -226,7 +226,7 @@ fn are_limited(
 /// fails there.
 fn are_missed(
     rt: &(impl Files + Abort),
-    disk: &Disk<'_, HostRuntime>,
+    disk: &mut Disk<'_, HostRuntime>,
     version: &Version,
     five: &str,
 ) -> bool {
@@ -253,7 +253,7 @@ fn tables_of_over_2_to_30_bytes_are_too_large(rt: HostRuntime) {
     let mut disk = Disk::new(&rt, path.as_str());
     assert!(rt; makes(&mut disk, TABLES));
     assert!(rt; are_limited(&rt, rt.alloc(), &mut disk, &version, three.as_str()));
-    assert!(rt; are_missed(&rt, &disk, &version, five.as_str()));
+    assert!(rt; are_missed(&rt, &mut disk, &version, five.as_str()));
     remove_folder(&rt, path.as_str());
 }
 

@@ -16,8 +16,7 @@ use Rattle.store.specs.FolderRequest.{manifest_of}
 use Rattle.store.specs.LevelRuns.{IsStopTold}
 use Rattle.store.specs.OpenedAfter.{IsOpenedAfter}
 use Rattle.store.specs.Step.{StepView, step_in}
-use Rattle.store.specs.StepTaken.{IsGoTold}
-use Rattle.store.specs.Telling.{telling_by}
+use Rattle.store.specs.Telling.{IsGoTold, telling_by}
 use Rattle.store.specs.declared.compaction_step.CompactionStep.{CompactionStep}
 use Rattle.store.specs.declared.descent_end.DescentEnd.{DescentEnd}
 use Rattle.store.specs.declared.descent_end.DescentEnd.TheVariants.{AtBottom, Stopped}

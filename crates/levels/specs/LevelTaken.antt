@@ -18,8 +18,7 @@ use Rattle.store.specs.FolderRequest.{manifest_of}
 use Rattle.store.specs.OpenedAfter.{IsOpenedAfter}
 use Rattle.store.specs.OrderView.{OrderView}
 use Rattle.store.specs.Step.{step_in}
-use Rattle.store.specs.StepTaken.{IsGoTold}
-use Rattle.store.specs.Telling.{Telling}
+use Rattle.store.specs.Telling.{IsGoTold, Telling}
 use Rattle.store.specs.declared.compaction_step.CompactionStep.{CompactionStep}
 use Rattle.store.specs.declared.synced_version.SyncedVersion.{SyncedVersion}
 use Rattle.levels.specs.LevelMade.{IsLevelMade, IsRefusedSo}

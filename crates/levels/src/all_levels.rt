@@ -1,27 +1,22 @@
 //! The compaction of all levels of a folder, each as a whole.
 
-ghost use Rattle.std.specs.Prelude.{◌≡◌, ◌+◌, ◌^◌, ◌≤◌, ℕ, List, codes, Some, Ok, Err};
-ghost use Rattle.std.specs.Prelude.{Bool, IfErr, IfOk};
-ghost use Rattle.std.specs.Option.{IfSome};
-ghost use Rattle.edit.specs.Answers.{UnlessMemory, fault};
+ghost use Rattle.std.specs.Prelude.{◌≡◌, ◌+◌, ◌^◌, ◌≤◌, ℕ, List, codes, Some, Ok};
+ghost use Rattle.std.specs.Prelude.{IfErr, IfOk};
+ghost use Rattle.edit.specs.Answers.{fault};
 ghost use Rattle.edit.specs.fault.FaultName.TheVariants.{Memory};
 ghost use Rattle.checks.specs.LawfulTables.{IsLawfulTables};
-ghost use Rattle.checks.specs.TestedTables.{IsTested};
 ghost use Rattle.folder.specs.meta.TheConstants.{LAST_LEVEL};
 ghost use Rattle.folder.specs.Calls.{Files, Tells};
 ghost use Rattle.folder.specs.Names.{current_text};
-ghost use Rattle.folder.specs.OpenAnswer.{FolderAnswers, IsOpened};
+ghost use Rattle.folder.specs.OpenAnswer.{IsOpened};
 ghost use Rattle.folder.specs.Orders.{order_cmp};
 ghost use Rattle.folder.specs.ReadsAs.{IsFileIn, ReadsAs};
-ghost use Rattle.folder.specs.Reports.{OnlyReads, ReportsDevice};
+ghost use Rattle.folder.specs.Reports.{ReportsDevice};
 ghost use Rattle.install.specs.FolderChange.{call_of};
 ghost use Rattle.install.specs.Install.{version_with};
 ghost use Rattle.keep.specs.Tables.{NumberedContents};
 ghost use Rattle.store.specs.FolderRequest.{manifest_of};
-ghost use Rattle.store.specs.OpenedAfter.{IsOpenedAfter};
 ghost use Rattle.store.specs.OrderView.{order_view};
-ghost use Rattle.store.specs.Step.{step_in};
-ghost use Rattle.store.specs.StepTaken.{IsGoTold};
 ghost use Rattle.store.specs.Telling.{telling_by};
 ghost use Rattle.levels.specs.LevelRows.{IsAllLevelsLeft, IsAllLevelsRun};
 ghost use Rattle.levels.specs.LevelRows.{IsLevelsRun, IsWholeDescended};
@@ -29,14 +24,13 @@ ghost use Rattle.levels.specs.LevelTaken.{IsBottomBelow, IsLevelBegun, IsLevelTa
 
 use crate::tested_level::compact_tested;
 use board::Watch;
-use checks::{VersionTotals, Workers, test_version};
+use checks::Workers;
 use edit::{Fault, FaultName, Version};
-use folder::{Bytewise, Order, ReadsTables, Shortlex, WritesTables};
+use folder::{ReadsTables, WritesTables};
 use std::alloc::Global;
 use std::thread::Threads;
 use store::{
-    CompactionStep, DescentEnd, InstallWatch, Settings, SyncedVersion, bottom, next_level,
-    opened_after,
+    DescentEnd, InstallWatch, Settings, SyncedVersion, bottom, next_level, tell_step, test_opened,
 };
 
 /// Tests what a folder was `opened` as, once. Then compacts all of the first level that has a
@@ -159,56 +153,5 @@ fn take_level<F: ReadsTables + WritesTables, T: InstallWatch, W: Watch + Sync, R
     ensures device { ReportsDevice F.Folder folder.old folder.new result }
 {
     let step = compact_tested(workers, folder, opened, level, settings)?;
-    tell_level(workers.alloc(), opened, level, &step, told)
-}
-
-/// Tells of the compaction of a `level`. What the folder is opened as after it, if it is to go on.
-fn tell_level<T: InstallWatch>(
-    alloc: Global,
-    opened: &SyncedVersion,
-    level: u64,
-    step: &CompactionStep,
-    told: &mut T,
-) -> Result<Option<SyncedVersion>, Fault>
-    ensures told { (goes : Bool) × T.tells told.old (step_in step.now) goes told.new
-        × IfOk result (IsGoTold goes) }
-    ensures after { IfOk result (λ o. IfSome o (λ after. IsOpenedAfter opened.now.order
-        opened.now.version step.now.edit.items
-        (Ok (after.order, after.version, after.manifest)))) }
-    ensures refused { IfErr result (λ e. UnlessMemory e (IsOpenedAfter opened.now.order
-        opened.now.version step.now.edit.items (Err e))) }
-{
-    match opened_after(alloc, opened, step) {
-        Ok(after) => {
-            if told.installed(level, step, &opened.version, Some(&after.version)) {
-                Ok(Some(after))
-            } else {
-                Ok(None)
-            }
-        }
-        Err(fault) => {
-            let _ = told.installed(level, step, &opened.version, None);
-            Err(fault)
-        }
-    }
-}
-
-/// Tests the version that a folder was `opened` as. It only reads.
-fn test_opened<F: ReadsTables, W: Watch + Sync, R: Threads + Sync>(
-    workers: &Workers<'_, R, W>,
-    folder: &mut F,
-    opened: &SyncedVersion,
-    memory: u64,
-) -> Result<VersionTotals, Fault>
-    ensures answer { (files : Files) → Tells (F.tells folder.old) files →
-        FolderAnswers (λ tested. tested) (F.failed folder.old) (F.failed folder.new) result
-        (IsTested (IsFileIn files) (order_cmp opened.now.order) opened.now.version) }
-    ensures device { ReportsDevice F.Folder folder.old folder.new result }
-    ensures reads { OnlyReads F.Folder folder.old folder.new }
-{
-    let version = &opened.version;
-    match opened.order {
-        Order::Bytewise => test_version::<Bytewise, F, W, R>(workers, folder, version, memory),
-        Order::Shortlex => test_version::<Shortlex, F, W, R>(workers, folder, version, memory),
-    }
+    tell_step(workers.alloc(), opened, level, &step, told)
 }

@@ -1,7 +1,6 @@
 //! The compaction of a whole level.
 
 ghost use Rattle.std.specs.Prelude.{◌≡◌, ◌<◌, ◌^◌, length, codes, unwrap_or, Some, Ok};
-ghost use Rattle.edit.specs.Version.{IsState};
 ghost use Rattle.folder.specs.Calls.{Files, Tells};
 ghost use Rattle.folder.specs.Manifest.{order_name};
 ghost use Rattle.folder.specs.Names.{current_text};
@@ -24,12 +23,11 @@ use crate::ready_manifest::ready_manifest;
 use board::Watch;
 use checks::{SharedComparator, Workers, test_version};
 use compact::passed_law;
-use edit::{Comparator, Fault, Version};
+use edit::{Fault, Version};
 use folder::{Bytewise, Order, ReadsTables, Shortlex, WritesTables};
 use install::install_manifest;
-use std::alloc::Global;
 use std::thread::Threads;
-use store::{CompactionStep, Settings, SyncedVersion, manifest_of};
+use store::{CompactionStep, Settings, SyncedVersion, manifest_of, version_is_state};
 use table::table_reads_back;
 
 /// Compacts a whole `level` of what a folder was `opened` as: all its parts, and installs them by
@@ -171,11 +169,4 @@ pub(crate) fn small_logs(version: &Version)
 {
     let _log = version.log_number().unwrap_or(0);
     let _previous = version.previous_log().unwrap_or(0);
-}
-
-/// Files of a version rise by number, pointers by level, and levels are from 0 to 6.
-pub(crate) fn version_is_state<C: Comparator>(alloc: Global, version: &Version)
-    ensures { IsState version.now.pointers version.now.files }
-{
-    let _files = version.files::<C>(alloc, 0);
 }

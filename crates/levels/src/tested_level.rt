@@ -19,14 +19,14 @@ ghost use Rattle.levels.specs.LevelTaken.{IsLevelLeft};
 ghost use Rattle.levels.specs.WholeAnswer.{IsWholeCompacted};
 ghost use Rattle.levels.specs.WholeRuns.{IsWholeRun};
 
-use crate::level_compaction::{compact_parts, small_logs, version_is_state};
+use crate::level_compaction::{compact_parts, small_logs};
 use board::Watch;
 use checks::{SharedComparator, Workers};
 use compact::passed_law;
 use edit::Fault;
 use folder::{Bytewise, Order, ReadsTables, Shortlex, WritesTables};
 use std::thread::Threads;
-use store::{CompactionStep, Settings, SyncedVersion};
+use store::{CompactionStep, Settings, SyncedVersion, version_is_state};
 use table::table_reads_back;
 
 /// Compacts a whole `level` of what a folder was `opened` as, and installs it. It tests nothing of

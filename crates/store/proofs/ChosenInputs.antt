@@ -1,5 +1,5 @@
 -- The inputs of a choice: files of the version, and closed if it is lawful.
-use Rattle.std.proofs.Common.{◌≡◌, ℕ, ◌+◌, ◌≤◌, Bool, true, false, List, map, length, Option, None, Result, Ok, Err, sym, ap, subst, ◌∙◌, inl, inr, arith}
+use Rattle.std.proofs.Common.{◌≡◌, ℕ, ◌+◌, ◌≤◌, Bool, true, false, List, map, length, Option, None, Result, Ok, Err, refl, sym, ap, subst, ◌∙◌, inl, inr, arith}
 use Rattle.std.specs.Prelude.{Contains, MatchBool, nat_lt}
 use Rattle.std.specs.List.{All}
 use Rattle.std.specs.Cmp.{IsTotalOrder}
@@ -94,7 +94,7 @@ choice_chosen cmp v choice p (Ok passed, (h, k)) = k
 choice_chosen cmp v choice p (Err e, (h, is)) = absurd (no_inputs p e is)
   where
     no_inputs : (p : PickedInputs) (e : Fault) → done p ≡ failed e → ⊥
-    no_inputs p e h = cc h
+    no_inputs p e h = cc
 
 -- what one thread answered for inputs that were read
 pub record IsAnsweredOf (first : Option ℕ) (cmp : List ℕ → List ℕ → Ordering) (short_keys : ShortKeys) (files : Files) (v : State) (s : Settings) (p : PickedInputs) (a : Answer) : Type 0 where
@@ -117,7 +117,7 @@ picked_answered first cmp short_keys files v s p a (Err e, (l, is)) = absurd (no
 picked_answered first cmp short_keys files v s p a (Ok own, (l, (Err e, (m, is)))) = absurd (no_error (p, a) e is)
 picked_answered first cmp short_keys files v s p a (Ok own, (l, (Ok contents, (m, is)))) =
     let parts = bind_ok (compaction_from first cmp short_keys v own p s) (λ (b : Answer). value (p, b)) (p, a) (sym is) in
-    let same : parts.0 ≡ a = ap (λ (x : PickedInputs × Answer). x.1) (ok_is (p, a) (p, parts.0) (sym parts.2)) in
+    let same : parts.0 ≡ a = ap (λ (x : PickedInputs × Answer). x.1) (ok_is (p, parts.0) (p, a) parts.2) in
     record { own = own; read = l; answered = subst (λ (b : Answer). compaction_from first cmp short_keys v own p s ≡ Ok b) same parts.1 }
 
 module _ (cmp : List ℕ → List ℕ → Ordering) (total : IsTotalOrder cmp) (files : Files) (v : State) (loaded : List (ℕ × List ℕ)) (tables : List NumberedContents)

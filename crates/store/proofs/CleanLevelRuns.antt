@@ -20,8 +20,8 @@ use Rattle.store.specs.LevelRuns.{IsLevelLink, IsStopTold, IsToldOf, LevelLink, 
 use Rattle.store.specs.OpenedAfter.{IsOpenedAfter}
 use Rattle.store.specs.Runs.{HasMade}
 use Rattle.store.specs.Step.{StepView}
-use Rattle.store.specs.StepTaken.{IsGoTold, IsNextBegun}
-use Rattle.store.specs.Telling.{telling_by}
+use Rattle.store.specs.StepTaken.{IsNextBegun}
+use Rattle.store.specs.Telling.{IsGoTold, telling_by}
 use Rattle.store.specs.declared.descent_end.DescentEnd.{DescentEnd}
 use Rattle.store.specs.declared.descent_end.DescentEnd.TheVariants.{AtBottom, Stopped}
 use Rattle.store.specs.declared.synced_version.SyncedVersion.{SyncedVersion}

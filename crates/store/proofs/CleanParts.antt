@@ -15,7 +15,7 @@ use Rattle.install.specs.Removal.{AreRemoved, IsNothingRemoved, StaysAs, removal
 use Rattle.install.specs.ToldNames.{AreTold}
 use Rattle.store.specs.Cleaning.{AreAllRemoved, CleanTeller, IsCleaned, IsListRemoved, NamedVersion, named_version}
 use Rattle.store.specs.LevelRuns.{IsStopTold}
-use Rattle.store.specs.StepTaken.{IsGoTold}
+use Rattle.store.specs.Telling.{IsGoTold}
 use Rattle.store.specs.declared.descent_end.DescentEnd.{DescentEnd}
 use Rattle.store.specs.declared.descent_end.DescentEnd.TheVariants.{Stopped}
 use Rattle.store.specs.declared.synced_version.SyncedVersion.{SyncedVersion}

@@ -19,14 +19,14 @@ use Rattle.store.specs.LevelRuns.{GroupedAnswer, IsStopTold, IsToldOf, MakesNoCa
 use Rattle.store.specs.OpenedAfter.{IsOpenedAfter}
 use Rattle.store.specs.Runs.{HasMade, IsLevelRun}
 use Rattle.store.specs.Step.{StepView, step_in}
-use Rattle.store.specs.StepTaken.{IsGoTold, IsNextBegun}
+use Rattle.store.specs.StepTaken.{IsNextBegun}
+use Rattle.store.specs.Telling.{IsGoTold, telling_by}
 use Rattle.store.specs.declared.compaction_step.CompactionStep.{CompactionStep}
 use Rattle.store.specs.declared.descent_end.DescentEnd.TheVariants.{Stopped}
 use Rattle.store.proofs.Flow.{no_value}
 use Rattle.store.proofs.InstallPart.{refused_ok, still}
 use Rattle.store.proofs.StepsTaken.{same_edit}
 use Rattle.install.proofs.Changes.{change_by}
-use Rattle.store.specs.Telling.{telling_by}
 
 abbrev Told : Type 1
 Told = List ℕ → Option (List ℕ) → Type 0

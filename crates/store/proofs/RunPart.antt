@@ -159,12 +159,16 @@ run_since IsAnswer name cmp v first before after zero old new r same told (inr i
 
 -- an answer for a level, of a folder that told the same before
 pub answer_before : (cmp : List ℕ → List ℕ → Ordering) (short_keys : ShortKeys) (old new : Told) → TellsSame old new → (v : State) (level : ℕ) (s : Settings) (picked : PickedInputs) (answer : Answer) → IsAnswerForLevel cmp short_keys new v level s picked answer → IsAnswerForLevel cmp short_keys old v level s picked answer
-answer_before cmp short_keys old new same v level s picked answer h = record {
-  is_picked = h.is_picked;
-  loaded = h.loaded;
-  read = loaded_before old new (input_numbers picked.files) (Ok h.loaded) same h.read;
-  is_answer = h.is_answer;
-}
+answer_before cmp short_keys old new same v level s picked answer h = (
+  h.0,
+  record {
+    loaded = h.1.loaded;
+    read = loaded_before old new (input_numbers picked.files) (Ok h.1.loaded) same h.1.read;
+    contents = h.1.contents;
+    stated = h.1.stated;
+    answered = h.1.answered;
+  },
+)
 
 -- ---- opened and synced folders
 

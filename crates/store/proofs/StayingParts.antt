@@ -36,7 +36,7 @@ use Rattle.compact.proofs.ChosenNumbers.{chosen_is}
 use Rattle.store.specs.FolderRequest.{manifest_of}
 use Rattle.store.specs.OutputRanges.{IsOldOrOutput, input_metas}
 use Rattle.store.specs.ClosedLaws.{PartsStay}
-use Rattle.store.specs.PartOutcome.{part_of_number}
+use Rattle.store.specs.Choice.{part_of_number}
 use Rattle.store.proofs.PartFiles.{AreParts, answered, held_in, same_both, taken, tests_apart}
 use Rattle.pick.proofs.PartRanges.{all_ranges}
 

@@ -1,13 +1,17 @@
 -- What the compaction of inputs is to be for an installation.
-use Rattle.std.specs.Prelude.{◌≡◌, ◌≢◌, ◌<◌, ◌^◌, ℕ, unwrap_or, Result, Ok, Err}
+use Rattle.std.specs.Prelude.{◌≡◌, ◌≢◌, ◌<◌, ◌^◌, ℕ, List, unwrap_or, Result, Ok, Err}
 use Rattle.folder.specs.Answers.{◌>>=◌}
 use Rattle.folder.specs.fault.Fault.{Fault}
 use Rattle.folder.specs.fault.FaultName.TheVariants.{Device}
+use Rattle.folder.specs.Comparator.{KeyOrder, ShortKeys}
 use Rattle.folder.specs.Version.{State}
 use Rattle.pick.specs.PickedInputs.{PickedInputs}
+use Rattle.reads.specs.TableContents.{Contents}
 use Rattle.compact.specs.OneThread.{Answer}
 use Rattle.compact.specs.declared.settings.Settings.{Settings}
 use Rattle.store.specs.Compaction.{LevelCompaction}
+use Rattle.store.specs.FolderRequest.{compaction_of}
+use Rattle.store.specs.InputsCompaction.{input_tables}
 use Rattle.store.specs.Step.{StepView, step_of}
 use Rattle.install.specs.Install.{LoadedVersion}
 use Rattle.store.specs.OrderView.{OrderView}
@@ -27,6 +31,15 @@ step_result v p answered = answered >>= λ a. Ok (step_of v p a)
 -- no refusal of a compaction is Device
 abbrev pub NeverDevice : Result Answer Fault → Type 0
 NeverDevice answered = (e : Fault) → answered ≡ Err e → e.name ≢ Device
+
+-- What one thread answers for inputs with these tables. Each table is valid, and as its file
+-- states.
+pub record IsAnswerForInputs (cmp : KeyOrder) (short_keys : ShortKeys) (v : State)
+    (loaded : List (ℕ × List ℕ)) (s : Settings) (p : PickedInputs) (answer : Answer)
+    : Type 0 where
+  pub contents : List Contents
+  pub stated : input_tables cmp p.files loaded ≡ Ok contents
+  pub answered : compaction_of cmp short_keys v loaded p s ≡ Ok answer
 
 -- these are those inputs, and it is the value of this answer
 abbrev pub IsAnsweredBy : PickedInputs → Result Answer Fault → PickedInputs → Answer → Type 0

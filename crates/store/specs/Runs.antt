@@ -1,15 +1,13 @@
 -- Which calls a compaction makes on a folder, be it one that tells what it holds or not.
-use Rattle.std.specs.Prelude.{◌≡◌, ◌⊎◌, ℕ, List, ◌++◌, codes, map, Some, Result, Ok, IfErr, IfOk}
+use Rattle.std.specs.Prelude.{◌≡◌, ◌⊎◌, ℕ, List, ◌++◌, codes, map, None, Some, Result, Ok, IfErr, IfOk}
 use Rattle.std.specs.List.{flat_map}
 use Rattle.folder.specs.Answers.{UnlessMemory, fault}
 use Rattle.folder.specs.fault.Fault.{Fault}
 use Rattle.folder.specs.fault.FaultName.TheVariants.{Changed, Device}
 use Rattle.folder.specs.Comparator.{KeyOrder, ShortKeys}
-use Rattle.reads.specs.TableContents.{Contents}
 use Rattle.folder.specs.Version.{State}
 use Rattle.folder.specs.Calls.{Done, Step, ToldFiles}
 use Rattle.folder.specs.CallSequence.{MakesCalls, TellsThrough}
-use Rattle.folder.specs.LoadedTables.{IsLoaded}
 use Rattle.folder.specs.Manifest.{order_name}
 use Rattle.folder.specs.Names.{current_text}
 use Rattle.folder.specs.OpenAnswer.{IsOpened}
@@ -21,8 +19,8 @@ use Rattle.compact.specs.OneThread.{Answer}
 use Rattle.install.specs.Install.{calls_before_rename, install_calls, manifest_bytes}
 use Rattle.compact.specs.declared.settings.Settings.{Settings}
 use Rattle.store.specs.Compaction.{IsSynced, IsUnchanged}
-use Rattle.store.specs.FolderRequest.{compaction_of, manifest_of}
-use Rattle.store.specs.InputsCompaction.{input_numbers, input_tables}
+use Rattle.store.specs.FolderRequest.{manifest_of}
+use Rattle.store.specs.PickedOutcome.{IsPickedCompacted}
 use Rattle.store.specs.Step.{step_in, step_of}
 use Rattle.store.specs.VersionSync.{sync_calls}
 use Rattle.store.specs.declared.compaction_step.CompactionStep.{CompactionStep}
@@ -60,24 +58,12 @@ abbrev pub IsRun : (PickedInputs → Answer → Type 0) → List ℕ → KeyOrde
 IsRun IsAnswer name cmp v change result = IsUnchanged change result
     ⊎ IsAnswerInstalled IsAnswer name cmp v change result
 
--- What one thread answers for inputs with these tables. Each table is valid, and as its file
--- states.
-pub record IsAnswerForInputs (cmp : KeyOrder) (short_keys : ShortKeys) (v : State)
-    (loaded : List (ℕ × List ℕ)) (s : Settings) (p : PickedInputs) (answer : Answer)
-    : Type 0 where
-  pub contents : List Contents
-  pub stated : input_tables cmp p.files loaded ≡ Ok contents
-  pub answered : compaction_of cmp short_keys v loaded p s ≡ Ok answer
-
--- What one thread answers for the inputs that are picked of a level, with the tables of their
--- numbers. A read of the folder may give each of these tables, by what the folder tells; one that
--- tells nothing allows any bytes.
-pub record IsAnswerForLevel (cmp : KeyOrder) (short_keys : ShortKeys) (told : ToldFiles) (v : State)
-    (level : ℕ) (s : Settings) (picked : PickedInputs) (answer : Answer) : Type 0 where
-  pub is_picked : IsPicked cmp v level picked
-  pub loaded : List (ℕ × List ℕ)
-  pub read : IsLoaded told (input_numbers picked.files) (Ok loaded)
-  pub is_answer : IsAnswerForInputs cmp short_keys v loaded s picked answer
+-- What one thread answers for the inputs that are picked of a level, with tables that reads of the
+-- folder may give.
+abbrev pub IsAnswerForLevel : KeyOrder → ShortKeys → ToldFiles → State → ℕ → Settings →
+    PickedInputs → Answer → Type 0
+IsAnswerForLevel cmp short_keys told v level s picked answer = IsPicked cmp v level picked
+    × IsPickedCompacted None cmp short_keys told v s picked answer
 
 -- No call that writes was made; or one thread's answer for a level of this version was installed.
 -- Its tables are those that the folder told at first.

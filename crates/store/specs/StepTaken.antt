@@ -1,5 +1,5 @@
 -- What one of several compactions of a folder leaves.
-use Rattle.std.specs.Prelude.{◌≡◌, ◌⊎◌, ℕ, Bool, Option, is_some, Result, Ok, Err, IfErr}
+use Rattle.std.specs.Prelude.{◌≡◌, ◌⊎◌, ℕ, Bool, Option, Result, Ok, Err, IfErr}
 use Rattle.std.specs.Prelude.{IfOk}
 use Rattle.std.specs.Option.{IfSome}
 use Rattle.folder.specs.Answers.{UnlessMemory, fault}
@@ -21,7 +21,7 @@ use Rattle.store.specs.declared.compaction_step.CompactionStep.{CompactionStep}
 use Rattle.install.specs.FolderChange.{FolderChange, FolderCall}
 use Rattle.install.specs.Install.{LoadedVersion}
 use Rattle.store.specs.OrderView.{OrderView}
-use Rattle.store.specs.Telling.{Telling}
+use Rattle.store.specs.Telling.{IsGoTold, Telling}
 
 -- it was refused, so nothing was told; by its refusal, or since the device failed
 pub record IsStepRefused {W : Type 0} (by : OrderView) (v : LoadedVersion) (level : ℕ)
@@ -33,10 +33,6 @@ pub record IsStepRefused {W : Type 0} (by : OrderView) (v : LoadedVersion) (leve
   pub why : UnlessMemory e (IsStopped call.failed call.now e
       ⊎ IsLoadedCompacted by.cmp by.short_keys v.version v.tables level s (Err e))
   pub same : told.new ≡ told.old
-
--- it goes on, as it was told to
-abbrev pub IsGoTold : {X : Type 0} → Bool → Option X → Type 0
-IsGoTold goes next = goes ≡ is_some next
 
 -- it was installed and told; if it is to go on, what it is opened as after it is what was installed
 pub record IsStepTold {W : Type 0} (by : OrderView) (v : LoadedVersion) (level : ℕ)

@@ -25,7 +25,7 @@ ghost use Rattle.store.specs.CleanRuns.{IsAllCleanRun};
 ghost use Rattle.store.specs.CleanedLevels.{IsAllCleaned, IsCleanDescended, folder_version};
 ghost use Rattle.store.specs.Cleaning.{IsCleaned, named_version, teller_by};
 ghost use Rattle.store.specs.OrderView.{order_view};
-ghost use Rattle.store.specs.StepTaken.{IsGoTold};
+ghost use Rattle.store.specs.Telling.{IsGoTold};
 ghost use Rattle.store.specs.Untold.{IsUntold};
 
 use crate::clean_watch::CleanWatch;

@@ -145,7 +145,8 @@ fn tested_tables<C: SharedComparator + 'static, F: ReadsTables, W: Watch + Sync,
     ensures reads { OnlyReads F.Folder folder.old folder.new }
 {
     let Some(memory) = test else {
-        return Ok(HeldTables::none(workers.alloc()));
+        let none = HeldTables::none(workers.alloc());
+        return Ok(none);
     };
     let found = test_and_hold::<C, F, W, R>(workers, folder, version, memory)?;
     Ok(found.tables)

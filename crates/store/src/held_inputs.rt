@@ -15,7 +15,7 @@ ghost use Rattle.store.specs.declared.choice.Choice.{Choice};
 
 use crate::input_laws::chosen_in_order;
 use crate::input_tables::numbers_of;
-use crate::part_choice::version_is_state;
+use crate::version_files::version_is_state;
 use board::{Watch, Work};
 use checks::{HeldTables, SharedComparator, Workers, checked_tables};
 use folder::{Fault, ReadsTables, Version};

@@ -18,11 +18,11 @@ ghost use Rattle.store.specs.Descent.{IsBottom, IsNextLevel};
 ghost use Rattle.store.specs.LevelRuns.{MakesNoCalls};
 ghost use Rattle.store.specs.OpenedAfter.{IsOpenedAfter};
 ghost use Rattle.store.specs.Step.{step_in};
-ghost use Rattle.store.specs.StepTaken.{IsGoTold, IsNextBegun, IsStepTaken};
+ghost use Rattle.store.specs.StepTaken.{IsNextBegun, IsStepTaken};
 ghost use Rattle.install.specs.FolderChange.{change_of, call_of};
 ghost use Rattle.install.specs.Install.{version_with};
 ghost use Rattle.store.specs.OrderView.{order_view};
-ghost use Rattle.store.specs.Telling.{telling_by};
+ghost use Rattle.store.specs.Telling.{IsGoTold, telling_by};
 
 use crate::compaction_step::CompactionStep;
 use crate::descent::{bottom, next_level};
@@ -75,7 +75,7 @@ pub(crate) fn take_step<
 }
 
 /// Tells of the compaction of a `level`. What the folder is opened as after it, if it is to go on.
-fn tell_step<T: InstallWatch>(
+pub fn tell_step<T: InstallWatch>(
     alloc: Global,
     opened: &SyncedVersion,
     level: u64,
@@ -119,7 +119,7 @@ pub(crate) fn is_at_bottom(alloc: Global, version: &Version) -> Result<bool, Fau
 }
 
 /// Tests the version that a folder was `opened` as. It only reads.
-pub(crate) fn test_opened<F: ReadsTables, W: Watch + Sync, R: Threads + Sync>(
+pub fn test_opened<F: ReadsTables, W: Watch + Sync, R: Threads + Sync>(
     workers: &Workers<'_, R, W>,
     folder: &mut F,
     opened: &SyncedVersion,

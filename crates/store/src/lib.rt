@@ -16,8 +16,9 @@
 //!    another folder. [`files_to_compact`] names the files that it needs of a level without a test;
 //!    [`parts_to_compact`] are the parts of a level. [`outcome_of_picked`] answers the outcome of
 //!    inputs that its caller found.
-//! 6. Parts of these calls, for those who install an outcome later: [`test_files`],
-//!    [`load_inputs`], [`checked_inputs`], [`bytes_of`], [`manifest_of`], [`outcome_step`].
+//! 6. Parts of these calls, for those who compact whole levels or install an outcome later:
+//!    [`test_opened`], [`tell_step`], [`version_is_state`], [`test_files`], [`load_inputs`],
+//!    [`checked_inputs`], [`bytes_of`], [`manifest_of`], [`outcome_step`].
 //! 7. All tell a [`Watch`] of the work; [`Open`] is the one that does nothing.
 //!
 //! What the clauses say. They are of a folder that tells contracts what it holds, but for `device`,
@@ -90,6 +91,7 @@ pub use input_tables::{bytes_of, checked_inputs, load_inputs};
 pub use install::RemovalWatch;
 pub use install_laws::{answer_is_installed, inputs_suffice, request_is_over, sync_stands};
 pub use install_watch::InstallWatch;
+pub use level_step::{tell_step, test_opened};
 pub use needed_files::files_to_compact;
 pub use next_opened::opened_after;
 pub use outcome_writer::{EDIT, write_outcome};
@@ -98,5 +100,5 @@ pub use part_laws::{closed_is_installed, parts_stay};
 pub use pick::Inputs;
 pub use picked_outcome::outcome_of_picked;
 pub use synced_version::{SyncMark, SyncedVersion};
-pub use version_files::test_files;
+pub use version_files::{test_files, version_is_state};
 pub use version_sync::sync_version;

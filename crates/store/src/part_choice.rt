@@ -1,10 +1,8 @@
 //! The parts of a level.
 
 ghost use Rattle.std.specs.Prelude.{map};
-ghost use Rattle.table.specs.Key.{IsInternalKey};
 ghost use Rattle.folder.specs.Answers.{HoldsOrMemory};
 ghost use Rattle.folder.specs.Orders.{order_cmp};
-ghost use Rattle.folder.specs.Version.{IsState};
 ghost use Rattle.pick.specs.PickedInputs.{picked_in};
 ghost use Rattle.store.specs.InputsCompaction.{ArePartsFound};
 
@@ -40,18 +38,4 @@ fn tested_parts<C: Comparator>(
 {
     test_files::<C>(alloc, version)?;
     finest_parts::<C>(alloc, version, level)
-}
-
-/// The key that inputs set is an internal key. A call does nothing.
-pub(crate) fn sets_internal_key(inputs: &Inputs)
-    ensures { IsInternalKey inputs.now.pointer.key }
-{
-    let _key = inputs.pointer.key.as_key();
-}
-
-/// Files of a version rise by number, pointers by level, and levels are from 0 to 6.
-pub(crate) fn version_is_state<C: Comparator>(alloc: Global, version: &Version)
-    ensures { IsState version.now.pointers version.now.files }
-{
-    let _files = version.files::<C>(alloc, 0);
 }

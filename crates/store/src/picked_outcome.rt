@@ -16,7 +16,7 @@ ghost use Rattle.store.specs.declared.choice.Choice.{Choice};
 
 use crate::held_compaction::compact_held;
 use crate::held_inputs::held_inputs;
-use crate::part_choice::{sets_internal_key, version_is_state};
+use crate::version_files::version_is_state;
 use board::Watch;
 use checks::{HeldTables, SharedComparator, Workers};
 use compact::Settings;
@@ -74,4 +74,11 @@ pub fn outcome_of_picked<
     version_is_state::<C>(workers.alloc(), version);
     let tables = held_inputs::<C, F, W, R>(workers, folder, held, version, picked)?;
     compact_held::<C, W, R>(workers, version, picked, &tables, first, settings)
+}
+
+/// The key that inputs set is an internal key. A call does nothing.
+fn sets_internal_key(inputs: &Inputs)
+    ensures { IsInternalKey inputs.now.pointer.key }
+{
+    let _key = inputs.pointer.key.as_key();
 }

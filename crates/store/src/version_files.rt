@@ -6,6 +6,7 @@ ghost use Rattle.folder.specs.Answers.{HoldsOrMemory, fault};
 ghost use Rattle.folder.specs.fault.FaultName.TheVariants.{Memory};
 ghost use Rattle.std.specs.Ordering.{is_lt};
 ghost use Rattle.folder.specs.Order.{internal_cmp};
+ghost use Rattle.folder.specs.Version.{IsState};
 ghost use Rattle.reads.specs.Lawful.{IsBelowNextFile};
 ghost use Rattle.store.specs.InputsCompaction.{IsOrderlyAnswer, IsOrderlyLevel};
 ghost use Rattle.store.specs.LentFiles.{LentRangesRise};
@@ -27,6 +28,14 @@ pub fn test_files<C: Comparator>(alloc: Global, version: &Version) -> Result<(),
         }
     }
     Ok(())
+}
+
+/// Files of a version rise by number, pointers by level, and levels are from 0 to 6. A call
+/// does nothing.
+pub fn version_is_state<C: Comparator>(alloc: Global, version: &Version)
+    ensures { IsState version.now.pointers version.now.files }
+{
+    let _files = version.files::<C>(alloc, 0);
 }
 
 /// Whether the files of a level are so.

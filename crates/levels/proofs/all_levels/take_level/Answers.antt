@@ -52,20 +52,20 @@ returns-clause-left g c files loaded tables told current reads sound =
     inr (record {
       step = step;
       installed = i;
-      goes = c.tell_level.ensures.told.0;
-      told_step = c.tell_level.ensures.told.1;
-      went = c.tell_level.ensures.told.2;
-      opened = opened_next o.order cmp keys o.version loaded c.args.level s change step i c.tell_level.result c.tell_level.ensures.after;
-      memory = memory_only o.order cmp keys o.version loaded c.args.level s change step i c.tell_level.result c.tell_level.ensures.refused;
+      goes = c.tell_step.ensures.told.0;
+      told_step = c.tell_step.ensures.told.1;
+      went = c.tell_step.ensures.told.2;
+      opened = opened_next o.order cmp keys o.version loaded c.args.level s change step i c.tell_step.result c.tell_step.ensures.after;
+      memory = memory_only o.order cmp keys o.version loaded c.args.level s change step i c.tell_step.result c.tell_step.ensures.refused;
     })
 
 pub returns-clause-device : goal.returns-clause-device
 returns-clause-device g c =
     let o = c.args.opened.now in
     let failed = g.F.Folder.failed in
-    reports_after c.tell_level.result c.in_ok-step.was c.compact_tested.ensures.device
-    (never_device_at (failed c.args.folder.now) (failed c.compact_tested.new.folder) c.tell_level.result (λ e. IsOpenedAfter o.order o.version c.in_ok-step.step.edit.items (Err e))
-    (opened_other o.order o.version c.in_ok-step.step.edit.items) c.tell_level.ensures.refused)
+    reports_after c.tell_step.result c.in_ok-step.was c.compact_tested.ensures.device
+    (never_device_at (failed c.args.folder.now) (failed c.compact_tested.new.folder) c.tell_step.result (λ e. IsOpenedAfter o.order o.version c.in_ok-step.step.edit.items (Err e))
+    (opened_other o.order o.version c.in_ok-step.step.edit.items) c.tell_step.ensures.refused)
 
 pub returns-in_err-step-clause-runs : goal.returns-in_err-step-clause-runs
 returns-in_err-step-clause-runs g c =
@@ -76,5 +76,5 @@ returns-in_err-step-clause-runs g c =
 pub returns-clause-runs : goal.returns-clause-runs
 returns-clause-runs g c =
     let o = c.args.opened.now in
-    made_told g.F.Folder g.T.InstallWatch.tells o.order c.args.settings.now o.version c.args.folder.now c.compact_tested.new.folder c.args.told.now c.tell_level.new.told c.args.level
-    c.compact_tested.result c.tell_level.result c.in_ok-step.step c.in_ok-step.was c.tell_level.ensures.told.0 c.tell_level.ensures.told.1 c.tell_level.ensures.told.2 c.tell_level.ensures.after c.compact_tested.ensures.runs
+    made_told g.F.Folder g.T.InstallWatch.tells o.order c.args.settings.now o.version c.args.folder.now c.compact_tested.new.folder c.args.told.now c.tell_step.new.told c.args.level
+    c.compact_tested.result c.tell_step.result c.in_ok-step.step c.in_ok-step.was c.tell_step.ensures.told.0 c.tell_step.ensures.told.1 c.tell_step.ensures.told.2 c.tell_step.ensures.after c.compact_tested.ensures.runs

@@ -1,4 +1,4 @@
 use Rattle.refusals.proofs.manifest_refusal.edits_seen.Given as goal
 
-abbrev pub decreases-loop-record : goal.decreases-loop-record
-decreases-loop-record l = l.records.left
+abbrev pub decreases-loop-seen : goal.decreases-loop-seen
+decreases-loop-seen l = l.records.left

@@ -14,7 +14,8 @@ use Rattle.store.specs.CleanedLevels.{IsCleanDescended, folder_version}
 use Rattle.store.specs.Cleaning.{IsCleaned, named_version, teller_by}
 use Rattle.store.specs.Descent.{IsNextLevel}
 use Rattle.store.specs.LevelRuns.{MakesNoCalls}
-use Rattle.store.specs.StepTaken.{IsGoTold, IsNextBegun}
+use Rattle.store.specs.StepTaken.{IsNextBegun}
+use Rattle.store.specs.Telling.{IsGoTold, telling_by}
 use Rattle.store.specs.declared.descent_end.DescentEnd.{DescentEnd}
 use Rattle.store.specs.declared.descent_end.DescentEnd.TheVariants.{AtBottom, Stopped}
 use Rattle.store.proofs.CleanDescending.{clean_ended, clean_too_many, none_cleaned}
@@ -29,7 +30,6 @@ use Rattle.store.proofs.InstallPart.{refused_ok}
 use Rattle.store.proofs.LevelRuns.{taken}
 use Rattle.install.proofs.Changes.{change_by, call_by}
 use Rattle.store.specs.OrderView.{order_view}
-use Rattle.store.specs.Telling.{telling_by}
 use Rattle.store.proofs.all_levels.compact_levels.Goals as goal
 
 pub returns-in_err-bottom-clause-left : goal.returns-in_err-bottom-clause-left

@@ -1,13 +1,28 @@
-use Rattle.std.proofs.Common.{◌≡◌, Option, Some, Result, Ok, refl, sym, subst, arith}
+use Rattle.std.proofs.Common.{◌≡◌, ℕ, Option, Some, Result, Ok, refl, sym, subst, arith}
+use Rattle.std.proofs.lemmas.List.Elements.{All-nil}
 use Rattle.folder.specs.fault.Fault.{Fault}
 use Rattle.folder.specs.OpenAnswer.{FolderAnswers}
 use Rattle.folder.specs.ReadsAs.{IsFileIn}
 use Rattle.folder.proofs.OpeningLemmas.{hands_on}
-use Rattle.folder.proofs.ReportLemmas.{reports_handed}
+use Rattle.folder.proofs.ReportLemmas.{reports_after, reports_handed, reports_steady}
+use Rattle.checks.specs.HeldTables.{AreHeldBy, IsTableBy}
 use Rattle.checks.specs.TestedTables.{IsTested}
+use Rattle.reads.specs.Tables.{NumberedContents}
 use Rattle.store.specs.Outcome.{IsTestAnswer}
 use Rattle.store.proofs.Flow.{first_passed, first_refused}
 use Rattle.store.proofs.chosen_outcome.tested_tables.Goals as goal
+
+pub returns-in_default-clause-answer : goal.returns-in_default-clause-answer
+returns-in_default-clause-answer g c files told = subst (λ (test : Option ℕ). IsTestAnswer test files g.C.Comparator.cmp c.args.version.now (Ok tt)) (sym c.in_default.is) refl
+
+pub returns-in_default-clause-held : goal.returns-in_default-clause-held
+returns-in_default-clause-held g c =
+    let cmp = g.C.Comparator.cmp in
+    let tells = g.F.Folder.tells c.args.folder.now in
+    subst (AreHeldBy cmp tells) (sym c.none-none.ensures) (All-nil (λ (t : NumberedContents). IsTableBy cmp tells t.number t.contents))
+
+pub returns-in_default-clause-device : goal.returns-in_default-clause-device
+returns-in_default-clause-device g c = reports_steady _ refl tt
 
 pub returns-in_err-found-clause-answer : goal.returns-in_err-found-clause-answer
 returns-in_err-found-clause-answer g c files told =
@@ -29,3 +44,6 @@ returns-clause-answer g c files told =
     let v = c.args.version.now in
     subst (λ (test : Option ℕ). IsTestAnswer test files cmp v (Ok tt)) (sym c.in-Some.is)
     (first_passed (IsTested (IsFileIn files) cmp v) (λ totals (answer : Result (Unit {0}) Fault). answer ≡ Ok tt) c.in_ok-found.found.tested (Ok tt) (c.in_ok-found.ensures.answer files told) refl)
+
+pub returns-clause-device : goal.returns-clause-device
+returns-clause-device g c = reports_after _ c.in_ok-found.was c.test_and_hold.ensures.device tt

@@ -12,8 +12,7 @@ use Rattle.checks.specs.HeldBytes.{held_bytes}
 use Rattle.compact.specs.Inputs.{inputs_reading}
 use Rattle.store.specs.FolderRequest.{compaction_from}
 use Rattle.store.specs.InputsCompaction.{IsReadAnswer, input_tables}
-use Rattle.store.specs.FoundInputs.{IsAnswerForThese, IsAnsweredBy, step_result}
-use Rattle.store.specs.Runs.{IsAnswerForInputs}
+use Rattle.store.specs.FoundInputs.{IsAnswerForInputs, IsAnswerForThese, IsAnsweredBy, step_result}
 use Rattle.store.specs.Step.{IsStepFor, StepView, step_in}
 use Rattle.store.proofs.Answered.{read_answered, read_refused, step_made}
 use Rattle.store.proofs.CheckedInputs.{held_length, read_as_inputs, read_bytes, same_read}

@@ -7,9 +7,9 @@ use Rattle.folder.proofs.ReportLemmas.{reports_handed, reports_steady, reports_t
 use Rattle.pick.specs.PickedInputs.{IsPicked, PickedInputs, picked_in}
 use Rattle.checks.specs.HeldBytes.{held_bytes}
 use Rattle.checks.specs.HeldTables.{IsCheckedAnswer}
-use Rattle.store.specs.FoundInputs.{IsAnswerForThese}
+use Rattle.store.specs.FoundInputs.{IsAnswerForInputs, IsAnswerForThese}
 use Rattle.store.specs.InputsCompaction.{IsChoiceAnswer, IsChosenAnswer, IsInputsCompacted, IsPickedAnswer, IsReadAnswer, input_numbers}
-use Rattle.store.specs.Runs.{IsAnswerForLevel, IsAnswerForInputs}
+use Rattle.store.specs.Runs.{IsAnswerForLevel}
 use Rattle.store.specs.Step.{IsStepFor, StepView, step_in, step_of}
 use Rattle.store.specs.declared.choice.Choice.TheVariants.{Picked}
 use Rattle.store.proofs.Answered.{made_as}
@@ -153,12 +153,16 @@ returns-clause-runs g c are =
     run_since level name cmp v (calls c.args.folder.now) (calls c.held_inputs.new.folder) (calls c.install_held.new.folder) (tells c.args.folder.now) (tells c.held_inputs.new.folder) (tells c.install_held.new.folder) c.install_held.result
     c.held_inputs.ensures.reads.calls c.held_inputs.ensures.reads.same
     (run_as (IsAnswerForThese (IsAnswerForInputs cmp keys v own s) p) level name cmp v (calls c.held_inputs.new.folder) (calls c.install_held.new.folder) (tells c.held_inputs.new.folder) (tells c.install_held.new.folder) c.install_held.result
-    (λ q answer h. record {
-      is_picked = subst (IsPicked cmp v c.args.level) (sym h.0) is_picked;
-      loaded = own;
-      read = subst (λ (x : PickedInputs). IsLoaded told (input_numbers x.files) (Ok own)) (sym h.0) (c.in_ok-tables.ensures.read are);
-      is_answer = h.1;
-    })
+    (λ q answer h. (
+      subst (IsPicked cmp v c.args.level) (sym h.0) is_picked,
+      record {
+        loaded = own;
+        read = subst (λ (x : PickedInputs). IsLoaded told (input_numbers x.files) (Ok own)) (sym h.0) (c.in_ok-tables.ensures.read are);
+        contents = h.1.contents;
+        stated = h.1.stated;
+        answered = h.1.answered;
+      },
+    ))
     c.install_held.ensures.runs)
 
 pub returns-clause-other : goal.returns-clause-other

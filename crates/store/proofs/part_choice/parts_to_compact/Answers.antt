@@ -3,7 +3,7 @@ use Rattle.folder.specs.Answers.{HoldsOrMemory}
 use Rattle.folder.specs.Orders.{order_cmp}
 use Rattle.folder.specs.declared.order.Order.{Order}
 use Rattle.pick.specs.PickedInputs.{picked_in}
-use Rattle.store.specs.PartOutcome.{ArePartsFound}
+use Rattle.store.specs.InputsCompaction.{ArePartsFound}
 use Rattle.store.proofs.part_choice.parts_to_compact.Goals as goal
 
 pub returns-in-Bytewise : goal.returns-in-Bytewise

@@ -1,8 +1,7 @@
 use Rattle.std.proofs.Common.{List, map}
 use Rattle.pick.specs.Parts.{IsPartsAnswer}
 use Rattle.pick.specs.PickedInputs.{PickedInputs, picked_in}
-use Rattle.store.specs.InputsCompaction.{IsOrderlyAnswer}
-use Rattle.store.specs.PartOutcome.{ArePartsFound}
+use Rattle.store.specs.InputsCompaction.{ArePartsFound, IsOrderlyAnswer}
 use Rattle.store.proofs.Flow.{first_passed, first_refused}
 use Rattle.store.proofs.PartAnswers.{handed_holds, holds_weaker}
 use Rattle.store.proofs.part_choice.tested_parts.Goals as goal

@@ -16,6 +16,9 @@ use Rattle.store.proofs.NoDevice.{read_other}
 use Rattle.store.proofs.PickedParts.{held_answers, never_answered, picked_compacted}
 use Rattle.store.proofs.picked_outcome.outcome_of_picked.Goals as goal
 
+pub held_inputs-requires-clause-chosen : goal.held_inputs-requires-clause-chosen
+held_inputs-requires-clause-chosen g c κs within = c.requires.chosen
+
 pub returns-in_err-tables-clause-answer : goal.returns-in_err-tables-clause-answer
 returns-in_err-tables-clause-answer g c files told are =
     let cmp = g.C.Comparator.cmp in

@@ -298,11 +298,11 @@ const NEXT: &[NextRow] = &[
         held: &[(10, 3), (12, 7), (11, 2)],
         calls: 2,
     },
-    // Table 8 is invalid.
+    // Table 8 is invalid: the others are held.
     NextRow {
         numbers: &[12, 8],
         is_held: false,
-        held: &[],
+        held: &[(12, 7)],
         calls: 1,
     },
 ];

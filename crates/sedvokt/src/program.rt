@@ -61,7 +61,7 @@ fn answer<R: Host>(rt: &R, asked: &CommandLine<'_>, is_watched: bool) -> u8 {
         Ok(Some(out)) => return report_taken(rt, out),
         Ok(None) => carry_out(
             rt,
-            telling_of(asked, &needs, is_watched, &refused),
+            telling_of(asked, needs.subject, needs.memory, is_watched, &refused),
             &asked.line,
             &needs,
         ),
@@ -229,19 +229,20 @@ fn level_of(work: CompactWork<'_>) -> Option<u64> {
 
 /// What is to be told of the work that a command line asks for.
 fn telling_of<'a>(
-    asked: &CommandLine<'a>,
-    needs: &Needs<'a>,
+    asked: &CommandLine<'_>,
+    folder: &'a str,
+    memory: u64,
     is_watched: bool,
     refused: &'a RefusedTable,
 ) -> Telling<'a> {
     Telling {
-        folder: needs.subject,
+        folder,
         is_quiet: asked.verbosity == Verbosity::Quiet,
         is_verbose: asked.verbosity == Verbosity::Verbose,
         is_watched,
         ignores_lock: asked.ignores_lock,
         refuses_logs: asked.refuses_logs,
-        memory: bytes_of(needs.memory),
+        memory: bytes_of(memory),
         refused,
     }
 }

@@ -1,14 +1,15 @@
 -- Each step keeps what holds of the numbers drawn.
-use Rattle.std.proofs.Common.{◌≡◌, ◌≢◌, inl, inr, ℕ, suc, ◌+◌, ◌<◌, ◌≤◌, ◌^◌, List, [], ◌∷◌, ◌++◌, length, set, get_or, refl, sym, ap, ◌∙◌, arith, length-set, get_or-set_same, get_or-set_other}
+use Rattle.std.proofs.Common.{◌≡◌, ◌≢◌, inl, inr, ℕ, suc, ◌+◌, ◌*◌, ◌<◌, ◌≤◌, ◌^◌, List, [], ◌∷◌, ◌++◌, length, set, get_or, refl, sym, ap, ◌∙◌, arith, mul-le-mul_right, suc-mul, length-set, get_or-set_same, get_or-set_other}
 use native.Mathlib.Decide.{ℕ_discrete}
+use Rattle.std.proofs.Math.Nat.{le-mul_of_pos_right}
 use mathlib.Core.Option.{some, some-ne-none}
 use lib.ListN.{get_elem?}
 use Rattle.board.specs.declared.rule.SeatView.{SeatView}
-use Rattle.board.specs.Shares.{times, one_if_same, start}
-use Rattle.board.specs.Words.{total, share_len, word_of, claims_of, claim_count_in}
+use Rattle.board.specs.Shares.{times, one_if_same, job_at}
+use Rattle.board.specs.Words.{total, word_of, claims_of}
 use Rattle.board.specs.Rule.{fresh_view, view_after_draw, saw_empty, Fits, times_drawn, times_empty, KeepsDrawn}
 use Rattle.board.proofs.Sums.{total_set, times-snoc, same_tells, same_one, other_zero}
-use Rattle.board.proofs.Spans.{in_more, in_full, claimed_set, claimed_none, claimed_same, word_below, word_apart}
+use Rattle.board.proofs.Spans.{claims_more, claims_full, claimed_none, claimed_same, word_below, word_apart}
 use Rattle.board.proofs.Views.{each_set, each_snoc}
 
 -- one more claim of share k of w
@@ -30,10 +31,10 @@ module _ (w : ℕ) (words : List ℕ) (k c : ℕ) (any : 0 < w) (few : w ≤ 64)
 
 -- a number is claimed, and drawn
 pub draws : (n w : ℕ) (words : List ℕ) (views : List SeatView) (id : ℕ) (v : SeatView) (k c : ℕ)
-    → KeepsDrawn n w words views → get_elem? views id ≡ some v → 0 < v.members → k < w → claims_of w words k ≡ c → c < share_len n w k
-    → KeepsDrawn n w (set words (word_of w k) (suc c)) (set views id (view_after_draw v (start n w k + c)))
+    → KeepsDrawn n w words views → get_elem? views id ≡ some v → 0 < v.members → k < w → claims_of w words k ≡ c → job_at w k c < n
+    → KeepsDrawn n w (set words (word_of w k) (suc c)) (set views id (view_after_draw v (job_at w k c)))
 draws n w words views id v k c h at sits lt is room =
-    let x : ℕ = start n w k + c in
+    let x : ℕ = job_at w k c in
     let u : SeatView = view_after_draw v x in
     let sat = h.seats.0 in let few = h.seats.1 in
     let in_words : word_of w k < length words = (let a = h.wide in let b = word_below w k few lt in omega arith) in
@@ -48,23 +49,19 @@ draws n w words views id v k c h at sits lt is room =
           let e = total_set (λ (z : SeatView). times y z.drawn) views id v u at in
           let s : times y (v.drawn ++ x ∷ []) ≡ times y v.drawn + one_if_same y x = times-snoc y v.drawn x in
           let d = h.drawn y in
-          let t = claimed_set (start n w) (claims_of w words) (claims_of w (set words (word_of w k) (suc c))) y k w lt (λ j less. word_there w words k c sat few in_words is j) in
-          let now : claim_count_in (start n w) y k (claims_of w (set words (word_of w k) (suc c)) k) ≡ claim_count_in (start n w) y k (suc c) = ap (λ (m : ℕ). claim_count_in (start n w) y k m) (word_here w words k c sat few in_words is k refl).1 in
-          let i : claim_count_in (start n w) y k (claims_of w words k) ≡ claim_count_in (start n w) y k c = ap (λ (m : ℕ). claim_count_in (start n w) y k m) is in
-          let m : claim_count_in (start n w) y k (suc c) ≡ claim_count_in (start n w) y k c + one_if_same y x = in_more (start n w) y k c room in
-          omega arith;
-      empty = λ j any. let e = seen j in let f = h.empty j (omega arith) in let g = word_grows w words k c sat few in_words is j in (f.0, (let l = f.1 in omega arith));
+          let m = claims_more w sat n (claims_of w words) (claims_of w (set words (word_of w k) (suc c))) k c lt is (word_here w words k c sat few in_words is k refl).1 (word_there w words k c sat few in_words is) y room in omega arith;
+      empty = λ j any. let e = seen j in let f = h.empty j (omega arith) in let g = mul-le-mul_right w (word_grows w words k c sat few in_words is j) in (f.0, (let l = f.1 in omega arith));
       bounded = λ j less.
           let b = h.bounded j less in let e = seen j in
           elim (ℕ_discrete j k) [
-            | yes here ↦ (let a = (word_here w words k c sat few in_words is j here).1 in let l : share_len n w j ≡ share_len n w k = ap (λ (i : ℕ). share_len n w i) here in omega arith)
+            | yes here ↦ (let a = (word_here w words k c sat few in_words is j here).1 in let l : c ≤ c * w = le-mul_of_pos_right c sat in omega arith)
             | no apart ↦ (let o = word_there w words k c sat few in_words is j apart in omega arith)
           ];
     }
 
 -- a share is claimed from that is used up, and seen empty
 pub sees : (n w : ℕ) (words : List ℕ) (views : List SeatView) (id : ℕ) (v : SeatView) (k c : ℕ)
-    → KeepsDrawn n w words views → get_elem? views id ≡ some v → times k v.empty < v.members → k < w → claims_of w words k ≡ c → share_len n w k ≤ c
+    → KeepsDrawn n w words views → get_elem? views id ≡ some v → times k v.empty < v.members → k < w → claims_of w words k ≡ c → n ≤ job_at w k c
     → KeepsDrawn n w (set words (word_of w k) (suc c)) (set views id (saw_empty v k))
 sees n w words views id v k c h at sits lt is full =
     let u : SeatView = saw_empty v k in
@@ -89,16 +86,12 @@ sees n w words views id v k c h at sits lt is full =
       drawn = λ y.
           let e = total_set (λ (z : SeatView). times y z.drawn) views id v u at in
           let d = h.drawn y in
-          let t = claimed_set (start n w) (claims_of w words) (claims_of w (set words (word_of w k) (suc c))) y k w lt (λ j less. word_there w words k c sat few in_words is j) in
-          let now : claim_count_in (start n w) y k (claims_of w (set words (word_of w k) (suc c)) k) ≡ claim_count_in (start n w) y k (suc c) = ap (λ (m : ℕ). claim_count_in (start n w) y k m) (word_here w words k c sat few in_words is k refl).1 in
-          let i : claim_count_in (start n w) y k (claims_of w words k) ≡ claim_count_in (start n w) y k c = ap (λ (m : ℕ). claim_count_in (start n w) y k m) is in
-          let m : claim_count_in (start n w) y k (suc c) ≡ claim_count_in (start n w) y k c = in_full (start n w) y k c full in
-          omega arith;
+          let m = claims_full w sat n (claims_of w words) (claims_of w (set words (word_of w k) (suc c))) k c lt is (word_here w words k c sat few in_words is k refl).1 (word_there w words k c sat few in_words is) y full in omega arith;
       empty = λ j any.
           let e = seen j in
           elim (ℕ_discrete j k) [
-            | yes here ↦ (omega arith, (let a = (word_here w words k c sat few in_words is j here).1 in let l : share_len n w j ≡ share_len n w k = ap (λ (i : ℕ). share_len n w i) here in omega arith))
-            | no apart ↦ (let o = word_there w words k c sat few in_words is j apart in let z = other_zero j k apart in let f = h.empty j (omega arith) in (f.0, (let l = f.1 in omega arith)))
+            | yes here ↦ (omega arith, (let a : claims_of w (set words (word_of w k) (suc c)) j * w ≡ suc c * w = ap (λ (m : ℕ). m * w) (word_here w words k c sat few in_words is j here).1 in let l = suc-mul c w in omega arith))
+            | no apart ↦ (let o = ap (λ (m : ℕ). m * w) (word_there w words k c sat few in_words is j apart) in let z = other_zero j k apart in let f = h.empty j (omega arith) in (f.0, (let l = f.1 in omega arith)))
           ];
       bounded = λ j less.
           let b = h.bounded j less in let e = seen j in
@@ -120,8 +113,8 @@ still_drawn n w words words' views views' h long claims members each drawn empty
   wide = long ∙ h.wide;
   members = members ∙ h.members;
   each = each;
-  drawn = λ x. drawn x ∙ h.drawn x ∙ sym (claimed_same (start n w) (claims_of w words) (claims_of w words') x w claims);
-  empty = λ k any. let f = h.empty k (let e = empty k in omega arith) in let lt = f.0 in let c = claims k lt in (lt, (let l = f.1 in omega arith));
+  drawn = λ x. drawn x ∙ h.drawn x ∙ sym (claimed_same w h.seats.0 n (claims_of w words) (claims_of w words') x claims);
+  empty = λ k any. let f = h.empty k (let e = empty k in omega arith) in let c = ap (λ (m : ℕ). m * w) (claims k f.0) in (f.0, (let l = f.1 in omega arith));
   bounded = λ k lt. let b = h.bounded k lt in let c = claims k lt in let e = empty k in omega arith;
 }
 
@@ -133,7 +126,7 @@ opens n w words any few small long zeros = record {
   wide = long;
   members = omega arith;
   each = each_snoc (Fits n w) [] (fresh_view w n w) (λ i v at. absurd (some-ne-none v (sym at))) record { same = λ _. (refl, refl); spent = λ _. (refl, refl, refl, refl, refl); once = λ k. omega arith };
-  drawn = λ x. sym (claimed_none (start n w) (claims_of w words) x w (λ k lt. zeros (word_of w k) (word_below w k few lt)));
+  drawn = λ x. sym (claimed_none w any n (claims_of w words) x (λ k lt. zeros (word_of w k) (word_below w k few lt)));
   empty = λ k seen. absurd (omega arith);
   bounded = λ k lt. let z = zeros (word_of w k) (word_below w k few lt) in omega arith;
 }

@@ -9,12 +9,12 @@ use Rattle.atomic_table.specs.Table.{State, Me, step, keeps, Allows, Splits, Joi
 use Rattle.atomic_table.proofs.Lists.{at_set}
 use Rattle.board.specs.declared.rule.SeatView.{SeatView}
 use Rattle.board.specs.declared.rule.Extent.{Extent}
-use Rattle.board.specs.Shares.{times, start}
+use Rattle.board.specs.Shares.{times, job_at}
 use Rattle.board.specs.Progress.{no_fault}
-use Rattle.board.specs.Words.{total, once_below, share_len, word_of, claims_of}
+use Rattle.board.specs.Words.{total, once_below, word_of, claims_of}
 use Rattle.board.specs.Rule.{fresh_view, view_after_draw, saw_empty, has_failed, has_looked, has_skipped, gathered_views, HasNoLists, Fits, times_drawn, times_empty, times_failed, times_looked, times_skipped, KeepsDrawn, KeepsSkipped, BoardRule, TableKeepsRule, Claims, StepClaims, StepLooks, StepSettles, StepSkips, has_looked_for, IsLeastFound, IsWhole, fault_of, opening_words}
 use Rattle.board.proofs.Sums.{total_set, total-snoc, le-total, total_le, total_only, times-append, times-snoc, same_one}
-use Rattle.board.proofs.Spans.{claimed_le, claimed_all, start_rises, start_zero, start_end, start_le, word_below, word_apart}
+use Rattle.board.proofs.Spans.{claimed_le, claimed_all, word_below, word_apart}
 use Rattle.board.proofs.Views.{each_set, each_snoc}
 use Rattle.board.proofs.Draws.{draws, sees, still_drawn, opens}
 use Rattle.board.proofs.Faults.{still_failed, still_skipped, settles, looks, skips, no_faults}
@@ -27,14 +27,11 @@ all_empty_few n w words views k h =
 
 claims_few : (n w : ℕ) (words : List ℕ) (views : List SeatView) (k : ℕ) → KeepsDrawn n w words views → k < w → claims_of w words k < 2 ^ 41
 claims_few n w words views k h lt =
-    let b = h.bounded k lt in let e = all_empty_few n w words views k h in let l = start_le n w (suc k) h.seats.0 lt in let j = h.jobs in omega arith
+    let b = h.bounded k lt in let e = all_empty_few n w words views k h in let j = h.jobs in omega arith
 
 -- no number is claimed twice
 drawn_once : (n w : ℕ) (words : List ℕ) (views : List SeatView) (x : ℕ) → KeepsDrawn n w words views → times_drawn x views ≤ once_below x n
-drawn_once n w words views x h =
-    let d = h.drawn x in
-    let l = claimed_le (start n w) (claims_of w words) x w (λ k. start_rises n w k h.seats.0) in
-    let e : once_below x (start n w w) ≡ once_below x n = ap (once_below x) (start_end n w h.seats.0) in omega arith
+drawn_once n w words views x h = let d = h.drawn x in let l = claimed_le n w (claims_of w words) x in omega arith
 
 pub below_one : (x n : ℕ) → (once_below x n ≤ 1) × (0 < once_below x n → x < n)
 below_one x n = (grind (arith, nat_tests), λ h. grind (arith, nat_tests))
@@ -47,17 +44,18 @@ pub claim_step : (v : SeatView) (words : List ℕ) (views : List SeatView) (id k
     → (u : SeatView) × BoardRule v.jobs v.seats (set words (word_of v.seats k) ((claims_of v.seats words k + 1) % 2 ^ 64)) (set views id u) × Claims v k (claims_of v.seats words k) u
 claim_step v words views id k h at lt once =
     let n = v.jobs in let w = v.seats in let c : ℕ = claims_of v.seats words k in let i : ℕ = word_of v.seats k in
-    let next : suc c ≡ (c + 1) % 2 ^ 64 = wrapless c (claims_few n w words views k h.drawn lt) in
+    let small = claims_few n w words views k h.drawn lt in
+    let next : suc c ≡ (c + 1) % 2 ^ 64 = wrapless c small in
     let fault : fault_of (set words i (suc c)) ≡ fault_of words = get_or-set_other words i 64 (suc c) 0 (let below = word_below w k h.drawn.seats.1 lt in omega arith) in
-    elim (dec_le (suc c) (share_len n w k)) [
+    elim (dec_le (suc (job_at w k c)) n) [
       | yes room ↦
-          let x : ℕ = start n w k + c in
+          let x : ℕ = job_at w k c in
           let u : SeatView = view_after_draw v x in
           let new = draws n w words views id v k c h.drawn at (omega arith) lt refl room in
           let most = drawn_once n w (set words i (suc c)) (set views id u) x new in
           let e = total_set (λ (z : SeatView). times x z.drawn) views id v u at in
           let s = times-snoc x v.drawn x in let o = same_one x in
-          let b = below_one x n in let b0 = b.0 in
+          let b = (below_one x n).0 in
           let mine : times x v.drawn ≤ times_drawn x views = le-total (λ (z : SeatView). times x z.drawn) views id v at in (
             u,
             subst (λ (m : ℕ). BoardRule n w (set words i m) (set views id u)) next record {
@@ -68,7 +66,7 @@ claim_step v words views id k h at lt once =
               skipped = still_skipped words (set words i (suc c)) views (set views id u) h.skipped (omega arith)
                   (λ y. let t = total_set (λ (z : SeatView). times y z.skipped) views id v u at in omega arith);
             },
-            record { drew = λ _. refl; new = λ _. (b.1 (omega arith), omega arith); empty = λ full. absurd (omega arith) },
+            record { few = small; drew = λ _. refl; new = λ _. omega arith; empty = λ full. absurd (omega arith) },
           )
       | no above ↦
           let u : SeatView = saw_empty v k in
@@ -82,7 +80,7 @@ claim_step v words views id k h at lt once =
               skipped = still_skipped words (set words i (suc c)) views (set views id u) h.skipped (omega arith)
                   (λ y. let t = total_set (λ (z : SeatView). times y z.skipped) views id v u at in omega arith);
             },
-            record { drew = λ room. absurd (omega arith); new = λ room. absurd (omega arith); empty = λ _. refl },
+            record { few = small; drew = λ room. absurd (omega arith); new = λ room. absurd (omega arith); empty = λ _. refl },
           )
     ]
 
@@ -260,9 +258,7 @@ learns e id v s seen sits whole =
     let skipped : (x : ℕ) → times_skipped x s.views ≡ times x v.skipped = (λ x. mine (λ z. times x z.skipped) (λ z n. ap (times x) n.4)) in record {
       once = λ x. let d = drawn x in let o = drawn_once e.jobs e.seats s.words s.views x h.drawn in let n : once_below x v.jobs ≡ once_below x e.jobs = ap (once_below x) is.0 in omega arith;
       all = λ seen x.
-          let c = claimed_all (start e.jobs e.seats) (claims_of e.seats s.words) x e.seats (λ k. start_rises e.jobs e.seats k h.drawn.seats.0) (start_zero e.jobs e.seats)
-          (λ k lt. (h.drawn.empty k (let a = seen k (let q = is.1 in omega arith) in let b = empty k in omega arith)).1) in
-          let en : once_below x (start e.jobs e.seats e.seats) ≡ once_below x e.jobs = ap (once_below x) (start_end e.jobs e.seats h.drawn.seats.0) in
+          let c = claimed_all e.seats h.drawn.seats.0 e.jobs (claims_of e.seats s.words) x (λ k lt. (h.drawn.empty k (let a = seen k (let q = is.1 in omega arith) in let b = empty k in omega arith)).1) in
           let n : once_below x v.jobs ≡ once_below x e.jobs = ap (once_below x) is.0 in
           let d = drawn x in let w = h.drawn.drawn x in omega arith;
       found = elim h.failed.found [ inl free ↦ inl free | inr there ↦ inr (let f = failed (fault_of s.words) in omega arith) ];

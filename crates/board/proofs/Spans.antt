@@ -1,76 +1,102 @@
 -- The numbers that were claimed of the shares.
-use Rattle.std.proofs.Common.{◌≡◌, ◌≢◌, ℕ, zero, suc, ◌+◌, ◌-◌, ◌*◌, ◌/◌, ◌<◌, ◌≤◌, refl, ap, ◌∙◌, arith, mul-div_cancel, zero-mul, mul-le-mul_right, suc-mul, mul_comm, le_trans, le_of_eq}
+use Rattle.std.proofs.Common.{◌≡◌, ◌≢◌, ℕ, suc, ◌+◌, ◌*◌, ◌/◌, ◌%◌, ◌<◌, ◌≤◌, cond, ltb, ◌&&◌, sym, ap, ◌∙◌, arith, mod-lt, mod-eq_of_lt, mul-le-mul_right, suc-mul}
 use Rattle.std.proofs.lemmas.Bool.Decides.{nat_tests}
-use lib.Ieee.Nearest.{div_mono}
 use native.Mathlib.Decide.{ℕ_discrete, dec_le}
-use Rattle.std.proofs.Math.Nat.{le-div_iff_mul-le, mul-div-le}
-use native.Mathlib.Nat.{zero-div}
-use Rattle.board.specs.Shares.{one_if_same, start}
-use Rattle.board.specs.Words.{once_below, word_of, claim_count_in, claim_count}
+use Rattle.std.proofs.Math.Nat.{add-mul-mod_self_right, add-mul-div_right, div-eq_of_lt, le-div_iff_mul-le, mod-add-div', mul-div-le}
+use Rattle.board.specs.Shares.{one_if_same, job_at}
+use Rattle.board.specs.Words.{once_below, word_of, claim_count}
 
--- one more claim of a share that is not used up
-pub in_more : (first : ℕ → ℕ) (x k c : ℕ) → c < first (suc k) - first k → claim_count_in first x k (suc c) ≡ claim_count_in first x k c + one_if_same x (first k + c)
-in_more first x k c room = grind (arith, nat_tests)
+-- how often x was claimed, which is at place p of a share that was claimed c times
+abbrev count_at : ℕ → ℕ → ℕ → ℕ → ℕ
+count_at n x p c = cond (ltb x n && ltb p c) 1 0
 
--- of one that is
-pub in_full : (first : ℕ → ℕ) (x k c : ℕ) → first (suc k) - first k ≤ c → claim_count_in first x k (suc c) ≡ claim_count_in first x k c
-in_full first x k c full = grind (arith, nat_tests)
+module _ (w : ℕ) (some : 0 < w) where
+  -- a number is the job at its place of its share
+  place_of : (x : ℕ) → job_at w (x % w) (x / w) ≡ x
+  place_of x = mod-add-div' x w
 
-module _ (first : ℕ → ℕ) where
-  -- claims of the same share, named in two ways
-  claimed_at : (claims : ℕ → ℕ) (x j k : ℕ) → j ≡ k → claim_count_in first x j (claims j) ≡ claim_count_in first x k (claims k)
-  claimed_at claims x j k same = ap (λ (i : ℕ). claim_count_in first x i (claims i)) same
+  pub job_share : (k c : ℕ) → k < w → job_at w k c % w ≡ k
+  job_share k c lt = add-mul-mod_self_right k c w ∙ mod-eq_of_lt lt
 
-  pub claimed_same : (claims claims' : ℕ → ℕ) (x m : ℕ) → ((k : ℕ) → k < m → claims' k ≡ claims k) → claim_count first claims' x m ≡ claim_count first claims x m
-  claimed_same claims claims' x zero same = refl
-  claimed_same claims claims' x (suc m) same =
-      let e = claimed_same claims claims' x m (λ k lt. same k (omega arith)) in
-      let is : claim_count_in first x m (claims' m) ≡ claim_count_in first x m (claims m) = ap (λ (n : ℕ). claim_count_in first x m n) (same m (omega arith)) in omega arith
+  job_place : (k c : ℕ) → k < w → job_at w k c / w ≡ c
+  job_place k c lt = let e = add-mul-div_right k c some in let z = div-eq_of_lt lt in omega arith
 
-  -- one share's claims change
-  pub claimed_set : (claims claims' : ℕ → ℕ) (x k m : ℕ) → k < m → ((j : ℕ) → j < m → j ≢ k → claims' j ≡ claims j) → claim_count first claims' x m + claim_count_in first x k (claims k) ≡ claim_count first claims x m + claim_count_in first x k (claims' k)
-  claimed_set claims claims' x k zero lt others = absurd (omega arith)
-  claimed_set claims claims' x k (suc m) lt others = elim (ℕ_discrete m k) [
-    | yes same ↦
-        let e = claimed_same claims claims' x m (λ j less. others j (omega arith) (omega arith)) in
-        let was = claimed_at claims x m k same in let is = claimed_at claims' x m k same in omega arith
-    | no apart ↦
-        let e = claimed_set claims claims' x k m (omega arith) (λ j less. others j (omega arith)) in
-        let i : claim_count_in first x m (claims' m) ≡ claim_count_in first x m (claims m) = ap (λ (n : ℕ). claim_count_in first x m n) (others m (omega arith) apart) in omega arith
+  -- a number below n is below the first place of its share that isn't
+  place_below : (n x c : ℕ) → n ≤ job_at w (x % w) c → x < n → x / w < c
+  place_below n x c full lt = elim (dec_le c (x / w)) [
+    | yes le ↦ (let up : c * w ≤ x / w * w = mul-le-mul_right w le in let is = place_of x in absurd (omega arith))
+    | no less ↦ omega arith
   ]
 
-  -- at most the numbers below the end of the last share are claimed, each once
-  pub claimed_le : (claims : ℕ → ℕ) (x m : ℕ) → ((k : ℕ) → first k ≤ first (suc k)) → claim_count first claims x m ≤ once_below x (first m)
-  claimed_le claims x zero rises = omega arith
-  claimed_le claims x (suc m) rises =
-      let e = claimed_le claims x m rises in
-      let up = rises m in
-      let one = in_span x m (claims m) up in omega arith
-    where
-      in_span : (x m c : ℕ) → first m ≤ first (suc m) → once_below x (first m) + claim_count_in first x m c ≤ once_below x (first (suc m))
-      in_span x m c up = grind (arith, nat_tests)
+  -- share k is claimed from once more
+  module _ (n : ℕ) (claims claims' : ℕ → ℕ) (k c : ℕ) (lt : k < w) (is : claims k ≡ c) (next : claims' k ≡ suc c) (others : (j : ℕ) → j ≢ k → claims' j ≡ claims j) where
+    counts_here : (x : ℕ) → x % w ≡ k → (claim_count n w claims x ≡ count_at n x (x / w) c) × (claim_count n w claims' x ≡ count_at n x (x / w) (suc c))
+    counts_here x here = (ap (count_at n x (x / w)) (ap claims here ∙ is), ap (count_at n x (x / w)) (ap claims' here ∙ next))
 
-  -- and all of them, if each share is used up
-  pub claimed_all : (claims : ℕ → ℕ) (x m : ℕ) → ((k : ℕ) → first k ≤ first (suc k)) → first 0 ≡ 0 → ((k : ℕ) → k < m → first (suc k) - first k ≤ claims k) → claim_count first claims x m ≡ once_below x (first m)
-  claimed_all claims x zero rises begins full = grind (arith, nat_tests)
-  claimed_all claims x (suc m) rises begins full =
-      let e = claimed_all claims x m rises begins (λ k lt. full k (omega arith)) in
-      let up = rises m in
-      let one = whole_span x m (claims m) up (full m (omega arith)) in omega arith
+    counts_there : (x : ℕ) → x % w ≢ k → claim_count n w claims' x ≡ claim_count n w claims x
+    counts_there x apart = ap (count_at n x (x / w)) (others (x % w) apart)
+
+    pub claims_more : (x : ℕ) → job_at w k c < n → claim_count n w claims' x ≡ claim_count n w claims x + one_if_same x (job_at w k c)
+    claims_more x room = elim (ℕ_discrete (x % w) k) [
+      | yes here ↦
+          let e = counts_here x here in
+          let one : count_at n x (x / w) (suc c) ≡ count_at n x (x / w) c + one_if_same x (job_at w k c) = elim (ℕ_discrete (x / w) c) [
+            | yes same ↦
+                let at : x ≡ job_at w k c = sym (place_of x) ∙ (λ i. job_at w (here i) (same i)) in
+                at_place n x (x / w) c (job_at w k c) at room same
+            | no apart ↦ off_place n x (x / w) c (job_at w k c) (λ at. apart (ap (λ (y : ℕ). y / w) at ∙ job_place k c lt)) apart
+          ] in
+          e.1 ∙ one ∙ ap (λ (m : ℕ). m + one_if_same x (job_at w k c)) (sym e.0)
+      | no apart ↦
+          let e = counts_there x apart in
+          let o : one_if_same x (job_at w k c) ≡ 0 = other x (job_at w k c) (λ at. apart (ap (λ (y : ℕ). y % w) at ∙ job_share k c lt)) in omega arith
+    ]
+      where
+        at_place : (n x p c j : ℕ) → x ≡ j → j < n → p ≡ c → count_at n x p (suc c) ≡ count_at n x p c + one_if_same x j
+        at_place n x p c j at room same = grind (arith, nat_tests)
+
+        off_place : (n x p c j : ℕ) → x ≢ j → p ≢ c → count_at n x p (suc c) ≡ count_at n x p c + one_if_same x j
+        off_place n x p c j other apart = grind (arith, nat_tests)
+
+        other : (x j : ℕ) → x ≢ j → one_if_same x j ≡ 0
+        other x j apart = grind (arith, nat_tests)
+
+    pub claims_full : (x : ℕ) → n ≤ job_at w k c → claim_count n w claims' x ≡ claim_count n w claims x
+    claims_full x full = elim (ℕ_discrete (x % w) k) [
+      | yes here ↦
+          let e = counts_here x here in
+          let most : n ≤ job_at w (x % w) c = omega arith in
+          e.1 ∙ all_below n x (x / w) c (place_below n x c most) ∙ sym e.0
+      | no apart ↦ counts_there x apart
+    ]
+      where
+        all_below : (n x p c : ℕ) → (x < n → p < c) → count_at n x p (suc c) ≡ count_at n x p c
+        all_below n x p c below = elim (dec_le n x) [ yes le ↦ grind (arith, nat_tests) | no less ↦ (let b = below (omega arith) in grind (arith, nat_tests)) ]
+
+  -- all numbers below n are claimed, if each share is used up
+  pub claimed_all : (n : ℕ) (claims : ℕ → ℕ) (x : ℕ) → ((k : ℕ) → k < w → n ≤ job_at w k (claims k)) → claim_count n w claims x ≡ once_below x n
+  claimed_all n claims x full =
+      whole n x (x / w) (claims (x % w)) (place_below n x (claims (x % w)) (full (x % w) (mod-lt x some)))
     where
-      whole_span : (x m c : ℕ) → first m ≤ first (suc m) → first (suc m) - first m ≤ c → once_below x (first m) + claim_count_in first x m c ≡ once_below x (first (suc m))
-      whole_span x m c up full = grind (arith, nat_tests)
+      whole : (n x p c : ℕ) → (x < n → p < c) → count_at n x p c ≡ once_below x n
+      whole n x p c below = elim (dec_le n x) [ yes le ↦ grind (arith, nat_tests) | no less ↦ (let b = below (omega arith) in grind (arith, nat_tests)) ]
+
+  pub claimed_same : (n : ℕ) (claims claims' : ℕ → ℕ) (x : ℕ) → ((k : ℕ) → k < w → claims' k ≡ claims k) → claim_count n w claims' x ≡ claim_count n w claims x
+  claimed_same n claims claims' x same = ap (count_at n x (x / w)) (same (x % w) (mod-lt x some))
 
   -- nothing is claimed at first
-  pub claimed_none : (claims : ℕ → ℕ) (x m : ℕ) → ((k : ℕ) → k < m → claims k ≡ 0) → claim_count first claims x m ≡ 0
-  claimed_none claims x zero zeros = refl
-  claimed_none claims x (suc m) zeros =
-      let e = claimed_none claims x m (λ k lt. zeros k (omega arith)) in
-      let is : claim_count_in first x m (claims m) ≡ claim_count_in first x m 0 = ap (λ (n : ℕ). claim_count_in first x m n) (zeros m (omega arith)) in
-      let none : claim_count_in first x m 0 ≡ 0 = no_span x m in omega arith
+  pub claimed_none : (n : ℕ) (claims : ℕ → ℕ) (x : ℕ) → ((k : ℕ) → k < w → claims k ≡ 0) → claim_count n w claims x ≡ 0
+  claimed_none n claims x zeros = ap (count_at n x (x / w)) (zeros (x % w) (mod-lt x some)) ∙ none n x (x / w)
     where
-      no_span : (x m : ℕ) → claim_count_in first x m 0 ≡ 0
-      no_span x m = grind (arith, nat_tests)
+      none : (n x p : ℕ) → count_at n x p 0 ≡ 0
+      none n x p = grind (arith, nat_tests)
+
+-- each number below n is claimed at most once
+pub claimed_le : (n w : ℕ) (claims : ℕ → ℕ) (x : ℕ) → claim_count n w claims x ≤ once_below x n
+claimed_le n w claims x = at_most n x (x / w) (claims (x % w))
+  where
+    at_most : (n x p c : ℕ) → count_at n x p c ≤ once_below x n
+    at_most n x p c = grind (arith, nat_tests)
 
 -- the claim words in use are apart, and below the fault word
 gap_some : (w : ℕ) → 0 < w → w ≤ 64 → 0 < 64 / w
@@ -99,19 +125,3 @@ word_apart w j k any few same = elim (ℕ_discrete j k) [
     | no above ↦ (let r = words_rise w k j any few (omega arith) in absurd (omega arith))
   ]
 ]
-
-pub start_rises : (n w k : ℕ) → 0 < w → start n w k ≤ start n w (suc k)
-unfolding start
-start_rises n w k some = div_mono (k * n) w (suc k * n) w some some (mul-le-mul_right w (omega (arith, suc-mul k n)))
-
-pub start_zero : (n w : ℕ) → start n w 0 ≡ 0
-unfolding start
-start_zero n w = ap (λ (x : ℕ). x / w) (zero-mul n) ∙ zero-div w
-
-pub start_end : (n w : ℕ) → 0 < w → start n w w ≡ n
-unfolding start
-start_end n w some = ap (λ (x : ℕ). x / w) (mul_comm w n) ∙ mul-div_cancel n some
-
-pub start_le : (n w k : ℕ) → 0 < w → k ≤ w → start n w k ≤ n
-unfolding start
-start_le n w k any le = le_trans (div_mono (k * n) w (w * n) w any any (mul-le-mul_right w (mul-le-mul_right n le))) (le_of_eq (start_end n w any))

@@ -6,11 +6,10 @@ use Rattle.atomic_table.specs.Table.{Me}
 use Rattle.atomic_table.specs.Seated.{TableId}
 use Rattle.atomic_table.proofs.Lists.{one_turn}
 use Rattle.board.specs.declared.rule.SeatView.{SeatView}
-use Rattle.board.specs.declared.share.Share.{Share}
 use Rattle.board.specs.Shares.{times, one_if_same, share_in_turn, IsInShare}
 use Rattle.board.specs.Progress.{Progress, shares_in_turn, SeesInTurn, after_draw, DrawsJob, DrawsNone}
 use Rattle.board.specs.Rule.{fresh_view, view_after_draw, saw_empty}
-use Rattle.board.specs.Seats.{progress_of, IsSeated, IsCounted, IsShare}
+use Rattle.board.specs.Seats.{progress_of, IsSeated, IsCounted}
 use Rattle.board.proofs.Sums.{times-snoc, other_zero, same_one}
 
 pub length-shares_in_turn : (w s m : ℕ) → length (shares_in_turn w s m) ≡ m
@@ -71,12 +70,11 @@ sees_in_turn number passed jobs seats t me ds h =
 -- a number was drawn of share k, which is the next one in turn
 pub draws_job : (p : Progress) (x k number passed jobs seats : ℕ) (t t' : TableId) (me : Me (Unit {0}) SeatView) (v' : SeatView) (ds : List ℕ)
     → IsSeated number passed jobs seats me → k ≡ share_in_turn seats number passed → passed < seats → progress_of t number me.0 ds ≡ after_draw p p.drawn me.0.empty → length p.empty ≤ passed → SeesInTurn p
-    → t' ≡ t → v' ≡ view_after_draw me.0 x → IsInShare me.0.jobs me.0.seats k x → (x < me.0.jobs) × (times x me.0.drawn ≡ 0)
+    → t' ≡ t → v' ≡ view_after_draw me.0 x → IsInShare seats k x → (x < jobs) × (times x me.0.drawn ≡ 0)
     → DrawsJob p x (progress_of t' number v' ds)
 draws_job p x k number passed jobs seats t t' me v' ds h next lt so more before et ev share new =
-    let ej : me.0.jobs ≡ p.board.jobs = ap (λ (q : Progress). q.board.jobs) so in
-    let em : me.0.seats ≡ p.board.seats = ap (λ (q : Progress). q.board.seats) so in
-    let es : seats ≡ p.board.seats = sym h.extent.1 ∙ em in
+    let ej : jobs ≡ p.board.jobs = sym h.extent.0 ∙ ap (λ (q : Progress). q.board.jobs) so in
+    let es : seats ≡ p.board.seats = sym h.extent.1 ∙ ap (λ (q : Progress). q.board.seats) so in
     let en : number ≡ p.number = ap (λ (q : Progress). q.number) so in
     let el : passed ≡ length me.0.empty = sym (ap length h.empty ∙ length-shares_in_turn seats number passed) in
     let ek : k ≡ share_in_turn p.board.seats p.number (length me.0.empty) = next ∙ (λ i. share_in_turn (es i) (en i) (el i)) in
@@ -85,28 +83,16 @@ draws_job p x k number passed jobs seats t t' me v' ds h next lt so more before 
       drawn = ap (λ (q : Progress). after_draw q (q.drawn ++ x ∷ []) q.empty) so;
       new = (omega (arith, new.0), sym (ap (times x) ed) ∙ new.1);
       empty = (before, omega arith, sees_in_turn number passed jobs seats t me ds h, omega arith);
-      share = subst (λ (z : ℕ × ℕ × ℕ). IsInShare z.0 z.1 z.2 x) (λ i. (ej i, em i, ek i)) share;
+      share = subst (λ (z : ℕ × ℕ). IsInShare z.0 z.1 x) (λ i. (es i, ek i)) share;
     }
 
 -- a seat that has passed some shares may claim from the next one
-pub may_claim : (number passed jobs seats : ℕ) (me : Me (Unit {0}) SeatView) (s : Share) → IsSeated number passed jobs seats me → IsShare jobs seats (share_in_turn seats number passed) s → passed < seats
-    → (s.number < me.0.seats) × (times s.number me.0.empty < me.0.members)
-may_claim number passed jobs seats me s h is lt =
-    let k : ℕ = share_in_turn seats number passed in
-    let t = turn_new seats number passed lt in let e : times k me.0.empty ≡ times k (shares_in_turn seats number passed) = ap (times k) h.empty in
-    let n : times s.number me.0.empty ≡ times k me.0.empty = ap (λ (j : ℕ). times j me.0.empty) is.number in
-    let below : k < seats = mod-lt (number + passed) (omega arith) in
-    let o = h.one in let w = h.extent.1 in let m = is.number in (omega arith, omega arith)
-
--- what is kept of that share is right
-pub share_kept : (number passed jobs seats : ℕ) (me : Me (Unit {0}) SeatView) (s : Share) → IsSeated number passed jobs seats me → IsShare jobs seats (share_in_turn seats number passed) s → IsShare me.0.jobs me.0.seats s.number s
-share_kept number passed jobs seats me s h is =
-    subst (λ (z : ℕ × ℕ × ℕ). IsShare z.0 z.1 z.2 s) (λ i. (sym h.extent.0 i, sym h.extent.1 i, sym is.number i)) is
-
--- the first share in turn is the seat's own
-pub own_share : (jobs seats number : ℕ) (s : Share) → number < seats → IsShare jobs seats number s → IsShare jobs seats (share_in_turn seats number 0) s
-own_share jobs seats number s lt is =
-    let e : number + 0 ≡ number = omega arith in subst (λ (k : ℕ). IsShare jobs seats k s) (sym (ap (λ (n : ℕ). n % seats) e ∙ mod-eq_of_lt lt)) is
+pub may_claim : (number passed jobs seats k : ℕ) (me : Me (Unit {0}) SeatView) → IsSeated number passed jobs seats me → k ≡ share_in_turn seats number passed → passed < seats
+    → (k < seats) × (times k me.0.empty < me.0.members)
+may_claim number passed jobs seats k me h is lt =
+    let t = turn_new seats number passed lt in let e : times k me.0.empty ≡ times (share_in_turn seats number passed) (shares_in_turn seats number passed) = (λ i. times (is i) (h.empty i)) in
+    let below : share_in_turn seats number passed < seats = mod-lt (number + passed) (omega arith) in
+    let o = h.one in (omega arith, omega arith)
 
 -- a new seat
 pub seats_new : (number jobs seats : ℕ) (me : Me (Unit {0}) SeatView) → me ≡ (fresh_view 1 jobs seats, []) → number < seats → seats ≤ 64 → jobs ≤ 2 ^ 40 → IsSeated number 0 jobs seats me

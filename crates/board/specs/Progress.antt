@@ -62,8 +62,7 @@ pub record DrawsJob (p : Progress) (x : ℕ) (q : Progress) : Type 0 where
   pub new : (x < p.board.jobs) × (times x p.drawn ≡ 0)
   pub empty : SeesInTurn p × (length p.empty ≤ length q.empty) × SeesInTurn q
       × (length q.empty < p.board.seats)
-  pub share : IsInShare p.board.jobs p.board.seats
-      (share_in_turn p.board.seats p.number (length q.empty)) x
+  pub share : IsInShare p.board.seats (share_in_turn p.board.seats p.number (length q.empty)) x
 
 -- the list has each share of w
 abbrev pub HasEachShare : ℕ → List ℕ → Type 0

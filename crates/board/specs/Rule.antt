@@ -1,14 +1,14 @@
 -- The rule of a board: how the words and the views of all seats hang together.
-use Rattle.std.specs.Prelude.{◌≡◌, ◌⊎◌, ℕ, ◌+◌, ◌<◌, ◌≤◌, List, [], ◌∷◌, ◌++◌, length}
+use Rattle.std.specs.Prelude.{◌≡◌, ◌⊎◌, ℕ, ◌+◌, ◌^◌, ◌<◌, ◌≤◌, List, [], ◌∷◌, ◌++◌, length}
 use Rattle.std.specs.Prelude.{slice_index, slice_set, replicate, cond, ltb}
 use mathlib.Core.Option.{some}
 use lib.ListN.{get_elem?}
 use Rattle.atomic_table.specs.Table.{State, Me, Step}
 use Rattle.board.specs.declared.rule.SeatView.{SeatView}
 use Rattle.board.specs.declared.rule.Extent.{Extent}
-use Rattle.board.specs.Shares.{times, start}
+use Rattle.board.specs.Shares.{times, job_at}
 use Rattle.board.specs.Progress.{no_fault}
-use Rattle.board.specs.Words.{total, once_below, share_len, word_of, claims_of, claim_count}
+use Rattle.board.specs.Words.{total, once_below, word_of, claims_of, claim_count}
 use Rattle.board.specs.declared.limits.TheConstants.{MAX_JOBS, MAX_WORKERS}
 
 -- `members` seats at which nothing was done
@@ -81,16 +81,16 @@ abbrev pub times_skipped : ℕ → List SeatView → ℕ
 times_skipped x views = total (λ v. times x v.skipped) views
 
 -- The numbers drawn are the first ones of each share, as many as its word says, each once. A word
--- is at most its share's length, plus one for each time that a seat saw the share empty.
+-- is at most the number of jobs, plus one for each time that a seat saw the share empty.
 pub record KeepsDrawn (n w : ℕ) (words : List ℕ) (views : List SeatView) : Type 0 where
   pub seats : (0 < w) × (w ≤ MAX_WORKERS)
   pub jobs : n ≤ MAX_JOBS
   pub wide : length words ≡ 65
   pub members : total (λ v. v.members) views ≡ w
   pub each : (i : ℕ) (v : SeatView) → get_elem? views i ≡ some v → Fits n w v
-  pub drawn : (x : ℕ) → times_drawn x views ≡ claim_count (start n w) (claims_of w words) x w
-  pub empty : (k : ℕ) → 0 < times_empty k views → (k < w) × (share_len n w k ≤ claims_of w words k)
-  pub bounded : (k : ℕ) → k < w → claims_of w words k ≤ share_len n w k + times_empty k views
+  pub drawn : (x : ℕ) → times_drawn x views ≡ claim_count n w (claims_of w words) x
+  pub empty : (k : ℕ) → 0 < times_empty k views → (k < w) × (n ≤ job_at w k (claims_of w words k))
+  pub bounded : (k : ℕ) → k < w → claims_of w words k ≤ n + times_empty k views
 
 -- the words at first
 abbrev pub opening_words : List ℕ
@@ -121,13 +121,13 @@ pub record BoardRule (n w : ℕ) (words : List ℕ) (views : List SeatView) : Ty
 abbrev pub TableKeepsRule : Extent → State (Unit {0}) SeatView → Type 0
 TableKeepsRule e s = BoardRule e.jobs e.seats s.words s.views
 
--- A claim of share k found c. If c is below the share's length, it drew a new number. Else it saw
--- the share empty.
+-- A claim of share k found c. If the job at that place is one of the board, it drew it, and it is
+-- new. Else it saw the share empty.
 pub record Claims (v : SeatView) (k c : ℕ) (v' : SeatView) : Type 0 where
-  pub drew : c < share_len v.jobs v.seats k → v' ≡ view_after_draw v (start v.jobs v.seats k + c)
-  pub new : c < share_len v.jobs v.seats k → (start v.jobs v.seats k + c < v.jobs)
-      × (times (start v.jobs v.seats k + c) v.drawn ≡ 0)
-  pub empty : share_len v.jobs v.seats k ≤ c → v' ≡ saw_empty v k
+  pub few : c < 2 ^ 41
+  pub drew : job_at v.seats k c < v.jobs → v' ≡ view_after_draw v (job_at v.seats k c)
+  pub new : job_at v.seats k c < v.jobs → times (job_at v.seats k c) v.drawn ≡ 0
+  pub empty : v.jobs ≤ job_at v.seats k c → v' ≡ saw_empty v k
 
 -- the fault word found is at most each number that the view failed or saw
 pub record IsLeastFound (v : SeatView) (found : ℕ) : Type 0 where

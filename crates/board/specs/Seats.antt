@@ -3,9 +3,7 @@ use Rattle.std.specs.Prelude.{◌≡◌, ℕ, ◌+◌, ◌<◌, ◌≤◌, List,
 use Rattle.atomic_table.specs.Table.{Me}
 use Rattle.atomic_table.specs.Seated.{TableId}
 use Rattle.board.specs.declared.rule.SeatView.{SeatView}
-use Rattle.board.specs.declared.share.Share.{Share}
-use Rattle.board.specs.Shares.{times, start}
-use Rattle.board.specs.Words.{share_len, word_of}
+use Rattle.board.specs.Shares.{times}
 use Rattle.board.specs.Progress.{Layout, Progress, shares_in_turn, unused_seat}
 use Rattle.board.specs.declared.limits.TheConstants.{MAX_JOBS, MAX_WORKERS}
 
@@ -42,13 +40,6 @@ pub record IsSeated (number passed jobs seats : ℕ) (me : Me (Unit {0}) SeatVie
   pub few : (seats ≤ MAX_WORKERS) × (jobs ≤ MAX_JOBS)
   pub passes : passed ≤ seats
   pub empty : me.0.empty ≡ shares_in_turn seats number passed
-
--- a share's number, claim word, first job and length, computed before a claim
-pub record IsShare (jobs seats k : ℕ) (s : Share) : Type 0 where
-  pub number : s.number ≡ k
-  pub word : s.word ≡ word_of seats k
-  pub start : s.start ≡ start jobs seats k
-  pub len : s.len ≡ share_len jobs seats k
 
 -- What was spent at a seat was drawn there, each number once. The counts are the lengths of the
 -- lists.

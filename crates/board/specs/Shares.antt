@@ -1,5 +1,5 @@
--- How n jobs are shared among w seats.
-use Rattle.std.specs.Prelude.{ℕ, suc, ◌+◌, ◌*◌, ◌/◌, ◌%◌, ◌<◌, ◌≤◌, cond, ◌==◌, List, [], ◌∷◌}
+-- How jobs are shared among w seats. Shares and the places of their jobs are counted from 0.
+use Rattle.std.specs.Prelude.{◌≡◌, ℕ, ◌+◌, ◌*◌, ◌%◌, cond, ◌==◌, List, [], ◌∷◌}
 
 -- 1 if the numbers are the same, else 0
 abbrev pub one_if_same : ℕ → ℕ → ℕ
@@ -10,13 +10,13 @@ abbrev pub times : ℕ → List ℕ → ℕ
 times x [] = 0
 times x (y ∷ ys) = one_if_same x y + times x ys
 
--- the first job of the share of seat s, and n for s = w
-unfoldable pub start : ℕ → ℕ → ℕ → ℕ
-start n w s = s * n / w
+-- the job at place c of share k
+abbrev pub job_at : ℕ → ℕ → ℕ → ℕ
+job_at w k c = k + c * w
 
--- x is a job in the share of seat s
-abbrev pub IsInShare : ℕ → ℕ → ℕ → ℕ → Type 0
-IsInShare n w s x = (start n w s ≤ x) × (x < start n w (suc s))
+-- x is a job of share k
+abbrev pub IsInShare : ℕ → ℕ → ℕ → Type 0
+IsInShare w k x = x % w ≡ k
 
 -- the share in turn after i others, beginning with that of seat s and going round all w
 abbrev pub share_in_turn : ℕ → ℕ → ℕ → ℕ

@@ -1,32 +1,24 @@
 //! The board that threads share.
 
-ghost use Rattle.std.specs.Prelude.{◌≡◌, ◌≢◌, ℕ, ◌+◌, ◌≤◌, ◌<◌, ◌⊎◌, ◌↔◌, [], Err, IfOk};
-ghost use Rattle.std.specs.Prelude.{IfErr, IfSome, IfNone, All, List, ◌∷◌, length, vec_len};
+ghost use Rattle.std.specs.Prelude.{◌≡◌, ◌≢◌, ℕ, ◌≤◌, ◌<◌, ◌⊎◌, ◌↔◌, [], Err, IfOk, IfErr};
+ghost use Rattle.std.specs.Prelude.{IfSome, IfNone, All, length};
 ghost use Rattle.coding.specs.Answers.{fault};
 ghost use Rattle.coding.specs.declared.fault.FaultName.TheVariants.{Workers as NamedWorkers};
 ghost use Rattle.coding.specs.declared.fault.FaultName.TheVariants.{Memory as NamedMemory};
 ghost use Rattle.board.specs.Shares.{IsInShare, times};
-ghost use Rattle.board.specs.Progress.{no_fault, Progress, unused_seats, DrawsJob, DrawsNone};
-ghost use Rattle.board.specs.Progress.{IsUnspent, after_done, after_fail, after_look, after_skip};
+ghost use Rattle.board.specs.Progress.{no_fault, unused_seats, DrawsJob, DrawsNone, IsUnspent};
+ghost use Rattle.board.specs.Progress.{after_done, after_fail, after_look, after_skip};
 ghost use Rattle.board.specs.Progress.{IsAtMostSeen, fault_word};
-ghost use Rattle.board.specs.FinishedSeats.{CountsOf, HasSpentAll, IsFinished, times_spent};
-ghost use Rattle.board.specs.FinishedSeats.{all_drawn};
-ghost use Rattle.board.specs.Words.{once_below};
+ghost use Rattle.board.specs.Words.{word_of};
 ghost use Rattle.board.specs.Rule.{fresh_view, view_after_draw, saw_empty, opening_words};
-ghost use Rattle.board.specs.Rule.{has_looked, IsLeastFound, IsWhole, has_looked_for};
-ghost use Rattle.board.specs.Seats.{layout, IsShare};
-ghost use Rattle.board.specs.GatheredSeats.{Gathers};
+ghost use Rattle.board.specs.Rule.{has_looked, IsLeastFound, has_looked_for};
+ghost use Rattle.board.specs.Seats.{layout};
 ghost use Rattle.board.specs.declared.limits.TheConstants.{MAX_JOBS, MAX_WORKERS};
 
-use crate::gathered::Gathered;
 use crate::job::Job;
 use crate::limits::MAX_WORKERS;
-use crate::rule::{
-    ByShares, Claim, Extent, Gathering, Look, SeatView, Seating, Settle, Skip, Skipping,
-};
+use crate::rule::{ByShares, Claim, Extent, Look, SeatView, Seating, Settle, Skip, Skipping};
 use crate::seat::Seat;
-use crate::share::Share;
-use crate::tally::Tally;
 use crate::trail::Trail;
 use atomic_table::{Seat as Token, Table};
 use coding::{Fault, FaultName};
@@ -34,7 +26,7 @@ use std::alloc::{AllocError, Global};
 use std::marker::{Brand, Model};
 
 // The place of the fault word: after the claim words, one for each seat that there may be.
-const FAULT: usize = MAX_WORKERS as usize;
+pub(crate) const FAULT: usize = MAX_WORKERS as usize;
 
 // What the fault word holds while no job has failed.
 const NO_FAULT: u64 = u64::MAX;
@@ -42,11 +34,12 @@ const NO_FAULT: u64 = u64::MAX;
 /// Jobs numbered from 0, each of which one seat draws. Contracts see which board it is, and how
 /// many jobs and seats it has.
 ///
-/// Of `n` jobs and `w` seats, seat `s` owns the share from job `s * n / w` to before `(s + 1) * n /
-/// w`. Both are rounded down. 10 jobs and 4 seats give the shares 0 to 1, 2 to 4, 5 to 6, 7 to 9.
+/// Of `w` seats, seat `s` owns the share of the jobs `s`, `s + w`, `s + 2 * w` and so on. 10 jobs
+/// and 4 seats give the shares 0 4 8, 1 5 9, 2 6, 3 7. So if long jobs stand first, each share has
+/// its part of them.
 #[derive(Drop)]
 pub struct Board {
-    table: Table<(), SeatView, Extent, ByShares, Global>,
+    pub(crate) table: Table<(), SeatView, Extent, ByShares, Global>,
 }
 
 impl Model for Board {
@@ -118,12 +111,15 @@ impl Board {
         ensures few { length seat.new.drawn ≤ seat.new.board.jobs }
     {
         while seat.passed < seat.seats {
-            if let Some(number) = self.claim(&mut seat.token, seat.share) {
+            let extent = Extent {
+                jobs: seat.jobs,
+                seats: seat.seats,
+            };
+            let share = (seat.number + seat.passed) % seat.seats;
+            if let Some(number) = self.claim(&mut seat.token, extent, share) {
                 return Some(Job::new(number));
             }
             seat.passed += 1;
-            let share = (seat.number + seat.passed) % seat.seats;
-            seat.share = Share::of(seat.jobs, seat.seats, share);
         }
         None
     }
@@ -188,88 +184,6 @@ impl Board {
         }
     }
 
-    /// Ends the board, and counts what was done at these `seats` together. If they are all seats of
-    /// the board, `least` is the least job that failed.
-    pub fn close(self, mut seats: Vec<Seat>) -> Tally
-        requires boards { All (λ p. p.board ≡ self) seats.items }
-        ensures counts { CountsOf seats.items result }
-        ensures spent { All HasSpentAll seats.items
-            → (x : ℕ) → times_spent x seats.items ≡ times x (all_drawn seats.items) }
-        ensures all { vec_len seats ≡ self.seats → IsFinished self seats.items result.least }
-    {
-        let Some(first) = seats.pop() else {
-            seats.destroy_empty();
-            return Tally {
-                done: 0,
-                failed: 0,
-                skipped: 0,
-                least: None,
-            };
-        };
-        let mut gathered = Gathered::of(first);
-        while let Some(seat) = seats.pop() {
-            self.gather(&mut gathered, seat);
-        }
-        seats.destroy_empty();
-        let Gathered {
-            token,
-            done,
-            failed,
-            skipped,
-        } = gathered;
-        Tally {
-            done,
-            failed,
-            skipped,
-            least: fault_at(self.last_fault(token)),
-        }
-    }
-
-    // Takes in one more seat.
-    fn gather(&self, gathered: &mut Gathered, seat: Seat)
-        requires board { layout gathered.old.token.table_id
-            gathered.old.token.me.0.jobs gathered.old.token.me.0.seats
-            ≡ self.now }
-        requires seat { seat.board ≡ self.now }
-        requires seats { 0 < gathered.old.token.me.0.members }
-        ensures { (ps : List Progress)
-            → Gathers self.now gathered.old ps → Gathers self.now gathered.new (seat ∷ ps) }
-    {
-        let Seat {
-            number: _,
-            passed: _,
-            share: _,
-            jobs: _,
-            seats: _,
-            done,
-            failed,
-            skipped,
-            trail: _,
-            token,
-        } = seat;
-        self.table
-            .shared
-            .join_seat::<Gathering>(&mut gathered.token, token);
-        gathered.done = gathered.done.saturating_add(done);
-        gathered.failed = gathered.failed.saturating_add(failed);
-        gathered.skipped = gathered.skipped.saturating_add(skipped);
-    }
-
-    // The fault word after the board was closed.
-    fn last_fault(self, token: Token<(), SeatView>) -> u64
-        requires board { layout token.table_id token.me.0.jobs token.me.0.seats ≡ self }
-        requires seats { 0 < token.me.0.members }
-        ensures once { (x : ℕ) → times x token.me.0.drawn ≤ once_below x token.me.0.jobs }
-        ensures few { token.me.0.jobs ≤ MAX_JOBS }
-        ensures whole { token.me.0.members ≡ token.me.0.seats → IsWhole token.me.0 result }
-    {
-        let Board { table } = self;
-        let closed = table.close_with(token);
-        let fault = closed.word(FAULT);
-        closed.free();
-        fault
-    }
-
     // The fault word, looked at.
     fn look(&self, token: &mut Token<(), SeatView>) -> u64
         requires board { token.old.table_id ≡ self.now.table }
@@ -296,31 +210,43 @@ impl Board {
     }
 
     // Claims the next job of a share that this seat has not seen empty; None if it is empty now.
-    fn claim(&self, token: &mut Token<(), SeatView>, share: Share) -> Option<u64>
+    fn claim(&self, token: &mut Token<(), SeatView>, extent: Extent, share: u64) -> Option<u64>
         requires board { token.old.table_id ≡ self.now.table }
-        requires few { (token.old.me.0.seats ≤ MAX_WORKERS) × (token.old.me.0.jobs ≤ MAX_JOBS) }
-        requires share { IsShare token.old.me.0.jobs token.old.me.0.seats share.number share }
-        requires left { (share.number < token.old.me.0.seats)
-            × (times share.number token.old.me.0.empty < token.old.me.0.members) }
+        requires extent { (token.old.me.0.jobs ≡ extent.jobs)
+            × (token.old.me.0.seats ≡ extent.seats) }
+        requires few { extent.seats ≤ MAX_WORKERS }
+        requires left { (share < extent.seats)
+            × (times share token.old.me.0.empty < token.old.me.0.members) }
         ensures token { (token.new.table_id ≡ token.old.table_id)
             × (token.new.me.1 ≡ token.old.me.1) }
         ensures number { IfSome result (λ x.
-            (token.new.me.0 ≡ view_after_draw token.old.me.0 x)
-            × IsInShare token.old.me.0.jobs token.old.me.0.seats share.number x) }
-        ensures new { IfSome result (λ x. (x < token.old.me.0.jobs)
+            (token.new.me.0 ≡ view_after_draw token.old.me.0 x) × IsInShare extent.seats share x) }
+        ensures new { IfSome result (λ x. (x < extent.jobs)
             × (times x token.old.me.0.drawn ≡ 0)) }
-        ensures none { IfNone result (token.new.me.0 ≡ saw_empty token.old.me.0 share.number) }
+        ensures none { IfNone result (token.new.me.0 ≡ saw_empty token.old.me.0 share) }
     {
+        let word = word_of(extent.seats, share);
         let found = self
             .table
             .shared
-            .fetch_add::<Claim>(token, share.word as usize, 1);
-        if found < share.len {
-            Some(share.start + found)
+            .fetch_add::<Claim>(token, word as usize, 1);
+        let number = share + found * extent.seats;
+        if number < extent.jobs {
+            Some(number)
         } else {
             None
         }
     }
+}
+
+// The claim word of a share. Why: the words in use are spread over all 64, so that seats on two
+// processors seldom write next to each other.
+fn word_of(seats: u64, share: u64) -> u64
+    requires { (share < seats) × (seats ≤ MAX_WORKERS) }
+    ensures value { result ≡ word_of seats share }
+    ensures within { result < MAX_WORKERS }
+{
+    share * (MAX_WORKERS / seats)
 }
 
 // The words at first: no job is claimed, and none has failed.
@@ -353,7 +279,7 @@ fn make_table(
 }
 
 // The least job that has failed, as the fault word tells it.
-fn fault_at(word: u64) -> Option<u64>
+pub(crate) fn fault_at(word: u64) -> Option<u64>
     ensures word { fault_word result ≡ word }
     ensures some { IfSome result (λ y. y ≢ no_fault) }
 {

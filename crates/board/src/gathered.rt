@@ -23,7 +23,6 @@ impl Gathered {
         let Seat {
             number: _,
             passed: _,
-            share: _,
             jobs: _,
             seats: _,
             done,

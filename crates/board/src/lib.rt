@@ -29,6 +29,8 @@
 //! `collected_results` of its answers is proved by its callers.
 #![tactic(auto)]
 
+mod board;
+mod closing;
 mod gathered;
 mod job;
 mod labour;
@@ -37,7 +39,6 @@ mod places;
 mod pool;
 mod rule;
 mod seat;
-mod share;
 mod shift;
 mod tally;
 mod trail;
@@ -45,6 +46,7 @@ mod watch;
 mod worker;
 mod workers;
 
+pub use crate::board::Board;
 pub use job::Job;
 pub use labour::{Gate, Labour, Open};
 pub use limits::{MAX_JOBS, MAX_WORKERS};
@@ -53,7 +55,3 @@ pub use seat::Seat;
 pub use tally::Tally;
 pub use watch::{Watch, Work};
 pub use workers::Workers;
-
-mod board;
-
-pub use crate::board::Board;

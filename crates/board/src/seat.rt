@@ -5,18 +5,16 @@ ghost use Rattle.board.specs.Rule.{fresh_view};
 ghost use Rattle.board.specs.declared.limits.TheConstants.{MAX_JOBS, MAX_WORKERS};
 
 use crate::rule::SeatView;
-use crate::share::Share;
 use crate::trail::Trail;
 use atomic_table::Seat as Token;
 use std::marker::Model;
 
 /// A place at a board, from which one thread at a time draws. Contracts see what was done at it.
-// `passed` shares were seen empty, and `share` is the next one in turn.
+// `passed` shares were seen empty, of which the seat's own is the first.
 #[derive(Drop)]
 pub struct Seat {
     pub(crate) number: u64,
     pub(crate) passed: u64,
-    pub(crate) share: Share,
     pub(crate) jobs: u64,
     pub(crate) seats: u64,
     pub(crate) done: u64,
@@ -27,9 +25,8 @@ pub struct Seat {
 }
 
 impl Model for Seat {
-    ghost use Rattle.board.specs.Shares.{share_in_turn};
     ghost use Rattle.board.specs.Progress.{Progress};
-    ghost use Rattle.board.specs.Seats.{progress_of, IsSeated, IsCounted, IsShare};
+    ghost use Rattle.board.specs.Seats.{progress_of, IsSeated, IsCounted};
 
     ghost Value = { Progress };
 
@@ -37,8 +34,7 @@ impl Model for Seat {
 
     ghost invariant = { λ s.
         IsSeated s.number s.passed s.jobs s.seats s.token.me
-        × IsCounted s.token.me.0 s.trail.items s.done s.failed s.skipped
-        × IsShare s.jobs s.seats (share_in_turn s.seats s.number s.passed) s.share };
+        × IsCounted s.token.me.0 s.trail.items s.done s.failed s.skipped };
 }
 
 impl Seat {
@@ -55,7 +51,6 @@ impl Seat {
         Seat {
             number,
             passed: 0,
-            share: Share::of(jobs, seats, number),
             jobs,
             seats,
             done: 0,

@@ -13,5 +13,4 @@ invariant_of-seat c =
       c.seat.invariant.0,
       subst (λ (xs : List ℕ). IsCounted c.seat.inside.token.me.0 xs (c.seat.inside.done + 1) c.seat.inside.failed c.seat.inside.skipped) (sym c.with-seat-inside.ensures)
           (counted_done _ _ _ _ _ c.seat.invariant.1 c.args.job unspent),
-      c.seat.invariant.2,
     )

@@ -1,7 +1,6 @@
 use Rattle.std.proofs.Common.{◌≡◌, ◌≤◌, ◌-◌, length}
-use Rattle.board.specs.Shares.{share_in_turn}
 use Rattle.board.specs.Progress.{after_draw, SeesInTurn}
-use Rattle.board.specs.Seats.{progress_of, IsSeated, IsCounted, IsShare}
+use Rattle.board.specs.Seats.{progress_of, IsSeated, IsCounted}
 use Rattle.board.proofs.board.Board.draw.Given as goal
 
 abbrev pub invariant-loop-seat : goal.invariant-loop-seat
@@ -11,7 +10,6 @@ invariant-loop-seat l = record {
   so : progress_of l.seat-inside.token.table_id l.seat-inside.number l.seat-inside.token.me.0 l.seat-inside.trail.items ≡ after_draw l.fn.seat l.fn.seat.drawn l.seat-inside.token.me.0.empty;
   more : length l.fn.seat.empty ≤ l.seat-inside.passed;
   before : SeesInTurn l.fn.seat;
-  share : IsShare l.seat-inside.jobs l.seat-inside.seats (share_in_turn l.seat-inside.seats l.seat-inside.number l.seat-inside.passed) l.seat-inside.share;
 }
 
 abbrev pub decreases-loop-seat : goal.decreases-loop-seat

@@ -20,4 +20,4 @@ invariant_of-seat c =
     let unspent = subst (λ (p : Progress). IsUnspent p c.args.job) (sym c.seat.view_is) c.requires.unspent in
     let s = c.fetch_min.ensures in
     let is = s.2.0 ∙ ap (λ (x : ℕ). has_failed c.seat.inside.token.me.0 x) c.spend-number.ensures in
-    (seated_as _ _ _ _ _ _ c.seat.invariant.0 s.2.1 _ is refl refl refl refl, counted_fail _ _ _ _ _ c.seat.invariant.1 _ c.args.job is unspent, c.seat.invariant.2)
+    (seated_as _ _ _ _ _ _ c.seat.invariant.0 s.2.1 _ is refl refl refl refl, counted_fail _ _ _ _ _ c.seat.invariant.1 _ c.args.job is unspent)

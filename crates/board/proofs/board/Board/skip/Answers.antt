@@ -12,4 +12,4 @@ invariant_of-seat c =
     let unspent = subst (λ (p : Progress). IsUnspent p c.args.job) (sym c.seat.view_is) c.requires.unspent in
     let s = c.look_for-found.ensures in
     let is = s.looks ∙ look_above _ _ _ c.if-found-number.true ∙ ap (λ (x : ℕ). has_skipped (has_looked c.seat.inside.token.me.0 c.look_for-found.result) x) c.number-number.ensures in
-    (seated_as _ _ _ _ _ _ c.seat.invariant.0 s.token.1 _ is refl refl refl refl, counted_skip _ _ _ _ _ c.seat.invariant.1 _ _ c.args.job is unspent, c.seat.invariant.2)
+    (seated_as _ _ _ _ _ _ c.seat.invariant.0 s.token.1 _ is refl refl refl refl, counted_skip _ _ _ _ _ c.seat.invariant.1 _ _ c.args.job is unspent)

@@ -79,6 +79,13 @@ impl<'r, R, G> Workers<'r, R, G> {
         self.count
     }
 
+    // As many of them as there are jobs, and at least one.
+    fn seats_for(&self, jobs: u64) -> u64
+        ensures { 1 ≤ result }
+    {
+        self.count.min(jobs).max(1)
+    }
+
     /// What gives them memory.
     pub fn alloc(&self) -> Global {
         self.alloc
@@ -97,8 +104,8 @@ impl<'r, R, G> Workers<'r, R, G> {
 
 impl<'r, R: Threads + Sync, G: Gate + Sync> Workers<'r, R, G> {
     /// Does the jobs below `jobs` of `labour`, as [`run`](crate::run) does, and answers their
-    /// results in order. There are at most 2^40 jobs. The faults are those of `run`, without
-    /// `Workers`.
+    /// results in order. There are at most 2^40 jobs, and no more workers start than there are
+    /// jobs. The faults are those of `run`, without `Workers`.
     pub fn run<L: Labour + Sync>(&self, labour: &L, jobs: u64) -> Result<Vec<L::Out>, RunFault>
     where
         L::Out: Drop + Send,
@@ -110,7 +117,7 @@ impl<'r, R: Threads + Sync, G: Gate + Sync> Workers<'r, R, G> {
         ensures refused { (job : ℕ) (fault : Fault) → result ≡ Err (RunFault.Job job fault)
             → IsRefused (L.refusal labour.now) (L.gives labour.now) jobs job fault }
     {
-        let Ok((board, seats)) = Board::new(self.alloc, jobs, self.count) else {
+        let Ok((board, seats)) = Board::new(self.alloc, jobs, self.seats_for(jobs)) else {
             return Err(RunFault::Memory);
         };
         match run_board(self.rt, self.alloc, labour, board, jobs, seats, self.gate) {

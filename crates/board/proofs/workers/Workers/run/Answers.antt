@@ -7,4 +7,4 @@ run_board-requires-clause-seats g c κs within =
     let ok = c.in-Ok.ensures.ok in
     let s = new_seats c.in-Ok.board _ c.in-Ok.seats.items ok.1 c.in-Ok.ensures.unused in
     let len : vec_len c.in-Ok.seats ≡ c.in-Ok.board.seats = search (rules, s.1, s.2) in
-    (s.0, len, omega (arith, s.2, c.self.invariant))
+    (s.0, len, omega (arith, s.2, c.seats_for.ensures))

@@ -18,17 +18,17 @@ use std::alloc::Global;
 use store::manifest_of;
 
 /// Installs all outcomes that were `taken` in a folder, by one manifest, and gives back its number,
-/// which is the next file of the version that was opened. The edit is all edits as one: their bytes,
-/// one after the other.
+/// which is the next file of the version that was opened. The edit is all edits as one: their
+/// bytes, one after the other.
 ///
 /// The first that applies:
 ///
 /// - Apply: no outcome was taken;
 /// - Changed: just before CURRENT is replaced it isn't what it was when the folder was opened.
 ///
-/// If the device fails a call, the answer is Device and no further call is made. If memory runs out,
-/// it is Memory. After these two the folder reads as the version before or as the one after all
-/// outcomes, and has to be opened again.
+/// If the device fails a call, the answer is Device and no further call is made. If memory runs
+/// out, it is Memory. After these two the folder reads as the version before or as the one after
+/// all outcomes, and has to be opened again.
 pub fn install_taken<F: Folder>(
     alloc: Global,
     folder: &mut F,

@@ -96,9 +96,9 @@ fn version_left<'t, 'o>(taken: &'t TakenOutcomes<'o>) -> &'t Version
 ///   first invalid one; Lawless, if it isn't lawful.
 ///
 /// If the device fails a call on one of the folders, the answer is Device and no further call is
-/// made. If memory runs out, it is Memory. Whatever the answer, the folder reads as what was opened.
-/// After a refusal there is nothing to install any more, and what was written are tables that no
-/// version names.
+/// made. If memory runs out, it is Memory. Whatever the answer, the folder reads as what was
+/// opened. After a refusal there is nothing to install any more, and what was written are tables
+/// that no version names.
 ///
 /// The work is told to the gate of `workers`, which is `&Open` if nobody watches. The test of the
 /// edited version holds at most `memory` bytes of tables, as `checks::test_version` does.
@@ -284,7 +284,8 @@ fn write_taken<'o, F: Folder, R: Threads + Sync>(
 ) -> Result<TakenOutcome<'o>, Fault>
     ensures answer { FolderAnswers step_taken (F.failed folder.old) (F.failed folder.new) result
         (λ answer. answer ≡ Ok (adopted_step (version_in taken.entry) (given_in given))) }
-    ensures taken { IsWrittenTaking F.Folder (given_in given) folder.old folder.new taken.entry result }
+    ensures taken { IsWrittenTaking F.Folder (given_in given) folder.old folder.new taken.entry
+        result }
     ensures device { ReportsDevice F.Folder folder.old folder.new result }
 {
     let step = outcome_step(alloc, version_left(&taken), &given.picked, &given.outcome)?;

@@ -87,8 +87,8 @@ impl<'r, R: SystemFiles + AllocGlobal> Disk<'r, R> {
         }
     }
 
-    /// The number of the first table of `version`, as [`load`](folder::load) asks for them, that has
-    /// more than 2^30 bytes. None is read.
+    /// The number of the first table of `version`, as [`load`](folder::load) asks for them, of more
+    /// than 2^30 bytes. None is read.
     ///
     /// - Missing: a table is missing.
     /// - Memory: out of memory.

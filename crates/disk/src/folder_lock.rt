@@ -10,8 +10,8 @@
 //!    those in theirs.
 //!
 //! Those who read write nothing, so they have no lock of the second kind: it needs a file beside
-//! LOCK. They look whether another program has one, in the system's list of locks. To read that list
-//! takes 6 to 22 ms on a quiet machine, and who changes the folder doesn't need it.
+//! LOCK. They look whether another program has one, in the system's list of locks. To read that
+//! list takes 6 to 22 ms on a quiet machine, and who changes the folder doesn't need it.
 
 use crate::file_access::{access_in, new_file};
 use crate::listed_locks::listed_locks;
@@ -190,8 +190,8 @@ fn test_readable<R: SystemFiles>(
     }
 }
 
-/// Takes the lock on bytes of LOCK. WouldBlock if another program is in the way. What is made beside
-/// LOCK for that is removed again.
+/// Takes the lock on bytes of LOCK. WouldBlock if another program is in the way. What is made
+/// beside LOCK for that is removed again.
 fn bytes_locked<R: SystemFiles>(
     rt: &R,
     alloc: Global,

@@ -27,8 +27,8 @@ pub(crate) enum Sizes {
     Missing(u64),
 }
 
-/// What is known of the tables of these `numbers`. Those from the first one on that the system tells
-/// nothing of are left out.
+/// What is known of the tables of these `numbers`. Those from the first one on that the system
+/// tells nothing of are left out.
 pub(crate) fn sizes_in<R: Files>(
     rt: &R,
     alloc: Global,

@@ -1,5 +1,5 @@
-//! The compaction of a whole level by one manifest: a crash at each moment of it, and each call of it
-//! that fails.
+//! The compaction of a whole level by one manifest: a crash at each moment of it, and each call of
+//! it that fails.
 
 use crate::compaction_crash_tests::{Files, MEMORY, OTHER, TABLE, is_named, opened, wrong_moment};
 use coding::Fault;

@@ -21,8 +21,8 @@ use table::{Comparator, Fault, KeyBuf, MAX_SEQUENCE};
 /// All entries that the table of a file has of a `user` key, at most 65,535 bytes: the newest
 /// first. It only reads.
 ///
-/// Nothing is read if the file's range of user keys doesn't hold the key. Of each entry it reads what
-/// [`get_unverified`](crate::get_unverified) reads of a table, and it has the same faults.
+/// Nothing is read if the file's range of user keys doesn't hold the key. Of each entry it reads
+/// what [`get_unverified`](crate::get_unverified) reads of a table, and it has the same faults.
 pub fn entries_in_file<C: Comparator, F: Folder>(
     alloc: Global,
     folder: &mut F,

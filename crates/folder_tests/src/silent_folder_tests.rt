@@ -10,13 +10,14 @@ use edit::Version;
 use folder::{FolderFault, Opened, Readings, open};
 use install::{RemovalWatch, remove_obsolete};
 use keep::Snapshots;
+use levels::{Descent, Selection};
 use shelf::{Failing, Shelf, ShelfStep};
 use std::alloc::Global;
 use std::test::*;
 use std::thread::Threads;
 use store::{
     Choice, CleanWatch, CompactionStep, InstallWatch, Open, Settings, SyncedVersion, checkers,
-    compact_all, compact_dir, outcome, sync_version, write_outcome,
+    compact_dir, outcome, sync_version, write_outcome,
 };
 
 /// The calls that write of a compaction of level 1 and of the removal after it, of which it is
@@ -175,7 +176,12 @@ fn compact_levels<R: Threads + Sync>(
         cleans,
         done: 0,
     };
-    match compact_all(&workers, folder, opened, &Settings::default(), MEMORY, told) {
+    let descent = Descent {
+        selection: Selection::Picked,
+        settings: Settings::default(),
+        test: Some(MEMORY),
+    };
+    match levels::compact_levels(&workers, folder, opened, &descent, told) {
         Ok(_) => Ok(()),
         Err(fault) => Err(fault),
     }

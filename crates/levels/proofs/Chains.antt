@@ -39,7 +39,7 @@ use Rattle.compact.specs.PassedRequest.{PassedLaw}
 use Rattle.compact.specs.declared.settings.Settings.{Settings}
 use Rattle.store.specs.FolderRequest.{compaction_from, manifest_of, request_from}
 use Rattle.store.specs.InputsCompaction.{input_numbers}
-use Rattle.store.specs.LevelRuns.{GroupedAnswer}
+use Rattle.levels.specs.WholeRuns.{GroupedAnswer}
 use Rattle.store.specs.PickedOutcome.{IsPickedCompacted}
 use Rattle.store.proofs.Flow.{loaded_in}
 use Rattle.store.proofs.PartFiles.{AreParts, ArePlaced, answered, part_by, part_placed}

@@ -1,65 +1,64 @@
 -- What the end of the compaction of all parts tells.
-use Rattle.std.proofs.Common.{◌≡◌, ◌⊎◌, ℕ, zero, suc, ◌+◌, ◌<◌, ◌^◌, Bool, List, [], ◌∷◌, length, slice_get, codes, Some, Option, Result, Ok, Err, IfErr, IfOk, IsErrAnd, OnOk, refl, sym, ap, subst, ◌∙◌, inl, inr}
-use Rattle.std.specs.Prelude.{Contains, unwrap_or}
-use Rattle.std.specs.List.{AllByRecursion}
-use Rattle.std.specs.Cmp.{IsTotalOrder}
-use Rattle.std.specs.declared.cmp.Ordering.{Ordering}
+use Rattle.std.proofs.Common.{Bool, Err, IfErr, IfOk, IsErrAnd, List, Ok, OnOk, Option, Result, Some, [], ap, codes, inl, inr, length, refl, slice_get, subst, suc, sym, zero, ℕ, ◌+◌, ◌<◌, ◌^◌, ◌∙◌, ◌∷◌, ◌≡◌, ◌⊎◌}
 use Rattle.std.proofs.lemmas.List.{length-map}
+use Rattle.std.specs.Cmp.{IsTotalOrder}
+use Rattle.std.specs.List.{AllByRecursion}
+use Rattle.std.specs.Prelude.{Contains, unwrap_or}
+use Rattle.std.specs.declared.cmp.Ordering.{Ordering}
+use Rattle.table.specs.ReadBackLaw.{ReadBackLaw}
 use Rattle.edit.proofs.Edits.{not_both}
 use Rattle.edit.proofs.Refusals.{unless_from}
 use Rattle.edit.specs.Answers.{UnlessMemory, fault, ◌>>=◌}
-use Rattle.edit.specs.fault.Fault.{Fault}
-use Rattle.edit.specs.fault.FaultName.TheVariants.{Changed, Device, Numbers}
 use Rattle.edit.specs.Comparator.{IsExact, ShortKeys}
 use Rattle.edit.specs.Edit.{IsEdit, IsEditRefused, edit_bytes}
+use Rattle.edit.specs.Key.{IsInternalKey}
 use Rattle.edit.specs.Version.{IsState, State}
-use Rattle.folder.specs.Calls.{Call, Files, Step, Tells}
+use Rattle.edit.specs.fault.Fault.{Fault}
+use Rattle.edit.specs.fault.FaultName.TheVariants.{Changed, Device, Numbers}
+use Rattle.pick.specs.Parts.{IsPartsAnswer}
+use Rattle.pick.specs.PickedInputs.{PickedInputs}
 use Rattle.folder.specs.CallSequence.{MakesCalls}
+use Rattle.folder.specs.Calls.{Call, Files, Step, Tells}
 use Rattle.folder.specs.Manifest.{order_name}
 use Rattle.folder.specs.Names.{current_text}
 use Rattle.folder.specs.OpenAnswer.{FolderAnswers, IsOkOnlyIfCurrent, IsStopped}
 use Rattle.folder.specs.ReadsAs.{ReadsAs}
 use Rattle.folder.specs.declared.folder.Folder.{Ghosts}
 use Rattle.folder.specs.declared.order.Order.{Order}
+use Rattle.install.proofs.Moments.{made_by}
 use Rattle.install.specs.FolderChange.{change_of}
 use Rattle.install.specs.GroupedInstallation.{tables_of_groups}
-use Rattle.install.specs.Install.{IsStoppedOrChanged, IsEditedBy, SurvivesCrash, install_calls, manifest_bytes, next_version_tables, table_calls, version_with}
-use Rattle.install.proofs.Moments.{made_by}
-use Rattle.levels.proofs.FreeOutputs.{AreApart}
-use Rattle.edit.specs.Key.{IsInternalKey}
-use Rattle.pick.specs.Parts.{IsPartsAnswer}
-use Rattle.pick.specs.PickedInputs.{PickedInputs}
+use Rattle.install.specs.Install.{IsEditedBy, IsStoppedOrChanged, SurvivesCrash, install_calls, manifest_bytes, next_version_tables, table_calls, version_with}
+use Rattle.keep.proofs.Members.{first_in, later_in}
 use Rattle.keep.specs.Tables.{NumberedContents}
 use Rattle.keep.specs.TestResult.{test_result}
-use Rattle.keep.proofs.Members.{first_in, later_in}
-use Rattle.table.specs.ReadBackLaw.{ReadBackLaw}
-use Rattle.checks.specs.LawfulTables.{IsLawfulTables}
-use Rattle.checks.proofs.LawfulLemmas.{sound_lawful}
 use Rattle.compact.specs.OneThread.{Answer}
 use Rattle.compact.specs.PassedRequest.{PassedLaw}
 use Rattle.compact.specs.declared.settings.Settings.{Settings}
-use Rattle.store.specs.Compaction.{IsUnchanged}
-use Rattle.store.specs.FolderRequest.{compaction_from, manifest_of}
-use Rattle.store.specs.InputsCompaction.{IsPickedAnswer}
-use Rattle.store.specs.LevelRuns.{GroupedAnswer}
-use Rattle.store.specs.OrderView.{order_by}
-use Rattle.store.specs.Step.{StepView, step_in, with_inputs}
-use Rattle.store.specs.declared.compaction_step.CompactionStep.{CompactionStep}
+use Rattle.checks.proofs.LawfulLemmas.{sound_lawful}
+use Rattle.checks.specs.LawfulTables.{IsLawfulTables}
 use Rattle.store.proofs.Flow.{first_passed, first_refused, no_value}
 use Rattle.store.proofs.InstallPart.{refused_on, survives_on}
 use Rattle.store.proofs.PartFiles.{ArePlaced, part_by, part_placed}
 use Rattle.store.proofs.PlacedInputs.{not_missing, same_compaction, tables_pass}
 use Rattle.store.proofs.RunPart.{handed_calls}
 use Rattle.store.proofs.StepPart.{current_named}
-use Rattle.levels.specs.PartsEnd.{ArePartsWritten, IsEndInstalled, IsEndUnready, IsNextRefused, IsPartsEnd, IsRefusedFor, last_after}
-use Rattle.levels.specs.WholeAnswer.{AreLevelParts, IsVersionWhole, IsWholeCompacted, IsWholeStep, edits_of, part_result, parts_result, whole_step}
-use Rattle.levels.specs.WholeLeft.{IsWholeInstalled, IsWholeStopped}
-use Rattle.levels.specs.WholeRuns.{ArePartLinks, IsWholeRun, answers_in, groups_in}
-use Rattle.levels.specs.declared.part_writer.WrittenParts.{WrittenParts}
+use Rattle.store.specs.FolderRequest.{compaction_from, manifest_of}
+use Rattle.store.specs.InputsCompaction.{IsPickedAnswer}
+use Rattle.store.specs.OrderView.{order_by}
+use Rattle.store.specs.Step.{StepView, step_in, with_inputs}
+use Rattle.store.specs.declared.compaction_step.CompactionStep.{CompactionStep}
 use Rattle.levels.proofs.Chains.{AreAnswered, WholeRow, all_answered, next_refused, whole_row}
+use Rattle.levels.proofs.FreeOutputs.{AreApart}
 use Rattle.levels.proofs.PartsBase.{level_low, level_parts, some_there}
 use Rattle.levels.proofs.Rows.{known_edited, known_read}
 use Rattle.levels.proofs.TablesStand.{read_after, version_stays}
+use Rattle.levels.specs.LevelLeft.{IsLevelInstalled, IsLevelLeft, IsWholeStopped}
+use Rattle.levels.specs.PartsEnd.{ArePartsWritten, IsEndInstalled, IsEndUnready, IsNextRefused, IsPartsEnd, IsRefusedFor, last_after}
+use Rattle.levels.specs.WholeAnswer.{AreLevelParts, IsVersionWhole, IsWholeCompacted, IsWholeStep, edits_of, part_result, parts_result, tables_of, whole_step}
+use Rattle.levels.specs.WholeRuns.{ArePartLinks, GroupedAnswer, IsWholeRun, answers_in, groups_in}
+use Rattle.levels.specs.declared.part_writer.WrittenParts.{WrittenParts}
+use Rattle.levels.specs.declared.selection.Selection.TheVariants.{Parts}
 
 -- links, and that the keys of their parts are internal keys
 record ArePart {F : Type 0} (g : Ghosts F) (old : F) (cmp : List ℕ → List ℕ → Ordering) (short_keys : ShortKeys) (v : State) (s : Settings) (parts : List PickedInputs) (links : List GroupedAnswer) : Type 0 where
@@ -195,7 +194,7 @@ module _ (cmp : List ℕ → List ℕ → Ordering) (total : IsTotalOrder cmp) (
   named_on groups manifest (Err e) runs = tt
 
   installed : (parts : List PickedInputs) (are_parts : AreLevelParts cmp v level (Ok parts)) (i : IsEndInstalled g name cmp short_keys v opened level s old new result) → order_name order ≡ name → i.parts ≡ parts → (links : List GroupedAnswer) → i.written.links ≡ links
-      → IsWholeInstalled (order_by order cmp short_keys) (version_with v loaded) level s (change_of g old new) result
+      → IsLevelInstalled Parts (order_by order cmp short_keys) (version_with v loaded) level s (change_of g old new) result
   installed parts are_parts i is same [] none =
       let empty : zero ≡ length i.parts = ap length (sym none) ∙ i.written.whole.0 in
       absurd (no_parts i.parts i.are_parts empty)
@@ -215,21 +214,18 @@ module _ (cmp : List ℕ → List ℕ → Ordering) (total : IsTotalOrder cmp) (
       → SurvivesCrash cmp order (version_with v loaded) (version_with edited.next (next_version_tables cmp edited.next (tables_of_groups (groups_in ls)) loaded)) (change_of g old new) result) those
       (i.installs.survives order edited.next loaded is) in
       record {
-        answers = answers_in all;
-        edit = i.edit;
+        step = whole_step v (answers_in all) i.edit;
         compacted = record {
           tables = tables;
           lawful = sound;
-          parts = i.parts;
-          are_parts = i.are_parts;
-          answered = all_answered cmp short_keys v loaded s (manifest_of v) i.parts (answers_in all) count row.answered;
-          read = read;
+          outputs = tables_of (answers_in all);
+          answered = (i.parts, answers_in all, i.edit, i.are_parts, all_answered cmp short_keys v loaded s (manifest_of v) i.parts (answers_in all) count row.answered, read, refl, refl);
           edited = edited;
         };
         survives = subst (λ (ts : List (ℕ × List ℕ)). IsEditedBy cmp v (manifest_of v) ts (edit_bytes i.edit) edited.next
             → SurvivesCrash cmp order (version_with v loaded) (version_with edited.next (next_version_tables cmp edited.next ts loaded)) (change_of g old new) result) row.joined promised edited.edited;
         named = named_on (groups_in i.written.links) (manifest_bytes name cmp v (edit_bytes i.edit)) result i.installs.runs;
-        step = subst (λ (ls : List GroupedAnswer). IfOk result (λ (step : CompactionStep). step_in step ≡ whole_step v (answers_in ls) i.edit)) those i.step;
+        is_step = subst (λ (ls : List GroupedAnswer). IfOk result (λ (step : CompactionStep). step_in step ≡ whole_step v (answers_in ls) i.edit)) those i.step;
         refused = device_named (g.failed old) (g.failed new) result (i.installs.same_current files told current);
       }
     where
@@ -237,9 +233,7 @@ module _ (cmp : List ℕ → List ℕ → Ordering) (total : IsTotalOrder cmp) (
       no_links x ls e = cc e
 
   pub end_left : order_name order ≡ name → IsPartsEnd g name cmp short_keys v opened level s old new result
-      → IsUnchanged (change_of g old new) result
-      ⊎ (IsWholeStopped (order_by order cmp short_keys) (version_with v loaded) (change_of g old new) result
-      ⊎ IsWholeInstalled (order_by order cmp short_keys) (version_with v loaded) level s (change_of g old new) result)
+      → IsLevelLeft Parts (order_by order cmp short_keys) (version_with v loaded) level s (change_of g old new) result
   end_left is (inl b) = inl (record { calls = b.nothing.calls; same = b.nothing.same; refused = b.nothing.refused })
   end_left is (inr (inl w)) =
       inr (inl (stopped {T = WrittenParts} (groups_in w.written.links) w.e (linked w.parts (level_parts cmp v level w.parts w.are_parts) w.written w.written.links refl).names w.written.runs w.is))

@@ -15,6 +15,5 @@ pub mod PartsOver
 pub mod PartsAt
 pub mod PartWritten
 pub mod OpenedNext
-pub mod WholeDescent
-pub mod WholeLinks
-pub mod WholeSince
+pub mod Descending
+pub mod DescentRows

@@ -1,34 +1,34 @@
--- What a folder is opened as after the compaction of a whole level.
-use Rattle.std.proofs.Common.{◌≡◌, ◌≢◌, ℕ, ◌^◌, Bool, true, false, not, List, Option, Some, None, Result, Ok, Err, IfErr, IfOk, if◌then◌else◌, refl, sym, ap, subst, ◌∙◌, inl, inr}
+-- What a folder is opened as after the compaction of a level.
+use Rattle.std.proofs.Common.{Bool, Err, IfErr, IfOk, List, None, Ok, Option, Result, Some, ap, false, inl, inr, not, refl, subst, sym, true, ℕ, ◌^◌, ◌∙◌, ◌≡◌, ◌≢◌}
 use Rattle.std.specs.Option.{IfSome, is_none, ok_or, option_map_or}
 use Rattle.std.specs.Str.{bytes_eq}
 use Rattle.std.specs.declared.cmp.Ordering.{Ordering}
 use Rattle.edit.proofs.Edits.{not_both, one_edit}
 use Rattle.edit.specs.Answers.{UnlessMemory, fault, ◌>>=◌}
-use Rattle.edit.specs.fault.Fault.{Fault}
-use Rattle.edit.specs.fault.FaultName.TheVariants.{Apply, Comparator, Device, EditField, EditTag, Memory}
-use Rattle.edit.specs.Comparator.{ShortKeys}
-use Rattle.edit.specs.Edit.{Edit, IsEdit, edit_bytes, field_fault}
+use Rattle.edit.specs.Edit.{Edit, IsEdit, field_fault}
 use Rattle.edit.specs.Tag.{listed_tag}
 use Rattle.edit.specs.Version.{State, applied, applied_by, names_another}
+use Rattle.edit.specs.fault.Fault.{Fault}
+use Rattle.edit.specs.fault.FaultName.TheVariants.{Apply, Comparator, Device, EditField, EditTag, Memory}
 use Rattle.folder.proofs.Binds.{ok_is}
 use Rattle.folder.proofs.Refusals.{only_memory}
 use Rattle.folder.specs.Manifest.{order_name}
+use Rattle.folder.specs.Orders.{order_cmp}
 use Rattle.folder.specs.Varint.{varint_reading}
 use Rattle.folder.specs.declared.order.Order.{Order}
 use Rattle.install.specs.FolderChange.{FolderChange}
-use Rattle.install.specs.Install.{IsEditedBy, LoadedVersion, version_with}
-use Rattle.compact.specs.OneThread.{Answer}
+use Rattle.install.specs.Install.{IsEditedBy, LoadedVersion}
 use Rattle.compact.specs.declared.settings.Settings.{Settings}
 use Rattle.store.specs.FolderRequest.{manifest_of}
 use Rattle.store.specs.OpenedAfter.{IsOpenedAfter}
-use Rattle.store.specs.OrderView.{OrderView, order_by}
-use Rattle.store.specs.Step.{StepView, step_in}
+use Rattle.store.specs.OrderView.{OrderView, order_view}
+use Rattle.store.specs.Step.{StepView, step_of}
+use Rattle.store.specs.StepLeft.{IsStepLeft}
 use Rattle.store.specs.declared.compaction_step.CompactionStep.{CompactionStep}
 use Rattle.store.specs.declared.synced_version.SyncedVersion.{SyncedVersion}
-use Rattle.levels.specs.LevelTaken.{IsLevelLeft}
-use Rattle.levels.specs.WholeAnswer.{tables_of, whole_step}
-use Rattle.levels.specs.WholeLeft.{IsWholeInstalled}
+use Rattle.levels.specs.LevelLeft.{IsLevelInstalled, IsLevelLeft}
+use Rattle.levels.specs.declared.selection.Selection.{Selection}
+use Rattle.levels.specs.declared.selection.Selection.TheVariants.{Picked}
 
 abbrev refusal : {Y : Type 0} → Fault → Result Y Fault
 refusal e = Err e
@@ -68,32 +68,51 @@ module _ (order : Order) (cmp : List ℕ → List ℕ → Ordering) (v : State) 
   not_refused e (Err d, (h, is)) = not_both bytes d edited.edit h edited.read
   not_refused e (Ok x, (h, is)) = not_opened order next (manifest_of v) e (sym (opened_by x h) ∙ sym is)
 
--- the edit of a step is that of its answers
-same_edit : (step : CompactionStep) (v : State) (answers : List Answer) (edit : Edit) → step_in step ≡ whole_step v answers edit → step.edit.items ≡ edit_bytes edit
-same_edit step v answers edit h = ap (λ (x : StepView). x.edit) h
+module _ (selection : Selection) (order : Order) (v : LoadedVersion) (level : ℕ) (s : Settings) (change : FolderChange) (step : CompactionStep) where
+  -- a step that was answered was installed
+  pub installed_of : IsLevelLeft selection (order_view order) v level s change (Ok step) → IsLevelInstalled selection (order_view order) v level s change (Ok step)
+  installed_of (inl u) = absurd u.refused
+  installed_of (inr (inl t)) = absurd t.refused
+  installed_of (inr (inr i)) = i
 
--- a step that was answered was installed
-pub installed_of : (by : OrderView) (v : LoadedVersion) (level : ℕ) (s : Settings) (change : FolderChange) (step : CompactionStep) → IsLevelLeft by v level s change (Ok step) → IsWholeInstalled by v level s change (Ok step)
-installed_of by v level s change step (inl u) = absurd u.refused
-installed_of by v level s change step (inr (inl t)) = absurd t.refused
-installed_of by v level s change step (inr (inr i)) = i
+  module _ (i : IsLevelInstalled selection (order_view order) v level s change (Ok step)) where
+    -- the edit of the step is that of its answers
+    same_edit : step.edit.items ≡ i.step.edit
+    same_edit = ap (λ (x : StepView). x.edit) i.is_step
 
-module _ (order : Order) (cmp : List ℕ → List ℕ → Ordering) (short_keys : ShortKeys) (v : State) (loaded : List (ℕ × List ℕ)) (level : ℕ) (s : Settings) (change : FolderChange) (step : CompactionStep)
-    (i : IsWholeInstalled (order_by order cmp short_keys) (version_with v loaded) level s change (Ok step)) where
-  pub opened_next : (r : Result (Option SyncedVersion) Fault) → IfOk r (λ o. IfSome o (λ a. IsOpenedAfter order v step.edit.items (Ok (a.order, a.version, a.manifest))))
-      → IfOk r (λ o. IfSome o (λ a. (a.order ≡ order) × (a.version ≡ i.compacted.edited.next) × (a.manifest ≡ manifest_of v)))
-  opened_next (Ok None) h = tt
-  opened_next (Ok (Some a)) h =
-      is_opened order cmp v (manifest_of v) (tables_of i.answers) (edit_bytes i.edit) i.compacted.edited.next i.compacted.edited.edited a.order a.version a.manifest
-      (subst (λ (b : List ℕ). IsOpenedAfter order v b (Ok (a.order, a.version, a.manifest))) (same_edit step v i.answers i.edit i.step) h)
-  opened_next (Err e) h = tt
+    pub opened_next : (r : Result (Option SyncedVersion) Fault) → IfOk r (λ o. IfSome o (λ a. IsOpenedAfter order v.version step.edit.items (Ok (a.order, a.version, a.manifest))))
+        → IfOk r (λ o. IfSome o (λ a. (a.order ≡ order) × (a.version ≡ i.compacted.edited.next) × (a.manifest ≡ manifest_of v.version)))
+    opened_next (Ok None) h = tt
+    opened_next (Ok (Some a)) h =
+        is_opened order (order_cmp order) v.version (manifest_of v.version) i.compacted.outputs i.step.edit i.compacted.edited.next i.compacted.edited.edited a.order a.version a.manifest
+        (subst (λ (b : List ℕ). IsOpenedAfter order v.version b (Ok (a.order, a.version, a.manifest))) same_edit h)
+    opened_next (Err e) h = tt
 
-  pub memory_only : (r : Result (Option SyncedVersion) Fault) → IfErr r (λ e. UnlessMemory e (IsOpenedAfter order v step.edit.items (Err e))) → IfErr r (λ e. e ≡ fault Memory)
-  memory_only (Ok o) h = tt
-  memory_only (Err e) h =
-      only_memory e (IsOpenedAfter order v step.edit.items (Err e))
-      (λ was. not_refused order cmp v (manifest_of v) (tables_of i.answers) (edit_bytes i.edit) i.compacted.edited.next i.compacted.edited.edited e
-      (subst (λ (b : List ℕ). IsOpenedAfter order v b (Err e)) (same_edit step v i.answers i.edit i.step) was)) h
+    pub memory_only : (r : Result (Option SyncedVersion) Fault) → IfErr r (λ e. UnlessMemory e (IsOpenedAfter order v.version step.edit.items (Err e))) → IfErr r (λ e. e ≡ fault Memory)
+    memory_only (Ok o) h = tt
+    memory_only (Err e) h =
+        only_memory e (IsOpenedAfter order v.version step.edit.items (Err e))
+        (λ was. not_refused order (order_cmp order) v.version (manifest_of v.version) i.compacted.outputs i.step.edit i.compacted.edited.next i.compacted.edited.edited e
+        (subst (λ (b : List ℕ). IsOpenedAfter order v.version b (Err e)) same_edit was)) h
+
+-- what the compaction of picked inputs leaves
+pub picked_left : (by : OrderView) (v : LoadedVersion) (level : ℕ) (s : Settings) (change : FolderChange) (r : Result CompactionStep Fault) → IsStepLeft by v level s change r → IsLevelLeft Picked by v level s change r
+picked_left by v level s change r (inl u) = inl u
+picked_left by v level s change r (inr i) =
+    inr (inr (record {
+      step = step_of v.version i.picked i.answer;
+      compacted = record {
+        tables = i.compacted.tables;
+        lawful = i.compacted.lawful;
+        outputs = i.answer.tables;
+        answered = (i.picked, i.answer, i.compacted.is_picked, i.compacted.answered, refl, refl);
+        edited = i.compacted.edited;
+      };
+      survives = i.survives;
+      named = i.named;
+      is_step = i.step;
+      refused = i.refused;
+    }))
 
 -- ---- no refusal is Device
 

@@ -26,7 +26,7 @@ use Rattle.compact.specs.GroupedAnswer.{table_sizes}
 use Rattle.compact.specs.OneThread.{Answer}
 use Rattle.compact.specs.declared.settings.Settings.{Settings}
 use Rattle.store.specs.FolderRequest.{manifest_of}
-use Rattle.store.specs.LevelRuns.{GroupedAnswer}
+use Rattle.levels.specs.WholeRuns.{GroupedAnswer}
 use Rattle.store.specs.PickedOutcome.{IsPickedCompacted}
 use Rattle.store.specs.Runs.{HasMade}
 use Rattle.store.proofs.InstallPart.{still}

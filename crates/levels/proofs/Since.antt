@@ -1,36 +1,35 @@
 -- The compaction of a whole level, told from earlier calls on that only read.
-use Rattle.std.proofs.Common.{◌≡◌, ◌⊎◌, ℕ, List, [], ◌∷◌, ◌++◌, map, Option, Result, Err, IfErr, ap, subst, ◌∙◌, inl, inr}
+use Rattle.std.proofs.Common.{Err, IfErr, List, Option, Result, [], ap, inl, inr, map, subst, ℕ, ◌++◌, ◌∙◌, ◌∷◌, ◌≡◌}
 use Rattle.std.specs.declared.cmp.Ordering.{Ordering}
 use Rattle.edit.specs.Answers.{IsThen, fault}
-use Rattle.edit.specs.fault.Fault.{Fault}
-use Rattle.edit.specs.fault.FaultName.TheVariants.{Changed}
 use Rattle.edit.specs.Comparator.{ShortKeys}
 use Rattle.edit.specs.Edit.{edit_bytes}
 use Rattle.edit.specs.Version.{State}
+use Rattle.edit.specs.fault.Fault.{Fault}
+use Rattle.edit.specs.fault.FaultName.TheVariants.{Changed}
+use Rattle.pick.specs.PickedInputs.{PickedInputs}
+use Rattle.folder.proofs.LoadingLemmas.{told_since}
 use Rattle.folder.specs.Calls.{Done, Files, Step, Tells}
 use Rattle.folder.specs.Folder.{TellsSame}
 use Rattle.folder.specs.ReadsAs.{ReadsAs}
 use Rattle.folder.specs.declared.folder.Folder.{Ghosts}
 use Rattle.folder.specs.declared.order.Order.{Order}
-use Rattle.folder.proofs.LoadingLemmas.{told_since}
-use Rattle.install.specs.Install.{LoadedVersion, SurvivesCrash, calls_before_rename, install_calls, manifest_bytes, table_calls, version_with}
 use Rattle.install.proofs.Changes.{change_by}
-use Rattle.pick.specs.PickedInputs.{PickedInputs}
-use Rattle.checks.specs.TestedTables.{IsTested}
+use Rattle.install.specs.Install.{LoadedVersion, SurvivesCrash, calls_before_rename, install_calls, manifest_bytes, table_calls, version_with}
 use Rattle.compact.specs.OneThread.{Answer}
 use Rattle.compact.specs.declared.settings.Settings.{Settings}
-use Rattle.store.specs.Compaction.{IsUnchanged}
-use Rattle.store.specs.FolderRequest.{manifest_of}
-use Rattle.store.specs.LevelRuns.{GroupedAnswer}
-use Rattle.store.specs.OrderView.{order_by}
-use Rattle.store.specs.declared.compaction_step.CompactionStep.{CompactionStep}
+use Rattle.checks.specs.TestedTables.{IsTested}
 use Rattle.store.proofs.Flow.{first_refused}
 use Rattle.store.proofs.InstallPart.{still, survives_on}
 use Rattle.store.proofs.RunPart.{calls_since}
 use Rattle.store.proofs.StepPart.{test_ends}
+use Rattle.store.specs.FolderRequest.{manifest_of}
+use Rattle.store.specs.OrderView.{order_by}
+use Rattle.store.specs.declared.compaction_step.CompactionStep.{CompactionStep}
+use Rattle.levels.specs.LevelLeft.{IsLevelLeft, IsWholeLeft, next_of_selected}
 use Rattle.levels.specs.WholeAnswer.{AreLevelParts, IsVersionWhole, IsWholeCompacted, IsWholeStep, parts_result}
-use Rattle.levels.specs.WholeLeft.{IsWholeInstalled, IsWholeLeft, IsWholeStopped, next_of_whole}
-use Rattle.levels.specs.WholeRuns.{ArePartLinks, IsWholeRun, groups_in}
+use Rattle.levels.specs.WholeRuns.{ArePartLinks, GroupedAnswer, IsWholeRun, groups_in}
+use Rattle.levels.specs.declared.selection.Selection.TheVariants.{Parts}
 
 abbrev Told : Type 1
 Told = List ℕ → Option (List ℕ) → Type 0
@@ -95,26 +94,11 @@ module _ (order : Order) (cmp : List ℕ → List ℕ → Ordering) (short_keys 
       subst (λ (b : List Step). SurvivesCrash cmp order (version_with v loaded) next (change_by b after zero new) r) same
       (survives_on cmp order v next.version loaded next.tables before after zero old new r r (λ P x. x) (still zero old told) h)
 
-  pub whole_left : IsUnchanged (change_by before after old new) r
-      ⊎ (IsWholeStopped (order_by order cmp short_keys) (version_with v loaded) (change_by before after old new) r
-      ⊎ IsWholeInstalled (order_by order cmp short_keys) (version_with v loaded) level s (change_by before after old new) r)
-      → IsWholeLeft (order_by order cmp short_keys) v files level s (change_by first after zero new) r
+  pub whole_left : IsLevelLeft Parts (order_by order cmp short_keys) (version_with v loaded) level s (change_by before after old new) r → IsWholeLeft (order_by order cmp short_keys) v files level s (change_by first after zero new) r
   whole_left (inl u) = inl (record { calls = u.calls ∙ same; same = told_since zero old new told u.same; refused = u.refused })
-  whole_left (inr (inl t)) = inr (loaded, reads, inl (record { survives = moved (version_with v loaded) t.survives; refused = t.refused }))
+  whole_left (inr (inl t)) = inr (loaded, reads, inr (inl (record { survives = moved (version_with v loaded) t.survives; refused = t.refused })))
   whole_left (inr (inr i)) =
-      inr (
-        loaded,
-        reads,
-        inr (record {
-          answers = i.answers;
-          edit = i.edit;
-          compacted = i.compacted;
-          survives = moved (next_of_whole i.compacted) i.survives;
-          named = i.named;
-          step = i.step;
-          refused = i.refused;
-        }),
-      )
+      inr (loaded, reads, inr (inr (record { step = i.step; compacted = i.compacted; survives = moved (next_of_selected i.compacted) i.survives; named = i.named; is_step = i.is_step; refused = i.refused })))
 
 -- ---- the test of the version
 

@@ -1,9 +1,11 @@
 -- what contracts rest on
 pub mod WholeAnswer
-pub mod WholeLeft
+pub mod LevelLeft
 pub mod WholeRuns
 pub mod LevelMade
-pub mod LevelRows
+pub mod DescentRuns
+pub mod DescentLeft
+pub mod Untold
 -- serves proofs alone
 pub mod LevelTaken
 pub mod PartsEnd

@@ -1,16 +1,18 @@
 -- How the compaction of the parts of a level ends, step by step.
-use Rattle.std.specs.Prelude.{◌≡◌, ◌⊎◌, ℕ, ◌+◌, ◌-◌, ◌<◌, ◌≤◌, ◌^◌, nat_lt, true, false, List, []}
-use Rattle.std.specs.Prelude.{◌∷◌, ◌++◌, length, map, slice_get, Some, Result, Ok, Err}
-use Rattle.std.specs.Prelude.{IfErr, IfOk, OnOk, IsErrAnd}
 use Rattle.std.specs.List.{AllByRecursion}
-use Rattle.edit.specs.Key.{IsInternalKey}
+use Rattle.std.specs.Prelude.{Err, IfErr, IfOk, IsErrAnd, List, Ok, OnOk, Result, Some, [], false}
+use Rattle.std.specs.Prelude.{length, map, nat_lt, slice_get, true, ℕ, ◌++◌, ◌+◌, ◌-◌, ◌<◌, ◌^◌}
+use Rattle.std.specs.Prelude.{◌∷◌, ◌≡◌, ◌≤◌, ◌⊎◌}
 use Rattle.edit.specs.Answers.{UnlessMemory, fault}
-use Rattle.edit.specs.fault.Fault.{Fault}
-use Rattle.edit.specs.fault.FaultName.TheVariants.{Numbers}
 use Rattle.edit.specs.Comparator.{KeyOrder, ShortKeys}
 use Rattle.edit.specs.Edit.{Edit, IsEdit, IsEditRefused, edit_bytes}
+use Rattle.edit.specs.Key.{IsInternalKey}
 use Rattle.edit.specs.Version.{IsState, State}
 use Rattle.edit.specs.VersionOrder.{snapshot_of}
+use Rattle.edit.specs.fault.Fault.{Fault}
+use Rattle.edit.specs.fault.FaultName.TheVariants.{Numbers}
+use Rattle.pick.specs.PickedInputs.{PickedInputs, picked_in}
+use Rattle.pick.specs.declared.picked_inputs.Inputs.{Inputs}
 use Rattle.folder.specs.CallSequence.{MakesCalls}
 use Rattle.folder.specs.Calls.{Done, Files, Tells}
 use Rattle.folder.specs.Folder.{TellsSame}
@@ -19,20 +21,17 @@ use Rattle.folder.specs.Reports.{ReportsDevice}
 use Rattle.folder.specs.declared.folder.Folder.{Ghosts}
 use Rattle.install.specs.GroupedInstallation.{IsGroupedInstallation, asked_of}
 use Rattle.install.specs.Install.{manifest_bytes, table_calls}
-use Rattle.pick.specs.PickedInputs.{PickedInputs, picked_in}
-use Rattle.pick.specs.declared.picked_inputs.Inputs.{Inputs}
 use Rattle.compact.specs.GroupedAnswer.{table_sizes}
 use Rattle.compact.specs.OneThread.{Answer}
 use Rattle.compact.specs.declared.settings.Settings.{Settings}
 use Rattle.store.specs.FolderRequest.{manifest_of}
 use Rattle.store.specs.InputsCompaction.{IsPickedAnswer}
-use Rattle.store.specs.LevelRuns.{GroupedAnswer}
 use Rattle.store.specs.PickedOutcome.{IsPickedCompacted}
 use Rattle.store.specs.Runs.{HasMade}
 use Rattle.store.specs.Step.{step_in}
 use Rattle.store.specs.declared.compaction_step.CompactionStep.{CompactionStep}
 use Rattle.levels.specs.WholeAnswer.{AreLevelParts, edits_of, next_last, tables_of, whole_step}
-use Rattle.levels.specs.WholeRuns.{ArePartLinks, answers_in, groups_in}
+use Rattle.levels.specs.WholeRuns.{ArePartLinks, GroupedAnswer, answers_in, groups_in}
 use Rattle.levels.specs.declared.part_writer.WrittenParts.{WrittenParts}
 use Rattle.levels.specs.declared.ready_manifest.ReadyManifest.{ReadyManifest}
 

@@ -1,23 +1,23 @@
 -- What the compaction of a whole level answers: of all its parts, from one version.
-use Rattle.std.specs.Prelude.{◌≡◌, ℕ, ◌+◌, ◌-◌, ◌^◌, nat_lt, List, [], ◌∷◌, length, flat_map}
-use Rattle.std.specs.Prelude.{Some, Result, Ok, Err}
+use Rattle.std.specs.Prelude.{Err, List, Ok, Result, Some, [], flat_map, length, nat_lt, ℕ, ◌+◌}
+use Rattle.std.specs.Prelude.{◌-◌, ◌^◌, ◌∷◌, ◌≡◌}
 use Rattle.edit.specs.Answers.{IsThen, fault, ◌>>=◌}
-use Rattle.edit.specs.fault.Fault.{Fault}
-use Rattle.edit.specs.fault.FaultName.TheVariants.{NoInput, Numbers}
 use Rattle.edit.specs.Comparator.{KeyOrder, ShortKeys}
 use Rattle.edit.specs.Edit.{Edit, IsEdit, edit_bytes}
 use Rattle.edit.specs.Version.{State}
-use Rattle.keep.specs.TestResult.{test_result}
+use Rattle.edit.specs.fault.Fault.{Fault}
+use Rattle.edit.specs.fault.FaultName.TheVariants.{NoInput, Numbers}
+use Rattle.pick.specs.Parts.{IsPartsAnswer}
+use Rattle.pick.specs.PickedInputs.{PickedInputs}
 use Rattle.folder.specs.Calls.{Files}
 use Rattle.folder.specs.Levels.{file_numbers}
 use Rattle.folder.specs.LoadedTables.{IsLoaded}
 use Rattle.folder.specs.ReadsAs.{IsFileIn}
-use Rattle.pick.specs.Parts.{IsPartsAnswer}
-use Rattle.pick.specs.PickedInputs.{PickedInputs}
-use Rattle.checks.specs.LawfulTables.{IsLawfulTables}
+use Rattle.keep.specs.TestResult.{test_result}
 use Rattle.compact.specs.GroupedAnswer.{table_sizes}
 use Rattle.compact.specs.OneThread.{Answer}
 use Rattle.compact.specs.declared.settings.Settings.{Settings}
+use Rattle.checks.specs.LawfulTables.{IsLawfulTables}
 use Rattle.store.specs.FolderRequest.{compaction_from, manifest_of}
 use Rattle.store.specs.Step.{StepView}
 

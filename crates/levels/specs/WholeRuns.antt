@@ -1,29 +1,34 @@
 -- Which calls the compaction of a whole level makes on a folder, be it one that tells what it holds
 -- or not.
-use Rattle.std.specs.Prelude.{◌≡◌, ◌⊎◌, ℕ, ◌+◌, List, [], ◌∷◌, ◌++◌, length, map, flat_map}
-use Rattle.std.specs.Prelude.{Some, Result, Ok, IfErr, IfOk, OnOk}
+use Rattle.std.specs.Prelude.{IfErr, IfOk, List, Ok, OnOk, Result, Some, [], flat_map, length, map}
+use Rattle.std.specs.Prelude.{ℕ, ◌++◌, ◌+◌, ◌∷◌, ◌≡◌, ◌⊎◌}
 use Rattle.edit.specs.Answers.{UnlessMemory, fault}
+use Rattle.edit.specs.Comparator.{KeyOrder, ShortKeys}
+use Rattle.edit.specs.Edit.{Edit, IsEdit, edit_bytes}
+use Rattle.edit.specs.Version.{State}
 use Rattle.edit.specs.fault.Fault.{Fault}
 use Rattle.edit.specs.fault.FaultName.TheVariants.{Changed, Device}
-use Rattle.edit.specs.Edit.{Edit, IsEdit, edit_bytes}
-use Rattle.edit.specs.Comparator.{KeyOrder, ShortKeys}
-use Rattle.edit.specs.Version.{State}
+use Rattle.pick.specs.PickedInputs.{PickedInputs}
 use Rattle.folder.specs.CallSequence.{MakesCalls}
 use Rattle.folder.specs.Calls.{Done, Step}
 use Rattle.folder.specs.declared.folder.Folder.{Ghosts}
 use Rattle.install.specs.FolderChange.{FolderChange, change_of}
 use Rattle.install.specs.Install.{calls_before_rename, install_calls, manifest_bytes, table_calls}
-use Rattle.pick.specs.PickedInputs.{PickedInputs}
 use Rattle.compact.specs.OneThread.{Answer}
 use Rattle.compact.specs.declared.settings.Settings.{Settings}
 use Rattle.store.specs.Compaction.{IsUnchanged}
 use Rattle.store.specs.FolderRequest.{manifest_of}
-use Rattle.store.specs.LevelRuns.{GroupedAnswer}
 use Rattle.store.specs.PickedOutcome.{IsPickedCompacted}
 use Rattle.store.specs.Runs.{HasMade}
 use Rattle.store.specs.Step.{step_in}
 use Rattle.store.specs.declared.compaction_step.CompactionStep.{CompactionStep}
 use Rattle.levels.specs.WholeAnswer.{AreLevelParts, edits_of, next_last, whole_step}
+
+-- an answer that is installed: with its inputs, and the groups in which its tables are written
+pub record GroupedAnswer : Type 0 where
+  pub picked : PickedInputs
+  pub answer : Answer
+  pub groups : List (List (ℕ × List ℕ))
 
 -- the answers that are installed, and the groups in which their tables are written
 abbrev pub answers_in : List GroupedAnswer → List Answer

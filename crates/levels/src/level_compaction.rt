@@ -14,7 +14,7 @@ ghost use Rattle.store.specs.OrderView.{order_by, order_view};
 ghost use Rattle.store.specs.Step.{step_in};
 ghost use Rattle.levels.specs.PartsEnd.{IsPartsEnd};
 ghost use Rattle.levels.specs.WholeAnswer.{IsWholeCompacted};
-ghost use Rattle.levels.specs.WholeLeft.{IsWholeLeft};
+ghost use Rattle.levels.specs.LevelLeft.{IsWholeLeft};
 ghost use Rattle.levels.specs.WholeRuns.{IsWholeRun};
 
 use crate::level_parts::level_parts;

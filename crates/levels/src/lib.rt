@@ -1,4 +1,4 @@
-//! Compacts a whole level of a database folder: all its parts, by one installation.
+//! Compacts a whole level of a database folder, all its parts by one installation; and all levels.
 //!
 //! The finest parts of a level (`pick::finest_parts`) share no file and no user key, so that each
 //! can be compacted by itself. [`compact_level`] does so, one part after the other, each by all
@@ -15,20 +15,28 @@
 //! The outputs have the numbers that they have if each part is installed before the next one is
 //! compacted: between those of two parts is one number that nothing uses.
 //!
-//! [`compact_whole_levels`] does so with one level after the other, until all files are in one
-//! level. It tests the version once.
+//! [`compact_levels`] compacts one level after the other, until all files are in one level. Of each
+//! it takes what the [`Descent`] selects: the inputs that the rules pick, as `store::compact_inputs`
+//! does; or all its parts, as above. It tests the version once, if that is asked for. It tells a
+//! `CleanWatch` of each compaction that was installed; then it asks it for names, and removes the
+//! files of these that the version doesn't need.
 //!
 //! Laws: [`edits_join`], [`joined_applies`].
 #![tactic(auto)]
 
 mod all_levels;
+mod descent_end;
 mod join_laws;
 mod level_compaction;
 mod level_parts;
+mod level_step;
 mod part_writer;
 mod ready_manifest;
+mod selection;
 mod tested_level;
 
-pub use all_levels::compact_whole_levels;
+pub use all_levels::compact_levels;
+pub use descent_end::DescentEnd;
 pub use join_laws::{edits_join, joined_applies};
 pub use level_compaction::compact_level;
+pub use selection::{Descent, Selection};

@@ -15,7 +15,8 @@ ghost use Rattle.install.specs.Install.{version_with};
 ghost use Rattle.keep.specs.Tables.{NumberedContents};
 ghost use Rattle.store.specs.OrderView.{order_by, order_view};
 ghost use Rattle.store.specs.Step.{step_in};
-ghost use Rattle.levels.specs.LevelTaken.{IsLevelLeft};
+ghost use Rattle.levels.specs.declared.selection.Selection.TheVariants.{Parts};
+ghost use Rattle.levels.specs.LevelLeft.{IsLevelLeft};
 ghost use Rattle.levels.specs.WholeAnswer.{IsWholeCompacted};
 ghost use Rattle.levels.specs.WholeRuns.{IsWholeRun};
 
@@ -51,7 +52,7 @@ pub(crate) fn compact_tested<F: ReadsTables + WritesTables, W: Watch + Sync, R: 
         files (codes "CURRENT") ≡ Some (current_text opened.now.manifest) →
         ReadsAs (order_cmp opened.now.order) opened.now.order opened.now.version loaded files →
         IsLawfulTables (order_cmp opened.now.order) opened.now.version loaded (Ok tables) →
-        IsLevelLeft (order_view opened.now.order) (version_with opened.now.version loaded) level
+        IsLevelLeft Parts (order_view opened.now.order) (version_with opened.now.version loaded) level
         settings.now (change_of F.Folder folder.old folder.new) result }
     ensures runs { IsWholeRun F.Folder (order_name opened.now.order) (order_cmp opened.now.order)
         (order_short_keys opened.now.order) opened.now.version level settings.now folder.old
@@ -95,7 +96,7 @@ fn compact_lawful<
         order_name order ≡ C.name_bytes →
         ReadsAs C.cmp order opened.now.version loaded files →
         IsLawfulTables C.cmp opened.now.version loaded (Ok tables) →
-        IsLevelLeft (order_by order C.cmp C.short_keys) (version_with opened.now.version loaded)
+        IsLevelLeft Parts (order_by order C.cmp C.short_keys) (version_with opened.now.version loaded)
         level settings.now (change_of F.Folder folder.old folder.new) result }
     ensures runs { IsWholeRun F.Folder C.name_bytes C.cmp C.short_keys opened.now.version level
         settings.now folder.old folder.new result }

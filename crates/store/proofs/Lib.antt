@@ -28,17 +28,8 @@ mod Runs
 mod WholeOutcomes
 mod GroupRuns
 mod AfterEdit
-mod StepsTaken
-mod Chains
 mod Descending
-mod DescendingSince
-mod LevelRuns
-mod CleanRows
-mod CleanDescending
-mod CleanTaken
-mod CleanParts
-mod CleanLevelRuns
-mod CleanedSince
+pub mod CleanParts
 pub mod PartFiles
 pub mod PartRefusals
 pub mod PlacedInputs

@@ -1,13 +1,13 @@
 -- What follows a compaction of a row after which files are removed that the version doesn't need.
-use Rattle.std.specs.Prelude.{◌≡◌, ◌⊎◌, ℕ, Bool, true, false, List, map, string_bytes}
-use Rattle.std.specs.Prelude.{Option, Some, None, Result, Ok, Err, String}
 use Rattle.std.specs.Global.{Global, Vec}
-use Rattle.folder.specs.fault.Fault.{Fault}
+use Rattle.std.specs.Prelude.{Bool, Err, List, None, Ok, Option, Result, Some, String, false, map}
+use Rattle.std.specs.Prelude.{string_bytes, ℕ, ◌≡◌, ◌⊎◌}
 use Rattle.folder.specs.CallSequence.{MakesCalls}
 use Rattle.folder.specs.Folder.{TellsSame}
 use Rattle.folder.specs.Orders.{order_cmp}
 use Rattle.folder.specs.Version.{State}
 use Rattle.folder.specs.declared.order.Order.{Order}
+use Rattle.folder.specs.fault.Fault.{Fault}
 use Rattle.install.specs.FolderChange.{FolderChange}
 use Rattle.install.specs.ObsoleteFile.{AreObsolete}
 use Rattle.install.specs.Removal.{IsNothingRemoved, removal_calls, removed_by}
@@ -49,18 +49,6 @@ named_version order version manifest = record {
 abbrev pub names_in : Option (Vec (String Global)) → Option (List (List ℕ))
 names_in None = None
 names_in (Some names) = Some (map string_bytes names.items)
-
--- The obsolete ones of these names were removed, in their order, and all of it was told. It was
--- told to go on.
-pub record AreAllRemoved {W : Type 0} (by : CleanTeller W) (v : NamedVersion)
-    (removed : List (List ℕ)) (told told_now : W) : Type 0 where
-  pub names : List (List ℕ)
-  pub listed : W
-  pub lists : by.lists told (Some names) listed
-  pub obsolete : AreObsolete (order_cmp v.order) v.version v.manifest names removed
-  pub told_last : W
-  pub told_all : AreTold by.removes listed removed told_last
-  pub ended : by.ends told_last true told_now
 
 -- all is told to be removed, and a value is answered as it was said whether to go on
 abbrev pub IsEndTold : {W T : Type 0} → (W → Bool → W → Type 0) → W → W → (Bool → T → Type 0) →

@@ -14,11 +14,7 @@ pub mod Runs
 pub mod OpenedAfter
 pub mod JointLaws
 pub mod Descent
-pub mod AllLevels
-pub mod LevelRuns
 pub mod Cleaning
-pub mod CleanRuns
-pub mod CleanedLevels
 pub mod Outcome
 pub mod OutputRanges
 pub mod PickedOutcome
@@ -26,7 +22,6 @@ pub mod ClosedLaws
 pub mod WholeOutcome
 pub mod FilesToCompact
 pub mod Telling
-pub mod Untold
 -- serves proofs alone
 pub mod CallsAnswer
 pub mod LentFiles
@@ -34,4 +29,3 @@ pub mod InputLaws
 pub mod FoundInputs
 pub mod NameLines
 pub mod NumberedJointLaw
-pub mod StepTaken

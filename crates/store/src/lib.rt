@@ -7,18 +7,18 @@
 //!    takes a [`SyncedVersion`], which none but the second makes of what was opened.
 //! 3. [`compact_inputs`] reads the inputs alone: its caller knows that the version is lawful. So
 //!    does [`opened_after`] make what a folder is opened as after it, which is the next one's.
-//! 4. [`compact_all`] compacts all levels, one after the other. It tests the version once, and
-//!    tells a [`CleanWatch`] of each compaction that was installed. Then it asks it for names, and
-//!    removes the files of these that the version doesn't need. [`compact_levels`] does the same
-//!    without the test. [`bottom`] and [`next_level`] say which levels they take.
+//! 4. Parts of the compaction of all levels: [`test_opened`]; [`bottom`] and [`next_level`], which
+//!    say which levels it takes; [`tell_step`], which tells a [`CleanWatch`] of a compaction that was
+//!    installed; [`clean`], which asks it for names, and removes the files of these that the version
+//!    doesn't need.
 //! 5. [`outcome`] only reads: it answers the outcome of a [`Choice`] of inputs, with the numbers that
 //!    are asked for, after a test of the version or without one. [`write_outcome`] writes it into
 //!    another folder. [`files_to_compact`] names the files that it needs of a level without a test;
 //!    [`parts_to_compact`] are the parts of a level. [`outcome_of_picked`] answers the outcome of
 //!    inputs that its caller found.
 //! 6. Parts of these calls, for those who compact whole levels or install an outcome later:
-//!    [`test_opened`], [`tell_step`], [`version_is_state`], [`test_files`], [`load_inputs`],
-//!    [`checked_inputs`], [`bytes_of`], [`manifest_of`], [`outcome_step`].
+//!    [`version_is_state`], [`test_files`], [`load_inputs`], [`checked_inputs`], [`bytes_of`],
+//!    [`manifest_of`], [`outcome_step`].
 //! 7. All tell a [`Watch`] of the work; [`Open`] is the one that does nothing.
 //!
 //! What the clauses say. They are of a folder that tells contracts what it holds, but for `device`,
@@ -40,15 +40,14 @@
 //! the folder alone is enough.
 #![tactic(auto)]
 
-mod all_levels;
 mod answered_steps;
 mod choice;
 mod chosen_outcome;
 mod clean_watch;
+mod cleaning;
 mod compaction_outcome;
 mod compaction_step;
 mod descent;
-mod descent_end;
 mod folder_compaction;
 mod folder_request;
 mod group_tables;
@@ -72,18 +71,17 @@ mod test_memory;
 mod version_files;
 mod version_sync;
 
-pub use all_levels::{compact_all, compact_levels};
 pub use answered_steps::outcome_step;
 pub use board::{Watch, Work};
 pub use checks::{Open, checkers, checkers_of};
 pub use choice::Choice;
 pub use chosen_outcome::outcome;
 pub use clean_watch::CleanWatch;
+pub use cleaning::clean;
 pub use compact::{DeletedFile, Settings};
 pub use compaction_outcome::CompactionOutcome;
 pub use compaction_step::CompactionStep;
 pub use descent::{bottom, next_level};
-pub use descent_end::DescentEnd;
 pub use folder_compaction::{compact_dir, compact_opened};
 pub use folder_request::manifest_of;
 pub use input_compaction::compact_inputs;

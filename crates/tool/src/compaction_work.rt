@@ -6,15 +6,13 @@ use crate::folder_change::Change;
 use crate::outcome_work::{OutcomeTask, outcome_of};
 use crate::printed_work::{DoneWork, tell_step, unprinted};
 use crate::step_printer::{StepPrinter, print_installed};
-use disk::Disk;
 use folder::{Bytewise, Fault, FaultName, Version};
-use levels::{compact_level, compact_whole_levels};
+use levels::{Descent, Selection, compact_level};
 use refusals::sizes_in_turn;
-use session::{Host, LAST_LEVEL, ProgressLine, Refusal, Session, bytes_of, refused_at};
+use session::{Host, LAST_LEVEL, Refusal, Session, bytes_of, refused_at};
 use std::alloc::Global;
 use store::{
-    CompactionStep, DescentEnd, SyncedVersion, bottom, checkers_of, compact_inputs, compact_opened,
-    next_level,
+    CompactionStep, bottom, checkers_of, compact_inputs, compact_opened, next_level,
 };
 use usage::{CompactLine, CompactWork, Levels};
 
@@ -49,8 +47,8 @@ fn compact_levels<R: Host>(
     let change = Change::begin(session)?;
     match levels {
         Levels::One(level) | Levels::Whole(level) => compact_one(change, line, levels, level),
-        Levels::All => compact_all(change, line),
-        Levels::AllWhole => compact_whole(change, line),
+        Levels::All => compact_all(change, line, Selection::Picked),
+        Levels::AllWhole => compact_all(change, line, Selection::Parts),
     }
 }
 
@@ -168,8 +166,13 @@ fn step_made<R: Host>(
 }
 
 /// Compacts the first level that has a file, again and again, until all files are at the bottom.
-/// Each step is printed when it is installed, and each file when it is removed.
-fn compact_all<R: Host>(change: Change<'_, R>, line: &CompactLine<'_>) -> Result<(), Refusal> {
+/// Each step is printed when it is installed, and each file when it is removed: after each step, or
+/// after the last one if whole levels are compacted.
+fn compact_all<R: Host>(
+    change: Change<'_, R>,
+    line: &CompactLine<'_>,
+    selection: Selection,
+) -> Result<(), Refusal> {
     let progress = change.progress();
     let Change {
         rt,
@@ -178,68 +181,29 @@ fn compact_all<R: Host>(change: Change<'_, R>, line: &CompactLine<'_>) -> Result
         opened,
         ..
     } = change;
-    let cleans = line.options.cleans;
+    let options = &line.options;
+    let is_whole = matches!(selection, Selection::Parts);
+    let cleans = options.cleans && !is_whole;
     let mut steps = StepPrinter::new(rt, telling, &progress, &opened.version, line, cleans)?;
-    let end = descended(rt, &mut disk, opened, line, &progress, &mut steps);
+    let descent = Descent {
+        selection,
+        settings: line.settings,
+        test: if options.testing.is_skipped {
+            None
+        } else {
+            Some(bytes_of(options.testing.memory))
+        },
+    };
+    let workers = checkers_of(rt, rt.alloc(), line.settings.workers, &progress);
+    let end = levels::compact_levels(&workers, &mut disk, opened, &descent, &mut steps);
     progress.erase();
-    match end {
-        Ok(_) => steps.end(),
-        Err(fault) => Err(refused_at(rt, telling.folder, &disk, fault)),
+    if let Err(fault) = end {
+        return Err(refused_at(rt, telling.folder, &disk, fault));
     }
-}
-
-/// Compacts all levels of what a folder was opened as, and tests it before, if that is asked for.
-/// Files that the version doesn't need are removed after each step, if that is.
-fn descended<'r, R: Host>(
-    rt: &'r R,
-    folder: &mut Disk<'r, R>,
-    opened: SyncedVersion,
-    line: &CompactLine<'_>,
-    progress: &ProgressLine<'r, R>,
-    steps: &mut StepPrinter<'_, R>,
-) -> Result<DescentEnd, Fault> {
-    let (settings, testing) = (&line.settings, &line.options.testing);
-    let workers = checkers_of(rt, rt.alloc(), settings.workers, progress);
-    if testing.is_skipped {
-        store::compact_levels(&workers, folder, opened, settings, steps)
-    } else {
-        let memory = bytes_of(testing.memory);
-        store::compact_all(&workers, folder, opened, settings, memory, steps)
-    }
-}
-
-/// Compacts all of the first level that has a file, and so on, until all files are at the bottom.
-/// Each step is printed when it is installed. After the last one files are removed, if that is
-/// asked for.
-fn compact_whole<R: Host>(change: Change<'_, R>, line: &CompactLine<'_>) -> Result<(), Refusal> {
-    let mut change = change;
-    let (rt, telling) = (change.rt, change.telling);
-    let progress = change.progress();
-    let version = &change.opened.version;
-    let mut steps = StepPrinter::new(rt, telling, &progress, version, line, false)?;
-    whole_levels_made(&mut change, line, &progress, &mut steps)?;
     let manifest = steps.manifest();
     steps.end()?;
-    if line.options.cleans {
-        let is_json = line.options.is_json;
-        clean_named(rt, telling.folder, &mut change.disk, manifest, is_json)?;
+    if options.cleans && is_whole {
+        clean_named(rt, telling.folder, &mut disk, manifest, options.is_json)?;
     }
-    Ok(())
-}
-
-/// The same, told to who prints the steps.
-fn whole_levels_made<'r, R: Host>(
-    change: &mut Change<'r, R>,
-    line: &CompactLine<'_>,
-    progress: &ProgressLine<'r, R>,
-    steps: &mut StepPrinter<'_, R>,
-) -> Result<(), Refusal> {
-    let settings = &line.settings;
-    let workers = checkers_of(change.rt, change.rt.alloc(), settings.workers, progress);
-    let memory = bytes_of(line.options.testing.memory);
-    let folder = &mut change.disk;
-    let opened = &change.opened;
-    let end = compact_whole_levels(&workers, folder, opened, settings, memory, steps);
-    change.ended(progress, end)?;
     Ok(())
 }

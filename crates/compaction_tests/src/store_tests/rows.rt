@@ -2,7 +2,8 @@
 
 use coding::FaultName;
 use keep::Snapshots;
-use store::{DescentEnd, Settings};
+use levels::DescentEnd;
+use store::Settings;
 use table::Options;
 
 /// Files by their names.

@@ -10,14 +10,15 @@ use edit::Version;
 use folder::{FolderFault, Opened, file_numbers, open};
 use ikey::Bytewise;
 use keep::Snapshots;
+use levels::{DescentEnd, Selection, compact_levels};
 use shelf::{Failing, Shelf};
 use std::alloc::Global;
 use std::process::Abort;
 use std::test::*;
 use std::thread::Threads;
 use store::{
-    CleanWatch, CompactionStep, DescentEnd, InstallWatch, Open, RemovalWatch, Settings, checkers,
-    compact_all, compact_dir, compact_inputs, opened_after, sync_version,
+    CleanWatch, CompactionStep, InstallWatch, Open, RemovalWatch, Settings, checkers, compact_dir,
+    compact_inputs, opened_after, sync_version,
 };
 
 /// How many bytes of tables are held while a version is tested.
@@ -196,14 +197,12 @@ fn descent<R: Threads + Sync>(
 ) -> Result<DescentEnd, Fault> {
     let opened = open(alloc, folder)?;
     let opened = sync_version(alloc, folder, opened)?;
-    compact_all(
-        &checkers(rt, alloc, &Open),
-        folder,
-        opened,
-        settings,
-        MEMORY,
-        told,
-    )
+    let all = levels::Descent {
+        selection: Selection::Picked,
+        settings: *settings,
+        test: Some(MEMORY),
+    };
+    compact_levels(&checkers(rt, alloc, &Open), folder, opened, &all, told)
 }
 
 /// Whether all levels of the folder of a row are compacted so.

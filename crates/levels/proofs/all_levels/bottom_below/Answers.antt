@@ -1,4 +1,4 @@
-use Rattle.std.proofs.Common.{ℕ, Option, subst}
+use Rattle.std.proofs.Common.{Option, subst, ℕ}
 use Rattle.store.specs.Descent.{IsNextLevel}
 use Rattle.levels.proofs.all_levels.bottom_below.Goals as goal
 

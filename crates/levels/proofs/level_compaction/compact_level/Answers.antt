@@ -9,7 +9,7 @@ use Rattle.install.proofs.Changes.{change_by}
 use Rattle.store.specs.OrderView.{order_view}
 use Rattle.store.specs.Step.{step_in}
 use Rattle.levels.specs.WholeAnswer.{IsWholeCompacted}
-use Rattle.levels.specs.WholeLeft.{IsWholeLeft}
+use Rattle.levels.specs.LevelLeft.{IsWholeLeft}
 use Rattle.levels.specs.WholeRuns.{IsWholeRun}
 use Rattle.levels.proofs.level_compaction.compact_level.Goals as goal
 

@@ -1,18 +1,19 @@
 use Rattle.std.proofs.Common.{Ok, refl, subst, sym}
-use Rattle.checks.specs.LawfulTables.{IsLawfulTables}
-use Rattle.folder.specs.OpenAnswer.{FolderAnswers}
 use Rattle.folder.specs.Manifest.{order_name}
+use Rattle.folder.specs.OpenAnswer.{FolderAnswers}
 use Rattle.folder.specs.Orders.{order_cmp, order_short_keys}
 use Rattle.folder.specs.ReadsAs.{ReadsAs}
 use Rattle.folder.specs.declared.order.Order.{Order}
 use Rattle.folder.specs.declared.order.Order.TheVariants.{Bytewise, Shortlex}
 use Rattle.install.proofs.Changes.{change_by}
 use Rattle.install.specs.Install.{version_with}
+use Rattle.checks.specs.LawfulTables.{IsLawfulTables}
 use Rattle.store.specs.OrderView.{order_view}
 use Rattle.store.specs.Step.{step_in}
-use Rattle.levels.specs.LevelTaken.{IsLevelLeft}
+use Rattle.levels.specs.LevelLeft.{IsLevelLeft}
 use Rattle.levels.specs.WholeAnswer.{IsWholeCompacted}
 use Rattle.levels.specs.WholeRuns.{IsWholeRun}
+use Rattle.levels.specs.declared.selection.Selection.TheVariants.{Parts}
 use Rattle.levels.proofs.tested_level.compact_tested.Goals as goal
 
 pub returns-in-Bytewise-clause-answer : goal.returns-in-Bytewise-clause-answer
@@ -45,7 +46,7 @@ returns-in-Bytewise-clause-left g c files loaded tables told current reads sound
     let calls = g.F.Folder.calls in
     let tells = g.F.Folder.tells in
     let is = c.in-Bytewise.is in
-    subst (λ (order : Order). IsLevelLeft (order_view order) (version_with v loaded) c.args.level c.args.settings.now (change_by (calls c.args.folder.now) (calls c.compact_lawful.new.folder) (tells c.args.folder.now) (tells c.compact_lawful.new.folder)) c.compact_lawful.result) (sym is)
+    subst (λ (order : Order). IsLevelLeft Parts (order_view order) (version_with v loaded) c.args.level c.args.settings.now (change_by (calls c.args.folder.now) (calls c.compact_lawful.new.folder) (tells c.args.folder.now) (tells c.compact_lawful.new.folder)) c.compact_lawful.result) (sym is)
     (c.compact_lawful.ensures.left files Bytewise loaded tables told current refl (subst (λ (order : Order). ReadsAs (order_cmp order) order v loaded files) is reads) (subst (λ (order : Order). IsLawfulTables (order_cmp order) v loaded (Ok tables)) is sound))
 
 pub returns-in-Shortlex-clause-left : goal.returns-in-Shortlex-clause-left
@@ -54,5 +55,5 @@ returns-in-Shortlex-clause-left g c files loaded tables told current reads sound
     let calls = g.F.Folder.calls in
     let tells = g.F.Folder.tells in
     let is = c.in-Shortlex.is in
-    subst (λ (order : Order). IsLevelLeft (order_view order) (version_with v loaded) c.args.level c.args.settings.now (change_by (calls c.args.folder.now) (calls c.compact_lawful-in-Shortlex.new.folder) (tells c.args.folder.now) (tells c.compact_lawful-in-Shortlex.new.folder)) c.compact_lawful-in-Shortlex.result) (sym is)
+    subst (λ (order : Order). IsLevelLeft Parts (order_view order) (version_with v loaded) c.args.level c.args.settings.now (change_by (calls c.args.folder.now) (calls c.compact_lawful-in-Shortlex.new.folder) (tells c.args.folder.now) (tells c.compact_lawful-in-Shortlex.new.folder)) c.compact_lawful-in-Shortlex.result) (sym is)
     (c.compact_lawful-in-Shortlex.ensures.left files Shortlex loaded tables told current refl (subst (λ (order : Order). ReadsAs (order_cmp order) order v loaded files) is reads) (subst (λ (order : Order). IsLawfulTables (order_cmp order) v loaded (Ok tables)) is sound))

@@ -1,19 +1,19 @@
-use Rattle.std.proofs.Common.{List, map, Option, Some, None, Result, Ok, string_bytes, refl, ap, subst, ◌∙◌}
+use Rattle.std.proofs.Common.{List, None, Ok, Option, Result, Some, ap, map, refl, string_bytes, subst, ◌∙◌}
 use Rattle.std.specs.Global.{Global, Vec}
 use Rattle.std.specs.Prelude.{String}
 use Rattle.folder.proofs.ReportLemmas.{reports_after, reports_handed, reports_steady}
-use Rattle.folder.specs.fault.Fault.{Fault}
-use Rattle.folder.specs.OpenAnswer.{IsStopped}
 use Rattle.folder.specs.Answers.{UnlessMemory}
+use Rattle.folder.specs.OpenAnswer.{IsStopped}
 use Rattle.folder.specs.Orders.{order_cmp}
+use Rattle.folder.specs.fault.Fault.{Fault}
 use Rattle.install.proofs.Stays.{stays_untouched}
-use Rattle.store.specs.Cleaning.{names_in, teller_by}
-use Rattle.store.specs.declared.synced_version.SyncedVersion.{SyncedVersion}
 use Rattle.store.proofs.CleanParts.{cut_part, done_part, stays_of}
 use Rattle.store.proofs.Descending.{same_tells}
 use Rattle.store.proofs.InstallPart.{refused_ok}
 use Rattle.store.proofs.StepPart.{refused_err}
-use Rattle.store.proofs.all_levels.clean.Goals as goal
+use Rattle.store.specs.Cleaning.{names_in, teller_by}
+use Rattle.store.specs.declared.synced_version.SyncedVersion.{SyncedVersion}
+use Rattle.store.proofs.cleaning.clean.Goals as goal
 
 -- ---- no names were given
 

@@ -1,9 +1,9 @@
 -- What a call leaves that told nothing.
-use Rattle.std.specs.Prelude.{◌≡◌, Result, IfErr}
+use Rattle.std.specs.Prelude.{IfErr, Result, ◌≡◌}
 use Rattle.folder.specs.Answers.{UnlessMemory}
 use Rattle.folder.specs.fault.Fault.{Fault}
-use Rattle.store.specs.Compaction.{IsUnchanged}
 use Rattle.install.specs.FolderChange.{FolderChange}
+use Rattle.store.specs.Compaction.{IsUnchanged}
 
 -- nothing was changed and nothing told, for a reason unless memory ran out
 pub record IsUntold {T W : Type 0} (change : FolderChange) (told told_now : W)

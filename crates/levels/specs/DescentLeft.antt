@@ -1,0 +1,158 @@
+-- What compactions of one level after the other leave of a folder, if files that the version
+-- doesn't need are removed after each.
+use Rattle.std.specs.Prelude.{Err, IfErr, List, None, Ok, OnOk, Option, Result, Some, [], length}
+use Rattle.std.specs.Prelude.{true, ℕ, ◌++◌, ◌∷◌, ◌≡◌, ◌≤◌, ◌⊎◌}
+use Rattle.edit.specs.Answers.{UnlessMemory}
+use Rattle.edit.specs.Version.{State}
+use Rattle.edit.specs.fault.Fault.{Fault}
+use Rattle.folder.specs.Calls.{Files, Tells}
+use Rattle.folder.specs.Crash.{World}
+use Rattle.folder.specs.Folder.{TellsSame}
+use Rattle.folder.specs.OpenAnswer.{IsStopped}
+use Rattle.folder.specs.Orders.{order_cmp}
+use Rattle.folder.specs.ReadsAs.{ReadsAs, ReadsBy}
+use Rattle.install.specs.FolderChange.{FolderCall, FolderChange}
+use Rattle.install.specs.Install.{LoadedVersion, version_with}
+use Rattle.install.specs.WorkRow.{AlwaysStands, FolderVersion, IsWorkRow, ReadsAsOneOf, WorkPiece}
+use Rattle.install.specs.WorkRow.{versions_of}
+use Rattle.keep.specs.Gets.{get_of}
+use Rattle.keep.specs.Readable.{is_read, readable_of}
+use Rattle.keep.specs.Tables.{NumberedContents}
+use Rattle.checks.specs.LawfulTables.{IsLawfulTables}
+use Rattle.store.specs.Cleaning.{NamedVersion}
+use Rattle.store.specs.Descent.{IsBottom, IsNextLevel}
+use Rattle.store.specs.FolderRequest.{last_of, manifest_of}
+use Rattle.store.specs.OrderView.{order_view}
+use Rattle.store.specs.Outcome.{IsTestAnswer}
+use Rattle.store.specs.Step.{StepView}
+use Rattle.levels.specs.LevelLeft.{SelectedCompaction, next_of_selected}
+use Rattle.levels.specs.LevelMade.{IsRefusedSo, Way}
+use Rattle.levels.specs.Untold.{IsUntold}
+use Rattle.levels.specs.declared.descent_end.DescentEnd.{DescentEnd}
+use Rattle.levels.specs.declared.descent_end.DescentEnd.TheVariants.{AtBottom}
+
+-- a compaction in a row of them: its level, its step, and the version and the tables that it leaves
+pub record CompactionLink : Type 0 where
+  pub level : ℕ
+  pub step : StepView
+  pub version : State
+  pub tables : List (ℕ × List ℕ)
+
+-- It is a compaction of this version with these tables, of the first level above the bottom that
+-- has a file. What it leaves is its edited version.
+pub record IsLink (way : Way) (v : LoadedVersion) (l : CompactionLink) : Type 0 where
+  pub next_level : IsNextLevel v.version way.bottom (Some l.level)
+  pub compacted : SelectedCompaction way.selection (order_view way.order) v l.level way.settings
+      l.step
+  pub version_is : l.version ≡ (next_of_selected compacted).version
+  pub tables_are : l.tables ≡ (next_of_selected compacted).tables
+
+-- compactions, each of the version and the tables that the one before it leaves
+abbrev pub AreLinked : Way → LoadedVersion → List CompactionLink → Type 0
+AreLinked way v [] = Unit {0}
+AreLinked way v (l ∷ links) = IsLink way v l
+    × AreLinked way (version_with l.version l.tables) links
+
+-- a version of a folder, by its parts
+abbrev pub folder_version : State → ℕ → List (ℕ × List ℕ) → FolderVersion
+folder_version v manifest tables = record { version = v; manifest = manifest; tables = tables }
+
+-- the version that a compaction of this one leaves, by the manifest that it made
+abbrev pub left_by : FolderVersion → CompactionLink → FolderVersion
+left_by v l = folder_version l.version (manifest_of v.version) l.tables
+
+-- the versions that compactions leave, each made of the one before it
+abbrev pub versions_left : FolderVersion → List CompactionLink → List FolderVersion
+versions_left v [] = []
+versions_left v (l ∷ links) = left_by v l ∷ versions_left (left_by v l) links
+
+-- the version after them
+abbrev pub last_left : FolderVersion → List CompactionLink → FolderVersion
+last_left v [] = v
+last_left v (l ∷ links) = last_left (left_by v l) links
+
+-- A version with the bytes of its tables answers as another one does: it is lawful, and each get at
+-- a sequence that was to stay readable answers as there.
+pub record AnswersAs (way : Way) (v : State) (tables : List NumberedContents)
+    (next : FolderVersion) : Type 0 where
+  pub tables_next : List NumberedContents
+  pub lawful : IsLawfulTables (order_cmp way.order) next.version next.tables (Ok tables_next)
+  pub gets : (user : List ℕ) (at : ℕ) →
+      is_read (readable_of way.settings.snapshots (last_of v)) at ≡ true →
+      get_of next.version tables_next user at ≡ get_of v tables user at
+
+-- the compaction of the next level is refused so
+pub record IsNextLevelRefused (way : Way) (v : FolderVersion) (e : Fault) : Type 0 where
+  pub level : ℕ
+  pub next_level : IsNextLevel v.version way.bottom (Some level)
+  pub refused : IsRefusedSo way.selection way.order (version_with v.version v.tables) level
+      way.settings e
+
+-- What compactions leave of a folder that reads as a version, lawful with its tables, if a removal
+-- follows each. They were made one after the other, and at most one more was begun.
+-- - They are pieces of work in a row, one for each compaction, with the removals between them, and
+--   a last one for what follows. So a crash at any moment leaves one of their versions, by
+--   `work_laws`.
+-- - Without a crash the folder reads as one of these, and at Ok as the last one.
+-- - The version after those that were made is lawful, and answers as the first one.
+-- - At Ok none is begun, and the folder stands for the last version by its manifest.
+-- - Else the device failed, or the next compaction is refused.
+pub record IsDescended (way : Way) (v : FolderVersion) (tables : List NumberedContents)
+    (call : FolderCall) (result : Result DescentEnd Fault) : Type 0 where
+  pub links : List CompactionLink
+  pub begun : List CompactionLink
+  pub chain : AreLinked way (version_with v.version v.tables) (links ++ begun)
+  pub few : length begun ≤ 1
+  pub none : OnOk result (begun ≡ [])
+  pub pieces : List WorkPiece
+  pub last : WorkPiece
+  pub row : IsWorkRow (order_cmp way.order) way.order v call.change.before pieces last
+  pub versions : versions_of pieces ≡ versions_left v links
+  pub version_last : last.next ≡ last_left v (links ++ begun)
+  pub all_calls : last.calls ≡ call.change.after
+  pub files_now : Files
+  pub holds : Tells call.change.new files_now
+  pub read : ReadsAsOneOf (order_cmp way.order) way.order (v ∷ versions_left v (links ++ begun))
+      files_now
+  pub reads_last : OnOk result (ReadsBy (order_cmp way.order) way.order (last_left v links).version
+      (last_left v links).manifest (last_left v links).tables files_now)
+  pub answers : AnswersAs way v.version tables (last_left v links)
+  pub stands : (start : World) →
+      AlwaysStands (order_cmp way.order) way.order v start call.change.before → OnOk result
+      (AlwaysStands (order_cmp way.order) way.order (last_left v links) start call.change.after)
+  pub refused : IfErr result (λ e. UnlessMemory e (IsStopped call.failed call.now e
+      ⊎ IsNextLevelRefused way (last_left v links) e))
+
+-- No file of the version is above its bottom, so nothing was changed, tested or told.
+pub record IsAtBottom {W : Type 0} (v : State) (change : FolderChange) (told told_now : W)
+    (result : Result DescentEnd Fault) : Type 0 where
+  pub bottom : ℕ
+  pub is_bottom : IsBottom v bottom
+  pub none_above : IsNextLevel v bottom None
+  pub calls : change.after ≡ change.before
+  pub same : TellsSame change.old change.new
+  pub untold : told_now ≡ told
+  pub answer : result ≡ Ok AtBottom
+
+-- The version passed the test, if one was asked for. If it is lawful, as it is after a test,
+-- compactions were made of it.
+pub record IsPassedLeft (way_to : ℕ → Way) (test : Option ℕ) (v : NamedVersion) (files : Files)
+    (call : FolderCall) (result : Result DescentEnd Fault) : Type 0 where
+  pub passed : IsTestAnswer test files (order_cmp v.order) v.version (Ok tt)
+  pub bottom : ℕ
+  pub is_bottom : IsBottom v.version bottom
+  pub descended : (loaded : List (ℕ × List ℕ)) (tables : List NumberedContents) →
+      ReadsAs (order_cmp v.order) v.order v.version loaded files →
+      IsLawfulTables (order_cmp v.order) v.version loaded (Ok tables) →
+      IsDescended (way_to bottom) (folder_version v.version v.manifest loaded) tables call result
+
+-- What is left of a folder that opens as a version by the manifest of a number, of which all levels
+-- are compacted. Nothing was changed or told: the test is refused, or the device failed. Or no file
+-- is above the bottom. Or compactions were made.
+abbrev pub IsAllLevelsLeft : {W : Type 0} → (ℕ → Way) → Option ℕ → NamedVersion → Files →
+    FolderCall → W → W → Result DescentEnd Fault → Type 0
+IsAllLevelsLeft way_to test v files call told told_now result =
+    IsUntold call.change told told_now (λ e. IsStopped call.failed call.now e
+    ⊎ IsTestAnswer test files (order_cmp v.order) v.version (Err e)) result
+    ⊎ (IsAtBottom v.version call.change told told_now result
+    ⊎ IsPassedLeft way_to test v files call result)

@@ -2,7 +2,7 @@
 
 use checks::{Fault, FaultName};
 use pairing::blocks;
-use session::{Refusal, RefusalText, Words, of_file, read_file, replace_file, told};
+use session::{Refusal, RefusalText, of_file, read_file, replace_file, said};
 use std::alloc::Global;
 use std::rt::Files;
 use std::thread::Threads;
@@ -21,7 +21,7 @@ pub fn blocks_answer<R: Files + AllocGlobal + Threads + Sync>(
 ) -> Result<Vec<u8>, Refusal> {
     let (entries, block) = merged(rt, line)?;
     let length = block.len();
-    let text = format!(in rt.alloc(); "{entries} entries, {length} bytes\n").map_err(Fault::from)?;
+    let text = format!(in rt.alloc(); "{entries} entries, {length} bytes\n")?;
     replace_file(rt, line.out, block.as_slice())?;
     Ok(text.into_bytes())
 }
@@ -64,11 +64,8 @@ fn read_block<R: Files + AllocGlobal>(rt: &R, path: &str) -> Result<Vec<u8>, Ref
 
 /// The refusal of a block's file of more than 2^30 bytes.
 fn too_large(alloc: Global, path: &str) -> Refusal {
-    let words = Words {
-        wrong: "it has more than 1073741824 bytes",
-        remedy: REMEDY,
-    };
-    Refusal::new(Fault::of(FaultName::Device), told(alloc, path, words))
+    let told = said(alloc, path, "it has more than 1073741824 bytes", REMEDY);
+    Refusal::new(Fault::of(FaultName::Device), told)
 }
 
 /// Whether a block is refused so by itself. A block that can't be read again, since memory is
@@ -91,11 +88,7 @@ fn refused_alone(alloc: Global, path: &str, fault: Fault) -> Refusal {
         FaultName::Block => "its bytes cannot be read as entries",
         name => of_file(name).wrong,
     };
-    let words = Words {
-        wrong,
-        remedy: REMEDY,
-    };
-    Refusal::new(fault, told(alloc, path, words))
+    Refusal::new(fault, said(alloc, path, wrong, REMEDY))
 }
 
 /// The refusal of the blocks in two files, each of which is accepted alone.
@@ -107,11 +100,8 @@ fn refused_together(alloc: Global, line: &BlocksLine<'_>, fault: Fault) -> Refus
             RefusalText::new(alloc, line.a, wrong, "give blocks that share none")
         }
         FaultName::TooLarge => {
-            let words = Words {
-                wrong: "the block would have more than 1073741824 bytes",
-                remedy: "merge smaller ones",
-            };
-            told(alloc, line.out, words)
+            let wrong = "the block would have more than 1073741824 bytes";
+            said(alloc, line.out, wrong, "merge smaller ones")
         }
         _ => None,
     };

@@ -5,14 +5,14 @@ use crate::version_verdict::test_unless_skipped;
 use answers::{EntryPlace, entry_json, entry_line, json_line};
 use checks::Fault;
 use scan::{Kind, PlacedEntry, key_history};
-use session::{Bytewise, Disk, Host, Order, Refusal, Session, Shortlex};
+use session::{Bytewise, Disk, Host, Opened, Order, Refusal, Session, Shortlex};
 use std::alloc::Global;
 use usage::HistoryLine;
 
 /// What is printed of all entries of a key in a folder, the newest first. After those of JSON comes
 /// the line of the logs, if there is one with writes.
 pub fn history_answer<R: Host>(
-    session: &mut Session<'_, R>,
+    session: &mut Session<'_, R, Opened>,
     line: &HistoryLine<'_>,
 ) -> Result<Vec<u8>, Refusal> {
     test_unless_skipped(session, &line.testing)?;
@@ -26,7 +26,7 @@ pub fn history_answer<R: Host>(
 
 /// All entries of a key, the newest first.
 fn history_of<'r, R: Host>(
-    session: &mut Session<'r, R>,
+    session: &mut Session<'r, R, Opened>,
     key: &[u8],
 ) -> Result<Vec<PlacedEntry>, Fault> {
     let alloc = session.rt.alloc();

@@ -32,9 +32,7 @@ fn keys_of_lines(alloc: Global, spelling: Spelling, lines: &[u8]) -> Result<Vec<
         let Some(key) = key_of_line(alloc, spelling, line)? else {
             return Err(no_key(alloc, keys.len().saturating_add(1), line, spelling));
         };
-        if let Err(error) = keys.push(key) {
-            return Err(Fault::from(error).into());
-        }
+        keys.push(key)?;
     }
     Ok(keys)
 }

@@ -15,7 +15,6 @@ mod row_printer;
 mod stats_printer;
 mod table_files;
 mod value_printer;
-mod version_tables;
 mod version_verdict;
 
 pub use block_files::blocks_answer;

@@ -1,20 +1,23 @@
 //! The names of the files that a copy of a folder needs.
 
-use crate::version_tables::table_found;
 use answers::{json_line, name_json};
-use checks::Fault;
+use checks::{Fault, FaultName};
 use install::CURRENT;
+use refusals::missing_file;
 use session::{
-    Bytewise, Comparator, FileMeta, Host, LEVELS, Order, Refusal, Session, Shortlex, manifest_name,
-    names_in, replayed_log,
+    Bytewise, Comparator, Disk, FileMeta, Host, LEVELS, Opened, Order, Refusal, Session, Shortlex,
+    manifest_name, names_in, path_in, refused_opened, replayed_log, table_file_name,
 };
 use std::alloc::Global;
+use std::fs;
+use std::io::ErrorKind;
+use std::rt::Files;
 use usage::FilesLine;
 
 /// The names of the files that a copy of a folder needs, a line each: CURRENT, the manifest, the
 /// tables by level and in version order, and the logs that LevelDB would replay. No table is read.
 pub fn files_answer<R: Host>(
-    session: &Session<'_, R>,
+    session: &Session<'_, R, Opened>,
     line: &FilesLine<'_>,
 ) -> Result<Vec<u8>, Refusal> {
     let alloc = session.rt.alloc();
@@ -48,7 +51,7 @@ fn push_name(
 
 /// Appends the tables of a version, by level and in version order.
 fn push_tables<C: Comparator, R: Host>(
-    session: &Session<'_, R>,
+    session: &Session<'_, R, Opened>,
     lines: &mut Vec<u8>,
     line: &FilesLine<'_>,
 ) -> Result<(), Refusal> {
@@ -64,7 +67,7 @@ fn push_tables<C: Comparator, R: Host>(
 
 /// Appends those of these files.
 fn push_level<R: Host>(
-    session: &Session<'_, R>,
+    session: &Session<'_, R, Opened>,
     lines: &mut Vec<u8>,
     line: &FilesLine<'_>,
     files: &[&FileMeta],
@@ -78,19 +81,54 @@ fn push_level<R: Host>(
 
 /// Appends the logs that LevelDB would replay over a version.
 fn push_logs<R: Host>(
-    session: &Session<'_, R>,
+    session: &Session<'_, R, Opened>,
     lines: &mut Vec<u8>,
     line: &FilesLine<'_>,
 ) -> Result<(), Refusal> {
-    let (rt, path) = (session.rt, session.telling.folder);
-    let names = match names_in(rt, path) {
-        Ok(names) => names,
-        Err(error) => return Err(Refusal::of_call(rt.alloc(), path, "list its files", &error)),
-    };
+    let rt = session.rt;
+    let names = names_in(rt, session.telling.folder)?;
     for name in &names {
         if replayed_log(Some(&session.opened.version), name.as_str()).is_some() {
             push_name(rt.alloc(), lines, line, name.as_str())?;
         }
     }
     Ok(())
+}
+
+/// The name under which the table of a number is there. Missing if it isn't.
+fn table_found<R: Host>(session: &Session<'_, R, Opened>, number: u64) -> Result<String, Refusal> {
+    let (rt, path) = (session.rt, session.telling.folder);
+    let mut folder = Disk::new(rt, path);
+    let name = match table_file_name(rt.alloc(), &mut folder, number) {
+        Ok(name) => name,
+        Err(fault) => return Err(refused_opened(rt, path, &folder, session.manifest, fault)),
+    };
+    if is_there(rt, path, name.as_str())? {
+        return Ok(name);
+    }
+    Err(missing(session, name.as_str()))
+}
+
+/// The refusal that a table of this name is missing. If another program changed the folder
+/// meanwhile, that is told.
+fn missing<R: Host>(session: &Session<'_, R, Opened>, name: &str) -> Refusal {
+    let (rt, path) = (session.rt, session.telling.folder);
+    let fault = Fault::of(FaultName::Missing);
+    let refusal = refused_opened(rt, path, &session.disk, session.manifest, fault);
+    if refusal.told.is_some() {
+        return refusal;
+    }
+    refusal.telling(missing_file(rt.alloc(), path, name))
+}
+
+/// Whether a folder's file is there. Device if the system doesn't tell it.
+fn is_there<R: Files + AllocGlobal>(rt: &R, folder: &str, name: &str) -> Result<bool, Refusal> {
+    let path = path_in(rt.alloc(), folder, name)?;
+    match fs::metadata(rt, path.as_str()) {
+        Ok(_) => Ok(true),
+        Err(error) if error.kind() == ErrorKind::NotFound => Ok(false),
+        Err(error) => {
+            Err(Refusal::of_call(rt.alloc(), path.as_str(), "read its length", &error))
+        }
+    }
 }

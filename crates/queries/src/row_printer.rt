@@ -5,7 +5,7 @@ use answers::{Open, count_json, json_line, push_row, push_row_json};
 use checks::{Fault, FaultName, checkers};
 use refusals::sizes_in_turn;
 use scan::{RowChoice, RowCounter, RowTaker, prefix_end, scan_unverified, scan_version};
-use session::{Host, Order, ProgressLine, Refusal, Session, Words, bytes_of, print_lines, told};
+use session::{Host, Opened, Order, ProgressLine, Refusal, Session, bytes_of, print_lines, said};
 use std::time::Clock;
 use usage::{RowOptions, RowOutput, ScanLine, Testing};
 
@@ -15,7 +15,7 @@ const AT_ONCE: usize = 65_536;
 /// Prints the rows of a folder that are asked for, or answers the line of their number. Its version
 /// is tested before, if that is asked for.
 pub fn rows_answer<R: Host>(
-    session: &mut Session<'_, R>,
+    session: &mut Session<'_, R, Opened>,
     line: &ScanLine<'_>,
 ) -> Result<Vec<u8>, Refusal> {
     let end = end_of(session, &line.rows)?;
@@ -33,7 +33,7 @@ pub fn rows_answer<R: Host>(
 /// Where the keys end that are printed; None if nothing ends them. Comparator if they are those
 /// with a prefix, and keys aren't in the order of their bytes.
 fn end_of<R: Host>(
-    session: &Session<'_, R>,
+    session: &Session<'_, R, Opened>,
     rows: &RowOptions,
 ) -> Result<Option<Vec<u8>>, Refusal> {
     let alloc = session.rt.alloc();
@@ -41,19 +41,16 @@ fn end_of<R: Host>(
         return Ok(None);
     };
     if session.opened.order != Order::Bytewise {
-        let words = Words {
-            wrong: "its comparator does not keep the keys with a prefix together",
-            remedy: "give --from and --to",
-        };
-        let fault = Fault::of(FaultName::Comparator);
-        return Err(Refusal::new(fault, told(alloc, session.telling.folder, words)));
+        let wrong = "its comparator does not keep the keys with a prefix together";
+        let told = said(alloc, session.telling.folder, wrong, "give --from and --to");
+        return Err(Refusal::new(Fault::of(FaultName::Comparator), told));
     }
     Ok(prefix_end(alloc, prefix)?)
 }
 
 /// What is printed of how many rows there are.
 fn count_answer<R: Host>(
-    session: &mut Session<'_, R>,
+    session: &mut Session<'_, R, Opened>,
     line: &ScanLine<'_>,
     choice: RowChoice<'_>,
 ) -> Result<Vec<u8>, Refusal> {
@@ -66,7 +63,7 @@ fn count_answer<R: Host>(
     let text = if line.is_json {
         json_line(alloc, &count_json(alloc, count, session.logs)?)?
     } else {
-        format!(in alloc; "{count}\n").map_err(Fault::from)?
+        format!(in alloc; "{count}\n")?
     };
     Ok(text.into_bytes())
 }
@@ -74,7 +71,7 @@ fn count_answer<R: Host>(
 /// Prints rows as they are found, also those that were told before a refusal. After rows of JSON
 /// comes the line of the logs, if there is one with writes.
 fn print_rows<R: Host>(
-    session: &mut Session<'_, R>,
+    session: &mut Session<'_, R, Opened>,
     line: &ScanLine<'_>,
     choice: RowChoice<'_>,
 ) -> Result<(), Refusal> {
@@ -99,7 +96,7 @@ fn print_rows<R: Host>(
 
 /// Tells the rows of a folder, and tests it before, if that is asked for.
 fn scanned<'r, R: Host, T: RowTaker>(
-    session: &mut Session<'r, R>,
+    session: &mut Session<'r, R, Opened>,
     testing: &Testing,
     choice: RowChoice<'_>,
     progress: &ProgressLine<'r, R>,

@@ -6,12 +6,12 @@ use answers::{
     version_json,
 };
 use refusals::sizes_in_turn;
-use session::{Host, Refusal, Session, bytes_of, missing_log};
+use session::{Host, Opened, Refusal, Session, bytes_of, missing_log};
 use usage::{ManifestLine, Testing, VerdictForm, VerifyLine};
 
 /// What is printed of the version of a folder.
 pub fn version_answer<R: Host>(
-    session: &Session<'_, R>,
+    session: &Session<'_, R, Opened>,
     line: &ManifestLine<'_>,
 ) -> Result<Vec<u8>, Refusal> {
     let alloc = session.rt.alloc();
@@ -25,7 +25,7 @@ pub fn version_answer<R: Host>(
 
 /// Tests the version of a folder. The answer is what is printed of a lawful one.
 pub fn verdict_answer<R: Host>(
-    session: &mut Session<'_, R>,
+    session: &mut Session<'_, R, Opened>,
     line: &VerifyLine<'_>,
 ) -> Result<Vec<u8>, Refusal> {
     let memory = bytes_of(line.memory);
@@ -37,7 +37,10 @@ pub fn verdict_answer<R: Host>(
 }
 
 /// The line of a lawful version.
-fn lawful_answer<R: Host>(session: &mut Session<'_, R>, memory: u64) -> Result<Vec<u8>, Refusal> {
+fn lawful_answer<R: Host>(
+    session: &mut Session<'_, R, Opened>,
+    memory: u64,
+) -> Result<Vec<u8>, Refusal> {
     let rt = session.rt;
     sizes_in_turn(rt, session.telling.folder, &session.opened)?;
     let progress = session.progress();
@@ -58,7 +61,10 @@ fn lawful_answer<R: Host>(session: &mut Session<'_, R>, memory: u64) -> Result<V
 }
 
 /// The JSON line of a lawful version.
-fn lawful_object<R: Host>(session: &mut Session<'_, R>, memory: u64) -> Result<Vec<u8>, Refusal> {
+fn lawful_object<R: Host>(
+    session: &mut Session<'_, R, Opened>,
+    memory: u64,
+) -> Result<Vec<u8>, Refusal> {
     let tested = version_tested(session, memory)?;
     let (rt, logs) = (session.rt, session.logs);
     let missing = match logs {
@@ -71,7 +77,7 @@ fn lawful_object<R: Host>(session: &mut Session<'_, R>, memory: u64) -> Result<V
 
 /// Tests a version before it is read, unless that is left out.
 pub(crate) fn test_unless_skipped<R: Host>(
-    session: &mut Session<'_, R>,
+    session: &mut Session<'_, R, Opened>,
     testing: &Testing,
 ) -> Result<(), Refusal> {
     if !testing.is_skipped {
@@ -82,7 +88,7 @@ pub(crate) fn test_unless_skipped<R: Host>(
 
 /// Tests the sizes of a version's tables, and then the version.
 fn version_tested<R: Host>(
-    session: &mut Session<'_, R>,
+    session: &mut Session<'_, R, Opened>,
     memory: u64,
 ) -> Result<VersionTotals, Refusal> {
     let rt = session.rt;

@@ -2,24 +2,18 @@
 
 use crate::manifest_refusal::manifest_refusal;
 use crate::settings_refusal::settings_refusal;
-use crate::table_file::table_file_name;
 use crate::unlawful_version::unlawful_refusal;
 use crate::words::missing_file;
 use coding::FaultName;
 use compact::Settings;
 use disk::Disk;
 use folder::{CURRENT, Folder};
-use session::{Host, Refusal, RefusalText, Telling, Words, no_database, of_file, path_in, told};
+use session::{
+    Host, Refusal, RefusalText, Telling, no_database, of_file, path_in, said, table_file_name, told,
+};
 use std::alloc::Global;
 use std::fs;
 use std::rt::Files;
-
-/// What is told of a folder in which a file was missing, and is there by now.
-const FOUND_AGAIN: Words = Words {
-    wrong: "a file was missing, and none is by now: another program has changed the database \
-        meanwhile",
-    remedy: "run it again",
-};
 
 /// The refusal of a command on a folder, with what is told of it: the file that is refused. The name
 /// is told before, on the standard error.
@@ -69,7 +63,7 @@ pub fn table_explained(alloc: Global, folder: &str, refusal: Refusal) -> Refusal
 }
 
 /// Whether a refusal of this name is about no file that can be found.
-fn is_of_no_file(name: FaultName) -> bool {
+pub fn is_of_no_file(name: FaultName) -> bool {
     matches!(
         name,
         FaultName::Locked | FaultName::Changed | FaultName::Device | FaultName::Memory
@@ -103,7 +97,7 @@ fn file_told<R: Host>(rt: &R, telling: Telling<'_>, refusal: &Refusal) -> Option
         name => {
             let number = telling.refused.number()?;
             let file = table_file_name(rt.alloc(), &mut Disk::new(rt, folder), number).ok()?;
-            let path = path_in(rt.alloc(), folder, file.as_str())?;
+            let path = path_in(rt.alloc(), folder, file.as_str()).ok()?;
             told(rt.alloc(), path.as_str(), of_file(name))
         }
     }
@@ -119,7 +113,9 @@ fn missing_told<R: Host>(rt: &R, folder: &str, file: &str) -> Option<RefusalText
     };
     let is_found = is_there(rt, folder, file) || is_there(rt, folder, newer.as_str());
     if is_found || file.starts_with("MANIFEST-") && !is_named(rt, folder, file) {
-        return told(alloc, folder, FOUND_AGAIN);
+        let wrong = "a file was missing, and none is by now: another program has changed the \
+            database meanwhile";
+        return said(alloc, folder, wrong, "run it again");
     }
     if file == CURRENT {
         return no_database(rt, folder);
@@ -138,7 +134,7 @@ fn is_named<R: Host>(rt: &R, folder: &str, manifest: &str) -> bool {
 /// Whether a folder has a file of this name.
 pub fn is_there<R: Files + AllocGlobal>(rt: &R, folder: &str, name: &str) -> bool {
     match path_in(rt.alloc(), folder, name) {
-        Some(path) => fs::metadata(rt, path.as_str()).is_ok(),
-        None => false,
+        Ok(path) => fs::metadata(rt, path.as_str()).is_ok(),
+        Err(_) => false,
     }
 }

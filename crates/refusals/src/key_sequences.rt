@@ -45,12 +45,12 @@ pub(crate) fn sequences_of<F: Folder>(
 ) -> Result<Option<KeySequences>, Fault>
     ensures reads { OnlyReads F.Folder folder.old folder.new }
 {
-    let Some(file) = table_file(alloc, folder, number)? else {
+    let Some((_, bytes)) = table_file(alloc, folder, number)? else {
         return Ok(None);
     };
     match order {
-        Order::Bytewise => sequences_in::<Bytewise>(alloc, &file.bytes, user),
-        Order::Shortlex => sequences_in::<Shortlex>(alloc, &file.bytes, user),
+        Order::Bytewise => sequences_in::<Bytewise>(alloc, &bytes, user),
+        Order::Shortlex => sequences_in::<Shortlex>(alloc, &bytes, user),
     }
 }
 

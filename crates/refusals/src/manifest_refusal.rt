@@ -3,56 +3,14 @@
 ghost use Rattle.folder.specs.Reports.{OnlyReads};
 
 use crate::edit_fields::{Limit, limit_passed};
+use crate::words::Text;
 use coding::{Fault, FaultName};
 use edit::{NewFile, VersionEdit};
 use folder::{CURRENT, Folder, Order, number_in_current};
 use logrec::RecordReader;
-use session::{RefusalText, Words, of_file, path_in, told};
+use session::{RefusalText, of_file, path_in, told};
 use std::alloc::Global;
 use std::collections::BTreeSet;
-
-/// What to do about a folder that is damaged.
-const RESTORE: &str = "restore the folder from a copy";
-
-/// The same if a counter was never set.
-const REPAIR: &str = "restore the folder from a copy, or have LevelDB repair it";
-
-const LONG_KEY: Words = Words {
-    wrong: "a key in it has more than 65535 bytes, the most that is compacted here",
-    remedy: "leave its compaction to LevelDB, which has no such limit",
-};
-
-const NO_COMPARATOR: Words = Words {
-    wrong: "no record names a comparator",
-    remedy: "open the database once with LevelDB, which writes the manifest anew",
-};
-
-const NO_LOG: Words = Words {
-    wrong: "no record sets the log number: the database is damaged",
-    remedy: REPAIR,
-};
-
-const NO_SEQUENCE: Words = Words {
-    wrong: "no record sets the last sequence: the database is damaged",
-    remedy: REPAIR,
-};
-
-const NO_NEXT: Words = Words {
-    wrong: "no record sets the next file number: the database is damaged",
-    remedy: REPAIR,
-};
-
-const ADDED_TWICE: Words = Words {
-    wrong: "one version edit adds a file twice, as goleveldb does when it opens a database over a \
-        log with data",
-    remedy: "open and close it with goleveldb until its log is empty, which takes two times",
-};
-
-const NO_FIT: Words = Words {
-    wrong: "its edits do not fit together",
-    remedy: "restore the folder from a copy, or open it once with LevelDB, which writes the \
-        manifest anew",
-};
 
 /// What is told of the `file` of a folder at a path, which is CURRENT or a manifest and is refused
 /// by this name. A manifest is read again. None of any other file. It only reads.
@@ -68,11 +26,13 @@ pub(crate) fn manifest_refusal<F: Folder>(
     if file != CURRENT && !file.starts_with("MANIFEST-") {
         return Ok(None);
     }
-    let Some(path) = path_in(alloc, path, file) else {
-        return Ok(None);
-    };
+    let path = path_in(alloc, path, file)?;
     let path = path.as_str();
-    if file == CURRENT || !has_detail(name) {
+    let has_detail = matches!(
+        name,
+        FaultName::EditField | FaultName::Comparator | FaultName::Apply
+    );
+    if file == CURRENT || !has_detail {
         return Ok(told(alloc, path, of_file(name)));
     }
     let Some(bytes) = folder.read(file)? else {
@@ -80,22 +40,14 @@ pub(crate) fn manifest_refusal<F: Folder>(
     };
     let edits = edits_seen(alloc, &bytes)?;
     let detail = match name {
-        FaultName::EditField => field_told(alloc, path, &edits),
-        FaultName::Comparator => comparator_told(alloc, path, &edits),
-        _ => misfit_told(alloc, path, &edits, number_of(alloc, file)),
+        FaultName::EditField => field_text(alloc, &edits),
+        FaultName::Comparator => comparator_text(alloc, &edits),
+        _ => misfit_text(alloc, &edits, number_of(alloc, file)),
     };
-    if detail.is_some() {
-        return Ok(detail);
+    if let Some((wrong, remedy)) = detail {
+        return Ok(RefusalText::new(alloc, path, Ok(wrong), remedy));
     }
     Ok(told(alloc, path, of_file(name)))
-}
-
-/// Whether more is known of a manifest that is refused by this name.
-fn has_detail(name: FaultName) -> bool {
-    matches!(
-        name,
-        FaultName::EditField | FaultName::Comparator | FaultName::Apply
-    )
 }
 
 /// The number of the manifest of this name. 0 if that is none.
@@ -171,6 +123,19 @@ impl EditsSeen {
         }
     }
 
+    /// The first counter that no edit sets.
+    fn unset(&self) -> Option<&'static str> {
+        if self.log_number.is_none() {
+            Some("log number")
+        } else if self.last_sequence.is_none() {
+            Some("last sequence")
+        } else if self.next_file.is_none() {
+            Some("next file number")
+        } else {
+            None
+        }
+    }
+
     /// Whether the first comparator has this name.
     fn is_named(&self, name: &str) -> bool {
         match &self.comparator {
@@ -192,60 +157,77 @@ fn adds_twice(alloc: Global, files: &[NewFile]) -> Result<bool, Fault> {
 }
 
 /// Why a field is refused, if that is a limit.
-fn field_told(alloc: Global, path: &str, edits: &EditsSeen) -> Option<RefusalText> {
+fn field_text(alloc: Global, edits: &EditsSeen) -> Option<Text> {
     match edits.limit? {
         Limit::Level(level) => {
-            let wrong = format!(in alloc; "it names level {level}, and LevelDB's levels end at 6");
-            let remedy = "use the program that wrote it, or restore the folder from a copy";
-            RefusalText::new(alloc, path, wrong, remedy)
+            let wrong = format!(in alloc;
+                "it names level {level}, and LevelDB's levels end at 6"
+            ).ok()?;
+            Some((
+                wrong,
+                "use the program that wrote it, or restore the folder from a copy",
+            ))
         }
-        Limit::Key => told(alloc, path, LONG_KEY),
+        Limit::Key => {
+            let wrong = "a key in it has more than 65535 bytes, the most that is compacted here";
+            Some((
+                String::from_str(alloc, wrong).ok()?,
+                "leave its compaction to LevelDB, which has no such limit",
+            ))
+        }
     }
 }
 
 /// What is wrong with the comparators that edits name. None if nothing is.
-fn comparator_told(alloc: Global, path: &str, edits: &EditsSeen) -> Option<RefusalText> {
+fn comparator_text(alloc: Global, edits: &EditsSeen) -> Option<Text> {
     let Some(first) = &edits.comparator else {
-        return told(alloc, path, NO_COMPARATOR);
+        let wrong = String::from_str(alloc, "no record names a comparator").ok()?;
+        let remedy = "open the database once with LevelDB, which writes the manifest anew";
+        return Some((wrong, remedy));
     };
     if Order::named(first.as_str()).is_err() {
         let wrong = format!(in alloc;
             "it names the comparator {first:?}, and only leveldb.BytewiseComparator and \
                 subcompaction.ShortlexComparator are known"
-        );
-        let remedy = "compact it with the program that wrote it";
-        return RefusalText::new(alloc, path, wrong, remedy);
+        )
+        .ok()?;
+        return Some((wrong, "compact it with the program that wrote it"));
     }
     let other = edits.other.as_ref()?;
     let wrong = format!(in alloc;
         "it names a second comparator, {other:?}: the database is damaged"
-    );
-    RefusalText::new(alloc, path, wrong, RESTORE)
+    ).ok()?;
+    Some((wrong, "restore the folder from a copy"))
 }
 
 /// Why the edits of the manifest of this `number` don't fit together.
-fn misfit_told(alloc: Global, path: &str, edits: &EditsSeen, number: u64) -> Option<RefusalText> {
-    if edits.log_number.is_none() {
-        return told(alloc, path, NO_LOG);
+fn misfit_text(alloc: Global, edits: &EditsSeen, number: u64) -> Option<Text> {
+    if let Some(counter) = edits.unset() {
+        let wrong = format!(in alloc;
+            "no record sets the {counter}: the database is damaged"
+        ).ok()?;
+        return Some((
+            wrong,
+            "restore the folder from a copy, or have LevelDB repair it",
+        ));
     }
-    if edits.last_sequence.is_none() {
-        return told(alloc, path, NO_SEQUENCE);
-    }
-    let Some(next) = edits.next_file else {
-        return told(alloc, path, NO_NEXT);
-    };
+    let next = edits.next_file.unwrap_or(0);
     if number >= next {
-        let wrong = format!(in alloc; "its number is not below the next file number, {next}");
-        let remedy = "open the database once with LevelDB, which mends it";
-        return RefusalText::new(alloc, path, wrong, remedy);
+        let wrong = format!(in alloc; "its number is not below the next file number, {next}").ok()?;
+        return Some((wrong, "open the database once with LevelDB, which mends it"));
     }
-    told(
-        alloc,
-        path,
-        if edits.adds_twice {
-            ADDED_TWICE
-        } else {
-            NO_FIT
-        },
-    )
+    let (wrong, remedy) = if edits.adds_twice {
+        (
+            "one version edit adds a file twice, as goleveldb does when it opens a database over a \
+                log with data",
+            "open and close it with goleveldb until its log is empty, which takes two times",
+        )
+    } else {
+        (
+            "its edits do not fit together",
+            "restore the folder from a copy, or open it once with LevelDB, which writes the \
+                manifest anew",
+        )
+    };
+    Some((String::from_str(alloc, wrong).ok()?, remedy))
 }

@@ -1,5 +1,6 @@
 //! What is told if a compaction is refused for what was asked for.
 
+use crate::words::Text;
 use coding::FaultName;
 use compact::{MAX_SNAPSHOTS, Settings, Snapshots};
 use folder::MAX_WORKERS;
@@ -9,96 +10,75 @@ use split::MAX_RANGES;
 use std::alloc::Global;
 use table::{MAX_BLOCK_SIZE, MAX_TABLE_LEN};
 
-/// What to do about a list of more.
-const LIST_FEWER: &str = "give at most 4096";
-
 /// What is told if the compaction of the folder at a path is refused by this name. None if it isn't
 /// refused for what was asked for. The `level` is None if all were asked for.
-pub fn settings_refusal(
+pub(crate) fn settings_refusal(
     alloc: Global,
     folder: &str,
     level: Option<u64>,
     settings: &Settings<'_>,
     name: FaultName,
 ) -> Option<RefusalText> {
-    match name {
-        FaultName::Level | FaultName::NoInput => level_refusal(alloc, folder, level, name),
-        FaultName::Workers => outside(alloc, folder, "--workers", settings.workers, MAX_WORKERS),
-        FaultName::SplitCount => outside(alloc, folder, "--ranges", settings.ranges, MAX_RANGES),
-        FaultName::Options => options_refusal(alloc, folder, settings),
-        FaultName::Snapshot => snapshot_refusal(alloc, folder, settings.snapshots),
-        FaultName::SnapshotList => list_refusal(alloc, folder, settings.snapshots),
-        _ => None,
-    }
+    let (wrong, remedy) = match name {
+        FaultName::Level | FaultName::NoInput => level_text(alloc, level?, name)?,
+        FaultName::Workers => outside(alloc, "--workers", settings.workers, MAX_WORKERS)?,
+        FaultName::SplitCount => outside(alloc, "--ranges", settings.ranges, MAX_RANGES)?,
+        FaultName::Options => options_text(alloc, settings)?,
+        FaultName::Snapshot => snapshot_text(alloc, settings.snapshots)?,
+        FaultName::SnapshotList => list_text(alloc, settings.snapshots)?,
+        _ => return None,
+    };
+    RefusalText::new(alloc, folder, Ok(wrong), remedy)
 }
 
-/// What is told of a level that can't be compacted.
-fn level_refusal(
-    alloc: Global,
-    folder: &str,
-    level: Option<u64>,
-    name: FaultName,
-) -> Option<RefusalText> {
-    let level = level?;
+/// What is told of a level that can't be compacted, or that has no file.
+fn level_text(alloc: Global, level: u64, name: FaultName) -> Option<Text> {
     if name == FaultName::Level {
-        let wrong = format!(in alloc; "level {level} cannot be compacted");
-        return RefusalText::new(alloc, folder, wrong, "give a level from 0 to 5");
+        let wrong = format!(in alloc; "level {level} cannot be compacted").ok()?;
+        return Some((wrong, "give a level from 0 to 5"));
     }
-    let wrong = format!(in alloc; "there is nothing to compact at level {level}: it has no file");
-    RefusalText::new(
-        alloc,
-        folder,
-        wrong,
-        "manifest shows which levels have files",
-    )
+    let wrong = format!(in alloc;
+        "there is nothing to compact at level {level}: it has no file"
+    ).ok()?;
+    Some((wrong, "manifest shows which levels have files"))
 }
 
 /// What is told of an option that is outside its limits, 1 and `most`. None if it is within.
-fn outside(
-    alloc: Global,
-    folder: &str,
-    option: &str,
-    value: u64,
-    most: u64,
-) -> Option<RefusalText> {
+fn outside(alloc: Global, option: &str, value: u64, most: u64) -> Option<Text> {
     if (1..=most).contains(&value) {
         return None;
     }
-    let wrong = format!(in alloc; "{option} {value} is outside 1 to {most}");
-    RefusalText::new(alloc, folder, wrong, "give a number within these limits")
+    let wrong = format!(in alloc; "{option} {value} is outside 1 to {most}").ok()?;
+    Some((wrong, "give a number within these limits"))
 }
 
 /// What is told of the option of the outputs that is outside its limits. None if none is.
-fn options_refusal(alloc: Global, folder: &str, settings: &Settings<'_>) -> Option<RefusalText> {
+fn options_text(alloc: Global, settings: &Settings<'_>) -> Option<Text> {
     let options = &settings.options;
-    let block_size = outside(
-        alloc,
-        folder,
-        "--block-size",
-        options.block_size,
-        MAX_BLOCK_SIZE,
-    );
-    if block_size.is_some() {
-        return block_size;
+    match outside(alloc, "--block-size", options.block_size, MAX_BLOCK_SIZE) {
+        Some(text) => Some(text),
+        None => outside(
+            alloc,
+            "--file-size",
+            options.file_size,
+            MAX_TABLE_LEN as u64,
+        ),
     }
-    outside(
-        alloc,
-        folder,
-        "--file-size",
-        options.file_size,
-        MAX_TABLE_LEN as u64,
-    )
 }
 
 /// What is told of a snapshot that is 2^56 - 1 or more. None if there is none.
-fn snapshot_refusal(alloc: Global, folder: &str, snapshots: Snapshots<'_>) -> Option<RefusalText> {
-    match snapshots {
-        Snapshots::From(sequence) => beyond(alloc, folder, "--snapshot", sequence),
-        Snapshots::Listed(list) => {
-            let sequence = first_beyond(list)?;
-            beyond(alloc, folder, "--snapshots", sequence)
-        }
+fn snapshot_text(alloc: Global, snapshots: Snapshots<'_>) -> Option<Text> {
+    let (option, sequence) = match snapshots {
+        Snapshots::From(sequence) => ("--snapshot", sequence),
+        Snapshots::Listed(list) => ("--snapshots", first_beyond(list)?),
+    };
+    if sequence < MAX_SEQUENCE {
+        return None;
     }
+    let wrong = format!(in alloc;
+        "{option} has {sequence}, and snapshots are below {MAX_SEQUENCE}"
+    ).ok()?;
+    Some((wrong, "give an earlier sequence"))
 }
 
 /// The first sequence of a list that is 2^56 - 1 or more.
@@ -111,35 +91,28 @@ fn first_beyond(list: &[u64]) -> Option<u64> {
     None
 }
 
-/// What is told of a sequence that is 2^56 - 1 or more. None of any other.
-fn beyond(alloc: Global, folder: &str, option: &str, sequence: u64) -> Option<RefusalText> {
-    if sequence < MAX_SEQUENCE {
-        return None;
-    }
-    let wrong = format!(in alloc;
-        "{option} has {sequence}, and snapshots are below {MAX_SEQUENCE}"
-    );
-    RefusalText::new(alloc, folder, wrong, "give an earlier sequence")
-}
-
 /// What is told of a list of snapshots that is too long, doesn't rise, or has one above the last
 /// sequence: then the greatest.
-fn list_refusal(alloc: Global, folder: &str, snapshots: Snapshots<'_>) -> Option<RefusalText> {
+fn list_text(alloc: Global, snapshots: Snapshots<'_>) -> Option<Text> {
     let Snapshots::Listed(list) = snapshots else {
         return None;
     };
     let count = list.len();
     if count > MAX_SNAPSHOTS {
-        let wrong = format!(in alloc; "--snapshots has {count} sequences");
-        return RefusalText::new(alloc, folder, wrong, LIST_FEWER);
+        let wrong = format!(in alloc; "--snapshots has {count} sequences").ok()?;
+        return Some((wrong, "give at most 4096"));
     }
     if let Some((before, after)) = first_fall(list) {
-        let wrong = format!(in alloc; "--snapshots does not rise: {after} comes after {before}");
-        return RefusalText::new(alloc, folder, wrong, "give rising sequences");
+        let wrong = format!(in alloc;
+            "--snapshots does not rise: {after} comes after {before}"
+        ).ok()?;
+        return Some((wrong, "give rising sequences"));
     }
     let greatest = list.last()?;
-    let wrong = format!(in alloc; "--snapshots has {greatest}, which is above the last sequence");
-    RefusalText::new(alloc, folder, wrong, "leave it out")
+    let wrong = format!(in alloc;
+        "--snapshots has {greatest}, which is above the last sequence"
+    ).ok()?;
+    Some((wrong, "leave it out"))
 }
 
 /// The first two neighbours of a list that don't rise.

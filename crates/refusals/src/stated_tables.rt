@@ -41,11 +41,11 @@ fn unlike_stated<C: Comparator, F: Folder>(
 ) -> Result<Option<FileFault>, Fault>
     ensures reads { OnlyReads F.Folder folder.old folder.new }
 {
-    let Some(file) = table_file(alloc, folder, meta.number)? else {
+    let Some((_, bytes)) = table_file(alloc, folder, meta.number)? else {
         return Ok(None);
     };
-    let sound = check::<C>(alloc, &file.bytes)?;
-    let held = file.bytes.len() as u64;
+    let sound = check::<C>(alloc, &bytes)?;
+    let held = bytes.len() as u64;
     let stated = meta.size;
     if held != stated {
         return Ok(Some(FileFault::Length { held, stated }));

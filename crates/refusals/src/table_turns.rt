@@ -1,6 +1,6 @@
 //! The tables of a version, of which one is too large to be read: each is refused in its turn.
 
-use crate::table_file::{TableFile, table_file};
+use crate::table_file::table_file;
 use coding::{Fault, FaultName};
 use disk::{Disk, SystemFiles};
 use folder::{Opened, Order, Version, file_numbers};
@@ -29,11 +29,11 @@ pub fn sizes_in_turn<R: SystemFiles + AllocGlobal>(
     };
     match found {
         Ok(None) => Err(size_refusal(rt, path, large)),
-        Ok(Some((file, fault))) => match path_in(alloc, path, file.as_str()) {
-            Some(file) => Err(Refusal::of_file(alloc, file.as_str(), fault)),
-            None => Err(Refusal::from(fault)),
-        },
-        Err(fault) => Err(refused_opened(rt, path, &folder, opened, fault)),
+        Ok(Some((file, fault))) => {
+            let file = path_in(alloc, path, file.as_str())?;
+            Err(Refusal::of_file(alloc, file.as_str(), fault))
+        }
+        Err(fault) => Err(refused_opened(rt, path, &folder, Some(opened.manifest), fault)),
     }
 }
 
@@ -48,7 +48,7 @@ fn refused_before<C: Comparator, R: SystemFiles + AllocGlobal>(
         if *number == end {
             return Ok(None);
         }
-        let Some(TableFile { name, bytes }) = table_file(alloc, folder, *number)? else {
+        let Some((name, bytes)) = table_file(alloc, folder, *number)? else {
             return Err(Fault::of(FaultName::Missing));
         };
         match check::<C>(alloc, &bytes) {

@@ -1,11 +1,8 @@
 //! What is told of an unlawful version: the first fault that all its tables have.
 
-ghost use Rattle.std.specs.Prelude.{◌≤◌};
-ghost use Rattle.edit.specs.declared.meta.TheConstants.{LAST_LEVEL};
 ghost use Rattle.folder.specs.Reports.{OnlyReads};
 
 use crate::key_sequences::sequences_of;
-use crate::table_file::table_file_name;
 use crate::words::{Stated, file_fault};
 use checks::{Open, checkers};
 use coding::{Fault, FaultName};
@@ -14,7 +11,7 @@ use edit::{LEVELS, Version};
 use faults::{FaultTaker, FileFault, all_faults};
 use folder::{Folder, Opened, Order, open};
 use ikey::Bytewise;
-use session::{Host, RefusalText, Telling, path_in};
+use session::{Host, RefusalText, Telling, path_in, table_file_name};
 use std::alloc::Global;
 use texts::text_of;
 
@@ -120,9 +117,7 @@ fn file_told<F: Folder>(
     ensures reads { OnlyReads F.Folder folder.old folder.new }
 {
     let name = table_file_name(alloc, folder, number)?;
-    let Some(path) = path_in(alloc, path, name.as_str()) else {
-        return Ok(None);
-    };
+    let path = path_in(alloc, path, name.as_str())?;
     let path = path.as_str();
     match fault {
         FileFault::NotBelow(next) => {
@@ -142,23 +137,12 @@ fn file_told<F: Folder>(
 /// The level of the file of a number.
 fn level_of(alloc: Global, version: &Version, number: u64) -> Result<u64, Fault> {
     for level in 0..LEVELS {
-        if has_file(alloc, version, level, number)? {
+        let files = version.files::<Bytewise>(alloc, level)?;
+        if files.iter().any(|file| file.number == number) {
             return Ok(level);
         }
     }
     Ok(0)
-}
-
-/// Whether a level has the file of a number.
-fn has_file(alloc: Global, version: &Version, level: u64, number: u64) -> Result<bool, Fault>
-    requires { level ≤ LAST_LEVEL }
-{
-    for file in version.files::<Bytewise>(alloc, level)? {
-        if file.number == number {
-            return Ok(true);
-        }
-    }
-    Ok(false)
 }
 
 /// A user key, and the files of two entries of it that are not in their order.
@@ -195,9 +179,7 @@ fn key_told<F: Folder>(
     };
     let name = table_file_name(alloc, folder, file)?;
     let other = table_file_name(alloc, folder, other)?;
-    let Some(path) = path_in(alloc, path, name.as_str()) else {
-        return Ok(None);
-    };
+    let path = path_in(alloc, path, name.as_str())?;
     let key = text_of(alloc, user)?;
     let wrong = if here != there {
         format!(in alloc;

@@ -50,32 +50,25 @@ pub(crate) fn needs_of<'a>(line: &Line<'a>) -> Needs<'a> {
         Line::Blocks(line) => of_files(line.a, false),
         Line::Dump(line) => of_files(line.table, false),
         Line::Table(line) => of_files(line.table, line.is_json),
-        Line::Manifest(line) => of(line.folder, line.is_json, Access::Read, Some("manifest")),
-        Line::Stats(line) => {
-            of(line.folder, line.is_json, Access::Read, Some("stats")).holding(line.memory)
-        }
+        Line::Manifest(line) => of_read(line.folder, line.is_json, "manifest"),
+        Line::Stats(line) => of_read(line.folder, line.is_json, "stats").holding(line.memory),
         Line::Verify(line) => {
-            let is_json = line.form == VerdictForm::Json;
-            of(
-                line.folder,
-                is_json,
-                Access::Read,
-                Some(verdict_step(line.form)),
-            )
-            .holding(line.memory)
+            let step = match line.form {
+                VerdictForm::AllFaults => "verify --all-faults",
+                _ => "verify",
+            };
+            of_read(line.folder, line.form == VerdictForm::Json, step).holding(line.memory)
         }
-        Line::Get(line) => of(line.folder, line.is_json, Access::Read, Some("get")).testing(
-            line.testing,
-            "get --no-verify",
-        ),
-        Line::Scan(line) => of(line.folder, line.is_json, Access::Read, Some("scan")).testing(
-            line.testing,
-            "scan --no-verify",
-        ),
-        Line::History(line) => of(line.folder, line.is_json, Access::Read, Some("history")).testing(
-            line.testing,
-            "history --no-verify",
-        ),
+        Line::Get(line) => {
+            of_read(line.folder, line.is_json, "get").testing(line.testing, "get --no-verify")
+        }
+        Line::Scan(line) => {
+            of_read(line.folder, line.is_json, "scan").testing(line.testing, "scan --no-verify")
+        }
+        Line::History(line) => {
+            let needs = of_read(line.folder, line.is_json, "history");
+            needs.testing(line.testing, "history --no-verify")
+        }
         Line::Files(line) => of(line.folder, line.is_json, Access::List, Some("files")),
         Line::Job(line) => of(line.folder, false, Access::None, Some("job")),
         Line::Compact(line) => {
@@ -88,19 +81,14 @@ pub(crate) fn needs_of<'a>(line: &Line<'a>) -> Needs<'a> {
         Line::Install(line) => {
             of(line.folder, false, Access::Change, None).holding(line.testing.memory)
         }
-        Line::Clean(line) if line.is_dry_run => {
-            of(line.folder, false, Access::Read, Some("clean --dry-run"))
-        }
+        Line::Clean(line) if line.is_dry_run => of_read(line.folder, false, "clean --dry-run"),
         Line::Clean(line) => of(line.folder, false, Access::Change, Some("clean")),
     }
 }
 
-/// What `verify` is told as.
-fn verdict_step(form: VerdictForm) -> &'static str {
-    match form {
-        VerdictForm::Line | VerdictForm::Json => "verify",
-        VerdictForm::AllFaults => "verify --all-faults",
-    }
+/// What a command needs that reads a folder while none of this program changes it.
+fn of_read<'a>(subject: &'a str, is_json: bool, step: &'static str) -> Needs<'a> {
+    of(subject, is_json, Access::Read, Some(step))
 }
 
 /// What a command needs that is about files alone, or about a table.

@@ -10,7 +10,8 @@ use queries::{
 };
 use refusals::{compaction_explained, explained, table_explained};
 use session::{
-    Access, Host, Refusal, RefusedTable, Session, Telling, bytes_of, locked, print_lines, tell_time,
+    Access, Host, Opened, Refusal, RefusedTable, Session, Telling, bytes_of, locked, open_session,
+    print_lines, tell_time,
 };
 use std::env::Env;
 use std::io::ErrorKind;
@@ -119,10 +120,9 @@ fn carry_out<R: Host>(
 /// The keys in the standard input, if they are asked for.
 fn keys_of<R: Host>(rt: &R, line: &Line<'_>) -> Result<Vec<Vec<u8>>, Refusal> {
     match line {
-        Line::Get(line) => match line.keys {
-            KeySource::Input => keys_in_input(rt, line.spelling),
-            KeySource::Given(_) => Ok(Vec::new(rt.alloc())),
-        },
+        Line::Get(line) if matches!(line.keys, KeySource::Input) => {
+            keys_in_input(rt, line.spelling)
+        }
         _ => Ok(Vec::new(rt.alloc())),
     }
 }
@@ -136,7 +136,7 @@ fn work_on_folder<R: Host>(
     input: &[Vec<u8>],
     needs: &Needs<'_>,
 ) -> Result<(), Refusal> {
-    let session = match Session::open(rt, telling, needs.access) {
+    let session = match open_session(rt, telling, needs.access) {
         Ok(session) => session,
         Err(refusal) => return Err(explained(rt, telling, refusal)),
     };
@@ -158,7 +158,7 @@ fn work_on_folder<R: Host>(
 
 /// What is left to print of a folder that is only read.
 fn read<R: Host>(
-    session: Session<'_, R>,
+    session: Session<'_, R, Opened>,
     line: &Line<'_>,
     input: &[Vec<u8>],
 ) -> Result<Vec<u8>, Refusal> {
@@ -184,12 +184,12 @@ fn read<R: Host>(
 }
 
 /// Changes a folder. What was done is printed as it is done.
-fn changed<R: Host>(session: Session<'_, R>, line: &Line<'_>) -> Result<Vec<u8>, Refusal> {
+fn changed<R: Host>(session: Session<'_, R, Opened>, line: &Line<'_>) -> Result<Vec<u8>, Refusal> {
     let alloc = session.rt.alloc();
     match line {
         Line::Compact(line) => compact_folder(session, line)?,
         Line::Install(line) => install_outcomes(session, line)?,
-        _ => clean_folder(session)?,
+        _ => clean_folder(session, false)?,
     }
     Ok(Vec::new(alloc))
 }

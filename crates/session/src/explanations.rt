@@ -136,60 +136,55 @@ fn of_manifest(name: FaultName) -> Option<Words> {
 
 /// The words of a table that is refused.
 fn of_table(name: FaultName) -> Words {
-    Words {
-        wrong: in_table(name),
-        remedy: remedy_of_table(name),
-    }
-}
-
-/// What is wrong with a table.
-fn in_table(name: FaultName) -> &'static str {
-    match name {
+    let wrong = match name {
         FaultName::Missing => "it is missing",
-        FaultName::Size => "it has more than 1073741824 bytes, the most that a table may have",
         FaultName::Short => "it is shorter than a table's footer",
         FaultName::Magic => "it does not end as a table does",
         FaultName::Handle => "it does not say where its blocks are",
         FaultName::Range => "a block would lie outside the file",
         FaultName::Trailer => "a block's checksum is wrong",
-        FaultName::Compressed => "a block is compressed",
-        FaultName::BlockType => "a block is of an unknown type",
-        FaultName::Block => {
-            "a block's bytes cannot be read as entries: another library's, as iq80's for Java, or \
-                damage"
-        }
         FaultName::Key => "a key is no internal key",
-        FaultName::TooLarge => {
-            "a user key has more than 65535 bytes, or a value more than 16777215: no more is \
-                compacted here"
-        }
         FaultName::Empty => "it, or a block of it, has no entry",
         FaultName::Order => "its keys do not rise",
         FaultName::Index => "its index does not fit its blocks",
         FaultName::Bounds => "its size or its keys are not those that the manifest says",
-        _ => "it is refused",
+        name => return of_other_table(name),
+    };
+    Words {
+        wrong,
+        remedy: "restore the file from a copy",
     }
 }
 
-/// What to do about a table.
-fn remedy_of_table(name: FaultName) -> &'static str {
-    match name {
-        FaultName::Compressed => {
+/// The words of a table that a copy of the file may not help.
+fn of_other_table(name: FaultName) -> Words {
+    let (wrong, remedy) = match name {
+        FaultName::Size => (
+            "it has more than 1073741824 bytes, the most that a table may have",
+            "have LevelDB compact the database",
+        ),
+        FaultName::Compressed => (
+            "a block is compressed",
             "copy all keys into a new database made with kNoCompression, since to compact this one \
-                without compression does not rewrite its deepest tables"
-        }
-        FaultName::BlockType => {
+                without compression does not rewrite its deepest tables",
+        ),
+        FaultName::BlockType => (
+            "a block is of an unknown type",
             "restore the file from a copy, or copy all keys into a new database made with \
-                kNoCompression"
-        }
-        FaultName::Block => {
-            "copy all keys into a new database made with LevelDB, or restore the file from a copy"
-        }
-        FaultName::Size => "have LevelDB compact the database",
-        FaultName::TooLarge => {
+                kNoCompression",
+        ),
+        FaultName::Block => (
+            "a block's bytes cannot be read as entries: another library's, as iq80's for Java, or \
+                damage",
+            "copy all keys into a new database made with LevelDB, or restore the file from a copy",
+        ),
+        FaultName::TooLarge => (
+            "a user key has more than 65535 bytes, or a value more than 16777215: no more is \
+                compacted here",
             "leave its compaction to LevelDB, which has no such limit: here only shorter keys and \
-                values help"
-        }
-        _ => "restore the file from a copy",
-    }
+                values help",
+        ),
+        _ => ("it is refused", "restore the file from a copy"),
+    };
+    Words { wrong, remedy }
 }

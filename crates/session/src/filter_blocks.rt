@@ -14,7 +14,8 @@ const FILTER: &[u8] = b"filter.";
 const METAINDEX_LEN: u64 = 4_096;
 
 /// Whether one of these tables of a folder, given by number and length, has a filter block, by the
-/// name of one in its metaindex. It only reads: of each table its footer and its metaindex, until one has a filter.
+/// name of one in its metaindex. It only reads: of each table its footer and its metaindex, until
+/// one has a filter.
 ///
 /// A table that can't be read has none. Device: a call failed, and no further call is made. Memory:
 /// out of memory.

@@ -1,8 +1,8 @@
 //! The locks of a folder that a command holds until it ends.
 
-use crate::explanations::{NO_FOLDER, Words};
-use crate::folder_names::{names_in, path_in};
-use crate::refusal::{Refusal, RefusalText, told};
+use crate::explanations::NO_FOLDER;
+use crate::folder_files::{names_at, path_in};
+use crate::refusal::{Refusal, RefusalText, said, told};
 use crate::reporter::Telling;
 use coding::{Fault, FaultName};
 use disk::{FolderLock, SystemFiles, lock_to_change, lock_to_read};
@@ -64,7 +64,7 @@ fn locked_to_change<R: SystemFiles + Eprint + AllocGlobal>(
     match pending_in(rt, path) {
         Ok(None) => Ok(lock),
         Ok(Some(pending)) => Err(pending_refusal(rt.alloc(), pending.as_str())),
-        Err(error) => Err(Refusal::of_call(rt.alloc(), path, "list its files", &error)),
+        Err(error) => Err(Refusal::of_listing(rt.alloc(), path, &error)),
     }
 }
 
@@ -93,23 +93,21 @@ fn locked_to_read<R: SystemFiles + Eprint + AllocGlobal>(
 
 /// The path of a folder's text of CURRENT that isn't renamed yet. None if it has none.
 fn pending_in<R: Files + AllocGlobal>(rt: &R, folder: &str) -> io::Result<Option<String>> {
-    let names = names_in(rt, folder)?;
-    let Some(name) = pending_current(&names) else {
-        return Ok(None);
-    };
-    match path_in(rt.alloc(), folder, name) {
-        Some(path) => Ok(Some(path)),
-        None => Err(ErrorKind::OutOfMemory.into()),
+    let names = names_at(rt, folder)?;
+    match pending_current(&names) {
+        Some(name) => Ok(Some(path_in(rt.alloc(), folder, name)?)),
+        None => Ok(None),
     }
 }
 
 /// The refusal of a folder that has a text of CURRENT that isn't renamed yet.
 fn pending_refusal(alloc: Global, pending: &str) -> Refusal {
-    let words = Words {
-        wrong: "a program was about to rename it to CURRENT, and what it names would be lost",
-        remedy: "open the database once with the program that wrote it",
-    };
-    Refusal::new(Fault::of(FaultName::Changed), told(alloc, pending, words))
+    let wrong = "a program was about to rename it to CURRENT, and what it names would be lost";
+    let remedy = "open the database once with the program that wrote it";
+    Refusal::new(
+        Fault::of(FaultName::Changed),
+        said(alloc, pending, wrong, remedy),
+    )
 }
 
 /// The refusal of a folder that can't be locked, to change it or to read it.
@@ -129,16 +127,14 @@ fn unlocked<R: SystemFiles + AllocGlobal>(
 
 /// What is told of a folder whose LOCK has a second name. None if it has none.
 fn shared_refusal<R: SystemFiles + AllocGlobal>(rt: &R, path: &str) -> Option<RefusalText> {
-    let lock = path_in(rt.alloc(), path, "LOCK")?;
+    let lock = path_in(rt.alloc(), path, "LOCK").ok()?;
     let found = fs::metadata(rt, lock.as_str()).ok()?;
     if found.nlink() < 2 {
         return None;
     }
-    let words = Words {
-        wrong: "it has a second name, as in a copy by links, so another folder has the same lock",
-        remedy: "if no program has this database open, remove this file",
-    };
-    told(rt.alloc(), lock.as_str(), words)
+    let wrong = "it has a second name, as in a copy by links, so another folder has the same lock";
+    let remedy = "if no program has this database open, remove this file";
+    said(rt.alloc(), lock.as_str(), wrong, remedy)
 }
 
 /// The refusal of a folder that can't be locked since the device failed.
@@ -155,11 +151,8 @@ fn device_refusal<R: SystemFiles + AllocGlobal>(
         Err(error) => Refusal::of_call(rt.alloc(), path, "read", &error),
         Ok(metadata) if metadata.is_dir() => file_refused(rt, path, fault, changes),
         Ok(_) => {
-            let words = Words {
-                wrong: "it is no folder",
-                remedy: "give the folder of a database; dump and verify --table take a table",
-            };
-            Refusal::new(fault, told(rt.alloc(), path, words))
+            let remedy = "give the folder of a database; dump and verify --table take a table";
+            Refusal::new(fault, said(rt.alloc(), path, "it is no folder", remedy))
         }
     }
 }
@@ -172,7 +165,7 @@ fn file_refused<R: SystemFiles + AllocGlobal>(
     fault: Fault,
     changes: bool,
 ) -> Refusal {
-    if let Some(current) = path_in(rt.alloc(), path, CURRENT)
+    if let Ok(current) = path_in(rt.alloc(), path, CURRENT)
         && let Err(error) = fs::metadata(rt, current.as_str())
         && error.kind() != ErrorKind::NotFound
     {
@@ -184,7 +177,7 @@ fn file_refused<R: SystemFiles + AllocGlobal>(
         }
         _ => {
             let text = format!(in rt.alloc(); "cannot {LOCKING}");
-            Refusal::new(fault, RefusalText::alone(rt.alloc(), path, text))
+            Refusal::new(fault, RefusalText::of(rt.alloc(), path, text, None))
         }
     }
 }
@@ -192,9 +185,7 @@ fn file_refused<R: SystemFiles + AllocGlobal>(
 /// Opens LOCK, if it is there. If the folder is to be changed, a file beside it is made, as the lock
 /// needs it, and removed.
 fn lock_tried<R: SystemFiles + AllocGlobal>(rt: &R, folder: &str, changes: bool) -> io::Result<()> {
-    let Some(lock) = path_in(rt.alloc(), folder, "LOCK") else {
-        return Err(ErrorKind::OutOfMemory.into());
-    };
+    let lock = path_in(rt.alloc(), folder, "LOCK")?;
     let mut how = OpenOptions::new();
     how.read(true).write(true);
     if let Err(error) = how.open(rt, lock.as_str())
@@ -205,9 +196,7 @@ fn lock_tried<R: SystemFiles + AllocGlobal>(rt: &R, folder: &str, changes: bool)
     if !changes {
         return Ok(());
     }
-    let Some(beside) = path_in(rt.alloc(), folder, "LOCK-wal") else {
-        return Err(ErrorKind::OutOfMemory.into());
-    };
+    let beside = path_in(rt.alloc(), folder, "LOCK-wal")?;
     how.create_new(true).open(rt, beside.as_str())?;
     fs::remove_file(rt, beside.as_str())
 }
@@ -217,19 +206,19 @@ pub fn no_database<R: SystemFiles + AllocGlobal>(rt: &R, folder: &str) -> Option
     let alloc = rt.alloc();
     match has_manifest(rt, folder) {
         Ok(true) => {
-            let words = Words {
-                wrong: "it is missing, and the folder has a manifest: the database is damaged",
-                remedy: "restore the folder from a copy, or have LevelDB repair it",
-            };
-            told(alloc, path_in(alloc, folder, CURRENT)?.as_str(), words)
+            let wrong = "it is missing, and the folder has a manifest: the database is damaged";
+            let remedy = "restore the folder from a copy, or have LevelDB repair it";
+            said(
+                alloc,
+                path_in(alloc, folder, CURRENT).ok()?.as_str(),
+                wrong,
+                remedy,
+            )
         }
         Err(error) if error.kind() == ErrorKind::NotFound => { told(alloc, folder, NO_FOLDER) }
         _ => {
-            let words = Words {
-                wrong: "this folder holds no LevelDB database: it has no CURRENT",
-                remedy: "give the folder of a database",
-            };
-            told(alloc, folder, words)
+            let wrong = "this folder holds no LevelDB database: it has no CURRENT";
+            said(alloc, folder, wrong, "give the folder of a database")
         }
     }
 }

@@ -5,7 +5,7 @@
 //! What is read of a folder again to tell of the work on it:
 //!
 //! 1. [`replayed_log`]: which logs LevelDB would replay, by their names.
-//! 2. [`replaceable_file`]: which files a compaction may replace, by their names.
+//! 2. [`unneeded_files`]: which files its version doesn't need.
 //! 3. [`deleted_files`]: which files went into a compaction. [`have_filter`]: whether one of them
 //!    has a filter block.
 //!
@@ -16,23 +16,15 @@
 mod amount_texts;
 mod edit_inputs;
 mod explanations;
-mod file_numbers;
 mod filter_blocks;
+mod folder_files;
 mod folder_locks;
-mod folder_names;
 mod host;
-mod listed_files;
-mod logs;
-mod manifest_notes;
 mod opened_folder;
-mod progress;
 mod progress_line;
 mod refusal;
-mod refused_logs;
 mod refused_table;
-mod replaceable_files;
 mod replaced_folder;
-mod replayed_logs;
 mod reporter;
 mod tested_sizes;
 mod user_files;
@@ -43,21 +35,17 @@ pub use edit::{FileMeta, LAST_LEVEL, LEVELS};
 pub use edit_inputs::deleted_files;
 pub use explanations::{CLOSE_ONCE, Words, in_words, of_file};
 pub use filter_blocks::have_filter;
-pub use folder::{Bytewise, Comparator, Order, Shortlex, manifest_name};
+pub use folder::{Bytewise, Comparator, Opened, Order, Shortlex, manifest_name};
+pub use folder_files::{
+    UnneededFiles, logs_with_writes, missing_log, names_in, path_in, replayed_log, unneeded_files,
+};
 pub use folder_locks::{Access, locked, no_database};
-pub use folder_names::{names_in, path_in};
 pub use host::Host;
-pub use listed_files::{UnneededFiles, unneeded_files};
-pub use logs::{Log, logs_with_writes};
-pub use opened_folder::{Session, bytes_of, open_in, print_lines, refused_at};
-pub use progress::progress_text;
+pub use opened_folder::{Session, bytes_of, open_in, open_session, print_lines, refused_at};
 pub use progress_line::{ProgressLine, WorkLeft};
-pub use refusal::{Refusal, RefusalParts, RefusalText, told};
-pub use refused_logs::missing_log;
+pub use refusal::{Refusal, RefusalParts, RefusalText, said, told};
 pub use refused_table::RefusedTable;
-pub use replaceable_files::replaceable_file;
 pub use replaced_folder::{refused_opened, tell_replaced};
-pub use replayed_logs::replayed_log;
 pub use reporter::{Beginning, Telling, tell_time};
-pub use tested_sizes::{bytes_of_files, large_table, size_refusal, sizes_tested};
+pub use tested_sizes::{bytes_of_files, large_table, size_refusal, sizes_tested, table_file_name};
 pub use user_files::{read_file, replace_file, sync_folder_of};

@@ -1,18 +1,19 @@
 //! The work on a folder as each command begins it and ends it: it is opened, refusals are told, and
 //! lines are printed.
 
+use crate::explanations::CLOSE_ONCE;
+use crate::folder_files::{Log, logs_with_writes, missing_log};
 use crate::folder_locks::Access;
-use crate::manifest_notes::tell_impossible;
 use crate::progress_line::ProgressLine;
 use crate::refusal::{Refusal, RefusalText};
-use crate::refused_logs::{fail_on_logs, missing_log};
 use crate::replaced_folder::refused_opened;
-use crate::reporter::{Beginning, Telling, tell_time};
+use crate::reporter::{Beginning, Telling, log_named, tell_time};
 use crate::tested_sizes::too_large;
 use coding::{Fault, FaultName};
 use disk::{Disk, SystemFiles};
 use edit::Version;
 use folder::{Opened, open};
+use std::alloc::Global;
 use std::io;
 use std::io::{ErrorKind, Write};
 use std::rt::Files;
@@ -25,54 +26,59 @@ const NO_ROOM: &str = "clean removes files that no version needs; the database i
 /// The bytes of a MiB.
 const MEBIBYTE: u64 = 1 << 20;
 
-/// A folder that a command works on, and what it was opened as.
+/// A folder that a command works on, and what it was opened as: `Opened`, or of work that changes
+/// it, `SyncedVersion`.
 #[derive(Drop)]
-pub struct Session<'r, R> {
+pub struct Session<'r, R, V> {
     pub rt: &'r R,
     pub telling: Telling<'r>,
     /// When the work began, if that is told.
     pub begun: Option<Beginning>,
     pub disk: Disk<'r, R>,
-    pub opened: Opened,
+    pub opened: V,
     /// How many logs have writes that are in no table. None if the folder can't be listed.
     pub logs: Option<u64>,
+    /// The number of the manifest that CURRENT names, unless this work changes it.
+    pub manifest: Option<u64>,
 }
 
-impl<'r, R: SystemFiles + Eprint + Clock + AllocGlobal> Session<'r, R> {
-    /// Opens a folder. It is told of its manifest, if LevelDB writes none like it, and of its logs,
-    /// unless the answer lists these.
-    pub fn open(
-        rt: &'r R,
-        telling: Telling<'r>,
-        access: Access,
-    ) -> Result<Session<'r, R>, Refusal> {
-        let begun = telling.begin(rt);
-        let mut disk = Disk::new(rt, telling.folder);
-        let opened = match open_in(rt, telling.folder, &mut disk) {
-            Ok(opened) => opened,
-            Err(refusal) => {
-                if access != Access::List {
-                    telling.tell_unopened_logs(rt);
-                }
-                return Err(refusal);
+/// Opens a folder. It is told of its manifest, if LevelDB writes none like it, and of its logs,
+/// unless the answer lists these.
+pub fn open_session<'r, R: SystemFiles + Eprint + Clock + AllocGlobal>(
+    rt: &'r R,
+    telling: Telling<'r>,
+    access: Access,
+) -> Result<Session<'r, R, Opened>, Refusal> {
+    let begun = telling.begin(rt);
+    let mut disk = Disk::new(rt, telling.folder);
+    let opened = match open_in(rt, telling.folder, &mut disk) {
+        Ok(opened) => opened,
+        Err(refusal) => {
+            if access != Access::List {
+                telling.tell_unopened_logs(rt);
             }
-        };
-        let logs = if access == Access::List {
-            None
-        } else {
-            tell_impossible(rt, telling, &opened);
-            logs_counted(rt, telling, &opened.version)?
-        };
-        Ok(Session {
-            rt,
-            telling,
-            begun,
-            disk,
-            opened,
-            logs,
-        })
-    }
+            return Err(refusal);
+        }
+    };
+    let logs = if access == Access::List {
+        None
+    } else {
+        telling.tell_impossible(rt, &opened);
+        logs_counted(rt, telling, &opened.version)?
+    };
+    let manifest = Some(opened.manifest);
+    Ok(Session {
+        rt,
+        telling,
+        begun,
+        disk,
+        opened,
+        logs,
+        manifest,
+    })
+}
 
+impl<'r, R: SystemFiles + Eprint + Clock + AllocGlobal, V> Session<'r, R, V> {
     /// The line of progress of work that begins.
     pub fn progress(&self) -> ProgressLine<'r, R> {
         ProgressLine::new(self.rt, self.telling)
@@ -90,17 +96,10 @@ impl<'r, R: SystemFiles + Eprint + Clock + AllocGlobal> Session<'r, R> {
 
     /// What a call of the folder came to.
     pub fn done<T: Drop>(&self, answer: Result<T, Fault>) -> Result<T, Refusal> {
+        let (rt, folder) = (self.rt, self.telling.folder);
         match answer {
             Ok(answer) => Ok(answer),
-            Err(fault) => {
-                Err(refused_opened(
-                    self.rt,
-                    self.telling.folder,
-                    &self.disk,
-                    &self.opened,
-                    fault,
-                ))
-            }
+            Err(fault) => Err(refused_opened(rt, folder, &self.disk, self.manifest, fault)),
         }
     }
 
@@ -117,18 +116,40 @@ fn logs_counted<R: Files + Eprint + AllocGlobal>(
     telling: Telling<'_>,
     version: &Version,
 ) -> Result<Option<u64>, Refusal> {
-    if !telling.refuses_logs {
-        return Ok(telling.tell_logs(rt, version)?);
-    }
     let folder = telling.folder;
-    fail_on_logs(rt, folder, version)?;
-    if let Some(number) = missing_log(rt, folder, version)? {
+    let logs = match logs_with_writes(rt, folder, Some(version)) {
+        Ok(logs) => logs,
+        Err(error) if telling.refuses_logs || error.kind() == ErrorKind::OutOfMemory => {
+            return Err(Refusal::of_listing(rt.alloc(), folder, &error));
+        }
+        Err(_) => {
+            telling.tell_unlisted(rt);
+            return Ok(None);
+        }
+    };
+    if !telling.refuses_logs {
+        telling.tell_logs(rt, &logs);
+    } else if let Some(log) = logs.first() {
+        return Err(log_refusal(rt.alloc(), folder, *log));
+    } else if let Some(number) = missing_log(rt, folder, version)? {
         let _ = eprintln!(rt;
             "sedvokt: {folder}: the manifest names {number:06}.log, and it is missing; the newest \
                 writes may be lacking"
         );
     }
-    Ok(Some(0))
+    Ok(Some(logs.len() as u64))
+}
+
+/// The refusal for a log that has writes.
+fn log_refusal(alloc: Global, folder: &str, log: Log) -> Refusal {
+    let told = match log_named(alloc, folder, log) {
+        Ok((path, bytes)) => {
+            let wrong = format!(in alloc; "it has {bytes} of writes that are in no table");
+            RefusalText::new(alloc, path.as_str(), wrong, CLOSE_ONCE)
+        }
+        Err(_) => None,
+    };
+    Refusal::new(Fault::of(FaultName::Logs), told)
 }
 
 /// What a folder is opened as.
@@ -149,20 +170,18 @@ pub fn refused_at<R: SystemFiles + AllocGlobal>(
     folder: &Disk<'_, R>,
     fault: Fault,
 ) -> Refusal {
-    let Some(failure) = folder.last_failure() else {
-        return Refusal::at(rt.alloc(), fault, folder.last_read());
-    };
-    if fault.name != FaultName::Device {
-        return Refusal::at(rt.alloc(), fault, folder.last_read());
-    }
-    if failure.is_too_large() {
-        return too_large(rt.alloc(), path, failure.name.as_str());
-    }
     let alloc = rt.alloc();
+    let failure = match folder.last_failure() {
+        Some(failure) if fault.name == FaultName::Device => failure,
+        _ => return Refusal::at(alloc, fault, folder.last_read()),
+    };
+    if failure.is_too_large() {
+        return too_large(alloc, path, failure.name.as_str());
+    }
     let text = format!(in alloc; "{failure}");
     let told = match failure.error.kind() {
         ErrorKind::StorageFull => RefusalText::new(alloc, path, text, NO_ROOM),
-        _ => RefusalText::alone(alloc, path, text),
+        _ => RefusalText::of(alloc, path, text, None),
     };
     Refusal::new(fault, told)
 }

@@ -1,11 +1,10 @@
 //! A line of progress on the standard error.
 
-use crate::progress::progress_text;
 use crate::refused_table::RefusedTable;
 use crate::reporter::{LONG, Telling};
 use board::{Watch, Work};
-use coding::Fault;
 use folder::Gate;
+use std::alloc::{AllocError, Global};
 use std::sync::atomic::{AtomicBool, AtomicU64, Ordering};
 use std::time::{Clock, Instant};
 
@@ -129,16 +128,12 @@ impl<'r, R: Eprint + Clock + AllocGlobal> ProgressLine<'r, R> {
     }
 
     /// What the line says: which step this is, if there are several, and how far it is.
-    fn text(&self) -> Result<String, Fault> {
+    fn text(&self) -> Result<String, AllocError> {
         let alloc = self.rt.alloc();
         let jobs = self.jobs.load(Ordering::SeqCst);
         let done = self.done.load(Ordering::SeqCst);
-        let work = if self.is_compacting.load(Ordering::SeqCst) {
-            Work::Compact
-        } else {
-            Work::Check
-        };
-        let text = progress_text(alloc, work, jobs, done)?;
+        let is_compacting = self.is_compacting.load(Ordering::SeqCst);
+        let text = progress_text(alloc, is_compacting, jobs, done)?;
         let step = self.step.load(Ordering::SeqCst);
         if step == 0 {
             return Ok(text);
@@ -147,9 +142,9 @@ impl<'r, R: Eprint + Clock + AllocGlobal> ProgressLine<'r, R> {
         let level = self.level.load(Ordering::SeqCst);
         let next = level.saturating_add(1);
         let left = self.left.load(Ordering::SeqCst).div_ceil(MEGABYTE);
-        Ok(format!(in alloc;
+        format!(in alloc;
             "step {step} of about {steps}, level {level} to {next}, {left} MB left; {text}"
-        )?)
+        )
     }
 }
 
@@ -175,4 +170,24 @@ impl<'r, R: Eprint + Clock + AllocGlobal> Watch for ProgressLine<'r, R> {
     fn refused(&self, number: u64) {
         self.refused.keep(number);
     }
+}
+
+/// How far the work is, if `done` jobs of both parts together are done. The first part has `jobs`
+/// jobs: `ranges merged: 3 of 8`. In the second part: `tables encoded: 12`.
+fn progress_text(
+    alloc: Global,
+    is_compacting: bool,
+    jobs: u64,
+    done: u64,
+) -> Result<String, AllocError> {
+    let (first, second) = if is_compacting {
+        ("ranges merged", "tables encoded")
+    } else {
+        ("tables checked", "ranges tested")
+    };
+    if done <= jobs {
+        return format!(in alloc; "{first}: {done} of {jobs}");
+    }
+    let more = done - jobs;
+    format!(in alloc; "{second}: {more}")
 }

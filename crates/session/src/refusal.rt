@@ -2,7 +2,7 @@
 
 use crate::explanations::{Words, of_file};
 use coding::{Fault, FaultName};
-use std::alloc::{AllocError, Global};
+use std::alloc::{AllocError, AllocFailed, Global};
 use std::io;
 use std::io::ErrorKind;
 
@@ -43,16 +43,8 @@ impl RefusalText {
         RefusalText::of(alloc, path, wrong, Some(remedy))
     }
 
-    /// The same without a remedy.
-    pub fn alone(
-        alloc: Global,
-        path: &str,
-        wrong: Result<String, AllocError>,
-    ) -> Option<RefusalText> {
-        RefusalText::of(alloc, path, wrong, None)
-    }
-
-    fn of(
+    /// The same with a remedy, or without one.
+    pub fn of(
         alloc: Global,
         path: &str,
         wrong: Result<String, AllocError>,
@@ -91,6 +83,18 @@ pub struct RefusalParts<'a> {
 impl From<Fault> for Refusal {
     fn from(fault: Fault) -> Refusal {
         Refusal::new(fault, None)
+    }
+}
+
+impl From<AllocError> for Refusal {
+    fn from(error: AllocError) -> Refusal {
+        Refusal::from(Fault::from(error))
+    }
+}
+
+impl<T: Drop> From<AllocFailed<T>> for Refusal {
+    fn from(error: AllocFailed<T>) -> Refusal {
+        Refusal::from(Fault::from(error))
     }
 }
 
@@ -140,16 +144,22 @@ impl Refusal {
 
     /// The refusal of the file at `path`, by a test of its bytes.
     pub fn of_file(alloc: Global, path: &str, fault: Fault) -> Refusal {
-        Refusal::new(fault, file_refusal(alloc, path, fault.name))
+        let told = match fault.name {
+            FaultName::Memory => None,
+            name => told(alloc, path, of_file(name)),
+        };
+        Refusal::new(fault, told)
     }
 
     /// The refusal that the file at `path` isn't there.
     pub fn of_missing(alloc: Global, path: &str) -> Refusal {
-        let words = Words {
-            wrong: "it is missing",
-            remedy: "give the path of a file that is there",
-        };
-        Refusal::new(Fault::of(FaultName::Missing), told(alloc, path, words))
+        let told = said(
+            alloc,
+            path,
+            "it is missing",
+            "give the path of a file that is there",
+        );
+        Refusal::new(Fault::of(FaultName::Missing), told)
     }
 
     /// The refusal of a call of the system on what `path` names: `Memory` if memory ran out, else
@@ -164,6 +174,11 @@ impl Refusal {
         }
     }
 
+    /// The refusal that the files of a folder can't be listed.
+    pub fn of_listing(alloc: Global, folder: &str, error: &io::Error) -> Refusal {
+        Refusal::of_call(alloc, folder, "list its files", error)
+    }
+
     /// The refusal that the standard output can't be written. If it is a pipe that nobody reads any
     /// more, nothing is told.
     pub fn of_output(alloc: Global, error: &io::Error) -> Refusal {
@@ -173,29 +188,22 @@ impl Refusal {
     }
 }
 
-/// What is told of a file that is refused. None if memory runs out.
-fn file_refusal(alloc: Global, path: &str, name: FaultName) -> Option<RefusalText> {
-    if name == FaultName::Memory {
-        return None;
-    }
-    told(alloc, path, of_file(name))
-}
-
 /// What is told of `path` in these words.
 pub fn told(alloc: Global, path: &str, words: Words) -> Option<RefusalText> {
-    RefusalText::new(
-        alloc,
-        path,
-        String::from_str(alloc, words.wrong),
-        words.remedy,
-    )
+    said(alloc, path, words.wrong, words.remedy)
+}
+
+/// What is told of `path`: what is `wrong`, and what to do.
+pub fn said(alloc: Global, path: &str, wrong: &str, remedy: &'static str) -> Option<RefusalText> {
+    RefusalText::new(alloc, path, String::from_str(alloc, wrong), remedy)
 }
 
 /// What is told of a call of the system that failed.
 fn call_refusal(alloc: Global, path: &str, call: &str, error: &io::Error) -> Option<RefusalText> {
     let text = format!(in alloc; "{error}").ok()?;
     let reason = without_number(text.as_str());
-    RefusalText::alone(alloc, path, format!(in alloc; "cannot {call}: {reason}"))
+    let wrong = format!(in alloc; "cannot {call}: {reason}");
+    RefusalText::of(alloc, path, wrong, None)
 }
 
 /// The words of an error of the system, without its number.

@@ -1,7 +1,7 @@
 //! What is told of a file that is missing since another program changed the folder meanwhile.
 
 use crate::explanations::Words;
-use crate::folder_names::path_in;
+use crate::folder_files::path_in;
 use crate::opened_folder::refused_at;
 use crate::refusal::{Refusal, told};
 use crate::reporter::Telling;
@@ -15,18 +15,19 @@ const REPLACED: Words = Words {
     remedy: "run it again",
 };
 
-/// The refusal of work on what the folder at a path was `opened` as, told as [`refused_at`] tells
-/// it. If a file is missing, and CURRENT names another manifest by now, that is told.
+/// The refusal of work on what the folder at a path was opened as, told as [`refused_at`] tells it.
+/// If a file is missing, and CURRENT names another manifest by now than this one, that is told.
 pub fn refused_opened<R: SystemFiles + AllocGlobal>(
     rt: &R,
     path: &str,
     folder: &Disk<'_, R>,
-    opened: &Opened,
+    manifest: Option<u64>,
     fault: Fault,
 ) -> Refusal {
     if fault.name == FaultName::Missing
-        && is_replaced(rt, path, opened.manifest)
-        && let Some(current) = path_in(rt.alloc(), path, CURRENT)
+        && let Some(manifest) = manifest
+        && is_replaced(rt, path, manifest)
+        && let Ok(current) = path_in(rt.alloc(), path, CURRENT)
     {
         return Refusal::new(fault, told(rt.alloc(), current.as_str(), REPLACED));
     }
@@ -42,7 +43,7 @@ pub fn tell_replaced<R: SystemFiles + Eprint + AllocGlobal>(
 ) {
     if !telling.is_quiet
         && is_replaced(rt, telling.folder, opened.manifest)
-        && let Some(current) = path_in(rt.alloc(), telling.folder, CURRENT)
+        && let Ok(current) = path_in(rt.alloc(), telling.folder, CURRENT)
     {
         let Words { wrong, remedy } = REPLACED;
         let _ = eprintln!(rt; "sedvokt: {current}: {wrong}; {remedy}");

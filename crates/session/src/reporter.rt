@@ -4,17 +4,21 @@ ghost use Rattle.std.specs.Prelude.{◌≡◌, false, IfSome};
 
 use crate::amount_texts::grouped;
 use crate::explanations::CLOSE_ONCE;
-use crate::folder_names::path_in;
-use crate::logs::{Log, logs_with_writes, replaceable_files};
+use crate::folder_files::{Log, is_folder, is_replaceable, logs_with_writes, names_at, path_in};
 use crate::refused_table::RefusedTable;
-use coding::{Fault, FaultName};
 use edit::Version;
-use std::io::ErrorKind;
+use folder::{Opened, manifest_name};
+use ikey::MAX_SEQUENCE;
+use std::alloc::{AllocError, Global};
 use std::rt::Files;
 use std::time::{Clock, Instant};
 
 /// The milliseconds after which somebody who watches is told how long work takes.
 pub const LONG: u64 = 2_000;
+
+/// What is told of a manifest that LevelDB doesn't write, though its version may be lawful here.
+const IMPOSSIBLE: &str = "LevelDB never writes that, and may stop when it opens or reads the \
+    database";
 
 /// What is to be told of the work on a folder. If it can't be told, nothing else changes.
 #[derive(Clone, Copy)]
@@ -52,35 +56,17 @@ impl<'a> Telling<'a> {
         })
     }
 
-    /// Tells of the logs with writes that are in no table of the version, and answers how many
-    /// there are. None if the folder can't be listed, which is told.
-    pub fn tell_logs<R: Files + Eprint + AllocGlobal>(
-        self,
-        rt: &R,
-        version: &Version,
-    ) -> Result<Option<u64>, Fault> {
-        match logs_with_writes(rt, self.folder, Some(version)) {
-            Ok(logs) => {
-                if let Ok(about) = format!(in rt.alloc();
-                    "of writes that are in no table; they are neither seen nor tested here; \
-                        {CLOSE_ONCE}"
-                ) {
-                    self.tell_each(rt, &logs, about.as_str());
-                }
-                Ok(Some(logs.len() as u64))
-            }
-            Err(error) if error.kind() == ErrorKind::OutOfMemory => {
-                Err(Fault::of(FaultName::Memory))
-            }
-            Err(_) => {
-                self.tell_unlisted(rt);
-                Ok(None)
-            }
+    /// Tells of the logs with writes that are in no table of the version.
+    pub(crate) fn tell_logs<R: Eprint + AllocGlobal>(self, rt: &R, logs: &[Log]) {
+        if let Ok(about) = format!(in rt.alloc();
+            "of writes that are in no table; they are neither seen nor tested here; {CLOSE_ONCE}"
+        ) {
+            self.tell_each(rt, logs, about.as_str());
         }
     }
 
     /// Tells that the folder can't be listed.
-    fn tell_unlisted<R: Eprint>(self, rt: &R) {
+    pub(crate) fn tell_unlisted<R: Eprint>(self, rt: &R) {
         let path = self.folder;
         if !self.is_quiet {
             let _ = eprintln!(rt;
@@ -91,7 +77,7 @@ impl<'a> Telling<'a> {
 
     /// Tells of each log that has a byte, of a folder that can't be opened: which of them LevelDB
     /// would replay isn't known. Nothing is told if the folder can't be listed.
-    pub fn tell_unopened_logs<R: Files + Eprint + AllocGlobal>(self, rt: &R) {
+    pub(crate) fn tell_unopened_logs<R: Files + Eprint + AllocGlobal>(self, rt: &R) {
         if let Ok(logs) = logs_with_writes(rt, self.folder, None) {
             self.tell_each(
                 rt,
@@ -107,19 +93,34 @@ impl<'a> Telling<'a> {
             return;
         }
         for log in logs {
-            self.tell_log(rt, *log, about);
+            if let Ok((path, bytes)) = log_named(rt.alloc(), self.folder, *log) {
+                let _ = eprintln!(rt; "sedvokt: {path}: {bytes} {about}");
+            }
         }
     }
 
-    fn tell_log<R: Eprint + AllocGlobal>(self, rt: &R, log: Log, about: &str) {
-        let alloc = rt.alloc();
-        let number = log.number;
-        if let Ok(name) = format!(in alloc; "{number:06}.log")
-            && let Some(path) = path_in(alloc, self.folder, name.as_str())
-            && let Ok(bytes) = grouped(alloc, log.bytes)
+    /// Tells of what a folder was opened as that LevelDB takes for impossible when it opens it, a
+    /// line each: its log number isn't below next file; its last sequence is above 2^56 - 1.
+    pub(crate) fn tell_impossible<R: Eprint + AllocGlobal>(self, rt: &R, opened: &Opened) {
+        let log = opened.version.log_number().unwrap_or(0);
+        let next = opened.version.next_file().unwrap_or(0);
+        let last = opened.version.last_sequence().unwrap_or(0);
+        if !self.is_quiet
+            && let Ok(name) = manifest_name(rt.alloc(), opened.manifest)
+            && let Ok(path) = path_in(rt.alloc(), self.folder, name.as_str())
         {
-            let unit = if log.bytes == 1 { "byte" } else { "bytes" };
-            let _ = eprintln!(rt; "sedvokt: {path}: {bytes} {unit} {about}");
+            if log >= next {
+                let _ = eprintln!(rt;
+                    "sedvokt: {path}: its log number, {log}, is not below the next file number, \
+                        {next}; {IMPOSSIBLE}"
+                );
+            }
+            if last > MAX_SEQUENCE {
+                let _ = eprintln!(rt;
+                    "sedvokt: {path}: its last sequence, {last}, is above {MAX_SEQUENCE}; \
+                        {IMPOSSIBLE}"
+                );
+            }
         }
     }
 
@@ -134,13 +135,16 @@ impl<'a> Telling<'a> {
         if self.is_quiet {
             return;
         }
-        let Ok(names) = replaceable_files(rt, self.folder, version) else {
+        let Ok(names) = names_at(rt, self.folder) else {
             return;
         };
         let mut count = 0u64;
         let mut first = "";
         for name in &names {
-            if !removed.contains(name) {
+            if is_replaceable(version, name.as_str())
+                && !removed.contains(name)
+                && !is_folder(rt, self.folder, name.as_str())
+            {
                 first = if count == 0 { name.as_str() } else { first };
                 count = count.saturating_add(1);
             }
@@ -154,6 +158,20 @@ impl<'a> Telling<'a> {
             );
         }
     }
+}
+
+/// The path of a folder's log, and how many bytes it has, in words.
+pub(crate) fn log_named(
+    alloc: Global,
+    folder: &str,
+    log: Log,
+) -> Result<(String, String), AllocError> {
+    let number = log.number;
+    let name = format!(in alloc; "{number:06}.log")?;
+    let path = path_in(alloc, folder, name.as_str())?;
+    let bytes = grouped(alloc, log.bytes)?;
+    let unit = if log.bytes == 1 { "byte" } else { "bytes" };
+    Ok((path, format!(in alloc; "{bytes} {unit}")?))
 }
 
 /// When a step began.

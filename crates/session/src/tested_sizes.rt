@@ -1,14 +1,16 @@
 //! The sizes of a folder's files: those of a version's tables before any is read, and what is told
 //! of a file that is too large to be read.
 
+ghost use Rattle.folder.specs.Reports.{OnlyReads};
+
 use crate::explanations::{Words, of_file};
-use crate::folder_names::path_in;
+use crate::folder_files::path_in;
 use crate::refusal::{Refusal, told};
 use crate::replaced_folder::refused_opened;
 use coding::{Fault, FaultName};
 use disk::{Disk, SystemFiles};
 use edit::FileMeta;
-use folder::{CURRENT, Opened, old_table_name, table_name};
+use folder::{CURRENT, Folder, Opened, old_table_name, table_name};
 use std::alloc::Global;
 use std::fs;
 use std::rt::Files;
@@ -35,7 +37,7 @@ pub fn large_table<R: SystemFiles + AllocGlobal>(
 ) -> Result<Option<u64>, Refusal> {
     let mut folder = Disk::new(rt, path);
     let found = folder.large_table(opened.order, &opened.version);
-    found.map_err(|fault| refused_opened(rt, path, &folder, opened, fault))
+    found.map_err(|fault| refused_opened(rt, path, &folder, Some(opened.manifest), fault))
 }
 
 /// The refusal of the table of a number, which has more than 2^30 bytes.
@@ -46,14 +48,34 @@ pub fn size_refusal<R: Files + AllocGlobal>(rt: &R, path: &str, number: u64) -> 
     }
 }
 
-/// The name that the table of a number has in a folder: its older one, if the first isn't there.
+/// The name that the table of a number has in a folder, however long it is: its older one, if the
+/// first isn't there.
 fn name_there<R: Files + AllocGlobal>(rt: &R, folder: &str, number: u64) -> Option<String> {
     let name = table_name(rt.alloc(), number).ok()?;
-    let path = path_in(rt.alloc(), folder, name.as_str())?;
+    let path = path_in(rt.alloc(), folder, name.as_str()).ok()?;
     if fs::metadata(rt, path.as_str()).is_ok() {
         return Some(name);
     }
     old_table_name(rt.alloc(), number).ok()
+}
+
+/// The name that the table of a number has in the folder: its older one, if that alone is there.
+pub fn table_file_name<F: Folder>(
+    alloc: Global,
+    folder: &mut F,
+    number: u64,
+) -> Result<String, Fault>
+    ensures reads { OnlyReads F.Folder folder.old folder.new }
+{
+    let name = table_name(alloc, number)?;
+    if folder.read_part(name.as_str(), 0, 1)?.is_some() {
+        return Ok(name);
+    }
+    let old_name = old_table_name(alloc, number)?;
+    match folder.read_part(old_name.as_str(), 0, 1)? {
+        Some(_) => Ok(old_name),
+        None => Ok(name),
+    }
 }
 
 /// How many bytes the tables of these files have together, 2^64 - 1 if they have more.
@@ -69,8 +91,8 @@ pub fn bytes_of_files(files: &[&FileMeta]) -> u64 {
 pub(crate) fn too_large(alloc: Global, folder: &str, name: &str) -> Refusal {
     let (fault, words) = of_large(name);
     let told = match path_in(alloc, folder, name) {
-        Some(path) => told(alloc, path.as_str(), words),
-        None => None,
+        Ok(path) => told(alloc, path.as_str(), words),
+        Err(_) => None,
     };
     Refusal::new(Fault::of(fault), told)
 }

@@ -1,7 +1,6 @@
 //! Whole files, read and replaced.
 
-use crate::explanations::Words;
-use crate::refusal::{Refusal, told};
+use crate::refusal::{Refusal, said};
 use coding::{Fault, FaultName};
 use disk::MAX_FILE_LEN;
 use std::fs::{File, OpenFile, OpenOptions, Permissions};
@@ -9,22 +8,20 @@ use std::io::{ErrorKind, Read, Write};
 use std::rt::Files;
 use std::{fs, io};
 
-/// The words of a folder where a file is asked for.
-const A_FOLDER: Words = Words {
-    wrong: "it is a folder, and a file is wanted",
-    remedy: "verify, scan and get take the folder of a database",
-};
-
 /// The bytes of a file; of a pipe, those that come until it is closed. Missing if there is no such
 /// file, Size if there are more than 2^30 bytes, Device if it can't be read.
 pub fn read_file<R: Files + AllocGlobal>(rt: &R, path: &str) -> Result<Vec<u8>, Refusal> {
     let alloc = rt.alloc();
     bytes_at(rt, path).map_err(|error| match error.kind() {
         ErrorKind::NotFound => Refusal::of_missing(alloc, path),
-        ErrorKind::IsADirectory => Refusal::new(
-            Fault::of(FaultName::Device),
-            told(alloc, path, A_FOLDER),
-        ),
+        ErrorKind::IsADirectory => {
+            let wrong = "it is a folder, and a file is wanted";
+            let remedy = "verify, scan and get take the folder of a database";
+            Refusal::new(
+                Fault::of(FaultName::Device),
+                said(alloc, path, wrong, remedy),
+            )
+        }
         ErrorKind::FileTooLarge => Refusal::of_file(alloc, path, Fault::of(FaultName::Size)),
         _ => Refusal::of_call(alloc, path, "read", &error),
     })
@@ -107,14 +104,15 @@ fn swap_in_at<R: Files + AllocGlobal>(
     permissions: Option<Permissions>,
 ) -> Result<(), Refusal> {
     let alloc = rt.alloc();
-    let temporary = format!(in alloc; "{target}.sedvokt.tmp").map_err(Fault::from)?;
+    let temporary = format!(in alloc; "{target}.sedvokt.tmp")?;
     let name = temporary.as_str();
-    let file = match made_anew(rt, name) {
-        Ok(file) => file,
-        Err(error) => {
-            return Err(Refusal::of_call(alloc, path, "make a temporary file beside it", &error));
-        }
-    };
+    let made = made_anew(rt, name);
+    let file = made.map_err(|error| Refusal::of_call(
+        alloc,
+        path,
+        "make a temporary file beside it",
+        &error,
+    ))?;
     if let Err(error) = fill::<R>(file, bytes, permissions) {
         let _ = fs::remove_file(rt, name);
         return Err(Refusal::of_call(alloc, path, "write", &error));

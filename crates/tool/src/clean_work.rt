@@ -1,34 +1,33 @@
 //! The files of a folder that its version doesn't need, which are listed or removed.
 
-use crate::folder_change::Change;
+use crate::folder_change::begin_change;
 use crate::printed_work::{DoneWork, unprinted};
 use answers::{json_line, removed_json};
 use disk::{Disk, SystemFiles};
-use folder::{Fault, FaultName, Opened};
+use folder::{Fault, FaultName};
 use install::{RemovalWatch, remove_obsolete};
 use session::{
-    Host, Refusal, Session, UnneededFiles, open_in, print_lines, refused_at, sizes_tested,
+    Host, Opened, Refusal, Session, UnneededFiles, open_in, print_lines, refused_at, sizes_tested,
     unneeded_files,
 };
 
-/// Removes the files of a folder that its version doesn't need, and prints each when it is removed.
-pub fn clean_folder<R: Host>(session: Session<'_, R>) -> Result<(), Refusal> {
-    clean_opened(session, false)
-}
-
-/// The same; the lines are JSON if that is asked for.
-pub(crate) fn clean_opened<R: Host>(session: Session<'_, R>, is_json: bool) -> Result<(), Refusal> {
+/// Removes the files of a folder that its version doesn't need, and prints each when it is removed,
+/// as JSON if that is asked for.
+pub fn clean_folder<R: Host>(
+    session: Session<'_, R, Opened>,
+    is_json: bool,
+) -> Result<(), Refusal> {
     let files = files_to_clean(&session)?;
     if files.names.is_empty() {
         return Ok(());
     }
-    let Change {
+    let Session {
         rt,
         telling,
         mut disk,
         opened,
         ..
-    } = Change::begin(session)?;
+    } = begin_change(session)?;
     remove_files(
         rt,
         telling.folder,
@@ -40,25 +39,18 @@ pub(crate) fn clean_opened<R: Host>(session: Session<'_, R>, is_json: bool) -> R
 }
 
 /// The lines of the files that a folder's version doesn't need. Nothing is written.
-pub fn removable_answer<R: Host>(session: &Session<'_, R>) -> Result<Vec<u8>, Refusal> {
+pub fn removable_answer<R: Host>(session: &Session<'_, R, Opened>) -> Result<Vec<u8>, Refusal> {
     let files = files_to_clean(session)?;
-    Ok(removable_lines(session, &files)?.into_bytes())
-}
-
-fn removable_lines<R: Host>(
-    session: &Session<'_, R>,
-    files: &UnneededFiles,
-) -> Result<String, Fault> {
     let mut lines = String::new(session.rt.alloc());
     for (name, bytes) in files.names.iter().zip(&files.lengths) {
         writeln!(lines, "removable {name} {bytes}")?;
     }
-    Ok(lines)
+    Ok(lines.into_bytes())
 }
 
 /// The files of a folder that its version doesn't need, if its tables are there. Of files that stay
 /// and that a new one may replace it is told.
-fn files_to_clean<R: Host>(session: &Session<'_, R>) -> Result<UnneededFiles, Refusal> {
+fn files_to_clean<R: Host>(session: &Session<'_, R, Opened>) -> Result<UnneededFiles, Refusal> {
     let (rt, telling, opened) = (session.rt, session.telling, &session.opened);
     sizes_tested(rt, telling.folder, opened)?;
     let files = unneeded_files(rt, telling.folder, opened)?;
@@ -165,19 +157,14 @@ impl<'t, R: Print + AllocGlobal> RemovalPrinter<'t, R> {
             let line = json_line(alloc, &removed_json(alloc, name, length)?)?;
             return print_lines(self.rt, line.as_bytes());
         }
-        match println!(self.rt; "removed {name} {length}") {
-            Ok(()) => Ok(()),
-            Err(error) => Err(Refusal::of_output(alloc, &error)),
-        }
+        let printed = println!(self.rt; "removed {name} {length}");
+        printed.map_err(|error| Refusal::of_output(alloc, &error))
     }
 }
 
 impl<'t, R: Print + AllocGlobal> RemovalWatch for RemovalPrinter<'t, R> {
     fn removed(&mut self, name: &str) {
-        let length = match self.lengths.get(self.removed) {
-            Some(length) => *length,
-            None => 0,
-        };
+        let length = *self.lengths.get(self.removed).unwrap_or(&0);
         self.removed = self.removed.saturating_add(1);
         if self.refusal.is_none()
             && let Err(refusal) = self.print(name, length)

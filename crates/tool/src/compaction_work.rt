@@ -1,50 +1,54 @@
 //! The compaction of a folder, whose outcomes are installed.
 
-use crate::clean_work::{clean_named, clean_opened};
+use crate::clean_work::{clean_folder, clean_named};
 use crate::compaction_notes::{note_of, tell_room};
-use crate::folder_change::Change;
-use crate::outcome_work::{OutcomeTask, outcome_of};
-use crate::printed_work::{DoneWork, tell_step, unprinted};
-use crate::step_printer::{StepPrinter, print_installed};
+use crate::folder_change::begin_change;
+use crate::outcome_work::outcome_of;
+use crate::printed_work::{DoneWork, print_installed, tell_step, unprinted};
+use crate::step_printer::StepPrinter;
 use folder::{Bytewise, Fault, FaultName, Version};
 use levels::{Descent, Selection, compact_level};
 use refusals::sizes_in_turn;
-use session::{Host, LAST_LEVEL, Refusal, Session, bytes_of, refused_at};
+use session::{Host, LAST_LEVEL, Opened, Refusal, Session, bytes_of, refused_at};
 use std::alloc::Global;
 use store::{
-    CompactionStep, bottom, checkers_of, compact_inputs, compact_opened, next_level,
+    Choice, CompactionStep, SyncedVersion, bottom, checkers_of, compact_inputs, compact_opened,
+    next_level,
 };
 use usage::{CompactLine, CompactWork, Levels};
 
 /// Compacts a level of a folder, or all of them one after the other. What it was opened as is
-/// synced once, so that it outlives a crash.
+/// synced once, so that it outlives a crash; if no level is to be compacted, nothing has to.
 pub fn compact_folder<R: Host>(
-    session: Session<'_, R>,
+    session: Session<'_, R, Opened>,
     line: &CompactLine<'_>,
 ) -> Result<(), Refusal> {
-    let (rt, telling) = (session.rt, session.telling);
-    if let CompactWork::Installed(levels) = line.options.work {
-        compact_levels(session, line, levels)?;
-        tell_room(rt, telling);
-    }
-    Ok(())
-}
-
-/// The same of these levels. If none is to be compacted, nothing has to outlive a crash.
-fn compact_levels<R: Host>(
-    session: Session<'_, R>,
-    line: &CompactLine<'_>,
-    levels: Levels,
-) -> Result<(), Refusal> {
+    let CompactWork::Installed(levels) = line.options.work else {
+        return Ok(());
+    };
     let (rt, telling) = (session.rt, session.telling);
     if !line.options.testing.is_skipped {
         sizes_in_turn(rt, telling.folder, &session.opened)?;
     }
-    if !is_due(rt.alloc(), &session.opened.version, levels)? {
-        return nothing_compacted(session, line, levels);
+    if is_due(rt.alloc(), &session.opened.version, levels)? {
+        levels_compacted(session, line, levels)?;
+    } else {
+        nothing_compacted(session, line, levels)?;
     }
-    telling.tell_replaceable(rt, &session.opened.version, &[]);
-    let change = Change::begin(session)?;
+    tell_room(rt, telling);
+    Ok(())
+}
+
+/// Compacts these levels, of which one has inputs.
+fn levels_compacted<R: Host>(
+    session: Session<'_, R, Opened>,
+    line: &CompactLine<'_>,
+    levels: Levels,
+) -> Result<(), Refusal> {
+    session
+        .telling
+        .tell_replaceable(session.rt, &session.opened.version, &[]);
+    let change = begin_change(session)?;
     match levels {
         Levels::One(level) | Levels::Whole(level) => compact_one(change, line, levels, level),
         Levels::All => compact_all(change, line, Selection::Picked),
@@ -71,47 +75,32 @@ fn is_due(alloc: Global, version: &Version, levels: Levels) -> Result<bool, Faul
 /// What is answered if there is no level to compact: why a level can't be; of all levels, files
 /// that the version doesn't need are removed, if that is asked for.
 fn nothing_compacted<R: Host>(
-    session: Session<'_, R>,
+    session: Session<'_, R, Opened>,
     line: &CompactLine<'_>,
     levels: Levels,
 ) -> Result<(), Refusal> {
+    let mut session = session;
     match levels {
-        Levels::One(level) | Levels::Whole(level) => Err(refusal_of_level(session, line, level)),
+        Levels::One(level) | Levels::Whole(level) => {
+            outcome_of(&mut session, line, Choice::Picked(level), None)?;
+            Err(Fault::of(FaultName::NoInput).into())
+        }
         Levels::All | Levels::AllWhole => {
             let (rt, telling) = (session.rt, session.telling);
             let progress = session.progress();
             let version = &session.opened.version;
             StepPrinter::new(rt, telling, &progress, version, line, false)?.end()?;
             if line.options.cleans {
-                clean_opened(session, line.options.is_json)?;
+                clean_folder(session, line.options.is_json)?;
             }
             Ok(())
         }
     }
 }
 
-/// Why a level without inputs can't be compacted. What a folder was opened as is tested before, if
-/// that is asked for.
-fn refusal_of_level<R: Host>(
-    session: Session<'_, R>,
-    line: &CompactLine<'_>,
-    level: u64,
-) -> Refusal {
-    let mut session = session;
-    let task = OutcomeTask {
-        level,
-        part: None,
-        first_number: None,
-    };
-    match outcome_of(&mut session, line, task) {
-        Ok(_) => Fault::of(FaultName::NoInput).into(),
-        Err(refusal) => refusal,
-    }
-}
-
 /// Compacts a level of a folder, and prints what was made.
 fn compact_one<R: Host>(
-    change: Change<'_, R>,
+    change: Session<'_, R, SyncedVersion>,
     line: &CompactLine<'_>,
     levels: Levels,
     level: u64,
@@ -145,7 +134,7 @@ fn compact_one<R: Host>(
 /// Compacts a level of a folder, or all of it, and installs the outcome. What the folder was opened
 /// as is tested before, if that is asked for; else nothing but the inputs is read.
 fn step_made<R: Host>(
-    change: &mut Change<'_, R>,
+    change: &mut Session<'_, R, SyncedVersion>,
     line: &CompactLine<'_>,
     levels: Levels,
     level: u64,
@@ -169,12 +158,12 @@ fn step_made<R: Host>(
 /// Each step is printed when it is installed, and each file when it is removed: after each step, or
 /// after the last one if whole levels are compacted.
 fn compact_all<R: Host>(
-    change: Change<'_, R>,
+    change: Session<'_, R, SyncedVersion>,
     line: &CompactLine<'_>,
     selection: Selection,
 ) -> Result<(), Refusal> {
     let progress = change.progress();
-    let Change {
+    let Session {
         rt,
         telling,
         mut disk,
@@ -200,8 +189,7 @@ fn compact_all<R: Host>(
     if let Err(fault) = end {
         return Err(refused_at(rt, telling.folder, &disk, fault));
     }
-    let manifest = steps.manifest();
-    steps.end()?;
+    let manifest = steps.end()?;
     if options.cleans && is_whole {
         clean_named(rt, telling.folder, &mut disk, manifest, options.is_json)?;
     }

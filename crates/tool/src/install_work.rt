@@ -2,26 +2,50 @@
 
 use crate::clean_work::clean_named;
 use crate::compaction_notes::{note_of, tell_room};
-use crate::folder_change::Change;
-use crate::install_steps::{InstallationEnd, outcomes_installed};
+use crate::folder_change::begin_change;
 use crate::outcome_refusal::outcome_explained;
-use crate::printed_work::{DoneWork, unprinted};
-use crate::step_printer::print_installed;
+use crate::printed_work::{DoneWork, print_installed, unprinted};
+use adoption::{Comparison, TakenOutcome, TakenOutcomes, TakingEnd, install_taken, take_outcome};
 use disk::Disk;
-use folder::Version;
+use folder::Fault;
 use refusals::explained;
-use session::{Host, Refusal, Session, Telling, sizes_tested, tell_time};
-use store::CompactionStep;
+use session::{
+    Host, Opened, ProgressLine, Refusal, Session, Telling, bytes_of, refused_at, sizes_tested,
+    tell_time,
+};
+use std::alloc::Global;
+use std::collections::BTreeSet;
+use store::{CompactionStep, SyncedVersion, checkers};
 use usage::InstallLine;
 
-/// Installs in a folder the outcomes that others have, and prints what was installed. What the
-/// folder was opened as is synced, so that it outlives a crash.
+/// What is asked for, and who watches.
+#[derive(Drop)]
+struct InstallTask<'t, 'x, R> {
+    rt: &'x R,
+    telling: Telling<'x>,
+    line: &'x InstallLine<'x>,
+    progress: &'t ProgressLine<'x, R>,
+    opened: &'t SyncedVersion,
+}
+
+/// A folder after outcomes were taken in, one after the other, and what these do together.
+#[derive(Drop)]
+struct Gathered<'x, 'o, R> {
+    folder: Disk<'x, R>,
+    /// How many they are.
+    done: u64,
+    taken: TakenOutcomes<'o>,
+    step: CompactionStep,
+}
+
+/// Installs in a folder the outcomes that others have, by one manifest, and prints what was
+/// installed. What the folder was opened as is synced, so that it outlives a crash.
 pub fn install_outcomes<'x, R: Host>(
-    session: Session<'x, R>,
+    session: Session<'x, R, Opened>,
     line: &'x InstallLine<'x>,
 ) -> Result<(), Refusal> {
     let (rt, telling) = (session.rt, session.telling);
-    let Change {
+    let Session {
         begun,
         disk,
         opened,
@@ -30,37 +54,144 @@ pub fn install_outcomes<'x, R: Host>(
         Ok(change) => change,
         Err(refusal) => return Err(explained(rt, telling, refusal)),
     };
-    let InstallationEnd { folder, done, step } = outcomes_installed(
-        rt, telling, line, disk, &opened,
-    );
-    match step {
-        Ok(step) => {
-            tell_time(rt, "install", begun);
-            tell_installed(rt, telling, line, folder, &opened.version, &step)
-        }
-        Err(refusal) => Err(outcome_explained(rt, telling, line, done, &opened, refusal)),
-    }
+    let progress = ProgressLine::new(rt, telling);
+    let task = InstallTask {
+        rt,
+        telling,
+        line,
+        progress: &progress,
+        opened: &opened,
+    };
+    let (mut folder, step) = outcomes_installed(&task, disk)?;
+    tell_time(rt, "install", begun);
+    tell_installed(&task, &mut folder, &step)
 }
 
 /// The folder of a session, in which outcomes are to be installed. No table is missing.
-fn to_install<R: Host>(session: Session<'_, R>) -> Result<Change<'_, R>, Refusal> {
+fn to_install<R: Host>(
+    session: Session<'_, R, Opened>,
+) -> Result<Session<'_, R, SyncedVersion>, Refusal> {
     let (rt, telling) = (session.rt, session.telling);
     sizes_tested(rt, telling.folder, &session.opened)?;
     telling.tell_replaceable(rt, &session.opened.version, &[]);
-    Change::begin(session)
+    begin_change(session)
 }
 
-/// Prints what was installed over the version `before`, and removes files after it if that is asked
-/// for.
-fn tell_installed<R: Host>(
-    rt: &R,
-    telling: Telling<'_>,
-    line: &InstallLine<'_>,
-    folder: Disk<'_, R>,
-    before: &Version,
+/// Installs all outcomes in a folder, and answers it and what they do together.
+fn outcomes_installed<'x, R: Host>(
+    task: &InstallTask<'_, 'x, R>,
+    folder: Disk<'x, R>,
+) -> Result<(Disk<'x, R>, CompactionStep), Refusal> {
+    let (rt, path) = (task.rt, task.telling.folder);
+    let mut gathered = Gathered {
+        folder,
+        done: 0,
+        taken: TakenOutcomes::none(rt.alloc(), task.opened),
+        step: no_step(rt.alloc()),
+    };
+    for out in task.line.outs.iter() {
+        gathered = with_outcome(task, gathered, out)?;
+    }
+    task.progress.erase();
+    let Gathered {
+        mut folder,
+        taken,
+        mut step,
+        ..
+    } = gathered;
+    let installed = install_taken(rt.alloc(), &mut folder, &taken);
+    step.manifest = installed.map_err(|fault| refused_at(rt, path, &folder, fault))?;
+    Ok((folder, step))
+}
+
+/// The same with the outcome of one more folder.
+fn with_outcome<'x, 'o, R: Host>(
+    task: &InstallTask<'_, 'x, R>,
+    before: Gathered<'x, 'o, R>,
+    out: &'x str,
+) -> Result<Gathered<'x, 'o, R>, Refusal> {
+    let (rt, line) = (task.rt, task.line);
+    let comparison = if line.testing.is_skipped {
+        Comparison::LeftOut
+    } else {
+        Comparison::With(line.snapshots)
+    };
+    let Gathered {
+        folder,
+        done,
+        taken,
+        step,
+    } = before;
+    let mut source = Disk::new(rt, out);
+    let TakingEnd { folder, answer } = take_outcome(
+        &checkers(rt, rt.alloc(), task.progress),
+        folder,
+        &mut source,
+        taken,
+        comparison,
+        bytes_of(line.testing.memory),
+    );
+    match with_taken(answer, step) {
+        Ok((taken, step)) => Ok(Gathered {
+            folder,
+            done: done.saturating_add(1),
+            taken,
+            step,
+        }),
+        Err(fault) => Err(refused_of_either(task, out, done, &source, folder, fault)),
+    }
+}
+
+/// The refusal of the outcome after as many others, at the folder of the two whose call failed.
+fn refused_of_either<'x, R: Host>(
+    task: &InstallTask<'_, 'x, R>,
+    out: &'x str,
+    done: u64,
+    source: &Disk<'x, R>,
+    folder: Disk<'x, R>,
+    fault: Fault,
+) -> Refusal {
+    let (rt, telling) = (task.rt, task.telling);
+    task.progress.erase();
+    let refusal = if source.last_failure().is_some() {
+        refused_at(rt, out, source, fault)
+    } else {
+        refused_at(rt, telling.folder, &folder, fault)
+    };
+    outcome_explained(rt, telling, task.line, done, task.opened, refusal)
+}
+
+/// Outcomes after one more, and what they do, where those before it did this.
+fn with_taken<'o>(
+    answer: Result<TakenOutcome<'o>, Fault>,
+    before: CompactionStep,
+) -> Result<(TakenOutcomes<'o>, CompactionStep), Fault> {
+    let TakenOutcome { taken, step } = answer?;
+    let mut joined = before;
+    joined.outputs.extend_from_slice(&step.outputs)?;
+    for file in step.deleted.iter() {
+        joined.deleted.insert(*file)?;
+    }
+    Ok((taken, joined))
+}
+
+/// What no outcome does.
+fn no_step(alloc: Global) -> CompactionStep {
+    CompactionStep {
+        outputs: Vec::new(alloc),
+        deleted: BTreeSet::new(alloc),
+        manifest: 0,
+        edit: Vec::new(alloc),
+    }
+}
+
+/// Prints what was installed, and removes files after it if that is asked for.
+fn tell_installed<'x, R: Host>(
+    task: &InstallTask<'_, 'x, R>,
+    folder: &mut Disk<'x, R>,
     step: &CompactionStep,
 ) -> Result<(), Refusal> {
-    let mut folder = folder;
+    let (rt, telling, before) = (task.rt, task.telling, &task.opened.version);
     let note = note_of(rt, telling, before, &step.outputs, &step.deleted);
     if let Err(refusal) = print_installed(rt, 0, step, false) {
         return Err(unprinted(rt.alloc(), telling.folder, DoneWork::Version, refusal));
@@ -68,8 +199,8 @@ fn tell_installed<R: Host>(
     if let Some(note) = note {
         note.tell_filters(rt, telling);
     }
-    if line.cleans {
-        clean_named(rt, telling.folder, &mut folder, before.next_file(), false)?;
+    if task.line.cleans {
+        clean_named(rt, telling.folder, folder, before.next_file(), false)?;
     }
     tell_room(rt, telling);
     Ok(())

@@ -1,7 +1,7 @@
 //! The files that a compaction of a folder would read.
 
 use folder::Fault;
-use session::{Host, Refusal, Session};
+use session::{Host, Opened, Refusal, Session};
 use std::alloc::Global;
 use store::{Inputs, files_to_compact, parts_to_compact};
 use usage::JobLine;
@@ -9,7 +9,7 @@ use usage::JobLine;
 /// The names of the files that a compaction of a level would read, or the parts of the level. No
 /// table is read.
 pub fn job_answer<R: Host>(
-    session: &mut Session<'_, R>,
+    session: &mut Session<'_, R, Opened>,
     line: &JobLine<'_>,
 ) -> Result<Vec<u8>, Refusal> {
     let alloc = session.rt.alloc();

@@ -1,15 +1,13 @@
 //! The commands of the program `sedvokt` that change a folder or write into another: their files
 //! and locks, what they print, and what is told of a refusal and of the work on a folder.
 //!
-//! Names of other crates are public calls of these, under the same names. No contract says which
-//! calls are made for a command, nor what is told on the standard error.
+//! No contract says which calls are made for a command, nor what is told on the standard error.
 #![tactic(auto)]
 
 mod clean_work;
 mod compaction_notes;
 mod compaction_work;
 mod folder_change;
-mod install_steps;
 mod install_work;
 mod job_printer;
 mod out_folder;
@@ -19,17 +17,9 @@ mod printed_work;
 mod step_printer;
 mod work_left;
 
-pub use answers::{ValueForm, dump, get_dir, manifest, status, verify};
 pub use clean_work::{clean_folder, removable_answer};
 pub use compaction_work::compact_folder;
-pub use disk::Disk;
-pub use folder::{Folder, FolderFault, Order, load, open};
 pub use install_work::install_outcomes;
 pub use job_printer::job_answer;
 pub use out_folder::{OutState, state_of};
 pub use outcome_work::write_compaction;
-pub use pairing::blocks;
-pub use session::{Host, progress_text};
-pub use store::{bottom, compact_dir, next_level};
-pub use texts::{Spelling, key_of, text_of};
-pub use usage::{Levels, Line, RowOptions, Settings, Usage, Verbosity, line};

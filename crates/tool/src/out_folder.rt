@@ -3,7 +3,7 @@
 use disk::{Disk, OwnedFiles, SystemFiles};
 use folder::{Fault, FaultName};
 use install::Outcome;
-use session::{Refusal, Words, refused_at, sync_folder_of, told};
+use session::{Refusal, refused_at, said, sync_folder_of};
 use std::fs::{File, OpenOptions, TryLockError};
 use std::io::ErrorKind;
 use std::rt::Files;
@@ -24,7 +24,7 @@ pub enum OutState {
 
 /// What is at a path.
 pub fn state_of<R: Files + AllocGlobal>(rt: &R, out: &str) -> Result<OutState, Refusal> {
-    state_at(rt, out).map_err(|error| Refusal::of_call(rt.alloc(), out, "list its files", &error))
+    state_at(rt, out).map_err(|error| Refusal::of_listing(rt.alloc(), out, &error))
 }
 
 /// The same with the system's errors.
@@ -93,11 +93,9 @@ fn claimed<R: SystemFiles + AllocGlobal>(rt: &R, out: &str) -> Result<File, Refu
     ))?;
     let is_held = matches!(folder.try_lock(), Err(TryLockError::WouldBlock));
     if is_held || state_of(rt, out)? != OutState::Empty {
-        let words = Words {
-            wrong: "it was empty, and another program writes into it by now",
-            remedy: "give another folder",
-        };
-        return Err(Refusal::new(Fault::of(FaultName::Changed), told(rt.alloc(), out, words)));
+        let wrong = "it was empty, and another program writes into it by now";
+        let told = said(rt.alloc(), out, wrong, "give another folder");
+        return Err(Refusal::new(Fault::of(FaultName::Changed), told));
     }
     Ok(folder)
 }

@@ -2,8 +2,10 @@
 
 use disk::Disk;
 use folder::{Fault, FaultName, Folder, Order, VersionEdit};
-use refusals::{Stated, compaction_explained, file_fault, is_there, table_file_name, unlike_edit};
-use session::{Host, Refusal, RefusalText, Telling, Words, deleted_files, of_file, path_in, told};
+use refusals::{Stated, compaction_explained, file_fault, is_of_no_file, is_there, unlike_edit};
+use session::{
+    Host, Refusal, RefusalText, Telling, deleted_files, of_file, path_in, said, table_file_name,
+};
 use std::alloc::Global;
 use store::{EDIT, SyncedVersion, manifest_of};
 use usage::{InstallLine, Settings};
@@ -65,35 +67,36 @@ fn file_told<R: Host>(
     order: Order,
     name: FaultName,
 ) -> Option<RefusalText> {
+    match outcome_edit(rt, out) {
+        Ok(Some(edit)) => table_told(rt, telling, out, order, name, &edit),
+        Ok(None) if name == FaultName::Missing => words_told(rt.alloc(), out, EDIT, NO_EDIT),
+        Err(fault) if fault.name == name => words_told(rt.alloc(), out, EDIT, edit_words(name)),
+        _ => None,
+    }
+}
+
+/// The same of the tables of its edit.
+fn table_told<R: Host>(
+    rt: &R,
+    telling: Telling<'_>,
+    out: &str,
+    order: Order,
+    name: FaultName,
+    edit: &VersionEdit,
+) -> Option<RefusalText> {
     let alloc = rt.alloc();
-    let edit = match outcome_edit(rt, out) {
-        Ok(Some(edit)) => edit,
-        Ok(None) if name == FaultName::Missing => return words_told(alloc, out, EDIT, NO_EDIT),
-        Err(fault) if fault.name == name => {
-            return words_told(alloc, out, EDIT, edit_words(name));
-        }
-        _ => return None,
-    };
     let mut outcome = Disk::new(rt, out);
     match name {
         FaultName::Missing => {
-            let table = first_missing(rt, out, &edit)?;
-            words_told(
-                alloc,
-                out,
-                table.as_str(),
-                "it is missing, and EDIT names it",
-            )
+            let table = first_missing(rt, out, edit)?;
+            let wrong = "it is missing, and EDIT names it";
+            words_told(alloc, out, table.as_str(), wrong)
         }
         FaultName::Bounds => {
-            let (number, fault) = unlike_edit(alloc, &mut outcome, order, &edit).ok()??;
+            let (number, fault) = unlike_edit(alloc, &mut outcome, order, edit).ok()??;
             let table = table_file_name(alloc, &mut outcome, number).ok()?;
-            file_fault(
-                alloc,
-                path_in(alloc, out, table.as_str())?.as_str(),
-                fault,
-                BY_EDIT,
-            )
+            let path = path_in(alloc, out, table.as_str()).ok()?;
+            file_fault(alloc, path.as_str(), fault, BY_EDIT)
         }
         name => {
             let number = telling.refused.number()?;
@@ -108,11 +111,12 @@ fn file_told<R: Host>(
 
 /// What is told of an outcome's file of this name.
 fn words_told(alloc: Global, out: &str, file: &str, wrong: &'static str) -> Option<RefusalText> {
-    let words = Words {
+    said(
+        alloc,
+        path_in(alloc, out, file).ok()?.as_str(),
         wrong,
-        remedy: REMEDY,
-    };
-    told(alloc, path_in(alloc, out, file)?.as_str(), words)
+        REMEDY,
+    )
 }
 
 /// What is wrong with an EDIT that is refused by this name.
@@ -146,7 +150,7 @@ fn misfit<R: Host>(
     opened: &SyncedVersion,
 ) -> Option<RefusalText> {
     let alloc = rt.alloc();
-    let path = path_in(alloc, out, EDIT)?;
+    let path = path_in(alloc, out, EDIT).ok()?;
     let (whose, remedy, whole) = if done == 0 {
         (
             "the database",
@@ -160,17 +164,13 @@ fn misfit<R: Host>(
             "it does not fit the version that the outcomes before it leave",
         )
     };
-    if let Ok(Some((number, next))) = number_taken(rt, line, out, done, opened) {
-        let wrong = format!(in alloc;
-            "its table {number} is not above the next file number of {whose}, {next}"
-        );
-        return RefusalText::new(alloc, path.as_str(), wrong, remedy);
-    }
-    let words = Words {
-        wrong: whole,
-        remedy: REMEDY,
+    let Ok(Some((number, next))) = number_taken(rt, line, out, done, opened) else {
+        return said(alloc, path.as_str(), whole, REMEDY);
     };
-    told(alloc, path.as_str(), words)
+    let wrong = format!(in alloc;
+        "its table {number} is not above the next file number of {whose}, {next}"
+    );
+    RefusalText::new(alloc, path.as_str(), wrong, remedy)
 }
 
 /// The number of the first new file of an outcome that isn't above the next file number that it
@@ -252,18 +252,7 @@ fn explained_of_folder<'a, R: Host>(
     if explained.told.is_some() || name != FaultName::Lawless {
         return explained;
     }
-    let words = Words {
-        wrong: "its tables do not have what a compaction keeps, or do not go with those of the \
-            database",
-        remedy: REMEDY,
-    };
-    explained.telling(told(rt.alloc(), out, words))
-}
-
-/// Whether a refusal of this name is about no file that can be found.
-fn is_of_no_file(name: FaultName) -> bool {
-    matches!(
-        name,
-        FaultName::Changed | FaultName::Device | FaultName::Memory
-    )
+    let wrong = "its tables do not have what a compaction keeps, or do not go with those of the \
+        database";
+    explained.telling(said(rt.alloc(), out, wrong, REMEDY))
 }

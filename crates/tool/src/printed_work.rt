@@ -1,11 +1,11 @@
 //! What is printed of work that is done, and what is told if it can't be printed.
 
 use answers::{CompactionEnd, compaction_json, compaction_lines, json_line};
-use session::{Beginning, Refusal, RefusalText, Words, print_lines, tell_time, told};
+use session::{Beginning, Refusal, RefusalText, print_lines, tell_time};
 use std::alloc::Global;
 use std::collections::BTreeSet;
 use std::time::Clock;
-use store::DeletedFile;
+use store::{CompactionStep, DeletedFile};
 
 /// Work that is done by the time its lines can't be written.
 #[derive(Clone, Copy)]
@@ -40,11 +40,8 @@ pub(crate) fn unprinted(alloc: Global, folder: &str, done: DoneWork, refusal: Re
             None,
         ),
     };
-    let told = match remedy {
-        Some(remedy) => told(alloc, folder, Words { wrong, remedy }),
-        None => RefusalText::alone(alloc, folder, String::from_str(alloc, wrong)),
-    };
-    Refusal::new(refusal.fault, told)
+    let wrong = String::from_str(alloc, wrong);
+    Refusal::new(refusal.fault, RefusalText::of(alloc, folder, wrong, remedy))
 }
 
 /// Prints the lines of a compaction of a level, or its JSON line.
@@ -66,6 +63,17 @@ pub(crate) fn print_compaction<R: Print + AllocGlobal>(
         compaction_lines(alloc, outputs, deleted, end)?
     };
     print_lines(rt, text.as_bytes())
+}
+
+/// Prints the lines of a compaction of a level, which is installed, or its JSON line.
+pub(crate) fn print_installed<R: Print + AllocGlobal>(
+    rt: &R,
+    level: u64,
+    step: &CompactionStep,
+    is_json: bool,
+) -> Result<(), Refusal> {
+    let end = CompactionEnd::Installed(step.manifest);
+    print_compaction(rt, level, &step.outputs, &step.deleted, end, is_json)
 }
 
 /// Tells how long the compaction of a level took, if its beginning is known.

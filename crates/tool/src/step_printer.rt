@@ -3,9 +3,9 @@
 
 use crate::clean_work::{RemovalPrinter, files_named};
 use crate::compaction_notes::{CompactionNote, note_of, tell_made, tell_no_step, version_total};
-use crate::printed_work::{DoneWork, print_compaction, tell_step, unprinted};
+use crate::printed_work::{DoneWork, print_installed, tell_step, unprinted};
 use crate::work_left::work_left;
-use answers::{CompactionEnd, FileTotal};
+use answers::FileTotal;
 use disk::{Disk, SystemFiles};
 use folder::{Fault, Opened, Version};
 use install::RemovalWatch;
@@ -46,18 +46,6 @@ pub(crate) struct StepPrinter<'t, R> {
     refusal: Option<Refusal>,
 }
 
-impl<'t, R> StepPrinter<'t, R> {
-    /// The line of progress of the steps.
-    pub fn progress(&self) -> &'t ProgressLine<'t, R> {
-        self.progress
-    }
-
-    /// The number of the manifest of the last step; None before the first.
-    pub fn manifest(&self) -> Option<u64> {
-        self.manifest
-    }
-}
-
 impl<'t, R: Eprint + Clock + AllocGlobal> StepPrinter<'t, R> {
     /// Who prints the steps from a version on. The first one begins. Files are removed after each
     /// if `cleans`.
@@ -96,28 +84,29 @@ impl<'t, R: Eprint + Clock + AllocGlobal> StepPrinter<'t, R> {
         Ok(steps)
     }
 
-    /// Whether all steps could be printed, and none was the last one for a reason. If so, it is told
-    /// what was made of all files.
-    pub fn end(self) -> Result<(), Refusal> {
+    /// Whether all steps could be printed, and none was the last one for a reason. If so, it is
+    /// told what was made of all files. The answer is the manifest of the last step, if there was
+    /// one.
+    pub fn end(self) -> Result<Option<u64>, Refusal> {
         let StepPrinter {
             rt,
             telling,
             bottom,
             before,
             after,
-            done,
+            manifest,
             refusal,
             ..
         } = self;
         if let Some(refusal) = refusal {
             return Err(refusal);
         }
-        if done == 0 {
+        if manifest.is_none() {
             tell_no_step(rt, telling, bottom, before.files);
         } else if let Some(after) = after {
             tell_made(rt, telling, before, after);
         }
-        Ok(())
+        Ok(manifest)
     }
 
     /// Has the line of progress show the step that begins at a version.
@@ -150,25 +139,6 @@ impl<'t, R: SystemFiles + Eprint + Clock + AllocGlobal> StepPrinter<'t, R> {
     }
 }
 
-impl<'t, R: SystemFiles + Print + Eprint + Clock + AllocGlobal> StepPrinter<'t, R> {
-    /// Prints the lines of a step, and tells of it. Whether they could be printed.
-    pub fn print_installed(&mut self, level: u64, step: &CompactionStep, before: &Version) -> bool {
-        self.progress.erase();
-        self.manifest = Some(step.manifest);
-        tell_step(self.rt, level, self.begun);
-        let folder = self.telling.folder;
-        let note = self.note_of(before, step);
-        if let Err(refusal) = print_installed(self.rt, level, step, self.is_json) {
-            self.refusal = Some(unprinted(self.rt.alloc(), folder, DoneWork::Step, refusal));
-            return false;
-        }
-        if let Some(note) = note {
-            self.has_told_filters = note.tell_filters(self.rt, self.telling);
-        }
-        true
-    }
-}
-
 impl<'t, R: Host> InstallWatch for StepPrinter<'t, R> {
     fn installed(
         &mut self,
@@ -177,11 +147,22 @@ impl<'t, R: Host> InstallWatch for StepPrinter<'t, R> {
         before: &Version,
         after: Option<&Version>,
     ) -> bool {
-        let goes_on = self.print_installed(level, step, before);
-        if goes_on && self.removals.is_none() {
+        self.progress.erase();
+        self.manifest = Some(step.manifest);
+        tell_step(self.rt, level, self.begun);
+        let note = self.note_of(before, step);
+        if let Err(refusal) = print_installed(self.rt, level, step, self.is_json) {
+            let folder = self.telling.folder;
+            self.refusal = Some(unprinted(self.rt.alloc(), folder, DoneWork::Step, refusal));
+            return false;
+        }
+        if let Some(note) = note {
+            self.has_told_filters = note.tell_filters(self.rt, self.telling);
+        }
+        if self.removals.is_none() {
             self.end_step(after);
         }
-        goes_on
+        true
     }
 }
 
@@ -201,8 +182,7 @@ impl<'t, R: Host> CleanWatch for StepPrinter<'t, R> {
         let folder = self.telling.folder;
         let mut disk = Disk::new(self.rt, folder);
         match files_named(self.rt, folder, &mut disk, Some(opened.manifest)) {
-            Ok(found) => {
-                let (_, files) = found;
+            Ok((_, files)) => {
                 let UnneededFiles { names, lengths } = files;
                 if let Some(removals) = &mut self.removals {
                     removals.begin(lengths);
@@ -227,15 +207,4 @@ impl<'t, R: Host> CleanWatch for StepPrinter<'t, R> {
         self.end_step(Some(&opened.version));
         true
     }
-}
-
-/// Prints the lines of a compaction of a level, which is installed, or its JSON line.
-pub(crate) fn print_installed<R: Print + AllocGlobal>(
-    rt: &R,
-    level: u64,
-    step: &CompactionStep,
-    is_json: bool,
-) -> Result<(), Refusal> {
-    let end = CompactionEnd::Installed(step.manifest);
-    print_compaction(rt, level, &step.outputs, &step.deleted, end, is_json)
 }

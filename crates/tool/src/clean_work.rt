@@ -164,7 +164,10 @@ impl<'t, R: Print + AllocGlobal> RemovalPrinter<'t, R> {
 
 impl<'t, R: Print + AllocGlobal> RemovalWatch for RemovalPrinter<'t, R> {
     fn removed(&mut self, name: &str) {
-        let length = *self.lengths.get(self.removed).unwrap_or(&0);
+        let length = match self.lengths.get(self.removed) {
+            Some(length) => *length,
+            None => 0,
+        };
         self.removed = self.removed.saturating_add(1);
         if self.refusal.is_none()
             && let Err(refusal) = self.print(name, length)

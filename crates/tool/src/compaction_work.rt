@@ -214,22 +214,28 @@ fn compact_whole<R: Host>(
     let progress = change.progress();
     let version = &change.opened.version;
     let mut steps = StepPrinter::new(rt, telling, &progress, version, line, false)?;
-    let settings = &line.settings;
-    let workers = checkers_of(rt, rt.alloc(), settings.workers, &progress);
-    let memory = bytes_of(line.options.testing.memory);
-    let end = compact_whole_levels(
-        &workers,
-        &mut change.disk,
-        &change.opened,
-        settings,
-        memory,
-        &mut steps,
-    );
-    change.ended(&progress, end)?;
+    whole_levels_made(&mut change, line, &progress, &mut steps)?;
     let manifest = steps.end()?;
     if line.options.cleans {
         let is_json = line.options.is_json;
         clean_named(rt, telling.folder, &mut change.disk, manifest, is_json)?;
     }
+    Ok(())
+}
+
+/// The same, told to who prints the steps.
+fn whole_levels_made<'r, R: Host>(
+    change: &mut Session<'r, R, SyncedVersion>,
+    line: &CompactLine<'_>,
+    progress: &ProgressLine<'r, R>,
+    steps: &mut StepPrinter<'_, R>,
+) -> Result<(), Refusal> {
+    let settings = &line.settings;
+    let workers = checkers_of(change.rt, change.rt.alloc(), settings.workers, progress);
+    let memory = bytes_of(line.options.testing.memory);
+    let folder = &mut change.disk;
+    let opened = &change.opened;
+    let end = compact_whole_levels(&workers, folder, opened, settings, memory, steps);
+    change.ended(progress, end)?;
     Ok(())
 }

@@ -39,7 +39,8 @@ row_object spelling (deleted d) =
 row_object spelling (pointer level key) = object_of ((codes "key", key_data spelling (user_of key))
     ∷ (codes "level", natural level) ∷ (codes "sequence", natural (sequence_of key))
     ∷ (codes "type", natural (kind_number (kind_of key))) ∷ [])
-row_object spelling (listed level f) = object_of ((codes "largest", key_data spelling (user_of f.largest))
+row_object spelling (listed level f) =
+    object_of ((codes "largest", key_data spelling (user_of f.largest))
     ∷ (codes "level", natural level) ∷ (codes "number", natural f.number)
     ∷ (codes "size", natural f.size) ∷ (codes "smallest", key_data spelling (user_of f.smallest))
     ∷ [])

@@ -71,7 +71,10 @@ pub fn compaction_json(
     let outputs = objects(alloc, NO_KEYS, &output_rows(alloc, outputs)?)?;
     let deleted = objects(alloc, NO_KEYS, &deleted_rows(alloc, deleted)?)?;
     let (name, value) = end_field(alloc, end)?;
-    let fields = [("level", Cell::Number(level)), (name, Cell::Text(value.as_str()))];
+    let fields = [
+        ("level", Cell::Number(level)),
+        (name, Cell::Text(value.as_str())),
+    ];
     let mut members = members(alloc, NO_KEYS, &fields)?;
     put(&mut members, alloc, "outputs", Value::Array(outputs))?;
     put(&mut members, alloc, "deleted", Value::Array(deleted))?;
@@ -109,10 +112,7 @@ fn output_rows(alloc: Global, outputs: &[(u64, u64)]) -> Result<Vec<Row<'static>
     Ok(rows)
 }
 
-fn deleted_rows(
-    alloc: Global,
-    files: &BTreeSet<DeletedFile>,
-) -> Result<Vec<Row<'static>>, Fault>
+fn deleted_rows(alloc: Global, files: &BTreeSet<DeletedFile>) -> Result<Vec<Row<'static>>, Fault>
     ensures { EqualOrMemory (λ rows. map seen rows.items) result
         (Ok (map deleted files.now.keys)) }
 {

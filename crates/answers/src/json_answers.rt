@@ -59,7 +59,10 @@ pub fn count_json(alloc: Global, count: u64, logs: Option<u64>) -> Result<Value,
 pub fn removed_json(alloc: Global, name: &str, bytes: u64) -> Result<Value, Fault>
     ensures { EqualOrMemory view result (Ok (removed_object name.now bytes)) }
 {
-    let fields = [("bytes", Cell::Number(bytes)), ("removed", Cell::Text(name))];
+    let fields = [
+        ("bytes", Cell::Number(bytes)),
+        ("removed", Cell::Text(name)),
+    ];
     object(alloc, NO_KEYS, &fields)
 }
 

@@ -87,6 +87,9 @@ fn level_json(alloc: Global, spelling: Spelling, stats: &LevelStats) -> Result<V
 fn total_json(alloc: Global, total: FileTotal) -> Result<Value, Fault>
     ensures { EqualOrMemory view result (Ok (total_object total)) }
 {
-    let fields = [("bytes", Cell::Number(total.bytes)), ("files", Cell::Number(total.files))];
+    let fields = [
+        ("bytes", Cell::Number(total.bytes)),
+        ("files", Cell::Number(total.files)),
+    ];
     object(alloc, NO_KEYS, &fields)
 }

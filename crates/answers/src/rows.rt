@@ -110,11 +110,17 @@ fn row_json(alloc: Global, spelling: Spelling, row: Row<'_>) -> Result<Value, Fa
 {
     match row {
         Row::Output(number, size) => {
-            let fields = [("number", Cell::Number(number)), ("size", Cell::Number(size))];
+            let fields = [
+                ("number", Cell::Number(number)),
+                ("size", Cell::Number(size)),
+            ];
             object(alloc, spelling, &fields)
         }
         Row::Deleted(DeletedFile { level, number }) => {
-            let fields = [("level", Cell::Number(level)), ("number", Cell::Number(number))];
+            let fields = [
+                ("level", Cell::Number(level)),
+                ("number", Cell::Number(number)),
+            ];
             object(alloc, spelling, &fields)
         }
         Row::Pointer(level, key) => pointer_json(alloc, spelling, level, key),

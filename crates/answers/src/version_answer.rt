@@ -132,11 +132,7 @@ fn counters_text(alloc: Global, name: &str, counters: Counters) -> Result<String
 }
 
 /// The members of the comparator and the counters.
-fn head_members(
-    alloc: Global,
-    order: Order,
-    version: &Version,
-) -> Result<Map<String, Value>, Fault>
+fn head_members(alloc: Global, order: Order, version: &Version) -> Result<Map<String, Value>, Fault>
     ensures { EqualOrMemory (λ m. members_view m.entries) result
         (Ok (members_of (head_fields order version.now))) }
 {
@@ -177,11 +173,7 @@ fn pointer_rows(alloc: Global, version: &Version) -> Result<Vec<Row<'_>>, Fault>
 }
 
 /// Appends a level's compact pointer, if it has one.
-fn push_pointer<'v>(
-    rows: &mut Vec<Row<'v>>,
-    version: &'v Version,
-    level: u64,
-) -> Result<(), Fault>
+fn push_pointer<'v>(rows: &mut Vec<Row<'v>>, version: &'v Version, level: u64) -> Result<(), Fault>
     requires { level ≤ LAST_LEVEL }
     ensures ok { OnOk result (map seen rows.new.items ≡ map seen rows.old.items
         ++ pointer_row version.now level) }
@@ -206,11 +198,7 @@ fn file_rows<C: Comparator>(alloc: Global, version: &Version) -> Result<Vec<Row<
 }
 
 /// Appends the files of a level.
-fn push_files<'v>(
-    rows: &mut Vec<Row<'v>>,
-    level: u64,
-    files: &[&'v FileMeta],
-) -> Result<(), Fault>
+fn push_files<'v>(rows: &mut Vec<Row<'v>>, level: u64, files: &[&'v FileMeta]) -> Result<(), Fault>
     ensures ok { OnOk result (map seen rows.new.items ≡ map seen rows.old.items
         ++ map (λ f. listed level f.now) files.now) }
     ensures memory { IfErr result (λ e. e ≡ fault Memory) }

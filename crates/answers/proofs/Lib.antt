@@ -1,4 +1,5 @@
 mod JsonLemmas
+mod RowLemmas
 pub mod Appended
 mod ShowingLemmas
 mod HeldTables

@@ -1,17 +1,41 @@
--- The JSON objects of answers, with members by name, and the line of an object.
-use Rattle.std.specs.Prelude.{ℕ, List, ◌++◌, true, codes, Option, Some, None, if◌then◌else◌}
+-- The JSON objects of answers, as rows of named fields, and the line of an object.
+use Rattle.std.specs.Prelude.{ℕ, List, [], ◌∷◌, ◌++◌, true, codes, Option, Some, None}
+use Rattle.std.specs.Prelude.{if◌then◌else◌}
 use Rattle.std.specs.Str.{is_utf8}
-use Rattle.serde_json.specs.Data.{Data, boolean, member, no_members, null, number, object, string}
-use Rattle.serde_json.specs.Data.{unsigned}
+use Rattle.serde_json.specs.Data.{Data, Members, boolean, member, no_members, null, number, object}
+use Rattle.serde_json.specs.Data.{put, string, unsigned}
 use Rattle.serde_json.specs.Written.{compact_text}
 use Rattle.texts.specs.Spelling.{key_text, value_text}
 use Rattle.texts.specs.Text.{text_of_bytes}
 use Rattle.texts.specs.declared.spelling.Spelling.{Spelling}
 use Rattle.texts.specs.declared.spelling.Spelling.TheVariants.{Hexadecimal, Text, Utf8}
+use Rattle.answers.specs.declared.history_lines.EntryPlace.{EntryPlace}
+
+-- the members and these fields, one put in after the other
+abbrev pub with_fields : Members → List (List ℕ × Data) → Members
+with_fields ms [] = ms
+with_fields ms (field ∷ fields) = with_fields (put field.0 field.1 ms) fields
+
+-- these fields, by name
+abbrev pub members_of : List (List ℕ × Data) → Members
+members_of fields = with_fields no_members fields
+
+-- their object
+abbrev pub object_of : List (List ℕ × Data) → Data
+object_of fields = object (members_of fields)
 
 -- the line of an object: its text without blanks, and a newline
 abbrev pub json_line : Data → List ℕ
 json_line d = compact_text d ++ codes "\n"
+
+-- a number
+abbrev pub natural : ℕ → Data
+natural n = number (unsigned n)
+
+-- a number; null for none
+abbrev pub number_or_null : Option ℕ → Data
+number_or_null None = null
+number_or_null (Some n) = natural n
 
 -- `{"hex":H}`: bytes in hexadecimal digits
 abbrev pub hex_object : List ℕ → Data
@@ -38,68 +62,49 @@ abbrev pub value_data : Spelling → Option (List ℕ) → Data
 value_data spelling None = null
 value_data spelling (Some value) = some_data spelling value
 
--- a number; null for none
-abbrev pub number_or_null : Option ℕ → Data
-number_or_null None = null
-number_or_null (Some n) = number (unsigned n)
-
--- `{"logs":N}`: how many logs have writes that are in no table; null if that isn't known
+-- how many logs have writes that are in no table; null if that isn't known
 abbrev pub logs_object : Option ℕ → Data
-logs_object logs = object (member (codes "logs") (number_or_null logs) no_members)
+logs_object logs = object_of ((codes "logs", number_or_null logs) ∷ [])
 
--- `{"count":N,"logs":N}`
+-- the same after how many rows
 abbrev pub count_object : ℕ → Option ℕ → Data
-count_object count logs = object (member (codes "count") (number (unsigned count))
-    (member (codes "logs") (number_or_null logs) no_members))
+count_object count logs =
+    object_of ((codes "count", natural count) ∷ (codes "logs", number_or_null logs) ∷ [])
 
--- `{"entries":E,"files":F,"lawful":true,"logs":N,"missing_log":M}`
-abbrev pub lawful_parts : ℕ → ℕ → Data → Data → Data
-lawful_parts files entries logs missing =
-    object (member (codes "entries") (number (unsigned entries))
-    (member (codes "files") (number (unsigned files))
-    (member (codes "lawful") (boolean true)
-    (member (codes "logs") logs
-    (member (codes "missing_log") missing no_members)))))
-
--- that of how many logs have writes, and of a missing log: null if that isn't known, if none is
+-- a lawful version; how many logs have writes, and a missing log: null if that isn't known, if
+-- none is
 abbrev pub lawful_object : ℕ → ℕ → Option ℕ → Option ℕ → Data
-lawful_object files entries logs missing =
-    lawful_parts files entries (number_or_null logs) (number_or_null missing)
+lawful_object files entries logs missing = object_of ((codes "entries", natural entries)
+    ∷ (codes "files", natural files) ∷ (codes "lawful", boolean true)
+    ∷ (codes "logs", number_or_null logs) ∷ (codes "missing_log", number_or_null missing) ∷ [])
 
--- `{"entries":E,"valid":true}`
+-- a valid table
 abbrev pub valid_object : ℕ → Data
-valid_object entries = object (member (codes "entries") (number (unsigned entries))
-    (member (codes "valid") (boolean true) no_members))
+valid_object entries =
+    object_of ((codes "entries", natural entries) ∷ (codes "valid", boolean true) ∷ [])
 
--- `{"bytes":B,"removed":NAME}`
+-- a file that was removed
 abbrev pub removed_object : List ℕ → ℕ → Data
-removed_object name bytes = object (member (codes "bytes") (number (unsigned bytes))
-    (member (codes "removed") (string name) no_members))
+removed_object name bytes =
+    object_of ((codes "bytes", natural bytes) ∷ (codes "removed", string name) ∷ [])
 
--- `{"name":NAME}`
+-- a file that a copy needs
 abbrev pub name_object : List ℕ → Data
-name_object name = object (member (codes "name") (string name) no_members)
+name_object name = object_of ((codes "name", string name) ∷ [])
 
--- `{"key":K,"logs":N,"value":V}`
-abbrev pub value_parts : Data → Option ℕ → Data → Data
-value_parts key logs value = object (member (codes "key") key
-    (member (codes "logs") (number_or_null logs) (member (codes "value") value no_members)))
-
--- that of a key and its value; null in place of V for a key without a value
+-- a key and its value, null if it has none
 abbrev pub value_object : Spelling → List ℕ → Option (List ℕ) → Option ℕ → Data
-value_object spelling key value logs =
-    value_parts (key_data spelling key) logs (value_data spelling value)
+value_object spelling key value logs = object_of ((codes "key", key_data spelling key)
+    ∷ (codes "logs", number_or_null logs) ∷ (codes "value", value_data spelling value) ∷ [])
 
--- `{"key":K}`
-abbrev pub lone_object : Data → Data
-lone_object key = object (member (codes "key") key no_members)
+-- an entry; null in place of its value for a deletion
+abbrev pub entry_object : Spelling → EntryPlace → Option (List ℕ) → Data
+entry_object spelling place value = object_of ((codes "file", natural place.file)
+    ∷ (codes "level", natural place.level) ∷ (codes "sequence", natural place.sequence)
+    ∷ (codes "value", value_data spelling value) ∷ [])
 
--- `{"key":K,"value":V}`
-abbrev pub pair_object : Data → Data → Data
-pair_object key value =
-    object (member (codes "key") key (member (codes "value") value no_members))
-
--- the same of a key and its value, or `{"key":K}` if values are left out
-abbrev pub row_object : Spelling → List ℕ → Option (List ℕ) → Data
-row_object spelling key None = lone_object (key_data spelling key)
-row_object spelling key (Some value) = pair_object (key_data spelling key) (some_data spelling value)
+-- one key of many, and its value if values aren't left out
+abbrev pub pair_object : Spelling → List ℕ → Option (List ℕ) → Data
+pair_object spelling key None = object_of ((codes "key", key_data spelling key) ∷ [])
+pair_object spelling key (Some value) = object_of ((codes "key", key_data spelling key)
+    ∷ (codes "value", some_data spelling value) ∷ [])

@@ -10,12 +10,12 @@ ghost use Rattle.folder.specs.ReadsAs.{IsFileIn};
 ghost use Rattle.folder.specs.Reports.{OnlyReads, ReportsDevice};
 ghost use Rattle.answers.specs.FolderLines.{IsAnswerOfFolder, IsAnswerOfVersion};
 ghost use Rattle.answers.specs.FolderLines.{got_answer, verified_line};
-ghost use Rattle.answers.specs.VersionLines.{IsShown, version_lines};
+ghost use Rattle.answers.specs.VersionAnswer.{IsShown, version_lines};
 ghost use Rattle.answers.specs.Questions.{answer_to};
 
 use crate::question::{Question, ValueForm};
 use crate::unverified_get::unverified_value;
-use crate::version_text::version_lines;
+use crate::version_answer::version_lines;
 use crate::version_verdict::{lawful_answer, lawful_line, test_opened};
 use board::Watch;
 use edit::Version;

@@ -1,19 +1,19 @@
-//! The JSON objects of a verdict, of a removed or needed file, and of a value.
+//! The JSON objects that are a row of fields: of verdicts, files, values and entries.
 
-ghost use Rattle.std.specs.Prelude.{◌≡◌, IfOk, Ok, option_map};
-ghost use Rattle.table.specs.Answers.{EqualOrMemory};
+ghost use Rattle.std.specs.Prelude.{◌≡◌, ◌++◌, IsOkUnless, Ok, OnErr, OnOk, option_map};
+ghost use Rattle.table.specs.Answers.{EqualOrMemory, fault};
 ghost use Rattle.table.specs.Saturated.{saturated};
-ghost use Rattle.table.specs.Key.{user_of};
+ghost use Rattle.table.specs.fault.FaultName.TheVariants.{Memory};
 ghost use Rattle.serde_json.specs.View.{view};
-ghost use Rattle.answers.specs.Objects.{count_object, key_data, lawful_object, lawful_parts};
-ghost use Rattle.answers.specs.Objects.{logs_object, name_object, number_or_null, removed_object};
-ghost use Rattle.answers.specs.Objects.{valid_object, value_object, value_parts};
+ghost use Rattle.answers.specs.Objects.{count_object, entry_object, json_line, lawful_object};
+ghost use Rattle.answers.specs.Objects.{logs_object, name_object, pair_object, removed_object};
+ghost use Rattle.answers.specs.Objects.{valid_object, value_object};
 
-use crate::json_bytes::{key_json, text_or_null};
-use crate::json_text::capped;
-use serde_json::{Value, json};
-use std::alloc::{AllocError, Global};
-use table::{Fault, KeyBuf};
+use crate::history_lines::EntryPlace;
+use crate::json_object::{Cell, NO_KEYS, capped, json_line, object};
+use serde_json::Value;
+use std::alloc::Global;
+use table::Fault;
 use texts::Spelling;
 
 /// The object `{"entries":E,"files":F,"lawful":true,"logs":N,"missing_log":M}` of a lawful version.
@@ -29,41 +29,14 @@ pub fn lawful_json(
     ensures { EqualOrMemory view result
         (Ok (lawful_object files (saturated entries) logs missing)) }
 {
-    let entries = capped(entries);
-    let logs = number_or_null(logs);
-    let missing = number_or_null(missing);
-    let object = lawful_parts_json(alloc, files, entries, logs, missing)?;
-    Ok(object)
-}
-
-/// The object of these parts.
-fn lawful_parts_json(
-    alloc: Global,
-    files: usize,
-    entries: u64,
-    logs: Value,
-    missing: Value,
-) -> Result<Value, AllocError>
-    ensures { IfOk result
-        (λ v. view v ≡ lawful_parts files entries (view logs) (view missing)) }
-{
-    json!(in alloc; {
-        "entries": entries,
-        "files": files,
-        "lawful": true,
-        "logs": logs,
-        "missing_log": missing
-    })
-}
-
-/// A number, null if there is none.
-fn number_or_null(number: Option<u64>) -> Value
-    ensures { view result ≡ number_or_null number }
-{
-    match number {
-        Some(number) => Value::from(number),
-        None => Value::Null,
-    }
+    let fields = [
+        ("entries", Cell::Number(capped(entries))),
+        ("files", Cell::Number(files as u64)),
+        ("lawful", Cell::True),
+        ("logs", Cell::Count(logs)),
+        ("missing_log", Cell::Count(missing)),
+    ];
+    object(alloc, NO_KEYS, &fields)
 }
 
 /// The object `{"logs":N}` after rows: how many logs have writes that are in no table, null if it
@@ -71,69 +44,116 @@ fn number_or_null(number: Option<u64>) -> Value
 pub fn logs_json(alloc: Global, logs: Option<u64>) -> Result<Value, Fault>
     ensures { EqualOrMemory view result (Ok (logs_object logs)) }
 {
-    Ok(json!(in alloc; {"logs": logs})?)
+    object(alloc, NO_KEYS, &[("logs", Cell::Count(logs))])
 }
 
 /// The object `{"count":N,"logs":N}`: how many rows there are, and how many logs as after rows.
 pub fn count_json(alloc: Global, count: u64, logs: Option<u64>) -> Result<Value, Fault>
     ensures { EqualOrMemory view result (Ok (count_object count logs)) }
 {
-    Ok(json!(in alloc; {"count": count, "logs": logs})?)
+    let fields = [("count", Cell::Number(count)), ("logs", Cell::Count(logs))];
+    object(alloc, NO_KEYS, &fields)
 }
 
 /// The object `{"bytes":B,"removed":NAME}` of a file that was removed.
 pub fn removed_json(alloc: Global, name: &str, bytes: u64) -> Result<Value, Fault>
     ensures { EqualOrMemory view result (Ok (removed_object name.now bytes)) }
 {
-    Ok(json!(in alloc; {"bytes": bytes, "removed": name})?)
+    let fields = [
+        ("bytes", Cell::Number(bytes)),
+        ("removed", Cell::Text(name)),
+    ];
+    object(alloc, NO_KEYS, &fields)
 }
 
 /// The object `{"name":NAME}` of a file that a copy needs.
 pub fn name_json(alloc: Global, name: &str) -> Result<Value, Fault>
     ensures { EqualOrMemory view result (Ok (name_object name.now)) }
 {
-    Ok(json!(in alloc; {"name": name})?)
+    object(alloc, NO_KEYS, &[("name", Cell::Text(name))])
 }
 
 /// The object `{"entries":E,"valid":true}` of a valid table.
 pub fn valid_json(alloc: Global, entries: u64) -> Result<Value, Fault>
     ensures { EqualOrMemory view result (Ok (valid_object entries)) }
 {
-    Ok(json!(in alloc; {"entries": entries, "valid": true})?)
+    let fields = [("entries", Cell::Number(entries)), ("valid", Cell::True)];
+    object(alloc, NO_KEYS, &fields)
 }
 
 /// The object `{"key":K,"logs":N,"value":V}` of a key and its value; `"value":null` if it has none.
 /// So many `logs` have writes that are in no table: null if that isn't known.
-pub fn value_json(
+pub fn value_json<'a>(
     alloc: Global,
     spelling: Spelling,
-    key: &[u8],
-    value: Option<&[u8]>,
+    key: &'a [u8],
+    value: Option<&'a [u8]>,
     logs: Option<u64>,
 ) -> Result<Value, Fault>
     ensures { EqualOrMemory view result (Ok (value_object spelling key.now
         (option_map (λ bytes. bytes.now) value.entry) logs)) }
 {
-    let key = key_json(alloc, spelling, key)?;
-    let value = text_or_null(alloc, spelling, value)?;
-    value_parts_json(alloc, key, logs, value)
+    let fields = [
+        ("key", Cell::Key(key)),
+        ("logs", Cell::Count(logs)),
+        ("value", Cell::Value(value)),
+    ];
+    object(alloc, spelling, &fields)
 }
 
-/// The object of these parts.
-fn value_parts_json(
+/// The object `{"file":F,"level":L,"sequence":S,"value":V}` of an entry, with null in place of V
+/// for a deletion.
+pub fn entry_json(
     alloc: Global,
-    key: Value,
-    logs: Option<u64>,
-    value: Value,
+    spelling: Spelling,
+    place: EntryPlace,
+    value: Option<&[u8]>,
 ) -> Result<Value, Fault>
-    ensures { EqualOrMemory view result (Ok (value_parts (view key) logs (view value))) }
+    ensures { EqualOrMemory view result
+        (Ok (entry_object spelling place (option_map (λ bytes. bytes.now) value.entry))) }
 {
-    Ok(json!(in alloc; {"key": key, "logs": logs, "value": value})?)
+    let fields = [
+        ("file", Cell::Number(place.file)),
+        ("level", Cell::Number(place.level)),
+        ("sequence", Cell::Number(place.sequence)),
+        ("value", Cell::Value(value)),
+    ];
+    object(alloc, spelling, &fields)
 }
 
-/// The user key of an internal key as a JSON string.
-pub(crate) fn user_json(alloc: Global, spelling: Spelling, key: &KeyBuf) -> Result<Value, Fault>
-    ensures { EqualOrMemory view result (Ok (key_data spelling (user_of key.now))) }
+/// Appends the line `{"key":K,"value":V}` of one key of many; `{"key":K}` if no value is given.
+#[tactic(auto, using(crate::proofs::JsonLemmas::pair_has_no_float))]
+pub fn push_row_json<'a>(
+    alloc: Global,
+    lines: &mut Vec<u8>,
+    spelling: Spelling,
+    key: &'a [u8],
+    value: Option<&'a [u8]>,
+) -> Result<(), Fault>
+    ensures ok { OnOk result (lines.new.items ≡ lines.old.items ++ json_line (pair_object spelling
+        key.now (option_map (λ bytes. bytes.now) value.entry))) }
+    ensures err { OnErr result (lines.new.items ≡ lines.old.items) }
+    ensures memory { IsOkUnless result (fault Memory) }
 {
-    key_json(alloc, spelling, key.as_key().user())
+    let pair = pair_json(alloc, spelling, key, value)?;
+    let line = json_line(alloc, &pair)?;
+    lines.extend_from_slice(line.as_bytes())?;
+    Ok(())
+}
+
+/// The object of that line.
+fn pair_json<'a>(
+    alloc: Global,
+    spelling: Spelling,
+    key: &'a [u8],
+    value: Option<&'a [u8]>,
+) -> Result<Value, Fault>
+    ensures { EqualOrMemory view result (Ok (pair_object spelling key.now
+        (option_map (λ bytes. bytes.now) value.entry))) }
+{
+    let key = ("key", Cell::Key(key));
+    match value {
+        Some(_) => object(alloc, spelling, &[key, ("value", Cell::Value(value))]),
+        None => object(alloc, spelling, &[key]),
+    }
 }

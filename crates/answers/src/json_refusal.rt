@@ -1,6 +1,6 @@
 //! The JSON line of a refusal.
 
-use crate::json_text::json_line;
+use crate::json_object::json_line;
 use serde_json::{Map, Value, put};
 use std::alloc::Global;
 use table::Fault;

@@ -1,16 +1,15 @@
 //! The JSON object of how much a version has.
 
-ghost use Rattle.std.specs.Prelude.{◌≡◌, map, IfOk, Ok};
+ghost use Rattle.std.specs.Prelude.{map, Ok};
 ghost use Rattle.table.specs.Answers.{EqualOrMemory};
 ghost use Rattle.serde_json.specs.View.{items_view, view};
-ghost use Rattle.answers.specs.StatsObject.{level_object, level_parts, stats_object};
-ghost use Rattle.answers.specs.StatsObject.{stats_parts, total_object};
+ghost use Rattle.answers.specs.StatsObject.{level_object, stats_object, stats_parts};
+ghost use Rattle.answers.specs.StatsObject.{total_object};
 
-use crate::json_answers::user_json;
-use crate::json_text::capped;
+use crate::json_object::{Cell, NO_KEYS, capped, object};
 use scan::{FileTotal, LevelStats, VersionStats};
 use serde_json::{Value, json};
-use std::alloc::{AllocError, Global};
+use std::alloc::Global;
 use table::Fault;
 use texts::Spelling;
 
@@ -71,37 +70,26 @@ fn levels_json(
 fn level_json(alloc: Global, spelling: Spelling, stats: &LevelStats) -> Result<Value, Fault>
     ensures { EqualOrMemory view result (Ok (level_object spelling stats.now)) }
 {
-    let largest = user_json(alloc, spelling, &stats.largest)?;
-    let smallest = user_json(alloc, spelling, &stats.smallest)?;
-    let object = level_parts_json(alloc, stats, largest, smallest)?;
-    Ok(object)
-}
-
-/// The object of these parts.
-fn level_parts_json(
-    alloc: Global,
-    stats: &LevelStats,
-    largest: Value,
-    smallest: Value,
-) -> Result<Value, AllocError>
-    ensures { IfOk result
-        (λ v. view v ≡ level_parts stats.now (view largest) (view smallest)) }
-{
-    json!(in alloc; {
-        "bytes": stats.amounts.bytes,
-        "deletions": capped(stats.amounts.deletions),
-        "entries": capped(stats.amounts.entries),
-        "files": stats.amounts.files,
-        "hidden": capped(stats.amounts.hidden),
-        "largest": largest,
-        "level": stats.level,
-        "smallest": smallest
-    })
+    let fields = [
+        ("bytes", Cell::Number(stats.amounts.bytes)),
+        ("deletions", Cell::Number(capped(stats.amounts.deletions))),
+        ("entries", Cell::Number(capped(stats.amounts.entries))),
+        ("files", Cell::Number(stats.amounts.files)),
+        ("hidden", Cell::Number(capped(stats.amounts.hidden))),
+        ("largest", Cell::Key(stats.largest.as_key().user())),
+        ("level", Cell::Number(stats.level)),
+        ("smallest", Cell::Key(stats.smallest.as_key().user())),
+    ];
+    object(alloc, spelling, &fields)
 }
 
 /// The object of files that are counted.
 fn total_json(alloc: Global, total: FileTotal) -> Result<Value, Fault>
     ensures { EqualOrMemory view result (Ok (total_object total)) }
 {
-    Ok(json!(in alloc; {"bytes": total.bytes, "files": total.files})?)
+    let fields = [
+        ("bytes", Cell::Number(total.bytes)),
+        ("files", Cell::Number(total.files)),
+    ];
+    object(alloc, NO_KEYS, &fields)
 }

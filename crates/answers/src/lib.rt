@@ -20,54 +20,46 @@
 #![tactic(auto)]
 
 mod bars;
-mod compaction_end;
-mod counters;
+mod compaction_answer;
 mod exit_status;
 mod fault_lines;
 mod folder_commands;
 mod history_lines;
 mod json_answers;
-mod json_bytes;
-mod json_compaction;
+mod json_object;
 mod json_refusal;
-mod json_row;
 mod json_stats;
-mod json_text;
-mod json_version;
-mod leveled_files;
 mod question;
+mod rows;
 mod scan_row;
 mod stats_table;
-mod step_lines;
 mod table_dump;
 mod table_verdict;
 mod unverified_get;
 mod value_forms;
-mod version_text;
+mod version_answer;
 mod version_verdict;
 
 pub use checks::{Open, VersionTotals};
-pub use compaction_end::CompactionEnd;
+pub use compaction_answer::{CompactionEnd, compaction_json, compaction_lines};
 pub use exit_status::status;
 pub use fault_lines::{fault_count_line, file_fault_line, key_fault_line};
 pub use folder_commands::{answer_opened, get_dir, manifest, manifest_lines, verify};
-pub use history_lines::{EntryPlace, entry_json, entry_line};
+pub use history_lines::{EntryPlace, entry_line};
 pub use json_answers::{
-    count_json, lawful_json, logs_json, name_json, removed_json, valid_json, value_json,
+    count_json, entry_json, lawful_json, logs_json, name_json, push_row_json, removed_json,
+    valid_json, value_json,
 };
-pub use json_compaction::compaction_json;
+pub use json_object::json_line;
 pub use json_refusal::{Told, refusal_json};
-pub use json_row::push_row_json;
 pub use json_stats::stats_json;
-pub use json_text::json_line;
-pub use json_version::version_json;
 pub use question::{Question, ValueForm};
 pub use scan::FileTotal;
 pub use scan_row::push_row;
 pub use stats_table::stats_text;
-pub use step_lines::compaction_lines;
 pub use table_dump::dump;
 pub use table_verdict::{table_entries, verify_table};
 pub use unverified_get::unverified_value;
 pub use value_forms::{push_named_value, value_answer, value_lines_law};
+pub use version_answer::version_json;
 pub use version_verdict::test_opened;

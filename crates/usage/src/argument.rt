@@ -17,34 +17,34 @@ const MEMORY_HELP: &str =
 /// An argument of a command. First comes its name, which for an option is the word after `--`. Last
 /// comes what help says of it.
 #[derive(Clone, Copy)]
-pub(crate) enum Argument<'a> {
+pub(crate) enum Argument {
     /// A text that is given by its place.
-    Place(&'a str, &'a str),
+    Place(&'static str, &'static str),
     /// The same, of a text that may be left out.
-    FreePlace(&'a str, &'a str),
+    FreePlace(&'static str, &'static str),
     /// The same, of several texts.
-    FreePlaces(&'a str, &'a str),
+    FreePlaces(&'static str, &'static str),
     /// Several texts that are given by their places, at least one.
-    Places(&'a str, &'a str),
+    Places(&'static str, &'static str),
     /// An option without a value.
-    Flag(&'a str, &'a str),
+    Flag(&'static str, &'static str),
     /// The same, which may also be given as a hyphen and this letter.
-    ShortFlag(&'a str, char, &'a str),
+    ShortFlag(&'static str, char, &'static str),
     /// An option with a text, which usage calls by the second name.
-    Value(&'a str, &'a str, &'a str),
+    Value(&'static str, &'static str, &'static str),
     /// The same, of one that must be given.
-    WantedValue(&'a str, &'a str, &'a str),
+    WantedValue(&'static str, &'static str, &'static str),
     /// An option with a number of 64 bits, which usage calls by the second name.
-    Number(&'a str, &'a str, &'a str),
+    Number(&'static str, &'static str, &'static str),
     /// The same, of one that must be given.
-    WantedNumber(&'a str, &'a str, &'a str),
+    WantedNumber(&'static str, &'static str, &'static str),
     /// `--memory MIB`.
     Memory,
 }
 
 /// The argument, for `clap`.
-pub(crate) fn arg_of<'a>(alloc: Global, argument: Argument<'a>) -> Arg<'a>
-    ensures { IsArgument (rule_of_argument argument.entry) result }
+pub(crate) fn arg_of<'a>(alloc: Global, argument: Argument) -> Arg<'a>
+    ensures { IsArgument (rule_of_argument argument) result }
 {
     match argument {
         Argument::Place(id, help) => Arg::new(alloc, id).help(help).required(true),

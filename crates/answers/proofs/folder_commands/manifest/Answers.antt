@@ -3,7 +3,7 @@ use Rattle.folder.proofs.OpeningLemmas.{answers_alone, hands_on}
 use Rattle.folder.proofs.ReportLemmas.{reports_after, reports_handed}
 use Rattle.folder.specs.OpenAnswer.{IsOpened}
 use Rattle.answers.proofs.ShowingLemmas.{answer_device, answer_holds}
-use Rattle.answers.specs.VersionLines.{IsShown, version_lines}
+use Rattle.answers.specs.VersionAnswer.{IsShown, version_lines}
 use Rattle.answers.proofs.folder_commands.manifest.Goals as goal
 
 pub returns-in_err-opened-clause-answer : goal.returns-in_err-opened-clause-answer

@@ -2,7 +2,7 @@ use Rattle.std.proofs.Common.{Ok, subst, sym}
 use Rattle.table.specs.Answers.{EqualOrMemory}
 use Rattle.folder.specs.declared.order.Order.{Order}
 use Rattle.folder.specs.Orders.{order_cmp}
-use Rattle.answers.specs.VersionLines.{lines_by}
+use Rattle.answers.specs.VersionAnswer.{lines_by}
 use Rattle.answers.proofs.folder_commands.manifest_lines.Goals as goal
 
 pub returns-in-Bytewise : goal.returns-in-Bytewise

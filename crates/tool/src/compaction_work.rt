@@ -11,9 +11,7 @@ use levels::{Descent, Selection, compact_level};
 use refusals::sizes_in_turn;
 use session::{Host, LAST_LEVEL, Refusal, Session, bytes_of, refused_at};
 use std::alloc::Global;
-use store::{
-    CompactionStep, bottom, checkers_of, compact_inputs, compact_opened, next_level,
-};
+use store::{CompactionStep, bottom, checkers_of, compact_inputs, compact_opened, next_level};
 use usage::{CompactLine, CompactWork, Levels};
 
 /// Compacts a level of a folder, or all of them one after the other. What it was opened as is

@@ -45,7 +45,6 @@ returns-in_err-level-clause-left g t c files loaded tables told current reads so
     none_begun selection o.order s c.args.bottom o.version o.manifest loaded tables sound (calls first) (tells first) (failed first) files told (record { reads = reads; named = current })
     (calls first) (tells first) (failed first) q refl (same_tells (tells first)) (refused_err q e (λ x. UnlessMemory x (why x)) h (by_memory e why c.in_err-level.ensures.memory))
 
-
 pub returns-in_default-clause-left : goal.returns-in_default-clause-left
 returns-in_default-clause-left g t c files loaded tables told current reads sound enough =
     let o = c.args.opened in
@@ -57,7 +56,6 @@ returns-in_default-clause-left g t c files loaded tables told current reads soun
     let first = c.args.folder.now in
     none_begun selection o.order s c.args.bottom o.version o.manifest loaded tables sound (calls first) (tells first) (failed first) files told (record { reads = reads; named = current })
     (calls first) (tells first) (failed first) (Ok AtBottom) refl (same_tells (tells first)) tt
-
 
 pub returns-in_err-next-clause-left : goal.returns-in_err-next-clause-left
 returns-in_err-next-clause-left g t c files loaded tables told current reads sound enough =
@@ -76,7 +74,6 @@ returns-in_err-next-clause-left g t c files loaded tables told current reads sou
     subst (λ (r : Result DescentEnd Fault). IsDescended (way_by selection o.order s c.args.bottom) (folder_version o.version o.manifest loaded) tables (call_by (calls first) (calls mid) (tells first) (tells mid) (failed first) (failed mid)) r)
     (sym (p.1 ∙ ap (λ (f : Fault). Err f) p.2)) left
 
-
 pub returns-in_default-2-clause-left : goal.returns-in_default-2-clause-left
 returns-in_default-2-clause-left g t c files loaded tables told current reads sound enough =
     let o = c.args.opened in
@@ -92,8 +89,7 @@ returns-in_default-2-clause-left g t c files loaded tables told current reads so
     let way = way_by selection o.order s c.args.bottom in
     let all = all_made g.F.Folder by way o.version first c.args.told.now c.in-Some.level at mid c.take_level.new.told c.in_ok-next.field-0 (c.in_ok-next.ensures.runs c.args.bottom) in
     let taken_now = c.in_ok-next.ensures.left c.args.bottom files loaded tables told current reads sound in
-    taken_stopped selection o.order s c.args.bottom o.version o.manifest loaded tables sound (calls first) (tells first) (failed first) files told (record { reads = reads; named = current }) c.in-Some.level at (calls mid) (tells mid) (failed mid) c.in_ok-next.field-0 taken_now all (failed first) refl (Ok Stopped) tt
-
+    taken_stopped selection o.order s c.args.bottom o.version o.manifest loaded tables sound (calls first) (tells first) (failed first) files told (record { reads = reads; named = current }) c.in-Some.level at (calls mid) (tells mid) (failed mid) c.in_ok-next.field-0 taken_now all
 
 pub returns-in_err-cleaned-clause-left : goal.returns-in_err-cleaned-clause-left
 returns-in_err-cleaned-clause-left g t c files loaded tables told current reads sound enough =
@@ -124,7 +120,6 @@ returns-in_err-cleaned-clause-left g t c files loaded tables told current reads 
     subst (λ (r : Result DescentEnd Fault). IsDescended way (folder_version o.version o.manifest loaded) tables (call_by (calls first) (calls after) (tells first) (tells after) (failed first) (failed after)) r)
     (sym (p.1 ∙ ap (λ (f : Fault). Err f) p.2)) left
 
-
 pub returns-in_default-3-clause-left : goal.returns-in_default-3-clause-left
 returns-in_default-3-clause-left g t c files loaded tables told current reads sound enough =
     let o = c.args.opened in
@@ -150,7 +145,6 @@ returns-in_default-3-clause-left g t c files loaded tables told current reads so
     let count = steady (failed first) (failed first) (failed mid) c.in_ok-next.field-0 c.take_level.result c.in_ok-next.was refl c.take_level.ensures.device.later c.take_level.ensures.device.at_once in
     one_ended selection o.order s c.args.bottom o.version o.manifest loaded tables sound (calls first) (tells first) (failed first) files told (record { reads = reads; named = current }) c.in-Some.level at (calls mid) (tells mid) goes.taken.step i all (calls after) (tells after) stays (failed mid) (failed after) (Ok Stopped) count tt
 
-
 pub returns-then-steps-eq0-clause-left : goal.returns-then-steps-eq0-clause-left
 returns-then-steps-eq0-clause-left g t c files loaded tables told current reads sound enough =
     let o = c.args.opened in
@@ -172,7 +166,6 @@ returns-then-steps-eq0-clause-left g t c files loaded tables told current reads 
     let small = goes.taken.installed.compacted.edited.small in
     let none = c.if-steps-eq0.true in
     absurd (omega (arith, rise, small, enough, none))
-
 
 pub returns-clause-left : goal.returns-clause-left
 returns-clause-left g t c files loaded tables told current reads sound enough =
@@ -208,49 +201,40 @@ returns-clause-left g t c files loaded tables told current reads sound enough =
     (again.0 ∙ goes.order_is) (again.1 ∙ goes.version_is) (again.2 ∙ goes.manifest_is) c.descend.ensures.left found.0 ts i.compacted.edited.tables_next found.1 found.2.named found.2.reads i.compacted.edited.lawful (omega (arith, rise, enough, some)) in
     one_more selection o.order s c.args.bottom o.version o.manifest loaded tables sound (calls first) (tells first) (failed first) files told (record { reads = reads; named = current }) c.in-Some.level at (calls mid) (tells mid) goes.taken.step i all (calls after) (tells after) stays (calls last) (tells last) (failed after) (failed last) c.descend.result counted rest
 
-
 -- ---- the device
 
 pub returns-in_err-level-clause-device : goal.returns-in_err-level-clause-device
 returns-in_err-level-clause-device g t c =
     reports_steady c.from_residual.result refl (handed_memory c.from_residual.result c.in_err-level.field-0.0 c.from_residual.ensures.1 c.in_err-level.ensures.memory)
 
-
 pub returns-in_default-clause-device : goal.returns-in_default-clause-device
 returns-in_default-clause-device g t c =
     let q : Result DescentEnd Fault = Ok AtBottom in reports_steady q refl tt
-
 
 pub returns-in_err-next-clause-device : goal.returns-in_err-next-clause-device
 returns-in_err-next-clause-device g t c =
     reports_handed c.from_residual-in_err-next.result c.in_err-next.was c.take_level.ensures.device c.from_residual-in_err-next.ensures.1
 
-
 pub returns-in_default-2-clause-device : goal.returns-in_default-2-clause-device
 returns-in_default-2-clause-device g t c =
     let q : Result DescentEnd Fault = Ok Stopped in reports_after q c.in_ok-next.was c.take_level.ensures.device tt
-
 
 pub returns-in_err-cleaned-clause-device : goal.returns-in_err-cleaned-clause-device
 returns-in_err-cleaned-clause-device g t c =
     reports_then c.in_ok-next.was c.take_level.ensures.device (reports_handed c.from_residual-in_err-cleaned.result c.in_err-cleaned.was c.clean.ensures.device c.from_residual-in_err-cleaned.ensures.1)
 
-
 pub returns-in_default-3-clause-device : goal.returns-in_default-3-clause-device
 returns-in_default-3-clause-device g t c =
     let q : Result DescentEnd Fault = Ok Stopped in reports_then c.in_ok-next.was c.take_level.ensures.device (reports_after q c.in_ok-cleaned.was c.clean.ensures.device tt)
-
 
 pub returns-then-steps-eq0-clause-device : goal.returns-then-steps-eq0-clause-device
 returns-then-steps-eq0-clause-device g t c =
     let q : Result DescentEnd Fault = Err c.of.result in
     reports_then c.in_ok-next.was c.take_level.ensures.device (reports_after q c.in_ok-cleaned.was c.clean.ensures.device (λ same. absurd (never_numbers c.of.result c.of.ensures same)))
 
-
 pub returns-clause-device : goal.returns-clause-device
 returns-clause-device g t c =
     reports_then c.in_ok-next.was c.take_level.ensures.device (reports_then c.in_ok-cleaned.was c.clean.ensures.device c.descend.ensures.device)
-
 
 -- ---- the calls, whatever the folder tells
 
@@ -265,7 +249,6 @@ returns-in_err-level-clause-runs g t c =
     let q = c.from_residual.result in
     no_more g.F.Folder by way o.version first c.args.told.now first c.args.told.now q refl (same_tells (g.F.Folder.tells first)) refl (refused_ok q c.in_err-level.field-0.0 (λ e. (e ≡ AtBottom) × IsNextLevel o.version c.args.bottom None) c.from_residual.ensures.1)
 
-
 pub returns-in_default-clause-runs : goal.returns-in_default-clause-runs
 returns-in_default-clause-runs g t c =
     let o = c.args.opened in
@@ -275,7 +258,6 @@ returns-in_default-clause-runs g t c =
     let by = teller_by g.T.InstallWatch.tells g.T.CleanWatch.lists g.T.RemovalWatch.tells g.T.CleanWatch.ends in
     let way = way_by selection o.order s c.args.bottom in
     no_more g.F.Folder by way o.version first c.args.told.now first c.args.told.now (Ok AtBottom) refl (same_tells (g.F.Folder.tells first)) refl (refl, subst (λ (n : Option ℕ). IsNextLevel o.version c.args.bottom n) c.in_default.is c.in_ok-level.ensures.next)
-
 
 pub returns-in_err-next-clause-runs : goal.returns-in_err-next-clause-runs
 returns-in_err-next-clause-runs g t c =
@@ -291,7 +273,6 @@ returns-in_err-next-clause-runs g t c =
     subst (λ (r : Result DescentEnd Fault). IsDescentRun g.F.Folder by way o.version (at_by first c.args.told.now) (at_by mid c.take_level.new.told) r) (sym (p.1 ∙ ap (λ (f : Fault). Err f) p.2))
     (last_refused g.F.Folder by way o.version first c.args.told.now c.in-Some.level at mid c.take_level.new.told c.in_err-next.field-0.0 (c.in_err-next.ensures.runs c.args.bottom))
 
-
 pub returns-in_default-2-clause-runs : goal.returns-in_default-2-clause-runs
 returns-in_default-2-clause-runs g t c =
     let o = c.args.opened in
@@ -303,7 +284,6 @@ returns-in_default-2-clause-runs g t c =
     let mid = c.take_level.new.folder in
     let at = subst (λ (n : Option ℕ). IsNextLevel o.version c.args.bottom n) c.in-Some.is c.in_ok-level.ensures.next in
     last_stopped g.F.Folder by way o.version first c.args.told.now c.in-Some.level at mid c.take_level.new.told c.in_ok-next.field-0 c.in_default-2.is (c.in_ok-next.ensures.runs c.args.bottom)
-
 
 pub returns-in_err-cleaned-clause-runs : goal.returns-in_err-cleaned-clause-runs
 returns-in_err-cleaned-clause-runs g t c =
@@ -323,7 +303,6 @@ returns-in_err-cleaned-clause-runs g t c =
     subst (λ (r : Result DescentEnd Fault). IsDescentRun g.F.Folder by way o.version (at_by first c.args.told.now) (at_by after told) r) (sym (p.1 ∙ ap (λ (f : Fault). Err f) p.2))
     (removal_refused g.F.Folder by way o.version first c.args.told.now c.in-Some.level at mid c.take_level.new.told next i after told c.in_err-cleaned.field-0.0 c.in_err-cleaned.ensures.runs)
 
-
 pub returns-in_default-3-clause-runs : goal.returns-in_default-3-clause-runs
 returns-in_default-3-clause-runs g t c =
     let o = c.args.opened in
@@ -339,7 +318,6 @@ returns-in_default-3-clause-runs g t c =
     let after = c.clean.new.folder in
     let told = c.clean.new.told in
     removal_stopped g.F.Folder by way o.version first c.args.told.now c.in-Some.level at mid c.take_level.new.told next i after told c.in_ok-cleaned.field-0 c.in_default-3.is c.in_ok-cleaned.ensures.runs
-
 
 pub returns-then-steps-eq0-clause-runs : goal.returns-then-steps-eq0-clause-runs
 returns-then-steps-eq0-clause-runs g t c =
@@ -361,7 +339,6 @@ returns-then-steps-eq0-clause-runs g t c =
     row_more g.F.Folder by way o.version first c.args.told.now c.in-Some.level at mid c.take_level.new.told next i after told c.in_ok-cleaned.field-0 cleaned (at_by after told) q c.in-Some-3.is again.0 again.1 c.in_ok-cleaned.ensures.runs
     (no_more g.F.Folder by (way_by selection cleaned.order s c.args.bottom) cleaned.version after told after told q refl (same_tells (g.F.Folder.tells after)) refl tt)
 
-
 pub returns-clause-runs : goal.returns-clause-runs
 returns-clause-runs g t c =
     let o = c.args.opened in
@@ -379,8 +356,3 @@ returns-clause-runs g t c =
     let cleaned = c.in-Some-3.cleaned in
     let again = subst (λ (x : Option SyncedVersion). IfSome x (λ n. (n.order ≡ next.order) × (n.version ≡ next.version) × (n.manifest ≡ next.manifest))) c.in-Some-3.is c.in_ok-cleaned.ensures.reopened in
     row_more g.F.Folder by way o.version first c.args.told.now c.in-Some.level at mid c.take_level.new.told next i after told c.in_ok-cleaned.field-0 cleaned (at_by c.descend.new.folder c.descend.new.told) c.descend.result c.in-Some-3.is again.0 again.1 c.in_ok-cleaned.ensures.runs c.descend.ensures.runs
-
-
--- how many steps are left
-abbrev pub decreases-descend : goal.decreases-descend
-decreases-descend g l = l.steps

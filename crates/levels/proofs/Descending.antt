@@ -1,5 +1,5 @@
 -- Compactions of one level after the other, with a removal after each: what they leave.
-use Rattle.std.proofs.Common.{Err, List, Ok, Option, Result, Some, [], ap, inl, inr, map, refl, subst, suc, sym, true, zero, ℕ, ◌++◌, ◌+◌, ◌^◌, ◌∙◌, ◌∷◌, ◌≡◌, ◌≢◌, ◌≤◌}
+use Rattle.std.proofs.Common.{arith, Err, List, Ok, Option, Result, Some, [], ap, inl, inr, map, refl, subst, suc, sym, true, zero, ℕ, ◌++◌, ◌+◌, ◌^◌, ◌∙◌, ◌∷◌, ◌≡◌, ◌≢◌, ◌≤◌}
 use Rattle.std.specs.Option.{IfSome}
 use Rattle.std.specs.Prelude.{IfErr, OnOk, codes, ◌⊎◌}
 use Rattle.std.specs.declared.cmp.Ordering.{Ordering}
@@ -41,6 +41,7 @@ use Rattle.levels.specs.LevelLeft.{IsLevelInstalled, IsLevelLeft, IsWholeStopped
 use Rattle.levels.specs.LevelMade.{IsRefusedSo, Way, way_by}
 use Rattle.levels.specs.LevelTaken.{IsLevelTaken}
 use Rattle.levels.specs.declared.descent_end.DescentEnd.{DescentEnd}
+use Rattle.levels.specs.declared.descent_end.DescentEnd.TheVariants.{Stopped}
 use Rattle.levels.specs.declared.selection.Selection.{Selection}
 
 abbrev Told : Type 1
@@ -279,16 +280,6 @@ module _ (selection : Selection) (order : Order) (s : Settings) (bottom : ℕ) (
       refused = subst (λ (n : ℕ). IfErr r (λ e. UnlessMemory e (IsStopped n now e ⊎ IsNextLevelRefused way (last_left (left_by first l) d.links) e))) count d.refused;
     }
 
-    -- and none follows
-    pub one_ended : (mid_failed now : ℕ) (r : Result DescentEnd Fault) → mid_failed ≡ failed → IfErr r (λ e. UnlessMemory e (IsStopped mid_failed now e)) → LeftBy after new now r
-    one_ended mid_failed now r count stopped =
-        one_more after new mid_failed now r count
-        (none_begun selection order s bottom w (manifest_of v) ts i.compacted.edited.tables_next i.compacted.edited.lawful after new mid_failed found_next.0 found_next.1 found_next.2 after new now r refl (same_tells new) (why r stopped))
-      where
-        why : (q : Result DescentEnd Fault) → IfErr q (λ e. UnlessMemory e (IsStopped mid_failed now e)) → IfErr q (λ e. UnlessMemory e (IsStopped mid_failed now e ⊎ IsNextLevelRefused way (left_by first l) e))
-        why (Ok x) h = tt
-        why (Err e) h = unless_from e (IsStopped mid_failed now e) (IsStopped mid_failed now e ⊎ IsNextLevelRefused way (left_by first l) e) (λ k. inl k) h
-
   -- ---- by what was taken
 
   module _ (level : ℕ) (next_level : IsNextLevel v bottom (Some level)) (mid : List Step) (mid_tells : Told) (now : ℕ) where
@@ -322,10 +313,6 @@ module _ (selection : Selection) (order : Order) (s : Settings) (bottom : ℕ) (
       pub step : CompactionStep
       pub installed : IsLevelInstalled selection (order_view order) (version_with v loaded) level s (change_by before mid old mid_tells) (Ok step)
 
-    pub taken_step : (o : Option SyncedVersion) → TakenBy (Ok o) → IsTaken
-    taken_step o (inl t) = absurd (ok_refused o t.e t.is)
-    taken_step o (inr t) = record { step = t.step; installed = t.installed }
-
     -- and it goes on with what is opened
     pub record GoesOn (n : SyncedVersion) : Type 0 where
       pub taken : IsTaken
@@ -339,12 +326,35 @@ module _ (selection : Selection) (order : Order) (s : Settings) (bottom : ℕ) (
         let opened = subst (λ (x : Option SyncedVersion). IfSome x (λ n. (n.order ≡ order) × (n.version ≡ t.installed.compacted.edited.next) × (n.manifest ≡ manifest_of v))) is t.opened in
         record { taken = record { step = t.step; installed = t.installed }; order_is = opened.0; version_is = opened.1; manifest_is = opened.2 }
 
-    -- it was told to stop
-    pub taken_stopped : (o : Option SyncedVersion) → TakenBy (Ok o) → HasInstalled v before mid → (mid_failed : ℕ) → mid_failed ≡ failed → (r : Result DescentEnd Fault) → IfErr r (λ e. UnlessMemory e (IsStopped mid_failed now e)) → LeftBy mid mid_tells now r
-    taken_stopped o taken all mid_failed count r stopped =
-        let t = taken_step o taken in
-        let next = t.installed.compacted.edited.next in
-        one_ended level next_level mid mid_tells t.step t.installed all mid mid_tells (stays_untouched cmp order next (manifest_of v) (next_version_tables cmp next t.installed.compacted.outputs loaded) mid mid_tells) mid_failed now r count stopped
+-- ---- one that was installed, and a removal after it, and none follows
+
+module _ (selection : Selection) (order : Order) (s : Settings) (bottom : ℕ) (v : State) (manifest : ℕ) (loaded : List (ℕ × List ℕ)) (tables : List NumberedContents) (lawful : IsLawfulTables (order_cmp order) v loaded (Ok tables))
+    (before : List Step) (old : Told) (failed : ℕ) (files : Files) (held : Tells old files) (reads : ReadsBy (order_cmp order) order v manifest loaded files) (level : ℕ) (next_level : IsNextLevel v bottom (Some level)) (mid : List Step) (mid_tells : Told) where
+  abbrev EndBy : List Step → Told → ℕ → Result DescentEnd Fault → Type 0
+  EndBy after new now r = IsDescended (way_by selection order s bottom) (folder_version v manifest loaded) tables (call_by before after old new failed now) r
+
+  pub one_ended : (step : CompactionStep) (i : IsLevelInstalled selection (order_view order) (version_with v loaded) level s (change_by before mid old mid_tells) (Ok step)) (all : HasInstalled v before mid) (after : List Step) (new : Told)
+      (stays : StaysAs (order_cmp order) order i.compacted.edited.next (manifest_of v) (next_version_tables (order_cmp order) i.compacted.edited.next i.compacted.outputs loaded) (change_by mid after mid_tells new)) (mid_failed now : ℕ) (r : Result DescentEnd Fault)
+      → mid_failed ≡ failed → IfErr r (λ e. UnlessMemory e (IsStopped mid_failed now e)) → EndBy after new now r
+  one_ended step i all after new stays mid_failed now r count stopped =
+      let found = found_next selection order s bottom v manifest loaded tables lawful before old failed files held reads level next_level mid mid_tells step i all after new stays in
+      let w = i.compacted.edited.next in
+      let ts = next_version_tables (order_cmp order) w i.compacted.outputs loaded in
+      one_more selection order s bottom v manifest loaded tables lawful before old failed files held reads level next_level mid mid_tells step i all after new stays after new mid_failed now r count
+      (none_begun selection order s bottom w (manifest_of v) ts i.compacted.edited.tables_next i.compacted.edited.lawful after new mid_failed found.0 found.1 found.2 after new now r refl (same_tells new)
+      (why (λ e. IsNextLevelRefused (way_by selection order s bottom) (folder_version w (manifest_of v) ts) e) r stopped))
+    where
+      why : (P : Fault → Type 0) (q : Result DescentEnd Fault) → IfErr q (λ e. UnlessMemory e (IsStopped mid_failed now e)) → IfErr q (λ e. UnlessMemory e (IsStopped mid_failed now e ⊎ P e))
+      why P (Ok x) h = tt
+      why P (Err e) h = unless_from e (IsStopped mid_failed now e) (IsStopped mid_failed now e ⊎ P e) (λ k. inl k) h
+
+  -- it was told to stop
+  pub taken_stopped : (now : ℕ) (o : Option SyncedVersion) → IsLevelTaken (way_by selection order s bottom) (version_with v loaded) level (call_by before mid old mid_tells failed now) (Ok o) → HasInstalled v before mid → EndBy mid mid_tells now (Ok Stopped)
+  taken_stopped now o (inl t) all = absurd (ok_refused o t.e t.is)
+  taken_stopped now o (inr t) all =
+      let next = t.installed.compacted.edited.next in
+      let ts = next_version_tables (order_cmp order) next t.installed.compacted.outputs loaded in
+      one_ended t.step t.installed all mid mid_tells (stays_untouched (order_cmp order) order next (manifest_of v) ts mid mid_tells) failed now (Ok Stopped) refl tt
 
 -- ---- what compactions leave, by an order
 
@@ -364,9 +374,9 @@ clause_of selection s bottom steps before after old new failed now r order other
 
 -- ---- after earlier calls that only read
 
-pub descended_since : (way : Way) (v : FolderVersion) (tables : List NumberedContents) (start before after : List Step) (zero old new : Told) (earlier failed now : ℕ) (r : Result DescentEnd Fault) → before ≡ start → failed ≡ earlier
-    → IsDescended way v tables (call_by before after old new failed now) r → IsDescended way v tables (call_by start after zero new earlier now) r
-descended_since way v tables start before after zero old new earlier failed now r is count d = record {
+pub descended_since : (by : Way) (v : FolderVersion) (tables : List NumberedContents) (start before after : List Step) (first_tells old new : Told) (earlier failed now : ℕ) (r : Result DescentEnd Fault) → before ≡ start → failed ≡ earlier
+    → IsDescended by v tables (call_by before after old new failed now) r → IsDescended by v tables (call_by start after first_tells new earlier now) r
+descended_since by v tables start before after first_tells old new earlier failed now r is count d = record {
   links = d.links;
   begun = d.begun;
   chain = d.chain;
@@ -374,7 +384,7 @@ descended_since way v tables start before after zero old new earlier failed now 
   none = d.none;
   pieces = d.pieces;
   last = d.last;
-  row = subst (λ (b : List Step). IsWorkRow (order_cmp way.order) way.order v b d.pieces d.last) is d.row;
+  row = subst (λ (b : List Step). IsWorkRow (order_cmp by.order) by.order v b d.pieces d.last) is d.row;
   versions = d.versions;
   version_last = d.version_last;
   all_calls = d.all_calls;
@@ -383,6 +393,6 @@ descended_since way v tables start before after zero old new earlier failed now 
   read = d.read;
   reads_last = d.reads_last;
   answers = d.answers;
-  stands = subst (λ (b : List Step). (first : World) → AlwaysStands (order_cmp way.order) way.order v first b → OnOk r (AlwaysStands (order_cmp way.order) way.order (last_left v d.links) first after)) is d.stands;
-  refused = subst (λ (n : ℕ). IfErr r (λ e. UnlessMemory e (IsStopped n now e ⊎ IsNextLevelRefused way (last_left v d.links) e))) count d.refused;
+  stands = subst (λ (b : List Step). (first : World) → AlwaysStands (order_cmp by.order) by.order v first b → OnOk r (AlwaysStands (order_cmp by.order) by.order (last_left v d.links) first after)) is d.stands;
+  refused = subst (λ (n : ℕ). IfErr r (λ e. UnlessMemory e (IsStopped n now e ⊎ IsNextLevelRefused by (last_left v d.links) e))) count d.refused;
 }

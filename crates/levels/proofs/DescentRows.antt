@@ -98,13 +98,13 @@ module _ {T U W : Type 0} (by : CleanTeller W) (v : NamedVersion) (change : Fold
   pub cleaned_cut : (e : Fault) → CleanedAs IsOne (Err e) → CleanedAs IsOther (Err e)
   cleaned_cut e h = record { names = h.names; listed = h.listed; lists = h.lists; removal = cut_list h.listed h.names e h.removal }
 
-  module _ (x : T) (y : U) (as : (goes : Bool) → IsOne goes x → IsOther goes y) where
+  module _ (x : T) (y : U) (turns : (goes : Bool) → IsOne goes x → IsOther goes y) where
     same_ok : (a b : T) → answer a ≡ answer b → a ≡ b
     same_ok a b h = cc
 
     done_list : (listed : W) (names : Option (List (List ℕ))) → IsListRemoved by v change listed told_now IsOne names (Ok x) → IsListRemoved by v change listed told_now IsOther names (Ok y)
     done_list listed None h =
-        record { calls = h.calls; same = h.same; untold = h.untold; answer = y; stops = as false (subst (IsOne false) (sym (same_ok x h.answer h.is)) h.stops); is = refl }
+        record { calls = h.calls; same = h.same; untold = h.untold; answer = y; stops = turns false (subst (IsOne false) (sym (same_ok x h.answer h.is)) h.stops); is = refl }
     done_list listed (Some names) (inl u) = absurd (ok_refused x (fault Memory) u.answer)
     done_list listed (Some names) (inr a) =
         inr (record {
@@ -113,7 +113,7 @@ module _ {T U W : Type 0} (by : CleanTeller W) (v : NamedVersion) (change : Fold
           runs = record { steps = a.runs.steps; made = a.runs.made; appended = a.runs.appended; change = a.runs.change };
           told_last = a.told_last;
           told_all = a.told_all;
-          ended = (a.ended.0, a.ended.1, as a.ended.0 a.ended.2);
+          ended = (a.ended.0, a.ended.1, turns a.ended.0 a.ended.2);
         })
 
     -- made

@@ -89,7 +89,7 @@ returns-in_default-2-clause-left g t c files loaded tables told current reads so
     let way = way_by selection o.order s c.args.bottom in
     let all = all_made g.F.Folder by way o.version first c.args.told.now c.in-Some.level at mid c.take_level.new.told c.in_ok-next.field-0 (c.in_ok-next.ensures.runs c.args.bottom) in
     let taken_now = c.in_ok-next.ensures.left c.args.bottom files loaded tables told current reads sound in
-    taken_stopped selection o.order s c.args.bottom o.version o.manifest loaded tables sound (calls first) (tells first) (failed first) files told (record { reads = reads; named = current }) c.in-Some.level at (calls mid) (tells mid) (failed mid) c.in_ok-next.field-0 taken_now all (failed first) refl (Ok Stopped) tt
+    taken_stopped selection o.order s c.args.bottom o.version o.manifest loaded tables sound (calls first) (tells first) (failed first) files told (record { reads = reads; named = current }) c.in-Some.level at (calls mid) (tells mid) (failed mid) c.in_ok-next.field-0 taken_now all
 
 pub returns-in_err-cleaned-clause-left : goal.returns-in_err-cleaned-clause-left
 returns-in_err-cleaned-clause-left g t c files loaded tables told current reads sound enough =
@@ -356,7 +356,3 @@ returns-clause-runs g t c =
     let cleaned = c.in-Some-3.cleaned in
     let again = subst (λ (x : Option SyncedVersion). IfSome x (λ n. (n.order ≡ next.order) × (n.version ≡ next.version) × (n.manifest ≡ next.manifest))) c.in-Some-3.is c.in_ok-cleaned.ensures.reopened in
     row_more g.F.Folder by way o.version first c.args.told.now c.in-Some.level at mid c.take_level.new.told next i after told c.in_ok-cleaned.field-0 cleaned (at_by c.descend.new.folder c.descend.new.told) c.descend.result c.in-Some-3.is again.0 again.1 c.in_ok-cleaned.ensures.runs c.descend.ensures.runs
-
--- how many steps are left
-abbrev pub decreases-descend : goal.decreases-descend
-decreases-descend g l = l.steps

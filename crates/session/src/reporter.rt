@@ -124,6 +124,16 @@ impl<'a> Telling<'a> {
         }
     }
 
+    /// Whether compactions from this version on may replace a file of this name.
+    fn may_be_replaced<R: Files + AllocGlobal>(
+        self,
+        rt: &R,
+        version: &Version,
+        name: &str,
+    ) -> bool {
+        is_replaceable(version, name) && !is_folder(rt, self.folder, name)
+    }
+
     /// Tells of the files that compactions from this version on may replace, but for those that are
     /// removed now. Nothing is told if the folder can't be listed: that is told with its logs.
     pub fn tell_replaceable<R: Files + Eprint + AllocGlobal>(
@@ -141,10 +151,7 @@ impl<'a> Telling<'a> {
         let mut count = 0u64;
         let mut first = "";
         for name in &names {
-            if is_replaceable(version, name.as_str())
-                && !removed.contains(name)
-                && !is_folder(rt, self.folder, name.as_str())
-            {
+            if !removed.contains(name) && self.may_be_replaced(rt, version, name.as_str()) {
                 first = if count == 0 { name.as_str() } else { first };
                 count = count.saturating_add(1);
             }

@@ -29,7 +29,7 @@ static sedvokt_input input(void) {
 }
 
 static const sedvokt_request request = {
-    SEDVOKT_BYTEWISE, false, 0, 4, 4, 4096, 16, 2097152,
+    SEDVOKT_BYTEWISE, 0, 0, 4, 4, 4096, 16, 2097152,
 };
 
 static void *checked(void *answer) {
@@ -139,15 +139,15 @@ static void merge(void) {
   printf("merge without room: %u, %s\n", code,
          size.bytes == sizeof wanted ? "its size" : "another");
   range.lower = (sedvokt_place){0, 1};
-  range.has_lower = true;
+  range.has_lower = 2;
   code = MERGE(sizeof bytes);
   printf("merge from u on: %u, %d entries\n", code, (int)size.entries);
   range.upper = range.lower;
-  range.has_upper = true;
-  range.has_lower = false;
+  range.has_upper = 1;
+  range.has_lower = 0;
   code = MERGE(sizeof bytes);
   printf("merge below u: %u, %d entries\n", code, (int)size.entries);
-  range.has_upper = false;
+  range.has_upper = 0;
   at.oldest = 4;
   code = MERGE(sizeof bytes);
   printf("merge at 4: %u, %d entries\n", code, (int)size.entries);

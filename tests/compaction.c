@@ -35,7 +35,7 @@
 
 static sedvokt_request request;
 static sedvokt_numbers numbers;
-static bool asks_closed;
+static int asks_closed;
 static uint64_t snapshots[MOST_FILES], first_number;
 static size_t snapshots_len;
 static uint8_t keys[MOST_BYTES], tables[MOST_BYTES];
@@ -134,7 +134,7 @@ static void input(void) {
 
 static void boundary(sedvokt_place at) {
   if (ranges_len == 0) ranges_len = 1;
-  ranges[ranges_len - 1].has_upper = ranges[ranges_len].has_lower = true;
+  ranges[ranges_len - 1].has_upper = ranges[ranges_len].has_lower = 1;
   ranges[ranges_len - 1].upper = ranges[ranges_len].lower = at;
   ranges_len++;
 }
@@ -147,7 +147,7 @@ static void line(const char *name) {
   } else if (!strcmp(name, "oldest")) {
     request.oldest = number();
   } else if (!strcmp(name, "snapshots")) {
-    request.is_listed = true;
+    request.is_listed = 1;
     for (uint64_t left = number(); left > 0; left--) snapshots[snapshots_len++] = number();
   } else if (!strcmp(name, "last")) {
     request.last_sequence = numbers.last_sequence = number();
@@ -164,7 +164,7 @@ static void line(const char *name) {
   } else if (!strcmp(name, "input")) {
     input();
   } else if (!strcmp(name, "closed")) {
-    asks_closed = true;
+    asks_closed = 1;
   } else if (!strcmp(name, "boundary")) {
     boundary(key());
   } else {

@@ -60,9 +60,9 @@ struct asked {
 
   void add_boundary(sedvokt::place at) {
     if (ranges.empty()) ranges.emplace_back();
-    ranges.back().has_upper = true;
+    ranges.back().has_upper = 1;
     ranges.back().upper = at;
-    ranges.push_back({true, false, at, {0, 0}});
+    ranges.push_back({1, 0, at, {0, 0}});
   }
 
  private:
@@ -104,7 +104,7 @@ struct asked {
     } else if (name == "oldest") {
       text >> request.oldest;
     } else if (name == "snapshots") {
-      request.is_listed = true;
+      request.is_listed = 1;
       size_t count;
       text >> count;
       snapshots.resize(count);

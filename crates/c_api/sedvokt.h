@@ -10,24 +10,67 @@
 
 #ifndef SEDVOKT_H
 #define SEDVOKT_H
-#include <stdbool.h>
 #include <stddef.h>
 #include <stdint.h>
 #ifdef __cplusplus
 extern "C" {
 #endif
 
+/* The version of this header, 10,000 times the first number, 100 times the second, and the third.
+   What the archive answers is another one if they don't belong together. */
+#define SEDVOKT_VERSION 100 /* 0.1.0 */
+uint32_t sedvokt_version(void);
+
+#ifdef __GNUC__
+#define SEDVOKT_CALL __attribute__((warn_unused_result, nonnull))
+#else
+#define SEDVOKT_CALL
+#endif
+
 /* Orders of user keys. */
 #define SEDVOKT_BYTEWISE 1 /* leveldb.BytewiseComparator */
 #define SEDVOKT_SHORTLEX 2 /* subcompaction.ShortlexComparator */
 
-/* What a call answers: 0, or one of these, or the number of a fault (docs/REFUSALS.md). Unless it
-   is 0 nothing that was passed has changed, but for what the call says of that number. */
-#define SEDVOKT_DONE 0
-#define SEDVOKT_ROOM 26        /* the room is too small */
-#define SEDVOKT_OPEN_INPUTS 37 /* a file that stays has to be an input, too */
-#define SEDVOKT_MISUSE 98      /* a place isn't within what is lent, or no internal key is there */
-#define SEDVOKT_MEMORY 99      /* malloc or realloc refused */
+/* What a call answers: 0, or what it refuses. Unless it is 0 nothing that was passed has changed,
+   but for what the call says of that number. docs/REFUSALS.md says more. These numbers stay. */
+enum {
+  SEDVOKT_DONE = 0,
+  /* Of what is asked. */
+  SEDVOKT_NO_INPUT = 1,       /* there is no input */
+  SEDVOKT_LEVEL = 2,          /* a level is above 5, or an input is of another one */
+  SEDVOKT_OPTIONS = 3,        /* an option is outside its limits, or there are over 256 inputs */
+  SEDVOKT_SPLIT_COUNT = 5,    /* a wanted number of ranges is outside 1 to 4,096 */
+  SEDVOKT_SNAPSHOT = 7,       /* a snapshot, or the last sequence, is 2^56 - 1 or more */
+  SEDVOKT_SNAPSHOT_LIST = 25, /* listed snapshots don't rise, or are over 4,096 */
+  SEDVOKT_COMPARATOR = 34,    /* no order has this number */
+  SEDVOKT_APPLY = 35,         /* two files of the version have one number */
+  SEDVOKT_OPEN_INPUTS = 37,   /* a file that stays has to be an input, too */
+  /* Of a table. */
+  SEDVOKT_SIZE = 8,        /* it has more than 2^30 bytes */
+  SEDVOKT_SHORT = 9,       /* it is shorter than a footer */
+  SEDVOKT_MAGIC = 10,      /* it doesn't end as a table does */
+  SEDVOKT_HANDLE = 11,     /* it doesn't say where its blocks are */
+  SEDVOKT_RANGE = 12,      /* a block would lie outside of it */
+  SEDVOKT_TRAILER = 13,    /* a block's checksum is wrong */
+  SEDVOKT_COMPRESSED = 14, /* a block is compressed */
+  SEDVOKT_BLOCK_TYPE = 15, /* a block is of an unknown type */
+  SEDVOKT_BLOCK = 16,      /* a block's bytes can't be read as entries */
+  SEDVOKT_KEY = 17,        /* a key is no internal key */
+  SEDVOKT_INDEX = 18,      /* its index doesn't fit its blocks */
+  SEDVOKT_ORDER = 19,      /* its keys don't rise */
+  SEDVOKT_EMPTY = 20,      /* it, or a block of it, has no entry */
+  SEDVOKT_BOUNDS = 21,     /* its length, or its first or last key, isn't what its file states */
+  SEDVOKT_DUPLICATE = 22,  /* one user key and sequence is there twice */
+  /* Of what is written. */
+  SEDVOKT_NUMBERS = 23,   /* file numbers would exceed 2^64 - 1 */
+  SEDVOKT_TOO_LARGE = 24, /* a user key, a value or an output is over its limit */
+  SEDVOKT_ROOM = 26,      /* the room is too small */
+  SEDVOKT_MISUSE = 98,    /* a place isn't within what is lent, or no internal key is there */
+  SEDVOKT_MEMORY = 99     /* malloc or realloc refused */
+};
+
+/* The name of a number and what it says, as "Trailer: a block's checksum is wrong". Never null. */
+const char *sedvokt_strerror(uint32_t code);
 
 /* A part of lent bytes, or of another lent array. */
 typedef struct sedvokt_place {
@@ -44,11 +87,11 @@ typedef struct sedvokt_file_place {
   uint64_t level, number;
 } sedvokt_file_place;
 
-/* What is counted of a table: its entries, their least and greatest sequence, and whether an entry
-   has the user key and the sequence of the one before it. */
+/* What is counted of a table: its entries, their least and greatest sequence, and 1 if an entry has
+   the user key and the sequence of the one before it. */
 typedef struct sedvokt_counts {
   uint64_t entries, oldest, newest;
-  bool has_twins;
+  uint32_t has_twins;
 } sedvokt_counts;
 
 /* An input. Its table is in `tables`. */
@@ -58,11 +101,10 @@ typedef struct sedvokt_input {
   sedvokt_counts counts;
 } sedvokt_input;
 
-/* What is asked for. If is_listed, the snapshots that are passed stay readable, and each sequence
-   from last_sequence on. Else `oldest` and each later one stay readable. */
+/* What is asked for. If is_listed isn't 0, the snapshots that are passed stay readable, and each
+   sequence from last_sequence on. Else `oldest` and each later one stay readable. */
 typedef struct sedvokt_request {
-  uint32_t order;
-  bool is_listed;
+  uint32_t order, is_listed;
   uint64_t level, oldest, last_sequence;
   uint64_t block_size, restart_interval, file_size;
 } sedvokt_request;
@@ -77,10 +119,10 @@ typedef struct sedvokt_entry {
   sedvokt_place key, value;
 } sedvokt_entry;
 
-/* A range of user keys: those at or after `lower`, if has_lower, and before `upper`, if has_upper.
-   Both bounds are user keys, in `keys`. */
+/* A range of user keys: those at or after `lower`, unless has_lower is 0, and before `upper`,
+   unless has_upper is 0. Both bounds are user keys, in `keys`. */
 typedef struct sedvokt_range {
-  bool has_lower, has_upper;
+  uint32_t has_lower, has_upper;
   sedvokt_place lower, upper;
 } sedvokt_range;
 
@@ -119,6 +161,7 @@ typedef struct sedvokt_planned {
 /* Tests a request without its tables. `deeper` are all files of the levels from level + 2 on, by
    level and in version order. The first that applies: MISUSE, 34 Comparator, 1 NoInput, 2 Level,
    3 Options, 7 Snapshot, 25 SnapshotList. Without an input of the level it is 2, too. */
+SEDVOKT_CALL
 uint32_t sedvokt_check_request(const sedvokt_request *request,
                                const uint64_t *snapshots, size_t snapshots_len,
                                const uint8_t *keys, size_t keys_len,
@@ -129,6 +172,7 @@ uint32_t sedvokt_check_request(const sedvokt_request *request,
    next one, and no others. `files` are all files of the version. OPEN_INPUTS: the file that
    *missing names has to be taken, too. MISUSE also if a file's level is above 6; 35 Apply if two
    files have one number; 2 Level if `level` is above 5. */
+SEDVOKT_CALL
 uint32_t sedvokt_check_closed(uint32_t order, uint64_t level, const uint8_t *keys, size_t keys_len,
                               const sedvokt_file *files, size_t files_len,
                               const uint64_t *numbers, size_t numbers_len,
@@ -136,6 +180,7 @@ uint32_t sedvokt_check_closed(uint32_t order, uint64_t level, const uint8_t *key
 
 /* Tests an input: each byte of its table, and then whether its length and bounds are as its file
    states (21 Bounds). If the answer is 0, input->counts is set, and nothing else of it. */
+SEDVOKT_CALL
 uint32_t sedvokt_check_table(uint32_t order, const uint8_t *keys, size_t keys_len,
                              const uint8_t *tables, size_t tables_len, sedvokt_input *input);
 
@@ -145,6 +190,7 @@ uint32_t sedvokt_check_table(uint32_t order, const uint8_t *keys, size_t keys_le
    `lengths` with the length of each. *size is how much room that takes, also if the answer is ROOM,
    and then nothing else has changed. 34 Comparator; 5 SplitCount unless `want` is 1 to 4,096.
    What you have to keep is what sedvokt_merge asks of its inputs, tables and keys. */
+SEDVOKT_CALL
 uint32_t sedvokt_boundaries(uint32_t order, const uint8_t *keys, size_t keys_len,
                             const uint8_t *tables, size_t tables_len,
                             const sedvokt_input *inputs, size_t inputs_len, uint64_t want,
@@ -158,6 +204,7 @@ uint32_t sedvokt_boundaries(uint32_t order, const uint8_t *keys, size_t keys_len
    What you have to keep: sedvokt_check_table answered 0 to each input, with this order, and neither
    what it set nor any byte of the tables and the keys has changed since. Else the call may read
    outside of what is lent. More bytes may lie after the keys, as those of the bounds. */
+SEDVOKT_CALL
 uint32_t sedvokt_merge(const sedvokt_request *request,
                        const uint64_t *snapshots, size_t snapshots_len,
                        const uint8_t *keys, size_t keys_len,
@@ -174,6 +221,7 @@ uint32_t sedvokt_merge(const sedvokt_request *request,
    the answer is ROOM. An output has the entries after those of the one before it, and the keys of
    its first and its last one bound it. MISUSE also if lengths and marks can't be those of a run,
    though not every wrong run is found; 34 Comparator, 3 Options, 24 TooLarge of an output. */
+SEDVOKT_CALL
 uint32_t sedvokt_plan(const sedvokt_request *request, const uint8_t *keys, size_t keys_len,
                       const sedvokt_input *inputs, size_t inputs_len,
                       const sedvokt_file *deeper, size_t deeper_len,
@@ -186,6 +234,7 @@ uint32_t sedvokt_plan(const sedvokt_request *request, const uint8_t *keys, size_
 /* Writes the table of `entries`, with the request's order and options, to the beginning of `room`.
    *len is its length, also if the answer is ROOM. 3 Options, 20 Empty without an entry, 17 Key and
    24 TooLarge of an entry, 19 Order unless the keys rise, 24 TooLarge of the table. */
+SEDVOKT_CALL
 uint32_t sedvokt_output(const sedvokt_request *request, const uint8_t *keys, size_t keys_len,
                         const uint8_t *values, size_t values_len,
                         const sedvokt_entry *entries, size_t entries_len,
@@ -195,6 +244,7 @@ uint32_t sedvokt_output(const sedvokt_request *request, const uint8_t *keys, siz
    numbers, the level's compact pointer, the inputs go, and `added` come, numbered by the host. *len
    is how many bytes they are, also if the answer is ROOM. MISUSE also if a file's level is above 6;
    34 Comparator; 1 NoInput; 2 Level if `level` is above 5 or no input is of it. */
+SEDVOKT_CALL
 uint32_t sedvokt_edit(uint32_t order, uint64_t level, const sedvokt_numbers *numbers,
                       const uint8_t *keys, size_t keys_len,
                       const sedvokt_input *inputs, size_t inputs_len,

@@ -15,6 +15,9 @@
 
 namespace sedvokt {
 
+/* Whether the archive is of this version. */
+inline bool is_current() noexcept { return sedvokt_version() == SEDVOKT_VERSION; }
+
 using place = sedvokt_place;
 using file = sedvokt_file;
 using file_place = sedvokt_file_place;
@@ -65,6 +68,8 @@ class [[nodiscard]] status {
   constexpr status(uint32_t code = SEDVOKT_DONE) noexcept : code_(code) {}
   constexpr explicit operator bool() const noexcept { return code_ == SEDVOKT_DONE; }
   constexpr uint32_t code() const noexcept { return code_; }
+  /* The name of the number, and what it says. */
+  const char* what() const noexcept { return sedvokt_strerror(code_); }
 
  private:
   uint32_t code_;
@@ -348,7 +353,7 @@ class parallel {
       while (mine < least && !first.compare_exchange_weak(least, mine)) {
       }
     });
-    return first == UINT64_MAX ? SEDVOKT_DONE : static_cast<uint32_t>(first);
+    return first == UINT64_MAX ? status() : static_cast<uint32_t>(first);
   }
 
  private:

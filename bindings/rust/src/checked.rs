@@ -36,11 +36,11 @@ impl Boundaries {
         make_room(&mut ranges, self.lengths.len() as u64 + 1)?;
         let mut key = Place { from, len: 0 };
         for (at, range) in ranges.iter_mut().enumerate() {
-            range.has_lower = at != 0;
+            range.has_lower = u32::from(at != 0);
             range.lower = key;
             key.from += key.len;
             key.len = self.lengths.get(at).copied().unwrap_or(0);
-            range.has_upper = at != self.lengths.len();
+            range.has_upper = u32::from(at != self.lengths.len());
             range.upper = key;
         }
         Ok(ranges)

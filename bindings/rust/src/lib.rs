@@ -10,6 +10,7 @@ mod runs;
 pub mod sys;
 
 use std::error::Error;
+use std::ffi::CStr;
 use std::fmt::{Display, Formatter};
 use std::num::NonZeroU32;
 
@@ -50,7 +51,9 @@ impl Refused {
 
 impl Display for Refused {
     fn fmt(&self, f: &mut Formatter<'_>) -> std::fmt::Result {
-        write!(f, "sedvokt refused it: {}", self.0)
+        // SAFETY: the answer is a text of the archive, whatever the number is.
+        let says = unsafe { CStr::from_ptr(sys::sedvokt_strerror(self.code())) };
+        write!(f, "{} ({})", says.to_string_lossy(), self.0)
     }
 }
 

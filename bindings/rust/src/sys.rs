@@ -1,5 +1,7 @@
 //! What `sedvokt.h` declares, word for word.
 
+use std::ffi::c_char;
+
 /// A part of lent bytes.
 #[repr(C)]
 #[derive(Clone, Copy, Debug, Default, PartialEq, Eq)]
@@ -27,15 +29,15 @@ pub struct FilePlace {
     pub number: u64,
 }
 
-/// What is counted of a table: its entries, their least and greatest sequence, and whether an entry
-/// has the user key and the sequence of the one before it.
+/// What is counted of a table: its entries, their least and greatest sequence, and 1 if an entry has
+/// the user key and the sequence of the one before it.
 #[repr(C)]
 #[derive(Clone, Copy, Debug, Default, PartialEq, Eq)]
 pub struct Counts {
     pub entries: u64,
     pub oldest: u64,
     pub newest: u64,
-    pub has_twins: bool,
+    pub has_twins: u32,
 }
 
 /// An input. Its table is in the tables that are lent.
@@ -47,13 +49,13 @@ pub struct Input {
     pub counts: Counts,
 }
 
-/// What is asked for. If `is_listed`, the snapshots that are passed stay readable, and each
+/// What is asked for. If `is_listed` isn't 0, the snapshots that are passed stay readable, and each
 /// sequence from `last_sequence` on. Else `oldest` and each later one stay readable.
 #[repr(C)]
 #[derive(Clone, Copy, Debug, Default, PartialEq, Eq)]
 pub struct Request {
     pub order: u32,
-    pub is_listed: bool,
+    pub is_listed: u32,
     pub level: u64,
     pub oldest: u64,
     pub last_sequence: u64,
@@ -80,13 +82,13 @@ pub struct Entry {
     pub value: Place,
 }
 
-/// A range of user keys: those at or after `lower`, if `has_lower`, and before `upper`, if
-/// `has_upper`. Both bounds are user keys, in the keys that are lent.
+/// A range of user keys: those at or after `lower`, unless `has_lower` is 0, and before `upper`,
+/// unless `has_upper` is 0. Both bounds are user keys, in the keys that are lent.
 #[repr(C)]
 #[derive(Clone, Copy, Debug, Default, PartialEq, Eq)]
 pub struct Range {
-    pub has_lower: bool,
-    pub has_upper: bool,
+    pub has_lower: u32,
+    pub has_upper: u32,
     pub lower: Place,
     pub upper: Place,
 }
@@ -144,6 +146,10 @@ pub struct Planned {
 }
 
 extern "C" {
+    pub fn sedvokt_version() -> u32;
+
+    pub fn sedvokt_strerror(code: u32) -> *const c_char;
+
     pub fn sedvokt_check_request(
         request: *const Request,
         snapshots: *const u64,

@@ -13,7 +13,7 @@ const KEYS: &[u8] = b"u\0\x04\0\0\0\0\0\0u\x01\x02\0\0\0\0\0\0";
 
 const REQUEST: Request = Request {
     order: BYTEWISE,
-    is_listed: false,
+    is_listed: 0,
     level: 0,
     oldest: 4,
     last_sequence: 4,
@@ -69,7 +69,7 @@ fn ranges_are_merged() {
     let mut inputs = [input(5)];
     let checked = Checked::new(BYTEWISE, KEYS, TABLE, &mut inputs).unwrap();
     let below = Range {
-        has_upper: true,
+        has_upper: 1,
         upper: place(0, 1),
         ..Range::default()
     };

@@ -22,7 +22,7 @@ const NOTHING: Counts = Counts {
     entries: 0,
     oldest: 0,
     newest: 0,
-    has_twins: false,
+    has_twins: 0,
 };
 
 /// The input of `TWO_ENTRIES`, if its table has this length.
@@ -66,7 +66,7 @@ fn tables_are_checked(rt: HostRuntime) {
 /// A request of level 0 whose options have LevelDB's defaults.
 const REQUEST: HostRequest = HostRequest {
     order: BYTEWISE,
-    is_listed: false,
+    is_listed: 0,
     level: 0,
     oldest: 4,
     last_sequence: 4,
@@ -152,8 +152,8 @@ fn ranges_are_merged(rt: HostRuntime) {
     let inputs = [input];
     let nowhere = Place { from: 0, len: 0 };
     let range = UserRange {
-        has_lower: false,
-        has_upper: false,
+        has_lower: 0,
+        has_upper: 0,
         lower: nowhere,
         upper: nowhere,
     };

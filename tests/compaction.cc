@@ -47,6 +47,10 @@ struct asked {
   std::vector<sedvokt::file> files, deeper;
   std::vector<sedvokt::range> ranges;
 
+  sedvokt::compaction of() const {
+    return {request, snapshots, bytes(keys), bytes(tables), inputs, deeper};
+  }
+
   explicit asked(const std::string& path) {
     std::istringstream text(read_file(path));
     std::string name;
@@ -163,10 +167,7 @@ std::vector<sedvokt::entry> entries_of(const sedvokt::runs& runs) {
 }
 
 sedvokt::status check(asked& all, sedvokt::parallel<host_threads>& on) {
-  if (auto answer = sedvokt::check_request(all.request, all.snapshots, bytes(all.keys), all.inputs,
-                                           all.deeper);
-      !answer)
-    return answer;
+  if (auto answer = sedvokt::check_request(all.of()); !answer) return answer;
   sedvokt::file_place missing;
   if (all.asks_closed)
     if (auto answer = sedvokt::check_closed(all.request.order, all.request.level, bytes(all.keys),
@@ -179,8 +180,7 @@ sedvokt::status check(asked& all, sedvokt::parallel<host_threads>& on) {
 sedvokt::status choose(asked& all, uint64_t want) {
   if (!all.ranges.empty()) return SEDVOKT_DONE;
   sedvokt::user_keys boundaries;
-  const auto answer = sedvokt::boundaries(all.request.order, bytes(all.keys), bytes(all.tables),
-                                          all.inputs, want, boundaries);
+  const auto answer = sedvokt::boundaries(all.of(), want, boundaries);
   if (!answer) return answer;
   const auto from = all.lend({reinterpret_cast<const char*>(boundaries.bytes.data()),
                               boundaries.bytes.size()}).from;
@@ -192,8 +192,7 @@ sedvokt::status choose(asked& all, uint64_t want) {
 sedvokt::status merge(const asked& all, sedvokt::parallel<host_threads>& on,
                       sedvokt::runs& joined) {
   std::vector<sedvokt::run> runs(all.ranges.size());
-  const auto answer = on.merges(all.request, all.snapshots, bytes(all.keys), bytes(all.tables),
-                                all.inputs, all.deeper, all.ranges, runs);
+  const auto answer = on.merges(all.of(), all.ranges, runs);
   return answer ? joined.join(runs) : answer;
 }
 
@@ -222,8 +221,7 @@ sedvokt::status put(asked& all, sedvokt::parallel<host_threads>& on, const sedvo
   }
   all.numbers.next_file = all.first_number + planned.size();
   sedvokt::buffer edit;
-  const auto answer = sedvokt::edit(all.request.order, all.request.level, all.numbers,
-                                    bytes(all.keys), all.inputs, added, edit);
+  const auto answer = sedvokt::edit(all.of(), all.numbers, added, edit);
   if (answer) write_file(folder + "/EDIT", edit);
   return answer;
 }
@@ -237,10 +235,7 @@ sedvokt::status compact(asked& all, uint64_t want, size_t threads, const std::st
   sedvokt::runs runs;
   if (auto answer = merge(all, on, runs); !answer) return answer;
   sedvokt::owned<sedvokt::planned> planned;
-  if (auto answer =
-          sedvokt::plan(all.request, bytes(all.keys), all.inputs, all.deeper, runs, planned);
-      !answer)
-    return answer;
+  if (auto answer = sedvokt::plan(all.of(), runs, planned); !answer) return answer;
   outputs = planned.size();
   return put(all, on, runs, planned, folder);
 }

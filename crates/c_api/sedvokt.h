@@ -6,7 +6,14 @@
 
    Memory comes from the malloc, realloc and free of the program. Each call frees what it took.
 
-   A slice is a pointer and a length. The pointer is never null, also if the length is 0. */
+   A slice is a pointer and a length. Without items the pointer may be NULL. Else it has to be
+   aligned as its items are, and the answer is SEDVOKT_MISUSE if it isn't, or if no memory is so
+   long.
+
+   Until version 1.0.0 all of this may change. From then on only the first number of the version
+   tells that a name, a number, a structure or what a call does is another. These aren't said here,
+   and may change at any time: where boundaries are, how much memory a call takes, and the words of
+   sedvokt_strerror. */
 
 #ifndef SEDVOKT_H
 #define SEDVOKT_H
@@ -21,10 +28,11 @@ extern "C" {
 #define SEDVOKT_VERSION 100 /* 0.1.0 */
 uint32_t sedvokt_version(void);
 
+/* Which parameters of a call are never NULL. */
 #ifdef __GNUC__
-#define SEDVOKT_CALL __attribute__((warn_unused_result, nonnull))
+#define SEDVOKT_CALL(...) __attribute__((warn_unused_result, nonnull(__VA_ARGS__)))
 #else
-#define SEDVOKT_CALL
+#define SEDVOKT_CALL(...)
 #endif
 
 /* Orders of user keys. */
@@ -152,27 +160,67 @@ typedef struct sedvokt_run {
   sedvokt_place bytes, lengths, marks;
 } sedvokt_run;
 
+/* What a compaction is asked for, and what is lent to its calls. Set `size` to its sizeof.
+
+   `keys` has the keys of all files and ranges, and `tables` the bytes of all tables, in any order.
+   `deeper` are all files of the levels from level + 2 on, by level and in version order. */
+typedef struct sedvokt_compaction {
+  size_t size;
+  sedvokt_request request;
+  const uint64_t *snapshots;
+  size_t snapshots_len;
+  const uint8_t *keys;
+  size_t keys_len;
+  const uint8_t *tables;
+  size_t tables_len;
+  const sedvokt_input *inputs;
+  size_t inputs_len;
+  const sedvokt_file *deeper;
+  size_t deeper_len;
+} sedvokt_compaction;
+
+/* The room for the run of a range. Set `size` to its sizeof. */
+typedef struct sedvokt_run_room {
+  size_t size;
+  uint8_t *bytes;
+  size_t bytes_len;
+  sedvokt_lengths *lengths;
+  size_t lengths_len;
+  sedvokt_mark *marks;
+  size_t marks_len;
+} sedvokt_run_room;
+
+/* The runs of all ranges, in the order of the ranges, each where it lies in three arrays. Set
+   `size` to its sizeof. */
+typedef struct sedvokt_runs {
+  size_t size;
+  const uint8_t *bytes;
+  size_t bytes_len;
+  const sedvokt_lengths *lengths;
+  size_t lengths_len;
+  const sedvokt_mark *marks;
+  size_t marks_len;
+  const sedvokt_run *runs;
+  size_t runs_len;
+} sedvokt_runs;
+
 /* An output: how many entries of the runs lie before it, how many it has, and the length of its
    table. */
 typedef struct sedvokt_planned {
   uint64_t first, entries, len;
 } sedvokt_planned;
 
-/* Tests a request without its tables. `deeper` are all files of the levels from level + 2 on, by
-   level and in version order. The first that applies: MISUSE, 34 Comparator, 1 NoInput, 2 Level,
-   3 Options, 7 Snapshot, 25 SnapshotList. Without an input of the level it is 2, too. */
-SEDVOKT_CALL
-uint32_t sedvokt_check_request(const sedvokt_request *request,
-                               const uint64_t *snapshots, size_t snapshots_len,
-                               const uint8_t *keys, size_t keys_len,
-                               const sedvokt_input *inputs, size_t inputs_len,
-                               const sedvokt_file *deeper, size_t deeper_len);
+/* Tests a request without its tables; `tables` isn't looked at. The first that applies: MISUSE, 34
+   Comparator, 1 NoInput, 2 Level, 3 Options, 7 Snapshot, 25 SnapshotList. Without an input of the
+   level it is 2, too. */
+SEDVOKT_CALL(1)
+uint32_t sedvokt_check_request(const sedvokt_compaction *lent);
 
 /* Asks whether a compaction of `level` may take the files of these numbers, at the level and the
    next one, and no others. `files` are all files of the version. OPEN_INPUTS: the file that
    *missing names has to be taken, too. MISUSE also if a file's level is above 6; 35 Apply if two
    files have one number; 2 Level if `level` is above 5. */
-SEDVOKT_CALL
+SEDVOKT_CALL(9)
 uint32_t sedvokt_check_closed(uint32_t order, uint64_t level, const uint8_t *keys, size_t keys_len,
                               const sedvokt_file *files, size_t files_len,
                               const uint64_t *numbers, size_t numbers_len,
@@ -180,7 +228,7 @@ uint32_t sedvokt_check_closed(uint32_t order, uint64_t level, const uint8_t *key
 
 /* Tests an input: each byte of its table, and then whether its length and bounds are as its file
    states (21 Bounds). If the answer is 0, input->counts is set, and nothing else of it. */
-SEDVOKT_CALL
+SEDVOKT_CALL(6)
 uint32_t sedvokt_check_table(uint32_t order, const uint8_t *keys, size_t keys_len,
                              const uint8_t *tables, size_t tables_len, sedvokt_input *input);
 
@@ -190,64 +238,47 @@ uint32_t sedvokt_check_table(uint32_t order, const uint8_t *keys, size_t keys_le
    `lengths` with the length of each. *size is how much room that takes, also if the answer is ROOM,
    and then nothing else has changed. 34 Comparator; 5 SplitCount unless `want` is 1 to 4,096.
    What you have to keep is what sedvokt_merge asks of its inputs, tables and keys. */
-SEDVOKT_CALL
-uint32_t sedvokt_boundaries(uint32_t order, const uint8_t *keys, size_t keys_len,
-                            const uint8_t *tables, size_t tables_len,
-                            const sedvokt_input *inputs, size_t inputs_len, uint64_t want,
+SEDVOKT_CALL(1, 7)
+uint32_t sedvokt_boundaries(const sedvokt_compaction *lent, uint64_t want,
                             uint8_t *bytes, size_t bytes_len,
                             uint64_t *lengths, size_t lengths_len, sedvokt_keys_size *size);
 
-/* Merges the inputs in a range: `bytes`, `lengths` and `marks` begin with its run then. *size is
-   how much room that takes, also if the answer is ROOM, and then nothing else has changed. `deeper`
-   and the refusals of the request are as for sedvokt_check_request; 22 Duplicate if the range has
-   one user key and sequence twice.
+/* Merges the inputs in a range: the arrays of `room` begin with its run then. *size is how much
+   room that takes, also if the answer is ROOM, and then nothing else has changed. The refusals of
+   the request are as for sedvokt_check_request; 22 Duplicate if the range has one user key and
+   sequence twice.
    What you have to keep: sedvokt_check_table answered 0 to each input, with this order, and neither
-   what it set nor any byte of the tables and the keys has changed since. Else the call may read
-   outside of what is lent. More bytes may lie after the keys, as those of the bounds. */
-SEDVOKT_CALL
-uint32_t sedvokt_merge(const sedvokt_request *request,
-                       const uint64_t *snapshots, size_t snapshots_len,
-                       const uint8_t *keys, size_t keys_len,
-                       const uint8_t *tables, size_t tables_len,
-                       const sedvokt_input *inputs, size_t inputs_len,
-                       const sedvokt_file *deeper, size_t deeper_len, const sedvokt_range *range,
-                       uint8_t *bytes, size_t bytes_len,
-                       sedvokt_lengths *lengths, size_t lengths_len,
-                       sedvokt_mark *marks, size_t marks_len, sedvokt_run_size *size);
+   what it set nor any byte of the tables and the keys has changed since. Else the call may read or
+   write outside of what is lent. More bytes may lie after the keys, as those of the bounds. */
+SEDVOKT_CALL(1, 2, 3, 4)
+uint32_t sedvokt_merge(const sedvokt_compaction *lent, const sedvokt_range *range,
+                       const sedvokt_run_room *room, sedvokt_run_size *size);
 
-/* Plans the outputs of the runs of all ranges, in the order of the ranges, each as sedvokt_merge
-   wrote it. They don't depend on how the entries were dealt out to ranges. `inputs` and `deeper`
-   are as for sedvokt_merge. `room` begins with the outputs then; *len is how many they are, also if
-   the answer is ROOM. An output has the entries after those of the one before it, and the keys of
-   its first and its last one bound it. MISUSE also if lengths and marks can't be those of a run,
-   though not every wrong run is found; 34 Comparator, 3 Options, 24 TooLarge of an output. */
-SEDVOKT_CALL
-uint32_t sedvokt_plan(const sedvokt_request *request, const uint8_t *keys, size_t keys_len,
-                      const sedvokt_input *inputs, size_t inputs_len,
-                      const sedvokt_file *deeper, size_t deeper_len,
-                      const uint8_t *bytes, size_t bytes_len,
-                      const sedvokt_lengths *lengths, size_t lengths_len,
-                      const sedvokt_mark *marks, size_t marks_len,
-                      const sedvokt_run *runs, size_t runs_len,
+/* Plans the outputs of the runs of all ranges, each as sedvokt_merge wrote it. They don't depend on
+   how the entries were dealt out to ranges. `room` begins with the outputs then; *len is how many
+   they are, also if the answer is ROOM. An output has the entries after those of the one before it,
+   and the keys of its first and its last one bound it. MISUSE also if lengths and marks can't be
+   those of a run, though not every wrong run is found; 34 Comparator, 3 Options, 24 TooLarge of an
+   output. */
+SEDVOKT_CALL(1, 2, 5)
+uint32_t sedvokt_plan(const sedvokt_compaction *lent, const sedvokt_runs *runs,
                       sedvokt_planned *room, size_t room_len, uint64_t *len);
 
 /* Writes the table of `entries`, with the request's order and options, to the beginning of `room`.
    *len is its length, also if the answer is ROOM. 3 Options, 20 Empty without an entry, 17 Key and
    24 TooLarge of an entry, 19 Order unless the keys rise, 24 TooLarge of the table. */
-SEDVOKT_CALL
+SEDVOKT_CALL(1, 10)
 uint32_t sedvokt_output(const sedvokt_request *request, const uint8_t *keys, size_t keys_len,
                         const uint8_t *values, size_t values_len,
                         const sedvokt_entry *entries, size_t entries_len,
                         uint8_t *room, size_t room_len, uint64_t *len);
 
-/* Writes the bytes of the edit of a compaction of `level` to the beginning of `room`: these
-   numbers, the level's compact pointer, the inputs go, and `added` come, numbered by the host. *len
-   is how many bytes they are, also if the answer is ROOM. MISUSE also if a file's level is above 6;
-   34 Comparator; 1 NoInput; 2 Level if `level` is above 5 or no input is of it. */
-SEDVOKT_CALL
-uint32_t sedvokt_edit(uint32_t order, uint64_t level, const sedvokt_numbers *numbers,
-                      const uint8_t *keys, size_t keys_len,
-                      const sedvokt_input *inputs, size_t inputs_len,
+/* Writes the bytes of the edit of a compaction to the beginning of `room`: these numbers, the
+   level's compact pointer, the inputs go, and `added` come, numbered by the host. *len is how many
+   bytes they are, also if the answer is ROOM. MISUSE also if a file's level is above 6; 34
+   Comparator; 1 NoInput; 2 Level if the level is above 5 or no input is of it. */
+SEDVOKT_CALL(1, 2, 7)
+uint32_t sedvokt_edit(const sedvokt_compaction *lent, const sedvokt_numbers *numbers,
                       const sedvokt_file *added, size_t added_len,
                       uint8_t *room, size_t room_len, uint64_t *len);
 

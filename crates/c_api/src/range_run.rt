@@ -7,8 +7,8 @@ ghost use Rattle.keep.specs.Marks.{LargestRise};
 ghost use Rattle.keep.specs.Readable.{listed_of};
 ghost use Rattle.keep.specs.Runs.{range_run};
 ghost use Rattle.c_api.specs.InputTables.{AreRead, entries_at};
-ghost use Rattle.c_api.specs.Merges.{AreChecked, context_at, is_lent};
-ghost use Rattle.c_api.specs.Held.{asked_in, context_with};
+ghost use Rattle.c_api.specs.Merges.{AreChecked, asked_in, context_at, is_lent};
+ghost use Rattle.c_api.specs.Held.{context_with};
 ghost use Rattle.c_api.specs.Merges.{merge_reading, request_result, run_reading};
 ghost use Rattle.c_api.specs.Orders.{by_order};
 ghost use Rattle.c_api.specs.Ranges.{range_in};
@@ -30,10 +30,10 @@ use std::alloc::Global;
 /// The run of a range, in the request's order.
 pub(crate) fn run_by<'t>(alloc: Global, lent: &Lent<'t>) -> Result<RangeRun<'t>, Fault>
     requires lent { is_lent (asked_in lent.now) ≡ true }
-    requires checked { AreChecked lent.now.request.now.order lent.now.keys.now lent.now.tables.now
+    requires checked { AreChecked lent.now.request.order lent.now.keys.now lent.now.tables.now
         lent.now.inputs.now }
     ensures { EqualOrMemory (λ run. run) result
-        (by_order lent.now.request.now.order (merge_reading (asked_in lent.now))) }
+        (by_order lent.now.request.order (merge_reading (asked_in lent.now))) }
 {
     match lent.request.order {
         BYTEWISE => tested_run::<Bytewise>(alloc, lent),
@@ -59,14 +59,7 @@ fn test<C: Comparator>(alloc: Global, lent: &Lent<'_>, files: &[File]) -> Result
     requires files { files.now ≡ all_files lent.now.inputs.now }
     ensures { EqualOrMemory (λ none. none) result (request_result (asked_in lent.now) C.cmp) }
 {
-    tested::<C>(
-        alloc,
-        lent.request,
-        lent.snapshots,
-        lent.keys,
-        files,
-        lent.deeper,
-    )
+    tested::<C>(alloc, lent, files)
 }
 
 /// The run of a range, if the request passed its tests.
@@ -111,9 +104,9 @@ fn run_of<'t, C: Comparator + 't>(
     ensures { EqualOrMemory (λ run. run) result
         (range_run C.cmp (context_with (asked_in lent.now) picked.now)
         (map (entries_at C.cmp lent.now.keys.now lent.now.tables.now) lent.now.inputs.now)
-        (range_in lent.now.keys.now lent.now.range.now)) }
+        (range_in lent.now.keys.now lent.now.range)) }
 {
-    let range = range_of(lent.keys, lent.range);
+    let range = range_of(lent.keys, &lent.range);
     let snapshots = lent.request.snapshots(lent.snapshots);
     let listed = snapshots.listed();
     let floor = snapshots.floor(lent.request.last_sequence);

@@ -42,8 +42,9 @@ void check(const std::string& table) {
   // Two of them are refused; the answer is the first one's.
   inputs[3].table.len--;
   inputs[1].file.size++;
-  code = run.check_tables(SEDVOKT_BYTEWISE, bytes(keys), bytes(table), inputs).code();
-  std::printf("check_tables, one of another length: %u\n", code);
+  const auto refused = run.check_tables(SEDVOKT_BYTEWISE, bytes(keys), bytes(table), inputs);
+  std::printf("check_tables, one of another length: %u, input %d, %s\n", refused.code(),
+              static_cast<int>(refused.at()), refused.what());
   sedvokt::compaction of;
   of.asked = asked;
   of.keys = bytes(keys);

@@ -9,6 +9,7 @@
 #include <cstdlib>
 #include <fstream>
 #include <iterator>
+#include <optional>
 #include <sstream>
 #include <string>
 #include <thread>
@@ -46,6 +47,8 @@ struct asked {
   std::vector<sedvokt::input> inputs;
   std::vector<sedvokt::file> files, deeper;
   std::vector<sedvokt::range> ranges;
+  // The place of the input that was refused.
+  std::optional<size_t> refused;
 
   sedvokt::compaction of() const {
     return {request, snapshots, bytes(keys), bytes(tables), inputs, deeper};
@@ -174,7 +177,10 @@ sedvokt::status check(asked& all, sedvokt::parallel<host_threads>& on) {
                                             all.files, all.input_numbers, missing);
         !answer)
       return answer;
-  return on.check_tables(all.request.order, bytes(all.keys), bytes(all.tables), all.inputs);
+  const auto answer =
+      on.check_tables(all.request.order, bytes(all.keys), bytes(all.tables), all.inputs);
+  if (!answer) all.refused = answer.at();
+  return answer;
 }
 
 sedvokt::status choose(asked& all, uint64_t want) {
@@ -248,7 +254,9 @@ int main(int count, char** words) {
   size_t outputs = 0;
   const auto answer =
       compact(all, std::stoull(words[3]), std::stoull(words[4]), words[2], outputs);
-  if (!answer) {
+  if (!answer && all.refused) {
+    std::printf("refused: %" PRIu32 ", input %zu\n", answer.code(), *all.refused);
+  } else if (!answer) {
     std::printf("refused: %" PRIu32 "\n", answer.code());
   } else {
     std::printf("%zu outputs of %zu ranges\n", outputs, all.ranges.size());

@@ -61,17 +61,20 @@ inline lent bytes(std::string_view text) noexcept {
   return {reinterpret_cast<const uint8_t*>(text.data()), text.size()};
 }
 
-/* Whether a call was done; else the number of its refusal. */
+/* Whether a call was done; else the number of its refusal, and if it was one of several, which. */
 class [[nodiscard]] status {
  public:
-  constexpr status(uint32_t code = SEDVOKT_DONE) noexcept : code_(code) {}
+  constexpr status(uint32_t code = SEDVOKT_DONE, size_t at = 0) noexcept : code_(code), at_(at) {}
   constexpr explicit operator bool() const noexcept { return code_ == SEDVOKT_DONE; }
   constexpr uint32_t code() const noexcept { return code_; }
+  /* The place of the input, range or output that was refused, by a call of `parallel`. */
+  constexpr size_t at() const noexcept { return at_; }
   /* The name of the number, and what it says. */
   const char* what() const noexcept { return sedvokt_strerror(code_); }
 
  private:
   uint32_t code_;
+  size_t at_;
 };
 
 /* Values that belong to it, as a call wrote them. */
@@ -363,7 +366,8 @@ class parallel {
       while (mine < least && !first.compare_exchange_weak(least, mine)) {
       }
     });
-    return first == UINT64_MAX ? status() : static_cast<uint32_t>(first);
+    if (first == UINT64_MAX) return SEDVOKT_DONE;
+    return {static_cast<uint32_t>(first), static_cast<size_t>(first >> 32)};
   }
 
  private:

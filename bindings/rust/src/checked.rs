@@ -51,8 +51,12 @@ impl<'a> Checked<'a> {
     /// Tests all inputs, one after the other, and sets their counts. `of` has no inputs: these are
     /// its inputs then.
     pub fn new(of: Compaction<'a>, inputs: &'a mut [Input]) -> Result<Checked<'a>, Refused> {
-        for input in inputs.iter_mut() {
-            check_table(of.request.order, of.keys, of.tables, input)?;
+        for (at, input) in inputs.iter_mut().enumerate() {
+            let answer = check_table(of.request.order, of.keys, of.tables, input);
+            answer.map_err(|it| Refused {
+                input: Some(at),
+                ..it
+            })?;
         }
         Ok(Checked(Compaction { inputs, ..of }))
     }

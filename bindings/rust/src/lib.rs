@@ -42,11 +42,19 @@ pub const MEMORY: u32 = 99;
 
 /// A call that was refused, by the number that `sedvokt.h` and REFUSALS name.
 #[derive(Clone, Copy, Debug, PartialEq, Eq)]
-pub struct Refused(NonZeroU32);
+pub struct Refused {
+    code: NonZeroU32,
+    input: Option<usize>,
+}
 
 impl Refused {
     pub fn code(self) -> u32 {
-        self.0.get()
+        self.code.get()
+    }
+
+    /// The place of the input that [`Checked::new`] refused.
+    pub fn input(self) -> Option<usize> {
+        self.input
     }
 }
 
@@ -54,7 +62,7 @@ impl Display for Refused {
     fn fmt(&self, f: &mut Formatter<'_>) -> std::fmt::Result {
         // SAFETY: the answer is a text of the archive, whatever the number is.
         let says = unsafe { CStr::from_ptr(sys::sedvokt_strerror(self.code())) };
-        write!(f, "{} ({})", says.to_string_lossy(), self.0)
+        write!(f, "{} ({})", says.to_string_lossy(), self.code)
     }
 }
 
@@ -62,7 +70,7 @@ impl Error for Refused {}
 
 /// What the number of a call means.
 fn answered(code: u32) -> Result<(), Refused> {
-    NonZeroU32::new(code).map_or(Ok(()), |code| Err(Refused(code)))
+    NonZeroU32::new(code).map_or(Ok(()), |code| Err(Refused { code, input: None }))
 }
 
 /// What a compaction is asked for, and what is lent to its calls.
@@ -163,23 +171,26 @@ pub fn output(
     entries: &[Entry],
 ) -> Result<Vec<u8>, Refused> {
     let about = request.file_size.min(1 << 30);
-    filled((about + about / 8 + 65536) as usize, |room, room_len, len| {
-        // SAFETY: as above; `room` and `len` are written, and are apart from the others.
-        unsafe {
-            sys::sedvokt_output(
-                request,
-                keys.as_ptr(),
-                keys.len(),
-                values.as_ptr(),
-                values.len(),
-                entries.as_ptr(),
-                entries.len(),
-                room,
-                room_len,
-                len,
-            )
-        }
-    })
+    filled(
+        (about + about / 8 + 65536) as usize,
+        |room, room_len, len| {
+            // SAFETY: as above; `room` and `len` are written, and are apart from the others.
+            unsafe {
+                sys::sedvokt_output(
+                    request,
+                    keys.as_ptr(),
+                    keys.len(),
+                    values.as_ptr(),
+                    values.len(),
+                    entries.as_ptr(),
+                    entries.len(),
+                    room,
+                    room_len,
+                    len,
+                )
+            }
+        },
+    )
 }
 
 /// The bytes of the edit of a compaction: the inputs go, and `added` come.

@@ -95,7 +95,8 @@ fn ranges_are_merged() {
         tables: &TABLE[1..],
         ..LENT
     };
-    assert!(Checked::new(cut, &mut [input(5)]).is_err());
+    let refused = Checked::new(cut, &mut [input(5)]).unwrap_err();
+    assert_eq!((refused.code(), refused.input()), (MISUSE, Some(0)));
 }
 
 #[test]

@@ -6,17 +6,16 @@
 
    Memory comes from the malloc, realloc and free of the program. Each call frees what it took. An
    output takes about twice its table; a merge takes the keys that it keeps, and some 40 bytes for
-   each; a plan takes as much for all runs together; check_closed takes both keys of each file, and
-   some 120 bytes. Beside that a call takes less than a megabyte.
+   each; a plan takes as much for all runs together; check_closed and check_request take both keys
+   of each file, and some 120 bytes. Beside that a call takes less than a megabyte.
 
    A slice is a pointer and a length. Without items the pointer may be NULL. Else it has to be
    aligned as its items are, and the answer is SEDVOKT_MISUSE if it isn't, or if no memory is so
    long.
 
    Until version 1.0.0 all of this may change. From then on only the first number of the version
-   tells that a name, a number, a structure or what a call does is another. These aren't said here,
-   and may change at any time: where boundaries are, how much memory a call takes, and the words of
-   sedvokt_strerror. */
+   tells that a name, a number, a structure or what a call does is another. These may change at any
+   time: where boundaries are, how much memory a call takes, and the words of sedvokt_strerror. */
 
 #ifndef SEDVOKT_H
 #define SEDVOKT_H

@@ -1,5 +1,5 @@
 -- What the code holds, as definitions see it.
-use Rattle.std.specs.Prelude.{◌≡◌, ℕ, List, [], ◌∷◌, Result, Ok, None}
+use Rattle.std.specs.Prelude.{◌≡◌, ℕ, Bool, List, [], ◌∷◌, map, filter, Result, Ok, None}
 use Rattle.ikey.specs.Answers.{◌>>=◌}
 use Rattle.ikey.specs.fault.Fault.{Fault}
 use Rattle.ikey.specs.Comparator.{KeyOrder}
@@ -7,11 +7,14 @@ use Rattle.table.specs.BuilderView.{TableBuilding}
 use Rattle.table.specs.EncodedEntry.{Entry}
 use Rattle.table.specs.EntryTests.{entries_test}
 use Rattle.table.specs.declared.options.Options as declared
+use Rattle.edit.specs.declared.meta.FileMeta.{FileMeta}
+use Rattle.pick.specs.Ranges.{overlaps}
 use Rattle.pick.specs.declared.picked_inputs.Inputs.{Inputs}
 use Rattle.keep.specs.Marks.{CompactionContext, context_of}
 use Rattle.keep.specs.Readable.{floor_of, listed_of}
 use Rattle.c_api.specs.Boundaries.{AreBoundaries, AreChosen, AskedBoundaries, KeyArrays}
 use Rattle.c_api.specs.Boundaries.{arrays_of_keys, key_arrays}
+use Rattle.c_api.specs.Files.{meta_at}
 use Rattle.c_api.specs.Merges.{AskedMerge}
 use Rattle.c_api.specs.Plans.{AskedPlan, plan_over}
 use Rattle.c_api.specs.Requests.{request_reading, snapshots_of}
@@ -41,6 +44,14 @@ abbrev pub entries_reading : declared.Options → List Entry → KeyOrder → Re
 entries_reading o entries cmp = do
   _ ← entries_test cmp None entries
   Ok (record { options = o; entries = entries })
+
+-- whether the range of a file that is lent overlaps that of files
+abbrev pub overlaps_at : KeyOrder → List ℕ → List FileMeta → File → Bool
+overlaps_at cmp keys metas file = overlaps cmp metas (meta_at keys file)
+
+-- those of the deeper files whose range overlaps that of files
+abbrev pub near_of : KeyOrder → List ℕ → List File → List File → List File
+near_of cmp keys files deeper = filter (overlaps_at cmp keys (map (meta_at keys) files)) deeper
 
 -- the tests of a request without its tables, if the code holds the files of the inputs
 abbrev pub tested_in : Lent → List File → KeyOrder → Result (Unit {0}) Fault

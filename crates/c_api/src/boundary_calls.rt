@@ -27,7 +27,7 @@ use std::alloc::Global;
 #[unsafe(no_mangle)]
 pub extern "C" fn proved_boundaries(
     alloc: Global,
-    lent: &Lent<'_>,
+    lent: &Lent<'_, '_>,
     want: u64,
     bytes: &mut [u8],
     lengths: &mut [u64],
@@ -48,7 +48,7 @@ pub extern "C" fn proved_boundaries(
 }
 
 /// The boundaries, in the order of its number.
-fn boundaries_by(alloc: Global, lent: &Lent<'_>, want: u64) -> Result<KeyArrays, Fault>
+fn boundaries_by(alloc: Global, lent: &Lent<'_, '_>, want: u64) -> Result<KeyArrays, Fault>
     requires lent { are_within lent.now.keys.now lent.now.tables.now lent.now.inputs.now ≡ true }
     requires checked { AreChecked lent.now.request.order lent.now.keys.now lent.now.tables.now
         lent.now.inputs.now }
@@ -64,7 +64,11 @@ fn boundaries_by(alloc: Global, lent: &Lent<'_>, want: u64) -> Result<KeyArrays,
 }
 
 /// The boundaries, chosen of the indexes of the tables.
-fn boundaries<C: Comparator>(alloc: Global, lent: &Lent<'_>, want: u64) -> Result<KeyArrays, Fault>
+fn boundaries<C: Comparator>(
+    alloc: Global,
+    lent: &Lent<'_, '_>,
+    want: u64,
+) -> Result<KeyArrays, Fault>
     requires lent { are_within lent.now.keys.now lent.now.tables.now lent.now.inputs.now ≡ true }
     requires read { AreRead C.cmp lent.now.keys.now lent.now.tables.now lent.now.inputs.now }
     ensures tested { EqualOrMemory (λ a. tt) result

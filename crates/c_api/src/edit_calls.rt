@@ -45,7 +45,7 @@ pub struct Numbers {
 #[unsafe(no_mangle)]
 pub extern "C" fn proved_edit(
     alloc: Global,
-    lent: &Lent<'_>,
+    lent: &Lent<'_, '_>,
     numbers: &Numbers,
     added: &[File],
     room: &mut [u8],

@@ -13,7 +13,7 @@ use crate::user_range::{UserRange, is_range};
 /// What a compaction is asked for, and where that lies.
 #[repr(C)]
 #[derive(Clone, Copy)]
-pub struct Lent<'a> {
+pub struct Lent<'a, 't> {
     /// The length of what the host knows of it. No call reads that.
     pub size: usize,
     pub request: HostRequest,
@@ -22,7 +22,7 @@ pub struct Lent<'a> {
     /// The bytes in which all keys lie.
     pub keys: &'a [u8],
     /// The bytes in which all tables lie.
-    pub tables: &'a [u8],
+    pub tables: &'t [u8],
     pub inputs: &'a [Input],
     /// The files of the levels from `level` + 2 on.
     pub deeper: &'a [File],
@@ -37,7 +37,7 @@ pub(crate) fn are_inputs(keys: &[u8], tables: &[u8], inputs: &[Input]) -> bool
     inputs.iter().all(|input| is_input(keys, tables, input))
 }
 
-impl<'a> Lent<'a> {
+impl<'a, 't> Lent<'a, 't> {
     /// Whether each place lies in what is lent.
     pub(crate) fn is_lent(&self) -> bool
         ensures { result ≡ lies_lent (asked_in self.now) }

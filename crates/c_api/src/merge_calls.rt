@@ -18,7 +18,7 @@ use std::alloc::Global;
 #[unsafe(no_mangle)]
 pub extern "C" fn proved_merge(
     alloc: Global,
-    lent: &Lent<'_>,
+    lent: &Lent<'_, '_>,
     bytes: &mut [u8],
     lengths: &mut [EntryLengths],
     marks: &mut [RunMark],

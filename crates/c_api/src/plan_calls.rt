@@ -52,7 +52,7 @@ pub struct LentRuns<'a> {
 /// What a plan is asked for, and where that lies.
 #[derive(Clone, Copy)]
 pub(crate) struct LentPlan<'a> {
-    pub lent: &'a Lent<'a>,
+    pub lent: &'a Lent<'a, 'a>,
     /// The files of the inputs.
     pub files: &'a [File],
     pub runs: &'a LentRuns<'a>,
@@ -77,7 +77,7 @@ impl<'a> LentPlan<'a> {
 #[unsafe(no_mangle)]
 pub extern "C" fn proved_plan(
     alloc: Global,
-    lent: &Lent<'_>,
+    lent: &Lent<'_, '_>,
     runs: &LentRuns<'_>,
     room: &mut [PlannedOutput],
     len: &mut u64,

@@ -22,7 +22,7 @@ use std::alloc::Global;
 
 /// Tests a request without its tables.
 #[unsafe(no_mangle)]
-pub extern "C" fn proved_check_request(alloc: Global, lent: &Lent<'_>) -> u32
+pub extern "C" fn proved_check_request(alloc: Global, lent: &Lent<'_, '_>) -> u32
     ensures answer { IsAnswerOrMemory result tt tt (request_answer lent.now.keys.now
         lent.now.request (snapshots_of lent.now.request lent.now.snapshots)
         (all_files lent.now.inputs.now) lent.now.deeper.now) }
@@ -40,7 +40,7 @@ pub extern "C" fn proved_check_request(alloc: Global, lent: &Lent<'_>) -> u32
 }
 
 /// The tests of a request in its order.
-fn tested_by(alloc: Global, lent: &Lent<'_>, files: &[File]) -> Result<(), Fault>
+fn tested_by(alloc: Global, lent: &Lent<'_, '_>, files: &[File]) -> Result<(), Fault>
     requires files { list_all (has_both lent.now.keys.now) files.now ≡ true }
     requires deeper { list_all (has_both lent.now.keys.now) lent.now.deeper.now ≡ true }
     ensures { EqualOrMemory (λ none. none) result
@@ -56,7 +56,7 @@ fn tested_by(alloc: Global, lent: &Lent<'_>, files: &[File]) -> Result<(), Fault
 /// The tests of a request.
 pub(crate) fn tested<C: Comparator>(
     alloc: Global,
-    lent: &Lent<'_>,
+    lent: &Lent<'_, '_>,
     files: &[File],
 ) -> Result<(), Fault>
     requires files { list_all (has_both lent.now.keys.now) files.now ≡ true }
@@ -73,7 +73,7 @@ pub(crate) fn tested<C: Comparator>(
 /// The tests of a request whose compact pointer is known.
 fn pointed<C: Comparator>(
     alloc: Global,
-    lent: &Lent<'_>,
+    lent: &Lent<'_, '_>,
     files: &[File],
     pointer: KeyBuf,
 ) -> Result<(), Fault>

@@ -78,7 +78,7 @@ const REQUEST: HostRequest = HostRequest {
 const NOWHERE: Place = Place { from: 0, len: 0 };
 
 /// What is lent for these inputs, if the whole of them is merged.
-fn lent(inputs: &[Input]) -> Lent<'_> {
+fn lent(inputs: &[Input]) -> Lent<'_, 'static> {
     Lent {
         size: 0,
         request: REQUEST,

@@ -6,6 +6,7 @@ use crate::{
     RunPlaces, RunSize, UserRange, proved_boundaries, proved_check_closed, proved_check_request,
     proved_check_table, proved_edit, proved_merge, proved_output, proved_plan,
 };
+use std::alloc::Global;
 use std::test::*;
 
 /// `table: u@4 del, u@2 put x`
@@ -96,23 +97,23 @@ fn lent(inputs: &[Input]) -> Lent<'_, 'static> {
     }
 }
 
+/// The answer to a request of this level.
+fn checked(alloc: Global, level: u64, inputs: &[Input]) -> u32 {
+    let mut asked = lent(inputs);
+    asked.request.level = level;
+    proved_check_request(alloc, &asked)
+}
+
 #[test]
 fn requests_are_checked(rt: HostRuntime) {
     let alloc = rt.alloc();
-    let inputs = [two_entries(TWO_ENTRIES.len() as u64)];
-    let code = proved_check_request(alloc, &lent(&inputs));
-    assert_eq!(rt; code, DONE);
-    let code = proved_check_request(alloc, &lent(&[]));
-    assert_eq!(rt; code, 1);
-    // Its keys aren't lent.
-    let mut asked = lent(&inputs);
-    asked.keys = &[];
-    let code = proved_check_request(alloc, &asked);
-    assert_eq!(rt; code, MISUSE);
-    let mut asked = lent(&inputs);
-    asked.request.level = 6;
-    let code = proved_check_request(alloc, &asked);
-    assert_eq!(rt; code, 2);
+    let mut input = two_entries(TWO_ENTRIES.len() as u64);
+    assert_eq!(rt; checked(alloc, 0, &[input]), DONE);
+    assert_eq!(rt; checked(alloc, 0, &[]), 1);
+    assert_eq!(rt; checked(alloc, 6, &[input]), 2);
+    // A key isn't lent.
+    input.file.smallest.from = 18;
+    assert_eq!(rt; checked(alloc, 0, &[input]), MISUSE);
 }
 
 #[test]

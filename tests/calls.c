@@ -29,8 +29,23 @@ static sedvokt_input input(void) {
 }
 
 static const sedvokt_request request = {
-    SEDVOKT_BYTEWISE, false, 0, 4, 4, 4096, 16, 2097152,
+    SEDVOKT_BYTEWISE, 0, 0, 4, 4, 4096, 16, 2097152,
 };
+
+/* What is lent, with so many of these inputs. */
+static sedvokt_compaction lent(const sedvokt_input *inputs, size_t inputs_len) {
+  sedvokt_compaction of;
+  memset(&of, 0, sizeof of);
+  of.size = sizeof of;
+  of.request = request;
+  of.keys = keys;
+  of.keys_len = sizeof keys;
+  of.tables = table;
+  of.tables_len = table_len;
+  of.inputs = inputs;
+  of.inputs_len = inputs_len;
+  return of;
+}
 
 static void *checked(void *answer) {
   sedvokt_input it = input();
@@ -53,7 +68,8 @@ static void check_in_threads(void) {
 
 static void check(void) {
   sedvokt_input it = input();
-  const uint64_t none[1] = {0}, five[1] = {5}, both[2] = {5, 7};
+  const uint64_t five[1] = {5}, both[2] = {5, 7};
+  sedvokt_compaction of = lent(&it, 1);
   sedvokt_file files[2] = {it.file, it.file};
   sedvokt_file_place missing = {9, 9};
   files[1].number = 7;
@@ -68,10 +84,20 @@ static void check(void) {
   printf("check_table beyond what is lent: %u\n",
          sedvokt_check_table(SEDVOKT_BYTEWISE, keys, sizeof keys, table, table_len, &it));
   it = input();
-  printf("check_request: %u\n",
-         sedvokt_check_request(&request, none, 0, keys, sizeof keys, &it, 1, files, 0));
-  printf("check_request without inputs: %u\n",
-         sedvokt_check_request(&request, none, 0, keys, sizeof keys, &it, 0, files, 0));
+  printf("check_request: %u\n", sedvokt_check_request(&of));
+  of.inputs_len = 0;
+  of.inputs = NULL;
+  printf("check_request without inputs: %u\n", sedvokt_check_request(&of));
+  of.size++;
+  printf("check_request of another structure: %u\n", sedvokt_check_request(&of));
+  of.size--;
+  of.deeper_len = SIZE_MAX / 2;
+  printf("check_request of files at NULL: %u\n", sedvokt_check_request(&of));
+  of.deeper = files;
+  printf("check_request of too many files: %u\n", sedvokt_check_request(&of));
+  of.deeper = (const sedvokt_file *)((const uint8_t *)files + 1);
+  of.deeper_len = 1;
+  printf("check_request of files that aren't aligned: %u\n", sedvokt_check_request(&of));
   printf("check_closed of both files: %u\n",
          sedvokt_check_closed(SEDVOKT_BYTEWISE, 0, keys, sizeof keys, files, 2, both, 2, &missing));
   printf("check_closed of one: %u\n",
@@ -91,9 +117,8 @@ static void part(void) {
     printf("boundaries of no range: 99\n");
     return;
   }
-#define PART(want, room)                                                                         \
-  sedvokt_boundaries(SEDVOKT_BYTEWISE, keys, sizeof keys, table, table_len, &it, 1, want, bytes, \
-                     room, lengths, 4, &size)
+  const sedvokt_compaction of = lent(&it, 1);
+#define PART(want, room) sedvokt_boundaries(&of, want, bytes, room, lengths, 4, &size)
   uint32_t code = PART(2, sizeof bytes);
   printf("boundaries: %u, %s\n", code,
          size.keys == 1 && size.bytes == 1 && lengths[0] == 1 && bytes[0] == 'u' ? "u" : "others");
@@ -108,26 +133,24 @@ static void part(void) {
 /* Both entries are kept if sequence 3 stays readable; none is if 4 and later ones do. */
 static void merge(void) {
   static const uint8_t wanted[] = {'u', 0, 4, 0, 0, 0, 0, 0, 0, 'u', 1, 2, 0, 0, 0, 0, 0, 0, 'x'};
-  const uint64_t none[1] = {0};
-  sedvokt_request at = request;
   sedvokt_input it = input();
+  sedvokt_compaction of = lent(&it, 1);
   sedvokt_range range;
   uint8_t bytes[64];
   sedvokt_lengths lengths[4];
   sedvokt_mark marks[4];
+  sedvokt_run_room room = {sizeof room, bytes, sizeof bytes, lengths, 4, marks, 4};
   sedvokt_run_size size = {9, 9, 9};
   memset(&range, 0, sizeof range);
-  at.oldest = 3;
+  of.request.oldest = 3;
   /* A table that isn't checked must not be merged. */
   if (sedvokt_check_table(SEDVOKT_BYTEWISE, keys, sizeof keys, table, table_len, &it)) {
-    printf("merge: 99\nmerge without room: 99\nmerge from u on: 99\nmerge below u: 99\n");
+    printf("merge: 99\nmerge without room: 99\nmerge from u on: 99\n");
+    printf("merge from outside on: 99\nmerge below u: 99\n");
     printf("merge at 4: 99\n");
     return;
   }
-#define MERGE(room)                                                                             \
-  sedvokt_merge(&at, none, 0, keys, sizeof keys, table, table_len, &it, 1, &it.file, 0, &range, \
-                bytes, room, lengths, 4, marks, 4, &size)
-  uint32_t code = MERGE(sizeof bytes);
+  uint32_t code = sedvokt_merge(&of, &range, &room, &size);
   printf("merge: %u, %s\n", code,
          size.bytes == sizeof wanted && !memcmp(bytes, wanted, sizeof wanted) &&
                  size.entries == 2 && lengths[0].key == 9 && lengths[0].value == 0 &&
@@ -135,21 +158,26 @@ static void merge(void) {
                  marks[0].below == 0 && marks[0].kept == 0
              ? "both entries"
              : "others");
-  code = MERGE(18);
+  room.bytes_len = 18;
+  code = sedvokt_merge(&of, &range, &room, &size);
+  room.bytes_len = sizeof bytes;
   printf("merge without room: %u, %s\n", code,
          size.bytes == sizeof wanted ? "its size" : "another");
   range.lower = (sedvokt_place){0, 1};
-  range.has_lower = true;
-  code = MERGE(sizeof bytes);
+  range.has_lower = 2;
+  code = sedvokt_merge(&of, &range, &room, &size);
   printf("merge from u on: %u, %d entries\n", code, (int)size.entries);
+  range.lower.len = sizeof keys + 1;
+  printf("merge from outside on: %u\n", sedvokt_merge(&of, &range, &room, &size));
+  range.lower.len = 1;
   range.upper = range.lower;
-  range.has_upper = true;
-  range.has_lower = false;
-  code = MERGE(sizeof bytes);
+  range.has_upper = 1;
+  range.has_lower = 0;
+  code = sedvokt_merge(&of, &range, &room, &size);
   printf("merge below u: %u, %d entries\n", code, (int)size.entries);
-  range.has_upper = false;
-  at.oldest = 4;
-  code = MERGE(sizeof bytes);
+  range.has_upper = 0;
+  of.request.oldest = 4;
+  code = sedvokt_merge(&of, &range, &room, &size);
   printf("merge at 4: %u, %d entries\n", code, (int)size.entries);
 }
 
@@ -158,25 +186,25 @@ static void plan(void) {
   static const uint8_t bytes[] = {'u', 0, 4, 0, 0, 0, 0, 0, 0, 'u', 1, 2, 0, 0, 0, 0, 0, 0, 'x'};
   const sedvokt_lengths lengths[2] = {{9, 0}, {9, 1}};
   const sedvokt_mark marks[1] = {{0, 0}};
-  sedvokt_run runs[2] = {{{0, 9}, {0, 1}, {0, 1}}, {{9, 10}, {1, 1}, {1, 0}}};
+  sedvokt_run places[2] = {{{0, 9}, {0, 1}, {0, 1}}, {{9, 10}, {1, 1}, {1, 0}}};
+  const sedvokt_runs runs = {sizeof runs, bytes, sizeof bytes, lengths, 2, marks, 1, places, 2};
   sedvokt_input it = input();
+  const sedvokt_compaction of = lent(&it, 1);
   sedvokt_planned room[2];
   uint64_t len = 9;
-#define PLAN(room_len)                                                                            \
-  sedvokt_plan(&request, keys, sizeof keys, &it, 1, &it.file, 0, bytes, sizeof bytes, lengths, 2, \
-               marks, 1, runs, 2, room, room_len, &len)
+#define PLAN(room_len) sedvokt_plan(&of, &runs, room, room_len, &len)
   uint32_t code = PLAN(2);
   printf("plan: %u, %s\n", code,
          len == 1 && room[0].first == 0 && room[0].entries == 2 && room[0].len == table_len
              ? "one output"
              : "others");
   len = 9;
-  code = PLAN(0);
+  code = sedvokt_plan(&of, &runs, NULL, 0, &len);
   printf("plan without room: %u, %s\n", code, len == 1 ? "its length" : "another");
-  runs[1].lengths.len = 2;
+  places[1].lengths.len = 2;
   printf("plan of a length beyond what is lent: %u\n", PLAN(2));
-  runs[1].lengths.len = 1;
-  runs[1].bytes.len = 9;
+  places[1].lengths.len = 1;
+  places[1].bytes.len = 9;
   printf("plan of an entry beyond its run: %u\n", PLAN(2));
 }
 
@@ -201,8 +229,8 @@ static void put(void) {
   added.level = 1;
   added.number = 7;
   added.size = 90;
-  code = sedvokt_edit(SEDVOKT_BYTEWISE, 0, &numbers, keys, sizeof keys, &it, 1, &added, 1, room,
-                      sizeof room, &len);
+  const sedvokt_compaction of = lent(&it, 1);
+  code = sedvokt_edit(&of, &numbers, &added, 1, room, sizeof room, &len);
   printf("edit: %u, %s\n", code,
          len == sizeof edit && !memcmp(room, edit, len) ? "the edit" : "other bytes");
 }

@@ -18,7 +18,7 @@ using sedvokt::bytes;
 // u@4 del, u@2 put
 const std::string keys("u\0\4\0\0\0\0\0\0u\1\2\0\0\0\0\0\0", 18);
 
-const sedvokt::request asked = {SEDVOKT_BYTEWISE, false, 0, 4, 4, 4096, 16, 2097152};
+const sedvokt::request asked = {SEDVOKT_BYTEWISE, 0, 0, 4, 4, 4096, 16, 2097152};
 
 sedvokt::input input_of(uint64_t number, size_t size) {
   sedvokt::input it = {};
@@ -42,13 +42,15 @@ void check(const std::string& table) {
   // Two of them are refused; the answer is the first one's.
   inputs[3].table.len--;
   inputs[1].file.size++;
-  code = run.check_tables(SEDVOKT_BYTEWISE, bytes(keys), bytes(table), inputs).code();
-  std::printf("check_tables, one of another length: %u\n", code);
-  const sedvokt::span<const sedvokt::input> one(&inputs[0], 1);
-  code = sedvokt::check_request(asked, {}, bytes(keys), one, {}).code();
-  std::printf("check_request: %u\n", code);
-  std::printf("check_request without inputs: %u\n",
-              sedvokt::check_request(asked, {}, bytes(keys), {}, {}).code());
+  const auto refused = run.check_tables(SEDVOKT_BYTEWISE, bytes(keys), bytes(table), inputs);
+  std::printf("check_tables, one of another length: %u, input %d, %s\n", refused.code(),
+              static_cast<int>(refused.at()), refused.what());
+  sedvokt::compaction of;
+  of.asked = asked;
+  of.keys = bytes(keys);
+  std::printf("check_request without inputs: %u\n", sedvokt::check_request(of).code());
+  of.inputs = {&inputs[0], 1};
+  std::printf("check_request: %u\n", sedvokt::check_request(of).code());
   const sedvokt::file files[] = {inputs[0].file, input_of(7, table.size()).file};
   const uint64_t five[] = {5};
   sedvokt::file_place missing = {9, 9};
@@ -64,29 +66,29 @@ bool is(const sedvokt::buffer& given, std::string_view wanted) {
 // The index has one key, the user key u. Both entries are kept if sequence 3 stays readable: from u
 // on, and none below.
 void merge(const std::string& table) {
-  sedvokt::request at = asked;
-  at.oldest = 3;
   sedvokt::input inputs[] = {input_of(5, table.size())};
   if (!sedvokt::check_table(SEDVOKT_BYTEWISE, bytes(keys), bytes(table), inputs[0])) return;
+  sedvokt::compaction of = {asked, {}, bytes(keys), bytes(table), inputs, {}};
+  of.asked.oldest = 3;
   sedvokt::user_keys chosen;
-  auto code =
-      sedvokt::boundaries(SEDVOKT_BYTEWISE, bytes(keys), bytes(table), inputs, 2, chosen).code();
+  auto code = sedvokt::boundaries(of, 2, chosen).code();
   std::printf("boundaries: %u, %s\n", code,
               chosen.size() == 1 && is(chosen.bytes, "u") ? "u" : "others");
   // They lie after the keys.
   const std::string all_keys = keys + "u";
+  of.keys = bytes(all_keys);
   sedvokt::range ranges[2];
   if (!chosen.part(keys.size(), ranges)) return;
   sedvokt::run runs[2];
   sedvokt::parallel run(threads);
-  code = run.merges(at, {}, bytes(all_keys), bytes(table), inputs, {}, ranges, runs).code();
+  code = run.merges(of, ranges, runs).code();
   std::printf("merges: %u, %d and %d entries, %s\n", code,
               static_cast<int>(runs[0].entries.size()), static_cast<int>(runs[1].entries.size()),
               is(runs[1].bytes, keys + "x") && runs[1].entries[1].value == 1 ? "both" : "others");
   sedvokt::runs all;
   sedvokt::owned<sedvokt::planned> outputs;
   if (!all.join(runs)) return;
-  const auto planned = sedvokt::plan(at, bytes(keys), inputs, {}, all, outputs).code();
+  const auto planned = sedvokt::plan(of, all, outputs).code();
   std::printf("plan: %u, %s\n", planned,
               outputs.size() == 1 && outputs[0].entries == 2 && outputs[0].len == table.size()
                   ? "one output"
@@ -120,7 +122,8 @@ void put(const std::string& table) {
   added[0].level = 1;
   added[0].number = 7;
   added[0].size = 90;
-  code = sedvokt::edit(SEDVOKT_BYTEWISE, 0, {8, 3, 0, 4}, bytes(keys), inputs, added, moved).code();
+  const sedvokt::compaction of = {asked, {}, bytes(keys), {}, inputs, {}};
+  code = sedvokt::edit(of, {8, 3, 0, 4}, added, moved).code();
   std::printf("edit: %u, %s\n", code, is(moved, edit) ? "the edit" : "other bytes");
 }
 

@@ -33,16 +33,23 @@
 #define MOST_BYTES (1 << 24)
 #define MOST_ENTRIES (1 << 20)
 
-static sedvokt_request request;
-static sedvokt_numbers numbers;
-static bool asks_closed;
-static uint64_t snapshots[MOST_FILES], first_number;
-static size_t snapshots_len;
 static uint8_t keys[MOST_BYTES], tables[MOST_BYTES];
-static size_t keys_len, tables_len;
+static uint64_t snapshots[MOST_FILES];
 static sedvokt_input inputs[MOST_FILES];
-static sedvokt_file deeper[MOST_FILES], files[MOST_FILES], added[MOST_OUTPUTS];
-static size_t inputs_len, deeper_len, files_len;
+static sedvokt_file deeper[MOST_FILES];
+static sedvokt_compaction of = {
+    .size = sizeof of,
+    .snapshots = snapshots,
+    .keys = keys,
+    .tables = tables,
+    .inputs = inputs,
+    .deeper = deeper,
+};
+static sedvokt_numbers numbers;
+static int asks_closed;
+static uint64_t first_number;
+static sedvokt_file files[MOST_FILES], added[MOST_OUTPUTS];
+static size_t files_len;
 static uint64_t input_numbers[MOST_FILES];
 
 static sedvokt_range ranges[MOST_RANGES];
@@ -101,13 +108,13 @@ static uint64_t number(void) { return strtoull(word(), NULL, 10); }
 
 static sedvokt_place key(void) {
   const char *hex = word();
-  sedvokt_place here = {keys_len, 0};
+  sedvokt_place here = {of.keys_len, 0};
   for (; hex[0] && hex[1]; hex += 2) {
     unsigned byte;
     if (sscanf(hex, "%2x", &byte) != 1) fail("no hex");
-    keys[keys_len++] = byte;
+    keys[of.keys_len++] = byte;
   }
-  here.len = keys_len - here.from;
+  here.len = of.keys_len - here.from;
   return here;
 }
 
@@ -119,42 +126,42 @@ static sedvokt_file file(void) {
   it.smallest = key();
   it.largest = key();
   files[files_len++] = it;
-  if (it.level >= request.level + 2) deeper[deeper_len++] = it;
+  if (it.level >= of.request.level + 2) deeper[of.deeper_len++] = it;
   return it;
 }
 
 static void input(void) {
-  sedvokt_input *it = &inputs[inputs_len];
+  sedvokt_input *it = &inputs[of.inputs_len];
   it->file = file();
-  input_numbers[inputs_len++] = it->file.number;
-  it->table.from = tables_len;
-  it->table.len = read_file(word(), tables + tables_len, sizeof tables - tables_len);
-  tables_len += it->table.len;
+  input_numbers[of.inputs_len++] = it->file.number;
+  it->table.from = of.tables_len;
+  it->table.len = read_file(word(), tables + of.tables_len, sizeof tables - of.tables_len);
+  of.tables_len += it->table.len;
 }
 
 static void boundary(sedvokt_place at) {
   if (ranges_len == 0) ranges_len = 1;
-  ranges[ranges_len - 1].has_upper = ranges[ranges_len].has_lower = true;
+  ranges[ranges_len - 1].has_upper = ranges[ranges_len].has_lower = 1;
   ranges[ranges_len - 1].upper = ranges[ranges_len].lower = at;
   ranges_len++;
 }
 
 static void line(const char *name) {
   if (!strcmp(name, "order")) {
-    request.order = number();
+    of.request.order = number();
   } else if (!strcmp(name, "level")) {
-    request.level = number();
+    of.request.level = number();
   } else if (!strcmp(name, "oldest")) {
-    request.oldest = number();
+    of.request.oldest = number();
   } else if (!strcmp(name, "snapshots")) {
-    request.is_listed = true;
-    for (uint64_t left = number(); left > 0; left--) snapshots[snapshots_len++] = number();
+    of.request.is_listed = 1;
+    for (uint64_t left = number(); left > 0; left--) snapshots[of.snapshots_len++] = number();
   } else if (!strcmp(name, "last")) {
-    request.last_sequence = numbers.last_sequence = number();
+    of.request.last_sequence = numbers.last_sequence = number();
   } else if (!strcmp(name, "options")) {
-    request.block_size = number();
-    request.restart_interval = number();
-    request.file_size = number();
+    of.request.block_size = number();
+    of.request.restart_interval = number();
+    of.request.file_size = number();
   } else if (!strcmp(name, "numbers")) {
     first_number = number();
     numbers.log_number = number();
@@ -164,7 +171,7 @@ static void line(const char *name) {
   } else if (!strcmp(name, "input")) {
     input();
   } else if (!strcmp(name, "closed")) {
-    asks_closed = true;
+    asks_closed = 1;
   } else if (!strcmp(name, "boundary")) {
     boundary(key());
   } else {
@@ -202,7 +209,8 @@ static uint32_t each(size_t count, uint32_t (*one)(size_t), size_t *refused) {
 }
 
 static uint32_t check_one(size_t at) {
-  return sedvokt_check_table(request.order, keys, keys_len, tables, tables_len, &inputs[at]);
+  return sedvokt_check_table(of.request.order, keys, of.keys_len, tables, of.tables_len,
+                             &inputs[at]);
 }
 
 /* Each range has an equal part of the arrays first; then the runs are put together. */
@@ -210,10 +218,11 @@ static uint32_t merge_one(size_t at) {
   const size_t bytes_each = sizeof bytes / ranges_len;
   const size_t entries_each = 2 * MOST_ENTRIES / ranges_len, marks_each = MOST_ENTRIES / ranges_len;
   sedvokt_run_size size;
-  const uint32_t code = sedvokt_merge(
-      &request, snapshots, snapshots_len, keys, keys_len, tables, tables_len, inputs, inputs_len,
-      deeper, deeper_len, &ranges[at], bytes + at * bytes_each, bytes_each,
-      lengths + at * entries_each, entries_each, marks + at * marks_each, marks_each, &size);
+  const sedvokt_run_room room = {
+      sizeof room,  bytes + at * bytes_each, bytes_each, lengths + at * entries_each,
+      entries_each, marks + at * marks_each, marks_each,
+  };
+  const uint32_t code = sedvokt_merge(&of, &ranges[at], &room, &size);
   runs[at].bytes = (sedvokt_place){at * bytes_each, size.bytes};
   runs[at].lengths = (sedvokt_place){at * entries_each, size.entries};
   runs[at].marks = (sedvokt_place){at * marks_each, size.marks};
@@ -236,9 +245,11 @@ static void list_entries(void) {
 }
 
 static uint32_t plan_all(void) {
-  return sedvokt_plan(&request, keys, keys_len, inputs, inputs_len, deeper, deeper_len, bytes,
-                      sizeof bytes, lengths, 2 * MOST_ENTRIES, marks, MOST_ENTRIES, runs,
-                      ranges_len, outputs, MOST_OUTPUTS, &outputs_len);
+  const sedvokt_runs all = {
+      sizeof all, bytes, sizeof bytes, lengths, 2 * MOST_ENTRIES,
+      marks,      MOST_ENTRIES, runs,  ranges_len,
+  };
+  return sedvokt_plan(&of, &all, outputs, MOST_OUTPUTS, &outputs_len);
 }
 
 /* Where each output is made. They are as long as the plan says, so no two meet. */
@@ -248,7 +259,7 @@ static uint64_t made_at[MOST_OUTPUTS];
 static uint32_t output_one(size_t at) {
   uint64_t len = 0;
   const uint32_t code =
-      sedvokt_output(&request, bytes, sizeof bytes, bytes, sizeof bytes,
+      sedvokt_output(&of.request, bytes, sizeof bytes, bytes, sizeof bytes,
                      entries + outputs[at].first, outputs[at].entries, made + made_at[at],
                      outputs[at].len, &len);
   if (code == 0 && len != outputs[at].len) fail("an output is not as long as planned");
@@ -256,10 +267,10 @@ static uint32_t output_one(size_t at) {
 }
 
 static sedvokt_place added_key(const sedvokt_entry *entry) {
-  const sedvokt_place here = {keys_len, entry->key.len};
-  if (sizeof keys - keys_len < here.len) fail("too many keys");
-  memcpy(keys + keys_len, bytes + entry->key.from, here.len);
-  keys_len += here.len;
+  const sedvokt_place here = {of.keys_len, entry->key.len};
+  if (sizeof keys - of.keys_len < here.len) fail("too many keys");
+  memcpy(keys + of.keys_len, bytes + entry->key.from, here.len);
+  of.keys_len += here.len;
   return here;
 }
 
@@ -268,15 +279,15 @@ static uint32_t edit(void) {
   uint64_t len;
   for (size_t at = 0; at < outputs_len; at++) {
     const sedvokt_entry *first = entries + outputs[at].first;
-    added[at].level = request.level + 1;
+    added[at].level = of.request.level + 1;
     added[at].number = first_number + at;
     added[at].size = outputs[at].len;
     added[at].smallest = added_key(first);
     added[at].largest = added_key(first + outputs[at].entries - 1);
   }
   numbers.next_file = first_number + outputs_len;
-  const uint32_t code = sedvokt_edit(request.order, request.level, &numbers, keys, keys_len, inputs,
-                                     inputs_len, added, outputs_len, room, sizeof room, &len);
+  const uint32_t code =
+      sedvokt_edit(&of, &numbers, added, outputs_len, room, sizeof room, &len);
   if (code == 0) write_file("EDIT", room, len);
   return code;
 }
@@ -295,26 +306,24 @@ static uint32_t choose(uint64_t want) {
   sedvokt_keys_size size;
   if (ranges_len > 0) return 0;
   const uint32_t code =
-      sedvokt_boundaries(request.order, keys, keys_len, tables, tables_len, inputs, inputs_len,
-                         want, room, sizeof room, room_lengths, MOST_RANGES, &size);
+      sedvokt_boundaries(&of, want, room, sizeof room, room_lengths, MOST_RANGES, &size);
   if (code) return code;
-  memcpy(keys + keys_len, room, size.bytes);
+  memcpy(keys + of.keys_len, room, size.bytes);
   ranges_len = 1;
   for (size_t at = 0; at < size.keys; at++) {
-    boundary((sedvokt_place){keys_len, room_lengths[at]});
-    keys_len += room_lengths[at];
+    boundary((sedvokt_place){of.keys_len, room_lengths[at]});
+    of.keys_len += room_lengths[at];
   }
   return 0;
 }
 
 static uint32_t compact(uint64_t want, size_t *refused) {
-  uint32_t code = sedvokt_check_request(&request, snapshots, snapshots_len, keys, keys_len, inputs,
-                                        inputs_len, deeper, deeper_len);
+  uint32_t code = sedvokt_check_request(&of);
   sedvokt_file_place missing;
   if (!code && asks_closed)
-    code = sedvokt_check_closed(request.order, request.level, keys, keys_len, files, files_len,
-                                input_numbers, inputs_len, &missing);
-  if (!code) code = each(inputs_len, check_one, refused);
+    code = sedvokt_check_closed(of.request.order, of.request.level, keys, of.keys_len, files,
+                                files_len, input_numbers, of.inputs_len, &missing);
+  if (!code) code = each(of.inputs_len, check_one, refused);
   /* Whoever merges an input that isn't checked may read anything. */
   if (!code) code = choose(want);
   if (!code) code = each(ranges_len, merge_one, NULL);

@@ -9,6 +9,7 @@
 #include <cstdlib>
 #include <fstream>
 #include <iterator>
+#include <optional>
 #include <sstream>
 #include <string>
 #include <thread>
@@ -46,6 +47,12 @@ struct asked {
   std::vector<sedvokt::input> inputs;
   std::vector<sedvokt::file> files, deeper;
   std::vector<sedvokt::range> ranges;
+  // The place of the input that was refused.
+  std::optional<size_t> refused;
+
+  sedvokt::compaction of() const {
+    return {request, snapshots, bytes(keys), bytes(tables), inputs, deeper};
+  }
 
   explicit asked(const std::string& path) {
     std::istringstream text(read_file(path));
@@ -60,9 +67,9 @@ struct asked {
 
   void add_boundary(sedvokt::place at) {
     if (ranges.empty()) ranges.emplace_back();
-    ranges.back().has_upper = true;
+    ranges.back().has_upper = 1;
     ranges.back().upper = at;
-    ranges.push_back({true, false, at, {0, 0}});
+    ranges.push_back({1, 0, at, {0, 0}});
   }
 
  private:
@@ -104,7 +111,7 @@ struct asked {
     } else if (name == "oldest") {
       text >> request.oldest;
     } else if (name == "snapshots") {
-      request.is_listed = true;
+      request.is_listed = 1;
       size_t count;
       text >> count;
       snapshots.resize(count);
@@ -163,24 +170,23 @@ std::vector<sedvokt::entry> entries_of(const sedvokt::runs& runs) {
 }
 
 sedvokt::status check(asked& all, sedvokt::parallel<host_threads>& on) {
-  if (auto answer = sedvokt::check_request(all.request, all.snapshots, bytes(all.keys), all.inputs,
-                                           all.deeper);
-      !answer)
-    return answer;
+  if (auto answer = sedvokt::check_request(all.of()); !answer) return answer;
   sedvokt::file_place missing;
   if (all.asks_closed)
     if (auto answer = sedvokt::check_closed(all.request.order, all.request.level, bytes(all.keys),
                                             all.files, all.input_numbers, missing);
         !answer)
       return answer;
-  return on.check_tables(all.request.order, bytes(all.keys), bytes(all.tables), all.inputs);
+  const auto answer =
+      on.check_tables(all.request.order, bytes(all.keys), bytes(all.tables), all.inputs);
+  if (!answer) all.refused = answer.at();
+  return answer;
 }
 
 sedvokt::status choose(asked& all, uint64_t want) {
   if (!all.ranges.empty()) return SEDVOKT_DONE;
   sedvokt::user_keys boundaries;
-  const auto answer = sedvokt::boundaries(all.request.order, bytes(all.keys), bytes(all.tables),
-                                          all.inputs, want, boundaries);
+  const auto answer = sedvokt::boundaries(all.of(), want, boundaries);
   if (!answer) return answer;
   const auto from = all.lend({reinterpret_cast<const char*>(boundaries.bytes.data()),
                               boundaries.bytes.size()}).from;
@@ -192,8 +198,7 @@ sedvokt::status choose(asked& all, uint64_t want) {
 sedvokt::status merge(const asked& all, sedvokt::parallel<host_threads>& on,
                       sedvokt::runs& joined) {
   std::vector<sedvokt::run> runs(all.ranges.size());
-  const auto answer = on.merges(all.request, all.snapshots, bytes(all.keys), bytes(all.tables),
-                                all.inputs, all.deeper, all.ranges, runs);
+  const auto answer = on.merges(all.of(), all.ranges, runs);
   return answer ? joined.join(runs) : answer;
 }
 
@@ -222,8 +227,7 @@ sedvokt::status put(asked& all, sedvokt::parallel<host_threads>& on, const sedvo
   }
   all.numbers.next_file = all.first_number + planned.size();
   sedvokt::buffer edit;
-  const auto answer = sedvokt::edit(all.request.order, all.request.level, all.numbers,
-                                    bytes(all.keys), all.inputs, added, edit);
+  const auto answer = sedvokt::edit(all.of(), all.numbers, added, edit);
   if (answer) write_file(folder + "/EDIT", edit);
   return answer;
 }
@@ -237,10 +241,7 @@ sedvokt::status compact(asked& all, uint64_t want, size_t threads, const std::st
   sedvokt::runs runs;
   if (auto answer = merge(all, on, runs); !answer) return answer;
   sedvokt::owned<sedvokt::planned> planned;
-  if (auto answer =
-          sedvokt::plan(all.request, bytes(all.keys), all.inputs, all.deeper, runs, planned);
-      !answer)
-    return answer;
+  if (auto answer = sedvokt::plan(all.of(), runs, planned); !answer) return answer;
   outputs = planned.size();
   return put(all, on, runs, planned, folder);
 }
@@ -253,7 +254,9 @@ int main(int count, char** words) {
   size_t outputs = 0;
   const auto answer =
       compact(all, std::stoull(words[3]), std::stoull(words[4]), words[2], outputs);
-  if (!answer) {
+  if (!answer && all.refused) {
+    std::printf("refused: %" PRIu32 ", input %zu\n", answer.code(), *all.refused);
+  } else if (!answer) {
     std::printf("refused: %" PRIu32 "\n", answer.code());
   } else {
     std::printf("%zu outputs of %zu ranges\n", outputs, all.ranges.size());

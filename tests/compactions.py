@@ -272,10 +272,9 @@ LETTERS = {1: [], 3: [b"c", b"f"], 8: [b"a", b"b", b"bb", b"f", b"g", b"u", b"v"
 
 
 def is_answer(given, files, line, wanted):
-    """Whether an answer is this one. PROGRAM may not tell which input a refusal is about."""
+    """Whether an answer is this one."""
     told = {name: it for name, it in files.items() if name != "EDIT" or "EDIT" in wanted}
-    line_is = given == line or given.startswith(f"{line} of ") or given == line.split(",")[0]
-    return line_is and told == wanted
+    return (given == line or given.startswith(f"{line} of ")) and told == wanted
 
 
 def each_row(program, counts, told=print):

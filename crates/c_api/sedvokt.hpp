@@ -15,6 +15,9 @@
 
 namespace sedvokt {
 
+/* Whether the archive is of this version. */
+inline bool is_current() noexcept { return sedvokt_version() == SEDVOKT_VERSION; }
+
 using place = sedvokt_place;
 using file = sedvokt_file;
 using file_place = sedvokt_file_place;
@@ -42,8 +45,7 @@ class span {
                          std::is_convertible_v<decltype(std::declval<C&>().data()), T*>>>
   constexpr span(C&& values) noexcept : span(values.data(), values.size()) {}
 
-  /* Never null, also if the size is 0. */
-  T* data() const noexcept { return size_ == 0 ? reinterpret_cast<T*>(alignof(T)) : data_; }
+  constexpr T* data() const noexcept { return data_; }
   constexpr size_t size() const noexcept { return size_; }
   constexpr T& operator[](size_t at) const noexcept { return data_[at]; }
 
@@ -59,15 +61,20 @@ inline lent bytes(std::string_view text) noexcept {
   return {reinterpret_cast<const uint8_t*>(text.data()), text.size()};
 }
 
-/* Whether a call was done; else the number of its refusal. */
+/* Whether a call was done; else the number of its refusal, and if it was one of several, which. */
 class [[nodiscard]] status {
  public:
-  constexpr status(uint32_t code = SEDVOKT_DONE) noexcept : code_(code) {}
+  constexpr status(uint32_t code = SEDVOKT_DONE, size_t at = 0) noexcept : code_(code), at_(at) {}
   constexpr explicit operator bool() const noexcept { return code_ == SEDVOKT_DONE; }
   constexpr uint32_t code() const noexcept { return code_; }
+  /* The place of the input, range or output that was refused, by a call of `parallel`. */
+  constexpr size_t at() const noexcept { return at_; }
+  /* The name of the number, and what it says. */
+  const char* what() const noexcept { return sedvokt_strerror(code_); }
 
  private:
   uint32_t code_;
+  size_t at_;
 };
 
 /* Values that belong to it, as a call wrote them. */
@@ -129,12 +136,25 @@ class owned {
 
 using buffer = owned<uint8_t>;
 
+/* What a compaction is asked for, and what is lent to its calls. */
+struct compaction {
+  request asked = {};
+  span<const uint64_t> snapshots;
+  lent keys, tables;
+  span<const input> inputs;
+  span<const file> deeper;
+
+  sedvokt_compaction told() const noexcept {
+    return {sizeof(sedvokt_compaction), asked, snapshots.data(), snapshots.size(), keys.data(),
+            keys.size(), tables.data(), tables.size(), inputs.data(), inputs.size(),
+            deeper.data(), deeper.size()};
+  }
+};
+
 /* sedvokt_check_request. */
-inline status check_request(const request& asked, span<const uint64_t> snapshots, lent keys,
-                            span<const input> inputs, span<const file> deeper) noexcept {
-  return sedvokt_check_request(&asked, snapshots.data(), snapshots.size(), keys.data(),
-                               keys.size(), inputs.data(), inputs.size(), deeper.data(),
-                               deeper.size());
+inline status check_request(const compaction& of) noexcept {
+  const sedvokt_compaction told = of.told();
+  return sedvokt_check_request(&told);
 }
 
 /* sedvokt_check_closed. `missing` is set if the answer is SEDVOKT_OPEN_INPUTS. */
@@ -174,17 +194,16 @@ struct user_keys {
 };
 
 /* sedvokt_boundaries, into `to`. The inputs are as for merge. */
-inline status boundaries(uint32_t order, lent keys, lent tables, span<const input> inputs,
-                         uint64_t want, user_keys& to) noexcept {
+inline status boundaries(const compaction& of, uint64_t want, user_keys& to) noexcept {
+  const sedvokt_compaction told = of.told();
   sedvokt_keys_size size = {4096, want < 4096 ? want : 4096};
   uint32_t code = SEDVOKT_ROOM;
   for (int tries = 0; tries < 2 && code == SEDVOKT_ROOM; tries++) {
     if (!to.bytes.make_room(static_cast<size_t>(size.bytes)) ||
         !to.lengths.make_room(static_cast<size_t>(size.keys)))
       return SEDVOKT_MEMORY;
-    code = sedvokt_boundaries(order, keys.data(), keys.size(), tables.data(), tables.size(),
-                              inputs.data(), inputs.size(), want, to.bytes.room_data(),
-                              to.bytes.room(), to.lengths.room_data(), to.lengths.room(), &size);
+    code = sedvokt_boundaries(&told, want, to.bytes.room_data(), to.bytes.room(),
+                              to.lengths.room_data(), to.lengths.room(), &size);
   }
   if (code == SEDVOKT_DONE) {
     to.bytes.has(size.bytes);
@@ -201,24 +220,28 @@ struct run {
   owned<mark> marks;
 };
 
-/* sedvokt_merge, into `to`. check_table has answered true to each input, with this order, and
+/* sedvokt_merge, into `to`, which has at first room for so many parts of all tables as are asked
+   for, and half as much again. check_table has answered true to each input, with this order, and
    nothing of the inputs, the tables and the keys has changed since. */
-inline status merge(const request& asked, span<const uint64_t> snapshots, lent keys, lent tables,
-                    span<const input> inputs, span<const file> deeper, const range& of,
-                    run& to) noexcept {
-  sedvokt_run_size size = {tables.size(), 0, deeper.size() + 1};
-  for (size_t at = 0; at < inputs.size(); at++) size.entries += inputs[at].counts.entries;
+inline status merge(const compaction& of, const range& range, run& to,
+                    uint64_t parts = 1) noexcept {
+  const sedvokt_compaction told = of.told();
+  sedvokt_run_size size = {of.tables.size(), 0, of.deeper.size() + 1};
+  for (size_t at = 0; at < of.inputs.size(); at++) size.entries += of.inputs[at].counts.entries;
+  if (parts > 1) {
+    size.bytes = size.bytes / parts + size.bytes / (2 * parts) + 4096;
+    size.entries = size.entries / parts + size.entries / (2 * parts) + 64;
+  }
   uint32_t code = SEDVOKT_ROOM;
   for (int tries = 0; tries < 2 && code == SEDVOKT_ROOM; tries++) {
     if (!to.bytes.make_room(static_cast<size_t>(size.bytes)) ||
         !to.entries.make_room(static_cast<size_t>(size.entries)) ||
         !to.marks.make_room(static_cast<size_t>(size.marks)))
       return SEDVOKT_MEMORY;
-    code = sedvokt_merge(&asked, snapshots.data(), snapshots.size(), keys.data(), keys.size(),
-                         tables.data(), tables.size(), inputs.data(), inputs.size(),
-                         deeper.data(), deeper.size(), &of, to.bytes.room_data(),
-                         to.bytes.room(), to.entries.room_data(), to.entries.room(),
-                         to.marks.room_data(), to.marks.room(), &size);
+    const sedvokt_run_room room = {
+        sizeof room, to.bytes.room_data(), to.bytes.room(), to.entries.room_data(),
+        to.entries.room(), to.marks.room_data(), to.marks.room()};
+    code = sedvokt_merge(&told, &range, &room, &size);
   }
   if (code == SEDVOKT_DONE) {
     to.bytes.has(size.bytes);
@@ -234,6 +257,11 @@ struct runs {
   owned<lengths> entries;
   owned<mark> marks;
   owned<run_places> places;
+
+  sedvokt_runs told() const noexcept {
+    return {sizeof(sedvokt_runs), bytes.data(), bytes.size(), entries.data(), entries.size(),
+            marks.data(), marks.size(), places.data(), places.size()};
+  }
 
   /* Has copies of these, in the order of their ranges. */
   status join(span<const run> of) noexcept {
@@ -265,18 +293,10 @@ struct runs {
 };
 
 /* sedvokt_plan of joined runs, into `outputs`. */
-inline status plan(const request& asked, lent keys, span<const input> inputs,
-                   span<const file> deeper, const runs& of, owned<planned>& outputs) noexcept {
-  const lent all = of.bytes;
-  const span<const lengths> entries = of.entries;
-  const span<const mark> marks = of.marks;
-  const span<const run_places> places = of.places;
-  return outputs.fill(64, [&](auto... room) {
-    return sedvokt_plan(&asked, keys.data(), keys.size(), inputs.data(), inputs.size(),
-                        deeper.data(), deeper.size(), all.data(), all.size(), entries.data(),
-                        entries.size(), marks.data(), marks.size(), places.data(), places.size(),
-                        room...);
-  });
+inline status plan(const compaction& of, const runs& all, owned<planned>& outputs) noexcept {
+  const sedvokt_compaction told = of.told();
+  const sedvokt_runs runs = all.told();
+  return outputs.fill(64, [&](auto... room) { return sedvokt_plan(&told, &runs, room...); });
 }
 
 /* sedvokt_output, into `table`. */
@@ -291,11 +311,11 @@ inline status output(const request& asked, lent keys, lent values, span<const en
 }
 
 /* sedvokt_edit, into `bytes`. */
-inline status edit(uint32_t order, uint64_t level, const numbers& now, lent keys,
-                   span<const input> inputs, span<const file> added, buffer& bytes) noexcept {
+inline status edit(const compaction& of, const numbers& now, span<const file> added,
+                   buffer& bytes) noexcept {
+  const sedvokt_compaction told = of.told();
   return bytes.fill(4096, [&](auto... room) {
-    return sedvokt_edit(order, level, &now, keys.data(), keys.size(), inputs.data(),
-                        inputs.size(), added.data(), added.size(), room...);
+    return sedvokt_edit(&told, &now, added.data(), added.size(), room...);
   });
 }
 
@@ -317,12 +337,10 @@ class parallel {
   }
 
   /* merge of each range, into the run at its place. */
-  status merges(const request& asked, span<const uint64_t> snapshots, lent keys, lent tables,
-                span<const input> inputs, span<const file> deeper, span<const range> ranges,
-                span<run> runs) {
+  status merges(const compaction& of, span<const range> ranges, span<run> runs) {
     if (ranges.size() != runs.size() || ranges.size() > UINT32_MAX) return SEDVOKT_MISUSE;
     return each(static_cast<uint32_t>(ranges.size()), [&](size_t at) {
-      return merge(asked, snapshots, keys, tables, inputs, deeper, ranges[at], runs[at]);
+      return merge(of, ranges[at], runs[at], ranges.size());
     });
   }
 
@@ -348,7 +366,8 @@ class parallel {
       while (mine < least && !first.compare_exchange_weak(least, mine)) {
       }
     });
-    return first == UINT64_MAX ? SEDVOKT_DONE : static_cast<uint32_t>(first);
+    if (first == UINT64_MAX) return SEDVOKT_DONE;
+    return {static_cast<uint32_t>(first), static_cast<size_t>(first >> 32)};
   }
 
  private:

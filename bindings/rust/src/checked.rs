@@ -1,17 +1,13 @@
 //! Inputs that were checked, and what only they can be asked.
 
-use crate::sys::{self, File, Input, KeysSize, Lengths, Mark, Place, Range, Request, RunSize};
-use crate::{answered, check_table, make_room, Refused, MISUSE, ROOM};
+use crate::sys::{self, Input, KeysSize, Lengths, Mark, Place, Range, RunRoom, RunSize};
+use crate::{answered, check_table, with_room, Compaction, Refused, MISUSE, ROOM};
+use std::mem::size_of;
 
-/// Inputs that were checked, with what is lent. That can't change as long as this lives, so it may
-/// be merged: `sedvokt_merge` tests no table again.
+/// A compaction whose inputs were checked. What is lent can't change as long as this lives, so it
+/// may be merged: `sedvokt_merge` tests no table again.
 #[derive(Clone, Copy, Debug)]
-pub struct Checked<'a> {
-    order: u32,
-    keys: &'a [u8],
-    tables: &'a [u8],
-    inputs: &'a [Input],
-}
+pub struct Checked<'a>(Compaction<'a>);
 
 /// The run of a range: its entries one after the other, each as its key and then its value; their
 /// lengths; and the marks.
@@ -32,52 +28,51 @@ pub struct Boundaries {
 impl Boundaries {
     /// The ranges between them, if the keys that are lent have their bytes from place `from` on.
     pub fn ranges(&self, from: u64) -> Result<Vec<Range>, Refused> {
-        let mut ranges: Vec<Range> = Vec::new();
-        make_room(&mut ranges, self.lengths.len() as u64 + 1)?;
-        let mut key = Place { from, len: 0 };
-        for (at, range) in ranges.iter_mut().enumerate() {
-            range.has_lower = at != 0;
-            range.lower = key;
-            key.from += key.len;
-            key.len = self.lengths.get(at).copied().unwrap_or(0);
-            range.has_upper = at != self.lengths.len();
-            range.upper = key;
+        let mut ranges = with_room(self.lengths.len() as u64 + 1)?;
+        let mut lower = Place { from, len: 0 };
+        for at in 0..=self.lengths.len() {
+            let upper = Place {
+                from: lower.from + lower.len,
+                len: self.lengths.get(at).copied().unwrap_or(0),
+            };
+            ranges.push(Range {
+                has_lower: u32::from(at != 0),
+                has_upper: u32::from(at != self.lengths.len()),
+                lower,
+                upper,
+            });
+            lower = upper;
         }
         Ok(ranges)
     }
 }
 
 impl<'a> Checked<'a> {
-    /// Tests all inputs, one after the other, and sets their counts.
-    pub fn new(
-        order: u32,
-        keys: &'a [u8],
-        tables: &'a [u8],
-        inputs: &'a mut [Input],
-    ) -> Result<Checked<'a>, Refused> {
-        for input in inputs.iter_mut() {
-            check_table(order, keys, tables, input)?;
+    /// Tests all inputs, one after the other, and sets their counts. `of` has no inputs: these are
+    /// its inputs then.
+    pub fn new(of: Compaction<'a>, inputs: &'a mut [Input]) -> Result<Checked<'a>, Refused> {
+        for (at, input) in inputs.iter_mut().enumerate() {
+            let answer = check_table(of.request.order, of.keys, of.tables, input);
+            answer.map_err(|it| Refused {
+                input: Some(at),
+                ..it
+            })?;
         }
-        Ok(Checked {
-            order,
-            keys,
-            tables,
-            inputs,
-        })
+        Ok(Checked(Compaction { inputs, ..of }))
     }
 
-    /// The inputs with their counts.
-    pub fn inputs(&self) -> &'a [Input] {
-        self.inputs
+    /// The compaction, whose inputs have their counts.
+    pub fn compaction(&self) -> &Compaction<'a> {
+        &self.0
     }
 
     /// The same inputs over keys with more bytes after the others, as those of boundaries.
     /// [`MISUSE`] unless `keys` begins with the keys that they were checked with.
     pub fn over(self, keys: &'a [u8]) -> Result<Checked<'a>, Refused> {
-        if !keys.starts_with(self.keys) {
+        if !keys.starts_with(self.0.keys) {
             answered(MISUSE)?;
         }
-        Ok(Checked { keys, ..self })
+        Ok(Checked(Compaction { keys, ..self.0 }))
     }
 
     /// Boundaries for at most `want` ranges.
@@ -90,107 +85,75 @@ impl<'a> Checked<'a> {
         let mut code = ROOM;
         for _ in 0..2 {
             if code == ROOM {
-                make_room(&mut found.bytes, size.bytes)?;
-                make_room(&mut found.lengths, size.keys)?;
-                code = self.boundaries_into(want, &mut found, &mut size);
+                found.bytes = with_room(size.bytes)?;
+                found.lengths = with_room(size.keys)?;
+                // SAFETY: as of `merge`.
+                code = unsafe {
+                    sys::sedvokt_boundaries(
+                        &self.0.told(),
+                        want,
+                        found.bytes.as_mut_ptr(),
+                        found.bytes.capacity(),
+                        found.lengths.as_mut_ptr(),
+                        found.lengths.capacity(),
+                        &mut size,
+                    )
+                };
             }
         }
         answered(code)?;
-        found.bytes.truncate(size.bytes as usize);
-        found.lengths.truncate(size.keys as usize);
+        // SAFETY: the call was done, so it wrote so many.
+        unsafe {
+            found.bytes.set_len(size.bytes as usize);
+            found.lengths.set_len(size.keys as usize);
+        }
         Ok(found)
     }
 
-    fn boundaries_into(&self, want: u64, found: &mut Boundaries, size: &mut KeysSize) -> u32 {
-        // SAFETY: as of `merge_into`.
-        unsafe {
-            sys::sedvokt_boundaries(
-                self.order,
-                self.keys.as_ptr(),
-                self.keys.len(),
-                self.tables.as_ptr(),
-                self.tables.len(),
-                self.inputs.as_ptr(),
-                self.inputs.len(),
-                want,
-                found.bytes.as_mut_ptr(),
-                found.bytes.len(),
-                found.lengths.as_mut_ptr(),
-                found.lengths.len(),
-                size,
-            )
-        }
-    }
-
-    /// The kept entries of a range. [`MISUSE`] if the request has another order.
-    pub fn merge(
-        &self,
-        request: &Request,
-        snapshots: &[u64],
-        deeper: &[File],
-        range: &Range,
-    ) -> Result<Run, Refused> {
-        if request.order != self.order {
-            answered(MISUSE)?;
-        }
+    /// The kept entries of one of so many ranges: the room is at first as of such a part of all
+    /// tables, and half as much again.
+    pub fn merge(&self, range: &Range, parts: u64) -> Result<Run, Refused> {
         let mut run = Run::default();
-        let mut size = RunSize {
-            bytes: self.tables.len() as u64,
-            entries: self
-                .inputs
-                .iter()
-                .fold(0, |sum: u64, it| sum.saturating_add(it.counts.entries)),
-            marks: deeper.len() as u64 + 1,
-        };
+        let mut size = self.share(parts.max(1));
         let mut code = ROOM;
         for _ in 0..2 {
             if code == ROOM {
-                make_room(&mut run.bytes, size.bytes)?;
-                make_room(&mut run.entries, size.entries)?;
-                make_room(&mut run.marks, size.marks)?;
-                code = self.merge_into(request, snapshots, deeper, range, &mut run, &mut size);
+                run.bytes = with_room(size.bytes)?;
+                run.entries = with_room(size.entries)?;
+                run.marks = with_room(size.marks)?;
+                let room = RunRoom {
+                    size: size_of::<RunRoom>(),
+                    bytes: run.bytes.as_mut_ptr(),
+                    bytes_len: run.bytes.capacity(),
+                    lengths: run.entries.as_mut_ptr(),
+                    lengths_len: run.entries.capacity(),
+                    marks: run.marks.as_mut_ptr(),
+                    marks_len: run.marks.capacity(),
+                };
+                // SAFETY: each pointer is a slice's, a vector's or a reference's; what is written is
+                // apart from the others. The inputs were checked in this order, and are as they
+                // were then.
+                code = unsafe { sys::sedvokt_merge(&self.0.told(), range, &room, &mut size) };
             }
         }
         answered(code)?;
-        run.bytes.truncate(size.bytes as usize);
-        run.entries.truncate(size.entries as usize);
-        run.marks.truncate(size.marks as usize);
+        // SAFETY: the call was done, so it wrote so many.
+        unsafe {
+            run.bytes.set_len(size.bytes as usize);
+            run.entries.set_len(size.entries as usize);
+            run.marks.set_len(size.marks as usize);
+        }
         Ok(run)
     }
 
-    fn merge_into(
-        &self,
-        request: &Request,
-        snapshots: &[u64],
-        deeper: &[File],
-        range: &Range,
-        run: &mut Run,
-        size: &mut RunSize,
-    ) -> u32 {
-        // SAFETY: each pointer is a slice's or a reference's; what is written is apart from the
-        // others. The inputs were checked in this order, and are as they were then.
-        unsafe {
-            sys::sedvokt_merge(
-                request,
-                snapshots.as_ptr(),
-                snapshots.len(),
-                self.keys.as_ptr(),
-                self.keys.len(),
-                self.tables.as_ptr(),
-                self.tables.len(),
-                self.inputs.as_ptr(),
-                self.inputs.len(),
-                deeper.as_ptr(),
-                deeper.len(),
-                range,
-                run.bytes.as_mut_ptr(),
-                run.bytes.len(),
-                run.entries.as_mut_ptr(),
-                run.entries.len(),
-                run.marks.as_mut_ptr(),
-                run.marks.len(),
-                size,
-            )
+    fn share(&self, parts: u64) -> RunSize {
+        let bytes = self.0.tables.len() as u64 / parts;
+        let counted = self.0.inputs.iter().map(|it| it.counts.entries);
+        let entries = counted.fold(0, u64::saturating_add) / parts;
+        RunSize {
+            bytes: bytes + bytes / 2 + 4096,
+            entries: entries + entries / 2 + 64,
+            marks: self.0.deeper.len() as u64 + 1,
         }
     }
 }

@@ -10,7 +10,9 @@ mod runs;
 pub mod sys;
 
 use std::error::Error;
+use std::ffi::CStr;
 use std::fmt::{Display, Formatter};
+use std::mem::size_of;
 use std::num::NonZeroU32;
 
 pub use checked::{Boundaries, Checked, Run};
@@ -40,17 +42,27 @@ pub const MEMORY: u32 = 99;
 
 /// A call that was refused, by the number that `sedvokt.h` and REFUSALS name.
 #[derive(Clone, Copy, Debug, PartialEq, Eq)]
-pub struct Refused(NonZeroU32);
+pub struct Refused {
+    code: NonZeroU32,
+    input: Option<usize>,
+}
 
 impl Refused {
     pub fn code(self) -> u32 {
-        self.0.get()
+        self.code.get()
+    }
+
+    /// The place of the input that [`Checked::new`] refused.
+    pub fn input(self) -> Option<usize> {
+        self.input
     }
 }
 
 impl Display for Refused {
     fn fmt(&self, f: &mut Formatter<'_>) -> std::fmt::Result {
-        write!(f, "sedvokt refused it: {}", self.0)
+        // SAFETY: the answer is a text of the archive, whatever the number is.
+        let says = unsafe { CStr::from_ptr(sys::sedvokt_strerror(self.code())) };
+        write!(f, "{} ({})", says.to_string_lossy(), self.code)
     }
 }
 
@@ -58,32 +70,47 @@ impl Error for Refused {}
 
 /// What the number of a call means.
 fn answered(code: u32) -> Result<(), Refused> {
-    NonZeroU32::new(code).map_or(Ok(()), |code| Err(Refused(code)))
+    NonZeroU32::new(code).map_or(Ok(()), |code| Err(Refused { code, input: None }))
 }
 
-/// Tests a request without its tables. `deeper` are all files of the levels from `level` + 2 on, by
-/// level and in version order.
-pub fn check_request(
-    request: &Request,
-    snapshots: &[u64],
-    keys: &[u8],
-    inputs: &[Input],
-    deeper: &[File],
-) -> Result<(), Refused> {
+/// What a compaction is asked for, and what is lent to its calls.
+#[derive(Clone, Copy, Debug, Default)]
+pub struct Compaction<'a> {
+    pub request: Request,
+    /// The snapshots that stay readable, if they are listed.
+    pub snapshots: &'a [u64],
+    /// The keys of all files and ranges.
+    pub keys: &'a [u8],
+    /// The bytes of all tables.
+    pub tables: &'a [u8],
+    pub inputs: &'a [Input],
+    /// All files of the levels from `level` + 2 on, by level and in version order.
+    pub deeper: &'a [File],
+}
+
+impl Compaction<'_> {
+    fn told(&self) -> sys::Compaction {
+        sys::Compaction {
+            size: size_of::<sys::Compaction>(),
+            request: self.request,
+            snapshots: self.snapshots.as_ptr(),
+            snapshots_len: self.snapshots.len(),
+            keys: self.keys.as_ptr(),
+            keys_len: self.keys.len(),
+            tables: self.tables.as_ptr(),
+            tables_len: self.tables.len(),
+            inputs: self.inputs.as_ptr(),
+            inputs_len: self.inputs.len(),
+            deeper: self.deeper.as_ptr(),
+            deeper_len: self.deeper.len(),
+        }
+    }
+}
+
+/// Tests a request without its tables.
+pub fn check_request(of: &Compaction) -> Result<(), Refused> {
     // SAFETY: each pointer is a slice's or a reference's, and nothing is kept or written.
-    answered(unsafe {
-        sys::sedvokt_check_request(
-            request,
-            snapshots.as_ptr(),
-            snapshots.len(),
-            keys.as_ptr(),
-            keys.len(),
-            inputs.as_ptr(),
-            inputs.len(),
-            deeper.as_ptr(),
-            deeper.len(),
-        )
-    })
+    answered(unsafe { sys::sedvokt_check_request(&of.told()) })
 }
 
 /// Asks whether a compaction of `level` may take the files of these numbers, and no others. `files`
@@ -144,81 +171,72 @@ pub fn output(
     entries: &[Entry],
 ) -> Result<Vec<u8>, Refused> {
     let about = request.file_size.min(1 << 30);
-    filled((about + about / 8 + 65536) as usize, |room, len| {
-        // SAFETY: as above; `room` and `len` are written, and are apart from the others.
-        unsafe {
-            sys::sedvokt_output(
-                request,
-                keys.as_ptr(),
-                keys.len(),
-                values.as_ptr(),
-                values.len(),
-                entries.as_ptr(),
-                entries.len(),
-                room.as_mut_ptr(),
-                room.len(),
-                len,
-            )
-        }
-    })
+    filled(
+        (about + about / 8 + 65536) as usize,
+        |room, room_len, len| {
+            // SAFETY: as above; `room` and `len` are written, and are apart from the others.
+            unsafe {
+                sys::sedvokt_output(
+                    request,
+                    keys.as_ptr(),
+                    keys.len(),
+                    values.as_ptr(),
+                    values.len(),
+                    entries.as_ptr(),
+                    entries.len(),
+                    room,
+                    room_len,
+                    len,
+                )
+            }
+        },
+    )
 }
 
-/// The bytes of the edit of a compaction of `level`: the inputs go, and `added` come.
-pub fn edit(
-    order: u32,
-    level: u64,
-    numbers: &Numbers,
-    keys: &[u8],
-    inputs: &[Input],
-    added: &[File],
-) -> Result<Vec<u8>, Refused> {
-    filled(4096, |room, len| {
+/// The bytes of the edit of a compaction: the inputs go, and `added` come.
+pub fn edit(of: &Compaction, numbers: &Numbers, added: &[File]) -> Result<Vec<u8>, Refused> {
+    filled(4096, |room, room_len, len| {
         // SAFETY: as of `output`.
         unsafe {
             sys::sedvokt_edit(
-                order,
-                level,
+                &of.told(),
                 numbers,
-                keys.as_ptr(),
-                keys.len(),
-                inputs.as_ptr(),
-                inputs.len(),
                 added.as_ptr(),
                 added.len(),
-                room.as_mut_ptr(),
-                room.len(),
+                room,
+                room_len,
                 len,
             )
         }
     })
 }
 
-/// Makes room for so many values.
-fn make_room<T: Clone + Default>(room: &mut Vec<T>, len: u64) -> Result<(), Refused> {
-    let more = (len as usize).saturating_sub(room.len());
-    if room.try_reserve_exact(more).is_err() {
-        return answered(MEMORY);
+/// A vector without values, with room for so many.
+fn with_room<T>(len: u64) -> Result<Vec<T>, Refused> {
+    let mut room = Vec::new();
+    match room.try_reserve_exact(len as usize) {
+        Ok(()) => Ok(room),
+        Err(_) => answered(MEMORY).map(|()| room),
     }
-    room.resize(room.len() + more, T::default());
-    Ok(())
 }
 
 /// What a call writes into a room for about so many values. It is made once more if that was too
-/// small.
-fn filled<T: Clone + Default>(
+/// small. At 0 it has written as many as it says.
+fn filled<T>(
     about: usize,
-    mut write: impl FnMut(&mut [T], &mut u64) -> u32,
+    mut write: impl FnMut(*mut T, usize, &mut u64) -> u32,
 ) -> Result<Vec<T>, Refused> {
     let mut room = Vec::new();
     let mut len = about as u64;
     let mut code = ROOM;
     for _ in 0..2 {
         if code == ROOM {
-            make_room(&mut room, len)?;
-            code = write(&mut room, &mut len);
+            room = with_room(len)?;
+            code = write(room.as_mut_ptr(), room.capacity(), &mut len);
         }
     }
     answered(code)?;
-    room.truncate(len as usize);
+    // SAFETY: the call was done, so it wrote so many.
+    unsafe { room.set_len(len as usize) };
     Ok(room)
 }

@@ -1,7 +1,8 @@
 //! The runs of all ranges, and the outputs that they have together.
 
-use crate::sys::{self, File, Input, Lengths, Mark, Place, Planned, Request, RunPlaces};
-use crate::{answered, filled, Refused, Run, MEMORY};
+use crate::sys::{self, Lengths, Mark, Place, Planned, RunPlaces};
+use crate::{answered, filled, Compaction, Refused, Run, MEMORY};
+use std::mem::size_of;
 
 /// The runs of ranges, one after the other, and where each lies.
 #[derive(Clone, Debug, Default, PartialEq, Eq)]
@@ -40,37 +41,21 @@ fn append<T: Copy>(to: &mut Vec<T>, from: &[T]) -> Result<Place, Refused> {
 
 /// The outputs of the runs of all ranges. They don't depend on how the entries were dealt out to
 /// ranges. An output has the entries after those of the one before it.
-pub fn plan(
-    request: &Request,
-    keys: &[u8],
-    inputs: &[Input],
-    deeper: &[File],
-    runs: &Runs,
-) -> Result<Vec<Planned>, Refused> {
-    filled(64, |room: &mut [Planned], len| {
+pub fn plan(of: &Compaction, runs: &Runs) -> Result<Vec<Planned>, Refused> {
+    let told = sys::Runs {
+        size: size_of::<sys::Runs>(),
+        bytes: runs.bytes.as_ptr(),
+        bytes_len: runs.bytes.len(),
+        lengths: runs.entries.as_ptr(),
+        lengths_len: runs.entries.len(),
+        marks: runs.marks.as_ptr(),
+        marks_len: runs.marks.len(),
+        runs: runs.places.as_ptr(),
+        runs_len: runs.places.len(),
+    };
+    filled(64, |room, room_len, len| {
         // SAFETY: each pointer is a slice's or a reference's; `room` and `len` are written, and are
         // apart from the others.
-        unsafe {
-            sys::sedvokt_plan(
-                request,
-                keys.as_ptr(),
-                keys.len(),
-                inputs.as_ptr(),
-                inputs.len(),
-                deeper.as_ptr(),
-                deeper.len(),
-                runs.bytes.as_ptr(),
-                runs.bytes.len(),
-                runs.entries.as_ptr(),
-                runs.entries.len(),
-                runs.marks.as_ptr(),
-                runs.marks.len(),
-                runs.places.as_ptr(),
-                runs.places.len(),
-                room.as_mut_ptr(),
-                room.len(),
-                len,
-            )
-        }
+        unsafe { sys::sedvokt_plan(&of.told(), &told, room, room_len, len) }
     })
 }

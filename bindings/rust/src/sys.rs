@@ -1,5 +1,7 @@
 //! What `sedvokt.h` declares, word for word.
 
+use std::ffi::c_char;
+
 /// A part of lent bytes.
 #[repr(C)]
 #[derive(Clone, Copy, Debug, Default, PartialEq, Eq)]
@@ -27,15 +29,15 @@ pub struct FilePlace {
     pub number: u64,
 }
 
-/// What is counted of a table: its entries, their least and greatest sequence, and whether an entry
-/// has the user key and the sequence of the one before it.
+/// What is counted of a table: its entries, their least and greatest sequence, and 1 if an entry has
+/// the user key and the sequence of the one before it.
 #[repr(C)]
 #[derive(Clone, Copy, Debug, Default, PartialEq, Eq)]
 pub struct Counts {
     pub entries: u64,
     pub oldest: u64,
     pub newest: u64,
-    pub has_twins: bool,
+    pub has_twins: u32,
 }
 
 /// An input. Its table is in the tables that are lent.
@@ -47,13 +49,13 @@ pub struct Input {
     pub counts: Counts,
 }
 
-/// What is asked for. If `is_listed`, the snapshots that are passed stay readable, and each
+/// What is asked for. If `is_listed` isn't 0, the snapshots that are passed stay readable, and each
 /// sequence from `last_sequence` on. Else `oldest` and each later one stay readable.
 #[repr(C)]
 #[derive(Clone, Copy, Debug, Default, PartialEq, Eq)]
 pub struct Request {
     pub order: u32,
-    pub is_listed: bool,
+    pub is_listed: u32,
     pub level: u64,
     pub oldest: u64,
     pub last_sequence: u64,
@@ -80,13 +82,13 @@ pub struct Entry {
     pub value: Place,
 }
 
-/// A range of user keys: those at or after `lower`, if `has_lower`, and before `upper`, if
-/// `has_upper`. Both bounds are user keys, in the keys that are lent.
+/// A range of user keys: those at or after `lower`, unless `has_lower` is 0, and before `upper`,
+/// unless `has_upper` is 0. Both bounds are user keys, in the keys that are lent.
 #[repr(C)]
 #[derive(Clone, Copy, Debug, Default, PartialEq, Eq)]
 pub struct Range {
-    pub has_lower: bool,
-    pub has_upper: bool,
+    pub has_lower: u32,
+    pub has_upper: u32,
     pub lower: Place,
     pub upper: Place,
 }
@@ -133,6 +135,52 @@ pub struct RunPlaces {
     pub marks: Place,
 }
 
+/// What a compaction is asked for, and what is lent to its calls. `size` is that of the structure.
+#[repr(C)]
+#[derive(Clone, Copy, Debug)]
+pub struct Compaction {
+    pub size: usize,
+    pub request: Request,
+    pub snapshots: *const u64,
+    pub snapshots_len: usize,
+    pub keys: *const u8,
+    pub keys_len: usize,
+    pub tables: *const u8,
+    pub tables_len: usize,
+    pub inputs: *const Input,
+    pub inputs_len: usize,
+    pub deeper: *const File,
+    pub deeper_len: usize,
+}
+
+/// The room for the run of a range. `size` is that of the structure.
+#[repr(C)]
+#[derive(Clone, Copy, Debug)]
+pub struct RunRoom {
+    pub size: usize,
+    pub bytes: *mut u8,
+    pub bytes_len: usize,
+    pub lengths: *mut Lengths,
+    pub lengths_len: usize,
+    pub marks: *mut Mark,
+    pub marks_len: usize,
+}
+
+/// The runs of all ranges, each where it lies in three arrays. `size` is that of the structure.
+#[repr(C)]
+#[derive(Clone, Copy, Debug)]
+pub struct Runs {
+    pub size: usize,
+    pub bytes: *const u8,
+    pub bytes_len: usize,
+    pub lengths: *const Lengths,
+    pub lengths_len: usize,
+    pub marks: *const Mark,
+    pub marks_len: usize,
+    pub runs: *const RunPlaces,
+    pub runs_len: usize,
+}
+
 /// An output: how many entries of the runs lie before it, how many it has, and the length of its
 /// table.
 #[repr(C)]
@@ -144,17 +192,11 @@ pub struct Planned {
 }
 
 extern "C" {
-    pub fn sedvokt_check_request(
-        request: *const Request,
-        snapshots: *const u64,
-        snapshots_len: usize,
-        keys: *const u8,
-        keys_len: usize,
-        inputs: *const Input,
-        inputs_len: usize,
-        deeper: *const File,
-        deeper_len: usize,
-    ) -> u32;
+    pub fn sedvokt_version() -> u32;
+
+    pub fn sedvokt_strerror(code: u32) -> *const c_char;
+
+    pub fn sedvokt_check_request(lent: *const Compaction) -> u32;
 
     pub fn sedvokt_check_closed(
         order: u32,
@@ -178,13 +220,7 @@ extern "C" {
     ) -> u32;
 
     pub fn sedvokt_boundaries(
-        order: u32,
-        keys: *const u8,
-        keys_len: usize,
-        tables: *const u8,
-        tables_len: usize,
-        inputs: *const Input,
-        inputs_len: usize,
+        lent: *const Compaction,
         want: u64,
         bytes: *mut u8,
         bytes_len: usize,
@@ -194,43 +230,15 @@ extern "C" {
     ) -> u32;
 
     pub fn sedvokt_merge(
-        request: *const Request,
-        snapshots: *const u64,
-        snapshots_len: usize,
-        keys: *const u8,
-        keys_len: usize,
-        tables: *const u8,
-        tables_len: usize,
-        inputs: *const Input,
-        inputs_len: usize,
-        deeper: *const File,
-        deeper_len: usize,
+        lent: *const Compaction,
         range: *const Range,
-        bytes: *mut u8,
-        bytes_len: usize,
-        lengths: *mut Lengths,
-        lengths_len: usize,
-        marks: *mut Mark,
-        marks_len: usize,
+        room: *const RunRoom,
         size: *mut RunSize,
     ) -> u32;
 
     pub fn sedvokt_plan(
-        request: *const Request,
-        keys: *const u8,
-        keys_len: usize,
-        inputs: *const Input,
-        inputs_len: usize,
-        deeper: *const File,
-        deeper_len: usize,
-        bytes: *const u8,
-        bytes_len: usize,
-        lengths: *const Lengths,
-        lengths_len: usize,
-        marks: *const Mark,
-        marks_len: usize,
-        runs: *const RunPlaces,
-        runs_len: usize,
+        lent: *const Compaction,
+        runs: *const Runs,
         room: *mut Planned,
         room_len: usize,
         len: *mut u64,
@@ -250,13 +258,8 @@ extern "C" {
     ) -> u32;
 
     pub fn sedvokt_edit(
-        order: u32,
-        level: u64,
+        lent: *const Compaction,
         numbers: *const Numbers,
-        keys: *const u8,
-        keys_len: usize,
-        inputs: *const Input,
-        inputs_len: usize,
         added: *const File,
         added_len: usize,
         room: *mut u8,

@@ -1,8 +1,8 @@
 //! Each call, with the table of `u@4 del, u@2 put x`.
 
 use sedvokt::{
-    check_closed, check_request, check_table, edit, output, plan, Checked, Entry, File, FilePlace,
-    Input, Lengths, Numbers, Place, Planned, Range, Request, Runs, BYTEWISE, MISUSE,
+    check_closed, check_request, check_table, edit, output, plan, Checked, Compaction, Entry, File,
+    FilePlace, Input, Lengths, Numbers, Place, Planned, Range, Request, Runs, BYTEWISE, MISUSE,
 };
 use std::thread;
 
@@ -13,13 +13,26 @@ const KEYS: &[u8] = b"u\0\x04\0\0\0\0\0\0u\x01\x02\0\0\0\0\0\0";
 
 const REQUEST: Request = Request {
     order: BYTEWISE,
-    is_listed: false,
+    is_listed: 0,
     level: 0,
     oldest: 4,
     last_sequence: 4,
     block_size: 4096,
     restart_interval: 16,
     file_size: 2_097_152,
+};
+
+/// What is lent, without inputs: both entries are kept if sequence 3 stays readable.
+const LENT: Compaction = Compaction {
+    request: Request {
+        oldest: 3,
+        ..REQUEST
+    },
+    snapshots: &[],
+    keys: KEYS,
+    tables: TABLE,
+    inputs: &[],
+    deeper: &[],
 };
 
 const fn place(from: u64, len: u64) -> Place {
@@ -61,49 +74,35 @@ fn tables_are_checked_in_threads() {
 
 #[test]
 fn ranges_are_merged() {
-    // Both entries are kept if sequence 3 stays readable.
-    let request = Request {
-        oldest: 3,
-        ..REQUEST
-    };
     let mut inputs = [input(5)];
-    let checked = Checked::new(BYTEWISE, KEYS, TABLE, &mut inputs).unwrap();
+    let checked = Checked::new(LENT, &mut inputs).unwrap();
     let below = Range {
-        has_upper: true,
+        has_upper: 1,
         upper: place(0, 1),
         ..Range::default()
     };
-    let run = checked
-        .merge(&request, &[], &[], &Range::default())
-        .unwrap();
+    let run = checked.merge(&Range::default(), 1).unwrap();
     assert_eq!(run.bytes, [KEYS, b"x"].concat());
     assert_eq!(
         run.entries,
         [Lengths { key: 9, value: 0 }, Lengths { key: 9, value: 1 }]
     );
-    assert_eq!(
-        checked.merge(&request, &[], &[], &below).unwrap().entries,
-        []
-    );
-    let other = Request {
-        order: 2,
-        ..request
+    assert_eq!(checked.merge(&below, 1).unwrap().entries, []);
+    // The room for such a part of the tables is too small at first.
+    let large = checked.merge(&Range::default(), 1 << 20).unwrap();
+    assert_eq!(large, run);
+    let cut = Compaction {
+        tables: &TABLE[1..],
+        ..LENT
     };
-    assert_eq!(
-        checked.merge(&other, &[], &[], &below).unwrap_err().code(),
-        MISUSE
-    );
-    assert!(Checked::new(BYTEWISE, KEYS, &TABLE[1..], &mut [input(5)]).is_err());
+    let refused = Checked::new(cut, &mut [input(5)]).unwrap_err();
+    assert_eq!((refused.code(), refused.input()), (MISUSE, Some(0)));
 }
 
 #[test]
 fn outputs_are_planned() {
-    let request = Request {
-        oldest: 3,
-        ..REQUEST
-    };
     let mut inputs = [input(5)];
-    let checked = Checked::new(BYTEWISE, KEYS, TABLE, &mut inputs).unwrap();
+    let checked = Checked::new(LENT, &mut inputs).unwrap();
     // The index has one key, the user key u.
     let boundaries = checked.boundaries(2).unwrap();
     assert_eq!(
@@ -115,23 +114,17 @@ fn outputs_are_planned() {
     assert!(checked.over(&keys[1..]).is_err());
     let mut runs = Runs::default();
     for range in boundaries.ranges(KEYS.len() as u64).unwrap() {
-        runs.push(&checked.merge(&request, &[], &[], &range).unwrap())
-            .unwrap();
+        runs.push(&checked.merge(&range, 2).unwrap()).unwrap();
     }
     let whole = Planned {
         first: 0,
         entries: 2,
         len: TABLE.len() as u64,
     };
-    assert_eq!(
-        plan(&request, KEYS, checked.inputs(), &[], &runs),
-        Ok(vec![whole])
-    );
+    assert_eq!(plan(checked.compaction(), &runs), Ok(vec![whole]));
     runs.places[1].lengths.len += 1;
     assert_eq!(
-        plan(&request, KEYS, checked.inputs(), &[], &runs)
-            .unwrap_err()
-            .code(),
+        plan(checked.compaction(), &runs).unwrap_err().code(),
         MISUSE
     );
 }
@@ -139,13 +132,14 @@ fn outputs_are_planned() {
 #[test]
 fn choices_are_checked() {
     let files = [input(5).file, input(7).file];
-    assert_eq!(check_request(&REQUEST, &[], KEYS, &[input(5)], &[]), Ok(()));
-    assert_eq!(
-        check_request(&REQUEST, &[], KEYS, &[], &[])
-            .unwrap_err()
-            .code(),
-        1
-    );
+    let asked = Compaction {
+        inputs: &[input(5)],
+        ..LENT
+    };
+    assert_eq!(check_request(&asked), Ok(()));
+    let refused = check_request(&LENT).unwrap_err();
+    assert_eq!(refused.code(), 1);
+    assert_eq!(refused.to_string(), "NoInput: there is no input (1)");
     assert_eq!(check_closed(BYTEWISE, 0, KEYS, &files, &[5, 7]), Ok(None));
     let seven = FilePlace {
         level: 0,
@@ -202,6 +196,10 @@ fn tables_and_edits_are_written() {
     };
     let wanted = b"\x02\x03\x09\0\x03\x08\x04\x04\x05\0\x09u\x01\x02\0\0\0\0\0\0\x06\0\x05\x07\x01\
         \x07Z\x09u\0\x04\0\0\0\0\0\0\x09u\x01\x02\0\0\0\0\0\0";
-    let given = edit(BYTEWISE, 0, &numbers, KEYS, &[input(5)], &[added]);
+    let asked = Compaction {
+        inputs: &[input(5)],
+        ..LENT
+    };
+    let given = edit(&asked, &numbers, &[added]);
     assert_eq!(given.as_deref(), Ok(&wanted[..]));
 }

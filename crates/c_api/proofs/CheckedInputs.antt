@@ -1,6 +1,6 @@
 -- What is known of inputs that were checked.
 use Rattle.std.proofs.Common.{◌≡◌, ℕ, ◌+◌, ◌<◌, Bool, true, false, ◌&&◌, List, [], ◌∷◌, ◌++◌, map, take, drop, length, get_or, Result, Ok, refl, sym, ap, subst, ◌∙◌}
-use Rattle.std.specs.Prelude.{nat_eq}
+use Rattle.std.specs.Prelude.{nat_eq, not, if◌then◌else◌}
 use Rattle.std.specs.List.{AllByRecursion, list_all}
 use Rattle.std.specs.Str.{bytes_eq}
 use Rattle.std.specs.declared.cmp.Ordering.{Ordering}
@@ -18,6 +18,7 @@ use Rattle.table.specs.EntryTests.{first_key}
 use Rattle.table.specs.SoundTables.{HasBoundsRead}
 use Rattle.table.specs.TableContents.{Contents, contents_reading}
 use Rattle.table.specs.Tallies.{tally_of}
+use Rattle.table.specs.declared.tally.Tally.{Tally}
 use Rattle.table.specs.TestResult.{test_result}
 use Rattle.table.proofs.EntryTests.{passed}
 use Rattle.compact.specs.Inputs.{input_reading, inputs_reading, result_at_input, table_matches_metadata}
@@ -29,6 +30,17 @@ use Rattle.c_api.specs.Requests.{files_of, input_file}
 use Rattle.c_api.specs.Tables.{counts_of}
 use Rattle.c_api.specs.declared.input.Input.{Input}
 use Rattle.c_api.specs.declared.place.Place.{Place}
+
+-- what is told of a tally tells it
+twins_told : (b : Bool) → not (nat_eq (if b then 1 else 0) 0) ≡ b
+twins_told true = refl
+twins_told false = refl
+
+abbrev with_twins : Tally → Bool → Tally
+with_twins t twins = record t { has_twins = twins }
+
+tally_told : (t : Tally) → tally_in (counts_of t) ≡ t
+tally_told t = ap (with_twins t) (twins_told t.has_twins)
 
 module _ (cmp : List ℕ → List ℕ → Ordering) (keys tables : List ℕ) (i : Input) where
   abbrev meta : FileMeta
@@ -71,7 +83,7 @@ module _ (cmp : List ℕ → List ℕ → Ordering) (keys tables : List ℕ) (i 
         read = f.read;
         first = (bytes_eq-Decides meta.smallest (first_key es)).0 both.0;
         last = (bytes_eq-Decides meta.largest (last_key [] es)).0 both.1;
-        tally = ap tally_in f.counted;
+        tally = ap tally_in f.counted ∙ tally_told (tally_of es);
       }
 
   -- its entries are those of its table
@@ -112,5 +124,5 @@ abbrev pub no_input : Input
 no_input = record {
   file = record { level = 0; number = 0; size = 0; smallest = no_place; largest = no_place };
   table = no_place;
-  counts = record { entries = 0; oldest = 0; newest = 0; has_twins = false };
+  counts = record { entries = 0; oldest = 0; newest = 0; has_twins = 0 };
 }

@@ -5,6 +5,7 @@ mod RunLists
 mod RunWrites
 mod CheckedInputs
 mod Merging
+mod SparedFiles
 mod KeyLists
 mod ToldRuns
 mod Planned

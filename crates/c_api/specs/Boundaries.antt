@@ -18,6 +18,7 @@ use Rattle.c_api.specs.Places.{part_at}
 use Rattle.c_api.specs.declared.code.TheConstants.{MEMORY, MISUSE, ROOM}
 use Rattle.c_api.specs.declared.input.Input.{Input}
 use Rattle.c_api.specs.declared.key_arrays.KeysSize.{KeysSize}
+use Rattle.c_api.specs.declared.lent.Lent.{Lent}
 use Rattle.c_api.specs.declared.order.TheConstants.{BYTEWISE}
 
 -- boundaries that are asked for
@@ -27,6 +28,16 @@ pub record AskedBoundaries : Type 0 where
   pub tables : List ℕ
   pub inputs : List Input
   pub want : ℕ
+
+-- what is lent, as boundaries that are asked for
+abbrev pub boundaries_in : Lent → ℕ → AskedBoundaries
+boundaries_in l want = record {
+  order = l.request.order;
+  keys = l.keys.now;
+  tables = l.tables.now;
+  inputs = l.inputs.now;
+  want = want;
+}
 
 -- what a table has that was read, nothing if some test failed
 abbrev pub contents_read : Result Contents Fault → List Contents

@@ -1,5 +1,5 @@
 -- What the code holds, as definitions see it.
-use Rattle.std.specs.Prelude.{◌≡◌, ℕ, List, [], ◌∷◌, Result, Ok, None}
+use Rattle.std.specs.Prelude.{◌≡◌, ℕ, Bool, List, [], ◌∷◌, map, filter, Result, Ok, None}
 use Rattle.ikey.specs.Answers.{◌>>=◌}
 use Rattle.ikey.specs.fault.Fault.{Fault}
 use Rattle.ikey.specs.Comparator.{KeyOrder}
@@ -7,43 +7,28 @@ use Rattle.table.specs.BuilderView.{TableBuilding}
 use Rattle.table.specs.EncodedEntry.{Entry}
 use Rattle.table.specs.EntryTests.{entries_test}
 use Rattle.table.specs.declared.options.Options as declared
+use Rattle.edit.specs.declared.meta.FileMeta.{FileMeta}
+use Rattle.pick.specs.Ranges.{overlaps}
 use Rattle.pick.specs.declared.picked_inputs.Inputs.{Inputs}
 use Rattle.keep.specs.Marks.{CompactionContext, context_of}
 use Rattle.keep.specs.Readable.{floor_of, listed_of}
 use Rattle.c_api.specs.Boundaries.{AreBoundaries, AreChosen, AskedBoundaries, KeyArrays}
 use Rattle.c_api.specs.Boundaries.{arrays_of_keys, key_arrays}
+use Rattle.c_api.specs.Files.{meta_at}
 use Rattle.c_api.specs.Merges.{AskedMerge}
-use Rattle.c_api.specs.Plans.{AskedPlan}
-use Rattle.c_api.specs.Requests.{snapshots_of}
-use Rattle.c_api.specs.Runs.{Arrays, rooms}
+use Rattle.c_api.specs.Plans.{AskedPlan, plan_over}
+use Rattle.c_api.specs.Requests.{request_reading, snapshots_of}
 use Rattle.c_api.specs.ToldRuns.{after_entry}
-use Rattle.c_api.specs.declared.boundary_calls.LentBoundaries.{LentBoundaries}
+use Rattle.c_api.specs.declared.file.File.{File}
 use Rattle.c_api.specs.declared.key_arrays.KeyArrays as key_lists
 use Rattle.c_api.specs.declared.lent.Lent.{Lent}
 use Rattle.c_api.specs.declared.plan_calls.LentPlan.{LentPlan}
 use Rattle.c_api.specs.declared.run_arrays.EntryLengths.{EntryLengths}
-use Rattle.c_api.specs.declared.run_places.LentArrays.{LentArrays}
-
--- the arrays that are lent
-abbrev pub arrays_lent : LentArrays → Arrays
-arrays_lent a = rooms a.bytes.now a.lengths.now a.marks.now
 
 -- the bytes after them
 abbrev pub entries_passed : List ℕ → List EntryLengths → List ℕ
 entries_passed bytes [] = bytes
 entries_passed bytes (l ∷ ls) = entries_passed (after_entry bytes l) ls
-
--- the merge that the code holds
-abbrev pub asked_in : Lent → AskedMerge
-asked_in l = record {
-  request = l.request.now;
-  snapshots = snapshots_of l.request.now l.snapshots;
-  keys = l.keys.now;
-  tables = l.tables.now;
-  inputs = l.inputs.now;
-  deeper = l.deeper.now;
-  range = l.range.now;
-}
 
 -- the same, if the code holds what is known of the deeper files
 abbrev pub context_with : AskedMerge → Inputs → CompactionContext
@@ -52,14 +37,7 @@ context_with m inputs = context_of (listed_of m.snapshots)
 
 -- the plan that the code holds
 abbrev pub plan_in : LentPlan → AskedPlan
-plan_in l = record {
-  request = l.request.now;
-  keys = l.keys.now;
-  files = l.files.now;
-  deeper = l.deeper.now;
-  arrays = arrays_lent l.arrays;
-  runs = l.runs.now;
-}
+plan_in l = plan_over l.lent.now l.files.now l.runs.now
 
 -- the table that is being written after all entries, or the first test that one fails
 abbrev pub entries_reading : declared.Options → List Entry → KeyOrder → Result TableBuilding Fault
@@ -67,15 +45,18 @@ entries_reading o entries cmp = do
   _ ← entries_test cmp None entries
   Ok (record { options = o; entries = entries })
 
--- the boundaries that the code is asked for
-abbrev pub boundaries_in : LentBoundaries → AskedBoundaries
-boundaries_in l = record {
-  order = l.order;
-  keys = l.keys.now;
-  tables = l.tables.now;
-  inputs = l.inputs.now;
-  want = l.want;
-}
+-- whether the range of a file that is lent overlaps that of files
+abbrev pub overlaps_at : KeyOrder → List ℕ → List FileMeta → File → Bool
+overlaps_at cmp keys metas file = overlaps cmp metas (meta_at keys file)
+
+-- those of the deeper files whose range overlaps that of files
+abbrev pub near_of : KeyOrder → List ℕ → List File → List File → List File
+near_of cmp keys files deeper = filter (overlaps_at cmp keys (map (meta_at keys) files)) deeper
+
+-- the tests of a request without its tables, if the code holds the files of the inputs
+abbrev pub tested_in : Lent → List File → KeyOrder → Result (Unit {0}) Fault
+tested_in l files cmp = request_reading l.keys.now l.request
+    (snapshots_of l.request l.snapshots) files l.deeper.now cmp
 
 -- the arrays that the code holds
 abbrev pub keys_in : key_lists.KeyArrays → KeyArrays

@@ -1,5 +1,5 @@
 -- The tables of inputs that were checked.
-use Rattle.std.specs.Prelude.{◌≡◌, ℕ, List, [], Result, Ok, Err}
+use Rattle.std.specs.Prelude.{◌≡◌, ℕ, nat_eq, not, List, [], Result, Ok, Err}
 use Rattle.std.specs.List.{AllByRecursion}
 use Rattle.ikey.specs.Comparator.{KeyOrder}
 use Rattle.ikey.specs.fault.Fault.{Fault}
@@ -28,7 +28,7 @@ tally_in c = record {
   entries = c.entries;
   oldest = c.oldest;
   newest = c.newest;
-  has_twins = c.has_twins;
+  has_twins = not (nat_eq c.has_twins 0);
 }
 
 -- what an input's check found beside its bytes

@@ -17,10 +17,12 @@ use Rattle.c_api.specs.Orders.{by_order}
 use Rattle.c_api.specs.Places.{part_at}
 use Rattle.c_api.specs.Ranges.{is_range, range_in}
 use Rattle.c_api.specs.Requests.{files_of, grandparents_of, input_file, request_reading}
+use Rattle.c_api.specs.Requests.{snapshots_of}
 use Rattle.c_api.specs.Tables.{is_input, table_answer}
 use Rattle.c_api.specs.declared.code.TheConstants.{MISUSE}
 use Rattle.c_api.specs.declared.file.File.{File}
 use Rattle.c_api.specs.declared.input.Input.{Input}
+use Rattle.c_api.specs.declared.lent.Lent.{Lent}
 use Rattle.c_api.specs.declared.request.HostRequest.{HostRequest}
 use Rattle.c_api.specs.declared.user_range.UserRange.{UserRange}
 
@@ -33,6 +35,18 @@ pub record AskedMerge : Type 0 where
   pub inputs : List Input
   pub deeper : List File
   pub range : UserRange
+
+-- what is lent, as a merge that is asked for
+abbrev pub asked_in : Lent → AskedMerge
+asked_in l = record {
+  request = l.request;
+  snapshots = snapshots_of l.request l.snapshots;
+  keys = l.keys.now;
+  tables = l.tables.now;
+  inputs = l.inputs.now;
+  deeper = l.deeper.now;
+  range = l.range;
+}
 
 -- whether each input lies in what is lent
 abbrev pub are_inputs : List ℕ → List ℕ → List Input → Bool

@@ -19,9 +19,11 @@ use Rattle.c_api.specs.Files.{has_keys}
 use Rattle.c_api.specs.Orders.{by_orders}
 use Rattle.c_api.specs.Requests.{grandparents_of, options_of}
 use Rattle.c_api.specs.Runs.{Arrays}
-use Rattle.c_api.specs.ToldRuns.{is_run, run_at}
+use Rattle.c_api.specs.ToldRuns.{arrays_lent, is_run, run_at}
 use Rattle.c_api.specs.declared.code.TheConstants.{MISUSE}
 use Rattle.c_api.specs.declared.file.File.{File}
+use Rattle.c_api.specs.declared.lent.Lent.{Lent}
+use Rattle.c_api.specs.declared.plan_calls.LentRuns.{LentRuns}
 use Rattle.c_api.specs.declared.plan_calls.PlannedOutput.{PlannedOutput}
 use Rattle.c_api.specs.declared.request.HostRequest.{HostRequest}
 use Rattle.c_api.specs.declared.run_places.RunPlaces.{RunPlaces}
@@ -35,6 +37,17 @@ pub record AskedPlan : Type 0 where
   pub deeper : List File
   pub arrays : Arrays
   pub runs : List RunPlaces
+
+-- what is lent, as a plan that is asked for over these files of the inputs
+abbrev pub plan_over : Lent → List File → LentRuns → AskedPlan
+plan_over l files r = record {
+  request = l.request;
+  keys = l.keys.now;
+  files = files;
+  deeper = l.deeper.now;
+  arrays = arrays_lent r.arrays;
+  runs = r.runs.now;
+}
 
 -- whether each place lies in what is lent, and a run is told at each
 abbrev pub is_plan_lent : AskedPlan → Bool

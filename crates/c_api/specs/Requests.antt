@@ -35,7 +35,7 @@ options_of r = record {
 
 -- which sequences stay readable, if these are listed
 abbrev pub snapshots_of : HostRequest → Bor (List ℕ) → Snapshots
-snapshots_of r listed = if r.is_listed then Listed listed else From r.oldest
+snapshots_of r listed = if nat_eq r.is_listed 0 then From r.oldest else Listed listed
 
 -- whether a file is of a level
 abbrev pub is_of : ℕ → File → Bool

@@ -25,7 +25,7 @@ counts_of t = record {
   entries = t.entries;
   oldest = t.oldest;
   newest = t.newest;
-  has_twins = t.has_twins;
+  has_twins = if t.has_twins then 1 else 0;
 }
 
 -- what is counted of an input's entries, or the first test that its table fails

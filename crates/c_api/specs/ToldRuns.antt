@@ -10,6 +10,7 @@ use Rattle.c_api.specs.Runs.{Arrays, rooms}
 use Rattle.c_api.specs.declared.place.Place.{Place}
 use Rattle.c_api.specs.declared.run_arrays.EntryLengths.{EntryLengths}
 use Rattle.c_api.specs.declared.run_arrays.RunMark.{RunMark}
+use Rattle.c_api.specs.declared.run_places.LentArrays.{LentArrays}
 use Rattle.c_api.specs.declared.run_places.RunPlaces.{RunPlaces}
 
 -- where the value lies, if bytes begin with an entry of these lengths
@@ -57,6 +58,10 @@ is_told a = are_entries a.bytes a.lengths && are_marks 0 (length a.lengths) a.ma
 -- the run that they tell
 abbrev pub run_told : Arrays → Run
 run_told a = record { kept = entries_told a.bytes a.lengths; marks = map mark_told a.marks }
+
+-- the arrays that are lent
+abbrev pub arrays_lent : LentArrays → Arrays
+arrays_lent a = rooms a.bytes.now a.lengths.now a.marks.now
 
 -- the arrays of a run, in its places
 abbrev pub arrays_at : Arrays → RunPlaces → Arrays

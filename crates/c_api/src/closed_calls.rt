@@ -33,7 +33,7 @@ pub struct FilePlace {
 ///
 /// If not, the answer is `OPEN_INPUTS`, and `missing` is the first file that has to be taken, too.
 #[unsafe(no_mangle)]
-pub extern "C" fn sedvokt_check_closed(
+pub extern "C" fn proved_check_closed(
     alloc: Global,
     order: u32,
     level: u64,

@@ -16,7 +16,7 @@ ghost use Rattle.c_api.specs.Rooms.{IsWrittenOrMemory};
 use crate::closed_calls::{are_files, new_files};
 use crate::code::{MEMORY, MISUSE, code_of};
 use crate::file::File;
-use crate::input::Input;
+use crate::lent::Lent;
 use crate::order::{BYTEWISE, SHORTLEX};
 use crate::picked::{files_of, have_keys, input_files, pointer_of};
 use crate::room::put;
@@ -40,30 +40,38 @@ pub struct Numbers {
     pub last_sequence: u64,
 }
 
-/// Writes the bytes of the edit of a compaction of `level` into `room`: the inputs go, and `added`
-/// come. `len` is how many bytes they are, also if `room` is too small.
+/// Writes the bytes of the edit of a compaction into `room`: the inputs go, and `added` come. `len`
+/// is how many bytes they are, also if `room` is too small.
 #[unsafe(no_mangle)]
-pub extern "C" fn sedvokt_edit(
+pub extern "C" fn proved_edit(
     alloc: Global,
-    order: u32,
-    level: u64,
+    lent: &Lent<'_, '_>,
     numbers: &Numbers,
-    keys: &[u8],
-    inputs: &[Input],
     added: &[File],
     room: &mut [u8],
     len: &mut u64,
 ) -> u32
     ensures answer { IsWrittenOrMemory result room.old room.new len.old len.new
-        (edit_answer order keys.now numbers.now level (all_files inputs.now) added.now) }
+        (edit_answer lent.now.request.order lent.now.keys.now numbers.now lent.now.request.level
+        (all_files lent.now.inputs.now) added.now) }
 {
-    let Ok(files) = files_of(alloc, inputs) else {
+    let Ok(files) = files_of(alloc, lent.inputs) else {
         return MEMORY;
     };
+    let keys = lent.keys;
     if !have_keys(keys, &files) || !have_levels(&files) || !are_files(keys, added) {
         return MISUSE;
     }
-    match edit_by(alloc, order, level, numbers, keys, &files, added) {
+    let request = &lent.request;
+    match edit_by(
+        alloc,
+        request.order,
+        request.level,
+        numbers,
+        keys,
+        &files,
+        added,
+    ) {
         Ok(bytes) => put(&bytes, room, len),
         Err(fault) => code_of(fault),
     }

@@ -18,8 +18,8 @@ pub struct Counts {
     pub oldest: u64,
     /// The greatest sequence.
     pub newest: u64,
-    /// Whether an entry has the user key and the sequence of the one before it.
-    pub has_twins: bool,
+    /// 1 if an entry has the user key and the sequence of the one before it, else 0.
+    pub has_twins: u32,
 }
 
 impl Counts {
@@ -31,7 +31,7 @@ impl Counts {
             entries: tally.entries,
             oldest: tally.oldest,
             newest: tally.newest,
-            has_twins: tally.has_twins,
+            has_twins: if tally.has_twins { 1 } else { 0 },
         }
     }
 
@@ -43,7 +43,7 @@ impl Counts {
             entries: self.entries,
             oldest: self.oldest,
             newest: self.newest,
-            has_twins: self.has_twins,
+            has_twins: self.has_twins != 0,
         }
     }
 }

@@ -1,9 +1,8 @@
-//! What is lent to the merge of a range.
+//! What is lent to the calls of a compaction.
 
 ghost use Rattle.std.specs.Prelude.{◌≡◌};
-ghost use Rattle.c_api.specs.Merges.{are_inputs as are_within};
+ghost use Rattle.c_api.specs.Merges.{are_inputs as are_within, asked_in};
 ghost use Rattle.c_api.specs.Merges.{is_lent as lies_lent};
-ghost use Rattle.c_api.specs.Held.{asked_in};
 
 use crate::file::File;
 use crate::input::{Input, is_input};
@@ -11,20 +10,24 @@ use crate::picked::have_keys;
 use crate::request::HostRequest;
 use crate::user_range::{UserRange, is_range};
 
-/// What a merge is asked for, and where that lies.
+/// What a compaction is asked for, and where that lies.
+#[repr(C)]
 #[derive(Clone, Copy)]
-pub(crate) struct Lent<'a> {
-    pub request: &'a HostRequest,
+pub struct Lent<'a, 't> {
+    /// The length of what the host knows of it. No call reads that.
+    pub size: usize,
+    pub request: HostRequest,
     /// The listed snapshots.
     pub snapshots: &'a [u64],
     /// The bytes in which all keys lie.
     pub keys: &'a [u8],
     /// The bytes in which all tables lie.
-    pub tables: &'a [u8],
+    pub tables: &'t [u8],
     pub inputs: &'a [Input],
     /// The files of the levels from `level` + 2 on.
     pub deeper: &'a [File],
-    pub range: &'a UserRange,
+    /// The range that is merged.
+    pub range: UserRange,
 }
 
 /// Whether all inputs lie in what is lent.
@@ -34,13 +37,13 @@ pub(crate) fn are_inputs(keys: &[u8], tables: &[u8], inputs: &[Input]) -> bool
     inputs.iter().all(|input| is_input(keys, tables, input))
 }
 
-impl<'a> Lent<'a> {
+impl<'a, 't> Lent<'a, 't> {
     /// Whether each place lies in what is lent.
-    pub fn is_lent(&self) -> bool
+    pub(crate) fn is_lent(&self) -> bool
         ensures { result ≡ lies_lent (asked_in self.now) }
     {
         are_inputs(self.keys, self.tables, self.inputs)
             && have_keys(self.keys, self.deeper)
-            && is_range(self.keys, self.range)
+            && is_range(self.keys, &self.range)
     }
 }

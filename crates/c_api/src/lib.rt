@@ -1,13 +1,15 @@
-//! Calls for C: parts of one compaction inside anybody's store. `sedvokt.h` declares them.
+//! Calls for C: parts of one compaction inside anybody's store. `sedvokt.h` declares them, and
+//! `sedvokt.c` has each as a test of its pointers and a call of the one that is here.
 //!
-//! 1. [`sedvokt_check_request`] tests a request without its tables, [`sedvokt_check_closed`] the
-//!    choice of its inputs, and [`sedvokt_check_table`] each input.
-//! 2. [`sedvokt_merge`] merges the inputs in a range of user keys.
-//! 3. [`sedvokt_plan`] tells where the outputs of the runs of all ranges end.
-//! 4. [`sedvokt_output`] writes the table of given entries, and [`sedvokt_edit`] the version edit.
+//! 1. [`proved_check_request`] tests a request without its tables, [`proved_check_closed`] the
+//!    choice of its inputs, and [`proved_check_table`] each input.
+//! 2. [`proved_merge`] merges the inputs in a range of user keys.
+//! 3. [`proved_plan`] tells where the outputs of the runs of all ranges end.
+//! 4. [`proved_output`] writes the table of given entries, and [`proved_edit`] the version edit.
 //!
-//! A call keeps nothing. Only the merge requires anything: that its inputs were checked. What C
-//! hands over are numbers, bytes, and structs of numbers: a [`Place`] names a part of lent bytes.
+//! A call keeps nothing. Only the merge and the boundaries require anything: that the inputs were
+//! checked. What C hands over are numbers, bytes, and structs of these ([`Lent`], [`LentRuns`]): a
+//! [`Place`] names a part of lent bytes.
 //! Each call first tests that all places are within what is lent (`MISUSE`). Then it builds the
 //! values of the crates below, asks them, and answers a number: 0, or the number of a fault. What
 //! its clause says is said of the places' bytes, so the specs have a definition for each struct
@@ -50,22 +52,23 @@ mod tests;
 mod told_run;
 mod user_range;
 
-pub use boundary_calls::sedvokt_boundaries;
-pub use closed_calls::{FilePlace, sedvokt_check_closed};
+pub use boundary_calls::proved_boundaries;
+pub use closed_calls::{FilePlace, proved_check_closed};
 pub use code::{DONE, MEMORY, MISUSE, OPEN_INPUTS, ROOM};
-pub use edit_calls::{Numbers, sedvokt_edit};
+pub use edit_calls::{Numbers, proved_edit};
 pub use file::File;
 pub use host_laws::{calls_law, host_law};
 pub use input::{Counts, Input};
 pub use key_arrays::KeysSize;
-pub use merge_calls::sedvokt_merge;
+pub use lent::Lent;
+pub use merge_calls::proved_merge;
 pub use order::{BYTEWISE, SHORTLEX};
-pub use output_calls::{Entry, sedvokt_output};
+pub use output_calls::{Entry, proved_output};
 pub use place::Place;
-pub use plan_calls::{PlannedOutput, sedvokt_plan};
+pub use plan_calls::{LentRuns, PlannedOutput, proved_plan};
 pub use request::HostRequest;
-pub use request_calls::sedvokt_check_request;
+pub use request_calls::proved_check_request;
 pub use run_arrays::{EntryLengths, RunMark, RunSize};
-pub use run_places::RunPlaces;
-pub use table_calls::sedvokt_check_table;
+pub use run_places::{LentArrays, RunPlaces};
+pub use table_calls::proved_check_table;
 pub use user_range::UserRange;

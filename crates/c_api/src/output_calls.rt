@@ -34,7 +34,7 @@ pub struct Entry {
 
 /// Writes the table of `entries` into `room`. `len` is its length, also if `room` is too small.
 #[unsafe(no_mangle)]
-pub extern "C" fn sedvokt_output(
+pub extern "C" fn proved_output(
     alloc: Global,
     request: &HostRequest,
     keys: &[u8],

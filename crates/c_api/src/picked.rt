@@ -8,12 +8,13 @@ ghost use Rattle.ikey.specs.Answers.{EqualOrMemory};
 ghost use Rattle.pick.specs.Boundaries.{greater_key, largest_key, with_largest};
 ghost use Rattle.pick.specs.PickedInputs.{picked_in};
 ghost use Rattle.pick.specs.Ranges.{begins_by as is_begun, ends_at_or_after as is_ended};
-ghost use Rattle.pick.specs.Ranges.{overlaps as is_overlapping};
 ghost use Rattle.c_api.specs.Files.{has_keys as has_both, meta_at as stated_at};
+ghost use Rattle.pick.specs.Ranges.{overlaps as is_overlapping};
+ghost use Rattle.c_api.specs.Held.{near_of, overlaps_at};
 ghost use Rattle.c_api.specs.Requests.{files_of as all_files, grandparents_of as overlapped};
 ghost use Rattle.c_api.specs.Requests.{input_file, metas_of as stated_of, picked_with as picked_by};
 
-use crate::file::{File, has_keys, meta_at};
+use crate::file::{File, has_keys, key_at, meta_at};
 use crate::input::Input;
 use edit::{CompactPointer, FileMeta};
 use ikey::{Comparator, Fault, KeyBuf};
@@ -155,30 +156,67 @@ fn ends_at_or_after<C: Comparator>(files: &[FileMeta], user: &[u8]) -> bool
     files.iter().any(|file| C::compare(user, file.largest.as_key().user()).is_le())
 }
 
-/// Whether the range of a file overlaps that of the files.
-fn overlaps<C: Comparator>(files: &[FileMeta], file: &FileMeta) -> bool
-    ensures { result ≡ is_overlapping C.cmp files.now file.now }
+/// Whether the range of a file that is lent overlaps that of the files.
+fn overlaps<C: Comparator>(keys: &[u8], files: &[FileMeta], file: &File) -> bool
+    requires { has_both keys.now file.now ≡ true }
+    ensures { result ≡ overlaps_at C.cmp keys.now files.now file.now }
 {
-    begins_by::<C>(files, file.largest.as_key().user())
-        && ends_at_or_after::<C>(files, file.smallest.as_key().user())
+    begins_by::<C>(files, key_at(keys, file.largest).user())
+        && ends_at_or_after::<C>(files, key_at(keys, file.smallest).user())
 }
 
-/// Copies of those of `files` whose range overlaps that of `all`.
+/// Those of `files` whose range overlaps that of `all`.
 fn overlapping<C: Comparator>(
     alloc: Global,
+    keys: &[u8],
     all: &[FileMeta],
-    files: &[FileMeta],
-) -> Result<Vec<FileMeta>, Fault>
+    files: &[File],
+) -> Result<Vec<File>, Fault>
+    requires { list_all (has_both keys.now) files.now ≡ true }
     ensures { EqualOrMemory (λ found. found.items) result
-        (Ok (filter (is_overlapping C.cmp all.now) files.now)) }
+        (Ok (filter (overlaps_at C.cmp keys.now all.now) files.now)) }
 {
     let mut found = Vec::new(alloc);
     for file in files {
-        if overlaps::<C>(all, file) {
-            found.push(file.copy(alloc)?)?;
+        if overlaps::<C>(keys, all, file) {
+            found.push(*file)?;
         }
     }
     Ok(found)
+}
+
+/// The deeper files whose range overlaps that of `files`. The others change nothing of a merge.
+pub(crate) fn near_files<C: Comparator>(
+    alloc: Global,
+    keys: &[u8],
+    files: &[File],
+    deeper: &[File],
+) -> Result<Vec<File>, Fault>
+    requires files { list_all (has_both keys.now) files.now ≡ true }
+    requires deeper { list_all (has_both keys.now) deeper.now ≡ true }
+    ensures { EqualOrMemory (λ near. near.items) result
+        (Ok (near_of C.cmp keys.now files.now deeper.now)) }
+{
+    let all = metas_at(alloc, keys, files)?;
+    overlapping::<C>(alloc, keys, &all, deeper)
+}
+
+/// What the version states of the deeper files of a level whose range overlaps that of `files`.
+fn near_metas<C: Comparator>(
+    alloc: Global,
+    keys: &[u8],
+    level: u64,
+    files: &[File],
+    deeper: &[File],
+) -> Result<Vec<FileMeta>, Fault>
+    requires files { list_all (has_both keys.now) files.now ≡ true }
+    requires deeper { list_all (has_both keys.now) deeper.now ≡ true }
+    ensures { EqualOrMemory (λ found. found.items) result
+        (Ok (filter (is_overlapping C.cmp (map (stated_at keys.now) files.now))
+        (stated_of keys.now level deeper.now))) }
+{
+    let near = near_files::<C>(alloc, keys, files, deeper)?;
+    metas_of(alloc, keys, level, &near)
 }
 
 /// The grandparents: of the deeper files those of level + 2 whose range overlaps that of `files`.
@@ -197,9 +235,7 @@ pub(crate) fn grandparents_of<C: Comparator>(
     if level > LAST_INPUT_LEVEL {
         return Ok(Vec::new(alloc));
     }
-    let all = metas_at(alloc, keys, files)?;
-    let below = metas_of(alloc, keys, level + 2, deeper)?;
-    overlapping::<C>(alloc, &all, &below)
+    near_metas::<C>(alloc, keys, level + 2, files, deeper)
 }
 
 /// The inputs, and what is known of the deeper files. `pointer` is the new compact pointer.

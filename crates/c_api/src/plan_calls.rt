@@ -9,20 +9,17 @@ ghost use Rattle.table.specs.Options.{AreInLimits};
 ghost use Rattle.table.specs.Table.{table};
 ghost use Rattle.c_api.specs.Orders.{by_orders};
 ghost use Rattle.c_api.specs.Plans.{answer_told, is_plan_lent, outputs_told, plan_answer};
-ghost use Rattle.c_api.specs.Plans.{plan_reading};
+ghost use Rattle.c_api.specs.Plans.{plan_over, plan_reading};
 ghost use Rattle.c_api.specs.Held.{plan_in};
 ghost use Rattle.c_api.specs.Requests.{files_of as all_files};
 ghost use Rattle.c_api.specs.Rooms.{IsWrittenOrMemory};
-ghost use Rattle.c_api.specs.Runs.{rooms};
 
 use crate::code::{MEMORY, MISUSE, code_of};
 use crate::file::File;
-use crate::input::Input;
+use crate::lent::Lent;
 use crate::order::{BYTEWISE, SHORTLEX};
 use crate::picked::{files_of, grandparents_of, have_keys};
-use crate::request::HostRequest;
 use crate::room::put;
-use crate::run_arrays::{EntryLengths, RunMark};
 use crate::run_places::{LentArrays, RunPlaces};
 use cut::{Plan, plan};
 use ikey::{Bytewise, Comparator, Fault, FaultName, Shortlex};
@@ -42,18 +39,23 @@ pub struct PlannedOutput {
     pub len: u64,
 }
 
+/// The runs of all ranges, in the order of their ranges, and where they lie.
+#[repr(C)]
+#[derive(Clone, Copy)]
+pub struct LentRuns<'a> {
+    /// The length of what the host knows of it. No call reads that.
+    pub size: usize,
+    pub arrays: LentArrays<'a>,
+    pub runs: &'a [RunPlaces],
+}
+
 /// What a plan is asked for, and where that lies.
 #[derive(Clone, Copy)]
 pub(crate) struct LentPlan<'a> {
-    pub request: &'a HostRequest,
-    /// The bytes in which the keys of all files lie.
-    pub keys: &'a [u8],
+    pub lent: &'a Lent<'a, 'a>,
     /// The files of the inputs.
     pub files: &'a [File],
-    /// The files of the levels from `level` + 2 on.
-    pub deeper: &'a [File],
-    pub arrays: LentArrays<'a>,
-    pub runs: &'a [RunPlaces],
+    pub runs: &'a LentRuns<'a>,
 }
 
 impl<'a> LentPlan<'a> {
@@ -61,91 +63,72 @@ impl<'a> LentPlan<'a> {
     fn is_lent(&self) -> bool
         ensures { result ≡ is_plan_lent (plan_in self.now) }
     {
-        have_keys(self.keys, self.files)
-            && have_keys(self.keys, self.deeper)
-            && self.arrays.are_runs(self.runs)
+        have_keys(self.lent.keys, self.files)
+            && have_keys(self.lent.keys, self.lent.deeper)
+            && self.runs.arrays.are_runs(self.runs.runs)
     }
 }
 
-/// Plans the outputs of the runs of all ranges, which are in the order of their ranges. A run lies
-/// in its places of `bytes`, `lengths` and `marks`, as [`crate::sedvokt_merge`] wrote it. `room`
-/// begins with the outputs then; `len` is how many they are, also if `room` is too small.
+/// Plans the outputs of the runs of all ranges. A run lies in its places of `bytes`, `lengths` and
+/// `marks`, as [`crate::proved_merge`] wrote it. `room` begins with the outputs then; `len`
+/// is how many they are, also if `room` is too small.
 ///
 /// It doesn't depend on how the entries were dealt out to ranges.
 #[unsafe(no_mangle)]
-pub extern "C" fn sedvokt_plan(
+pub extern "C" fn proved_plan(
     alloc: Global,
-    request: &HostRequest,
-    keys: &[u8],
-    inputs: &[Input],
-    deeper: &[File],
-    bytes: &[u8],
-    lengths: &[EntryLengths],
-    marks: &[RunMark],
-    runs: &[RunPlaces],
+    lent: &Lent<'_, '_>,
+    runs: &LentRuns<'_>,
     room: &mut [PlannedOutput],
     len: &mut u64,
 ) -> u32
     ensures answer { IsWrittenOrMemory result room.old room.new len.old len.new
-        (plan_answer (record {
-          request = request.now;
-          keys = keys.now;
-          files = all_files inputs.now;
-          deeper = deeper.now;
-          arrays = rooms bytes.now lengths.now marks.now;
-          runs = runs.now;
-        })) }
+        (plan_answer (plan_over lent.now (all_files lent.now.inputs.now) runs.now)) }
 {
-    let Ok(files) = files_of(alloc, inputs) else {
+    let Ok(files) = files_of(alloc, lent.inputs) else {
         return MEMORY;
     };
-    let lent = LentPlan {
-        request,
-        keys,
+    let asked = LentPlan {
+        lent,
         files: &files,
-        deeper,
-        arrays: LentArrays {
-            bytes,
-            lengths,
-            marks,
-        },
         runs,
     };
-    if !lent.is_lent() {
+    if !asked.is_lent() {
         return MISUSE;
     }
-    match planned_by(alloc, &lent) {
+    match planned_by(alloc, &asked) {
         Ok(outputs) => put(&outputs, room, len),
         Err(fault) => code_of(fault),
     }
 }
 
 /// The outputs of a plan, in the request's order.
-fn planned_by(alloc: Global, lent: &LentPlan<'_>) -> Result<Vec<PlannedOutput>, Fault>
-    requires { is_plan_lent (plan_in lent.now) ≡ true }
+fn planned_by(alloc: Global, asked: &LentPlan<'_>) -> Result<Vec<PlannedOutput>, Fault>
+    requires { is_plan_lent (plan_in asked.now) ≡ true }
     ensures { EqualOrMemory (λ outputs. outputs.items) result
-        (by_orders lent.now.request.now.order (plan_reading (plan_in lent.now))) }
+        (by_orders asked.now.lent.now.request.order (plan_reading (plan_in asked.now))) }
 {
-    match lent.request.order {
-        BYTEWISE => planned::<Bytewise>(alloc, lent),
-        SHORTLEX => planned::<Shortlex>(alloc, lent),
+    match asked.lent.request.order {
+        BYTEWISE => planned::<Bytewise>(alloc, asked),
+        SHORTLEX => planned::<Shortlex>(alloc, asked),
         _ => Err(Fault::of(FaultName::Comparator)),
     }
 }
 
 /// The outputs of a plan.
-fn planned<C: Comparator>(alloc: Global, lent: &LentPlan<'_>) -> Result<Vec<PlannedOutput>, Fault>
-    requires { is_plan_lent (plan_in lent.now) ≡ true }
+fn planned<C: Comparator>(alloc: Global, asked: &LentPlan<'_>) -> Result<Vec<PlannedOutput>, Fault>
+    requires { is_plan_lent (plan_in asked.now) ≡ true }
     ensures { EqualOrMemory (λ outputs. outputs.items) result
-        (plan_reading (plan_in lent.now) C.cmp C.short_keys) }
+        (plan_reading (plan_in asked.now) C.cmp C.short_keys) }
 {
+    let lent = asked.lent;
     let options = lent.request.options();
     if !options.are_in_limits() {
         return Err(Fault::of(FaultName::Options));
     }
     let level = lent.request.level;
-    let grandparents = grandparents_of::<C>(alloc, lent.keys, level, lent.files, lent.deeper)?;
-    let runs = lent.arrays.runs(alloc, lent.runs)?;
+    let grandparents = grandparents_of::<C>(alloc, lent.keys, level, asked.files, lent.deeper)?;
+    let runs = asked.runs.arrays.runs(alloc, asked.runs.runs)?;
     outputs_of::<C>(alloc, &runs, &grandparents, options)
 }
 

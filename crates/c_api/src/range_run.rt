@@ -7,8 +7,8 @@ ghost use Rattle.keep.specs.Marks.{LargestRise};
 ghost use Rattle.keep.specs.Readable.{listed_of};
 ghost use Rattle.keep.specs.Runs.{range_run};
 ghost use Rattle.c_api.specs.InputTables.{AreRead, entries_at};
-ghost use Rattle.c_api.specs.Merges.{AreChecked, context_at, is_lent};
-ghost use Rattle.c_api.specs.Held.{asked_in, context_with};
+ghost use Rattle.c_api.specs.Merges.{AreChecked, asked_in, context_at, is_lent};
+ghost use Rattle.c_api.specs.Held.{context_with};
 ghost use Rattle.c_api.specs.Merges.{merge_reading, request_result, run_reading};
 ghost use Rattle.c_api.specs.Orders.{by_order};
 ghost use Rattle.c_api.specs.Ranges.{range_in};
@@ -18,7 +18,7 @@ use crate::file::File;
 use crate::input_tables::cursors_over;
 use crate::lent::Lent;
 use crate::order::{BYTEWISE, SHORTLEX};
-use crate::picked::{files_of, picked_with};
+use crate::picked::{files_of, near_files, picked_with};
 use crate::request_calls::tested;
 use crate::user_range::range_of;
 use compact::passed_law;
@@ -28,12 +28,12 @@ use pick::Inputs;
 use std::alloc::Global;
 
 /// The run of a range, in the request's order.
-pub(crate) fn run_by<'t>(alloc: Global, lent: &Lent<'t>) -> Result<RangeRun<'t>, Fault>
+pub(crate) fn run_by<'t>(alloc: Global, lent: &Lent<'_, 't>) -> Result<RangeRun<'t>, Fault>
     requires lent { is_lent (asked_in lent.now) ≡ true }
-    requires checked { AreChecked lent.now.request.now.order lent.now.keys.now lent.now.tables.now
+    requires checked { AreChecked lent.now.request.order lent.now.keys.now lent.now.tables.now
         lent.now.inputs.now }
     ensures { EqualOrMemory (λ run. run) result
-        (by_order lent.now.request.now.order (merge_reading (asked_in lent.now))) }
+        (by_order lent.now.request.order (merge_reading (asked_in lent.now))) }
 {
     match lent.request.order {
         BYTEWISE => tested_run::<Bytewise>(alloc, lent),
@@ -43,36 +43,51 @@ pub(crate) fn run_by<'t>(alloc: Global, lent: &Lent<'t>) -> Result<RangeRun<'t>,
 }
 
 /// The run of a range, or the first refusal of the request.
-fn tested_run<'t, C: Comparator + 't>(alloc: Global, lent: &Lent<'t>) -> Result<RangeRun<'t>, Fault>
+fn tested_run<'t, C: Comparator + 't>(
+    alloc: Global,
+    lent: &Lent<'_, 't>,
+) -> Result<RangeRun<'t>, Fault>
     requires lent { is_lent (asked_in lent.now) ≡ true }
     requires read { AreRead C.cmp lent.now.keys.now lent.now.tables.now lent.now.inputs.now }
     ensures { EqualOrMemory (λ run. run) result (merge_reading (asked_in lent.now) C.cmp) }
 {
     let files = files_of(alloc, lent.inputs)?;
-    test::<C>(alloc, lent, &files)?;
-    passed_run::<C>(alloc, lent, &files)
+    let near = near_files::<C>(alloc, lent.keys, &files, lent.deeper)?;
+    let few = Lent {
+        deeper: &near,
+        ..*lent
+    };
+    few_run::<C>(alloc, &few, &files)
+}
+
+/// The same, if the files of the inputs are known, and all deeper files that are lent matter.
+fn few_run<'t, C: Comparator + 't>(
+    alloc: Global,
+    lent: &Lent<'_, 't>,
+    files: &[File],
+) -> Result<RangeRun<'t>, Fault>
+    requires lent { is_lent (asked_in lent.now) ≡ true }
+    requires files { files.now ≡ all_files lent.now.inputs.now }
+    requires read { AreRead C.cmp lent.now.keys.now lent.now.tables.now lent.now.inputs.now }
+    ensures { EqualOrMemory (λ run. run) result (merge_reading (asked_in lent.now) C.cmp) }
+{
+    test::<C>(alloc, lent, files)?;
+    passed_run::<C>(alloc, lent, files)
 }
 
 /// The tests of the request without its tables.
-fn test<C: Comparator>(alloc: Global, lent: &Lent<'_>, files: &[File]) -> Result<(), Fault>
+fn test<C: Comparator>(alloc: Global, lent: &Lent<'_, '_>, files: &[File]) -> Result<(), Fault>
     requires lent { is_lent (asked_in lent.now) ≡ true }
     requires files { files.now ≡ all_files lent.now.inputs.now }
     ensures { EqualOrMemory (λ none. none) result (request_result (asked_in lent.now) C.cmp) }
 {
-    tested::<C>(
-        alloc,
-        lent.request,
-        lent.snapshots,
-        lent.keys,
-        files,
-        lent.deeper,
-    )
+    tested::<C>(alloc, lent, files)
 }
 
 /// The run of a range, if the request passed its tests.
 fn passed_run<'t, C: Comparator + 't>(
     alloc: Global,
-    lent: &Lent<'t>,
+    lent: &Lent<'_, 't>,
     files: &[File],
 ) -> Result<RangeRun<'t>, Fault>
     requires lent { is_lent (asked_in lent.now) ≡ true }
@@ -87,7 +102,11 @@ fn passed_run<'t, C: Comparator + 't>(
 }
 
 /// What is known of the deeper files. No merge asks for its compact pointer, so that is any key.
-fn inputs_of<C: Comparator>(alloc: Global, lent: &Lent<'_>, files: &[File]) -> Result<Inputs, Fault>
+fn inputs_of<C: Comparator>(
+    alloc: Global,
+    lent: &Lent<'_, '_>,
+    files: &[File],
+) -> Result<Inputs, Fault>
     requires lent { is_lent (asked_in lent.now) ≡ true }
     requires files { files.now ≡ all_files lent.now.inputs.now }
     ensures { EqualOrMemory (context_with (asked_in lent.now)) result
@@ -101,7 +120,7 @@ fn inputs_of<C: Comparator>(alloc: Global, lent: &Lent<'_>, files: &[File]) -> R
 /// The run of a range. `picked` says which files are deeper.
 fn run_of<'t, C: Comparator + 't>(
     alloc: Global,
-    lent: &Lent<'t>,
+    lent: &Lent<'_, 't>,
     picked: &Inputs,
 ) -> Result<RangeRun<'t>, Fault>
     requires lent { is_lent (asked_in lent.now) ≡ true }
@@ -111,9 +130,9 @@ fn run_of<'t, C: Comparator + 't>(
     ensures { EqualOrMemory (λ run. run) result
         (range_run C.cmp (context_with (asked_in lent.now) picked.now)
         (map (entries_at C.cmp lent.now.keys.now lent.now.tables.now) lent.now.inputs.now)
-        (range_in lent.now.keys.now lent.now.range.now)) }
+        (range_in lent.now.keys.now lent.now.range)) }
 {
-    let range = range_of(lent.keys, lent.range);
+    let range = range_of(lent.keys, &lent.range);
     let snapshots = lent.request.snapshots(lent.snapshots);
     let listed = snapshots.listed();
     let floor = snapshots.floor(lent.request.last_sequence);

@@ -12,8 +12,8 @@ use table::Options;
 pub struct HostRequest {
     /// The order of user keys.
     pub order: u32,
-    /// Whether the readable sequences are listed.
-    pub is_listed: bool,
+    /// Not 0 if the readable sequences are listed.
+    pub is_listed: u32,
     /// The level of the compaction, from 0 to 5.
     pub level: u64,
     /// If no sequences are listed, this one and every later one stay readable.
@@ -42,10 +42,10 @@ impl HostRequest {
     pub(crate) fn snapshots<'a>(&self, listed: &'a [u64]) -> Snapshots<'a>
         ensures { result ≡ snapshots_of self.now listed.entry }
     {
-        if self.is_listed {
-            Snapshots::Listed(listed)
-        } else {
+        if self.is_listed == 0 {
             Snapshots::From(self.oldest)
+        } else {
+            Snapshots::Listed(listed)
         }
     }
 }

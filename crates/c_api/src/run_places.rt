@@ -3,8 +3,7 @@
 ghost use Rattle.std.specs.Prelude.{◌≡◌, true, map, Ok};
 ghost use Rattle.std.specs.List.{list_all};
 ghost use Rattle.ikey.specs.Answers.{EqualOrMemory};
-ghost use Rattle.c_api.specs.ToldRuns.{arrays_at, has_parts as have_parts};
-ghost use Rattle.c_api.specs.Held.{arrays_lent};
+ghost use Rattle.c_api.specs.ToldRuns.{arrays_at, arrays_lent, has_parts as have_parts};
 ghost use Rattle.c_api.specs.ToldRuns.{is_run as lies_lent, is_told as are_told, run_at, run_told};
 
 use crate::place::{Place, is_within, part_of};
@@ -27,8 +26,9 @@ pub struct RunPlaces {
 }
 
 /// Arrays that are lent.
+#[repr(C)]
 #[derive(Clone, Copy)]
-pub(crate) struct LentArrays<'a> {
+pub struct LentArrays<'a> {
     pub bytes: &'a [u8],
     pub lengths: &'a [EntryLengths],
     pub marks: &'a [RunMark],
@@ -79,7 +79,7 @@ impl<'a> LentArrays<'a> {
     }
 
     /// Whether each run is told at its places.
-    pub fn are_runs(&self, runs: &[RunPlaces]) -> bool
+    pub(crate) fn are_runs(&self, runs: &[RunPlaces]) -> bool
         ensures { result ≡ list_all (lies_lent (arrays_lent self.now)) runs.now }
     {
         runs.iter().all(|places| self.is_run(places))
@@ -96,7 +96,7 @@ impl<'a> LentArrays<'a> {
     }
 
     /// The runs at their places.
-    pub fn runs(&self, alloc: Global, runs: &[RunPlaces]) -> Result<Vec<RangeRun<'a>>, Fault>
+    pub(crate) fn runs(&self, alloc: Global, runs: &[RunPlaces]) -> Result<Vec<RangeRun<'a>>, Fault>
         requires { list_all (lies_lent (arrays_lent self.now)) runs.now ≡ true }
         ensures { EqualOrMemory (λ all. all.items) result
             (Ok (map (run_at (arrays_lent self.now)) runs.now)) }

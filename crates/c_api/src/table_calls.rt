@@ -22,7 +22,7 @@ use table::check;
 /// Tests an input: each byte of its table, and whether its length and bounds are as its file
 /// states. `input.counts` is set if the answer is 0, and then the input may be merged.
 #[unsafe(no_mangle)]
-pub extern "C" fn sedvokt_check_table(
+pub extern "C" fn proved_check_table(
     alloc: Global,
     order: u32,
     keys: &[u8],

@@ -2,10 +2,11 @@
 
 use crate::{
     BYTEWISE, Counts, DONE, Entry, EntryLengths, File, FilePlace, HostRequest, Input, KeysSize,
-    MISUSE, Numbers, OPEN_INPUTS, Place, PlannedOutput, ROOM, RunMark, RunPlaces, RunSize,
-    UserRange, sedvokt_boundaries, sedvokt_check_closed, sedvokt_check_request,
-    sedvokt_check_table, sedvokt_edit, sedvokt_merge, sedvokt_output, sedvokt_plan,
+    Lent, LentArrays, LentRuns, MISUSE, Numbers, OPEN_INPUTS, Place, PlannedOutput, ROOM, RunMark,
+    RunPlaces, RunSize, UserRange, proved_boundaries, proved_check_closed, proved_check_request,
+    proved_check_table, proved_edit, proved_merge, proved_output, proved_plan,
 };
+use std::alloc::Global;
 use std::test::*;
 
 /// `table: u@4 del, u@2 put x`
@@ -22,7 +23,7 @@ const NOTHING: Counts = Counts {
     entries: 0,
     oldest: 0,
     newest: 0,
-    has_twins: false,
+    has_twins: 0,
 };
 
 /// The input of `TWO_ENTRIES`, if its table has this length.
@@ -48,25 +49,25 @@ fn tables_are_checked(rt: HostRuntime) {
     let alloc = rt.alloc();
     let len = TWO_ENTRIES.len() as u64;
     let mut input = two_entries(len);
-    let code = sedvokt_check_table(alloc, BYTEWISE, KEYS, TWO_ENTRIES, &mut input);
+    let code = proved_check_table(alloc, BYTEWISE, KEYS, TWO_ENTRIES, &mut input);
     assert_eq!(rt; code, DONE);
     assert_eq!(rt; input.counts.entries, 2);
     assert_eq!(rt; input.counts.oldest, 2);
     assert_eq!(rt; input.counts.newest, 4);
     // Its length isn't as stated.
     let mut input = two_entries(len + 1);
-    let code = sedvokt_check_table(alloc, BYTEWISE, KEYS, TWO_ENTRIES, &mut input);
+    let code = proved_check_table(alloc, BYTEWISE, KEYS, TWO_ENTRIES, &mut input);
     assert_eq!(rt; code, 21);
     assert_eq!(rt; input.counts.entries, 0);
     // A place that isn't within.
-    let code = sedvokt_check_table(alloc, BYTEWISE, &[], TWO_ENTRIES, &mut input);
+    let code = proved_check_table(alloc, BYTEWISE, &[], TWO_ENTRIES, &mut input);
     assert_eq!(rt; code, MISUSE);
 }
 
 /// A request of level 0 whose options have LevelDB's defaults.
 const REQUEST: HostRequest = HostRequest {
     order: BYTEWISE,
-    is_listed: false,
+    is_listed: 0,
     level: 0,
     oldest: 4,
     last_sequence: 4,
@@ -75,64 +76,66 @@ const REQUEST: HostRequest = HostRequest {
     file_size: 2_097_152,
 };
 
+const NOWHERE: Place = Place { from: 0, len: 0 };
+
+/// What is lent for these inputs, if the whole of them is merged.
+fn lent(inputs: &[Input]) -> Lent<'_, 'static> {
+    Lent {
+        size: 0,
+        request: REQUEST,
+        snapshots: &[],
+        keys: KEYS,
+        tables: TWO_ENTRIES,
+        inputs,
+        deeper: &[],
+        range: UserRange {
+            has_lower: 0,
+            has_upper: 0,
+            lower: NOWHERE,
+            upper: NOWHERE,
+        },
+    }
+}
+
+/// The answer to a request of this level.
+fn checked(alloc: Global, level: u64, inputs: &[Input]) -> u32 {
+    let mut asked = lent(inputs);
+    asked.request.level = level;
+    proved_check_request(alloc, &asked)
+}
+
 #[test]
 fn requests_are_checked(rt: HostRuntime) {
     let alloc = rt.alloc();
-    let inputs = [two_entries(TWO_ENTRIES.len() as u64)];
-    let code = sedvokt_check_request(alloc, &REQUEST, &[], KEYS, &inputs, &[]);
-    assert_eq!(rt; code, DONE);
-    let code = sedvokt_check_request(alloc, &REQUEST, &[], KEYS, &[], &[]);
-    assert_eq!(rt; code, 1);
-    // Its keys aren't lent.
-    let code = sedvokt_check_request(alloc, &REQUEST, &[], &[], &inputs, &[]);
-    assert_eq!(rt; code, MISUSE);
-    let deep = HostRequest {
-        level: 6,
-        ..REQUEST
-    };
-    let code = sedvokt_check_request(alloc, &deep, &[], KEYS, &inputs, &[]);
-    assert_eq!(rt; code, 2);
+    let mut input = two_entries(TWO_ENTRIES.len() as u64);
+    assert_eq!(rt; checked(alloc, 0, &[input]), DONE);
+    assert_eq!(rt; checked(alloc, 0, &[]), 1);
+    assert_eq!(rt; checked(alloc, 6, &[input]), 2);
+    // A key isn't lent.
+    input.file.smallest.from = 18;
+    assert_eq!(rt; checked(alloc, 0, &[input]), MISUSE);
 }
 
 #[test]
 fn boundaries_are_chosen(rt: HostRuntime) {
     let alloc = rt.alloc();
     let mut input = two_entries(TWO_ENTRIES.len() as u64);
-    let code = sedvokt_check_table(alloc, BYTEWISE, KEYS, TWO_ENTRIES, &mut input);
+    let code = proved_check_table(alloc, BYTEWISE, KEYS, TWO_ENTRIES, &mut input);
     assert!(rt; code == DONE);
     let inputs = [input];
     let mut bytes = [7; 2];
     let mut lengths = [7; 2];
     let mut size = KeysSize { bytes: 7, keys: 7 };
     // The index has one key, the user key u.
-    let code = sedvokt_boundaries(
-        alloc,
-        BYTEWISE,
-        KEYS,
-        TWO_ENTRIES,
-        &inputs,
-        2,
-        &mut bytes,
-        &mut lengths,
-        &mut size,
-    );
+    let asked = lent(&inputs);
+    let code = proved_boundaries(alloc, &asked, 2, &mut bytes, &mut lengths, &mut size);
     assert_eq!(rt; code, DONE);
     assert_eq!(rt; size.bytes, 1);
     assert_eq!(rt; size.keys, 1);
     assert_eq!(rt; bytes[0], b'u');
     assert_eq!(rt; bytes[1], 7);
     assert_eq!(rt; lengths[0], 1);
-    let code = sedvokt_boundaries(
-        alloc,
-        BYTEWISE,
-        KEYS,
-        TWO_ENTRIES,
-        &inputs,
-        0,
-        &mut bytes,
-        &mut lengths,
-        &mut size,
-    );
+    let code = proved_boundaries(alloc, &asked, 0, &mut bytes, &mut lengths, &mut size);
     assert_eq!(rt; code, 5);
 }
 
@@ -142,21 +145,12 @@ const RUN: &[u8] = b"u\0\x04\0\0\0\0\0\0u\x01\x02\0\0\0\0\0\0x";
 #[test]
 fn ranges_are_merged(rt: HostRuntime) {
     let alloc = rt.alloc();
-    let request = HostRequest {
-        oldest: 3,
-        ..REQUEST
-    };
     let mut input = two_entries(TWO_ENTRIES.len() as u64);
-    let code = sedvokt_check_table(alloc, request.order, KEYS, TWO_ENTRIES, &mut input);
+    let code = proved_check_table(alloc, BYTEWISE, KEYS, TWO_ENTRIES, &mut input);
     assert!(rt; code == DONE);
     let inputs = [input];
-    let nowhere = Place { from: 0, len: 0 };
-    let range = UserRange {
-        has_lower: false,
-        has_upper: false,
-        lower: nowhere,
-        upper: nowhere,
-    };
+    let mut asked = lent(&inputs);
+    asked.request.oldest = 3;
     let mut bytes = [7; 20];
     let mut lengths = [EntryLengths { key: 7, value: 7 }; 2];
     let mut marks = [RunMark { below: 7, kept: 7 }; 2];
@@ -165,15 +159,9 @@ fn ranges_are_merged(rt: HostRuntime) {
         entries: 7,
         marks: 7,
     };
-    let code = sedvokt_merge(
+    let code = proved_merge(
         alloc,
-        &request,
-        &[],
-        KEYS,
-        TWO_ENTRIES,
-        &inputs,
-        &[],
-        &range,
+        &asked,
         &mut bytes,
         &mut lengths,
         &mut marks,
@@ -188,28 +176,41 @@ fn ranges_are_merged(rt: HostRuntime) {
     assert_eq!(rt; marks[0].kept, 0);
 }
 
-#[test]
-fn outputs_are_planned(rt: HostRuntime) {
-    let alloc = rt.alloc();
-    let inputs = [two_entries(TWO_ENTRIES.len() as u64)];
-    let lengths = [
-        EntryLengths { key: 9, value: 0 },
-        EntryLengths { key: 9, value: 1 },
-    ];
-    let marks = [RunMark { below: 0, kept: 0 }];
-    // An entry in each of two runs.
-    let mut runs = [
+/// An entry in each of two runs, the second of which has so many bytes.
+const fn runs(len: u64) -> [RunPlaces; 2] {
+    [
         RunPlaces {
             bytes: Place { from: 0, len: 9 },
             lengths: Place { from: 0, len: 1 },
             marks: Place { from: 0, len: 1 },
         },
         RunPlaces {
-            bytes: Place { from: 9, len: 10 },
+            bytes: Place { from: 9, len },
             lengths: Place { from: 1, len: 1 },
             marks: Place { from: 1, len: 0 },
         },
+    ]
+}
+
+#[test]
+fn outputs_are_planned(rt: HostRuntime) {
+    let alloc = rt.alloc();
+    let inputs = [two_entries(TWO_ENTRIES.len() as u64)];
+    let asked = lent(&inputs);
+    let lengths = [
+        EntryLengths { key: 9, value: 0 },
+        EntryLengths { key: 9, value: 1 },
     ];
+    let arrays = LentArrays {
+        bytes: RUN,
+        lengths: &lengths,
+        marks: &[RunMark { below: 0, kept: 0 }],
+    };
+    let whole = LentRuns {
+        size: 0,
+        arrays,
+        runs: &runs(10),
+    };
     let nothing = PlannedOutput {
         first: 7,
         entries: 7,
@@ -217,54 +218,21 @@ fn outputs_are_planned(rt: HostRuntime) {
     };
     let mut room = [nothing; 2];
     let mut len = 0;
-    let code = sedvokt_plan(
-        alloc,
-        &REQUEST,
-        KEYS,
-        &inputs,
-        &[],
-        RUN,
-        &lengths,
-        &marks,
-        &runs,
-        &mut room,
-        &mut len,
-    );
+    let code = proved_plan(alloc, &asked, &whole, &mut room, &mut len);
     assert_eq!(rt; code, DONE);
     assert_eq!(rt; len, 1);
     assert_eq!(rt; room[0].first, 0);
     assert_eq!(rt; room[0].entries, 2);
     assert_eq!(rt; room[0].len, TWO_ENTRIES.len() as u64);
     assert_eq!(rt; room[1].first, 7);
-    let code = sedvokt_plan(
-        alloc,
-        &REQUEST,
-        KEYS,
-        &inputs,
-        &[],
-        RUN,
-        &lengths,
-        &marks,
-        &runs,
-        &mut [],
-        &mut len,
-    );
+    let code = proved_plan(alloc, &asked, &whole, &mut [], &mut len);
     assert_eq!(rt; code, ROOM);
     // The value of its entry isn't within the run.
-    runs[1].bytes.len = 9;
-    let code = sedvokt_plan(
-        alloc,
-        &REQUEST,
-        KEYS,
-        &inputs,
-        &[],
-        RUN,
-        &lengths,
-        &marks,
-        &runs,
-        &mut room,
-        &mut len,
-    );
+    let short = LentRuns {
+        runs: &runs(9),
+        ..whole
+    };
+    let code = proved_plan(alloc, &asked, &short, &mut room, &mut len);
     assert_eq!(rt; code, MISUSE);
 }
 
@@ -278,10 +246,10 @@ fn choices_are_closed(rt: HostRuntime) {
         number: 0,
     };
     let files = [one, other];
-    let code = sedvokt_check_closed(alloc, BYTEWISE, 0, KEYS, &files, &[5, 7], &mut missing);
+    let code = proved_check_closed(alloc, BYTEWISE, 0, KEYS, &files, &[5, 7], &mut missing);
     assert_eq!(rt; code, DONE);
     // Two files of level 0 with one user key go together.
-    let code = sedvokt_check_closed(alloc, BYTEWISE, 0, KEYS, &files, &[5], &mut missing);
+    let code = proved_check_closed(alloc, BYTEWISE, 0, KEYS, &files, &[5], &mut missing);
     assert_eq!(rt; code, OPEN_INPUTS);
     assert_eq!(rt; missing.number, 7);
 }
@@ -301,18 +269,18 @@ fn outputs_are_written(rt: HostRuntime) {
     ];
     let mut room = [7; 200];
     let mut len = 0;
-    let code = sedvokt_output(alloc, &REQUEST, KEYS, b"x", &entries, &mut room, &mut len);
+    let code = proved_output(alloc, &REQUEST, KEYS, b"x", &entries, &mut room, &mut len);
     assert_eq!(rt; code, DONE);
     assert_eq!(rt; len, TWO_ENTRIES.len() as u64);
     assert!(rt; room.starts_with(TWO_ENTRIES));
     assert_eq!(rt; room[TWO_ENTRIES.len()], 7);
     let mut small = [7; 9];
-    let code = sedvokt_output(alloc, &REQUEST, KEYS, b"x", &entries, &mut small, &mut len);
+    let code = proved_output(alloc, &REQUEST, KEYS, b"x", &entries, &mut small, &mut len);
     assert_eq!(rt; code, ROOM);
     assert_eq!(rt; len, TWO_ENTRIES.len() as u64);
     // A key that isn't above the one before it.
     let twice = [entries[0], entries[0]];
-    let code = sedvokt_output(alloc, &REQUEST, KEYS, b"x", &twice, &mut room, &mut len);
+    let code = proved_output(alloc, &REQUEST, KEYS, b"x", &twice, &mut room, &mut len);
     assert_eq!(rt; code, 19);
 }
 
@@ -333,24 +301,12 @@ fn edits_are_written(rt: HostRuntime) {
     };
     let mut room = [0; 200];
     let mut len = 0;
-    let code = sedvokt_edit(
-        alloc, BYTEWISE, 0, &numbers, KEYS, &inputs, &added, &mut room, &mut len,
-    );
+    let code = proved_edit(alloc, &lent(&inputs), &numbers, &added, &mut room, &mut len);
     assert_eq!(rt; code, DONE);
     let wanted = b"\x02\x03\x09\0\x03\x08\x04\x04\x05\0\x09u\x01\x02\0\0\0\0\0\0\x06\0\x05\
         \x07\x01\x07\x5a\x09u\0\x04\0\0\0\0\0\0\x09u\x01\x02\0\0\0\0\0\0";
     assert_eq!(rt; len, wanted.len() as u64);
     assert!(rt; room.starts_with(wanted));
-    let code = sedvokt_edit(
-        alloc,
-        BYTEWISE,
-        0,
-        &numbers,
-        KEYS,
-        &[],
-        &added,
-        &mut room,
-        &mut len,
-    );
+    let code = proved_edit(alloc, &lent(&[]), &numbers, &added, &mut room, &mut len);
     assert_eq!(rt; code, 1);
 }

@@ -13,10 +13,10 @@ use keep::Range;
 #[repr(C)]
 #[derive(Clone, Copy, Drop)]
 pub struct UserRange {
-    /// Whether there is a lower bound.
-    pub has_lower: bool,
-    /// Whether there is an upper bound.
-    pub has_upper: bool,
+    /// Not 0 if there is a lower bound.
+    pub has_lower: u32,
+    /// Not 0 if there is an upper bound.
+    pub has_upper: u32,
     /// The first user key of the range, in the keys that are lent.
     pub lower: Place,
     /// The first user key after the range, in the keys that are lent.
@@ -24,10 +24,10 @@ pub struct UserRange {
 }
 
 /// Whether a bound lies in what is lent, if there is one.
-fn is_bound(keys: &[u8], has: bool, place: Place) -> bool
+fn is_bound(keys: &[u8], has: u32, place: Place) -> bool
     ensures { result ≡ lies_lent keys.now has place }
 {
-    !has || is_within(keys, place)
+    has == 0 || is_within(keys, place)
 }
 
 /// Whether the bounds of a range lie in what is lent.
@@ -38,14 +38,14 @@ pub(crate) fn is_range(keys: &[u8], range: &UserRange) -> bool
 }
 
 /// The bound at a place, if there is one.
-fn bound_of(keys: &[u8], has: bool, place: Place) -> Option<&[u8]>
+fn bound_of(keys: &[u8], has: u32, place: Place) -> Option<&[u8]>
     requires { lies_lent keys.now has place ≡ true }
     ensures { option_map (λ key. key.now) result ≡ bound_at keys.now has place }
 {
-    if has {
-        Some(part_of(keys, place))
-    } else {
+    if has == 0 {
         None
+    } else {
+        Some(part_of(keys, place))
     }
 }
 

@@ -3,8 +3,7 @@ use Rattle.std.specs.List.{list_all}
 use Rattle.ikey.specs.Answers.{EqualOrMemory}
 use Rattle.pick.specs.PickedInputs.{picked_in}
 use Rattle.c_api.specs.Files.{has_keys}
-use Rattle.c_api.specs.Merges.{AskedMerge}
-use Rattle.c_api.specs.Held.{asked_in}
+use Rattle.c_api.specs.Merges.{AskedMerge, asked_in}
 use Rattle.c_api.specs.Requests.{picked_with}
 use Rattle.c_api.specs.declared.file.File.{File}
 use Rattle.c_api.proofs.Merging.{context_seen, lent_parts}

@@ -5,8 +5,8 @@ use Rattle.edit.proofs.Binds.{ok_is}
 use Rattle.keep.specs.Marks.{CompactionContext, LargestRise}
 use Rattle.keep.specs.Runs.{Run, range_run}
 use Rattle.c_api.specs.InputTables.{entries_at}
-use Rattle.c_api.specs.Merges.{AskedMerge, context_at}
-use Rattle.c_api.specs.Held.{asked_in, context_with}
+use Rattle.c_api.specs.Merges.{AskedMerge, asked_in, context_at}
+use Rattle.c_api.specs.Held.{context_with}
 use Rattle.c_api.specs.Ranges.{range_in}
 use Rattle.c_api.specs.Requests.{files_of, pointer_of, request_with}
 use Rattle.c_api.proofs.Merging.{grandparents_are, pointed, run_is}

@@ -10,8 +10,8 @@ use Rattle.keep.proofs.RangeWalks.{run_same}
 use Rattle.compact.proofs.RangeAnswers.{map_same}
 use Rattle.compact.specs.snapshots.Snapshots.{Snapshots}
 use Rattle.c_api.specs.InputTables.{entries_at}
-use Rattle.c_api.specs.Merges.{AskedMerge}
-use Rattle.c_api.specs.Held.{asked_in, context_with}
+use Rattle.c_api.specs.Merges.{AskedMerge, asked_in}
+use Rattle.c_api.specs.Held.{context_with}
 use Rattle.c_api.specs.Ranges.{range_in}
 use Rattle.c_api.proofs.range_run.run_of.Goals as goal
 

@@ -1,7 +1,7 @@
 use Rattle.std.proofs.Common.{◌≡◌, true, List, sym, subst}
 use Rattle.std.specs.List.{list_all}
 use Rattle.c_api.specs.Files.{has_keys}
-use Rattle.c_api.specs.Held.{asked_in}
+use Rattle.c_api.specs.Merges.{asked_in}
 use Rattle.c_api.specs.declared.file.File.{File}
 use Rattle.c_api.proofs.Merging.{lent_parts}
 use Rattle.c_api.proofs.range_run.test.Goals as goal

@@ -1,7 +1,6 @@
 use Rattle.std.proofs.Common.{◌≡◌, ◌++◌, true, map, drop}
 use Rattle.std.specs.List.{list_all}
-use Rattle.c_api.specs.ToldRuns.{is_run, run_at}
-use Rattle.c_api.specs.Held.{arrays_lent}
+use Rattle.c_api.specs.ToldRuns.{arrays_lent, is_run, run_at}
 use Rattle.c_api.proofs.run_places.LentArrays.runs.Given as goal
 
 abbrev pub invariant-loop-places : goal.invariant-loop-places

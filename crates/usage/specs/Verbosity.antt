@@ -3,8 +3,8 @@ use Rattle.std.specs.Prelude.{◌≡◌, ◌||◌, Bool, true, false, List, Opti
 use Rattle.std.specs.Option.{option_map_or}
 use Rattle.clap.specs.Words.{Row, Text}
 use Rattle.usage.specs.Values.{is_flagged}
-use Rattle.usage.specs.declared.verbosity.Verbosity.{Verbosity}
-use Rattle.usage.specs.declared.verbosity.Verbosity.TheVariants.{Quiet, Normal, Verbose}
+use Rattle.usage.specs.declared.requests.Verbosity.{Verbosity}
+use Rattle.usage.specs.declared.requests.Verbosity.TheVariants.{Quiet, Normal, Verbose}
 
 -- whether a flag is given after the command
 abbrev pub is_flagged_below : Text → Option (Text × List Row) → Bool

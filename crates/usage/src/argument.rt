@@ -17,34 +17,34 @@ const MEMORY_HELP: &str =
 /// An argument of a command. First comes its name, which for an option is the word after `--`. Last
 /// comes what help says of it.
 #[derive(Clone, Copy)]
-pub(crate) enum Argument {
+pub(crate) enum Argument<'a> {
     /// A text that is given by its place.
-    Place(&'static str, &'static str),
+    Place(&'a str, &'a str),
     /// The same, of a text that may be left out.
-    FreePlace(&'static str, &'static str),
+    FreePlace(&'a str, &'a str),
     /// The same, of several texts.
-    FreePlaces(&'static str, &'static str),
+    FreePlaces(&'a str, &'a str),
     /// Several texts that are given by their places, at least one.
-    Places(&'static str, &'static str),
+    Places(&'a str, &'a str),
     /// An option without a value.
-    Flag(&'static str, &'static str),
+    Flag(&'a str, &'a str),
     /// The same, which may also be given as a hyphen and this letter.
-    ShortFlag(&'static str, char, &'static str),
+    ShortFlag(&'a str, char, &'a str),
     /// An option with a text, which usage calls by the second name.
-    Value(&'static str, &'static str, &'static str),
+    Value(&'a str, &'a str, &'a str),
     /// The same, of one that must be given.
-    WantedValue(&'static str, &'static str, &'static str),
+    WantedValue(&'a str, &'a str, &'a str),
     /// An option with a number of 64 bits, which usage calls by the second name.
-    Number(&'static str, &'static str, &'static str),
+    Number(&'a str, &'a str, &'a str),
     /// The same, of one that must be given.
-    WantedNumber(&'static str, &'static str, &'static str),
+    WantedNumber(&'a str, &'a str, &'a str),
     /// `--memory MIB`.
     Memory,
 }
 
 /// The argument, for `clap`.
-pub(crate) fn arg_of<'a>(alloc: Global, argument: Argument) -> Arg<'a>
-    ensures { IsArgument (rule_of_argument argument) result }
+pub(crate) fn arg_of<'a>(alloc: Global, argument: Argument<'a>) -> Arg<'a>
+    ensures { IsArgument (rule_of_argument argument.entry) result }
 {
     match argument {
         Argument::Place(id, help) => Arg::new(alloc, id).help(help).required(true),

@@ -2,12 +2,15 @@
 
 ghost use Rattle.std.specs.Prelude.{◌≡◌, IfOk, map};
 ghost use Rattle.clap.specs.Words.{App, app_of, new_app, with_subcommand};
-ghost use Rattle.usage.specs.Apps.{bare_app, program_app, with_rules};
+ghost use Rattle.usage.specs.Apps.{app_of_name, bare_app, program_app, with_rules};
 ghost use Rattle.usage.specs.Commands.{Extends, IsCommand, app_of_description};
 ghost use Rattle.usage.specs.Commands.{rule_of_argument};
 
 use crate::argument::{Argument, arg_of};
-use crate::descriptions::{COMMANDS, Description, VERBOSITY, VERBOSITY_RULES};
+use crate::descriptions::{
+    BLOCKS, CLEAN, COMMANDS, COMPACT, CommandName, DUMP, Description, FILES, GET, HISTORY, INSTALL,
+    JOB, MANIFEST, SCAN, STATS, VERBOSITY, VERBOSITY_RULES, VERIFY,
+};
 use crate::rule::with_rules;
 use clap::Command;
 use std::alloc::{AllocError, Global};
@@ -34,8 +37,8 @@ pub(crate) fn program_command<'a>(alloc: Global) -> Result<Command<'a>, AllocErr
     ensures { IfOk result (λ command. app_of command ≡ program_app) }
 {
     let mut command = bare_command(alloc)?;
-    for description in COMMANDS {
-        command = with_command(command, described(alloc, *description))?;
+    for name in COMMANDS {
+        command = with_command(command, command_of_name(alloc, *name))?;
     }
     Ok(command)
 }
@@ -43,11 +46,38 @@ pub(crate) fn program_command<'a>(alloc: Global) -> Result<Command<'a>, AllocErr
 /// The same with the rules that arguments have on each other.
 pub(crate) fn ruled_command<'a>(alloc: Global) -> Result<Command<'a>, AllocError> {
     let mut command = with_rules(alloc, bare_command(alloc)?, VERBOSITY_RULES)?;
-    for description in COMMANDS {
-        let made = with_rules(alloc, described(alloc, *description)?, VERBOSITY_RULES)?;
-        command = command.subcommand(with_rules(alloc, made, description.rules)?)?;
+    for name in COMMANDS {
+        let made = with_rules(alloc, command_of_name(alloc, *name)?, VERBOSITY_RULES)?;
+        command = command.subcommand(with_rules(alloc, made, description_of(*name).rules)?)?;
     }
     Ok(command)
+}
+
+fn command_of_name<'a>(alloc: Global, name: CommandName) -> Result<Command<'a>, AllocError>
+    ensures { IfOk result (IsCommand (app_of_name name)) }
+{
+    described(alloc, description_of(name))
+}
+
+/// What is told of the command of a name.
+fn description_of(name: CommandName) -> Description<'static>
+    ensures { app_of_description result ≡ app_of_name name }
+{
+    match name {
+        CommandName::Stats => STATS,
+        CommandName::Verify => VERIFY,
+        CommandName::Get => GET,
+        CommandName::History => HISTORY,
+        CommandName::Scan => SCAN,
+        CommandName::Manifest => MANIFEST,
+        CommandName::Dump => DUMP,
+        CommandName::Files => FILES,
+        CommandName::Compact => COMPACT,
+        CommandName::Clean => CLEAN,
+        CommandName::Job => JOB,
+        CommandName::Install => INSTALL,
+        CommandName::Blocks => BLOCKS,
+    }
 }
 
 /// The program without its commands.
@@ -74,16 +104,16 @@ fn with_command<'a>(
 }
 
 /// The command that is described so.
-fn described<'a>(alloc: Global, description: Description) -> Result<Command<'a>, AllocError>
-    ensures { IfOk result (IsCommand (app_of_description description)) }
+fn described<'a>(alloc: Global, description: Description<'a>) -> Result<Command<'a>, AllocError>
+    ensures { IfOk result (IsCommand (app_of_description description.entry)) }
 {
     let command = with_arguments(alloc, named(alloc, description), description.arguments)?;
     with_arguments(alloc, command, VERBOSITY)
 }
 
 /// The same without arguments yet.
-fn named<'a>(alloc: Global, description: Description) -> Command<'a>
-    ensures { IsCommand (new_app description.name.now) result }
+fn named<'a>(alloc: Global, description: Description<'a>) -> Command<'a>
+    ensures { IsCommand (new_app description.entry.name.now) result }
 {
     Command::new(alloc, description.name)
         .override_usage(description.usage)
@@ -95,7 +125,7 @@ fn named<'a>(alloc: Global, description: Description) -> Command<'a>
 fn with_arguments<'a>(
     alloc: Global,
     command: Command<'a>,
-    arguments: &'static [Argument],
+    arguments: &'a [Argument<'a>],
 ) -> Result<Command<'a>, AllocError>
     ensures { IfOk result (Extends
         (with_rules (map rule_of_argument arguments.entry.now)) command.entry) }

@@ -6,8 +6,7 @@ ghost use Rattle.usage.specs.CompactLine.{AreNumbers, HasCompact, HasInstall, Ha
 ghost use Rattle.usage.specs.CompactLine.{HasOptions, HasSettings, HasSnapshots, HasWork};
 ghost use Rattle.usage.specs.CompactLine.{IsNumberList, gives_snapshots};
 
-use crate::no_request::Usage;
-use crate::requests::{CompactLine, CompactOptions, CompactWork, InstallLine, Levels};
+use crate::requests::{CompactLine, CompactOptions, CompactWork, InstallLine, Levels, Usage};
 use crate::values::{
     Unread, first_text, is_flagged, is_given, needed_text, number_given, number_or, testing_of,
 };

@@ -7,9 +7,8 @@ ghost use Rattle.usage.specs.KeyLines.{HasBlocks, HasGet, HasHistory, HasKeys, H
 ghost use Rattle.usage.specs.KeyLines.{HasRowOutput, HasScan, gives_bound};
 
 use crate::keys::{bound_in, key_in, keys_in};
-use crate::no_request::Usage;
 use crate::requests::{
-    BlocksLine, GetLine, HistoryLine, KeySource, RowOptions, RowOutput, ScanLine,
+    BlocksLine, GetLine, HistoryLine, KeySource, RowOptions, RowOutput, ScanLine, Usage,
 };
 use crate::values::{
     Unread, first_text, is_flagged, is_given, needed_text, number_given, spelling_given, testing_of,

@@ -32,7 +32,6 @@
 #![tactic(auto)]
 
 mod argument;
-mod changing_commands;
 mod command_line;
 mod commands;
 mod compact_line;
@@ -40,8 +39,6 @@ mod descriptions;
 mod key_lines;
 mod keys;
 mod lines;
-mod no_request;
-mod reading_commands;
 mod requests;
 mod rule;
 mod values;
@@ -49,10 +46,9 @@ mod verbosity;
 
 pub use command_line::line;
 pub use compact::Settings;
-pub use no_request::Usage;
 pub use requests::{
     BlocksLine, CleanLine, CommandLine, CompactLine, CompactOptions, CompactWork, DumpLine,
     FilesLine, GetLine, HistoryLine, InstallLine, JobLine, KeySource, Levels, Line, ManifestLine,
-    RowOptions, RowOutput, ScanLine, StatsLine, TableLine, Testing, VerdictForm, VerifyLine,
+    RowOptions, RowOutput, ScanLine, StatsLine, TableLine, Testing, Usage, Verbosity, VerdictForm,
+    VerifyLine,
 };
-pub use verbosity::Verbosity;

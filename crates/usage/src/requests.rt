@@ -1,12 +1,8 @@
-//! What a command line asks for.
-//!
-//! In all of these, `folder` is the path of a folder and `table` that of a table's file. `is_json`
-//! is whether the answer is printed as JSON, and `testing` how the version is tested before the
-//! work. `level` is any number. So is the sequence `at`; without it, it is the version's last one.
-//! `memory` is how many MiB of tables a test may hold, 1 to 2^24.
+//! What a command line asks for, or why it asks for nothing.
 
-use crate::verbosity::Verbosity;
+use clap::error::ErrorKind;
 use compact::{Settings, Snapshots};
+use std::alloc::AllocError;
 use texts::Spelling;
 
 /// What a command line asks for, and how much it asks to be told of it.
@@ -20,6 +16,17 @@ pub struct CommandLine<'a> {
     pub refuses_logs: bool,
     /// What its command is asked for.
     pub line: Line<'a>,
+}
+
+/// How much is told on the standard error beside a refusal and what is wrong.
+#[derive(Clone, Copy, PartialEq, Eq)]
+pub enum Verbosity {
+    /// Nothing: `--quiet` is given.
+    Quiet,
+    /// Notes, and progress if somebody watches: neither is given.
+    Normal,
+    /// More: how long the work took. `--verbose` is given.
+    Verbose,
 }
 
 /// What a command is asked for.
@@ -71,6 +78,7 @@ pub struct BlocksLine<'a> {
 /// What is asked for of `dump`.
 #[derive(Clone, Copy)]
 pub struct DumpLine<'a> {
+    /// The path of the table's file.
     pub table: &'a str,
     /// How keys and values are printed.
     pub spelling: Spelling,
@@ -79,42 +87,55 @@ pub struct DumpLine<'a> {
 /// What is asked for of `manifest`.
 #[derive(Clone, Copy)]
 pub struct ManifestLine<'a> {
+    /// The path of the folder.
     pub folder: &'a str,
+    /// How keys are printed.
     pub spelling: Spelling,
+    /// Whether the version is printed as JSON.
     pub is_json: bool,
 }
 
 /// What is asked for of `stats`.
 #[derive(Clone, Copy)]
 pub struct StatsLine<'a> {
+    /// The path of the folder.
     pub folder: &'a str,
+    /// How keys are printed.
     pub spelling: Spelling,
+    /// Whether the answer is printed as JSON.
     pub is_json: bool,
+    /// How many MiB of tables the test before may hold, 1 to 2^24.
     pub memory: u64,
 }
 
 /// What is asked for of `verify` of a folder.
 #[derive(Clone, Copy)]
 pub struct VerifyLine<'a> {
+    /// The path of the folder.
     pub folder: &'a str,
     /// What is printed.
     pub form: VerdictForm,
+    /// How many MiB of tables the test may hold, 1 to 2^24.
     pub memory: u64,
 }
 
 /// What is asked for of `verify` of a table.
 #[derive(Clone, Copy)]
 pub struct TableLine<'a> {
+    /// The path of the table's file.
     pub table: &'a str,
+    /// Whether the answer is printed as JSON.
     pub is_json: bool,
 }
 
 /// What is asked for of `get`.
 #[derive(Drop)]
 pub struct GetLine<'a> {
+    /// The path of the folder.
     pub folder: &'a str,
     /// The user keys.
     pub keys: KeySource,
+    /// The sequence, any number. Without it, the version's last sequence.
     pub at: Option<u64>,
     /// How keys are given and values are printed.
     pub spelling: Spelling,
@@ -122,6 +143,7 @@ pub struct GetLine<'a> {
     pub is_raw: bool,
     /// Whether keys and values are printed as JSON. At most one of the two is asked for.
     pub is_json: bool,
+    /// How the version is tested before.
     pub testing: Testing,
 }
 
@@ -137,17 +159,22 @@ pub enum KeySource {
 /// What is asked for of `history`.
 #[derive(Drop)]
 pub struct HistoryLine<'a> {
+    /// The path of the folder.
     pub folder: &'a str,
+    /// The user key.
     pub key: Vec<u8>,
     /// How the key was given, and how values are printed.
     pub spelling: Spelling,
+    /// Whether entries are printed as JSON.
     pub is_json: bool,
+    /// How the version is tested before.
     pub testing: Testing,
 }
 
 /// What is asked for of `scan`.
 #[derive(Drop)]
 pub struct ScanLine<'a> {
+    /// The path of the folder.
     pub folder: &'a str,
     /// Which keys are printed.
     pub rows: RowOptions,
@@ -155,21 +182,27 @@ pub struct ScanLine<'a> {
     pub output: RowOutput,
     /// How keys were given, and how keys and values are printed.
     pub spelling: Spelling,
+    /// Whether they are printed as JSON.
     pub is_json: bool,
+    /// How the version is tested before.
     pub testing: Testing,
 }
 
 /// What is asked for of `files`.
 #[derive(Clone, Copy)]
 pub struct FilesLine<'a> {
+    /// The path of the folder.
     pub folder: &'a str,
+    /// Whether the names are printed as JSON.
     pub is_json: bool,
 }
 
 /// What is asked for of `job`.
 #[derive(Clone, Copy)]
 pub struct JobLine<'a> {
+    /// The path of the folder.
     pub folder: &'a str,
+    /// The level, any number.
     pub level: u64,
     /// Whether the parts of the level are printed, and not the files that a compaction would read.
     pub by_parts: bool,
@@ -178,6 +211,7 @@ pub struct JobLine<'a> {
 /// What is asked for of `compact`.
 #[derive(Clone, Copy)]
 pub struct CompactLine<'a> {
+    /// The path of the folder.
     pub folder: &'a str,
     /// What is asked for beside the settings.
     pub options: CompactOptions<'a>,
@@ -188,6 +222,7 @@ pub struct CompactLine<'a> {
 /// What is asked for of `install`.
 #[derive(Drop)]
 pub struct InstallLine<'a> {
+    /// The path of the folder.
     pub folder: &'a str,
     /// The paths of the folders that have the outcomes, in their order.
     pub outs: Vec<&'a str>,
@@ -203,6 +238,7 @@ pub struct InstallLine<'a> {
 /// What is asked for of `clean`.
 #[derive(Clone, Copy)]
 pub struct CleanLine<'a> {
+    /// The path of the folder.
     pub folder: &'a str,
     /// Whether the files are only told, and none is removed.
     pub is_dry_run: bool,
@@ -239,6 +275,7 @@ pub struct RowOptions {
     pub to: Option<Vec<u8>>,
     /// What each user key begins with. With it, neither of the two is given.
     pub prefix: Option<Vec<u8>>,
+    /// The sequence, any number. Without it, the version's last sequence.
     pub at: Option<u64>,
     /// At most how many rows are printed, any number. Without it, all.
     pub limit: Option<u64>,
@@ -249,7 +286,9 @@ pub struct RowOptions {
 pub struct CompactOptions<'a> {
     /// Which levels, and where the outcome goes.
     pub work: CompactWork<'a>,
+    /// How the version is tested before.
     pub testing: Testing,
+    /// Whether its lines are JSON.
     pub is_json: bool,
     /// Whether files that no version needs are removed after each installation.
     pub cleans: bool,
@@ -279,6 +318,7 @@ pub enum CompactWork<'a> {
 pub struct Testing {
     /// Whether it isn't tested: it was verified before, and no other program changed it since.
     pub is_skipped: bool,
+    /// How many MiB of tables the test may hold, 1 to 2^24.
     pub memory: u64,
 }
 
@@ -293,4 +333,40 @@ pub enum Levels {
     All,
     /// The same, by all files of a level at once, with one manifest for each level.
     AllWhole,
+}
+
+/// Why a command line asks for nothing that can be done.
+#[derive(Drop)]
+pub enum Usage {
+    /// The text of the key of `blocks` is no hexadecimal digits.
+    Key,
+    /// The text of a key of `get`, `history` or `scan` is no hexadecimal digits, and neither
+    /// `--text` nor `--utf8` is given.
+    Hexadecimal,
+    /// The text of a key of `get`, `history` or `scan` stands for no bytes, and one of them is
+    /// given.
+    Text,
+    /// The text of a list of snapshots, of `compact` or `install`, is no list of numbers.
+    Snapshots,
+    /// Out of memory.
+    Memory,
+    /// The words are no command, or help or the version was asked for. The error says which, and
+    /// has the text for the user.
+    Clap(clap::Error),
+}
+
+impl From<AllocError> for Usage {
+    fn from(_e: AllocError) -> Usage {
+        Usage::Memory
+    }
+}
+
+impl From<clap::Error> for Usage {
+    fn from(error: clap::Error) -> Usage {
+        if error.kind() == ErrorKind::OutOfMemory {
+            Usage::Memory
+        } else {
+            Usage::Clap(error)
+        }
+    }
 }

@@ -5,20 +5,20 @@ use std::alloc::{AllocError, Global};
 
 /// A rule on arguments of a command. First comes the name of its group, which nobody is told.
 #[derive(Clone, Copy)]
-pub(crate) enum Rule {
+pub(crate) enum Rule<'a> {
     /// At most one of these is given.
-    AtMostOne(&'static str, &'static [&'static str]),
+    AtMostOne(&'a str, &'a [&'a str]),
     /// One of these is given, and no other.
-    One(&'static str, &'static [&'static str]),
+    One(&'a str, &'a [&'a str]),
     /// If the first is given, the second is too.
-    Needs(&'static str, &'static str, &'static str),
+    Needs(&'a str, &'a str, &'a str),
 }
 
 /// The command with these rules too.
 pub(crate) fn with_rules<'a>(
     alloc: Global,
     command: Command<'a>,
-    rules: &[Rule],
+    rules: &[Rule<'a>],
 ) -> Result<Command<'a>, AllocError> {
     let mut command = command;
     for rule in rules {
@@ -28,7 +28,7 @@ pub(crate) fn with_rules<'a>(
 }
 
 /// The group of arguments that has the rule.
-fn group_of<'a>(alloc: Global, rule: Rule) -> Result<ArgGroup<'a>, AllocError> {
+fn group_of<'a>(alloc: Global, rule: Rule<'a>) -> Result<ArgGroup<'a>, AllocError> {
     match rule {
         Rule::AtMostOne(id, arguments) => ArgGroup::new(alloc, id).args(arguments),
         Rule::One(id, arguments) => ArgGroup::new(alloc, id).required(true).args(arguments),

@@ -4,19 +4,9 @@ ghost use Rattle.std.specs.Prelude.{◌≡◌, IfOk};
 ghost use Rattle.clap.specs.Words.{found_of, rows_of, subcommand_rows_of};
 ghost use Rattle.usage.specs.Verbosity.{IsVerbosity, is_flagged_anywhere, is_flagged_below};
 
+use crate::requests::Verbosity;
 use crate::values::{Unread, is_flagged};
 use clap::ArgMatches;
-
-/// How much is told on the standard error beside a refusal and what is wrong.
-#[derive(Clone, Copy, PartialEq, Eq)]
-pub enum Verbosity {
-    /// Nothing: `--quiet` is given.
-    Quiet,
-    /// Notes, and progress if somebody watches: neither is given.
-    Normal,
-    /// More: how long the work took. `--verbose` is given.
-    Verbose,
-}
 
 /// How much is told. `Rules` if both `--verbose` and `--quiet` are given, each before the command
 /// or after it.

@@ -78,6 +78,13 @@ const REQUEST: HostRequest = HostRequest {
 
 const NOWHERE: Place = Place { from: 0, len: 0 };
 
+const EVERYTHING: UserRange = UserRange {
+    has_lower: 0,
+    has_upper: 0,
+    lower: NOWHERE,
+    upper: NOWHERE,
+};
+
 /// What is lent for these inputs, if the whole of them is merged.
 fn lent(inputs: &[Input]) -> Lent<'_, 'static> {
     Lent {
@@ -88,12 +95,7 @@ fn lent(inputs: &[Input]) -> Lent<'_, 'static> {
         tables: TWO_ENTRIES,
         inputs,
         deeper: &[],
-        range: UserRange {
-            has_lower: 0,
-            has_upper: 0,
-            lower: NOWHERE,
-            upper: NOWHERE,
-        },
+        range: EVERYTHING,
     }
 }
 
@@ -127,7 +129,16 @@ fn boundaries_are_chosen(rt: HostRuntime) {
     let mut lengths = [7; 2];
     let mut size = KeysSize { bytes: 7, keys: 7 };
     // The index has one key, the user key u.
-    let asked = lent(&inputs);
+    let asked = Lent {
+        size: 0,
+        request: REQUEST,
+        snapshots: &[],
+        keys: KEYS,
+        tables: TWO_ENTRIES,
+        inputs: &inputs,
+        deeper: &[],
+        range: EVERYTHING,
+    };
     let code = proved_boundaries(alloc, &asked, 2, &mut bytes, &mut lengths, &mut size);
     assert_eq!(rt; code, DONE);
     assert_eq!(rt; size.bytes, 1);
@@ -145,12 +156,24 @@ const RUN: &[u8] = b"u\0\x04\0\0\0\0\0\0u\x01\x02\0\0\0\0\0\0x";
 #[test]
 fn ranges_are_merged(rt: HostRuntime) {
     let alloc = rt.alloc();
+    let request = HostRequest {
+        oldest: 3,
+        ..REQUEST
+    };
     let mut input = two_entries(TWO_ENTRIES.len() as u64);
-    let code = proved_check_table(alloc, BYTEWISE, KEYS, TWO_ENTRIES, &mut input);
+    let code = proved_check_table(alloc, request.order, KEYS, TWO_ENTRIES, &mut input);
     assert!(rt; code == DONE);
     let inputs = [input];
-    let mut asked = lent(&inputs);
-    asked.request.oldest = 3;
+    let asked = Lent {
+        size: 0,
+        request,
+        snapshots: &[],
+        keys: KEYS,
+        tables: TWO_ENTRIES,
+        inputs: &inputs,
+        deeper: &[],
+        range: EVERYTHING,
+    };
     let mut bytes = [7; 20];
     let mut lengths = [EntryLengths { key: 7, value: 7 }; 2];
     let mut marks = [RunMark { below: 7, kept: 7 }; 2];

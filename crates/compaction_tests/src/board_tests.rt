@@ -84,14 +84,14 @@ const DRAWN: &[Drawn] = &[
         jobs: 5,
         seats: 2,
         at: 0,
-        numbers: &[0, 1, 2, 3, 4],
+        numbers: &[0, 2, 4, 1, 3],
     },
     Drawn {
         name: "the second of two, of five jobs",
         jobs: 5,
         seats: 2,
         at: 1,
-        numbers: &[2, 3, 4, 0, 1],
+        numbers: &[1, 3, 0, 2, 4],
     },
     Drawn {
         name: "the first of 64, of three jobs",
@@ -105,7 +105,7 @@ const DRAWN: &[Drawn] = &[
         jobs: 3,
         seats: 64,
         at: 22,
-        numbers: &[1, 2, 0],
+        numbers: &[0, 1, 2],
     },
     Drawn {
         name: "a lone one, of no jobs",

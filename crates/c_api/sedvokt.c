@@ -33,7 +33,7 @@ uint32_t proved_edit(const lent *lent, const sedvokt_numbers *numbers, const sed
 /* What a slice without items points at, since a proved call takes no NULL. */
 static uint64_t nothing;
 
-/* Whether so many items of a length can lie there. They are bytes, or have words of 64 bits. */
+/* Whether `len` items of `each` bytes can lie there. They are bytes, or have words of 64 bits. */
 static bool can_lie(const void *items, size_t len, size_t each) {
   const uintptr_t align = each == 1 ? 1 : _Alignof(uint64_t);
   return len == 0 || (items && (uintptr_t)items % align == 0 && len <= PTRDIFF_MAX / each);

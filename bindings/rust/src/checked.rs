@@ -102,7 +102,7 @@ impl<'a> Checked<'a> {
             }
         }
         answered(code)?;
-        // SAFETY: the call was done, so it wrote so many.
+        // SAFETY: the call was done, so it wrote that many.
         unsafe {
             found.bytes.set_len(size.bytes as usize);
             found.lengths.set_len(size.keys as usize);
@@ -130,14 +130,14 @@ impl<'a> Checked<'a> {
                     marks: run.marks.as_mut_ptr(),
                     marks_len: run.marks.capacity(),
                 };
-                // SAFETY: each pointer is a slice's, a vector's or a reference's; what is written is
-                // apart from the others. The inputs were checked in this order, and are as they
+                // SAFETY: each pointer is a slice's, a vector's or a reference's; what is written
+                // is apart from the others. The inputs were checked in this order, and are as they
                 // were then.
                 code = unsafe { sys::sedvokt_merge(&self.0.told(), range, &room, &mut size) };
             }
         }
         answered(code)?;
-        // SAFETY: the call was done, so it wrote so many.
+        // SAFETY: the call was done, so it wrote that many.
         unsafe {
             run.bytes.set_len(size.bytes as usize);
             run.entries.set_len(size.entries as usize);

@@ -211,7 +211,7 @@ pub fn edit(of: &Compaction, numbers: &Numbers, added: &[File]) -> Result<Vec<u8
     })
 }
 
-/// A vector without values, with room for so many.
+/// A vector without values, with room for that many.
 fn with_room<T>(len: u64) -> Result<Vec<T>, Refused> {
     let mut room = Vec::new();
     match room.try_reserve_exact(len as usize) {
@@ -236,7 +236,7 @@ fn filled<T>(
         }
     }
     answered(code)?;
-    // SAFETY: the call was done, so it wrote so many.
+    // SAFETY: the call was done, so it wrote that many.
     unsafe { room.set_len(len as usize) };
     Ok(room)
 }

@@ -29,8 +29,8 @@ pub struct FilePlace {
     pub number: u64,
 }
 
-/// What is counted of a table: its entries, their least and greatest sequence, and 1 if an entry has
-/// the user key and the sequence of the one before it.
+/// What is counted of a table: its entries, their least and greatest sequence, and 1 if an entry
+/// has the user key and the sequence of the one before it.
 #[repr(C)]
 #[derive(Clone, Copy, Debug, Default, PartialEq, Eq)]
 pub struct Counts {

@@ -1,5 +1,5 @@
 -- How jobs are shared among w seats. Shares and the places of their jobs are counted from 0.
-use Rattle.std.specs.Prelude.{◌≡◌, ℕ, ◌+◌, ◌*◌, ◌%◌, cond, ◌==◌, List, [], ◌∷◌}
+use Rattle.std.specs.Prelude.{◌≡◌, ℕ, ◌+◌, ◌%◌, cond, ◌==◌, List, [], ◌∷◌}
 
 -- 1 if the numbers are the same, else 0
 abbrev pub one_if_same : ℕ → ℕ → ℕ
@@ -9,10 +9,6 @@ one_if_same x y = cond (x == y) 1 0
 abbrev pub times : ℕ → List ℕ → ℕ
 times x [] = 0
 times x (y ∷ ys) = one_if_same x y + times x ys
-
--- the job at place c of share k
-abbrev pub job_at : ℕ → ℕ → ℕ → ℕ
-job_at w k c = k + c * w
 
 -- x is a job of share k
 abbrev pub IsInShare : ℕ → ℕ → ℕ → Type 0

@@ -88,13 +88,11 @@ impl From<RunFault> for Fault {
 
 /// The results of all jobs, or the least job that failed.
 pub(crate) fn run_board<L: Labour + Sync, G: Gate + Sync, R: Threads + Sync>(
-    rt: &R,
-    alloc: Global,
+    workers: &Workers<'_, R, G>,
     labour: &L,
     board: Board,
     jobs: u64,
     seats: Vec<Seat>,
-    gate: &G,
 ) -> Result<Result<Vec<L::Out>, (u64, Fault)>, AllocError>
 where
     L::Out: Drop + Send,
@@ -107,10 +105,11 @@ where
     ensures refused { IfOk result (λ o. IfErr o (λ r.
         IsRefused (L.refusal labour.now) (L.gives labour.now) jobs r.0 r.1)) }
 {
+    let alloc = workers.alloc();
     let mut places = no_results(alloc, jobs as usize)?;
     let results = Vec::with_capacity(alloc, jobs as usize)?;
     let mut back = Vec::with_capacity(alloc, seats.len())?;
-    let shifts = work_all(rt, alloc, &board, labour, gate, seats)?;
+    let shifts = work_all(workers, &board, labour, seats)?;
     let refused = file_all(labour, &board, shifts, &mut places, &mut back);
     let _tally = board.close(back);
     match refused {
@@ -166,11 +165,9 @@ where
 
 // Each seat is given to a worker.
 fn work_all<L: Labour + Sync, G: Gate + Sync, R: Threads + Sync>(
-    rt: &R,
-    alloc: Global,
+    workers: &Workers<'_, R, G>,
     board: &Board,
     labour: &L,
-    gate: &G,
     seats: Vec<Seat>,
 ) -> Result<Vec<Shift<L::Out>>, AllocError>
 where
@@ -181,5 +178,7 @@ where
         All (IsShift (L.refusal labour.now) (L.gives labour.now) board.now) v.items) }
     ensures len { IfOk result (λ v. vec_len v ≡ vec_len seats) }
 {
-    thread::map_vec(rt, seats, &|seat| serve(board, labour, gate, alloc, seat))
+    let alloc = workers.alloc();
+    let gate = workers.gate();
+    thread::map_vec(workers.threads(), seats, &|seat| serve(board, labour, gate, alloc, seat))
 }

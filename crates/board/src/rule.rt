@@ -5,8 +5,8 @@
 //!
 //! 1. A claim adds 1 to a share's word, and draws the job at the place that it found there. No two
 //!    claims find the same number, so no job is drawn twice.
-//! 2. A claim that finds a place after the last job sees the share empty. A word never falls, so the
-//!    share stays empty.
+//! 2. A claim that finds a place after the last job sees the share empty. A word never falls, so
+//!    the share stays empty.
 //! 3. A settle makes the fault word the lesser of itself and the job. It never rises, so a job
 //!    above it stays above one that failed.
 //!

@@ -120,7 +120,7 @@ impl<'r, R: Threads + Sync, G: Gate + Sync> Workers<'r, R, G> {
         let Ok((board, seats)) = Board::new(self.alloc, jobs, self.seats_for(jobs)) else {
             return Err(RunFault::Memory);
         };
-        match run_board(self.rt, self.alloc, labour, board, jobs, seats, self.gate) {
+        match run_board(self, labour, board, jobs, seats) {
             Ok(Ok(results)) => Ok(results),
             Ok(Err((job, fault))) => Err(RunFault::Job { job, fault }),
             Err(AllocError) => Err(RunFault::Memory),

@@ -9,22 +9,16 @@ ghost use Rattle.std.specs.Prelude.{◌≡◌, ◌↔◌, true, map, Ok, IsTrue,
 ghost use Rattle.std.specs.List.{All};
 ghost use Rattle.std.specs.Result.{MatchResult};
 ghost use Rattle.std.specs.Option.{MatchOption, is_some};
-ghost use Rattle.std.specs.List.Sorted.{IsPermutation};
 ghost use Rattle.ikey.specs.Answers.{fault, UnlessMemory};
 ghost use Rattle.ikey.specs.fault.FaultName.TheVariants.{Memory};
-ghost use Rattle.edit.specs.VersionOrder.{added_from};
-ghost use Rattle.edit.specs.declared.meta.TheConstants.{LEVELS};
 ghost use Rattle.reads.specs.Tables.{table_of_number, table_entries, tables_test};
 ghost use Rattle.reads.specs.Lawful.{IsBelowNextFile, IsLawful, IsUnlawful};
 ghost use Rattle.reads.specs.StatedFiles.{is_below, matches_metadata, IsStatedFile};
-ghost use Rattle.reads.specs.FileChecks.{stands_before, rank_of};
-ghost use Rattle.reads.specs.FileList.{level_file_in};
-ghost use Rattle.reads.specs.FileChecks.{newest_first_cmp, AreListed, AreInTurn};
 ghost use Rattle.reads.specs.TableOrder.{AreAllAdded, AreStanding, AreStandingFiles, IsNeverLawful};
 
 use crate::bounds::has_bounds;
 use crate::entries_walk::falls_in;
-use crate::file_list::all_files;
+use crate::file_order::{are_in_turn, listed_files};
 use crate::level_file::LevelFile;
 use crate::numbered_table::NumberedTable;
 use crate::table_places::TablePlaces;
@@ -33,7 +27,6 @@ use edit::{FileMeta, Version};
 use ikey::{Comparator, Fault, FaultName, InternalKey};
 use split::Range;
 use std::alloc::Global;
-use std::cmp::Ordering;
 use table::{SoundTable, TableCursor};
 
 /// Whether the version is lawful with these tables:
@@ -147,41 +140,6 @@ fn metas_of<'v>(alloc: Global, files: &[LevelFile<'v>]) -> Result<Vec<&'v FileMe
     Ok(metas)
 }
 
-/// The number of a file of level 0; 0 for the others.
-fn rank_of(file: &LevelFile<'_>) -> u64
-    ensures { result ≡ rank_of (level_file_in file.now) }
-{
-    if file.level == 0 { file.meta.number } else { 0 }
-}
-
-/// The order of files, newer entries first: by level, at level 0 by falling number, at each other
-/// level by smallest key.
-fn newest_first_order<C: Comparator>(file: &LevelFile<'_>, other: &LevelFile<'_>) -> Ordering
-    ensures { result ≡ newest_first_cmp C.cmp (level_file_in file.now) (level_file_in other.now) }
-{
-    let levels = file.level.cmp(&other.level);
-    let ranks = rank_of(other).cmp(&rank_of(file));
-    let smallest = other.meta.smallest.as_key();
-    let keys = file.meta.smallest.as_key().compare::<C>(&smallest);
-    levels.then(ranks.then(keys))
-}
-
-/// All files of a version in that order.
-fn listed_files<'v, C: Comparator>(
-    alloc: Global,
-    version: &'v Version,
-) -> Result<Vec<LevelFile<'v>>, Fault>
-    ensures listed { IfOk result (λ files. AreListed C.cmp version.now.files files.items) }
-    ensures permutation { IfOk result (λ files.
-        IsPermutation (added_from C.cmp version.now.files 0 LEVELS)
-        (map level_file_in files.items)) }
-    ensures memory { IfErr result (λ e. e ≡ fault Memory) }
-{
-    let mut files = all_files::<C>(alloc, version)?;
-    files.sort_unstable_by(|file, other| newest_first_order::<C>(file, other));
-    Ok(files)
-}
-
 /// Whether `number` is below `next`; false if there is no `next`.
 pub fn is_below(next: Option<u64>, number: u64) -> bool
     ensures test { result ≡ is_below next number }
@@ -237,37 +195,6 @@ fn are_as_stated<C: Comparator>(
 {
     for file in files {
         if !is_as_stated(file.meta, tables, next) {
-            return false;
-        }
-    }
-    true
-}
-
-/// Whether `file` comes before `other`, so that its entries of one user key are the newer ones:
-///
-/// - it is at a shallower level;
-/// - or both are at level 0, and it has the higher number;
-/// - or both are at one level from 1 on, and its range of internal keys is below that of `other`.
-fn stands_before<C: Comparator>(file: &LevelFile<'_>, other: &LevelFile<'_>) -> bool
-    ensures { result ≡ stands_before C.cmp (level_file_in file.now) (level_file_in other.now) }
-{
-    let largest = file.meta.largest.as_key();
-    let smallest = other.meta.smallest.as_key();
-    file.level < other.level
-        || (file.level == other.level
-            && if file.level == 0 {
-                other.meta.number < file.meta.number
-            } else {
-                largest.compare::<C>(&smallest).is_lt()
-            })
-}
-
-/// Whether each file comes before the next one.
-fn are_in_turn<C: Comparator>(files: &[LevelFile<'_>]) -> bool
-    ensures { IsTrue result ↔ AreInTurn C.cmp files.now }
-{
-    for place in 1..files.len() {
-        if !stands_before::<C>(&files[place - 1], &files[place]) {
             return false;
         }
     }

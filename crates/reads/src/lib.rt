@@ -19,6 +19,7 @@
 mod bounds;
 mod entries_walk;
 mod file_list;
+mod file_order;
 mod found_entry;
 mod lawfulness;
 mod level_file;

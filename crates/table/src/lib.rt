@@ -28,6 +28,7 @@ mod block_walk;
 mod bounds;
 mod builder;
 mod cursor;
+mod data_bounds;
 mod flushed;
 mod flushed_block;
 mod footer;

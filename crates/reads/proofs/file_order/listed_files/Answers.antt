@@ -8,7 +8,7 @@ use Rattle.reads.specs.FileChecks.{newest_first_cmp}
 use Rattle.reads.specs.FileList.{level_file_in}
 use Rattle.reads.proofs.Apart.{listed_again}
 use Rattle.reads.proofs.FileOrder.{newest_first_cmp-total}
-use Rattle.reads.proofs.lawfulness.listed_files.Goals as goal
+use Rattle.reads.proofs.file_order.listed_files.Goals as goal
 
 pub returns-clause-listed : goal.returns-clause-listed
 returns-clause-listed g c = record {

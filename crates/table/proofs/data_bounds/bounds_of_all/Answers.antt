@@ -17,8 +17,8 @@ use Rattle.table.specs.IndexEntries.{index_entry_of, index_entries_of}
 use Rattle.table.specs.declared.indexed_block.IndexedBlock.{IndexedBlock}
 use Rattle.table.proofs.Steps.{fails_map, handed_on, next_item, past_end, both_hold, one_fails}
 use Rattle.table.proofs.DataSteps.{all_bounds, rest_bounds, stands, blocks_begin, blocks_go_on, blocks_done, first_refused, next_refused}
-use Rattle.table.proofs.table_check.bounds_of_all.Goals as goal
-use Rattle.table.proofs.table_check.bounds_of_all.Goals.{then-is_between, else-is_between}
+use Rattle.table.proofs.data_bounds.bounds_of_all.Goals as goal
+use Rattle.table.proofs.data_bounds.bounds_of_all.Goals.{then-is_between, else-is_between}
 
 pub returns-in_err-bounds : goal.returns-in_err-bounds
 returns-in_err-bounds g c =

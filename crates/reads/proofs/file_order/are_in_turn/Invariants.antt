@@ -3,7 +3,7 @@ use Rattle.std.specs.Prelude.{slice_index_or}
 use Rattle.reads.specs.declared.level_file.LevelFile.{LevelFile}
 use Rattle.reads.specs.FileChecks.{stands_before}
 use Rattle.reads.specs.FileList.{level_file_in}
-use Rattle.reads.proofs.lawfulness.are_in_turn.Given as goal
+use Rattle.reads.proofs.file_order.are_in_turn.Given as goal
 
 -- each file so far stands before the one after it
 abbrev pub invariant-loop-place : goal.invariant-loop-place

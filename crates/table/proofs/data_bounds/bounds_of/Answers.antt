@@ -12,7 +12,7 @@ use Rattle.table.specs.declared.bounds.Bounds.{Bounds}
 use Rattle.table.specs.IndexReading.{block_in}
 use Rattle.table.proofs.Steps.{check_gives, handed_on}
 use Rattle.table.proofs.OneWalk.{first_fails, walked}
-use Rattle.table.proofs.table_check.bounds_of.Goals as goal
+use Rattle.table.proofs.data_bounds.bounds_of.Goals as goal
 
 pub returns-in_err-enter : goal.returns-in_err-enter
 returns-in_err-enter g c =

@@ -3,7 +3,7 @@ use Rattle.std.specs.Option.{option_map}
 use Rattle.block.specs.BuilderView.{last_key}
 use Rattle.table.specs.EntryTests.{entries_test}
 use Rattle.table.specs.TallySteps.{tally_after}
-use Rattle.table.proofs.table_check.bounds_ahead.Given as goal
+use Rattle.table.proofs.data_bounds.bounds_ahead.Given as goal
 
 abbrev pub invariant-loop-largest : goal.invariant-loop-largest
 invariant-loop-largest g l = record {

@@ -20,7 +20,7 @@ use Rattle.table.proofs.Steps.{first_entry, entries_go_on, entries_end, last_goe
 use Rattle.table.proofs.OneWalk.{walk_refused}
 use Rattle.table.proofs.Tallies.{tally_goes_on}
 use Rattle.table.proofs.Walks.{none_valid}
-use Rattle.table.proofs.table_check.bounds_ahead.Goals as goal
+use Rattle.table.proofs.data_bounds.bounds_ahead.Goals as goal
 
 pub returns-in_err-advance-clause-bounds : goal.returns-in_err-advance-clause-bounds
 returns-in_err-advance-clause-bounds g c ok =

@@ -180,5 +180,9 @@ where
 {
     let alloc = workers.alloc();
     let gate = workers.gate();
-    thread::map_vec(workers.threads(), seats, &|seat| serve(board, labour, gate, alloc, seat))
+    thread::map_vec(
+        workers.threads(),
+        seats,
+        &|seat| serve(board, labour, gate, alloc, seat),
+    )
 }

@@ -6,10 +6,10 @@ use mathlib.Core.Option.{some, some-ne-none}
 use lib.ListN.{get_elem?}
 use Rattle.board.specs.declared.rule.SeatView.{SeatView}
 use Rattle.board.specs.Shares.{times, one_if_same}
-use Rattle.board.specs.Words.{total, word_of, claims_of}
+use Rattle.board.specs.Words.{job_at, total, word_of, claims_of}
 use Rattle.board.specs.Rule.{fresh_view, view_after_draw, saw_empty, Fits, times_drawn, times_empty, KeepsDrawn}
 use Rattle.board.proofs.Sums.{total_set, times-snoc, same_tells, same_one, other_zero}
-use Rattle.board.proofs.Spans.{job_at, claims_more, claims_full, claimed_none, claimed_same, word_below, word_apart}
+use Rattle.board.proofs.Spans.{claims_more, claims_full, claimed_none, claimed_same, word_below, word_apart}
 use Rattle.board.proofs.Views.{each_set, each_snoc}
 
 -- one more claim of share k of w

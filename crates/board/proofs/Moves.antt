@@ -11,10 +11,10 @@ use Rattle.board.specs.declared.rule.SeatView.{SeatView}
 use Rattle.board.specs.declared.rule.Extent.{Extent}
 use Rattle.board.specs.Shares.{times}
 use Rattle.board.specs.Progress.{no_fault}
-use Rattle.board.specs.Words.{total, once_below, word_of, claims_of}
+use Rattle.board.specs.Words.{job_at, total, once_below, word_of, claims_of}
 use Rattle.board.specs.Rule.{fresh_view, view_after_draw, saw_empty, has_failed, has_looked, has_skipped, gathered_views, HasNoLists, Fits, times_drawn, times_empty, times_failed, times_looked, times_skipped, KeepsDrawn, KeepsSkipped, BoardRule, TableKeepsRule, Claims, StepClaims, StepLooks, StepSettles, StepSkips, has_looked_for, IsLeastFound, IsWhole, fault_of, opening_words}
 use Rattle.board.proofs.Sums.{total_set, total-snoc, le-total, total_le, total_only, times-append, times-snoc, same_one}
-use Rattle.board.proofs.Spans.{job_at, claimed_le, claimed_all, word_below, word_apart}
+use Rattle.board.proofs.Spans.{claimed_le, claimed_all, word_below, word_apart}
 use Rattle.board.proofs.Views.{each_set, each_snoc}
 use Rattle.board.proofs.Draws.{draws, sees, still_drawn, opens}
 use Rattle.board.proofs.Faults.{still_failed, still_skipped, settles, looks, skips, no_faults}

@@ -4,11 +4,7 @@ use Rattle.std.proofs.lemmas.Bool.Decides.{nat_tests}
 use native.Mathlib.Decide.{ℕ_discrete, dec_le}
 use Rattle.std.proofs.Math.Nat.{add-mul-mod_self_right, add-mul-div_right, div-eq_of_lt, le-div_iff_mul-le, mod-add-div', mul-div-le}
 use Rattle.board.specs.Shares.{one_if_same}
-use Rattle.board.specs.Words.{once_below, word_of, claim_count}
-
--- the job at place c of share k
-abbrev pub job_at : ℕ → ℕ → ℕ → ℕ
-job_at w k c = k + c * w
+use Rattle.board.specs.Words.{job_at, once_below, word_of, claim_count}
 
 -- how often x was claimed, which is at place p of a share that was claimed c times
 abbrev count_at : ℕ → ℕ → ℕ → ℕ → ℕ

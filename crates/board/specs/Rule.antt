@@ -6,9 +6,9 @@ use lib.ListN.{get_elem?}
 use Rattle.atomic_table.specs.Table.{State, Me, Step}
 use Rattle.board.specs.declared.rule.SeatView.{SeatView}
 use Rattle.board.specs.declared.rule.Extent.{Extent}
-use Rattle.board.specs.Shares.{times, job_at}
+use Rattle.board.specs.Shares.{times}
 use Rattle.board.specs.Progress.{no_fault}
-use Rattle.board.specs.Words.{total, once_below, word_of, claims_of, claim_count}
+use Rattle.board.specs.Words.{total, once_below, word_of, claims_of, claim_count, job_at}
 use Rattle.board.specs.declared.limits.TheConstants.{MAX_JOBS, MAX_WORKERS}
 
 -- `members` seats at which nothing was done

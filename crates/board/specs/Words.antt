@@ -1,6 +1,10 @@
 -- Which numbers were claimed, by the claim words.
 use Rattle.std.specs.Prelude.{ℕ, ◌+◌, ◌*◌, ◌/◌, ◌%◌, cond, ltb, ◌&&◌, List, [], ◌∷◌, slice_index}
 
+-- the job at place c of share k, of w shares
+abbrev pub job_at : ℕ → ℕ → ℕ → ℕ
+job_at w k c = k + c * w
+
 -- the sum of f over the list
 abbrev pub total : {A : Type 0} → (A → ℕ) → List A → ℕ
 total f [] = 0

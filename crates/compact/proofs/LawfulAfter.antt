@@ -1,5 +1,5 @@
 -- The version after a compaction is lawful, and holds what is kept.
-use Rattle.std.proofs.Common.{◌≡◌, ◌≢◌, ℕ, ◌+◌, ◌-◌, ◌<◌, ◌≤◌, false, not, List, [], ◌∷◌, length, get_or, refl, sym, ap, subst, ◌∙◌, inl, inr, arith}
+use Rattle.std.proofs.Common.{◌≡◌, ◌≢◌, ℕ, ◌+◌, ◌-◌, ◌<◌, ◌≤◌, false, not, List, [], ◌∷◌, length, get_or, Result, Ok, refl, sym, ap, subst, ◌∙◌, inl, inr, arith}
 use Rattle.std.specs.Prelude.{◌⊎◌, Contains}
 use Rattle.std.specs.List.{All}
 use Rattle.std.specs.List.Sorted.{IsPermutation}
@@ -10,9 +10,13 @@ use Rattle.std.proofs.lemmas.List.Elements.{All-contains, Contains-get_or}
 use Rattle.std.proofs.lemmas.List.Sorted.{IsPermutation-refl}
 use Rattle.ikey.specs.Comparator.{ShortKeys, IsExact}
 use Rattle.ikey.specs.Order.{internal_cmp}
+use Rattle.ikey.specs.fault.Fault.{Fault}
 use Rattle.table.specs.EncodedEntry.{Entry}
 use Rattle.reads.specs.BuilderView.{last_key}
+use Rattle.table.specs.CheckedContents.{contents_in}
 use Rattle.table.specs.EntryTests.{first_key}
+use Rattle.table.specs.TableContents.{table_reading}
+use Rattle.table.proofs.CheckedTables.{entries_read}
 use Rattle.edit.specs.Version.{State}
 use Rattle.edit.specs.declared.meta.NewFile.{NewFile}
 use Rattle.edit.proofs.Tested.{not_is_true}
@@ -59,6 +63,9 @@ pub has_ends : (es : List Entry) → es ≢ [] → HasEnds es
 has_ends [] some = absurd (some refl)
 has_ends (e ∷ es) some = let l = last_in e es in record { first = e; first_there = first_in e es; first_key_is = refl; last = l.0; last_there = l.1; last_key_is = l.2 }
 
+abbrev entries_answer : List Entry → Result (List Entry) Fault
+entries_answer es = Ok es
+
 module _ (cmp : List ℕ → List ℕ → Ordering) (total : IsTotalOrder cmp) (exact : IsExact cmp) (short_keys : ShortKeys)
     (v : State) (tables : List NumberedContents) (r : RequestView) (answer : Answer)
     (lawful : IsLawful cmp v tables) (safe : AreSafe cmp v tables r.picked) (over : IsOver v tables r)
@@ -75,13 +82,16 @@ module _ (cmp : List ℕ → List ℕ → Ordering) (total : IsTotalOrder cmp) (
   abbrev kept_ones : List Entry
   kept_ones = kept cmp (readable_of r.snapshots r.last_sequence) r.picked.deeper held.union
 
+  written_read : (q : Output) → AreWritten cmp q.bytes q.entries → table_reading cmp q.bytes ≡ Ok q.entries
+  written_read q w = entries_read cmp q.bytes (contents_in cmp q.bytes) w.reads ∙ ap (λ (es : List Entry). entries_answer es) w.holds
+
   kept_outputs : KeptOutputs cmp tables r.picked readable
   kept_outputs = record {
     union = held.union;
     outputs = held.outputs;
     is_union = held.is_union;
     holds_kept = subst (IsPermutation kept_ones) (sym held.holds_kept) (IsPermutation-refl kept_ones);
-    written = held.written;
+    read = λ k d lt. written_read (get_or held.outputs k d) (held.written k d lt);
   }
 
   -- ---- the files after

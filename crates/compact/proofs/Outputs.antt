@@ -230,14 +230,15 @@ module _ (cmp : List ℕ → List ℕ → Ordering) where
       (values_tested None (entries_of first.value) (all_tests cmp None index.value first.value read.read))
 
   -- bytes that are a table of a writable list are written
-  table_written : IsTotalOrder cmp → (bytes : List ℕ) (q : List Entry) → IsWritable cmp q → IsTable cmp bytes q → AreWritten cmp bytes q
-  table_written total bytes q writable is =
+  table_written : IsTotalOrder cmp → (bytes : List ℕ) (q : List Entry) → IsWritable cmp q → length bytes ≤ 2 ^ 30 → IsTable cmp bytes q → AreWritten cmp bytes q
+  table_written total bytes q writable small is =
       let first = stepped (blocks_of cmp bytes) (λ (blocks : List DataBlock). Ok (entries_of blocks)) q ((reads_tables cmp total).only bytes q is) in
       let contents = contents_are cmp bytes first.value first.is in
       record {
         some = writable.some;
         keys = writable.keys;
         rising = writable.rising;
+        small = small;
         reads = contents_read cmp bytes first.value first.is;
         same = ap (λ (c : Contents). c.bytes) contents;
         holds = ap (λ (c : Contents). c.entries) contents ∙ ok_is (entries_of first.value) q first.goes_on;
@@ -367,7 +368,7 @@ module _ (cmp : List ℕ → List ℕ → Ordering) (total : IsTotalOrder cmp) (
       let is = All-contains (λ (x : Output). x.bytes ≡ written_by x.entries) ws w bytes at in
       let small : length (written_by w.entries) ≤ 2 ^ 30 = subst (λ (bs : List ℕ). length bs ≤ 2 ^ 30) is (of_outputs.small w at) in
       subst (λ (bs : List ℕ). AreWritten cmp bs w.entries) (sym is)
-      (table_written cmp total (written_by w.entries) w.entries (writable w.entries in_cut) (reads_back r.options w.entries (writable w.entries in_cut) small))
+      (table_written cmp total (written_by w.entries) w.entries (writable w.entries in_cut) small (reads_back r.options w.entries (writable w.entries in_cut) small))
 
   pub hold_outputs : HoldOutputs cmp short_keys tables r answer
   hold_outputs = record {
@@ -381,7 +382,6 @@ module _ (cmp : List ℕ → List ℕ → Ordering) (total : IsTotalOrder cmp) (
     users = subst (UsersRise cmp) (sym cut_entries) ((whole_law cmp total exact).users (below_request r) r.options union is_union.rising);
     bytes = bytes;
     written = All-from_recursion (λ (w : Output). AreWritten cmp w.bytes w.entries) ws (of_each (λ (w : Output). AreWritten cmp w.bytes w.entries) ws written);
-    small = All-from_recursion (λ (w : Output). length w.bytes ≤ 2 ^ 30) ws (of_each (λ (w : Output). length w.bytes ≤ 2 ^ 30) ws of_outputs.small);
     answer_tables = sym (ap (λ (a : Answer). a.tables) of_outputs.is);
     answer_edit = sym (ap (λ (a : Answer). a.edit) of_outputs.is);
   }

@@ -1,14 +1,14 @@
 -- Reads survive if outputs that hold what is kept take the place of the inputs, whoever cut them.
-use Rattle.std.proofs.Common.{◌≡◌, ◌≢◌, ℕ, ◌+◌, ◌-◌, ◌<◌, ◌≤◌, Bool, true, false, not, ◌&&◌, eqb, List, [], ◌∷◌, ◌++◌, length, map, get_or, Some, None, Option, refl, sym, ap, subst, ◌∙◌, inl, inr, arith, eqb-true}
+use Rattle.std.proofs.Common.{◌≡◌, ℕ, ◌+◌, ◌-◌, ◌<◌, ◌≤◌, Bool, true, false, not, ◌&&◌, eqb, List, [], ◌∷◌, ◌++◌, length, map, get_or, Some, None, Option, Ok, refl, sym, ap, subst, ◌∙◌, inl, inr, arith, eqb-true}
 use Rattle.std.specs.Prelude.{◌⊎◌, Contains, AllPairs, slice_get, if◌then◌else◌}
-use Rattle.std.specs.List.{All, AllByRecursion, filter, flat_map, fold, list_any, IsDistinct}
+use Rattle.std.specs.List.{All, filter, flat_map, fold, list_any, IsDistinct}
 use Rattle.std.specs.List.Sorted.{IsPermutation}
 use Rattle.std.specs.Option.{option_map, option_map_or}
 use Rattle.std.specs.Str.{bytes_eq}
 use Rattle.std.specs.Cmp.{IsTotalOrder}
 use Rattle.std.specs.declared.cmp.Ordering.{Ordering}
 use Rattle.std.proofs.lemmas.Bool.{eq-eqb}
-use Rattle.std.proofs.lemmas.List.Elements.{All-contains, All-from_recursion, Contains-get_or, Contains-append_left, Contains-append_right}
+use Rattle.std.proofs.lemmas.List.Elements.{All-contains, Contains-get_or, Contains-append_left, Contains-append_right}
 use Rattle.std.proofs.lemmas.List.Sorted.{Contains-permutation, IsPermutation-sym}
 use Rattle.std.proofs.lemmas.Map.Keys.{IsDistinct-IsPermutation, apart_from_distinct}
 use Rattle.std.proofs.lemmas.Bool.{cases_lt}
@@ -17,9 +17,13 @@ use Rattle.ikey.specs.Comparator.{IsExact}
 use Rattle.ikey.specs.Key.{IsInternalKey, user_of, sequence_of}
 use Rattle.table.specs.EncodedEntry.{Entry}
 use Rattle.table.specs.CheckedContents.{contents_in}
-use Rattle.table.specs.TableContents.{Contents, contents_reading}
+use Rattle.ikey.specs.Answers.{◌>>=◌}
+use Rattle.ikey.proofs.Binds.{bind_ok, ok_is}
+use Rattle.table.specs.IndexReading.{index_reading}
+use Rattle.table.specs.TableContents.{Contents, blocks_of, contents_reading, data_reading, entries_of, index_in, table_reading}
 use Rattle.table.specs.EntriesFrom.{EntriesRise}
-use Rattle.table.proofs.CheckedTables.{HasEntry, first_is, last_is}
+use Rattle.table.proofs.CheckedTables.{HasEntry, blocks_by, contents_are, contents_read, first_is, last_is, read_data, some_entry}
+use Rattle.table.proofs.EntryTests.{all_tests, rising}
 use Rattle.edit.specs.Edit.{Edit}
 use Rattle.edit.specs.Version.{State, are_apart, are_new, has_number, undeleted_files}
 use Rattle.edit.specs.declared.meta.FileMeta.{FileMeta}
@@ -47,7 +51,7 @@ use Rattle.compact.specs.EditOf.{new_file}
 use Rattle.compact.specs.OneThread.{Answer}
 use Rattle.compact.specs.GetsAfter.{staying_files, entries_of_inputs, HoldKept}
 use Rattle.compact.specs.KeptOutputs.{KeptOutputs, KeptReadsSurvive, ReadAsBefore, TakePlace}
-use Rattle.compact.specs.RequestOverVersion.{AreWritten, output_entries}
+use Rattle.compact.specs.RequestOverVersion.{output_entries}
 use Rattle.compact.specs.SurvivingReads.{output_table, tables_after}
 use Rattle.compact.proofs.AppliedEdit.{IsMade, IsOutputOf, apart_new, is_made, kept_are, none_of, permuted_new, side_of, staying_apart, stays_there}
 use Rattle.compact.proofs.Gets.{get_is, kept_part, rising_lower}
@@ -55,9 +59,30 @@ use Rattle.compact.proofs.VersionInputs.{is_one}
 use Rattle.compact.proofs.Lookups.{other_found, output_found}
 use Rattle.compact.proofs.SafeInputs.{AreSafe, closed_safe}
 
-has_entry : (es : List Entry) → es ≢ [] → HasEntry es
-has_entry [] some = absurd (some refl)
-has_entry (e ∷ es) some = record { first = e; others = es; same = refl }
+-- ---- what is read of an output
+
+record IsReadOf (cmp : List ℕ → List ℕ → Ordering) (w : Output) : Type 0 where
+  reads : contents_reading cmp w.bytes ≡ Ok (contents_in cmp w.bytes)
+  same : (contents_in cmp w.bytes).bytes ≡ w.bytes
+  holds : (contents_in cmp w.bytes).entries ≡ w.entries
+  some : HasEntry w.entries
+  rising : EntriesRise cmp w.entries
+
+read_of : (cmp : List ℕ → List ℕ → Ordering) → IsTotalOrder cmp → (w : Output) → table_reading cmp w.bytes ≡ Ok w.entries → IsReadOf cmp w
+read_of cmp total w h =
+    let r = bind_ok (blocks_of cmp w.bytes) (λ blocks. Ok (entries_of blocks)) w.entries h in
+    let a = bind_ok (index_in w.bytes) (λ q. index_reading w.bytes q >>= λ index. data_reading cmp index) r.0 (sym (blocks_by cmp w.bytes) ∙ r.1) in
+    let b = bind_ok (index_reading w.bytes a.0) (λ index. data_reading cmp index) r.0 a.2 in
+    let d = read_data cmp b.0 r.0 b.2 in
+    let whole : entries_of r.0 ≡ w.entries = ok_is (entries_of r.0) w.entries r.2 in
+    let contents = contents_are cmp w.bytes r.0 r.1 in
+    record {
+      reads = contents_read cmp w.bytes r.0 r.1;
+      same = ap (λ (c : Contents). c.bytes) contents;
+      holds = ap (λ (c : Contents). c.entries) contents ∙ whole;
+      some = subst HasEntry whole (some_entry cmp b.0 r.0 b.2);
+      rising = subst (EntriesRise cmp) whole (rising cmp None (entries_of r.0) total (all_tests cmp None b.0 r.0 d.read));
+    }
 
 -- ---- what holds of each and each later one holds of what is kept
 
@@ -173,8 +198,19 @@ module _ (cmp : List ℕ → List ℕ → Ordering) (total : IsTotalOrder cmp) (
   closed : AreClosed cmp v tables p
   closed = safe.closed
 
-  written : (q : Output) → Contains outputs q → AreWritten cmp q.bytes q.entries
-  written q at = All-contains (λ (x : Output). AreWritten cmp x.bytes x.entries) outputs q held.written at
+  read : (q : Output) → Contains outputs q → IsReadOf cmp q
+  read q at = read_of cmp total q (All-contains (λ (w : Output). table_reading cmp w.bytes ≡ Ok w.entries) outputs q held.read at)
+
+  file_of_input : (i : InputFile) → Contains p.files i → IsFileOf cmp tables i.meta
+  file_of_input i at =
+      let f = safe.placed i at in
+      subst (IsFileOf cmp tables) f.is (All-contains (λ (x : NewFile). IsFileOf cmp tables x.meta) v.files f.file lawful.files f.there)
+
+  -- each entry of an input's table has an internal key
+  internal : (x : Entry) → IsFromInput tables p x → IsInternalKey x.key
+  internal x from =
+      let f = file_of_input from.input from.there_in in
+      All-contains (λ (e : Entry). IsInternalKey e.key) f.table.entries x f.keys (subst (λ (es : List Entry). Contains es x) (entries_are tables from.input.meta.number f.table f.there) from.held_by)
 
   -- ---- the files after
 
@@ -237,7 +273,7 @@ module _ (cmp : List ℕ → List ℕ → Ordering) (total : IsTotalOrder cmp) (
   new_table q at = output_found cmp (p.level + 1) outputs both_new.0 q at (filter (λ (t : NumberedContents). not (is_input p t.number)) tables)
 
   new_entries : (q : Output) → Contains outputs q → table_entries now q.number ≡ q.entries
-  new_entries q at = entries_are now q.number (contents_in cmp q.bytes) (new_table q at) ∙ (written q at).holds
+  new_entries q at = entries_are now q.number (contents_in cmp q.bytes) (new_table q at) ∙ (read q at).holds
 
   from_output : (q : Output) → Contains outputs q → (x : Entry) → Contains q.entries x → IsFromInput tables p x
   from_output q at x i = output_from cmp tables p readable held q at x i
@@ -246,17 +282,17 @@ module _ (cmp : List ℕ → List ℕ → Ordering) (total : IsTotalOrder cmp) (
 
   of_output : (q : Output) → Contains outputs q → IsFileOf cmp now (new_file (p.level + 1) q).meta
   of_output q at =
-      let w = written q at in
+      let w = read q at in
       let contents = contents_in cmp q.bytes in
       record {
         table = contents;
         there = new_table q at;
         accepted = ap (contents_reading cmp) w.same ∙ w.reads;
-        keys = All-from_recursion (λ (e : Entry). IsInternalKey e.key) contents.entries (subst (λ (es : List Entry). AllByRecursion (λ e. IsInternalKey e.key) es) (sym w.holds) w.keys);
+        keys = subst (All (λ (e : Entry). IsInternalKey e.key)) (sym w.holds) (λ k d lt. let x = get_or q.entries k d in internal x (from_output q at x (Contains-get_or q.entries k d lt)));
         rising = subst (EntriesRise cmp) (sym w.holds) w.rising;
         size = ap length (sym w.same);
-        smallest = ap (λ (es : List Entry). option_map (λ (e : Entry). e.key) (slice_get es 0)) w.holds ∙ first_is q.entries (has_entry q.entries w.some);
-        largest = ap (λ (es : List Entry). option_map (λ (e : Entry). e.key) (slice_get es (length es - 1))) w.holds ∙ last_is q.entries (has_entry q.entries w.some);
+        smallest = ap (λ (es : List Entry). option_map (λ (e : Entry). e.key) (slice_get es 0)) w.holds ∙ first_is q.entries w.some;
+        largest = ap (λ (es : List Entry). option_map (λ (e : Entry). e.key) (slice_get es (length es - 1))) w.holds ∙ last_is q.entries w.some;
       }
 
   of_stay : (f : NewFile) → Contains (staying_files v p) f → IsFileOf cmp now f.meta

@@ -119,7 +119,7 @@ module _ (cmp : List ℕ → List ℕ → Ordering) (total : IsTotalOrder cmp) (
       each q at =
           let w = All-contains (λ (x : Output). AreWritten cmp x.bytes x.entries) held.outputs q held.written at in
           let ends = has_ends q.entries w.some in
-          let small = All-contains (λ (x : Output). length x.bytes ≤ 2 ^ 30) held.outputs q held.small at in
+          let small = w.small in
           let lt = numbered_to r.first_number held.outputs held.numbered q at in
           let few = held.few in
           let five = is_tested.level in

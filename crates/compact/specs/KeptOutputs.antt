@@ -1,9 +1,11 @@
 -- Outputs that hold what is kept of the inputs, whoever cut them, and that reads survive them.
 use Rattle.std.specs.Prelude.{◌≡◌, ◌≢◌, ℕ, ◌+◌, ◌<◌, ◌≤◌, true, List, map, Some, Contains}
+use Rattle.std.specs.Prelude.{Ok}
 use Rattle.std.specs.List.{All}
 use Rattle.std.specs.List.Sorted.{IsPermutation}
 use Rattle.ikey.specs.Comparator.{KeyOrder}
 use Rattle.table.specs.EncodedEntry.{Entry}
+use Rattle.table.specs.TableContents.{table_reading}
 use Rattle.edit.specs.Edit.{Edit}
 use Rattle.edit.specs.Version.{State, applied}
 use Rattle.edit.specs.declared.meta.NewFile.{NewFile}
@@ -21,11 +23,11 @@ use Rattle.compact.specs.GetsAfter.{entries_of_inputs}
 use Rattle.compact.specs.InputsOver.{AreInputsOver}
 use Rattle.compact.specs.OneThread.{Answer}
 use Rattle.compact.specs.OutputTables.{Output, numbered_tables}
-use Rattle.compact.specs.RequestOverVersion.{AreWritten, output_entries}
+use Rattle.compact.specs.RequestOverVersion.{output_entries}
 use Rattle.compact.specs.SurvivingReads.{tables_after}
 
--- The inputs' tables have a union, and the outputs together hold just what is kept of it. Each is
--- written as a table. How the entries are cut makes no difference.
+-- The inputs' tables have a union, and the outputs together hold just what is kept of it. The bytes
+-- of each read as a table of its entries. How the entries are cut makes no difference.
 pub record KeptOutputs (cmp : KeyOrder) (tables : List NumberedContents) (p : PickedInputs)
     (r : Readable) : Type 0 where
   pub union : List Entry
@@ -33,7 +35,7 @@ pub record KeptOutputs (cmp : KeyOrder) (tables : List NumberedContents) (p : Pi
   pub is_union : IsUnion cmp (entries_of_inputs tables p) union
   pub holds_kept : IsPermutation (kept cmp r p.deeper union)
       (entries_of_lists (output_entries outputs))
-  pub written : All (λ (w : Output). AreWritten cmp w.bytes w.entries) outputs
+  pub read : All (λ (w : Output). table_reading cmp w.bytes ≡ Ok w.entries) outputs
 
 -- An edit puts such outputs, which are an answer's tables, in the place of the inputs: it deletes
 -- just these, has the outputs as new files of the next level, and makes the version after. Of that

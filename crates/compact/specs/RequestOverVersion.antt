@@ -41,12 +41,13 @@ pub record IsOver (v : State) (tables : List NumberedContents) (r : RequestView)
   pub log_number : r.log_number < 2 ^ 64
   pub previous_log : r.previous_log < 2 ^ 64
 
--- The bytes are a table of these entries: there is one, their internal keys rise strictly, and the
--- bytes read as just these entries.
+-- The bytes are a table of these entries: there is one, their internal keys rise strictly, the
+-- bytes are at most MAX_TABLE_LEN, and they read as just these entries.
 pub record AreWritten (cmp : KeyOrder) (bytes : List ℕ) (entries : List Entry) : Type 0 where
   pub some : entries ≢ []
   pub keys : AllByRecursion (λ e. IsInternalKey e.key) entries
   pub rising : EntriesRise cmp entries
+  pub small : length bytes ≤ MAX_TABLE_LEN
   pub reads : contents_reading cmp bytes ≡ Ok (contents_in cmp bytes)
   pub same : (contents_in cmp bytes).bytes ≡ bytes
   pub holds : (contents_in cmp bytes).entries ≡ entries
@@ -57,8 +58,7 @@ output_entries outputs = map (λ (w : Output). w.entries) outputs
 
 -- What an answer is made of. The request passes its tests, and the inputs' tables have a union. The
 -- outputs are numbered from the first number on and hold what is kept of the union, no user key in
--- two of them. Each is written as a table of at most MAX_TABLE_LEN bytes, and the edit is that of
--- the outputs.
+-- two of them. Each is written as a table, and the edit is that of the outputs.
 pub record HoldOutputs (cmp : KeyOrder) (short_keys : ShortKeys) (tables : List NumberedContents)
     (r : RequestView) (answer : Answer) : Type 0 where
   pub tested : request_test cmp r ≡ Ok tt
@@ -73,7 +73,6 @@ pub record HoldOutputs (cmp : KeyOrder) (short_keys : ShortKeys) (tables : List 
   pub bytes : All (λ (w : Output). w.bytes ≡ table_for cmp short_keys r w.entries)
       outputs
   pub written : All (λ (w : Output). AreWritten cmp w.bytes w.entries) outputs
-  pub small : All (λ (w : Output). length w.bytes ≤ MAX_TABLE_LEN) outputs
   pub answer_tables : answer.tables ≡ numbered_tables outputs
   pub answer_edit : answer.edit ≡ edit_bytes (edit_of r (new_files r outputs))
 

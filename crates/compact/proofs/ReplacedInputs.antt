@@ -66,7 +66,7 @@ record IsReadOf (cmp : List ℕ → List ℕ → Ordering) (w : Output) : Type 0
   same : (contents_in cmp w.bytes).bytes ≡ w.bytes
   holds : (contents_in cmp w.bytes).entries ≡ w.entries
   some : HasEntry w.entries
-  rising : EntriesRise cmp w.entries
+  rise : EntriesRise cmp w.entries
 
 read_of : (cmp : List ℕ → List ℕ → Ordering) → IsTotalOrder cmp → (w : Output) → table_reading cmp w.bytes ≡ Ok w.entries → IsReadOf cmp w
 read_of cmp total w h =
@@ -81,7 +81,7 @@ read_of cmp total w h =
       same = ap (λ (c : Contents). c.bytes) contents;
       holds = ap (λ (c : Contents). c.entries) contents ∙ whole;
       some = subst HasEntry whole (some_entry cmp b.0 r.0 b.2);
-      rising = subst (EntriesRise cmp) whole (rising cmp None (entries_of r.0) total (all_tests cmp None b.0 r.0 d.read));
+      rise = subst (EntriesRise cmp) whole (rising cmp None (entries_of r.0) total (all_tests cmp None b.0 r.0 d.read));
     }
 
 -- ---- what holds of each and each later one holds of what is kept
@@ -289,7 +289,7 @@ module _ (cmp : List ℕ → List ℕ → Ordering) (total : IsTotalOrder cmp) (
         there = new_table q at;
         accepted = ap (contents_reading cmp) w.same ∙ w.reads;
         keys = subst (All (λ (e : Entry). IsInternalKey e.key)) (sym w.holds) (λ k d lt. let x = get_or q.entries k d in internal x (from_output q at x (Contains-get_or q.entries k d lt)));
-        rising = subst (EntriesRise cmp) (sym w.holds) w.rising;
+        rising = subst (EntriesRise cmp) (sym w.holds) w.rise;
         size = ap length (sym w.same);
         smallest = ap (λ (es : List Entry). option_map (λ (e : Entry). e.key) (slice_get es 0)) w.holds ∙ first_is q.entries w.some;
         largest = ap (λ (es : List Entry). option_map (λ (e : Entry). e.key) (slice_get es (length es - 1))) w.holds ∙ last_is q.entries w.some;

@@ -1,9 +1,9 @@
 -- The edit of a compaction applies, and makes the version that it says.
-use Rattle.std.proofs.Common.{◌≡◌, ℕ, ◌+◌, ◌<◌, ◌≤◌, Bool, true, false, not, cond, eqb, List, [], ◌∷◌, ◌++◌, length, map, refl, sym, ap, subst, ◌∙◌, inl, inr, Some, arith}
+use Rattle.std.proofs.Common.{◌≡◌, ℕ, ◌+◌, ◌<◌, ◌≤◌, Bool, true, false, not, ◌&&◌, cond, if◌then◌else◌, eqb, List, [], ◌∷◌, ◌++◌, length, map, refl, sym, ap, subst, ◌∙◌, inl, inr, Some, None, arith}
 use Rattle.std.specs.Prelude.{◌⊎◌, Contains}
 use Rattle.std.specs.List.{filter, list_any, list_all, fold, AllByRecursion, IsDistinct}
 use Rattle.std.specs.List.Sorted.{IsPermutation}
-use Rattle.std.specs.Option.{ForSome}
+use Rattle.std.specs.Option.{ForSome, option_map, option_or}
 use Rattle.std.specs.Ordering.{nat_cmp, ordering_then, match_ordering}
 use Rattle.std.specs.BTreeSet.{insert_key}
 use Rattle.std.specs.Cmp.{IsTotalOrder}
@@ -11,8 +11,11 @@ use Rattle.std.specs.declared.cmp.Ordering.{Ordering}
 use Rattle.std.specs.declared.cmp.Ordering.TheVariants.{Less, Equal, Greater}
 use Rattle.std.proofs.lemmas.Bool.{eqb-true, eq-eqb}
 use Rattle.std.proofs.lemmas.List.{length-map}
-use Rattle.edit.specs.Edit.{deleted_cmp}
-use Rattle.edit.specs.Version.{State, applied, place_of, is_same_place, is_deleted, undeleted_files, has_place, has_number, are_apart, are_new, number_cmp, with_file}
+use Rattle.std.proofs.lemmas.List.Elements.{Contains-append_cases}
+use Rattle.std.proofs.lemmas.List.Sorted.{Contains-permutation, IsPermutation-sym}
+use Rattle.std.proofs.lemmas.Option.{none-some, same_Some}
+use Rattle.edit.specs.Edit.{Edit, deleted_cmp}
+use Rattle.edit.specs.Version.{State, applied, place_of, is_same_place, is_deleted, undeleted_files, has_place, has_number, are_apart, are_new, number_cmp, with_file, with_pointer}
 use Rattle.edit.specs.declared.meta.FileMeta.{FileMeta}
 use Rattle.edit.specs.declared.meta.NewFile.{NewFile}
 use Rattle.edit.specs.declared.meta.DeletedFile.{DeletedFile}
@@ -21,6 +24,7 @@ use Rattle.edit.proofs.Inserted.{all_permute}
 use Rattle.edit.proofs.Kept.{apart_filter}
 use Rattle.edit.proofs.RisingFiles.{same_file, number_total, same_turned, tied_same}
 use Rattle.edit.proofs.Tested.{both_true, both_false, not_is_true}
+use Rattle.pick.specs.PickedInputs.{PickedInputs}
 use Rattle.pick.specs.declared.picked_inputs.InputFile.{InputFile}
 use Rattle.pick.proofs.Lists.{and_both, and_second, same_test}
 use Rattle.reads.specs.Lawful.{IsLawful}
@@ -118,6 +122,12 @@ pub none_tests : {X : Type 0} (p : X → Bool) (xs : List X) → ((x : X) → Co
 none_tests p [] h = refl
 none_tests p (x ∷ xs) h = rw (h x (first_in x xs)) (none_tests p xs (λ y at. h y (later_in x xs y at)))
 
+pub none_of : {X : Type 0} (p : X → Bool) (xs : List X) → list_any p xs ≡ false → (x : X) → Contains xs x → p x ≡ false
+none_of p [] h x at = absurd (none_in x at)
+none_of p (y ∷ xs) h x at =
+    let b = both_false (p y) (list_any p xs) h in
+    elim (first_or_later y xs x at) [ inl same ↦ ap p same ∙ b.0 | inr later ↦ none_of p xs b.1 x later ]
+
 -- ---- the numbers of the outputs
 
 pub numbered_from : (first : ℕ) (outputs : List Output) → AreNumberedFrom first outputs → (q : Output) → Contains outputs q → first ≤ q.number
@@ -136,7 +146,7 @@ numbered_to first (p ∷ ps) h q at =
       | inr later ↦ (let lt = numbered_to (first + 1) ps h.1 q later in omega (arith, lt))
     ]
 
-not_equal : (m n : ℕ) → (m ≡ n → ⊥) → eqb m n ≡ false
+pub not_equal : (m n : ℕ) → (m ≡ n → ⊥) → eqb m n ≡ false
 not_equal m n h = by (eqb m n) refl
   where
     by : (b : Bool) → eqb m n ≡ b → b ≡ false
@@ -185,10 +195,59 @@ distinct_two (x ∷ xs) ys hx hy h = (
     all_two [] k = all_behind ys (λ g j. h x g (first_in x xs) j)
     all_two (z ∷ zs) k = (k.0, all_two zs k.1)
 
-module _ (cmp : List ℕ → List ℕ → Ordering) (total : IsTotalOrder cmp) (v : State) (tables : List NumberedContents) (r : RequestView) (outputs : List Output)
-    (lawful : IsLawful cmp v tables) (placed : AreOfVersion v r.picked) (high : ForSome v.next_file (λ next. next ≤ r.first_number)) (numbered : AreNumberedFrom r.first_number outputs) where
+-- no two files have one number, if new ones are new to files that are apart
+pub apart_new : (files added : List NewFile) → are_apart files ≡ true → are_new files added ≡ true → IsDistinct same_file (files ++ added)
+apart_new files added apart new =
+    let both = both_true (are_apart added) (not (list_any (λ (f : NewFile). has_number added f.meta.number) files)) new in
+    distinct_two files added (apart_distinct files apart) (apart_distinct added both.0)
+    (λ f g i j. none_of (λ (h : NewFile). eqb f.meta.number h.meta.number) added
+    (none_of (λ (h : NewFile). has_number added h.meta.number) files (not_is_true (list_any (λ (h : NewFile). has_number added h.meta.number) files) both.1) f i) g j)
+
+-- new files are put in by number
+pub permuted_new : (files added : List NewFile) → IsDistinct same_file (files ++ added) → IsPermutation (files ++ added) (fold with_file files added)
+permuted_new files added apart = all_permute number_cmp number_total same_file same_turned tied_same files added apart
+
+-- a new file that is an output
+abbrev pub IsOutputOf : ℕ → List Output → NewFile → Type 0
+IsOutputOf level outputs f = (q : Output) × Contains outputs q × (new_file level q ≡ f)
+
+-- each file after is one that was there, or an output
+pub side_of : (level : ℕ) (files : List NewFile) (outputs : List Output) (after : List NewFile) → IsPermutation (files ++ map (new_file level) outputs) after → (f : NewFile) → Contains after f → Contains files f ⊎ IsOutputOf level outputs f
+side_of level files outputs after moves f at =
+    elim (Contains-append_cases files (map (new_file level) outputs) f (Contains-permutation after (files ++ map (new_file level) outputs) f (IsPermutation-sym (files ++ map (new_file level) outputs) after moves) at)) [
+      | inl i ↦ inl i
+      | inr i ↦ (let x = from_map (new_file level) outputs f i in inr (x.source, x.there, x.is))
+    ]
+
+-- what an edit that applies makes: its new files are new to those that it doesn't delete, and are put in among them
+pub record IsMade (v : State) (e : Edit) (after : State) : Type 0 where
+  pub new : are_new (undeleted_files e.deleted v.files) e.added ≡ true
+  pub files : fold with_file (undeleted_files e.deleted v.files) e.added ≡ after.files
+
+-- the version that an edit makes of these files
+abbrev with_files : State → Edit → List NewFile → State
+with_files v e files = record {
+  log_number = option_or e.log_number v.log_number;
+  previous_log = option_or e.previous_log v.previous_log;
+  next_file = option_or e.next_file v.next_file;
+  last_sequence = option_or e.last_sequence v.last_sequence;
+  pointers = fold with_pointer v.pointers e.pointers;
+  files = files;
+}
+
+made_if : (a b : Bool) (files : List NewFile) (f : List NewFile → State) (next : State) → option_map f (if a && b then Some files else None) ≡ Some next → (b ≡ true) × (f files ≡ next)
+made_if true true files f next h = (refl, same_Some (f files) next h)
+made_if true false files f next h = absurd (none-some next h)
+made_if false b files f next h = absurd (none-some next h)
+
+pub is_made : (v : State) (e : Edit) (after : State) → applied v e ≡ Some after → IsMade v e after
+is_made v e after h =
+    let made = made_if (list_all (has_place v.files) e.deleted) (are_new (undeleted_files e.deleted v.files) e.added) (fold with_file (undeleted_files e.deleted v.files) e.added) (with_files v e) after h in
+    record { new = made.0; files = ap (λ (s : State). s.files) made.1 }
+
+module _ (cmp : List ℕ → List ℕ → Ordering) (total : IsTotalOrder cmp) (v : State) (tables : List NumberedContents) (p : PickedInputs) (lawful : IsLawful cmp v tables) (placed : AreOfVersion v p) where
   abbrev files : List InputFile
-  files = r.picked.files
+  files = p.files
 
   -- each deletion is that of an input
   pub from_deletions : (d : DeletedFile) → Contains (deletions_of files) d → (i : InputFile) × Contains files i × (deletion_of i ≡ d)
@@ -201,8 +260,8 @@ module _ (cmp : List ℕ → List ℕ → Ordering) (total : IsTotalOrder cmp) (
   into_deletions : (i : InputFile) → Contains files i → Contains (deletions_of files) (deletion_of i)
   into_deletions i at = all_there deleted_cmp deleted_ties [] (map deletion_of files) (deletion_of i) (in_map deletion_of files i at)
 
-  there : list_all (has_place v.files) (deletions_of files) ≡ true
-  there = all_tests (has_place v.files) (deletions_of files) each
+  pub deleted_there : list_all (has_place v.files) (deletions_of files) ≡ true
+  deleted_there = all_tests (has_place v.files) (deletions_of files) each
     where
       each : (d : DeletedFile) → Contains (deletions_of files) d → has_place v.files d ≡ true
       each d at =
@@ -213,25 +272,37 @@ module _ (cmp : List ℕ → List ℕ → Ordering) (total : IsTotalOrder cmp) (
           any_at (λ (g : NewFile). is_same_place (place_of g) d) v.files f.file f.there
           (and_both (eqb f.file.level d.level) (eqb f.file.meta.number d.number) (eq-eqb f.file.level d.level levels) (eq-eqb f.file.meta.number d.number numbers))
 
-  same_tests : (f : NewFile) → Contains v.files f → is_deleted (deletions_of files) f ≡ is_input r.picked f.meta.number
-  same_tests f at = same_test (is_deleted (deletions_of files) f) (is_input r.picked f.meta.number) to back
+  same_tests : (f : NewFile) → Contains v.files f → is_deleted (deletions_of files) f ≡ is_input p f.meta.number
+  same_tests f at = same_test (is_deleted (deletions_of files) f) (is_input p f.meta.number) to back
     where
-      to : is_deleted (deletions_of files) f ≡ true → is_input r.picked f.meta.number ≡ true
+      to : is_deleted (deletions_of files) f ≡ true → is_input p f.meta.number ≡ true
       to h =
           let x = any_passes (is_same_place (place_of f)) (deletions_of files) h in
           let i = from_deletions x.item x.there in
           let number : f.meta.number ≡ x.item.number = eqb-true f.meta.number x.item.number (and_second (eqb f.level x.item.level) (eqb f.meta.number x.item.number) x.passes) in
-          is_one r.picked i.0 f.meta.number i.1 (ap (λ (y : DeletedFile). y.number) i.2 ∙ sym number)
+          is_one p i.0 f.meta.number i.1 (ap (λ (y : DeletedFile). y.number) i.2 ∙ sym number)
 
-      back : is_input r.picked f.meta.number ≡ true → is_deleted (deletions_of files) f ≡ true
+      back : is_input p f.meta.number ≡ true → is_deleted (deletions_of files) f ≡ true
       back h =
-          let i = input_of r.picked f.meta.number h in
-          let stands : f.level ≡ i.input.level = level_of_input v lawful.apart r.picked placed f at i.input i.there i.number_is in
+          let i = input_of p f.meta.number h in
+          let stands : f.level ≡ i.input.level = level_of_input v lawful.apart p placed f at i.input i.there i.number_is in
           any_at (is_same_place (place_of f)) (deletions_of files) (deletion_of i.input) (into_deletions i.input i.there)
           (and_both (eqb f.level i.input.level) (eqb f.meta.number i.input.meta.number) (eq-eqb f.level i.input.level stands) (eq-eqb f.meta.number i.input.meta.number (sym i.number_is)))
 
-  kept_are : undeleted_files (deletions_of files) v.files ≡ staying_files v r.picked
-  kept_are = filter_same (λ (f : NewFile). not (is_deleted (deletions_of files) f)) (λ (f : NewFile). not (is_input r.picked f.meta.number)) v.files (λ f at. ap not (same_tests f at))
+  -- just the inputs are deleted
+  pub kept_are : undeleted_files (deletions_of files) v.files ≡ staying_files v p
+  kept_are = filter_same (λ (f : NewFile). not (is_deleted (deletions_of files) f)) (λ (f : NewFile). not (is_input p f.meta.number)) v.files (λ f at. ap not (same_tests f at))
+
+  pub stays_there : (f : NewFile) → Contains (staying_files v p) f → Contains v.files f
+  stays_there f at = (from_filter (λ (g : NewFile). not (is_input p g.meta.number)) v.files f at).0
+
+  pub staying_apart : are_apart (staying_files v p) ≡ true
+  staying_apart = apart_filter (λ (f : NewFile). not (is_input p f.meta.number)) v.files lawful.apart
+
+module _ (cmp : List ℕ → List ℕ → Ordering) (total : IsTotalOrder cmp) (v : State) (tables : List NumberedContents) (r : RequestView) (outputs : List Output)
+    (lawful : IsLawful cmp v tables) (placed : AreOfVersion v r.picked) (high : ForSome v.next_file (λ next. next ≤ r.first_number)) (numbered : AreNumberedFrom r.first_number outputs) where
+  staying : undeleted_files (deletions_of r.picked.files) v.files ≡ staying_files v r.picked
+  staying = kept_are cmp total v tables r.picked lawful placed
 
   -- no file that is there has the number of an output
   no_clash : (f : NewFile) → Contains v.files f → has_number (new_files r outputs) f.meta.number ≡ false
@@ -239,38 +310,27 @@ module _ (cmp : List ℕ → List ℕ → Ordering) (total : IsTotalOrder cmp) (
       let lt = below_first cmp v tables lawful r.first_number high f at in
       other_numbers (r.picked.level + 1) f.meta.number outputs (λ q i same. let le = numbered_from r.first_number outputs numbered q i in omega (arith, le, lt, same))
 
-  stays_there : (f : NewFile) → Contains (staying_files v r.picked) f → Contains v.files f
-  stays_there f at = (from_filter (λ (g : NewFile). not (is_input r.picked g.meta.number)) v.files f at).0
-
-  new : are_new (undeleted_files (deletions_of files) v.files) (new_files r outputs) ≡ true
+  new : are_new (staying_files v r.picked) (new_files r outputs) ≡ true
   new =
       let none : list_any (λ (f : NewFile). has_number (new_files r outputs) f.meta.number) (staying_files v r.picked) ≡ false =
-      none_tests (λ (f : NewFile). has_number (new_files r outputs) f.meta.number) (staying_files v r.picked) (λ f at. no_clash f (stays_there f at)) in
-      and_both (are_apart (new_files r outputs)) (not (list_any (λ (f : NewFile). has_number (new_files r outputs) f.meta.number) (undeleted_files (deletions_of files) v.files)))
-      (new_apart (r.picked.level + 1) r.first_number outputs numbered) (ap (λ (l : List NewFile). not (list_any (λ (f : NewFile). has_number (new_files r outputs) f.meta.number) l)) kept_are ∙ ap not none)
+      none_tests (λ (f : NewFile). has_number (new_files r outputs) f.meta.number) (staying_files v r.picked) (λ f at. no_clash f (stays_there cmp total v tables r.picked lawful placed f at)) in
+      and_both (are_apart (new_files r outputs)) (not (list_any (λ (f : NewFile). has_number (new_files r outputs) f.meta.number) (staying_files v r.picked)))
+      (new_apart (r.picked.level + 1) r.first_number outputs numbered) (ap not none)
 
   pub edited : applied v (edit_of r (new_files r outputs)) ≡ Some (version_after v r outputs)
   edited =
-      rw (after_is v.files (deletions_of files) (new_files r outputs) there new)
-      (ap (λ (l : List NewFile). Some (with_files (length (new_files r outputs)) (fold with_file l (new_files r outputs)))) kept_are
-      ∙ ap (λ (n : ℕ). Some (with_files n (fold with_file (staying_files v r.picked) (new_files r outputs)))) (length-map outputs (new_file (r.picked.level + 1))))
+      rw (after_is v.files (deletions_of r.picked.files) (new_files r outputs) (deleted_there cmp total v tables r.picked lawful placed)
+      (subst (λ (l : List NewFile). are_new l (new_files r outputs) ≡ true) (sym staying) new))
+      (ap (λ (l : List NewFile). Some (with_these (length (new_files r outputs)) (fold with_file l (new_files r outputs)))) staying
+      ∙ ap (λ (n : ℕ). Some (with_these n (fold with_file (staying_files v r.picked) (new_files r outputs)))) (length-map outputs (new_file (r.picked.level + 1))))
     where
-      with_files : ℕ → List NewFile → State
-      with_files n l = record (version_after v r outputs) { next_file = Some (r.first_number + n); files = l }
-
-  pub apart_all : IsDistinct same_file (staying_files v r.picked ++ new_files r outputs)
-  apart_all =
-      distinct_two (staying_files v r.picked) (new_files r outputs) (apart_distinct (staying_files v r.picked) (apart_filter (λ (f : NewFile). not (is_input r.picked f.meta.number)) v.files lawful.apart))
-      (apart_distinct (new_files r outputs) (new_apart (r.picked.level + 1) r.first_number outputs numbered))
-      (λ f g i j. not_equal f.meta.number g.meta.number (λ same.
-      let x = from_map (new_file (r.picked.level + 1)) outputs g j in
-      let lt = below_first cmp v tables lawful r.first_number high f (stays_there f i) in
-      let le = numbered_from r.first_number outputs numbered x.source x.there in
-      let is : x.source.number ≡ g.meta.number = ap (λ (h : NewFile). h.meta.number) x.is in
-      omega (arith, lt, le, is, same)))
+      with_these : ℕ → List NewFile → State
+      with_these n l = record (version_after v r outputs) { next_file = Some (r.first_number + n); files = l }
 
   pub files_are : IsPermutation (staying_files v r.picked ++ new_files r outputs) (version_after v r outputs).files
-  files_are = all_permute number_cmp number_total same_file same_turned tied_same (staying_files v r.picked) (new_files r outputs) apart_all
+  files_are =
+      permuted_new (staying_files v r.picked) (new_files r outputs)
+      (apart_new (staying_files v r.picked) (new_files r outputs) (staying_apart cmp total v tables r.picked lawful placed) new)
 
 pub edit_applies : (cmp : List ℕ → List ℕ → Ordering) → IsTotalOrder cmp → EditApplies cmp
 edit_applies cmp total = record {

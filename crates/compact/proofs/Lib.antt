@@ -22,6 +22,7 @@ pub mod ClosedChoices
 pub mod PickedChoice
 pub mod SafeInputs
 pub mod Lookups
+pub mod ReplacedInputs
 pub mod LawfulAfter
 pub mod SurvivingReads
 pub mod WorkerAnswers

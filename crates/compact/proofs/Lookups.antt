@@ -1,5 +1,5 @@
 -- The tables of a version after: those of the outputs, and those that stay.
-use Rattle.std.proofs.Common.{◌≡◌, ℕ, ◌+◌, ◌<◌, Bool, true, false, not, cond, eqb, List, [], ◌∷◌, ◌++◌, map, Some, Option, refl, sym, ap, subst, ◌∙◌, inl, inr, arith}
+use Rattle.std.proofs.Common.{◌≡◌, ℕ, Bool, true, false, not, cond, eqb, List, [], ◌∷◌, ◌++◌, map, Some, Option, refl, sym, ap, subst, ◌∙◌, inl, inr}
 use Rattle.std.specs.Prelude.{◌⊎◌, Contains}
 use Rattle.std.specs.List.{filter, find, AllByRecursion}
 use Rattle.std.specs.Option.{option_map}
@@ -7,6 +7,9 @@ use Rattle.std.specs.declared.cmp.Ordering.{Ordering}
 use Rattle.std.specs.declared.cmp.Ordering.TheVariants.{Less}
 use Rattle.std.proofs.lemmas.Bool.{eqb-true, eq-eqb}
 use Rattle.ikey.specs.Key.{user_of}
+use Rattle.edit.specs.Version.{are_apart, has_number}
+use Rattle.edit.specs.declared.meta.NewFile.{NewFile}
+use Rattle.edit.proofs.Tested.{both_true, not_is_true}
 use Rattle.table.specs.EncodedEntry.{Entry}
 use Rattle.table.specs.CheckedContents.{contents_in}
 use Rattle.pick.specs.PickedInputs.{PickedInputs}
@@ -18,10 +21,10 @@ use Rattle.reads.specs.MergedLists.{entries_of_lists}
 use Rattle.compact.specs.ClosedInputs.{is_input}
 use Rattle.cut.specs.Outputs.{UsersRise}
 use Rattle.compact.specs.OutputTables.{Output, numbered_tables}
-use Rattle.compact.specs.EditAfter.{AreNumberedFrom}
+use Rattle.compact.specs.EditOf.{new_file}
 use Rattle.compact.specs.RequestOverVersion.{output_entries}
 use Rattle.compact.specs.SurvivingReads.{output_table}
-use Rattle.compact.proofs.AppliedEdit.{numbered_from}
+use Rattle.compact.proofs.AppliedEdit.{none_of, not_equal}
 
 find_past : {X : Type 0} (test : X → Bool) (xs ys : List X) → ((x : X) → Contains xs x → test x ≡ false) → find test (xs ++ ys) ≡ find test ys
 find_past test [] ys h = refl
@@ -37,22 +40,18 @@ find_kept test keep h (x ∷ xs) = by (test x) (keep x) refl refl (find_kept tes
     by false true e k rest = rw e rest
     by false false e k rest = rest
 
-not_equal : (m n : ℕ) → (m ≡ n → ⊥) → eqb m n ≡ false
-not_equal m n h = by (eqb m n) refl
-  where
-    by : (b : Bool) → eqb m n ≡ b → b ≡ false
-    by true e = absurd (h (eqb-true m n e))
-    by false e = refl
-
 module _ (cmp : List ℕ → List ℕ → Ordering) where
   -- an output's table is found under its number
-  find_output : (number : ℕ) (outputs : List Output) → AreNumberedFrom number outputs → (q : Output) → Contains outputs q → (rest : List NumberedContents)
+  find_output : (level : ℕ) (outputs : List Output) → are_apart (map (new_file level) outputs) ≡ true → (q : Output) → Contains outputs q → (rest : List NumberedContents)
       → find (λ (t : NumberedContents). eqb t.number q.number) (map (output_table cmp) (numbered_tables outputs) ++ rest) ≡ Some (output_table cmp (q.number, q.bytes))
-  find_output number [] numbered q at rest = absurd (none_in q at)
-  find_output number (p ∷ ps) numbered q at rest = by_place (first_or_later p ps q at) (λ later. find_output (number + 1) ps numbered.1 q later rest)
+  find_output level [] apart q at rest = absurd (none_in q at)
+  find_output level (p ∷ ps) apart q at rest = by_place (first_or_later p ps q at) (λ later. find_output level ps parts.1 q later rest)
     where
       tables : List NumberedContents
       tables = map (output_table cmp) (numbered_tables ps) ++ rest
+
+      parts : (not (has_number (map (new_file level) ps) p.number) ≡ true) × (are_apart (map (new_file level) ps) ≡ true)
+      parts = both_true (not (has_number (map (new_file level) ps) p.number)) (are_apart (map (new_file level) ps)) apart
 
       own : q ≡ p → find (λ (t : NumberedContents). eqb t.number q.number) (output_table cmp (p.number, p.bytes) ∷ tables) ≡ Some (output_table cmp (q.number, q.bytes))
       own same =
@@ -63,19 +62,18 @@ module _ (cmp : List ℕ → List ℕ → Ordering) where
           → find (λ (t : NumberedContents). eqb t.number q.number) (output_table cmp (p.number, p.bytes) ∷ tables) ≡ Some (output_table cmp (q.number, q.bytes))
       by_place (inl same) later_found = own same
       by_place (inr later) later_found =
-          let le = numbered_from (number + 1) ps numbered.1 q later in
-          let is : p.number ≡ number = numbered.0 in
-          let miss : eqb p.number q.number ≡ false = not_equal p.number q.number (λ same. omega (arith, le, is, same)) in
+          let miss : eqb p.number q.number ≡ false =
+          none_of (λ (f : NewFile). eqb p.number f.meta.number) (map (new_file level) ps) (not_is_true (has_number (map (new_file level) ps) p.number) parts.0) (new_file level q) (in_map (new_file level) ps q later) in
           rw miss (later_found later)
 
-  pub output_found : (number : ℕ) (outputs : List Output) → AreNumberedFrom number outputs → (q : Output) → Contains outputs q → (rest : List NumberedContents)
+  pub output_found : (level : ℕ) (outputs : List Output) → are_apart (map (new_file level) outputs) ≡ true → (q : Output) → Contains outputs q → (rest : List NumberedContents)
       → table_of_number (map (output_table cmp) (numbered_tables outputs) ++ rest) q.number ≡ Some (contents_in cmp q.bytes)
-  output_found number outputs numbered q at rest = ap (λ (o : Option NumberedContents). option_map (λ (t : NumberedContents). t.contents) o) (find_output number outputs numbered q at rest)
+  output_found level outputs apart q at rest = ap (λ (o : Option NumberedContents). option_map (λ (t : NumberedContents). t.contents) o) (find_output level outputs apart q at rest)
 
   -- a table that stays is found as before
-  pub other_found : (number : ℕ) (outputs : List Output) → AreNumberedFrom number outputs → (p : PickedInputs) (tables : List NumberedContents) (n : ℕ) → n < number → is_input p n ≡ false
+  pub other_found : (outputs : List Output) (p : PickedInputs) (tables : List NumberedContents) (n : ℕ) → ((q : Output) → Contains outputs q → q.number ≡ n → ⊥) → is_input p n ≡ false
       → table_of_number (map (output_table cmp) (numbered_tables outputs) ++ filter (λ (t : NumberedContents). not (is_input p t.number)) tables) n ≡ table_of_number tables n
-  other_found number outputs numbered p tables n lt out =
+  other_found outputs p tables n other out =
       ap (λ (o : Option NumberedContents). option_map (λ (t : NumberedContents). t.contents) o)
       (find_past (λ (t : NumberedContents). eqb t.number n) (map (output_table cmp) (numbered_tables outputs)) (filter (λ (t : NumberedContents). not (is_input p t.number)) tables) no_output
       ∙ find_kept (λ (t : NumberedContents). eqb t.number n) (λ (t : NumberedContents). not (is_input p t.number)) stays tables)
@@ -84,9 +82,8 @@ module _ (cmp : List ℕ → List ℕ → Ordering) where
       no_output t at =
           let x = from_map (output_table cmp) (numbered_tables outputs) t at in
           let q = from_map (λ (y : Output). (y.number, y.bytes)) outputs x.source x.there in
-          let le = numbered_from number outputs numbered q.source q.there in
           let is : q.source.number ≡ t.number = ap (λ (y : ℕ × List ℕ). y.0) q.is ∙ ap (λ (y : NumberedContents). y.number) x.is in
-          not_equal t.number n (λ same. omega (arith, lt, le, is, same))
+          not_equal t.number n (λ same. other q.source q.there (is ∙ same))
 
       stays : (t : NumberedContents) → eqb t.number n ≡ true → not (is_input p t.number) ≡ true
       stays t h = ap (λ (k : ℕ). not (is_input p k)) (eqb-true t.number n h) ∙ ap not out

@@ -33,20 +33,18 @@ use Rattle.reads.specs.Lawful.{IsLawful}
 use Rattle.reads.specs.Tables.{NumberedContents}
 use Rattle.reads.proofs.FallingEntries.{each_of}
 use Rattle.reads.proofs.Members.{later_in, first_in, from_map}
-use Rattle.keep.specs.Readable.{readable_of}
 use Rattle.compact.specs.OutputTables.{Output}
 use Rattle.compact.specs.Request.{RequestView, has_levels, has_options, has_snapshots, is_snapshot_list, named_by, request_test}
 use Rattle.compact.specs.EditOf.{deletion_of, deletions_of, edit_of, new_file, new_files}
 use Rattle.compact.specs.OneThread.{Answer, one_thread}
 use Rattle.compact.specs.EditAfter.{version_after}
 use Rattle.compact.specs.RequestOverVersion.{IsOver, AreWritten, HoldOutputs}
-use Rattle.compact.specs.SurvivingReads.{ClosedReadsSurvive, KeepsReads, LeavesClosedReads, LeavesReads, ReadsSurvive, tables_after}
+use Rattle.compact.specs.SurvivingReads.{ClosedReadsSurvive, KeepsReads, LeavesClosedReads, LeavesReads, ReadsSurvive}
 use Rattle.compact.proofs.AppliedEdit.{edited, from_deletions, numbered_to}
-use Rattle.compact.proofs.Gets.{get_is}
 use Rattle.compact.proofs.SafeInputs.{AreSafe, closed_safe, picked_safe}
 use Rattle.compact.proofs.PickedChoice.{picked_over}
 use Rattle.compact.proofs.VersionInputs.{below_first}
-use Rattle.compact.proofs.LawfulAfter.{has_ends, holds_after, lawful_after}
+use Rattle.compact.proofs.LawfulAfter.{has_ends, reads_as_before}
 use Rattle.compact.proofs.Outputs.{hold_outputs, stepped}
 
 all_mapped : {X : Type 0} (P : Field → Type 0) (field : X → Field) (xs : List X) → ((x : X) → Contains xs x → P (field x)) → AllByRecursion P (map field xs)
@@ -105,7 +103,7 @@ module _ (cmp : List ℕ → List ℕ → Ordering) (total : IsTotalOrder cmp) (
     where
       each : (d : DeletedFile) → Contains (deletions_of r.picked.files) d → IsField (DeleteFile d)
       each d at =
-          let i = from_deletions cmp total v tables r held.outputs lawful safe.placed over.numbers held.numbered d at in
+          let i = from_deletions cmp total v tables r.picked lawful safe.placed d at in
           let f = safe.placed i.0 i.1 in
           let six : f.file.level ≤ 6 = All-contains (λ (x : NewFile). x.level ≤ 6) v.files f.file low f.there in
           let levels : f.file.level ≡ d.level = f.stands ∙ ap (λ (x : DeletedFile). x.level) i.2 in
@@ -146,12 +144,12 @@ module _ (cmp : List ℕ → List ℕ → Ordering) (total : IsTotalOrder cmp) (
   pub survive : (e : Edit) → IsEdit answer.edit e → KeepsReads cmp v tables r answer e
   survive e is =
       let same : edit ≡ e = one_edit answer.edit edit e edit_is is in
+      let reads = reads_as_before cmp total exact short_keys v tables r answer lawful safe over held low in
       record {
         after = version_after v r held.outputs;
         is_after = ap (applied v) (sym same) ∙ made;
-        lawful_after = lawful_after cmp total exact short_keys v tables r answer lawful safe over held;
-        gets_after = get_is cmp total exact v tables r.picked (readable_of r.snapshots r.last_sequence) held.union (version_after v r held.outputs) (tables_after cmp r.picked answer tables) lawful low safe held.is_union
-            (holds_after cmp total exact short_keys v tables r answer lawful safe over held);
+        lawful_after = reads.lawful;
+        gets_after = reads.gets;
       }
 
 -- the edit of picked inputs

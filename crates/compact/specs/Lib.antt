@@ -21,6 +21,7 @@ pub mod GetsAfter
 pub mod EditAfter
 pub mod RequestOverVersion
 pub mod SurvivingReads
+pub mod KeptOutputs
 pub mod RangeMerges
 pub mod AnswerIn
 pub mod GroupedAnswer

@@ -57,6 +57,7 @@ pub use request_conditions::{MAX_INPUTS, MAX_SNAPSHOTS};
 pub use request_law::passed_law;
 pub use settings::Settings;
 pub use surviving_reads::{
-    closed_reads_survive, edit_applies, gets_after, outputs_hold, reads_survive, stands_after,
+    closed_reads_survive, edit_applies, gets_after, kept_reads_survive, outputs_hold,
+    reads_survive, stands_after,
 };
 pub use table::Options;

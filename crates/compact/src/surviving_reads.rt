@@ -11,7 +11,8 @@
 //!     ([`edit_applies`]), and the version after is lawful and holds what is kept
 //!     ([`stands_after`]).
 //! (4) So reads survive: [`reads_survive`]. They survive of all inputs that are closed
-//!     ([`closed_reads_survive`]), as picked ones are (`picked_choice`).
+//!     ([`closed_reads_survive`]), as picked ones are (`picked_choice`). They survive whoever cut the
+//!     outputs, if these hold what is kept ([`kept_reads_survive`]).
 //!
 //! Premises: the version is lawful and the inputs were picked from it. All but `edit_applies` and
 //! `outputs_hold` also ask for files at levels up to 6. All but `edit_applies` and `gets_after` ask
@@ -20,12 +21,13 @@
 //!
 //! [`closed_reads_survive`] asks for inputs over the version (`AreInputsOver`) in place of picked
 //! ones: files of it that are closed, with all deeper files, and any compact pointer and
-//! grandparents.
+//! grandparents. [`kept_reads_survive`] asks for these and for no request.
 //!
 //! Nothing is said of gets at other sequences, nor of inputs that aren't closed.
 
 ghost use Rattle.compact.specs.EditAfter.{EditApplies};
 ghost use Rattle.compact.specs.GetsAfter.{GetsAfter};
+ghost use Rattle.compact.specs.KeptOutputs.{KeptReadsSurvive};
 ghost use Rattle.compact.specs.RequestOverVersion.{OutputsHold};
 ghost use Rattle.compact.specs.SurvivingReads.{ClosedReadsSurvive, ReadsSurvive, VersionAfterLaw};
 
@@ -72,4 +74,18 @@ pub fn closed_reads_survive<C: Comparator>()
 /// of closed inputs ([`closed_reads_survive`]) in the case of those. A call does nothing.
 pub fn reads_survive<C: Comparator>()
     ensures { ReadsSurvive C.cmp C.short_keys }
+{}
+
+/// The law that reads survive if outputs take the place of inputs that are closed in a lawful
+/// version, whoever cut them (`TakePlace`). A call does nothing.
+///
+/// - The outputs are tables, and together hold just what is kept of the inputs.
+/// - An edit deletes just the inputs, has the outputs as new files, and applies.
+/// - Of the version after the numbers are below next file. The ranges of each level's files from 1
+///   on are disjoint.
+///
+/// Then that version is lawful, and each get at a readable sequence answers as before. No table but
+/// the inputs' and the outputs' has to be read to know it.
+pub fn kept_reads_survive<C: Comparator>()
+    ensures { KeptReadsSurvive C.cmp }
 {}

@@ -50,7 +50,7 @@ use Rattle.compact.specs.OutputTables.{Output, numbered_tables}
 use Rattle.compact.specs.EditOf.{new_file}
 use Rattle.compact.specs.OneThread.{Answer}
 use Rattle.compact.specs.GetsAfter.{staying_files, entries_of_inputs, HoldKept}
-use Rattle.compact.specs.KeptOutputs.{KeptOutputs, KeptReadsSurvive, ReadAsBefore, TakePlace}
+use Rattle.compact.specs.KeptOutputs.{AreInOrder, KeptOutputs, KeptReadsSurvive, ReadAsBefore, TakePlace}
 use Rattle.compact.specs.RequestOverVersion.{output_entries}
 use Rattle.compact.specs.SurvivingReads.{output_table, tables_after}
 use Rattle.compact.proofs.AppliedEdit.{IsMade, IsOutputOf, apart_new, is_made, kept_are, none_of, permuted_new, side_of, staying_apart, stays_there}
@@ -417,18 +417,21 @@ module _ (cmp : List ℕ → List ℕ → Ordering) (total : IsTotalOrder cmp) (
 
   -- ---- the version after
 
-  lawful_now : IsLawful cmp after now
-  lawful_now = record {
+  pub files_are : All (λ (f : NewFile). IsFileOf cmp (tables_after cmp p answer tables) f.meta) after.files
+  files_are = subst (λ (ts : List NumberedContents). All (λ (f : NewFile). IsFileOf cmp ts f.meta) after.files) (sym now_is) files_after
+
+  lawful_now : AreInOrder cmp after → IsLawful cmp after now
+  lawful_now order = record {
     files = files_after;
     apart = distinct_apart after.files distinct_after;
-    below_next = place.below_next;
-    disjoint = place.disjoint;
+    below_next = order.below_next;
+    disjoint = order.disjoint;
     sequences_once = once_after;
     newer_above = λ f g i j above. newer_sides f g above (side f i) (side g j);
   }
 
-  pub lawful_after : IsLawful cmp after (tables_after cmp p answer tables)
-  lawful_after = subst (IsLawful cmp after) (sym now_is) lawful_now
+  pub lawful_after : AreInOrder cmp after → IsLawful cmp after (tables_after cmp p answer tables)
+  lawful_after order = subst (IsLawful cmp after) (sym now_is) (lawful_now order)
 
   hold_staying : (e : Entry) → Contains (all_entries tables (staying_files v p)) e → Contains (all_entries now after.files) e
   hold_staying e at =
@@ -455,11 +458,14 @@ module _ (cmp : List ℕ → List ℕ → Ordering) (total : IsTotalOrder cmp) (
   pub holds_after : HoldKept v tables p (kept cmp readable p.deeper held.union) after (tables_after cmp p answer tables)
   holds_after = subst (HoldKept v tables p (kept cmp readable p.deeper held.union) after) (sym now_is) (record { holds_staying = hold_staying; holds_kept = hold_kept; only = hold_only })
 
-  pub read_as_before : All (λ (f : NewFile). f.level ≤ 6) v.files → ReadAsBefore cmp v tables p readable answer after
-  read_as_before low = record {
-    lawful = lawful_after;
+  pub read_as_before : AreInOrder cmp after → All (λ (f : NewFile). f.level ≤ 6) v.files → ReadAsBefore cmp v tables p readable answer after
+  read_as_before order low = record {
+    lawful = lawful_after order;
     gets = get_is cmp total exact v tables p readable held.union after (tables_after cmp p answer tables) lawful low safe held.is_union holds_after;
   }
 
 pub kept_reads_survive : (cmp : List ℕ → List ℕ → Ordering) → IsTotalOrder cmp → IsExact cmp → KeptReadsSurvive cmp
-kept_reads_survive cmp total exact v tables p r answer e after lawful low over place = read_as_before cmp total exact v tables p r answer e after lawful (closed_safe cmp total v tables p lawful over) place low
+kept_reads_survive cmp total exact = record {
+  files = λ v tables p r answer e after lawful over place. files_are cmp total exact v tables p r answer e after lawful (closed_safe cmp total v tables p lawful over) place;
+  survive = λ v tables p r answer e after lawful low over place order. read_as_before cmp total exact v tables p r answer e after lawful (closed_safe cmp total v tables p lawful over) place order low;
+}

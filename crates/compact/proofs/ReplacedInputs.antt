@@ -29,7 +29,7 @@ use Rattle.edit.specs.Version.{State, are_apart, are_new, has_number, undeleted_
 use Rattle.edit.specs.declared.meta.FileMeta.{FileMeta}
 use Rattle.edit.specs.declared.meta.DeletedFile.{DeletedFile}
 use Rattle.edit.specs.declared.meta.NewFile.{NewFile}
-use Rattle.edit.proofs.RisingFiles.{same_file, same_turned, distinct_apart}
+use Rattle.edit.proofs.RisingFiles.{same_file, same_turned}
 use Rattle.edit.proofs.Tested.{both_true, not_is_true}
 use Rattle.reads.specs.MergedLists.{entries_of_lists}
 use Rattle.pick.specs.PickedInputs.{PickedInputs}
@@ -53,7 +53,7 @@ use Rattle.compact.specs.GetsAfter.{staying_files, entries_of_inputs, HoldKept}
 use Rattle.compact.specs.KeptOutputs.{AreInOrder, KeptOutputs, KeptReadsSurvive, ReadAsBefore, TakePlace}
 use Rattle.compact.specs.RequestOverVersion.{output_entries}
 use Rattle.compact.specs.SurvivingReads.{output_table, tables_after}
-use Rattle.compact.proofs.AppliedEdit.{IsMade, IsOutputOf, apart_new, is_made, kept_are, none_of, permuted_new, side_of, staying_apart, stays_there}
+use Rattle.compact.proofs.AppliedEdit.{IsMade, IsOutputOf, apart_new, is_made, kept_are, made_apart, none_of, permuted_new, side_of, staying_apart, stays_there}
 use Rattle.compact.proofs.Gets.{get_is, kept_part, rising_lower}
 use Rattle.compact.proofs.VersionInputs.{is_one}
 use Rattle.compact.proofs.Lookups.{other_found, output_found}
@@ -423,7 +423,7 @@ module _ (cmp : List ℕ → List ℕ → Ordering) (total : IsTotalOrder cmp) (
   lawful_now : AreInOrder cmp after → IsLawful cmp after now
   lawful_now order = record {
     files = files_after;
-    apart = distinct_apart after.files distinct_after;
+    apart = made_apart v edit after lawful.apart place.applies;
     below_next = order.below_next;
     disjoint = order.disjoint;
     sequences_once = once_after;

@@ -110,6 +110,7 @@ module _ (cmp : List ℕ → List ℕ → Ordering) (total : IsTotalOrder cmp) (
   out f at = not_is_true (is_input r.picked f.meta.number) (from_filter (λ (g : NewFile). not (is_input r.picked g.meta.number)) v.files f at).1
 
   from_output : (q : Output) → Contains outputs q → (x : Entry) → Contains q.entries x → IsFromInput tables r.picked x
+  unfolding kept_outputs
   from_output q at x i = output_from cmp tables r.picked readable kept_outputs q at x i
 
   file_of_input : (i : InputFile) → Contains r.picked.files i → IsFileOf cmp tables i.meta
@@ -188,6 +189,7 @@ module _ (cmp : List ℕ → List ℕ → Ordering) (total : IsTotalOrder cmp) (
   -- ---- the version after
 
   place : TakePlace cmp v tables r.picked readable answer (edit_of r (new_files r held.outputs)) after
+  unfolding kept_outputs
   place = record {
     held = kept_outputs;
     answer_tables = held.answer_tables;
@@ -203,6 +205,7 @@ module _ (cmp : List ℕ → List ℕ → Ordering) (total : IsTotalOrder cmp) (
   lawful_after = replaced.lawful_after cmp total exact v tables r.picked readable answer (edit_of r (new_files r held.outputs)) after lawful safe place order
 
   pub holds_after : HoldKept v tables r.picked kept_ones after (tables_after cmp r.picked answer tables)
+  unfolding place kept_outputs
   holds_after = replaced.holds_after cmp total exact v tables r.picked readable answer (edit_of r (new_files r held.outputs)) after lawful safe place
 
   pub reads_as_before : All (λ (f : NewFile). f.level ≤ 6) v.files → ReadAsBefore cmp v tables r.picked readable answer after

@@ -25,7 +25,7 @@ use Rattle.table.specs.EntriesFrom.{EntriesRise}
 use Rattle.table.proofs.CheckedTables.{HasEntry, blocks_by, contents_are, contents_read, first_is, last_is, read_data, some_entry}
 use Rattle.table.proofs.EntryTests.{all_tests, rising}
 use Rattle.edit.specs.Edit.{Edit}
-use Rattle.edit.specs.Version.{State, are_apart, are_new, has_number, undeleted_files}
+use Rattle.edit.specs.Version.{State, are_apart, are_new, has_number, undeleted_files, with_file}
 use Rattle.edit.specs.declared.meta.FileMeta.{FileMeta}
 use Rattle.edit.specs.declared.meta.DeletedFile.{DeletedFile}
 use Rattle.edit.specs.declared.meta.NewFile.{NewFile}
@@ -110,11 +110,13 @@ same_version : Entry → Entry → Bool
 same_version a b = bytes_eq (user_of a.key) (user_of b.key) && eqb (sequence_of a.key) (sequence_of b.key)
 
 told_same : (a b : Entry) → same_version a b ≡ true → (user_of a.key ≡ user_of b.key) × (sequence_of a.key ≡ sequence_of b.key)
+unfolding same_version
 told_same a b h =
     let both = both_true (bytes_eq (user_of a.key) (user_of b.key)) (eqb (sequence_of a.key) (sequence_of b.key)) h in
     ((bytes_eq-Decides (user_of a.key) (user_of b.key)).0 both.0, eqb-true (sequence_of a.key) (sequence_of b.key) both.1)
 
 same_told : (a b : Entry) → user_of a.key ≡ user_of b.key → sequence_of a.key ≡ sequence_of b.key → same_version a b ≡ true
+unfolding same_version
 same_told a b user sequence =
     and_both (bytes_eq (user_of a.key) (user_of b.key)) (eqb (sequence_of a.key) (sequence_of b.key)) ((bytes_eq-Decides (user_of a.key) (user_of b.key)).1 user) (eq-eqb (sequence_of a.key) (sequence_of b.key) sequence)
 
@@ -215,7 +217,7 @@ module _ (cmp : List ℕ → List ℕ → Ordering) (total : IsTotalOrder cmp) (
   -- ---- the files after
 
   undeleted : undeleted_files edit.deleted v.files ≡ staying_files v p
-  undeleted = ap (λ (ds : List DeletedFile). undeleted_files ds v.files) placedit.deleted ∙ kept_are cmp total v tables p lawful safe.placed
+  undeleted = ap (λ (ds : List DeletedFile). undeleted_files ds v.files) place.deleted ∙ kept_are cmp total v tables p lawful safe.placed
 
   made : IsMade v edit after
   made = is_made v edit after place.applies

@@ -188,7 +188,7 @@ module _ (cmp : List ℕ → List ℕ → Ordering) (total : IsTotalOrder cmp) (
 
   -- ---- the version after
 
-  abbrev place : TakePlace cmp v tables r.picked readable answer (edit_of r (new_files r held.outputs)) after
+  place : TakePlace cmp v tables r.picked readable answer (edit_of r (new_files r held.outputs)) after
   unfolding kept_outputs
   place = record {
     held = kept_outputs;

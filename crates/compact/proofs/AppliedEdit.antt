@@ -13,6 +13,7 @@ use Rattle.std.proofs.lemmas.Bool.{eqb-true, eq-eqb}
 use Rattle.std.proofs.lemmas.List.{length-map}
 use Rattle.std.proofs.lemmas.List.Elements.{Contains-append_cases}
 use Rattle.std.proofs.lemmas.List.Sorted.{Contains-permutation, IsPermutation-sym}
+use Rattle.std.proofs.lemmas.Map.Keys.{IsDistinct-IsPermutation}
 use Rattle.std.proofs.lemmas.Option.{none-some, same_Some}
 use Rattle.edit.specs.Edit.{Edit, deleted_cmp}
 use Rattle.edit.specs.Version.{State, applied, place_of, is_same_place, is_deleted, undeleted_files, has_place, has_number, are_apart, are_new, number_cmp, with_file, with_pointer}
@@ -22,7 +23,7 @@ use Rattle.edit.specs.declared.meta.DeletedFile.{DeletedFile}
 use Rattle.edit.proofs.Applied.{after_is}
 use Rattle.edit.proofs.Inserted.{all_permute}
 use Rattle.edit.proofs.Kept.{apart_filter}
-use Rattle.edit.proofs.RisingFiles.{same_file, number_total, same_turned, tied_same}
+use Rattle.edit.proofs.RisingFiles.{same_file, number_total, same_turned, tied_same, distinct_apart}
 use Rattle.edit.proofs.Tested.{both_true, both_false, not_is_true}
 use Rattle.pick.specs.PickedInputs.{PickedInputs}
 use Rattle.pick.specs.declared.picked_inputs.InputFile.{InputFile}
@@ -244,6 +245,15 @@ pub is_made : (v : State) (e : Edit) (after : State) → applied v e ≡ Some af
 is_made v e after h =
     let made = made_if (list_all (has_place v.files) e.deleted) (are_new (undeleted_files e.deleted v.files) e.added) (fold with_file (undeleted_files e.deleted v.files) e.added) (with_files v e) after h in
     record { new = made.0; files = ap (λ (s : State). s.files) made.1 }
+
+-- no two files after have one number
+pub made_apart : (v : State) (e : Edit) (after : State) → are_apart v.files ≡ true → applied v e ≡ Some after → are_apart after.files ≡ true
+made_apart v e after apart h =
+    let made = is_made v e after h in
+    let left = undeleted_files e.deleted v.files in
+    let distinct = apart_new left e.added (apart_filter (λ (f : NewFile). not (is_deleted e.deleted f)) v.files apart) made.new in
+    subst (λ (fs : List NewFile). are_apart fs ≡ true) made.files
+    (distinct_apart (fold with_file left e.added) (IsDistinct-IsPermutation same_file same_turned (left ++ e.added) (fold with_file left e.added) (permuted_new left e.added distinct) distinct))
 
 module _ (cmp : List ℕ → List ℕ → Ordering) (total : IsTotalOrder cmp) (v : State) (tables : List NumberedContents) (p : PickedInputs) (lawful : IsLawful cmp v tables) (placed : AreOfVersion v p) where
   abbrev files : List InputFile

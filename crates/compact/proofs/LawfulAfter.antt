@@ -41,7 +41,7 @@ use Rattle.compact.proofs.VersionInputs.{below_first}
 use Rattle.compact.proofs.Lookups.{LiesBelow, outputs_apart}
 use Rattle.compact.proofs.SafeInputs.{AreSafe, picked_safe}
 use Rattle.compact.proofs.Sides.{users_below}
-use Rattle.compact.specs.KeptOutputs.{KeptOutputs, ReadAsBefore, TakePlace}
+use Rattle.compact.specs.KeptOutputs.{AreInOrder, KeptOutputs, ReadAsBefore, TakePlace}
 use Rattle.compact.proofs.ReplacedInputs.{IsFromInput, output_from}
 use Rattle.compact.proofs.ReplacedInputs as replaced
 
@@ -110,6 +110,7 @@ module _ (cmp : List ℕ → List ℕ → Ordering) (total : IsTotalOrder cmp) (
   out f at = not_is_true (is_input r.picked f.meta.number) (from_filter (λ (g : NewFile). not (is_input r.picked g.meta.number)) v.files f at).1
 
   from_output : (q : Output) → Contains outputs q → (x : Entry) → Contains q.entries x → IsFromInput tables r.picked x
+  unfolding kept_outputs
   from_output q at x i = output_from cmp tables r.picked readable kept_outputs q at x i
 
   file_of_input : (i : InputFile) → Contains r.picked.files i → IsFileOf cmp tables i.meta
@@ -188,24 +189,27 @@ module _ (cmp : List ℕ → List ℕ → Ordering) (total : IsTotalOrder cmp) (
   -- ---- the version after
 
   place : TakePlace cmp v tables r.picked readable answer (edit_of r (new_files r held.outputs)) after
+  unfolding kept_outputs
   place = record {
     held = kept_outputs;
     answer_tables = held.answer_tables;
     deleted = refl;
     added = refl;
     applies = edited cmp total v tables r held.outputs lawful safe.placed over.numbers held.numbered;
-    below_next = below_after;
-    disjoint = λ f g i j same deep differ. disjoint_sides f g same deep differ (side f i) (side g j);
   }
 
+  order : AreInOrder cmp after
+  order = record { below_next = below_after; disjoint = λ f g i j same deep differ. disjoint_sides f g same deep differ (side f i) (side g j) }
+
   pub lawful_after : IsLawful cmp after (tables_after cmp r.picked answer tables)
-  lawful_after = replaced.lawful_after cmp total exact v tables r.picked readable answer (edit_of r (new_files r held.outputs)) after lawful safe place
+  lawful_after = replaced.lawful_after cmp total exact v tables r.picked readable answer (edit_of r (new_files r held.outputs)) after lawful safe place order
 
   pub holds_after : HoldKept v tables r.picked kept_ones after (tables_after cmp r.picked answer tables)
+  unfolding place kept_outputs
   holds_after = replaced.holds_after cmp total exact v tables r.picked readable answer (edit_of r (new_files r held.outputs)) after lawful safe place
 
   pub reads_as_before : All (λ (f : NewFile). f.level ≤ 6) v.files → ReadAsBefore cmp v tables r.picked readable answer after
-  reads_as_before low = replaced.read_as_before cmp total exact v tables r.picked readable answer (edit_of r (new_files r held.outputs)) after lawful safe place low
+  reads_as_before low = replaced.read_as_before cmp total exact v tables r.picked readable answer (edit_of r (new_files r held.outputs)) after lawful safe place order low
 
 pub stands_after : (cmp : List ℕ → List ℕ → Ordering) → IsTotalOrder cmp → IsExact cmp → (short_keys : ShortKeys) → VersionAfterLaw cmp short_keys
 stands_after cmp total exact short_keys = record {

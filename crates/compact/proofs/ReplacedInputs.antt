@@ -25,11 +25,11 @@ use Rattle.table.specs.EntriesFrom.{EntriesRise}
 use Rattle.table.proofs.CheckedTables.{HasEntry, blocks_by, contents_are, contents_read, first_is, last_is, read_data, some_entry}
 use Rattle.table.proofs.EntryTests.{all_tests, rising}
 use Rattle.edit.specs.Edit.{Edit}
-use Rattle.edit.specs.Version.{State, are_apart, are_new, has_number, undeleted_files}
+use Rattle.edit.specs.Version.{State, are_apart, are_new, has_number, undeleted_files, with_file}
 use Rattle.edit.specs.declared.meta.FileMeta.{FileMeta}
 use Rattle.edit.specs.declared.meta.DeletedFile.{DeletedFile}
 use Rattle.edit.specs.declared.meta.NewFile.{NewFile}
-use Rattle.edit.proofs.RisingFiles.{same_file, same_turned, distinct_apart}
+use Rattle.edit.proofs.RisingFiles.{same_file, same_turned}
 use Rattle.edit.proofs.Tested.{both_true, not_is_true}
 use Rattle.reads.specs.MergedLists.{entries_of_lists}
 use Rattle.pick.specs.PickedInputs.{PickedInputs}
@@ -50,10 +50,10 @@ use Rattle.compact.specs.OutputTables.{Output, numbered_tables}
 use Rattle.compact.specs.EditOf.{new_file}
 use Rattle.compact.specs.OneThread.{Answer}
 use Rattle.compact.specs.GetsAfter.{staying_files, entries_of_inputs, HoldKept}
-use Rattle.compact.specs.KeptOutputs.{KeptOutputs, KeptReadsSurvive, ReadAsBefore, TakePlace}
+use Rattle.compact.specs.KeptOutputs.{AreInOrder, KeptOutputs, KeptReadsSurvive, ReadAsBefore, TakePlace}
 use Rattle.compact.specs.RequestOverVersion.{output_entries}
 use Rattle.compact.specs.SurvivingReads.{output_table, tables_after}
-use Rattle.compact.proofs.AppliedEdit.{IsMade, IsOutputOf, apart_new, is_made, kept_are, none_of, permuted_new, side_of, staying_apart, stays_there}
+use Rattle.compact.proofs.AppliedEdit.{IsMade, IsOutputOf, apart_new, is_made, kept_are, made_apart, none_of, permuted_new, side_of, staying_apart, stays_there}
 use Rattle.compact.proofs.Gets.{get_is, kept_part, rising_lower}
 use Rattle.compact.proofs.VersionInputs.{is_one}
 use Rattle.compact.proofs.Lookups.{other_found, output_found}
@@ -110,11 +110,13 @@ same_version : Entry → Entry → Bool
 same_version a b = bytes_eq (user_of a.key) (user_of b.key) && eqb (sequence_of a.key) (sequence_of b.key)
 
 told_same : (a b : Entry) → same_version a b ≡ true → (user_of a.key ≡ user_of b.key) × (sequence_of a.key ≡ sequence_of b.key)
+unfolding same_version
 told_same a b h =
     let both = both_true (bytes_eq (user_of a.key) (user_of b.key)) (eqb (sequence_of a.key) (sequence_of b.key)) h in
     ((bytes_eq-Decides (user_of a.key) (user_of b.key)).0 both.0, eqb-true (sequence_of a.key) (sequence_of b.key) both.1)
 
 same_told : (a b : Entry) → user_of a.key ≡ user_of b.key → sequence_of a.key ≡ sequence_of b.key → same_version a b ≡ true
+unfolding same_version
 same_told a b user sequence =
     and_both (bytes_eq (user_of a.key) (user_of b.key)) (eqb (sequence_of a.key) (sequence_of b.key)) ((bytes_eq-Decides (user_of a.key) (user_of b.key)).1 user) (eq-eqb (sequence_of a.key) (sequence_of b.key) sequence)
 
@@ -215,7 +217,7 @@ module _ (cmp : List ℕ → List ℕ → Ordering) (total : IsTotalOrder cmp) (
   -- ---- the files after
 
   undeleted : undeleted_files edit.deleted v.files ≡ staying_files v p
-  undeleted = ap (λ (ds : List DeletedFile). undeleted_files ds v.files) placedit.deleted ∙ kept_are cmp total v tables p lawful safe.placed
+  undeleted = ap (λ (ds : List DeletedFile). undeleted_files ds v.files) place.deleted ∙ kept_are cmp total v tables p lawful safe.placed
 
   made : IsMade v edit after
   made = is_made v edit after place.applies
@@ -417,18 +419,21 @@ module _ (cmp : List ℕ → List ℕ → Ordering) (total : IsTotalOrder cmp) (
 
   -- ---- the version after
 
-  lawful_now : IsLawful cmp after now
-  lawful_now = record {
+  pub files_are : All (λ (f : NewFile). IsFileOf cmp (tables_after cmp p answer tables) f.meta) after.files
+  files_are = subst (λ (ts : List NumberedContents). All (λ (f : NewFile). IsFileOf cmp ts f.meta) after.files) (sym now_is) files_after
+
+  lawful_now : AreInOrder cmp after → IsLawful cmp after now
+  lawful_now order = record {
     files = files_after;
-    apart = distinct_apart after.files distinct_after;
-    below_next = place.below_next;
-    disjoint = place.disjoint;
+    apart = made_apart v edit after lawful.apart place.applies;
+    below_next = order.below_next;
+    disjoint = order.disjoint;
     sequences_once = once_after;
     newer_above = λ f g i j above. newer_sides f g above (side f i) (side g j);
   }
 
-  pub lawful_after : IsLawful cmp after (tables_after cmp p answer tables)
-  lawful_after = subst (IsLawful cmp after) (sym now_is) lawful_now
+  pub lawful_after : AreInOrder cmp after → IsLawful cmp after (tables_after cmp p answer tables)
+  lawful_after order = subst (IsLawful cmp after) (sym now_is) (lawful_now order)
 
   hold_staying : (e : Entry) → Contains (all_entries tables (staying_files v p)) e → Contains (all_entries now after.files) e
   hold_staying e at =
@@ -455,11 +460,14 @@ module _ (cmp : List ℕ → List ℕ → Ordering) (total : IsTotalOrder cmp) (
   pub holds_after : HoldKept v tables p (kept cmp readable p.deeper held.union) after (tables_after cmp p answer tables)
   holds_after = subst (HoldKept v tables p (kept cmp readable p.deeper held.union) after) (sym now_is) (record { holds_staying = hold_staying; holds_kept = hold_kept; only = hold_only })
 
-  pub read_as_before : All (λ (f : NewFile). f.level ≤ 6) v.files → ReadAsBefore cmp v tables p readable answer after
-  read_as_before low = record {
-    lawful = lawful_after;
+  pub read_as_before : AreInOrder cmp after → All (λ (f : NewFile). f.level ≤ 6) v.files → ReadAsBefore cmp v tables p readable answer after
+  read_as_before order low = record {
+    lawful = lawful_after order;
     gets = get_is cmp total exact v tables p readable held.union after (tables_after cmp p answer tables) lawful low safe held.is_union holds_after;
   }
 
 pub kept_reads_survive : (cmp : List ℕ → List ℕ → Ordering) → IsTotalOrder cmp → IsExact cmp → KeptReadsSurvive cmp
-kept_reads_survive cmp total exact v tables p r answer e after lawful low over place = read_as_before cmp total exact v tables p r answer e after lawful (closed_safe cmp total v tables p lawful over) place low
+kept_reads_survive cmp total exact = record {
+  files = λ v tables p r answer e after lawful over place. files_are cmp total exact v tables p r answer e after lawful (closed_safe cmp total v tables p lawful over) place;
+  survive = λ v tables p r answer e after lawful low over place order. read_as_before cmp total exact v tables p r answer e after lawful (closed_safe cmp total v tables p lawful over) place order low;
+}

@@ -12,7 +12,7 @@ use Rattle.edit.specs.declared.meta.NewFile.{NewFile}
 use Rattle.edit.specs.declared.meta.TheConstants.{LAST_LEVEL}
 use Rattle.pick.specs.PickedInputs.{PickedInputs}
 use Rattle.reads.specs.Gets.{get_of}
-use Rattle.reads.specs.Lawful.{AreDisjoint, IsBelowNextFile, IsLawful}
+use Rattle.reads.specs.Lawful.{AreDisjoint, IsBelowNextFile, IsFileOf, IsLawful}
 use Rattle.reads.specs.MergedLists.{entries_of_lists}
 use Rattle.reads.specs.Tables.{NumberedContents}
 use Rattle.reads.specs.Union.{IsUnion}
@@ -38,8 +38,7 @@ pub record KeptOutputs (cmp : KeyOrder) (tables : List NumberedContents) (p : Pi
   pub read : All (λ (w : Output). table_reading cmp w.bytes ≡ Ok w.entries) outputs
 
 -- An edit puts such outputs, which are an answer's tables, in the place of the inputs: it deletes
--- just these, has the outputs as new files of the next level, and makes the version after. Of that
--- one's files the numbers are below next file, and the ranges of each level from 1 on disjoint.
+-- just these, has the outputs as new files of the next level, and makes the version after.
 pub record TakePlace (cmp : KeyOrder) (v : State) (tables : List NumberedContents)
     (p : PickedInputs) (r : Readable) (answer : Answer) (e : Edit) (after : State) : Type 0 where
   pub held : KeptOutputs cmp tables p r
@@ -47,10 +46,13 @@ pub record TakePlace (cmp : KeyOrder) (v : State) (tables : List NumberedContent
   pub deleted : e.deleted ≡ deletions_of p.files
   pub added : e.added ≡ map (new_file (p.level + 1)) held.outputs
   pub applies : applied v e ≡ Some after
-  pub below_next : All (λ (f : NewFile). IsBelowNextFile after.next_file f.meta.number) after.files
-  pub disjoint : (f g : NewFile) → Contains after.files f → Contains after.files g →
-      f.level ≡ g.level → 0 < f.level → f.meta.number ≢ g.meta.number →
-      AreDisjoint cmp f.meta g.meta
+
+-- The numbers of a version's files are below next file, and the ranges of those of each level from
+-- 1 on are disjoint.
+pub record AreInOrder (cmp : KeyOrder) (v : State) : Type 0 where
+  pub below_next : All (λ (f : NewFile). IsBelowNextFile v.next_file f.meta.number) v.files
+  pub disjoint : (f g : NewFile) → Contains v.files f → Contains v.files g → f.level ≡ g.level →
+      0 < f.level → f.meta.number ≢ g.meta.number → AreDisjoint cmp f.meta g.meta
 
 -- The version after is lawful with the tables after, and each get at a readable sequence answers as
 -- before.
@@ -60,11 +62,17 @@ pub record ReadAsBefore (cmp : KeyOrder) (v : State) (tables : List NumberedCont
   pub gets : (user : List ℕ) (at : ℕ) → is_read r at ≡ true →
       get_of after (tables_after cmp p answer tables) user at ≡ get_of v tables user at
 
--- So it is of each lawful version with files at levels up to 6, if the inputs are over it.
-abbrev pub KeptReadsSurvive : KeyOrder → Type 0
-KeptReadsSurvive cmp =
-    (v : State) (tables : List NumberedContents) (p : PickedInputs) (r : Readable)
-    (answer : Answer) (e : Edit) (after : State) →
-    IsLawful cmp v tables → All (λ (f : NewFile). f.level ≤ LAST_LEVEL) v.files →
-    AreInputsOver cmp v p → TakePlace cmp v tables p r answer e after →
-    ReadAsBefore cmp v tables p r answer after
+-- Let inputs be over a lawful version with files at levels up to 6, and let outputs take their
+-- place. Then each file after has its table. If moreover the files after are in order, that version
+-- is lawful, and reads survive.
+pub record KeptReadsSurvive (cmp : KeyOrder) : Type 0 where
+  pub files : (v : State) (tables : List NumberedContents) (p : PickedInputs) (r : Readable)
+      (answer : Answer) (e : Edit) (after : State) →
+      IsLawful cmp v tables → AreInputsOver cmp v p →
+      TakePlace cmp v tables p r answer e after →
+      All (λ (f : NewFile). IsFileOf cmp (tables_after cmp p answer tables) f.meta) after.files
+  pub survive : (v : State) (tables : List NumberedContents) (p : PickedInputs) (r : Readable)
+      (answer : Answer) (e : Edit) (after : State) →
+      IsLawful cmp v tables → All (λ (f : NewFile). f.level ≤ LAST_LEVEL) v.files →
+      AreInputsOver cmp v p → TakePlace cmp v tables p r answer e after → AreInOrder cmp after →
+      ReadAsBefore cmp v tables p r answer after

@@ -81,8 +81,8 @@ pub fn reads_survive<C: Comparator>()
 ///
 /// - The outputs are tables, and together hold just what is kept of the inputs.
 /// - An edit deletes just the inputs, has the outputs as new files, and applies.
-/// - Of the version after the numbers are below next file. The ranges of each level's files from 1
-///   on are disjoint.
+/// - In the version after the numbers of files are below next file, and the ranges of each level's
+///   files from 1 on are disjoint.
 ///
 /// Then that version is lawful, and each get at a readable sequence answers as before. No table but
 /// the inputs' and the outputs' has to be read to know it.

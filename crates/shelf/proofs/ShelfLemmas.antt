@@ -102,11 +102,9 @@ alters_tells (Done FolderSynced) old new is s tells = (s, refl, tells_alike new 
 alters_tells (Tried FolderSynced) old new is s tells = (s, refl, tells_alike new s.files (λ n. alike_told old s.files tells n ∙ sym (is_at new old is n)))
 
 -- what a call that writes changes of what may be read
-pub wrote : (step : Step) (old new : List ShelfStep) (start now : List (List ℕ × List ℕ)) → now ≡ start → ((files : Files) → Alters step (files_after_steps old files) (files_after_steps new files))
-    → TellsAfter step (told (files_after_steps old (files_in start))) (told (files_after_steps new (files_in now)))
-wrote step old new start now same change =
-    subst (λ (files : List (List ℕ × List ℕ)). TellsAfter step (told (files_after_steps old (files_in start))) (told (files_after_steps new (files_in files)))) (sym same)
-    (alters_tells step (files_after_steps old (files_in start)) (files_after_steps new (files_in start)) (change (files_in start)))
+pub wrote : (step : Step) (start : List (List ℕ × List ℕ)) (old new : List ShelfStep) → ((files : Files) → Alters step (files_after_steps old files) (files_after_steps new files))
+    → TellsAfter step (told (files_after_steps old (files_in start))) (told (files_after_steps new (files_in start)))
+wrote step start old new change = alters_tells step (files_after_steps old (files_in start)) (files_after_steps new (files_in start)) (change (files_in start))
 
 abbrev pub no_file : Bor (List ℕ) × Bor (List ℕ)
 no_file = (record { ref_ptr = (0, 0); now = [] }, record { ref_ptr = (0, 0); now = [] })

@@ -21,11 +21,7 @@ all_are : (made : Option (Vec (ℕ × Vec ℕ))) (tables : List (ℕ × List ℕ
 all_are None tables are = tt
 all_are (Some made) tables are = made_is made.items tables are
 
-pub write_made-requires : goal.write_made-requires
-write_made-requires g c = all_are c.args.made c.args.tables.now.tables c.requires
-
 pub returns-clause-change : goal.returns-clause-change
 returns-clause-change g c =
-    let old = c.args.self.now in
-    let new = c.write_made.new.self in
-    wrote (step_of (Written (named_tables c.args.tables.now.tables)) c.write_made.result) old.steps new.steps old.start new.start c.write_made.ensures.start c.write_made.ensures.change
+    let tables = c.args.tables.now.tables in
+    wrote (step_of (Written (named_tables tables)) c.record_made.result) c.args.self.now.start c.args.self.now.made.steps c.record_made.new.self.steps (c.record_made.ensures.change tables (all_are c.args.made tables c.requires))

@@ -18,7 +18,8 @@ use std::marker::Model;
 #[derive(Drop)]
 pub(crate) struct CallRecord {
     alloc: Global,
-    failures: u64,
+    /// How often the device has failed, up to 2^64 - 1.
+    pub failures: u64,
     trail: Trail,
     readings: Readings,
     /// The newest call that failed by the device.
@@ -53,13 +54,6 @@ impl CallRecord {
             last_failure: None,
             last_read: String::new(alloc),
         }
-    }
-
-    /// How often the device has failed, up to 2^64 - 1.
-    pub fn failures(&self) -> u64
-        ensures { result ≡ self.now.failures }
-    {
-        self.failures
     }
 
     /// What a call of the system answered, on the file of this `name`. A failure other than out of
@@ -119,7 +113,7 @@ impl CallRecord {
     ) -> Result<(), FolderFault>
         ensures answer { result ≡ answer }
         ensures trail { self.new.trail
-            ≡ self.old.trail ++ step_of (any_call_in call) answer ∷ [] }
+            ≡ self.old.trail ++ step_of (any_call_in call.entry) answer ∷ [] }
         ensures failures { self.new.failures ≡ self.old.failures }
     {
         let is_done = answer.is_ok();

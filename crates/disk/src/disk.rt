@@ -36,7 +36,7 @@ pub struct Disk<'r, R> {
     path: &'r str,
     /// The path of the folder whose CURRENT says who may use new files.
     owner: &'r str,
-    record: CallRecord,
+    history: CallRecord,
     kept: PendingFiles,
 }
 
@@ -45,7 +45,7 @@ impl<'r, R> Model for Disk<'r, R> {
 
     ghost Value = { CallHistory };
 
-    ghost view = { λ d. d.record };
+    ghost view = { λ d. d.history };
 }
 
 impl<'r, R: SystemFiles + AllocGlobal> Disk<'r, R> {
@@ -67,7 +67,7 @@ impl<'r, R: SystemFiles + AllocGlobal> Disk<'r, R> {
             rt,
             path,
             owner,
-            record: CallRecord::new(rt.alloc()),
+            history: CallRecord::new(rt.alloc()),
             kept: PendingFiles::new(rt.alloc()),
         }
     }
@@ -85,7 +85,7 @@ impl<'r, R: SystemFiles + AllocGlobal> Disk<'r, R> {
         let numbers = numbers_in(alloc, order, version)?;
         match sizes_in(self.rt, alloc, self.path, &numbers)? {
             Sizes::Missing(number) => {
-                self.record.last_read = table_name(alloc, number)?;
+                self.history.last_read = table_name(alloc, number)?;
                 Err(Fault::of(FaultName::Missing))
             }
             Sizes::TooLarge(number) => Ok(Some(number)),
@@ -95,13 +95,13 @@ impl<'r, R: SystemFiles + AllocGlobal> Disk<'r, R> {
 
     /// The newest call that failed by the device. None if none did.
     pub fn last_failure(&self) -> Option<&Failure> {
-        self.record.last_failure.as_ref()
+        self.history.last_failure.as_ref()
     }
 
     /// The name of the file that was read last, whether it was there or not; or of the table that
     /// [`Disk::large_table`] found missing since. None if there is none.
     pub fn last_read(&self) -> Option<&str> {
-        let name = self.record.last_read.as_str();
+        let name = self.history.last_read.as_str();
         if name.is_empty() { None } else { Some(name) }
     }
 }
@@ -139,10 +139,10 @@ impl<'r, R: SystemFiles + AllocGlobal> Folder for Disk<'r, R> {
     ghost readings = { λ disk. disk.readings };
 
     fn read(&mut self, name: &str) -> Result<Option<Vec<u8>>, FolderFault> {
-        self.record.last_read = text_kept(self.rt.alloc(), name);
+        self.history.last_read = text_kept(self.rt.alloc(), name);
         let found = read_in(self.rt, self.rt.alloc(), self.path, name);
-        let answer = self.record.counted(found, FolderCall::Read, name);
-        self.record.has_read(name, &answer);
+        let answer = self.history.counted(found, FolderCall::Read, name);
+        self.history.has_read(name, &answer);
         answer
     }
 
@@ -152,9 +152,9 @@ impl<'r, R: SystemFiles + AllocGlobal> Folder for Disk<'r, R> {
         offset: u64,
         len: usize,
     ) -> Result<Option<Vec<u8>>, FolderFault> {
-        self.record.last_read = text_kept(self.rt.alloc(), name);
+        self.history.last_read = text_kept(self.rt.alloc(), name);
         let answer = part_in(self.rt, self.rt.alloc(), self.path, name, offset, len);
-        self.record.counted(answer, FolderCall::Read, name)
+        self.history.counted(answer, FolderCall::Read, name)
     }
 
     fn create(&mut self, name: &str, bytes: &[u8]) -> Result<(), FolderFault> {
@@ -167,7 +167,7 @@ impl<'r, R: SystemFiles + AllocGlobal> Folder for Disk<'r, R> {
         tables: &[(u64, Vec<u8>)],
     ) -> Result<(), FolderFault> {
         let answer = self.made(rt, tables);
-        self.record.wrote(AnyWrite::Tables(tables), answer)
+        self.history.wrote(AnyWrite::Tables(tables), answer)
     }
 
     fn sync(&mut self, name: &str) -> Result<(), FolderFault> {
@@ -187,7 +187,7 @@ impl<'r, R: SystemFiles + AllocGlobal> Folder for Disk<'r, R> {
     }
 
     fn failures(&self) -> u64 {
-        self.record.failures()
+        self.history.failures
     }
 }
 
@@ -229,7 +229,7 @@ impl<'r, R: SystemFiles + MakesFiles + AllocGlobal> WritesTables for Disk<'r, R>
             ≡ failures_after (⟦<Disk<'r, R> as Folder>⟧.failed self.old) result }
     {
         let answer = self.counted_made(made);
-        self.record.wrote(AnyWrite::Made(tables), answer)
+        self.history.wrote(AnyWrite::Made(tables), answer)
     }
 }
 
@@ -254,7 +254,7 @@ impl<'r, R: SystemFiles + AllocGlobal> Disk<'r, R> {
         } else {
             write_in_turn(self.rt, access, tables, &mut files);
         }
-        self.record.counted_all(&files)
+        self.history.counted_all(&files)
     }
 
     /// What the making and syncing of tables answered. None if memory ran out before all were made.
@@ -266,7 +266,7 @@ impl<'r, R: SystemFiles + AllocGlobal> Disk<'r, R> {
             return Err(FolderFault::Memory);
         };
         self.kept.forget_all(&files);
-        self.record.counted_all(&files)
+        self.history.counted_all(&files)
     }
 
     /// Makes a call that writes, and records it.
@@ -281,8 +281,8 @@ impl<'r, R: SystemFiles + AllocGlobal> Disk<'r, R> {
         };
         let done = done_in(self.rt, self.rt.alloc(), place, &mut self.kept, call);
         let (kind, name) = call.told();
-        let answer = self.record.counted(done, kind, name);
-        self.record.wrote(AnyWrite::One(call), answer)
+        let answer = self.history.counted(done, kind, name);
+        self.history.wrote(AnyWrite::One(call), answer)
     }
 }
 

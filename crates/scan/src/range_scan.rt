@@ -121,10 +121,10 @@ fn tell_range<C: SharedComparator + 'static, F: ReadsTables, T: RowTaker, R: Thr
 {
     let alloc = workers.alloc();
     let RangeRows {
-        standing,
         range,
         at,
         limit,
+        ..
     } = rows;
     let is_over = is_done(limit);
     if is_over {
@@ -134,7 +134,7 @@ fn tell_range<C: SharedComparator + 'static, F: ReadsTables, T: RowTaker, R: Thr
     if is_none {
         return Ok(RowLimit::More(limit));
     }
-    let needed = needed_files::<C>(alloc, standing, range)?;
+    let needed = needed_files::<C>(alloc, rows.standing, range)?;
     let numbers = numbers_of(alloc, &needed)?;
     let is_held = hold_next::<C, F, Open, R>(workers, folder, held, &numbers)?;
     if !is_held {

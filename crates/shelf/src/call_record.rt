@@ -101,7 +101,7 @@ impl CallRecord {
     ) -> Result<(), FolderFault>
         ensures answer { result ≡ answer }
         ensures calls { self.new.trail
-            ≡ self.old.trail ++ step_of (any_call_in call) answer ∷ [] }
+            ≡ self.old.trail ++ step_of (any_call_in call.entry) answer ∷ [] }
         ensures steps { self.new.steps ≡ self.old.steps }
         ensures failures { self.new.failures ≡ self.old.failures }
     {

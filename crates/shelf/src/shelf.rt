@@ -26,7 +26,7 @@ use std::thread::Threads;
 #[derive(Drop)]
 pub struct Shelf<'a> {
     start: &'a [(&'a str, &'a [u8])],
-    record: CallRecord,
+    history: CallRecord,
 }
 
 /// What keeps tables until they are put on a shelf.
@@ -41,7 +41,7 @@ impl<'a> Model for Shelf<'a> {
 
     ghost view = { λ s. record {
       start = map (λ f. (f.0.now, f.1.now)) s.start.now;
-      made = s.record;
+      made = s.history;
     } };
 }
 
@@ -59,7 +59,7 @@ impl<'a> Shelf<'a> {
               made = record { steps = []; trail = []; readings = []; calls = 0; failures = 0 };
             } }
     {
-        let record = CallRecord {
+        let history = CallRecord {
             alloc,
             steps: Vec::new(alloc),
             failing: None,
@@ -69,7 +69,7 @@ impl<'a> Shelf<'a> {
             readings: Readings::none(),
         };
         let start = files;
-        Shelf { start, record }
+        Shelf { start, history }
     }
 
     /// The same folder, of which this call fails.
@@ -77,9 +77,9 @@ impl<'a> Shelf<'a> {
         ensures { result ≡ self.entry }
     {
         Shelf {
-            record: CallRecord {
+            history: CallRecord {
                 failing: Some(failing),
-                ..self.record
+                ..self.history
             },
             ..self
         }
@@ -89,14 +89,14 @@ impl<'a> Shelf<'a> {
     pub fn calls(&self) -> u64
         ensures { result ≡ self.now.made.calls }
     {
-        self.record.calls
+        self.history.calls
     }
 
     /// The calls that write, the newest first. One that ran out of memory is left out.
     pub fn steps(&self) -> &[ShelfStep]
         ensures { result.now ≡ self.now.made.steps }
     {
-        &self.record.steps
+        &self.history.steps
     }
 
     /// The bytes under a `name`. None if no file has it.
@@ -105,7 +105,7 @@ impl<'a> Shelf<'a> {
             (option_map (λ bytes. bytes.now) result) }
     {
         let mut sought = name;
-        for step in &self.record.steps {
+        for step in &self.history.steps {
             match step.source(sought) {
                 Source::Bytes(bytes) => return Some(bytes),
                 Source::Nothing => return None,
@@ -127,7 +127,7 @@ impl<'a> Folder for Shelf<'a> {
 
     fn read(&mut self, name: &str) -> Result<Option<Vec<u8>>, FolderFault> {
         let answer = self.copy_of(name);
-        self.record.has_read(name, &answer);
+        self.history.has_read(name, &answer);
         answer
     }
 
@@ -137,10 +137,10 @@ impl<'a> Folder for Shelf<'a> {
         offset: u64,
         len: usize,
     ) -> Result<Option<Vec<u8>>, FolderFault> {
-        self.record.read()?;
+        self.history.read()?;
         match self.file(name) {
             Some(bytes) => Ok(Some(Vec::from_slice(
-                self.record.alloc,
+                self.history.alloc,
                 part_of(bytes, offset, len),
             )?)),
             None => Ok(None),
@@ -148,7 +148,7 @@ impl<'a> Folder for Shelf<'a> {
     }
 
     fn create(&mut self, name: &str, bytes: &[u8]) -> Result<(), FolderFault> {
-        self.record.write(WriteCall::Create(name, bytes))
+        self.history.write(WriteCall::Create(name, bytes))
     }
 
     fn write_tables<T: Threads + Sync>(
@@ -156,28 +156,28 @@ impl<'a> Folder for Shelf<'a> {
         _rt: &T,
         tables: &[(u64, Vec<u8>)],
     ) -> Result<(), FolderFault> {
-        let answer = self.record.record_tables(tables);
-        self.record.wrote(AnyWrite::Tables(tables), answer)
+        let answer = self.history.record_tables(tables);
+        self.history.wrote(AnyWrite::Tables(tables), answer)
     }
 
     fn sync(&mut self, name: &str) -> Result<(), FolderFault> {
-        self.record.write(WriteCall::Sync(name))
+        self.history.write(WriteCall::Sync(name))
     }
 
     fn rename(&mut self, from: &str, to: &str) -> Result<(), FolderFault> {
-        self.record.write(WriteCall::Rename(from, to))
+        self.history.write(WriteCall::Rename(from, to))
     }
 
     fn remove(&mut self, name: &str) -> Result<(), FolderFault> {
-        self.record.write(WriteCall::Remove(name))
+        self.history.write(WriteCall::Remove(name))
     }
 
     fn sync_folder(&mut self) -> Result<(), FolderFault> {
-        self.record.write(WriteCall::SyncFolder)
+        self.history.write(WriteCall::SyncFolder)
     }
 
     fn failures(&self) -> u64 {
-        self.record.failures
+        self.history.failures
     }
 }
 
@@ -215,8 +215,8 @@ impl<'a> WritesTables for Shelf<'a> {
         ensures failures { ⟦<Shelf<'a> as Folder>⟧.failed self.new
             ≡ failures_after (⟦<Shelf<'a> as Folder>⟧.failed self.old) result }
     {
-        let answer = self.record.record_made(made);
-        self.record.wrote(AnyWrite::Made(tables), answer)
+        let answer = self.history.record_made(made);
+        self.history.wrote(AnyWrite::Made(tables), answer)
     }
 }
 
@@ -244,9 +244,9 @@ impl<'a> Shelf<'a> {
         ensures trail { self.new.made.trail ≡ self.old.made.trail }
         ensures readings { self.new.made.readings ≡ self.old.made.readings }
     {
-        self.record.read()?;
+        self.history.read()?;
         match self.file(name) {
-            Some(bytes) => Ok(Some(Vec::from_slice(self.record.alloc, bytes)?)),
+            Some(bytes) => Ok(Some(Vec::from_slice(self.history.alloc, bytes)?)),
             None => Ok(None),
         }
     }

@@ -3,7 +3,8 @@ use Rattle.std.specs.Global.{Vec}
 use Rattle.folder.specs.Calls.{Written, step_of}
 use Rattle.std.specs.List.{AllZip}
 use Rattle.folder.specs.TableFiles.{named_tables}
-use Rattle.shelf.proofs.ShelfLemmas.{wrote}
+use Rattle.shelf.specs.Shelf.{held_by}
+use Rattle.shelf.proofs.ShelfLemmas.{handed_on, lent, told, wrote}
 use Rattle.shelf.proofs.shelf.ShelfWritesTables.sync_tables.Goals as goal
 
 -- what a folder in memory makes of tables is these tables
@@ -24,4 +25,8 @@ all_are (Some made) tables are = made_is made.items tables are
 pub returns-clause-change : goal.returns-clause-change
 returns-clause-change g c =
     let tables = c.args.tables.now.tables in
-    wrote (step_of (Written (named_tables tables)) c.record_made.result) c.args.self.now.start c.args.self.now.made.steps c.record_made.new.self.steps (c.record_made.ensures.change tables (all_are c.args.made tables c.requires))
+    let made = c.record_made-answer in
+    let call = Written (named_tables tables) in
+    let files = lent c.self.inside.start.now in
+    handed_on call c.wrote.result made.result (told (held_by c.args.self.now)) files made.new.self c.wrote.new.self c.wrote.ensures.answer c.wrote.ensures.steps
+    (wrote (step_of call made.result) files c.self.inside.history made.new.self c.args.self.now c.self.view_is (made.ensures.change tables (all_are c.args.made tables c.requires)))

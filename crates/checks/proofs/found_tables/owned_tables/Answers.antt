@@ -15,12 +15,12 @@ loop-pair-preserved g c =
     let cmp = g.C.Comparator.cmp in
     let t : ℕ × Vec ℕ Global = c.in-Some.pair in
     let rest : List (ℕ × Vec ℕ Global) = into_iter_items c.next.new.self in
-    let x : NumberedContents = c.in-Some-table.table in
+    let x : NumberedContents = c.in-Some-2.table in
     let front : List NumberedContents = c.loop-pair.tables.items in
     let total = tables_reading cmp (map lent_table c.args.loaded.items) in
     let so_far : tables_after front (tables_reading cmp (map lent_table (t ∷ rest))) ≡ total =
     subst (λ (ts : List (ℕ × Vec ℕ Global)). tables_after front (tables_reading cmp (map lent_table ts)) ≡ total) c.in-Some.ensures.steps.0 c.loop-pair.invariant in
-    let is = subst (λ (o : Option NumberedContents). MatchOption o ((y : Contents) → contents_reading cmp t.1.items ≡ Ok y → ⊥) (λ y. (y.number ≡ t.0) × (y.contents.bytes ≡ t.1.items) × (contents_reading cmp t.1.items ≡ Ok y.contents))) c.in-Some-table.is c.in_ok-table.ensures.checked in
+    let is = subst (λ (o : Option NumberedContents). MatchOption o ((y : Contents) → contents_reading cmp t.1.items ≡ Ok y → ⊥) (λ y. (y.number ≡ t.0) × (y.contents.bytes ≡ t.1.items) × (contents_reading cmp t.1.items ≡ Ok y.contents))) c.in-Some-2.is c.in_ok-table.ensures.checked in
     round_more cmp (t ∷ rest) (t ∷ []) rest 1 refl refl front (x ∷ []) c.push.new.self.items total (one_read cmp t x is.0 is.1.1) c.in_ok-push.ensures.items so_far
 
 pub returns-in_default-clause-checked : goal.returns-in_default-clause-checked

@@ -21,7 +21,7 @@ loop-pair-preserved g c =
     let so_far : tables_after front (tables_reading cmp (map lent_table (t ∷ rest))) ≡ total =
     subst (λ (ts : List (ℕ × Vec ℕ Global)). tables_after front (tables_reading cmp (map lent_table ts)) ≡ total) c.in-Some.ensures.steps.0 c.loop-pair.invariant in
     let is = subst (λ (o : Option NumberedContents). MatchOption o ((y : Contents) → contents_reading cmp t.1.items ≡ Ok y → ⊥) (λ y. (y.number ≡ t.0) × (y.contents.bytes ≡ t.1.items) × (contents_reading cmp t.1.items ≡ Ok y.contents))) c.in-Some-2.is c.in_ok-table.ensures.checked in
-    round_more cmp (t ∷ rest) (t ∷ []) rest 1 refl refl front (x ∷ []) c.push.new.self.items total (one_read cmp t x is.0 is.1.1) c.in_ok-push.ensures.items so_far
+    round_more cmp (t ∷ rest) (t ∷ []) rest 1 refl refl front (x ∷ []) c.push.new.self.items total (one_read cmp t x is.0 is.2) c.in_ok-push.ensures.items so_far
 
 pub returns-in_default-clause-checked : goal.returns-in_default-clause-checked
 returns-in_default-clause-checked g c =

@@ -3,7 +3,7 @@ use Rattle.shelf.specs.Alters.{Alters}
 use Rattle.folder.specs.Calls.{Step, Written}
 use Rattle.shelf.specs.Shelf.{files_after_steps}
 use Rattle.shelf.proofs.ShelfLemmas.{then_synced, tried_of}
-use Rattle.shelf.proofs.shelf.Shelf.record_file.Goals as goal
+use Rattle.shelf.proofs.call_record.CallRecord.record_file.Goals as goal
 
 pub returns-in_err-record-clause-change : goal.returns-in_err-record-clause-change
 returns-in_err-record-clause-change c = λ files.

@@ -4,7 +4,7 @@ use Rattle.shelf.specs.Alters.{Alters}
 use Rattle.folder.specs.Calls.{Written, step_of}
 use Rattle.folder.specs.Names.{table_name}
 use Rattle.shelf.specs.Shelf.{files_after_steps}
-use Rattle.shelf.proofs.shelf.Shelf.record_table.Goals as goal
+use Rattle.shelf.proofs.call_record.CallRecord.record_table.Goals as goal
 
 pub returns-in-Ok-clause-change : goal.returns-in-Ok-clause-change
 returns-in-Ok-clause-change c = λ files.

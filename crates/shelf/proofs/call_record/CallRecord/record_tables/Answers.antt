@@ -7,10 +7,10 @@ use Rattle.folder.specs.Names.{table_name}
 use Rattle.shelf.specs.Shelf.{files_after_steps}
 use Rattle.folder.specs.TableFiles.{table_files}
 use Rattle.shelf.proofs.ShelfLemmas.{one_failed, one_more, tried_of}
-use Rattle.shelf.proofs.shelf.Shelf.record_tables.Goals as goal
+use Rattle.shelf.proofs.call_record.CallRecord.record_tables.Goals as goal
 
 pub loop-table-init : goal.loop-table-init
-loop-table-init c = record { change = λ files. refl; start = refl; failures = refl; trail = refl }
+loop-table-init c = record { change = λ files. refl; failures = refl; trail = refl }
 
 pub returns-in_err-record_table-clause-change : goal.returns-in_err-record_table-clause-change
 returns-in_err-record_table-clause-change c = λ files.
@@ -36,7 +36,6 @@ loop-table-preserved c =
           let new = files_after_steps c.record_table.new.self.steps files in
           let one : new ≡ with_value made (table_name t.0) (Some t.1.items) = done.change files ∙ ap (λ (bytes : List ℕ). with_value made (table_name t.0) (Some bytes)) c.deref.ensures.value in
           one_more tables c.loop-table.table-index t old made new c.loop-table-test.true c.table-item.is (c.loop-table.invariant.change files) one;
-      start = done.start ∙ c.loop-table.invariant.start;
       failures = done.failures ∙ c.loop-table.invariant.failures;
       trail = done.trail ∙ c.loop-table.invariant.trail;
     }

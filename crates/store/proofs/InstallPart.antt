@@ -137,11 +137,11 @@ synced_left order v manifest files level s first before synced after zero old mi
           same = λ fs tells. still middle new u.same fs (told fs tells);
           refused = u.refused;
         })
-        | inr (loaded, reads, i) ↦ inr (
-          loaded,
-          reads,
-          step_told (order_view order) (version_with v loaded) level s (first ++ map Done calls) synced after zero middle new q
-              (runs.appended ∙ (ap (λ (t : List Step). t ++ runs.steps) is ∙ ap (λ (t : List Step). first ++ t) all)) told i,
+        | inr x ↦ inr (
+          x.0,
+          x.1,
+          step_told (order_view order) (version_with v x.0) level s (first ++ map Done calls) synced after zero middle new q
+              (runs.appended ∙ (ap (λ (t : List Step). t ++ runs.steps) is ∙ ap (λ (t : List Step). first ++ t) all)) told x.2,
         )
       ];
       stands = λ tables start. version_stands (order_cmp order) order v manifest tables start first;

@@ -1,10 +1,7 @@
 pub mod Loaded
 mod Found
 mod SameTables
-mod Over
 pub mod TablesAfter
-mod EditedBy
-mod Joint
 pub mod NoDevice
 mod Synced
 mod SyncsTold

@@ -20,6 +20,12 @@ use Rattle.store.proofs.InstallPart.{of_opened, sync_refused, synced_left}
 use Rattle.store.proofs.RunPart.{sync_stopped, synced_run}
 use Rattle.store.proofs.folder_compaction.compact_dir.Goals as goal
 
+abbrev asked : ℕ → Option ℕ
+asked memory = Some memory
+
+is_asked : (memory : ℕ) → asked memory ≡ None → ⊥
+is_asked memory h = cc h
+
 pub returns-in_err-opened-clause-answer : goal.returns-in_err-opened-clause-answer
 returns-in_err-opened-clause-answer g c files told =
     let tells = g.F.Folder.tells in
@@ -106,13 +112,7 @@ returns-clause-left g c files told =
     (λ (order : Order) (v : State) (m : ℕ). (fs : Files) → Tells (tells c.sync_version.new.folder) fs → fs (codes "CURRENT") ≡ Some (current_text m) → IsOpened (IsFileIn fs) (Ok (order, v))
     → IsVersionLeft (order_view order) v fs c.args.level c.args.settings.now (change_by (calls c.sync_version.new.folder) (calls c.compact_opened.new.folder) (tells c.sync_version.new.folder) (tells c.compact_opened.new.folder))
     c.compact_opened.result)
-    _ _ _ _ _ _ c.in_ok-synced.ensures.synced (λ fs tells current is. c.compact_opened.ensures.left fs tells current is (λ none. absurd (asked none))) files synced named opened)
-  where
-    abbrev given : Option ℕ
-    given = Some c.args.memory
-
-    asked : given ≡ None → ⊥
-    asked none = cc none
+    _ _ _ _ _ _ c.in_ok-synced.ensures.synced (λ fs tells current is. c.compact_opened.ensures.left fs tells current is (λ none. absurd (is_asked c.args.memory none))) files synced named opened)
 
 pub returns-clause-runs : goal.returns-clause-runs
 returns-clause-runs g c =

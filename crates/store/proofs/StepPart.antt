@@ -113,10 +113,10 @@ one_loading files [] [] (t ∷ b) h k = absurd k
 one_loading files [] (t ∷ a) b h k = absurd h
 one_loading files (n ∷ numbers) [] b h k = absurd h
 one_loading files (n ∷ numbers) (t ∷ a) [] h k = absurd k
-one_loading files (n ∷ numbers) (t ∷ a) (u ∷ b) h k =
-    let number : u.0 ≡ t.0 = k.0.0 ∙ sym h.0.0 in
-    let bytes : u.1 ≡ t.1 = one_table files n t.1 u.1 h.0.1 k.0.1 in
-    ap (λ (m : ℕ). (m, u.1) ∷ b) number ∙ ap (λ (x : List ℕ). (t.0, x) ∷ b) bytes ∙ ap (λ (ts : List (ℕ × List ℕ)). t ∷ ts) (one_loading files numbers a b h.1 k.1)
+one_loading files (n ∷ numbers) ((m, x) ∷ a) ((l, y) ∷ b) h k =
+    let number : l ≡ m = k.0.0 ∙ sym h.0.0 in
+    let bytes : y ≡ x = one_table files n x y h.0.1 k.0.1 in
+    ap (λ (i : ℕ). (i, y) ∷ b) number ∙ ap (λ (z : List ℕ). (m, z) ∷ b) bytes ∙ ap (λ (ts : List (ℕ × List ℕ)). (m, x) ∷ ts) (one_loading files numbers a b h.1 k.1)
 
 -- so what is left of a version is left of it with the tables as which it reads
 pub step_left : (by : OrderView) (files : Files) (v : State) (loaded : List (ℕ × List ℕ)) (level : ℕ) (s : Settings) (change : FolderChange) (r : Result CompactionStep Fault)

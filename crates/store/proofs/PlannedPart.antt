@@ -22,9 +22,8 @@ use Rattle.compact.specs.Request.{RequestView}
 use Rattle.compact.specs.declared.settings.Settings.{Settings}
 use Rattle.store.specs.Compaction.{IsUnchanged}
 use Rattle.store.specs.FolderRequest.{compaction_from, numbered_request}
-use Rattle.store.specs.FoundInputs.{step_result}
+use Rattle.store.specs.FoundInputs.{IsStepLeft, step_result}
 use Rattle.store.specs.Step.{StepView, step_of}
-use Rattle.store.specs.StepLeft.{IsStepLeft}
 use Rattle.store.specs.declared.compaction_step.CompactionStep.{CompactionStep}
 use Rattle.store.proofs.Flow.{no_value}
 use Rattle.store.proofs.InstallPart.{step_told, still}

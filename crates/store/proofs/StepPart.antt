@@ -28,7 +28,8 @@ use Rattle.compact.specs.declared.settings.Settings.{Settings}
 use Rattle.store.specs.FolderRequest.{manifest_of}
 use Rattle.store.specs.Step.{step_in, step_of}
 use Rattle.store.specs.Outcome.{ChosenCompaction, IsTestAnswer}
-use Rattle.store.specs.StepLeft.{IsStepInstalled, IsStepLeft, IsVersionLeft, PassesTest}
+use Rattle.store.specs.FoundInputs.{IsStepLeft}
+use Rattle.store.specs.StepLeft.{IsStepInstalled, IsVersionLeft, PassesTest}
 use Rattle.store.specs.declared.choice.Choice.TheVariants.{Picked}
 use Rattle.checks.specs.TestedTables.{IsTested, totals_of}
 use Rattle.checks.specs.declared.version_totals.VersionTotals.{VersionTotals}

@@ -39,10 +39,6 @@ request_from number v loaded p s = record {
   options = s.options;
 }
 
--- the same with the numbers after the manifest's
-abbrev pub request_of : State → List (ℕ × List ℕ) → PickedInputs → Settings → RequestView
-request_of v loaded p s = request_from (manifest_of v + 1) v loaded p s
-
 -- The number of the first output: the one after the manifest's, if one is left; or the one that is
 -- asked for, if it is above the manifest's.
 abbrev pub first_output : State → Option ℕ → Option ℕ

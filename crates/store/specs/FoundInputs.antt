@@ -1,5 +1,5 @@
 -- What the compaction of inputs is to be for an installation.
-use Rattle.std.specs.Prelude.{◌≡◌, ◌≢◌, ◌<◌, ◌^◌, ℕ, List, unwrap_or, None, Result, Ok, Err}
+use Rattle.std.specs.Prelude.{◌≡◌, ◌≢◌, ◌⊎◌, ◌<◌, ◌^◌, ℕ, List, unwrap_or, None, Result, Ok, Err}
 use Rattle.folder.specs.Answers.{◌>>=◌}
 use Rattle.folder.specs.fault.Fault.{Fault}
 use Rattle.folder.specs.fault.FaultName.TheVariants.{Device}
@@ -11,7 +11,11 @@ use Rattle.compact.specs.OneThread.{Answer}
 use Rattle.compact.specs.declared.settings.Settings.{Settings}
 use Rattle.store.specs.FolderRequest.{compaction_of}
 use Rattle.store.specs.InputsCompaction.{input_tables}
+use Rattle.store.specs.Compaction.{IsUnchanged}
 use Rattle.store.specs.Step.{StepView, step_of}
+use Rattle.store.specs.StepLeft.{IsStepInstalled}
+use Rattle.store.specs.declared.compaction_step.CompactionStep.{CompactionStep}
+use Rattle.install.specs.FolderChange.{FolderChange}
 use Rattle.install.specs.Install.{LoadedVersion}
 use Rattle.store.specs.OrderView.{OrderView}
 use Rattle.store.specs.Outcome.{ChosenCompaction}
@@ -51,3 +55,9 @@ IsAnsweredBy given answered p answer = (p ≡ given) × (answered ≡ Ok answer)
 abbrev pub IsAnswerForThese : (PickedInputs → Answer → Type 0) → PickedInputs → PickedInputs →
     Answer → Type 0
 IsAnswerForThese IsAnswer given p answer = (p ≡ given) × IsAnswer p answer
+
+-- what is left of a folder that reads as this version with these tables
+abbrev pub IsStepLeft : OrderView → LoadedVersion → ℕ → Settings → FolderChange →
+    Result CompactionStep Fault → Type 0
+IsStepLeft by v level s change result = IsUnchanged change result
+    ⊎ IsStepInstalled by v level s change result

@@ -49,14 +49,8 @@ pub record IsStepInstalled (by : OrderView) (v : LoadedVersion) (level : ℕ) (s
   pub step : IfOk result (λ step. step_in step ≡ step_of v.version picked answer)
   pub refused : IfErr result (λ e. UnlessMemory e (e ≡ fault Device))
 
--- what is left of a folder that reads as this version with these tables: it is unchanged, or a
+-- what is left of a folder of these files, which read as this version: it is unchanged, or a
 -- compaction was installed
-abbrev pub IsStepLeft : OrderView → LoadedVersion → ℕ → Settings → FolderChange →
-    Result CompactionStep Fault → Type 0
-IsStepLeft by v level s change result = IsUnchanged change result
-    ⊎ IsStepInstalled by v level s change result
-
--- the same with the tables that these files hold
 abbrev pub IsVersionLeft : OrderView → State → Files → ℕ → Settings → FolderChange →
     Result CompactionStep Fault → Type 0
 IsVersionLeft by v files level s change result = IsUnchanged change result

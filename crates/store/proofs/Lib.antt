@@ -5,6 +5,7 @@ pub mod TablesAfter
 pub mod NoDevice
 mod Synced
 mod SyncsTold
+mod SurvivingCalls
 mod TableSyncs
 pub mod Flow
 pub mod InputNumbers

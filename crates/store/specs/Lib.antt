@@ -11,6 +11,7 @@ pub mod VersionSync
 pub mod Compaction
 pub mod StepLeft
 pub mod Runs
+pub mod CompactionWork
 pub mod OpenedAfter
 pub mod Descent
 pub mod Cleaning

@@ -37,7 +37,8 @@
 //!
 //! The laws tie a compaction to its installation. After [`sync_version`] a folder stands for the
 //! version that was opened, whatever was synced before. The law [`sync_stands`] says when a sync of
-//! the folder alone is enough.
+//! the folder alone is enough. [`compactions_survive`] says what a crash leaves of the calls of
+//! `runs`, of any folder, also one that tells nothing.
 #![tactic(auto)]
 
 mod answered_steps;
@@ -86,7 +87,7 @@ pub use folder_compaction::{compact_dir, compact_opened};
 pub use folder_request::manifest_of;
 pub use input_tables::{bytes_of, checked_inputs, load_inputs};
 pub use install::RemovalWatch;
-pub use install_laws::sync_stands;
+pub use install_laws::{compactions_survive, sync_stands};
 pub use install_watch::InstallWatch;
 pub use level_step::{tell_step, test_opened};
 pub use needed_files::files_to_compact;

@@ -1,5 +1,5 @@
 -- The calls of an installation, of a folder of which they alone are known.
-use Rattle.std.proofs.Common.{◌≡◌, ℕ, List, [], ◌++◌, map, append_assoc, Result, Ok, Err, OnOk, refl, sym, ap, subst, ◌∙◌}
+use Rattle.std.proofs.Common.{◌≡◌, ℕ, List, [], ◌++◌, map, append_assoc, Result, Ok, Err, OnOk, refl, sym, ap, subst, ◌∙◌, inl, inr}
 use Rattle.std.proofs.lemmas.List.{map-append}
 use Rattle.edit.specs.fault.Fault.{Fault}
 use Rattle.folder.specs.CallSequence.{AreMade, AreMadeBy, MakesCalls}

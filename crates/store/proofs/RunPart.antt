@@ -11,10 +11,9 @@ use Rattle.folder.proofs.LoadingLemmas.{loaded_before, told_since}
 use Rattle.folder.specs.Calls.{Call, Done, Files, Step, Tells}
 use Rattle.folder.specs.CallSequence.{MakesCalls, TellsThrough}
 use Rattle.folder.specs.Folder.{TellsSame}
-use Rattle.folder.specs.Manifest.{order_name}
 use Rattle.folder.specs.Names.{current_text}
 use Rattle.folder.specs.OpenAnswer.{IsOpened}
-use Rattle.folder.specs.Orders.{order_cmp, order_short_keys}
+use Rattle.folder.specs.Orders.{order_cmp}
 use Rattle.folder.specs.declared.folder.Folder.{Ghosts}
 use Rattle.folder.specs.declared.order.Order.{Order}
 use Rattle.install.specs.GroupedInstallation.{tables_of_groups}

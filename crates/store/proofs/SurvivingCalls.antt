@@ -1,5 +1,5 @@
 -- What a crash leaves of the calls of a compaction, and of those of a sync before them.
-use Rattle.std.proofs.Common.{◌≡◌, ℕ, List, [], ◌++◌, map, Option, Result, Ok, Err, OnOk, refl, sym, subst}
+use Rattle.std.proofs.Common.{ℕ, List, [], ◌++◌, map, Option, Result, Ok, Err, OnOk, refl, sym, subst}
 use Rattle.folder.specs.fault.Fault.{Fault}
 use Rattle.folder.specs.CallSequence.{AreMadeBy, MakesCalls}
 use Rattle.folder.specs.Calls.{Call, Done, Step}

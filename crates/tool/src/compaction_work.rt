@@ -3,7 +3,7 @@
 use crate::clean_work::{clean_folder, clean_named};
 use crate::compaction_notes::{note_of, tell_room};
 use crate::folder_change::begin_change;
-use crate::outcome_work::outcome_of;
+use crate::outcome_work::{outcome_of, test_of};
 use crate::printed_work::{DoneWork, print_installed, tell_step, unprinted};
 use crate::step_printer::StepPrinter;
 use folder::{Bytewise, Fault, FaultName, Version};
@@ -12,8 +12,7 @@ use refusals::sizes_in_turn;
 use session::{Host, LAST_LEVEL, Opened, Refusal, Session, bytes_of, refused_at};
 use std::alloc::Global;
 use store::{
-    Choice, CompactionStep, SyncedVersion, bottom, checkers_of, compact_inputs, compact_opened,
-    next_level,
+    Choice, CompactionStep, SyncedVersion, bottom, checkers_of, compact_opened, next_level,
 };
 use usage::{CompactLine, CompactWork, Levels};
 
@@ -148,8 +147,7 @@ fn step_made<R: Host>(
     let opened = &change.opened;
     let made = match levels {
         Levels::Whole(level) => compact_level(&workers, folder, opened, level, settings, memory),
-        _ if testing.is_skipped => compact_inputs(&workers, folder, opened, level, settings),
-        _ => compact_opened(&workers, folder, opened, level, settings, memory),
+        _ => compact_opened(&workers, folder, opened, level, settings, test_of(testing)),
     };
     change.ended(&progress, made)
 }
@@ -177,11 +175,7 @@ fn compact_all<R: Host>(
     let descent = Descent {
         selection,
         settings: line.settings,
-        test: if options.testing.is_skipped {
-            None
-        } else {
-            Some(bytes_of(options.testing.memory))
-        },
+        test: test_of(&options.testing),
     };
     let workers = checkers_of(rt, rt.alloc(), line.settings.workers, &progress);
     let end = levels::compact_levels(&workers, &mut disk, opened, &descent, &mut steps);

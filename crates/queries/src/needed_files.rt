@@ -6,12 +6,9 @@ use install::CURRENT;
 use refusals::missing_file;
 use session::{
     Bytewise, Comparator, Disk, FileMeta, Host, LEVELS, Opened, Order, Refusal, Session, Shortlex,
-    manifest_name, names_in, path_in, refused_opened, replayed_log, table_file_name,
+    is_there, manifest_name, names_in, refused_opened, replayed_log, table_file_name,
 };
 use std::alloc::Global;
-use std::fs;
-use std::io::ErrorKind;
-use std::rt::Files;
 use usage::FilesLine;
 
 /// The names of the files that a copy of a folder needs, a line each: CURRENT, the manifest, the
@@ -119,16 +116,4 @@ fn missing<R: Host>(session: &Session<'_, R, Opened>, name: &str) -> Refusal {
         return refusal;
     }
     refusal.telling(missing_file(rt.alloc(), path, name))
-}
-
-/// Whether a folder's file is there. Device if the system doesn't tell it.
-fn is_there<R: Files + AllocGlobal>(rt: &R, folder: &str, name: &str) -> Result<bool, Refusal> {
-    let path = path_in(rt.alloc(), folder, name)?;
-    match fs::metadata(rt, path.as_str()) {
-        Ok(_) => Ok(true),
-        Err(error) if error.kind() == ErrorKind::NotFound => Ok(false),
-        Err(error) => {
-            Err(Refusal::of_call(rt.alloc(), path.as_str(), "read its length", &error))
-        }
-    }
 }

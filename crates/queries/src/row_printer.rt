@@ -10,7 +10,7 @@ use std::time::Clock;
 use usage::{RowOptions, RowOutput, ScanLine, Testing};
 
 /// How many bytes of lines are written at once, or somewhat more.
-const AT_ONCE: usize = 65_536;
+pub(crate) const AT_ONCE: usize = 65_536;
 
 /// Prints the rows of a folder that are asked for, or answers the line of their number. Its version
 /// is tested before, if that is asked for.

@@ -14,10 +14,8 @@ pub fn table_answer<R: Files + AllocGlobal>(
     line: &DumpLine<'_>,
 ) -> Result<Vec<u8>, Refusal> {
     let bytes = read_file(rt, line.table)?;
-    match dump(rt.alloc(), line.spelling, &bytes) {
-        Ok(lines) => Ok(lines),
-        Err(fault) => Err(refusal_of(rt.alloc(), line.table, fault)),
-    }
+    let lines = dump(rt.alloc(), line.spelling, &bytes);
+    lines.map_err(|fault| refusal_of(rt.alloc(), line.table, fault))
 }
 
 /// Tests whether a file is a table, and answers the line of one, as JSON if that is asked for.
@@ -31,10 +29,7 @@ pub fn table_verdict<R: Files + AllocGlobal>(
     } else {
         verify_table(rt.alloc(), &bytes)
     };
-    match verdict {
-        Ok(verdict) => Ok(verdict),
-        Err(fault) => Err(refusal_of(rt.alloc(), line.table, fault)),
-    }
+    verdict.map_err(|fault| refusal_of(rt.alloc(), line.table, fault))
 }
 
 /// The JSON line of a table.

@@ -1,5 +1,6 @@
 //! The values of keys in a folder.
 
+use crate::row_printer::AT_ONCE;
 use crate::version_verdict::test_unless_skipped;
 use answers::{ValueForm, json_line, push_named_value, unverified_value, value_json};
 use checks::Fault;
@@ -9,9 +10,6 @@ use usage::{GetLine, KeySource};
 
 /// The line of a key without a value. No value has it as its hexadecimal digits.
 const NO_VALUE: &[u8] = b"none\n";
-
-/// How many bytes of lines are written at once, or somewhat more.
-const AT_ONCE: usize = 65_536;
 
 /// Prints the values of these keys in a folder, in their order, and answers what is left to print.
 /// Those before a refusal are printed. The version is tested before, if that is asked for.
@@ -67,8 +65,7 @@ fn value_of<R: Host>(
     unverified_value(
         session.rt.alloc(),
         &mut session.disk,
-        session.opened.order,
-        &session.opened.version,
+        &session.opened,
         key,
         line.at,
         form,

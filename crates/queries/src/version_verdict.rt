@@ -1,10 +1,8 @@
 //! The version of a folder, and its test.
 
 use crate::fault_printer::print_faults;
-use answers::{
-    Question, VersionTotals, answer_opened, json_line, lawful_json, manifest_lines, test_opened,
-    version_json,
-};
+use answers::{json_line, lawful_json, lawful_line, manifest_lines, version_json};
+use checks::{VersionTotals, checkers, test_by_order};
 use refusals::sizes_in_turn;
 use session::{Host, Opened, Refusal, Session, bytes_of, missing_log};
 use usage::{ManifestLine, Testing, VerdictForm, VerifyLine};
@@ -41,23 +39,8 @@ fn lawful_answer<R: Host>(
     session: &mut Session<'_, R, Opened>,
     memory: u64,
 ) -> Result<Vec<u8>, Refusal> {
-    let rt = session.rt;
-    sizes_in_turn(rt, session.telling.folder, &session.opened)?;
-    let progress = session.progress();
-    let answer = answer_opened(
-        rt,
-        rt.alloc(),
-        &mut session.disk,
-        session.opened.order,
-        &session.opened.version,
-        Question::Lawful,
-        memory,
-        &progress,
-    );
-    match session.ended(&progress, answer)? {
-        Some(line) => Ok(line),
-        None => Ok(Vec::new(rt.alloc())),
-    }
+    let tested = version_tested(session, memory)?;
+    Ok(lawful_line(session.rt.alloc(), tested)?)
 }
 
 /// The JSON line of a lawful version.
@@ -94,14 +77,8 @@ fn version_tested<R: Host>(
     let rt = session.rt;
     sizes_in_turn(rt, session.telling.folder, &session.opened)?;
     let progress = session.progress();
-    let tested = test_opened(
-        rt,
-        rt.alloc(),
-        &mut session.disk,
-        session.opened.order,
-        &session.opened.version,
-        memory,
-        &progress,
-    );
+    let workers = checkers(rt, rt.alloc(), &progress);
+    let (order, version) = (session.opened.order, &session.opened.version);
+    let tested = test_by_order(&workers, &mut session.disk, order, version, memory);
     session.ended(&progress, tested)
 }

@@ -7,8 +7,8 @@ use scan::{FileTotal, VersionStats, version_stats};
 use session::{Answer, Host, Refusal, Session, bytes_of, logs_with_writes, unneeded_files};
 use usage::StatsLine;
 
-/// How many files, bytes and entries each level of a folder has, and what else there is. Its version
-/// is tested before.
+/// How many files, bytes and entries each level of a folder has, and what else there is. Its
+/// version is tested before.
 pub fn stats_answer<R: Host>(session: &mut Session<'_, R>, line: &StatsLine<'_>) -> Answer {
     let alloc = session.rt.alloc();
     sizes_in_turn(session.rt, session.telling.folder, &session.opened)?;

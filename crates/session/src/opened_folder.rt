@@ -110,7 +110,8 @@ impl<'r, R: SystemFiles + Eprint + Clock + AllocGlobal, V> Session<'r, R, V> {
 }
 
 /// How many logs have writes that are in no table, which is told. If one has some, that is a
-/// refusal, if this is asked for; then it is also told if the log that the version names is missing.
+/// refusal, if this is asked for; then it is also told if the log is missing that the version
+/// names.
 fn logs_counted<R: Files + Eprint + AllocGlobal>(
     rt: &R,
     telling: Telling<'_>,

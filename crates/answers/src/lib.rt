@@ -1,7 +1,7 @@
 //! The lines and objects that are printed, and the calls behind the commands that only read.
 //!
 //! 1. [`manifest`], [`verify`] and [`get_dir`] open a folder and answer. Of one that is opened
-//!    already, [`manifest_lines`] are the lines of its version, and [`lawful_line`] is the line of a
+//!    already, [`manifest_lines`] are the lines of its version, and [`lawful_line`] is that of a
 //!    test. [`unverified_value`] answers a value without testing the version.
 //! 2. [`dump`] answers the lines of one table, [`verify_table`] tests one, [`push_row`] makes the
 //!    line of one key, [`value_answer`] what is printed of one value.

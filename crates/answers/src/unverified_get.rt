@@ -38,7 +38,8 @@ pub fn unverified_value<F: Folder>(
     // If the folder tells files whose tables are lawful with the version, their answer is given.
     ensures lawful { (files : Files) (loaded : List (ℕ × List ℕ)) (tables : List NumberedContents) →
         Tells (F.tells folder.old) files →
-        IsLoaded (F.tells folder.old) (file_numbers (order_cmp opened.now.order) opened.now.version) (Ok loaded) →
+        IsLoaded (F.tells folder.old)
+        (file_numbers (order_cmp opened.now.order) opened.now.version) (Ok loaded) →
         IsLawfulTables (order_cmp opened.now.order) opened.now.version loaded (Ok tables) →
         FolderAnswers (option_map (λ v. v.items)) (F.failed folder.old) (F.failed folder.new) result
         (λ answer. answer ≡ Ok (got_answer form key.now at opened.now.version tables)) }

@@ -14,8 +14,8 @@ use session::{
 };
 use std::alloc::Global;
 
-/// The refusal of a command on a folder, with what is told of it: the file that is refused. The name
-/// is told before, on the standard error.
+/// The refusal of a command on a folder, with what is told of it: the file that is refused. The
+/// name is told before, on the standard error.
 ///
 /// The file is known, and is read again alone, if it is a manifest. Only of an unlawful version are
 /// all tables read again. Nothing is read after Locked, Changed, Device and Memory, nor if it is
@@ -101,8 +101,8 @@ fn file_told<R: Host>(rt: &R, telling: Telling<'_>, refusal: &Refusal) -> Option
     }
 }
 
-/// What is told of the folder's file of this name, which was missing. If it is there by now, that is
-/// told.
+/// What is told of the folder's file of this name, which was missing. If it is there by now, that
+/// is told.
 fn missing_told<R: Host>(rt: &R, folder: &str, file: &str) -> Option<RefusalText> {
     let alloc = rt.alloc();
     let newer = match file.strip_suffix(".sst") {

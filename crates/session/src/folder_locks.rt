@@ -182,8 +182,8 @@ fn file_refused<R: SystemFiles + AllocGlobal>(
     }
 }
 
-/// Opens LOCK, if it is there. If the folder is to be changed, a file beside it is made, as the lock
-/// needs it, and removed.
+/// Opens LOCK, if it is there. If the folder is to be changed, a file beside it is made, as the
+/// lock needs it, and removed.
 fn lock_tried<R: SystemFiles + AllocGlobal>(rt: &R, folder: &str, changes: bool) -> io::Result<()> {
     let lock = path_in(rt.alloc(), folder, "LOCK")?;
     let mut how = OpenOptions::new();

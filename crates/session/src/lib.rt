@@ -44,7 +44,7 @@ pub use folder_locks::{Access, locked, no_database};
 pub use host::Host;
 pub use opened_folder::{Session, bytes_of, open_in, open_session, print_lines, refused_at};
 pub use progress_line::{ProgressLine, WorkLeft};
-pub use refusal::{Refusal, RefusalParts, RefusalText, said, told, told_of_file};
+pub use refusal::{Answer, Refusal, RefusalParts, RefusalText, said, told, told_of_file};
 pub use refused_table::RefusedTable;
 pub use replaced_folder::{refused_opened, tell_replaced};
 pub use reporter::{Beginning, Telling, tell_time};

@@ -23,6 +23,9 @@ pub struct Refusal {
     pub file: Option<String>,
 }
 
+/// What a command comes to: what is left to print, or its refusal.
+pub type Answer = Result<Vec<u8>, Refusal>;
+
 /// What is told of a refusal.
 #[derive(Drop)]
 pub struct RefusalText {

@@ -9,7 +9,7 @@ use crate::step_printer::StepPrinter;
 use folder::{Bytewise, Fault, FaultName, Version};
 use levels::{Descent, Selection, compact_level};
 use refusals::sizes_in_turn;
-use session::{Host, LAST_LEVEL, Opened, Refusal, Session, bytes_of, refused_at};
+use session::{Host, LAST_LEVEL, Refusal, Session, bytes_of, refused_at};
 use std::alloc::Global;
 use store::{
     Choice, CompactionStep, SyncedVersion, bottom, checkers_of, compact_opened, next_level,
@@ -19,7 +19,7 @@ use usage::{CompactLine, CompactWork, Levels};
 /// Compacts a level of a folder, or all of them one after the other. What it was opened as is
 /// synced once, so that it outlives a crash; if no level is to be compacted, nothing has to.
 pub fn compact_folder<R: Host>(
-    session: Session<'_, R, Opened>,
+    session: Session<'_, R>,
     line: &CompactLine<'_>,
 ) -> Result<(), Refusal> {
     let CompactWork::Installed(levels) = line.options.work else {
@@ -40,7 +40,7 @@ pub fn compact_folder<R: Host>(
 
 /// Compacts these levels, of which one has inputs.
 fn levels_compacted<R: Host>(
-    session: Session<'_, R, Opened>,
+    session: Session<'_, R>,
     line: &CompactLine<'_>,
     levels: Levels,
 ) -> Result<(), Refusal> {
@@ -74,7 +74,7 @@ fn is_due(alloc: Global, version: &Version, levels: Levels) -> Result<bool, Faul
 /// What is answered if there is no level to compact: why a level can't be; of all levels, files
 /// that the version doesn't need are removed, if that is asked for.
 fn nothing_compacted<R: Host>(
-    session: Session<'_, R, Opened>,
+    session: Session<'_, R>,
     line: &CompactLine<'_>,
     levels: Levels,
 ) -> Result<(), Refusal> {

@@ -51,6 +51,18 @@ use Rattle.adoption.proofs.AdoptedSo.{IsAdoptedSo, adopted_so, edited_so}
 use Rattle.adoption.proofs.EditedVersion.{output_numbers}
 use Rattle.adoption.proofs.FittingInputs.{AreKeys, fitting_over, pointer_keys, pointer_there}
 use Rattle.adoption.proofs.SortedMembers.{files_from}
+use Rattle.folder.proofs.Ordered.{internal_cmp-total}
+use Rattle.table.proofs.CheckedTables.{entries_read}
+use Rattle.table.specs.CheckedContents.{contents_in}
+use Rattle.table.specs.EntryTests.{first_key}
+use Rattle.table.specs.TableContents.{table_reading}
+use Rattle.reads.proofs.FileOrder.{is_range}
+use Rattle.reads.proofs.Levels.{all_at, at_level, from_level}
+use Rattle.reads.proofs.Pairs.{Pairs, pairs_two}
+use Rattle.reads.specs.BuilderView.{last_key}
+use Rattle.keep.proofs.Members.{first_or_later}
+use Rattle.keep.specs.Lawful.{IsBelowNextFile}
+use Rattle.compact.proofs.AppliedEdit.{made_apart}
 use Rattle.std.specs.Prelude.{nat_eq}
 use Rattle.std.specs.List.{AllByRecursion, list_all}
 use Rattle.std.specs.List.Sorted.{IsPermutation}
@@ -345,14 +357,14 @@ module _ (cmp : KeyOrder) (total : IsTotalOrder cmp) (exact : IsExact cmp) (v : 
         let made = ap (λ (s : State). s.files) (edited_so v (adopted v e) a.next so.applies) in
         elim (files_from (undeleted_files e.deleted v.files) e.added f (subst (λ (fs : List NewFile). Contains fs f) (sym made) at)) [
           | inl old ↦ All-contains (λ (x : NewFile). x.level ≤ 6) v.files f low (from_filter (λ (x : NewFile). not (is_deleted e.deleted x)) v.files f old).0
-          | inr new ↦ (let is = eqb-true f.level (a.picked.level + 1) (test_at (λ (x : NewFile). nat_eq x.level (a.picked.level + 1)) e.added f so.fits.levels new) in omega (arith, is, five))
+          | inr new ↦ (let is = eqb-true f.level (a.picked.level + 1) (all_at (λ (x : NewFile). nat_eq x.level (a.picked.level + 1)) e.added f so.fits.levels new) in omega (arith, is, five))
         ]
 
     next_low : All (λ (f : NewFile). f.level ≤ 6) a.next.files
     next_low k d lt = level_low (get_or a.next.files k d) (Contains-get_or a.next.files k d lt)
 
     next_apart : are_apart a.next.files ≡ true
-    next_apart = made_apart v tables lawful (adopted v e) a.next so.applies
+    next_apart = made_apart v (adopted v e) a.next lawful.apart so.applies
 
     -- a file of the version after is one of its level
     at_its_level : (f : NewFile) → Contains a.next.files f → Contains (level_files cmp a.next f.level) f.meta

@@ -121,11 +121,13 @@ pub record AreInstalledTogether {F : Type 0} (g : Ghosts F) (name : List ℕ) (c
       IsLawfulAfter cmp first loaded comparison outcomes v
   pub number : IfOk result (λ n. n ≡ manifest_of first)
 
--- why nothing was installed: the device failed, or the last version was refused
-abbrev pub IsWhyNone : {F : Type 0} → Ghosts F → KeyOrder → F → F → TakenOutcomes → Fault → Type 0
-IsWhyNone g cmp old new t e = (files : Files) → Tells (g.tells old) files →
-    IsStopped (g.failed old) (g.failed new) e
-    ⊎ IsLastTested cmp files (version_in t) t.comparison (Err e)
+-- why nothing was installed of a folder that tells files: the device failed, or the last version was
+-- refused
+abbrev pub IsWhyNone : {F : Type 0} → Ghosts F → KeyOrder → F → F → TakenOutcomes →
+    Result ℕ Fault → Type 0
+IsWhyNone g cmp old new t result = (files : Files) → Tells (g.tells old) files → IfErr result
+    (λ e. UnlessMemory e (IsStopped (g.failed old) (g.failed new) e
+    ⊎ IsLastTested cmp files (version_in t) t.comparison (Err e)))
 
 -- If outcomes were taken in from the first state of a folder on: there was none; or nothing was
 -- installed; or they were installed.
@@ -135,6 +137,6 @@ IsTakenInstalled g name cmp start old new t result =
     AreTaken g cmp t.opened.now.version t.comparison start old (version_in t) t.edits.items →
     IsNoneTaken g t old new result
     ⊎ ((IsTakingStopped g cmp t.opened.now.version start new result
-    × IfErr result (λ e. UnlessMemory e (IsWhyNone g cmp old new t e)))
+    × IsWhyNone g cmp old new t result)
     ⊎ AreInstalledTogether g name cmp t.comparison t.opened.now.version (version_in t)
     t.opened.now.manifest start new result)

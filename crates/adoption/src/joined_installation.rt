@@ -92,9 +92,10 @@ fn test_last<C: SharedComparator + 'static, F: ReadsTables, W: Watch + Sync, R: 
     ensures device { ReportsDevice F.Folder folder.old folder.new result }
     ensures reads { OnlyReads F.Folder folder.old folder.new }
 {
-    if let Comparison::LeftOut = taken.comparison {
-        test_version::<C, F, W, R>(workers, folder, version_left(taken), memory)?;
-    }
+    let Comparison::LeftOut = taken.comparison else {
+        return Ok(());
+    };
+    test_version::<C, F, W, R>(workers, folder, version_left(taken), memory)?;
     Ok(())
 }
 

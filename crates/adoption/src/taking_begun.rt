@@ -63,8 +63,9 @@ fn test_first<F: ReadsTables, W: Watch + Sync, R: Threads + Sync>(
     ensures device { ReportsDevice F.Folder folder.old folder.new result }
     ensures reads { OnlyReads F.Folder folder.old folder.new }
 {
-    if let Comparison::With(_) = comparison {
-        test_opened(workers, folder, opened, memory)?;
-    }
+    let Comparison::With(_) = comparison else {
+        return Ok(());
+    };
+    test_opened(workers, folder, opened, memory)?;
     Ok(())
 }

@@ -187,7 +187,7 @@ module _ {F : Type 0} (g : Ghosts F) (name : List ℕ) (cmp : KeyOrder) (t : Tak
       λ taken. inr (inl (
         nothing_since g cmp t.opened.now.version t.comparison start old (version_in t) t.edits.items taken new f (record { calls = reads.calls; same = reads.same; refused = tt }),
         λ files told. subst (λ (d : Fault). UnlessMemory d (IsStopped (g.failed old) (g.failed new) d ⊎ IsLastTested cmp files (version_in t) t.comparison (Err d))) (sym h)
-        (subst (λ (x : Result (Unit {0}) Fault). FolderAnswers (λ u. u) (g.failed old) (g.failed new) x (IsLastTested cmp files (version_in t) t.comparison)) was (answer files told)),
+            (subst (λ (x : Result (Unit {0}) Fault). FolderAnswers (λ u. u) (g.failed old) (g.failed new) x (IsLastTested cmp files (version_in t) t.comparison)) was (answer files told)),
       ))
 
   -- it was not, and the manifest was made

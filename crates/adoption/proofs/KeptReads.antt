@@ -178,6 +178,13 @@ stated f t h =
 heads_same : (m n : ℕ) (ms ns : List ℕ) → m ∷ ms ≡ n ∷ ns → (m ≡ n) × (ms ≡ ns)
 heads_same m n ms ns h = (cc h, cc h)
 
+abbrev made_file : ℕ → ℕ → ℕ → List ℕ → List ℕ → NewFile
+made_file l n s a b = record { level = l; meta = record { number = n; size = s; smallest = a; largest = b } }
+
+same_file : (l m : ℕ) (n k : ℕ) (s z : ℕ) (a c : List ℕ) (b d : List ℕ) → l ≡ m → n ≡ k → s ≡ z → a ≡ c → b ≡ d → made_file l n s a b ≡ made_file m k z c d
+same_file l m n k s z a c b d e1 e2 e3 e4 e5 =
+    ap (λ (x : ℕ). made_file x n s a b) e1 ∙ (ap (λ (x : ℕ). made_file m x s a b) e2 ∙ (ap (λ (x : ℕ). made_file m k x a b) e3 ∙ (ap (λ (x : List ℕ). made_file m k z x b) e4 ∙ ap (λ (x : List ℕ). made_file m k z c x) e5)))
+
 -- new files that are as their tables state are outputs of their level
 added_are : (cmp : KeyOrder) (level : ℕ) (added : List NewFile) (outputs : List (ℕ × List ℕ)) (tables : List NumberedContents) → numbers_in added ≡ numbers_of outputs → list_all (λ (f : NewFile). nat_eq f.level level) added ≡ true
     → are_stated (outputs_in_edit added) tables ≡ true → tables_reading cmp outputs ≡ Ok tables → added ≡ map (new_file level) (outs cmp outputs)
@@ -195,15 +202,9 @@ added_are cmp level (f ∷ added) (t ∷ outputs) tables numbers levels states r
     let bytes : c.contents.bytes ≡ t.1 = sym (own_bytes cmp t.1 c.contents c.read) in
     let w : Output = record { number = t.0; entries = (contents_in cmp t.1).entries; bytes = t.1 } in
     let file : f ≡ new_file level w =
-    file_of f.level level f.meta.number t.0 f.meta.size (length t.1) f.meta.smallest (first_key w.entries) f.meta.largest (last_key [] w.entries) (eqb-true f.level level at.0) first.0 (own.size ∙ ap length bytes) (own.smallest ∙ ap (λ (x : Contents). first_key x.entries) held)
+    same_file f.level level f.meta.number t.0 f.meta.size (length t.1) f.meta.smallest (first_key w.entries) f.meta.largest (last_key [] w.entries) (eqb-true f.level level at.0) first.0 (own.size ∙ ap length bytes) (own.smallest ∙ ap (λ (x : Contents). first_key x.entries) held)
     (own.largest ∙ ap (λ (x : Contents). last_key [] x.entries) held) in
     ap (λ (g : NewFile). g ∷ added) file ∙ ap (λ (fs : List NewFile). new_file level w ∷ fs) (added_are cmp level added outputs c.behind first.1 at.1 parts.1 c.rest)
-  where
-    abbrev made : ℕ → ℕ → ℕ → List ℕ → List ℕ → NewFile
-    made l n s a b = record { level = l; meta = record { number = n; size = s; smallest = a; largest = b } }
-
-    file_of : (l m : ℕ) (n k : ℕ) (s z : ℕ) (a c : List ℕ) (b d : List ℕ) → l ≡ m → n ≡ k → s ≡ z → a ≡ c → b ≡ d → made l n s a b ≡ made m k z c d
-    file_of l m n k s z a c b d e1 e2 e3 e4 e5 = ap (λ x. made x n s a b) e1 ∙ (ap (λ x. made m x s a b) e2 ∙ (ap (λ x. made m k x a b) e3 ∙ (ap (λ x. made m k z x b) e4 ∙ ap (λ x. made m k z c x) e5)))
 
 -- ---- a sorted merge is its lists' entries in another order
 
@@ -230,8 +231,7 @@ rising_pairs cmp total (f ∷ (g ∷ files)) rise up =
     let keys = internal_cmp-total total in
     let next : internal_cmp cmp f.largest g.smallest ≡ Less = rise zero f (omega arith) in
     let rest = rising_pairs cmp total (g ∷ files) (λ k d lt. rise (suc k) d (omega (arith, lt))) (λ h at. up h (later_in f (g ∷ files) h at)) in
-    let through : internal_cmp cmp f.largest g.largest ≡ Less = below_upto (internal_cmp cmp) keys f.largest g.smallest g.largest next (up g (later_in f (g ∷ files) g (first_in g files))) in
-    (
+    let through : internal_cmp cmp f.largest g.largest ≡ Less = below_upto (internal_cmp cmp) keys f.largest g.smallest g.largest next (up g (later_in f (g ∷ files) g (first_in g files))) in (
       λ h at. elim (first_or_later g files h at) [
         | inl same ↦ subst (λ (x : FileMeta). internal_cmp cmp f.largest x.smallest ≡ Less) (sym same) next
         | inr later ↦ keys.trans f.largest g.largest h.smallest through (rest.0 h later)

@@ -167,13 +167,7 @@ fn are_below(files: &[InputFile], number: u64) -> bool
 }
 
 /// Tests the outputs of an outcome that was adopted, and writes its tables.
-fn take_given<
-    'o,
-    C: SharedComparator + 'static,
-    F: Folder,
-    W: Watch + Sync,
-    R: Threads + Sync,
->(
+fn take_given<'o, C: SharedComparator + 'static, F: Folder, W: Watch + Sync, R: Threads + Sync>(
     workers: &Workers<'_, R, W>,
     folder: &mut F,
     taken: TakenOutcomes<'o>,

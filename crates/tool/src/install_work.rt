@@ -5,7 +5,9 @@ use crate::compaction_notes::{note_of, tell_room};
 use crate::folder_change::begin_change;
 use crate::outcome_refusal::outcome_explained;
 use crate::printed_work::{DoneWork, print_installed, unprinted};
-use adoption::{Comparison, TakenOutcome, TakenOutcomes, begin_taking, install_taken, take_outcome};
+use adoption::{
+    Comparison, TakenOutcome, TakenOutcomes, begin_taking, install_taken, take_outcome,
+};
 use disk::Disk;
 use folder::Fault;
 use refusals::explained;

@@ -24,8 +24,7 @@ returns-clause-answer g c files told = c.in_ok-test_first.ensures.answer files t
 pub returns-clause-begun : goal.returns-clause-begun
 returns-clause-begun g c =
     let o = c.args.opened.now in
-    let q : Result (Unit {0}) Fault = Ok tt in
-    (
+    let q : Result (Unit {0}) Fault = Ok tt in (
       refl,
       refl,
       taken_none g.F.Folder (order_cmp o.order) o.version c.args.comparison c.args.folder.now c.test_first.new.folder c.test_first.ensures.reads (reports_after q c.in_ok-test_first.was c.test_first.ensures.device tt) c.in_ok-test_first.ensures.answer,

@@ -230,7 +230,7 @@ rising_pairs cmp total (f ∷ []) rise up = (λ g at. absurd (none_in g at), tt)
 rising_pairs cmp total (f ∷ (g ∷ files)) rise up =
     let keys = internal_cmp-total total in
     let next : internal_cmp cmp f.largest g.smallest ≡ Less = rise zero f (omega arith) in
-    let rest = rising_pairs cmp total (g ∷ files) (λ k d lt. rise (suc k) d (omega (arith, lt))) (λ h at. up h (later_in f (g ∷ files) h at)) in
+    let rest = rising_pairs cmp total (g ∷ files) (λ k d lt. let next : suc k + 1 ≡ suc (k + 1) = omega arith in subst (λ (n : ℕ). internal_cmp cmp (get_or (g ∷ files) k d).largest (get_or (f ∷ (g ∷ files)) n d).smallest ≡ Less) next (rise (suc k) d (omega (arith, lt)))) (λ h at. up h (later_in f (g ∷ files) h at)) in
     let through : internal_cmp cmp f.largest g.largest ≡ Less = below_upto (internal_cmp cmp) keys f.largest g.smallest g.largest next (up g (later_in f (g ∷ files) g (first_in g files))) in (
       λ h at. elim (first_or_later g files h at) [
         | inl same ↦ subst (λ (x : FileMeta). internal_cmp cmp f.largest x.smallest ≡ Less) (sym same) next

@@ -38,6 +38,7 @@ pub record IsAdoptedSo (cmp : KeyOrder) (v : State) (e : Edit) (a : Adoption) : 
   pub outputs : a.outputs ≡ outputs_in_edit e.added
   pub edit : a.edit ≡ edit_bytes (adopted v e)
   pub last : a.last ≡ unwrap_or e.last_sequence 0
+  pub next_orderly : IsOrderly cmp a.next
 
 some_of : {X : Type 0} (o : Option X) (f : Fault) (x : X) → ok_or o f ≡ Ok x → o ≡ Some x
 some_of None f x h = absurd cc
@@ -118,8 +119,8 @@ made_of v p e installed next = record {
   last = unwrap_or e.last_sequence 0;
 }
 
-made_so : (cmp : KeyOrder) (v : State) (e : Edit) (a : Adoption) (p : PickedInputs) → IsOrderly cmp v → IsFitted cmp v e p → adoption_by v p e ≡ Ok a → IsAdoptedSo cmp v e a
-made_so cmp v e a p orderly fit h =
+made_so : (cmp : KeyOrder) (v : State) (e : Edit) (a : Adoption) (p : PickedInputs) → IsOrderly cmp v → IsFitted cmp v e p → adoption_by v p e ≡ Ok a → IsOrderly cmp a.next → IsAdoptedSo cmp v e a
+made_so cmp v e a p orderly fit h next =
     let one = bind_ok (counted_edit v e) (λ (i : Edit). ok_or (applied v i) (fault Apply) >>= λ (next : State). Ok (made_of v p e i next)) a h in
     let two = bind_ok (test_result (nat_lt (manifest_of v) (2 ^ 64 - 1)) Numbers) (λ _. Ok (adopted v e)) one.0 one.1 in
     let three = bind_ok (ok_or (applied v one.0) (fault Apply)) (λ (next : State). Ok (made_of v p e one.0 next)) a one.2 in
@@ -138,12 +139,15 @@ made_so cmp v e a p orderly fit h =
       outputs = refl;
       edit = refl;
       last = refl;
+      next_orderly = subst (λ (x : Adoption). IsOrderly cmp x.next) (sym made) next;
     })
 
 pub adopted_so : (cmp : KeyOrder) (v : State) (e : Edit) (a : Adoption) → IsAdoption cmp v e (Ok a) → IsAdoptedSo cmp v e a
 adopted_so cmp v e a (Err f, h) = absurd (no_refusal a f h.1)
 adopted_so cmp v e a (Ok u, (orderly, (Err f, h))) = absurd (no_refusal a f h.1)
-adopted_so cmp v e a (Ok u, (orderly, (Ok p, (fit, is)))) = made_so cmp v e a p orderly (fitted cmp v e p fit) (sym is)
+adopted_so cmp v e a (Ok u, (orderly, (Ok p, (fit, (Err f, h))))) = absurd (no_refusal a f h.1)
+adopted_so cmp v e a (Ok u, (orderly, (Ok p, (fit, (Ok b, (is, (Err f, h))))))) = absurd (no_refusal a f h.1)
+adopted_so cmp v e a (Ok u, (orderly, (Ok p, (fit, (Ok b, (is, (Ok o, (next, same)))))))) = subst (IsAdoptedSo cmp v e) (sym (ok_is a b same)) (made_so cmp v e b p orderly (fitted cmp v e p fit) is next)
 
 -- ---- numbers
 

@@ -1,6 +1,5 @@
 -- The steps of an adoption, as parts of a call.
-use Rattle.std.proofs.Common.{◌≡◌, ◌⊎◌, ℕ, List, Result, Ok, Err, IfOk, refl, subst, ◌∙◌, inl, inr, codes}
-use Rattle.std.specs.Global.{Vec}
+use Rattle.std.proofs.Common.{◌≡◌, ◌⊎◌, ℕ, List, Result, Ok, Err, IfOk, refl, subst, inl, inr, codes}
 use Rattle.edit.proofs.Refusals.{only_memory, unless_from}
 use Rattle.edit.specs.Answers.{EqualOrMemory, FailsOrMemory, HoldsOrMemory, IsThen, UnlessMemory, fault}
 use Rattle.edit.specs.fault.Fault.{Fault}
@@ -14,12 +13,9 @@ use Rattle.folder.specs.Folder.{TellsSame}
 use Rattle.folder.specs.OpenAnswer.{FolderAnswers, IsStopped}
 use Rattle.folder.specs.ReadsAs.{IsFileIn}
 use Rattle.folder.specs.declared.folder.Folder.{Ghosts}
-use Rattle.install.specs.Install.{tables_in}
-use Rattle.checks.specs.TestedTables.{IsTested}
-use Rattle.checks.specs.declared.version_totals.VersionTotals.{VersionTotals}
 use Rattle.store.proofs.Flow.{loaded_in, no_refusal}
 use Rattle.store.specs.InputsCompaction.{input_numbers}
-use Rattle.adoption.specs.Adoption.{Adoption, IsEditGiven, IsGiven, with_tables}
+use Rattle.adoption.specs.Adoption.{Adoption, IsEditGiven, IsGiven}
 use Rattle.adoption.specs.BothFolders.{AnswersFrom, HasEitherFailed}
 
 pub tells_itself : (tells : ToldFiles) → TellsSame tells tells
@@ -42,11 +38,6 @@ ok_answers {X = X} view before now r x IsAnswer is given = subst (λ (q : Result
 
 pub err_answers : {X Y : Type 0} (view : X → Y) (before now : ℕ) (r : Result X Fault) (e : Fault) (IsAnswer : Result Y Fault → Type 0) → r ≡ Err e → FolderAnswers view before now r IsAnswer → UnlessMemory e (IsStopped before now e ⊎ IsAnswer (Err e))
 err_answers {X = X} view before now r e IsAnswer is given = subst (λ (q : Result X Fault). FolderAnswers view before now q IsAnswer) is given
-
--- a test with these tables
-pub tested_with : (before now : ℕ) (r : Result VersionTotals Fault) (slice tables : List (ℕ × Vec ℕ)) (cmp : KeyOrder) (v : State) (files : Files) → slice ≡ tables → FolderAnswers (λ tested. tested) before now r (IsTested (IsFileIn (with_tables (tables_in slice) files)) cmp v)
-    → FolderAnswers (λ tested. tested) before now r (IsTested (IsFileIn (with_tables (tables_in tables) files)) cmp v)
-tested_with before now r slice tables cmp v files is given = subst (λ (ts : List (ℕ × Vec ℕ)). FolderAnswers (λ tested. tested) before now r (IsTested (IsFileIn (with_tables (tables_in ts) files)) cmp v)) is given
 
 -- the answer of a step after one that had this value
 pub holds_behind : {X Y B : Type 0} (view : X → B) (r : Result X Fault) (IsFirst : Result Y Fault → Type 0) (IsNext : Y → Result B Fault → Type 0) (a : Y) → IsFirst (Ok a) → HoldsOrMemory view r (IsNext a) → HoldsOrMemory view r (IsThen IsFirst IsNext)

@@ -1,6 +1,3 @@
-pub mod OverlayCalls
-pub mod LaidNames
-pub mod OverlayFiles
 pub mod KeptLemmas
 pub mod ComparedOutputs
 pub mod FittingInputs

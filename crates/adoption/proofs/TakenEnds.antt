@@ -1,8 +1,18 @@
 -- What taking an outcome in leaves of a folder, from its steps.
-use Rattle.std.proofs.Common.{◌≡◌, ◌⊎◌, ℕ, ◌<◌, ◌≤◌, Bool, true, false, List, [], ◌∷◌, ◌++◌, map, Some, Result, Ok, Err, IfErr, IfOk, IsErrAnd, OnOk, refl, sym, ap, subst, ◌∙◌, inl, inr, arith}
+use Rattle.std.proofs.Common.{◌≡◌, ◌⊎◌, ℕ, Bool, true, false, List, [], ◌∷◌, ◌++◌, map, Some, Result, Ok, Err, refl, sym, ap, subst, ◌∙◌, inl, inr, arith}
 use Rattle.std.specs.List.{AllZip}
 use Rattle.std.specs.Cmp.{IsTotalOrder}
-use Rattle.std.proofs.lemmas.List.{map-append}
+use Rattle.std.proofs.lemmas.List.{append-nil, map-append}
+use Rattle.folder.specs.Reports.{OnlyReads, ReportsDevice}
+use Rattle.keep.specs.Readable.{readable_of}
+use Rattle.keep.specs.declared.snapshots.Snapshots.{Snapshots}
+use Rattle.checks.specs.TestedTables.{IsTested}
+use Rattle.checks.specs.declared.version_totals.VersionTotals.{VersionTotals}
+use Rattle.store.proofs.Flow.{no_refusal}
+use Rattle.adoption.specs.Adoption.{IsFirstTested, IsVersionTested}
+use Rattle.adoption.specs.TakenOutcomes.{IsLawfulSoFar}
+use Rattle.adoption.proofs.KeptReads.{IsKeptVersion, left_version}
+use Rattle.adoption.proofs.LaidTables.{one_loaded}
 use Rattle.edit.proofs.Refusals.{unless}
 use Rattle.edit.specs.Answers.{UnlessMemory, fault}
 use Rattle.edit.specs.fault.Fault.{Fault}
@@ -11,81 +21,51 @@ use Rattle.edit.specs.Comparator.{IsExact, KeyOrder}
 use Rattle.edit.specs.Version.{State}
 use Rattle.folder.specs.Calls.{Call, Done, Files, Step, Tells, ToldFiles}
 use Rattle.folder.specs.CallSequence.{MakesCalls, TellsThrough}
-use Rattle.folder.specs.Folder.{TellsSame}
 use Rattle.folder.specs.Levels.{file_numbers}
 use Rattle.folder.specs.LoadedTables.{IsTableOf}
 use Rattle.folder.specs.Names.{table_name}
 use Rattle.folder.specs.OpenAnswer.{IsStopped}
 use Rattle.folder.specs.ReadsAs.{IsFileIn, IsOneOf, ReadsAs}
-use Rattle.folder.specs.Reports.{ReportsDevice}
 use Rattle.folder.specs.declared.folder.Folder.{Ghosts}
 use Rattle.folder.specs.declared.order.Order.{Order}
-use Rattle.folder.specs.declared.order.Order.TheVariants.{Bytewise}
 use Rattle.folder.proofs.ReportLemmas.{reports_after, reports_then}
 use Rattle.folder.proofs.RunLemmas.{runs_then}
-use Rattle.install.specs.GroupedInstallation.{tables_of_groups}
-use Rattle.install.specs.Install.{SurvivesCrash, next_version_tables, numbers_of, table_bytes_of, table_calls, version_with}
-use Rattle.install.proofs.Changes.{change_by}
-use Rattle.keep.specs.Gets.{get_of}
+use Rattle.install.specs.Install.{next_version_tables, numbers_of, table_bytes_of, table_calls}
 use Rattle.keep.specs.Tables.{NumberedContents}
 use Rattle.checks.specs.LawfulTables.{IsLawfulTables}
-use Rattle.store.specs.FolderRequest.{manifest_of}
 use Rattle.store.proofs.InstallPart.{still}
-use Rattle.store.proofs.RunPart.{calls_since}
 use Rattle.levels.specs.PartsEnd.{IsNothingWritten}
 use Rattle.levels.proofs.Ends.{ended_calls}
 use Rattle.levels.proofs.LaidTables.{laid_twice}
 use Rattle.levels.proofs.TablesStand.{version_stays}
 use Rattle.adoption.specs.Adoption.{Adoption, IsGiven}
 use Rattle.adoption.specs.AdoptedOutcome.{IsAdopted}
-use Rattle.adoption.specs.AdoptionLeft.{AdoptedVersion, AdoptionKeepsReads}
 use Rattle.adoption.specs.TakenIn.{AreTaken, IsTakingEnd, IsTakingStopped, version_in}
-use Rattle.adoption.specs.TakenOutcomes.{AreTakenInTurn, Given, IsGivenNext, IsLawfulAfter, IsLawfulIfAny, KeepReadsInTurn, edits_in, given_if, given_tables, groups_of, has_opened_inputs}
-use Rattle.adoption.specs.TakingSteps.{AreTestedOutputs, IsTakingOf, IsTestedNext, IsWritten}
+use Rattle.adoption.specs.TakenOutcomes.{AreTakenInTurn, Given, IsGivenNext, IsLawfulAfter, given_if, given_tables, groups_of, has_opened_inputs}
+use Rattle.adoption.specs.TakingSteps.{AreTestedOutputs, IsTakingOf}
 use Rattle.adoption.specs.declared.comparison.Comparison.{Comparison}
 use Rattle.adoption.specs.declared.comparison.Comparison.TheVariants.{LeftOut, With}
 use Rattle.adoption.specs.declared.taken_outcomes.TakenOutcome.{TakenOutcome}
 use Rattle.adoption.specs.declared.taken_outcomes.TakenOutcomes.{TakenOutcomes}
 use Rattle.adoption.proofs.AdoptionSteps.{given_held}
-use Rattle.adoption.proofs.EditedVersion.{adopted_version, output_above, there}
-use Rattle.adoption.proofs.KeptReads.{keeps_reads}
+use Rattle.adoption.proofs.EditedVersion.{output_above, there}
 use Rattle.adoption.proofs.TakenTables.{TablesAfter, loaded_in_turn, names_apart, tables_after}
 use Rattle.adoption.proofs.TakenTurns.{AreOneEdit, groups_joined, one_edit_of}
 
--- ---- gets
-
--- the gets of one more outcome, after those before it
-gets_more : (cmp : KeyOrder) (first v : State) (loaded held : List (ℕ × List ℕ)) (comparison : Comparison) (a : Adoption) (tables : List (ℕ × List ℕ)) (o : Given) (before : List Given) (next : List NumberedContents)
-    → (here : IsLawfulAfter cmp first loaded comparison (o ∷ before) v) → held ≡ next_version_tables cmp v (given_tables (o ∷ before)) loaded → AdoptionKeepsReads cmp v held a comparison next → KeepReadsInTurn cmp first loaded comparison ((a, tables) ∷ (o ∷ before)) a.next next
-gets_more cmp first v loaded held (With snapshots) a tables o before next here is kept =
-    λ found sound user at readable. kept here.tables_next (subst (λ (ts : List (ℕ × List ℕ)). IsLawfulTables cmp v ts (Ok here.tables_next)) (sym is) here.lawful) user at readable.0 ∙ here.gets found sound user at readable.1
-gets_more cmp first v loaded held LeftOut a tables o before next here is kept = tt
-
-gets_alone : (cmp : KeyOrder) (first : State) (loaded : List (ℕ × List ℕ)) (comparison : Comparison) (a : Adoption) (tables : List (ℕ × List ℕ)) (next : List NumberedContents) → AdoptionKeepsReads cmp first loaded a comparison next
-    → KeepReadsInTurn cmp first loaded comparison ((a, tables) ∷ []) a.next next
-gets_alone cmp first loaded (With snapshots) a tables next kept = λ found sound user at readable. kept found sound user at readable.0
-gets_alone cmp first loaded LeftOut a tables next kept = tt
-
 -- ---- the version after one more
 
--- what is known of the folder in which the outcome was tested
-record IsTestedAt (cmp : KeyOrder) (v : State) (a : Adoption) (tables : List (ℕ × List ℕ)) (comparison : Comparison) (now : Files) (held : List (ℕ × List ℕ)) : Type 0 where
-  version : AdoptedVersion cmp v held (a, tables)
-  gets : AdoptionKeepsReads cmp v held a comparison version.tables_next
-
-module _ (cmp : KeyOrder) (total : IsTotalOrder cmp) (exact : IsExact cmp) (first v : State) (comparison : Comparison) {F : Type 0} (g : Ghosts F) (a : Adoption) (tables : List (ℕ × List ℕ)) (old : F)
-    (outputs : AreTestedOutputs g cmp comparison (a, tables) old) (tested : IsTestedNext g cmp (a, tables) old) where
-  tested_at : (w : State) → IsAdopted cmp w (a, tables) → (now : Files) → Tells (g.tells old) now → (held : List (ℕ × List ℕ)) → AllZip (IsTableOf (IsFileIn now)) (file_numbers cmp w) held → IsTestedAt cmp w a tables comparison now held
-  tested_at w ad now told held read =
-      let t = tested now told in
-      let version = adopted_version cmp w a tables ad now held read t.0 t.1 in
-      record { version = version; gets = keeps_reads cmp total w a tables ad now held read exact comparison version (outputs now told) }
+module _ (cmp : KeyOrder) (total : IsTotalOrder cmp) (exact : IsExact cmp) (first v : State) (snapshots : Snapshots) {F : Type 0} (g : Ghosts F) (a : Adoption) (tables : List (ℕ × List ℕ)) (old : F)
+    (outputs : AreTestedOutputs g cmp (With snapshots) (a, tables) old) where
+  left : (w : State) → IsAdopted cmp w (a, tables) → (now : Files) → Tells (g.tells old) now → (held : List (ℕ × List ℕ)) → AllZip (IsTableOf (IsFileIn now)) (file_numbers cmp w) held → (found : List NumberedContents) → IsLawfulTables cmp w held (Ok found)
+      → IsKeptVersion cmp w held a tables (readable_of snapshots a.last)
+  left w ad now told held read found sound = left_version cmp total exact w a tables ad now held found read sound snapshots (outputs now told)
 
   -- the first outcome
-  alone : (ad : IsAdopted cmp first (a, tables)) (now : Files) → Tells (g.tells old) now → (order : Order) (loaded : List (ℕ × List ℕ)) → ReadsAs cmp order first loaded now → IsLawfulAfter cmp first loaded comparison ((a, tables) ∷ []) a.next
-  alone ad now told order loaded reads =
-      let t = tested_at first ad now told loaded reads.loaded in
-      record { tables_next = t.version.tables_next; lawful = t.version.lawful; gets = gets_alone cmp first loaded comparison a tables t.version.tables_next t.gets }
+  alone : (ad : IsAdopted cmp first (a, tables)) (now : Files) → Tells (g.tells old) now → (order : Order) (loaded : List (ℕ × List ℕ)) → ReadsAs cmp order first loaded now → (found : List NumberedContents) → IsLawfulTables cmp first loaded (Ok found)
+      → IsLawfulAfter cmp first loaded (With snapshots) ((a, tables) ∷ []) a.next
+  alone ad now told order loaded reads found sound =
+      let t = left first ad now told loaded reads.loaded found sound in
+      record { tables_next = t.tables_next; lawful = t.lawful; gets = λ others is user at readable. t.gets others is user at readable.0 }
 
   -- a later one
   module _ (o : Given) (before : List Given) (turn : AreTakenInTurn cmp first (o ∷ before) v) (ad : IsAdopted cmp v (a, tables)) where
@@ -101,15 +81,25 @@ module _ (cmp : KeyOrder) (total : IsTotalOrder cmp) (exact : IsExact cmp) (firs
         (λ n own old. let lt = output_above cmp v a tables ad n own in let x = one.numbers n old in omega (arith, lt, x.1))
 
     more : (now : Files) → Tells (g.tells old) now → (order : Order) (loaded : List (ℕ × List ℕ)) → ReadsAs cmp order first loaded now → ((n : ℕ) → IsOneOf (numbers_of outs) n → now (table_name n) ≡ Some (table_bytes_of (outs ++ loaded) n))
-        → IsLawfulAfter cmp first loaded comparison (o ∷ before) v → IsLawfulAfter cmp first loaded comparison ((a, tables) ∷ (o ∷ before)) a.next
+        → IsLawfulAfter cmp first loaded (With snapshots) (o ∷ before) v → IsLawfulAfter cmp first loaded (With snapshots) ((a, tables) ∷ (o ∷ before)) a.next
     more now told order loaded reads found here =
         let held = next_version_tables cmp v outs loaded in
-        let t = tested_at v ad now told held (loaded_in_turn cmp first v (o ∷ before) one now loaded reads.loaded found) in
+        let t = left v ad now told held (loaded_in_turn cmp first v (o ∷ before) one now loaded reads.loaded found) here.tables_next here.lawful in
         record {
-          tables_next = t.version.tables_next;
-          lawful = subst (λ (ts : List (ℕ × List ℕ)). IsLawfulTables cmp a.next ts (Ok t.version.tables_next)) (laid loaded) t.version.lawful;
-          gets = gets_more cmp first v loaded held comparison a tables o before t.version.tables_next here refl t.gets;
+          tables_next = t.tables_next;
+          lawful = subst (λ (ts : List (ℕ × List ℕ)). IsLawfulTables cmp a.next ts (Ok t.tables_next)) (laid loaded) t.lawful;
+          gets = λ others is user at readable. t.gets here.tables_next here.lawful user at readable.0 ∙ here.gets others is user at readable.1;
         }
+
+-- if outputs are compared, what one more outcome leaves is lawful
+lawful_more : (cmp : KeyOrder) → IsTotalOrder cmp → IsExact cmp → (first v : State) (comparison : Comparison) {F : Type 0} (g : Ghosts F) (a : Adoption) (tables : List (ℕ × List ℕ)) (old : F) → AreTestedOutputs g cmp comparison (a, tables) old
+    → (outcomes : List Given) → AreTakenInTurn cmp first outcomes v → IsAdopted cmp v (a, tables) → (order : Order) (loaded : List (ℕ × List ℕ)) → IsLawfulSoFar cmp first loaded comparison outcomes v → TablesAfter cmp order first loaded (given_tables outcomes) (g.tells old)
+    → IsLawfulSoFar cmp first loaded comparison ((a, tables) ∷ outcomes) a.next
+lawful_more cmp total exact first v LeftOut g a tables old outputs outcomes turn ad order loaded here after = tt
+lawful_more cmp total exact first v (With s) g a tables old outputs [] is ad order loaded here after =
+    alone cmp total exact first v s g a tables old outputs (subst (λ (w : State). IsAdopted cmp w (a, tables)) is ad) after.now after.told order loaded after.reads here.0 here.1
+lawful_more cmp total exact first v (With s) g a tables old outputs (o ∷ before) turn ad order loaded here after =
+    more cmp total exact first v s g a tables old outputs o before turn ad after.now after.told order loaded after.reads after.found here
 
 -- ---- the calls
 
@@ -161,13 +151,10 @@ module _ {F : Type 0} (g : Ghosts F) (cmp : KeyOrder) (first : State) (compariso
     written_stopped {X = X} e runs = stopped all a.next turn new e (all_runs {Y = X} (Err e) runs)
 
     -- they all were
-    module _ (total : IsTotalOrder cmp) (exact : IsExact cmp) (outputs : AreTestedOutputs g cmp comparison (a, tables) old) (tested : IsTestedNext g cmp (a, tables) old) where
-      lawful_with : (files : Files) (order : Order) (loaded : List (ℕ × List ℕ)) → Tells (g.tells start) files → ReadsAs cmp order first loaded files → IsLawfulAfter cmp first loaded comparison all a.next
-      lawful_with files order loaded told reads = by t.outcomes t.in_turn (t.lawful files order loaded told reads) (read_now files order loaded told reads)
-        where
-          by : (outcomes : List Given) → AreTakenInTurn cmp first outcomes v → IsLawfulIfAny cmp first loaded comparison outcomes v → TablesAfter cmp order first loaded (given_tables outcomes) (g.tells old) → IsLawfulAfter cmp first loaded comparison ((a, tables) ∷ outcomes) a.next
-          by [] is here after = alone cmp total exact first v comparison g a tables old outputs tested (subst (λ (s : State). IsAdopted cmp s (a, tables)) is ad) after.now after.told order loaded after.reads
-          by (o ∷ before) own here after = more cmp total exact first v comparison g a tables old outputs tested o before own ad after.now after.told order loaded after.reads after.found here
+    module _ (total : IsTotalOrder cmp) (exact : IsExact cmp) (outputs : AreTestedOutputs g cmp comparison (a, tables) old) where
+      lawful_with : (files : Files) (order : Order) (loaded : List (ℕ × List ℕ)) → Tells (g.tells start) files → ReadsAs cmp order first loaded files → IsLawfulSoFar cmp first loaded comparison all a.next
+      lawful_with files order loaded told reads =
+          lawful_more cmp total exact first v comparison g a tables old outputs t.outcomes t.in_turn ad order loaded (t.lawful files order loaded told reads) (read_now files order loaded told reads)
 
       pub taken_more : {X : Type 0} (x : X) (w : State) (bytes : List ℕ) → w ≡ a.next → bytes ≡ edits ++ a.edit → MakesCalls {E = Fault} (table_calls (tables ∷ [])) (g.calls old) (g.calls new) (g.tells old) (g.tells new) (Ok x) → ReportsDevice g old new (Ok x)
           → AreTaken g cmp first comparison start new w bytes
@@ -182,18 +169,62 @@ module _ {F : Type 0} (g : Ghosts F) (cmp : KeyOrder) (first : State) (compariso
 
 -- ---- the end of a call
 
-module _ {F : Type 0} (g : Ghosts F) (cmp : KeyOrder) (comparison : Comparison) (old new : F) (t : TakenOutcomes) where
-  pub end_before : (start : F) (e : Fault) → IsNothingWritten {X = TakenOutcome} g old new (Err e) → IsTakingEnd g cmp comparison start old new t (Err e)
-  end_before start e none = λ taken. nothing_since g cmp t.opened.now.version comparison start old (version_in t) t.edits.items taken new e none
+module _ {F : Type 0} (g : Ghosts F) (cmp : KeyOrder) (old new : F) (t : TakenOutcomes) where
+  pub end_before : (start : F) (e : Fault) → IsNothingWritten {X = TakenOutcome} g old new (Err e) → IsTakingEnd g cmp start old new t (Err e)
+  end_before start e none = λ taken. nothing_since g cmp t.opened.now.version t.comparison start old (version_in t) t.edits.items taken new e none
 
   pub end_of : (total : IsTotalOrder cmp) (exact : IsExact cmp) (a : Adoption) (tables : List (ℕ × List ℕ)) → IsAdopted cmp (version_in t) (a, tables) → has_opened_inputs t.opened.now.version (a, tables) ≡ true
-      → (start : F) (r : Result TakenOutcome Fault) → ReportsDevice g old new r → IsTakingOf g cmp comparison (a, tables) old new t r → IsTakingEnd g cmp comparison start old new t r
+      → (start : F) (r : Result TakenOutcome Fault) → ReportsDevice g old new r → IsTakingOf g cmp (a, tables) old new t r → IsTakingEnd g cmp start old new t r
   end_of total exact a tables ad opened start (Ok x) device (inl none) = absurd none.refused
-  end_of total exact a tables ad opened start (Ok x) device (inr (outputs, tested, written)) =
-      λ taken. (written.opened, taken_more g cmp t.opened.now.version comparison start old (version_in t) t.edits.items taken a tables ad opened new total exact outputs tested x (version_in x.taken) x.taken.edits.items written.version written.edits written.runs device)
+  end_of total exact a tables ad opened start (Ok x) device (inr (outputs, written)) =
+      λ taken. (
+        written.opened,
+        written.compared,
+        taken_more g cmp t.opened.now.version t.comparison start old (version_in t) t.edits.items taken a tables ad opened new total exact outputs x (version_in x.taken) x.taken.edits.items written.version written.edits written.runs device,
+      )
   end_of total exact a tables ad opened start (Err e) device (inl none) = end_before start e none
-  end_of total exact a tables ad opened start (Err e) device (inr (outputs, tested, written)) =
-      λ taken. written_stopped g cmp t.opened.now.version comparison start old (version_in t) t.edits.items taken a tables ad opened new e written.runs
+  end_of total exact a tables ad opened start (Err e) device (inr (outputs, written)) =
+      λ taken. written_stopped g cmp t.opened.now.version t.comparison start old (version_in t) t.edits.items taken a tables ad opened new e written.runs
+
+-- ---- the begin
+
+-- the tables with which the version that was tested is lawful
+tested_tables : (cmp : KeyOrder) (v : State) (files : Files) (loaded : List (ℕ × List ℕ)) (t : VersionTotals) → AllZip (IsTableOf (IsFileIn files)) (file_numbers cmp v) loaded → IsTested (IsFileIn files) cmp v (Ok t) → (tables : List NumberedContents) × IsLawfulTables cmp v loaded (Ok tables)
+tested_tables cmp v files loaded t read (Err f, h) = absurd (no_refusal t f h.1)
+tested_tables cmp v files loaded t read (Ok found, (h, (Err f, k))) = absurd (no_refusal t f k.1)
+tested_tables cmp v files loaded t read (Ok found, (h, (Ok ts, k))) = (ts, subst (λ (l : List (ℕ × List ℕ)). IsLawfulTables cmp v l (Ok ts)) (one_loaded files (file_numbers cmp v) found loaded h read) k.0)
+
+pub version_tables : (cmp : KeyOrder) (v : State) (files : Files) (loaded : List (ℕ × List ℕ)) → AllZip (IsTableOf (IsFileIn files)) (file_numbers cmp v) loaded → IsVersionTested cmp files v (Ok tt) → (tables : List NumberedContents) × IsLawfulTables cmp v loaded (Ok tables)
+version_tables cmp v files loaded read (Err f, h) = absurd (no_refusal tt f h.1)
+version_tables cmp v files loaded read (Ok t, (h, is)) = tested_tables cmp v files loaded t read h
+
+-- no outcome yet
+first_lawful : (cmp : KeyOrder) (first : State) (comparison : Comparison) (files : Files) (loaded : List (ℕ × List ℕ)) → AllZip (IsTableOf (IsFileIn files)) (file_numbers cmp first) loaded → IsFirstTested cmp files first comparison (Ok tt) → IsLawfulSoFar cmp first loaded comparison [] first
+first_lawful cmp first (With s) files loaded read h = version_tables cmp first files loaded read h
+first_lawful cmp first LeftOut files loaded read h = tt
+
+pub taken_none : {F : Type 0} (g : Ghosts F) (cmp : KeyOrder) (first : State) (comparison : Comparison) (old new : F) → OnlyReads g old new → ReportsDevice {X = Unit {0}} g old new (Ok tt) → ((files : Files) → Tells (g.tells old) files → IsFirstTested cmp files first comparison (Ok tt))
+    → AreTaken g cmp first comparison old new first []
+taken_none g cmp first comparison old new reads device tested = record {
+  outcomes = [];
+  in_turn = refl;
+  edits_are = refl;
+  runs = record { steps = []; made = refl; appended = reads.calls ∙ sym (append-nil (g.calls old)); change = λ s told. (s, refl, still (g.tells old) (g.tells new) reads.same s.files told) };
+  device = device;
+  lawful = λ files order loaded told read. first_lawful cmp first comparison files loaded read.loaded (tested files told);
+}
+
+-- and the same after more was read
+pub taken_still : {F : Type 0} (g : Ghosts F) (cmp : KeyOrder) (first : State) (comparison : Comparison) (start old new : F) (v : State) (edits : List ℕ) → AreTaken g cmp first comparison start old v edits → OnlyReads g old new → ReportsDevice {X = Unit {0}} g old new (Ok tt)
+    → AreTaken g cmp first comparison start new v edits
+taken_still g cmp first comparison start old new v edits t reads device = record {
+  outcomes = t.outcomes;
+  in_turn = t.in_turn;
+  edits_are = t.edits_are;
+  runs = record { steps = t.runs.steps; made = t.runs.made; appended = reads.calls ∙ t.runs.appended; change = λ s told. let last = t.runs.change s told in (last.0, last.1, still (g.tells old) (g.tells new) reads.same last.0.files last.2) };
+  device = reports_then {first = Ok tt} refl t.device device;
+  lawful = t.lawful;
+}
 
 -- ---- the outcome that a folder holds
 

@@ -1,11 +1,10 @@
 -- The steps of taking an outcome in, as parts of a call.
-use Rattle.std.proofs.Common.{◌≡◌, ◌⊎◌, ℕ, List, [], ◌∷◌, ◌++◌, Result, Ok, Err, IfErr, IfOk, IsErrAnd, refl, sym, subst, ◌∙◌, inl, inr}
+use Rattle.std.proofs.Common.{◌≡◌, ◌⊎◌, ℕ, [], ◌∷◌, ◌++◌, Result, Ok, Err, IsErrAnd, refl, sym, subst, ◌∙◌, inl, inr}
 use Rattle.edit.specs.Answers.{UnlessMemory, fault}
 use Rattle.edit.specs.fault.Fault.{Fault}
 use Rattle.edit.specs.fault.FaultName.TheVariants.{Memory}
 use Rattle.edit.specs.Comparator.{KeyOrder}
 use Rattle.folder.proofs.LoadingLemmas.{told_since}
-use Rattle.folder.specs.Calls.{Files, Tells, ToldFiles}
 use Rattle.folder.specs.CallSequence.{MakesCalls}
 use Rattle.folder.specs.OpenAnswer.{FolderAnswers, IsStopped}
 use Rattle.folder.specs.Reports.{OnlyReads}
@@ -17,8 +16,7 @@ use Rattle.store.proofs.RunPart.{calls_since, handed_calls, passed_calls}
 use Rattle.levels.specs.PartsEnd.{IsNothingWritten}
 use Rattle.adoption.specs.TakenIn.{version_in}
 use Rattle.adoption.specs.TakenOutcomes.{Given}
-use Rattle.adoption.specs.TakingSteps.{AreTestedOutputs, IsTakingOf, IsTestedNext, IsTestedTaking, IsWritten, IsWrittenTaking}
-use Rattle.adoption.specs.declared.comparison.Comparison.{Comparison}
+use Rattle.adoption.specs.TakingSteps.{AreTestedOutputs, IsTakingOf, IsWritten, IsWrittenTaking}
 use Rattle.adoption.specs.declared.taken_outcomes.TakenOutcome.{TakenOutcome}
 use Rattle.adoption.specs.declared.taken_outcomes.TakenOutcomes.{TakenOutcomes}
 
@@ -34,15 +32,17 @@ module _ {F : Type 0} (g : Ghosts F) (given : Given) (old new : F) (t : TakenOut
   written_refused r q e was is runs = inr (record {
     runs = handed_calls (table_calls (given.1 ∷ [])) (g.calls old) (g.calls new) (g.tells old) (g.tells new) r q e was is runs;
     opened = refused_ok q e (λ (one : TakenOutcome). one.taken.opened.now ≡ t.opened.now) is;
+    compared = refused_ok q e (λ (one : TakenOutcome). one.taken.comparison ≡ t.comparison) is;
     version = refused_ok q e (λ (one : TakenOutcome). version_in one.taken ≡ given.0.next) is;
     edits = refused_ok q e (λ (one : TakenOutcome). one.taken.edits.items ≡ t.edits.items ++ given.0.edit) is;
   })
 
-  pub written_done : {X : Type 0} (r : Result X Fault) (x : X) (one : TakenOutcome) → r ≡ Ok x → one.taken.opened.now ≡ t.opened.now → version_in one.taken ≡ given.0.next → one.taken.edits.items ≡ t.edits.items ++ given.0.edit
+  pub written_done : {X : Type 0} (r : Result X Fault) (x : X) (one : TakenOutcome) → r ≡ Ok x → one.taken.opened.now ≡ t.opened.now → one.taken.comparison ≡ t.comparison → version_in one.taken ≡ given.0.next → one.taken.edits.items ≡ t.edits.items ++ given.0.edit
       → MakesCalls (table_calls (given.1 ∷ [])) (g.calls old) (g.calls new) (g.tells old) (g.tells new) r → IsWrittenTaking g given old new t (Ok one)
-  written_done r x one was opened version edits runs = inr (record {
+  written_done r x one was opened compared version edits runs = inr (record {
     runs = passed_calls (table_calls (given.1 ∷ [])) (g.calls old) (g.calls new) (g.tells old) (g.tells new) r x one was runs;
     opened = opened;
+    compared = compared;
     version = version;
     edits = edits;
   })
@@ -57,18 +57,11 @@ module _ {F : Type 0} (g : Ghosts F) (cmp : KeyOrder) (given : Given) (old mid n
   written w = record {
     runs = calls_since (table_calls (given.1 ∷ [])) (g.calls old) (g.calls mid) (g.calls new) (g.tells old) (g.tells mid) (g.tells new) r reads.calls (λ files told. told_still (g.tells old) (g.tells mid) files reads.same told) w.runs;
     opened = w.opened;
+    compared = w.compared;
     version = w.version;
     edits = w.edits;
   }
 
-  pub tested_since : IsTestedNext g cmp given old → IsWrittenTaking g given mid new t r → IsTestedTaking g cmp given old new t r
-  tested_since tested (inl none) = inl (nothing none)
-  tested_since tested (inr w) = inr (tested, written w)
-
-  taking_since_by : (comparison : Comparison) → AreTestedOutputs g cmp comparison given old → IsTestedTaking g cmp given mid new t r → IsTakingOf g cmp comparison given old new t r
-  taking_since_by comparison outputs (inl none) = inl (nothing none)
-  taking_since_by comparison outputs (inr (tested, w)) = inr (outputs, (λ files told. tested files (told_still (g.tells old) (g.tells mid) files reads.same told)), written w)
-
-pub taking_since : {F : Type 0} (g : Ghosts F) (cmp : KeyOrder) (comparison : Comparison) (given : Given) (old mid new : F) (t : TakenOutcomes) (r : Result TakenOutcome Fault) → OnlyReads g old mid → AreTestedOutputs g cmp comparison given old
-    → IsTestedTaking g cmp given mid new t r → IsTakingOf g cmp comparison given old new t r
-taking_since g cmp comparison given old mid new t r reads outputs h = taking_since_by g cmp given old mid new t r reads comparison outputs h
+  pub taking_since : AreTestedOutputs g cmp t.comparison given old → IsWrittenTaking g given mid new t r → IsTakingOf g cmp given old new t r
+  taking_since outputs (inl none) = inl (nothing none)
+  taking_since outputs (inr w) = inr (outputs, written w)

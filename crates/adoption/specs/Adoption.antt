@@ -1,10 +1,8 @@
 -- What the installation of an outcome answers: how its edit is adopted, and what is tested of its
--- outputs and of the edited version.
-use Rattle.std.specs.Prelude.{◌≡◌, ℕ, ◌+◌, ◌-◌, ◌^◌, nat_lt, max, List, map, codes, Option}
+-- outputs and of the version.
+use Rattle.std.specs.Prelude.{◌≡◌, ℕ, ◌+◌, ◌-◌, ◌^◌, nat_lt, max, List, map, codes}
 use Rattle.std.specs.Prelude.{Some, None, unwrap_or, Result, Ok}
-use Rattle.std.specs.Map.{lookup}
-use Rattle.std.specs.Option.{ok_or, option_or}
-use Rattle.std.specs.Str.{bytes_eq}
+use Rattle.std.specs.Option.{ok_or}
 use Rattle.edit.specs.Answers.{IsThen, fault, ◌>>=◌}
 use Rattle.edit.specs.fault.Fault.{Fault}
 use Rattle.edit.specs.fault.FaultName.TheVariants.{Apply, Numbers}
@@ -18,7 +16,6 @@ use Rattle.edit.specs.Version.{State, applied}
 use Rattle.edit.specs.declared.meta.NewFile.{NewFile}
 use Rattle.folder.specs.Calls.{Files, ToldFiles}
 use Rattle.folder.specs.LoadedTables.{IsLoaded}
-use Rattle.folder.specs.Names.{table_name}
 use Rattle.folder.specs.OpenAnswer.{IsFileReading}
 use Rattle.folder.specs.ReadsAs.{IsFileIn}
 use Rattle.pick.specs.PickedInputs.{PickedInputs}
@@ -88,10 +85,13 @@ adoption_by v p e = do
   })
 
 -- The answer for an edit and a version. The first refusal counts: of the version's files, of which
--- no table is read; of an edit that doesn't fit; Numbers. Else the edit is adopted.
+-- no table is read; of an edit that doesn't fit; Numbers; of the edited version's files. Else the
+-- edit is adopted.
 abbrev pub IsAdoption : KeyOrder → State → Edit → Result Adoption Fault → Type 0
 IsAdoption cmp v e = IsThen (IsOrderlyAnswer cmp v) (λ passed.
-    IsThen (IsFitting cmp v e) (λ p answer. answer ≡ adoption_by v p e))
+    IsThen (IsFitting cmp v e) (λ p.
+    IsThen (λ made. adoption_by v p e ≡ made) (λ a.
+    IsThen (IsOrderlyAnswer cmp a.next) (λ orderly answer. answer ≡ Ok a))))
 
 -- ---- what the folder of an outcome holds
 
@@ -164,32 +164,30 @@ IsGivenTested cmp files given comparison =
     IsThen (λ read. input_tables cmp given.0.outputs given.1 ≡ read)
     (IsComparison cmp files given.0 comparison)
 
--- ---- the edited version
-
--- the bytes of the table of this name, of some tables with their numbers
-abbrev pub laid_table : List (ℕ × List ℕ) → List ℕ → Option (List ℕ)
-laid_table tables name = lookup (λ (n : ℕ). bytes_eq (table_name n) name) tables
-
--- files with tables laid over, each under the name of its number
-abbrev pub with_tables : List (ℕ × List ℕ) → Files → Files
-with_tables tables files name = option_or (laid_table tables name) (files name)
-
 -- the step of an outcome that was given: its tables, the inputs, and the adopted edit
 abbrev pub adopted_step : State → Adoption × List (ℕ × List ℕ) → StepView
 adopted_step v given = step_of v given.0.picked (record { tables = given.1; edit = given.0.edit })
 
--- the answer after the test of outputs: the refusal of the edited version, with the outputs' tables
--- laid over the folder's files; else the step
-abbrev pub IsEditedInstalled : KeyOrder → Files → State → Adoption × List (ℕ × List ℕ) →
-    Result StepView Fault → Type 0
-IsEditedInstalled cmp files v given =
-    IsThen (IsTested (IsFileIn (with_tables given.1 files)) cmp given.0.next)
-    (λ tested answer. answer ≡ Ok (adopted_step v given))
-
--- The answer for an outcome that was given. The first refusal counts: of its outputs; of the edited
--- version. Else the step.
-abbrev pub IsGivenInstalled : KeyOrder → Files → State → Adoption × List (ℕ × List ℕ) →
+-- the answer for an outcome that was given: the refusal of its outputs, or the step
+abbrev pub IsGivenTaken : KeyOrder → Files → State → Adoption × List (ℕ × List ℕ) →
     Comparison → Result StepView Fault → Type 0
-IsGivenInstalled cmp files v given comparison =
-    IsThen (IsGivenTested cmp files given comparison) (λ passed.
-    IsEditedInstalled cmp files v given)
+IsGivenTaken cmp files v given comparison =
+    IsThen (IsGivenTested cmp files given comparison)
+    (λ passed answer. answer ≡ Ok (adopted_step v given))
+
+-- ---- the version
+
+-- what the test of a version answers, with the tables among these files, without its totals
+abbrev pub IsVersionTested : KeyOrder → Files → State → Result (Unit {0}) Fault → Type 0
+IsVersionTested cmp files v =
+    IsThen (IsTested (IsFileIn files) cmp v) (λ tested answer. answer ≡ Ok tt)
+
+-- if outputs are compared, the version that was opened is tested first,
+abbrev pub IsFirstTested : KeyOrder → Files → State → Comparison → Result (Unit {0}) Fault → Type 0
+IsFirstTested cmp files v (With snapshots) = IsVersionTested cmp files v
+IsFirstTested cmp files v LeftOut = λ answer. answer ≡ Ok tt
+
+-- and else the one that outcomes leave, last
+abbrev pub IsLastTested : KeyOrder → Files → State → Comparison → Result (Unit {0}) Fault → Type 0
+IsLastTested cmp files v (With snapshots) = λ answer. answer ≡ Ok tt
+IsLastTested cmp files v LeftOut = IsVersionTested cmp files v

@@ -8,7 +8,5 @@ pub mod TakenOutcomes
 pub mod TakenIn
 -- serves proofs alone
 pub mod AdoptionIn
-pub mod Overlay
-pub mod AdoptionLeft
 pub mod Beginnings
 pub mod TakingSteps

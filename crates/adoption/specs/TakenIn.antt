@@ -22,7 +22,8 @@ use Rattle.install.specs.Install.{calls_before_rename, install_calls, manifest_b
 use Rattle.install.specs.Install.{next_version_tables, table_calls, version_with}
 use Rattle.store.specs.FolderRequest.{manifest_of}
 use Rattle.store.specs.Step.{StepView, step_in}
-use Rattle.adoption.specs.TakenOutcomes.{AreTakenInTurn, Given, IsLawfulAfter, IsLawfulIfAny}
+use Rattle.adoption.specs.Adoption.{IsLastTested}
+use Rattle.adoption.specs.TakenOutcomes.{AreTakenInTurn, Given, IsLawfulAfter, IsLawfulSoFar}
 use Rattle.adoption.specs.TakenOutcomes.{edits_in, given_tables, groups_of}
 use Rattle.adoption.specs.declared.comparison.Comparison.{Comparison}
 use Rattle.adoption.specs.declared.taken_outcomes.TakenOutcome.{TakenOutcome}
@@ -36,7 +37,8 @@ abbrev pub step_taken : TakenOutcome → StepView
 step_taken t = step_in t.step
 
 -- From one state of a folder on these outcomes were taken in, for the first version: just their
--- tables were written. If the folder read as that version, what they leave is lawful.
+-- tables were written. If outputs are compared and the folder read as that version, it was lawful,
+-- and what they leave is.
 pub record AreTaken {F : Type 0} (g : Ghosts F) (cmp : KeyOrder) (first : State)
     (comparison : Comparison) (old new : F) (v : State) (edits : List ℕ) : Type 0 where
   pub outcomes : List Given
@@ -47,7 +49,7 @@ pub record AreTaken {F : Type 0} (g : Ghosts F) (cmp : KeyOrder) (first : State)
   pub device : ReportsDevice {X = Unit {0}} g old new (Ok tt)
   pub lawful : (files : Files) (order : Order) (loaded : List (ℕ × List ℕ)) →
       Tells (g.tells old) files → ReadsAs cmp order first loaded files →
-      IsLawfulIfAny cmp first loaded comparison outcomes v
+      IsLawfulSoFar cmp first loaded comparison outcomes v
 
 -- Tables of outcomes were written, the last perhaps in part, and it was refused. A crash at any
 -- moment leaves the first version, and so does no crash.
@@ -63,14 +65,15 @@ pub record IsTakingStopped {F T : Type 0} (g : Ghosts F) (cmp : KeyOrder) (first
   pub refused : OnOk result ⊥
 
 -- If outcomes were taken in from the first state of a folder on, one more was; or it was refused.
-abbrev pub IsTakingEnd : {F : Type 0} → Ghosts F → KeyOrder → Comparison → F → F → F →
-    TakenOutcomes → Result TakenOutcome Fault → Type 0
-IsTakingEnd g cmp comparison start old new t (Ok one) =
-    AreTaken g cmp t.opened.now.version comparison start old (version_in t) t.edits.items →
-    (one.taken.opened.now ≡ t.opened.now) × AreTaken g cmp t.opened.now.version comparison start new
-    (version_in one.taken) one.taken.edits.items
-IsTakingEnd g cmp comparison start old new t (Err e) =
-    AreTaken g cmp t.opened.now.version comparison start old (version_in t) t.edits.items →
+abbrev pub IsTakingEnd : {F : Type 0} → Ghosts F → KeyOrder → F → F → F → TakenOutcomes →
+    Result TakenOutcome Fault → Type 0
+IsTakingEnd g cmp start old new t (Ok one) =
+    AreTaken g cmp t.opened.now.version t.comparison start old (version_in t) t.edits.items →
+    (one.taken.opened.now ≡ t.opened.now) × (one.taken.comparison ≡ t.comparison)
+    × AreTaken g cmp t.opened.now.version t.comparison start new (version_in one.taken)
+    one.taken.edits.items
+IsTakingEnd g cmp start old new t (Err e) =
+    AreTaken g cmp t.opened.now.version t.comparison start old (version_in t) t.edits.items →
     IsTakingStopped {T = TakenOutcome} g cmp t.opened.now.version start new (Err e)
 
 -- no outcome was taken, so that nothing is installed
@@ -118,14 +121,22 @@ pub record AreInstalledTogether {F : Type 0} (g : Ghosts F) (name : List ℕ) (c
       IsLawfulAfter cmp first loaded comparison outcomes v
   pub number : IfOk result (λ n. n ≡ manifest_of first)
 
--- If outcomes were taken in from the first state of a folder on: there was none; or there was no
--- memory for the manifest; or they were installed.
-abbrev pub IsTakenInstalled : {F : Type 0} → Ghosts F → List ℕ → KeyOrder → Comparison → F → F →
-    F → TakenOutcomes → Result ℕ Fault → Type 0
-IsTakenInstalled g name cmp comparison start old new t result =
-    AreTaken g cmp t.opened.now.version comparison start old (version_in t) t.edits.items →
+-- why nothing was installed of a folder that tells files: the device failed, or the last version was
+-- refused
+abbrev pub IsWhyNone : {F : Type 0} → Ghosts F → KeyOrder → F → F → TakenOutcomes →
+    Result ℕ Fault → Type 0
+IsWhyNone g cmp old new t result = (files : Files) → Tells (g.tells old) files → IfErr result
+    (λ e. UnlessMemory e (IsStopped (g.failed old) (g.failed new) e
+    ⊎ IsLastTested cmp files (version_in t) t.comparison (Err e)))
+
+-- If outcomes were taken in from the first state of a folder on: there was none; or nothing was
+-- installed; or they were installed.
+abbrev pub IsTakenInstalled : {F : Type 0} → Ghosts F → List ℕ → KeyOrder → F → F → F →
+    TakenOutcomes → Result ℕ Fault → Type 0
+IsTakenInstalled g name cmp start old new t result =
+    AreTaken g cmp t.opened.now.version t.comparison start old (version_in t) t.edits.items →
     IsNoneTaken g t old new result
     ⊎ ((IsTakingStopped g cmp t.opened.now.version start new result
-    × IfErr result (λ e. UnlessMemory e ⊥))
-    ⊎ AreInstalledTogether g name cmp comparison t.opened.now.version (version_in t)
+    × IsWhyNone g cmp old new t result)
+    ⊎ AreInstalledTogether g name cmp t.comparison t.opened.now.version (version_in t)
     t.opened.now.manifest start new result)

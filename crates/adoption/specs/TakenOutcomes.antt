@@ -17,7 +17,7 @@ use Rattle.keep.specs.Tables.{NumberedContents}
 use Rattle.checks.specs.LawfulTables.{IsLawfulTables}
 use Rattle.store.specs.FolderRequest.{manifest_of}
 use Rattle.store.specs.Step.{StepView}
-use Rattle.adoption.specs.Adoption.{Adoption, IsGiven, IsGivenInstalled}
+use Rattle.adoption.specs.Adoption.{Adoption, IsGiven, IsGivenTaken}
 use Rattle.adoption.specs.AdoptedOutcome.{IsAdopted}
 use Rattle.adoption.specs.declared.comparison.Comparison.{Comparison}
 use Rattle.adoption.specs.declared.comparison.Comparison.TheVariants.{With, LeftOut}
@@ -50,7 +50,7 @@ abbrev pub IsTakenFrom : KeyOrder → Files → Files → State → State → Co
     Result StepView Fault → Type 0
 IsTakenFrom cmp files source first v comparison =
     IsThen (IsGivenNext cmp (IsFileIn source) first v) (λ given.
-    IsGivenInstalled cmp files v given comparison)
+    IsGivenTaken cmp files v given comparison)
 
 -- ---- outcomes, of which the last is the first of the list
 
@@ -96,9 +96,12 @@ pub record IsLawfulAfter (cmp : KeyOrder) (first : State) (loaded : List (ℕ ×
       (Ok tables_next)
   pub gets : KeepReadsInTurn cmp first loaded comparison outcomes v tables_next
 
--- that, if there is an outcome
-abbrev pub IsLawfulIfAny : KeyOrder → State → List (ℕ × List ℕ) → Comparison → List Given →
+-- If outputs are compared: the first version is lawful, and so is the one that outcomes leave, as
+-- far as they were taken in.
+abbrev pub IsLawfulSoFar : KeyOrder → State → List (ℕ × List ℕ) → Comparison → List Given →
     State → Type 0
-IsLawfulIfAny cmp first loaded comparison [] v = Unit {0}
-IsLawfulIfAny cmp first loaded comparison (given ∷ before) v =
-    IsLawfulAfter cmp first loaded comparison (given ∷ before) v
+IsLawfulSoFar cmp first loaded (With snapshots) [] v =
+    (tables : List NumberedContents) × IsLawfulTables cmp first loaded (Ok tables)
+IsLawfulSoFar cmp first loaded (With snapshots) (given ∷ before) v =
+    IsLawfulAfter cmp first loaded (With snapshots) (given ∷ before) v
+IsLawfulSoFar cmp first loaded LeftOut outcomes v = Unit {0}

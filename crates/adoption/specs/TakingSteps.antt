@@ -8,15 +8,12 @@ use Rattle.edit.specs.Version.{IsState, State}
 use Rattle.edit.specs.VersionOrder.{snapshot_of}
 use Rattle.folder.specs.CallSequence.{MakesCalls}
 use Rattle.folder.specs.Calls.{Files, Tells}
-use Rattle.folder.specs.ReadsAs.{IsFileIn}
 use Rattle.folder.specs.declared.folder.Folder.{Ghosts}
 use Rattle.install.specs.Install.{current_calls, manifest_bytes, manifest_calls, table_calls}
 use Rattle.install.specs.InstallCalls.{IsInstallCalls}
-use Rattle.checks.specs.TestedTables.{IsTested}
-use Rattle.checks.specs.declared.version_totals.VersionTotals.{VersionTotals}
 use Rattle.store.specs.FolderRequest.{manifest_of}
 use Rattle.levels.specs.PartsEnd.{IsNothingWritten}
-use Rattle.adoption.specs.Adoption.{IsGivenTested, with_tables}
+use Rattle.adoption.specs.Adoption.{IsGivenTested}
 use Rattle.adoption.specs.TakenIn.{version_in}
 use Rattle.adoption.specs.TakenOutcomes.{Given}
 use Rattle.adoption.specs.declared.comparison.Comparison.{Comparison}
@@ -29,6 +26,7 @@ pub record IsWritten {F : Type 0} (g : Ghosts F) (given : Given) (old new : F) (
   pub runs : MakesCalls (table_calls (given.1 ∷ [])) (g.calls old) (g.calls new) (g.tells old)
       (g.tells new) result
   pub opened : IfOk result (λ one. one.taken.opened.now ≡ t.opened.now)
+  pub compared : IfOk result (λ one. one.taken.comparison ≡ t.comparison)
   pub version : IfOk result (λ one. version_in one.taken ≡ given.0.next)
   pub edits : IfOk result (λ one. one.taken.edits.items ≡ t.edits.items ++ given.0.edit)
 
@@ -37,26 +35,15 @@ abbrev pub IsWrittenTaking : {F : Type 0} → Ghosts F → Given → F → F →
 IsWrittenTaking g given old new t result =
     IsNothingWritten g old new result ⊎ IsWritten g given old new t result
 
--- the edited version is lawful with these tables
-abbrev pub IsTestedNext : {F : Type 0} → Ghosts F → KeyOrder → Given → F → Type 0
-IsTestedNext g cmp given old = (files : Files) → Tells (g.tells old) files →
-    (t : VersionTotals) × IsTested (IsFileIn (with_tables given.1 files)) cmp given.0.next (Ok t)
-
-abbrev pub IsTestedTaking : {F : Type 0} → Ghosts F → KeyOrder → Given → F → F → TakenOutcomes →
-    Result TakenOutcome Fault → Type 0
-IsTestedTaking g cmp given old new t result = IsNothingWritten g old new result
-    ⊎ (IsTestedNext g cmp given old × IsWritten g given old new t result)
-
 -- its outputs passed their test
 abbrev pub AreTestedOutputs : {F : Type 0} → Ghosts F → KeyOrder → Comparison → Given → F → Type 0
 AreTestedOutputs g cmp comparison given old = (files : Files) → Tells (g.tells old) files →
     IsGivenTested cmp files given comparison (Ok tt)
 
-abbrev pub IsTakingOf : {F : Type 0} → Ghosts F → KeyOrder → Comparison → Given → F → F →
-    TakenOutcomes → Result TakenOutcome Fault → Type 0
-IsTakingOf g cmp comparison given old new t result = IsNothingWritten g old new result
-    ⊎ (AreTestedOutputs g cmp comparison given old × IsTestedNext g cmp given old
-    × IsWritten g given old new t result)
+abbrev pub IsTakingOf : {F : Type 0} → Ghosts F → KeyOrder → Given → F → F → TakenOutcomes →
+    Result TakenOutcome Fault → Type 0
+IsTakingOf g cmp given old new t result = IsNothingWritten g old new result
+    ⊎ (AreTestedOutputs g cmp t.comparison given old × IsWritten g given old new t result)
 
 -- a manifest that has the edit as which these bytes read
 pub record IsJoinedManifest (name : List ℕ) (cmp : KeyOrder) (v : State) (edits m : List ℕ)

@@ -38,7 +38,8 @@ pub(crate) struct AdoptedEdit {
 /// - Lawless: a file's number isn't below next file, or the files of a level from 1 on don't rise;
 /// - Apply: the edit isn't one of a compaction of closed inputs of the version;
 /// - Numbers: next file is 2^64 - 1;
-/// - Apply: the edit doesn't apply.
+/// - Apply: the edit doesn't apply;
+/// - Lawless: the files of a level of the edited version don't rise.
 ///
 /// The only other fault is Memory.
 pub(crate) fn adopted_edit<C: Comparator>(
@@ -56,7 +57,9 @@ pub(crate) fn adopted_edit<C: Comparator>(
 {
     test_files::<C>(alloc, version)?;
     let picked = fitting_inputs::<C>(alloc, version, &edit)?;
-    adopt::<C>(alloc, version, picked, edit)
+    let adopted = adopt::<C>(alloc, version, picked, edit)?;
+    test_files::<C>(alloc, &adopted.next)?;
+    Ok(adopted)
 }
 
 /// Adopts an edit that fits. Numbers if next file is 2^64 - 1; Apply if the edit doesn't apply. The

@@ -1,6 +1,6 @@
 //! Takes in an outcome, to install it together with others.
 
-ghost use Rattle.std.specs.Prelude.{◌≡◌, ◌++◌, [], true, Ok, IfErr, IfOk, nat_lt};
+ghost use Rattle.std.specs.Prelude.{◌≡◌, ◌++◌, true, Ok, IfErr, IfOk, nat_lt};
 ghost use Rattle.std.specs.List.{list_all};
 ghost use Rattle.edit.specs.Answers.{fault};
 ghost use Rattle.edit.specs.fault.FaultName.TheVariants.{Memory};
@@ -8,53 +8,26 @@ ghost use Rattle.folder.specs.Calls.{Files, Tells};
 ghost use Rattle.folder.specs.OpenAnswer.{FolderAnswers};
 ghost use Rattle.folder.specs.Orders.{order_cmp};
 ghost use Rattle.folder.specs.Reports.{OnlyReads, ReportsDevice};
-ghost use Rattle.adoption.specs.Adoption.{IsEditedInstalled, IsGivenInstalled, adopted_step};
+ghost use Rattle.adoption.specs.Adoption.{IsGivenTaken, adopted_step};
 ghost use Rattle.adoption.specs.AdoptedOutcome.{IsAdopted};
 ghost use Rattle.adoption.specs.AdoptionIn.{given_in};
 ghost use Rattle.adoption.specs.BothFolders.{AnswersFrom, HasEitherFailed, ReportsEither};
 ghost use Rattle.adoption.specs.TakenIn.{IsTakingEnd, step_taken, version_in};
 ghost use Rattle.adoption.specs.TakenOutcomes.{IsGivenNext, IsTakenFrom, has_opened_inputs};
-ghost use Rattle.adoption.specs.TakingSteps.{IsTakingOf, IsTestedTaking, IsWrittenTaking};
+ghost use Rattle.adoption.specs.TakingSteps.{IsTakingOf, IsWrittenTaking};
 
-use crate::comparison::Comparison;
-use crate::edited_test::test_edited;
 use crate::given_outcome::{GivenOutcome, given_outcome};
 use crate::kept_comparison::test_outputs;
-use crate::taken_outcomes::{TakenOutcome, TakenOutcomes, TakingEnd};
+use crate::taken_outcomes::{TakenOutcome, TakenOutcomes, version_left};
 use board::Watch;
 use checks::{SharedComparator, Workers};
-use edit::{Comparator, Fault, FaultName, Version};
+use edit::{Comparator, Fault, FaultName};
 use folder::{Bytewise, Folder, Order, Shortlex};
 use install::write_group;
 use pick::InputFile;
 use std::alloc::Global;
 use std::thread::Threads;
-use store::{SyncedVersion, manifest_of, outcome_step};
-
-impl<'o> TakenOutcomes<'o> {
-    /// No outcome yet, for what a folder was `opened` as.
-    pub fn none(alloc: Global, opened: &'o SyncedVersion) -> TakenOutcomes<'o>
-        ensures opened { result.opened.now ≡ opened.now }
-        ensures version { version_in result ≡ opened.now.version }
-        ensures edits { result.edits.items ≡ [] }
-    {
-        TakenOutcomes {
-            opened,
-            next: None,
-            edits: Vec::new(alloc),
-        }
-    }
-}
-
-/// The version that outcomes leave: at first the one that was opened.
-fn version_left<'t, 'o>(taken: &'t TakenOutcomes<'o>) -> &'t Version
-    ensures { result.now ≡ version_in taken.now }
-{
-    match &taken.next {
-        Some(version) => version,
-        None => &taken.opened.version,
-    }
-}
+use store::{manifest_of, outcome_step};
 
 /// Takes in the outcome that `source` holds, after those that were `taken`: tests it against the
 /// version that they leave, and writes its tables. Nothing is installed yet: [`install_taken`] does
@@ -84,6 +57,7 @@ fn version_left<'t, 'o>(taken: &'t TakenOutcomes<'o>) -> &'t Version
 ///   - its last sequence isn't above the version's;
 ///   - it names no comparator;
 /// - Numbers: next file is 2^64 - 1;
+/// - Lawless: the files of a level of the edited version don't rise;
 /// - Missing: at the first output that is missing;
 /// - Apply: an input isn't a file of the version that was opened, but an output of an outcome
 ///   before;
@@ -91,48 +65,42 @@ fn version_left<'t, 'o>(taken: &'t TakenOutcomes<'o>) -> &'t Version
 /// - Bounds: an output isn't as EDIT states it;
 /// - if outputs are compared, of the inputs' tables: Missing at the first missing one; the first
 ///   invalid one; Bounds; Options, if there are more than 256. Then Snapshot or SnapshotList of the
-///   snapshots. Then Lawless, if the outputs don't hold just what a compaction of the inputs keeps;
-/// - of the edited version: Missing at the first missing table, by level and in version order; the
-///   first invalid one; Lawless, if it isn't lawful.
+///   snapshots. Then Lawless, if the outputs don't hold just what a compaction of the inputs keeps.
 ///
 /// If the device fails a call on one of the folders, the answer is Device and no further call is
 /// made. If memory runs out, it is Memory. Whatever the answer, the folder reads as what was
 /// opened. After a refusal there is nothing to install any more, and what was written are tables
 /// that no version names.
 ///
-/// The work is told to the gate of `workers`, which is `&Open` if nobody watches. The test of the
-/// edited version holds at most `memory` bytes of tables, as `checks::test_version` does.
+/// If outputs are compared, [`begin_taking`] has tested the version that was opened, and no other
+/// table is read here: the edited version is lawful then. Otherwise [`install_taken`] tests the last
+/// one. The work is told to the gate of `workers`, which is `&Open` if nobody watches.
 ///
+/// [`begin_taking`]: crate::begin_taking
 /// [`install_taken`]: crate::install_taken
-pub fn take_outcome<'o, F: Folder + Drop, G: Folder, W: Watch + Sync, R: Threads + Sync>(
+pub fn take_outcome<'o, F: Folder, G: Folder, W: Watch + Sync, R: Threads + Sync>(
     workers: &Workers<'_, R, W>,
-    folder: F,
+    folder: &mut F,
     source: &mut G,
     taken: TakenOutcomes<'o>,
-    comparison: Comparison<'_>,
-    memory: u64,
-) -> TakingEnd<'o, F>
+) -> Result<TakenOutcome<'o>, Fault>
     // If both folders tell files: the step of the outcome, or its first refusal.
-    ensures answer { (files given : Files) → Tells (F.tells folder) files →
+    ensures answer { (files given : Files) → Tells (F.tells folder.old) files →
         Tells (G.tells source.old) given →
-        AnswersFrom step_taken (HasEitherFailed F.Folder G.Folder folder result.folder source.old
-        source.new) result.answer (IsTakenFrom (order_cmp taken.entry.opened.now.order) files given
-        taken.entry.opened.now.version (version_in taken.entry) comparison.entry) }
+        AnswersFrom step_taken (HasEitherFailed F.Folder G.Folder folder.old folder.new source.old
+        source.new) result (IsTakenFrom (order_cmp taken.entry.opened.now.order) files given
+        taken.entry.opened.now.version (version_in taken.entry) taken.entry.comparison) }
     // If outcomes were taken in from a folder on, this one was after them; or it was refused, and
     // the folder stands for what was opened.
     ensures taken { (first : F) → IsTakingEnd F.Folder (order_cmp taken.entry.opened.now.order)
-        comparison.entry first folder result.folder taken.entry result.answer }
-    ensures device { ReportsEither F.Folder G.Folder folder result.folder source.old
-        source.new result.answer }
+        first folder.old folder.new taken.entry result }
+    ensures device { ReportsEither F.Folder G.Folder folder.old folder.new source.old source.new
+        result }
     ensures reads { OnlyReads G.Folder source.old source.new }
 {
     match taken.opened.order {
-        Order::Bytewise => take_from::<Bytewise, F, G, W, R>(
-            workers, folder, source, taken, comparison, memory,
-        ),
-        Order::Shortlex => take_from::<Shortlex, F, G, W, R>(
-            workers, folder, source, taken, comparison, memory,
-        ),
+        Order::Bytewise => take_from::<Bytewise, F, G, W, R>(workers, folder, source, taken),
+        Order::Shortlex => take_from::<Shortlex, F, G, W, R>(workers, folder, source, taken),
     }
 }
 
@@ -140,36 +108,30 @@ pub fn take_outcome<'o, F: Folder + Drop, G: Folder, W: Watch + Sync, R: Threads
 fn take_from<
     'o,
     C: SharedComparator + 'static,
-    F: Folder + Drop,
+    F: Folder,
     G: Folder,
     W: Watch + Sync,
     R: Threads + Sync,
 >(
     workers: &Workers<'_, R, W>,
-    folder: F,
+    folder: &mut F,
     source: &mut G,
     taken: TakenOutcomes<'o>,
-    comparison: Comparison<'_>,
-    memory: u64,
-) -> TakingEnd<'o, F>
-    ensures answer { (files given : Files) → Tells (F.tells folder) files →
+) -> Result<TakenOutcome<'o>, Fault>
+    ensures answer { (files given : Files) → Tells (F.tells folder.old) files →
         Tells (G.tells source.old) given →
-        AnswersFrom step_taken (HasEitherFailed F.Folder G.Folder folder result.folder source.old
-        source.new) result.answer (IsTakenFrom C.cmp files given taken.entry.opened.now.version
-        (version_in taken.entry) comparison.entry) }
-    ensures taken { (first : F) → IsTakingEnd F.Folder C.cmp comparison.entry first folder
-        result.folder taken.entry result.answer }
-    ensures device { ReportsEither F.Folder G.Folder folder result.folder source.old
-        source.new result.answer }
+        AnswersFrom step_taken (HasEitherFailed F.Folder G.Folder folder.old folder.new source.old
+        source.new) result (IsTakenFrom C.cmp files given
+        taken.entry.opened.now.version (version_in taken.entry) taken.entry.comparison) }
+    ensures taken { (first : F) → IsTakingEnd F.Folder C.cmp first folder.old folder.new
+        taken.entry result }
+    ensures device { ReportsEither F.Folder G.Folder folder.old folder.new source.old source.new
+        result }
     ensures reads { OnlyReads G.Folder source.old source.new }
 {
-    let alloc = workers.alloc();
-    match outcome_after::<C, G>(alloc, source, &taken) {
-        Ok(given) => take_given::<C, F, W, R>(workers, folder, taken, given, comparison, memory),
-        Err(fault) => TakingEnd {
-            folder,
-            answer: Err(fault),
-        },
+    match outcome_after::<C, G>(workers.alloc(), source, &taken) {
+        Ok(given) => take_given::<C, F, W, R>(workers, folder, taken, given),
+        Err(fault) => Err(fault),
     }
 }
 
@@ -204,74 +166,24 @@ fn are_below(files: &[InputFile], number: u64) -> bool
     files.iter().all(|file| file.meta.number < number)
 }
 
-/// Tests an outcome that was adopted, and writes its tables.
-fn take_given<
-    'o,
-    C: SharedComparator + 'static,
-    F: Folder + Drop,
-    W: Watch + Sync,
-    R: Threads + Sync,
->(
+/// Tests the outputs of an outcome that was adopted, and writes its tables.
+fn take_given<'o, C: SharedComparator + 'static, F: Folder, W: Watch + Sync, R: Threads + Sync>(
     workers: &Workers<'_, R, W>,
-    folder: F,
+    folder: &mut F,
     taken: TakenOutcomes<'o>,
     given: GivenOutcome,
-    comparison: Comparison<'_>,
-    memory: u64,
-) -> TakingEnd<'o, F>
+) -> Result<TakenOutcome<'o>, Fault>
     requires { IsAdopted C.cmp (version_in taken) (given_in given) }
-    ensures answer { (files : Files) → Tells (F.tells folder) files →
-        FolderAnswers step_taken (F.failed folder) (F.failed result.folder) result.answer
-        (IsGivenInstalled C.cmp files (version_in taken.entry) (given_in given) comparison.entry) }
-    ensures taken { IsTakingOf F.Folder C.cmp comparison.entry (given_in given) folder
-        result.folder taken.entry result.answer }
-    ensures device { ReportsDevice F.Folder folder result.folder result.answer }
+    ensures answer { (files : Files) → Tells (F.tells folder.old) files →
+        FolderAnswers step_taken (F.failed folder.old) (F.failed folder.new) result
+        (IsGivenTaken C.cmp files (version_in taken.entry) (given_in given)
+        taken.entry.comparison) }
+    ensures taken { IsTakingOf F.Folder C.cmp (given_in given) folder.old folder.new taken.entry
+        result }
+    ensures device { ReportsDevice F.Folder folder.old folder.new result }
 {
-    let mut folder = folder;
-    match test_outputs::<C, F, W, R>(workers, &mut folder, &given, comparison) {
-        Ok(()) => take_tested::<C, F, W, R>(workers, folder, taken, given, memory),
-        Err(fault) => TakingEnd {
-            folder,
-            answer: Err(fault),
-        },
-    }
-}
-
-/// Tests the edited version, and writes the tables of an outcome whose outputs were tested.
-fn take_tested<
-    'o,
-    C: SharedComparator + 'static,
-    F: Folder + Drop,
-    W: Watch + Sync,
-    R: Threads + Sync,
->(
-    workers: &Workers<'_, R, W>,
-    folder: F,
-    taken: TakenOutcomes<'o>,
-    given: GivenOutcome,
-    memory: u64,
-) -> TakingEnd<'o, F>
-    ensures answer { (files : Files) → Tells (F.tells folder) files →
-        FolderAnswers step_taken (F.failed folder) (F.failed result.folder) result.answer
-        (IsEditedInstalled C.cmp files (version_in taken.entry) (given_in given)) }
-    ensures taken { IsTestedTaking F.Folder C.cmp (given_in given) folder result.folder taken.entry
-        result.answer }
-    ensures device { ReportsDevice F.Folder folder result.folder result.answer }
-{
-    let tables = given.outcome.tables.as_slice();
-    let end = test_edited::<C, F, W, R>(workers, folder, &given.next, tables, memory);
-    match end.answer {
-        Ok(_) => {
-            let mut folder = end.folder;
-            let (rt, alloc) = (workers.threads(), workers.alloc());
-            let answer = write_taken::<F, R>(rt, alloc, &mut folder, taken, given);
-            TakingEnd { folder, answer }
-        }
-        Err(fault) => TakingEnd {
-            folder: end.folder,
-            answer: Err(fault),
-        },
-    }
+    test_outputs::<C, F, W, R>(workers, folder, &given, taken.comparison)?;
+    write_taken::<F, R>(workers.threads(), workers.alloc(), folder, taken, given)
 }
 
 /// Writes the tables of an outcome that was tested.
@@ -294,6 +206,7 @@ fn write_taken<'o, F: Folder, R: Threads + Sync>(
     Ok(TakenOutcome {
         taken: TakenOutcomes {
             opened: taken.opened,
+            comparison: taken.comparison,
             next: Some(given.next),
             edits,
         },

@@ -1,6 +1,10 @@
 //! Outcomes that were taken in, one after the other.
 
-use edit::{Fault, Version};
+ghost use Rattle.std.specs.Prelude.{◌≡◌};
+ghost use Rattle.adoption.specs.TakenIn.{version_in};
+
+use crate::comparison::Comparison;
+use edit::Version;
 use store::{CompactionStep, SyncedVersion};
 
 /// Outcomes that were taken in, one after the other. Each was tested against the version that those
@@ -9,6 +13,8 @@ use store::{CompactionStep, SyncedVersion};
 pub struct TakenOutcomes<'o> {
     /// What the folder was opened as.
     pub opened: &'o SyncedVersion,
+    /// Whether outputs are compared, and with what.
+    pub comparison: Comparison<'o>,
     /// The version that they leave. None before the first one.
     pub next: Option<Version>,
     /// The bytes of their edits, one after the other.
@@ -23,10 +29,12 @@ pub struct TakenOutcome<'o> {
     pub step: CompactionStep,
 }
 
-/// The folder in which tables of an outcome were to be written, and the answer.
-#[derive(Drop)]
-pub struct TakingEnd<'o, F> {
-    pub folder: F,
-    /// The outcomes with this one, or the refusal. If it is refused, nothing can be installed.
-    pub answer: Result<TakenOutcome<'o>, Fault>,
+/// The version that outcomes leave: at first the one that was opened.
+pub(crate) fn version_left<'t, 'o>(taken: &'t TakenOutcomes<'o>) -> &'t Version
+    ensures { result.now ≡ version_in taken.now }
+{
+    match &taken.next {
+        Some(version) => version,
+        None => &taken.opened.version,
+    }
 }

@@ -4,7 +4,7 @@
 use crate::compaction_crash_tests::{FILES, Files, MEMORY, is_named};
 use crate::silent_rows::{Act, ROWS, Row};
 use crate::silent_shelf::SilentShelf;
-use adoption::{Comparison, TakenOutcome, TakenOutcomes, TakingEnd, install_taken, take_outcome};
+use adoption::{Comparison, begin_taking, install_taken, take_outcome};
 use coding::{Fault, FaultName};
 use edit::Version;
 use folder::{FolderFault, Opened, Readings, open};
@@ -234,25 +234,23 @@ fn install_from<'a, R: Threads + Sync>(
             };
         }
     };
-    let workers = checkers(rt, alloc, &Open);
-    let comparison = Comparison::With(Snapshots::Listed(&[]));
-    let none = TakenOutcomes::none(alloc, &opened);
-    let TakingEnd { folder, answer } = take_outcome(
-        &workers, folder, source, none, comparison, MEMORY,
-    );
-    let mut folder = folder;
-    let answer = install_one(alloc, &mut folder, answer);
+    let answer = install_one(rt, alloc, &mut folder, source, &opened);
     End { folder, answer }
 }
 
-/// Installs an outcome that was taken in.
-fn install_one(
+/// Takes in an outcome and installs it.
+fn install_one<R: Threads + Sync>(
+    rt: &R,
     alloc: Global,
     folder: &mut SilentShelf<'_>,
-    taken: Result<TakenOutcome<'_>, Fault>,
+    source: &mut SilentShelf<'_>,
+    opened: &SyncedVersion,
 ) -> Result<(), Fault> {
-    let one = taken?;
-    install_taken(alloc, folder, &one.taken)?;
+    let workers = checkers(rt, alloc, &Open);
+    let comparison = Comparison::With(Snapshots::Listed(&[]));
+    let none = begin_taking(&workers, folder, opened, comparison, MEMORY)?;
+    let one = take_outcome(&workers, folder, source, none)?;
+    install_taken(&workers, folder, &one.taken, MEMORY)?;
     Ok(())
 }
 

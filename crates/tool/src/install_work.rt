@@ -5,7 +5,9 @@ use crate::compaction_notes::{note_of, tell_room};
 use crate::folder_change::begin_change;
 use crate::outcome_refusal::outcome_explained;
 use crate::printed_work::{DoneWork, print_installed, unprinted};
-use adoption::{Comparison, TakenOutcome, TakenOutcomes, TakingEnd, install_taken, take_outcome};
+use adoption::{
+    Comparison, TakenOutcome, TakenOutcomes, begin_taking, install_taken, take_outcome,
+};
 use disk::Disk;
 use folder::Fault;
 use refusals::explained;
@@ -28,10 +30,9 @@ struct InstallTask<'t, 'x, R> {
     opened: &'t SyncedVersion,
 }
 
-/// A folder after outcomes were taken in, one after the other, and what these do together.
+/// Outcomes that were taken in, one after the other, and what they do together.
 #[derive(Drop)]
-struct Gathered<'x, 'o, R> {
-    folder: Disk<'x, R>,
+struct Gathered<'o> {
     /// How many they are.
     done: u64,
     taken: TakenOutcomes<'o>,
@@ -47,7 +48,7 @@ pub fn install_outcomes<'x, R: Host>(
     let (rt, telling) = (session.rt, session.telling);
     let Session {
         begun,
-        disk,
+        mut disk,
         opened,
         ..
     } = match to_install(session) {
@@ -62,9 +63,9 @@ pub fn install_outcomes<'x, R: Host>(
         progress: &progress,
         opened: &opened,
     };
-    let (mut folder, step) = outcomes_installed(&task, disk)?;
+    let step = outcomes_installed(&task, &mut disk)?;
     tell_time(rt, "install", begun);
-    tell_installed(&task, &mut folder, &step)
+    tell_installed(&task, &mut disk, &step)
 }
 
 /// The folder of a session, in which outcomes are to be installed. No table is missing.
@@ -77,63 +78,81 @@ fn to_install<R: Host>(
     begin_change(session)
 }
 
-/// Installs all outcomes in a folder, and answers it and what they do together.
+/// Installs all outcomes in a folder, and answers what they do together.
 fn outcomes_installed<'x, R: Host>(
     task: &InstallTask<'_, 'x, R>,
-    folder: Disk<'x, R>,
-) -> Result<(Disk<'x, R>, CompactionStep), Refusal> {
-    let (rt, path) = (task.rt, task.telling.folder);
-    let mut gathered = Gathered {
-        folder,
-        done: 0,
-        taken: TakenOutcomes::none(rt.alloc(), task.opened),
-        step: no_step(rt.alloc()),
-    };
-    for out in task.line.outs.iter() {
-        gathered = with_outcome(task, gathered, out)?;
+    folder: &mut Disk<'x, R>,
+) -> Result<CompactionStep, Refusal> {
+    let (rt, line) = (task.rt, task.line);
+    let mut gathered = no_outcome(task, folder)?;
+    for out in line.outs.iter() {
+        gathered = with_outcome(task, folder, gathered, out)?;
     }
-    task.progress.erase();
     let Gathered {
-        mut folder,
+        done,
         taken,
         mut step,
-        ..
     } = gathered;
-    let installed = install_taken(rt.alloc(), &mut folder, &taken);
-    step.manifest = installed.map_err(|fault| refused_at(rt, path, &folder, fault))?;
-    Ok((folder, step))
+    let workers = checkers(rt, rt.alloc(), task.progress);
+    let installed = install_taken(&workers, folder, &taken, bytes_of(line.testing.memory));
+    task.progress.erase();
+    match installed {
+        Ok(manifest) => {
+            step.manifest = manifest;
+            Ok(step)
+        }
+        Err(fault) => {
+            let refusal = refused_at(rt, task.telling.folder, folder, fault);
+            let last = done.saturating_sub(1);
+            Err(outcome_explained(rt, task.telling, line, last, task.opened, refusal))
+        }
+    }
 }
 
-/// The same with the outcome of one more folder.
-fn with_outcome<'x, 'o, R: Host>(
-    task: &InstallTask<'_, 'x, R>,
-    before: Gathered<'x, 'o, R>,
-    out: &'x str,
-) -> Result<Gathered<'x, 'o, R>, Refusal> {
+/// No outcome yet. The version is tested, if outputs are to be compared.
+fn no_outcome<'t, 'x, R: Host>(
+    task: &InstallTask<'t, 'x, R>,
+    folder: &mut Disk<'x, R>,
+) -> Result<Gathered<'t>, Refusal>
+where
+    'x: 't,
+{
     let (rt, line) = (task.rt, task.line);
     let comparison = if line.testing.is_skipped {
         Comparison::LeftOut
     } else {
         Comparison::With(line.snapshots)
     };
-    let Gathered {
-        folder,
-        done,
-        taken,
-        step,
-    } = before;
+    let workers = checkers(rt, rt.alloc(), task.progress);
+    let memory = bytes_of(line.testing.memory);
+    match begin_taking(&workers, folder, task.opened, comparison, memory) {
+        Ok(taken) => Ok(Gathered {
+            done: 0,
+            taken,
+            step: no_step(rt.alloc()),
+        }),
+        Err(fault) => {
+            task.progress.erase();
+            let refusal = refused_at(rt, task.telling.folder, folder, fault);
+            Err(explained(rt, task.telling, refusal))
+        }
+    }
+}
+
+/// The same with the outcome of one more folder.
+fn with_outcome<'x, 'o, R: Host>(
+    task: &InstallTask<'_, 'x, R>,
+    folder: &mut Disk<'x, R>,
+    before: Gathered<'o>,
+    out: &'x str,
+) -> Result<Gathered<'o>, Refusal> {
+    let rt = task.rt;
+    let Gathered { done, taken, step } = before;
     let mut source = Disk::new(rt, out);
-    let TakingEnd { folder, answer } = take_outcome(
-        &checkers(rt, rt.alloc(), task.progress),
-        folder,
-        &mut source,
-        taken,
-        comparison,
-        bytes_of(line.testing.memory),
-    );
+    let workers = checkers(rt, rt.alloc(), task.progress);
+    let answer = take_outcome(&workers, folder, &mut source, taken);
     match with_taken(answer, step) {
         Ok((taken, step)) => Ok(Gathered {
-            folder,
             done: done.saturating_add(1),
             taken,
             step,
@@ -148,7 +167,7 @@ fn refused_of_either<'x, R: Host>(
     out: &'x str,
     done: u64,
     source: &Disk<'x, R>,
-    folder: Disk<'x, R>,
+    folder: &Disk<'x, R>,
     fault: Fault,
 ) -> Refusal {
     let (rt, telling) = (task.rt, task.telling);
@@ -156,7 +175,7 @@ fn refused_of_either<'x, R: Host>(
     let refusal = if source.last_failure().is_some() {
         refused_at(rt, out, source, fault)
     } else {
-        refused_at(rt, telling.folder, &folder, fault)
+        refused_at(rt, telling.folder, folder, fault)
     };
     outcome_explained(rt, telling, task.line, done, task.opened, refusal)
 }

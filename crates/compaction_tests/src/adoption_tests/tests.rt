@@ -3,7 +3,7 @@
 use crate::adoption_tests::rows::{FIRST_PART, INSTALLED, OWN, REFUSED_ROWS, Row, SECOND_PART};
 use crate::store_tests::rows::{CURRENT, Files, T_AND_V};
 use crate::store_tests::tests::step_lines;
-use adoption::{TakenOutcome, TakenOutcomes, TakingEnd, install_taken, take_outcome};
+use adoption::{begin_taking, install_taken, take_outcome};
 use coding::{Fault, FaultName};
 use folder::open;
 use shelf::Shelf;
@@ -82,28 +82,24 @@ fn installed<'f, R: Threads + Sync>(
             };
         }
     };
-    let TakingEnd { folder, answer } = take_outcome(
-        &checkers(rt, alloc, &Open),
-        folder,
-        &mut source,
-        TakenOutcomes::none(alloc, &opened),
-        row.comparison,
-        MEMORY,
-    );
-    let mut folder = folder;
-    let answer = named(alloc, &mut folder, answer);
+    let answer = taken_in(rt, alloc, &mut folder, &mut source, &opened, row);
     End { folder, answer }
 }
 
-/// Installs an outcome that was taken in: the step, with the manifest's number.
-fn named(
+/// Takes in the outcome of a row and installs it: the step, with the manifest's number.
+fn taken_in<R: Threads + Sync>(
+    rt: &R,
     alloc: Global,
     folder: &mut Shelf<'_>,
-    taken: Result<TakenOutcome<'_>, Fault>,
+    source: &mut Shelf<'_>,
+    opened: &SyncedVersion,
+    row: &Row,
 ) -> Result<CompactionStep, Fault> {
-    let one = taken?;
+    let workers = checkers(rt, alloc, &Open);
+    let none = begin_taking(&workers, folder, opened, row.comparison, MEMORY)?;
+    let one = take_outcome(&workers, folder, source, none)?;
     let mut step = one.step;
-    step.manifest = install_taken(alloc, folder, &one.taken)?;
+    step.manifest = install_taken(&workers, folder, &one.taken, MEMORY)?;
     Ok(step)
 }
 

@@ -1,10 +1,10 @@
-use Rattle.std.proofs.Common.{◌≡◌, Ok, Err, refl, inl, inr}
-use Rattle.folder.proofs.ReportLemmas.{reports_then}
-use Rattle.store.proofs.Flow.{answers_behind, told_still}
-use Rattle.adoption.specs.Adoption.{IsEditedInstalled, IsGivenInstalled, IsGivenTested}
+use Rattle.std.proofs.Common.{◌≡◌, Ok, Err, refl, inl, arith}
+use Rattle.folder.proofs.OpeningLemmas.{hands_on}
+use Rattle.folder.proofs.ReportLemmas.{reports_handed, reports_then}
+use Rattle.store.proofs.Flow.{answers_behind, no_value}
+use Rattle.adoption.specs.Adoption.{IsGivenTaken, IsGivenTested, adopted_step}
 use Rattle.adoption.specs.AdoptionIn.{given_in}
 use Rattle.adoption.specs.TakenIn.{step_taken, version_in}
-use Rattle.adoption.proofs.AdoptionSteps.{refused_with}
 use Rattle.adoption.proofs.ComparedOutputs.{lengths_read}
 use Rattle.adoption.proofs.TakenSteps.{taking_since}
 use Rattle.adoption.proofs.outcome_taking.take_given.Goals as goal
@@ -12,34 +12,36 @@ use Rattle.adoption.proofs.outcome_taking.take_given.Goals as goal
 pub test_outputs-requires-clause-lengths : goal.test_outputs-requires-clause-lengths
 test_outputs-requires-clause-lengths g c κs within = lengths_read c.args.given.outcome.tables.items c.args.given.outputs.items c.requires.numbers
 
-pub returns-in-Ok-clause-answer : goal.returns-in-Ok-clause-answer
-returns-in-Ok-clause-answer g c files told =
+pub returns-in_err-test_outputs-clause-answer : goal.returns-in_err-test_outputs-clause-answer
+returns-in_err-test_outputs-clause-answer g c files told =
     let cmp = g.C.Comparator.cmp in
     let failed = g.F.Folder.failed in
-    let tells = g.F.Folder.tells in
+    let t = c.args.taken in
     let given = given_in c.args.given in
-    let next = λ (passed : Unit {0}). IsEditedInstalled cmp files (version_in c.args.taken) given in
-    answers_behind step_taken (failed c.args.folder) (failed c.test_outputs.new.folder) (failed c.take_tested.result.folder) c.take_tested.result.answer (IsGivenTested cmp files given c.args.comparison) next next tt
-    c.test_outputs.ensures.device.later c.take_tested.ensures.device.later (c.in-Ok.ensures.answer files told) (λ a h. h)
-    (c.take_tested.ensures.answer files (told_still (tells c.args.folder) (tells c.test_outputs.new.folder) files c.test_outputs.ensures.reads.same told))
+    let e = c.in_err-test_outputs.field-0.0 in
+    hands_on step_taken (failed c.args.folder.now) (failed c.args.folder.now) (failed c.test_outputs.new.folder) c.from_residual.result e (IsGivenTested cmp files given t.comparison) (IsGivenTaken cmp files (version_in t) given t.comparison)
+    c.from_residual.ensures.1 (omega arith) c.test_outputs.ensures.device.later (c.in_err-test_outputs.ensures.answer files told) (λ h. (Err e, (h, refl)))
 
-pub returns-in-Ok-clause-taken : goal.returns-in-Ok-clause-taken
-returns-in-Ok-clause-taken g c =
-    let end = c.take_tested.result in
-    taking_since g.F.Folder g.C.Comparator.cmp c.args.comparison (given_in c.args.given) c.args.folder c.test_outputs.new.folder end.folder c.args.taken end.answer c.test_outputs.ensures.reads c.in-Ok.ensures.answer c.take_tested.ensures.taken
+pub returns-in_err-test_outputs-clause-taken : goal.returns-in_err-test_outputs-clause-taken
+returns-in_err-test_outputs-clause-taken g c =
+    inl (record { calls = c.test_outputs.ensures.reads.calls; same = c.test_outputs.ensures.reads.same; refused = no_value c.from_residual.result (λ f. f ≡ c.in_err-test_outputs.field-0.0) c.from_residual.ensures.1 })
 
-pub returns-in-Ok-clause-device : goal.returns-in-Ok-clause-device
-returns-in-Ok-clause-device g c = reports_then c.in-Ok.is c.test_outputs.ensures.device c.take_tested.ensures.device
+pub returns-in_err-test_outputs-clause-device : goal.returns-in_err-test_outputs-clause-device
+returns-in_err-test_outputs-clause-device g c = reports_handed c.from_residual.result c.in_err-test_outputs.was c.test_outputs.ensures.device c.from_residual.ensures.1
 
 pub returns-clause-answer : goal.returns-clause-answer
 returns-clause-answer g c files told =
     let cmp = g.C.Comparator.cmp in
     let failed = g.F.Folder.failed in
+    let t = c.args.taken in
     let given = given_in c.args.given in
-    let e = c.in-Err.fault in
-    refused_with (failed c.args.folder) (failed c.test_outputs.new.folder) e (IsGivenTested cmp files given c.args.comparison) (IsGivenInstalled cmp files (version_in c.args.taken) given c.args.comparison) (λ h. (Err e, (h, refl)))
-    (c.in-Err.ensures.answer files told)
+    answers_behind step_taken (failed c.args.folder.now) (failed c.test_outputs.new.folder) (failed c.write_taken.new.folder) c.write_taken.result (IsGivenTested cmp files given t.comparison)
+    (λ passed answer. answer ≡ Ok (adopted_step (version_in t) given)) (λ passed answer. answer ≡ Ok (adopted_step (version_in t) given)) tt
+    c.test_outputs.ensures.device.later c.write_taken.ensures.device.later (c.in_ok-test_outputs.ensures.answer files told) (λ a h. h) c.write_taken.ensures.answer
 
 pub returns-clause-taken : goal.returns-clause-taken
 returns-clause-taken g c =
-    inl (record { calls = c.test_outputs.ensures.reads.calls; same = c.test_outputs.ensures.reads.same; refused = tt })
+    taking_since g.F.Folder g.C.Comparator.cmp (given_in c.args.given) c.args.folder.now c.test_outputs.new.folder c.write_taken.new.folder c.args.taken c.write_taken.result c.test_outputs.ensures.reads c.in_ok-test_outputs.ensures.answer c.write_taken.ensures.taken
+
+pub returns-clause-device : goal.returns-clause-device
+returns-clause-device g c = reports_then c.in_ok-test_outputs.was c.test_outputs.ensures.device c.write_taken.ensures.device

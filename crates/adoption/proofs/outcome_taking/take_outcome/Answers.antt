@@ -8,28 +8,23 @@ use Rattle.adoption.proofs.outcome_taking.take_outcome.Goals as goal
 
 pub returns-in-Bytewise-clause-answer : goal.returns-in-Bytewise-clause-answer
 returns-in-Bytewise-clause-answer g c files source told told_source =
-    let end = c.take_from.result in
     let t = c.args.taken in
-    subst (λ (order : Order). AnswersFrom step_taken (HasEitherFailed g.F.Folder g.G.Folder c.args.folder end.folder c.args.source.now c.take_from.new.source) end.answer (IsTakenFrom (order_cmp order) files source t.opened.now.version (version_in t) c.args.comparison))
+    subst (λ (order : Order). AnswersFrom step_taken (HasEitherFailed g.F.Folder g.G.Folder c.args.folder.now c.take_from.new.folder c.args.source.now c.take_from.new.source) c.take_from.result (IsTakenFrom (order_cmp order) files source t.opened.now.version (version_in t) t.comparison))
     (sym c.in-Bytewise.is) (c.take_from.ensures.answer files source told told_source)
 
 pub returns-in-Bytewise-clause-taken : goal.returns-in-Bytewise-clause-taken
 returns-in-Bytewise-clause-taken g c first =
-    let end = c.take_from.result in
-    let t = c.args.taken in
-    subst (λ (order : Order). IsTakingEnd g.F.Folder (order_cmp order) c.args.comparison first c.args.folder end.folder t end.answer)
+    subst (λ (order : Order). IsTakingEnd g.F.Folder (order_cmp order) first c.args.folder.now c.take_from.new.folder c.args.taken c.take_from.result)
     (sym c.in-Bytewise.is) (c.take_from.ensures.taken first)
 
 pub returns-in-Shortlex-clause-answer : goal.returns-in-Shortlex-clause-answer
 returns-in-Shortlex-clause-answer g c files source told told_source =
-    let end = c.take_from-in-Shortlex.result in
     let t = c.args.taken in
-    subst (λ (order : Order). AnswersFrom step_taken (HasEitherFailed g.F.Folder g.G.Folder c.args.folder end.folder c.args.source.now c.take_from-in-Shortlex.new.source) end.answer (IsTakenFrom (order_cmp order) files source t.opened.now.version (version_in t) c.args.comparison))
+    subst (λ (order : Order). AnswersFrom step_taken (HasEitherFailed g.F.Folder g.G.Folder c.args.folder.now c.take_from-in-Shortlex.new.folder c.args.source.now c.take_from-in-Shortlex.new.source) c.take_from-in-Shortlex.result
+    (IsTakenFrom (order_cmp order) files source t.opened.now.version (version_in t) t.comparison))
     (sym c.in-Shortlex.is) (c.take_from-in-Shortlex.ensures.answer files source told told_source)
 
 pub returns-in-Shortlex-clause-taken : goal.returns-in-Shortlex-clause-taken
 returns-in-Shortlex-clause-taken g c first =
-    let end = c.take_from-in-Shortlex.result in
-    let t = c.args.taken in
-    subst (λ (order : Order). IsTakingEnd g.F.Folder (order_cmp order) c.args.comparison first c.args.folder end.folder t end.answer)
+    subst (λ (order : Order). IsTakingEnd g.F.Folder (order_cmp order) first c.args.folder.now c.take_from-in-Shortlex.new.folder c.args.taken c.take_from-in-Shortlex.result)
     (sym c.in-Shortlex.is) (c.take_from-in-Shortlex.ensures.taken first)

@@ -67,6 +67,6 @@ returns-clause-taken g c =
     let f = g.F.Folder in
     let old = c.args.folder.now in
     let new = c.write_group.new.folder in
-    written_done f (given_in c.args.given) old new c.args.taken c.write_group.result c.in_ok-write_group.field-0 _ c.in_ok-write_group.was refl refl
+    written_done f (given_in c.args.given) old new c.args.taken c.write_group.result c.in_ok-write_group.field-0 _ c.in_ok-write_group.was refl refl refl
     (c.in_ok-edits.ensures.ok ∙ ap (λ (b : List ℕ). b ++ c.deref-2.result.now) c.deref.ensures.value ∙ ap (λ (b : List ℕ). c.args.taken.edits.items ++ b) c.deref-2.ensures.value)
     (subst (λ (ts : List (ℕ × Vec ℕ)). MakesCalls (table_calls (tables_in ts ∷ [])) (f.calls old) (f.calls new) (f.tells old) (f.tells new) c.write_group.result) c.deref-3.ensures.value c.write_group.ensures.runs)

@@ -33,7 +33,6 @@ mod level_step;
 mod part_writer;
 mod ready_manifest;
 mod selection;
-mod tested_level;
 mod work_laws;
 
 pub use all_levels::compact_levels;

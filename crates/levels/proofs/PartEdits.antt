@@ -17,6 +17,7 @@ use Rattle.table.specs.Key.{IsInternalKey, internal_key_reading}
 use Rattle.table.specs.TableBytes.{AreBytes}
 use Rattle.table.specs.TableContents.{Contents, DataBlock, blocks_of, contents_of, contents_reading, data_reading, entries_of, index_in}
 use Rattle.table.specs.TestResult.{test_result}
+use Rattle.table.specs.Varint.{length_prefixed, varint}
 use Rattle.table.proofs.CheckedTables.{blocks_by, read_data}
 use Rattle.table.proofs.EntryTests.{all_tests, have_keys, passed}
 use Rattle.table.proofs.Keys.{IsInternalKey-reading}
@@ -27,7 +28,6 @@ use Rattle.edit.specs.Answers.{fault, ◌>>=◌}
 use Rattle.edit.specs.Comparator.{ShortKeys}
 use Rattle.edit.specs.Edit.{Edit, IsEdit, deleted_cmp, edit_bytes, fields_of, settings_of}
 use Rattle.edit.specs.Field.{AddFile, DeleteFile, Field, IsField, SetPointer, spelling}
-use Rattle.edit.specs.Varint.{length_prefixed, varint}
 use Rattle.edit.specs.Version.{State, are_apart, has_number, has_place, is_same_place, place_of}
 use Rattle.edit.specs.declared.meta.DeletedFile.{DeletedFile}
 use Rattle.edit.specs.declared.meta.FileMeta.{FileMeta}

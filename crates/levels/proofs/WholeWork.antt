@@ -22,18 +22,18 @@ use Rattle.reads.specs.Lawful.{IsBelowNextFile}
 use Rattle.folder.specs.Calls.{Call, Done, Step}
 use Rattle.folder.specs.CallSequence.{MakesCalls}
 use Rattle.folder.specs.Levels.{file_numbers}
-use Rattle.folder.specs.Manifest.{order_name}
 use Rattle.folder.specs.Orders.{order_cmp, order_short_keys}
 use Rattle.folder.specs.ReadsAs.{IsOneOf}
 use Rattle.folder.specs.declared.folder.Folder.{Ghosts}
 use Rattle.folder.specs.declared.order.Order.{Order}
 use Rattle.folder.specs.declared.order.Order.TheVariants.{Bytewise, Shortlex}
 use Rattle.install.specs.GroupedInstallation.{tables_of_groups}
-use Rattle.install.specs.Install.{IsEditedBy, manifest_bytes, numbers_of, table_calls}
-use Rattle.install.specs.Naming.{IsNamedEdit}
+use Rattle.install.specs.Install.{IsEditedBy, numbers_of, table_calls}
+use Rattle.install.specs.Installation.{IsInstallation, place_with, tables_link}
+use Rattle.install.specs.Naming.{naming_calls}
 use Rattle.install.specs.ReadsOf.{NamedVersion}
+use Rattle.install.specs.Work.{IsPieceDone, Place, begun}
 use Rattle.install.proofs.Numbers.{in_files}
-use Rattle.install.proofs.TwoPieces.{AreTwoPieces, all_written, some_written}
 use Rattle.keep.proofs.Members.{first_in, from_filter, later_in}
 use Rattle.compact.specs.OneThread.{Answer}
 use Rattle.compact.specs.declared.settings.Settings.{Settings}
@@ -156,13 +156,38 @@ done_runs : {T : Type 0} (calls : List Call) (before after : List Step) (old new
 done_runs calls before after old new (Ok x) k = record { steps = k.steps; made = k.made; appended = k.appended; change = k.change }
 done_runs calls before after old new (Err e) k = record { steps = k.steps; made = k.made; appended = k.appended; change = k.change }
 
-module _ {F : Type 0} (g : Ghosts F) (v : NamedVersion) (groups : List (List (ℕ × List ℕ))) (tables : List (ℕ × List ℕ)) (same : tables_of_groups groups ≡ tables) (old new : F) where
-  abbrev TwoPieces : List ℕ → Result (Unit {0}) Fault → Type 0
-  TwoPieces edit r = AreTwoPieces g (order_name v.order) (order_cmp v.order) v.version (manifest_of v.version) groups tables edit same old new r
+module _ {F : Type 0} (g : Ghosts F) (v : NamedVersion) (groups : List (List (ℕ × List ℕ))) (tables : List (ℕ × List ℕ)) (same : tables_of_groups groups ≡ tables) (made : State)
+    (edit : List ℕ) (makes : IsEditedBy (order_cmp v.order) v.version (manifest_of v.version) tables edit made) (old new : F) where
+  abbrev next : NamedVersion
+  next = record { order = v.order; version = made; manifest = manifest_of v.version }
 
-  stopped : (edit : List ℕ) (r : Result CompactionStep Fault) → OnOk r ⊥ → MakesCalls (table_calls groups) (g.calls old) (g.calls new) (g.tells old) (g.tells new) r → TwoPieces edit (done_of r)
-  stopped edit (Ok x) none runs = absurd none
-  stopped edit (Err e) none runs = some_written g (order_name v.order) (order_cmp v.order) v.version (manifest_of v.version) groups tables edit same old new e (Err e) refl runs
+  abbrev place : Place
+  place = place_with v tables edit next
+
+  written : {T : Type 0} (at : F) (r : Result T Fault) → MakesCalls (table_calls groups) (g.calls old) (g.calls at) (g.tells old) (g.tells at) r → IsPieceDone g (begun old v) (tables_link place groups at) (done_of r)
+  written at r runs = record { goes = (record { order = refl; manifest = refl; makes = makes }, same, refl, refl, refl, refl); runs = done_runs (table_calls groups) (g.calls old) (g.calls at) (g.tells old) (g.tells at) r runs }
+
+  -- some tables were written
+  stopped : {T : Type 0} (r : Result T Fault) → OnOk r ⊥ → MakesCalls (table_calls groups) (g.calls old) (g.calls new) (g.tells old) (g.tells new) r → IsInstallation g place groups old new (done_of r)
+  stopped (Ok x) none runs = absurd none
+  stopped (Err e) none runs = inl (refl, (written new (Err e) runs, refl))
+
+  -- all of them, and then the manifest
+  installed : {T X : Type 0} (at : F) (x : X) (r : Result T Fault) → MakesCalls {E = Fault} (table_calls groups) (g.calls old) (g.calls at) (g.tells old) (g.tells at) (Ok x)
+      → MakesCalls (naming_calls v edit) (g.calls at) (g.calls new) (g.tells at) (g.tells new) r → IsInstallation g place groups old new (done_of r)
+  installed at x r one two = inr (
+    at,
+    (
+      written at (Ok x) one,
+      (
+        record {
+          goes = (makes.edit, makes.read, makes.read, makes.edited, (λ e. absurd (cc e)), refl);
+          runs = done_runs (naming_calls v edit) (g.calls at) (g.calls new) (g.tells at) (g.tells new) r two;
+        },
+        refl,
+      ),
+    ),
+  )
 
 pub whole_is_work : {F : Type 0} (g : Ghosts F) → WholeIsWork g
 whole_is_work g v level s old new result is w some =
@@ -171,23 +196,25 @@ whole_is_work g v level s old new result is w some =
     let are = level_parts cmp u level w.parts w.are_parts in
     let placed : (p : PickedInputs) → Contains w.parts p → ArePlaced u p = λ p at. part_placed cmp (order_total v.order) u level p (part_by cmp (order_total v.order) u level w.parts p are at) in
     let h = are_over g old cmp (order_short_keys v.order) u is s w.parts w.links some placed w.chain in
-    let answers = answers_in w.links in
+    let edits = edits_of (answers_in w.links) in
     let groups = groups_in w.links in
-    let tables = tables_of answers in
-    let last = last_after (manifest_of u) answers in
-    let next : NamedVersion = record { order = v.order; version = after cmp u is last tables (edits_of answers) h.all; manifest = manifest_of u } in
-    let named : (bytes : List ℕ) → IsEdit bytes h.all.edit → IsNamedEdit v tables bytes next =
-    λ bytes read. record { order = refl; manifest = refl; makes = edited_by cmp u is last tables (edits_of answers) h.all bytes read h.free } in
+    let tables = tables_of (answers_in w.links) in
+    let last = last_after (manifest_of u) (answers_in w.links) in
+    let made = after cmp u is last tables edits h.all in
+    let makes = edited_by cmp u is last tables edits h.all in
     elim w.written [
-      | inl t ↦ (edits_of answers, next, stopped g v groups tables h.joined old new (edits_of answers) result t.refused t.runs v next refl refl refl refl (named (edits_of answers) h.all.read))
+      | inl t ↦ (
+        edits,
+        next g v groups tables h.joined made edits (makes edits h.all.read h.free) old new,
+        stopped g v groups tables h.joined made edits (makes edits h.all.read h.free) old new result t.refused t.runs,
+      )
       | inr i ↦ (
           let bytes = edit_bytes i.1.edit in
-          let manifest = manifest_bytes (order_name v.order) cmp u bytes in
-          let alike : h.all.edit ≡ i.1.edit = one_edit (edits_of answers) h.all.edit i.1.edit h.all.read i.1.read in (
+          let alike : h.all.edit ≡ i.1.edit = one_edit edits h.all.edit i.1.edit h.all.read i.1.read in
+          let read : IsEdit bytes h.all.edit = subst (IsEdit bytes) (sym alike) i.1.again in (
             bytes,
-            next,
-            all_written g (order_name v.order) cmp u (manifest_of u) groups tables bytes h.joined manifest old i.1.at new tt (done_of result) refl i.1.written
-                (done_runs _ (g.calls i.1.at) (g.calls new) (g.tells i.1.at) (g.tells new) result i.1.runs) v next refl refl refl refl (named bytes (subst (IsEdit bytes) (sym alike) i.1.again)),
+            next g v groups tables h.joined made bytes (makes bytes read h.free) old new,
+            installed g v groups tables h.joined made bytes (makes bytes read h.free) old new i.1.at tt result i.1.written i.1.runs,
           )
           )
     ]

@@ -222,12 +222,12 @@ module _ (cmp : List ℕ → List ℕ → Ordering) (total : IsTotalOrder cmp) (
     part_there : (p : PickedInputs) → Contains parts p → ArePlaced v p
     part_there p at = part_placed cmp total v level p (part_by cmp total v level parts p are at)
 
-  pub whole_row : (parts : List PickedInputs) (are : IsPartsAnswer cmp v level (Ok parts)) (l : GroupedAnswer) (links : List GroupedAnswer) → IsInternalKey l.picked.pointer.key → ArePartLinks g first [] cmp short_keys v s (manifest_of v) parts (l ∷ links) → WholeRow parts are (l ∷ links)
-  whole_row [] are l links internal chain = absurd chain
-  whole_row (p ∷ parts) are l links internal chain =
+  pub whole_row : (parts : List PickedInputs) (are : IsPartsAnswer cmp v level (Ok parts)) (l : GroupedAnswer) (links : List GroupedAnswer) → ArePartLinks g first [] cmp short_keys v s (manifest_of v) parts (l ∷ links) → WholeRow parts are (l ∷ links)
+  whole_row [] are l links chain = absurd chain
+  whole_row (p ∷ parts) are l links chain =
       let link = chain.0 in
       let key : (q : PickedInputs) → Contains (p ∷ parts) q → IsInternalKey q.pointer.key =
-      λ q at. subst IsInternalKey (ap (λ (x : PickedInputs). x.pointer.key) link.of_part ∙ one_key cmp v level (p ∷ parts) are p q (first_in p parts) at) internal in
+      λ q at. subst IsInternalKey (one_key cmp v level (p ∷ parts) are p q (first_in p parts) at) link.pointer in
       let apart : (q : PickedInputs) → Contains (p ∷ parts) q → StandApart cmp v level q =
       λ q at. stands_apart cmp total v tables lawful (low (p ∷ parts) are) level (p ∷ parts) are q at (key q at) in
       let mine = part_there (p ∷ parts) are p (first_in p parts) in

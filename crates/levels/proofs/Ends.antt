@@ -2,7 +2,6 @@
 use Rattle.std.proofs.Common.{Bool, Err, IfErr, IfOk, IsErrAnd, List, Ok, OnOk, Option, Result, Some, [], ap, codes, inl, inr, length, refl, slice_get, subst, suc, sym, zero, ℕ, ◌+◌, ◌<◌, ◌^◌, ◌∙◌, ◌∷◌, ◌≡◌, ◌⊎◌}
 use Rattle.std.proofs.lemmas.List.{length-map}
 use Rattle.std.specs.Cmp.{IsTotalOrder}
-use Rattle.std.specs.List.{AllByRecursion}
 use Rattle.std.specs.Prelude.{Contains, unwrap_or}
 use Rattle.std.specs.declared.cmp.Ordering.{Ordering}
 use Rattle.table.specs.ReadBackLaw.{ReadBackLaw}
@@ -11,7 +10,6 @@ use Rattle.edit.proofs.Refusals.{unless_from}
 use Rattle.edit.specs.Answers.{UnlessMemory, fault, ◌>>=◌}
 use Rattle.edit.specs.Comparator.{IsExact, ShortKeys}
 use Rattle.edit.specs.Edit.{IsEdit, IsEditRefused, edit_bytes}
-use Rattle.edit.specs.Key.{IsInternalKey}
 use Rattle.edit.specs.Version.{IsState, State}
 use Rattle.edit.specs.fault.Fault.{Fault}
 use Rattle.edit.specs.fault.FaultName.TheVariants.{Changed, Device, Numbers}
@@ -60,11 +58,6 @@ use Rattle.levels.specs.WholeRuns.{ArePartLinks, GroupedAnswer, IsWholeRun, answ
 use Rattle.levels.specs.declared.part_writer.WrittenParts.{WrittenParts}
 use Rattle.levels.specs.declared.selection.Selection.TheVariants.{Parts}
 
--- links, and that the keys of their parts are internal keys
-record ArePart {F : Type 0} (g : Ghosts F) (old : F) (cmp : List ℕ → List ℕ → Ordering) (short_keys : ShortKeys) (v : State) (s : Settings) (parts : List PickedInputs) (links : List GroupedAnswer) : Type 0 where
-  chain : ArePartLinks g old [] cmp short_keys v s (manifest_of v) parts links
-  pointers : AllByRecursion (λ (l : GroupedAnswer). IsInternalKey l.picked.pointer.key) links
-
 stopped_as : {T : Type 0} (before now : ℕ) (r : Result T Fault) → IfErr r (λ e. UnlessMemory e (IsStoppedOrChanged before now e)) → IfErr r (λ e. UnlessMemory e ((e ≡ fault Device) ⊎ (e ≡ fault Changed)))
 stopped_as before now (Ok x) given = tt
 stopped_as before now (Err e) given = unless_from e (IsStoppedOrChanged before now e) ((e ≡ fault Device) ⊎ (e ≡ fault Changed)) (λ h. elim h [
@@ -100,6 +93,10 @@ no_suc : (n : ℕ) → zero ≡ suc n → ⊥
 no_suc n h = cc
 
 -- ---- which calls
+
+-- calls that were all made, whatever the answer is
+pub all_made : {T U : Type 0} {calls : List Call} {before after : List Step} {old new : Told} (x : T) (y : U) → MakesCalls {E = Fault} calls before after old new (Ok x) → MakesCalls {E = Fault} calls before after old new (Ok y)
+all_made x y k = record { steps = k.steps; made = k.made; appended = k.appended; change = k.change }
 
 module _ {F : Type 0} (g : Ghosts F) (name : List ℕ) (cmp : List ℕ → List ℕ → Ordering) (short_keys : ShortKeys) (v : State) (opened level : ℕ) (s : Settings) (old new : F) (result : Result CompactionStep Fault) where
   pub end_runs : IsPartsEnd g name cmp short_keys v opened level s old new result → IsWholeRun g name cmp short_keys v level s old new result
@@ -137,7 +134,10 @@ module _ {F : Type 0} (g : Ghosts F) (name : List ℕ) (cmp : List ℕ → List 
           record {
             edit = i.edit;
             read = subst (λ (b : List ℕ). IsEdit b i.edit) i.written.whole.1.edits i.read;
-            runs = i.installs.runs;
+            again = i.again;
+            at = i.at;
+            written = all_made i.w tt i.written.runs;
+            runs = i.runs;
             changed = i.installs.left;
             step = i.step;
             refused = stopped_as (g.failed old) (g.failed new) result i.installs.refused;
@@ -163,8 +163,8 @@ module _ (cmp : List ℕ → List ℕ → Ordering) (total : IsTotalOrder cmp) (
 
   row_of : {r : Result WrittenParts Fault} {at : F} (parts : List PickedInputs) (are : IsPartsAnswer cmp v level (Ok parts)) (w : ArePartsWritten g cmp short_keys v s parts old at r) (l : GroupedAnswer) (links : List GroupedAnswer) → w.links ≡ l ∷ links → RowOf parts are (l ∷ links)
   row_of parts are w l links is =
-      let same = subst (λ (ls : List GroupedAnswer). ArePart g old cmp short_keys v s parts ls) is (record { chain = w.chain; pointers = w.pointers }) in
-      whole_row cmp total exact short_keys reads_back passes g order old files told v loaded tables reads sound state log previous s level (level_low cmp v level parts are) parts are l links same.pointers.0 same.chain
+      let chain = subst (ArePartLinks g old [] cmp short_keys v s (manifest_of v) parts) is w.chain in
+      whole_row cmp total exact short_keys reads_back passes g order old files told v loaded tables reads sound state log previous s level (level_low cmp v level parts are) parts are l links chain
 
   -- what is known of the links
   record Linked (parts : List PickedInputs) (links : List GroupedAnswer) : Type 0 where

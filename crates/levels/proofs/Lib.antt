@@ -6,6 +6,8 @@ pub mod PartStep
 pub mod PartsBase
 pub mod Rows
 pub mod FewOutputs
+pub mod PartEdits
+pub mod WholeWork
 pub mod TablesStand
 pub mod Chains
 pub mod Ends

@@ -23,7 +23,8 @@ use Rattle.store.specs.FolderRequest.{manifest_of}
 use Rattle.store.specs.OpenedAfter.{IsOpenedAfter}
 use Rattle.store.specs.OrderView.{OrderView, order_view}
 use Rattle.store.specs.Step.{StepView, step_of}
-use Rattle.store.specs.StepLeft.{IsStepLeft}
+use Rattle.store.specs.FoundInputs.{IsStepLeft}
+use Rattle.store.proofs.Compactions.{picked_of}
 use Rattle.store.specs.declared.compaction_step.CompactionStep.{CompactionStep}
 use Rattle.store.specs.declared.synced_version.SyncedVersion.{SyncedVersion}
 use Rattle.levels.specs.LevelLeft.{IsLevelInstalled, IsLevelLeft}
@@ -105,7 +106,7 @@ picked_left by v level s change r (inr i) =
         tables = i.compacted.tables;
         lawful = i.compacted.lawful;
         outputs = i.answer.tables;
-        answered = (i.picked, i.answer, i.compacted.is_picked, i.compacted.answered, refl, refl);
+        answered = (i.picked, i.answer, picked_of by.cmp v.version level i.picked i.compacted.is_chosen, i.compacted.answered, refl, refl);
         edited = i.compacted.edited;
       };
       survives = i.survives;

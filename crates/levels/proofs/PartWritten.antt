@@ -3,6 +3,7 @@ use Rattle.std.proofs.Common.{◌≡◌, ◌⊎◌, ℕ, ◌+◌, ◌-◌, ◌<�
 use Rattle.std.specs.declared.cmp.Ordering.{Ordering}
 use Rattle.std.proofs.lemmas.Bool.Decides.{nat_tests}
 use Rattle.std.proofs.lemmas.List.Elements.{All-nil}
+use Rattle.table.specs.TableBytes.{AreBytes}
 use Rattle.edit.proofs.Refusals.{unless_from}
 use Rattle.edit.specs.Answers.{UnlessMemory, fault}
 use Rattle.edit.specs.fault.Fault.{Fault}
@@ -46,7 +47,7 @@ unnumbered last h = grind (arith, nat_tests, h)
 pub numbered : (last first : ℕ) → first ≡ last + 1 → last + 1 < 2 ^ 64 → nat_lt last (2 ^ 64 - 1) ≡ true
 numbered last first is small = grind (arith, nat_tests, is, small)
 
-module _ {F X : Type 0} (g : Ghosts F) (a : Answer) (before after : WrittenParts) (old new : F) (q : Result X Fault) where
+module _ {F X : Type 0} (g : Ghosts F) (a : Answer) (bytes : AreBytes a.edit) (before after : WrittenParts) (old new : F) (q : Result X Fault) where
   -- the tables could not be written
   pub made_refused : {Y : Type 0} (r : Result Y Fault) (e : Fault) → r ≡ Err e → IsErrAnd q (λ f. f ≡ e) → MakesCalls (table_calls (a.tables ∷ [])) (g.calls old) (g.calls new) (g.tells old) (g.tells new) r
       → IfErr r (λ f. UnlessMemory f (IsStopped (g.failed old) (g.failed new) f)) → IsOutcomeWritten g a before after old new q
@@ -54,6 +55,7 @@ module _ {F X : Type 0} (g : Ghosts F) (a : Answer) (before after : WrittenParts
     runs = handed_calls (table_calls (a.tables ∷ [])) (g.calls old) (g.calls new) (g.tells old) (g.tells new) r q e was is runs;
     refused = handed q is;
     taken = no_ok q e (IsTakenIn before after a) is;
+    bytes = bytes;
   })
     where
       at : UnlessMemory e (IsStopped (g.failed old) (g.failed new) e)
@@ -69,6 +71,7 @@ module _ {F X : Type 0} (g : Ghosts F) (a : Answer) (before after : WrittenParts
     runs = ended_calls (λ f. f ≡ e) (table_calls (a.tables ∷ [])) (g.calls old) (g.calls new) (g.tells old) (g.tells new) y q is (subst (λ (x : Result Y Fault). MakesCalls (table_calls (a.tables ∷ [])) (g.calls old) (g.calls new) (g.tells old) (g.tells new) x) was runs);
     refused = handed q is;
     taken = no_ok q e (IsTakenIn before after a) is;
+    bytes = bytes;
   })
     where
       handed : (p : Result X Fault) → IsErrAnd p (λ f. f ≡ e) → IfErr p (λ f. UnlessMemory f (IsStopped (g.failed old) (g.failed new) f))
@@ -76,14 +79,15 @@ module _ {F X : Type 0} (g : Ghosts F) (a : Answer) (before after : WrittenParts
       handed (Err f) h = subst (λ (d : Fault). UnlessMemory d (IsStopped (g.failed old) (g.failed new) d)) (sym (h ∙ memory)) tt
 
 -- they were written, and the part is taken in
-pub made_done : {F X Y : Type 0} (g : Ghosts F) (a : Answer) (before after : WrittenParts) (old new : F) (r : Result Y Fault) (y : Y) (x : X) → r ≡ Ok y → MakesCalls (table_calls (a.tables ∷ [])) (g.calls old) (g.calls new) (g.tells old) (g.tells new) r → IsTakenIn before after a
+pub made_done : {F X Y : Type 0} (g : Ghosts F) (a : Answer) → AreBytes a.edit → (before after : WrittenParts) (old new : F) (r : Result Y Fault) (y : Y) (x : X) → r ≡ Ok y → MakesCalls (table_calls (a.tables ∷ [])) (g.calls old) (g.calls new) (g.tells old) (g.tells new) r → IsTakenIn before after a
     → IsOutcomeWritten {X = X} g a before after old new (Ok x)
-made_done {Y = Y} g a before after old new r y x was runs taken =
+made_done {Y = Y} g a bytes before after old new r y x was runs taken =
     let k : MakesCalls {E = Fault} (table_calls (a.tables ∷ [])) (g.calls old) (g.calls new) (g.tells old) (g.tells new) (Ok y) = subst (λ (z : Result Y Fault). MakesCalls (table_calls (a.tables ∷ [])) (g.calls old) (g.calls new) (g.tells old) (g.tells new) z) was runs in
     inr (record {
       runs = record { steps = k.steps; made = k.made; appended = k.appended; change = k.change };
       refused = tt;
       taken = taken;
+      bytes = bytes;
     })
 
 -- ---- a part
@@ -142,6 +146,7 @@ module _ {F X : Type 0} (g : Ghosts F) (cmp : List ℕ → List ℕ → Ordering
       };
       refused = stopped_since (g.failed old) (g.failed mid) (g.failed new) q one two made.refused;
       taken = made.taken;
+      bytes = made.bytes;
     };
   })
 

@@ -1,5 +1,5 @@
 -- The end of the compaction of all parts, from its steps.
-use Rattle.std.proofs.Common.{◌≡◌, ◌≢◌, ℕ, ◌<◌, ◌≤◌, ◌^◌, List, [], ◌∷◌, Option, Some, None, is_none, if◌then◌else◌, Bool, true, false, Result, Ok, Err, IfOk, IsErrAnd, refl, sym, ap, subst, ◌∙◌, inl, inr}
+use Rattle.std.proofs.Common.{◌≡◌, ◌≢◌, ℕ, ◌<◌, ◌≤◌, ◌^◌, List, [], ◌∷◌, ◌++◌, Option, Some, None, is_none, if◌then◌else◌, Bool, true, false, Result, Ok, Err, IfOk, IsErrAnd, refl, sym, ap, subst, ◌∙◌, inl, inr}
 use Rattle.std.specs.Option.{option_map_or}
 use Rattle.std.specs.Cmp.{IsTotalOrder}
 use Rattle.std.specs.declared.cmp.Ordering.{Ordering}
@@ -11,6 +11,7 @@ use Rattle.edit.specs.Comparator.{ShortKeys}
 use Rattle.edit.specs.Edit.{IsEdit, IsEditRefused, edit_bytes}
 use Rattle.edit.specs.Tag.{listed_tag}
 use Rattle.edit.specs.Version.{State}
+use Rattle.folder.specs.CallSequence.{MakesCalls}
 use Rattle.folder.specs.declared.folder.Folder.{Ghosts}
 use Rattle.folder.proofs.CountLemmas.{stops_ok, stops_on}
 use Rattle.install.specs.GroupedInstallation.{InstallationView, IsGroupedInstallation, asked_of}
@@ -23,6 +24,8 @@ use Rattle.store.specs.FolderRequest.{manifest_of}
 use Rattle.store.specs.Step.{step_in}
 use Rattle.store.specs.declared.compaction_step.CompactionStep.{CompactionStep}
 use Rattle.store.proofs.PartRefusals.{parts_other}
+use Rattle.store.proofs.RunPart.{handed_calls}
+use Rattle.levels.proofs.Ends.{all_made}
 use Rattle.levels.specs.PartsEnd.{ArePartsWritten, IsManifestReady, IsPartsEnd}
 use Rattle.levels.specs.WholeAnswer.{AreLevelParts, some_parts, whole_step}
 use Rattle.levels.specs.WholeRuns.{answers_in, groups_in}
@@ -123,6 +126,13 @@ module _ {F : Type 0} (g : Ghosts F) (name : List ℕ) (cmp : List ℕ → List 
             groups_installed name cmp v opened (manifest_of v) (groups_in all.links) (edit_bytes ready.edit) m.bytes.items small total (ready.manifest ∙ ap (manifest_bytes name cmp v) ready.bytes) ready.state ready.snapshot
             old at new w q all.runs (λ lt. absurd (at_once lt)) reports calls
 
+        -- the calls that name it
+        named : {X : Type 0} (q : Result X Fault) → IsInstallCalls g (manifest_calls (manifest_of v) m.bytes.items) (current_calls (manifest_of v)) opened at new q
+            → MakesCalls (manifest_calls (manifest_of v) (manifest_bytes name cmp v (edit_bytes ready.edit)) ++ current_calls (manifest_of v)) (g.calls at) (g.calls new) (g.tells at) (g.tells new) q
+        named q calls =
+            subst (λ (b : List ℕ). MakesCalls (manifest_calls (manifest_of v) b ++ current_calls (manifest_of v)) (g.calls at) (g.calls new) (g.tells at) (g.tells new) q)
+            (ready.manifest ∙ ap (manifest_bytes name cmp v) ready.bytes) calls.runs
+
         pub end_refused : {X : Type 0} (q : Result X Fault) (e : Fault) (r : Result CompactionStep Fault) → q ≡ Err e → IsErrAnd r (λ f. f ≡ e) → IsInstallCalls g (manifest_calls (manifest_of v) m.bytes.items) (current_calls (manifest_of v)) opened at new q
             → IsPartsEnd g name cmp short_keys v opened level s old new r
         end_refused q e r is handed calls = inr (inr (inr (record {
@@ -134,6 +144,7 @@ module _ {F : Type 0} (g : Ghosts F) (name : List ℕ) (cmp : List ℕ → List 
           edit = ready.edit;
           read = ready.read;
           again = subst (λ (b : List ℕ). IsEdit b ready.edit) ready.bytes ready.again;
+          runs = handed_calls (manifest_calls (manifest_of v) (manifest_bytes name cmp v (edit_bytes ready.edit)) ++ current_calls (manifest_of v)) (g.calls at) (g.calls new) (g.tells at) (g.tells new) q r e is handed (named q calls);
           installs = handed_installation (asked_of name cmp v opened (manifest_of v) (groups_in all.links) (edit_bytes ready.edit)) old new q r e is handed (installation q calls);
           step = refused_step r e handed;
         })))
@@ -154,6 +165,7 @@ module _ {F : Type 0} (g : Ghosts F) (name : List ℕ) (cmp : List ℕ → List 
           edit = ready.edit;
           read = ready.read;
           again = subst (λ (b : List ℕ). IsEdit b ready.edit) ready.bytes ready.again;
+          runs = all_made x step (subst (λ (z : Result _ Fault). MakesCalls (manifest_calls (manifest_of v) (manifest_bytes name cmp v (edit_bytes ready.edit)) ++ current_calls (manifest_of v)) (g.calls at) (g.calls new) (g.tells at) (g.tells new) z) is (named q calls));
           installs = done_installation (asked_of name cmp v opened (manifest_of v) (groups_in all.links) (edit_bytes ready.edit)) old new q x step is (installation q calls);
           step =
               (let one = outputs ∙ all.whole.1.outputs in

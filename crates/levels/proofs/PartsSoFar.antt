@@ -1,11 +1,8 @@
 -- Parts whose tables were written so far.
 use Rattle.std.proofs.Common.{◌≡◌, ◌⊎◌, ℕ, zero, ◌+◌, ◌<◌, ◌≤◌, List, [], ◌∷◌, ◌++◌, append_assoc, length, map, slice_get, Some, Option, Result, Ok, Err, IfErr, IsErrAnd, OnOk, refl, sym, ap, subst, ◌∙◌, inl, inr, arith}
-use Rattle.std.specs.List.{AllByRecursion}
 use Rattle.std.specs.declared.cmp.Ordering.{Ordering}
 use Rattle.std.proofs.lemmas.List.{append-nil, length-append, map-append}
 use Rattle.std.proofs.lemmas.Grind.{flat_map-append}
-use Rattle.edit.specs.Key.{IsInternalKey}
-use Rattle.edit.proofs.Edits.{AllByRecursion-push}
 use Rattle.edit.proofs.Refusals.{unless_from}
 use Rattle.edit.specs.Answers.{UnlessMemory}
 use Rattle.edit.specs.fault.Fault.{Fault}
@@ -110,10 +107,9 @@ module _ {F : Type 0} (g : Ghosts F) (first : F) (cmp : List ℕ → List ℕ �
             of_part = refl;
             compacted = subst (λ (n : ℕ). IsPickedCompacted (Some (n + 1)) cmp short_keys (g.tells at) v s p d.answer) so_far.whole.last d.compacted;
             together = append-nil d.answer.tables;
+            pointer = d.pointer;
+            bytes = d.made.bytes;
           })
-
-      pointers_more : {X : Type 0} {r : Result X Fault} (d : IsPartDone g cmp short_keys v s p w after at new r) → AllByRecursion (λ (l : GroupedAnswer). IsInternalKey l.picked.pointer.key) (so_far.links ++ link_of d ∷ [])
-      pointers_more d = AllByRecursion-push (λ (l : GroupedAnswer). IsInternalKey l.picked.pointer.key) so_far.links (link_of d) so_far.pointers d.pointer
 
       runs_more : {X : Type 0} (r : Result X Fault) (d : IsPartDone g cmp short_keys v s p w after at new r) → MakesCalls (table_calls (groups_in (so_far.links ++ link_of d ∷ []))) (g.calls first) (g.calls new) (g.tells first) (g.tells new) r
       runs_more r d =
@@ -128,7 +124,6 @@ module _ {F : Type 0} (g : Ghosts F) (first : F) (cmp : List ℕ → List ℕ �
         links = so_far.links ++ link_of d ∷ [];
         count = length-append so_far.links (link_of d ∷ []) ∙ ap (λ (n : ℕ). n + 1) so_far.count;
         chain = chained d;
-        pointers = pointers_more d;
         runs = runs_more (Ok tt) d;
         whole = record {
           outputs = d.made.taken.outputs ∙ ap (λ (o : List (ℕ × ℕ)). o ++ table_sizes d.answer.tables) so_far.whole.outputs
@@ -156,7 +151,6 @@ module _ {F : Type 0} (g : Ghosts F) (first : F) (cmp : List ℕ → List ℕ �
       parts_stopped {X = X} e (Err f) h later (inl refused) = subst (λ (d : Fault). ArePartsWritten g cmp short_keys v s parts first new (Err d)) (sym h) (record {
         links = so_far.links;
         chain = so_far.chain;
-        pointers = so_far.pointers;
         runs = nothing_more new e refused.nothing.calls refused.nothing.same;
         whole = tt;
         why = inr (record {
@@ -174,7 +168,6 @@ module _ {F : Type 0} (g : Ghosts F) (first : F) (cmp : List ℕ → List ℕ �
       parts_stopped {X = X} e (Err f) h later (inr d) = subst (λ (x : Fault). ArePartsWritten g cmp short_keys v s parts first new (Err x)) (sym h) (record {
         links = so_far.links ++ link_of d ∷ [];
         chain = chained d;
-        pointers = pointers_more d;
         runs = let all = runs_more (Err e) d in record { steps = all.steps; made = all.made; appended = all.appended; change = all.change };
         whole = tt;
         why = inl (unless_from e (IsStopped (g.failed at) (g.failed new) e) (IsStopped (g.failed first) (g.failed new) e)
@@ -186,7 +179,6 @@ module _ {F : Type 0} (g : Ghosts F) (first : F) (cmp : List ℕ → List ℕ �
     all_written end = record {
       links = so_far.links;
       chain = so_far.chain;
-      pointers = so_far.pointers;
       runs = record { steps = so_far.runs.steps; made = so_far.runs.made; appended = so_far.runs.appended; change = so_far.runs.change };
       whole = (let count = so_far.count in let within = so_far.within in omega (arith, end, count, within), so_far.whole);
       why = tt;
@@ -199,7 +191,6 @@ module _ {F : Type 0} (g : Ghosts F) (first : F) (cmp : List ℕ → List ℕ �
     links = [];
     count = refl;
     chain = tt;
-    pointers = tt;
     runs = record { steps = []; made = refl; appended = sym (append-nil (g.calls first)); change = λ view tells. (view, refl, tells) };
     whole = record { outputs = outputs; edits = edits; last = last };
     device = record { device = tt; at_once = λ rose. absurd (omega (arith, rose)); later = omega arith };

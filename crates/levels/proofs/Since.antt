@@ -1,5 +1,5 @@
 -- The compaction of a whole level, told from earlier calls on that only read.
-use Rattle.std.proofs.Common.{Err, IfErr, List, Option, Result, [], ap, inl, inr, map, subst, ℕ, ◌++◌, ◌∙◌, ◌∷◌, ◌≡◌}
+use Rattle.std.proofs.Common.{Err, IfErr, List, Ok, Option, Result, [], ap, inl, inr, map, subst, ℕ, ◌++◌, ◌∙◌, ◌∷◌, ◌≡◌}
 use Rattle.std.specs.declared.cmp.Ordering.{Ordering}
 use Rattle.edit.specs.Answers.{IsThen, fault}
 use Rattle.edit.specs.Comparator.{ShortKeys}
@@ -15,7 +15,7 @@ use Rattle.folder.specs.ReadsAs.{ReadsAs}
 use Rattle.folder.specs.declared.folder.Folder.{Ghosts}
 use Rattle.folder.specs.declared.order.Order.{Order}
 use Rattle.install.proofs.Changes.{change_by}
-use Rattle.install.specs.Install.{LoadedVersion, SurvivesCrash, calls_before_rename, install_calls, manifest_bytes, table_calls, version_with}
+use Rattle.install.specs.Install.{LoadedVersion, SurvivesCrash, calls_before_rename, manifest_bytes, table_calls, version_with}
 use Rattle.compact.specs.OneThread.{Answer}
 use Rattle.compact.specs.declared.settings.Settings.{Settings}
 use Rattle.checks.specs.TestedTables.{IsTested}
@@ -51,6 +51,8 @@ module _ {F : Type 0} (g : Ghosts F) (old mid : F) (same : g.calls mid ≡ g.cal
       of_part = h.0.of_part;
       compacted = h.0.compacted;
       together = h.0.together;
+      pointer = h.0.pointer;
+      bytes = h.0.bytes;
     },
     links_since (so_far ++ map Done (table_calls l.groups)) cmp short_keys v s _ parts links h.1,
   )
@@ -76,7 +78,10 @@ module _ {F : Type 0} (g : Ghosts F) (old mid : F) (same : g.calls mid ≡ g.cal
             record {
               edit = i.1.edit;
               read = i.1.read;
-              runs = calls_since (install_calls (manifest_of v) (groups_in w.links) manifest) (g.calls old) (g.calls mid) (g.calls new) (g.tells old) (g.tells mid) (g.tells new) result same tells i.1.runs;
+              again = i.1.again;
+              at = i.1.at;
+              written = calls_since (table_calls (groups_in w.links)) (g.calls old) (g.calls mid) (g.calls i.1.at) (g.tells old) (g.tells mid) (g.tells i.1.at) (Ok tt) same tells i.1.written;
+              runs = i.1.runs;
               changed = subst (λ (b : List Step). IfErr result (λ e. e ≡ fault Changed → g.calls new ≡ b ++ map Done (calls_before_rename (manifest_of v) (groups_in w.links) manifest))) same i.1.changed;
               step = i.1.step;
               refused = i.1.refused;

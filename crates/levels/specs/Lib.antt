@@ -2,6 +2,7 @@
 pub mod WholeAnswer
 pub mod LevelLeft
 pub mod WholeRuns
+pub mod WholeWork
 pub mod LevelMade
 pub mod DescentRuns
 pub mod DescentLeft

@@ -1,8 +1,8 @@
 -- How the compaction of the parts of a level ends, step by step.
-use Rattle.std.specs.List.{AllByRecursion}
 use Rattle.std.specs.Prelude.{Err, IfErr, IfOk, IsErrAnd, List, Ok, OnOk, Result, Some, [], false}
 use Rattle.std.specs.Prelude.{length, map, nat_lt, slice_get, true, ℕ, ◌++◌, ◌+◌, ◌-◌, ◌<◌, ◌^◌}
 use Rattle.std.specs.Prelude.{◌∷◌, ◌≡◌, ◌≤◌, ◌⊎◌}
+use Rattle.table.specs.TableBytes.{AreBytes}
 use Rattle.edit.specs.Answers.{UnlessMemory, fault}
 use Rattle.edit.specs.Comparator.{KeyOrder, ShortKeys}
 use Rattle.edit.specs.Edit.{Edit, IsEdit, IsEditRefused, edit_bytes}
@@ -20,7 +20,7 @@ use Rattle.folder.specs.OpenAnswer.{IsStopped}
 use Rattle.folder.specs.Reports.{ReportsDevice}
 use Rattle.folder.specs.declared.folder.Folder.{Ghosts}
 use Rattle.install.specs.GroupedInstallation.{IsGroupedInstallation, asked_of}
-use Rattle.install.specs.Install.{manifest_bytes, table_calls}
+use Rattle.install.specs.Install.{current_calls, manifest_bytes, manifest_calls, table_calls}
 use Rattle.compact.specs.GroupedAnswer.{table_sizes}
 use Rattle.compact.specs.OneThread.{Answer}
 use Rattle.compact.specs.declared.settings.Settings.{Settings}
@@ -49,13 +49,14 @@ pub record IsTakenIn (before after : WrittenParts) (a : Answer) : Type 0 where
   pub last : after.last ≡ next_last before.last a
 
 -- The tables of a part were written as one group, up to a call that failed. At Ok the part is taken
--- in.
+-- in. Its edit is bytes.
 pub record AreTablesMade {F X : Type 0} (g : Ghosts F) (a : Answer) (before after : WrittenParts)
     (old new : F) (result : Result X Fault) : Type 0 where
   pub runs : MakesCalls (table_calls (a.tables ∷ [])) (g.calls old) (g.calls new) (g.tells old)
       (g.tells new) result
   pub refused : IfErr result (λ e. UnlessMemory e (IsStopped (g.failed old) (g.failed new) e))
   pub taken : OnOk result (IsTakenIn before after a)
+  pub bytes : AreBytes a.edit
 
 -- the outcome of a part was written, or the number after those of its outputs isn't below 2 ^ 64
 abbrev pub IsOutcomeWritten : {F X : Type 0} → Ghosts F → Answer → WrittenParts → WrittenParts →
@@ -142,7 +143,6 @@ pub record ArePartsWritten {F : Type 0} (g : Ghosts F) (cmp : KeyOrder) (short_k
     (result : Result WrittenParts Fault) : Type 0 where
   pub links : List GroupedAnswer
   pub chain : ArePartLinks g old [] cmp short_keys v s (manifest_of v) parts links
-  pub pointers : AllByRecursion (λ (l : GroupedAnswer). IsInternalKey l.picked.pointer.key) links
   pub runs : MakesCalls (table_calls (groups_in links)) (g.calls old) (g.calls new) (g.tells old)
       (g.tells new) result
   pub whole : IfOk result (λ w. (length links ≡ length parts) × IsWhole v (answers_in links) w)
@@ -157,7 +157,6 @@ pub record AreWrittenBefore {F : Type 0} (g : Ghosts F) (first : F) (cmp : KeyOr
   pub links : List GroupedAnswer
   pub count : length links ≡ place
   pub chain : ArePartLinks g first [] cmp short_keys v s (manifest_of v) parts links
-  pub pointers : AllByRecursion (λ (l : GroupedAnswer). IsInternalKey l.picked.pointer.key) links
   pub runs : MakesCalls {T = Unit {0}} {E = Fault} (table_calls (groups_in links)) (g.calls first)
       (g.calls at) (g.tells first) (g.tells at) (Ok tt)
   pub whole : IsWhole v (answers_in links) w
@@ -223,6 +222,8 @@ pub record IsEndInstalled {F : Type 0} (g : Ghosts F) (name : List ℕ) (cmp : K
   pub again : IsEdit (edit_bytes edit) edit
   pub installs : IsGroupedInstallation g (asked_of name cmp v opened (manifest_of v)
       (groups_in written.links) (edit_bytes edit)) old new result
+  pub runs : MakesCalls (manifest_calls (manifest_of v) (manifest_bytes name cmp v (edit_bytes edit))
+      ++ current_calls (manifest_of v)) (g.calls at) (g.calls new) (g.tells at) (g.tells new) result
   pub step : IfOk result (λ step. step_in step ≡ whole_step v (answers_in written.links) edit)
 
 abbrev pub IsPartsEnd : {F : Type 0} → Ghosts F → List ℕ → KeyOrder → ShortKeys → State → ℕ → ℕ →

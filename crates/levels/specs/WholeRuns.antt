@@ -2,9 +2,11 @@
 -- or not.
 use Rattle.std.specs.Prelude.{IfErr, IfOk, List, Ok, OnOk, Result, Some, [], flat_map, length, map}
 use Rattle.std.specs.Prelude.{ℕ, ◌++◌, ◌+◌, ◌∷◌, ◌≡◌, ◌⊎◌}
+use Rattle.table.specs.TableBytes.{AreBytes}
 use Rattle.edit.specs.Answers.{UnlessMemory, fault}
 use Rattle.edit.specs.Comparator.{KeyOrder, ShortKeys}
 use Rattle.edit.specs.Edit.{Edit, IsEdit, edit_bytes}
+use Rattle.edit.specs.Key.{IsInternalKey}
 use Rattle.edit.specs.Version.{State}
 use Rattle.edit.specs.fault.Fault.{Fault}
 use Rattle.edit.specs.fault.FaultName.TheVariants.{Changed, Device}
@@ -13,7 +15,8 @@ use Rattle.folder.specs.CallSequence.{MakesCalls}
 use Rattle.folder.specs.Calls.{Done, Step}
 use Rattle.folder.specs.declared.folder.Folder.{Ghosts}
 use Rattle.install.specs.FolderChange.{FolderChange, change_of}
-use Rattle.install.specs.Install.{calls_before_rename, install_calls, manifest_bytes, table_calls}
+use Rattle.install.specs.Install.{calls_before_rename, current_calls, manifest_bytes}
+use Rattle.install.specs.Install.{manifest_calls, table_calls}
 use Rattle.compact.specs.OneThread.{Answer}
 use Rattle.compact.specs.declared.settings.Settings.{Settings}
 use Rattle.store.specs.Compaction.{IsUnchanged}
@@ -38,7 +41,8 @@ abbrev pub groups_in : List GroupedAnswer → List (List (ℕ × List ℕ))
 groups_in links = flat_map (λ (l : GroupedAnswer). l.groups) links
 
 -- It is one thread's answer for this part, whose outputs have the numbers after this one. Its
--- inputs' tables are those that the folder told when just the calls so far had been made.
+-- inputs' tables are those that the folder told when just the calls so far had been made. The key
+-- that the part sets is an internal key, and the answer's edit is bytes.
 pub record IsPartLink {F : Type 0} (g : Ghosts F) (first : F) (so_far : List Step)
     (cmp : KeyOrder) (short_keys : ShortKeys) (v : State) (s : Settings) (last : ℕ)
     (p : PickedInputs) (l : GroupedAnswer) : Type 0 where
@@ -48,6 +52,8 @@ pub record IsPartLink {F : Type 0} (g : Ghosts F) (first : F) (so_far : List Ste
   pub compacted : IsPickedCompacted (Some (last + 1)) cmp short_keys (g.tells at) v s p
       l.answer
   pub together : flat_map (λ (g : List (ℕ × List ℕ)). g) l.groups ≡ l.answer.tables
+  pub pointer : IsInternalKey p.pointer.key
+  pub bytes : AreBytes l.answer.edit
 
 -- answers for the first of these parts, one after the other, after these calls from the first
 -- folder on
@@ -70,15 +76,18 @@ pub record AreTablesWritten (links : List GroupedAnswer) (change : FolderChange)
 -- All tables were written, and then the manifest that has the edits as one, up to a call that
 -- fails. At Changed all calls before the rename were made, and no others. At Ok the step is that of
 -- the answers. The only faults are Device, Changed and Memory.
-pub record AreWholeInstalled (name : List ℕ) (cmp : KeyOrder) (v : State)
-    (links : List GroupedAnswer) (change : FolderChange) (result : Result CompactionStep Fault)
+pub record AreWholeInstalled {F : Type 0} (g : Ghosts F) (name : List ℕ) (cmp : KeyOrder)
+    (v : State) (links : List GroupedAnswer) (old new : F) (result : Result CompactionStep Fault)
     : Type 0 where
   pub edit : Edit
   pub read : IsEdit (edits_of (answers_in links)) edit
-  pub runs : MakesCalls (install_calls (manifest_of v) (groups_in links)
-      (manifest_bytes name cmp v (edit_bytes edit))) change.before change.after change.old
-      change.new result
-  pub changed : IfErr result (λ e. e ≡ fault Changed → change.after ≡ change.before ++ map Done
+  pub again : IsEdit (edit_bytes edit) edit
+  pub at : F
+  pub written : MakesCalls {T = Unit {0}} {E = Fault} (table_calls (groups_in links)) (g.calls old)
+      (g.calls at) (g.tells old) (g.tells at) (Ok tt)
+  pub runs : MakesCalls (manifest_calls (manifest_of v) (manifest_bytes name cmp v (edit_bytes edit))
+      ++ current_calls (manifest_of v)) (g.calls at) (g.calls new) (g.tells at) (g.tells new) result
+  pub changed : IfErr result (λ e. e ≡ fault Changed → g.calls new ≡ g.calls old ++ map Done
       (calls_before_rename (manifest_of v) (groups_in links)
       (manifest_bytes name cmp v (edit_bytes edit))))
   pub step : IfOk result (λ step. step_in step ≡ whole_step v (answers_in links) edit)
@@ -96,7 +105,7 @@ pub record IsWholeWritten {F : Type 0} (g : Ghosts F) (name : List ℕ) (cmp : K
   pub chain : ArePartLinks g old [] cmp short_keys v s (manifest_of v) parts links
   pub written : AreTablesWritten links (change_of g old new) result
       ⊎ ((length links ≡ length parts)
-      × AreWholeInstalled name cmp v links (change_of g old new) result)
+      × AreWholeInstalled g name cmp v links old new result)
 
 -- no call that writes was made; or these were
 abbrev pub IsWholeRun : {F : Type 0} → Ghosts F → List ℕ → KeyOrder → ShortKeys → State → ℕ →

@@ -92,7 +92,8 @@ pub fn compact_levels<
         return Ok(DescentEnd::AtBottom);
     };
     test_asked(workers, folder, &opened, descent.test)?;
-    descend(workers, folder, opened, bottom, descent, told, u64::MAX)
+    let course = Course { descent, bottom };
+    descend(workers, folder, opened, &course, told, u64::MAX)
 }
 
 /// The bottom of a version; None if no file is above it.
@@ -127,18 +128,24 @@ fn test_asked<F: ReadsTables, W: Watch + Sync, R: Threads + Sync>(
     Ok(())
 }
 
+/// A descent, and the level down to which it goes.
+#[derive(Clone, Copy)]
+struct Course<'s> {
+    descent: &'s Descent<'s>,
+    bottom: u64,
+}
+
 /// Compacts one level after the other of what a folder was `opened` as, with a removal after each,
 /// by at most so many `steps` and one more.
 fn descend<F: ReadsTables + WritesTables, T: CleanWatch, W: Watch + Sync, R: Threads + Sync>(
     workers: &Workers<'_, R, W>,
     folder: &mut F,
     opened: SyncedVersion,
-    bottom: u64,
-    descent: &Descent<'_>,
+    course: &Course<'_>,
     told: &mut T,
     steps: u64,
 ) -> Result<DescentEnd, Fault>
-    requires low { bottom ≤ LAST_LEVEL }
+    requires low { course.now.bottom ≤ LAST_LEVEL }
     // If the folder tells files that read as this version, lawful with its tables, CURRENT is the
     // one that was opened, and there are enough steps.
     ensures left { (files : Files) (loaded : List (ℕ × List ℕ)) (tables : List NumberedContents) →
@@ -147,20 +154,22 @@ fn descend<F: ReadsTables + WritesTables, T: CleanWatch, W: Watch + Sync, R: Thr
         ReadsAs (order_cmp opened.order) opened.order opened.version loaded files →
         IsLawfulTables (order_cmp opened.order) opened.version loaded (Ok tables) →
         2 ^ 64 ≤ manifest_of opened.version + steps + 1 →
-        IsDescended (way_by descent.now.selection opened.order descent.now.settings bottom)
+        IsDescended (way_by course.now.descent.now.selection opened.order
+        course.now.descent.now.settings course.now.bottom)
         (folder_version opened.version opened.manifest loaded) tables
         (call_of F.Folder folder.old folder.new) result }
     ensures runs { IsDescentRun F.Folder
         (teller_by T.InstallWatch.tells T.lists T.RemovalWatch.tells T.ends)
-        (way_by descent.now.selection opened.order descent.now.settings bottom) opened.version
-        (at_by folder.old told.old) (at_by folder.new told.new) result }
+        (way_by course.now.descent.now.selection opened.order course.now.descent.now.settings
+        course.now.bottom) opened.version (at_by folder.old told.old) (at_by folder.new told.new)
+        result }
     ensures device { ReportsDevice F.Folder folder.old folder.new result }
 {
     let alloc = workers.alloc();
-    let Some(level) = next_level(alloc, &opened.version, bottom)? else {
+    let Some(level) = next_level(alloc, &opened.version, course.bottom)? else {
         return Ok(DescentEnd::AtBottom);
     };
-    let Some(next) = take_level(workers, folder, &opened, level, descent, told)? else {
+    let Some(next) = take_level(workers, folder, &opened, level, course.descent, told)? else {
         return Ok(DescentEnd::Stopped);
     };
     let Some(cleaned) = clean(alloc, folder, next, told)? else {
@@ -169,5 +178,5 @@ fn descend<F: ReadsTables + WritesTables, T: CleanWatch, W: Watch + Sync, R: Thr
     if steps == 0 {
         return Err(Fault::of(FaultName::Numbers));
     }
-    descend(workers, folder, cleaned, bottom, descent, told, steps - 1)
+    descend(workers, folder, cleaned, course, told, steps - 1)
 }

@@ -1,33 +1,37 @@
 //! The compaction of a whole level.
 
-ghost use Rattle.std.specs.Prelude.{◌≡◌, ◌<◌, ◌^◌, length, codes, unwrap_or, Some, Ok};
+ghost use Rattle.std.specs.Prelude.{◌≡◌, ◌<◌, ◌^◌, ℕ, List, length, codes, unwrap_or, Some, Ok};
+ghost use Rattle.checks.specs.LawfulTables.{IsLawfulTables};
 ghost use Rattle.folder.specs.Calls.{Files, Tells};
 ghost use Rattle.folder.specs.Manifest.{order_name};
 ghost use Rattle.folder.specs.Names.{current_text};
 ghost use Rattle.folder.specs.OpenAnswer.{FolderAnswers, IfCurrent, IsOkOnlyIfCurrent, IsOpened};
 ghost use Rattle.folder.specs.Orders.{order_cmp, order_short_keys};
-ghost use Rattle.folder.specs.ReadsAs.{IsFileIn};
+ghost use Rattle.folder.specs.ReadsAs.{IsFileIn, ReadsAs};
 ghost use Rattle.folder.specs.Reports.{ReportsDevice};
 ghost use Rattle.folder.specs.declared.order.Order.{Order};
 ghost use Rattle.install.specs.FolderChange.{change_of};
+ghost use Rattle.install.specs.Install.{version_with};
+ghost use Rattle.keep.specs.Tables.{NumberedContents};
 ghost use Rattle.store.specs.OrderView.{order_by, order_view};
 ghost use Rattle.store.specs.Step.{step_in};
 ghost use Rattle.levels.specs.PartsEnd.{IsPartsEnd};
 ghost use Rattle.levels.specs.WholeAnswer.{IsWholeCompacted};
-ghost use Rattle.levels.specs.LevelLeft.{IsWholeLeft};
+ghost use Rattle.levels.specs.LevelLeft.{IsLevelLeft, IsWholeLeft};
 ghost use Rattle.levels.specs.WholeRuns.{IsWholeRun};
+ghost use Rattle.levels.specs.declared.selection.Selection.TheVariants.{Parts};
 
 use crate::level_parts::level_parts;
 use crate::part_writer::write_parts;
 use crate::ready_manifest::ready_manifest;
 use board::Watch;
-use checks::{SharedComparator, Workers, test_version};
+use checks::{SharedComparator, Workers};
 use compact::passed_law;
 use edit::{Fault, Version};
 use folder::{Bytewise, Order, ReadsTables, Shortlex, WritesTables};
 use install::install_manifest;
 use std::thread::Threads;
-use store::{CompactionStep, Settings, SyncedVersion, manifest_of, version_is_state};
+use store::{CompactionStep, Settings, SyncedVersion, manifest_of, test_opened, version_is_state};
 use table::table_reads_back;
 
 /// Compacts a whole `level` of what a folder was `opened` as: all its parts, and installs them by
@@ -79,19 +83,52 @@ pub fn compact_level<F: ReadsTables + WritesTables, W: Watch + Sync, R: Threads 
     ensures other { IsOkOnlyIfCurrent (F.tells folder.old) opened.now.manifest result }
     ensures device { ReportsDevice F.Folder folder.old folder.new result }
 {
+    test_opened(workers, folder, opened, memory)?;
+    compact_tested(workers, folder, opened, level, settings)
+}
+
+/// Compacts a whole `level` of what a folder was `opened` as, and installs it. It tests nothing of
+/// the version but the tables of inputs: its caller knows that the version is lawful.
+pub(crate) fn compact_tested<F: ReadsTables + WritesTables, W: Watch + Sync, R: Threads + Sync>(
+    workers: &Workers<'_, R, W>,
+    folder: &mut F,
+    opened: &SyncedVersion,
+    level: u64,
+    settings: &Settings<'_>,
+) -> Result<CompactionStep, Fault>
+    ensures answer { (files : Files) (loaded : List (ℕ × List ℕ)) (tables : List NumberedContents) →
+        Tells (F.tells folder.old) files →
+        files (codes "CURRENT") ≡ Some (current_text opened.now.manifest) →
+        ReadsAs (order_cmp opened.now.order) opened.now.order opened.now.version loaded files →
+        IsLawfulTables (order_cmp opened.now.order) opened.now.version loaded (Ok tables) →
+        FolderAnswers step_in (F.failed folder.old) (F.failed folder.new) result
+        (IsWholeCompacted (order_cmp opened.now.order) (order_short_keys opened.now.order) files
+        opened.now.version level settings.now) }
+    ensures left { (files : Files) (loaded : List (ℕ × List ℕ)) (tables : List NumberedContents) →
+        Tells (F.tells folder.old) files →
+        files (codes "CURRENT") ≡ Some (current_text opened.now.manifest) →
+        ReadsAs (order_cmp opened.now.order) opened.now.order opened.now.version loaded files →
+        IsLawfulTables (order_cmp opened.now.order) opened.now.version loaded (Ok tables) →
+        IsLevelLeft Parts (order_view opened.now.order) (version_with opened.now.version loaded) level
+        settings.now (change_of F.Folder folder.old folder.new) result }
+    ensures runs { IsWholeRun F.Folder (order_name opened.now.order) (order_cmp opened.now.order)
+        (order_short_keys opened.now.order) opened.now.version level settings.now folder.old
+        folder.new result }
+    ensures other { IsOkOnlyIfCurrent (F.tells folder.old) opened.now.manifest result }
+    ensures device { ReportsDevice F.Folder folder.old folder.new result }
+{
     match opened.order {
         Order::Bytewise => {
-            compact_version::<Bytewise, F, W, R>(workers, folder, opened, level, settings, memory)
+            compact_lawful::<Bytewise, F, W, R>(workers, folder, opened, level, settings)
         }
         Order::Shortlex => {
-            compact_version::<Shortlex, F, W, R>(workers, folder, opened, level, settings, memory)
+            compact_lawful::<Shortlex, F, W, R>(workers, folder, opened, level, settings)
         }
     }
 }
 
-/// Tests the version that a folder was `opened` as, compacts a whole `level` of it, and installs
-/// the outcome. The comparator's name has fewer than 2^32 bytes.
-fn compact_version<
+/// The same by a comparator, whose name has fewer than 2^32 bytes.
+fn compact_lawful<
     C: SharedComparator + 'static,
     F: ReadsTables + WritesTables,
     W: Watch + Sync,
@@ -102,20 +139,23 @@ fn compact_version<
     opened: &SyncedVersion,
     level: u64,
     settings: &Settings<'_>,
-    memory: u64,
 ) -> Result<CompactionStep, Fault>
     requires { length C.name_bytes < 2 ^ 32 }
-    ensures answer { (files : Files) (order : Order) → Tells (F.tells folder.old) files →
+    ensures answer { (files : Files) (order : Order) (loaded : List (ℕ × List ℕ))
+        (tables : List NumberedContents) → Tells (F.tells folder.old) files →
         files (codes "CURRENT") ≡ Some (current_text opened.now.manifest) →
-        IsOpened (IsFileIn files) (Ok (order, opened.now.version)) →
+        ReadsAs C.cmp order opened.now.version loaded files →
+        IsLawfulTables C.cmp opened.now.version loaded (Ok tables) →
         FolderAnswers step_in (F.failed folder.old) (F.failed folder.new) result
         (IsWholeCompacted C.cmp C.short_keys files opened.now.version level settings.now) }
-    ensures left { (files : Files) (order : Order) → Tells (F.tells folder.old) files →
+    ensures left { (files : Files) (order : Order) (loaded : List (ℕ × List ℕ))
+        (tables : List NumberedContents) → Tells (F.tells folder.old) files →
         files (codes "CURRENT") ≡ Some (current_text opened.now.manifest) →
         order_name order ≡ C.name_bytes →
-        IsOpened (IsFileIn files) (Ok (order, opened.now.version)) →
-        IsWholeLeft (order_by order C.cmp C.short_keys) opened.now.version files level
-        settings.now (change_of F.Folder folder.old folder.new) result }
+        ReadsAs C.cmp order opened.now.version loaded files →
+        IsLawfulTables C.cmp opened.now.version loaded (Ok tables) →
+        IsLevelLeft Parts (order_by order C.cmp C.short_keys) (version_with opened.now.version loaded)
+        level settings.now (change_of F.Folder folder.old folder.new) result }
     ensures runs { IsWholeRun F.Folder C.name_bytes C.cmp C.short_keys opened.now.version level
         settings.now folder.old folder.new result }
     ensures other { IsOkOnlyIfCurrent (F.tells folder.old) opened.now.manifest result }
@@ -125,12 +165,11 @@ fn compact_version<
     passed_law::<C>();
     small_logs(&opened.version);
     version_is_state::<C>(workers.alloc(), &opened.version);
-    test_version::<C, F, W, R>(workers, folder, &opened.version, memory)?;
     compact_parts::<C, F, W, R>(workers, folder, opened, level, settings)
 }
 
 /// Compacts a whole `level` of the version that a folder was `opened` as, and installs the outcome.
-pub(crate) fn compact_parts<
+fn compact_parts<
     C: SharedComparator + 'static,
     F: ReadsTables + WritesTables,
     W: Watch + Sync,
@@ -163,7 +202,7 @@ pub(crate) fn compact_parts<
 }
 
 /// The log numbers of a version are below 2^64. A call does nothing.
-pub(crate) fn small_logs(version: &Version)
+fn small_logs(version: &Version)
     ensures { (unwrap_or version.now.log_number 0 < 2 ^ 64)
         × (unwrap_or version.now.previous_log 0 < 2 ^ 64) }
 {

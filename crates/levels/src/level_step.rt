@@ -17,8 +17,8 @@ ghost use Rattle.levels.specs.LevelLeft.{IsLevelLeft};
 ghost use Rattle.levels.specs.LevelMade.{IsLevelMadeBy, IsLevelStep, at_by, way_by};
 ghost use Rattle.levels.specs.LevelTaken.{IsLevelBegun, IsLevelTaken};
 
+use crate::level_compaction::compact_tested;
 use crate::selection::{Descent, Selection};
-use crate::tested_level::compact_tested;
 use board::Watch;
 use checks::Workers;
 use edit::Fault;

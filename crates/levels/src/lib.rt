@@ -16,12 +16,12 @@
 //! compacted: between those of two parts is one number that nothing uses.
 //!
 //! [`compact_levels`] compacts one level after the other, until all files are in one level. Of each
-//! it takes what the [`Descent`] selects: the inputs that the rules pick, as `store::compact_opened`
-//! does; or all its parts, as above. It tests the version once, if that is asked for. It tells a
-//! `CleanWatch` of each compaction that was installed; then it asks it for names, and removes the
-//! files of these that the version doesn't need.
+//! it takes what the [`Descent`] selects: the inputs that the rules pick, or all its parts, as
+//! above. It tests the version once, if that is asked for. It tells a `CleanWatch` of each
+//! compaction that was installed; then it asks it for names, and removes the files of these that the
+//! version doesn't need.
 //!
-//! Laws: [`edits_join`], [`joined_applies`].
+//! Laws: [`whole_is_work`], [`edits_join`], [`joined_applies`].
 #![tactic(auto)]
 
 mod all_levels;
@@ -33,10 +33,11 @@ mod level_step;
 mod part_writer;
 mod ready_manifest;
 mod selection;
-mod tested_level;
+mod work_laws;
 
 pub use all_levels::compact_levels;
 pub use descent_end::DescentEnd;
 pub use join_laws::{edits_join, joined_applies};
 pub use level_compaction::compact_level;
 pub use selection::{Descent, Selection};
+pub use work_laws::whole_is_work;

@@ -2,6 +2,7 @@
 
 ghost use Rattle.std.specs.Prelude.{◌≡◌, ◌+◌, ◌++◌, [], ℕ, map, slice_get, Some, Ok};
 ghost use Rattle.std.specs.Prelude.{IfErr, OnOk};
+ghost use Rattle.table.specs.TableBytes.{AreBytes};
 ghost use Rattle.edit.specs.Answers.{fault};
 ghost use Rattle.edit.specs.fault.FaultName.TheVariants.{Memory};
 ghost use Rattle.folder.specs.Reports.{ReportsDevice};
@@ -77,6 +78,14 @@ fn push_sizes(outputs: &mut Vec<(u64, u64)>, tables: &[(u64, Vec<u8>)]) -> Resul
     Ok(())
 }
 
+/// The parts of a level of a version, and what their compactions are asked to keep to.
+#[derive(Clone, Copy)]
+struct PartsTask<'a> {
+    version: &'a Version,
+    parts: &'a [Inputs],
+    settings: &'a Settings<'a>,
+}
+
 /// Compacts the `parts` of a level of a `version` in their order, and writes their tables. Nothing
 /// is installed.
 ///
@@ -103,17 +112,12 @@ pub(crate) fn write_parts<
     ensures device { ReportsDevice F.Folder folder.old folder.new result }
 {
     let mut written = WrittenParts::none(workers.alloc(), version);
-    let count = parts.len();
-    write_range::<C, F, W, R>(
-        workers,
-        folder,
+    let task = PartsTask {
         version,
         parts,
-        0,
-        count,
         settings,
-        &mut written,
-    )?;
+    };
+    write_range::<C, F, W, R>(workers, folder, &task, 0, parts.len(), &mut written)?;
     Ok(written)
 }
 
@@ -126,16 +130,15 @@ fn write_range<
 >(
     workers: &Workers<'_, R, W>,
     folder: &mut F,
-    version: &Version,
-    parts: &[Inputs],
+    task: &PartsTask<'_>,
     from: usize,
     to: usize,
-    settings: &Settings<'_>,
     written: &mut WrittenParts,
 ) -> Result<(), Fault>
-    requires { AreRangeAt C.cmp version.now parts.now from to }
-    ensures written { IsRangeWritten F.Folder C.cmp C.short_keys version.now settings.now
-        (map picked_in parts.now) from to written.old written.new folder.old folder.new result }
+    requires { AreRangeAt C.cmp task.now.version.now task.now.parts.now from to }
+    ensures written { IsRangeWritten F.Folder C.cmp C.short_keys task.now.version.now
+        task.now.settings.now (map picked_in task.now.parts.now) from to written.old written.new
+        folder.old folder.new result }
     ensures device { ReportsDevice F.Folder folder.old folder.new result }
 {
     let count = to - from;
@@ -143,18 +146,14 @@ fn write_range<
         return Ok(());
     }
     if count == 1 {
-        return write_part::<C, F, W, R>(workers, folder, version, parts, from, settings, written);
+        return write_part::<C, F, W, R>(workers, folder, task, from, written);
     }
     let middle = from + count / 2;
-    write_range::<C, F, W, R>(
-        workers, folder, version, parts, from, middle, settings, written,
-    )?;
-    write_range::<C, F, W, R>(
-        workers, folder, version, parts, middle, to, settings, written,
-    )
+    write_range::<C, F, W, R>(workers, folder, task, from, middle, written)?;
+    write_range::<C, F, W, R>(workers, folder, task, middle, to, written)
 }
 
-/// Compacts the part at a `place` of the `parts` of a level of a `version`, and writes its tables.
+/// Compacts the part at a `place`, and writes its tables.
 fn write_part<
     C: SharedComparator + 'static,
     F: ReadsTables + WritesTables,
@@ -163,18 +162,17 @@ fn write_part<
 >(
     workers: &Workers<'_, R, W>,
     folder: &mut F,
-    version: &Version,
-    parts: &[Inputs],
+    task: &PartsTask<'_>,
     place: usize,
-    settings: &Settings<'_>,
     written: &mut WrittenParts,
 ) -> Result<(), Fault>
-    requires { IsPartAt C.cmp version.now parts.now place }
-    ensures written { (p : Inputs) × (slice_get parts.now place ≡ Some p)
-        × IsPartWritten F.Folder C.cmp C.short_keys version.now settings.now (picked_in p)
-        written.old written.new folder.old folder.new result }
+    requires { IsPartAt C.cmp task.now.version.now task.now.parts.now place }
+    ensures written { (p : Inputs) × (slice_get task.now.parts.now place ≡ Some p)
+        × IsPartWritten F.Folder C.cmp C.short_keys task.now.version.now task.now.settings.now
+        (picked_in p) written.old written.new folder.old folder.new result }
     ensures device { ReportsDevice F.Folder folder.old folder.new result }
 {
+    let parts = task.parts;
     let part = &parts[place];
     let Some(first) = written.last.checked_add(1) else {
         return Err(Fault::of(FaultName::Numbers));
@@ -184,12 +182,19 @@ fn write_part<
         workers,
         folder,
         none,
-        version,
+        task.version,
         part,
         Some(first),
-        settings,
+        task.settings,
     )?;
     write_outcome(workers, folder, &outcome, first, written)
+}
+
+/// An edit is bytes. A call does nothing.
+fn edit_is_bytes(edit: &[u8])
+    ensures { AreBytes edit.now }
+{
+    let _bytes = edit;
 }
 
 /// Writes the tables of the `outcome` of a part, and takes it in. Its outputs have the numbers from
@@ -206,6 +211,7 @@ fn write_outcome<F: WritesTables, W: Watch + Sync, R: Threads + Sync>(
         folder.old folder.new result }
     ensures device { ReportsDevice F.Folder folder.old folder.new result }
 {
+    edit_is_bytes(&outcome.edit);
     let Some(last) = first.checked_add(outcome.tables.len() as u64) else {
         return Err(Fault::of(FaultName::Numbers));
     };

@@ -35,14 +35,14 @@ returns-in_err-level-clause-left g t c files loaded tables told current reads so
     let calls = g.F.Folder.calls in
     let tells = g.F.Folder.tells in
     let failed = g.F.Folder.failed in
-    let selection = c.args.descent.now.selection in
-    let s = c.args.descent.now.settings in
+    let selection = c.args.course.now.descent.now.selection in
+    let s = c.args.course.now.descent.now.settings in
     let first = c.args.folder.now in
     let q = c.from_residual.result in
     let e = c.in_err-level.field-0.0 in
     let h = c.from_residual.ensures.1 in
-    let why : Fault → Type 0 = λ x. IsStopped (failed first) (failed first) x ⊎ IsNextLevelRefused (way_by selection o.order s c.args.bottom) (folder_version o.version o.manifest loaded) x in
-    none_begun selection o.order s c.args.bottom o.version o.manifest loaded tables sound (calls first) (tells first) (failed first) files told (record { reads = reads; named = current })
+    let why : Fault → Type 0 = λ x. IsStopped (failed first) (failed first) x ⊎ IsNextLevelRefused (way_by selection o.order s c.args.course.now.bottom) (folder_version o.version o.manifest loaded) x in
+    none_begun selection o.order s c.args.course.now.bottom o.version o.manifest loaded tables sound (calls first) (tells first) (failed first) files told (record { reads = reads; named = current })
     (calls first) (tells first) (failed first) q refl (same_tells (tells first)) (refused_err q e (λ x. UnlessMemory x (why x)) h (by_memory e why c.in_err-level.ensures.memory))
 
 pub returns-in_default-clause-left : goal.returns-in_default-clause-left
@@ -51,10 +51,10 @@ returns-in_default-clause-left g t c files loaded tables told current reads soun
     let calls = g.F.Folder.calls in
     let tells = g.F.Folder.tells in
     let failed = g.F.Folder.failed in
-    let selection = c.args.descent.now.selection in
-    let s = c.args.descent.now.settings in
+    let selection = c.args.course.now.descent.now.selection in
+    let s = c.args.course.now.descent.now.settings in
     let first = c.args.folder.now in
-    none_begun selection o.order s c.args.bottom o.version o.manifest loaded tables sound (calls first) (tells first) (failed first) files told (record { reads = reads; named = current })
+    none_begun selection o.order s c.args.course.now.bottom o.version o.manifest loaded tables sound (calls first) (tells first) (failed first) files told (record { reads = reads; named = current })
     (calls first) (tells first) (failed first) (Ok AtBottom) refl (same_tells (tells first)) tt
 
 pub returns-in_err-next-clause-left : goal.returns-in_err-next-clause-left
@@ -63,15 +63,15 @@ returns-in_err-next-clause-left g t c files loaded tables told current reads sou
     let calls = g.F.Folder.calls in
     let tells = g.F.Folder.tells in
     let failed = g.F.Folder.failed in
-    let selection = c.args.descent.now.selection in
-    let s = c.args.descent.now.settings in
+    let selection = c.args.course.now.descent.now.selection in
+    let s = c.args.course.now.descent.now.settings in
     let first = c.args.folder.now in
     let mid = c.take_level.new.folder in
-    let at = subst (λ (n : Option ℕ). IsNextLevel o.version c.args.bottom n) c.in-Some.is c.in_ok-level.ensures.next in
+    let at = subst (λ (n : Option ℕ). IsNextLevel o.version c.args.course.now.bottom n) c.in-Some.is c.in_ok-level.ensures.next in
     let e = c.in_err-next.field-0.0 in
     let p = err_from_is_err_and c.from_residual-in_err-next.result c.from_residual-in_err-next.ensures.1 in
-    let left = taken_refused selection o.order s c.args.bottom o.version o.manifest loaded tables sound (calls first) (tells first) (failed first) files told (record { reads = reads; named = current }) c.in-Some.level at (calls mid) (tells mid) (failed mid) e (c.in_err-next.ensures.left c.args.bottom files loaded tables told current reads sound) in
-    subst (λ (r : Result DescentEnd Fault). IsDescended (way_by selection o.order s c.args.bottom) (folder_version o.version o.manifest loaded) tables (call_by (calls first) (calls mid) (tells first) (tells mid) (failed first) (failed mid)) r)
+    let left = taken_refused selection o.order s c.args.course.now.bottom o.version o.manifest loaded tables sound (calls first) (tells first) (failed first) files told (record { reads = reads; named = current }) c.in-Some.level at (calls mid) (tells mid) (failed mid) e (c.in_err-next.ensures.left c.args.course.now.bottom files loaded tables told current reads sound) in
+    subst (λ (r : Result DescentEnd Fault). IsDescended (way_by selection o.order s c.args.course.now.bottom) (folder_version o.version o.manifest loaded) tables (call_by (calls first) (calls mid) (tells first) (tells mid) (failed first) (failed mid)) r)
     (sym (p.1 ∙ ap (λ (f : Fault). Err f) p.2)) left
 
 pub returns-in_default-2-clause-left : goal.returns-in_default-2-clause-left
@@ -80,16 +80,16 @@ returns-in_default-2-clause-left g t c files loaded tables told current reads so
     let calls = g.F.Folder.calls in
     let tells = g.F.Folder.tells in
     let failed = g.F.Folder.failed in
-    let selection = c.args.descent.now.selection in
-    let s = c.args.descent.now.settings in
+    let selection = c.args.course.now.descent.now.selection in
+    let s = c.args.course.now.descent.now.settings in
     let first = c.args.folder.now in
     let mid = c.take_level.new.folder in
-    let at = subst (λ (n : Option ℕ). IsNextLevel o.version c.args.bottom n) c.in-Some.is c.in_ok-level.ensures.next in
+    let at = subst (λ (n : Option ℕ). IsNextLevel o.version c.args.course.now.bottom n) c.in-Some.is c.in_ok-level.ensures.next in
     let by = teller_by g.T.InstallWatch.tells g.T.CleanWatch.lists g.T.RemovalWatch.tells g.T.CleanWatch.ends in
-    let way = way_by selection o.order s c.args.bottom in
-    let all = all_made g.F.Folder by way o.version first c.args.told.now c.in-Some.level at mid c.take_level.new.told c.in_ok-next.field-0 (c.in_ok-next.ensures.runs c.args.bottom) in
-    let taken_now = c.in_ok-next.ensures.left c.args.bottom files loaded tables told current reads sound in
-    taken_stopped selection o.order s c.args.bottom o.version o.manifest loaded tables sound (calls first) (tells first) (failed first) files told (record { reads = reads; named = current }) c.in-Some.level at (calls mid) (tells mid) (failed mid) c.in_ok-next.field-0 taken_now all
+    let way = way_by selection o.order s c.args.course.now.bottom in
+    let all = all_made g.F.Folder by way o.version first c.args.told.now c.in-Some.level at mid c.take_level.new.told c.in_ok-next.field-0 (c.in_ok-next.ensures.runs c.args.course.now.bottom) in
+    let taken_now = c.in_ok-next.ensures.left c.args.course.now.bottom files loaded tables told current reads sound in
+    taken_stopped selection o.order s c.args.course.now.bottom o.version o.manifest loaded tables sound (calls first) (tells first) (failed first) files told (record { reads = reads; named = current }) c.in-Some.level at (calls mid) (tells mid) (failed mid) c.in_ok-next.field-0 taken_now all
 
 pub returns-in_err-cleaned-clause-left : goal.returns-in_err-cleaned-clause-left
 returns-in_err-cleaned-clause-left g t c files loaded tables told current reads sound enough =
@@ -97,17 +97,17 @@ returns-in_err-cleaned-clause-left g t c files loaded tables told current reads 
     let calls = g.F.Folder.calls in
     let tells = g.F.Folder.tells in
     let failed = g.F.Folder.failed in
-    let selection = c.args.descent.now.selection in
-    let s = c.args.descent.now.settings in
+    let selection = c.args.course.now.descent.now.selection in
+    let s = c.args.course.now.descent.now.settings in
     let first = c.args.folder.now in
     let mid = c.take_level.new.folder in
-    let at = subst (λ (n : Option ℕ). IsNextLevel o.version c.args.bottom n) c.in-Some.is c.in_ok-level.ensures.next in
+    let at = subst (λ (n : Option ℕ). IsNextLevel o.version c.args.course.now.bottom n) c.in-Some.is c.in_ok-level.ensures.next in
     let by = teller_by g.T.InstallWatch.tells g.T.CleanWatch.lists g.T.RemovalWatch.tells g.T.CleanWatch.ends in
-    let way = way_by selection o.order s c.args.bottom in
-    let all = all_made g.F.Folder by way o.version first c.args.told.now c.in-Some.level at mid c.take_level.new.told c.in_ok-next.field-0 (c.in_ok-next.ensures.runs c.args.bottom) in
-    let taken_now = c.in_ok-next.ensures.left c.args.bottom files loaded tables told current reads sound in
+    let way = way_by selection o.order s c.args.course.now.bottom in
+    let all = all_made g.F.Folder by way o.version first c.args.told.now c.in-Some.level at mid c.take_level.new.told c.in_ok-next.field-0 (c.in_ok-next.ensures.runs c.args.course.now.bottom) in
+    let taken_now = c.in_ok-next.ensures.left c.args.course.now.bottom files loaded tables told current reads sound in
     let next = c.in-Some-2.next in
-    let goes = taken_on selection o.order s c.args.bottom o.version o.manifest loaded tables sound (calls first) (tells first) (failed first) files told (record { reads = reads; named = current }) c.in-Some.level at (calls mid) (tells mid) (failed mid) c.in_ok-next.field-0 next c.in-Some-2.is taken_now in
+    let goes = taken_on selection o.order s c.args.course.now.bottom o.version o.manifest loaded tables sound (calls first) (tells first) (failed first) files told (record { reads = reads; named = current }) c.in-Some.level at (calls mid) (tells mid) (failed mid) c.in_ok-next.field-0 next c.in-Some-2.is taken_now in
     let i = goes.taken.installed in
     let w = i.compacted.edited.next in
     let ts = next_version_tables (order_cmp o.order) w i.compacted.outputs loaded in
@@ -116,7 +116,7 @@ returns-in_err-cleaned-clause-left g t c files loaded tables told current reads 
     let count = steady (failed first) (failed first) (failed mid) c.in_ok-next.field-0 c.take_level.result c.in_ok-next.was refl c.take_level.ensures.device.later c.take_level.ensures.device.at_once in
     let e = c.in_err-cleaned.field-0.0 in
     let p = err_from_is_err_and c.from_residual-in_err-cleaned.result c.from_residual-in_err-cleaned.ensures.1 in
-    let left = one_ended selection o.order s c.args.bottom o.version o.manifest loaded tables sound (calls first) (tells first) (failed first) files told (record { reads = reads; named = current }) c.in-Some.level at (calls mid) (tells mid) goes.taken.step i all (calls after) (tells after) stays (failed mid) (failed after) (Err e) count c.in_err-cleaned.ensures.refused in
+    let left = one_ended selection o.order s c.args.course.now.bottom o.version o.manifest loaded tables sound (calls first) (tells first) (failed first) files told (record { reads = reads; named = current }) c.in-Some.level at (calls mid) (tells mid) goes.taken.step i all (calls after) (tells after) stays (failed mid) (failed after) (Err e) count c.in_err-cleaned.ensures.refused in
     subst (λ (r : Result DescentEnd Fault). IsDescended way (folder_version o.version o.manifest loaded) tables (call_by (calls first) (calls after) (tells first) (tells after) (failed first) (failed after)) r)
     (sym (p.1 ∙ ap (λ (f : Fault). Err f) p.2)) left
 
@@ -126,24 +126,24 @@ returns-in_default-3-clause-left g t c files loaded tables told current reads so
     let calls = g.F.Folder.calls in
     let tells = g.F.Folder.tells in
     let failed = g.F.Folder.failed in
-    let selection = c.args.descent.now.selection in
-    let s = c.args.descent.now.settings in
+    let selection = c.args.course.now.descent.now.selection in
+    let s = c.args.course.now.descent.now.settings in
     let first = c.args.folder.now in
     let mid = c.take_level.new.folder in
-    let at = subst (λ (n : Option ℕ). IsNextLevel o.version c.args.bottom n) c.in-Some.is c.in_ok-level.ensures.next in
+    let at = subst (λ (n : Option ℕ). IsNextLevel o.version c.args.course.now.bottom n) c.in-Some.is c.in_ok-level.ensures.next in
     let by = teller_by g.T.InstallWatch.tells g.T.CleanWatch.lists g.T.RemovalWatch.tells g.T.CleanWatch.ends in
-    let way = way_by selection o.order s c.args.bottom in
-    let all = all_made g.F.Folder by way o.version first c.args.told.now c.in-Some.level at mid c.take_level.new.told c.in_ok-next.field-0 (c.in_ok-next.ensures.runs c.args.bottom) in
-    let taken_now = c.in_ok-next.ensures.left c.args.bottom files loaded tables told current reads sound in
+    let way = way_by selection o.order s c.args.course.now.bottom in
+    let all = all_made g.F.Folder by way o.version first c.args.told.now c.in-Some.level at mid c.take_level.new.told c.in_ok-next.field-0 (c.in_ok-next.ensures.runs c.args.course.now.bottom) in
+    let taken_now = c.in_ok-next.ensures.left c.args.course.now.bottom files loaded tables told current reads sound in
     let next = c.in-Some-2.next in
-    let goes = taken_on selection o.order s c.args.bottom o.version o.manifest loaded tables sound (calls first) (tells first) (failed first) files told (record { reads = reads; named = current }) c.in-Some.level at (calls mid) (tells mid) (failed mid) c.in_ok-next.field-0 next c.in-Some-2.is taken_now in
+    let goes = taken_on selection o.order s c.args.course.now.bottom o.version o.manifest loaded tables sound (calls first) (tells first) (failed first) files told (record { reads = reads; named = current }) c.in-Some.level at (calls mid) (tells mid) (failed mid) c.in_ok-next.field-0 next c.in-Some-2.is taken_now in
     let i = goes.taken.installed in
     let w = i.compacted.edited.next in
     let ts = next_version_tables (order_cmp o.order) w i.compacted.outputs loaded in
     let after = c.clean.new.folder in
     let stays = stays_of next.order o.order next.version w next.manifest (manifest_of o.version) ts (calls mid) (calls after) (tells mid) (tells after) goes.order_is goes.version_is goes.manifest_is (c.clean.ensures.stays ts) in
     let count = steady (failed first) (failed first) (failed mid) c.in_ok-next.field-0 c.take_level.result c.in_ok-next.was refl c.take_level.ensures.device.later c.take_level.ensures.device.at_once in
-    one_ended selection o.order s c.args.bottom o.version o.manifest loaded tables sound (calls first) (tells first) (failed first) files told (record { reads = reads; named = current }) c.in-Some.level at (calls mid) (tells mid) goes.taken.step i all (calls after) (tells after) stays (failed mid) (failed after) (Ok Stopped) count tt
+    one_ended selection o.order s c.args.course.now.bottom o.version o.manifest loaded tables sound (calls first) (tells first) (failed first) files told (record { reads = reads; named = current }) c.in-Some.level at (calls mid) (tells mid) goes.taken.step i all (calls after) (tells after) stays (failed mid) (failed after) (Ok Stopped) count tt
 
 pub returns-then-steps-eq0-clause-left : goal.returns-then-steps-eq0-clause-left
 returns-then-steps-eq0-clause-left g t c files loaded tables told current reads sound enough =
@@ -151,17 +151,17 @@ returns-then-steps-eq0-clause-left g t c files loaded tables told current reads 
     let calls = g.F.Folder.calls in
     let tells = g.F.Folder.tells in
     let failed = g.F.Folder.failed in
-    let selection = c.args.descent.now.selection in
-    let s = c.args.descent.now.settings in
+    let selection = c.args.course.now.descent.now.selection in
+    let s = c.args.course.now.descent.now.settings in
     let first = c.args.folder.now in
     let mid = c.take_level.new.folder in
-    let at = subst (λ (n : Option ℕ). IsNextLevel o.version c.args.bottom n) c.in-Some.is c.in_ok-level.ensures.next in
+    let at = subst (λ (n : Option ℕ). IsNextLevel o.version c.args.course.now.bottom n) c.in-Some.is c.in_ok-level.ensures.next in
     let by = teller_by g.T.InstallWatch.tells g.T.CleanWatch.lists g.T.RemovalWatch.tells g.T.CleanWatch.ends in
-    let way = way_by selection o.order s c.args.bottom in
-    let all = all_made g.F.Folder by way o.version first c.args.told.now c.in-Some.level at mid c.take_level.new.told c.in_ok-next.field-0 (c.in_ok-next.ensures.runs c.args.bottom) in
-    let taken_now = c.in_ok-next.ensures.left c.args.bottom files loaded tables told current reads sound in
+    let way = way_by selection o.order s c.args.course.now.bottom in
+    let all = all_made g.F.Folder by way o.version first c.args.told.now c.in-Some.level at mid c.take_level.new.told c.in_ok-next.field-0 (c.in_ok-next.ensures.runs c.args.course.now.bottom) in
+    let taken_now = c.in_ok-next.ensures.left c.args.course.now.bottom files loaded tables told current reads sound in
     let next = c.in-Some-2.next in
-    let goes = taken_on selection o.order s c.args.bottom o.version o.manifest loaded tables sound (calls first) (tells first) (failed first) files told (record { reads = reads; named = current }) c.in-Some.level at (calls mid) (tells mid) (failed mid) c.in_ok-next.field-0 next c.in-Some-2.is taken_now in
+    let goes = taken_on selection o.order s c.args.course.now.bottom o.version o.manifest loaded tables sound (calls first) (tells first) (failed first) files told (record { reads = reads; named = current }) c.in-Some.level at (calls mid) (tells mid) (failed mid) c.in_ok-next.field-0 next c.in-Some-2.is taken_now in
     let rise = goes.taken.installed.compacted.edited.rises in
     let small = goes.taken.installed.compacted.edited.small in
     let none = c.if-steps-eq0.true in
@@ -173,17 +173,17 @@ returns-clause-left g t c files loaded tables told current reads sound enough =
     let calls = g.F.Folder.calls in
     let tells = g.F.Folder.tells in
     let failed = g.F.Folder.failed in
-    let selection = c.args.descent.now.selection in
-    let s = c.args.descent.now.settings in
+    let selection = c.args.course.now.descent.now.selection in
+    let s = c.args.course.now.descent.now.settings in
     let first = c.args.folder.now in
     let mid = c.take_level.new.folder in
-    let at = subst (λ (n : Option ℕ). IsNextLevel o.version c.args.bottom n) c.in-Some.is c.in_ok-level.ensures.next in
+    let at = subst (λ (n : Option ℕ). IsNextLevel o.version c.args.course.now.bottom n) c.in-Some.is c.in_ok-level.ensures.next in
     let by = teller_by g.T.InstallWatch.tells g.T.CleanWatch.lists g.T.RemovalWatch.tells g.T.CleanWatch.ends in
-    let way = way_by selection o.order s c.args.bottom in
-    let all = all_made g.F.Folder by way o.version first c.args.told.now c.in-Some.level at mid c.take_level.new.told c.in_ok-next.field-0 (c.in_ok-next.ensures.runs c.args.bottom) in
-    let taken_now = c.in_ok-next.ensures.left c.args.bottom files loaded tables told current reads sound in
+    let way = way_by selection o.order s c.args.course.now.bottom in
+    let all = all_made g.F.Folder by way o.version first c.args.told.now c.in-Some.level at mid c.take_level.new.told c.in_ok-next.field-0 (c.in_ok-next.ensures.runs c.args.course.now.bottom) in
+    let taken_now = c.in_ok-next.ensures.left c.args.course.now.bottom files loaded tables told current reads sound in
     let next = c.in-Some-2.next in
-    let goes = taken_on selection o.order s c.args.bottom o.version o.manifest loaded tables sound (calls first) (tells first) (failed first) files told (record { reads = reads; named = current }) c.in-Some.level at (calls mid) (tells mid) (failed mid) c.in_ok-next.field-0 next c.in-Some-2.is taken_now in
+    let goes = taken_on selection o.order s c.args.course.now.bottom o.version o.manifest loaded tables sound (calls first) (tells first) (failed first) files told (record { reads = reads; named = current }) c.in-Some.level at (calls mid) (tells mid) (failed mid) c.in_ok-next.field-0 next c.in-Some-2.is taken_now in
     let i = goes.taken.installed in
     let w = i.compacted.edited.next in
     let ts = next_version_tables (order_cmp o.order) w i.compacted.outputs loaded in
@@ -193,13 +193,13 @@ returns-clause-left g t c files loaded tables told current reads sound enough =
     let last = c.descend.new.folder in
     let cleaned = c.in-Some-3.cleaned in
     let again = subst (λ (x : Option SyncedVersion). IfSome x (λ n. (n.order ≡ next.order) × (n.version ≡ next.version) × (n.manifest ≡ next.manifest))) c.in-Some-3.is c.in_ok-cleaned.ensures.reopened in
-    let found = found_next selection o.order s c.args.bottom o.version o.manifest loaded tables sound (calls first) (tells first) (failed first) files told (record { reads = reads; named = current }) c.in-Some.level at (calls mid) (tells mid) goes.taken.step i all (calls after) (tells after) stays in
+    let found = found_next selection o.order s c.args.course.now.bottom o.version o.manifest loaded tables sound (calls first) (tells first) (failed first) files told (record { reads = reads; named = current }) c.in-Some.level at (calls mid) (tells mid) goes.taken.step i all (calls after) (tells after) stays in
     let rise = i.compacted.edited.rises in
     let some = at_least_one c.args.steps c.if-steps-eq0.false in
     let counted = steady (failed first) (failed mid) (failed after) c.in_ok-cleaned.field-0 c.clean.result c.in_ok-cleaned.was count c.clean.ensures.device.later c.clean.ensures.device.at_once in
-    let rest = clause_of selection s c.args.bottom (c.args.steps - 1) (calls after) (calls last) (tells after) (tells last) (failed after) (failed last) c.descend.result o.order cleaned.order w cleaned.version (manifest_of o.version) cleaned.manifest
+    let rest = clause_of selection s c.args.course.now.bottom (c.args.steps - 1) (calls after) (calls last) (tells after) (tells last) (failed after) (failed last) c.descend.result o.order cleaned.order w cleaned.version (manifest_of o.version) cleaned.manifest
     (again.0 ∙ goes.order_is) (again.1 ∙ goes.version_is) (again.2 ∙ goes.manifest_is) c.descend.ensures.left found.0 ts i.compacted.edited.tables_next found.1 found.2.named found.2.reads i.compacted.edited.lawful (omega (arith, rise, enough, some)) in
-    one_more selection o.order s c.args.bottom o.version o.manifest loaded tables sound (calls first) (tells first) (failed first) files told (record { reads = reads; named = current }) c.in-Some.level at (calls mid) (tells mid) goes.taken.step i all (calls after) (tells after) stays (calls last) (tells last) (failed after) (failed last) c.descend.result counted rest
+    one_more selection o.order s c.args.course.now.bottom o.version o.manifest loaded tables sound (calls first) (tells first) (failed first) files told (record { reads = reads; named = current }) c.in-Some.level at (calls mid) (tells mid) goes.taken.step i all (calls after) (tells after) stays (calls last) (tells last) (failed after) (failed last) c.descend.result counted rest
 
 -- ---- the device
 
@@ -241,62 +241,62 @@ returns-clause-device g t c =
 pub returns-in_err-level-clause-runs : goal.returns-in_err-level-clause-runs
 returns-in_err-level-clause-runs g t c =
     let o = c.args.opened in
-    let selection = c.args.descent.now.selection in
-    let s = c.args.descent.now.settings in
+    let selection = c.args.course.now.descent.now.selection in
+    let s = c.args.course.now.descent.now.settings in
     let first = c.args.folder.now in
     let by = teller_by g.T.InstallWatch.tells g.T.CleanWatch.lists g.T.RemovalWatch.tells g.T.CleanWatch.ends in
-    let way = way_by selection o.order s c.args.bottom in
+    let way = way_by selection o.order s c.args.course.now.bottom in
     let q = c.from_residual.result in
-    no_more g.F.Folder by way o.version first c.args.told.now first c.args.told.now q refl (same_tells (g.F.Folder.tells first)) refl (refused_ok q c.in_err-level.field-0.0 (λ e. (e ≡ AtBottom) × IsNextLevel o.version c.args.bottom None) c.from_residual.ensures.1)
+    no_more g.F.Folder by way o.version first c.args.told.now first c.args.told.now q refl (same_tells (g.F.Folder.tells first)) refl (refused_ok q c.in_err-level.field-0.0 (λ e. (e ≡ AtBottom) × IsNextLevel o.version c.args.course.now.bottom None) c.from_residual.ensures.1)
 
 pub returns-in_default-clause-runs : goal.returns-in_default-clause-runs
 returns-in_default-clause-runs g t c =
     let o = c.args.opened in
-    let selection = c.args.descent.now.selection in
-    let s = c.args.descent.now.settings in
+    let selection = c.args.course.now.descent.now.selection in
+    let s = c.args.course.now.descent.now.settings in
     let first = c.args.folder.now in
     let by = teller_by g.T.InstallWatch.tells g.T.CleanWatch.lists g.T.RemovalWatch.tells g.T.CleanWatch.ends in
-    let way = way_by selection o.order s c.args.bottom in
-    no_more g.F.Folder by way o.version first c.args.told.now first c.args.told.now (Ok AtBottom) refl (same_tells (g.F.Folder.tells first)) refl (refl, subst (λ (n : Option ℕ). IsNextLevel o.version c.args.bottom n) c.in_default.is c.in_ok-level.ensures.next)
+    let way = way_by selection o.order s c.args.course.now.bottom in
+    no_more g.F.Folder by way o.version first c.args.told.now first c.args.told.now (Ok AtBottom) refl (same_tells (g.F.Folder.tells first)) refl (refl, subst (λ (n : Option ℕ). IsNextLevel o.version c.args.course.now.bottom n) c.in_default.is c.in_ok-level.ensures.next)
 
 pub returns-in_err-next-clause-runs : goal.returns-in_err-next-clause-runs
 returns-in_err-next-clause-runs g t c =
     let o = c.args.opened in
-    let selection = c.args.descent.now.selection in
-    let s = c.args.descent.now.settings in
+    let selection = c.args.course.now.descent.now.selection in
+    let s = c.args.course.now.descent.now.settings in
     let first = c.args.folder.now in
     let by = teller_by g.T.InstallWatch.tells g.T.CleanWatch.lists g.T.RemovalWatch.tells g.T.CleanWatch.ends in
-    let way = way_by selection o.order s c.args.bottom in
+    let way = way_by selection o.order s c.args.course.now.bottom in
     let mid = c.take_level.new.folder in
-    let at = subst (λ (n : Option ℕ). IsNextLevel o.version c.args.bottom n) c.in-Some.is c.in_ok-level.ensures.next in
+    let at = subst (λ (n : Option ℕ). IsNextLevel o.version c.args.course.now.bottom n) c.in-Some.is c.in_ok-level.ensures.next in
     let p = err_from_is_err_and c.from_residual-in_err-next.result c.from_residual-in_err-next.ensures.1 in
     subst (λ (r : Result DescentEnd Fault). IsDescentRun g.F.Folder by way o.version (at_by first c.args.told.now) (at_by mid c.take_level.new.told) r) (sym (p.1 ∙ ap (λ (f : Fault). Err f) p.2))
-    (last_refused g.F.Folder by way o.version first c.args.told.now c.in-Some.level at mid c.take_level.new.told c.in_err-next.field-0.0 (c.in_err-next.ensures.runs c.args.bottom))
+    (last_refused g.F.Folder by way o.version first c.args.told.now c.in-Some.level at mid c.take_level.new.told c.in_err-next.field-0.0 (c.in_err-next.ensures.runs c.args.course.now.bottom))
 
 pub returns-in_default-2-clause-runs : goal.returns-in_default-2-clause-runs
 returns-in_default-2-clause-runs g t c =
     let o = c.args.opened in
-    let selection = c.args.descent.now.selection in
-    let s = c.args.descent.now.settings in
+    let selection = c.args.course.now.descent.now.selection in
+    let s = c.args.course.now.descent.now.settings in
     let first = c.args.folder.now in
     let by = teller_by g.T.InstallWatch.tells g.T.CleanWatch.lists g.T.RemovalWatch.tells g.T.CleanWatch.ends in
-    let way = way_by selection o.order s c.args.bottom in
+    let way = way_by selection o.order s c.args.course.now.bottom in
     let mid = c.take_level.new.folder in
-    let at = subst (λ (n : Option ℕ). IsNextLevel o.version c.args.bottom n) c.in-Some.is c.in_ok-level.ensures.next in
-    last_stopped g.F.Folder by way o.version first c.args.told.now c.in-Some.level at mid c.take_level.new.told c.in_ok-next.field-0 c.in_default-2.is (c.in_ok-next.ensures.runs c.args.bottom)
+    let at = subst (λ (n : Option ℕ). IsNextLevel o.version c.args.course.now.bottom n) c.in-Some.is c.in_ok-level.ensures.next in
+    last_stopped g.F.Folder by way o.version first c.args.told.now c.in-Some.level at mid c.take_level.new.told c.in_ok-next.field-0 c.in_default-2.is (c.in_ok-next.ensures.runs c.args.course.now.bottom)
 
 pub returns-in_err-cleaned-clause-runs : goal.returns-in_err-cleaned-clause-runs
 returns-in_err-cleaned-clause-runs g t c =
     let o = c.args.opened in
-    let selection = c.args.descent.now.selection in
-    let s = c.args.descent.now.settings in
+    let selection = c.args.course.now.descent.now.selection in
+    let s = c.args.course.now.descent.now.settings in
     let first = c.args.folder.now in
     let by = teller_by g.T.InstallWatch.tells g.T.CleanWatch.lists g.T.RemovalWatch.tells g.T.CleanWatch.ends in
-    let way = way_by selection o.order s c.args.bottom in
+    let way = way_by selection o.order s c.args.course.now.bottom in
     let mid = c.take_level.new.folder in
-    let at = subst (λ (n : Option ℕ). IsNextLevel o.version c.args.bottom n) c.in-Some.is c.in_ok-level.ensures.next in
+    let at = subst (λ (n : Option ℕ). IsNextLevel o.version c.args.course.now.bottom n) c.in-Some.is c.in_ok-level.ensures.next in
     let next = c.in-Some-2.next in
-    let i = linked g.F.Folder by way o.version first c.args.told.now c.in-Some.level at mid c.take_level.new.told c.in_ok-next.field-0 next c.in-Some-2.is (c.in_ok-next.ensures.runs c.args.bottom) in
+    let i = linked g.F.Folder by way o.version first c.args.told.now c.in-Some.level at mid c.take_level.new.told c.in_ok-next.field-0 next c.in-Some-2.is (c.in_ok-next.ensures.runs c.args.course.now.bottom) in
     let after = c.clean.new.folder in
     let told = c.clean.new.told in
     let p = err_from_is_err_and c.from_residual-in_err-cleaned.result c.from_residual-in_err-cleaned.ensures.1 in
@@ -306,15 +306,15 @@ returns-in_err-cleaned-clause-runs g t c =
 pub returns-in_default-3-clause-runs : goal.returns-in_default-3-clause-runs
 returns-in_default-3-clause-runs g t c =
     let o = c.args.opened in
-    let selection = c.args.descent.now.selection in
-    let s = c.args.descent.now.settings in
+    let selection = c.args.course.now.descent.now.selection in
+    let s = c.args.course.now.descent.now.settings in
     let first = c.args.folder.now in
     let by = teller_by g.T.InstallWatch.tells g.T.CleanWatch.lists g.T.RemovalWatch.tells g.T.CleanWatch.ends in
-    let way = way_by selection o.order s c.args.bottom in
+    let way = way_by selection o.order s c.args.course.now.bottom in
     let mid = c.take_level.new.folder in
-    let at = subst (λ (n : Option ℕ). IsNextLevel o.version c.args.bottom n) c.in-Some.is c.in_ok-level.ensures.next in
+    let at = subst (λ (n : Option ℕ). IsNextLevel o.version c.args.course.now.bottom n) c.in-Some.is c.in_ok-level.ensures.next in
     let next = c.in-Some-2.next in
-    let i = linked g.F.Folder by way o.version first c.args.told.now c.in-Some.level at mid c.take_level.new.told c.in_ok-next.field-0 next c.in-Some-2.is (c.in_ok-next.ensures.runs c.args.bottom) in
+    let i = linked g.F.Folder by way o.version first c.args.told.now c.in-Some.level at mid c.take_level.new.told c.in_ok-next.field-0 next c.in-Some-2.is (c.in_ok-next.ensures.runs c.args.course.now.bottom) in
     let after = c.clean.new.folder in
     let told = c.clean.new.told in
     removal_stopped g.F.Folder by way o.version first c.args.told.now c.in-Some.level at mid c.take_level.new.told next i after told c.in_ok-cleaned.field-0 c.in_default-3.is c.in_ok-cleaned.ensures.runs
@@ -322,35 +322,35 @@ returns-in_default-3-clause-runs g t c =
 pub returns-then-steps-eq0-clause-runs : goal.returns-then-steps-eq0-clause-runs
 returns-then-steps-eq0-clause-runs g t c =
     let o = c.args.opened in
-    let selection = c.args.descent.now.selection in
-    let s = c.args.descent.now.settings in
+    let selection = c.args.course.now.descent.now.selection in
+    let s = c.args.course.now.descent.now.settings in
     let first = c.args.folder.now in
     let by = teller_by g.T.InstallWatch.tells g.T.CleanWatch.lists g.T.RemovalWatch.tells g.T.CleanWatch.ends in
-    let way = way_by selection o.order s c.args.bottom in
+    let way = way_by selection o.order s c.args.course.now.bottom in
     let mid = c.take_level.new.folder in
-    let at = subst (λ (n : Option ℕ). IsNextLevel o.version c.args.bottom n) c.in-Some.is c.in_ok-level.ensures.next in
+    let at = subst (λ (n : Option ℕ). IsNextLevel o.version c.args.course.now.bottom n) c.in-Some.is c.in_ok-level.ensures.next in
     let next = c.in-Some-2.next in
-    let i = linked g.F.Folder by way o.version first c.args.told.now c.in-Some.level at mid c.take_level.new.told c.in_ok-next.field-0 next c.in-Some-2.is (c.in_ok-next.ensures.runs c.args.bottom) in
+    let i = linked g.F.Folder by way o.version first c.args.told.now c.in-Some.level at mid c.take_level.new.told c.in_ok-next.field-0 next c.in-Some-2.is (c.in_ok-next.ensures.runs c.args.course.now.bottom) in
     let after = c.clean.new.folder in
     let told = c.clean.new.told in
     let cleaned = c.in-Some-3.cleaned in
     let again = subst (λ (x : Option SyncedVersion). IfSome x (λ n. (n.order ≡ next.order) × (n.version ≡ next.version) × (n.manifest ≡ next.manifest))) c.in-Some-3.is c.in_ok-cleaned.ensures.reopened in
     let q : Result DescentEnd Fault = Err c.of.result in
     row_more g.F.Folder by way o.version first c.args.told.now c.in-Some.level at mid c.take_level.new.told next i after told c.in_ok-cleaned.field-0 cleaned (at_by after told) q c.in-Some-3.is again.0 again.1 c.in_ok-cleaned.ensures.runs
-    (no_more g.F.Folder by (way_by selection cleaned.order s c.args.bottom) cleaned.version after told after told q refl (same_tells (g.F.Folder.tells after)) refl tt)
+    (no_more g.F.Folder by (way_by selection cleaned.order s c.args.course.now.bottom) cleaned.version after told after told q refl (same_tells (g.F.Folder.tells after)) refl tt)
 
 pub returns-clause-runs : goal.returns-clause-runs
 returns-clause-runs g t c =
     let o = c.args.opened in
-    let selection = c.args.descent.now.selection in
-    let s = c.args.descent.now.settings in
+    let selection = c.args.course.now.descent.now.selection in
+    let s = c.args.course.now.descent.now.settings in
     let first = c.args.folder.now in
     let by = teller_by g.T.InstallWatch.tells g.T.CleanWatch.lists g.T.RemovalWatch.tells g.T.CleanWatch.ends in
-    let way = way_by selection o.order s c.args.bottom in
+    let way = way_by selection o.order s c.args.course.now.bottom in
     let mid = c.take_level.new.folder in
-    let at = subst (λ (n : Option ℕ). IsNextLevel o.version c.args.bottom n) c.in-Some.is c.in_ok-level.ensures.next in
+    let at = subst (λ (n : Option ℕ). IsNextLevel o.version c.args.course.now.bottom n) c.in-Some.is c.in_ok-level.ensures.next in
     let next = c.in-Some-2.next in
-    let i = linked g.F.Folder by way o.version first c.args.told.now c.in-Some.level at mid c.take_level.new.told c.in_ok-next.field-0 next c.in-Some-2.is (c.in_ok-next.ensures.runs c.args.bottom) in
+    let i = linked g.F.Folder by way o.version first c.args.told.now c.in-Some.level at mid c.take_level.new.told c.in_ok-next.field-0 next c.in-Some-2.is (c.in_ok-next.ensures.runs c.args.course.now.bottom) in
     let after = c.clean.new.folder in
     let told = c.clean.new.told in
     let cleaned = c.in-Some-3.cleaned in

@@ -1,56 +1,84 @@
-use Rattle.std.proofs.Common.{Ok, refl, subst, sym}
-use Rattle.folder.specs.OpenAnswer.{FolderAnswers, IsOpened}
+use Rattle.std.proofs.Common.{arith, inl}
+use Rattle.checks.specs.TestedTables.{IsTested}
+use Rattle.folder.proofs.OpeningLemmas.{answers_since, hands_on}
+use Rattle.folder.proofs.ReportLemmas.{reports_handed, reports_then}
 use Rattle.folder.specs.Manifest.{order_name}
 use Rattle.folder.specs.Orders.{order_cmp, order_short_keys}
-use Rattle.folder.specs.ReadsAs.{IsFileIn}
-use Rattle.folder.specs.declared.order.Order.{Order}
-use Rattle.folder.specs.declared.order.Order.TheVariants.{Bytewise, Shortlex}
-use Rattle.install.proofs.Changes.{change_by}
-use Rattle.store.specs.OrderView.{order_view}
+use Rattle.folder.specs.ReadsAs.{IsFileIn, ReadsAs}
 use Rattle.store.specs.Step.{step_in}
+use Rattle.store.proofs.Flow.{no_value, told_still, told_themselves}
+use Rattle.store.proofs.StepPart.{has_passed}
 use Rattle.levels.specs.WholeAnswer.{IsWholeCompacted}
-use Rattle.levels.specs.LevelLeft.{IsWholeLeft}
-use Rattle.levels.specs.WholeRuns.{IsWholeRun}
+use Rattle.levels.proofs.Since.{whole_left, whole_refused, whole_run_since}
 use Rattle.levels.proofs.level_compaction.compact_level.Goals as goal
 
-pub returns-in-Bytewise-clause-answer : goal.returns-in-Bytewise-clause-answer
-returns-in-Bytewise-clause-answer g c files told current opened =
+-- ---- the test is refused
+
+pub returns-in_err-test_opened-clause-answer : goal.returns-in_err-test_opened-clause-answer
+returns-in_err-test_opened-clause-answer g c files told current opened =
+    let o = c.args.opened.now in
+    let cmp = order_cmp o.order in
+    let keys = order_short_keys o.order in
     let failed = g.F.Folder.failed in
-    let v = c.args.opened.now.version in
-    subst (λ (order : Order). FolderAnswers step_in (failed c.args.folder.now) (failed c.compact_version.new.folder) c.compact_version.result (IsWholeCompacted (order_cmp order) (order_short_keys order) files v c.args.level c.args.settings.now))
-    (sym c.in-Bytewise.is) (c.compact_version.ensures.answer files Bytewise told current (subst (λ (order : Order). IsOpened (IsFileIn files) (Ok (order, v))) c.in-Bytewise.is opened))
+    let e = c.in_err-test_opened.field-0.0 in
+    hands_on step_in (failed c.args.folder.now) (failed c.args.folder.now) (failed c.test_opened.new.folder) c.from_residual.result e (IsTested (IsFileIn files) cmp o.version)
+    (IsWholeCompacted cmp keys files o.version c.args.level c.args.settings.now)
+    c.from_residual.ensures.1 (omega arith) c.test_opened.ensures.device.later (c.in_err-test_opened.ensures.answer files told)
+    (λ h. whole_refused cmp keys (IsFileIn files) files o.version c.args.level c.args.settings.now e (told_themselves files) h)
 
-pub returns-in-Shortlex-clause-answer : goal.returns-in-Shortlex-clause-answer
-returns-in-Shortlex-clause-answer g c files told current opened =
+pub returns-in_err-test_opened-clause-left : goal.returns-in_err-test_opened-clause-left
+returns-in_err-test_opened-clause-left g c files told current opened =
+    inl (record { calls = c.test_opened.ensures.reads.calls; same = c.test_opened.ensures.reads.same; refused = no_value c.from_residual.result _ c.from_residual.ensures.1 })
+
+pub returns-in_err-test_opened-clause-runs : goal.returns-in_err-test_opened-clause-runs
+returns-in_err-test_opened-clause-runs g c =
+    inl (record { calls = c.test_opened.ensures.reads.calls; same = c.test_opened.ensures.reads.same; refused = no_value c.from_residual.result _ c.from_residual.ensures.1 })
+
+pub returns-in_err-test_opened-clause-other : goal.returns-in_err-test_opened-clause-other
+returns-in_err-test_opened-clause-other g c files told other = no_value c.from_residual.result _ c.from_residual.ensures.1
+
+pub returns-in_err-test_opened-clause-device : goal.returns-in_err-test_opened-clause-device
+returns-in_err-test_opened-clause-device g c = reports_handed c.from_residual.result c.in_err-test_opened.was c.test_opened.ensures.device c.from_residual.ensures.1
+
+-- ---- it passed
+
+pub returns-clause-answer : goal.returns-clause-answer
+returns-clause-answer g c files told current opened =
+    let o = c.args.opened.now in
+    let cmp = order_cmp o.order in
+    let tells = g.F.Folder.tells in
     let failed = g.F.Folder.failed in
-    let v = c.args.opened.now.version in
-    subst (λ (order : Order). FolderAnswers step_in (failed c.args.folder.now) (failed c.compact_version-in-Shortlex.new.folder) c.compact_version-in-Shortlex.result (IsWholeCompacted (order_cmp order) (order_short_keys order) files v c.args.level c.args.settings.now))
-    (sym c.in-Shortlex.is) (c.compact_version-in-Shortlex.ensures.answer files Shortlex told current (subst (λ (order : Order). IsOpened (IsFileIn files) (Ok (order, v))) c.in-Shortlex.is opened))
+    let mid = c.test_opened.new.folder in
+    let passed = has_passed cmp (IsFileIn files) files o.version _ (told_themselves files) (c.in_ok-test_opened.ensures.answer files told) in
+    let now = told_still (tells c.args.folder.now) (tells mid) files c.test_opened.ensures.reads.same told in
+    let reads : ReadsAs cmp o.order o.version passed.loaded files = record { opened = opened; loaded = passed.held } in
+    let whole = IsWholeCompacted cmp (order_short_keys o.order) files o.version c.args.level c.args.settings.now in
+    answers_since step_in (failed c.args.folder.now) (failed mid) (failed c.compact_tested.new.folder) c.compact_tested.result whole whole (λ a h. h) c.test_opened.ensures.device.later c.compact_tested.ensures.device.later
+    (c.compact_tested.ensures.answer files passed.loaded passed.tables now current reads passed.sound)
 
-pub returns-in-Bytewise-clause-runs : goal.returns-in-Bytewise-clause-runs
-returns-in-Bytewise-clause-runs g c =
-    subst (λ (order : Order). IsWholeRun g.F.Folder (order_name order) (order_cmp order) (order_short_keys order) c.args.opened.now.version c.args.level c.args.settings.now c.args.folder.now c.compact_version.new.folder c.compact_version.result)
-    (sym c.in-Bytewise.is) c.compact_version.ensures.runs
-
-pub returns-in-Shortlex-clause-runs : goal.returns-in-Shortlex-clause-runs
-returns-in-Shortlex-clause-runs g c =
-    subst (λ (order : Order). IsWholeRun g.F.Folder (order_name order) (order_cmp order) (order_short_keys order) c.args.opened.now.version c.args.level c.args.settings.now c.args.folder.now c.compact_version-in-Shortlex.new.folder c.compact_version-in-Shortlex.result)
-    (sym c.in-Shortlex.is) c.compact_version-in-Shortlex.ensures.runs
-
-pub returns-in-Bytewise-clause-left : goal.returns-in-Bytewise-clause-left
-returns-in-Bytewise-clause-left g c files told current opened =
-    let v = c.args.opened.now.version in
+pub returns-clause-left : goal.returns-clause-left
+returns-clause-left g c files told current opened =
+    let o = c.args.opened.now in
+    let cmp = order_cmp o.order in
     let calls = g.F.Folder.calls in
     let tells = g.F.Folder.tells in
-    let is = c.in-Bytewise.is in
-    subst (λ (order : Order). IsWholeLeft (order_view order) v files c.args.level c.args.settings.now (change_by (calls c.args.folder.now) (calls c.compact_version.new.folder) (tells c.args.folder.now) (tells c.compact_version.new.folder)) c.compact_version.result) (sym is)
-    (c.compact_version.ensures.left files Bytewise told current refl (subst (λ (order : Order). IsOpened (IsFileIn files) (Ok (order, v))) is opened))
+    let mid = c.test_opened.new.folder in
+    let new = c.compact_tested.new.folder in
+    let passed = has_passed cmp (IsFileIn files) files o.version _ (told_themselves files) (c.in_ok-test_opened.ensures.answer files told) in
+    let now = told_still (tells c.args.folder.now) (tells mid) files c.test_opened.ensures.reads.same told in
+    let reads : ReadsAs cmp o.order o.version passed.loaded files = record { opened = opened; loaded = passed.held } in
+    whole_left o.order cmp (order_short_keys o.order) o.version files passed.loaded c.args.level c.args.settings.now (calls c.args.folder.now) (calls mid) (calls new) (tells c.args.folder.now) (tells mid) (tells new) c.compact_tested.result reads c.test_opened.ensures.reads.calls c.test_opened.ensures.reads.same
+    (c.compact_tested.ensures.left files passed.loaded passed.tables now current reads passed.sound)
 
-pub returns-in-Shortlex-clause-left : goal.returns-in-Shortlex-clause-left
-returns-in-Shortlex-clause-left g c files told current opened =
-    let v = c.args.opened.now.version in
-    let calls = g.F.Folder.calls in
-    let tells = g.F.Folder.tells in
-    let is = c.in-Shortlex.is in
-    subst (λ (order : Order). IsWholeLeft (order_view order) v files c.args.level c.args.settings.now (change_by (calls c.args.folder.now) (calls c.compact_version-in-Shortlex.new.folder) (tells c.args.folder.now) (tells c.compact_version-in-Shortlex.new.folder)) c.compact_version-in-Shortlex.result) (sym is)
-    (c.compact_version-in-Shortlex.ensures.left files Shortlex told current refl (subst (λ (order : Order). IsOpened (IsFileIn files) (Ok (order, v))) is opened))
+pub returns-clause-runs : goal.returns-clause-runs
+returns-clause-runs g c =
+    let o = c.args.opened.now in
+    whole_run_since g.F.Folder c.args.folder.now c.test_opened.new.folder c.test_opened.ensures.reads.calls c.test_opened.ensures.reads.same (order_name o.order) (order_cmp o.order) (order_short_keys o.order) o.version c.args.level c.args.settings.now c.compact_tested.new.folder c.compact_tested.result
+    c.compact_tested.ensures.runs
+
+pub returns-clause-other : goal.returns-clause-other
+returns-clause-other g c files told other =
+    c.compact_tested.ensures.other files (told_still (g.F.Folder.tells c.args.folder.now) (g.F.Folder.tells c.test_opened.new.folder) files c.test_opened.ensures.reads.same told) other
+
+pub returns-clause-device : goal.returns-clause-device
+returns-clause-device g c = reports_then c.in_ok-test_opened.was c.test_opened.ensures.device c.compact_tested.ensures.device

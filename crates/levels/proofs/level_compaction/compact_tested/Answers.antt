@@ -14,7 +14,7 @@ use Rattle.levels.specs.LevelLeft.{IsLevelLeft}
 use Rattle.levels.specs.WholeAnswer.{IsWholeCompacted}
 use Rattle.levels.specs.WholeRuns.{IsWholeRun}
 use Rattle.levels.specs.declared.selection.Selection.TheVariants.{Parts}
-use Rattle.levels.proofs.tested_level.compact_tested.Goals as goal
+use Rattle.levels.proofs.level_compaction.compact_tested.Goals as goal
 
 pub returns-in-Bytewise-clause-answer : goal.returns-in-Bytewise-clause-answer
 returns-in-Bytewise-clause-answer g c files loaded tables told current reads sound =
@@ -57,3 +57,9 @@ returns-in-Shortlex-clause-left g c files loaded tables told current reads sound
     let is = c.in-Shortlex.is in
     subst (λ (order : Order). IsLevelLeft Parts (order_view order) (version_with v loaded) c.args.level c.args.settings.now (change_by (calls c.args.folder.now) (calls c.compact_lawful-in-Shortlex.new.folder) (tells c.args.folder.now) (tells c.compact_lawful-in-Shortlex.new.folder)) c.compact_lawful-in-Shortlex.result) (sym is)
     (c.compact_lawful-in-Shortlex.ensures.left files Shortlex loaded tables told current refl (subst (λ (order : Order). ReadsAs (order_cmp order) order v loaded files) is reads) (subst (λ (order : Order). IsLawfulTables (order_cmp order) v loaded (Ok tables)) is sound))
+
+pub returns-in-Bytewise-clause-other : goal.returns-in-Bytewise-clause-other
+returns-in-Bytewise-clause-other g c = c.compact_lawful.ensures.other
+
+pub returns-in-Shortlex-clause-other : goal.returns-in-Shortlex-clause-other
+returns-in-Shortlex-clause-other g c = c.compact_lawful-in-Shortlex.ensures.other

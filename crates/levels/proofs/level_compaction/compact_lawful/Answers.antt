@@ -1,5 +1,5 @@
-use Rattle.levels.proofs.Ends.{end_answer, end_left, end_runs}
-use Rattle.levels.proofs.tested_level.compact_lawful.Goals as goal
+use Rattle.levels.proofs.Ends.{end_answer, end_left, end_other, end_runs}
+use Rattle.levels.proofs.level_compaction.compact_lawful.Goals as goal
 
 pub returns-clause-answer : goal.returns-clause-answer
 returns-clause-answer g c files order loaded tables told current reads sound =
@@ -22,3 +22,7 @@ returns-clause-left g c files order loaded tables told current named reads sound
 pub returns-clause-runs : goal.returns-clause-runs
 returns-clause-runs g c =
     end_runs g.F.Folder g.C.Comparator.name_bytes g.C.Comparator.cmp g.C.Comparator.short_keys c.args.opened.now.version c.args.opened.now.manifest c.args.level c.args.settings.now c.args.folder.now c.compact_parts.new.folder c.compact_parts.result c.compact_parts.ensures.end
+
+pub returns-clause-other : goal.returns-clause-other
+returns-clause-other g c =
+    end_other g.F.Folder g.C.Comparator.name_bytes g.C.Comparator.cmp g.C.Comparator.short_keys c.args.opened.now.version c.args.opened.now.manifest c.args.level c.args.settings.now c.args.folder.now c.compact_parts.new.folder c.compact_parts.result c.compact_parts.ensures.end

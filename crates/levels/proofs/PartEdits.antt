@@ -61,7 +61,7 @@ use Rattle.compact.specs.OutputTables.{Output, data_block_count, numbered_tables
 use Rattle.compact.specs.PassedRequest.{IsPassed}
 use Rattle.compact.specs.Request.{RequestView, below_request, request_test}
 use Rattle.compact.specs.declared.settings.Settings.{Settings}
-use Rattle.compact.proofs.AppliedEdit.{all_only, all_tests as all_pass, none_tests, numbered_to}
+use Rattle.compact.proofs.AppliedEdit.{all_only, none_tests, numbered_to}
 use Rattle.compact.proofs.Closing.{any_at}
 use Rattle.compact.proofs.Gets.{kept_part}
 use Rattle.compact.proofs.LawfulAfter.{has_ends}

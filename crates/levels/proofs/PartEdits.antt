@@ -23,7 +23,7 @@ use Rattle.table.proofs.EntryTests.{all_tests, have_keys, passed}
 use Rattle.table.proofs.Keys.{IsInternalKey-reading}
 use Rattle.edit.proofs.Binds.{ok_is}
 use Rattle.edit.proofs.Inserted.{sorted_all}
-use Rattle.edit.proofs.Written.{AllByRecursion-append, fields_lawful, reads_back}
+use Rattle.edit.proofs.Written.{fields_lawful, reads_back}
 use Rattle.edit.specs.Answers.{fault, ◌>>=◌}
 use Rattle.edit.specs.Comparator.{ShortKeys}
 use Rattle.edit.specs.Edit.{Edit, IsEdit, deleted_cmp, edit_bytes, fields_of, settings_of}
@@ -72,6 +72,10 @@ use Rattle.store.proofs.PartFiles.{ArePlaced}
 use Rattle.levels.specs.WholeWork.{IsNumbered}
 use Rattle.levels.proofs.PartStep.{new_numbers, thread_at}
 
+all_both : {X : Type 0} (P : X → Type 0) (xs ys : List X) → AllByRecursion P xs → AllByRecursion P ys → AllByRecursion P (xs ++ ys)
+all_both P [] ys h k = k
+all_both P (x ∷ xs) ys h k = (h.0, all_both P xs ys h.1 k)
+
 -- ---- the keys of what was read
 
 abbrev HasKey : Entry → Type 0
@@ -109,7 +113,7 @@ module _ (cmp : List ℕ → List ℕ → Ordering) where
       let first = stepped (result_at_input place (input_reading cmp i.meta b)) (λ (entries : List Entry). inputs_reading cmp (place + 1) files given >>= λ rest. Ok (entries ∷ rest)) inputs h in
       let second = stepped (inputs_reading cmp (place + 1) files given) (λ (rest : List (List Entry)). Ok (first.value ∷ rest)) inputs first.goes_on in
       subst (λ (l : List (List Entry)). HaveKeys (entries_of_lists l)) (ok_is (first.value ∷ second.value) inputs second.goes_on)
-      (AllByRecursion-append HasKey first.value (entries_of_lists second.value) (input_keys i.meta b first.value (at_input place (input_reading cmp i.meta b) first.value first.is)) (inputs_keys (place + 1) files given second.value second.is))
+      (all_both HasKey first.value (entries_of_lists second.value) (input_keys i.meta b first.value (at_input place (input_reading cmp i.meta b) first.value first.is)) (inputs_keys (place + 1) files given second.value second.is))
 
 -- ---- the outputs of an answer
 

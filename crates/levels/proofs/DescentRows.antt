@@ -1,6 +1,7 @@
 -- Compactions of one level after the other, with a removal after each: which calls they make, of any
 -- folder.
-use Rattle.std.proofs.Common.{Bool, Err, IsErrAnd, List, None, Ok, Option, Result, Some, [], ap, false, inl, inr, is_some, refl, subst, sym, true, ℕ, ◌++◌, ◌∙◌, ◌∷◌, ◌≡◌}
+use Rattle.std.proofs.Common.{append_assoc, map, Bool, Err, IsErrAnd, List, None, Ok, Option, Result, Some, [], ap, false, inl, inr, is_some, refl, subst, sym, true, ℕ, ◌++◌, ◌∙◌, ◌∷◌, ◌≡◌}
+use Rattle.std.proofs.lemmas.List.{map-append}
 use Rattle.std.specs.Option.{IfSome}
 use Rattle.std.specs.Prelude.{IfOk}
 use Rattle.edit.specs.Answers.{fault, ◌>>=◌}
@@ -8,14 +9,14 @@ use Rattle.edit.specs.Edit.{edit_bytes}
 use Rattle.edit.specs.Version.{State, applied_by}
 use Rattle.edit.specs.fault.Fault.{Fault}
 use Rattle.edit.specs.fault.FaultName.TheVariants.{Memory}
-use Rattle.folder.specs.Calls.{Step}
+use Rattle.folder.specs.Calls.{Call, Done, Step}
 use Rattle.folder.specs.Folder.{TellsSame}
 use Rattle.folder.specs.Manifest.{order_name}
 use Rattle.folder.specs.Orders.{order_cmp}
 use Rattle.folder.specs.declared.folder.Folder.{Ghosts}
 use Rattle.folder.specs.declared.order.Order.{Order}
 use Rattle.install.specs.FolderChange.{FolderChange, change_of}
-use Rattle.install.specs.Install.{manifest_bytes}
+use Rattle.install.specs.Install.{current_calls, manifest_bytes, manifest_calls, table_calls}
 use Rattle.compact.specs.declared.settings.Settings.{Settings}
 use Rattle.store.specs.Cleaning.{CleanTeller, IsCleaned, IsListRemoved, NamedVersion, named_version}
 use Rattle.store.specs.Descent.{IsNextLevel}
@@ -144,6 +145,12 @@ module _ {F W : Type 0} (g : Ghosts F) (tells : W → StepView → Bool → W �
     opened = after;
   }
 
+-- the calls of tables, and then those of a manifest and of CURRENT, are those of an installation
+all_calls : (old at new made more : List Step) (tables manifest current : List Call) → at ≡ old ++ made → made ≡ map Done tables → new ≡ at ++ more → more ≡ map Done (manifest ++ current) → new ≡ old ++ map Done ((tables ++ manifest) ++ current)
+all_calls old at new made more tables manifest current first is second rest =
+    second ∙ ap (λ (t : List Step). t ++ more) first ∙ append_assoc old made more
+    ∙ ap (λ (t : List Step). old ++ t) (ap (λ (t : List Step). t ++ more) is ∙ ap (λ (t : List Step). map Done tables ++ t) rest ∙ sym (map-append Done tables (manifest ++ current)) ∙ ap (map Done) (sym (append_assoc tables manifest current)))
+
 -- all calls of an installation were made if a step is answered
 module _ {F : Type 0} (g : Ghosts F) (order : Order) (v : State) (level : ℕ) (s : Settings) (old new : F) (step : CompactionStep) where
   run_installed : (selection : Selection) → IsLevelMadeBy selection g order v level s old new (Ok step) → HasInstalled v (g.calls old) (g.calls new)
@@ -157,7 +164,7 @@ module _ {F : Type 0} (g : Ghosts F) (order : Order) (v : State) (level : ℕ) (
     | inr i ↦ record {
       groups = groups_in w.links;
       bytes = manifest_bytes (order_name order) (order_cmp order) v (edit_bytes i.1.edit);
-      all = i.1.runs.appended ∙ ap (λ (t : List Step). g.calls old ++ t) i.1.runs.made;
+      all = all_calls (g.calls old) (g.calls i.1.at) (g.calls new) i.1.written.steps i.1.runs.steps (table_calls (groups_in w.links)) (manifest_calls (manifest_of v) (manifest_bytes (order_name order) (order_cmp order) v (edit_bytes i.1.edit))) (current_calls (manifest_of v)) i.1.written.appended i.1.written.made i.1.runs.appended i.1.runs.made;
     }
   ]
 

@@ -100,7 +100,7 @@ all_made x y k = record { steps = k.steps; made = k.made; appended = k.appended;
 
 module _ {F : Type 0} (g : Ghosts F) (name : List ℕ) (cmp : List ℕ → List ℕ → Ordering) (short_keys : ShortKeys) (v : State) (opened level : ℕ) (s : Settings) (old new : F) (result : Result CompactionStep Fault) where
   pub end_runs : IsPartsEnd g name cmp short_keys v opened level s old new result → IsWholeRun g name cmp short_keys v level s old new result
-  end_runs (inl b) = inl (record { calls = b.nothing.calls; same = b.nothing.same; refused = b.nothing.refused })
+  end_runs (inl b) = inl b.nothing
   end_runs (inr (inl w)) =
       inr (record {
         parts = w.parts;

@@ -16,6 +16,7 @@ pub mod PartsSoFar
 pub mod PartsOver
 pub mod PartsAt
 pub mod PartWritten
+pub mod Untested
 pub mod OpenedNext
 pub mod Descending
 pub mod DescentRows

@@ -23,7 +23,7 @@ use Rattle.table.proofs.EntryTests.{all_tests, have_keys, passed}
 use Rattle.table.proofs.Keys.{IsInternalKey-reading}
 use Rattle.edit.proofs.Binds.{ok_is}
 use Rattle.edit.proofs.Inserted.{sorted_all}
-use Rattle.edit.proofs.Written.{AllByRecursion-append, fields_lawful, reads_back}
+use Rattle.edit.proofs.Written.{fields_lawful, reads_back}
 use Rattle.edit.specs.Answers.{fault, ◌>>=◌}
 use Rattle.edit.specs.Comparator.{ShortKeys}
 use Rattle.edit.specs.Edit.{Edit, IsEdit, deleted_cmp, edit_bytes, fields_of, settings_of}
@@ -61,7 +61,7 @@ use Rattle.compact.specs.OutputTables.{Output, data_block_count, numbered_tables
 use Rattle.compact.specs.PassedRequest.{IsPassed}
 use Rattle.compact.specs.Request.{RequestView, below_request, request_test}
 use Rattle.compact.specs.declared.settings.Settings.{Settings}
-use Rattle.compact.proofs.AppliedEdit.{all_only, all_tests as all_pass, none_tests, numbered_to}
+use Rattle.compact.proofs.AppliedEdit.{all_only, none_tests, numbered_to}
 use Rattle.compact.proofs.Closing.{any_at}
 use Rattle.compact.proofs.Gets.{kept_part}
 use Rattle.compact.proofs.LawfulAfter.{has_ends}
@@ -71,6 +71,10 @@ use Rattle.store.specs.FolderRequest.{compaction_from, manifest_of, request_from
 use Rattle.store.proofs.PartFiles.{ArePlaced}
 use Rattle.levels.specs.WholeWork.{IsNumbered}
 use Rattle.levels.proofs.PartStep.{new_numbers, thread_at}
+
+all_both : {X : Type 0} (P : X → Type 0) (xs ys : List X) → AllByRecursion P xs → AllByRecursion P ys → AllByRecursion P (xs ++ ys)
+all_both P [] ys h k = k
+all_both P (x ∷ xs) ys h k = (h.0, all_both P xs ys h.1 k)
 
 -- ---- the keys of what was read
 
@@ -109,7 +113,7 @@ module _ (cmp : List ℕ → List ℕ → Ordering) where
       let first = stepped (result_at_input place (input_reading cmp i.meta b)) (λ (entries : List Entry). inputs_reading cmp (place + 1) files given >>= λ rest. Ok (entries ∷ rest)) inputs h in
       let second = stepped (inputs_reading cmp (place + 1) files given) (λ (rest : List (List Entry)). Ok (first.value ∷ rest)) inputs first.goes_on in
       subst (λ (l : List (List Entry)). HaveKeys (entries_of_lists l)) (ok_is (first.value ∷ second.value) inputs second.goes_on)
-      (AllByRecursion-append HasKey first.value (entries_of_lists second.value) (input_keys i.meta b first.value (at_input place (input_reading cmp i.meta b) first.value first.is)) (inputs_keys (place + 1) files given second.value second.is))
+      (all_both HasKey first.value (entries_of_lists second.value) (input_keys i.meta b first.value (at_input place (input_reading cmp i.meta b) first.value first.is)) (inputs_keys (place + 1) files given second.value second.is))
 
 -- ---- the outputs of an answer
 

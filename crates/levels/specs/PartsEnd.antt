@@ -15,15 +15,16 @@ use Rattle.pick.specs.PickedInputs.{PickedInputs, picked_in}
 use Rattle.pick.specs.declared.picked_inputs.Inputs.{Inputs}
 use Rattle.folder.specs.CallSequence.{MakesCalls}
 use Rattle.folder.specs.Calls.{Done, Files, Tells}
-use Rattle.folder.specs.Folder.{TellsSame}
 use Rattle.folder.specs.OpenAnswer.{IsStopped}
 use Rattle.folder.specs.Reports.{ReportsDevice}
 use Rattle.folder.specs.declared.folder.Folder.{Ghosts}
+use Rattle.install.specs.FolderChange.{change_of}
 use Rattle.install.specs.GroupedInstallation.{IsGroupedInstallation, asked_of}
 use Rattle.install.specs.Install.{current_calls, manifest_bytes, manifest_calls, table_calls}
 use Rattle.compact.specs.GroupedAnswer.{table_sizes}
 use Rattle.compact.specs.OneThread.{Answer}
 use Rattle.compact.specs.declared.settings.Settings.{Settings}
+use Rattle.store.specs.Compaction.{IsUnchanged}
 use Rattle.store.specs.FolderRequest.{manifest_of}
 use Rattle.store.specs.InputsCompaction.{IsPickedAnswer}
 use Rattle.store.specs.PickedOutcome.{IsPickedCompacted}
@@ -34,13 +35,6 @@ use Rattle.levels.specs.WholeAnswer.{AreLevelParts, edits_of, next_last, tables_
 use Rattle.levels.specs.WholeRuns.{ArePartLinks, GroupedAnswer, answers_in, groups_in}
 use Rattle.levels.specs.declared.part_writer.WrittenParts.{WrittenParts}
 use Rattle.levels.specs.declared.ready_manifest.ReadyManifest.{ReadyManifest}
-
--- no call that writes was made, and no value is answered
-pub record IsNothingWritten {F X : Type 0} (g : Ghosts F) (old new : F) (result : Result X Fault)
-    : Type 0 where
-  pub calls : g.calls new ≡ g.calls old
-  pub same : TellsSame (g.tells old) (g.tells new)
-  pub refused : OnOk result ⊥
 
 -- what is kept of parts after one more, which has this answer
 pub record IsTakenIn (before after : WrittenParts) (a : Answer) : Type 0 where
@@ -62,7 +56,7 @@ pub record AreTablesMade {F X : Type 0} (g : Ghosts F) (a : Answer) (before afte
 abbrev pub IsOutcomeWritten : {F X : Type 0} → Ghosts F → Answer → WrittenParts → WrittenParts →
     F → F → Result X Fault → Type 0
 IsOutcomeWritten g a before after old new result =
-    ((2 ^ 64 ≤ next_last before.last a) × IsNothingWritten g old new result)
+    ((2 ^ 64 ≤ next_last before.last a) × IsUnchanged (change_of g old new) result)
     ⊎ AreTablesMade g a before after old new result
 
 -- why a part is refused, if the folder told these files then
@@ -77,7 +71,7 @@ IsRefusedFor cmp short_keys files v s last p e =
 pub record IsPartRefused {F X : Type 0} (g : Ghosts F) (cmp : KeyOrder) (short_keys : ShortKeys)
     (v : State) (s : Settings) (p : PickedInputs) (last : ℕ) (old new : F)
     (result : Result X Fault) : Type 0 where
-  pub nothing : IsNothingWritten g old new result
+  pub nothing : IsUnchanged (change_of g old new) result
   pub why : (files : Files) → Tells (g.tells old) files →
       IfErr result (λ e. UnlessMemory e (IsStopped (g.failed old) (g.failed new) e
       ⊎ IsRefusedFor cmp short_keys files v s last p e))
@@ -186,7 +180,7 @@ pub record IsManifestReady (name : List ℕ) (cmp : KeyOrder) (v : State) (edits
 -- there are no parts, so nothing was written
 pub record IsEndBefore {F X : Type 0} (g : Ghosts F) (cmp : KeyOrder) (v : State) (level : ℕ)
     (old new : F) (result : Result X Fault) : Type 0 where
-  pub nothing : IsNothingWritten g old new result
+  pub nothing : IsUnchanged (change_of g old new) result
   pub why : IfErr result (λ e. UnlessMemory e (AreLevelParts cmp v level (Err e)))
 
 -- tables of parts were written, and then it was refused

@@ -1,6 +1,6 @@
 pub mod Loaded
 mod Found
-mod SameTables
+pub mod SameTables
 pub mod TablesAfter
 pub mod NoDevice
 mod Synced

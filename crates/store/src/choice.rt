@@ -17,8 +17,8 @@ use std::alloc::Global;
 pub enum Choice {
     /// What the rules pick of this level.
     Picked(u64),
-    /// One of the finest parts of this level, as `pick::finest_parts` tells them, by its number. The
-    /// first is 1.
+    /// One of the finest parts of this level, as `pick::finest_parts` tells them, by its number.
+    /// The first is 1.
     Part(u64, u64),
 }
 

@@ -77,8 +77,8 @@ pub fn compact_dir<F: ReadsTables + WritesTables, W: Watch + Sync, R: Threads + 
         IsFolderLeft files level settings.now (change_of F.Folder folder.old folder.new) result }
     // Of any folder, also one that tells nothing: no call that writes was made; or a version was
     // opened, and the calls are its syncs and then those of one thread's answer for this level, in
-    // their order, up to one that fails. The tables of the inputs are what reads after the syncs may
-    // give.
+    // their order, up to one that fails. The tables of the inputs are what reads after the syncs
+    // may give.
     ensures runs { IsFolderRun F.Folder level settings.now folder.old folder.new result }
     ensures device { ReportsDevice F.Folder folder.old folder.new result }
 {
@@ -149,8 +149,8 @@ pub fn compact_opened<F: ReadsTables + WritesTables, W: Watch + Sync, R: Threads
     }
 }
 
-/// Compacts a `level` of the version that a folder was `opened` as, after a `test` of the version, if
-/// one is asked for, and installs the outcome. The comparator's name has fewer than 2^32 bytes.
+/// Compacts a `level` of the version that a folder was `opened` as, after a `test` of the version,
+/// if one is asked for, and installs the outcome. The comparator's name has fewer than 2^32 bytes.
 fn compact_version<
     C: SharedComparator + 'static,
     F: ReadsTables + WritesTables,

@@ -5,15 +5,15 @@
 //! 2. [`compact_dir`] does all of it. Its steps are `folder::open`, [`sync_version`] and
 //!    [`compact_opened`], for callers that need what was opened in between. What installs something
 //!    takes a [`SyncedVersion`], which none but the second makes of what was opened.
-//! 3. Without a test [`compact_opened`] reads the inputs alone: its caller knows that the version is
-//!    lawful. [`opened_after`] makes what a folder is opened as after it, which is the next one's.
+//! 3. Without a test [`compact_opened`] reads the inputs alone: its caller knows that the version
+//!    is lawful. [`opened_after`] makes what a folder is opened as after it: the next one's.
 //! 4. Parts of the compaction of all levels: [`test_opened`]; [`bottom`] and [`next_level`], which
-//!    say which levels it takes; [`tell_step`], which tells a [`CleanWatch`] of a compaction that was
-//!    installed; [`clean`], which asks it for names, and removes the files of these that the version
-//!    doesn't need.
-//! 5. [`outcome`] only reads: it answers the outcome of a [`Choice`] of inputs, with the numbers that
-//!    are asked for, after a test of the version or without one. [`write_outcome`] writes it into
-//!    another folder. [`files_to_compact`] names the files that it needs of a level without a test;
+//!    say which levels it takes; [`tell_step`], which tells a [`CleanWatch`] of a compaction that
+//!    was installed; [`clean`], which asks it for names, and removes the files of these that the
+//!    version doesn't need.
+//! 5. [`outcome`] only reads: it answers the outcome of a [`Choice`] of inputs, with the numbers
+//!    that are asked for, after a test of the version or without one. [`write_outcome`] writes it
+//!    into another folder. [`files_to_compact`] names the files that it needs of a level without a test;
 //!    [`parts_to_compact`] are the parts of a level. [`outcome_of_picked`] answers the outcome of
 //!    inputs that its caller found.
 //! 6. Parts of these calls, for those who compact whole levels or install an outcome later:
@@ -26,9 +26,9 @@
 //!
 //! - `answer`: the step or the outcome, or the first refusal in the order of the call's own
 //!   documentation. The crate makes no text: the lines of a step are `answers::compaction_lines`.
-//! - `left`: the folder holds what it held, at most synced; or a compaction was installed, and at Ok
-//!   CURRENT names the manifest of the edited version. Without a test that is if the version passes
-//!   one.
+//! - `left`: the folder holds what it held, at most synced; or a compaction was installed, and at
+//!   Ok CURRENT names the manifest of the edited version. Without a test that is if the version
+//!   passes one.
 //! - `device`: Device if the device failed during the call, and only then.
 //! - `other`: Ok isn't answered if CURRENT is another one than was opened.
 //! - `runs` of [`sync_version`]: CURRENT, its manifest, both names of each table, and then the

@@ -5,8 +5,9 @@ use Rattle.install.specs.Install.{version_with}
 use Rattle.folder.specs.Orders.{order_cmp, order_short_keys}
 use Rattle.store.specs.OrderView.{order_view}
 use Rattle.store.specs.Step.{step_in}
-use Rattle.store.proofs.StepPart.{passes_test, step_left, untested}
+use Rattle.store.proofs.StepPart.{step_left}
 use Rattle.levels.proofs.OpenedNext.{picked_left}
+use Rattle.levels.proofs.Untested.{passes_test, untested}
 use Rattle.levels.specs.LevelLeft.{IsLevelLeft}
 use Rattle.levels.specs.LevelMade.{IsLevelMadeBy, IsLevelStep}
 use Rattle.levels.specs.declared.selection.Selection.{Selection}

@@ -6,7 +6,6 @@ pub mod Rows
 pub mod VersionAnswer
 pub mod ValueForms
 pub mod FolderLines
-pub mod Questions
 pub mod ScanRow
 pub mod FaultLines
 pub mod HistoryLines

@@ -6,8 +6,8 @@ use Rattle.hex.specs.Hex.{IsBytes}
 use Rattle.texts.specs.Spelling.{key_text, value_text}
 use Rattle.texts.specs.declared.spelling.Spelling.{Spelling}
 use Rattle.texts.specs.declared.spelling.Spelling.TheVariants.{Hexadecimal, Text, Utf8}
-use Rattle.answers.specs.declared.question.ValueForm.{ValueForm}
-use Rattle.answers.specs.declared.question.ValueForm.TheVariants.{Line, Raw}
+use Rattle.answers.specs.declared.value_form.ValueForm.{ValueForm}
+use Rattle.answers.specs.declared.value_form.ValueForm.TheVariants.{Line, Raw}
 
 -- the text of a value on a line of its own. Of the bytes `none` the first is escaped, since the
 -- line `none` is that of a key without a value.

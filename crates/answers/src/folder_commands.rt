@@ -5,19 +5,17 @@ ghost use Rattle.std.specs.Option.{option_map};
 ghost use Rattle.table.specs.Answers.{EqualOrMemory};
 ghost use Rattle.folder.specs.Calls.{Files, Tells};
 ghost use Rattle.folder.specs.OpenAnswer.{FolderAnswers};
-ghost use Rattle.folder.specs.Orders.{order_cmp};
 ghost use Rattle.folder.specs.ReadsAs.{IsFileIn};
 ghost use Rattle.folder.specs.Reports.{OnlyReads, ReportsDevice};
-ghost use Rattle.answers.specs.FolderLines.{IsAnswerOfFolder, IsAnswerOfVersion};
-ghost use Rattle.answers.specs.FolderLines.{got_answer, verified_line};
+ghost use Rattle.answers.specs.FolderLines.{IsAnswerOfFolder, got_answer, verified_line};
 ghost use Rattle.answers.specs.VersionAnswer.{IsShown, version_lines};
-ghost use Rattle.answers.specs.Questions.{answer_to};
 
-use crate::question::{Question, ValueForm};
 use crate::unverified_get::unverified_value;
+use crate::value_form::ValueForm;
 use crate::version_answer::version_lines;
-use crate::version_verdict::{lawful_answer, lawful_line, test_opened};
-use board::Watch;
+use crate::version_verdict::lawful_line;
+use board::{Watch, Workers};
+use checks::test_by_order;
 use edit::Version;
 use folder::{Bytewise, Folder, Order, ReadsTables, Shortlex, open};
 use std::alloc::Global;
@@ -75,16 +73,14 @@ pub fn manifest_lines(
 /// - Lawless: the version isn't lawful.
 ///
 /// If the device fails a call, the answer is Device and no further call is made. If memory runs
-/// out, it is Memory. Four workers check the tables; the answer doesn't depend on which is first.
-/// At most `memory` bytes of tables are in memory at once, if no single user key needs more.
+/// out, it is Memory. `workers` check the tables; the answer doesn't depend on which is first. At
+/// most `memory` bytes of tables are in memory at once, if no single user key needs more.
 ///
-/// The work is told to `watch`, which is `&Open` if nobody watches.
+/// The work is told to the gate of `workers`, which is `&Open` if nobody watches.
 pub fn verify<F: ReadsTables, W: Watch + Sync, R: Threads + Sync>(
-    rt: &R,
-    alloc: Global,
+    workers: &Workers<'_, R, W>,
     folder: &mut F,
     memory: u64,
-    watch: &W,
 ) -> Result<Vec<u8>, Fault>
     ensures answer { (files : Files) → Tells (F.tells folder.old) files →
         FolderAnswers (λ v. v.items) (F.failed folder.old) (F.failed folder.new) result
@@ -92,17 +88,9 @@ pub fn verify<F: ReadsTables, W: Watch + Sync, R: Threads + Sync>(
     ensures device { ReportsDevice F.Folder folder.old folder.new result }
     ensures reads { OnlyReads F.Folder folder.old folder.new }
 {
-    let opened = open(alloc, folder)?;
-    let tested = test_opened(
-        rt,
-        alloc,
-        folder,
-        opened.order,
-        &opened.version,
-        memory,
-        watch,
-    )?;
-    lawful_line(alloc, tested)
+    let opened = open(workers.alloc(), folder)?;
+    let tested = test_by_order(workers, folder, opened.order, &opened.version, memory)?;
+    lawful_line(workers.alloc(), tested)
 }
 
 /// What is printed of the value of a user `key` at a sequence, in the version that a folder holds.
@@ -112,16 +100,14 @@ pub fn verify<F: ReadsTables, W: Watch + Sync, R: Threads + Sync>(
 /// form `Raw` it is the value's bytes, and None if the key has no value.
 ///
 /// The sequence `at` may be any number. If it isn't given, it is the version's last sequence.
-/// Refused as `verify` is, and told to `watch` in the same way.
+/// Refused as `verify` is, and told in the same way.
 pub fn get_dir<F: ReadsTables, W: Watch + Sync, R: Threads + Sync>(
-    rt: &R,
-    alloc: Global,
+    workers: &Workers<'_, R, W>,
     folder: &mut F,
     key: &[u8],
     at: Option<u64>,
     form: ValueForm,
     memory: u64,
-    watch: &W,
 ) -> Result<Option<Vec<u8>>, Fault>
     ensures answer { (files : Files) → Tells (F.tells folder.old) files →
         FolderAnswers (option_map (λ v. v.items)) (F.failed folder.old) (F.failed folder.new) result
@@ -129,45 +115,7 @@ pub fn get_dir<F: ReadsTables, W: Watch + Sync, R: Threads + Sync>(
     ensures device { ReportsDevice F.Folder folder.old folder.new result }
     ensures reads { OnlyReads F.Folder folder.old folder.new }
 {
-    let opened = open(alloc, folder)?;
-    answer_opened(
-        rt,
-        alloc,
-        folder,
-        opened.order,
-        &opened.version,
-        Question::Value { key, at, form },
-        memory,
-        watch,
-    )
-}
-
-/// What is printed as the answer of a `version` of this `order`, with the tables in the folder: as
-/// [`verify`] and [`get_dir`] answer of a folder that is opened already. It only reads.
-///
-/// None only if a key has no value, and the question is of the form `Raw`.
-pub fn answer_opened<F: ReadsTables, W: Watch + Sync, R: Threads + Sync>(
-    rt: &R,
-    alloc: Global,
-    folder: &mut F,
-    order: Order,
-    version: &Version,
-    question: Question<'_>,
-    memory: u64,
-    watch: &W,
-) -> Result<Option<Vec<u8>>, Fault>
-    ensures answer { (files : Files) → Tells (F.tells folder.old) files →
-        FolderAnswers (option_map (λ v. v.items)) (F.failed folder.old) (F.failed folder.new) result
-        (IsAnswerOfVersion (IsFileIn files) (order_cmp order) version.now
-        (answer_to question.entry version.now)) }
-    ensures device { ReportsDevice F.Folder folder.old folder.new result }
-    ensures reads { OnlyReads F.Folder folder.old folder.new }
-{
-    let tested = test_opened(rt, alloc, folder, order, version, memory, watch)?;
-    match question {
-        Question::Lawful => lawful_answer(alloc, tested),
-        Question::Value { key, at, form } => {
-            unverified_value(alloc, folder, order, version, key, at, form)
-        }
-    }
+    let opened = open(workers.alloc(), folder)?;
+    test_by_order(workers, folder, opened.order, &opened.version, memory)?;
+    unverified_value(workers.alloc(), folder, &opened, key, at, form)
 }

@@ -1,8 +1,8 @@
 //! The lines and objects that are printed, and the calls behind the commands that only read.
 //!
-//! 1. [`manifest`], [`verify`] and [`get_dir`] open a folder and answer; [`manifest_lines`],
-//!    [`test_opened`] and [`answer_opened`] do the same for a folder that is opened already.
-//!    [`unverified_value`] answers a value without testing the version.
+//! 1. [`manifest`], [`verify`] and [`get_dir`] open a folder and answer. Of one that is opened
+//!    already, [`manifest_lines`] are the lines of its version, and [`lawful_line`] is that of a
+//!    test. [`unverified_value`] answers a value without testing the version.
 //! 2. [`dump`] answers the lines of one table, [`verify_table`] tests one, [`push_row`] makes the
 //!    line of one key, [`value_answer`] what is printed of one value.
 //! 3. [`compaction_lines`] are the lines of a compaction. [`file_fault_line`], [`key_fault_line`]
@@ -29,13 +29,13 @@ mod json_answers;
 mod json_object;
 mod json_refusal;
 mod json_stats;
-mod question;
 mod rows;
 mod scan_row;
 mod stats_table;
 mod table_dump;
 mod table_verdict;
 mod unverified_get;
+mod value_form;
 mod value_forms;
 mod version_answer;
 mod version_verdict;
@@ -44,7 +44,7 @@ pub use checks::{Open, VersionTotals};
 pub use compaction_answer::{CompactionEnd, compaction_json, compaction_lines};
 pub use exit_status::status;
 pub use fault_lines::{fault_count_line, file_fault_line, key_fault_line};
-pub use folder_commands::{answer_opened, get_dir, manifest, manifest_lines, verify};
+pub use folder_commands::{get_dir, manifest, manifest_lines, verify};
 pub use history_lines::{EntryPlace, entry_line};
 pub use json_answers::{
     count_json, entry_json, lawful_json, logs_json, name_json, push_row_json, removed_json,
@@ -53,13 +53,13 @@ pub use json_answers::{
 pub use json_object::json_line;
 pub use json_refusal::{Told, refusal_json};
 pub use json_stats::stats_json;
-pub use question::{Question, ValueForm};
 pub use scan::FileTotal;
 pub use scan_row::push_row;
 pub use stats_table::stats_text;
 pub use table_dump::dump;
 pub use table_verdict::{table_entries, verify_table};
 pub use unverified_get::unverified_value;
+pub use value_form::ValueForm;
 pub use value_forms::{push_named_value, value_answer, value_lines_law};
 pub use version_answer::version_json;
-pub use version_verdict::test_opened;
+pub use version_verdict::lawful_line;

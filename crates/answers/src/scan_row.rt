@@ -4,7 +4,7 @@ ghost use Rattle.std.specs.Prelude.{◌≡◌, ◌++◌, length, take, None, Som
 ghost use Rattle.std.specs.Option.{option_map};
 ghost use Rattle.table.specs.Answers.{fault};
 ghost use Rattle.table.specs.fault.FaultName.TheVariants.{Memory};
-ghost use Rattle.answers.specs.ScanRow.{row_line};
+ghost use Rattle.answers.specs.ScanRow.{key_line};
 
 use table::Fault;
 use texts::Spelling;
@@ -20,7 +20,7 @@ pub fn push_row(
     value: Option<&[u8]>,
 ) -> Result<(), Fault>
     ensures ok { OnOk result (lines.new.items ≡ lines.old.items
-        ++ row_line spelling key.now (option_map (λ bytes. bytes.now) value.entry)) }
+        ++ key_line spelling key.now (option_map (λ bytes. bytes.now) value.entry)) }
     ensures err { OnErr result (take (length lines.old.items) lines.new.items ≡ lines.old.items) }
     ensures memory { IsOkUnless result (fault Memory) }
 {
@@ -33,7 +33,7 @@ pub fn push_row(
 /// Appends the line of a key and its value.
 fn push_pair(lines: &mut Vec<u8>, spelling: Spelling, key: &[u8], value: &[u8]) -> Result<(), Fault>
     ensures ok { OnOk result (lines.new.items ≡ lines.old.items
-        ++ row_line spelling key.now (Some value.now)) }
+        ++ key_line spelling key.now (Some value.now)) }
     ensures err { OnErr result (take (length lines.old.items) lines.new.items ≡ lines.old.items) }
     ensures memory { IsOkUnless result (fault Memory) }
 {
@@ -47,7 +47,7 @@ fn push_pair(lines: &mut Vec<u8>, spelling: Spelling, key: &[u8], value: &[u8]) 
 /// Appends the line of a key alone.
 fn push_lone_key(lines: &mut Vec<u8>, spelling: Spelling, key: &[u8]) -> Result<(), Fault>
     ensures ok { OnOk result (lines.new.items ≡ lines.old.items
-        ++ row_line spelling key.now None) }
+        ++ key_line spelling key.now None) }
     ensures err { OnErr result (take (length lines.old.items) lines.new.items ≡ lines.old.items) }
     ensures memory { IsOkUnless result (fault Memory) }
 {

@@ -12,17 +12,17 @@ ghost use Rattle.folder.specs.Orders.{order_cmp};
 ghost use Rattle.folder.specs.Reports.{OnlyReads, ReportsDevice};
 ghost use Rattle.checks.specs.Tables.{NumberedContents};
 
-use crate::question::ValueForm;
+use crate::value_form::ValueForm;
 use crate::value_forms::value_answer;
 use edit::Version;
-use folder::{Bytewise, Folder, Order, Shortlex};
+use folder::{Bytewise, Folder, Opened, Order, Shortlex};
 use scan::{get_unverified, sequence_of};
 use std::alloc::Global;
 use table::{Comparator, Fault};
 
-/// What [`answer_opened`](crate::answer_opened) answers to the question of a value, if the version
-/// is lawful with the tables in the folder. That isn't tested: it was verified before, and no other
-/// program changed the folder since. It only reads.
+/// What [`get_dir`](crate::get_dir) answers of a folder that is opened already, if its version is
+/// lawful with the tables in it. That isn't tested: it was verified before, and no other program
+/// changed the folder since. It only reads.
 ///
 /// It reads the tables whose range of user keys holds the key, level by level until one of them has
 /// it. Of each it reads the footer, the index block and one or two data blocks. What it reads it
@@ -30,8 +30,7 @@ use table::{Comparator, Fault};
 pub fn unverified_value<F: Folder>(
     alloc: Global,
     folder: &mut F,
-    order: Order,
-    version: &Version,
+    opened: &Opened,
     key: &[u8],
     at: Option<u64>,
     form: ValueForm,
@@ -39,14 +38,16 @@ pub fn unverified_value<F: Folder>(
     // If the folder tells files whose tables are lawful with the version, their answer is given.
     ensures lawful { (files : Files) (loaded : List (ℕ × List ℕ)) (tables : List NumberedContents) →
         Tells (F.tells folder.old) files →
-        IsLoaded (F.tells folder.old) (file_numbers (order_cmp order) version.now) (Ok loaded) →
-        IsLawfulTables (order_cmp order) version.now loaded (Ok tables) →
+        IsLoaded (F.tells folder.old)
+        (file_numbers (order_cmp opened.now.order) opened.now.version) (Ok loaded) →
+        IsLawfulTables (order_cmp opened.now.order) opened.now.version loaded (Ok tables) →
         FolderAnswers (option_map (λ v. v.items)) (F.failed folder.old) (F.failed folder.new) result
-        (λ answer. answer ≡ Ok (got_answer form key.now at version.now tables)) }
+        (λ answer. answer ≡ Ok (got_answer form key.now at opened.now.version tables)) }
     ensures device { ReportsDevice F.Folder folder.old folder.new result }
     ensures reads { OnlyReads F.Folder folder.old folder.new }
 {
-    match order {
+    let version = &opened.version;
+    match opened.order {
         Order::Bytewise => value_by::<Bytewise, F>(alloc, folder, version, key, at, form),
         Order::Shortlex => value_by::<Shortlex, F>(alloc, folder, version, key, at, form),
     }

@@ -9,7 +9,7 @@ ghost use Rattle.texts.specs.Spelling.{ArePrintable, ReadBack};
 ghost use Rattle.answers.specs.ValueForms.{ValueLinesDiffer, lone_text, value_answer, value_line};
 ghost use Rattle.answers.specs.ValueForms.{named_value_line, value_line_text};
 
-use crate::question::ValueForm;
+use crate::value_form::ValueForm;
 use std::alloc::Global;
 use table::Fault;
 use texts::Spelling;

@@ -4,14 +4,11 @@ use Rattle.std.specs.List.{AllZip}
 use Rattle.std.specs.Option.{MatchOption, option_map}
 use Rattle.std.specs.Global.{Vec}
 use Rattle.std.specs.declared.cmp.Ordering.{Ordering}
-use Rattle.std.proofs.lemmas.List.{map-append}
-use Rattle.ikey.proofs.Binds.{done, ok_is}
+use Rattle.ikey.proofs.Binds.{bind_ok, done}
 use Rattle.ikey.specs.Answers.{◌>>=◌, UnlessMemory, fault}
 use Rattle.ikey.specs.fault.Fault.{Fault}
 use Rattle.ikey.specs.fault.FaultName.TheVariants.{Memory}
-use Rattle.table.specs.SoundTables.{IsCheckedTable}
 use Rattle.table.specs.TableContents.{Contents, contents_reading}
-use Rattle.table.specs.declared.bounds.Bounds.{Bounds}
 use Rattle.folder.specs.Calls.{Files, ToldFiles}
 use Rattle.folder.specs.LoadedTables.{IsTableOf}
 use Rattle.folder.specs.OpenAnswer.{FolderAnswers, IsStopped}
@@ -20,35 +17,23 @@ use Rattle.reads.specs.Tables.{NumberedContents}
 use Rattle.checks.specs.TableReadings.{tables_reading}
 use Rattle.checks.specs.TableAnswers.{IsInvalid, IsRead}
 use Rattle.checks.specs.HeldTables.{IsFoundAnswer, held_numbers}
-use Rattle.checks.specs.TablePlaces.{AreBounds}
-use Rattle.checks.proofs.FoundTables.{checked_parts, found_read, found_tables, loaded_numbers, own_bytes, read_numbers}
+use Rattle.checks.proofs.FoundTables.{checked_parts, found_read, found_tables, loaded_numbers, read_numbers}
 use Rattle.checks.proofs.Lent.{lent_table}
-use Rattle.checks.proofs.TableRounds.{reading_append, tables_after}
+use Rattle.checks.proofs.TableRounds.{tables_after}
 
 module _ (cmp : List ℕ → List ℕ → Ordering) where
-  abbrev pub IsBoundOf : NumberedContents → Bounds → Type 0
-  IsBoundOf t b = IsCheckedTable cmp t.contents.bytes b
+  -- a table that was read, and one that is invalid
+  pub one_read : (t : ℕ × Vec ℕ) (x : NumberedContents) → x.number ≡ t.0 → contents_reading cmp t.1.items ≡ Ok x.contents → tables_reading cmp (lent_table t ∷ []) ≡ Ok (x ∷ [])
+  one_read t x number read =
+      ap (λ (r : Result Contents Fault). (r >>= λ contents. Ok (record { number = t.0; contents = contents })) >>= λ first. done (first ∷ [])) read
+      ∙ ap (λ (n : ℕ). done (record { number = n; contents = x.contents } ∷ [])) (sym number)
 
-  -- the bounds of tables that were checked are those of their bytes
-  pub bounds_loaded : (loaded : List (ℕ × List ℕ)) (tables : List NumberedContents) (bounds : List Bounds) → tables_reading cmp loaded ≡ Ok tables → AllZip IsBoundOf tables bounds → AreBounds cmp loaded bounds
-  bounds_loaded [] tables [] read h = tt
-  bounds_loaded [] tables (b ∷ bounds) read h = subst (λ (ts : List NumberedContents). AllZip IsBoundOf ts (b ∷ bounds)) (sym (ok_is [] tables read)) h
-  bounds_loaded (t ∷ loaded) tables [] read h =
-      let parts = checked_parts cmp t loaded tables read in
-      subst (λ (ts : List NumberedContents). AllZip IsBoundOf ts []) (sym parts.whole) h
-  bounds_loaded (t ∷ loaded) tables (b ∷ bounds) read h =
-      let parts = checked_parts cmp t loaded tables read in
-      let both = subst (λ (ts : List NumberedContents). AllZip IsBoundOf ts (b ∷ bounds)) (sym parts.whole) h in
-      (subst (λ (bytes : List ℕ). IsCheckedTable cmp bytes b) (sym (own_bytes cmp t.1 parts.contents parts.read)) both.0, bounds_loaded loaded parts.behind bounds parts.rest both.1)
-
-  -- a table more
-  pub read_more : (before : List (ℕ × Vec ℕ)) (t : ℕ × Vec ℕ) (tables : List NumberedContents) (x : Contents) → tables_reading cmp (map lent_table before) ≡ Ok tables → contents_reading cmp t.1.items ≡ Ok x
-      → tables_reading cmp (map lent_table (before ++ t ∷ [])) ≡ Ok (tables ++ record { number = t.0; contents = x } ∷ [])
-  read_more before t tables x so_far one =
-      ap (tables_reading cmp) (map-append lent_table before (t ∷ []))
-      ∙ reading_append cmp (map lent_table before) (lent_table t ∷ [])
-      ∙ ap (λ (r : Result (List NumberedContents) Fault). r >>= λ front. tables_after front (tables_reading cmp (lent_table t ∷ []))) so_far
-      ∙ ap (λ (r : Result Contents Fault). tables_after tables ((r >>= λ contents. Ok (record { number = t.0; contents = contents })) >>= λ first. done (first ∷ []))) one
+  pub one_invalid : (front : List NumberedContents) (t : ℕ × Vec ℕ) (rest : List (ℕ × Vec ℕ)) (total : Result (List NumberedContents) Fault) → ((x : Contents) → contents_reading cmp t.1.items ≡ Ok x → ⊥)
+      → tables_after front (tables_reading cmp (map lent_table (t ∷ rest))) ≡ total → (tables : List NumberedContents) → total ≡ Ok tables → ⊥
+  one_invalid front t rest total invalid so_far tables h =
+      let all = bind_ok (tables_reading cmp (map lent_table (t ∷ rest))) (λ (others : List NumberedContents). Ok (front ++ others)) tables (so_far ∙ h) in
+      let parts = checked_parts cmp (lent_table t) (map lent_table rest) all.0 all.1 in
+      invalid parts.contents parts.read
 
   -- ---- what is answered of the tables that were loaded
 

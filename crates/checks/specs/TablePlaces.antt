@@ -1,13 +1,11 @@
 -- Held tables that are kept, and those that are read.
 use Rattle.std.specs.Prelude.{◌≡◌, ℕ, List, [], ◌∷◌, map, Contains, Option, Some, None}
 use Rattle.std.specs.Prelude.{Result, Ok, Err, IfSome}
-use Rattle.std.specs.List.{AllZip, filter_map}
+use Rattle.std.specs.List.{filter_map}
 use Rattle.ikey.specs.Answers.{fault}
 use Rattle.ikey.specs.fault.Fault.{Fault}
 use Rattle.ikey.specs.fault.FaultName.TheVariants.{Missing}
 use Rattle.ikey.specs.Comparator.{KeyOrder}
-use Rattle.table.specs.SoundTables.{IsCheckedTable}
-use Rattle.table.specs.declared.bounds.Bounds.{Bounds}
 use Rattle.folder.specs.Calls.{ToldFiles}
 use Rattle.folder.specs.LoadedTables.{IsLoaded}
 use Rattle.reads.specs.Tables.{NumberedContents}
@@ -53,9 +51,3 @@ abbrev pub IsLoadedIfThere : ToldFiles → List ℕ → Result (Option (List (�
 IsLoadedIfThere tells numbers (Ok (Some loaded)) = IsLoaded tells numbers (Ok loaded)
 IsLoadedIfThere tells numbers (Ok None) = IsLoaded tells numbers (Err (fault Missing))
 IsLoadedIfThere tells numbers (Err e) = ⊥
-
--- the bytes of each are a table with these bounds
-abbrev pub AreBounds : KeyOrder → List (ℕ × List ℕ) → List Bounds → Type 0
-AreBounds cmp loaded bounds =
-    AllZip (λ (t : ℕ × List ℕ) (b : Bounds). IsCheckedTable cmp t.1 b)
-    loaded bounds

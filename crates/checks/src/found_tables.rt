@@ -1,30 +1,25 @@
 //! Tables of a folder, read and checked.
 
 ghost use Rattle.std.specs.Prelude.{◌≡◌, ◌<◌, ◌≤◌, true, map, IfOk, IfErr, IfSome};
-ghost use Rattle.std.specs.List.{AllZip};
 ghost use Rattle.std.specs.Option.{MatchOption, option_map};
 ghost use Rattle.ikey.specs.Answers.{fault};
 ghost use Rattle.ikey.specs.fault.FaultName.TheVariants.{Memory};
-ghost use Rattle.table.specs.SoundTables.{IsCheckedTable};
 ghost use Rattle.folder.specs.Calls.{Files, Tells};
 ghost use Rattle.folder.specs.OpenAnswer.{FolderAnswers};
 ghost use Rattle.folder.specs.Reports.{OnlyReads, ReportsDevice};
 ghost use Rattle.checks.specs.TableAnswers.{IsInvalid, IsRead};
 ghost use Rattle.checks.specs.HeldTables.{AreHeldBy, IsFoundAnswer, held_if, held_numbers};
-ghost use Rattle.checks.specs.TablePlaces.{AreBounds, IsLoadedIfThere};
+ghost use Rattle.checks.specs.TablePlaces.{IsLoadedIfThere};
 
 use crate::held_table::HeldTable;
 use crate::held_tables::HeldTables;
-use crate::rounds::check_rounds;
 use crate::table_places::{placed_tables, wanted_numbers};
-use crate::worker_tables::worker_places;
+use crate::worker_tables::{owned_table, worker_places};
 use board::{Gate, Workers};
 use folder::{Folder, ReadsTables, load_numbers};
 use ikey::{Comparator, Fault, FaultName, SharedComparator};
-use reads::NumberedTable;
 use std::alloc::Global;
 use std::thread::Threads;
-use table::{Bounds, OwnedTable};
 
 /// Tables that were read and checked.
 #[derive(Drop)]
@@ -92,7 +87,7 @@ fn load_tables<C: SharedComparator, F: Folder, G: Gate + Sync, R: Threads + Sync
     let Some(loaded) = load_if_there(workers.alloc(), folder, numbers)? else {
         return Ok(None);
     };
-    owned_tables::<C, G, R>(workers, loaded)
+    owned_tables(workers.alloc(), loaded)
 }
 
 /// The bytes of the tables with these numbers. None if one of them is missing. It only reads.
@@ -118,8 +113,8 @@ fn load_if_there<F: Folder>(
 }
 
 /// The tables of these numbers and bytes, which own the bytes. None if one is invalid.
-fn owned_tables<C: SharedComparator, G: Gate + Sync, R: Threads + Sync>(
-    workers: &Workers<'_, R, G>,
+fn owned_tables<C: Comparator>(
+    alloc: Global,
     loaded: Vec<(u64, Vec<u8>)>,
 ) -> Result<Option<Vec<HeldTable<C>>>, Fault>
     ensures checked { IfOk result (λ found. MatchOption found
@@ -127,68 +122,13 @@ fn owned_tables<C: SharedComparator, G: Gate + Sync, R: Threads + Sync>(
         (λ v. IsRead C.cmp (map (λ t. (t.0, t.1.items)) loaded.items) v.items)) }
     ensures memory { IfErr result (λ e. e ≡ fault Memory) }
 {
-    let found = found_bounds::<C, G, R>(workers, &loaded)?;
-    let Some(bounds) = found else {
-        return Ok(None);
-    };
-    Ok(Some(with_bounds(workers.alloc(), loaded, bounds)?))
-}
-
-/// The bounds of the tables of these numbers and bytes. None if one is invalid.
-fn found_bounds<C: SharedComparator, G: Gate + Sync, R: Threads + Sync>(
-    workers: &Workers<'_, R, G>,
-    loaded: &[(u64, Vec<u8>)],
-) -> Result<Option<Vec<Bounds>>, Fault>
-    ensures checked { IfOk result (λ found. MatchOption found
-        (IsInvalid C.cmp (map (λ t. (t.0, t.1.items)) loaded.now))
-        (λ v. AreBounds C.cmp (map (λ t. (t.0, t.1.items)) loaded.now) v.items)) }
-    ensures memory { IfErr result (λ e. e ≡ fault Memory) }
-{
-    match check_rounds::<C, G, R>(workers, loaded) {
-        Ok(tables) => Ok(Some(bounds_of_tables(workers.alloc(), tables)?)),
-        Err(refused) => match refused.name {
-            FaultName::Memory => Err(Fault::of(FaultName::Memory)),
-            _ => Ok(None),
-        },
-    }
-}
-
-/// The bounds of tables, in order.
-fn bounds_of_tables<'t, C: Comparator>(
-    alloc: Global,
-    tables: Vec<NumberedTable<'t, C>>,
-) -> Result<Vec<Bounds>, Fault>
-    ensures bounds { IfOk result
-        (λ v. AllZip (λ t b. IsCheckedTable C.cmp t.contents.bytes b)
-        tables.entry.items v.items) }
-    ensures memory { IfErr result (λ e. e ≡ fault Memory) }
-{
-    let mut bounds = Vec::with_capacity(alloc, tables.len())?;
-    for table in tables {
-        bounds.push(table.into_table().into_bounds())?;
-    }
-    Ok(bounds)
-}
-
-/// The tables of these numbers and bytes, whose checks found these bounds.
-fn with_bounds<C: Comparator>(
-    alloc: Global,
-    loaded: Vec<(u64, Vec<u8>)>,
-    bounds: Vec<Bounds>,
-) -> Result<Vec<HeldTable<C>>, Fault>
-    requires { AreBounds C.cmp (map (λ t. (t.0, t.1.items)) loaded.items) bounds.items }
-    ensures read { IfOk result
-        (λ v. IsRead C.cmp (map (λ t. (t.0, t.1.items)) loaded.items) v.items) }
-    ensures memory { IfErr result (λ e. e ≡ fault Memory) }
-{
     let mut tables = Vec::with_capacity(alloc, loaded.len())?;
-    let mut ahead = bounds.into_iter();
-    for table in loaded {
-        let (number, bytes) = table;
-        let Some(found) = ahead.next() else {
-            unreachable!();
+    for pair in loaded {
+        let (number, bytes) = pair;
+        let Some(table) = owned_table(alloc, number, bytes)? else {
+            return Ok(None);
         };
-        tables.push(HeldTable::of(number, OwnedTable::of(bytes, found)))?;
+        tables.push(table)?;
     }
-    Ok(tables)
+    Ok(Some(tables))
 }

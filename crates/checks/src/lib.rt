@@ -3,7 +3,8 @@
 //! 1. [`check_tables`] checks them, a table a job.
 //! 2. [`lawful_tables`] does that, and then tests whether a version is lawful with them, a range of
 //!    user keys a job.
-//! 3. [`test_version`] makes the same test with the tables that a folder holds, in bounded memory.
+//! 3. [`test_version`] makes the same test with the tables that a folder holds, in bounded memory;
+//!    [`test_by_order`] in an order that is known at run time alone.
 //!
 //! For work on a version in bounded memory, [`group_split`] splits the user keys into ranges whose
 //! tables fit into memory together, and [`needed_files`] tells which files a range needs.
@@ -54,6 +55,6 @@ pub use split::{Range, Split};
 pub use table_bounds::bounds_tell;
 pub use tested_version::TestedVersion;
 pub use version_check::lawful_tables;
-pub use version_test::{test_and_hold, test_version};
+pub use version_test::{test_and_hold, test_by_order, test_version};
 pub use version_totals::VersionTotals;
 pub use wanted_tables::checked_tables;

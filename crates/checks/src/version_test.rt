@@ -3,6 +3,7 @@
 ghost use Rattle.std.specs.Prelude.{◌<◌, ◌≤◌, IfOk};
 ghost use Rattle.folder.specs.Calls.{Files, Tells};
 ghost use Rattle.folder.specs.OpenAnswer.{FolderAnswers};
+ghost use Rattle.folder.specs.Orders.{order_cmp};
 ghost use Rattle.folder.specs.ReadsAs.{IsFileIn};
 ghost use Rattle.folder.specs.Reports.{OnlyReads, ReportsDevice};
 ghost use Rattle.checks.specs.GroupTest.{IsSweepAnswer};
@@ -19,7 +20,7 @@ use crate::rounds::MAX_TABLES;
 use crate::tested_version::TestedVersion;
 use crate::version_totals::VersionTotals;
 use board::{Gate, Watch, Work, Workers};
-use folder::{ReadsTables, Version, file_numbers};
+use folder::{Bytewise, Order, ReadsTables, Shortlex, Version, file_numbers};
 use ikey::{Fault, FaultName, SharedComparator};
 use reads::files_newest_first;
 use std::thread::Threads;
@@ -62,6 +63,26 @@ pub fn test_version<
 {
     let found = test_and_hold::<C, F, W, R>(workers, folder, version, memory)?;
     Ok(found.tested)
+}
+
+/// Tests a version as [`test_version`] does, in the order of the user keys that it is given.
+pub fn test_by_order<F: ReadsTables, W: Watch + Sync, R: Threads + Sync>(
+    workers: &Workers<'_, R, W>,
+    folder: &mut F,
+    order: Order,
+    version: &Version,
+    memory: u64,
+) -> Result<VersionTotals, Fault>
+    ensures answer { (files : Files) → Tells (F.tells folder.old) files →
+        FolderAnswers (λ tested. tested) (F.failed folder.old) (F.failed folder.new) result
+        (IsTested (IsFileIn files) (order_cmp order) version.now) }
+    ensures device { ReportsDevice F.Folder folder.old folder.new result }
+    ensures reads { OnlyReads F.Folder folder.old folder.new }
+{
+    match order {
+        Order::Bytewise => test_version::<Bytewise, F, W, R>(workers, folder, version, memory),
+        Order::Shortlex => test_version::<Shortlex, F, W, R>(workers, folder, version, memory),
+    }
 }
 
 /// Tests a version as [`test_version`] does, and hands on the tables that it still holds. They are

@@ -2,11 +2,12 @@
 //!
 //! Why: who has just read a table has it in the cache.
 
-ghost use Rattle.std.specs.Prelude.{◌≡◌, ◌<◌, ◌≤◌, IfOk, IfErr, IfSome, Ok};
+ghost use Rattle.std.specs.Prelude.{◌≡◌, ◌<◌, ◌≤◌, IfOk, IfErr, Ok};
 ghost use Rattle.std.specs.List.{AllZip};
+ghost use Rattle.std.specs.Option.{MatchOption};
 ghost use Rattle.ikey.specs.Answers.{fault};
 ghost use Rattle.ikey.specs.fault.FaultName.TheVariants.{Memory};
-ghost use Rattle.table.specs.TableContents.{contents_reading};
+ghost use Rattle.table.specs.TableContents.{Contents, contents_reading};
 ghost use Rattle.checks.specs.TablePlaces.{IsToldPlace};
 
 use crate::held_table::HeldTable;
@@ -45,20 +46,30 @@ impl<'p, C: Comparator, D: TableReader> Labour for TablesToCheck<'p, C, D> {
     fn work(&self, job: u64) -> Result<TablePlace<C>, Fault> {
         let number = self.numbers[job as usize];
         match self.reader.table(self.alloc, number) {
-            Some(bytes) => Ok(TablePlace::of(number, valid_table(self.alloc, number, bytes))),
+            Some(bytes) => Ok(TablePlace::of(number, owned_table(self.alloc, number, bytes)?)),
             None => Ok(TablePlace::of(number, None)),
         }
     }
 }
 
-/// The table of a `number` and these bytes. None if it is invalid, or if memory ran out.
-fn valid_table<C: Comparator>(alloc: Global, number: u64, bytes: Vec<u8>) -> Option<HeldTable<C>>
-    ensures { IfSome result (λ t. (t.number ≡ number) × (t.contents.bytes ≡ bytes.items)
-        × (contents_reading C.cmp bytes.items ≡ Ok t.contents)) }
+/// The table of a `number` and these bytes. None if it is invalid.
+pub(crate) fn owned_table<C: Comparator>(
+    alloc: Global,
+    number: u64,
+    bytes: Vec<u8>,
+) -> Result<Option<HeldTable<C>>, Fault>
+    ensures checked { IfOk result (λ found. MatchOption found
+        ((x : Contents) → contents_reading C.cmp bytes.items ≡ Ok x → ⊥)
+        (λ t. (t.number ≡ number) × (t.contents.bytes ≡ bytes.items)
+        × (contents_reading C.cmp bytes.items ≡ Ok t.contents))) }
+    ensures memory { IfErr result (λ e. e ≡ fault Memory) }
 {
     match OwnedTable::check(alloc, bytes) {
-        Ok(table) => Some(HeldTable::of(number, table)),
-        Err(_) => None,
+        Ok(table) => Ok(Some(HeldTable::of(number, table))),
+        Err(refused) => match refused.name {
+            FaultName::Memory => Err(Fault::of(FaultName::Memory)),
+            _ => Ok(None),
+        },
     }
 }
 

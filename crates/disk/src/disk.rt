@@ -1,17 +1,18 @@
 //! A folder of the system.
 
-ghost use Rattle.std.specs.Prelude.{◌≡◌, [], ◌∷◌, ◌++◌, IfOk, Ok};
+ghost use Rattle.std.specs.Prelude.{◌≡◌, [], ◌∷◌, ◌++◌};
 ghost use Rattle.std.specs.Thread.{IsSync};
 ghost use Rattle.folder.specs.Calls.{TellsAfter, Written, step_of};
-ghost use Rattle.folder.specs.Folder.{IsToldBy, failures_after, one_more};
+ghost use Rattle.folder.specs.Folder.{IsToldBy, failures_after};
 ghost use Rattle.folder.specs.Attempts.{call_in};
-ghost use Rattle.folder.specs.TableFiles.{named_tables, table_files};
+ghost use Rattle.folder.specs.TableFiles.{named_tables};
 
+use crate::call_record::CallRecord;
 use crate::disk_reader::DiskReader;
 use crate::due_files::{files_due, numbers_in};
 use crate::failure::{Failure, text_kept};
 use crate::file_access::access_in;
-use crate::made_table::{DiskMaker, MadeTable, files_of, first_failed, write_in_turn};
+use crate::made_table::{DiskMaker, MadeTable, files_of, write_in_turn};
 use crate::pending_files::PendingFiles;
 use crate::system::{Place, done_in, part_in, read_in};
 use crate::system_files::{MakesFiles, SystemFiles};
@@ -19,12 +20,10 @@ use crate::table_sizes::{Sizes, sizes_in};
 use crate::whole_files::{WholeFiles, sync_all};
 use edit::Version;
 use folder::{
-    AnyWrite, Attempt, FileRead, Folder, FolderCall, FolderFault, Order, Readings, ReadsTables,
-    SourceTables, TableReader, Trail, WriteCall, WritesTables, table_name,
+    AnyWrite, Folder, FolderCall, FolderFault, Order, ReadsTables, SourceTables, TableReader,
+    WriteCall, WritesTables, table_name,
 };
 use ikey::{Fault, FaultName};
-use std::io;
-use std::io::ErrorKind;
 use std::marker::Model;
 use std::thread::Threads;
 
@@ -37,14 +36,8 @@ pub struct Disk<'r, R> {
     path: &'r str,
     /// The path of the folder whose CURRENT says who may use new files.
     owner: &'r str,
-    failures: u64,
-    trail: Trail,
-    readings: Readings,
+    history: CallRecord,
     kept: PendingFiles,
-    last_failure: Option<Failure>,
-    /// The name of the file that was read last, or of the table that was found missing since. Empty
-    /// if there is none, or no memory for it.
-    last_read: String,
 }
 
 impl<'r, R> Model for Disk<'r, R> {
@@ -52,11 +45,7 @@ impl<'r, R> Model for Disk<'r, R> {
 
     ghost Value = { CallHistory };
 
-    ghost view = { λ d. record {
-      trail = d.trail.steps;
-      readings = d.readings.files;
-      failures = d.failures;
-    } };
+    ghost view = { λ d. d.history };
 }
 
 impl<'r, R: SystemFiles + AllocGlobal> Disk<'r, R> {
@@ -78,12 +67,8 @@ impl<'r, R: SystemFiles + AllocGlobal> Disk<'r, R> {
             rt,
             path,
             owner,
-            failures: 0,
-            trail: Trail::new(),
-            readings: Readings::none(),
+            history: CallRecord::new(rt.alloc()),
             kept: PendingFiles::new(rt.alloc()),
-            last_failure: None,
-            last_read: String::new(rt.alloc()),
         }
     }
 
@@ -100,7 +85,7 @@ impl<'r, R: SystemFiles + AllocGlobal> Disk<'r, R> {
         let numbers = numbers_in(alloc, order, version)?;
         match sizes_in(self.rt, alloc, self.path, &numbers)? {
             Sizes::Missing(number) => {
-                self.last_read = table_name(alloc, number)?;
+                self.history.last_read = table_name(alloc, number)?;
                 Err(Fault::of(FaultName::Missing))
             }
             Sizes::TooLarge(number) => Ok(Some(number)),
@@ -110,17 +95,14 @@ impl<'r, R: SystemFiles + AllocGlobal> Disk<'r, R> {
 
     /// The newest call that failed by the device. None if none did.
     pub fn last_failure(&self) -> Option<&Failure> {
-        self.last_failure.as_ref()
+        self.history.last_failure.as_ref()
     }
 
     /// The name of the file that was read last, whether it was there or not; or of the table that
     /// [`Disk::large_table`] found missing since. None if there is none.
     pub fn last_read(&self) -> Option<&str> {
-        if self.last_read.is_empty() {
-            None
-        } else {
-            Some(self.last_read.as_str())
-        }
+        let name = self.history.last_read.as_str();
+        if name.is_empty() { None } else { Some(name) }
     }
 }
 
@@ -157,13 +139,10 @@ impl<'r, R: SystemFiles + AllocGlobal> Folder for Disk<'r, R> {
     ghost readings = { λ disk. disk.readings };
 
     fn read(&mut self, name: &str) -> Result<Option<Vec<u8>>, FolderFault> {
-        self.last_read = text_kept(self.rt.alloc(), name);
+        self.history.last_read = text_kept(self.rt.alloc(), name);
         let found = read_in(self.rt, self.rt.alloc(), self.path, name);
-        let answer = self.counted(found, FolderCall::Read, name);
-        self.readings = self.readings.then(&FileRead {
-            name,
-            answer: &answer,
-        });
+        let answer = self.history.counted(found, FolderCall::Read, name);
+        self.history.has_read(name, &answer);
         answer
     }
 
@@ -173,9 +152,9 @@ impl<'r, R: SystemFiles + AllocGlobal> Folder for Disk<'r, R> {
         offset: u64,
         len: usize,
     ) -> Result<Option<Vec<u8>>, FolderFault> {
-        self.last_read = text_kept(self.rt.alloc(), name);
+        self.history.last_read = text_kept(self.rt.alloc(), name);
         let answer = part_in(self.rt, self.rt.alloc(), self.path, name, offset, len);
-        self.counted(answer, FolderCall::Read, name)
+        self.history.counted(answer, FolderCall::Read, name)
     }
 
     fn create(&mut self, name: &str, bytes: &[u8]) -> Result<(), FolderFault> {
@@ -187,7 +166,8 @@ impl<'r, R: SystemFiles + AllocGlobal> Folder for Disk<'r, R> {
         rt: &T,
         tables: &[(u64, Vec<u8>)],
     ) -> Result<(), FolderFault> {
-        self.write_all(rt, tables)
+        let answer = self.made(rt, tables);
+        self.history.wrote(AnyWrite::Tables(tables), answer)
     }
 
     fn sync(&mut self, name: &str) -> Result<(), FolderFault> {
@@ -207,7 +187,7 @@ impl<'r, R: SystemFiles + AllocGlobal> Folder for Disk<'r, R> {
     }
 
     fn failures(&self) -> u64 {
-        self.failures
+        self.history.failures
     }
 }
 
@@ -248,53 +228,12 @@ impl<'r, R: SystemFiles + MakesFiles + AllocGlobal> WritesTables for Disk<'r, R>
         ensures failures { ⟦<Disk<'r, R> as Folder>⟧.failed self.new
             ≡ failures_after (⟦<Disk<'r, R> as Folder>⟧.failed self.old) result }
     {
-        self.write_made(tables, made)
+        let answer = self.counted_made(made);
+        self.history.wrote(AnyWrite::Made(tables), answer)
     }
 }
 
 impl<'r, R: SystemFiles + AllocGlobal> Disk<'r, R> {
-    /// What a call of the system answered, on the file of this `name`. A failure other than out of
-    /// memory is `Device`, is counted, and is the last one from then on.
-    fn counted<T>(
-        &mut self,
-        answer: io::Result<T>,
-        call: FolderCall,
-        name: &str,
-    ) -> Result<T, FolderFault>
-        ensures value { IfOk result (λ value. answer ≡ Ok value) }
-        ensures failures { self.new.failures ≡ failures_after self.old.failures result }
-        ensures trail { self.new.trail ≡ self.old.trail }
-        ensures readings { self.new.readings ≡ self.old.readings }
-    {
-        match answer {
-            Ok(value) => Ok(value),
-            Err(error) if error.kind() == ErrorKind::OutOfMemory => Err(FolderFault::Memory),
-            Err(error) => {
-                self.failures = one_more(self.failures);
-                self.last_failure = Some(Failure::new(self.rt.alloc(), call, name, error));
-                Err(FolderFault::Device)
-            }
-        }
-    }
-
-    /// Makes tables and syncs them, and adds that to the trail.
-    fn write_all<T: Threads + Sync>(
-        &mut self,
-        rt: &T,
-        tables: &[(u64, Vec<u8>)],
-    ) -> Result<(), FolderFault>
-        ensures trail { self.new.trail ≡ self.old.trail
-            ++ step_of (Written (table_files tables.now)) result ∷ [] }
-        ensures failures { self.new.failures ≡ failures_after self.old.failures result }
-    {
-        let answer = self.made(rt, tables);
-        self.trail = self.trail.then(&Attempt {
-            call: AnyWrite::Tables(tables),
-            is_done: answer.is_ok(),
-        });
-        answer
-    }
-
     /// Makes tables and syncs them: by several threads if their numbers rise, else one after the
     /// other. No more memory is taken after the first one is begun.
     fn made<T: Threads + Sync>(
@@ -315,25 +254,7 @@ impl<'r, R: SystemFiles + AllocGlobal> Disk<'r, R> {
         } else {
             write_in_turn(self.rt, access, tables, &mut files);
         }
-        self.counted_all(&files)
-    }
-
-    /// Adds the writing of tables that were made and synced to the trail.
-    fn write_made(
-        &mut self,
-        tables: &SourceTables,
-        made: Option<Vec<MadeTable>>,
-    ) -> Result<(), FolderFault>
-        ensures trail { self.new.trail ≡ self.old.trail
-            ++ step_of (Written (named_tables tables.now.tables)) result ∷ [] }
-        ensures failures { self.new.failures ≡ failures_after self.old.failures result }
-    {
-        let answer = self.counted_made(made);
-        self.trail = self.trail.then(&Attempt {
-            call: AnyWrite::Made(tables),
-            is_done: answer.is_ok(),
-        });
-        answer
+        self.history.counted_all(&files)
     }
 
     /// What the making and syncing of tables answered. None if memory ran out before all were made.
@@ -345,25 +266,10 @@ impl<'r, R: SystemFiles + AllocGlobal> Disk<'r, R> {
             return Err(FolderFault::Memory);
         };
         self.kept.forget_all(&files);
-        self.counted_all(&files)
+        self.history.counted_all(&files)
     }
 
-    /// What the calls on these files answered together: what the first one did that the device
-    /// failed, or else the first that failed.
-    fn counted_all(&mut self, files: &[MadeTable]) -> Result<(), FolderFault>
-        ensures failures { self.new.failures ≡ failures_after self.old.failures result }
-        ensures trail { self.new.trail ≡ self.old.trail }
-    {
-        match first_failed(files) {
-            Some(place) => {
-                let file = &files[place];
-                self.counted(file.answer, file.call, file.name.as_str())
-            }
-            None => Ok(()),
-        }
-    }
-
-    /// Makes a call that writes, and adds it to the trail.
+    /// Makes a call that writes, and records it.
     fn write(&mut self, call: WriteCall<'_>) -> Result<(), FolderFault>
         ensures trail { self.new.trail ≡ self.old.trail
             ++ step_of (call_in call.entry) result ∷ [] }
@@ -375,22 +281,12 @@ impl<'r, R: SystemFiles + AllocGlobal> Disk<'r, R> {
         };
         let done = done_in(self.rt, self.rt.alloc(), place, &mut self.kept, call);
         let (kind, name) = call.told();
-        let answer = self.counted(done, kind, name);
-        let is_done = answer.is_ok();
-        let call = AnyWrite::One(call);
-        self.trail = self.trail.then(&Attempt { call, is_done });
-        answer
+        let answer = self.history.counted(done, kind, name);
+        self.history.wrote(AnyWrite::One(call), answer)
     }
 }
 
 /// Whether the numbers of tables rise, so that no two are one.
 fn are_rising(tables: &[(u64, Vec<u8>)]) -> bool {
     tables.is_sorted_by(|table, other| table.0 < other.0)
-}
-
-/// One failure more.
-fn one_more(failures: u64) -> u64
-    ensures { result ≡ one_more failures }
-{
-    failures.saturating_add(1)
 }

@@ -30,7 +30,7 @@ impl Failure {
             call,
             name: text_kept(alloc, name),
             error,
-            words: words_in(alloc, &error).unwrap_or(String::new(alloc)),
+            words: error_words(alloc, &error).unwrap_or(String::new(alloc)),
         }
     }
 
@@ -71,7 +71,7 @@ fn words_of(call: FolderCall) -> &'static str {
 }
 
 /// An error in the system's words, without its number.
-fn words_in(alloc: Global, error: &io::Error) -> Result<String, AllocError> {
+pub fn error_words(alloc: Global, error: &io::Error) -> Result<String, AllocError> {
     let text = format!(in alloc; "{error}")?;
     match text.as_str().split_once(" (os error ") {
         Some((words, _)) => String::from_str(alloc, words),

@@ -18,6 +18,7 @@
 //! - [`lock_to_change`] and [`lock_to_read`] keep out others that lock the folder as LevelDB does.
 #![tactic(auto)]
 
+mod call_record;
 mod disk;
 mod disk_reader;
 mod due_files;
@@ -34,7 +35,7 @@ mod whole_files;
 
 pub use crate::disk::Disk;
 pub use disk_reader::DiskReader;
-pub use failure::Failure;
+pub use failure::{Failure, error_words};
 pub use folder_lock::{FolderLock, lock_to_change, lock_to_read};
 pub use made_table::{DiskMaker, MadeTable};
 pub use system::MAX_FILE_LEN;

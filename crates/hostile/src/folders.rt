@@ -5,7 +5,7 @@ use crate::embedding::store::{FILES as STORED_FILES, LOWER, NEWER, OLDER};
 use crate::fault::{is_memory, wanted};
 use crate::worked_bytes::{CURRENT_FIVE, DELETION_LEFT, MANIFEST, TABLE_U_DELETED, TABLE_U_TWICE};
 use answers::{ValueForm, get_dir, manifest, verify};
-use board::Open;
+use board::{Open, Workers};
 use coding::Fault;
 use edit::{Outcome, Version, VersionEdit};
 use folder::{load, open};
@@ -26,6 +26,9 @@ const FILES: &[(&str, &[u8])] = &[
 /// How many bytes of tables are held while a version is tested.
 const MEMORY: u64 = 1_073_741_824;
 
+/// How many workers test it.
+const WORKERS: u64 = 4;
+
 /// The lines of the folder's version.
 const SHOWN: &[u8] =
     b"comparator leveldb.BytewiseComparator\nlog 3\nprevious 0\nnext 9\nlast 4\nfile 1 7 125\n";
@@ -43,7 +46,8 @@ fn is_lawful<R: AllocGlobal + Threads + Sync>(
     rt: &R,
     shelf: &mut Shelf<'_>,
 ) -> Result<bool, Fault> {
-    let lines = verify(rt, rt.alloc(), shelf, MEMORY, &Open)?;
+    let workers = Workers::new(rt, rt.alloc(), WORKERS, &Open)?;
+    let lines = verify(&workers, shelf, MEMORY)?;
     Ok(lines.as_slice() == LAWFUL)
 }
 
@@ -55,7 +59,8 @@ fn is_got<R: AllocGlobal + Threads + Sync>(
     line: &[u8],
 ) -> Result<bool, Fault> {
     let form = ValueForm::Line(Spelling::Hexadecimal);
-    match get_dir(rt, rt.alloc(), shelf, b"u", at, form, MEMORY, &Open)? {
+    let workers = Workers::new(rt, rt.alloc(), WORKERS, &Open)?;
+    match get_dir(&workers, shelf, b"u", at, form, MEMORY)? {
         Some(found) => Ok(found.as_slice() == line),
         None => Ok(false),
     }

@@ -23,6 +23,7 @@ mod NamedReads
 mod Pieces
 mod Survival
 mod TwoPieces
+mod CallsAlone
 mod Sound
 pub mod DeletedSets
 pub mod JoinedBytes

@@ -399,7 +399,7 @@ order_total Bytewise = nat_list_cmp_total
 order_total Shortlex = then_total (on_total length nat_cmp_total) nat_list_cmp_total
 
 -- some of two rows of calls is some of the first, or all of them and some of the second
-made_split : (one two : List Call) (steps : List Step) → AreMade (one ++ two) steps → AreMade one steps ⊎ ((more : List Step) × (steps ≡ map Done one ++ more) × AreMade two more)
+pub made_split : (one two : List Call) (steps : List Step) → AreMade (one ++ two) steps → AreMade one steps ⊎ ((more : List Step) × (steps ≡ map Done one ++ more) × AreMade two more)
 made_split [] two steps h = inr (steps, refl, h)
 made_split (call ∷ one) two steps (inl none') = inl (inl none')
 made_split (call ∷ one) two steps (inr (inl tried)) = inl (inr (inl tried))

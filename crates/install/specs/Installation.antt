@@ -1,10 +1,13 @@
 -- An installation as work: its two pieces, and what a crash leaves of it.
-use Rattle.std.specs.Prelude.{◌⊎◌, ℕ, List, [], ◌∷◌, ◌++◌, Result, IsErr, OnOk}
+use Rattle.std.specs.List.{flat_map}
+use Rattle.std.specs.Prelude.{◌≡◌, ◌⊎◌, ℕ, List, [], ◌∷◌, ◌++◌, Result, IsErr, OnOk}
 use Rattle.edit.specs.fault.Fault.{Fault}
-use Rattle.folder.specs.Calls.{Files, Tells}
+use Rattle.folder.specs.CallSequence.{AreMadeBy}
+use Rattle.folder.specs.Calls.{Files, Step, Tells}
 use Rattle.folder.specs.Crash.{LeavesOnly, World}
 use Rattle.folder.specs.declared.folder.Folder.{Ghosts}
-use Rattle.install.specs.Naming.{tables_of}
+use Rattle.install.specs.Install.{install_calls}
+use Rattle.install.specs.Naming.{IsNamedEdit, manifest_of, named_bytes, tables_of}
 use Rattle.install.specs.ReadsOf.{NamedVersion, Reads, Stands}
 use Rattle.install.specs.Work.{Installed, IsWorkOn, Place, WorkLink, Wrote, begun, place_at}
 
@@ -52,3 +55,15 @@ InstallationSurvives {F = F} g = (p : Place) (groups : List (List (ℕ × List �
     × OnOk result (Stands p.next (tables_of p.next (p.tables ++ tables)) start (g.calls new))
     × ((files : Files) → Tells (g.tells old) files → Reads p.now tables files →
     (now : Files) × Tells (g.tells new) now × ReadsEither p tables now)
+
+-- So it is of the calls of an installation alone, made from these steps on, whatever is told.
+abbrev pub InstallCallsSurvive : Type 0
+InstallCallsSurvive = (v next : NamedVersion) (outputs : List (ℕ × List ℕ)) (edit : List ℕ)
+    (groups : List (List (ℕ × List ℕ))) (before steps : List Step)
+    (result : Result (Unit {0}) Fault) (tables : List (ℕ × List ℕ)) (start : World) →
+    IsNamedEdit v outputs edit next →
+    flat_map (λ (g : List (ℕ × List ℕ)). g) groups ≡ outputs →
+    AreMadeBy (install_calls (manifest_of v.version) groups (named_bytes v edit)) steps result →
+    Stands v tables start before →
+    LeavesOnly start before (before ++ steps) (ReadsEither (place_with v outputs edit next) tables)
+    × OnOk result (Stands next (tables_of next (outputs ++ tables)) start (before ++ steps))

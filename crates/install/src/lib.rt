@@ -32,7 +32,7 @@
 //! [`work_survives`] says that of any row of pieces of work, with each version's manifest. A piece
 //! writes the tables of an outcome, or names the version that outcomes make, or removes files. So
 //! several outcomes may be written before one manifest names what they make. An installation is two
-//! pieces ([`installation_survives`]).
+//! pieces ([`installation_survives`]; [`install_calls_survive`] says it of its calls alone).
 //!
 //! Premises of what is said of a crash:
 //!
@@ -66,4 +66,6 @@ pub use pending_names::pending_current;
 pub use removal::remove_obsolete;
 pub use removal_watch::RemovalWatch;
 pub use row_laws::work_laws;
-pub use work_survival::{installation_survives, nothing_named, work_survives};
+pub use work_survival::{
+    install_calls_survive, installation_survives, nothing_named, work_survives,
+};

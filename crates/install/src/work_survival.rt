@@ -1,6 +1,6 @@
 //! What work on a folder leaves of it.
 
-ghost use Rattle.install.specs.Installation.{InstallationSurvives};
+ghost use Rattle.install.specs.Installation.{InstallCallsSurvive, InstallationSurvives};
 ghost use Rattle.install.specs.NothingNamed.{NothingIsNamed};
 ghost use Rattle.install.specs.Work.{WorkSurvives};
 
@@ -16,6 +16,12 @@ pub fn work_survives<F: Folder>(_folder: &F)
 /// with its manifest. A call does nothing.
 pub fn installation_survives<F: Folder>(_folder: &F)
     ensures { InstallationSurvives F.Folder }
+{}
+
+/// The same is so of the calls of an installation alone, whoever made them on whichever folder. A
+/// call does nothing.
+pub fn install_calls_survive()
+    ensures { InstallCallsSurvive }
 {}
 
 /// A manifest whose edit is that of no outcome names no version. So work can't name one before it

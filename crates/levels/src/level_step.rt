@@ -24,7 +24,7 @@ use checks::Workers;
 use edit::Fault;
 use folder::{ReadsTables, WritesTables};
 use std::thread::Threads;
-use store::{CompactionStep, InstallWatch, SyncedVersion, compact_inputs, tell_step};
+use store::{CompactionStep, InstallWatch, SyncedVersion, compact_opened, tell_step};
 
 /// Compacts a `level` of what a folder was `opened` as, and tells of it. What the folder is opened
 /// as after it, if it is to go on.
@@ -88,7 +88,7 @@ fn compact_selected<F: ReadsTables + WritesTables, W: Watch + Sync, R: Threads +
 {
     let settings = &descent.settings;
     match descent.selection {
-        Selection::Picked => compact_inputs(workers, folder, opened, level, settings),
+        Selection::Picked => compact_opened(workers, folder, opened, level, settings, None),
         Selection::Parts => compact_tested(workers, folder, opened, level, settings),
     }
 }

@@ -16,7 +16,7 @@
 //! compacted: between those of two parts is one number that nothing uses.
 //!
 //! [`compact_levels`] compacts one level after the other, until all files are in one level. Of each
-//! it takes what the [`Descent`] selects: the inputs that the rules pick, as `store::compact_inputs`
+//! it takes what the [`Descent`] selects: the inputs that the rules pick, as `store::compact_opened`
 //! does; or all its parts, as above. It tests the version once, if that is asked for. It tells a
 //! `CleanWatch` of each compaction that was installed; then it asks it for names, and removes the
 //! files of these that the version doesn't need.

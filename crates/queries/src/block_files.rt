@@ -2,7 +2,7 @@
 
 use checks::{Fault, FaultName};
 use pairing::blocks;
-use session::{Refusal, RefusalText, of_file, read_file, replace_file, said};
+use session::{Answer, Refusal, RefusalText, of_file, read_file, replace_file, said};
 use std::alloc::Global;
 use std::rt::Files;
 use std::thread::Threads;
@@ -18,7 +18,7 @@ const REMEDY: &str = "give a block of a table, without its trailer";
 pub fn blocks_answer<R: Files + AllocGlobal + Threads + Sync>(
     rt: &R,
     line: &BlocksLine<'_>,
-) -> Result<Vec<u8>, Refusal> {
+) -> Answer {
     let (entries, block) = merged(rt, line)?;
     let length = block.len();
     let text = format!(in rt.alloc(); "{entries} entries, {length} bytes\n")?;

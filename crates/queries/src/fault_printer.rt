@@ -3,17 +3,14 @@
 use answers::{fault_count_line, file_fault_line, key_fault_line};
 use checks::{Fault, FaultName, checkers};
 use faults::{FaultTaker, FileFault, all_faults};
-use session::{Host, Opened, ProgressLine, Refusal, Session, print_lines, tell_replaced};
+use session::{Answer, Host, ProgressLine, Refusal, Session, print_lines, tell_replaced};
 use std::time::Clock;
 use texts::Spelling;
 
 /// Prints all faults of a folder. The answer is the line of none. If there is one, their number is
 /// printed too, and they are refused; nothing else is told, but that another program changed the
 /// folder meanwhile. The test may hold this many bytes of tables.
-pub(crate) fn print_faults<R: Host>(
-    session: &mut Session<'_, R, Opened>,
-    memory: u64,
-) -> Result<Vec<u8>, Refusal> {
+pub(crate) fn print_faults<R: Host>(session: &mut Session<'_, R>, memory: u64) -> Answer {
     let count = faults_told(session, memory)?;
     let rt = session.rt;
     let line = fault_count_line(rt.alloc(), count)?;
@@ -27,7 +24,7 @@ pub(crate) fn print_faults<R: Host>(
 }
 
 /// Prints all faults, and answers how many there are.
-fn faults_told<R: Host>(session: &mut Session<'_, R, Opened>, memory: u64) -> Result<u64, Refusal> {
+fn faults_told<R: Host>(session: &mut Session<'_, R>, memory: u64) -> Result<u64, Refusal> {
     let rt = session.rt;
     let progress = session.progress();
     let mut printer = FaultPrinter {

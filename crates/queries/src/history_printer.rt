@@ -5,16 +5,13 @@ use crate::version_verdict::test_unless_skipped;
 use answers::{EntryPlace, entry_json, entry_line, json_line};
 use checks::Fault;
 use scan::{Kind, PlacedEntry, key_history};
-use session::{Bytewise, Disk, Host, Opened, Order, Refusal, Session, Shortlex};
+use session::{Answer, Bytewise, Disk, Host, Order, Session, Shortlex};
 use std::alloc::Global;
 use usage::HistoryLine;
 
 /// What is printed of all entries of a key in a folder, the newest first. After those of JSON comes
 /// the line of the logs, if there is one with writes.
-pub fn history_answer<R: Host>(
-    session: &mut Session<'_, R, Opened>,
-    line: &HistoryLine<'_>,
-) -> Result<Vec<u8>, Refusal> {
+pub fn history_answer<R: Host>(session: &mut Session<'_, R>, line: &HistoryLine<'_>) -> Answer {
     test_unless_skipped(session, &line.testing)?;
     let alloc = session.rt.alloc();
     let found = history_of(session, &line.key);
@@ -26,7 +23,7 @@ pub fn history_answer<R: Host>(
 
 /// All entries of a key, the newest first.
 fn history_of<'r, R: Host>(
-    session: &mut Session<'r, R, Opened>,
+    session: &mut Session<'r, R>,
     key: &[u8],
 ) -> Result<Vec<PlacedEntry>, Fault> {
     let alloc = session.rt.alloc();

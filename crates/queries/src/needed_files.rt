@@ -5,21 +5,15 @@ use checks::{Fault, FaultName};
 use install::CURRENT;
 use refusals::missing_file;
 use session::{
-    Bytewise, Comparator, Disk, FileMeta, Host, LEVELS, Opened, Order, Refusal, Session, Shortlex,
-    manifest_name, names_in, path_in, refused_opened, replayed_log, table_file_name,
+    Answer, Bytewise, Comparator, Disk, FileMeta, Host, LEVELS, Order, Refusal, Session, Shortlex,
+    is_there, manifest_name, names_in, refused_opened, replayed_log, table_file_name,
 };
 use std::alloc::Global;
-use std::fs;
-use std::io::ErrorKind;
-use std::rt::Files;
 use usage::FilesLine;
 
 /// The names of the files that a copy of a folder needs, a line each: CURRENT, the manifest, the
 /// tables by level and in version order, and the logs that LevelDB would replay. No table is read.
-pub fn files_answer<R: Host>(
-    session: &Session<'_, R, Opened>,
-    line: &FilesLine<'_>,
-) -> Result<Vec<u8>, Refusal> {
+pub fn files_answer<R: Host>(session: &Session<'_, R>, line: &FilesLine<'_>) -> Answer {
     let alloc = session.rt.alloc();
     let mut lines = Vec::new(alloc);
     push_name(alloc, &mut lines, line, CURRENT)?;
@@ -51,7 +45,7 @@ fn push_name(
 
 /// Appends the tables of a version, by level and in version order.
 fn push_tables<C: Comparator, R: Host>(
-    session: &Session<'_, R, Opened>,
+    session: &Session<'_, R>,
     lines: &mut Vec<u8>,
     line: &FilesLine<'_>,
 ) -> Result<(), Refusal> {
@@ -67,7 +61,7 @@ fn push_tables<C: Comparator, R: Host>(
 
 /// Appends those of these files.
 fn push_level<R: Host>(
-    session: &Session<'_, R, Opened>,
+    session: &Session<'_, R>,
     lines: &mut Vec<u8>,
     line: &FilesLine<'_>,
     files: &[&FileMeta],
@@ -81,7 +75,7 @@ fn push_level<R: Host>(
 
 /// Appends the logs that LevelDB would replay over a version.
 fn push_logs<R: Host>(
-    session: &Session<'_, R, Opened>,
+    session: &Session<'_, R>,
     lines: &mut Vec<u8>,
     line: &FilesLine<'_>,
 ) -> Result<(), Refusal> {
@@ -96,7 +90,7 @@ fn push_logs<R: Host>(
 }
 
 /// The name under which the table of a number is there. Missing if it isn't.
-fn table_found<R: Host>(session: &Session<'_, R, Opened>, number: u64) -> Result<String, Refusal> {
+fn table_found<R: Host>(session: &Session<'_, R>, number: u64) -> Result<String, Refusal> {
     let (rt, path) = (session.rt, session.telling.folder);
     let mut folder = Disk::new(rt, path);
     let name = match table_file_name(rt.alloc(), &mut folder, number) {
@@ -111,7 +105,7 @@ fn table_found<R: Host>(session: &Session<'_, R, Opened>, number: u64) -> Result
 
 /// The refusal that a table of this name is missing. If another program changed the folder
 /// meanwhile, that is told.
-fn missing<R: Host>(session: &Session<'_, R, Opened>, name: &str) -> Refusal {
+fn missing<R: Host>(session: &Session<'_, R>, name: &str) -> Refusal {
     let (rt, path) = (session.rt, session.telling.folder);
     let fault = Fault::of(FaultName::Missing);
     let refusal = refused_opened(rt, path, &session.disk, session.manifest, fault);
@@ -119,16 +113,4 @@ fn missing<R: Host>(session: &Session<'_, R, Opened>, name: &str) -> Refusal {
         return refusal;
     }
     refusal.telling(missing_file(rt.alloc(), path, name))
-}
-
-/// Whether a folder's file is there. Device if the system doesn't tell it.
-fn is_there<R: Files + AllocGlobal>(rt: &R, folder: &str, name: &str) -> Result<bool, Refusal> {
-    let path = path_in(rt.alloc(), folder, name)?;
-    match fs::metadata(rt, path.as_str()) {
-        Ok(_) => Ok(true),
-        Err(error) if error.kind() == ErrorKind::NotFound => Ok(false),
-        Err(error) => {
-            Err(Refusal::of_call(rt.alloc(), path.as_str(), "read its length", &error))
-        }
-    }
 }

@@ -5,19 +5,16 @@ use answers::{Open, count_json, json_line, push_row, push_row_json};
 use checks::{Fault, FaultName, checkers};
 use refusals::sizes_in_turn;
 use scan::{RowChoice, RowCounter, RowTaker, prefix_end, scan_unverified, scan_version};
-use session::{Host, Opened, Order, ProgressLine, Refusal, Session, bytes_of, print_lines, said};
+use session::{Answer, Host, Order, ProgressLine, Refusal, Session, bytes_of, print_lines, said};
 use std::time::Clock;
 use usage::{RowOptions, RowOutput, ScanLine, Testing};
 
 /// How many bytes of lines are written at once, or somewhat more.
-const AT_ONCE: usize = 65_536;
+pub(crate) const AT_ONCE: usize = 65_536;
 
 /// Prints the rows of a folder that are asked for, or answers the line of their number. Its version
 /// is tested before, if that is asked for.
-pub fn rows_answer<R: Host>(
-    session: &mut Session<'_, R, Opened>,
-    line: &ScanLine<'_>,
-) -> Result<Vec<u8>, Refusal> {
+pub fn rows_answer<R: Host>(session: &mut Session<'_, R>, line: &ScanLine<'_>) -> Answer {
     let end = end_of(session, &line.rows)?;
     let choice = choice_of(&line.rows, end.as_deref());
     if !line.testing.is_skipped {
@@ -33,7 +30,7 @@ pub fn rows_answer<R: Host>(
 /// Where the keys end that are printed; None if nothing ends them. Comparator if they are those
 /// with a prefix, and keys aren't in the order of their bytes.
 fn end_of<R: Host>(
-    session: &Session<'_, R, Opened>,
+    session: &Session<'_, R>,
     rows: &RowOptions,
 ) -> Result<Option<Vec<u8>>, Refusal> {
     let alloc = session.rt.alloc();
@@ -50,10 +47,10 @@ fn end_of<R: Host>(
 
 /// What is printed of how many rows there are.
 fn count_answer<R: Host>(
-    session: &mut Session<'_, R, Opened>,
+    session: &mut Session<'_, R>,
     line: &ScanLine<'_>,
     choice: RowChoice<'_>,
-) -> Result<Vec<u8>, Refusal> {
+) -> Answer {
     let alloc = session.rt.alloc();
     let progress = session.progress();
     let mut counter = RowCounter { rows: 0 };
@@ -71,7 +68,7 @@ fn count_answer<R: Host>(
 /// Prints rows as they are found, also those that were told before a refusal. After rows of JSON
 /// comes the line of the logs, if there is one with writes.
 fn print_rows<R: Host>(
-    session: &mut Session<'_, R, Opened>,
+    session: &mut Session<'_, R>,
     line: &ScanLine<'_>,
     choice: RowChoice<'_>,
 ) -> Result<(), Refusal> {
@@ -96,7 +93,7 @@ fn print_rows<R: Host>(
 
 /// Tells the rows of a folder, and tests it before, if that is asked for.
 fn scanned<'r, R: Host, T: RowTaker>(
-    session: &mut Session<'r, R, Opened>,
+    session: &mut Session<'r, R>,
     testing: &Testing,
     choice: RowChoice<'_>,
     progress: &ProgressLine<'r, R>,
@@ -162,7 +159,7 @@ impl<'t, R: Print + Eprint + Clock + AllocGlobal> RowPrinter<'t, R> {
     }
 
     /// The lines that are not written yet, unless a row could not be printed.
-    fn end(self) -> Result<Vec<u8>, Refusal> {
+    fn end(self) -> Answer {
         let RowPrinter { lines, refusal, .. } = self;
         match refusal {
             Some(refusal) => Err(refusal),

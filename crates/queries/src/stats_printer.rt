@@ -4,15 +4,12 @@ use answers::{json_line, stats_json, stats_text};
 use checks::checkers;
 use refusals::sizes_in_turn;
 use scan::{FileTotal, VersionStats, version_stats};
-use session::{Host, Opened, Refusal, Session, bytes_of, logs_with_writes, unneeded_files};
+use session::{Answer, Host, Refusal, Session, bytes_of, logs_with_writes, unneeded_files};
 use usage::StatsLine;
 
-/// How many files, bytes and entries each level of a folder has, and what else there is. Its version
-/// is tested before.
-pub fn stats_answer<R: Host>(
-    session: &mut Session<'_, R, Opened>,
-    line: &StatsLine<'_>,
-) -> Result<Vec<u8>, Refusal> {
+/// How many files, bytes and entries each level of a folder has, and what else there is. Its
+/// version is tested before.
+pub fn stats_answer<R: Host>(session: &mut Session<'_, R>, line: &StatsLine<'_>) -> Answer {
     let alloc = session.rt.alloc();
     sizes_in_turn(session.rt, session.telling.folder, &session.opened)?;
     let logs = logs_counted(session)?;
@@ -27,7 +24,7 @@ pub fn stats_answer<R: Host>(
 
 /// The statistics of a version, which is tested before.
 fn version_counted<R: Host>(
-    session: &mut Session<'_, R, Opened>,
+    session: &mut Session<'_, R>,
     memory: u64,
 ) -> Result<VersionStats, Refusal> {
     let rt = session.rt;
@@ -38,7 +35,7 @@ fn version_counted<R: Host>(
 }
 
 /// The logs that have a byte.
-fn logs_counted<R: Host>(session: &Session<'_, R, Opened>) -> Result<FileTotal, Refusal> {
+fn logs_counted<R: Host>(session: &Session<'_, R>) -> Result<FileTotal, Refusal> {
     let (rt, folder) = (session.rt, session.telling.folder);
     let logs = logs_with_writes(rt, folder, None).map_err(|error| Refusal::of_listing(
         rt.alloc(),
@@ -53,7 +50,7 @@ fn logs_counted<R: Host>(session: &Session<'_, R, Opened>) -> Result<FileTotal, 
 }
 
 /// The files that the version doesn't need.
-fn unneeded_counted<R: Host>(session: &Session<'_, R, Opened>) -> Result<FileTotal, Refusal> {
+fn unneeded_counted<R: Host>(session: &Session<'_, R>) -> Result<FileTotal, Refusal> {
     let files = unneeded_files(session.rt, session.telling.folder, &session.opened)?;
     let mut total = FileTotal::none();
     for bytes in &files.lengths {

@@ -3,38 +3,27 @@
 use answers::{dump, json_line, table_entries, valid_json, verify_table};
 use checks::{Fault, FaultName};
 use install::CURRENT;
-use session::{CLOSE_ONCE, Refusal, Words, read_file, told};
+use session::{Answer, CLOSE_ONCE, Refusal, Words, read_file, told};
 use std::alloc::Global;
 use std::rt::Files;
 use usage::{DumpLine, TableLine};
 
 /// The lines of the entries of a table.
-pub fn table_answer<R: Files + AllocGlobal>(
-    rt: &R,
-    line: &DumpLine<'_>,
-) -> Result<Vec<u8>, Refusal> {
+pub fn table_answer<R: Files + AllocGlobal>(rt: &R, line: &DumpLine<'_>) -> Answer {
     let bytes = read_file(rt, line.table)?;
-    match dump(rt.alloc(), line.spelling, &bytes) {
-        Ok(lines) => Ok(lines),
-        Err(fault) => Err(refusal_of(rt.alloc(), line.table, fault)),
-    }
+    let lines = dump(rt.alloc(), line.spelling, &bytes);
+    lines.map_err(|fault| refusal_of(rt.alloc(), line.table, fault))
 }
 
 /// Tests whether a file is a table, and answers the line of one, as JSON if that is asked for.
-pub fn table_verdict<R: Files + AllocGlobal>(
-    rt: &R,
-    line: &TableLine<'_>,
-) -> Result<Vec<u8>, Refusal> {
+pub fn table_verdict<R: Files + AllocGlobal>(rt: &R, line: &TableLine<'_>) -> Answer {
     let bytes = read_file(rt, line.table)?;
     let verdict = if line.is_json {
         json_verdict(rt.alloc(), &bytes)
     } else {
         verify_table(rt.alloc(), &bytes)
     };
-    match verdict {
-        Ok(verdict) => Ok(verdict),
-        Err(fault) => Err(refusal_of(rt.alloc(), line.table, fault)),
-    }
+    verdict.map_err(|fault| refusal_of(rt.alloc(), line.table, fault))
 }
 
 /// The JSON line of a table.

@@ -1,25 +1,23 @@
 //! The values of keys in a folder.
 
+use crate::row_printer::AT_ONCE;
 use crate::version_verdict::test_unless_skipped;
 use answers::{ValueForm, json_line, push_named_value, unverified_value, value_json};
 use checks::Fault;
-use session::{Host, Opened, Refusal, Session, print_lines};
+use session::{Answer, Host, Refusal, Session, print_lines};
 use texts::{Spelling, text_of};
 use usage::{GetLine, KeySource};
 
 /// The line of a key without a value. No value has it as its hexadecimal digits.
 const NO_VALUE: &[u8] = b"none\n";
 
-/// How many bytes of lines are written at once, or somewhat more.
-const AT_ONCE: usize = 65_536;
-
 /// Prints the values of these keys in a folder, in their order, and answers what is left to print.
 /// Those before a refusal are printed. The version is tested before, if that is asked for.
 pub fn values_answer<R: Host>(
-    session: &mut Session<'_, R, Opened>,
+    session: &mut Session<'_, R>,
     line: &GetLine<'_>,
     keys: &[Vec<u8>],
-) -> Result<Vec<u8>, Refusal> {
+) -> Answer {
     test_unless_skipped(session, &line.testing)?;
     let rt = session.rt;
     let mut lines = Vec::new(rt.alloc());
@@ -38,7 +36,7 @@ pub fn values_answer<R: Host>(
 
 /// Appends what is printed of the value of a key.
 fn push_value<R: Host>(
-    session: &mut Session<'_, R, Opened>,
+    session: &mut Session<'_, R>,
     lines: &mut Vec<u8>,
     line: &GetLine<'_>,
     key: &[u8],
@@ -59,7 +57,7 @@ fn push_value<R: Host>(
 
 /// The value of a `key` at a line's sequence, without a test of the version.
 fn value_of<R: Host>(
-    session: &mut Session<'_, R, Opened>,
+    session: &mut Session<'_, R>,
     line: &GetLine<'_>,
     key: &[u8],
     form: ValueForm,
@@ -67,8 +65,7 @@ fn value_of<R: Host>(
     unverified_value(
         session.rt.alloc(),
         &mut session.disk,
-        session.opened.order,
-        &session.opened.version,
+        &session.opened,
         key,
         line.at,
         form,
@@ -78,7 +75,7 @@ fn value_of<R: Host>(
 /// Appends what is printed of the answer of a key. Its line has the key too, unless it is the only
 /// one that is given.
 fn push_answer<R: Host>(
-    session: &Session<'_, R, Opened>,
+    session: &Session<'_, R>,
     lines: &mut Vec<u8>,
     line: &GetLine<'_>,
     key: &[u8],
@@ -106,7 +103,7 @@ fn is_alone(line: &GetLine<'_>) -> bool {
 
 /// Tells that a key has no value, if its line doesn't, and if it may have been meant as text.
 fn tell_absent<R: Host>(
-    session: &mut Session<'_, R, Opened>,
+    session: &mut Session<'_, R>,
     line: &GetLine<'_>,
     key: &[u8],
     answer: Option<&[u8]>,
@@ -135,7 +132,7 @@ fn is_found(line: &GetLine<'_>, answer: Option<&[u8]>) -> bool {
 
 /// Whether the hexadecimal digits of a `key`, in either case, are a key that has a value.
 fn have_value<R: Host>(
-    session: &mut Session<'_, R, Opened>,
+    session: &mut Session<'_, R>,
     line: &GetLine<'_>,
     key: &[u8],
 ) -> Result<bool, Fault> {

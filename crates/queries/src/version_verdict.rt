@@ -1,19 +1,14 @@
 //! The version of a folder, and its test.
 
 use crate::fault_printer::print_faults;
-use answers::{
-    Question, VersionTotals, answer_opened, json_line, lawful_json, manifest_lines, test_opened,
-    version_json,
-};
+use answers::{json_line, lawful_json, lawful_line, manifest_lines, version_json};
+use checks::{VersionTotals, checkers, test_by_order};
 use refusals::sizes_in_turn;
-use session::{Host, Opened, Refusal, Session, bytes_of, missing_log};
+use session::{Answer, Host, Refusal, Session, bytes_of, missing_log};
 use usage::{ManifestLine, Testing, VerdictForm, VerifyLine};
 
 /// What is printed of the version of a folder.
-pub fn version_answer<R: Host>(
-    session: &Session<'_, R, Opened>,
-    line: &ManifestLine<'_>,
-) -> Result<Vec<u8>, Refusal> {
+pub fn version_answer<R: Host>(session: &Session<'_, R>, line: &ManifestLine<'_>) -> Answer {
     let alloc = session.rt.alloc();
     let (order, version) = (session.opened.order, &session.opened.version);
     if !line.is_json {
@@ -24,10 +19,7 @@ pub fn version_answer<R: Host>(
 }
 
 /// Tests the version of a folder. The answer is what is printed of a lawful one.
-pub fn verdict_answer<R: Host>(
-    session: &mut Session<'_, R, Opened>,
-    line: &VerifyLine<'_>,
-) -> Result<Vec<u8>, Refusal> {
+pub fn verdict_answer<R: Host>(session: &mut Session<'_, R>, line: &VerifyLine<'_>) -> Answer {
     let memory = bytes_of(line.memory);
     match line.form {
         VerdictForm::Line => lawful_answer(session, memory),
@@ -37,34 +29,13 @@ pub fn verdict_answer<R: Host>(
 }
 
 /// The line of a lawful version.
-fn lawful_answer<R: Host>(
-    session: &mut Session<'_, R, Opened>,
-    memory: u64,
-) -> Result<Vec<u8>, Refusal> {
-    let rt = session.rt;
-    sizes_in_turn(rt, session.telling.folder, &session.opened)?;
-    let progress = session.progress();
-    let answer = answer_opened(
-        rt,
-        rt.alloc(),
-        &mut session.disk,
-        session.opened.order,
-        &session.opened.version,
-        Question::Lawful,
-        memory,
-        &progress,
-    );
-    match session.ended(&progress, answer)? {
-        Some(line) => Ok(line),
-        None => Ok(Vec::new(rt.alloc())),
-    }
+fn lawful_answer<R: Host>(session: &mut Session<'_, R>, memory: u64) -> Answer {
+    let tested = version_tested(session, memory)?;
+    Ok(lawful_line(session.rt.alloc(), tested)?)
 }
 
 /// The JSON line of a lawful version.
-fn lawful_object<R: Host>(
-    session: &mut Session<'_, R, Opened>,
-    memory: u64,
-) -> Result<Vec<u8>, Refusal> {
+fn lawful_object<R: Host>(session: &mut Session<'_, R>, memory: u64) -> Answer {
     let tested = version_tested(session, memory)?;
     let (rt, logs) = (session.rt, session.logs);
     let missing = match logs {
@@ -77,7 +48,7 @@ fn lawful_object<R: Host>(
 
 /// Tests a version before it is read, unless that is left out.
 pub(crate) fn test_unless_skipped<R: Host>(
-    session: &mut Session<'_, R, Opened>,
+    session: &mut Session<'_, R>,
     testing: &Testing,
 ) -> Result<(), Refusal> {
     if !testing.is_skipped {
@@ -88,20 +59,14 @@ pub(crate) fn test_unless_skipped<R: Host>(
 
 /// Tests the sizes of a version's tables, and then the version.
 fn version_tested<R: Host>(
-    session: &mut Session<'_, R, Opened>,
+    session: &mut Session<'_, R>,
     memory: u64,
 ) -> Result<VersionTotals, Refusal> {
     let rt = session.rt;
     sizes_in_turn(rt, session.telling.folder, &session.opened)?;
     let progress = session.progress();
-    let tested = test_opened(
-        rt,
-        rt.alloc(),
-        &mut session.disk,
-        session.opened.order,
-        &session.opened.version,
-        memory,
-        &progress,
-    );
+    let workers = checkers(rt, rt.alloc(), &progress);
+    let (order, version) = (session.opened.order, &session.opened.version);
+    let tested = test_by_order(&workers, &mut session.disk, order, version, memory);
     session.ended(&progress, tested)
 }

@@ -9,14 +9,13 @@ use compact::Settings;
 use disk::Disk;
 use folder::{CURRENT, Folder};
 use session::{
-    Host, Refusal, RefusalText, Telling, no_database, of_file, path_in, said, table_file_name, told,
+    Host, Refusal, RefusalText, Telling, is_there, no_database, of_file, said, table_file_name,
+    told_of_file,
 };
 use std::alloc::Global;
-use std::fs;
-use std::rt::Files;
 
-/// The refusal of a command on a folder, with what is told of it: the file that is refused. The name
-/// is told before, on the standard error.
+/// The refusal of a command on a folder, with what is told of it: the file that is refused. The
+/// name is told before, on the standard error.
 ///
 /// The file is known, and is read again alone, if it is a manifest. Only of an unlawful version are
 /// all tables read again. Nothing is read after Locked, Changed, Device and Memory, nor if it is
@@ -97,21 +96,21 @@ fn file_told<R: Host>(rt: &R, telling: Telling<'_>, refusal: &Refusal) -> Option
         name => {
             let number = telling.refused.number()?;
             let file = table_file_name(rt.alloc(), &mut Disk::new(rt, folder), number).ok()?;
-            let path = path_in(rt.alloc(), folder, file.as_str()).ok()?;
-            told(rt.alloc(), path.as_str(), of_file(name))
+            told_of_file(rt.alloc(), folder, file.as_str(), of_file(name))
         }
     }
 }
 
-/// What is told of the folder's file of this name, which was missing. If it is there by now, that is
-/// told.
+/// What is told of the folder's file of this name, which was missing. If it is there by now, that
+/// is told.
 fn missing_told<R: Host>(rt: &R, folder: &str, file: &str) -> Option<RefusalText> {
     let alloc = rt.alloc();
     let newer = match file.strip_suffix(".sst") {
         Some(stem) => format!(in alloc; "{stem}.ldb").ok()?,
         None => String::from_str(alloc, file).ok()?,
     };
-    let is_found = is_there(rt, folder, file) || is_there(rt, folder, newer.as_str());
+    let is_found = matches!(is_there(rt, folder, file), Ok(true))
+        || matches!(is_there(rt, folder, newer.as_str()), Ok(true));
     if is_found || file.starts_with("MANIFEST-") && !is_named(rt, folder, file) {
         let wrong = "a file was missing, and none is by now: another program has changed the \
             database meanwhile";
@@ -128,13 +127,5 @@ fn is_named<R: Host>(rt: &R, folder: &str, manifest: &str) -> bool {
     match Disk::new(rt, folder).read(CURRENT) {
         Ok(Some(bytes)) => bytes.strip_suffix(b"\n") == Some(manifest.as_bytes()),
         _ => false,
-    }
-}
-
-/// Whether a folder has a file of this name.
-pub fn is_there<R: Files + AllocGlobal>(rt: &R, folder: &str, name: &str) -> bool {
-    match path_in(rt.alloc(), folder, name) {
-        Ok(path) => fs::metadata(rt, path.as_str()).is_ok(),
-        Err(_) => false,
     }
 }

@@ -11,8 +11,8 @@ use ikey::{Bytewise, Comparator, Shortlex};
 use std::alloc::Global;
 use table::check;
 
-/// The number of the first new table of an edit that is not as the edit states it, in its order, and
-/// what is wrong with it. None if there is none before one that can't be read. It only reads.
+/// The number of the first new table of an edit that is not as the edit states it, in its order,
+/// and what is wrong with it. None if there is none before one that can't be read. It only reads.
 pub fn unlike_edit<F: Folder>(
     alloc: Global,
     folder: &mut F,

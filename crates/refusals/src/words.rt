@@ -1,7 +1,7 @@
 //! What is told of a file that is missing, and of a table that is not as it is stated.
 
 use faults::FileFault;
-use session::{RefusalText, of_file, path_in, said, told};
+use session::{RefusalText, Words, of_file, told, told_of_file};
 use std::alloc::Global;
 
 /// What is wrong, and what to do about it.
@@ -18,18 +18,18 @@ pub struct Stated {
 
 /// What is told of a folder's file of this name that is missing.
 pub fn missing_file(alloc: Global, folder: &str, name: &str) -> Option<RefusalText> {
-    let path = path_in(alloc, folder, name).ok()?;
-    if name.starts_with("MANIFEST-") {
-        let wrong = "it is missing, and CURRENT names it: the database is damaged";
-        return said(
-            alloc,
-            path.as_str(),
-            wrong,
+    let (wrong, remedy) = if name.starts_with("MANIFEST-") {
+        (
+            "it is missing, and CURRENT names it: the database is damaged",
             "restore the folder from a copy",
-        );
-    }
-    let wrong = "it is missing, and the manifest names it";
-    said(alloc, path.as_str(), wrong, "restore the file from a copy")
+        )
+    } else {
+        (
+            "it is missing, and the manifest names it",
+            "restore the file from a copy",
+        )
+    };
+    told_of_file(alloc, folder, name, Words { wrong, remedy })
 }
 
 /// What is told of the table at a path, of which this is wrong with what is stated of it, or which

@@ -1,9 +1,7 @@
 -- Rows that are told to a counter are counted.
-use Rattle.std.proofs.Common.{◌≡◌, ℕ, suc, ◌+◌, ◌<◌, ◌^◌, Bool, true, List, [], ◌∷◌, length, inl, inr, refl, sym, ap, ◌∙◌, arith}
+use Rattle.std.proofs.Common.{◌≡◌, suc, ◌+◌, ◌<◌, ◌^◌, [], ◌∷◌, length, inl, inr, ap, ◌∙◌, arith}
 use Rattle.table.specs.Saturated.{saturated}
-use Rattle.checks.specs.Takers.{AreToldInTurn}
-use Rattle.scan.specs.Row.{Row}
-use Rattle.scan.specs.CountedRows.{CountsRow, CountsRows}
+use Rattle.scan.specs.CountedRows.{CountsRows}
 use Rattle.scan.specs.declared.row_counter.RowCounter.{RowCounter}
 
 pub all_counted : CountsRows

@@ -1,5 +1,5 @@
 -- Rows that are told to who counts them.
-use Rattle.std.specs.Prelude.{◌≡◌, ℕ, ◌+◌, ◌<◌, ◌^◌, Bool, true, List, length}
+use Rattle.std.specs.Prelude.{◌≡◌, ◌+◌, ◌<◌, ◌^◌, Bool, true, List, length}
 use Rattle.table.specs.Saturated.{saturated}
 use Rattle.checks.specs.Takers.{AreToldInTurn}
 use Rattle.scan.specs.Row.{Row}

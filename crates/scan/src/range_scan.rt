@@ -26,9 +26,10 @@ use reads::Range;
 use std::thread::Threads;
 use table::{Comparator, Fault, FaultName};
 
-/// Which rows of a range of user keys are wanted.
+/// Which rows of files are wanted, in a range of user keys.
 #[derive(Clone, Copy)]
-pub(crate) struct RangeRows<'k> {
+pub(crate) struct RangeRows<'f, 'k> {
+    pub standing: &'f [&'f FileMeta],
     pub range: Range<'k>,
     /// The sequence by which they are rows.
     pub at: u64,
@@ -36,7 +37,7 @@ pub(crate) struct RangeRows<'k> {
     pub limit: Option<u64>,
 }
 
-/// Tells the wanted `rows` that the tables of the `standing` files have.
+/// Tells the wanted `rows`.
 ///
 /// It goes from range to range of the split, and reads the tables that one needs when it comes to
 /// it. They are held until no later range needs them. `held` are tables of the folder: those that
@@ -49,24 +50,23 @@ pub(crate) fn tell_ranges<
 >(
     workers: &Workers<'_, R, Open>,
     folder: &mut F,
-    standing: &[&FileMeta],
     split: &Split<C>,
     held: HeldTables<C>,
-    rows: RangeRows<'_>,
+    rows: RangeRows<'_, '_>,
     taker: &mut T,
 ) -> Result<(), Fault>
     // If the folder tells files that hold these tables, and each is what the version states.
     ensures told { (files : Files) (next : Option ℕ) (tables : List NumberedContents) →
         Tells (F.tells folder.old) files →
-        AreTablesIn C.cmp files next (map (λ f. f.now) standing.now) tables →
+        AreTablesIn C.cmp files next (map (λ f. f.now) rows.entry.standing.now) tables →
         AreHeldBy C.cmp (F.tells folder.old) held →
         AreScanned T.tells (rows_from
-        (file_rows C.cmp tables (map (λ f. f.now) standing.now) rows.entry.at) C.cmp
+        (file_rows C.cmp tables (map (λ f. f.now) rows.entry.standing.now) rows.entry.at) C.cmp
         (key_range rows.entry.range) split.now 0 (length split.now + 1))
         taker.old rows.entry.limit taker.new result }
     ensures errors { (files : Files) (next : Option ℕ) (tables : List NumberedContents) →
         Tells (F.tells folder.old) files →
-        AreTablesIn C.cmp files next (map (λ f. f.now) standing.now) tables →
+        AreTablesIn C.cmp files next (map (λ f. f.now) rows.entry.standing.now) tables →
         AreHeldBy C.cmp (F.tells folder.old) held →
         IfErr result
         (λ e. UnlessMemory e (IsStopped (F.failed folder.old) (F.failed folder.new) e)) }
@@ -80,10 +80,10 @@ pub(crate) fn tell_ranges<
         let part = common_range::<C>(rows.range, split.range(number));
         let rest = RangeRows {
             range: part,
-            at: rows.at,
             limit: left,
+            ..rows
         };
-        let wanted = tell_range::<C, F, T, R>(workers, folder, standing, &mut held, rest, taker)?;
+        let wanted = tell_range::<C, F, T, R>(workers, folder, &mut held, rest, taker)?;
         let RowLimit::More(less) = wanted else {
             return Ok(());
         };
@@ -96,22 +96,21 @@ pub(crate) fn tell_ranges<
 fn tell_range<C: SharedComparator + 'static, F: ReadsTables, T: RowTaker, R: Threads + Sync>(
     workers: &Workers<'_, R, Open>,
     folder: &mut F,
-    standing: &[&FileMeta],
     held: &mut HeldTables<C>,
-    rows: RangeRows<'_>,
+    rows: RangeRows<'_, '_>,
     taker: &mut T,
 ) -> Result<RowLimit, Fault>
     ensures told { (files : Files) (next : Option ℕ) (tables : List NumberedContents) →
         Tells (F.tells folder.old) files →
-        AreTablesIn C.cmp files next (map (λ f. f.now) standing.now) tables →
+        AreTablesIn C.cmp files next (map (λ f. f.now) rows.entry.standing.now) tables →
         AreHeldIn C.cmp files held.old →
         AreTelling T.tells
-        (file_rows C.cmp tables (map (λ f. f.now) standing.now) rows.entry.at
+        (file_rows C.cmp tables (map (λ f. f.now) rows.entry.standing.now) rows.entry.at
         (key_range rows.entry.range))
         taker.old rows.entry.limit taker.new result }
     ensures errors { (files : Files) (next : Option ℕ) (tables : List NumberedContents) →
         Tells (F.tells folder.old) files →
-        AreTablesIn C.cmp files next (map (λ f. f.now) standing.now) tables →
+        AreTablesIn C.cmp files next (map (λ f. f.now) rows.entry.standing.now) tables →
         AreHeldIn C.cmp files held.old →
         IfErr result
         (λ e. UnlessMemory e (IsStopped (F.failed folder.old) (F.failed folder.new) e)) }
@@ -121,7 +120,12 @@ fn tell_range<C: SharedComparator + 'static, F: ReadsTables, T: RowTaker, R: Thr
     ensures reads { OnlyReads F.Folder folder.old folder.new }
 {
     let alloc = workers.alloc();
-    let RangeRows { range, at, limit } = rows;
+    let RangeRows {
+        range,
+        at,
+        limit,
+        ..
+    } = rows;
     let is_over = is_done(limit);
     if is_over {
         return Ok(RowLimit::Enough);
@@ -130,7 +134,7 @@ fn tell_range<C: SharedComparator + 'static, F: ReadsTables, T: RowTaker, R: Thr
     if is_none {
         return Ok(RowLimit::More(limit));
     }
-    let needed = needed_files::<C>(alloc, standing, range)?;
+    let needed = needed_files::<C>(alloc, rows.standing, range)?;
     let numbers = numbers_of(alloc, &needed)?;
     let is_held = hold_next::<C, F, Open, R>(workers, folder, held, &numbers)?;
     if !is_held {

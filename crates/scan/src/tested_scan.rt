@@ -9,7 +9,7 @@ ghost use Rattle.scan.specs.ToldRows.{telling_by, counts_of};
 
 use crate::row_choice::RowChoice;
 use crate::row_taker::RowTaker;
-use crate::version_scan::scan_held;
+use crate::version_scan::{Holding, scan_held};
 use board::Watch;
 use checks::{Open, SharedComparator, Workers, test_and_hold};
 use folder::{Bytewise, Opened, Order, ReadsTables, Shortlex, Version};
@@ -73,6 +73,7 @@ fn scan_version_by<
 {
     let found = test_and_hold::<C, F, W, R>(workers, folder, version, memory)?;
     let untold = workers.with_gate(&Open);
-    let held = found.tables;
-    scan_held::<C, F, T, R>(&untold, folder, version, held, choice, memory, taker)
+    let tables = found.tables;
+    let holding = Holding { tables, memory };
+    scan_held::<C, F, T, R>(&untold, folder, version, holding, choice, taker)
 }

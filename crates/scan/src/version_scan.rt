@@ -19,11 +19,19 @@ use checks::{HeldTables, Open, SharedComparator, Workers, group_split};
 use folder::{Bytewise, Opened, Order, ReadsTables, Shortlex, Version};
 use reads::files_newest_first;
 use std::thread::Threads;
-use table::{Fault, FaultName};
+use table::{Comparator, Fault, FaultName};
 
 /// The most bytes of tables that a scan holds, if no single user key needs more. Less of them are
 /// read in vain if few rows are wanted.
 const SCANNED_BYTES: u64 = 33_554_432;
+
+/// What a scan holds of a folder's tables.
+#[derive(Drop)]
+pub(crate) struct Holding<C: Comparator> {
+    pub tables: HeldTables<C>,
+    /// The most bytes of tables that are in memory.
+    pub memory: u64,
+}
 
 /// Tells `taker` the chosen rows of the version as which a folder was opened, if it is lawful with
 /// the tables in it. That isn't tested: it was verified before, and no other program changed
@@ -54,21 +62,23 @@ pub fn scan_unverified<F: ReadsTables, T: RowTaker, R: Threads + Sync>(
     ensures reads { OnlyReads F.Folder folder.old folder.new }
 {
     let version = &opened.version;
-    let most = memory.min(SCANNED_BYTES);
+    let memory = memory.min(SCANNED_BYTES);
     match opened.order {
         Order::Bytewise => {
-            let held = HeldTables::none(workers.alloc());
-            scan_held::<Bytewise, F, T, R>(workers, folder, version, held, choice, most, taker)
+            let tables = HeldTables::none(workers.alloc());
+            let holding = Holding { tables, memory };
+            scan_held::<Bytewise, F, T, R>(workers, folder, version, holding, choice, taker)
         }
         Order::Shortlex => {
-            let held = HeldTables::none(workers.alloc());
-            scan_held::<Shortlex, F, T, R>(workers, folder, version, held, choice, most, taker)
+            let tables = HeldTables::none(workers.alloc());
+            let holding = Holding { tables, memory };
+            scan_held::<Shortlex, F, T, R>(workers, folder, version, holding, choice, taker)
         }
     }
 }
 
-/// The same by this comparator, where at most `memory` bytes of tables are in memory. `held` are
-/// tables of the folder: those that the first range needs aren't read.
+/// The same by this comparator, with tables of the folder that it holds already: those that the
+/// first range needs aren't read.
 pub(crate) fn scan_held<
     C: SharedComparator + 'static,
     F: ReadsTables,
@@ -78,16 +88,15 @@ pub(crate) fn scan_held<
     workers: &Workers<'_, R, Open>,
     folder: &mut F,
     version: &Version,
-    held: HeldTables<C>,
+    holding: Holding<C>,
     choice: RowChoice<'_>,
-    memory: u64,
     taker: &mut T,
 ) -> Result<(), Fault>
     ensures rows { (files : Files) (loaded : List (ℕ × List ℕ)) (tables : List NumberedContents) →
         Tells (F.tells folder.old) files →
         IsLoaded (F.tells folder.old) (file_numbers C.cmp version.now) (Ok loaded) →
         IsLawfulTables C.cmp version.now loaded (Ok tables) →
-        AreHeldBy C.cmp (F.tells folder.old) held →
+        AreHeldBy C.cmp (F.tells folder.old) holding.tables →
         IsScan C.cmp version.now tables choice.entry
         (telling_by T.tells taker.old taker.new) (counts_of F.Folder folder.old folder.new) result }
     ensures device { ReportsDevice F.Folder folder.old folder.new result }
@@ -97,12 +106,17 @@ pub(crate) fn scan_held<
     let Some(standing) = files_newest_first::<C>(alloc, version)? else {
         return Err(Fault::of(FaultName::Lawless));
     };
-    let split = group_split::<C>(alloc, &standing, memory)?;
+    let split = group_split::<C>(alloc, &standing, holding.memory)?;
     let at = sequence_of(version, choice.at);
     let range = choice.range();
     let limit = choice.limit;
-    let rows = RangeRows { range, at, limit };
-    tell_ranges::<C, F, T, R>(workers, folder, &standing, &split, held, rows, taker)
+    let rows = RangeRows {
+        standing: &standing,
+        range,
+        at,
+        limit,
+    };
+    tell_ranges::<C, F, T, R>(workers, folder, &split, holding.tables, rows, taker)
 }
 
 /// The sequence `at`, or the version's last one if it isn't given.

@@ -10,7 +10,7 @@ use queries::{
 };
 use refusals::{compaction_explained, explained, table_explained};
 use session::{
-    Access, Host, Opened, Refusal, RefusedTable, Session, Telling, bytes_of, locked, open_session,
+    Access, Answer, Host, Refusal, RefusedTable, Session, Telling, bytes_of, locked, open_session,
     print_lines, tell_time,
 };
 use std::env::Env;
@@ -157,11 +157,7 @@ fn work_on_folder<R: Host>(
 }
 
 /// What is left to print of a folder that is only read.
-fn read<R: Host>(
-    session: Session<'_, R, Opened>,
-    line: &Line<'_>,
-    input: &[Vec<u8>],
-) -> Result<Vec<u8>, Refusal> {
+fn read<R: Host>(session: Session<'_, R>, line: &Line<'_>, input: &[Vec<u8>]) -> Answer {
     let mut session = session;
     match line {
         Line::Manifest(line) => version_answer(&session, line),
@@ -184,7 +180,7 @@ fn read<R: Host>(
 }
 
 /// Changes a folder. What was done is printed as it is done.
-fn changed<R: Host>(session: Session<'_, R, Opened>, line: &Line<'_>) -> Result<Vec<u8>, Refusal> {
+fn changed<R: Host>(session: Session<'_, R>, line: &Line<'_>) -> Answer {
     let alloc = session.rt.alloc();
     match line {
         Line::Compact(line) => compact_folder(session, line)?,

@@ -107,8 +107,8 @@ pub(crate) fn report_usage<R: Print + Eprint + AllocGlobal>(rt: &R, usage: Usage
         Usage::Text => {
             let status = report_misuse(rt, "usage: key is not text");
             let _ = rt.eprintln(
-                "sedvokt: with --text a byte is given as \\xHH, a backslash as \\x5c, and the empty \
-                    key as '\"\"'",
+                "sedvokt: with --text a byte is given as \\xHH, a backslash as \\x5c, and the \
+                    empty key as '\"\"'",
             );
             status
         }

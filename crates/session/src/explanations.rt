@@ -113,8 +113,8 @@ fn of_manifest(name: FaultName) -> Option<Words> {
             "restore the folder from a copy",
         ),
         FaultName::EditTag => (
-            "a version edit has a tag that LevelDB does not write: another program's, as RocksDB's, \
-                or damage",
+            "a version edit has a tag that LevelDB does not write: another program's, as \
+                RocksDB's, or damage",
             "use the program that wrote it, or restore the folder from a copy",
         ),
         FaultName::EditField => (

@@ -88,21 +88,30 @@ fn file_len<R: Files + AllocGlobal>(rt: &R, folder: &str, name: &str) -> io::Res
     }
 }
 
-/// The number of the log that a version names, if it isn't there; LevelDB leaves it there also if it
-/// is empty. None if the version names none, which is number 0.
+/// The number of the log that a version names, if it isn't there; LevelDB leaves it there also if
+/// it is empty. None if the version names none, which is number 0.
 pub fn missing_log<R: Files + AllocGlobal>(
     rt: &R,
     folder: &str,
     version: &Version,
 ) -> Result<Option<u64>, Refusal> {
     let number = version.log_number().unwrap_or(0);
-    let path = format!(in rt.alloc(); "{folder}/{number:06}.log")?;
+    let name = format!(in rt.alloc(); "{number:06}.log")?;
+    if number == 0 || is_there(rt, folder, name.as_str())? {
+        return Ok(None);
+    }
+    Ok(Some(number))
+}
+
+/// Whether a folder's file is there. Device if the system doesn't tell it.
+pub fn is_there<R: Files + AllocGlobal>(rt: &R, folder: &str, name: &str) -> Result<bool, Refusal> {
+    let path = path_in(rt.alloc(), folder, name)?;
     match fs::metadata(rt, path.as_str()) {
-        Err(error) if error.kind() != ErrorKind::NotFound => {
+        Ok(_) => Ok(true),
+        Err(error) if error.kind() == ErrorKind::NotFound => Ok(false),
+        Err(error) => {
             Err(Refusal::of_call(rt.alloc(), path.as_str(), "read its length", &error))
         }
-        Err(_) if number > 0 => Ok(Some(number)),
-        _ => Ok(None),
     }
 }
 

@@ -1,8 +1,8 @@
 //! The locks of a folder that a command holds until it ends.
 
-use crate::explanations::NO_FOLDER;
+use crate::explanations::{NO_FOLDER, Words};
 use crate::folder_files::{names_at, path_in};
-use crate::refusal::{Refusal, RefusalText, said, told};
+use crate::refusal::{Refusal, RefusalText, said, told, told_of_file};
 use crate::reporter::Telling;
 use coding::{Fault, FaultName};
 use disk::{FolderLock, SystemFiles, lock_to_change, lock_to_read};
@@ -182,8 +182,8 @@ fn file_refused<R: SystemFiles + AllocGlobal>(
     }
 }
 
-/// Opens LOCK, if it is there. If the folder is to be changed, a file beside it is made, as the lock
-/// needs it, and removed.
+/// Opens LOCK, if it is there. If the folder is to be changed, a file beside it is made, as the
+/// lock needs it, and removed.
 fn lock_tried<R: SystemFiles + AllocGlobal>(rt: &R, folder: &str, changes: bool) -> io::Result<()> {
     let lock = path_in(rt.alloc(), folder, "LOCK")?;
     let mut how = OpenOptions::new();
@@ -208,12 +208,7 @@ pub fn no_database<R: SystemFiles + AllocGlobal>(rt: &R, folder: &str) -> Option
         Ok(true) => {
             let wrong = "it is missing, and the folder has a manifest: the database is damaged";
             let remedy = "restore the folder from a copy, or have LevelDB repair it";
-            said(
-                alloc,
-                path_in(alloc, folder, CURRENT).ok()?.as_str(),
-                wrong,
-                remedy,
-            )
+            told_of_file(alloc, folder, CURRENT, Words { wrong, remedy })
         }
         Err(error) if error.kind() == ErrorKind::NotFound => { told(alloc, folder, NO_FOLDER) }
         _ => {
@@ -225,8 +220,8 @@ pub fn no_database<R: SystemFiles + AllocGlobal>(rt: &R, folder: &str) -> Option
 
 /// Whether a folder has a file with the name of a manifest.
 fn has_manifest<R: SystemFiles + AllocGlobal>(rt: &R, folder: &str) -> io::Result<bool> {
-    for entry in fs::read_dir(&rt, folder)? {
-        if entry?.file_name().starts_with("MANIFEST-") {
+    for name in &names_at(rt, folder)? {
+        if name.starts_with("MANIFEST-") {
             return Ok(true);
         }
     }

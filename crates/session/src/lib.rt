@@ -37,13 +37,14 @@ pub use explanations::{CLOSE_ONCE, Words, in_words, of_file};
 pub use filter_blocks::have_filter;
 pub use folder::{Bytewise, Comparator, Opened, Order, Shortlex, manifest_name};
 pub use folder_files::{
-    UnneededFiles, logs_with_writes, missing_log, names_in, path_in, replayed_log, unneeded_files,
+    UnneededFiles, is_there, logs_with_writes, missing_log, names_in, path_in, replayed_log,
+    unneeded_files,
 };
 pub use folder_locks::{Access, locked, no_database};
 pub use host::Host;
 pub use opened_folder::{Session, bytes_of, open_in, open_session, print_lines, refused_at};
 pub use progress_line::{ProgressLine, WorkLeft};
-pub use refusal::{Refusal, RefusalParts, RefusalText, said, told};
+pub use refusal::{Answer, Refusal, RefusalParts, RefusalText, said, told, told_of_file};
 pub use refused_table::RefusedTable;
 pub use replaced_folder::{refused_opened, tell_replaced};
 pub use reporter::{Beginning, Telling, tell_time};

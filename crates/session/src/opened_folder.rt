@@ -29,7 +29,7 @@ const MEBIBYTE: u64 = 1 << 20;
 /// A folder that a command works on, and what it was opened as: `Opened`, or of work that changes
 /// it, `SyncedVersion`.
 #[derive(Drop)]
-pub struct Session<'r, R, V> {
+pub struct Session<'r, R, V = Opened> {
     pub rt: &'r R,
     pub telling: Telling<'r>,
     /// When the work began, if that is told.
@@ -48,7 +48,7 @@ pub fn open_session<'r, R: SystemFiles + Eprint + Clock + AllocGlobal>(
     rt: &'r R,
     telling: Telling<'r>,
     access: Access,
-) -> Result<Session<'r, R, Opened>, Refusal> {
+) -> Result<Session<'r, R>, Refusal> {
     let begun = telling.begin(rt);
     let mut disk = Disk::new(rt, telling.folder);
     let opened = match open_in(rt, telling.folder, &mut disk) {
@@ -110,7 +110,8 @@ impl<'r, R: SystemFiles + Eprint + Clock + AllocGlobal, V> Session<'r, R, V> {
 }
 
 /// How many logs have writes that are in no table, which is told. If one has some, that is a
-/// refusal, if this is asked for; then it is also told if the log that the version names is missing.
+/// refusal, if this is asked for; then it is also told if the log is missing that the version
+/// names.
 fn logs_counted<R: Files + Eprint + AllocGlobal>(
     rt: &R,
     telling: Telling<'_>,

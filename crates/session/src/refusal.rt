@@ -1,7 +1,9 @@
 //! A refusal, and what is told of it.
 
 use crate::explanations::{Words, of_file};
+use crate::folder_files::path_in;
 use coding::{Fault, FaultName};
+use disk::error_words;
 use std::alloc::{AllocError, AllocFailed, Global};
 use std::io;
 use std::io::ErrorKind;
@@ -20,6 +22,9 @@ pub struct Refusal {
     /// The name of the folder's file that was read last. None if that isn't known.
     pub file: Option<String>,
 }
+
+/// What a command comes to: what is left to print, or its refusal.
+pub type Answer = Result<Vec<u8>, Refusal>;
 
 /// What is told of a refusal.
 #[derive(Drop)]
@@ -193,6 +198,11 @@ pub fn told(alloc: Global, path: &str, words: Words) -> Option<RefusalText> {
     said(alloc, path, words.wrong, words.remedy)
 }
 
+/// What is told of a folder's file of this name in these words.
+pub fn told_of_file(alloc: Global, folder: &str, file: &str, words: Words) -> Option<RefusalText> {
+    told(alloc, path_in(alloc, folder, file).ok()?.as_str(), words)
+}
+
 /// What is told of `path`: what is `wrong`, and what to do.
 pub fn said(alloc: Global, path: &str, wrong: &str, remedy: &'static str) -> Option<RefusalText> {
     RefusalText::new(alloc, path, String::from_str(alloc, wrong), remedy)
@@ -200,16 +210,7 @@ pub fn said(alloc: Global, path: &str, wrong: &str, remedy: &'static str) -> Opt
 
 /// What is told of a call of the system that failed.
 fn call_refusal(alloc: Global, path: &str, call: &str, error: &io::Error) -> Option<RefusalText> {
-    let text = format!(in alloc; "{error}").ok()?;
-    let reason = without_number(text.as_str());
+    let reason = error_words(alloc, error).ok()?;
     let wrong = format!(in alloc; "cannot {call}: {reason}");
     RefusalText::of(alloc, path, wrong, None)
-}
-
-/// The words of an error of the system, without its number.
-fn without_number(text: &str) -> &str {
-    match text.split_once(" (os error ") {
-        Some((words, _)) => words,
-        None => text,
-    }
 }

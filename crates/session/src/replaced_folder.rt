@@ -3,7 +3,7 @@
 use crate::explanations::Words;
 use crate::folder_files::path_in;
 use crate::opened_folder::refused_at;
-use crate::refusal::{Refusal, told};
+use crate::refusal::{Refusal, told_of_file};
 use crate::reporter::Telling;
 use coding::{Fault, FaultName};
 use disk::{Disk, SystemFiles};
@@ -27,9 +27,8 @@ pub fn refused_opened<R: SystemFiles + AllocGlobal>(
     if fault.name == FaultName::Missing
         && let Some(manifest) = manifest
         && is_replaced(rt, path, manifest)
-        && let Ok(current) = path_in(rt.alloc(), path, CURRENT)
     {
-        return Refusal::new(fault, told(rt.alloc(), current.as_str(), REPLACED));
+        return Refusal::new(fault, told_of_file(rt.alloc(), path, CURRENT, REPLACED));
     }
     refused_at(rt, path, folder, fault)
 }

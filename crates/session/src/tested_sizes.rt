@@ -5,7 +5,7 @@ ghost use Rattle.folder.specs.Reports.{OnlyReads};
 
 use crate::explanations::{Words, of_file};
 use crate::folder_files::path_in;
-use crate::refusal::{Refusal, told};
+use crate::refusal::{Refusal, told_of_file};
 use crate::replaced_folder::refused_opened;
 use coding::{Fault, FaultName};
 use disk::{Disk, SystemFiles};
@@ -90,11 +90,7 @@ pub fn bytes_of_files(files: &[&FileMeta]) -> u64 {
 /// The refusal of a folder's file of this name, which isn't read since it has more than 2^30 bytes.
 pub(crate) fn too_large(alloc: Global, folder: &str, name: &str) -> Refusal {
     let (fault, words) = of_large(name);
-    let told = match path_in(alloc, folder, name) {
-        Ok(path) => told(alloc, path.as_str(), words),
-        Err(_) => None,
-    };
-    Refusal::new(Fault::of(fault), told)
+    Refusal::new(Fault::of(fault), told_of_file(alloc, folder, name, words))
 }
 
 /// How such a file is refused: a table as Size, and CURRENT as Apply, since no manifest's name is

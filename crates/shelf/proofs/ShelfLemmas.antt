@@ -5,7 +5,7 @@ use Rattle.std.specs.Str.{bytes_eq}
 use Rattle.folder.specs.Calls.{AreTorn, Call, Created, Done, Files, FolderSynced, FolderView, Removed, Renamed, Step, Synced, Tells, TellsAfter, Tried, Written, step_of, with_moved, with_value, with_renamed, with_contents, with_synced, with_written}
 use Rattle.shelf.specs.Alters.{Alters, AltersEach, with_files}
 use Rattle.folder.specs.Names.{table_name}
-use Rattle.shelf.specs.Shelf.{files_after_steps, files_in}
+use Rattle.shelf.specs.Shelf.{ShelfCalls, ShelfView, files_after_steps, files_in, held_by}
 use Rattle.folder.specs.TableFiles.{table_files}
 use Rattle.folder.specs.declared.folder.FolderFault.{FolderFault}
 use Rattle.shelf.specs.declared.shelf_step.ShelfStep.{ShelfStep}
@@ -39,7 +39,7 @@ is_at : (a b : Files) → a ≡ b → Alike a b
 is_at a b e name = ap (λ (f : Files). f name) e
 
 -- just the files that are held may be read
-abbrev told : Files → List ℕ → Option (List ℕ) → Type 0
+abbrev pub told : Files → List ℕ → Option (List ℕ) → Type 0
 told files name held = files name ≡ held
 
 tells_alike : (a b : Files) → Alike b a → Tells (told a) b
@@ -102,11 +102,19 @@ alters_tells (Done FolderSynced) old new is s tells = (s, refl, tells_alike new 
 alters_tells (Tried FolderSynced) old new is s tells = (s, refl, tells_alike new s.files (λ n. alike_told old s.files tells n ∙ sym (is_at new old is n)))
 
 -- what a call that writes changes of what may be read
-pub wrote : (step : Step) (old new : List ShelfStep) (start now : List (List ℕ × List ℕ)) → now ≡ start → ((files : Files) → Alters step (files_after_steps old files) (files_after_steps new files))
-    → TellsAfter step (told (files_after_steps old (files_in start))) (told (files_after_steps new (files_in now)))
-wrote step old new start now same change =
-    subst (λ (files : List (List ℕ × List ℕ)). TellsAfter step (told (files_after_steps old (files_in start))) (told (files_after_steps new (files_in files)))) (sym same)
-    (alters_tells step (files_after_steps old (files_in start)) (files_after_steps new (files_in start)) (change (files_in start)))
+pub wrote : (step : Step) (start : List (List ℕ × List ℕ)) (before after : ShelfCalls) (old : ShelfView) → record { start = start; made = before } ≡ old → ((files : Files) → Alters step (files_after_steps before.steps files) (files_after_steps after.steps files))
+    → TellsAfter step (told (held_by old)) (told (files_after_steps after.steps (files_in start)))
+wrote step start before after old is change =
+    let at = files_in start in
+    subst (λ (s : ShelfView). TellsAfter step (told (held_by s)) (told (files_after_steps after.steps at))) is
+    (alters_tells step (files_after_steps before.steps at) (files_after_steps after.steps at) (change at))
+
+-- the same if that is handed on
+pub handed_on : {U : Type 0} (call : Call) (r q : Result U FolderFault) (tells : List ℕ → Option (List ℕ) → Type 0) (start : List (List ℕ × List ℕ)) (before after : ShelfCalls) → r ≡ q → after.steps ≡ before.steps
+    → TellsAfter (step_of call q) tells (told (files_after_steps before.steps (files_in start))) → TellsAfter (step_of call r) tells (told (files_after_steps after.steps (files_in start)))
+handed_on {U = U} call r q tells start before after same is h =
+    subst (λ (s : List ShelfStep). TellsAfter (step_of call r) tells (told (files_after_steps s (files_in start)))) (sym is)
+    (subst (λ (x : Result U FolderFault). TellsAfter (step_of call x) tells (told (files_after_steps before.steps (files_in start)))) (sym same) h)
 
 abbrev pub no_file : Bor (List ℕ) × Bor (List ℕ)
 no_file = (record { ref_ptr = (0, 0); now = [] }, record { ref_ptr = (0, 0); now = [] })

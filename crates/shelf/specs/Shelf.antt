@@ -30,13 +30,11 @@ abbrev pub files_after_steps : List ShelfStep → Files → Files
 files_after_steps [] files = files
 files_after_steps (step ∷ steps) files = files_after_step step (files_after_steps steps files)
 
--- a folder in memory, as contracts see it
-pub record ShelfView : Type 0 where
-  -- the files that were lent to it; of several files of one name the first counts
-  pub start : List (List ℕ × List ℕ)
-  -- the calls that write, the newest first, without those that ran out of memory
+-- the calls on a folder in memory
+pub record ShelfCalls : Type 0 where
+  -- those that write, the newest first, without those that ran out of memory
   pub steps : List ShelfStep
-  -- all calls that write, in their order
+  -- all that write, in their order
   pub trail : List Step
   -- the files that were read
   pub readings : List Reading
@@ -44,6 +42,11 @@ pub record ShelfView : Type 0 where
   pub calls : ℕ
   pub failures : ℕ
 
+-- a folder in memory: the files that were lent to it, of which of one name the first counts
+pub record ShelfView : Type 0 where
+  pub start : List (List ℕ × List ℕ)
+  pub made : ShelfCalls
+
 -- the bytes under each name
 abbrev pub held_by : ShelfView → Files
-held_by shelf = files_after_steps shelf.steps (files_in shelf.start)
+held_by shelf = files_after_steps shelf.made.steps (files_in shelf.start)

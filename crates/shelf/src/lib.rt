@@ -2,8 +2,10 @@
 //! told to fail.
 #![tactic(auto)]
 
+mod call_record;
 mod shelf;
 mod shelf_step;
 
-pub use crate::shelf::{Failing, Shelf, ShelfMaker};
+pub use crate::shelf::{Shelf, ShelfMaker};
+pub use call_record::Failing;
 pub use shelf_step::{ShelfCall, ShelfStep};

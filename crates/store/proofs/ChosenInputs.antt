@@ -1,5 +1,5 @@
 -- The inputs of a choice: files of the version, and closed if it is lawful.
-use Rattle.std.proofs.Common.{◌≡◌, ℕ, ◌+◌, ◌≤◌, Bool, true, false, List, map, length, Option, None, Result, Ok, Err, refl, sym, ap, subst, ◌∙◌, inl, inr, arith}
+use Rattle.std.proofs.Common.{◌≡◌, ℕ, ◌+◌, ◌≤◌, Bool, true, false, List, map, length, Option, Result, Ok, Err, refl, sym, ap, subst, inl, inr, arith}
 use Rattle.std.specs.Prelude.{Contains, MatchBool, nat_lt}
 use Rattle.std.specs.List.{All}
 use Rattle.std.specs.Cmp.{IsTotalOrder}
@@ -16,7 +16,6 @@ use Rattle.folder.specs.Version.{State, are_apart}
 use Rattle.folder.specs.VersionOrder.{level_files}
 use Rattle.folder.specs.meta.NewFile.{NewFile}
 use Rattle.folder.specs.Calls.{Files}
-use Rattle.folder.specs.Levels.{file_numbers}
 use Rattle.folder.specs.LoadedTables.{IsLoaded}
 use Rattle.folder.specs.ReadsAs.{IsFileIn}
 use Rattle.pick.specs.PickedInputs.{IsInputsAnswer, IsPicked, PickedInputs, input_at}
@@ -25,24 +24,19 @@ use Rattle.reads.proofs.Members.{from_map}
 use Rattle.reads.proofs.Pairs.{Pairs}
 use Rattle.reads.specs.Lawful.{IsLawful}
 use Rattle.reads.specs.Tables.{NumberedContents}
-use Rattle.checks.proofs.LawfulLemmas.{sound_lawful}
-use Rattle.checks.specs.LawfulTables.{IsLawfulTables}
 use Rattle.compact.proofs.PickedChoice.{picked_inputs_over}
 use Rattle.compact.proofs.VersionInputs.{input_file}
 use Rattle.compact.specs.InputsOver.{AreInputsOver}
 use Rattle.compact.specs.OneThread.{Answer}
 use Rattle.compact.specs.declared.settings.Settings.{Settings}
-use Rattle.store.specs.Answers.{IsLoadedAnswer}
 use Rattle.store.specs.Choice.{IsChosen}
 use Rattle.store.specs.FolderRequest.{compaction_from}
-use Rattle.store.specs.InputsCompaction.{IsChoiceAnswer, IsChosenAnswer, IsPickedAnswer, input_numbers}
-use Rattle.store.specs.Step.{with_inputs}
+use Rattle.store.specs.InputsCompaction.{IsChoiceAnswer, IsPickedAnswer, input_numbers}
 use Rattle.store.specs.declared.choice.Choice.{Choice}
 use Rattle.store.specs.declared.choice.Choice.TheVariants.{Part, Picked}
 use Rattle.store.proofs.Compactions.{picked_of}
 use Rattle.store.proofs.InputsApart.{AreTwoInputs, inputs_apart}
 use Rattle.store.proofs.PartFiles.{ArePlaced, made, part_apart, part_over, part_placed, part_so}
-use Rattle.store.proofs.PlacedInputs.{not_missing, passes, same_compaction, tables_pass}
 
 -- inputs are answered of levels up to 5
 low_level : (cmp : List ℕ → List ℕ → Ordering) (v : State) (level : ℕ) (p : PickedInputs) → IsInputsAnswer cmp v level (Ok p) → level ≤ 5
@@ -119,18 +113,3 @@ picked_answered first cmp short_keys files v s p a (Ok own, (l, (Ok contents, (m
     let parts = bind_ok (compaction_from first cmp short_keys v own p s) (λ (b : Answer). value (p, b)) (p, a) (sym is) in
     let same : parts.0 ≡ a = ap (λ (x : PickedInputs × Answer). x.1) (ok_is (p, parts.0) (p, a) parts.2) in
     record { own = own; read = l; answered = subst (λ (b : Answer). compaction_from first cmp short_keys v own p s ≡ Ok b) same parts.1 }
-
-module _ (cmp : List ℕ → List ℕ → Ordering) (total : IsTotalOrder cmp) (files : Files) (v : State) (loaded : List (ℕ × List ℕ)) (tables : List NumberedContents)
-    (held : IsLoaded (IsFileIn files) (file_numbers cmp v) (Ok loaded)) (sound : IsLawfulTables cmp v loaded (Ok tables)) where
-  placed : (level : ℕ) (p : PickedInputs) → IsInputsAnswer cmp v level (Ok p) → ArePlaced v p
-  placed level p h = picked_placed cmp total v tables (sound_lawful cmp v loaded tables sound) level p h
-
-  -- the answer by the inputs alone is the one by all tables
-  pub suffices : (short_keys : ShortKeys) (level : ℕ) (s : Settings) (answer : Result (PickedInputs × Answer) Fault) → IsChosenAnswer None cmp short_keys files v (Picked level) s answer → IsLoadedAnswer cmp short_keys v loaded level s answer
-  suffices short_keys level s answer (Err e, ((Err d, (h, same)), is)) = absurd (passes cmp total files v loaded tables held sound d h)
-  suffices short_keys level s answer (Err e, ((Ok passed, (h, k)), is)) = (Ok tables, (sound, (Err e, (k, is))))
-  suffices short_keys level s answer (Ok p, ((Err d, (h, same)), rest)) = absurd (passes cmp total files v loaded tables held sound d h)
-  suffices short_keys level s answer (Ok p, ((Ok passed, (h, k)), (Err e, (l, is)))) = absurd (not_missing cmp total files v loaded tables held sound p (placed level p k) e l)
-  suffices short_keys level s answer (Ok p, ((Ok passed, (h, k)), (Ok own, (l, (Err e, (m, is)))))) = absurd (tables_pass cmp total files v loaded tables held sound p (placed level p k) own l e m)
-  suffices short_keys level s answer (Ok p, ((Ok passed, (h, k)), (Ok own, (l, (Ok found, (m, is)))))) =
-      (Ok tables, (sound, (Ok p, (k, is ∙ ap (with_inputs p) (same_compaction cmp total files v loaded tables held sound p (placed level p k) own l None short_keys s)))))

@@ -13,19 +13,18 @@ use Rattle.folder.specs.Names.{current_text}
 use Rattle.folder.specs.OpenAnswer.{IsOpened, IsStopped}
 use Rattle.folder.specs.ReadsAs.{IsFileIn}
 use Rattle.folder.specs.declared.order.Order.{Order}
-use Rattle.install.specs.Install.{IsEditedBy, SurvivesCrash, next_version_tables, version_with}
+use Rattle.install.specs.Install.{IsEditedBy, LoadedVersion, SurvivesCrash, next_version_tables, version_with}
 use Rattle.install.proofs.Moments.{made_by}
 use Rattle.compact.specs.OneThread.{Answer}
-use Rattle.store.specs.Compaction.{IsInstalled, IsFolderLeft, IsVersionLeft, next_of}
-use Rattle.folder.specs.Orders.{order_cmp, order_short_keys}
+use Rattle.store.specs.StepLeft.{IsFolderLeft, IsStepInstalled, IsVersionLeft}
+use Rattle.folder.specs.Orders.{order_cmp}
 use Rattle.compact.specs.declared.settings.Settings.{Settings}
-use Rattle.folder.specs.Comparator.{ShortKeys}
 use Rattle.store.specs.VersionSync.{sync_calls}
 use Rattle.store.specs.declared.compaction_step.CompactionStep.{CompactionStep}
 use Rattle.store.proofs.Synced.{version_stands}
 use Rattle.store.proofs.SyncsTold.{syncs_tell}
 use Rattle.install.proofs.Changes.{change_by}
-use Rattle.store.specs.OrderView.{order_by, order_view}
+use Rattle.store.specs.OrderView.{OrderView, order_view}
 use Rattle.folder.specs.Manifest.{order_name}
 
 -- what survives of one answer does of another one that is a value only if the first is
@@ -69,17 +68,22 @@ valued_on r x (Err e) P is given = tt
 pub still : (old new : List ℕ → Option (List ℕ) → Type 0) → TellsSame old new → (files : Files) → Tells old files → Tells new files
 still old new same files tells name held = (λ h. (tells name held).0 ((same name held).1 h), λ h. (same name held).0 ((tells name held).1 h))
 
--- an installation, told from earlier calls on
-installed_since : (order : Order) (cmp : List ℕ → List ℕ → Ordering) (short_keys : ShortKeys) (v : State) (files : Files) (level : ℕ) (s : Settings)
-    (first before after : List Step) (zero old new : List ℕ → Option (List ℕ) → Type 0) (r : Result CompactionStep Fault) → before ≡ first → ((files : Files) → Tells zero files → Tells old files)
-    → IsInstalled (order_by order cmp short_keys) v files level s (change_by before after old new) r → IsInstalled (order_by order cmp short_keys) v files level s (change_by first after zero new) r
-installed_since order cmp short_keys v files level s first before after zero old new r is told i = record {
-  compaction = i.compaction;
-  survives = subst (λ (b : List Step). SurvivesCrash cmp order (version_with v i.compaction.loaded) (next_of i.compaction.compacted) (change_by b after zero new) r) is
-      (survives_on cmp order v (next_of i.compaction.compacted).version i.compaction.loaded (next_of i.compaction.compacted).tables before after zero old new r r (λ P x. x) told i.survives);
-  step = i.step;
-  refused = i.refused;
-}
+-- a step, told from earlier calls on
+pub step_told : (by : OrderView) (v : LoadedVersion) (level : ℕ) (s : Settings) (first before after : List Step) (zero old new : List ℕ → Option (List ℕ) → Type 0) (r : Result CompactionStep Fault)
+    → before ≡ first → ((files : Files) → Tells zero files → Tells old files) → IsStepInstalled by v level s (change_by before after old new) r → IsStepInstalled by v level s (change_by first after zero new) r
+step_told by v level s first before after zero old new r same told i =
+    let next = i.compacted.edited.next in
+    let tables' = next_version_tables by.cmp next i.answer.tables v.tables in
+    record {
+      picked = i.picked;
+      answer = i.answer;
+      compacted = i.compacted;
+      survives = subst (λ (b : List Step). SurvivesCrash by.cmp by.order v (version_with next tables') (change_by b after zero new) r) same
+          (survives_on by.cmp by.order v.version next v.tables tables' before after zero old new r r (λ P x. x) told i.survives);
+      named = i.named;
+      step = i.step;
+      refused = i.refused;
+    }
 
 -- the version was opened, and its sync was refused
 pub sync_refused : {T : Type 0} (order : Order) (v : State) (manifest : ℕ) (files : Files) (level : ℕ) (s : Settings) (first before after : List Step) (zero old new : List ℕ → Option (List ℕ) → Type 0) (r : Result T Fault) (q : Result CompactionStep Fault)
@@ -133,8 +137,12 @@ synced_left order v manifest files level s first before synced after zero old mi
           same = λ fs tells. still middle new u.same fs (told fs tells);
           refused = u.refused;
         })
-        | inr i ↦ inr (installed_since order (order_cmp order) (order_short_keys order) v files level s (first ++ map Done calls) synced after zero middle new q
-            (runs.appended ∙ (ap (λ (t : List Step). t ++ runs.steps) is ∙ ap (λ (t : List Step). first ++ t) all)) told i)
+        | inr x ↦ inr (
+          x.0,
+          x.1,
+          step_told (order_view order) (version_with v x.0) level s (first ++ map Done calls) synced after zero middle new q
+              (runs.appended ∙ (ap (λ (t : List Step). t ++ runs.steps) is ∙ ap (λ (t : List Step). first ++ t) all)) told x.2,
+        )
       ];
       stands = λ tables start. version_stands (order_cmp order) order v manifest tables start first;
     })

@@ -1,13 +1,11 @@
 pub mod Loaded
 mod Found
 mod SameTables
-mod Over
 pub mod TablesAfter
-mod EditedBy
-mod Joint
 pub mod NoDevice
 mod Synced
 mod SyncsTold
+mod SurvivingCalls
 mod TableSyncs
 pub mod Flow
 pub mod InputNumbers

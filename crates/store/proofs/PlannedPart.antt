@@ -15,19 +15,18 @@ use Rattle.folder.specs.Calls.{Step}
 use Rattle.folder.specs.Folder.{TellsSame}
 use Rattle.folder.specs.OpenAnswer.{FolderAnswers, IsStopped}
 use Rattle.folder.specs.declared.order.Order.{Order}
-use Rattle.install.specs.Install.{SurvivesCrash, next_version_tables, version_with}
+use Rattle.install.specs.Install.{version_with}
 use Rattle.pick.specs.PickedInputs.{PickedInputs}
 use Rattle.compact.specs.OneThread.{Answer, compaction_result}
 use Rattle.compact.specs.Request.{RequestView}
 use Rattle.compact.specs.declared.settings.Settings.{Settings}
 use Rattle.store.specs.Compaction.{IsUnchanged}
 use Rattle.store.specs.FolderRequest.{compaction_from, numbered_request}
-use Rattle.store.specs.FoundInputs.{step_result}
+use Rattle.store.specs.FoundInputs.{IsStepLeft, step_result}
 use Rattle.store.specs.Step.{StepView, step_of}
-use Rattle.store.specs.StepLeft.{IsStepLeft}
 use Rattle.store.specs.declared.compaction_step.CompactionStep.{CompactionStep}
 use Rattle.store.proofs.Flow.{no_value}
-use Rattle.store.proofs.InstallPart.{still, survives_on}
+use Rattle.store.proofs.InstallPart.{step_told, still}
 use Rattle.install.proofs.Changes.{change_by}
 use Rattle.store.specs.OrderView.{order_by}
 
@@ -63,18 +62,7 @@ pub step_since : (order : Order) (cmp : List ℕ → List ℕ → Ordering) (sho
 step_since order cmp short_keys v loaded level s first before after zero old new r same told (inl u) =
     inl (record { calls = u.calls ∙ same; same = told_since zero old new told u.same; refused = u.refused })
 step_since order cmp short_keys v loaded level s first before after zero old new r same told (inr i) =
-    let next = i.compacted.edited.next in
-    let tables' = next_version_tables cmp next i.answer.tables loaded in
-    inr (record {
-      picked = i.picked;
-      answer = i.answer;
-      compacted = i.compacted;
-      survives = subst (λ (b : List Step). SurvivesCrash cmp order (version_with v loaded) (version_with next tables') (change_by b after zero new) r) same
-          (survives_on cmp order v next loaded tables' before after zero old new r r (λ P x. x) (still zero old told) i.survives);
-      named = i.named;
-      step = i.step;
-      refused = i.refused;
-    })
+    inr (step_told (order_by order cmp short_keys) (version_with v loaded) level s first before after zero old new r same (still zero old told) i)
 
 -- a split that was refused
 pub split_refused : (cmp : List ℕ → List ℕ → Ordering) (short_keys : ShortKeys) (v : State) (loaded : List (ℕ × List ℕ)) (p : PickedInputs) (s : Settings) (first : Option ℕ) (e : Fault)

@@ -11,10 +11,9 @@ use Rattle.folder.proofs.LoadingLemmas.{loaded_before, told_since}
 use Rattle.folder.specs.Calls.{Call, Done, Files, Step, Tells}
 use Rattle.folder.specs.CallSequence.{MakesCalls, TellsThrough}
 use Rattle.folder.specs.Folder.{TellsSame}
-use Rattle.folder.specs.Manifest.{order_name}
 use Rattle.folder.specs.Names.{current_text}
 use Rattle.folder.specs.OpenAnswer.{IsOpened}
-use Rattle.folder.specs.Orders.{order_cmp, order_short_keys}
+use Rattle.folder.specs.Orders.{order_cmp}
 use Rattle.folder.specs.declared.folder.Folder.{Ghosts}
 use Rattle.folder.specs.declared.order.Order.{Order}
 use Rattle.install.specs.GroupedInstallation.{tables_of_groups}
@@ -210,7 +209,6 @@ synced_run g first at last order v manifest level s before old r x q opened name
     let synced = g.calls at in
     let middle = g.tells at in
     let calls = sync_calls (order_cmp order) v manifest in
-    let told = λ (fs : Files) (tells : Tells zero fs). syncs_tell (order_cmp order) v manifest before synced old middle r runs fs (still zero old same fs tells) in
     let all : runs.steps ≡ map Done calls = all_made calls runs.steps r x was runs.made in
     let since : synced ≡ g.calls first ++ map Done calls = runs.appended ∙ (ap (λ (t : List Step). t ++ runs.steps) is ∙ ap (λ (t : List Step). g.calls first ++ t) all) in
     let through : TellsThrough (map Done calls) old middle = subst (λ (t : List Step). TellsThrough t old middle) all runs.change in
@@ -225,7 +223,7 @@ synced_run g first at last order v manifest level s before old r x q opened name
         | inr i ↦ inr (record {
           at = at;
           synced = record { calls = since; change = λ w tells. through w (still zero old same w.files tells) };
-          installed = installed_since (IsAnswerForLevel (order_cmp order) (order_short_keys order) middle v level s) (order_name order) (order_cmp order) v (g.calls first ++ map Done calls) synced (g.calls last) zero middle (g.tells last) q since told i;
+          installed = i;
         })
       ];
     })

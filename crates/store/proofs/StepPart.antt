@@ -1,5 +1,6 @@
 -- A compaction that reads its inputs alone, as a part of a call.
 use Rattle.std.proofs.Common.{◌≡◌, ℕ, true, ◌∷◌, [], List, ◌++◌, append_assoc, map, codes, Option, Some, None, Result, Ok, Err, IfErr, IfOk, IsErrAnd, OnOk, refl, sym, ap, subst, ◌∙◌, inl, inr}
+use Rattle.std.specs.Prelude.{is_some}
 use Rattle.std.proofs.lemmas.List.{map-append}
 use Rattle.std.specs.declared.cmp.Ordering.{Ordering}
 use Rattle.folder.specs.Answers.{IsThen, UnlessMemory, fault}
@@ -21,21 +22,24 @@ use Rattle.folder.specs.declared.order.Order.{Order}
 use Rattle.install.specs.Install.{SurvivesCrash, current_calls, install_calls, next_version_tables, table_calls, temporary_calls, write_calls, version_with}
 use Rattle.checks.specs.LawfulTables.{IsLawfulTables}
 use Rattle.reads.specs.Tables.{NumberedContents}
-use Rattle.pick.specs.PickedInputs.{IsInputsAnswer, PickedInputs}
+use Rattle.pick.specs.PickedInputs.{PickedInputs}
 use Rattle.compact.specs.OneThread.{Answer}
 use Rattle.compact.specs.declared.settings.Settings.{Settings}
-use Rattle.store.specs.Answers.{IsVersionAnswer, IsVersionCompacted}
-use Rattle.store.specs.Compaction.{IsVersionLeft, LevelCompaction}
-use Rattle.store.specs.FolderRequest.{compaction_of, manifest_of}
-use Rattle.store.specs.Step.{StepView, step_in, step_of, with_inputs}
-use Rattle.store.specs.StepLeft.{IsStepLeft}
+use Rattle.store.specs.FolderRequest.{manifest_of}
+use Rattle.store.specs.Step.{step_in, step_of}
+use Rattle.store.specs.Outcome.{ChosenCompaction, IsTestAnswer}
+use Rattle.store.specs.FoundInputs.{IsStepLeft}
+use Rattle.store.specs.StepLeft.{IsStepInstalled, IsVersionLeft, PassesTest}
+use Rattle.store.specs.declared.choice.Choice.TheVariants.{Picked}
 use Rattle.checks.specs.TestedTables.{IsTested, totals_of}
 use Rattle.checks.specs.declared.version_totals.VersionTotals.{VersionTotals}
 use Rattle.store.specs.declared.compaction_step.CompactionStep.{CompactionStep}
-use Rattle.store.proofs.Flow.{first_refused, loaded_in, no_refusal}
-use Rattle.store.proofs.InstallPart.{Promises, all_made, still, survives_on}
+use Rattle.store.proofs.Flow.{loaded_in, no_refusal, told_themselves}
+use Rattle.store.proofs.InputNumbers.{one_table}
+use Rattle.store.proofs.InstallPart.{Promises, all_made, step_told, still, survives_on}
+use Rattle.install.specs.FolderChange.{FolderChange}
 use Rattle.install.proofs.Changes.{change_by}
-use Rattle.store.specs.OrderView.{order_by}
+use Rattle.store.specs.OrderView.{OrderView, order_by}
 
 -- ---- CURRENT after an installation
 
@@ -77,7 +81,7 @@ current_named number groups manifest before after old new r x files was runs tel
 
 pub step_installed : {T : Type 0} (name : List ℕ) (order : Order) (cmp : List ℕ → List ℕ → Ordering) (short_keys : ShortKeys) (v : State) (loaded : List (ℕ × List ℕ)) (level : ℕ) (s : Settings) (picked : PickedInputs) (answer : Answer)
     (first before after : List Step) (zero old new : List ℕ → Option (List ℕ) → Type 0) (r : Result T Fault) (q : Result CompactionStep Fault)
-    → order_name order ≡ name → LevelCompaction (order_by order cmp short_keys) (version_with v loaded) level s picked answer → ((P : Type 0) → OnOk r P → OnOk q P) → before ≡ first → TellsSame zero old
+    → order_name order ≡ name → ChosenCompaction (order_by order cmp short_keys) (version_with v loaded) (Picked level) None s picked answer → ((P : Type 0) → OnOk r P → OnOk q P) → before ≡ first → TellsSame zero old
     → OnOk q (new (codes "CURRENT") (Some (current_text (manifest_of v)))) → IfOk q (λ step. step_in step ≡ step_of v picked answer) → IfErr q (λ e. UnlessMemory e (e ≡ fault Device))
     → Promises name cmp v (manifest_of v) answer before after old new r → IsStepLeft (order_by order cmp short_keys) (version_with v loaded) level s (change_by first after zero new) q
 step_installed name order cmp short_keys v loaded level s picked answer first before after zero old new r q is done f same told named step refused promises =
@@ -94,23 +98,33 @@ step_installed name order cmp short_keys v loaded level s picked answer first be
       refused = refused;
     })
 
--- a step, told from earlier calls on
-pub version_left : (order : Order) (cmp : List ℕ → List ℕ → Ordering) (short_keys : ShortKeys) (files : Files) (v : State) (loaded : List (ℕ × List ℕ)) (level : ℕ) (s : Settings)
-    (first before after : List Step) (zero old new : List ℕ → Option (List ℕ) → Type 0) (r : Result CompactionStep Fault)
-    → ReadsAs cmp order v loaded files → before ≡ first → TellsSame zero old
-    → IsStepLeft (order_by order cmp short_keys) (version_with v loaded) level s (change_by before after old new) r → IsVersionLeft (order_by order cmp short_keys) v files level s (change_by first after zero new) r
-version_left order cmp short_keys files v loaded level s first before after zero old new r reads same told (inl u) =
+-- a step of a version with these tables, told from earlier calls on that only read
+pub version_left : (by : OrderView) (files : Files) (v : State) (loaded : List (ℕ × List ℕ)) (level : ℕ) (s : Settings) (first before after : List Step) (zero old new : List ℕ → Option (List ℕ) → Type 0) (r : Result CompactionStep Fault)
+    → ReadsAs by.cmp by.order v loaded files → before ≡ first → TellsSame zero old
+    → IsStepLeft by (version_with v loaded) level s (change_by before after old new) r → IsVersionLeft by v files level s (change_by first after zero new) r
+version_left by files v loaded level s first before after zero old new r reads same told (inl u) =
     inl (record { calls = u.calls ∙ same; same = told_since zero old new told u.same; refused = u.refused })
-version_left order cmp short_keys files v loaded level s first before after zero old new r reads same told (inr i) =
-    let next = i.compacted.edited.next in
-    let tables' = next_version_tables cmp next i.answer.tables loaded in
-    inr (record {
-      compaction = record { loaded = loaded; reads = reads; picked = i.picked; answer = i.answer; compacted = i.compacted };
-      survives = subst (λ (b : List Step). SurvivesCrash cmp order (version_with v loaded) (version_with next tables') (change_by b after zero new) r) same
-          (survives_on cmp order v next loaded tables' before after zero old new r r (λ P x. x) (still zero old told) i.survives);
-      step = i.step;
-      refused = i.refused;
-    })
+version_left by files v loaded level s first before after zero old new r reads same told (inr i) =
+    inr (loaded, reads, step_told by (version_with v loaded) level s first before after zero old new r same (still zero old told) i)
+
+-- files hold the tables of some numbers in one way
+one_loading : (files : Files) (numbers : List ℕ) (a b : List (ℕ × List ℕ)) → IsLoaded (IsFileIn files) numbers (Ok a) → IsLoaded (IsFileIn files) numbers (Ok b) → b ≡ a
+one_loading files [] [] [] h k = refl
+one_loading files [] [] (t ∷ b) h k = absurd k
+one_loading files [] (t ∷ a) b h k = absurd h
+one_loading files (n ∷ numbers) [] b h k = absurd h
+one_loading files (n ∷ numbers) (t ∷ a) [] h k = absurd k
+one_loading files (n ∷ numbers) ((m, x) ∷ a) ((l, y) ∷ b) h k =
+    let number : l ≡ m = k.0.0 ∙ sym h.0.0 in
+    let bytes : y ≡ x = one_table files n x y h.0.1 k.0.1 in
+    ap (λ (i : ℕ). (i, y) ∷ b) number ∙ ap (λ (z : List ℕ). (m, z) ∷ b) bytes ∙ ap (λ (ts : List (ℕ × List ℕ)). (m, x) ∷ ts) (one_loading files numbers a b h.1 k.1)
+
+-- so what is left of a version is left of it with the tables as which it reads
+pub step_left : (by : OrderView) (files : Files) (v : State) (loaded : List (ℕ × List ℕ)) (level : ℕ) (s : Settings) (change : FolderChange) (r : Result CompactionStep Fault)
+    → ReadsAs by.cmp by.order v loaded files → IsVersionLeft by v files level s change r → IsStepLeft by (version_with v loaded) level s change r
+step_left by files v loaded level s change r reads (inl u) = inl u
+step_left by files v loaded level s change r reads (inr (own, same, i)) =
+    inr (subst (λ (ts : List (ℕ × List ℕ)). IsStepInstalled by (version_with v ts) level s change r) (one_loading files (file_numbers by.cmp v) loaded own reads.loaded same.loaded) i)
 
 -- a call that was refused answers no value
 pub no_ok : {T : Type 0} (P : Type 0) (q : Result T Fault) (e : Fault) → IsErrAnd q (λ f. f ≡ e) → OnOk q P
@@ -151,12 +165,15 @@ test_ends cmp IsNext tells files v e told (Ok loaded, (l, (Err d, (k, is)))) =
     (Ok loaded, (loaded_in tells files (file_numbers cmp v) (Ok loaded) told l, (Err d, (k, ap (λ (x : Fault). Err x) (same_refusal {Y = VersionTotals} e d is)))))
 test_ends cmp IsNext tells files v e told (Ok loaded, (l, (Ok tables, (k, is)))) = absurd (no_refusal (totals_of tables) e (sym is))
 
-version_refused : (cmp : List ℕ → List ℕ → Ordering) (short_keys : ShortKeys) (tells : List ℕ → Option (List ℕ) → Type 0) (files : Files) (v : State) (level : ℕ) (s : Settings) (e : Fault)
-    → Tells tells files → IsTested tells cmp v (Err e) → IsVersionAnswer cmp short_keys files v level s (Err e)
-version_refused cmp short_keys tells files v level s e told h =
-    test_ends cmp (λ loaded tables. IsThen (IsInputsAnswer cmp v level) (λ p (a : Result (PickedInputs × Answer) Fault). a ≡ with_inputs p (compaction_of cmp short_keys v loaded p s))) tells files v e told h
+-- whether a test is asked for makes its answer, not what it may hold
+pub same_test : (one other : Option ℕ) (files : Files) (cmp : List ℕ → List ℕ → Ordering) (v : State) (answer : Result (Unit {0}) Fault) → is_some one ≡ is_some other → IsTestAnswer one files cmp v answer → IsTestAnswer other files cmp v answer
+same_test None None files cmp v answer is h = h
+same_test (Some m) (Some n) files cmp v answer is h = h
+same_test None (Some n) files cmp v answer is h = absurd (cc is)
+same_test (Some m) None files cmp v answer is h = absurd (cc is)
 
-pub test_refused : (cmp : List ℕ → List ℕ → Ordering) (short_keys : ShortKeys) (tells : List ℕ → Option (List ℕ) → Type 0) (files : Files) (v : State) (level : ℕ) (s : Settings) (e : Fault)
-    → Tells tells files → IsTested tells cmp v (Err e) → IsVersionCompacted cmp short_keys files v level s (Err e)
-test_refused cmp short_keys tells files v level s e told h =
-    first_refused (IsVersionAnswer cmp short_keys files v level s) (λ made (step : Result StepView Fault). step ≡ Ok (step_of v made.0 made.1)) e (version_refused cmp short_keys tells files v level s e told h)
+-- a version has passed the test that was asked for, or one that its caller knows of
+pub passed_by : (test : Option ℕ) (cmp : List ℕ → List ℕ → Ordering) (files : Files) (v : State) → IsTestAnswer test files cmp v (Ok tt) → (test ≡ None → PassesTest files cmp v) → HasPassed cmp files v
+passed_by None cmp files v is known = let k = known refl in has_passed cmp (IsFileIn files) files v k.0 (told_themselves files) k.1
+passed_by (Some memory) cmp files v (Ok totals, (h, is)) known = has_passed cmp (IsFileIn files) files v totals (told_themselves files) h
+passed_by (Some memory) cmp files v (Err e, (h, is)) known = absurd (no_refusal tt e is)

@@ -10,6 +10,7 @@ use Rattle.folder.specs.declared.order.Order.{Order}
 use Rattle.folder.specs.fault.Fault.{Fault}
 use Rattle.install.specs.FolderChange.{FolderChange}
 use Rattle.install.specs.ObsoleteFile.{AreObsolete}
+pub use Rattle.install.specs.ReadsOf.{NamedVersion}
 use Rattle.install.specs.Removal.{IsNothingRemoved, removal_calls, removed_by}
 use Rattle.install.specs.ToldNames.{AreTold}
 use Rattle.store.specs.Step.{StepView}
@@ -31,12 +32,6 @@ teller_by installs lists removes ends = record {
   removes = removes;
   ends = ends;
 }
-
--- a version, by the order and the number of the manifest that CURRENT names
-pub record NamedVersion : Type 0 where
-  pub order : Order
-  pub version : State
-  pub manifest : ℕ
 
 abbrev pub named_version : Order → State → ℕ → NamedVersion
 named_version order version manifest = record {

@@ -10,16 +10,13 @@ use Rattle.folder.specs.Version.{State}
 use Rattle.pick.specs.PickedInputs.{PickedInputs}
 use Rattle.pick.specs.declared.picked_inputs.InputFile.{InputFile}
 use Rattle.install.specs.Install.{table_bytes_of}
+-- the number of the new manifest
+pub use Rattle.install.specs.Naming.{manifest_of}
 use Rattle.compact.specs.OneThread.{Answer, compaction_result}
 use Rattle.compact.specs.Request.{RequestView}
 use Rattle.folder.specs.Comparator.{KeyOrder, ShortKeys}
 use Rattle.compact.specs.declared.settings.Settings.{Settings}
 use Rattle.split.specs.declared.split.TheConstants.{MAX_RANGES}
-
--- The number of the new manifest: the version's next file. Each version that a folder opens as has
--- one.
-abbrev pub manifest_of : State → ℕ
-manifest_of v = unwrap_or v.next_file 0
 
 -- the version's last sequence
 abbrev pub last_of : State → ℕ
@@ -38,10 +35,6 @@ request_from number v loaded p s = record {
   last_sequence = last_of v;
   options = s.options;
 }
-
--- the same with the numbers after the manifest's
-abbrev pub request_of : State → List (ℕ × List ℕ) → PickedInputs → Settings → RequestView
-request_of v loaded p s = request_from (manifest_of v + 1) v loaded p s
 
 -- The number of the first output: the one after the manifest's, if one is left; or the one that is
 -- asked for, if it is above the manifest's.

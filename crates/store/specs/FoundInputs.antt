@@ -1,5 +1,5 @@
 -- What the compaction of inputs is to be for an installation.
-use Rattle.std.specs.Prelude.{◌≡◌, ◌≢◌, ◌<◌, ◌^◌, ℕ, List, unwrap_or, Result, Ok, Err}
+use Rattle.std.specs.Prelude.{◌≡◌, ◌≢◌, ◌⊎◌, ◌<◌, ◌^◌, ℕ, List, unwrap_or, None, Result, Ok, Err}
 use Rattle.folder.specs.Answers.{◌>>=◌}
 use Rattle.folder.specs.fault.Fault.{Fault}
 use Rattle.folder.specs.fault.FaultName.TheVariants.{Device}
@@ -9,12 +9,17 @@ use Rattle.pick.specs.PickedInputs.{PickedInputs}
 use Rattle.reads.specs.TableContents.{Contents}
 use Rattle.compact.specs.OneThread.{Answer}
 use Rattle.compact.specs.declared.settings.Settings.{Settings}
-use Rattle.store.specs.Compaction.{LevelCompaction}
 use Rattle.store.specs.FolderRequest.{compaction_of}
 use Rattle.store.specs.InputsCompaction.{input_tables}
+use Rattle.store.specs.Compaction.{IsUnchanged}
 use Rattle.store.specs.Step.{StepView, step_of}
+use Rattle.store.specs.StepLeft.{IsStepInstalled}
+use Rattle.store.specs.declared.compaction_step.CompactionStep.{CompactionStep}
+use Rattle.install.specs.FolderChange.{FolderChange}
 use Rattle.install.specs.Install.{LoadedVersion}
 use Rattle.store.specs.OrderView.{OrderView}
+use Rattle.store.specs.Outcome.{ChosenCompaction}
+use Rattle.store.specs.declared.choice.Choice.TheVariants.{Picked}
 
 -- if this is what the compaction of inputs answers, and the version's log numbers are below 2 ^ 64,
 -- it makes the edited version
@@ -22,7 +27,8 @@ abbrev pub CanBeInstalled : OrderView → LoadedVersion → ℕ → Settings →
     Result Answer Fault → Type 0
 CanBeInstalled by v level s p answered =
     (answer : Answer) → answered ≡ Ok answer → unwrap_or v.version.log_number 0 < 2 ^ 64 →
-    unwrap_or v.version.previous_log 0 < 2 ^ 64 → LevelCompaction by v level s p answer
+    unwrap_or v.version.previous_log 0 < 2 ^ 64 →
+    ChosenCompaction by v (Picked level) None s p answer
 
 -- the step of what a compaction of these inputs answers, or its refusal
 abbrev pub step_result : State → PickedInputs → Result Answer Fault → Result StepView Fault
@@ -49,3 +55,9 @@ IsAnsweredBy given answered p answer = (p ≡ given) × (answered ≡ Ok answer)
 abbrev pub IsAnswerForThese : (PickedInputs → Answer → Type 0) → PickedInputs → PickedInputs →
     Answer → Type 0
 IsAnswerForThese IsAnswer given p answer = (p ≡ given) × IsAnswer p answer
+
+-- what is left of a folder that reads as this version with these tables
+abbrev pub IsStepLeft : OrderView → LoadedVersion → ℕ → Settings → FolderChange →
+    Result CompactionStep Fault → Type 0
+IsStepLeft by v level s change result = IsUnchanged change result
+    ⊎ IsStepInstalled by v level s change result

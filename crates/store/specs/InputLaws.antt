@@ -9,14 +9,14 @@ use Rattle.folder.specs.LoadedTables.{IsLoaded}
 use Rattle.folder.specs.ReadsAs.{IsFileIn}
 use Rattle.folder.specs.declared.order.Order.{Order}
 use Rattle.install.specs.Install.{table_bytes_of, version_with}
-use Rattle.pick.specs.PickedInputs.{IsInputsAnswer, PickedInputs}
+use Rattle.pick.specs.PickedInputs.{PickedInputs}
 use Rattle.pick.specs.declared.picked_inputs.InputFile.{InputFile}
 use Rattle.reads.specs.Tables.{NumberedContents}
 use Rattle.checks.specs.LawfulTables.{IsLawfulTables}
 use Rattle.compact.specs.OneThread.{Answer}
 use Rattle.compact.specs.declared.settings.Settings.{Settings}
 use Rattle.store.specs.Choice.{IsChosen}
-use Rattle.store.specs.FolderRequest.{compaction_from, compaction_of}
+use Rattle.store.specs.FolderRequest.{compaction_from}
 use Rattle.store.specs.InputsCompaction.{input_numbers}
 use Rattle.store.specs.OrderView.{order_by}
 use Rattle.store.specs.Outcome.{ChosenCompaction}
@@ -30,16 +30,6 @@ ChosenInOrder cmp =
     map (λ (t : ℕ × List ℕ). t.0) own ≡ input_numbers p.files →
     map (λ (t : ℕ × List ℕ). t.1) own
     ≡ map (λ (i : InputFile). table_bytes_of own i.meta.number) p.files
-
--- with the inputs of a lawful version the same is answered as with all its tables
-abbrev pub SameInputsLaw : KeyOrder → ShortKeys → Type 0
-SameInputsLaw cmp short_keys =
-    (files : Files) (v : State) (loaded own : List (ℕ × List ℕ)) (tables : List NumberedContents)
-    (level : ℕ) (p : PickedInputs) (s : Settings) →
-    IsLoaded (IsFileIn files) (file_numbers cmp v) (Ok loaded) →
-    IsLawfulTables cmp v loaded (Ok tables) → IsInputsAnswer cmp v level (Ok p) →
-    IsLoaded (IsFileIn files) (input_numbers p.files) (Ok own) →
-    compaction_of cmp short_keys v own p s ≡ compaction_of cmp short_keys v loaded p s
 
 -- What the compaction of chosen inputs answers, of which the tables alone were read, is a
 -- compaction of that choice, if the version is lawful with the tables that the folder holds. The

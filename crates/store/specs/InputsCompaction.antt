@@ -15,7 +15,6 @@ use Rattle.folder.specs.VersionOrder.{level_files}
 use Rattle.folder.specs.meta.FileMeta.{FileMeta}
 use Rattle.folder.specs.meta.TheConstants.{LAST_LEVEL}
 use Rattle.folder.specs.Calls.{Files}
-use Rattle.folder.specs.Levels.{file_numbers}
 use Rattle.folder.specs.LoadedTables.{IsLoaded}
 use Rattle.folder.specs.ReadsAs.{IsFileIn}
 use Rattle.pick.specs.Parts.{IsPartsAnswer}
@@ -24,11 +23,9 @@ use Rattle.pick.specs.declared.picked_inputs.InputFile.{InputFile}
 use Rattle.reads.specs.Lawful.{IsBelowNextFile}
 use Rattle.reads.specs.Tables.{NumberedContents}
 use Rattle.checks.specs.TableReadings.{tables_reading}
-use Rattle.checks.specs.LawfulTables.{IsLawfulTables}
 use Rattle.compact.specs.Inputs.{table_matches_metadata}
 use Rattle.compact.specs.OneThread.{Answer}
 use Rattle.compact.specs.declared.settings.Settings.{Settings}
-use Rattle.store.specs.Answers.{IsLoadedCompacted}
 use Rattle.store.specs.Choice.{IsChosen}
 use Rattle.store.specs.FolderRequest.{compaction_from}
 use Rattle.store.specs.Step.{IsStepFor, StepView, with_inputs}
@@ -112,14 +109,3 @@ abbrev pub IsInputsCompacted : KeyOrder → ShortKeys → Files → State → �
     Result StepView Fault → Type 0
 IsInputsCompacted cmp short_keys files v level s =
     IsStepFor v (IsChosenAnswer None cmp short_keys files v (Picked level) s)
-
--- If a version is lawful with the tables that a folder holds, this is the answer of the compaction
--- that tests all of them.
-abbrev pub InputsSufficeLaw : KeyOrder → ShortKeys → Type 0
-InputsSufficeLaw cmp short_keys =
-    (files : Files) (v : State) (loaded : List (ℕ × List ℕ)) (tables : List NumberedContents)
-    (level : ℕ) (s : Settings) (answer : Result StepView Fault) →
-    IsLoaded (IsFileIn files) (file_numbers cmp v) (Ok loaded) →
-    IsLawfulTables cmp v loaded (Ok tables) →
-    IsInputsCompacted cmp short_keys files v level s answer →
-    IsLoadedCompacted cmp short_keys v loaded level s answer

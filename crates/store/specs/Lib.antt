@@ -11,8 +11,8 @@ pub mod VersionSync
 pub mod Compaction
 pub mod StepLeft
 pub mod Runs
+pub mod CompactionWork
 pub mod OpenedAfter
-pub mod JointLaws
 pub mod Descent
 pub mod Cleaning
 pub mod Outcome
@@ -28,4 +28,3 @@ pub mod LentFiles
 pub mod InputLaws
 pub mod FoundInputs
 pub mod NameLines
-pub mod NumberedJointLaw

@@ -24,7 +24,7 @@ use Rattle.store.specs.PickedOutcome.{IsPickedCompacted}
 use Rattle.store.specs.Step.{step_in, step_of}
 use Rattle.store.specs.VersionSync.{sync_calls}
 use Rattle.store.specs.declared.compaction_step.CompactionStep.{CompactionStep}
-use Rattle.install.specs.FolderChange.{FolderChange, change_of, change_since}
+use Rattle.install.specs.FolderChange.{FolderChange, change_of}
 
 -- The calls of the installation of an answer, up to one that fails. Its tables are written in
 -- groups; the manifest has the version and the answer's edit. At Changed all calls before the
@@ -88,7 +88,7 @@ pub record IsSyncedRun {F : Type 0} (g : Ghosts F) (order : Order) (v : State) (
   pub synced : HasMade g first syncs at
   pub installed : IsAnswerInstalled
       (IsAnswerForLevel (order_cmp order) (order_short_keys order) (g.tells at) v level s)
-      (order_name order) (order_cmp order) v (change_since syncs (change_of g first last)) result
+      (order_name order) (order_cmp order) v (change_of g at last) result
 
 -- A version was opened by the manifest of a number, as the bytes say that were read. Then the
 -- syncs of it were made, up to one that failed, and no other call that writes. Or all of them were

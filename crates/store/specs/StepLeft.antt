@@ -1,19 +1,38 @@
--- What a compaction of a version leaves that is known to be lawful.
-use Rattle.std.specs.Prelude.{◌≡◌, ◌⊎◌, ℕ, codes, Some, Result, IfErr, IfOk, OnOk}
+-- What a compaction leaves of a folder.
+use Rattle.std.specs.Prelude.{◌≡◌, ◌⊎◌, ℕ, List, ◌++◌, codes, map, None, Some, Result, Ok, IfErr}
+use Rattle.std.specs.Prelude.{IfOk, OnOk}
 use Rattle.folder.specs.Answers.{UnlessMemory, fault}
 use Rattle.folder.specs.fault.Fault.{Fault}
 use Rattle.folder.specs.fault.FaultName.TheVariants.{Device}
+use Rattle.folder.specs.Comparator.{KeyOrder}
+use Rattle.folder.specs.Version.{State}
+use Rattle.folder.specs.Calls.{Done, Files}
+use Rattle.folder.specs.Crash.{World}
 use Rattle.folder.specs.Names.{current_text}
+use Rattle.folder.specs.OpenAnswer.{IsOpened}
+use Rattle.folder.specs.Orders.{order_cmp}
+use Rattle.folder.specs.ReadsAs.{IsFileIn, ReadsAs}
+use Rattle.folder.specs.declared.order.Order.{Order}
+use Rattle.checks.specs.TestedTables.{IsTested}
+use Rattle.checks.specs.declared.version_totals.VersionTotals.{VersionTotals}
 use Rattle.pick.specs.PickedInputs.{PickedInputs}
 use Rattle.compact.specs.OneThread.{Answer}
-use Rattle.install.specs.Install.{SurvivesCrash, LoadedVersion}
+use Rattle.install.specs.Install.{AlwaysStandsAs, LoadedVersion, SurvivesCrash, next_version_tables}
+use Rattle.install.specs.Install.{version_with}
 use Rattle.compact.specs.declared.settings.Settings.{Settings}
-use Rattle.store.specs.Compaction.{IsUnchanged, LevelCompaction, next_of}
+use Rattle.store.specs.Compaction.{IsSynced, IsUnchanged}
 use Rattle.store.specs.FolderRequest.{manifest_of}
 use Rattle.store.specs.Step.{step_in, step_of}
+use Rattle.store.specs.VersionSync.{AlwaysReadsBy, sync_calls}
+use Rattle.store.specs.declared.choice.Choice.TheVariants.{Picked}
 use Rattle.store.specs.declared.compaction_step.CompactionStep.{CompactionStep}
-use Rattle.install.specs.FolderChange.{FolderChange}
-use Rattle.store.specs.OrderView.{OrderView}
+use Rattle.install.specs.FolderChange.{FolderChange, change_since}
+use Rattle.store.specs.OrderView.{OrderView, order_view}
+use Rattle.store.specs.Outcome.{ChosenCompaction}
+
+-- the version passes the test with the tables that these files hold
+abbrev pub PassesTest : Files → KeyOrder → State → Type 0
+PassesTest files cmp v = (totals : VersionTotals) × IsTested (IsFileIn files) cmp v (Ok totals)
 
 -- A compaction of the version was installed, from these calls on. A crash at any moment leaves the
 -- version before or the edited one. At Ok it is the edited one, CURRENT names its manifest, and the
@@ -22,16 +41,44 @@ pub record IsStepInstalled (by : OrderView) (v : LoadedVersion) (level : ℕ) (s
     (change : FolderChange) (result : Result CompactionStep Fault) : Type 0 where
   pub picked : PickedInputs
   pub answer : Answer
-  pub compacted : LevelCompaction by v level s picked answer
-  pub survives : SurvivesCrash by.cmp by.order v (next_of compacted) change result
+  pub compacted : ChosenCompaction by v (Picked level) None s picked answer
+  pub survives : SurvivesCrash by.cmp by.order v (version_with compacted.edited.next
+      (next_version_tables by.cmp compacted.edited.next answer.tables v.tables)) change result
   pub named : OnOk result
       (change.new (codes "CURRENT") (Some (current_text (manifest_of v.version))))
   pub step : IfOk result (λ step. step_in step ≡ step_of v.version picked answer)
   pub refused : IfErr result (λ e. UnlessMemory e (e ≡ fault Device))
 
--- what is left of a folder that reads as this version with these tables: it is unchanged, or a
+-- what is left of a folder of these files, which read as this version: it is unchanged, or a
 -- compaction was installed
-abbrev pub IsStepLeft : OrderView → LoadedVersion → ℕ → Settings → FolderChange →
+abbrev pub IsVersionLeft : OrderView → State → Files → ℕ → Settings → FolderChange →
     Result CompactionStep Fault → Type 0
-IsStepLeft by v level s change result = IsUnchanged change result
-    ⊎ IsStepInstalled by v level s change result
+IsVersionLeft by v files level s change result = IsUnchanged change result
+    ⊎ ((loaded : List (ℕ × List ℕ)) × ReadsAs by.cmp by.order v loaded files
+    × IsStepInstalled by (version_with v loaded) level s change result)
+
+-- What is left of a folder that was opened as a version by the manifest of a number. It holds what
+-- it held, and at most the version was synced; or after the sync of it a compaction was installed.
+-- If the folder reads as the version, whatever was synced before, it stands for it after that sync.
+pub record IsOpenedLeft (files : Files) (level : ℕ) (s : Settings) (change : FolderChange)
+    (result : Result CompactionStep Fault) : Type 0 where
+  pub order : Order
+  pub version : State
+  pub manifest : ℕ
+  pub opened : IsOpened (IsFileIn files) (Ok (order, version))
+  pub named : files (codes "CURRENT") ≡ Some (current_text manifest)
+  pub left : IsSynced (sync_calls (order_cmp order) version manifest) change result
+      ⊎ ((loaded : List (ℕ × List ℕ)) × ReadsAs (order_cmp order) order version loaded files
+      × IsStepInstalled (order_view order) (version_with version loaded) level s
+      (change_since (map Done (sync_calls (order_cmp order) version manifest)) change) result)
+  pub stands : (tables : List (ℕ × List ℕ)) (start : World) →
+      AlwaysReadsBy (order_cmp order) order version manifest tables start change.before →
+      AlwaysStandsAs (order_cmp order) order version tables start
+      (change.before ++ map Done (sync_calls (order_cmp order) version manifest))
+
+-- What is left of a folder that held these files: it is untouched, as if it can't be opened, or it
+-- was opened.
+abbrev pub IsFolderLeft : Files → ℕ → Settings → FolderChange →
+    Result CompactionStep Fault → Type 0
+IsFolderLeft files level s change result = IsUnchanged change result
+    ⊎ IsOpenedLeft files level s change result

@@ -38,7 +38,7 @@ use std::thread::Threads;
 /// inputs. So the caller says that the version is lawful.
 ///
 /// The numbers of the outputs are those from `first` on. Without it the first one comes after the
-/// version's next file, as that of [`compact_inputs`](crate::compact_inputs).
+/// version's next file, as that of [`compact_opened`](crate::compact_opened).
 ///
 /// The parts of a level can be compacted at the same time, by as many processes or machines as
 /// there are, and installed one after the other. Each one's `first` has to be above the numbers of
@@ -131,7 +131,12 @@ fn version_outcome<
 }
 
 /// Tests a version, if that is asked for, and hands on the tables that the `test` still holds.
-fn tested_tables<C: SharedComparator + 'static, F: ReadsTables, W: Watch + Sync, R: Threads + Sync>(
+pub(crate) fn tested_tables<
+    C: SharedComparator + 'static,
+    F: ReadsTables,
+    W: Watch + Sync,
+    R: Threads + Sync,
+>(
     workers: &Workers<'_, R, W>,
     folder: &mut F,
     version: &Version,

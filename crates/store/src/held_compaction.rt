@@ -19,11 +19,10 @@ ghost use Rattle.compact.specs.Inputs.{inputs_reading};
 ghost use Rattle.split.specs.declared.split.TheConstants.{MAX_RANGES};
 ghost use Rattle.store.specs.FolderRequest.{compaction_from};
 ghost use Rattle.store.specs.FoundInputs.{CanBeInstalled, IsAnswerForInputs, IsAnswerForThese};
-ghost use Rattle.store.specs.FoundInputs.{IsAnsweredBy, step_result};
+ghost use Rattle.store.specs.FoundInputs.{IsAnsweredBy, IsStepLeft, step_result};
 ghost use Rattle.store.specs.InputsCompaction.{IsReadAnswer};
 ghost use Rattle.store.specs.Runs.{IsRun};
 ghost use Rattle.store.specs.Step.{IsStepFor, step_in};
-ghost use Rattle.store.specs.StepLeft.{IsStepLeft};
 ghost use Rattle.install.specs.FolderChange.{change_of};
 ghost use Rattle.store.specs.OrderView.{order_by};
 

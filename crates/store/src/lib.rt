@@ -5,8 +5,8 @@
 //! 2. [`compact_dir`] does all of it. Its steps are `folder::open`, [`sync_version`] and
 //!    [`compact_opened`], for callers that need what was opened in between. What installs something
 //!    takes a [`SyncedVersion`], which none but the second makes of what was opened.
-//! 3. [`compact_inputs`] reads the inputs alone: its caller knows that the version is lawful. So
-//!    does [`opened_after`] make what a folder is opened as after it, which is the next one's.
+//! 3. Without a test [`compact_opened`] reads the inputs alone: its caller knows that the version is
+//!    lawful. [`opened_after`] makes what a folder is opened as after it, which is the next one's.
 //! 4. Parts of the compaction of all levels: [`test_opened`]; [`bottom`] and [`next_level`], which
 //!    say which levels it takes; [`tell_step`], which tells a [`CleanWatch`] of a compaction that was
 //!    installed; [`clean`], which asks it for names, and removes the files of these that the version
@@ -26,9 +26,9 @@
 //!
 //! - `answer`: the step or the outcome, or the first refusal in the order of the call's own
 //!   documentation. The crate makes no text: the lines of a step are `answers::compaction_lines`.
-//! - `left`: the folder holds what it held, at most synced; or a compaction was installed. Of
-//!   [`compact_inputs`] that is if the version is lawful, and CURRENT then names the manifest of
-//!   the edited version.
+//! - `left`: the folder holds what it held, at most synced; or a compaction was installed, and at Ok
+//!   CURRENT names the manifest of the edited version. Without a test that is if the version passes
+//!   one.
 //! - `device`: Device if the device failed during the call, and only then.
 //! - `other`: Ok isn't answered if CURRENT is another one than was opened.
 //! - `runs` of [`sync_version`]: CURRENT, its manifest, both names of each table, and then the
@@ -37,7 +37,8 @@
 //!
 //! The laws tie a compaction to its installation. After [`sync_version`] a folder stands for the
 //! version that was opened, whatever was synced before. The law [`sync_stands`] says when a sync of
-//! the folder alone is enough.
+//! the folder alone is enough. [`compactions_survive`] says what a crash leaves of the calls of
+//! `runs`, of any folder, also one that tells nothing.
 #![tactic(auto)]
 
 mod answered_steps;
@@ -84,10 +85,9 @@ pub use compaction_step::CompactionStep;
 pub use descent::{bottom, next_level};
 pub use folder_compaction::{compact_dir, compact_opened};
 pub use folder_request::manifest_of;
-pub use input_compaction::compact_inputs;
 pub use input_tables::{bytes_of, checked_inputs, load_inputs};
 pub use install::RemovalWatch;
-pub use install_laws::{answer_is_installed, inputs_suffice, request_is_over, sync_stands};
+pub use install_laws::{compactions_survive, sync_stands};
 pub use install_watch::InstallWatch;
 pub use level_step::{tell_step, test_opened};
 pub use needed_files::files_to_compact;

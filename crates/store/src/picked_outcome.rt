@@ -77,7 +77,7 @@ pub fn outcome_of_picked<
 }
 
 /// The key that inputs set is an internal key. A call does nothing.
-fn sets_internal_key(inputs: &Inputs)
+pub(crate) fn sets_internal_key(inputs: &Inputs)
     ensures { IsInternalKey inputs.now.pointer.key }
 {
     let _key = inputs.pointer.key.as_key();

@@ -4,7 +4,7 @@
 //! tables are encoded and written a group after the other, so no more than a group is in memory. If
 //! that fails midway, the tables that were written stay: the version doesn't name them.
 
-ghost use Rattle.std.specs.Prelude.{◌≡◌, ◌∷◌, [], ◌<◌, ◌^◌, ℕ, List, length, codes, Some, Ok};
+ghost use Rattle.std.specs.Prelude.{◌≡◌, ◌∷◌, [], ◌<◌, ◌^◌, ℕ, List, length, codes, None, Some, Ok};
 ghost use Rattle.std.specs.Prelude.{slice_get};
 ghost use Rattle.folder.specs.Calls.{Files, Tells};
 ghost use Rattle.folder.specs.Manifest.{order_name};
@@ -18,14 +18,14 @@ ghost use Rattle.pick.specs.PickedInputs.{picked_in};
 ghost use Rattle.compact.specs.OneThread.{Answer};
 ghost use Rattle.compact.specs.declared.settings.Settings.{Settings};
 ghost use Rattle.store.specs.CallsAnswer.{IsCallsAnswer};
-ghost use Rattle.store.specs.Compaction.{LevelCompaction};
 ghost use Rattle.store.specs.FolderRequest.{manifest_of};
-ghost use Rattle.store.specs.FoundInputs.{IsAnsweredBy, NeverDevice, step_result};
+ghost use Rattle.store.specs.FoundInputs.{IsAnsweredBy, IsStepLeft, NeverDevice, step_result};
+ghost use Rattle.store.specs.Outcome.{ChosenCompaction};
 ghost use Rattle.store.specs.Runs.{IsRun};
 ghost use Rattle.store.specs.Step.{step_in};
-ghost use Rattle.store.specs.StepLeft.{IsStepLeft};
 ghost use Rattle.install.specs.FolderChange.{change_of};
 ghost use Rattle.store.specs.OrderView.{order_by};
+ghost use Rattle.store.specs.declared.choice.Choice.TheVariants.{Picked};
 
 use crate::answered_steps::planned_step;
 use crate::compaction_step::CompactionStep;
@@ -66,8 +66,8 @@ pub(crate) fn install_merged<
         files (codes "CURRENT") ≡ Some (current_text opened.now.manifest) →
         order_name order ≡ C.name_bytes →
         ((a : Answer) → merged.now ≡ Ok a →
-        LevelCompaction (order_by order C.cmp C.short_keys) (version_with opened.now.version loaded)
-        level s (picked_in picked.now) a) →
+        ChosenCompaction (order_by order C.cmp C.short_keys)
+        (version_with opened.now.version loaded) (Picked level) None s (picked_in picked.now) a) →
         IsStepLeft (order_by order C.cmp C.short_keys) (version_with opened.now.version loaded)
         level s (change_of F.Folder folder.old folder.new) result }
     ensures runs { IsRun (IsAnsweredBy (picked_in picked.now) merged.now) C.name_bytes C.cmp

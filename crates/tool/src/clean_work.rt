@@ -7,16 +7,13 @@ use disk::{Disk, SystemFiles};
 use folder::{Fault, FaultName};
 use install::{RemovalWatch, remove_obsolete};
 use session::{
-    Host, Opened, Refusal, Session, UnneededFiles, open_in, print_lines, refused_at, sizes_tested,
-    unneeded_files,
+    Answer, Host, Opened, Refusal, Session, UnneededFiles, open_in, print_lines, refused_at,
+    sizes_tested, unneeded_files,
 };
 
 /// Removes the files of a folder that its version doesn't need, and prints each when it is removed,
 /// as JSON if that is asked for.
-pub fn clean_folder<R: Host>(
-    session: Session<'_, R, Opened>,
-    is_json: bool,
-) -> Result<(), Refusal> {
+pub fn clean_folder<R: Host>(session: Session<'_, R>, is_json: bool) -> Result<(), Refusal> {
     let files = files_to_clean(&session)?;
     if files.names.is_empty() {
         return Ok(());
@@ -39,7 +36,7 @@ pub fn clean_folder<R: Host>(
 }
 
 /// The lines of the files that a folder's version doesn't need. Nothing is written.
-pub fn removable_answer<R: Host>(session: &Session<'_, R, Opened>) -> Result<Vec<u8>, Refusal> {
+pub fn removable_answer<R: Host>(session: &Session<'_, R>) -> Answer {
     let files = files_to_clean(session)?;
     let mut lines = String::new(session.rt.alloc());
     for (name, bytes) in files.names.iter().zip(&files.lengths) {
@@ -50,7 +47,7 @@ pub fn removable_answer<R: Host>(session: &Session<'_, R, Opened>) -> Result<Vec
 
 /// The files of a folder that its version doesn't need, if its tables are there. Of files that stay
 /// and that a new one may replace it is told.
-fn files_to_clean<R: Host>(session: &Session<'_, R, Opened>) -> Result<UnneededFiles, Refusal> {
+fn files_to_clean<R: Host>(session: &Session<'_, R>) -> Result<UnneededFiles, Refusal> {
     let (rt, telling, opened) = (session.rt, session.telling, &session.opened);
     sizes_tested(rt, telling.folder, opened)?;
     let files = unneeded_files(rt, telling.folder, opened)?;
@@ -153,12 +150,12 @@ impl<'t, R: Print + AllocGlobal> RemovalPrinter<'t, R> {
     /// Prints the line of a file that is removed.
     fn print(&self, name: &str, length: u64) -> Result<(), Refusal> {
         let alloc = self.rt.alloc();
-        if self.is_json {
-            let line = json_line(alloc, &removed_json(alloc, name, length)?)?;
-            return print_lines(self.rt, line.as_bytes());
-        }
-        let printed = println!(self.rt; "removed {name} {length}");
-        printed.map_err(|error| Refusal::of_output(alloc, &error))
+        let line = if self.is_json {
+            json_line(alloc, &removed_json(alloc, name, length)?)?
+        } else {
+            format!(in alloc; "removed {name} {length}\n")?
+        };
+        print_lines(self.rt, line.as_bytes())
     }
 }
 

@@ -119,8 +119,8 @@ pub(crate) fn tell_made<R: Eprint + AllocGlobal>(
     }
 }
 
-/// Tells how many files the version of a folder doesn't need, and what removes them. Nothing is told
-/// if there is none, or if they can't be counted.
+/// Tells how many files the version of a folder doesn't need, and what removes them. Nothing is
+/// told if there is none, or if they can't be counted.
 pub(crate) fn tell_room<R: SystemFiles + Eprint + AllocGlobal>(rt: &R, telling: Telling<'_>) {
     if telling.is_quiet {
         return;

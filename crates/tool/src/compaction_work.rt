@@ -3,24 +3,23 @@
 use crate::clean_work::{clean_folder, clean_named};
 use crate::compaction_notes::{note_of, tell_room};
 use crate::folder_change::begin_change;
-use crate::outcome_work::outcome_of;
+use crate::outcome_work::{outcome_of, test_of};
 use crate::printed_work::{DoneWork, print_installed, tell_step, unprinted};
 use crate::step_printer::StepPrinter;
 use folder::{Bytewise, Fault, FaultName, Version};
 use levels::{Descent, Selection, compact_level};
 use refusals::sizes_in_turn;
-use session::{Host, LAST_LEVEL, Opened, Refusal, Session, bytes_of, refused_at};
+use session::{Host, LAST_LEVEL, Refusal, Session, bytes_of, refused_at};
 use std::alloc::Global;
 use store::{
-    Choice, CompactionStep, SyncedVersion, bottom, checkers_of, compact_inputs, compact_opened,
-    next_level,
+    Choice, CompactionStep, SyncedVersion, bottom, checkers_of, compact_opened, next_level,
 };
 use usage::{CompactLine, CompactWork, Levels};
 
 /// Compacts a level of a folder, or all of them one after the other. What it was opened as is
 /// synced once, so that it outlives a crash; if no level is to be compacted, nothing has to.
 pub fn compact_folder<R: Host>(
-    session: Session<'_, R, Opened>,
+    session: Session<'_, R>,
     line: &CompactLine<'_>,
 ) -> Result<(), Refusal> {
     let CompactWork::Installed(levels) = line.options.work else {
@@ -41,7 +40,7 @@ pub fn compact_folder<R: Host>(
 
 /// Compacts these levels, of which one has inputs.
 fn levels_compacted<R: Host>(
-    session: Session<'_, R, Opened>,
+    session: Session<'_, R>,
     line: &CompactLine<'_>,
     levels: Levels,
 ) -> Result<(), Refusal> {
@@ -75,7 +74,7 @@ fn is_due(alloc: Global, version: &Version, levels: Levels) -> Result<bool, Faul
 /// What is answered if there is no level to compact: why a level can't be; of all levels, files
 /// that the version doesn't need are removed, if that is asked for.
 fn nothing_compacted<R: Host>(
-    session: Session<'_, R, Opened>,
+    session: Session<'_, R>,
     line: &CompactLine<'_>,
     levels: Levels,
 ) -> Result<(), Refusal> {
@@ -148,8 +147,7 @@ fn step_made<R: Host>(
     let opened = &change.opened;
     let made = match levels {
         Levels::Whole(level) => compact_level(&workers, folder, opened, level, settings, memory),
-        _ if testing.is_skipped => compact_inputs(&workers, folder, opened, level, settings),
-        _ => compact_opened(&workers, folder, opened, level, settings, memory),
+        _ => compact_opened(&workers, folder, opened, level, settings, test_of(testing)),
     };
     change.ended(&progress, made)
 }
@@ -177,11 +175,7 @@ fn compact_all<R: Host>(
     let descent = Descent {
         selection,
         settings: line.settings,
-        test: if options.testing.is_skipped {
-            None
-        } else {
-            Some(bytes_of(options.testing.memory))
-        },
+        test: test_of(&options.testing),
     };
     let workers = checkers_of(rt, rt.alloc(), line.settings.workers, &progress);
     let end = levels::compact_levels(&workers, &mut disk, opened, &descent, &mut steps);

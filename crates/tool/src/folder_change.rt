@@ -1,12 +1,12 @@
 //! A folder that is changed.
 
-use session::{Host, Opened, Refusal, Session, refused_at};
+use session::{Host, Refusal, Session, refused_at};
 use store::{SyncedVersion, sync_version};
 
 /// The session of a folder that is changed, after what it was opened as is synced, so that it
 /// outlives a crash.
 pub(crate) fn begin_change<R: Host>(
-    session: Session<'_, R, Opened>,
+    session: Session<'_, R>,
 ) -> Result<Session<'_, R, SyncedVersion>, Refusal> {
     let Session {
         rt,

@@ -1,17 +1,14 @@
 //! The files that a compaction of a folder would read.
 
 use folder::Fault;
-use session::{Host, Opened, Refusal, Session};
+use session::{Answer, Host, Session};
 use std::alloc::Global;
 use store::{Inputs, files_to_compact, parts_to_compact};
 use usage::JobLine;
 
 /// The names of the files that a compaction of a level would read, or the parts of the level. No
 /// table is read.
-pub fn job_answer<R: Host>(
-    session: &mut Session<'_, R, Opened>,
-    line: &JobLine<'_>,
-) -> Result<Vec<u8>, Refusal> {
+pub fn job_answer<R: Host>(session: &mut Session<'_, R>, line: &JobLine<'_>) -> Answer {
     let alloc = session.rt.alloc();
     if line.by_parts {
         let parts = parts_to_compact(alloc, &session.opened, line.level);

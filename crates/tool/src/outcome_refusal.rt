@@ -2,9 +2,10 @@
 
 use disk::Disk;
 use folder::{Fault, FaultName, Folder, Order, VersionEdit};
-use refusals::{Stated, compaction_explained, file_fault, is_of_no_file, is_there, unlike_edit};
+use refusals::{Stated, compaction_explained, file_fault, is_of_no_file, unlike_edit};
 use session::{
-    Host, Refusal, RefusalText, Telling, deleted_files, of_file, path_in, said, table_file_name,
+    Host, Refusal, RefusalText, Telling, Words, deleted_files, is_there, of_file, path_in, said,
+    table_file_name, told_of_file,
 };
 use std::alloc::Global;
 use store::{EDIT, SyncedVersion, manifest_of};
@@ -111,12 +112,8 @@ fn table_told<R: Host>(
 
 /// What is told of an outcome's file of this name.
 fn words_told(alloc: Global, out: &str, file: &str, wrong: &'static str) -> Option<RefusalText> {
-    said(
-        alloc,
-        path_in(alloc, out, file).ok()?.as_str(),
-        wrong,
-        REMEDY,
-    )
+    let remedy = REMEDY;
+    told_of_file(alloc, out, file, Words { wrong, remedy })
 }
 
 /// What is wrong with an EDIT that is refused by this name.
@@ -133,7 +130,7 @@ fn first_missing<R: Host>(rt: &R, out: &str, edit: &VersionEdit) -> Option<Strin
     let mut outcome = Disk::new(rt, out);
     for file in &edit.added {
         let table = table_file_name(rt.alloc(), &mut outcome, file.meta.number).ok()?;
-        if !is_there(rt, out, table.as_str()) {
+        if !matches!(is_there(rt, out, table.as_str()), Ok(true)) {
             return Some(table);
         }
     }

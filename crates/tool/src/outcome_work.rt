@@ -89,7 +89,7 @@ pub(crate) fn outcome_of<R: Host>(
 }
 
 /// How many bytes of tables the test of a version holds, if it is asked for.
-fn test_of(testing: &Testing) -> Option<u64> {
+pub(crate) fn test_of(testing: &Testing) -> Option<u64> {
     if testing.is_skipped {
         return None;
     }

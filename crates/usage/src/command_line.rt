@@ -10,7 +10,8 @@ use crate::key_lines::{blocks_line, get_line, history_line, scan_line};
 use crate::lines::{
     clean_line, dump_line, files_line, job_line, manifest_line, stats_line, table_line, verify_line,
 };
-use crate::requests::{CommandLine, Line, Usage};
+use crate::requests::{CommandLine, Line};
+use crate::usage_fault::Usage;
 use crate::values::{Unread, is_given};
 use crate::verbosity::{is_flagged_below, verbosity_given};
 use clap::ArgMatches;

@@ -7,11 +7,10 @@ ghost use Rattle.usage.specs.Commands.{Extends, IsCommand, app_of_description};
 ghost use Rattle.usage.specs.Commands.{rule_of_argument};
 
 use crate::argument::{Argument, arg_of};
-use crate::descriptions::{
-    BLOCKS, CLEAN, COMMANDS, COMPACT, CommandName, DUMP, Description, FILES, GET, HISTORY, INSTALL,
-    JOB, MANIFEST, SCAN, STATS, VERBOSITY, VERBOSITY_RULES, VERIFY,
-};
+use crate::descriptions::{COMMANDS, CommandName, Description, VERBOSITY, VERBOSITY_RULES};
+use crate::reading_commands::{DUMP, FILES, GET, HISTORY, MANIFEST, SCAN, STATS, VERIFY};
 use crate::rule::with_rules;
+use crate::writing_commands::{BLOCKS, CLEAN, COMPACT, INSTALL, JOB};
 use clap::Command;
 use std::alloc::{AllocError, Global};
 

@@ -8,8 +8,9 @@ ghost use Rattle.usage.specs.KeyLines.{HasRowOutput, HasScan, gives_bound};
 
 use crate::keys::{bound_in, key_in, keys_in};
 use crate::requests::{
-    BlocksLine, GetLine, HistoryLine, KeySource, RowOptions, RowOutput, ScanLine, Usage,
+    BlocksLine, GetLine, HistoryLine, KeySource, RowOptions, RowOutput, ScanLine,
 };
+use crate::usage_fault::Usage;
 use crate::values::{
     Unread, first_text, is_flagged, is_given, needed_text, number_given, spelling_given, testing_of,
 };

@@ -3,7 +3,7 @@
 ghost use Rattle.std.specs.Prelude.{◌≡◌, IfOk, Some, map, option_map};
 ghost use Rattle.texts.specs.Spelling.{bytes_of};
 
-use crate::requests::Usage;
+use crate::usage_fault::Usage;
 use crate::values::Unread;
 use std::alloc::{AllocError, Global};
 use texts::Spelling;

@@ -1,8 +1,7 @@
-//! What a command line asks for, or why it asks for nothing.
+//! What a command line asks for.
 
-use clap::error::ErrorKind;
-use compact::{Settings, Snapshots};
-use std::alloc::AllocError;
+use crate::compact_request::CompactLine;
+use compact::Snapshots;
 use texts::Spelling;
 
 /// What a command line asks for, and how much it asks to be told of it.
@@ -208,17 +207,6 @@ pub struct JobLine<'a> {
     pub by_parts: bool,
 }
 
-/// What is asked for of `compact`.
-#[derive(Clone, Copy)]
-pub struct CompactLine<'a> {
-    /// The path of the folder.
-    pub folder: &'a str,
-    /// What is asked for beside the settings.
-    pub options: CompactOptions<'a>,
-    /// The settings of each compaction.
-    pub settings: Settings<'a>,
-}
-
 /// What is asked for of `install`.
 #[derive(Drop)]
 pub struct InstallLine<'a> {
@@ -281,38 +269,6 @@ pub struct RowOptions {
     pub limit: Option<u64>,
 }
 
-/// What is asked for of `compact` beside its settings.
-#[derive(Clone, Copy)]
-pub struct CompactOptions<'a> {
-    /// Which levels, and where the outcome goes.
-    pub work: CompactWork<'a>,
-    /// How the version is tested before.
-    pub testing: Testing,
-    /// Whether its lines are JSON.
-    pub is_json: bool,
-    /// Whether files that no version needs are removed after each installation.
-    pub cleans: bool,
-}
-
-/// What is compacted, and where the outcome goes.
-#[derive(Clone, Copy)]
-pub enum CompactWork<'a> {
-    /// These levels. Each outcome is installed in the folder.
-    Installed(Levels),
-    /// A level, once. The outcome goes into a folder of its own, and the other one is only read. No
-    /// account is told then, and no file is removed.
-    Written {
-        level: u64,
-        /// The number of the part of the level. Without it, what a compaction picks of the level.
-        part: Option<u64>,
-        /// The path of the folder that gets the outcome.
-        out: &'a str,
-        /// The number of the first new table. Without it, the one after the version's next file
-        /// number.
-        first_number: Option<u64>,
-    },
-}
-
 /// How a version is tested before the work on it.
 #[derive(Clone, Copy)]
 pub struct Testing {
@@ -320,53 +276,4 @@ pub struct Testing {
     pub is_skipped: bool,
     /// How many MiB of tables the test may hold, 1 to 2^24.
     pub memory: u64,
-}
-
-/// Which levels of a folder are compacted.
-#[derive(Clone, Copy)]
-pub enum Levels {
-    /// This level, once.
-    One(u64),
-    /// All files of this level, with one manifest.
-    Whole(u64),
-    /// Each level from 0 down, until all files are at the deepest level that has any.
-    All,
-    /// The same, by all files of a level at once, with one manifest for each level.
-    AllWhole,
-}
-
-/// Why a command line asks for nothing that can be done.
-#[derive(Drop)]
-pub enum Usage {
-    /// The text of the key of `blocks` is no hexadecimal digits.
-    Key,
-    /// The text of a key of `get`, `history` or `scan` is no hexadecimal digits, and neither
-    /// `--text` nor `--utf8` is given.
-    Hexadecimal,
-    /// The text of a key of `get`, `history` or `scan` stands for no bytes, and one of them is
-    /// given.
-    Text,
-    /// The text of a list of snapshots, of `compact` or `install`, is no list of numbers.
-    Snapshots,
-    /// Out of memory.
-    Memory,
-    /// The words are no command, or help or the version was asked for. The error says which, and
-    /// has the text for the user.
-    Clap(clap::Error),
-}
-
-impl From<AllocError> for Usage {
-    fn from(_e: AllocError) -> Usage {
-        Usage::Memory
-    }
-}
-
-impl From<clap::Error> for Usage {
-    fn from(error: clap::Error) -> Usage {
-        if error.kind() == ErrorKind::OutOfMemory {
-            Usage::Memory
-        } else {
-            Usage::Clap(error)
-        }
-    }
 }

@@ -5,7 +5,8 @@ ghost use Rattle.clap.specs.Words.{first_of, found_of, one_of, rows_of};
 ghost use Rattle.usage.specs.Values.{HasTesting, IsNumberOf, IsNumberOr, is_flagged, is_given};
 ghost use Rattle.usage.specs.Values.{spelling_of};
 
-use crate::requests::{Testing, Usage};
+use crate::requests::Testing;
+use crate::usage_fault::Usage;
 use clap::ArgMatches;
 use std::alloc::AllocError;
 use texts::Spelling;

@@ -18,7 +18,7 @@ use std::test::*;
 use std::thread::Threads;
 use store::{
     CleanWatch, CompactionStep, InstallWatch, Open, RemovalWatch, Settings, checkers, compact_dir,
-    compact_inputs, opened_after, sync_version,
+    compact_opened, opened_after, sync_version,
 };
 
 /// How many bytes of tables are held while a version is tested.
@@ -118,12 +118,13 @@ fn is_known_after<R: Threads + Sync + Abort>(rt: &R, alloc: Global, row: &Row) -
     let opened = open(alloc, &mut folder).expect(rt, "an open folder");
     let opened = sync_version(alloc, &mut folder, opened).expect(rt, "a sync");
     let settings = &row.settings;
-    let step = compact_inputs(
+    let step = compact_opened(
         &checkers(rt, alloc, &Open),
         &mut folder,
         &opened,
         row.level,
         settings,
+        None,
     )
     .expect(rt, "a compaction");
     let after = opened_after(alloc, &opened, &step)

@@ -31,17 +31,17 @@ returns-in_err-tested-clause-answer g c files told =
     let v = c.in_ok-opened.opened.version in
     let e = c.in_err-tested.field-0.0 in
     let opened = opened_in (tells c.args.folder.now) files (Ok (order, v)) told c.in_ok-opened.ensures.answer in
-    hands_on (λ v. v.items) (failed c.args.folder.now) (failed c.open.new.folder) (failed c.test_opened.new.folder) c.from_residual-in_err-tested.result e (IsTested (IsFileIn files) (order_cmp order) v)
-    (IsAnswerOfFolder (IsFileIn files) (λ _. verified_line)) c.from_residual-in_err-tested.ensures.1 c.open.ensures.device.later c.test_opened.ensures.device.later
+    hands_on (λ v. v.items) (failed c.args.folder.now) (failed c.open.new.folder) (failed c.test_by_order.new.folder) c.from_residual-in_err-tested.result e (IsTested (IsFileIn files) (order_cmp order) v)
+    (IsAnswerOfFolder (IsFileIn files) (λ _. verified_line)) c.from_residual-in_err-tested.ensures.1 c.open.ensures.device.later c.test_by_order.ensures.device.later
     (c.in_err-tested.ensures.answer files (told_still (tells c.args.folder.now) (tells c.open.new.folder) files c.open.ensures.reads.same told))
     (λ h. opened_as (IsFileIn files) (λ _. verified_line) order v opened (Err e) (refused_answer (IsFileIn files) (order_cmp order) v verified_line e h))
 
 pub returns-in_err-tested-clause-device : goal.returns-in_err-tested-clause-device
 returns-in_err-tested-clause-device g c =
-    reports_then c.in_ok-opened.was c.open.ensures.device (reports_handed c.from_residual-in_err-tested.result c.in_err-tested.was c.test_opened.ensures.device c.from_residual-in_err-tested.ensures.1)
+    reports_then c.in_ok-opened.was c.open.ensures.device (reports_handed c.from_residual-in_err-tested.result c.in_err-tested.was c.test_by_order.ensures.device c.from_residual-in_err-tested.ensures.1)
 
 pub returns-in_err-tested-clause-reads : goal.returns-in_err-tested-clause-reads
-returns-in_err-tested-clause-reads g c = reads_then c.open.ensures.reads c.test_opened.ensures.reads
+returns-in_err-tested-clause-reads g c = reads_then c.open.ensures.reads c.test_by_order.ensures.reads
 
 pub returns-clause-answer : goal.returns-clause-answer
 returns-clause-answer g c files told =
@@ -53,7 +53,7 @@ returns-clause-answer g c files told =
     let line : List ℕ = lawful_line t.files t.entries in
     let opened = opened_in (tells c.args.folder.now) files (Ok (order, v)) told c.in_ok-opened.ensures.answer in
     let tested = c.in_ok-tested.ensures.answer files (told_still (tells c.args.folder.now) (tells c.open.new.folder) files c.open.ensures.reads.same told) in
-    answers_alone (λ v. v.items) (failed c.args.folder.now) (failed c.test_opened.new.folder) c.lawful_line.result (λ a. a ≡ Ok line) (IsAnswerOfFolder (IsFileIn files) (λ _. verified_line))
+    answers_alone (λ v. v.items) (failed c.args.folder.now) (failed c.test_by_order.new.folder) c.lawful_line.result (λ a. a ≡ Ok line) (IsAnswerOfFolder (IsFileIn files) (λ _. verified_line))
     (λ a h. opened_as (IsFileIn files) (λ _. verified_line) order v opened a
     (subst (IsAnswerOfVersion (IsFileIn files) (order_cmp order) v verified_line) (sym h) (answer_of_tested (IsFileIn files) (order_cmp order) v (λ (x : VersionTotals). lawful_line x.files x.entries) t tested)))
     (answer_holds (λ v. v.items) c.lawful_line.result line c.lawful_line.ensures)
@@ -62,8 +62,8 @@ pub returns-clause-device : goal.returns-clause-device
 returns-clause-device g c =
     let failed = g.F.Folder.failed in
     let t = c.in_ok-tested.tested in
-    reports_then c.in_ok-opened.was c.open.ensures.device (reports_after c.lawful_line.result c.in_ok-tested.was c.test_opened.ensures.device
-    (answer_device (λ v. v.items) (failed c.open.new.folder) (failed c.test_opened.new.folder) c.lawful_line.result (lawful_line t.files t.entries) c.lawful_line.ensures))
+    reports_then c.in_ok-opened.was c.open.ensures.device (reports_after c.lawful_line.result c.in_ok-tested.was c.test_by_order.ensures.device
+    (answer_device (λ v. v.items) (failed c.open.new.folder) (failed c.test_by_order.new.folder) c.lawful_line.result (lawful_line t.files t.entries) c.lawful_line.ensures))
 
 pub returns-clause-reads : goal.returns-clause-reads
-returns-clause-reads g c = reads_then c.open.ensures.reads c.test_opened.ensures.reads
+returns-clause-reads g c = reads_then c.open.ensures.reads c.test_by_order.ensures.reads

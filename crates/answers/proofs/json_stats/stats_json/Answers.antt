@@ -1,9 +1,9 @@
 use Rattle.std.proofs.Common.{◌≡◌, List, Ok, map, subst, sym, ap, ap₂, ◌∙◌}
-use Rattle.serde_json.specs.Data.{Data, Items}
+use Rattle.serde_json.specs.Data.{Data}
 use Rattle.serde_json.specs.View.{items_of, view}
 use Rattle.table.specs.Answers.{EqualOrMemory}
 use Rattle.table.proofs.Binds.{ok_is}
-use Rattle.answers.specs.StatsObject.{level_object, stats_parts, total_object}
+use Rattle.answers.specs.StatsObject.{level_object, stats_parts}
 use Rattle.answers.proofs.json_stats.stats_json.Goals as goal
 
 pub returns : goal.returns

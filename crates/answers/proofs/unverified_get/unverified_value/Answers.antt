@@ -8,7 +8,7 @@ use Rattle.answers.proofs.unverified_get.unverified_value.Goals as goal
 
 pub returns-in-Bytewise-clause-lawful : goal.returns-in-Bytewise-clause-lawful
 returns-in-Bytewise-clause-lawful g c files loaded tables all there sound =
-    let v = c.args.version.now in
+    let v = c.args.opened.now.version in
     let tells = g.F.Folder.tells c.args.folder.now in
     c.value_by.ensures.lawful files loaded tables all
     (subst (λ (order : Order). IsLoaded tells (file_numbers (order_cmp order) v) (Ok loaded)) c.in-Bytewise.is there)
@@ -16,7 +16,7 @@ returns-in-Bytewise-clause-lawful g c files loaded tables all there sound =
 
 pub returns-in-Shortlex-clause-lawful : goal.returns-in-Shortlex-clause-lawful
 returns-in-Shortlex-clause-lawful g c files loaded tables all there sound =
-    let v = c.args.version.now in
+    let v = c.args.opened.now.version in
     let tells = g.F.Folder.tells c.args.folder.now in
     c.value_by-in-Shortlex.ensures.lawful files loaded tables all
     (subst (λ (order : Order). IsLoaded tells (file_numbers (order_cmp order) v) (Ok loaded)) c.in-Shortlex.is there)

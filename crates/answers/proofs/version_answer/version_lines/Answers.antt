@@ -1,4 +1,4 @@
-use Rattle.std.proofs.Common.{◌≡◌, ◌++◌, List, ℕ, [], Ok, map, string_bytes, sym, ap, ◌∙◌}
+use Rattle.std.proofs.Common.{◌++◌, List, ℕ, [], Ok, map, string_bytes, sym, ap, ◌∙◌}
 use Rattle.std.specs.Global.{Vec}
 use Rattle.table.proofs.Binds.{ok_is}
 use Rattle.table.proofs.Texts.{joined}

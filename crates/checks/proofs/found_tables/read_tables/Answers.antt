@@ -1,9 +1,9 @@
-use Rattle.std.proofs.Common.{Vec, Global, ◌≡◌, ℕ, List, [], Option, None, Ok, IfSome, sym, ap, subst, ◌∙◌}
+use Rattle.std.proofs.Common.{Vec, Global, ◌≡◌, ℕ, List, Option, None, Ok, IfSome, sym, ap, subst, ◌∙◌}
 use Rattle.std.specs.Option.{option_map}
 use Rattle.ikey.proofs.Binds.{ok_is}
 use Rattle.reads.specs.Tables.{NumberedContents}
 use Rattle.checks.specs.HeldTables.{AreFound, AreHeldBy, IsFoundAnswer, held_numbers}
-use Rattle.checks.specs.TablePlaces.{place_numbers, placed_tables, wanted_numbers}
+use Rattle.checks.specs.TablePlaces.{place_numbers, wanted_numbers}
 use Rattle.checks.proofs.HeldAnswers.{held_in, none_held, placed_held}
 use Rattle.checks.proofs.KeptTables.{placed_found, placed_numbers, placed_unfound}
 use Rattle.checks.proofs.ToldTables.{had_held, had_kept, places_numbers, tables_had}

@@ -1,4 +1,4 @@
-use Rattle.std.proofs.Common.{◌≡◌, List, [], length, Ok, Err, sym, ap, inr, ◌∙◌, arith}
+use Rattle.std.proofs.Common.{◌≡◌, List, [], length, Err, sym, ap, inr, ◌∙◌, arith}
 use Rattle.block.specs.EncodedEntry.{Entry}
 use Rattle.table.specs.fault.FaultName.TheVariants.{Empty}
 use Rattle.table.specs.IndexReading.{block_in}

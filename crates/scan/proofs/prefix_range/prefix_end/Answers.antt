@@ -1,4 +1,4 @@
-use Rattle.std.proofs.Common.{◌≡◌, ◌+◌, ◌<◌, ◌++◌, ◌∷◌, [], refl, arith}
+use Rattle.std.proofs.Common.{◌≡◌, ◌+◌, ◌++◌, ◌∷◌, [], refl, arith}
 use Rattle.table.specs.TableBytes.{AreBytes}
 use Rattle.scan.proofs.PrefixKeys.{filled-more, last_fits, no_end, some_end}
 use Rattle.scan.proofs.prefix_range.prefix_end.Goals as goal

@@ -25,7 +25,7 @@ now_of f = f.now
 
 pub returns-then-is_over-clause-told : goal.returns-then-is_over-clause-told
 returns-then-is_over-clause-told g c files next tables told are own =
-    let rows = file_rows g.C.Comparator.cmp tables (map now_of c.args.standing.now) c.args.rows.at (key_range c.args.rows.range) in
+    let rows = file_rows g.C.Comparator.cmp tables (map now_of c.args.rows.standing.now) c.args.rows.at (key_range c.args.rows.range) in
     record {
       untold = rows;
       left = c.args.rows.limit;
@@ -40,7 +40,7 @@ returns-then-is_none-clause-told g c files next tables told are own =
     let tells = g.T.RowTaker.tells in
     let at : ℕ = c.args.rows.at in
     let taker = c.args.taker.now in
-    let none = c.is_empty-is_none.ensures c.if-is_none.true (entries_of_lists (lists_of_files tables (map now_of c.args.standing.now))) in (
+    let none = c.is_empty-is_none.ensures c.if-is_none.true (entries_of_lists (lists_of_files tables (map now_of c.args.rows.standing.now))) in (
       c.is_done-is_over.ensures.wanted c.if-is_over.false,
       subst (λ (rs : List Row). IsRowPart (telling_by tells taker taker) rs c.args.rows.limit [] c.args.rows.limit true) (sym (ap (λ (es : List Entry). rows_after at None (sorted_entries cmp es)) none)) (none_told tells [] taker taker c.args.rows.limit refl),
     )
@@ -48,7 +48,7 @@ returns-then-is_none-clause-told g c files next tables told are own =
 pub returns-in_err-needed-clause-told : goal.returns-in_err-needed-clause-told
 returns-in_err-needed-clause-told g c files next tables told are own =
     let tells = g.T.RowTaker.tells in
-    let rows = file_rows g.C.Comparator.cmp tables (map now_of c.args.standing.now) c.args.rows.at (key_range c.args.rows.range) in
+    let rows = file_rows g.C.Comparator.cmp tables (map now_of c.args.rows.standing.now) c.args.rows.at (key_range c.args.rows.range) in
     handed_begun tells rows c.args.taker.now c.args.taker.now c.args.rows.limit c.from_residual.result c.in_err-needed.field-0.0 c.from_residual.ensures.1 (refused_first tells rows c.args.taker.now c.args.taker.now c.args.rows.limit refl)
 
 pub returns-in_err-needed-clause-errors : goal.returns-in_err-needed-clause-errors
@@ -59,7 +59,7 @@ returns-in_err-needed-clause-errors g c files next tables told are own =
 pub returns-in_err-numbers-clause-told : goal.returns-in_err-numbers-clause-told
 returns-in_err-numbers-clause-told g c files next tables told are own =
     let tells = g.T.RowTaker.tells in
-    let rows = file_rows g.C.Comparator.cmp tables (map now_of c.args.standing.now) c.args.rows.at (key_range c.args.rows.range) in
+    let rows = file_rows g.C.Comparator.cmp tables (map now_of c.args.rows.standing.now) c.args.rows.at (key_range c.args.rows.range) in
     handed_begun tells rows c.args.taker.now c.args.taker.now c.args.rows.limit c.from_residual-in_err-numbers.result c.in_err-numbers.field-0.0 c.from_residual-in_err-numbers.ensures.1 (refused_first tells rows c.args.taker.now c.args.taker.now c.args.rows.limit refl)
 
 pub returns-in_err-numbers-clause-errors : goal.returns-in_err-numbers-clause-errors
@@ -70,7 +70,7 @@ returns-in_err-numbers-clause-errors g c files next tables told are own =
 pub returns-in_err-is_held-clause-told : goal.returns-in_err-is_held-clause-told
 returns-in_err-is_held-clause-told g c files next tables told are own =
     let tells = g.T.RowTaker.tells in
-    let rows = file_rows g.C.Comparator.cmp tables (map now_of c.args.standing.now) c.args.rows.at (key_range c.args.rows.range) in
+    let rows = file_rows g.C.Comparator.cmp tables (map now_of c.args.rows.standing.now) c.args.rows.at (key_range c.args.rows.range) in
     handed_begun tells rows c.args.taker.now c.args.taker.now c.args.rows.limit c.from_residual-in_err-is_held.result c.in_err-is_held.field-0.0 c.from_residual-in_err-is_held.ensures.1 (refused_first tells rows c.args.taker.now c.args.taker.now c.args.rows.limit refl)
 
 pub returns-in_err-is_held-clause-errors : goal.returns-in_err-is_held-clause-errors
@@ -84,7 +84,7 @@ returns-then-not-is_held-clause-told g c files next tables told are own =
     absurd
     (let cmp = g.C.Comparator.cmp in
     let range = key_range c.args.rows.range in
-    let standing : List FileMeta = map now_of c.args.standing.now in
+    let standing : List FileMeta = map now_of c.args.rows.standing.now in
     let needed : List FileMeta = filter (is_file_needed cmp range) standing in
     let numbers : List ℕ = c.deref-2.result.now in
     let same = lent_numbers c.deref.result.now c.in_ok-needed.needed.items needed numbers c.deref.ensures.value c.in_ok-needed.ensures.needed (ok_is _ _ c.in_ok-numbers.ensures ∙ sym c.deref-2.ensures.value) in
@@ -96,7 +96,7 @@ returns-then-not-is_held-clause-errors g c files next tables told are own =
     absurd
     (let cmp = g.C.Comparator.cmp in
     let range = key_range c.args.rows.range in
-    let standing : List FileMeta = map now_of c.args.standing.now in
+    let standing : List FileMeta = map now_of c.args.rows.standing.now in
     let needed : List FileMeta = filter (is_file_needed cmp range) standing in
     let numbers : List ℕ = c.deref-2.result.now in
     let same = lent_numbers c.deref.result.now c.in_ok-needed.needed.items needed numbers c.deref.ensures.value c.in_ok-needed.ensures.needed (ok_is _ _ c.in_ok-numbers.ensures ∙ sym c.deref-2.ensures.value) in
@@ -107,7 +107,7 @@ pub returns-clause-told : goal.returns-clause-told
 returns-clause-told g c files next tables told are own =
     let cmp = g.C.Comparator.cmp in
     let range = key_range c.args.rows.range in
-    let standing : List FileMeta = map now_of c.args.standing.now in
+    let standing : List FileMeta = map now_of c.args.rows.standing.now in
     let needed : List FileMeta = filter (is_file_needed cmp range) standing in
     let numbers : List ℕ = c.deref-2.result.now in
     let held : List NumberedContents = c.hold_next.new.held in

@@ -1,4 +1,4 @@
-use Rattle.std.proofs.Common.{Bor, ◌≡◌, ℕ, ◌+◌, ◌-◌, true, List, Ok, length, map, refl, sym, ap, subst, ◌∙◌, inl, inr, arith}
+use Rattle.std.proofs.Common.{Bor, ◌≡◌, ℕ, ◌+◌, ◌-◌, true, List, Ok, length, map, refl, ap, subst, ◌∙◌, inl, inr, arith}
 use Rattle.folder.specs.meta.FileMeta.{FileMeta}
 use Rattle.folder.proofs.CountLemmas.{steady}
 use Rattle.folder.proofs.ReportLemmas.{reads_then}
@@ -23,7 +23,7 @@ pub loop-number-init : goal.loop-number-init
 loop-number-init g c = record {
   told = λ files next tables told are own.
       let all : ℕ = length c.args.split.now + 1 in
-      let rows = rows_from (file_rows g.C.Comparator.cmp tables (map now_of c.args.standing.now) c.args.rows.at) g.C.Comparator.cmp (key_range c.args.rows.range) c.args.split.now 0 in
+      let rows = rows_from (file_rows g.C.Comparator.cmp tables (map now_of c.args.rows.standing.now) c.args.rows.at) g.C.Comparator.cmp (key_range c.args.rows.range) c.args.split.now 0 in
       let taker = c.args.taker.now in
       let same : all ≡ all - 0 = omega arith in
       subst (λ (n : ℕ). IsRowPart (telling_by g.T.RowTaker.tells taker taker) (rows all) c.args.rows.limit (rows n) c.args.rows.limit true) same (none_told g.T.RowTaker.tells (rows all) taker taker c.args.rows.limit refl);
@@ -38,7 +38,7 @@ loop-number-preserved g c =
     let tells = g.F.Folder.tells in
     let failed = g.F.Folder.failed in
     let telling = g.T.RowTaker.tells in
-    let standing : List FileMeta = map now_of c.args.standing.now in
+    let standing : List FileMeta = map now_of c.args.rows.standing.now in
     let boundaries = c.args.split.now in
     let all : ℕ = length boundaries + 1 in
     let now = c.loop-number in
@@ -61,7 +61,7 @@ returns-in_err-wanted-clause-told g c files next tables told are own =
     let cmp = g.C.Comparator.cmp in
     let tells = g.F.Folder.tells in
     let telling = g.T.RowTaker.tells in
-    let standing : List FileMeta = map now_of c.args.standing.now in
+    let standing : List FileMeta = map now_of c.args.rows.standing.now in
     let boundaries = c.args.split.now in
     let all : ℕ = length boundaries + 1 in
     let now = c.loop-number in
@@ -86,7 +86,7 @@ returns-in_default-clause-told g c files next tables told are own =
     let cmp = g.C.Comparator.cmp in
     let tells = g.F.Folder.tells in
     let telling = g.T.RowTaker.tells in
-    let standing : List FileMeta = map now_of c.args.standing.now in
+    let standing : List FileMeta = map now_of c.args.rows.standing.now in
     let boundaries = c.args.split.now in
     let all : ℕ = length boundaries + 1 in
     let now = c.loop-number in
@@ -101,7 +101,7 @@ returns-in_default-clause-told g c files next tables told are own =
 pub returns-clause-told : goal.returns-clause-told
 returns-clause-told g c files next tables told are own =
     let cmp = g.C.Comparator.cmp in
-    let standing : List FileMeta = map now_of c.args.standing.now in
+    let standing : List FileMeta = map now_of c.args.rows.standing.now in
     let boundaries = c.args.split.now in
     let all : ℕ = length boundaries + 1 in
     let now = c.loop-number in

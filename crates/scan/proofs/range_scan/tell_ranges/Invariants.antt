@@ -14,7 +14,7 @@ use Rattle.scan.proofs.range_scan.tell_ranges.Given as goal
 abbrev pub invariant-loop-number : goal.invariant-loop-number
 invariant-loop-number g l =
     let cmp = g.C.Comparator.cmp in
-    let standing = map (λ f. f.now) l.standing in
+    let standing = map (λ f. f.now) l.rows.standing.now in
     let all = length l.split + 1 in
     record {
       told : (files : Files) (next : Option ℕ) (tables : List NumberedContents) → Tells (g.F.Folder.tells l.fn.folder) files → AreTablesIn cmp files next standing tables → AreHeldBy cmp (g.F.Folder.tells l.fn.folder) l.fn.held

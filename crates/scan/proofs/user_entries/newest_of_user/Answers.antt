@@ -1,4 +1,4 @@
-use Rattle.std.proofs.Common.{◌≡◌, ℕ, Option, List, ap, sym, subst, ◌∙◌}
+use Rattle.std.proofs.Common.{◌≡◌, ℕ, List, ap, sym, subst, ◌∙◌}
 use Rattle.std.specs.Option.{option_map}
 use Rattle.table.proofs.Binds.{ok_is}
 use Rattle.table.proofs.Keys.{kind_of-internal_key, sequence_of-internal_key, user_of-internal_key}

@@ -20,7 +20,7 @@ returns-in-Bytewise-clause-rows g c files loaded tables all there sound =
     (f.ensures.rows files loaded tables all
     (subst (λ (order : Order). IsLoaded tells (file_numbers (order_cmp order) v) (Ok loaded)) c.in-Bytewise.is there)
     (subst (λ (order : Order). IsLawfulTables (order_cmp order) v loaded (Ok tables)) c.in-Bytewise.is sound)
-    (subst (AreHeldBy (order_cmp Bytewise) tells) (sym c.none-held.ensures) (none_held (order_cmp Bytewise) tells)))
+    (subst (AreHeldBy (order_cmp Bytewise) tells) (sym c.none-tables.ensures) (none_held (order_cmp Bytewise) tells)))
 
 pub returns-in-Shortlex-clause-rows : goal.returns-in-Shortlex-clause-rows
 returns-in-Shortlex-clause-rows g c files loaded tables all there sound =
@@ -32,4 +32,4 @@ returns-in-Shortlex-clause-rows g c files loaded tables all there sound =
     (f.ensures.rows files loaded tables all
     (subst (λ (order : Order). IsLoaded tells (file_numbers (order_cmp order) v) (Ok loaded)) c.in-Shortlex.is there)
     (subst (λ (order : Order). IsLawfulTables (order_cmp order) v loaded (Ok tables)) c.in-Shortlex.is sound)
-    (subst (AreHeldBy (order_cmp Shortlex) tells) (sym c.none-held-in-Shortlex.ensures) (none_held (order_cmp Shortlex) tells)))
+    (subst (AreHeldBy (order_cmp Shortlex) tells) (sym c.none-tables-in-Shortlex.ensures) (none_held (order_cmp Shortlex) tells)))

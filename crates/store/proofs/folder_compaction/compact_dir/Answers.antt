@@ -1,4 +1,4 @@
-use Rattle.std.proofs.Common.{◌≡◌, ℕ, Ok, Err, Some, arith, codes, inl}
+use Rattle.std.proofs.Common.{◌≡◌, ℕ, Ok, Err, None, Option, Some, arith, codes, inl}
 use Rattle.folder.specs.Version.{State}
 use Rattle.folder.proofs.CountLemmas.{later_still}
 use Rattle.folder.proofs.OpeningLemmas.{hands_on}
@@ -10,22 +10,28 @@ use Rattle.folder.specs.Orders.{order_cmp, order_short_keys}
 use Rattle.folder.specs.ReadsAs.{IsFileIn}
 use Rattle.folder.specs.declared.order.Order.{Order}
 use Rattle.install.proofs.Changes.{change_by}
-use Rattle.store.specs.Answers.{IsFolderCompacted, IsVersionCompacted}
-use Rattle.store.specs.Compaction.{IsVersionLeft}
+use Rattle.store.specs.Answers.{IsCompacted, IsFolderCompacted}
 use Rattle.store.specs.OrderView.{order_view}
 use Rattle.store.specs.Runs.{IsLevelRun}
 use Rattle.store.specs.Step.{step_in}
+use Rattle.store.specs.StepLeft.{IsVersionLeft}
 use Rattle.store.proofs.Flow.{answers_behind, first_refused, no_value, opened_in, stopped_on, told_still}
 use Rattle.store.proofs.InstallPart.{of_opened, sync_refused, synced_left}
 use Rattle.store.proofs.RunPart.{sync_stopped, synced_run}
 use Rattle.store.proofs.folder_compaction.compact_dir.Goals as goal
+
+abbrev asked : ℕ → Option ℕ
+asked memory = Some memory
+
+is_asked : (memory : ℕ) → asked memory ≡ None → ⊥
+is_asked memory h = cc h
 
 pub returns-in_err-opened-clause-answer : goal.returns-in_err-opened-clause-answer
 returns-in_err-opened-clause-answer g c files told =
     let tells = g.F.Folder.tells in
     let failed = g.F.Folder.failed in
     let e = c.in_err-opened.field-0.0 in
-    let next = λ (opened : Order × State). IsVersionCompacted (order_cmp opened.0) (order_short_keys opened.0) files opened.1 c.args.level c.args.settings.now in
+    let next = λ (opened : Order × State). IsCompacted (Some 0) (order_cmp opened.0) (order_short_keys opened.0) files opened.1 c.args.level c.args.settings.now in
     hands_on step_in (failed c.args.folder.now) (failed c.args.folder.now) (failed c.open.new.folder) c.from_residual.result e (IsOpened (tells c.args.folder.now)) (IsFolderCompacted files c.args.level c.args.settings.now)
     c.from_residual.ensures.1 (omega arith) c.open.ensures.device.later c.in_err-opened.ensures.answer
     (λ h. first_refused (IsOpened (IsFileIn files)) next e (opened_in (tells c.args.folder.now) files (Err e) told h))
@@ -79,7 +85,7 @@ returns-clause-answer g c files told =
     let failed = g.F.Folder.failed in
     let o = c.in_ok-opened.opened in
     let opened : Order × State = (o.order, o.version) in
-    let next = λ (opened : Order × State). IsVersionCompacted (order_cmp opened.0) (order_short_keys opened.0) files opened.1 c.args.level c.args.settings.now in
+    let next = λ (opened : Order × State). IsCompacted (Some 0) (order_cmp opened.0) (order_short_keys opened.0) files opened.1 c.args.level c.args.settings.now in
     let named = (told (codes "CURRENT") (Some (current_text o.manifest))).0 c.in_ok-opened.ensures.named in
     let synced = c.sync_version.ensures.same files (told_still (tells c.args.folder.now) (tells c.open.new.folder) files c.open.ensures.reads.same told) in
     answers_behind step_in (failed c.args.folder.now) (failed c.sync_version.new.folder) (failed c.compact_opened.new.folder) c.compact_opened.result (IsOpened (IsFileIn files)) next next opened
@@ -87,7 +93,7 @@ returns-clause-answer g c files told =
     (opened_in (tells c.args.folder.now) files (Ok opened) told c.in_ok-opened.ensures.answer) (λ a h. h)
     (of_opened
     (λ (order : Order) (v : State) (m : ℕ). (fs : Files) → Tells (tells c.sync_version.new.folder) fs → fs (codes "CURRENT") ≡ Some (current_text m)
-    → FolderAnswers step_in (failed c.sync_version.new.folder) (failed c.compact_opened.new.folder) c.compact_opened.result (IsVersionCompacted (order_cmp order) (order_short_keys order) fs v c.args.level c.args.settings.now))
+    → FolderAnswers step_in (failed c.sync_version.new.folder) (failed c.compact_opened.new.folder) c.compact_opened.result (IsCompacted (Some 0) (order_cmp order) (order_short_keys order) fs v c.args.level c.args.settings.now))
     _ _ _ _ _ _ c.in_ok-synced.ensures.synced c.compact_opened.ensures.answer files synced named)
 
 pub returns-clause-left : goal.returns-clause-left
@@ -106,7 +112,7 @@ returns-clause-left g c files told =
     (λ (order : Order) (v : State) (m : ℕ). (fs : Files) → Tells (tells c.sync_version.new.folder) fs → fs (codes "CURRENT") ≡ Some (current_text m) → IsOpened (IsFileIn fs) (Ok (order, v))
     → IsVersionLeft (order_view order) v fs c.args.level c.args.settings.now (change_by (calls c.sync_version.new.folder) (calls c.compact_opened.new.folder) (tells c.sync_version.new.folder) (tells c.compact_opened.new.folder))
     c.compact_opened.result)
-    _ _ _ _ _ _ c.in_ok-synced.ensures.synced c.compact_opened.ensures.left files synced named opened)
+    _ _ _ _ _ _ c.in_ok-synced.ensures.synced (λ fs tells current is. c.compact_opened.ensures.left fs tells current is (λ none. absurd (is_asked c.args.memory none))) files synced named opened)
 
 pub returns-clause-runs : goal.returns-clause-runs
 returns-clause-runs g c =

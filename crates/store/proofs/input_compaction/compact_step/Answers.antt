@@ -1,4 +1,4 @@
-use Rattle.std.proofs.Common.{◌≡◌, None, Result, Ok, Err, refl, sym, subst, ◌∙◌, arith, inl}
+use Rattle.std.proofs.Common.{◌≡◌, None, Result, Ok, Err, refl, sym, subst, arith, inl}
 use Rattle.folder.specs.fault.Fault.{Fault}
 use Rattle.folder.specs.LoadedTables.{IsLoaded}
 use Rattle.folder.specs.ReadsAs.{IsFileIn}
@@ -14,7 +14,7 @@ use Rattle.store.specs.Step.{IsStepFor, StepView, step_in, step_of}
 use Rattle.store.specs.declared.choice.Choice.TheVariants.{Picked}
 use Rattle.store.proofs.Answered.{made_as}
 use Rattle.store.proofs.ChosenInputs.{choice_chosen}
-use Rattle.store.proofs.Compactions.{is_compacted, picked_of}
+use Rattle.store.proofs.Compactions.{picked_of}
 use Rattle.store.proofs.Descending.{same_tells}
 use Rattle.store.proofs.Flow.{first_passed, first_refused, no_value, told_still}
 use Rattle.store.proofs.HeldInputs.{checked_loaded, checked_refused}
@@ -125,15 +125,15 @@ returns-clause-left g c files order loaded tables told current are named reads s
     let p = picked_in c.in_ok-picked.picked in
     let held = c.in_ok-tables.tables in
     let own = held_bytes held in
-    let given = choice_chosen cmp v (Picked c.args.level) p c.in_ok-picked.ensures in
+    let level = Picked c.args.level in
+    let given = choice_chosen cmp v level p c.in_ok-picked.ensures in
     let read = checked_loaded cmp files (input_numbers p.files) held (c.in_ok-tables.ensures.answer files told are) in
-    let same = c.same_inputs.ensures files v loaded own tables c.args.level p s reads.loaded sound given read in
     let now = told_still (tells c.args.folder.now) (tells c.held_inputs.new.folder) files c.held_inputs.ensures.reads.same told in
     step_since order cmp keys v loaded c.args.level s (calls c.args.folder.now) (calls c.held_inputs.new.folder) (calls c.install_held.new.folder) (tells c.args.folder.now) (tells c.held_inputs.new.folder) (tells c.install_held.new.folder) c.install_held.result
     c.held_inputs.ensures.reads.calls c.held_inputs.ensures.reads.same
     (c.install_held.ensures.left files order loaded c.args.level now current named
     (λ answer is log previous.
-    is_compacted cmp keys c.numbered_is_installed.ensures order v loaded tables c.args.level p s answer sound c.version_is_state.ensures (picked_of cmp v c.args.level p given) log previous (sym same ∙ is)))
+    c.chosen_is_installed.ensures order None files v loaded own tables level p s answer reads.loaded sound c.version_is_state.ensures given c.sets_internal_key.ensures read log previous is))
 
 pub returns-clause-runs : goal.returns-clause-runs
 returns-clause-runs g c are =

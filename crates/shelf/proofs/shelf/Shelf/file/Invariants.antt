@@ -9,5 +9,5 @@ use Rattle.shelf.proofs.shelf.Shelf.file.Given as goal
 abbrev pub invariant-loop-step : goal.invariant-loop-step
 invariant-loop-step l = record {
   text : shadow (Utf8 l.sought);
-  same : (files : Files) → files_after_steps (drop l.step-index l.self-inside.steps.items) files l.sought ≡ files_after_steps l.self-inside.steps.items files l.name;
+  same : (files : Files) → files_after_steps (drop l.step-index l.self-inside.history.steps) files l.sought ≡ files_after_steps l.self-inside.history.steps files l.name;
 }

@@ -3,7 +3,8 @@ use Rattle.std.specs.Global.{Vec}
 use Rattle.folder.specs.Calls.{Written, step_of}
 use Rattle.std.specs.List.{AllZip}
 use Rattle.folder.specs.TableFiles.{named_tables}
-use Rattle.shelf.proofs.ShelfLemmas.{wrote}
+use Rattle.shelf.specs.Shelf.{held_by}
+use Rattle.shelf.proofs.ShelfLemmas.{handed_on, lent, told, wrote}
 use Rattle.shelf.proofs.shelf.ShelfWritesTables.sync_tables.Goals as goal
 
 -- what a folder in memory makes of tables is these tables
@@ -21,11 +22,11 @@ all_are : (made : Option (Vec (ℕ × Vec ℕ))) (tables : List (ℕ × List ℕ
 all_are None tables are = tt
 all_are (Some made) tables are = made_is made.items tables are
 
-pub write_made-requires : goal.write_made-requires
-write_made-requires g c = all_are c.args.made c.args.tables.now.tables c.requires
-
 pub returns-clause-change : goal.returns-clause-change
 returns-clause-change g c =
-    let old = c.args.self.now in
-    let new = c.write_made.new.self in
-    wrote (step_of (Written (named_tables c.args.tables.now.tables)) c.write_made.result) old.steps new.steps old.start new.start c.write_made.ensures.start c.write_made.ensures.change
+    let tables = c.args.tables.now.tables in
+    let made = c.record_made-answer in
+    let call = Written (named_tables tables) in
+    let files = lent c.self.inside.start.now in
+    handed_on call c.wrote.result made.result (told (held_by c.args.self.now)) files made.new.self c.wrote.new.self c.wrote.ensures.answer c.wrote.ensures.steps
+    (wrote (step_of call made.result) files c.self.inside.history made.new.self c.args.self.now c.self.view_is (made.ensures.change tables (all_are c.args.made tables c.requires)))

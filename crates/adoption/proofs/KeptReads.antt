@@ -92,7 +92,7 @@ use Rattle.compact.specs.RequestOverVersion.{output_entries}
 use Rattle.compact.specs.SurvivingReads.{tables_after}
 use Rattle.checks.proofs.FoundTables.{own_bytes}
 use Rattle.store.proofs.Loaded.{held_by}
-use Rattle.store.proofs.SameTables.{same_get, same_lawful}
+use Rattle.adoption.proofs.SameTables.{same_get, same_lawful}
 use Rattle.store.proofs.TablesAfter.{read_after, reads_after, same_after}
 use Rattle.store.specs.InputsCompaction.{RangesRise}
 use Rattle.adoption.specs.Adoption.{compared_request, outputs_in_edit}

@@ -1,7 +1,8 @@
-use Rattle.std.proofs.Common.{Ok, Result, arith, refl, subst, sym, ◌≡◌}
+use Rattle.std.proofs.Common.{◌⊎◌, Err, Ok, Result, arith, refl, subst, sym, ◌≡◌}
 use Rattle.folder.proofs.OpeningLemmas.{hands_on}
 use Rattle.folder.proofs.ReportLemmas.{reports_after, reports_handed, reports_steady}
-use Rattle.folder.specs.OpenAnswer.{FolderAnswers}
+use Rattle.edit.specs.Answers.{UnlessMemory}
+use Rattle.folder.specs.OpenAnswer.{FolderAnswers, IsStopped}
 use Rattle.folder.specs.ReadsAs.{IsFileIn}
 use Rattle.edit.specs.fault.Fault.{Fault}
 use Rattle.checks.specs.TestedTables.{IsTested}
@@ -29,7 +30,7 @@ returns-in_err-test_version-clause-answer g c files told =
     subst (λ (comparison : Comparison). FolderAnswers (λ u. u) (failed c.args.folder.now) (failed c.test_version.new.folder) c.from_residual.result (IsLastTested cmp files v comparison)) (sym c.in-LeftOut.is)
     (hands_on (λ u. u) (failed c.args.folder.now) (failed c.args.folder.now) (failed c.test_version.new.folder) c.from_residual.result e (IsTested (IsFileIn files) cmp v) (IsLastTested cmp files v LeftOut)
     c.from_residual.ensures.1 (omega arith) c.test_version.ensures.device.later
-    (subst (λ (w : State). FolderAnswers _ _ _ _ (IsTested (IsFileIn files) cmp w)) c.version_left.ensures (c.in_err-test_version.ensures.answer files told))
+    (subst (λ (w : State). UnlessMemory e (IsStopped (failed c.args.folder.now) (failed c.test_version.new.folder) e ⊎ IsTested (IsFileIn files) cmp w (Err e))) c.version_left.ensures (c.in_err-test_version.ensures.answer files told))
     (λ h. first_refused (IsTested (IsFileIn files) cmp v) (λ totals (answer : Result (Unit {0}) Fault). answer ≡ Ok tt) e h))
 
 pub returns-in_err-test_version-clause-device : goal.returns-in_err-test_version-clause-device

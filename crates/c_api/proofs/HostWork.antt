@@ -98,7 +98,7 @@ unused (Ok x) next = refl
 unused (Err n) next = refl
 
 -- the answer in an order, by its number
-picked : {A : Type 0} (number : ℕ) (cmp : List ℕ → List ℕ → Ordering) (short_keys : ShortKeys) → IsOrder number cmp short_keys → (f : KeyOrder → ShortKeys → Result A Fault) → by_orders number f ≡ f cmp short_keys
+pub picked : {A : Type 0} (number : ℕ) (cmp : List ℕ → List ℕ → Ordering) (short_keys : ShortKeys) → IsOrder number cmp short_keys → (f : KeyOrder → ShortKeys → Result A Fault) → by_orders number f ≡ f cmp short_keys
 picked number cmp short_keys (inl h) f =
     ap (λ (n : ℕ). by_orders n f) h.0 ∙ ap (λ (c : KeyOrder). f c bytewise_short_keys) (sym h.1) ∙ ap (λ (s : ShortKeys). f cmp s) (sym h.2)
 picked number cmp short_keys (inr h) f =
@@ -108,7 +108,7 @@ abbrev lent_or_misuse : {A : Type 0} → Bool → Result A Fault → Result A �
 lent_or_misuse lent r = if lent then coded r else Err MISUSE
 
 -- an answer that is coded
-coded_ok : {A : Type 0} (r : Result A Fault) (x : A) → coded r ≡ Ok x → r ≡ Ok x
+pub coded_ok : {A : Type 0} (r : Result A Fault) (x : A) → coded r ≡ Ok x → r ≡ Ok x
 coded_ok (Ok y) x h = cc
 coded_ok (Err e) x h = absurd cc
 

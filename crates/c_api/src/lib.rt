@@ -47,6 +47,8 @@ mod room;
 mod run_arrays;
 mod run_entries;
 mod run_places;
+#[cfg(test)]
+mod run_tests;
 mod table_calls;
 #[cfg(test)]
 mod tests;

@@ -29,7 +29,7 @@ static sedvokt_input input(void) {
 }
 
 static const sedvokt_request request = {
-    SEDVOKT_BYTEWISE, 0, 0, 4, 4, 4096, 16, 2097152,
+    SEDVOKT_BYTEWISE, 0, 0, 4, 4, 4096, 16, 2097152, 7,
 };
 
 /* What is lent, with so many of these inputs. */

@@ -18,7 +18,7 @@ using sedvokt::bytes;
 // u@4 del, u@2 put
 const std::string keys("u\0\4\0\0\0\0\0\0u\1\2\0\0\0\0\0\0", 18);
 
-const sedvokt::request asked = {SEDVOKT_BYTEWISE, 0, 0, 4, 4, 4096, 16, 2097152};
+const sedvokt::request asked = {SEDVOKT_BYTEWISE, 0, 0, 4, 4, 4096, 16, 2097152, 7};
 
 sedvokt::input input_of(uint64_t number, size_t size) {
   sedvokt::input it = {};

@@ -47,7 +47,6 @@ static sedvokt_compaction of = {
 };
 static sedvokt_numbers numbers;
 static int asks_closed;
-static uint64_t first_number;
 static sedvokt_file files[MOST_FILES], added[MOST_OUTPUTS];
 static size_t files_len;
 static uint64_t input_numbers[MOST_FILES];
@@ -163,7 +162,7 @@ static void line(const char *name) {
     of.request.restart_interval = number();
     of.request.file_size = number();
   } else if (!strcmp(name, "numbers")) {
-    first_number = number();
+    of.request.first_number = number();
     numbers.log_number = number();
     numbers.previous_log = number();
   } else if (!strcmp(name, "file")) {
@@ -280,12 +279,12 @@ static uint32_t edit(void) {
   for (size_t at = 0; at < outputs_len; at++) {
     const sedvokt_entry *first = entries + outputs[at].first;
     added[at].level = of.request.level + 1;
-    added[at].number = first_number + at;
+    added[at].number = of.request.first_number + at;
     added[at].size = outputs[at].len;
     added[at].smallest = added_key(first);
     added[at].largest = added_key(first + outputs[at].entries - 1);
   }
-  numbers.next_file = first_number + outputs_len;
+  numbers.next_file = of.request.first_number + outputs_len;
   const uint32_t code =
       sedvokt_edit(&of, &numbers, added, outputs_len, room, sizeof room, &len);
   if (code == 0) write_file("EDIT", room, len);
@@ -295,7 +294,8 @@ static uint32_t edit(void) {
 static void put_outputs(void) {
   for (size_t at = 0; at < outputs_len; at++) {
     char name[40];
-    snprintf(name, sizeof name, "%06" PRIu64 ".ldb", first_number + at);
+    snprintf(name, sizeof name, "%06" PRIu64 ".ldb",
+             of.request.first_number + at);
     write_file(name, made + made_at[at], outputs[at].len);
   }
 }

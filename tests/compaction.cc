@@ -40,7 +40,6 @@ void write_file(const std::string& path, const sedvokt::buffer& data) {
 struct asked {
   sedvokt::request request = {};
   sedvokt::numbers numbers = {};
-  uint64_t first_number = 0;
   bool asks_closed = false;
   std::vector<uint64_t> snapshots, input_numbers;
   std::string keys, tables;
@@ -122,7 +121,7 @@ struct asked {
     } else if (name == "options") {
       text >> request.block_size >> request.restart_interval >> request.file_size;
     } else if (name == "numbers") {
-      text >> first_number >> numbers.log_number >> numbers.previous_log;
+      text >> request.first_number >> numbers.log_number >> numbers.previous_log;
     } else if (name == "file") {
       file(text);
     } else if (name == "input") {
@@ -219,13 +218,13 @@ sedvokt::status put(asked& all, sedvokt::parallel<host_threads>& on, const sedvo
     };
     const auto smallest = key(parts[at][0].key);
     const auto largest = key(parts[at][parts[at].size() - 1].key);
-    added.push_back({all.request.level + 1, all.first_number + at, planned[at].len, smallest,
-                     largest});
+    added.push_back({all.request.level + 1, all.request.first_number + at, planned[at].len,
+                     smallest, largest});
     char name[40];
-    std::snprintf(name, sizeof name, "/%06" PRIu64 ".ldb", all.first_number + at);
+    std::snprintf(name, sizeof name, "/%06" PRIu64 ".ldb", all.request.first_number + at);
     write_file(folder + name, tables[at]);
   }
-  all.numbers.next_file = all.first_number + planned.size();
+  all.numbers.next_file = all.request.first_number + planned.size();
   sedvokt::buffer edit;
   const auto answer = sedvokt::edit(all.of(), all.numbers, added, edit);
   if (answer) write_file(folder + "/EDIT", edit);

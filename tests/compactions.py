@@ -227,7 +227,7 @@ class Worked:
         refused = re.match(r"Answer::Refused\(FaultName::(\w+), (?:Some\((\d+)\)|None)",
                            row["answer"])
         if refused:
-            if refused[1] in ("Workers", "Numbers"):
+            if refused[1] == "Workers":
                 return None
             place = f", input {refused[2]}" if refused[2] else ""
             return f"refused: {self.codes[refused[1]]}{place}", {}

@@ -112,11 +112,14 @@ typedef struct sedvokt_input {
 } sedvokt_input;
 
 /* What is asked for. If is_listed isn't 0, the snapshots that are passed stay readable, and each
-   sequence from last_sequence on. Else `oldest` and each later one stay readable. */
+   sequence from last_sequence on. Else `oldest` and each later one stay readable. Outputs get the
+   numbers from first_number on. If you number them only after the plan, give 0, and see to it that
+   the number after the last one's is below 2^64. */
 typedef struct sedvokt_request {
   uint32_t order, is_listed;
   uint64_t level, oldest, last_sequence;
   uint64_t block_size, restart_interval, file_size;
+  uint64_t first_number;
 } sedvokt_request;
 
 /* The version's numbers when the edit is installed. */
@@ -260,8 +263,8 @@ uint32_t sedvokt_merge(const sedvokt_compaction *lent, const sedvokt_range *rang
    how the entries were dealt out to ranges. `room` begins with the outputs then; *len is how many
    they are, also if the answer is ROOM. An output has the entries after those of the one before it,
    and the keys of its first and its last one bound it. MISUSE also if lengths and marks can't be
-   those of a run, though not every wrong run is found; 34 Comparator, 3 Options, 24 TooLarge of an
-   output. */
+   those of a run, though not every wrong run is found; 34 Comparator, 3 Options, 23 Numbers if the
+   number after the last output's would be 2^64, 24 TooLarge of an output. */
 SEDVOKT_CALL(1, 2, 5)
 uint32_t sedvokt_plan(const sedvokt_compaction *lent, const sedvokt_runs *runs,
                       sedvokt_planned *room, size_t room_len, uint64_t *len);

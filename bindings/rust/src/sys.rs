@@ -62,6 +62,7 @@ pub struct Request {
     pub block_size: u64,
     pub restart_interval: u64,
     pub file_size: u64,
+    pub first_number: u64,
 }
 
 /// The version's numbers when the edit is installed.

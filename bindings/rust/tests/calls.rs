@@ -20,6 +20,7 @@ const REQUEST: Request = Request {
     block_size: 4096,
     restart_interval: 16,
     file_size: 2_097_152,
+    first_number: 7,
 };
 
 /// What is lent, without inputs: both entries are kept if sequence 3 stays readable.

@@ -1,5 +1,5 @@
 -- A compaction that a host makes by these calls, and what one thread answers.
-use Rattle.std.proofs.Common.{◌≡◌, ◌≢◌, ℕ, suc, ◌+◌, ◌≤◌, ◌^◌, Bool, true, false, ◌&&◌, List, [], ◌∷◌, ◌++◌, map, take, drop, length, Option, Some, None, Result, Ok, Err, refl, sym, ap, subst, ◌∙◌, inl, inr, arith, ◌-◌}
+use Rattle.std.proofs.Common.{◌≡◌, ◌≢◌, ℕ, suc, ◌+◌, ◌<◌, ◌≤◌, ◌^◌, Bool, true, false, ◌&&◌, List, [], ◌∷◌, ◌++◌, map, take, drop, length, Option, Some, None, Result, Ok, Err, refl, sym, ap, subst, ◌∙◌, inl, inr, arith, ◌-◌}
 use Rattle.std.specs.Prelude.{◌⊎◌, Contains, cond, nat_eq, nat_le, nat_lt, if◌then◌else◌, MatchBool}
 use Rattle.std.specs.Cmp.{IsTotalOrder}
 use Rattle.std.specs.List.{AllByRecursion, filter, list_all}
@@ -54,7 +54,7 @@ use Rattle.c_api.specs.Closed.{are_files, new_file}
 use Rattle.c_api.specs.Codes.{coded}
 use Rattle.c_api.specs.Edits.{edit_reading, edit_with, have_levels, pointed_edit}
 use Rattle.c_api.specs.Files.{has_keys, meta_at, is_key_at}
-use Rattle.c_api.specs.HostWork.{AreCopied, AreLentOutputs, HostWork, IsOrder, KeepsTo, LentOutput, all_answers, and_next, asked_plan, edit_call, entries_lent, files_told, host_result, is_output_lent, merge_of, merges_call, numbered_from, outputs_call, outputs_over, parts_told, plan_call, request_call, tables_call, CallsLaw}
+use Rattle.c_api.specs.HostWork.{AreCopied, AreLentOutputs, HostWork, IsOrder, KeepsTo, LentOutput, all_answers, and_next, asked_edit, asked_plan, edit_call, entries_lent, files_told, host_result, is_output_lent, merge_of, merges_call, numbered_from, outputs_call, outputs_over, parts_told, plan_call, request_call, tables_call, CallsLaw}
 use Rattle.c_api.specs.Hosts.{merges_reading, range_reading, thread_request}
 use Rattle.c_api.specs.Merges.{AskedMerge, are_inputs, grandparents_in, inputs_result, merge_reading, request_result, table_at, AreChecked, merge_answer}
 use Rattle.c_api.specs.Orders.{by_order, by_orders}
@@ -98,7 +98,7 @@ unused (Ok x) next = refl
 unused (Err n) next = refl
 
 -- the answer in an order, by its number
-picked : {A : Type 0} (number : ℕ) (cmp : List ℕ → List ℕ → Ordering) (short_keys : ShortKeys) → IsOrder number cmp short_keys → (f : KeyOrder → ShortKeys → Result A Fault) → by_orders number f ≡ f cmp short_keys
+pub picked : {A : Type 0} (number : ℕ) (cmp : List ℕ → List ℕ → Ordering) (short_keys : ShortKeys) → IsOrder number cmp short_keys → (f : KeyOrder → ShortKeys → Result A Fault) → by_orders number f ≡ f cmp short_keys
 picked number cmp short_keys (inl h) f =
     ap (λ (n : ℕ). by_orders n f) h.0 ∙ ap (λ (c : KeyOrder). f c bytewise_short_keys) (sym h.1) ∙ ap (λ (s : ShortKeys). f cmp s) (sym h.2)
 picked number cmp short_keys (inr h) f =
@@ -108,7 +108,7 @@ abbrev lent_or_misuse : {A : Type 0} → Bool → Result A Fault → Result A �
 lent_or_misuse lent r = if lent then coded r else Err MISUSE
 
 -- an answer that is coded
-coded_ok : {A : Type 0} (r : Result A Fault) (x : A) → coded r ≡ Ok x → r ≡ Ok x
+pub coded_ok : {A : Type 0} (r : Result A Fault) (x : A) → coded r ≡ Ok x → r ≡ Ok x
 coded_ok (Ok y) x h = cc
 coded_ok (Err e) x h = absurd cc
 
@@ -414,7 +414,7 @@ module _ (cmp : List ℕ → List ℕ → Ordering) (total : IsTotalOrder cmp) (
       ws = outputs_from T w.first qs
 
       abbrev told : List PlannedOutput
-      told = outputs_told 0 (planned_from T o 0 qs)
+      told = outputs_told 0 (planned_from T o w.asked.request.first_number qs)
 
       abbrev run : Run
       run = joined_run runs
@@ -431,36 +431,54 @@ module _ (cmp : List ℕ → List ℕ → Ordering) (total : IsTotalOrder cmp) (
           three_true (list_all (has_keys m.keys) (files_of m.inputs)) (list_all (has_keys m.keys) m.deeper) (list_all (is_run w.arrays) w.places) files keeps.deeper
           (runs_lie w.arrays w.places runs copied.within copied.copied (all_told cmp total exact m boundaries keeps.split runs merged))
 
-      plan_is : plan_call w ≡ coded (answer_told (plan_of T o 0 qs))
+      plan_is : plan_call w ≡ coded (answer_told (plan_of T o w.asked.request.first_number qs))
       plan_is =
           ap (λ (b : Bool). lent_or_misuse b (by_orders m.request.order (plan_reading (asked_plan w)))) plan_lent
           ∙ ap (λ (x : Result (List PlannedOutput) Fault). coded x)
           (picked m.request.order cmp short_keys own (plan_reading (asked_plan w))
-          ∙ ap (λ (b : Bool). test_result b Options >>= λ none. answer_told (plan_of T o 0 (outputs_of (grandparents_in cmp m) o (whole_run (asked_plan w))))) limits
-          ∙ ap (λ (rs : List Run). answer_told (plan_of T o 0 (outputs_of (grandparents_in cmp m) o (joined_run rs)))) (runs_back w.arrays w.places runs copied.copied))
+          ∙ ap (λ (b : Bool). test_result b Options >>= λ none. answer_told (plan_of T o w.asked.request.first_number (outputs_of (grandparents_in cmp m) o (whole_run (asked_plan w))))) limits
+          ∙ ap (λ (rs : List Run). answer_told (plan_of T o w.asked.request.first_number (outputs_of (grandparents_in cmp m) o (joined_run rs)))) (runs_back w.arrays w.places runs copied.copied))
 
       abbrev are_short : Bool
       are_short = list_all (λ q. nat_le (length (T q)) (2 ^ 30)) qs
 
+      -- the tests of the outputs: their numbers, and their sizes
+      abbrev numbered : Bool
+      numbered = nat_lt (w.first + length qs) (2 ^ 64)
+
+      -- the plan tests the number that it is told, one thread the host's
+      numbers_same : (w.first ≡ w.asked.request.first_number) ⊎ ((w.asked.request.first_number ≤ w.first) × (w.first + length qs < 2 ^ 64)) → nat_lt (w.asked.request.first_number + length qs) (2 ^ 64) ≡ numbered
+      numbers_same (inl same) = ap (λ (n : ℕ). nat_lt (n + length qs) (2 ^ 64)) (sym same)
+      numbers_same (inr later) =
+          lt-ltb (w.asked.request.first_number + length qs) (2 ^ 64) (omega (arith, later.0, later.1)) ∙ sym (lt-ltb (w.first + length qs) (2 ^ 64) later.1)
+
       abbrev in_limits : Bool
       in_limits = are_short && nat_le (length (parts o qs)) (2 ^ 40)
 
-      plan_by : plan_of T o 0 qs ≡ (test_result in_limits TooLarge >>= λ none. Ok (planned_from T o 0 qs))
-      plan_by =
-          ap (λ (b : Bool). test_result b NoNumbers >>= λ none. (test_result in_limits TooLarge >>= λ none. Ok (planned_from T o 0 qs)))
-          (lt-ltb (0 + length qs) (2 ^ 64) (omega (arith, copied.numbered)))
+      abbrev planned : Bool → Bool → Result (List OutputView) Fault
+      planned numbers limits = test_result numbers NoNumbers >>= λ none. (test_result limits TooLarge >>= λ none. Ok (planned_from T o w.asked.request.first_number qs))
+
+      plan_by : (a b : Bool) → numbered ≡ a → in_limits ≡ b → plan_call w ≡ coded (answer_told (planned a b))
+      plan_by a b number limit =
+          plan_is
+          ∙ ap (λ (x : Bool). coded (answer_told (planned x in_limits))) (numbers_same copied.numbered ∙ number)
+          ∙ ap (λ (x : Bool). coded (answer_told (planned a x))) limit
 
       abbrev answer : Answer
       answer = record { tables = numbered_tables ws; edit = edit_bytes (edit_of r (new_files r ws)) }
 
-      answer_by : outputs_answer r ws ≡ (test_result in_limits TooLarge >>= λ none. Ok answer)
-      answer_by =
+      abbrev answered_by : Bool → Bool → Result Answer Fault
+      answered_by numbers limits = (test_result numbers NoNumbers >>= λ none. test_result limits TooLarge) >>= λ none. Ok answer
+
+      answer_by : (a b : Bool) → numbered ≡ a → in_limits ≡ b → coded (outputs_answer r ws) ≡ coded (answered_by a b)
+      answer_by a b number limit =
           let counted : Bool = nat_le (data_block_count o ws) (2 ^ 40) in
           let short : Bool = list_all (λ (x : Output). nat_le (length x.bytes) (2 ^ 30)) ws in
-          ap (λ (n : ℕ). (test_result (nat_lt (w.first + n) (2 ^ 64)) NoNumbers >>= λ none. test_result (short && counted) TooLarge) >>= λ none. Ok answer) (length_is T o w.first qs)
-          ∙ ap (λ (b : Bool). (test_result b NoNumbers >>= λ none. test_result (short && counted) TooLarge) >>= λ none. Ok answer) (lt-ltb (w.first + length qs) (2 ^ 64) copied.numbered)
-          ∙ ap (λ (b : Bool). test_result (b && counted) TooLarge >>= λ none. Ok answer) (short_is T o w.first qs)
-          ∙ ap (λ (n : ℕ). test_result (are_short && nat_le n (2 ^ 40)) TooLarge >>= λ none. Ok answer) (count_is T o w.first qs)
+          ap (λ (n : ℕ). coded (answered_by (nat_lt (w.first + n) (2 ^ 64)) (short && counted))) (length_is T o w.first qs)
+          ∙ ap (λ (x : Bool). coded (answered_by numbered (x && counted))) (short_is T o w.first qs)
+          ∙ ap (λ (n : ℕ). coded (answered_by numbered (are_short && nat_le n (2 ^ 40)))) (count_is T o w.first qs)
+          ∙ ap (λ (x : Bool). coded (answered_by x in_limits)) number
+          ∙ ap (λ (x : Bool). coded (answered_by a x)) limit
 
       thread_is : thread ≡ outputs_answer r ws
       thread_is =
@@ -491,7 +509,7 @@ module _ (cmp : List ℕ → List ℕ → Ordering) (total : IsTotalOrder cmp) (
 
       module _ (lent : AreLentOutputs w run.kept told) where
         parts_are : parts_told told run.kept ≡ qs
-        parts_are = ap (λ (es : List Entry). parts_told told es) (sym whole) ∙ told_parts T o 0 0 qs
+        parts_are = ap (λ (es : List Entry). parts_told told es) (sym whole) ∙ told_parts T o 0 w.asked.request.first_number qs
 
         outputs_are : are_short ≡ true → outputs_call w ≡ Ok (map T qs)
         outputs_are short =
@@ -512,15 +530,15 @@ module _ (cmp : List ℕ → List ℕ → Ordering) (total : IsTotalOrder cmp) (
             ap (λ (ms : List FileMeta). largest_key cmp ms) (metas_are w.keys level w.files ∙ ap (λ (is : List InputFile). level_metas level is) lent.files_are ∙ sym (metas_are m.keys level (files_of m.inputs)))
             ∙ pointer
 
-        edit_same : edit_with w.keys w.numbers level w.files w.added key ≡ edit_of r (new_files r ws)
+        edit_same : edit_with (asked_edit w) key ≡ edit_of r (new_files r ws)
         edit_same =
             let n : Numbers = w.numbers in
             let is : List InputFile = map (input_file w.keys) w.files in
             let added : List NewFile = map (new_file w.keys) w.added in
             let next : n.next_file ≡ w.first + length (new_files r ws) =
-            lent.next_file ∙ ap (λ (k : ℕ). w.first + k) (told_length T o 0 0 qs ∙ sym (length_is T o w.first qs) ∙ sym (length-map ws (output_file (level + 1)))) in
+            lent.next_file ∙ ap (λ (k : ℕ). w.first + k) (told_length T o 0 w.asked.request.first_number qs ∙ sym (length_is T o w.first qs) ∙ sym (length-map ws (output_file (level + 1)))) in
             let files_same : added ≡ new_files r ws =
-            lent.added_are ∙ ap (λ (xs : List (List Entry)). files_told (level + 1) w.first told xs) parts_are ∙ told_files T o (level + 1) w.first 0 0 qs in
+            lent.added_are ∙ ap (λ (xs : List (List Entry)). files_told (level + 1) w.first told xs) parts_are ∙ told_files T o (level + 1) w.first 0 w.asked.request.first_number qs in
             ap (λ (k : ℕ). edit_by level key n k n.last_sequence is added) next
             ∙ ap (λ (k : ℕ). edit_by level key n (w.first + length (new_files r ws)) k is added) lent.last_sequence
             ∙ ap (λ (xs : List InputFile). edit_by level key n (w.first + length (new_files r ws)) m.request.last_sequence xs added) lent.files_are
@@ -528,38 +546,32 @@ module _ (cmp : List ℕ → List ℕ → Ordering) (total : IsTotalOrder cmp) (
 
         edit_is : edit_call w ≡ Ok (edit_bytes (edit_of r (new_files r ws)))
         edit_is =
-            let n : Numbers = w.numbers in
-            ap (λ (b : Bool). lent_or_misuse b (by_order m.request.order (edit_reading w.keys n level w.files w.added)))
+            ap (λ (b : Bool). lent_or_misuse b (by_order m.request.order (edit_reading (asked_edit w))))
             (three_true (list_all (has_keys w.keys) w.files) (have_levels w.files) (are_files w.keys w.added) lent.files levels lent.added)
             ∙ ap (λ (x : Result (List ℕ) Fault). coded x)
-            (order_is cmp short_keys m own (edit_reading w.keys n level w.files w.added)
-            ∙ ap (λ (b : Bool). if b then Err (fault Level) else pointed_edit w.keys n level w.files w.added (pointer_of cmp w.keys level w.files)) (not_above level is_passed.level)
-            ∙ ap (λ (k : Option (List ℕ)). pointed_edit w.keys n level w.files w.added k) pointer_is
+            (order_is cmp short_keys m own (edit_reading (asked_edit w))
+            ∙ ap (λ (b : Bool). if b then Err (fault Level) else pointed_edit (asked_edit w) w.files (pointer_of cmp w.keys level w.files)) (not_above level is_passed.level)
+            ∙ ap (λ (k : Option (List ℕ)). pointed_edit (asked_edit w) w.files k) pointer_is
             ∙ ap (λ (e : Edit). Ok (edit_bytes e)) edit_same)
 
       -- from the plan on both have one answer
-      ended : (b : Bool) → in_limits ≡ b → behind_merges ≡ coded (outputs_answer r ws)
-      ended false is =
-          ap (λ (x : Result (List PlannedOutput) ℕ). and_next x behind_plan)
-          (plan_is ∙ ap (λ (x : Result (List OutputView) Fault). coded (answer_told x)) plan_by
-          ∙ ap (λ (b : Bool). coded (answer_told (test_result b TooLarge >>= λ none. Ok (planned_from T o 0 qs)))) is)
-          ∙ sym (ap (λ (x : Result Answer Fault). coded x) (answer_by ∙ ap (λ (b : Bool). test_result b TooLarge >>= λ none. Ok answer) is))
-      ended true is =
-          let planned : plan_call w ≡ Ok told =
-          plan_is ∙ ap (λ (x : Result (List OutputView) Fault). coded (answer_told x)) plan_by
-          ∙ ap (λ (b : Bool). coded (answer_told (test_result b TooLarge >>= λ none. Ok (planned_from T o 0 qs)))) is in
-          let lent : AreLentOutputs w run.kept told = keeps.outputs runs told merges_ok planned in
-          let short : are_short ≡ true = (and_parts are_short (nat_le (length (parts o qs)) (2 ^ 40)) is).0 in
-          ap (λ (x : Result (List PlannedOutput) ℕ). and_next x behind_plan) planned
+      ended : (a b : Bool) → numbered ≡ a → in_limits ≡ b → behind_merges ≡ coded (outputs_answer r ws)
+      ended false b number limit = ap (λ (x : Result (List PlannedOutput) ℕ). and_next x behind_plan) (plan_by false b number limit) ∙ sym (answer_by false b number limit)
+      ended true false number limit = ap (λ (x : Result (List PlannedOutput) ℕ). and_next x behind_plan) (plan_by true false number limit) ∙ sym (answer_by true false number limit)
+      ended true true number limit =
+          let done : plan_call w ≡ Ok told = plan_by true true number limit in
+          let lent : AreLentOutputs w run.kept told = keeps.outputs runs told merges_ok done in
+          let short : are_short ≡ true = (and_parts are_short (nat_le (length (parts o qs)) (2 ^ 40)) limit).0 in
+          ap (λ (x : Result (List PlannedOutput) ℕ). and_next x behind_plan) done
           ∙ ap (λ (x : Result (List (List ℕ)) ℕ). and_next x (λ tables. and_next (edit_call w) (λ edit. end tables edit))) (outputs_are lent short)
           ∙ ap (λ (x : Result (List ℕ) ℕ). and_next x (λ edit. end (map T qs) edit)) (edit_is lent)
           ∙ ap (λ (ts : List (ℕ × List ℕ)). Ok (record { tables = ts; edit = edit_bytes (edit_of r (new_files r ws)) })) (numbered_is T o w.first qs)
-          ∙ sym (ap (λ (x : Result Answer Fault). coded x) (answer_by ∙ ap (λ (b : Bool). test_result b TooLarge >>= λ none. Ok answer) is))
+          ∙ sym (answer_by true true number limit)
 
     by_merges : (x : Result (List Run) Fault) → merges_reading cmp w.asked (ranges_of boundaries) ≡ x → behind_tables ≡ coded thread
     by_merges (Ok runs) is =
         ap (λ (x : Result (List Run) ℕ). and_next x (λ runs. behind_merges)) (merges_ok runs is)
-        ∙ ended runs is (in_limits runs is) refl
+        ∙ ended runs is (numbered runs is) (in_limits runs is) refl refl
         ∙ sym (ap (λ (x : Result Answer Fault). coded x) (thread_is runs is))
     by_merges (Err e) is =
         ap (λ (x : Result (List Run) ℕ). and_next x (λ runs. behind_merges)) (merges_are ∙ ap (λ (x : Result (List Run) Fault). coded x) is)

@@ -12,3 +12,4 @@ mod Planned
 mod Hosts
 mod HeldRuns
 mod HostWork
+mod KeptReads

@@ -1,5 +1,5 @@
 -- The steps of the merge of a range.
-use Rattle.std.proofs.Common.{◌≡◌, ℕ, Bool, true, false, ◌&&◌, List, [], ◌∷◌, map, Option, Some, None, Result, Ok, Err, refl, ap, subst}
+use Rattle.std.proofs.Common.{◌≡◌, ℕ, Bool, true, false, ◌&&◌, List, [], ◌∷◌, map, Option, Some, None, Result, Ok, Err, refl, sym, ap, subst}
 use Rattle.std.specs.Prelude.{if◌then◌else◌}
 use Rattle.std.specs.List.{AllByRecursion, list_all}
 use Rattle.std.specs.declared.cmp.Ordering.{Ordering}
@@ -41,7 +41,7 @@ both_true true true h k = refl
 both_true true false h k = absurd cc
 both_true false b h k = absurd cc
 
-three_parts : (a b c : Bool) → (a && b && c) ≡ true → (a ≡ true) × (b ≡ true) × (c ≡ true)
+pub three_parts : (a b c : Bool) → (a && b && c) ≡ true → (a ≡ true) × (b ≡ true) × (c ≡ true)
 three_parts true true true h = (refl, refl, refl)
 three_parts false b c h = absurd cc
 three_parts true false c h = absurd cc
@@ -71,6 +71,12 @@ lent_parts m h =
       deeper = p.1;
       range = p.2;
     }
+
+-- the keys of the files of inputs that are lent, and of the deeper ones
+pub files_lent : (m : AskedMerge) → is_lent m ≡ true → (files : List File) → files ≡ files_of m.inputs → (list_all (has_keys m.keys) files && list_all (has_keys m.keys) m.deeper) ≡ true
+files_lent m lent files same =
+    let p = lent_parts m lent in
+    both_true (list_all (has_keys m.keys) files) (list_all (has_keys m.keys) m.deeper) (subst (λ (fs : List File). list_all (has_keys m.keys) fs ≡ true) (sym same) p.files) p.deeper
 
 -- a request that passed its tests has a compact pointer
 pub pointed : (cmp : List ℕ → List ℕ → Ordering) (keys : List ℕ) (r : HostRequest) (snapshots : Snapshots) (files deeper : List File) (o : Option (List ℕ)) → pointed_test cmp keys r snapshots files deeper o ≡ Ok tt

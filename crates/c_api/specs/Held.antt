@@ -1,5 +1,6 @@
 -- What the code holds, as definitions see it.
-use Rattle.std.specs.Prelude.{◌≡◌, ℕ, Bool, List, [], ◌∷◌, map, filter, Result, Ok, None}
+use Rattle.std.specs.Prelude.{◌≡◌, ℕ, Bool, ◌&&◌, List, [], ◌∷◌, map, filter, Result, Ok, None}
+use Rattle.std.specs.List.{list_all}
 use Rattle.ikey.specs.Answers.{◌>>=◌}
 use Rattle.ikey.specs.fault.Fault.{Fault}
 use Rattle.ikey.specs.Comparator.{KeyOrder}
@@ -8,20 +9,24 @@ use Rattle.table.specs.EncodedEntry.{Entry}
 use Rattle.table.specs.EntryTests.{entries_test}
 use Rattle.table.specs.declared.options.Options as declared
 use Rattle.edit.specs.declared.meta.FileMeta.{FileMeta}
+use Rattle.pick.specs.PickedInputs.{PickedInputs}
 use Rattle.pick.specs.Ranges.{overlaps}
 use Rattle.pick.specs.declared.picked_inputs.Inputs.{Inputs}
 use Rattle.keep.specs.Marks.{CompactionContext, context_of}
 use Rattle.keep.specs.Readable.{floor_of, listed_of}
 use Rattle.c_api.specs.Boundaries.{AreBoundaries, AreChosen, AskedBoundaries, KeyArrays}
 use Rattle.c_api.specs.Boundaries.{arrays_of_keys, key_arrays}
-use Rattle.c_api.specs.Files.{meta_at}
+use Rattle.c_api.specs.Edits.{AskedEdit, edit_over}
+use Rattle.c_api.specs.Files.{has_keys, meta_at}
 use Rattle.c_api.specs.Merges.{AskedMerge}
 use Rattle.c_api.specs.Plans.{AskedPlan, plan_over}
-use Rattle.c_api.specs.Requests.{request_reading, snapshots_of}
+use Rattle.c_api.specs.Requests.{picked_with, request_reading, snapshots_of}
 use Rattle.c_api.specs.ToldRuns.{after_entry}
+use Rattle.c_api.specs.declared.edit_calls.LentEdit.{LentEdit}
 use Rattle.c_api.specs.declared.file.File.{File}
 use Rattle.c_api.specs.declared.key_arrays.KeyArrays as key_lists
 use Rattle.c_api.specs.declared.lent.Lent.{Lent}
+use Rattle.c_api.specs.declared.lent.LentFiles.{LentFiles}
 use Rattle.c_api.specs.declared.plan_calls.LentPlan.{LentPlan}
 use Rattle.c_api.specs.declared.run_arrays.EntryLengths.{EntryLengths}
 
@@ -39,6 +44,10 @@ context_with m inputs = context_of (listed_of m.snapshots)
 abbrev pub plan_in : LentPlan → AskedPlan
 plan_in l = plan_over l.lent.now l.files.now l.runs.now
 
+-- the edit that the code holds
+abbrev pub edit_held : LentEdit → AskedEdit
+edit_held l = edit_over l.lent.now l.files.now l.numbers.now l.added.now
+
 -- the table that is being written after all entries, or the first test that one fails
 abbrev pub entries_reading : declared.Options → List Entry → KeyOrder → Result TableBuilding Fault
 entries_reading o entries cmp = do
@@ -53,10 +62,20 @@ overlaps_at cmp keys metas file = overlaps cmp metas (meta_at keys file)
 abbrev pub near_of : KeyOrder → List ℕ → List File → List File → List File
 near_of cmp keys files deeper = filter (overlaps_at cmp keys (map (meta_at keys) files)) deeper
 
+-- whether all keys of the files, and of the deeper ones, are internal keys that are lent
+abbrev pub have_all_keys : LentFiles → Bool
+have_all_keys l = list_all (has_keys l.lent.now.keys.now) l.files.now
+    && list_all (has_keys l.lent.now.keys.now) l.lent.now.deeper.now
+
 -- the tests of a request without its tables, if the code holds the files of the inputs
-abbrev pub tested_in : Lent → List File → KeyOrder → Result (Unit {0}) Fault
-tested_in l files cmp = request_reading l.keys.now l.request
-    (snapshots_of l.request l.snapshots) files l.deeper.now cmp
+abbrev pub tested_in : LentFiles → KeyOrder → Result (Unit {0}) Fault
+tested_in l cmp = request_reading l.lent.now.keys.now l.lent.now.request
+    (snapshots_of l.lent.now.request l.lent.now.snapshots) l.files.now l.lent.now.deeper.now cmp
+
+-- the inputs with this compact pointer, if the code holds their files
+abbrev pub picked_over : KeyOrder → LentFiles → List ℕ → PickedInputs
+picked_over cmp l key = picked_with cmp l.lent.now.keys.now l.lent.now.request.level l.files.now
+    l.lent.now.deeper.now key
 
 -- the arrays that the code holds
 abbrev pub keys_in : key_lists.KeyArrays → KeyArrays

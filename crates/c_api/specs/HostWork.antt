@@ -1,6 +1,6 @@
 -- A compaction that a host makes by these calls, from the tests of its request to its edit.
-use Rattle.std.specs.Prelude.{◌≡◌, ◌⊎◌, ℕ, ◌+◌, ◌<◌, ◌^◌, Bool, true, List, [], ◌∷◌, ◌++◌, length}
-use Rattle.std.specs.Prelude.{map, take, drop, Some, Result, Ok, Err}
+use Rattle.std.specs.Prelude.{◌≡◌, ◌⊎◌, ℕ, ◌+◌, ◌<◌, ◌≤◌, ◌^◌, Bool, true, List, [], ◌∷◌, ◌++◌}
+use Rattle.std.specs.Prelude.{length, map, take, drop, Some, Result, Ok, Err}
 use Rattle.std.specs.List.{list_all}
 use Rattle.ikey.specs.Bytewise.{bytewise_cmp, bytewise_short_keys}
 use Rattle.ikey.specs.Shortlex.{shortlex_cmp, shortlex_short_keys}
@@ -16,7 +16,7 @@ use Rattle.compact.specs.OneThread.{Answer, one_thread}
 use Rattle.c_api.specs.Boundaries.{AreBoundaries, AskedBoundaries, boundaries_test}
 use Rattle.c_api.specs.Closed.{are_files, new_file}
 use Rattle.c_api.specs.Codes.{coded}
-use Rattle.c_api.specs.Edits.{edit_answer}
+use Rattle.c_api.specs.Edits.{AskedEdit, edit_answer}
 use Rattle.c_api.specs.Files.{has_keys}
 use Rattle.c_api.specs.Hosts.{thread_request}
 use Rattle.c_api.specs.Merges.{AreChecked, AskedMerge, are_inputs, grandparents_in, merge_answer}
@@ -108,10 +108,20 @@ abbrev pub outputs_call : HostWork → Result (List (List ℕ)) ℕ
 outputs_call w = all_answers
     (λ (o : LentOutput). output_answer w.asked.request o.keys o.values o.entries) w.outputs
 
+-- the edit that is asked for
+abbrev pub asked_edit : HostWork → AskedEdit
+asked_edit w = record {
+  order = w.asked.request.order;
+  level = w.asked.request.level;
+  keys = w.keys;
+  numbers = w.numbers;
+  files = w.files;
+  added = w.added;
+}
+
 -- the edit
 abbrev pub edit_call : HostWork → Result (List ℕ) ℕ
-edit_call w = edit_answer w.asked.request.order w.keys w.numbers w.asked.request.level w.files
-    w.added
+edit_call w = edit_answer (asked_edit w)
 
 -- tables with numbers from `number` on
 abbrev pub numbered_from : ℕ → List (List ℕ) → List (ℕ × List ℕ)
@@ -162,11 +172,14 @@ abbrev pub outputs_over : KeyOrder → AskedMerge → List Run → List (List En
 outputs_over cmp m runs =
     outputs_of (grandparents_in cmp m) (options_of m.request) (joined_run runs)
 
--- A host has copied runs into its arrays, each to its places, and has a number for each output.
+-- A host has copied runs into its arrays, each to its places. It numbers outputs from the number on
+-- that the plan was told; or from a later one, and then there is a number for each.
 pub record AreCopied (cmp : KeyOrder) (w : HostWork) (runs : List Run) : Type 0 where
   pub within : list_all (has_parts w.arrays) w.places ≡ true
   pub copied : map (arrays_at w.arrays) w.places ≡ map arrays_of runs
-  pub numbered : w.first + length (outputs_over cmp w.asked runs) < 2 ^ 64
+  pub numbered : (w.first ≡ w.asked.request.first_number)
+      ⊎ ((w.asked.request.first_number ≤ w.first)
+      × (w.first + length (outputs_over cmp w.asked runs) < 2 ^ 64))
 
 -- A host lends for each planned output its entries. It passes the outputs as new files of the next
 -- level, the inputs as they are, as next file the number after the outputs, and the last sequence

@@ -17,6 +17,7 @@ pub mod Outputs
 pub mod Edits
 pub mod Hosts
 pub mod HostWork
+pub mod KeptReads
 -- serves proofs alone
 pub mod InputTables
 pub mod Held

@@ -79,8 +79,8 @@ answer_told planned = planned >>= λ outputs. Ok (outputs_told 0 outputs)
 abbrev pub plan_reading : AskedPlan → KeyOrder → ShortKeys → Result (List PlannedOutput) Fault
 plan_reading m cmp short_keys = do
   _ ← test_result (are_in_limits (options_of m.request)) Options
-  answer_told (plan_of (table cmp short_keys (options_of m.request)) (options_of m.request) 0
-      (outputs_of (planned_over cmp m) (options_of m.request) (whole_run m)))
+  answer_told (plan_of (table cmp short_keys (options_of m.request)) (options_of m.request)
+      m.request.first_number (outputs_of (planned_over cmp m) (options_of m.request) (whole_run m)))
 
 -- the same in the request's order; MISUSE if a place isn't lent or a run isn't told
 abbrev pub plan_answer : AskedPlan → Result (List PlannedOutput) ℕ

@@ -1,14 +1,13 @@
 //! The bytes of the version edit.
 
-ghost use Rattle.std.specs.Prelude.{◌≡◌, ◌≤◌, true, map, Ok, IfOk};
-ghost use Rattle.std.specs.List.{list_all};
+ghost use Rattle.std.specs.Prelude.{◌≡◌, ◌≤◌, true, Ok, IfOk};
 ghost use Rattle.ikey.specs.Answers.{EqualOrMemory};
 ghost use Rattle.edit.specs.Edit.{HasShortName, HasValidLevels, edit_bytes, edit_in};
 ghost use Rattle.pick.specs.declared.input_choice.TheConstants.{LAST_INPUT_LEVEL};
-ghost use Rattle.c_api.specs.Closed.{are_files as are_levelled};
-ghost use Rattle.c_api.specs.Edits.{edit_answer, edit_reading, edit_with as edit_with_key};
-ghost use Rattle.c_api.specs.Edits.{have_levels as have_low_levels};
-ghost use Rattle.c_api.specs.Files.{has_keys as has_both};
+ghost use Rattle.c_api.specs.Edits.{edit_answer, edit_over, edit_reading};
+ghost use Rattle.c_api.specs.Edits.{edit_with as edit_with_key, have_levels as have_low_levels};
+ghost use Rattle.c_api.specs.Edits.{is_edit_lent};
+ghost use Rattle.c_api.specs.Held.{edit_held};
 ghost use Rattle.c_api.specs.Orders.{by_order};
 ghost use Rattle.c_api.specs.Requests.{files_of as all_files};
 ghost use Rattle.c_api.specs.Rooms.{IsWrittenOrMemory};
@@ -40,6 +39,27 @@ pub struct Numbers {
     pub last_sequence: u64,
 }
 
+/// What an edit is asked for, and where that lies.
+#[derive(Clone, Copy)]
+pub(crate) struct LentEdit<'a> {
+    pub lent: &'a Lent<'a, 'a>,
+    pub numbers: &'a Numbers,
+    /// The files of the inputs.
+    pub files: &'a [File],
+    pub added: &'a [File],
+}
+
+impl<'a> LentEdit<'a> {
+    /// Whether all keys lie in what is lent, and all levels are from 0 to 6.
+    fn is_lent(&self) -> bool
+        ensures { result ≡ is_edit_lent (edit_held self.now) }
+    {
+        have_keys(self.lent.keys, self.files)
+            && have_levels(self.files)
+            && are_files(self.lent.keys, self.added)
+    }
+}
+
 /// Writes the bytes of the edit of a compaction into `room`: the inputs go, and `added` come. `len`
 /// is how many bytes they are, also if `room` is too small.
 #[unsafe(no_mangle)]
@@ -51,27 +71,22 @@ pub extern "C" fn proved_edit(
     room: &mut [u8],
     len: &mut u64,
 ) -> u32
-    ensures answer { IsWrittenOrMemory result room.old room.new len.old len.new
-        (edit_answer lent.now.request.order lent.now.keys.now numbers.now lent.now.request.level
-        (all_files lent.now.inputs.now) added.now) }
+    ensures answer { IsWrittenOrMemory result room.old room.new len.old len.new (edit_answer
+        (edit_over lent.now (all_files lent.now.inputs.now) numbers.now added.now)) }
 {
     let Ok(files) = files_of(alloc, lent.inputs) else {
         return MEMORY;
     };
-    let keys = lent.keys;
-    if !have_keys(keys, &files) || !have_levels(&files) || !are_files(keys, added) {
+    let asked = LentEdit {
+        lent,
+        numbers,
+        files: &files,
+        added,
+    };
+    if !asked.is_lent() {
         return MISUSE;
     }
-    let request = &lent.request;
-    match edit_by(
-        alloc,
-        request.order,
-        request.level,
-        numbers,
-        keys,
-        &files,
-        added,
-    ) {
+    match edit_by(alloc, &asked) {
         Ok(bytes) => put(&bytes, room, len),
         Err(fault) => code_of(fault),
     }
@@ -84,100 +99,63 @@ fn have_levels(files: &[File]) -> bool
     files.iter().all(|file| file.level <= LAST_LEVEL)
 }
 
-/// The bytes of the edit, in the order of this number.
-fn edit_by(
-    alloc: Global,
-    order: u32,
-    level: u64,
-    numbers: &Numbers,
-    keys: &[u8],
-    files: &[File],
-    added: &[File],
-) -> Result<Vec<u8>, Fault>
-    requires keys { list_all (has_both keys.now) files.now ≡ true }
-    requires levels { have_low_levels files.now ≡ true }
-    requires added { are_levelled keys.now added.now ≡ true }
-    ensures { EqualOrMemory (λ bytes. bytes.items) result (by_order order
-        (edit_reading keys.now numbers.now level files.now added.now)) }
+/// The bytes of the edit, in the request's order.
+fn edit_by(alloc: Global, asked: &LentEdit<'_>) -> Result<Vec<u8>, Fault>
+    requires { is_edit_lent (edit_held asked.now) ≡ true }
+    ensures { EqualOrMemory (λ bytes. bytes.items) result
+        (by_order asked.now.lent.now.request.order (edit_reading (edit_held asked.now))) }
 {
-    match order {
-        BYTEWISE => edit_of::<Bytewise>(alloc, level, numbers, keys, files, added),
-        SHORTLEX => edit_of::<Shortlex>(alloc, level, numbers, keys, files, added),
+    match asked.lent.request.order {
+        BYTEWISE => edit_of::<Bytewise>(alloc, asked),
+        SHORTLEX => edit_of::<Shortlex>(alloc, asked),
         _ => Err(Fault::of(FaultName::Comparator)),
     }
 }
 
 /// The bytes of the edit.
-fn edit_of<C: Comparator>(
-    alloc: Global,
-    level: u64,
-    numbers: &Numbers,
-    keys: &[u8],
-    files: &[File],
-    added: &[File],
-) -> Result<Vec<u8>, Fault>
-    requires keys { list_all (has_both keys.now) files.now ≡ true }
-    requires levels { have_low_levels files.now ≡ true }
-    requires added { are_levelled keys.now added.now ≡ true }
+fn edit_of<C: Comparator>(alloc: Global, asked: &LentEdit<'_>) -> Result<Vec<u8>, Fault>
+    requires { is_edit_lent (edit_held asked.now) ≡ true }
     ensures { EqualOrMemory (λ bytes. bytes.items) result
-        (edit_reading keys.now numbers.now level files.now added.now C.cmp) }
+        (edit_reading (edit_held asked.now) C.cmp) }
 {
+    let level = asked.lent.request.level;
     if level > LAST_INPUT_LEVEL {
         return Err(Fault::of(FaultName::Level));
     }
-    match pointer_of::<C>(alloc, keys, level, files)? {
-        Some(pointer) => encoded(alloc, level, numbers, keys, files, added, pointer),
-        None if files.is_empty() => Err(Fault::of(FaultName::NoInput)),
+    match pointer_of::<C>(alloc, asked.lent.keys, level, asked.files)? {
+        Some(pointer) => encoded(alloc, asked, pointer),
+        None if asked.files.is_empty() => Err(Fault::of(FaultName::NoInput)),
         None => Err(Fault::of(FaultName::Level)),
     }
 }
 
 /// The bytes of the edit whose compact pointer is known.
-fn encoded(
-    alloc: Global,
-    level: u64,
-    numbers: &Numbers,
-    keys: &[u8],
-    files: &[File],
-    added: &[File],
-    pointer: KeyBuf,
-) -> Result<Vec<u8>, Fault>
-    requires low { level ≤ LAST_INPUT_LEVEL }
-    requires keys { list_all (has_both keys.now) files.now ≡ true }
-    requires levels { have_low_levels files.now ≡ true }
-    requires added { are_levelled keys.now added.now ≡ true }
+fn encoded(alloc: Global, asked: &LentEdit<'_>, pointer: KeyBuf) -> Result<Vec<u8>, Fault>
+    requires low { asked.now.lent.now.request.level ≤ LAST_INPUT_LEVEL }
+    requires lent { is_edit_lent (edit_held asked.now) ≡ true }
     ensures { EqualOrMemory (λ bytes. bytes.items) result
-        (Ok (edit_bytes (edit_with_key keys.now numbers.now level files.now added.now pointer))) }
+        (Ok (edit_bytes (edit_with_key (edit_held asked.now) pointer))) }
 {
-    let edit = edit_with(alloc, level, numbers, keys, files, added, pointer)?;
+    let edit = edit_with(alloc, asked, pointer)?;
     edit.encode(alloc)
 }
 
 /// The edit whose compact pointer is known.
-fn edit_with(
-    alloc: Global,
-    level: u64,
-    numbers: &Numbers,
-    keys: &[u8],
-    files: &[File],
-    added: &[File],
-    pointer: KeyBuf,
-) -> Result<VersionEdit, Fault>
-    requires low { level ≤ LAST_INPUT_LEVEL }
-    requires keys { list_all (has_both keys.now) files.now ≡ true }
-    requires levels { have_low_levels files.now ≡ true }
-    requires added { are_levelled keys.now added.now ≡ true }
-    ensures edit { EqualOrMemory edit_in result
-        (Ok (edit_with_key keys.now numbers.now level files.now added.now pointer)) }
+fn edit_with(alloc: Global, asked: &LentEdit<'_>, pointer: KeyBuf) -> Result<VersionEdit, Fault>
+    requires low { asked.now.lent.now.request.level ≤ LAST_INPUT_LEVEL }
+    requires lent { is_edit_lent (edit_held asked.now) ≡ true }
+    ensures edit { EqualOrMemory edit_in result (Ok (edit_with_key (edit_held asked.now) pointer)) }
     ensures levels { IfOk result (λ edit. HasValidLevels (edit_in edit)) }
     ensures name { IfOk result (λ edit. HasShortName (edit_in edit)) }
 {
-    let inputs = input_files(alloc, keys, files)?;
+    let keys = asked.lent.keys;
+    let numbers = asked.numbers;
+    let inputs = input_files(alloc, keys, asked.files)?;
     let deleted = deletions_of(alloc, &inputs)?;
-    let added = new_files(alloc, keys, added)?;
+    let added = new_files(alloc, keys, asked.added)?;
     let mut pointers = Vec::new(alloc);
     pointers.push(CompactPointer {
-        level,
+        level: asked.lent.request.level,
         key: pointer,
     })?;
     Ok(VersionEdit {

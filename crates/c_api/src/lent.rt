@@ -1,6 +1,7 @@
 //! What is lent to the calls of a compaction.
 
 ghost use Rattle.std.specs.Prelude.{◌≡◌};
+ghost use Rattle.c_api.specs.Held.{have_all_keys};
 ghost use Rattle.c_api.specs.Merges.{are_inputs as are_within, asked_in};
 ghost use Rattle.c_api.specs.Merges.{is_lent as lies_lent};
 
@@ -28,6 +29,22 @@ pub struct Lent<'a, 't> {
     pub deeper: &'a [File],
     /// The range that is merged.
     pub range: UserRange,
+}
+
+/// What is lent, and the files of its inputs.
+#[derive(Clone, Copy)]
+pub(crate) struct LentFiles<'a> {
+    pub lent: &'a Lent<'a, 'a>,
+    pub files: &'a [File],
+}
+
+impl<'a> LentFiles<'a> {
+    /// Whether all keys of the files, and of the deeper ones, are internal keys.
+    pub(crate) fn have_keys(&self) -> bool
+        ensures { result ≡ have_all_keys self.now }
+    {
+        have_keys(self.lent.keys, self.files) && have_keys(self.lent.keys, self.lent.deeper)
+    }
 }
 
 /// Whether all inputs lie in what is lent.

@@ -20,7 +20,8 @@
 //! that hold the runs of all ranges (`run_at`).
 //!
 //! [`calls_law`] is the law that a host which makes these calls has at the end what one thread
-//! answers; [`host_law`] is the part of it that is about the merges of the ranges.
+//! answers; [`host_law`] is the part of it that is about the merges of the ranges. By
+//! [`calls_keep_reads`] the reads of the host's version survive.
 #![tactic(auto)]
 
 mod boundary_calls;
@@ -46,6 +47,8 @@ mod room;
 mod run_arrays;
 mod run_entries;
 mod run_places;
+#[cfg(test)]
+mod run_tests;
 mod table_calls;
 #[cfg(test)]
 mod tests;
@@ -57,7 +60,7 @@ pub use closed_calls::{FilePlace, proved_check_closed};
 pub use code::{DONE, MEMORY, MISUSE, OPEN_INPUTS, ROOM};
 pub use edit_calls::{Numbers, proved_edit};
 pub use file::File;
-pub use host_laws::{calls_law, host_law};
+pub use host_laws::{calls_keep_reads, calls_law, host_law};
 pub use input::{Counts, Input};
 pub use key_arrays::KeysSize;
 pub use lent::Lent;

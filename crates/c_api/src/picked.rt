@@ -10,12 +10,13 @@ ghost use Rattle.pick.specs.PickedInputs.{picked_in};
 ghost use Rattle.pick.specs.Ranges.{begins_by as is_begun, ends_at_or_after as is_ended};
 ghost use Rattle.c_api.specs.Files.{has_keys as has_both, meta_at as stated_at};
 ghost use Rattle.pick.specs.Ranges.{overlaps as is_overlapping};
-ghost use Rattle.c_api.specs.Held.{near_of, overlaps_at};
+ghost use Rattle.c_api.specs.Held.{have_all_keys, near_of, overlaps_at, picked_over};
 ghost use Rattle.c_api.specs.Requests.{files_of as all_files, grandparents_of as overlapped};
-ghost use Rattle.c_api.specs.Requests.{input_file, metas_of as stated_of, picked_with as picked_by};
+ghost use Rattle.c_api.specs.Requests.{input_file, metas_of as stated_of};
 
 use crate::file::{File, has_keys, key_at, meta_at};
 use crate::input::Input;
+use crate::lent::LentFiles;
 use edit::{CompactPointer, FileMeta};
 use ikey::{Comparator, Fault, KeyBuf};
 use pick::{InputFile, Inputs, LAST_INPUT_LEVEL};
@@ -185,81 +186,87 @@ fn overlapping<C: Comparator>(
     Ok(found)
 }
 
-/// The deeper files whose range overlaps that of `files`. The others change nothing of a merge.
+/// The deeper files whose range overlaps that of the inputs. The others change nothing of a merge.
 pub(crate) fn near_files<C: Comparator>(
     alloc: Global,
-    keys: &[u8],
-    files: &[File],
-    deeper: &[File],
+    asked: &LentFiles<'_>,
 ) -> Result<Vec<File>, Fault>
-    requires files { list_all (has_both keys.now) files.now ≡ true }
-    requires deeper { list_all (has_both keys.now) deeper.now ≡ true }
-    ensures { EqualOrMemory (λ near. near.items) result
-        (Ok (near_of C.cmp keys.now files.now deeper.now)) }
+    requires { have_all_keys asked.now ≡ true }
+    ensures { EqualOrMemory (λ near. near.items) result (Ok (near_of C.cmp
+        asked.now.lent.now.keys.now asked.now.files.now asked.now.lent.now.deeper.now)) }
 {
-    let all = metas_at(alloc, keys, files)?;
-    overlapping::<C>(alloc, keys, &all, deeper)
+    let keys = asked.lent.keys;
+    let all = metas_at(alloc, keys, asked.files)?;
+    overlapping::<C>(alloc, keys, &all, asked.lent.deeper)
 }
 
-/// What the version states of the deeper files of a level whose range overlaps that of `files`.
+/// What the version states of the deeper files of a level whose range overlaps that of the inputs.
 fn near_metas<C: Comparator>(
     alloc: Global,
-    keys: &[u8],
+    asked: &LentFiles<'_>,
     level: u64,
-    files: &[File],
-    deeper: &[File],
 ) -> Result<Vec<FileMeta>, Fault>
-    requires files { list_all (has_both keys.now) files.now ≡ true }
-    requires deeper { list_all (has_both keys.now) deeper.now ≡ true }
-    ensures { EqualOrMemory (λ found. found.items) result
-        (Ok (filter (is_overlapping C.cmp (map (stated_at keys.now) files.now))
-        (stated_of keys.now level deeper.now))) }
+    requires { have_all_keys asked.now ≡ true }
+    ensures { EqualOrMemory (λ found. found.items) result (Ok (filter (is_overlapping C.cmp
+        (map (stated_at asked.now.lent.now.keys.now) asked.now.files.now))
+        (stated_of asked.now.lent.now.keys.now level asked.now.lent.now.deeper.now))) }
 {
-    let near = near_files::<C>(alloc, keys, files, deeper)?;
-    metas_of(alloc, keys, level, &near)
+    let near = near_files::<C>(alloc, asked)?;
+    metas_of(alloc, asked.lent.keys, level, &near)
 }
 
-/// The grandparents: of the deeper files those of level + 2 whose range overlaps that of `files`.
+/// The grandparents: of the deeper files those of level + 2 whose range overlaps that of the
+/// inputs.
 pub(crate) fn grandparents_of<C: Comparator>(
     alloc: Global,
-    keys: &[u8],
-    level: u64,
-    files: &[File],
-    deeper: &[File],
+    asked: &LentFiles<'_>,
 ) -> Result<Vec<FileMeta>, Fault>
-    requires files { list_all (has_both keys.now) files.now ≡ true }
-    requires deeper { list_all (has_both keys.now) deeper.now ≡ true }
-    ensures { EqualOrMemory (λ found. found.items) result
-        (Ok (overlapped C.cmp keys.now level files.now deeper.now)) }
+    requires { have_all_keys asked.now ≡ true }
+    ensures { EqualOrMemory (λ found. found.items) result (Ok (overlapped C.cmp
+        asked.now.lent.now.keys.now asked.now.lent.now.request.level asked.now.files.now
+        asked.now.lent.now.deeper.now)) }
 {
+    let level = asked.lent.request.level;
     if level > LAST_INPUT_LEVEL {
         return Ok(Vec::new(alloc));
     }
-    near_metas::<C>(alloc, keys, level + 2, files, deeper)
+    near_metas::<C>(alloc, asked, level + 2)
 }
 
-/// The inputs, and what is known of the deeper files. `pointer` is the new compact pointer.
-pub(crate) fn picked_with<C: Comparator>(
+/// The inputs, without the deeper files: the tests of a request read the grandparents alone.
+/// `pointer` is the new compact pointer.
+pub(crate) fn tested_inputs<C: Comparator>(
     alloc: Global,
-    keys: &[u8],
-    level: u64,
-    files: &[File],
-    deeper: &[File],
+    asked: &LentFiles<'_>,
     pointer: KeyBuf,
 ) -> Result<Inputs, Fault>
-    requires files { list_all (has_both keys.now) files.now ≡ true }
-    requires deeper { list_all (has_both keys.now) deeper.now ≡ true }
+    requires { have_all_keys asked.now ≡ true }
     ensures { EqualOrMemory picked_in result
-        (Ok (picked_by C.cmp keys.now level files.now deeper.now pointer)) }
+        (Ok (record (picked_over C.cmp asked.now pointer) { deeper = [] })) }
 {
+    let level = asked.lent.request.level;
     Ok(Inputs {
         level,
-        files: input_files(alloc, keys, files)?,
-        grandparents: grandparents_of::<C>(alloc, keys, level, files, deeper)?,
-        deeper: metas_at(alloc, keys, deeper)?,
+        files: input_files(alloc, asked.lent.keys, asked.files)?,
+        grandparents: grandparents_of::<C>(alloc, asked)?,
+        deeper: Vec::new(alloc),
         pointer: CompactPointer {
             level,
             key: pointer,
         },
     })
+}
+
+/// The inputs, and what is known of the deeper files.
+pub(crate) fn picked_with<C: Comparator>(
+    alloc: Global,
+    asked: &LentFiles<'_>,
+    pointer: KeyBuf,
+) -> Result<Inputs, Fault>
+    requires { have_all_keys asked.now ≡ true }
+    ensures { EqualOrMemory picked_in result (Ok (picked_over C.cmp asked.now pointer)) }
+{
+    let mut picked = tested_inputs::<C>(alloc, asked, pointer)?;
+    picked.deeper = metas_at(alloc, asked.lent.keys, asked.lent.deeper)?;
+    Ok(picked)
 }

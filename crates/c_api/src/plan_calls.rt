@@ -16,7 +16,7 @@ ghost use Rattle.c_api.specs.Rooms.{IsWrittenOrMemory};
 
 use crate::code::{MEMORY, MISUSE, code_of};
 use crate::file::File;
-use crate::lent::Lent;
+use crate::lent::{Lent, LentFiles};
 use crate::order::{BYTEWISE, SHORTLEX};
 use crate::picked::{files_of, grandparents_of, have_keys};
 use crate::room::put;
@@ -126,25 +126,35 @@ fn planned<C: Comparator>(alloc: Global, asked: &LentPlan<'_>) -> Result<Vec<Pla
     if !options.are_in_limits() {
         return Err(Fault::of(FaultName::Options));
     }
-    let level = lent.request.level;
-    let grandparents = grandparents_of::<C>(alloc, lent.keys, level, asked.files, lent.deeper)?;
+    let files = LentFiles {
+        lent,
+        files: asked.files,
+    };
+    let grandparents = grandparents_of::<C>(alloc, &files)?;
     let runs = asked.runs.arrays.runs(alloc, asked.runs.runs)?;
-    outputs_of::<C>(alloc, &runs, &grandparents, options)
+    outputs_of::<C>(
+        alloc,
+        &runs,
+        &grandparents,
+        options,
+        lent.request.first_number,
+    )
 }
 
-/// The outputs of runs.
+/// The outputs of runs, numbered from this number on.
 fn outputs_of<C: Comparator>(
     alloc: Global,
     runs: &[RangeRun<'_>],
     grandparents: &[FileMeta],
     options: Options,
+    first_number: u64,
 ) -> Result<Vec<PlannedOutput>, Fault>
     requires { AreInLimits options }
     ensures { EqualOrMemory (λ outputs. outputs.items) result
-        (answer_told (plan_of (table C.cmp C.short_keys options) options 0
+        (answer_told (plan_of (table C.cmp C.short_keys options) options first_number
         (cut_in grandparents.now options (joined_run runs.now)))) }
 {
-    let plan = plan::<C>(alloc, runs, grandparents, options, 0)?;
+    let plan = plan::<C>(alloc, runs, grandparents, options, first_number)?;
     told_of::<C>(alloc, &plan)
 }
 

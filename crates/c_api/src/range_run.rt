@@ -16,7 +16,7 @@ ghost use Rattle.c_api.specs.Requests.{files_of as all_files};
 
 use crate::file::File;
 use crate::input_tables::cursors_over;
-use crate::lent::Lent;
+use crate::lent::{Lent, LentFiles};
 use crate::order::{BYTEWISE, SHORTLEX};
 use crate::picked::{files_of, near_files, picked_with};
 use crate::request_calls::tested;
@@ -52,7 +52,11 @@ fn tested_run<'t, C: Comparator + 't>(
     ensures { EqualOrMemory (λ run. run) result (merge_reading (asked_in lent.now) C.cmp) }
 {
     let files = files_of(alloc, lent.inputs)?;
-    let near = near_files::<C>(alloc, lent.keys, &files, lent.deeper)?;
+    let asked = LentFiles {
+        lent: &*lent,
+        files: &files,
+    };
+    let near = near_files::<C>(alloc, &asked)?;
     let few = Lent {
         deeper: &near,
         ..*lent
@@ -81,7 +85,8 @@ fn test<C: Comparator>(alloc: Global, lent: &Lent<'_, '_>, files: &[File]) -> Re
     requires files { files.now ≡ all_files lent.now.inputs.now }
     ensures { EqualOrMemory (λ none. none) result (request_result (asked_in lent.now) C.cmp) }
 {
-    tested::<C>(alloc, lent, files)
+    let asked = LentFiles { lent, files };
+    tested::<C>(alloc, &asked)
 }
 
 /// The run of a range, if the request passed its tests.
@@ -112,9 +117,9 @@ fn inputs_of<C: Comparator>(
     ensures { EqualOrMemory (context_with (asked_in lent.now)) result
         (Ok (context_at C.cmp (asked_in lent.now))) }
 {
-    let level = lent.request.level;
     let any = KeyBuf::new(alloc, &[], 0, Kind::Put)?;
-    picked_with::<C>(alloc, lent.keys, level, files, lent.deeper, any)
+    let asked = LentFiles { lent, files };
+    picked_with::<C>(alloc, &asked, any)
 }
 
 /// The run of a range. `picked` says which files are deeper.

@@ -24,6 +24,8 @@ pub struct HostRequest {
     pub block_size: u64,
     pub restart_interval: u64,
     pub file_size: u64,
+    /// The number of the first output; any if the host numbers them after the plan.
+    pub first_number: u64,
 }
 
 impl HostRequest {

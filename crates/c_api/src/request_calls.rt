@@ -1,11 +1,9 @@
 //! The tests of a request without its tables.
 
 ghost use Rattle.std.specs.Prelude.{◌≡◌, true, map, Ok};
-ghost use Rattle.std.specs.List.{list_all};
 ghost use Rattle.ikey.specs.Answers.{EqualOrMemory};
 ghost use Rattle.c_api.specs.Codes.{IsAnswerOrMemory};
-ghost use Rattle.c_api.specs.Files.{has_keys as has_both};
-ghost use Rattle.c_api.specs.Held.{tested_in};
+ghost use Rattle.c_api.specs.Held.{have_all_keys, tested_in};
 ghost use Rattle.c_api.specs.Orders.{by_order};
 ghost use Rattle.c_api.specs.Requests.{files_of as all_files, request_answer};
 ghost use Rattle.c_api.specs.Requests.{no_table, request_with, snapshots_of};
@@ -13,9 +11,9 @@ ghost use Rattle.compact.specs.Request.{request_test};
 
 use crate::code::{DONE, MEMORY, MISUSE, code_of};
 use crate::file::File;
-use crate::lent::Lent;
+use crate::lent::{Lent, LentFiles};
 use crate::order::{BYTEWISE, SHORTLEX};
-use crate::picked::{files_of, have_keys, picked_with, pointer_of};
+use crate::picked::{files_of, pointer_of, tested_inputs};
 use compact::Request;
 use ikey::{Bytewise, Comparator, Fault, FaultName, KeyBuf, Shortlex};
 use std::alloc::Global;
@@ -30,42 +28,41 @@ pub extern "C" fn proved_check_request(alloc: Global, lent: &Lent<'_, '_>) -> u3
     let Ok(files) = files_of(alloc, lent.inputs) else {
         return MEMORY;
     };
-    if !have_keys(lent.keys, &files) || !have_keys(lent.keys, lent.deeper) {
+    let asked = LentFiles {
+        lent,
+        files: &files,
+    };
+    if !asked.have_keys() {
         return MISUSE;
     }
-    match tested_by(alloc, lent, &files) {
+    match tested_by(alloc, &asked) {
         Ok(()) => DONE,
         Err(fault) => code_of(fault),
     }
 }
 
 /// The tests of a request in its order.
-fn tested_by(alloc: Global, lent: &Lent<'_, '_>, files: &[File]) -> Result<(), Fault>
-    requires files { list_all (has_both lent.now.keys.now) files.now ≡ true }
-    requires deeper { list_all (has_both lent.now.keys.now) lent.now.deeper.now ≡ true }
+fn tested_by(alloc: Global, asked: &LentFiles<'_>) -> Result<(), Fault>
+    requires { have_all_keys asked.now ≡ true }
     ensures { EqualOrMemory (λ none. none) result
-        (by_order lent.now.request.order (tested_in lent.now files.now)) }
+        (by_order asked.now.lent.now.request.order (tested_in asked.now)) }
 {
-    match lent.request.order {
-        BYTEWISE => tested::<Bytewise>(alloc, lent, files),
-        SHORTLEX => tested::<Shortlex>(alloc, lent, files),
+    match asked.lent.request.order {
+        BYTEWISE => tested::<Bytewise>(alloc, asked),
+        SHORTLEX => tested::<Shortlex>(alloc, asked),
         _ => Err(Fault::of(FaultName::Comparator)),
     }
 }
 
 /// The tests of a request.
-pub(crate) fn tested<C: Comparator>(
-    alloc: Global,
-    lent: &Lent<'_, '_>,
-    files: &[File],
-) -> Result<(), Fault>
-    requires files { list_all (has_both lent.now.keys.now) files.now ≡ true }
-    requires deeper { list_all (has_both lent.now.keys.now) lent.now.deeper.now ≡ true }
-    ensures { EqualOrMemory (λ none. none) result (tested_in lent.now files.now C.cmp) }
+pub(crate) fn tested<C: Comparator>(alloc: Global, asked: &LentFiles<'_>) -> Result<(), Fault>
+    requires { have_all_keys asked.now ≡ true }
+    ensures { EqualOrMemory (λ none. none) result (tested_in asked.now C.cmp) }
 {
-    match pointer_of::<C>(alloc, lent.keys, lent.request.level, files)? {
-        Some(pointer) => pointed::<C>(alloc, lent, files, pointer),
-        None if files.is_empty() => Err(Fault::of(FaultName::NoInput)),
+    let lent = asked.lent;
+    match pointer_of::<C>(alloc, lent.keys, lent.request.level, asked.files)? {
+        Some(pointer) => pointed::<C>(alloc, asked, pointer),
+        None if asked.files.is_empty() => Err(Fault::of(FaultName::NoInput)),
         None => Err(Fault::of(FaultName::Level)),
     }
 }
@@ -73,21 +70,19 @@ pub(crate) fn tested<C: Comparator>(
 /// The tests of a request whose compact pointer is known.
 fn pointed<C: Comparator>(
     alloc: Global,
-    lent: &Lent<'_, '_>,
-    files: &[File],
+    asked: &LentFiles<'_>,
     pointer: KeyBuf,
 ) -> Result<(), Fault>
-    requires files { list_all (has_both lent.now.keys.now) files.now ≡ true }
-    requires deeper { list_all (has_both lent.now.keys.now) lent.now.deeper.now ≡ true }
+    requires { have_all_keys asked.now ≡ true }
     ensures { EqualOrMemory (λ none. none) result (request_test C.cmp
-        (request_with C.cmp lent.now.keys.now lent.now.request
-        (snapshots_of lent.now.request lent.now.snapshots) files.now lent.now.deeper.now
-        pointer)) }
+        (request_with C.cmp asked.now.lent.now.keys.now asked.now.lent.now.request
+        (snapshots_of asked.now.lent.now.request asked.now.lent.now.snapshots) asked.now.files.now
+        asked.now.lent.now.deeper.now pointer)) }
 {
-    let level = lent.request.level;
-    let picked = picked_with::<C>(alloc, lent.keys, level, files, lent.deeper, pointer)?;
-    let tables = no_tables(alloc, files)?;
-    let asked = Request {
+    let lent = asked.lent;
+    let picked = tested_inputs::<C>(alloc, asked, pointer)?;
+    let tables = no_tables(alloc, asked.files)?;
+    let request = Request {
         picked: &picked,
         tables: &tables,
         snapshots: lent.request.snapshots(lent.snapshots),
@@ -97,7 +92,7 @@ fn pointed<C: Comparator>(
         last_sequence: lent.request.last_sequence,
         options: lent.request.options(),
     };
-    asked.check::<C>()
+    request.check::<C>()
 }
 
 /// An empty table for each file.

@@ -1,23 +1,22 @@
-//! Each call once, with bytes that another program wrote.
+//! Each call about tables, requests and files once, with bytes that another program wrote.
 
 use crate::{
-    BYTEWISE, Counts, DONE, Entry, EntryLengths, File, FilePlace, HostRequest, Input, KeysSize,
-    Lent, LentArrays, LentRuns, MISUSE, Numbers, OPEN_INPUTS, Place, PlannedOutput, ROOM, RunMark,
-    RunPlaces, RunSize, UserRange, proved_boundaries, proved_check_closed, proved_check_request,
-    proved_check_table, proved_edit, proved_merge, proved_output, proved_plan,
+    BYTEWISE, Counts, DONE, File, FilePlace, HostRequest, Input, KeysSize, Lent, MISUSE, Numbers,
+    OPEN_INPUTS, Place, UserRange, proved_boundaries, proved_check_closed, proved_check_request,
+    proved_check_table, proved_edit,
 };
 use std::alloc::Global;
 use std::test::*;
 
 /// `table: u@4 del, u@2 put x`
-const TWO_ENTRIES: &[u8] = b"\
+pub(crate) const TWO_ENTRIES: &[u8] = b"\
     \0\x09\0u\0\x04\0\0\0\0\0\0\x01\x08\x01\x01\x02\0\0\0\0\0\0x\0\0\0\0\x01\0\0\0\0\xef\xe0\xe5\
     \x28\0\0\0\0\x01\0\0\0\0\xc0\xf2\xa1\xb0\0\x09\x02u\x01\x02\0\0\0\0\0\0\0\x20\0\0\0\0\x01\0\
     \0\0\0\x0a\xb0\x5c\x0c\x25\x082\x16\0\0\0\0\0\0\0\0\0\0\0\0\0\0\0\0\0\0\0\0\0\0\0\0\0\0\0\0\
     \0\0\0\0\0\0\0\0W\xfb\x80\x8b\x24uG\xdb";
 
 /// `u@4 del` and `u@2 put`
-const KEYS: &[u8] = b"u\0\x04\0\0\0\0\0\0u\x01\x02\0\0\0\0\0\0";
+pub(crate) const KEYS: &[u8] = b"u\0\x04\0\0\0\0\0\0u\x01\x02\0\0\0\0\0\0";
 
 const NOTHING: Counts = Counts {
     entries: 0,
@@ -27,7 +26,7 @@ const NOTHING: Counts = Counts {
 };
 
 /// The input of `TWO_ENTRIES`, if its table has this length.
-fn two_entries(size: u64) -> Input {
+pub(crate) fn two_entries(size: u64) -> Input {
     Input {
         file: File {
             level: 0,
@@ -65,7 +64,7 @@ fn tables_are_checked(rt: HostRuntime) {
 }
 
 /// A request of level 0 whose options have LevelDB's defaults.
-const REQUEST: HostRequest = HostRequest {
+pub(crate) const REQUEST: HostRequest = HostRequest {
     order: BYTEWISE,
     is_listed: 0,
     level: 0,
@@ -74,11 +73,12 @@ const REQUEST: HostRequest = HostRequest {
     block_size: 4_096,
     restart_interval: 16,
     file_size: 2_097_152,
+    first_number: 7,
 };
 
 const NOWHERE: Place = Place { from: 0, len: 0 };
 
-const EVERYTHING: UserRange = UserRange {
+pub(crate) const EVERYTHING: UserRange = UserRange {
     has_lower: 0,
     has_upper: 0,
     lower: NOWHERE,
@@ -86,7 +86,7 @@ const EVERYTHING: UserRange = UserRange {
 };
 
 /// What is lent for these inputs, if the whole of them is merged.
-fn lent(inputs: &[Input]) -> Lent<'_, 'static> {
+pub(crate) fn lent(inputs: &[Input]) -> Lent<'_, 'static> {
     Lent {
         size: 0,
         request: REQUEST,
@@ -150,115 +150,6 @@ fn boundaries_are_chosen(rt: HostRuntime) {
     assert_eq!(rt; code, 5);
 }
 
-/// The bytes of a run that keeps both entries.
-const RUN: &[u8] = b"u\0\x04\0\0\0\0\0\0u\x01\x02\0\0\0\0\0\0x";
-
-#[test]
-fn ranges_are_merged(rt: HostRuntime) {
-    let alloc = rt.alloc();
-    let request = HostRequest {
-        oldest: 3,
-        ..REQUEST
-    };
-    let mut input = two_entries(TWO_ENTRIES.len() as u64);
-    let code = proved_check_table(alloc, request.order, KEYS, TWO_ENTRIES, &mut input);
-    assert!(rt; code == DONE);
-    let inputs = [input];
-    let asked = Lent {
-        size: 0,
-        request,
-        snapshots: &[],
-        keys: KEYS,
-        tables: TWO_ENTRIES,
-        inputs: &inputs,
-        deeper: &[],
-        range: EVERYTHING,
-    };
-    let mut bytes = [7; 20];
-    let mut lengths = [EntryLengths { key: 7, value: 7 }; 2];
-    let mut marks = [RunMark { below: 7, kept: 7 }; 2];
-    let mut size = RunSize {
-        bytes: 7,
-        entries: 7,
-        marks: 7,
-    };
-    let code = proved_merge(
-        alloc,
-        &asked,
-        &mut bytes,
-        &mut lengths,
-        &mut marks,
-        &mut size,
-    );
-    assert_eq!(rt; code, DONE);
-    assert!(rt; bytes.starts_with(RUN));
-    assert_eq!(rt; bytes[RUN.len()], 7);
-    assert_eq!(rt; size.entries, 2);
-    assert_eq!(rt; size.marks, 1);
-    assert_eq!(rt; lengths[1].value, 1);
-    assert_eq!(rt; marks[0].kept, 0);
-}
-
-/// An entry in each of two runs, the second of which has so many bytes.
-const fn runs(len: u64) -> [RunPlaces; 2] {
-    [
-        RunPlaces {
-            bytes: Place { from: 0, len: 9 },
-            lengths: Place { from: 0, len: 1 },
-            marks: Place { from: 0, len: 1 },
-        },
-        RunPlaces {
-            bytes: Place { from: 9, len },
-            lengths: Place { from: 1, len: 1 },
-            marks: Place { from: 1, len: 0 },
-        },
-    ]
-}
-
-#[test]
-fn outputs_are_planned(rt: HostRuntime) {
-    let alloc = rt.alloc();
-    let inputs = [two_entries(TWO_ENTRIES.len() as u64)];
-    let asked = lent(&inputs);
-    let lengths = [
-        EntryLengths { key: 9, value: 0 },
-        EntryLengths { key: 9, value: 1 },
-    ];
-    let arrays = LentArrays {
-        bytes: RUN,
-        lengths: &lengths,
-        marks: &[RunMark { below: 0, kept: 0 }],
-    };
-    let whole = LentRuns {
-        size: 0,
-        arrays,
-        runs: &runs(10),
-    };
-    let nothing = PlannedOutput {
-        first: 7,
-        entries: 7,
-        len: 7,
-    };
-    let mut room = [nothing; 2];
-    let mut len = 0;
-    let code = proved_plan(alloc, &asked, &whole, &mut room, &mut len);
-    assert_eq!(rt; code, DONE);
-    assert_eq!(rt; len, 1);
-    assert_eq!(rt; room[0].first, 0);
-    assert_eq!(rt; room[0].entries, 2);
-    assert_eq!(rt; room[0].len, TWO_ENTRIES.len() as u64);
-    assert_eq!(rt; room[1].first, 7);
-    let code = proved_plan(alloc, &asked, &whole, &mut [], &mut len);
-    assert_eq!(rt; code, ROOM);
-    // The value of its entry isn't within the run.
-    let short = LentRuns {
-        runs: &runs(9),
-        ..whole
-    };
-    let code = proved_plan(alloc, &asked, &short, &mut room, &mut len);
-    assert_eq!(rt; code, MISUSE);
-}
-
 #[test]
 fn choices_are_closed(rt: HostRuntime) {
     let alloc = rt.alloc();
@@ -275,36 +166,6 @@ fn choices_are_closed(rt: HostRuntime) {
     let code = proved_check_closed(alloc, BYTEWISE, 0, KEYS, &files, &[5], &mut missing);
     assert_eq!(rt; code, OPEN_INPUTS);
     assert_eq!(rt; missing.number, 7);
-}
-
-#[test]
-fn outputs_are_written(rt: HostRuntime) {
-    let alloc = rt.alloc();
-    let entries = [
-        Entry {
-            key: Place { from: 0, len: 9 },
-            value: Place { from: 0, len: 0 },
-        },
-        Entry {
-            key: Place { from: 9, len: 9 },
-            value: Place { from: 0, len: 1 },
-        },
-    ];
-    let mut room = [7; 200];
-    let mut len = 0;
-    let code = proved_output(alloc, &REQUEST, KEYS, b"x", &entries, &mut room, &mut len);
-    assert_eq!(rt; code, DONE);
-    assert_eq!(rt; len, TWO_ENTRIES.len() as u64);
-    assert!(rt; room.starts_with(TWO_ENTRIES));
-    assert_eq!(rt; room[TWO_ENTRIES.len()], 7);
-    let mut small = [7; 9];
-    let code = proved_output(alloc, &REQUEST, KEYS, b"x", &entries, &mut small, &mut len);
-    assert_eq!(rt; code, ROOM);
-    assert_eq!(rt; len, TWO_ENTRIES.len() as u64);
-    // A key that isn't above the one before it.
-    let twice = [entries[0], entries[0]];
-    let code = proved_output(alloc, &REQUEST, KEYS, b"x", &twice, &mut room, &mut len);
-    assert_eq!(rt; code, 19);
 }
 
 #[test]

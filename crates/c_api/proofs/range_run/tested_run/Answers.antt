@@ -1,23 +1,21 @@
-use Rattle.std.proofs.Common.{◌≡◌, true, List, map, Result, sym, ap, subst, ◌∙◌}
-use Rattle.std.specs.List.{list_all}
+use Rattle.std.proofs.Common.{◌≡◌, List, map, Result, sym, ap, subst, ◌∙◌}
 use Rattle.ikey.specs.Answers.{EqualOrMemory}
 use Rattle.ikey.specs.fault.Fault.{Fault}
 use Rattle.edit.proofs.Binds.{ok_is}
 use Rattle.keep.specs.Runs.{Run}
-use Rattle.c_api.specs.Files.{has_keys, meta_at}
+use Rattle.c_api.specs.Files.{meta_at}
 use Rattle.c_api.specs.Held.{near_of, overlaps_at}
 use Rattle.c_api.specs.Merges.{AskedMerge, asked_in, merge_reading}
 use Rattle.c_api.specs.Requests.{files_of}
 use Rattle.c_api.specs.declared.file.File.{File}
-use Rattle.c_api.proofs.Merging.{lent_parts}
+use Rattle.c_api.proofs.Merging.{files_lent}
 use Rattle.c_api.proofs.SparedFiles.{lent_few, merge_few}
 use Rattle.c_api.proofs.range_run.tested_run.Goals as goal
 
-pub near_files-requires-clause-files : goal.near_files-requires-clause-files
-near_files-requires-clause-files g c =
+pub near_files-requires : goal.near_files-requires
+near_files-requires g c =
     let m : AskedMerge = asked_in c.args.lent.now in
-    subst (λ (fs : List File). list_all (has_keys m.keys) fs ≡ true) (ok_is (files_of m.inputs) c.in_ok-files.files.items c.in_ok-files.ensures ∙ sym c.deref.ensures.value)
-    (lent_parts m c.requires.lent).files
+    files_lent m c.requires.lent c.deref.result.now (c.deref.ensures.value ∙ sym (ok_is (files_of m.inputs) c.in_ok-files.files.items c.in_ok-files.ensures))
 
 pub few_run-requires-clause-lent : goal.few_run-requires-clause-lent
 few_run-requires-clause-lent g c =

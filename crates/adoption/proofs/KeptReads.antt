@@ -421,7 +421,7 @@ module _ (cmp : KeyOrder) (total : IsTotalOrder cmp) (exact : IsExact cmp) (v : 
         ),
       );
       gets = λ others is user at readable.
-          let one : others ≡ tables = sym (ok_is others tables (sym (sound_checked cmp v loaded others is) ∙ sound_checked cmp v loaded tables sound)) in
+          let one : others ≡ tables = ok_is others tables (sym (sound_checked cmp v loaded others is) ∙ sound_checked cmp v loaded tables sound) in
           same_get a.next after (tables_after cmp a.picked answer tables) same_tables user at ∙ (reads.gets user at readable ∙ ap (λ (ts : List NumberedContents). get_of v ts user at) (sym one));
     }
 

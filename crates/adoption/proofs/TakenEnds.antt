@@ -34,7 +34,8 @@ use Rattle.install.specs.Install.{next_version_tables, numbers_of, table_bytes_o
 use Rattle.keep.specs.Tables.{NumberedContents}
 use Rattle.checks.specs.LawfulTables.{IsLawfulTables}
 use Rattle.store.proofs.InstallPart.{still}
-use Rattle.levels.specs.PartsEnd.{IsNothingWritten}
+use Rattle.install.specs.FolderChange.{change_of}
+use Rattle.store.specs.Compaction.{IsUnchanged}
 use Rattle.levels.proofs.Ends.{ended_calls}
 use Rattle.levels.proofs.LaidTables.{laid_twice}
 use Rattle.levels.proofs.TablesStand.{version_stays}
@@ -128,7 +129,7 @@ module _ {F : Type 0} (g : Ghosts F) (cmp : KeyOrder) (first : State) (compariso
   }
 
   -- nothing was written since
-  pub nothing_since : {X : Type 0} (new : F) (e : Fault) → IsNothingWritten {X = X} g old new (Err e) → IsTakingStopped {T = X} g cmp first start new (Err e)
+  pub nothing_since : {X : Type 0} (new : F) (e : Fault) → IsUnchanged {T = X} (change_of g old new) (Err e) → IsTakingStopped {T = X} g cmp first start new (Err e)
   nothing_since {X = X} new e none =
       stopped t.outcomes v t.in_turn new e
       (ended_calls {T = Unit {0}} {U = X} (λ f. f ≡ e) (table_calls (groups_of t.outcomes)) (g.calls start) (g.calls new) (g.tells start) (g.tells new) tt (Err e) refl
@@ -170,7 +171,7 @@ module _ {F : Type 0} (g : Ghosts F) (cmp : KeyOrder) (first : State) (compariso
 -- ---- the end of a call
 
 module _ {F : Type 0} (g : Ghosts F) (cmp : KeyOrder) (old new : F) (t : TakenOutcomes) where
-  pub end_before : (start : F) (e : Fault) → IsNothingWritten {X = TakenOutcome} g old new (Err e) → IsTakingEnd g cmp start old new t (Err e)
+  pub end_before : (start : F) (e : Fault) → IsUnchanged {T = TakenOutcome} (change_of g old new) (Err e) → IsTakingEnd g cmp start old new t (Err e)
   end_before start e none = λ taken. nothing_since g cmp t.opened.now.version t.comparison start old (version_in t) t.edits.items taken new e none
 
   pub end_of : (total : IsTotalOrder cmp) (exact : IsExact cmp) (a : Adoption) (tables : List (ℕ × List ℕ)) → IsAdopted cmp (version_in t) (a, tables) → has_opened_inputs t.opened.now.version (a, tables) ≡ true

@@ -13,7 +13,8 @@ use Rattle.install.specs.Install.{table_calls}
 use Rattle.store.proofs.Flow.{no_value, told_still}
 use Rattle.store.proofs.InstallPart.{refused_ok}
 use Rattle.store.proofs.RunPart.{calls_since, handed_calls, passed_calls}
-use Rattle.levels.specs.PartsEnd.{IsNothingWritten}
+use Rattle.install.specs.FolderChange.{change_of}
+use Rattle.store.specs.Compaction.{IsUnchanged}
 use Rattle.adoption.specs.TakenIn.{version_in}
 use Rattle.adoption.specs.TakenOutcomes.{Given}
 use Rattle.adoption.specs.TakingSteps.{AreTestedOutputs, IsTakingOf, IsWritten, IsWrittenTaking}
@@ -24,7 +25,7 @@ pub memory_answers : {X Y : Type 0} (view : X → Y) (before now : ℕ) (q : Res
 memory_answers view before now (Ok x) e IsAnswer memory h = absurd h
 memory_answers view before now (Err f) e IsAnswer memory h = subst (λ (d : Fault). UnlessMemory d (IsStopped before now d ⊎ IsAnswer (Err d))) (sym (h ∙ memory)) tt
 
-pub nothing_written : {F X : Type 0} (g : Ghosts F) (old : F) (q : Result X Fault) (e : Fault) → IsErrAnd q (λ f. f ≡ e) → IsNothingWritten g old old q
+pub nothing_written : {F X : Type 0} (g : Ghosts F) (old : F) (q : Result X Fault) (e : Fault) → IsErrAnd q (λ f. f ≡ e) → IsUnchanged (change_of g old old) q
 nothing_written g old q e h = record { calls = refl; same = λ n held. ((λ x. x), (λ x. x)); refused = no_value q (λ f. f ≡ e) h }
 
 module _ {F : Type 0} (g : Ghosts F) (given : Given) (old new : F) (t : TakenOutcomes) where
@@ -50,7 +51,7 @@ module _ {F : Type 0} (g : Ghosts F) (given : Given) (old new : F) (t : TakenOut
 -- ---- told from an earlier state of the folder on, which was only read since
 
 module _ {F : Type 0} (g : Ghosts F) (cmp : KeyOrder) (given : Given) (old mid new : F) (t : TakenOutcomes) (r : Result TakenOutcome Fault) (reads : OnlyReads g old mid) where
-  nothing : IsNothingWritten g mid new r → IsNothingWritten g old new r
+  nothing : IsUnchanged (change_of g mid new) r → IsUnchanged (change_of g old new) r
   nothing none = record { calls = none.calls ∙ reads.calls; same = told_since (g.tells old) (g.tells mid) (g.tells new) reads.same none.same; refused = none.refused }
 
   written : IsWritten g given mid new t r → IsWritten g given old new t r

@@ -12,7 +12,8 @@ use Rattle.folder.specs.declared.folder.Folder.{Ghosts}
 use Rattle.install.specs.Install.{current_calls, manifest_bytes, manifest_calls, table_calls}
 use Rattle.install.specs.InstallCalls.{IsInstallCalls}
 use Rattle.store.specs.FolderRequest.{manifest_of}
-use Rattle.levels.specs.PartsEnd.{IsNothingWritten}
+use Rattle.install.specs.FolderChange.{change_of}
+use Rattle.store.specs.Compaction.{IsUnchanged}
 use Rattle.adoption.specs.Adoption.{IsGivenTested}
 use Rattle.adoption.specs.TakenIn.{version_in}
 use Rattle.adoption.specs.TakenOutcomes.{Given}
@@ -33,7 +34,7 @@ pub record IsWritten {F : Type 0} (g : Ghosts F) (given : Given) (old new : F) (
 abbrev pub IsWrittenTaking : {F : Type 0} → Ghosts F → Given → F → F → TakenOutcomes →
     Result TakenOutcome Fault → Type 0
 IsWrittenTaking g given old new t result =
-    IsNothingWritten g old new result ⊎ IsWritten g given old new t result
+    IsUnchanged (change_of g old new) result ⊎ IsWritten g given old new t result
 
 -- its outputs passed their test
 abbrev pub AreTestedOutputs : {F : Type 0} → Ghosts F → KeyOrder → Comparison → Given → F → Type 0
@@ -42,7 +43,7 @@ AreTestedOutputs g cmp comparison given old = (files : Files) → Tells (g.tells
 
 abbrev pub IsTakingOf : {F : Type 0} → Ghosts F → KeyOrder → Given → F → F → TakenOutcomes →
     Result TakenOutcome Fault → Type 0
-IsTakingOf g cmp given old new t result = IsNothingWritten g old new result
+IsTakingOf g cmp given old new t result = IsUnchanged (change_of g old new) result
     ⊎ (AreTestedOutputs g cmp t.comparison given old × IsWritten g given old new t result)
 
 -- a manifest that has the edit as which these bytes read
@@ -58,7 +59,7 @@ pub record IsJoinedManifest (name : List ℕ) (cmp : KeyOrder) (v : State) (edit
 -- there was no manifest
 pub record IsUnready {F : Type 0} (g : Ghosts F) (t : TakenOutcomes) (old new : F)
     (result : Result ℕ Fault) : Type 0 where
-  pub nothing : IsNothingWritten g old new result
+  pub nothing : IsUnchanged (change_of g old new) result
   pub why : IfErr result (λ e. UnlessMemory e (IsEditRefused t.edits.items e))
 
 -- a manifest was installed

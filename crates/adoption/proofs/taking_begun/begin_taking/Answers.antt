@@ -29,7 +29,7 @@ returns-clause-begun g c =
       refl,
       refl,
       subst (λ (es : List ℕ). AreTaken g.F.Folder (order_cmp o.order) o.version c.args.comparison c.args.folder.now c.test_first.new.folder o.version es) (sym c.new.ensures.items)
-      (taken_none g.F.Folder (order_cmp o.order) o.version c.args.comparison c.args.folder.now c.test_first.new.folder c.test_first.ensures.reads (reports_after q c.in_ok-test_first.was c.test_first.ensures.device tt) c.in_ok-test_first.ensures.answer),
+          (taken_none g.F.Folder (order_cmp o.order) o.version c.args.comparison c.args.folder.now c.test_first.new.folder c.test_first.ensures.reads (reports_after q c.in_ok-test_first.was c.test_first.ensures.device tt) c.in_ok-test_first.ensures.answer),
     )
 
 pub returns-clause-device : goal.returns-clause-device

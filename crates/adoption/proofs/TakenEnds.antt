@@ -216,7 +216,7 @@ taken_none g cmp first comparison old new reads device tested = record {
 }
 
 -- and the same after more was read
-pub taken_still : {F : Type 0} (g : Ghosts F) (cmp : KeyOrder) (first : State) (comparison : Comparison) (start old new : F) (v : State) (edits : List ℕ) → AreTaken g cmp first comparison start old v edits → OnlyReads g old new → ReportsDevice {X = Unit {0}} g old new (Ok tt)
+abbrev pub taken_still : {F : Type 0} (g : Ghosts F) (cmp : KeyOrder) (first : State) (comparison : Comparison) (start old new : F) (v : State) (edits : List ℕ) → AreTaken g cmp first comparison start old v edits → OnlyReads g old new → ReportsDevice {X = Unit {0}} g old new (Ok tt)
     → AreTaken g cmp first comparison start new v edits
 taken_still g cmp first comparison start old new v edits t reads device = record {
   outcomes = t.outcomes;

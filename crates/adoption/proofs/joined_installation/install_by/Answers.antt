@@ -20,7 +20,7 @@ returns-in_err-test_last-clause-device g c = reports_handed c.from_residual.resu
 
 pub returns-clause-installed : goal.returns-clause-installed
 returns-clause-installed g c first =
-    last_passed g.F.Folder g.C.Comparator.name_bytes g.C.Comparator.cmp c.args.taken.now first c.args.folder.now g.met.C.Comparator.total c.test_last.new.folder c.install_joined.new.folder
+    last_passed g.F.Folder g.C.Comparator.name_bytes g.C.Comparator.cmp c.args.taken.now first c.args.folder.now (g.met.C.Comparator g.world.𝓛 g.world.𝓜 g.world.𝓡 ((λ s x. x), (λ x. x), (λ x. x), λ x. x)).total c.test_last.new.folder c.install_joined.new.folder
     (λ e. eqb-false _ _ (sym c.is_empty.ensures ∙ c.if-is_empty.false) (ap length (c.as_slice-edits.ensures.value ∙ e))) c.install_joined.result c.test_last.ensures.reads c.in_ok-test_last.ensures.device c.in_ok-test_last.ensures.answer c.install_joined.ensures.end
 
 pub returns-clause-device : goal.returns-clause-device

@@ -150,12 +150,12 @@ impl<'t, R: Print + AllocGlobal> RemovalPrinter<'t, R> {
     /// Prints the line of a file that is removed.
     fn print(&self, name: &str, length: u64) -> Result<(), Refusal> {
         let alloc = self.rt.alloc();
-        let line = if self.is_json {
-            json_line(alloc, &removed_json(alloc, name, length)?)?
-        } else {
-            format!(in alloc; "removed {name} {length}\n")?
-        };
-        print_lines(self.rt, line.as_bytes())
+        if self.is_json {
+            let line = json_line(alloc, &removed_json(alloc, name, length)?)?;
+            return print_lines(self.rt, line.as_bytes());
+        }
+        let printed = println!(self.rt; "removed {name} {length}");
+        printed.map_err(|error| Refusal::of_output(alloc, &error))
     }
 }
 

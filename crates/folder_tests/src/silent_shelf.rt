@@ -56,9 +56,9 @@ fn without_last(bytes: Vec<u8>, is_short: bool) -> Vec<u8> {
 impl<'a> Folder for SilentShelf<'a> {
     ghost tells = { λ _ _ _. Unit {0} };
 
-    ghost calls = { λ s. s.shelf.trail };
+    ghost calls = { λ s. s.shelf.made.trail };
 
-    ghost failed = { λ s. s.shelf.failures };
+    ghost failed = { λ s. s.shelf.made.failures };
 
     ghost readings = { λ s. s.readings.files };
 

@@ -253,6 +253,8 @@ pub(crate) const ROWS: &[Row] = &[
             ("sync", "."),
             ("read", ""),
             ("read", ""),
+            ("read", ""),
+            ("read", ""),
             ("create", "000010.ldb"),
             ("sync", "000010.ldb"),
             ("create", "MANIFEST-000009"),

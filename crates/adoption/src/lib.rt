@@ -10,7 +10,7 @@
 //! 3. The outputs hold just what a compaction of the inputs keeps, as [`Comparison`] says.
 //!
 //! So the edited version is lawful (`compact::kept_reads_survive`), and no other table is read. If
-//! outputs aren't compared, [`install_taken`] tests the last version, with the tables in the folder.
+//! outputs aren't compared, [`install_taken`] tests the last version, with tables of the folder.
 //!
 //! Each outcome is tested against the version that those before it leave, and its tables are
 //! written. Then [`install_taken`] installs all of them by one manifest, as a compaction is: a crash

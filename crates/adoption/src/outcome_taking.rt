@@ -73,8 +73,8 @@ use store::{manifest_of, outcome_step};
 /// that no version names.
 ///
 /// If outputs are compared, [`begin_taking`] has tested the version that was opened, and no other
-/// table is read here: the edited version is lawful then. Otherwise [`install_taken`] tests the last
-/// one. The work is told to the gate of `workers`, which is `&Open` if nobody watches.
+/// table is read here: the edited version is lawful then. Otherwise [`install_taken`] tests the
+/// last one. The work is told to the gate of `workers`, which is `&Open` if nobody watches.
 ///
 /// [`begin_taking`]: crate::begin_taking
 /// [`install_taken`]: crate::install_taken

@@ -11,8 +11,8 @@
 //!     ([`edit_applies`]), and the version after is lawful and holds what is kept
 //!     ([`stands_after`]).
 //! (4) So reads survive: [`reads_survive`]. They survive of all inputs that are closed
-//!     ([`closed_reads_survive`]), as picked ones are (`picked_choice`). They survive whoever cut the
-//!     outputs, if these hold what is kept ([`kept_reads_survive`]).
+//!     ([`closed_reads_survive`]), as picked ones are (`picked_choice`). They survive whoever cut
+//!     the outputs, if these hold what is kept ([`kept_reads_survive`]).
 //!
 //! Premises: the version is lawful and the inputs were picked from it. All but `edit_applies` and
 //! `outputs_hold` also ask for files at levels up to 6. All but `edit_applies` and `gets_after` ask

@@ -18,8 +18,8 @@
 //! [`compact_levels`] compacts one level after the other, until all files are in one level. Of each
 //! it takes what the [`Descent`] selects: the inputs that the rules pick, or all its parts, as
 //! above. It tests the version once, if that is asked for. It tells a `CleanWatch` of each
-//! compaction that was installed; then it asks it for names, and removes the files of these that the
-//! version doesn't need.
+//! compaction that was installed; then it asks it for names, and removes the files of these that
+//! the version doesn't need.
 //!
 //! Laws: [`whole_is_work`], [`edits_join`], [`joined_applies`].
 #![tactic(auto)]

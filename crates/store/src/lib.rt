@@ -13,9 +13,9 @@
 //!    version doesn't need.
 //! 5. [`outcome`] only reads: it answers the outcome of a [`Choice`] of inputs, with the numbers
 //!    that are asked for, after a test of the version or without one. [`write_outcome`] writes it
-//!    into another folder. [`files_to_compact`] names the files that it needs of a level without a test;
-//!    [`parts_to_compact`] are the parts of a level. [`outcome_of_picked`] answers the outcome of
-//!    inputs that its caller found.
+//!    into another folder. [`files_to_compact`] names the files that it needs of a level without a
+//!    test; [`parts_to_compact`] are the parts of a level. [`outcome_of_picked`] answers the outcome
+//!    of inputs that its caller found.
 //! 6. Parts of these calls, for those who compact whole levels or install an outcome later:
 //!    [`version_is_state`], [`test_files`], [`load_inputs`], [`checked_inputs`], [`bytes_of`],
 //!    [`manifest_of`], [`outcome_step`].

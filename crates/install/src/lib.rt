@@ -26,13 +26,11 @@
 //! [`obsolete_names`] answers these. [`pending_current`] finds a `CURRENT.N` that goleveldb has not
 //! renamed yet. Beside one, CURRENT may not name the version that is to be kept.
 //!
-//! [`work_laws`] joins installations and removals that follow one another: a crash at any moment
-//! leaves one of their versions.
-//!
-//! [`work_survives`] says that of any row of pieces of work, with each version's manifest. A piece
-//! writes the tables of an outcome, or names the version that outcomes make, or removes files. So
-//! several outcomes may be written before one manifest names what they make. An installation is two
-//! pieces ([`installation_survives`]; [`install_calls_survive`] says it of its calls alone).
+//! [`work_survives`]: of any row of pieces of work, a crash at any moment leaves a version that was
+//! named, with its manifest. A piece writes the tables of an outcome, or names the version that
+//! outcomes make, or removes files. So several outcomes may be written before one manifest names
+//! what they make. An installation is two pieces ([`installation_survives`];
+//! [`install_calls_survive`] says it of its calls alone).
 //!
 //! Premises of what is said of a crash:
 //!
@@ -52,7 +50,6 @@ mod obsolete_files;
 mod pending_names;
 mod removal;
 mod removal_watch;
-mod row_laws;
 mod work_survival;
 
 pub use edit::Outcome;
@@ -65,7 +62,6 @@ pub use obsolete_files::{is_obsolete_file, obsolete_names};
 pub use pending_names::pending_current;
 pub use removal::remove_obsolete;
 pub use removal_watch::RemovalWatch;
-pub use row_laws::work_laws;
 pub use work_survival::{
     install_calls_survive, installation_survives, nothing_named, work_survives,
 };

@@ -5,7 +5,7 @@
 //!
 //! 1. At Ok an installation leaves a folder that stands for the edited version by its manifest: the
 //!    premise of the removal. After that it is true too, and it is the premise of the next step
-//!    ([`work_laws`](crate::work_laws)).
+//!    ([`work_survives`](crate::work_survives)).
 //! 2. The next step reads CURRENT and tables of its version, none of which was removed, and makes
 //!    files of numbers from next file on. What it had read ahead before, it drops when it makes its
 //!    first file.

@@ -36,3 +36,4 @@ pub mod ClosedJoint
 pub mod StayingParts
 pub mod PartAnswers
 mod PartNumbers
+pub mod NamedEnds

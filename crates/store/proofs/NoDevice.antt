@@ -1,17 +1,20 @@
 -- No refusal of a compaction is Device.
-use Rattle.std.proofs.Common.{◌≡◌, ◌≢◌, ℕ, ◌+◌, ◌^◌, Bool, true, false, List, [], ◌∷◌, length, Option, Result, Ok, Err, IfErr, IsErrAnd, if◌then◌else◌, refl, sym, ap, subst, ◌∙◌}
+use Rattle.std.proofs.Common.{◌≡◌, ◌≢◌, ℕ, ◌+◌, ◌^◌, Bool, true, false, List, [], ◌∷◌, length, Option, is_none, Result, Ok, Err, IfErr, IsErrAnd, if◌then◌else◌, refl, sym, ap, subst, ◌∙◌}
 use Rattle.std.specs.Prelude.{◌&&◌, MatchBool, None, Some, nat_le, nat_lt}
-use Rattle.std.specs.Option.{ok_or}
+use Rattle.std.specs.Option.{ok_or, option_map_or}
 use Rattle.std.specs.declared.cmp.Ordering.{Ordering}
 use Rattle.folder.proofs.Refusals.{unless_device}
 use Rattle.folder.specs.Answers.{HoldsOrMemory, UnlessMemory, ◌>>=◌, fault}
 use Rattle.folder.specs.fault.Fault.{Fault}
 use Rattle.folder.specs.fault.FaultName.{FaultName}
-use Rattle.folder.specs.fault.FaultName.TheVariants.{Bounds, Device, Duplicate, Level, Memory, NoInput, Numbers, Options, Snapshot, SnapshotList, SplitCount, TooLarge, Workers}
+use Rattle.folder.specs.fault.FaultName.TheVariants.{Bounds, Device, Duplicate, EditField, EditTag, Level, Memory, NoInput, Numbers, Options, Snapshot, SnapshotList, SplitCount, TooLarge, Workers}
 use Rattle.reads.specs.EncodedEntry.{Entry}
 use Rattle.reads.specs.TableContents.{Contents, contents_reading}
 use Rattle.reads.specs.EntryTests.{is_some_list}
 use Rattle.reads.specs.TestResult.{test_result}
+use Rattle.folder.specs.Edit.{IsEditRefused}
+use Rattle.folder.specs.Tag.{listed_tag}
+use Rattle.folder.specs.Varint.{varint_reading}
 use Rattle.folder.specs.Version.{State}
 use Rattle.folder.specs.VersionOrder.{level_files}
 use Rattle.folder.specs.meta.FileMeta.{FileMeta}
@@ -190,3 +193,16 @@ memory_alone before now (Err e) h = λ same. let both = sym (ap (λ (f : Fault).
 pub handed_memory : {X : Type 0} (r : Result X Fault) (e : Fault) → IsErrAnd r (λ f. f ≡ e) → e ≡ fault Memory → IfErr r (λ f. f.name ≢ Device)
 handed_memory (Ok x) e h is = absurd h
 handed_memory (Err f) e h is = λ same. let both = sym (ap (λ (x : Fault). x.name) (h ∙ is)) ∙ same in cc both
+
+-- ---- bytes that read as no edit
+
+field_other : (o : Option (ℕ × ℕ)) → (option_map_or (λ tag. if is_none (listed_tag tag.0) then fault EditTag else fault EditField) o (fault EditField)).name ≢ Device
+field_other None h = cc h
+field_other (Some tag) h = by (is_none (listed_tag tag.0)) h
+  where
+    by : (b : Bool) → (if b then fault EditTag else fault EditField).name ≡ Device → ⊥
+    by true h = cc h
+    by false h = cc h
+
+pub edit_other : (bytes : List ℕ) (e : Fault) → IsEditRefused bytes e → e.name ≢ Device
+edit_other bytes e h same = field_other (varint_reading (2 ^ 32) h.rest) (ap (λ (f : Fault). f.name) (sym h.named) ∙ same)

@@ -1,6 +1,8 @@
 -- The calls of a compaction, as a part of those of the call.
 use Rattle.std.proofs.Common.{◌≡◌, ◌⊎◌, ℕ, List, ◌++◌, map, codes, Option, Some, Result, Ok, Err, IfErr, IsErrAnd, OnOk, refl, sym, ap, subst, ◌∙◌, inl, inr}
 use Rattle.std.specs.declared.cmp.Ordering.{Ordering}
+use Rattle.table.specs.Key.{IsInternalKey}
+use Rattle.table.specs.TableBytes.{AreBytes}
 use Rattle.folder.proofs.Refusals.{unless_from}
 use Rattle.folder.specs.Answers.{UnlessMemory, fault}
 use Rattle.folder.specs.fault.Fault.{Fault}
@@ -67,16 +69,18 @@ stopped_as before now (Err e) given = unless_from e (IsStoppedOrChanged before n
 
 -- an installation by the manifest of the version was refused
 pub install_refused : {T : Type 0} (IsAnswer : PickedInputs → Answer → Type 0) (name : List ℕ) (cmp : List ℕ → List ℕ → Ordering) (v : State) (number : ℕ) (groups : List (List (ℕ × List ℕ))) (picked : PickedInputs) (answer : Answer)
-    (before after : List Step) (old new : Told) (failed now : ℕ) (r : Result T Fault) (q : Result CompactionStep Fault) (e : Fault) → number ≡ manifest_of v → tables_of_groups groups ≡ answer.tables → IsAnswer picked answer → r ≡ Err e → IsErrAnd q (λ f. f ≡ e)
+    (before after : List Step) (old new : Told) (failed now : ℕ) (r : Result T Fault) (q : Result CompactionStep Fault) (e : Fault) → number ≡ manifest_of v → tables_of_groups groups ≡ answer.tables → IsAnswer picked answer → IsInternalKey picked.pointer.key → AreBytes answer.edit → r ≡ Err e → IsErrAnd q (λ f. f ≡ e)
     → MakesCalls (install_calls number groups (manifest_bytes name cmp v answer.edit)) before after old new r
     → IfErr r (λ f. f ≡ fault Changed → after ≡ before ++ map Done (calls_before_rename number groups (manifest_bytes name cmp v answer.edit)))
     → IfErr r (λ f. UnlessMemory f (IsStoppedOrChanged failed now f)) → IsRun IsAnswer name cmp v (change_by before after old new) q
-install_refused IsAnswer name cmp v number groups picked answer before after old new failed now r q e numbered joined is was h runs changed refused =
+install_refused IsAnswer name cmp v number groups picked answer before after old new failed now r q e numbered joined is internal bytes was h runs changed refused =
     let manifest = manifest_bytes name cmp v answer.edit in
     inr (record {
       picked = picked;
       answer = answer;
       is_answer = is;
+      pointer = internal;
+      bytes = bytes;
       calls = record {
         groups = groups;
         together = joined;
@@ -91,15 +95,17 @@ install_refused IsAnswer name cmp v number groups picked answer before after old
 
 -- and this one was done
 pub install_done : {T : Type 0} (IsAnswer : PickedInputs → Answer → Type 0) (name : List ℕ) (cmp : List ℕ → List ℕ → Ordering) (v : State) (number : ℕ) (groups : List (List (ℕ × List ℕ))) (picked : PickedInputs) (answer : Answer)
-    (before after : List Step) (old new : Told) (r : Result T Fault) (x : T) (step : CompactionStep) → number ≡ manifest_of v → tables_of_groups groups ≡ answer.tables → IsAnswer picked answer → r ≡ Ok x
+    (before after : List Step) (old new : Told) (r : Result T Fault) (x : T) (step : CompactionStep) → number ≡ manifest_of v → tables_of_groups groups ≡ answer.tables → IsAnswer picked answer → IsInternalKey picked.pointer.key → AreBytes answer.edit → r ≡ Ok x
     → MakesCalls (install_calls number groups (manifest_bytes name cmp v answer.edit)) before after old new r
     → step_in step ≡ step_of v picked answer → IsRun IsAnswer name cmp v (change_by before after old new) (Ok step)
-install_done IsAnswer name cmp v number groups picked answer before after old new r x step numbered joined is was runs made =
+install_done IsAnswer name cmp v number groups picked answer before after old new r x step numbered joined is internal bytes was runs made =
     let manifest = manifest_bytes name cmp v answer.edit in
     inr (record {
       picked = picked;
       answer = answer;
       is_answer = is;
+      pointer = internal;
+      bytes = bytes;
       calls = record {
         groups = groups;
         together = joined;
@@ -118,7 +124,7 @@ pub run_as : (IsOne IsOther : PickedInputs → Answer → Type 0) (name : List �
     → ((picked : PickedInputs) (answer : Answer) → IsOne picked answer → IsOther picked answer) → IsRun IsOne name cmp v (change_by before after old new) r → IsRun IsOther name cmp v (change_by before after old new) r
 run_as IsOne IsOther name cmp v before after old new r f (inl u) = inl u
 run_as IsOne IsOther name cmp v before after old new r f (inr i) =
-    inr (record { picked = i.picked; answer = i.answer; is_answer = f i.picked i.answer i.is_answer; calls = i.calls; step = i.step; refused = i.refused })
+    inr (record { picked = i.picked; answer = i.answer; is_answer = f i.picked i.answer i.is_answer; pointer = i.pointer; bytes = i.bytes; calls = i.calls; step = i.step; refused = i.refused })
 
 -- calls, told from earlier ones on
 pub calls_since : {T : Type 0} (calls : List Call) (first before after : List Step) (zero old new : Told) (r : Result T Fault) → before ≡ first → ((files : Files) → Tells zero files → Tells old files)
@@ -138,6 +144,8 @@ installed_since IsAnswer name cmp v first before after zero old new r same told 
       picked = i.picked;
       answer = i.answer;
       is_answer = i.is_answer;
+      pointer = i.pointer;
+      bytes = i.bytes;
       calls = record {
         groups = i.calls.groups;
         together = i.calls.together;

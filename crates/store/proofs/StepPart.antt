@@ -22,7 +22,7 @@ use Rattle.folder.specs.declared.order.Order.{Order}
 use Rattle.install.specs.Install.{SurvivesCrash, current_calls, install_calls, next_version_tables, table_calls, temporary_calls, write_calls, version_with}
 use Rattle.checks.specs.LawfulTables.{IsLawfulTables}
 use Rattle.reads.specs.Tables.{NumberedContents}
-use Rattle.pick.specs.PickedInputs.{PickedInputs}
+use Rattle.pick.specs.PickedInputs.{IsInputsAnswer, PickedInputs}
 use Rattle.compact.specs.OneThread.{Answer}
 use Rattle.compact.specs.declared.settings.Settings.{Settings}
 use Rattle.store.specs.FolderRequest.{manifest_of}
@@ -30,7 +30,6 @@ use Rattle.store.specs.Step.{step_in, step_of}
 use Rattle.store.specs.Outcome.{ChosenCompaction, IsTestAnswer}
 use Rattle.store.specs.FoundInputs.{IsStepLeft}
 use Rattle.store.specs.StepLeft.{IsStepInstalled, IsVersionLeft, PassesTest}
-use Rattle.store.specs.declared.choice.Choice.TheVariants.{Picked}
 use Rattle.checks.specs.TestedTables.{IsTested, totals_of}
 use Rattle.checks.specs.declared.version_totals.VersionTotals.{VersionTotals}
 use Rattle.store.specs.declared.compaction_step.CompactionStep.{CompactionStep}
@@ -81,7 +80,7 @@ current_named number groups manifest before after old new r x files was runs tel
 
 pub step_installed : {T : Type 0} (name : List ℕ) (order : Order) (cmp : List ℕ → List ℕ → Ordering) (short_keys : ShortKeys) (v : State) (loaded : List (ℕ × List ℕ)) (level : ℕ) (s : Settings) (picked : PickedInputs) (answer : Answer)
     (first before after : List Step) (zero old new : List ℕ → Option (List ℕ) → Type 0) (r : Result T Fault) (q : Result CompactionStep Fault)
-    → order_name order ≡ name → ChosenCompaction (order_by order cmp short_keys) (version_with v loaded) (Picked level) None s picked answer → ((P : Type 0) → OnOk r P → OnOk q P) → before ≡ first → TellsSame zero old
+    → order_name order ≡ name → ChosenCompaction (order_by order cmp short_keys) (version_with v loaded) (IsInputsAnswer cmp v level) None s picked answer → ((P : Type 0) → OnOk r P → OnOk q P) → before ≡ first → TellsSame zero old
     → OnOk q (new (codes "CURRENT") (Some (current_text (manifest_of v)))) → IfOk q (λ step. step_in step ≡ step_of v picked answer) → IfErr q (λ e. UnlessMemory e (e ≡ fault Device))
     → Promises name cmp v (manifest_of v) answer before after old new r → IsStepLeft (order_by order cmp short_keys) (version_with v loaded) level s (change_by first after zero new) q
 step_installed name order cmp short_keys v loaded level s picked answer first before after zero old new r q is done f same told named step refused promises =

@@ -1,23 +1,18 @@
--- Laws of compactions of closed inputs, and of the parts of a level.
-use Rattle.std.specs.Prelude.{◌≡◌, ◌≢◌, ℕ, ◌<◌, ◌≤◌, ◌^◌, List, unwrap_or, Option, Ok}
+-- The law of compactions of closed inputs.
+use Rattle.std.specs.Prelude.{◌≡◌, ℕ, ◌<◌, ◌≤◌, ◌^◌, List, unwrap_or, Option, Ok}
 use Rattle.std.specs.List.{All}
 use Rattle.folder.specs.Comparator.{KeyOrder, ShortKeys}
 use Rattle.folder.specs.Version.{State}
 use Rattle.folder.specs.meta.NewFile.{NewFile}
 use Rattle.folder.specs.meta.TheConstants.{LAST_LEVEL}
-use Rattle.pick.specs.ApartChoice.{IsApartChoice}
-use Rattle.pick.specs.ClosedChoice.{has_number_of}
-use Rattle.pick.specs.Parts.{IsPartsAnswer}
 use Rattle.pick.specs.PickedInputs.{PickedInputs}
 use Rattle.reads.specs.Tables.{NumberedContents}
 use Rattle.checks.specs.LawfulTables.{IsLawfulTables}
 use Rattle.compact.specs.InputsOver.{AreInputsOver}
 use Rattle.compact.specs.OneThread.{Answer}
 use Rattle.compact.specs.declared.settings.Settings.{Settings}
-use Rattle.store.specs.Choice.{part_of_number}
 use Rattle.store.specs.Compaction.{EditedVersion}
 use Rattle.store.specs.FolderRequest.{compaction_from}
-use Rattle.store.specs.InputsCompaction.{input_numbers}
 use Rattle.store.specs.OutputRanges.{IsOldOrOutput}
 
 -- an edited version whose new files lie within the range of these inputs
@@ -38,16 +33,3 @@ ClosedJointLaw cmp short_keys =
     unwrap_or v.log_number 0 < 2 ^ 64 → unwrap_or v.previous_log 0 < 2 ^ 64 →
     compaction_from first cmp short_keys v loaded p s ≡ Ok answer →
     EditedWithin cmp v loaded tables p s answer
-
--- The law that a part of a level stays apart after another part of it was compacted and installed:
--- in the edited version its files still share no user key with a file of both levels that stays. So
--- they are closed inputs then, in whatever order the parts are installed.
-abbrev pub PartsStay : KeyOrder → Type 0
-PartsStay cmp =
-    (v : State) (loaded : List (ℕ × List ℕ)) (tables : List NumberedContents) (level : ℕ)
-    (parts : List PickedInputs) (one other : ℕ) (p q : PickedInputs) (s : Settings)
-    (answer : Answer) →
-    IsLawfulTables cmp v loaded (Ok tables) → IsPartsAnswer cmp v level (Ok parts) →
-    part_of_number one parts ≡ Ok p → part_of_number other parts ≡ Ok q → one ≢ other →
-    (e : EditedWithin cmp v loaded tables p s answer) →
-    IsApartChoice cmp e.edited.next level (has_number_of (input_numbers q.files))

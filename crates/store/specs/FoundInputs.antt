@@ -5,7 +5,7 @@ use Rattle.folder.specs.fault.Fault.{Fault}
 use Rattle.folder.specs.fault.FaultName.TheVariants.{Device}
 use Rattle.folder.specs.Comparator.{KeyOrder, ShortKeys}
 use Rattle.folder.specs.Version.{State}
-use Rattle.pick.specs.PickedInputs.{PickedInputs}
+use Rattle.pick.specs.PickedInputs.{IsInputsAnswer, PickedInputs}
 use Rattle.reads.specs.TableContents.{Contents}
 use Rattle.compact.specs.OneThread.{Answer}
 use Rattle.compact.specs.declared.settings.Settings.{Settings}
@@ -19,7 +19,6 @@ use Rattle.install.specs.FolderChange.{FolderChange}
 use Rattle.install.specs.Install.{LoadedVersion}
 use Rattle.store.specs.OrderView.{OrderView}
 use Rattle.store.specs.Outcome.{ChosenCompaction}
-use Rattle.store.specs.declared.choice.Choice.TheVariants.{Picked}
 
 -- if this is what the compaction of inputs answers, and the version's log numbers are below 2 ^ 64,
 -- it makes the edited version
@@ -28,7 +27,7 @@ abbrev pub CanBeInstalled : OrderView → LoadedVersion → ℕ → Settings →
 CanBeInstalled by v level s p answered =
     (answer : Answer) → answered ≡ Ok answer → unwrap_or v.version.log_number 0 < 2 ^ 64 →
     unwrap_or v.version.previous_log 0 < 2 ^ 64 →
-    ChosenCompaction by v (Picked level) None s p answer
+    ChosenCompaction by v (IsInputsAnswer by.cmp v.version level) None s p answer
 
 -- the step of what a compaction of these inputs answers, or its refusal
 abbrev pub step_result : State → PickedInputs → Result Answer Fault → Result StepView Fault

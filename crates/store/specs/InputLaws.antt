@@ -45,4 +45,5 @@ ChosenInstalled cmp short_keys =
     IsLoaded (IsFileIn files) (input_numbers p.files) (Ok own) →
     unwrap_or v.log_number 0 < 2 ^ 64 → unwrap_or v.previous_log 0 < 2 ^ 64 →
     compaction_from first cmp short_keys v own p s ≡ Ok answer →
-    ChosenCompaction (order_by order cmp short_keys) (version_with v loaded) choice first s p answer
+    ChosenCompaction (order_by order cmp short_keys) (version_with v loaded) (IsChosen cmp v choice)
+    first s p answer

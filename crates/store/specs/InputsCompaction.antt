@@ -18,7 +18,7 @@ use Rattle.folder.specs.Calls.{Files}
 use Rattle.folder.specs.LoadedTables.{IsLoaded}
 use Rattle.folder.specs.ReadsAs.{IsFileIn}
 use Rattle.pick.specs.Parts.{IsPartsAnswer}
-use Rattle.pick.specs.PickedInputs.{PickedInputs}
+use Rattle.pick.specs.PickedInputs.{IsInputsAnswer, PickedInputs}
 use Rattle.pick.specs.declared.picked_inputs.InputFile.{InputFile}
 use Rattle.reads.specs.Lawful.{IsBelowNextFile}
 use Rattle.reads.specs.Tables.{NumberedContents}
@@ -30,7 +30,6 @@ use Rattle.store.specs.Choice.{IsChosen}
 use Rattle.store.specs.FolderRequest.{compaction_from}
 use Rattle.store.specs.Step.{IsStepFor, StepView, with_inputs}
 use Rattle.store.specs.declared.choice.Choice.{Choice}
-use Rattle.store.specs.declared.choice.Choice.TheVariants.{Picked}
 
 -- the largest key of each file is below the smallest of the next one
 abbrev pub RangesRise : KeyOrder → List FileMeta → Type 0
@@ -108,4 +107,5 @@ IsChosenAnswer first cmp short_keys files v choice s =
 abbrev pub IsInputsCompacted : KeyOrder → ShortKeys → Files → State → ℕ → Settings →
     Result StepView Fault → Type 0
 IsInputsCompacted cmp short_keys files v level s =
-    IsStepFor v (IsChosenAnswer None cmp short_keys files v (Picked level) s)
+    IsStepFor v (IsThen (IsThen (IsOrderlyAnswer cmp v) (λ passed. IsInputsAnswer cmp v level))
+    (IsPickedAnswer None cmp short_keys files v s))

@@ -22,9 +22,11 @@ pub mod ClosedLaws
 pub mod WholeOutcome
 pub mod FilesToCompact
 pub mod Telling
+pub mod NamedEdits
 -- serves proofs alone
 pub mod CallsAnswer
 pub mod LentFiles
 pub mod InputLaws
 pub mod FoundInputs
 pub mod NameLines
+pub mod ManifestReady

@@ -19,7 +19,6 @@ use Rattle.compact.specs.InputsOver.{AreInputsOver}
 use Rattle.compact.specs.OneThread.{Answer}
 use Rattle.install.specs.Install.{LoadedVersion, table_calls, write_calls}
 use Rattle.compact.specs.declared.settings.Settings.{Settings}
-use Rattle.store.specs.Choice.{IsChosen}
 use Rattle.store.specs.Compaction.{EditedVersion}
 use Rattle.store.specs.FolderRequest.{compaction_from}
 use Rattle.store.specs.InputsCompaction.{IsChosenAnswer}
@@ -65,15 +64,16 @@ IsOutcome first cmp short_keys files v choice s =
     IsThen (IsChosenAnswer first cmp short_keys files v choice s)
     (λ made outcome. outcome ≡ Ok (outcome_of made.0 made.1))
 
--- A compaction of a choice of inputs of a version with the bytes of its tables. The version is
+-- A compaction of inputs that are chosen of a version with the bytes of its tables. The version is
 -- lawful, these inputs are chosen, so they are closed inputs over it, and this is the answer. Its
 -- edit makes the edited version, also by an installation later on: the outputs' numbers are above
 -- the manifest's. The outputs lie within the range of the inputs.
-pub record ChosenCompaction (by : OrderView) (v : LoadedVersion) (choice : Choice)
-    (first : Option ℕ) (s : Settings) (p : PickedInputs) (answer : Answer) : Type 0 where
+pub record ChosenCompaction (by : OrderView) (v : LoadedVersion)
+    (AreChosen : Result PickedInputs Fault → Type 0) (first : Option ℕ) (s : Settings)
+    (p : PickedInputs) (answer : Answer) : Type 0 where
   pub tables : List NumberedContents
   pub lawful : IsLawfulTables by.cmp v.version v.tables (Ok tables)
-  pub is_chosen : IsChosen by.cmp v.version choice (Ok p)
+  pub is_chosen : AreChosen (Ok p)
   pub over : AreInputsOver by.cmp v.version p
   pub answered : compaction_from first by.cmp by.short_keys v.version v.tables p s ≡ Ok answer
   pub edited : EditedVersion by.cmp v.version v.tables tables s answer

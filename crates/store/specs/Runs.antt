@@ -1,6 +1,8 @@
 -- Which calls a compaction makes on a folder, be it one that tells what it holds or not.
 use Rattle.std.specs.Prelude.{◌≡◌, ◌⊎◌, ℕ, List, ◌++◌, codes, map, None, Some, Result, Ok, IfErr, IfOk}
 use Rattle.std.specs.List.{flat_map}
+use Rattle.table.specs.Key.{IsInternalKey}
+use Rattle.table.specs.TableBytes.{AreBytes}
 use Rattle.folder.specs.Answers.{UnlessMemory, fault}
 use Rattle.folder.specs.fault.Fault.{Fault}
 use Rattle.folder.specs.fault.FaultName.TheVariants.{Changed, Device}
@@ -39,14 +41,17 @@ pub record AreInstallCalls {T : Type 0} (name : List ℕ) (cmp : KeyOrder) (v : 
   pub changed : IfErr result (λ e. e ≡ fault Changed → change.after ≡ change.before ++ map Done
       (calls_before_rename (manifest_of v) groups (manifest_bytes name cmp v answer.edit)))
 
--- An answer like this for some inputs was installed: these are its calls. At Ok the step is that of
--- the answer. The only faults are Device, Changed and Memory.
+-- An answer like this for some inputs was installed: these are its calls. The key that the inputs
+-- set is an internal key, and the answer's edit is bytes. At Ok the step is that of the answer. The
+-- only faults are Device, Changed and Memory.
 pub record IsAnswerInstalled (IsAnswer : PickedInputs → Answer → Type 0) (name : List ℕ)
     (cmp : KeyOrder) (v : State) (change : FolderChange) (result : Result CompactionStep Fault)
     : Type 0 where
   pub picked : PickedInputs
   pub answer : Answer
   pub is_answer : IsAnswer picked answer
+  pub pointer : IsInternalKey picked.pointer.key
+  pub bytes : AreBytes answer.edit
   pub calls : AreInstallCalls name cmp v answer change result
   pub step : IfOk result (λ step. step_in step ≡ step_of v picked answer)
   pub refused : IfErr result

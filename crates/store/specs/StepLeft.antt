@@ -15,7 +15,7 @@ use Rattle.folder.specs.ReadsAs.{IsFileIn, ReadsAs}
 use Rattle.folder.specs.declared.order.Order.{Order}
 use Rattle.checks.specs.TestedTables.{IsTested}
 use Rattle.checks.specs.declared.version_totals.VersionTotals.{VersionTotals}
-use Rattle.pick.specs.PickedInputs.{PickedInputs}
+use Rattle.pick.specs.PickedInputs.{IsInputsAnswer, PickedInputs}
 use Rattle.compact.specs.OneThread.{Answer}
 use Rattle.install.specs.Install.{AlwaysStandsAs, LoadedVersion, SurvivesCrash, next_version_tables}
 use Rattle.install.specs.Install.{version_with}
@@ -24,7 +24,6 @@ use Rattle.store.specs.Compaction.{IsSynced, IsUnchanged}
 use Rattle.store.specs.FolderRequest.{manifest_of}
 use Rattle.store.specs.Step.{step_in, step_of}
 use Rattle.store.specs.VersionSync.{AlwaysReadsBy, sync_calls}
-use Rattle.store.specs.declared.choice.Choice.TheVariants.{Picked}
 use Rattle.store.specs.declared.compaction_step.CompactionStep.{CompactionStep}
 use Rattle.install.specs.FolderChange.{FolderChange, change_since}
 use Rattle.store.specs.OrderView.{OrderView, order_view}
@@ -41,7 +40,7 @@ pub record IsStepInstalled (by : OrderView) (v : LoadedVersion) (level : ℕ) (s
     (change : FolderChange) (result : Result CompactionStep Fault) : Type 0 where
   pub picked : PickedInputs
   pub answer : Answer
-  pub compacted : ChosenCompaction by v (Picked level) None s picked answer
+  pub compacted : ChosenCompaction by v (IsInputsAnswer by.cmp v.version level) None s picked answer
   pub survives : SurvivesCrash by.cmp by.order v (version_with compacted.edited.next
       (next_version_tables by.cmp compacted.edited.next answer.tables v.tables)) change result
   pub named : OnOk result

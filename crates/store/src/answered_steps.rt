@@ -12,6 +12,7 @@ ghost use Rattle.store.specs.Step.{step_in, step_of};
 use crate::compaction_outcome::CompactionOutcome;
 use crate::compaction_step::CompactionStep;
 use crate::folder_request::manifest_of;
+use crate::synced_version::SyncMark;
 use compact::{Planned, deletions_of};
 use folder::{Comparator, Fault, Version};
 use install::Outcome;
@@ -36,32 +37,12 @@ pub(crate) fn planned_step<C: Comparator>(
         deleted,
         manifest: manifest_of(version),
         edit,
-    })
-}
-
-/// The step of an outcome of `picked` inputs of a `version`.
-pub fn outcome_step(
-    alloc: Global,
-    version: &Version,
-    picked: &Inputs,
-    outcome: &Outcome,
-) -> Result<CompactionStep, Fault>
-    ensures { EqualOrMemory step_in result
-        (Ok (step_of version.now (picked_in picked.now) (answer_in outcome.now))) }
-{
-    let outputs = sizes_of(alloc, &outcome.tables)?;
-    let deleted = deletions_of(alloc, &picked.files)?;
-    let edit = Vec::from_slice(alloc, &outcome.edit)?;
-    Ok(CompactionStep {
-        outputs,
-        deleted,
-        manifest: manifest_of(version),
-        edit,
+        mark: SyncMark,
     })
 }
 
 /// The answer of a compaction of `picked` inputs that isn't installed.
-pub(crate) fn outcome_answer(
+pub fn outcome_answer(
     alloc: Global,
     picked: &Inputs,
     outcome: Outcome,

@@ -15,6 +15,7 @@ ghost use Rattle.folder.specs.Reports.{OnlyReads, ReportsDevice};
 ghost use Rattle.folder.specs.declared.order.Order.{Order};
 ghost use Rattle.pick.specs.PickedInputs.{PickedInputs};
 ghost use Rattle.reads.specs.Tables.{NumberedContents};
+ghost use Rattle.store.specs.Choice.{IsChosen};
 ghost use Rattle.store.specs.Outcome.{ChosenCompaction, IsOutcome, IsTestAnswer, outcome_in};
 ghost use Rattle.install.specs.Install.{version_with};
 ghost use Rattle.store.specs.OrderView.{order_by, order_view};
@@ -23,10 +24,9 @@ use crate::answered_steps::outcome_answer;
 use crate::choice::{Choice, chosen};
 use crate::compaction_outcome::CompactionOutcome;
 use crate::input_laws::chosen_is_installed;
-use crate::picked_outcome::outcome_of_picked;
+use crate::picked_outcome::{OutcomeSettings, outcome_of_picked};
 use board::Watch;
 use checks::{HeldTables, SharedComparator, Workers, test_and_hold};
-use compact::Settings;
 use folder::{Bytewise, Fault, Opened, Order, ReadsTables, Shortlex, Version};
 use std::thread::Threads;
 
@@ -37,8 +37,8 @@ use std::thread::Threads;
 /// of inputs that it still holds are not read again. Without it no table is read but those of the
 /// inputs. So the caller says that the version is lawful.
 ///
-/// The numbers of the outputs are those from `first` on. Without it the first one comes after the
-/// version's next file, as that of [`compact_opened`](crate::compact_opened).
+/// The numbers of the outputs are those from the `first` that is `asked` on. Without it they begin
+/// after the version's next file, as those of [`compact_opened`](crate::compact_opened).
 ///
 /// The parts of a level can be compacted at the same time, by as many processes or machines as
 /// there are, and installed one after the other. Each one's `first` has to be above the numbers of
@@ -53,7 +53,7 @@ use std::thread::Threads;
 /// - Missing: at the first missing table of an input;
 /// - the first invalid one, as `table::check` refuses it;
 /// - Bounds: one isn't as its file states;
-/// - SplitCount: `settings.ranges` is outside 1 to 4,096;
+/// - SplitCount: the settings' `ranges` is outside 1 to 4,096;
 /// - Numbers: `first` isn't above the version's next file; or without it next file is 2^64 - 1;
 /// - what `compact::compact` is refused as, Workers first.
 pub fn outcome<F: ReadsTables, W: Watch + Sync, R: Threads + Sync>(
@@ -61,8 +61,7 @@ pub fn outcome<F: ReadsTables, W: Watch + Sync, R: Threads + Sync>(
     folder: &mut F,
     opened: &Opened,
     choice: Choice,
-    first: Option<u64>,
-    settings: &Settings<'_>,
+    asked: &OutcomeSettings<'_>,
     test: Option<u64>,
 ) -> Result<CompactionOutcome, Fault>
     // If the folder tells files: the outcome, or the first refusal in this order. Without a test it
@@ -71,8 +70,8 @@ pub fn outcome<F: ReadsTables, W: Watch + Sync, R: Threads + Sync>(
     ensures answer { (files : Files) → Tells (F.tells folder.old) files →
         FolderAnswers outcome_in (F.failed folder.old) (F.failed folder.new) result
         (IsThen (IsTestAnswer test files (order_cmp opened.now.order) opened.now.version)
-        (λ passed. IsOutcome first (order_cmp opened.now.order)
-        (order_short_keys opened.now.order) files opened.now.version choice settings.now)) }
+        (λ passed. IsOutcome asked.now.first (order_cmp opened.now.order)
+        (order_short_keys opened.now.order) files opened.now.version choice asked.now.settings)) }
     // If moreover the version is lawful with the tables that they hold, the outcome makes the
     // edited version, also by a later installation.
     ensures compacted { (files : Files) (loaded : List (ℕ × List ℕ))
@@ -81,18 +80,19 @@ pub fn outcome<F: ReadsTables, W: Watch + Sync, R: Threads + Sync>(
         (Ok loaded) →
         IsLawfulTables (order_cmp opened.now.order) opened.now.version loaded (Ok tables) →
         IfOk result (λ o. (p : PickedInputs) × ChosenCompaction (order_view opened.now.order)
-        (version_with opened.now.version loaded) choice first settings.now p (answer_in
-        o.outcome)) }
+        (version_with opened.now.version loaded)
+        (IsChosen (order_cmp opened.now.order) opened.now.version choice) asked.now.first
+        asked.now.settings p (answer_in o.outcome)) }
     ensures device { ReportsDevice F.Folder folder.old folder.new result }
     ensures reads { OnlyReads F.Folder folder.old folder.new }
 {
     let version = &opened.version;
     match opened.order {
         Order::Bytewise => version_outcome::<Bytewise, F, W, R>(
-            workers, folder, version, choice, first, settings, test,
+            workers, folder, version, choice, asked, test,
         ),
         Order::Shortlex => version_outcome::<Shortlex, F, W, R>(
-            workers, folder, version, choice, first, settings, test,
+            workers, folder, version, choice, asked, test,
         ),
     }
 }
@@ -108,26 +108,27 @@ fn version_outcome<
     folder: &mut F,
     version: &Version,
     choice: Choice,
-    first: Option<u64>,
-    settings: &Settings<'_>,
+    asked: &OutcomeSettings<'_>,
     test: Option<u64>,
 ) -> Result<CompactionOutcome, Fault>
     ensures answer { (files : Files) → Tells (F.tells folder.old) files →
         FolderAnswers outcome_in (F.failed folder.old) (F.failed folder.new) result
         (IsThen (IsTestAnswer test files C.cmp version.now)
-        (λ passed. IsOutcome first C.cmp C.short_keys files version.now choice settings.now)) }
+        (λ passed. IsOutcome asked.now.first C.cmp C.short_keys files version.now choice
+        asked.now.settings)) }
     ensures compacted { (files : Files) (order : Order) (loaded : List (ℕ × List ℕ))
         (tables : List NumberedContents) → Tells (F.tells folder.old) files →
         IsLoaded (IsFileIn files) (file_numbers C.cmp version.now) (Ok loaded) →
         IsLawfulTables C.cmp version.now loaded (Ok tables) →
         IfOk result (λ o. (p : PickedInputs) × ChosenCompaction
-        (order_by order C.cmp C.short_keys) (version_with version.now loaded) choice first
-        settings.now p (answer_in o.outcome)) }
+        (order_by order C.cmp C.short_keys) (version_with version.now loaded)
+        (IsChosen C.cmp version.now choice) asked.now.first asked.now.settings p
+        (answer_in o.outcome)) }
     ensures device { ReportsDevice F.Folder folder.old folder.new result }
     ensures reads { OnlyReads F.Folder folder.old folder.new }
 {
     let held = tested_tables::<C, F, W, R>(workers, folder, version, test)?;
-    chosen_outcome::<C, F, W, R>(workers, folder, held, version, choice, first, settings)
+    chosen_outcome::<C, F, W, R>(workers, folder, held, version, choice, asked)
 }
 
 /// Tests a version, if that is asked for, and hands on the tables that the `test` still holds.
@@ -169,29 +170,27 @@ fn chosen_outcome<
     held: HeldTables<C>,
     version: &Version,
     choice: Choice,
-    first: Option<u64>,
-    settings: &Settings<'_>,
+    asked: &OutcomeSettings<'_>,
 ) -> Result<CompactionOutcome, Fault>
     ensures answer { (files : Files) → Tells (F.tells folder.old) files →
         AreHeldIn C.cmp files held →
         FolderAnswers outcome_in (F.failed folder.old) (F.failed folder.new) result
-        (IsOutcome first C.cmp C.short_keys files version.now choice settings.now) }
+        (IsOutcome asked.now.first C.cmp C.short_keys files version.now choice asked.now.settings) }
     ensures compacted { (files : Files) (order : Order) (loaded : List (ℕ × List ℕ))
         (tables : List NumberedContents) → Tells (F.tells folder.old) files →
         AreHeldIn C.cmp files held →
         IsLoaded (IsFileIn files) (file_numbers C.cmp version.now) (Ok loaded) →
         IsLawfulTables C.cmp version.now loaded (Ok tables) →
         IfOk result (λ o. (p : PickedInputs) × ChosenCompaction
-        (order_by order C.cmp C.short_keys) (version_with version.now loaded) choice first
-        settings.now p (answer_in o.outcome)) }
+        (order_by order C.cmp C.short_keys) (version_with version.now loaded)
+        (IsChosen C.cmp version.now choice) asked.now.first asked.now.settings p
+        (answer_in o.outcome)) }
     ensures device { ReportsDevice F.Folder folder.old folder.new result }
     ensures reads { OnlyReads F.Folder folder.old folder.new }
 {
     let alloc = workers.alloc();
     chosen_is_installed::<C>();
     let picked = chosen::<C>(alloc, version, choice)?;
-    let made = outcome_of_picked::<C, F, W, R>(
-        workers, folder, held, version, &picked, first, settings,
-    )?;
+    let made = outcome_of_picked::<C, F, W, R>(workers, folder, held, version, &picked, asked)?;
     outcome_answer(alloc, &picked, made)
 }

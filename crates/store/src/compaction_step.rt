@@ -1,9 +1,10 @@
 //! What a compaction leaves to its caller.
 
+use crate::synced_version::SyncMark;
 use compact::DeletedFile;
 use std::collections::BTreeSet;
 
-/// A compaction that was installed.
+/// A compaction that was installed. Only this crate makes one.
 #[derive(Drop)]
 pub struct CompactionStep {
     /// The number and the length of each new table, in order.
@@ -14,4 +15,5 @@ pub struct CompactionStep {
     pub manifest: u64,
     /// The bytes of its edit, which makes the edited version of the one before.
     pub edit: Vec<u8>,
+    pub(crate) mark: SyncMark,
 }

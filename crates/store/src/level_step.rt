@@ -1,15 +1,8 @@
-//! What is done around a step of the compaction of all levels: the test before the first one, and
-//! the telling of each.
+//! The telling of a step of the compaction of all levels.
 
 ghost use Rattle.std.specs.Prelude.{◌≡◌, Bool, Err, IfErr, IfOk, Ok};
 ghost use Rattle.std.specs.Option.{IfSome};
 ghost use Rattle.folder.specs.Answers.{UnlessMemory};
-ghost use Rattle.folder.specs.Calls.{Files, Tells};
-ghost use Rattle.folder.specs.OpenAnswer.{FolderAnswers};
-ghost use Rattle.folder.specs.Orders.{order_cmp};
-ghost use Rattle.folder.specs.ReadsAs.{IsFileIn};
-ghost use Rattle.folder.specs.Reports.{OnlyReads, ReportsDevice};
-ghost use Rattle.checks.specs.TestedTables.{IsTested};
 ghost use Rattle.store.specs.OpenedAfter.{IsOpenedAfter};
 ghost use Rattle.store.specs.Step.{step_in};
 ghost use Rattle.store.specs.Telling.{IsGoTold};
@@ -18,11 +11,8 @@ use crate::compaction_step::CompactionStep;
 use crate::install_watch::InstallWatch;
 use crate::next_opened::opened_after;
 use crate::synced_version::SyncedVersion;
-use board::Watch;
-use checks::{VersionTotals, Workers, test_version};
-use folder::{Bytewise, Fault, Order, ReadsTables, Shortlex};
+use folder::Fault;
 use std::alloc::Global;
-use std::thread::Threads;
 
 /// Tells of the compaction of a `level`. What the folder is opened as after it, if it is to go on.
 pub fn tell_step<T: InstallWatch>(
@@ -52,25 +42,5 @@ pub fn tell_step<T: InstallWatch>(
             let _ = told.installed(level, step, &opened.version, None);
             Err(fault)
         }
-    }
-}
-
-/// Tests the version that a folder was `opened` as. It only reads.
-pub fn test_opened<F: ReadsTables, W: Watch + Sync, R: Threads + Sync>(
-    workers: &Workers<'_, R, W>,
-    folder: &mut F,
-    opened: &SyncedVersion,
-    memory: u64,
-) -> Result<VersionTotals, Fault>
-    ensures answer { (files : Files) → Tells (F.tells folder.old) files →
-        FolderAnswers (λ tested. tested) (F.failed folder.old) (F.failed folder.new) result
-        (IsTested (IsFileIn files) (order_cmp opened.now.order) opened.now.version) }
-    ensures device { ReportsDevice F.Folder folder.old folder.new result }
-    ensures reads { OnlyReads F.Folder folder.old folder.new }
-{
-    let version = &opened.version;
-    match opened.order {
-        Order::Bytewise => test_version::<Bytewise, F, W, R>(workers, folder, version, memory),
-        Order::Shortlex => test_version::<Shortlex, F, W, R>(workers, folder, version, memory),
     }
 }

@@ -7,10 +7,9 @@
 //!    takes a [`SyncedVersion`], which none but the second makes of what was opened.
 //! 3. Without a test [`compact_opened`] reads the inputs alone: its caller knows that the version
 //!    is lawful. [`opened_after`] makes what a folder is opened as after it: the next one's.
-//! 4. Parts of the compaction of all levels: [`test_opened`]; [`bottom`] and [`next_level`], which
-//!    say which levels it takes; [`tell_step`], which tells a [`CleanWatch`] of a compaction that
-//!    was installed; [`clean`], which asks it for names, and removes the files of these that the
-//!    version doesn't need.
+//! 4. Parts of the compaction of all levels: [`bottom`] and [`next_level`] say which levels it
+//!    takes; [`tell_step`] tells a [`CleanWatch`] of a compaction that was installed; [`clean`] asks
+//!    it for names, and removes the files of these that the version doesn't need.
 //! 5. [`outcome`] only reads: it answers the outcome of a [`Choice`] of inputs, with the numbers
 //!    that are asked for, after a test of the version or without one. [`write_outcome`] writes it
 //!    into another folder. [`files_to_compact`] names the files that it needs of a level without a
@@ -18,7 +17,8 @@
 //!    of inputs that its caller found.
 //! 6. Parts of these calls, for those who compact whole levels or install an outcome later:
 //!    [`version_is_state`], [`test_files`], [`load_inputs`], [`checked_inputs`], [`bytes_of`],
-//!    [`manifest_of`], [`outcome_step`].
+//!    [`manifest_of`], [`outcome_answer`], [`edit_is_bytes`]. [`name_edits`] installs what was written
+//!    of several compactions, by one manifest.
 //! 7. All tell a [`Watch`] of the work; [`Open`] is the one that does nothing.
 //!
 //! What the clauses say. They are of a folder that tells contracts what it holds, but for `device`,
@@ -60,6 +60,7 @@ mod input_tables;
 mod install_laws;
 mod install_watch;
 mod level_step;
+mod named_edits;
 mod needed_files;
 mod next_opened;
 mod outcome_writer;
@@ -67,12 +68,13 @@ mod part_choice;
 mod part_laws;
 mod picked_outcome;
 mod planned_installation;
+mod ready_manifest;
 mod synced_version;
 mod test_memory;
 mod version_files;
 mod version_sync;
 
-pub use answered_steps::outcome_step;
+pub use answered_steps::outcome_answer;
 pub use board::{Watch, Work};
 pub use checks::{Open, checkers, checkers_of};
 pub use choice::Choice;
@@ -89,14 +91,15 @@ pub use input_tables::{bytes_of, checked_inputs, load_inputs};
 pub use install::RemovalWatch;
 pub use install_laws::{compactions_survive, sync_stands};
 pub use install_watch::InstallWatch;
-pub use level_step::{tell_step, test_opened};
+pub use level_step::tell_step;
+pub use named_edits::{WrittenTables, name_edits};
 pub use needed_files::files_to_compact;
 pub use next_opened::opened_after;
 pub use outcome_writer::{EDIT, write_outcome};
 pub use part_choice::parts_to_compact;
-pub use part_laws::{closed_is_installed, parts_stay};
+pub use part_laws::closed_is_installed;
 pub use pick::Inputs;
-pub use picked_outcome::outcome_of_picked;
+pub use picked_outcome::{OutcomeSettings, edit_is_bytes, outcome_of_picked};
 pub use synced_version::{SyncMark, SyncedVersion};
 pub use version_files::{test_files, version_is_state};
 pub use version_sync::sync_version;

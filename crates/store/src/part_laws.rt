@@ -1,6 +1,6 @@
-//! Laws of closed inputs, and of the parts of a level.
+//! The law of closed inputs.
 
-ghost use Rattle.store.specs.ClosedLaws.{ClosedJointLaw, PartsStay};
+ghost use Rattle.store.specs.ClosedLaws.{ClosedJointLaw};
 
 use compact::passed_law;
 use folder::Comparator;
@@ -15,9 +15,3 @@ pub fn closed_is_installed<C: Comparator>()
     table_reads_back::<C>();
     passed_law::<C>();
 }
-
-/// After one part of a level was compacted and installed, each other one still shares no user key
-/// with a file that stays. So the parts can be installed in any order. A call does nothing.
-pub fn parts_stay<C: Comparator>()
-    ensures { PartsStay C.cmp }
-{}

@@ -2,6 +2,7 @@
 
 ghost use Rattle.std.specs.Prelude.{◌<◌, ◌^◌, IfOk, Ok, unwrap_or};
 ghost use Rattle.table.specs.Key.{IsInternalKey};
+ghost use Rattle.table.specs.TableBytes.{AreBytes};
 ghost use Rattle.checks.specs.HeldTables.{AreHeldBy, AreHeldIn};
 ghost use Rattle.compact.specs.AnswerIn.{answer_in};
 ghost use Rattle.folder.specs.Calls.{Files, Tells};
@@ -25,10 +26,18 @@ use install::Outcome;
 use pick::Inputs;
 use std::thread::Threads;
 
+/// What an outcome that isn't installed is asked to keep to.
+#[derive(Clone, Copy)]
+pub struct OutcomeSettings<'s> {
+    /// The number of the first output. None if it comes after the version's next file.
+    pub first: Option<u64>,
+    /// What the compaction is asked to keep to.
+    pub settings: Settings<'s>,
+}
+
 /// The outcome of the compaction of `picked` inputs, which are those of a choice. Nothing is
 /// installed: it only reads, and no table but those of the inputs that aren't among `held`, which
-/// are tables of the folder. The outputs have the numbers from `first` on, or else
-/// those after the manifest's.
+/// are tables of the folder. What it keeps to is `asked`.
 ///
 /// The first that applies:
 ///
@@ -47,8 +56,7 @@ pub fn outcome_of_picked<
     held: HeldTables<C>,
     version: &Version,
     picked: &Inputs,
-    first: Option<u64>,
-    settings: &Settings<'_>,
+    asked: &OutcomeSettings<'_>,
 ) -> Result<Outcome, Fault>
     requires chosen { (choice : Choice)
         × IsChosen C.cmp version.now choice (Ok (picked_in picked.now)) }
@@ -56,12 +64,12 @@ pub fn outcome_of_picked<
         AreHeldIn C.cmp files held →
         FolderAnswers (λ o. (picked_in picked.now, answer_in o)) (F.failed folder.old)
         (F.failed folder.new) result
-        (IsPickedAnswer first C.cmp C.short_keys files version.now settings.now
+        (IsPickedAnswer asked.now.first C.cmp C.short_keys files version.now asked.now.settings
         (picked_in picked.now)) }
     // Of any folder, also one that tells nothing: the tables are what reads of it may give.
     ensures compacted { AreHeldBy C.cmp (F.tells folder.old) held →
-        IfOk result (λ o. IsPickedCompacted first C.cmp C.short_keys (F.tells folder.old)
-        version.now settings.now (picked_in picked.now) (answer_in o)) }
+        IfOk result (λ o. IsPickedCompacted asked.now.first C.cmp C.short_keys
+        (F.tells folder.old) version.now asked.now.settings (picked_in picked.now) (answer_in o)) }
     // The key that the inputs set is an internal key; the version's log numbers are below 2^64.
     ensures pointer { IsInternalKey picked.now.pointer.key }
     ensures state { IsState version.now.pointers version.now.files }
@@ -73,7 +81,14 @@ pub fn outcome_of_picked<
     sets_internal_key(picked);
     version_is_state::<C>(workers.alloc(), version);
     let tables = held_inputs::<C, F, W, R>(workers, folder, held, version, picked)?;
-    compact_held::<C, W, R>(workers, version, picked, &tables, first, settings)
+    compact_held::<C, W, R>(
+        workers,
+        version,
+        picked,
+        &tables,
+        asked.first,
+        &asked.settings,
+    )
 }
 
 /// The key that inputs set is an internal key. A call does nothing.
@@ -81,4 +96,11 @@ pub(crate) fn sets_internal_key(inputs: &Inputs)
     ensures { IsInternalKey inputs.now.pointer.key }
 {
     let _key = inputs.pointer.key.as_key();
+}
+
+/// An edit is bytes. A call does nothing.
+pub fn edit_is_bytes(edit: &[u8])
+    ensures { AreBytes edit.now }
+{
+    let _bytes = edit;
 }

@@ -14,7 +14,7 @@ ghost use Rattle.folder.specs.Reports.{ReportsDevice};
 ghost use Rattle.folder.specs.declared.order.Order.{Order};
 ghost use Rattle.install.specs.Install.{table_calls, version_with};
 ghost use Rattle.install.specs.GroupedInstallation.{IsGroupedInstallation, asked_of};
-ghost use Rattle.pick.specs.PickedInputs.{picked_in};
+ghost use Rattle.pick.specs.PickedInputs.{IsInputsAnswer, picked_in};
 ghost use Rattle.compact.specs.OneThread.{Answer};
 ghost use Rattle.compact.specs.declared.settings.Settings.{Settings};
 ghost use Rattle.store.specs.CallsAnswer.{IsCallsAnswer};
@@ -25,12 +25,12 @@ ghost use Rattle.store.specs.Runs.{IsRun};
 ghost use Rattle.store.specs.Step.{step_in};
 ghost use Rattle.install.specs.FolderChange.{change_of};
 ghost use Rattle.store.specs.OrderView.{order_by};
-ghost use Rattle.store.specs.declared.choice.Choice.TheVariants.{Picked};
 
 use crate::answered_steps::planned_step;
 use crate::compaction_step::CompactionStep;
 use crate::folder_request::manifest_of;
 use crate::group_tables::GroupTables;
+use crate::picked_outcome::{edit_is_bytes, sets_internal_key};
 use crate::synced_version::SyncedVersion;
 use board::Watch;
 use checks::{SharedComparator, Workers};
@@ -67,7 +67,8 @@ pub(crate) fn install_merged<
         order_name order ≡ C.name_bytes →
         ((a : Answer) → merged.now ≡ Ok a →
         ChosenCompaction (order_by order C.cmp C.short_keys)
-        (version_with opened.now.version loaded) (Picked level) None s (picked_in picked.now) a) →
+        (version_with opened.now.version loaded)
+        (IsInputsAnswer C.cmp opened.now.version level) None s (picked_in picked.now) a) →
         IsStepLeft (order_by order C.cmp C.short_keys) (version_with opened.now.version loaded)
         level s (change_of F.Folder folder.old folder.new) result }
     ensures runs { IsRun (IsAnsweredBy (picked_in picked.now) merged.now) C.name_bytes C.cmp
@@ -77,6 +78,8 @@ pub(crate) fn install_merged<
 {
     let alloc = workers.alloc();
     let planned = merged.planned(alloc)?;
+    sets_internal_key(picked);
+    edit_is_bytes(planned.edit());
     let version = &opened.version;
     let number = manifest_of(version);
     let step = planned_step(alloc, version, picked, &planned)?;

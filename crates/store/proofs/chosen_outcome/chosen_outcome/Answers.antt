@@ -6,6 +6,7 @@ use Rattle.folder.proofs.ReportLemmas.{reports_after, reports_handed, reports_st
 use Rattle.pick.specs.PickedInputs.{PickedInputs, picked_in}
 use Rattle.compact.specs.OneThread.{Answer}
 use Rattle.install.specs.Install.{version_with}
+use Rattle.store.specs.Choice.{IsChosen}
 use Rattle.store.specs.InputsCompaction.{IsChoiceAnswer, IsChosenAnswer, IsPickedAnswer}
 use Rattle.store.specs.OrderView.{order_by}
 use Rattle.store.specs.Outcome.{ChosenCompaction, IsOutcome, OutcomeView, outcome_in, outcome_of}
@@ -21,13 +22,13 @@ returns-in_err-picked-clause-answer g c files told are =
     let cmp = g.C.Comparator.cmp in
     let keys = g.C.Comparator.short_keys in
     let v = c.args.version.now in
-    let s = c.args.settings.now in
+    let s = c.args.asked.now.settings in
     let failed = g.F.Folder.failed in
     let e = c.in_err-picked.field-0.0 in
-    refuses outcome_in (failed c.args.folder.now) (failed c.args.folder.now) c.from_residual.result e (IsChoiceAnswer cmp v c.args.choice) (IsOutcome c.args.first cmp keys files v c.args.choice s)
+    refuses outcome_in (failed c.args.folder.now) (failed c.args.folder.now) c.from_residual.result e (IsChoiceAnswer cmp v c.args.choice) (IsOutcome c.args.asked.now.first cmp keys files v c.args.choice s)
     c.from_residual.ensures.1 c.in_err-picked.ensures
-    (λ h. first_refused (IsChosenAnswer c.args.first cmp keys files v c.args.choice s) (λ made (o : Result OutcomeView Fault). o ≡ Ok (outcome_of made.0 made.1)) e
-    (first_refused (IsChoiceAnswer cmp v c.args.choice) (IsPickedAnswer c.args.first cmp keys files v s) e h))
+    (λ h. first_refused (IsChosenAnswer c.args.asked.now.first cmp keys files v c.args.choice s) (λ made (o : Result OutcomeView Fault). o ≡ Ok (outcome_of made.0 made.1)) e
+    (first_refused (IsChoiceAnswer cmp v c.args.choice) (IsPickedAnswer c.args.asked.now.first cmp keys files v s) e h))
 
 pub returns-in_err-picked-clause-device : goal.returns-in_err-picked-clause-device
 returns-in_err-picked-clause-device g c =
@@ -46,15 +47,15 @@ returns-in_err-made-clause-answer g c files told are =
     let cmp = g.C.Comparator.cmp in
     let keys = g.C.Comparator.short_keys in
     let v = c.args.version.now in
-    let s = c.args.settings.now in
+    let s = c.args.asked.now.settings in
     let failed = g.F.Folder.failed in
     let e = c.in_err-made.field-0.0 in
     let p = picked_in c.in_ok-picked.picked in
-    hands_on outcome_in (failed c.args.folder.now) (failed c.args.folder.now) (failed c.outcome_of_picked.new.folder) c.from_residual-in_err-made.result e (IsPickedAnswer c.args.first cmp keys files v s p)
-    (IsOutcome c.args.first cmp keys files v c.args.choice s)
+    hands_on outcome_in (failed c.args.folder.now) (failed c.args.folder.now) (failed c.outcome_of_picked.new.folder) c.from_residual-in_err-made.result e (IsPickedAnswer c.args.asked.now.first cmp keys files v s p)
+    (IsOutcome c.args.asked.now.first cmp keys files v c.args.choice s)
     c.from_residual-in_err-made.ensures.1 (omega arith) c.outcome_of_picked.ensures.device.later (c.in_err-made.ensures.answer files told are)
-    (λ h. first_refused (IsChosenAnswer c.args.first cmp keys files v c.args.choice s) (λ made (o : Result OutcomeView Fault). o ≡ Ok (outcome_of made.0 made.1)) e
-    (first_passed (IsChoiceAnswer cmp v c.args.choice) (IsPickedAnswer c.args.first cmp keys files v s) p (Err e) c.in_ok-picked.ensures h))
+    (λ h. first_refused (IsChosenAnswer c.args.asked.now.first cmp keys files v c.args.choice s) (λ made (o : Result OutcomeView Fault). o ≡ Ok (outcome_of made.0 made.1)) e
+    (first_passed (IsChoiceAnswer cmp v c.args.choice) (IsPickedAnswer c.args.asked.now.first cmp keys files v s) p (Err e) c.in_ok-picked.ensures h))
 
 pub returns-in_err-made-clause-device : goal.returns-in_err-made-clause-device
 returns-in_err-made-clause-device g c = reports_handed c.from_residual-in_err-made.result c.in_err-made.was c.outcome_of_picked.ensures.device c.from_residual-in_err-made.ensures.1
@@ -64,14 +65,14 @@ returns-clause-answer g c files told are =
     let cmp = g.C.Comparator.cmp in
     let keys = g.C.Comparator.short_keys in
     let v = c.args.version.now in
-    let s = c.args.settings.now in
+    let s = c.args.asked.now.settings in
     let failed = g.F.Folder.failed in
     let p = picked_in c.in_ok-picked.picked in
     let answer = answer_in c.in_ok-made.made in
     let made : PickedInputs × Answer = (p, answer) in
-    equal_answers outcome_in (outcome_of p answer) (failed c.args.folder.now) (failed c.outcome_of_picked.new.folder) c.outcome_answer.result (IsOutcome c.args.first cmp keys files v c.args.choice s)
-    (first_passed (IsChosenAnswer c.args.first cmp keys files v c.args.choice s) (λ made (o : Result OutcomeView Fault). o ≡ Ok (outcome_of made.0 made.1)) made (Ok (outcome_of p answer))
-    (first_passed (IsChoiceAnswer cmp v c.args.choice) (IsPickedAnswer c.args.first cmp keys files v s) p (Ok made) c.in_ok-picked.ensures (c.in_ok-made.ensures.answer files told are)) refl)
+    equal_answers outcome_in (outcome_of p answer) (failed c.args.folder.now) (failed c.outcome_of_picked.new.folder) c.outcome_answer.result (IsOutcome c.args.asked.now.first cmp keys files v c.args.choice s)
+    (first_passed (IsChosenAnswer c.args.asked.now.first cmp keys files v c.args.choice s) (λ made (o : Result OutcomeView Fault). o ≡ Ok (outcome_of made.0 made.1)) made (Ok (outcome_of p answer))
+    (first_passed (IsChoiceAnswer cmp v c.args.choice) (IsPickedAnswer c.args.asked.now.first cmp keys files v s) p (Ok made) c.in_ok-picked.ensures (c.in_ok-made.ensures.answer files told are)) refl)
     c.outcome_answer.ensures
 
 pub returns-clause-compacted : goal.returns-clause-compacted
@@ -79,15 +80,15 @@ returns-clause-compacted g c files order loaded tables told are held sound =
     let cmp = g.C.Comparator.cmp in
     let keys = g.C.Comparator.short_keys in
     let v = c.args.version.now in
-    let s = c.args.settings.now in
-    let first = c.args.first in
+    let s = c.args.asked.now.settings in
+    let first = c.args.asked.now.first in
     let p = picked_in c.in_ok-picked.picked in
     let answer = answer_in c.in_ok-made.made in
     let out = c.in_ok-made.ensures in
     let own = picked_answered first cmp keys files v s p answer (out.answer files told are) in
     let done = c.chosen_is_installed.ensures order first files v loaded own.own tables c.args.choice p s answer held sound out.state (choice_chosen cmp v c.args.choice p c.in_ok-picked.ensures) out.pointer own.read out.logs.0 out.logs.1 own.answered in
-    equal_ok outcome_in (outcome_of p answer) c.outcome_answer.result (λ o. (q : PickedInputs) × ChosenCompaction (order_by order cmp keys) (version_with v loaded) c.args.choice first s q (answer_in o.outcome))
-    (λ o same. (p, subst (λ (a : Answer). ChosenCompaction (order_by order cmp keys) (version_with v loaded) c.args.choice first s p a) (sym (ap (λ (x : OutcomeView). x.answer) same)) done)) c.outcome_answer.ensures
+    equal_ok outcome_in (outcome_of p answer) c.outcome_answer.result (λ o. (q : PickedInputs) × ChosenCompaction (order_by order cmp keys) (version_with v loaded) (IsChosen cmp v c.args.choice) first s q (answer_in o.outcome))
+    (λ o same. (p, subst (λ (a : Answer). ChosenCompaction (order_by order cmp keys) (version_with v loaded) (IsChosen cmp v c.args.choice) first s p a) (sym (ap (λ (x : OutcomeView). x.answer) same)) done)) c.outcome_answer.ensures
 
 pub returns-clause-device : goal.returns-clause-device
 returns-clause-device g c =

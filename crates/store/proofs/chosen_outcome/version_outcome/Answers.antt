@@ -13,7 +13,7 @@ returns-in_err-held-clause-answer g c files told =
     let v = c.args.version.now in
     let failed = g.F.Folder.failed in
     let e = c.in_err-held.field-0.0 in
-    let all = λ (passed : Unit {0}). IsOutcome c.args.first cmp g.C.Comparator.short_keys files v c.args.choice c.args.settings.now in
+    let all = λ (passed : Unit {0}). IsOutcome c.args.asked.now.first cmp g.C.Comparator.short_keys files v c.args.choice c.args.asked.now.settings in
     hands_on outcome_in (failed c.args.folder.now) (failed c.args.folder.now) (failed c.tested_tables.new.folder) c.from_residual.result e (IsTestAnswer c.args.test files cmp v) (IsThen (IsTestAnswer c.args.test files cmp v) all)
     c.from_residual.ensures.1 (omega arith) c.tested_tables.ensures.device.later (c.in_err-held.ensures.answer files told) (λ h. first_refused (IsTestAnswer c.args.test files cmp v) all e h)
 
@@ -26,7 +26,7 @@ returns-clause-answer g c files told =
     let v = c.args.version.now in
     let tells = g.F.Folder.tells in
     let failed = g.F.Folder.failed in
-    let all = IsOutcome c.args.first cmp g.C.Comparator.short_keys files v c.args.choice c.args.settings.now in
+    let all = IsOutcome c.args.asked.now.first cmp g.C.Comparator.short_keys files v c.args.choice c.args.asked.now.settings in
     let still = told_still (tells c.args.folder.now) (tells c.tested_tables.new.folder) files c.tested_tables.ensures.reads.same told in
     answers_since outcome_in (failed c.args.folder.now) (failed c.tested_tables.new.folder) (failed c.chosen_outcome.new.folder) c.chosen_outcome.result all (IsThen (IsTestAnswer c.args.test files cmp v) (λ passed. all))
     (λ a h. first_passed (IsTestAnswer c.args.test files cmp v) (λ (passed : Unit {0}). all) tt a (c.in_ok-held.ensures.answer files told) h)

@@ -24,14 +24,14 @@ returns-in_err-tables-clause-answer g c files told are =
     let cmp = g.C.Comparator.cmp in
     let keys = g.C.Comparator.short_keys in
     let v = c.args.version.now in
-    let s = c.args.settings.now in
+    let s = c.args.asked.now.settings in
     let failed = g.F.Folder.failed in
     let e = c.in_err-tables.field-0.0 in
     let p = picked_in c.args.picked.now in
     hands_on (λ o. (p, answer_in o)) (failed c.args.folder.now) (failed c.args.folder.now) (failed c.held_inputs.new.folder) c.from_residual.result e (IsCheckedAnswer cmp files (input_numbers p.files))
-    (IsPickedAnswer c.args.first cmp keys files v s p)
+    (IsPickedAnswer c.args.asked.now.first cmp keys files v s p)
     c.from_residual.ensures.1 (omega arith) c.held_inputs.ensures.device.later (c.in_err-tables.ensures.answer files told are)
-    (λ h. checked_refused cmp c.args.first keys files v s p e h)
+    (λ h. checked_refused cmp c.args.asked.now.first keys files v s p e h)
 
 pub returns-in_err-tables-clause-device : goal.returns-in_err-tables-clause-device
 returns-in_err-tables-clause-device g c = reports_handed c.from_residual.result c.in_err-tables.was c.held_inputs.ensures.device c.from_residual.ensures.1
@@ -41,19 +41,19 @@ returns-clause-answer g c files told are =
     let cmp = g.C.Comparator.cmp in
     let keys = g.C.Comparator.short_keys in
     let v = c.args.version.now in
-    let s = c.args.settings.now in
+    let s = c.args.asked.now.settings in
     let failed = g.F.Folder.failed in
     let p = picked_in c.args.picked.now in
     let tables = c.in_ok-tables.tables in
     let loaded : IsLoaded (IsFileIn files) (input_numbers p.files) (Ok (held_bytes tables)) = checked_loaded cmp files (input_numbers p.files) tables (c.in_ok-tables.ensures.answer files told are) in
-    held_answers (λ o. (p, answer_in o)) (failed c.args.folder.now) (failed c.held_inputs.new.folder) c.compact_held.result (IsReadAnswer c.args.first cmp keys v s p (held_bytes tables)) (IsPickedAnswer c.args.first cmp keys files v s p)
-    (λ (a : Result (PickedInputs × Answer) Fault) h. first_passed (IsLoaded (IsFileIn files) (input_numbers p.files)) (IsReadAnswer c.args.first cmp keys v s p) (held_bytes tables) a loaded h)
+    held_answers (λ o. (p, answer_in o)) (failed c.args.folder.now) (failed c.held_inputs.new.folder) c.compact_held.result (IsReadAnswer c.args.asked.now.first cmp keys v s p (held_bytes tables)) (IsPickedAnswer c.args.asked.now.first cmp keys files v s p)
+    (λ (a : Result (PickedInputs × Answer) Fault) h. first_passed (IsLoaded (IsFileIn files) (input_numbers p.files)) (IsReadAnswer c.args.asked.now.first cmp keys v s p) (held_bytes tables) a loaded h)
     c.compact_held.ensures.answer
 
 pub returns-clause-compacted : goal.returns-clause-compacted
 returns-clause-compacted g c are =
     let p = picked_in c.args.picked.now in
-    picked_compacted c.args.first g.C.Comparator.cmp g.C.Comparator.short_keys (g.F.Folder.tells c.args.folder.now) c.args.version.now c.args.settings.now p (held_bytes c.in_ok-tables.tables) (c.in_ok-tables.ensures.read are)
+    picked_compacted c.args.asked.now.first g.C.Comparator.cmp g.C.Comparator.short_keys (g.F.Folder.tells c.args.folder.now) c.args.version.now c.args.asked.now.settings p (held_bytes c.in_ok-tables.tables) (c.in_ok-tables.ensures.read are)
     c.compact_held.result c.compact_held.ensures.answer c.compact_held.ensures.outcome
 
 pub returns-clause-device : goal.returns-clause-device
@@ -62,8 +62,8 @@ returns-clause-device g c =
     let cmp = g.C.Comparator.cmp in
     let keys = g.C.Comparator.short_keys in
     let v = c.args.version.now in
-    let s = c.args.settings.now in
+    let s = c.args.asked.now.settings in
     let p = picked_in c.args.picked.now in
     let loaded = held_bytes c.in_ok-tables.tables in
     reports_after c.compact_held.result c.in_ok-tables.was c.held_inputs.ensures.device
-    (never_answered (failed c.args.folder.now) (failed c.held_inputs.new.folder) (λ o. (p, answer_in o)) c.compact_held.result (IsReadAnswer c.args.first cmp keys v s p loaded) (λ e. read_other c.args.first cmp keys v p s loaded e) c.compact_held.ensures.answer)
+    (never_answered (failed c.args.folder.now) (failed c.held_inputs.new.folder) (λ o. (p, answer_in o)) c.compact_held.result (IsReadAnswer c.args.asked.now.first cmp keys v s p loaded) (λ e. read_other c.args.asked.now.first cmp keys v p s loaded e) c.compact_held.ensures.answer)

@@ -1,4 +1,5 @@
 use Rattle.std.proofs.Common.{ℕ, List, Some, Result, Ok, codes, refl, subst, arith, inl}
+use Rattle.table.specs.TableBytes.{AreBytes}
 use Rattle.folder.specs.fault.Fault.{Fault}
 use Rattle.compact.specs.GroupedAnswer.{joined_answer}
 use Rattle.folder.proofs.ReportLemmas.{reports_after, reports_handed, reports_steady}
@@ -107,7 +108,7 @@ returns-in_err-install_planned-clause-runs g c =
     let done = c.install_planned.ensures in
     install_refused (IsAnsweredBy p c.args.merged.now) g.C.Comparator.name_bytes g.C.Comparator.cmp v c.manifest_of-number.result planned.groups p answer
     (calls a) (calls n) (tells a) (tells n) (failed a) (failed n) c.install_planned.result c.from_residual-in_err-install_planned.result c.in_err-install_planned.field-0.0
-    c.manifest_of-number.ensures refl (refl, c.in_ok-planned.ensures.answer) c.in_err-install_planned.was c.from_residual-in_err-install_planned.ensures.1
+    c.manifest_of-number.ensures refl (refl, c.in_ok-planned.ensures.answer) c.sets_internal_key.ensures (subst AreBytes c.edit.ensures c.edit_is_bytes.ensures) c.in_err-install_planned.was c.from_residual-in_err-install_planned.ensures.1
     done.runs done.left done.refused
 
 pub returns-in_err-install_planned-clause-other : goal.returns-in_err-install_planned-clause-other
@@ -160,7 +161,7 @@ returns-clause-runs g c =
     let p = picked_in c.args.picked.now in
     install_done (IsAnsweredBy p c.args.merged.now) g.C.Comparator.name_bytes g.C.Comparator.cmp v c.manifest_of-number.result planned.groups p answer
     (calls a) (calls n) (tells a) (tells n) c.install_planned.result _ c.in_ok-step.step
-    c.manifest_of-number.ensures refl (refl, c.in_ok-planned.ensures.answer) c.in_ok-install_planned.was
+    c.manifest_of-number.ensures refl (refl, c.in_ok-planned.ensures.answer) c.sets_internal_key.ensures (subst AreBytes c.edit.ensures c.edit_is_bytes.ensures) c.in_ok-install_planned.was
     c.install_planned.ensures.runs (equal_value step_in (step_of v p answer) c.in_ok-step.step c.in_ok-step.ensures)
 
 pub returns-clause-other : goal.returns-clause-other

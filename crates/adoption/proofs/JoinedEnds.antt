@@ -9,19 +9,19 @@ use Rattle.edit.specs.fault.FaultName.TheVariants.{Apply}
 use Rattle.edit.specs.Comparator.{KeyOrder}
 use Rattle.edit.specs.Edit.{IsEdit, IsEditRefused, edit_bytes}
 use Rattle.edit.specs.Version.{State}
-use Rattle.folder.specs.Calls.{Call, Files, Tells, ToldFiles}
+use Rattle.folder.specs.Calls.{Files, Tells, ToldFiles}
 use Rattle.folder.specs.CallSequence.{MakesCalls}
 use Rattle.folder.specs.ReadsAs.{ReadsAs}
 use Rattle.folder.specs.Reports.{OnlyReads, ReportsDevice}
 use Rattle.folder.specs.declared.folder.Folder.{Ghosts}
 use Rattle.folder.specs.declared.order.Order.{Order}
-use Rattle.folder.proofs.CountLemmas.{stops_ok, stops_on}
 use Rattle.install.specs.FolderChange.{change_of}
 use Rattle.install.specs.GroupedInstallation.{IsGroupedInstallation, asked_of}
 use Rattle.install.specs.Install.{IsEditedBy, SurvivesCrash, current_calls, manifest_calls, next_version_tables, table_calls, version_with}
 use Rattle.install.specs.InstallCalls.{IsInstallCalls}
 use Rattle.install.proofs.Grouped.{groups_installed}
 use Rattle.store.proofs.Flow.{no_value}
+use Rattle.store.proofs.NamedEnds.{done_install, handed_install}
 use Rattle.store.proofs.InstallPart.{refused_ok}
 use Rattle.store.specs.FolderRequest.{manifest_of}
 use Rattle.adoption.specs.TakenIn.{AreInstalledTogether, AreTaken, IsTakenInstalled, IsTakingStopped, version_in}
@@ -36,36 +36,6 @@ use Rattle.adoption.specs.declared.taken_outcomes.TakenOutcomes.{TakenOutcomes}
 use Rattle.adoption.proofs.TakenEnds.{nothing_since, read_now, taken_still, version_tables}
 use Rattle.adoption.proofs.TakenSteps.{nothing_written}
 use Rattle.adoption.proofs.TakenTurns.{edited_in_turn, groups_joined, one_edit_of}
-
--- ---- the same calls, under another answer
-
-calls_err : {F X Y : Type 0} {g : Ghosts F} (one two : List Call) (opened : ℕ) (old new : F) (e : Fault) → IsInstallCalls {X = X} g one two opened old new (Err e) → IsInstallCalls {X = Y} g one two opened old new (Err e)
-calls_err {X = X} {Y = Y} {g = g} one two opened old new e h = record {
-  runs = record { steps = h.runs.steps; made = h.runs.made; appended = h.runs.appended; change = h.runs.change };
-  left = h.left;
-  refused = h.refused;
-  same_current = h.same_current;
-  other_current = h.other_current;
-  device = record { device = h.device.device; at_once = stops_on {X = Y} {Z = X} (g.failed old) (g.failed new) (Err e) (Err e) e refl refl h.device.at_once; later = h.device.later };
-}
-
-calls_ok : {F X Y : Type 0} {g : Ghosts F} (one two : List Call) (opened : ℕ) (old new : F) (x : X) (y : Y) → IsInstallCalls g one two opened old new (Ok x) → IsInstallCalls g one two opened old new (Ok y)
-calls_ok {X = X} {Y = Y} {g = g} one two opened old new x y h = record {
-  runs = record { steps = h.runs.steps; made = h.runs.made; appended = h.runs.appended; change = h.runs.change };
-  left = tt;
-  refused = tt;
-  same_current = λ files told is. tt;
-  other_current = λ files told other. h.other_current files told other;
-  device = record { device = tt; at_once = stops_ok {X = Y} {Z = X} (g.failed old) (g.failed new) x (Ok x) (Ok y) refl h.device.at_once; later = h.device.later };
-}
-
-pub handed_install : {F X Y : Type 0} {g : Ghosts F} (one two : List Call) (opened : ℕ) (old new : F) (r : Result X Fault) (q : Result Y Fault) (e : Fault) → r ≡ Err e → IsErrAnd q (λ f. f ≡ e) → IsInstallCalls g one two opened old new r → IsInstallCalls g one two opened old new q
-handed_install one two opened old new r (Ok y) e was is h = absurd is
-handed_install {X = X} {Y = Y} {g = g} one two opened old new r (Err f) e was is h =
-    subst (λ (d : Fault). IsInstallCalls {X = Y} g one two opened old new (Err d)) (sym is) (calls_err {X = X} {Y = Y} {g = g} one two opened old new e (subst (λ (x : Result X Fault). IsInstallCalls g one two opened old new x) was h))
-
-pub done_install : {F X Y : Type 0} {g : Ghosts F} (one two : List Call) (opened : ℕ) (old new : F) (r : Result X Fault) (x : X) (y : Y) → r ≡ Ok x → IsInstallCalls g one two opened old new r → IsInstallCalls {X = Y} g one two opened old new (Ok y)
-done_install {X = X} {g = g} one two opened old new r x y was h = calls_ok {g = g} one two opened old new x y (subst (λ (z : Result X Fault). IsInstallCalls g one two opened old new z) was h)
 
 -- ---- the ends of the last step
 

@@ -27,7 +27,7 @@ use Rattle.compact.specs.Request.{RequestView, request_test}
 use Rattle.store.specs.FolderRequest.{last_of, manifest_of}
 use Rattle.store.specs.InputsCompaction.{IsOrderlyAnswer, input_numbers, input_tables}
 use Rattle.store.specs.OpenedAfter.{IsEditAnswer}
-use Rattle.store.specs.Step.{StepView, step_of}
+use Rattle.store.specs.Outcome.{OutcomeView, outcome_of}
 use Rattle.adoption.specs.EditFit.{IsFitting}
 use Rattle.adoption.specs.KeptEntries.{IsKeptAnswer}
 use Rattle.adoption.specs.declared.comparison.Comparison.{Comparison}
@@ -164,16 +164,17 @@ IsGivenTested cmp files given comparison =
     IsThen (λ read. input_tables cmp given.0.outputs given.1 ≡ read)
     (IsComparison cmp files given.0 comparison)
 
--- the step of an outcome that was given: its tables, the inputs, and the adopted edit
-abbrev pub adopted_step : State → Adoption × List (ℕ × List ℕ) → StepView
-adopted_step v given = step_of v given.0.picked (record { tables = given.1; edit = given.0.edit })
+-- an outcome that was given, for its inputs: its tables, and the adopted edit
+abbrev pub adopted_outcome : Adoption × List (ℕ × List ℕ) → OutcomeView
+adopted_outcome given =
+    outcome_of given.0.picked (record { tables = given.1; edit = given.0.edit })
 
--- the answer for an outcome that was given: the refusal of its outputs, or the step
-abbrev pub IsGivenTaken : KeyOrder → Files → State → Adoption × List (ℕ × List ℕ) →
-    Comparison → Result StepView Fault → Type 0
-IsGivenTaken cmp files v given comparison =
+-- the answer for an outcome that was given: the refusal of its outputs, or itself
+abbrev pub IsGivenTaken : KeyOrder → Files → Adoption × List (ℕ × List ℕ) → Comparison →
+    Result OutcomeView Fault → Type 0
+IsGivenTaken cmp files given comparison =
     IsThen (IsGivenTested cmp files given comparison)
-    (λ passed answer. answer ≡ Ok (adopted_step v given))
+    (λ passed answer. answer ≡ Ok (adopted_outcome given))
 
 -- ---- the version
 

@@ -21,7 +21,7 @@ use Rattle.install.specs.Install.{IsEditedBy, IsStoppedOrChanged, SurvivesCrash}
 use Rattle.install.specs.Install.{calls_before_rename, install_calls, manifest_bytes}
 use Rattle.install.specs.Install.{next_version_tables, table_calls, version_with}
 use Rattle.store.specs.FolderRequest.{manifest_of}
-use Rattle.store.specs.Step.{StepView, step_in}
+use Rattle.store.specs.Outcome.{OutcomeView, outcome_in}
 use Rattle.adoption.specs.Adoption.{IsLastTested}
 use Rattle.adoption.specs.TakenOutcomes.{AreTakenInTurn, Given, IsLawfulAfter, IsLawfulSoFar}
 use Rattle.adoption.specs.TakenOutcomes.{edits_in, given_tables, groups_of}
@@ -33,8 +33,8 @@ use Rattle.adoption.specs.declared.taken_outcomes.TakenOutcomes.{TakenOutcomes}
 abbrev pub version_in : TakenOutcomes → State
 version_in t = unwrap_or t.next t.opened.now.version
 
-abbrev pub step_taken : TakenOutcome → StepView
-step_taken t = step_in t.step
+abbrev pub outcome_taken : TakenOutcome → OutcomeView
+outcome_taken t = outcome_in t.made
 
 -- From one state of a folder on these outcomes were taken in, for the first version: just their
 -- tables were written. If outputs are compared and the folder read as that version, it was lawful,

@@ -16,7 +16,7 @@ use Rattle.keep.specs.Readable.{is_read, readable_of}
 use Rattle.keep.specs.Tables.{NumberedContents}
 use Rattle.checks.specs.LawfulTables.{IsLawfulTables}
 use Rattle.store.specs.FolderRequest.{manifest_of}
-use Rattle.store.specs.Step.{StepView}
+use Rattle.store.specs.Outcome.{OutcomeView}
 use Rattle.adoption.specs.Adoption.{Adoption, IsGiven, IsGivenTaken}
 use Rattle.adoption.specs.AdoptedOutcome.{IsAdopted}
 use Rattle.adoption.specs.declared.comparison.Comparison.{Comparison}
@@ -45,12 +45,12 @@ abbrev pub IsGivenNext : KeyOrder → ToldFiles → State → State → Result G
 IsGivenNext cmp tells first v = IsThen (IsGiven cmp tells v)
     (λ given answer. answer ≡ given_if (has_opened_inputs first given) given)
 
--- the answer for the outcome that a folder holds: its step, as if those before it were installed
+-- the answer for the outcome that a folder holds, as if those before it were installed
 abbrev pub IsTakenFrom : KeyOrder → Files → Files → State → State → Comparison →
-    Result StepView Fault → Type 0
+    Result OutcomeView Fault → Type 0
 IsTakenFrom cmp files source first v comparison =
     IsThen (IsGivenNext cmp (IsFileIn source) first v) (λ given.
-    IsGivenTaken cmp files v given comparison)
+    IsGivenTaken cmp files given comparison)
 
 -- ---- outcomes, of which the last is the first of the list
 

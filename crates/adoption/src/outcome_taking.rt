@@ -8,11 +8,11 @@ ghost use Rattle.folder.specs.Calls.{Files, Tells};
 ghost use Rattle.folder.specs.OpenAnswer.{FolderAnswers};
 ghost use Rattle.folder.specs.Orders.{order_cmp};
 ghost use Rattle.folder.specs.Reports.{OnlyReads, ReportsDevice};
-ghost use Rattle.adoption.specs.Adoption.{IsGivenTaken, adopted_step};
+ghost use Rattle.adoption.specs.Adoption.{IsGivenTaken, adopted_outcome};
 ghost use Rattle.adoption.specs.AdoptedOutcome.{IsAdopted};
 ghost use Rattle.adoption.specs.AdoptionIn.{given_in};
 ghost use Rattle.adoption.specs.BothFolders.{AnswersFrom, HasEitherFailed, ReportsEither};
-ghost use Rattle.adoption.specs.TakenIn.{IsTakingEnd, step_taken, version_in};
+ghost use Rattle.adoption.specs.TakenIn.{IsTakingEnd, outcome_taken, version_in};
 ghost use Rattle.adoption.specs.TakenOutcomes.{IsGivenNext, IsTakenFrom, has_opened_inputs};
 ghost use Rattle.adoption.specs.TakingSteps.{IsTakingOf, IsWrittenTaking};
 
@@ -27,7 +27,7 @@ use install::write_group;
 use pick::InputFile;
 use std::alloc::Global;
 use std::thread::Threads;
-use store::{manifest_of, outcome_step};
+use store::{manifest_of, outcome_answer};
 
 /// Takes in the outcome that `source` holds, after those that were `taken`: tests it against the
 /// version that they leave, and writes its tables. Nothing is installed yet: [`install_taken`] does
@@ -84,10 +84,10 @@ pub fn take_outcome<'o, F: Folder, G: Folder, W: Watch + Sync, R: Threads + Sync
     source: &mut G,
     taken: TakenOutcomes<'o>,
 ) -> Result<TakenOutcome<'o>, Fault>
-    // If both folders tell files: the step of the outcome, or its first refusal.
+    // If both folders tell files: the outcome, or its first refusal.
     ensures answer { (files given : Files) → Tells (F.tells folder.old) files →
         Tells (G.tells source.old) given →
-        AnswersFrom step_taken (HasEitherFailed F.Folder G.Folder folder.old folder.new source.old
+        AnswersFrom outcome_taken (HasEitherFailed F.Folder G.Folder folder.old folder.new source.old
         source.new) result (IsTakenFrom (order_cmp taken.entry.opened.now.order) files given
         taken.entry.opened.now.version (version_in taken.entry) taken.entry.comparison) }
     // If outcomes were taken in from a folder on, this one was after them; or it was refused, and
@@ -120,7 +120,7 @@ fn take_from<
 ) -> Result<TakenOutcome<'o>, Fault>
     ensures answer { (files given : Files) → Tells (F.tells folder.old) files →
         Tells (G.tells source.old) given →
-        AnswersFrom step_taken (HasEitherFailed F.Folder G.Folder folder.old folder.new source.old
+        AnswersFrom outcome_taken (HasEitherFailed F.Folder G.Folder folder.old folder.new source.old
         source.new) result (IsTakenFrom C.cmp files given
         taken.entry.opened.now.version (version_in taken.entry) taken.entry.comparison) }
     ensures taken { (first : F) → IsTakingEnd F.Folder C.cmp first folder.old folder.new
@@ -175,9 +175,8 @@ fn take_given<'o, C: SharedComparator + 'static, F: Folder, W: Watch + Sync, R: 
 ) -> Result<TakenOutcome<'o>, Fault>
     requires { IsAdopted C.cmp (version_in taken) (given_in given) }
     ensures answer { (files : Files) → Tells (F.tells folder.old) files →
-        FolderAnswers step_taken (F.failed folder.old) (F.failed folder.new) result
-        (IsGivenTaken C.cmp files (version_in taken.entry) (given_in given)
-        taken.entry.comparison) }
+        FolderAnswers outcome_taken (F.failed folder.old) (F.failed folder.new) result
+        (IsGivenTaken C.cmp files (given_in given) taken.entry.comparison) }
     ensures taken { IsTakingOf F.Folder C.cmp (given_in given) folder.old folder.new taken.entry
         result }
     ensures device { ReportsDevice F.Folder folder.old folder.new result }
@@ -194,23 +193,29 @@ fn write_taken<'o, F: Folder, R: Threads + Sync>(
     taken: TakenOutcomes<'o>,
     given: GivenOutcome,
 ) -> Result<TakenOutcome<'o>, Fault>
-    ensures answer { FolderAnswers step_taken (F.failed folder.old) (F.failed folder.new) result
-        (λ answer. answer ≡ Ok (adopted_step (version_in taken.entry) (given_in given))) }
+    ensures answer { FolderAnswers outcome_taken (F.failed folder.old) (F.failed folder.new) result
+        (λ answer. answer ≡ Ok (adopted_outcome (given_in given))) }
     ensures taken { IsWrittenTaking F.Folder (given_in given) folder.old folder.new taken.entry
         result }
     ensures device { ReportsDevice F.Folder folder.old folder.new result }
 {
-    let step = outcome_step(alloc, version_left(&taken), &given.picked, &given.outcome)?;
-    let edits = joined(alloc, &taken.edits, &given.outcome.edit)?;
-    write_group(rt, folder, &given.outcome.tables)?;
+    let GivenOutcome {
+        picked,
+        next,
+        outcome,
+        ..
+    } = given;
+    let made = outcome_answer(alloc, &picked, outcome)?;
+    let edits = joined(alloc, &taken.edits, &made.outcome.edit)?;
+    write_group(rt, folder, &made.outcome.tables)?;
     Ok(TakenOutcome {
         taken: TakenOutcomes {
             opened: taken.opened,
             comparison: taken.comparison,
-            next: Some(given.next),
+            next: Some(next),
             edits,
         },
-        step,
+        made,
     })
 }
 

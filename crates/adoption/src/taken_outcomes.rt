@@ -5,7 +5,7 @@ ghost use Rattle.adoption.specs.TakenIn.{version_in};
 
 use crate::comparison::Comparison;
 use edit::Version;
-use store::{CompactionStep, SyncedVersion};
+use store::{CompactionOutcome, SyncedVersion};
 
 /// Outcomes that were taken in, one after the other. Each was tested against the version that those
 /// before it leave, and its tables were written. No version names these tables yet.
@@ -25,8 +25,8 @@ pub struct TakenOutcomes<'o> {
 #[derive(Drop)]
 pub struct TakenOutcome<'o> {
     pub taken: TakenOutcomes<'o>,
-    /// What that one makes of the version that those before it leave.
-    pub step: CompactionStep,
+    /// That one, with its inputs.
+    pub made: CompactionOutcome,
 }
 
 /// The version that outcomes leave: at first the one that was opened.

@@ -11,11 +11,11 @@ ghost use Rattle.adoption.specs.TakenIn.{AreTaken, version_in};
 use crate::comparison::Comparison;
 use crate::taken_outcomes::TakenOutcomes;
 use board::Watch;
-use checks::Workers;
+use checks::{Workers, test_by_order};
 use edit::Fault;
 use folder::ReadsTables;
 use std::thread::Threads;
-use store::{SyncedVersion, test_opened};
+use store::SyncedVersion;
 
 /// No outcome yet, for what a folder was `opened` as. If outputs are to be compared, it tests that
 /// version, once for all outcomes: as long as it is lawful, so is each one that they leave. It only
@@ -66,6 +66,6 @@ fn test_first<F: ReadsTables, W: Watch + Sync, R: Threads + Sync>(
     let Comparison::With(_) = comparison else {
         return Ok(());
     };
-    test_opened(workers, folder, opened, memory)?;
+    test_by_order(workers, folder, opened.order, &opened.version, memory)?;
     Ok(())
 }

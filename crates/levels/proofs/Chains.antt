@@ -42,15 +42,16 @@ use Rattle.store.specs.InputsCompaction.{input_numbers}
 use Rattle.levels.specs.WholeRuns.{GroupedAnswer}
 use Rattle.store.specs.PickedOutcome.{IsPickedCompacted}
 use Rattle.store.proofs.Flow.{loaded_in}
-use Rattle.store.proofs.PartFiles.{AreParts, ArePlaced, answered, part_by, part_placed}
+use Rattle.store.proofs.PartFiles.{AreParts, ArePlaced, answered}
 use Rattle.store.proofs.PlacedInputs.{same_compaction}
 use Rattle.levels.specs.PartsEnd.{last_after}
 use Rattle.levels.specs.WholeAnswer.{edits_of, next_last, part_result, parts_result, tables_of}
 use Rattle.levels.specs.WholeRuns.{ArePartLinks, answers_in, groups_in}
 use Rattle.levels.proofs.FewOutputs.{first_told}
-use Rattle.levels.proofs.PartsBase.{ShareNoFile, share_no_file, stands_apart}
+use Rattle.levels.proofs.PartsBase.{ShareNoFile, stands_apart}
+use Rattle.levels.proofs.SelectedParts.{AreAmong, among_placed, among_share, in_all}
 use Rattle.levels.proofs.Rows.{Known, edited_version, known_on}
-use Rattle.levels.proofs.StayingInputs.{StandApart}
+use Rattle.levels.specs.ApartParts.{StandApart}
 use Rattle.levels.proofs.TablesStand.{read_after}
 
 -- ---- answers of the first parts
@@ -206,7 +207,7 @@ module _ (cmp : List ℕ → List ℕ → Ordering) (total : IsTotalOrder cmp) (
 
   -- ---- from the first link on
 
-  module _ (parts : List PickedInputs) (are : IsPartsAnswer cmp v level (Ok parts)) where
+  module _ (parts : List PickedInputs) (are : AreAmong cmp v level parts) where
     pub record WholeRow (links : List GroupedAnswer) : Type 0 where
       pub free : v.next_file ≡ Some (manifest_of v)
       pub some : 0 < manifest_of v
@@ -219,18 +220,17 @@ module _ (cmp : List ℕ → List ℕ → Ordering) (total : IsTotalOrder cmp) (
     low : All (λ (f : NewFile). f.level ≤ 6) v.files
     low = state.levels.file_levels
 
-    part_there : (p : PickedInputs) → Contains parts p → ArePlaced v p
-    part_there p at = part_placed cmp total v level p (part_by cmp total v level parts p are at)
-
-  pub whole_row : (parts : List PickedInputs) (are : IsPartsAnswer cmp v level (Ok parts)) (l : GroupedAnswer) (links : List GroupedAnswer) → ArePartLinks g first [] cmp short_keys v s (manifest_of v) parts (l ∷ links) → WholeRow parts are (l ∷ links)
+  pub whole_row : (parts : List PickedInputs) (are : AreAmong cmp v level parts) (l : GroupedAnswer) (links : List GroupedAnswer) → ArePartLinks g first [] cmp short_keys v s (manifest_of v) parts (l ∷ links) → WholeRow parts are (l ∷ links)
   whole_row [] are l links chain = absurd chain
   whole_row (p ∷ parts) are l links chain =
       let link = chain.0 in
+      let own : (q : PickedInputs) → Contains (p ∷ parts) q → Contains are.all q = in_all cmp v level (p ∷ parts) are in
       let key : (q : PickedInputs) → Contains (p ∷ parts) q → IsInternalKey q.pointer.key =
-      λ q at. subst IsInternalKey (one_key cmp v level (p ∷ parts) are p q (first_in p parts) at) link.pointer in
+      λ q at. subst IsInternalKey (one_key cmp v level are.all are.are p q (own p (first_in p parts)) (own q at)) link.pointer in
       let apart : (q : PickedInputs) → Contains (p ∷ parts) q → StandApart cmp v level q =
-      λ q at. stands_apart cmp total v tables lawful (low (p ∷ parts) are) level (p ∷ parts) are q at (key q at) in
-      let mine = part_there (p ∷ parts) are p (first_in p parts) in
+      λ q at. stands_apart cmp total v tables lawful (low (p ∷ parts) are) level are.all are.are q (own q at) (key q at) in
+      let placed = among_placed cmp v level total (p ∷ parts) are in
+      let mine = placed p (first_in p parts) in
       let now = read_after cmp order v loaded [] tt files (g.tells first) (g.tells link.at) told reads link.made.change in
       let told_first = first_told cmp short_keys v loaded p s (manifest_of v + 1) l.answer (same_answer now.0 now.2 link.at now.1 p mine (manifest_of v + 1) l.answer link.compacted) in
       let i = some_input p.files (passes (request_from (manifest_of v + 1) v loaded p s) told_first.tested).some in
@@ -251,7 +251,7 @@ module _ (cmp : List ℕ → List ℕ → Ordering) (total : IsTotalOrder cmp) (
           remain = λ q at. record { stands = apart q at; bytes = λ j there. refl };
         },
       ) in
-      let end = row_on next.0 next.1 [] [] (manifest_of v) (p ∷ parts) (l ∷ links) start refl (share_no_file cmp total v tables lawful level (p ∷ parts) are) (λ q at. record { over = (apart q at).over; placed = part_there (p ∷ parts) are q at }) [] refl chain in
+      let end = row_on next.0 next.1 [] [] (manifest_of v) (p ∷ parts) (l ∷ links) start refl (among_share cmp total v tables lawful level (p ∷ parts) are) (λ q at. record { over = (apart q at).over; placed = placed q at }) [] refl chain in
       record {
         free = next.0;
         some = next.1;

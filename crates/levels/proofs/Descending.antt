@@ -10,7 +10,6 @@ use Rattle.edit.specs.Version.{State}
 use Rattle.edit.specs.fault.Fault.{Fault}
 use Rattle.edit.specs.fault.FaultName.TheVariants.{Device, Memory, Numbers}
 use Rattle.folder.specs.Calls.{Done, Files, Step, Tells}
-use Rattle.folder.specs.Crash.{World}
 use Rattle.folder.specs.Folder.{TellsSame}
 use Rattle.folder.specs.Names.{current_text}
 use Rattle.folder.specs.OpenAnswer.{IsStopped}
@@ -18,12 +17,9 @@ use Rattle.folder.specs.Orders.{order_cmp}
 use Rattle.folder.specs.ReadsAs.{ReadsAs, ReadsBy}
 use Rattle.folder.specs.declared.order.Order.{Order}
 use Rattle.install.proofs.Changes.{call_by, change_by}
-use Rattle.install.proofs.Moments.{nothing_done}
 use Rattle.install.proofs.Stays.{stays_untouched}
-use Rattle.install.proofs.WorkRows.{leaves_then, work_begun, work_installed, work_removed}
-use Rattle.install.specs.Install.{IsBeforeOrAfter, install_calls, next_version_tables, version_with}
+use Rattle.install.specs.Install.{next_version_tables, version_with}
 use Rattle.install.specs.Removal.{StaysAs}
-use Rattle.install.specs.WorkRow.{AlwaysStands, FolderVersion, IsWork, IsWorkDone, IsWorkRow, WorkPiece}
 use Rattle.keep.specs.Gets.{get_of}
 use Rattle.keep.specs.Readable.{is_read, readable_of}
 use Rattle.keep.specs.Tables.{NumberedContents}
@@ -36,7 +32,7 @@ use Rattle.store.specs.FolderRequest.{last_of, manifest_of}
 use Rattle.store.specs.OrderView.{order_view}
 use Rattle.store.specs.declared.compaction_step.CompactionStep.{CompactionStep}
 use Rattle.store.specs.declared.synced_version.SyncedVersion.{SyncedVersion}
-use Rattle.levels.specs.DescentLeft.{AnswersAs, CompactionLink, IsDescended, IsLink, IsNextLevelRefused, folder_version, last_left, left_by}
+use Rattle.levels.specs.DescentLeft.{AnswersAs, CompactionLink, FolderVersion, IsDescended, IsLink, IsNextLevelRefused, folder_version, last_left, left_by}
 use Rattle.levels.specs.LevelLeft.{IsLevelInstalled, IsLevelLeft, IsWholeStopped}
 use Rattle.levels.specs.LevelMade.{IsRefusedSo, Way, way_by}
 use Rattle.levels.specs.LevelTaken.{IsLevelTaken}
@@ -79,36 +75,6 @@ pub at_least_one : (n : ℕ) → (n ≡ 0 → ⊥) → 1 ≤ n
 at_least_one zero h = absurd (h refl)
 at_least_one (suc n) h = omega arith
 
--- ---- pieces of work
-
-abbrev piece : FolderVersion → List Step → WorkPiece
-piece next calls = record { next = next; calls = calls }
-
-module _ (cmp : List ℕ → List ℕ → Ordering) (order : Order) where
-  -- nothing was done
-  none_done : (v : FolderVersion) (now : List Step) → IsWork cmp order v v now now
-  none_done v now = λ start h. nothing_done cmp order v.version v.version v.tables v.tables start now (λ w leads. (h w leads).stands)
-
-  -- what reads as one version is after work that leads to it
-  after_of : (v next : FolderVersion) (files : Files) → IsBeforeOrAfter cmp order next.version next.tables next.version next.tables files → IsBeforeOrAfter cmp order v.version v.tables next.version next.tables files
-  after_of v next files (inl h) = inr h
-  after_of v next files (inr h) = inr h
-
-  -- a removal after work
-  done_idle : (v next : FolderVersion) (a b c : List Step) → IsWorkDone cmp order v next a b → IsWorkDone cmp order next next b c → IsWorkDone cmp order v next a c
-  done_idle v next a b c one two = record {
-    work = λ start h.
-        leaves_then start a b c (IsBeforeOrAfter cmp order v.version v.tables next.version next.tables) (IsBeforeOrAfter cmp order next.version next.tables next.version next.tables) (IsBeforeOrAfter cmp order v.version v.tables next.version next.tables)
-        (λ files k. k) (after_of v next) (one.work start h) (two.work start (one.stands start h));
-    stands = λ start h. two.stands start (one.stands start h);
-  }
-
--- all calls of an installation of this version were made
-pub record HasInstalled (v : State) (before after : List Step) : Type 0 where
-  pub groups : List (List (ℕ × List ℕ))
-  pub bytes : List ℕ
-  pub all : after ≡ before ++ map Done (install_calls (manifest_of v) groups bytes)
-
 module _ (selection : Selection) (order : Order) (s : Settings) (bottom : ℕ) (v : State) (manifest : ℕ) (loaded : List (ℕ × List ℕ)) (tables : List NumberedContents) (lawful : IsLawfulTables (order_cmp order) v loaded (Ok tables))
     (before : List Step) (old : Told) (failed : ℕ) (files : Files) (held : Tells old files) (reads : ReadsBy (order_cmp order) order v manifest loaded files) where
   abbrev cmp : List ℕ → List ℕ → Ordering
@@ -139,18 +105,11 @@ module _ (selection : Selection) (order : Order) (s : Settings) (bottom : ℕ) (
     chain = tt;
     few = omega arith;
     none = on_ok r refl;
-    pieces = [];
-    last = piece first after;
-    row = subst (λ (a : List Step). IsWork cmp order first first before a) (sym is) (none_done cmp order first before);
-    versions = refl;
-    version_last = refl;
-    all_calls = refl;
     files_now = files;
     holds = still old new same files held;
     read = inl reads.reads;
     reads_last = on_ok r reads;
     answers = own_answers;
-    stands = λ start h. on_ok r (subst (λ (a : List Step). AlwaysStands cmp order first start a) (sym is) h);
     refused = refused;
   }
 
@@ -165,18 +124,11 @@ module _ (selection : Selection) (order : Order) (s : Settings) (bottom : ℕ) (
           chain = tt;
           few = omega arith;
           none = tt;
-          pieces = [];
-          last = piece first after;
-          row = work_begun cmp order first first before after t.survives.any_moment;
-          versions = refl;
-          version_last = refl;
-          all_calls = refl;
           files_now = found.0;
           holds = found.1;
           read = elim found.2 [ inl a ↦ inl a | inr b ↦ inl b ];
           reads_last = tt;
           answers = own_answers;
-          stands = λ start h. tt;
           refused = refused;
         }
 
@@ -193,9 +145,6 @@ module _ (selection : Selection) (order : Order) (s : Settings) (bottom : ℕ) (
       is_link : IsLink way (version_with v loaded) link
       is_link = record { next_level = next_level; compacted = i.compacted; version_is = refl; tables_are = refl }
 
-      work : IsWork cmp order first (left_by first link) before after
-      work = work_begun cmp order first (left_by first link) before after i.survives.any_moment
-
       -- a compaction that was begun
       one_begun : (now : ℕ) (e : Fault) → UnlessMemory e (WhyBy now e) → LeftBy after new now (Err e)
       one_begun now e refused =
@@ -206,24 +155,17 @@ module _ (selection : Selection) (order : Order) (s : Settings) (bottom : ℕ) (
             chain = (is_link, tt);
             few = omega arith;
             none = tt;
-            pieces = [];
-            last = piece (left_by first link) after;
-            row = work;
-            versions = refl;
-            version_last = refl;
-            all_calls = refl;
             files_now = found.0;
             holds = found.1;
             read = elim found.2 [ inl a ↦ inl a | inr b ↦ inr (inl b) ];
             reads_last = tt;
             answers = own_answers;
-            stands = λ start h. tt;
             refused = refused;
           }
 
   -- ---- one that was installed, and a removal after it
 
-  module _ (level : ℕ) (next_level : IsNextLevel v bottom (Some level)) (mid : List Step) (mid_tells : Told) (step : CompactionStep) (i : IsLevelInstalled selection (order_view order) (version_with v loaded) level s (change_by before mid old mid_tells) (Ok step)) (all : HasInstalled v before mid)
+  module _ (level : ℕ) (next_level : IsNextLevel v bottom (Some level)) (mid : List Step) (mid_tells : Told) (step : CompactionStep) (i : IsLevelInstalled selection (order_view order) (version_with v loaded) level s (change_by before mid old mid_tells) (Ok step))
       (after : List Step) (new : Told) (stays : StaysAs (order_cmp order) order i.compacted.edited.next (manifest_of v) (next_version_tables (order_cmp order) i.compacted.edited.next i.compacted.outputs loaded) (change_by mid after mid_tells new)) where
     abbrev l : CompactionLink
     l = link mid mid_tells level next_level (Ok step) i
@@ -238,13 +180,6 @@ module _ (selection : Selection) (order : Order) (s : Settings) (bottom : ℕ) (
     one_gets user at read =
         subst (λ (xs : List NumberedContents). get_of w i.compacted.edited.tables_next user at ≡ get_of v xs user at) (one_list cmp v loaded i.compacted.tables tables i.compacted.lawful lawful)
         (i.compacted.edited.gets user at read)
-
-    -- both leave the edited version
-    both : IsWorkDone cmp order first (left_by first l) before after
-    both =
-        done_idle cmp order first (left_by first l) before mid after
-        (work_installed cmp order first (left_by first l) all.groups all.bytes before mid (work mid mid_tells level next_level (Ok step) i) i.survives.installed all.all)
-        (work_removed cmp order (left_by first l) mid after stays.any_moment stays.stands)
 
     -- files that the folder tells after both
     pub found_next : (now : Files) × Tells new now × ReadsBy (order_cmp order) order i.compacted.edited.next (manifest_of v) (next_version_tables (order_cmp order) i.compacted.edited.next i.compacted.outputs loaded) now
@@ -261,12 +196,6 @@ module _ (selection : Selection) (order : Order) (s : Settings) (bottom : ℕ) (
       chain = (is_link mid mid_tells level next_level (Ok step) i, d.chain);
       few = d.few;
       none = d.none;
-      pieces = piece (left_by first l) after ∷ d.pieces;
-      last = d.last;
-      row = (both, d.row);
-      versions = ap (λ (vs : List FolderVersion). left_by first l ∷ vs) d.versions;
-      version_last = d.version_last;
-      all_calls = d.all_calls;
       files_now = d.files_now;
       holds = d.holds;
       read = inr d.read;
@@ -276,7 +205,6 @@ module _ (selection : Selection) (order : Order) (s : Settings) (bottom : ℕ) (
         lawful = d.answers.lawful;
         gets = λ user at read. d.answers.gets user at (ap (λ (n : ℕ). is_read (readable_of s.snapshots n) at) i.compacted.edited.last ∙ read) ∙ one_gets user at read;
       };
-      stands = λ start h. d.stands start (both.stands start h);
       refused = subst (λ (n : ℕ). IfErr r (λ e. UnlessMemory e (IsStopped n now e ⊎ IsNextLevelRefused way (last_left (left_by first l) d.links) e))) count d.refused;
     }
 
@@ -333,14 +261,14 @@ module _ (selection : Selection) (order : Order) (s : Settings) (bottom : ℕ) (
   abbrev EndBy : List Step → Told → ℕ → Result DescentEnd Fault → Type 0
   EndBy after new now r = IsDescended (way_by selection order s bottom) (folder_version v manifest loaded) tables (call_by before after old new failed now) r
 
-  pub one_ended : (step : CompactionStep) (i : IsLevelInstalled selection (order_view order) (version_with v loaded) level s (change_by before mid old mid_tells) (Ok step)) (all : HasInstalled v before mid) (after : List Step) (new : Told)
+  pub one_ended : (step : CompactionStep) (i : IsLevelInstalled selection (order_view order) (version_with v loaded) level s (change_by before mid old mid_tells) (Ok step)) (after : List Step) (new : Told)
       (stays : StaysAs (order_cmp order) order i.compacted.edited.next (manifest_of v) (next_version_tables (order_cmp order) i.compacted.edited.next i.compacted.outputs loaded) (change_by mid after mid_tells new)) (mid_failed now : ℕ) (r : Result DescentEnd Fault)
       → mid_failed ≡ failed → IfErr r (λ e. UnlessMemory e (IsStopped mid_failed now e)) → EndBy after new now r
-  one_ended step i all after new stays mid_failed now r count stopped =
-      let found = found_next selection order s bottom v manifest loaded tables lawful before old failed files held reads level next_level mid mid_tells step i all after new stays in
+  one_ended step i after new stays mid_failed now r count stopped =
+      let found = found_next selection order s bottom v manifest loaded tables lawful before old failed files held reads level next_level mid mid_tells step i after new stays in
       let w = i.compacted.edited.next in
       let ts = next_version_tables (order_cmp order) w i.compacted.outputs loaded in
-      one_more selection order s bottom v manifest loaded tables lawful before old failed files held reads level next_level mid mid_tells step i all after new stays after new mid_failed now r count
+      one_more selection order s bottom v manifest loaded tables lawful before old failed files held reads level next_level mid mid_tells step i after new stays after new mid_failed now r count
       (none_begun selection order s bottom w (manifest_of v) ts i.compacted.edited.tables_next i.compacted.edited.lawful after new mid_failed found.0 found.1 found.2 after new now r refl (same_tells new)
       (why (λ e. IsNextLevelRefused (way_by selection order s bottom) (folder_version w (manifest_of v) ts) e) r stopped))
     where
@@ -349,12 +277,12 @@ module _ (selection : Selection) (order : Order) (s : Settings) (bottom : ℕ) (
       why P (Err e) h = unless_from e (IsStopped mid_failed now e) (IsStopped mid_failed now e ⊎ P e) (λ k. inl k) h
 
   -- it was told to stop
-  pub taken_stopped : (now : ℕ) (o : Option SyncedVersion) → IsLevelTaken (way_by selection order s bottom) (version_with v loaded) level (call_by before mid old mid_tells failed now) (Ok o) → HasInstalled v before mid → EndBy mid mid_tells now (Ok Stopped)
-  taken_stopped now o (inl t) all = absurd (ok_refused o t.e t.is)
-  taken_stopped now o (inr t) all =
+  pub taken_stopped : (now : ℕ) (o : Option SyncedVersion) → IsLevelTaken (way_by selection order s bottom) (version_with v loaded) level (call_by before mid old mid_tells failed now) (Ok o) → EndBy mid mid_tells now (Ok Stopped)
+  taken_stopped now o (inl t) = absurd (ok_refused o t.e t.is)
+  taken_stopped now o (inr t) =
       let next = t.installed.compacted.edited.next in
       let ts = next_version_tables (order_cmp order) next t.installed.compacted.outputs loaded in
-      one_ended t.step t.installed all mid mid_tells (stays_untouched (order_cmp order) order next (manifest_of v) ts mid mid_tells) failed now (Ok Stopped) refl tt
+      one_ended t.step t.installed mid mid_tells (stays_untouched (order_cmp order) order next (manifest_of v) ts mid mid_tells) failed now (Ok Stopped) refl tt
 
 -- ---- what compactions leave, by an order
 
@@ -382,17 +310,10 @@ descended_since by v tables start before after first_tells old new earlier faile
   chain = d.chain;
   few = d.few;
   none = d.none;
-  pieces = d.pieces;
-  last = d.last;
-  row = subst (λ (b : List Step). IsWorkRow (order_cmp by.order) by.order v b d.pieces d.last) is d.row;
-  versions = d.versions;
-  version_last = d.version_last;
-  all_calls = d.all_calls;
   files_now = d.files_now;
   holds = d.holds;
   read = d.read;
   reads_last = d.reads_last;
   answers = d.answers;
-  stands = subst (λ (b : List Step). (first : World) → AlwaysStands (order_cmp by.order) by.order v first b → OnOk r (AlwaysStands (order_cmp by.order) by.order (last_left v d.links) first after)) is d.stands;
   refused = subst (λ (n : ℕ). IfErr r (λ e. UnlessMemory e (IsStopped n now e ⊎ IsNextLevelRefused by (last_left v d.links) e))) count d.refused;
 }

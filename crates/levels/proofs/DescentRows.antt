@@ -26,7 +26,6 @@ use Rattle.store.specs.Step.{StepView, step_in}
 use Rattle.store.specs.Telling.{IsGoTold}
 use Rattle.store.specs.declared.compaction_step.CompactionStep.{CompactionStep}
 use Rattle.store.specs.declared.synced_version.SyncedVersion.{SyncedVersion}
-use Rattle.levels.proofs.Descending.{HasInstalled}
 use Rattle.levels.specs.DescentRuns.{DescentLink, IsDescentRun, IsGoing, IsLinkCleaned, IsLinkInstalled, IsStopTold}
 use Rattle.levels.specs.LevelMade.{At, IsLevelMade, IsLevelMadeBy, IsMadeTold, Way, at_by, way_by}
 use Rattle.levels.specs.LevelTaken.{IsLevelBegun}
@@ -34,7 +33,6 @@ use Rattle.levels.specs.WholeRuns.{groups_in}
 use Rattle.levels.specs.declared.descent_end.DescentEnd.{DescentEnd}
 use Rattle.levels.specs.declared.descent_end.DescentEnd.TheVariants.{AtBottom, Stopped}
 use Rattle.levels.specs.declared.selection.Selection.{Selection}
-use Rattle.levels.specs.declared.selection.Selection.TheVariants.{Parts, Picked}
 
 abbrev Told : Type 1
 Told = List ℕ → Option (List ℕ) → Type 0
@@ -145,29 +143,6 @@ module _ {F W : Type 0} (g : Ghosts F) (tells : W → StepView → Bool → W �
     opened = after;
   }
 
--- the calls of tables, and then those of a manifest and of CURRENT, are those of an installation
-all_calls : (old at new made more : List Step) (tables manifest current : List Call) → at ≡ old ++ made → made ≡ map Done tables → new ≡ at ++ more → more ≡ map Done (manifest ++ current) → new ≡ old ++ map Done ((tables ++ manifest) ++ current)
-all_calls old at new made more tables manifest current first is second rest =
-    second ∙ ap (λ (t : List Step). t ++ more) first ∙ append_assoc old made more
-    ∙ ap (λ (t : List Step). old ++ t) (ap (λ (t : List Step). t ++ more) is ∙ ap (λ (t : List Step). map Done tables ++ t) rest ∙ sym (map-append Done tables (manifest ++ current)) ∙ ap (map Done) (sym (append_assoc tables manifest current)))
-
--- all calls of an installation were made if a step is answered
-module _ {F : Type 0} (g : Ghosts F) (order : Order) (v : State) (level : ℕ) (s : Settings) (old new : F) (step : CompactionStep) where
-  run_installed : (selection : Selection) → IsLevelMadeBy selection g order v level s old new (Ok step) → HasInstalled v (g.calls old) (g.calls new)
-  run_installed Picked (inl u) = absurd u.refused
-  run_installed Picked (inr a) =
-      let manifest = manifest_bytes (order_name order) (order_cmp order) v a.answer.edit in
-      record { groups = a.calls.groups; bytes = manifest; all = a.calls.runs.appended ∙ ap (λ (t : List Step). g.calls old ++ t) a.calls.runs.made }
-  run_installed Parts (inl u) = absurd u.refused
-  run_installed Parts (inr w) = elim w.written [
-    | inl t ↦ absurd t.refused
-    | inr i ↦ record {
-      groups = groups_in w.links;
-      bytes = manifest_bytes (order_name order) (order_cmp order) v (edit_bytes i.1.edit);
-      all = all_calls (g.calls old) (g.calls i.1.at) (g.calls new) i.1.written.steps i.1.runs.steps (table_calls (groups_in w.links)) (manifest_calls (manifest_of v) (manifest_bytes (order_name order) (order_cmp order) v (edit_bytes i.1.edit))) (current_calls (manifest_of v)) i.1.written.appended i.1.written.made i.1.runs.appended i.1.runs.made;
-    }
-  ]
-
 -- ---- rows of them
 
 module _ {F W : Type 0} (g : Ghosts F) (by : CleanTeller W) (way : Way) (v : State) (old : F) (told : W) where
@@ -200,14 +175,6 @@ module _ {F W : Type 0} (g : Ghosts F) (by : CleanTeller W) (way : Way) (v : Sta
         to : (made : Result CompactionStep Fault) → IsMadeTold by.installs told told_mid IsGoTold made (taken o) → IsMadeTold by.installs told told_mid IsStopTold made (Ok Stopped)
         to (Err d) h = absurd h.1
         to (Ok step) h = (h.0, h.1, (refl, h.2 ∙ ap is_some none))
-
-    -- all calls of it were made
-    pub all_made : (o : Option SyncedVersion) → Begun (taken o) → HasInstalled v (g.calls old) (g.calls mid)
-    all_made o b = to b.level_made.made b.level_made.run b.level_made.is_told
-      where
-        to : (made : Result CompactionStep Fault) → IsLevelMadeBy way.selection g way.order v level way.settings old mid made → IsMadeTold by.installs told told_mid IsGoTold made (taken o) → HasInstalled v (g.calls old) (g.calls mid)
-        to (Err d) run h = absurd h.1
-        to (Ok step) run h = run_installed g way.order v level way.settings old mid step way.selection run
 
     -- ---- it goes on
 

@@ -4,10 +4,15 @@ pub mod LaidTables
 pub mod StayingInputs
 pub mod PartStep
 pub mod PartsBase
+pub mod SelectedParts
 pub mod Rows
 pub mod FewOutputs
 pub mod PartEdits
 pub mod WholeWork
+pub mod NextNumbered
+pub mod StepSurvives
+pub mod DescentSurvives
+pub mod ApartStay
 pub mod TablesStand
 pub mod Chains
 pub mod Ends

@@ -29,7 +29,7 @@ use Rattle.store.specs.declared.compaction_step.CompactionStep.{CompactionStep}
 use Rattle.store.specs.declared.synced_version.SyncedVersion.{SyncedVersion}
 use Rattle.levels.specs.LevelLeft.{IsLevelInstalled, IsLevelLeft}
 use Rattle.levels.specs.declared.selection.Selection.{Selection}
-use Rattle.levels.specs.declared.selection.Selection.TheVariants.{Picked}
+use Rattle.levels.specs.WholeAnswer.{PicksInputs}
 
 abbrev refusal : {Y : Type 0} → Fault → Result Y Fault
 refusal e = Err e
@@ -97,16 +97,16 @@ module _ (selection : Selection) (order : Order) (v : LoadedVersion) (level : �
         (subst (λ (b : List ℕ). IsOpenedAfter order v.version b (Err e)) same_edit was)) h
 
 -- what the compaction of picked inputs leaves
-pub picked_left : (by : OrderView) (v : LoadedVersion) (level : ℕ) (s : Settings) (change : FolderChange) (r : Result CompactionStep Fault) → IsStepLeft by v level s change r → IsLevelLeft Picked by v level s change r
-picked_left by v level s change r (inl u) = inl u
-picked_left by v level s change r (inr i) =
+pub picked_left : (selection : Selection) (by : OrderView) (v : LoadedVersion) (level : ℕ) (s : Settings) (change : FolderChange) (r : Result CompactionStep Fault) → PicksInputs selection by.cmp v.version level → IsStepLeft by v level s change r → IsLevelLeft selection by v level s change r
+picked_left selection by v level s change r picks (inl u) = inl u
+picked_left selection by v level s change r picks (inr i) =
     inr (inr (record {
       step = step_of v.version i.picked i.answer;
       compacted = record {
         tables = i.compacted.tables;
         lawful = i.compacted.lawful;
         outputs = i.answer.tables;
-        answered = (i.picked, i.answer, picked_of by.cmp v.version level i.picked i.compacted.is_chosen, i.compacted.answered, refl, refl);
+        answered = inl (picks, (i.picked, i.answer, picked_of by.cmp v.version level i.picked i.compacted.is_chosen, i.compacted.answered, refl, refl));
         edited = i.compacted.edited;
       };
       survives = i.survives;

@@ -69,7 +69,7 @@ use Rattle.compact.proofs.Outputs.{stepped}
 use Rattle.compact.proofs.PassedRequests.{passed_law}
 use Rattle.store.specs.FolderRequest.{compaction_from, manifest_of, request_from}
 use Rattle.store.proofs.PartFiles.{ArePlaced}
-use Rattle.levels.specs.WholeWork.{IsNumbered}
+use Rattle.levels.specs.Survival.{IsNumbered}
 use Rattle.levels.proofs.PartStep.{new_numbers, thread_at}
 
 all_both : {X : Type 0} (P : X → Type 0) (xs ys : List X) → AllByRecursion P xs → AllByRecursion P ys → AllByRecursion P (xs ++ ys)

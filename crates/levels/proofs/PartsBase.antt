@@ -20,13 +20,14 @@ use Rattle.pick.proofs.PartRanges.{all_ranges}
 use Rattle.keep.specs.Lawful.{IsLawful}
 use Rattle.keep.specs.Tables.{NumberedContents}
 use Rattle.reads.proofs.Levels.{at_level}
-use Rattle.keep.proofs.Members.{from_map}
+use Rattle.keep.proofs.Members.{first_in, from_map, later_in}
 use Rattle.compact.specs.InputsOver.{as_file}
 use Rattle.compact.proofs.ChosenNumbers.{chosen_is}
 use Rattle.store.proofs.PartFiles.{AreParts, answered, part_by, part_over, same_both, taken}
 use Rattle.store.proofs.StayingParts.{apart_among, behind}
 use Rattle.levels.specs.WholeAnswer.{AreLevelParts, some_parts}
-use Rattle.levels.proofs.StayingInputs.{ShareNone, StandApart, chosen_by}
+use Rattle.levels.specs.ApartParts.{ShareNone, StandApart}
+use Rattle.levels.proofs.StayingInputs.{chosen_by}
 
 -- no two of some parts share a file
 abbrev pub ShareNoFile : List PickedInputs → Type 0
@@ -38,7 +39,12 @@ abbrev AreDisjoint : (List ℕ → List ℕ → Ordering) → State → ℕ → 
 AreDisjoint cmp v level [] = Unit {0}
 AreDisjoint cmp v level (t ∷ tests) = ((u : FileMeta → Bool) → IsIn tests u → AreDisjointChoices cmp v level t u) × AreDisjoint cmp v level tests
 
-place_of : {X : Type 0} (xs : List X) (x : X) → IsIn xs x → (k : ℕ) × (slice_get xs k ≡ Some x)
+pub slice_in : (parts : List PickedInputs) (k : ℕ) (p : PickedInputs) → slice_get parts k ≡ Some p → Contains parts p
+slice_in [] k p h = absurd (cc h)
+slice_in (q ∷ parts) zero p h = let same : q ≡ p = cc h in subst (Contains (q ∷ parts)) same (first_in q parts)
+slice_in (q ∷ parts) (suc k) p h = later_in q parts p (slice_in parts k p h)
+
+pub place_of : {X : Type 0} (xs : List X) (x : X) → IsIn xs x → (k : ℕ) × (slice_get xs k ≡ Some x)
 place_of [] x i = absurd i
 place_of (y ∷ xs) x (inl same) = (zero, ap (λ (z : _). Some z) (sym same))
 place_of (y ∷ xs) x (inr later) = let rest = place_of xs x later in (suc rest.0, rest.1)
@@ -81,7 +87,7 @@ done parts = Ok parts
 abbrev refused : Fault → Result (List PickedInputs) Fault
 refused e = Err e
 
-no_refusal : (parts : List PickedInputs) (e : Fault) → done parts ≡ refused e → ⊥
+pub no_refusal : (parts : List PickedInputs) (e : Fault) → done parts ≡ refused e → ⊥
 no_refusal parts e h = cc h
 
 some_is : (found parts : List PickedInputs) → done parts ≡ some_parts found → found ≡ parts

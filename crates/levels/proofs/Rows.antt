@@ -48,7 +48,8 @@ use Rattle.levels.proofs.JoinedFiles.{joined_applies}
 use Rattle.levels.proofs.LaidTables.{laid_before, laid_twice}
 use Rattle.levels.proofs.PartStep.{Stepped, added_numbers, edit_next, after, count_is, numbers_within, own_edit, part_answered, same_request, stays_in, stepped, thread_at}
 use Rattle.levels.proofs.PartsBase.{ShareNoFile}
-use Rattle.levels.proofs.StayingInputs.{StandApart, still_apart}
+use Rattle.levels.specs.ApartParts.{StandApart}
+use Rattle.levels.proofs.StayingInputs.{still_apart}
 
 abbrev some_state : State → Option State
 some_state v = Some v

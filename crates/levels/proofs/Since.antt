@@ -11,6 +11,8 @@ use Rattle.pick.specs.PickedInputs.{PickedInputs}
 use Rattle.folder.proofs.LoadingLemmas.{told_since}
 use Rattle.folder.specs.Calls.{Done, Files, Step, Tells}
 use Rattle.folder.specs.Folder.{TellsSame}
+use Rattle.folder.specs.Manifest.{order_name}
+use Rattle.folder.specs.Orders.{order_cmp, order_short_keys}
 use Rattle.folder.specs.ReadsAs.{ReadsAs}
 use Rattle.folder.specs.declared.folder.Folder.{Ghosts}
 use Rattle.folder.specs.declared.order.Order.{Order}
@@ -25,11 +27,13 @@ use Rattle.store.proofs.RunPart.{calls_since}
 use Rattle.store.proofs.StepPart.{test_ends}
 use Rattle.store.specs.FolderRequest.{manifest_of}
 use Rattle.store.specs.OrderView.{order_by}
+use Rattle.store.specs.Step.{StepView}
 use Rattle.store.specs.declared.compaction_step.CompactionStep.{CompactionStep}
 use Rattle.levels.specs.LevelLeft.{IsLevelLeft, IsWholeLeft, next_of_selected}
-use Rattle.levels.specs.WholeAnswer.{AreLevelParts, IsVersionWhole, IsWholeCompacted, IsWholeStep, parts_result}
+use Rattle.levels.specs.WholeAnswer.{AreLevelParts, Choosing, IsVersionWhole, IsWholeCompacted, IsWholeStep, parts_result}
+use Rattle.levels.specs.LevelMade.{IsLevelMadeBy, IsLevelStep}
 use Rattle.levels.specs.WholeRuns.{ArePartLinks, GroupedAnswer, IsWholeRun, groups_in}
-use Rattle.levels.specs.declared.selection.Selection.TheVariants.{Parts}
+use Rattle.levels.specs.declared.selection.Selection.TheVariants.{Whole}
 
 abbrev Told : Type 1
 Told = List ℕ → Option (List ℕ) → Type 0
@@ -57,11 +61,11 @@ module _ {F : Type 0} (g : Ghosts F) (old mid : F) (same : g.calls mid ≡ g.cal
     links_since (so_far ++ map Done (table_calls l.groups)) cmp short_keys v s _ parts links h.1,
   )
 
-  pub whole_run_since : (name : List ℕ) (cmp : List ℕ → List ℕ → Ordering) (short_keys : ShortKeys) (v : State) (level : ℕ) (s : Settings) (new : F) (result : Result CompactionStep Fault)
-      → IsWholeRun g name cmp short_keys v level s mid new result → IsWholeRun g name cmp short_keys v level s old new result
-  whole_run_since name cmp short_keys v level s new result (inl u) =
+  pub whole_run_since : (name : List ℕ) (cmp : List ℕ → List ℕ → Ordering) (short_keys : ShortKeys) (v : State) (AreChosen : Choosing) (s : Settings) (new : F) (result : Result CompactionStep Fault)
+      → IsWholeRun g name cmp short_keys v AreChosen s mid new result → IsWholeRun g name cmp short_keys v AreChosen s old new result
+  whole_run_since name cmp short_keys v AreChosen s new result (inl u) =
       inl (record { calls = u.calls ∙ same; same = told_since (g.tells old) (g.tells mid) (g.tells new) told u.same; refused = u.refused })
-  whole_run_since name cmp short_keys v level s new result (inr w) =
+  whole_run_since name cmp short_keys v AreChosen s new result (inr w) =
       let tells = still (g.tells old) (g.tells mid) told in
       inr (record {
         parts = w.parts;
@@ -99,7 +103,7 @@ module _ (order : Order) (cmp : List ℕ → List ℕ → Ordering) (short_keys 
       subst (λ (b : List Step). SurvivesCrash cmp order (version_with v loaded) next (change_by b after zero new) r) same
       (survives_on cmp order v next.version loaded next.tables before after zero old new r r (λ P x. x) (still zero old told) h)
 
-  pub whole_left : IsLevelLeft Parts (order_by order cmp short_keys) (version_with v loaded) level s (change_by before after old new) r → IsWholeLeft (order_by order cmp short_keys) v files level s (change_by first after zero new) r
+  pub whole_left : IsLevelLeft Whole (order_by order cmp short_keys) (version_with v loaded) level s (change_by before after old new) r → IsWholeLeft (order_by order cmp short_keys) v files level s (change_by first after zero new) r
   whole_left (inl u) = inl (record { calls = u.calls ∙ same; same = told_since zero old new told u.same; refused = u.refused })
   whole_left (inr (inl t)) = inr (loaded, reads, inr (inl (record { survives = moved (version_with v loaded) t.survives; refused = t.refused })))
   whole_left (inr (inr i)) =
@@ -108,8 +112,20 @@ module _ (order : Order) (cmp : List ℕ → List ℕ → Ordering) (short_keys 
 -- ---- the test of the version
 
 -- its refusal is the answer
-pub whole_refused : (cmp : List ℕ → List ℕ → Ordering) (short_keys : ShortKeys) (tells : Told) (files : Files) (v : State) (level : ℕ) (s : Settings) (e : Fault)
-    → Tells tells files → IsTested tells cmp v (Err e) → IsWholeCompacted cmp short_keys files v level s (Err e)
-whole_refused cmp short_keys tells files v level s e told h =
-    first_refused (IsVersionWhole cmp short_keys files v level s) (IsWholeStep v) e
-    (test_ends cmp (λ loaded tables. IsThen (AreLevelParts cmp v level) (λ parts (a : Result (List Answer) Fault). a ≡ parts_result cmp short_keys v loaded s (manifest_of v) parts)) tells files v e told h)
+pub whole_refused : (cmp : List ℕ → List ℕ → Ordering) (short_keys : ShortKeys) (tells : Told) (files : Files) (v : State) (AreChosen : Choosing) (s : Settings) (e : Fault)
+    → Tells tells files → IsTested tells cmp v (Err e) → IsWholeCompacted cmp short_keys files v AreChosen s (Err e)
+whole_refused cmp short_keys tells files v AreChosen s e told h =
+    first_refused (IsVersionWhole cmp short_keys files v AreChosen s) (IsWholeStep v) e
+    (test_ends cmp (λ loaded tables. IsThen AreChosen (λ parts (a : Result (List Answer) Fault). a ≡ parts_result cmp short_keys v loaded s (manifest_of v) parts)) tells files v e told h)
+
+-- ---- all parts
+
+-- of all parts nothing is picked
+pub whole_step_is : (order : Order) (files : Files) (v : State) (level : ℕ) (s : Settings) (step : Result StepView Fault) → IsLevelStep Whole order files v level s step → IsWholeCompacted (order_cmp order) (order_short_keys order) files v (AreLevelParts (order_cmp order) v level) s step
+whole_step_is order files v level s step (inl picked) = absurd picked.0
+whole_step_is order files v level s step (inr whole) = whole
+
+pub whole_run_is : {F : Type 0} (g : Ghosts F) (order : Order) (v : State) (level : ℕ) (s : Settings) (old new : F) (result : Result CompactionStep Fault) → IsLevelMadeBy Whole g order v level s old new result
+    → IsWholeRun g (order_name order) (order_cmp order) (order_short_keys order) v (AreLevelParts (order_cmp order) v level) s old new result
+whole_run_is g order v level s old new result (inl picked) = absurd picked.0
+whole_run_is g order v level s old new result (inr whole) = whole

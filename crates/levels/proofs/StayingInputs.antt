@@ -28,20 +28,11 @@ use Rattle.compact.proofs.FileKeys.{range_rises, user_upto}
 use Rattle.store.specs.FolderRequest.{manifest_of}
 use Rattle.store.specs.OutputRanges.{IsOldOrOutput, input_metas}
 use Rattle.store.proofs.PartFiles.{held_in}
+use Rattle.levels.specs.ApartParts.{ShareNone, StandApart}
 
 -- the files that inputs choose, by their numbers
 abbrev pub chosen_by : PickedInputs → FileMeta → Bool
 chosen_by p = has_number_of (input_numbers p)
-
--- none of the one inputs is among the others
-abbrev pub ShareNone : PickedInputs → PickedInputs → Type 0
-ShareNone p q = (i : InputFile) → Contains q.files i → is_input p i.meta.number ≡ false
-
--- inputs over a version that stand apart
-pub record StandApart (cmp : List ℕ → List ℕ → Ordering) (w : State) (level : ℕ) (q : PickedInputs) : Type 0 where
-  pub own : q.level ≡ level
-  pub over : AreInputsOver cmp w q
-  pub apart : IsApartChoice cmp w level (chosen_by q)
 
 below_manifest : (next : Option ℕ) (n : ℕ) → IsBelowNextFile next n → n < unwrap_or next 0
 below_manifest None n h = absurd h

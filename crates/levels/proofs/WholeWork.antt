@@ -13,7 +13,7 @@ use Rattle.edit.proofs.Applied.{after_is}
 use Rattle.edit.proofs.Edits.{one_edit}
 use Rattle.edit.specs.Comparator.{ShortKeys}
 use Rattle.edit.specs.Edit.{Edit, IsEdit, edit_bytes}
-use Rattle.edit.specs.Version.{State, applied, are_apart, are_new, has_number, has_place, is_deleted, undeleted_files, with_file, with_pointer}
+use Rattle.edit.specs.Version.{State, applied, are_apart, are_new, files_after, has_number, has_place, is_deleted, undeleted_files, with_file, with_pointer}
 use Rattle.edit.specs.declared.meta.NewFile.{NewFile}
 use Rattle.edit.specs.fault.Fault.{Fault}
 use Rattle.pick.specs.PickedInputs.{PickedInputs}
@@ -45,14 +45,14 @@ use Rattle.store.proofs.TablesAfter.{HasNumber, number_of}
 use Rattle.levels.specs.PartsEnd.{last_after}
 use Rattle.levels.specs.WholeAnswer.{edits_of, next_last, tables_of}
 use Rattle.levels.specs.WholeRuns.{ArePartLinks, GroupedAnswer, IsWholeWritten, answers_in, groups_in}
-use Rattle.levels.specs.WholeWork.{IsNumbered, WholeIsWork, done_of}
+use Rattle.levels.specs.Survival.{IsNumbered}
 use Rattle.levels.proofs.PartEdits.{IsEditOver, apart_of, at_least, below_manifest, edits_two, next_there, no_number, own_edit}
 use Rattle.levels.proofs.PartsBase.{level_parts}
 
 -- ---- the edits of all answers as one
 
 module _ {F : Type 0} (g : Ghosts F) (first : F) (cmp : List ℕ → List ℕ → Ordering) (short_keys : ShortKeys) (v : State) (is : IsNumbered v) (s : Settings) where
-  abbrev Over : ℕ → List GroupedAnswer → Type 0
+  abbrev pub Over : ℕ → List GroupedAnswer → Type 0
   Over last links = IsEditOver v (last + 1) (last_after last (answers_in links)) (tables_of (answers_in links)) (edits_of (answers_in links))
 
   over : (so_far : List Step) (last : ℕ) (parts : List PickedInputs) (l : GroupedAnswer) (links : List GroupedAnswer) → manifest_of v ≤ last → ((p : PickedInputs) → Contains parts p → ArePlaced v p) → ArePartLinks g first so_far cmp short_keys v s last parts (l ∷ links) → Over last (l ∷ links)
@@ -69,10 +69,10 @@ module _ {F : Type 0} (g : Ghosts F) (first : F) (cmp : List ℕ → List ℕ �
       edits_two v (last + 1) (next_last last l.answer) (last_after (next_last last l.answer) (answers_in (k ∷ links))) l.answer.tables (tables_of (answers_in (k ∷ links))) l.answer.edit (edits_of (answers_in (k ∷ links))) own rest
 
   -- what holds of some links
-  record AreOver (parts : List PickedInputs) (links : List GroupedAnswer) : Type 0 where
-    all : Over (manifest_of v) links
-    free : v.next_file ≡ Some (manifest_of v)
-    joined : tables_of_groups (groups_in links) ≡ tables_of (answers_in links)
+  pub record AreOver (parts : List PickedInputs) (links : List GroupedAnswer) : Type 0 where
+    pub all : Over (manifest_of v) links
+    pub free : v.next_file ≡ Some (manifest_of v)
+    pub joined : tables_of_groups (groups_in links) ≡ tables_of (answers_in links)
 
   joined : (so_far : List Step) (last : ℕ) (parts : List PickedInputs) (links : List GroupedAnswer) → ArePartLinks g first so_far cmp short_keys v s last parts links → tables_of_groups (groups_in links) ≡ tables_of (answers_in links)
   joined so_far last parts [] chain = refl
@@ -81,7 +81,7 @@ module _ {F : Type 0} (g : Ghosts F) (first : F) (cmp : List ℕ → List ℕ �
       flat_map-append _ l.groups (groups_in links) ∙ ap (λ (ts : List (ℕ × List ℕ)). ts ++ tables_of_groups (groups_in links)) chain.0.together
       ∙ ap (λ (ts : List (ℕ × List ℕ)). l.answer.tables ++ ts) (joined (so_far ++ map Done (table_calls l.groups)) (next_last last l.answer) parts links chain.1)
 
-  are_over : (parts : List PickedInputs) (links : List GroupedAnswer) → links ≢ [] → ((p : PickedInputs) → Contains parts p → ArePlaced v p) → ArePartLinks g first [] cmp short_keys v s (manifest_of v) parts links → AreOver parts links
+  pub are_over : (parts : List PickedInputs) (links : List GroupedAnswer) → links ≢ [] → ((p : PickedInputs) → Contains parts p → ArePlaced v p) → ArePartLinks g first [] cmp short_keys v s (manifest_of v) parts links → AreOver parts links
   are_over parts [] some placed chain = absurd (some refl)
   are_over [] (l ∷ links) some placed chain = absurd chain
   are_over (p ∷ parts) (l ∷ links) some placed chain =
@@ -98,10 +98,10 @@ module _ (cmp : List ℕ → List ℕ → Ordering) (v : State) (is : IsNumbered
   number_below : (f : NewFile) → Contains v.files f → f.meta.number < manifest_of v
   number_below f at = below_manifest v.next_file f.meta.number (All-contains (λ (x : NewFile). IsBelowNextFile v.next_file x.meta.number) v.files f is.below at)
 
-  abbrev left : List NewFile
+  abbrev pub left : List NewFile
   left = undeleted_files h.edit.deleted v.files
 
-  abbrev after : State
+  abbrev pub after : State
   after = record {
     log_number = option_or h.edit.log_number v.log_number;
     previous_log = option_or h.edit.previous_log v.previous_log;
@@ -119,10 +119,13 @@ module _ (cmp : List ℕ → List ℕ → Ordering) (v : State) (is : IsNumbered
       no_number (manifest_of v + 1) f.meta.number h.edit.added h.rising (omega (arith, lt))) in
       and_both (are_apart h.edit.added) (not (list_any (λ (f : NewFile). has_number h.edit.added f.meta.number) left)) (apart_of (manifest_of v + 1) h.edit.added h.rising) (ap not none)
 
-  applies : applied v h.edit ≡ Some after
-  applies = rw (after_is v.files h.edit.deleted h.edit.added (all_tests (has_place v.files) h.edit.deleted h.places) new) refl
+  pub files_are : files_after v.files h.edit.deleted h.edit.added ≡ Some after.files
+  files_are = after_is v.files h.edit.deleted h.edit.added (all_tests (has_place v.files) h.edit.deleted h.places) new
 
-  edited_by : (bytes : List ℕ) → IsEdit bytes h.edit → v.next_file ≡ Some (manifest_of v) → IsEditedBy cmp v (manifest_of v) tables bytes after
+  applies : applied v h.edit ≡ Some after
+  applies = rw files_are refl
+
+  pub edited_by : (bytes : List ℕ) → IsEdit bytes h.edit → v.next_file ≡ Some (manifest_of v) → IsEditedBy cmp v (manifest_of v) tables bytes after
   edited_by bytes read free = record {
     edit = h.edit;
     read = read;
@@ -148,32 +151,37 @@ module _ (cmp : List ℕ → List ℕ → Ordering) (v : State) (is : IsNumbered
 
 -- ---- the installation
 
-order_total : (order : Order) → IsTotalOrder (order_cmp order)
+pub order_total : (order : Order) → IsTotalOrder (order_cmp order)
 order_total Bytewise = nat_list_cmp_total
 order_total Shortlex = then_total (on_total length nat_cmp_total) nat_list_cmp_total
 
-done_runs : {T : Type 0} (calls : List Call) (before after : List Step) (old new : List ℕ → Option (List ℕ) → Type 0) (r : Result T Fault) → MakesCalls calls before after old new r → MakesCalls calls before after old new (done_of r)
+-- whether it was done, or the refusal
+abbrev pub done_of : {T : Type 0} → Result T Fault → Result (Unit {0}) Fault
+done_of (Ok x) = Ok tt
+done_of (Err e) = Err e
+
+pub done_runs : {T : Type 0} (calls : List Call) (before after : List Step) (old new : List ℕ → Option (List ℕ) → Type 0) (r : Result T Fault) → MakesCalls calls before after old new r → MakesCalls calls before after old new (done_of r)
 done_runs calls before after old new (Ok x) k = record { steps = k.steps; made = k.made; appended = k.appended; change = k.change }
 done_runs calls before after old new (Err e) k = record { steps = k.steps; made = k.made; appended = k.appended; change = k.change }
 
 module _ {F : Type 0} (g : Ghosts F) (v : NamedVersion) (groups : List (List (ℕ × List ℕ))) (tables : List (ℕ × List ℕ)) (same : tables_of_groups groups ≡ tables) (made : State)
     (edit : List ℕ) (makes : IsEditedBy (order_cmp v.order) v.version (manifest_of v.version) tables edit made) (old new : F) where
-  abbrev next : NamedVersion
+  abbrev pub next : NamedVersion
   next = record { order = v.order; version = made; manifest = manifest_of v.version }
 
-  abbrev place : Place
+  abbrev pub place : Place
   place = place_with v tables edit next
 
   written : {T : Type 0} (at : F) (r : Result T Fault) → MakesCalls (table_calls groups) (g.calls old) (g.calls at) (g.tells old) (g.tells at) r → IsPieceDone g (begun old v) (tables_link place groups at) (done_of r)
   written at r runs = record { goes = (record { order = refl; manifest = refl; makes = makes }, same, refl, refl, refl, refl); runs = done_runs (table_calls groups) (g.calls old) (g.calls at) (g.tells old) (g.tells at) r runs }
 
   -- some tables were written
-  stopped : {T : Type 0} (r : Result T Fault) → OnOk r ⊥ → MakesCalls (table_calls groups) (g.calls old) (g.calls new) (g.tells old) (g.tells new) r → IsInstallation g place groups old new (done_of r)
+  pub stopped : {T : Type 0} (r : Result T Fault) → OnOk r ⊥ → MakesCalls (table_calls groups) (g.calls old) (g.calls new) (g.tells old) (g.tells new) r → IsInstallation g place groups old new (done_of r)
   stopped (Ok x) none runs = absurd none
   stopped (Err e) none runs = inl (refl, (written new (Err e) runs, refl))
 
   -- all of them, and then the manifest
-  installed : {T X : Type 0} (at : F) (x : X) (r : Result T Fault) → MakesCalls {E = Fault} (table_calls groups) (g.calls old) (g.calls at) (g.tells old) (g.tells at) (Ok x)
+  pub installed : {T X : Type 0} (at : F) (x : X) (r : Result T Fault) → MakesCalls {E = Fault} (table_calls groups) (g.calls old) (g.calls at) (g.tells old) (g.tells at) (Ok x)
       → MakesCalls (naming_calls v edit) (g.calls at) (g.calls new) (g.tells at) (g.tells new) r → IsInstallation g place groups old new (done_of r)
   installed at x r one two = inr (
     at,
@@ -188,33 +196,3 @@ module _ {F : Type 0} (g : Ghosts F) (v : NamedVersion) (groups : List (List (�
       ),
     ),
   )
-
-pub whole_is_work : {F : Type 0} (g : Ghosts F) → WholeIsWork g
-whole_is_work g v level s old new result is w some =
-    let cmp = order_cmp v.order in
-    let u = v.version in
-    let are = level_parts cmp u level w.parts w.are_parts in
-    let placed : (p : PickedInputs) → Contains w.parts p → ArePlaced u p = λ p at. part_placed cmp (order_total v.order) u level p (part_by cmp (order_total v.order) u level w.parts p are at) in
-    let h = are_over g old cmp (order_short_keys v.order) u is s w.parts w.links some placed w.chain in
-    let edits = edits_of (answers_in w.links) in
-    let groups = groups_in w.links in
-    let tables = tables_of (answers_in w.links) in
-    let last = last_after (manifest_of u) (answers_in w.links) in
-    let made = after cmp u is last tables edits h.all in
-    let makes = edited_by cmp u is last tables edits h.all in
-    elim w.written [
-      | inl t ↦ (
-        edits,
-        next g v groups tables h.joined made edits (makes edits h.all.read h.free) old new,
-        stopped g v groups tables h.joined made edits (makes edits h.all.read h.free) old new result t.refused t.runs,
-      )
-      | inr i ↦ (
-          let bytes = edit_bytes i.1.edit in
-          let alike : h.all.edit ≡ i.1.edit = one_edit edits h.all.edit i.1.edit h.all.read i.1.read in
-          let read : IsEdit bytes h.all.edit = subst (IsEdit bytes) (sym alike) i.1.again in (
-            bytes,
-            next g v groups tables h.joined made bytes (makes bytes read h.free) old new,
-            installed g v groups tables h.joined made bytes (makes bytes read h.free) old new i.1.at tt result i.1.written i.1.runs,
-          )
-          )
-    ]

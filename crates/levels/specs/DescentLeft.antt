@@ -6,15 +6,13 @@ use Rattle.edit.specs.Answers.{UnlessMemory}
 use Rattle.edit.specs.Version.{State}
 use Rattle.edit.specs.fault.Fault.{Fault}
 use Rattle.folder.specs.Calls.{Files, Tells}
-use Rattle.folder.specs.Crash.{World}
 use Rattle.folder.specs.Folder.{TellsSame}
 use Rattle.folder.specs.OpenAnswer.{IsStopped}
 use Rattle.folder.specs.Orders.{order_cmp}
 use Rattle.folder.specs.ReadsAs.{ReadsAs, ReadsBy}
+use Rattle.folder.specs.declared.order.Order.{Order}
 use Rattle.install.specs.FolderChange.{FolderCall, FolderChange}
 use Rattle.install.specs.Install.{LoadedVersion, version_with}
-use Rattle.install.specs.WorkRow.{AlwaysStands, FolderVersion, IsWorkRow, ReadsAsOneOf, WorkPiece}
-use Rattle.install.specs.WorkRow.{versions_of}
 use Rattle.keep.specs.Gets.{get_of}
 use Rattle.keep.specs.Readable.{is_read, readable_of}
 use Rattle.keep.specs.Tables.{NumberedContents}
@@ -53,7 +51,12 @@ AreLinked way v [] = Unit {0}
 AreLinked way v (l ∷ links) = IsLink way v l
     × AreLinked way (version_with l.version l.tables) links
 
--- a version of a folder, by its parts
+-- a version of a folder, with its tables and the number of its manifest
+pub record FolderVersion : Type 0 where
+  pub version : State
+  pub manifest : ℕ
+  pub tables : List (ℕ × List ℕ)
+
 abbrev pub folder_version : State → ℕ → List (ℕ × List ℕ) → FolderVersion
 folder_version v manifest tables = record { version = v; manifest = manifest; tables = tables }
 
@@ -70,6 +73,12 @@ versions_left v (l ∷ links) = left_by v l ∷ versions_left (left_by v l) link
 abbrev pub last_left : FolderVersion → List CompactionLink → FolderVersion
 last_left v [] = v
 last_left v (l ∷ links) = last_left (left_by v l) links
+
+-- files that read as one of these versions
+abbrev pub ReadsAsOneOf : Order → List FolderVersion → Files → Type 0
+ReadsAsOneOf order [] files = ⊥
+ReadsAsOneOf order (v ∷ versions) files =
+    ReadsAs (order_cmp order) order v.version v.tables files ⊎ ReadsAsOneOf order versions files
 
 -- A version with the bytes of its tables answers as another one does: it is lawful, and each get at
 -- a sequence that was to stay readable answers as there.
@@ -90,12 +99,9 @@ pub record IsNextLevelRefused (way : Way) (v : FolderVersion) (e : Fault) : Type
 
 -- What compactions leave of a folder that reads as a version, lawful with its tables, if a removal
 -- follows each. They were made one after the other, and at most one more was begun.
--- - They are pieces of work in a row, one for each compaction, with the removals between them, and
---   a last one for what follows. So a crash at any moment leaves one of their versions, by
---   `work_laws`.
 -- - Without a crash the folder reads as one of these, and at Ok as the last one.
 -- - The version after those that were made is lawful, and answers as the first one.
--- - At Ok none is begun, and the folder stands for the last version by its manifest.
+-- - At Ok none is begun.
 -- - Else the device failed, or the next compaction is refused.
 pub record IsDescended (way : Way) (v : FolderVersion) (tables : List NumberedContents)
     (call : FolderCall) (result : Result DescentEnd Fault) : Type 0 where
@@ -104,22 +110,12 @@ pub record IsDescended (way : Way) (v : FolderVersion) (tables : List NumberedCo
   pub chain : AreLinked way (version_with v.version v.tables) (links ++ begun)
   pub few : length begun ≤ 1
   pub none : OnOk result (begun ≡ [])
-  pub pieces : List WorkPiece
-  pub last : WorkPiece
-  pub row : IsWorkRow (order_cmp way.order) way.order v call.change.before pieces last
-  pub versions : versions_of pieces ≡ versions_left v links
-  pub version_last : last.next ≡ last_left v (links ++ begun)
-  pub all_calls : last.calls ≡ call.change.after
   pub files_now : Files
   pub holds : Tells call.change.new files_now
-  pub read : ReadsAsOneOf (order_cmp way.order) way.order (v ∷ versions_left v (links ++ begun))
-      files_now
+  pub read : ReadsAsOneOf way.order (v ∷ versions_left v (links ++ begun)) files_now
   pub reads_last : OnOk result (ReadsBy (order_cmp way.order) way.order (last_left v links).version
       (last_left v links).manifest (last_left v links).tables files_now)
   pub answers : AnswersAs way v.version tables (last_left v links)
-  pub stands : (start : World) →
-      AlwaysStands (order_cmp way.order) way.order v start call.change.before → OnOk result
-      (AlwaysStands (order_cmp way.order) way.order (last_left v links) start call.change.after)
   pub refused : IfErr result (λ e. UnlessMemory e (IsStopped call.failed call.now e
       ⊎ IsNextLevelRefused way (last_left v links) e))
 

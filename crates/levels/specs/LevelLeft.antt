@@ -21,24 +21,35 @@ use Rattle.store.specs.FolderRequest.{compaction_of, manifest_of}
 use Rattle.store.specs.OrderView.{OrderView}
 use Rattle.store.specs.Step.{StepView, step_in, step_of}
 use Rattle.store.specs.declared.compaction_step.CompactionStep.{CompactionStep}
-use Rattle.levels.specs.WholeAnswer.{AreLevelParts, edits_of, parts_result, tables_of, whole_step}
+use Rattle.levels.specs.WholeAnswer.{AreSelected, Choosing, PicksInputs, edits_of, parts_result}
+use Rattle.levels.specs.WholeAnswer.{tables_of, whole_step}
 use Rattle.levels.specs.declared.selection.Selection.{Selection}
-use Rattle.levels.specs.declared.selection.Selection.TheVariants.{Parts, Picked}
+use Rattle.levels.specs.declared.selection.Selection.TheVariants.{Whole}
 
--- These outputs and this step are those of one thread's answers for a level of a version with the
--- bytes of its tables: for the inputs that the rules pick of it; or for all its parts, with their
--- edits as one.
-abbrev pub IsAnswered : Selection → OrderView → LoadedVersion → ℕ → Settings →
-    List (ℕ × List ℕ) → StepView → Type 0
-IsAnswered Picked by v level s outputs step = (p : PickedInputs) × (a : Answer)
+-- these outputs and this step are those of one thread's answer for the inputs that the rules pick of
+-- a level of a version with the bytes of its tables
+abbrev pub IsPickedAnswered : OrderView → LoadedVersion → ℕ → Settings → List (ℕ × List ℕ) →
+    StepView → Type 0
+IsPickedAnswered by v level s outputs step = (p : PickedInputs) × (a : Answer)
     × IsPicked by.cmp v.version level p
     × (compaction_of by.cmp by.short_keys v.version v.tables p s ≡ Ok a)
     × (outputs ≡ a.tables) × (step ≡ step_of v.version p a)
-IsAnswered Parts by v level s outputs step = (parts : List PickedInputs) × (answers : List Answer)
-    × (e : Edit) × AreLevelParts by.cmp v.version level (Ok parts)
+
+-- the same for chosen parts, with their edits as one
+abbrev pub ArePartsAnswered : OrderView → LoadedVersion → Choosing → Settings →
+    List (ℕ × List ℕ) → StepView → Type 0
+ArePartsAnswered by v AreChosen s outputs step = (parts : List PickedInputs)
+    × (answers : List Answer) × (e : Edit) × AreChosen (Ok parts)
     × (parts_result by.cmp by.short_keys v.version v.tables s (manifest_of v.version) parts
     ≡ Ok answers) × IsEdit (edits_of answers) e
     × (outputs ≡ tables_of answers) × (step ≡ whole_step v.version answers e)
+
+-- the same for what a selection takes of the level
+abbrev pub IsAnswered : Selection → OrderView → LoadedVersion → ℕ → Settings →
+    List (ℕ × List ℕ) → StepView → Type 0
+IsAnswered selection by v level s outputs step =
+    (PicksInputs selection by.cmp v.version level × IsPickedAnswered by v level s outputs step)
+    ⊎ ArePartsAnswered by v (AreSelected selection by.cmp v.version level) s outputs step
 
 -- A compaction of a level of a version with the bytes of its tables. The version is lawful, and
 -- these are the outputs and the step of one thread's answers. The step's edit makes the edited
@@ -92,4 +103,4 @@ abbrev pub IsWholeLeft : OrderView → State → Files → ℕ → Settings → 
     Result CompactionStep Fault → Type 0
 IsWholeLeft by v files level s change result = IsUnchanged change result
     ⊎ ((loaded : List (ℕ × List ℕ)) × ReadsAs by.cmp by.order v loaded files
-    × IsLevelLeft Parts by (version_with v loaded) level s change result)
+    × IsLevelLeft Whole by (version_with v loaded) level s change result)

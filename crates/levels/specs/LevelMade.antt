@@ -1,5 +1,5 @@
 -- One compaction in a row of them: its calls, its refusal, and what is told of it.
-use Rattle.std.specs.Prelude.{Bool, Err, IfOk, IsErrAnd, Ok, Result, ℕ, ◌≡◌}
+use Rattle.std.specs.Prelude.{Bool, Err, IfOk, IsErrAnd, Ok, Result, ℕ, ◌≡◌, ◌⊎◌}
 use Rattle.edit.specs.Version.{State}
 use Rattle.edit.specs.fault.Fault.{Fault}
 use Rattle.folder.specs.Calls.{Files}
@@ -15,27 +15,27 @@ use Rattle.store.specs.InputsCompaction.{IsInputsCompacted}
 use Rattle.store.specs.Runs.{IsLevelRun}
 use Rattle.store.specs.Step.{StepView, step_in}
 use Rattle.store.specs.declared.compaction_step.CompactionStep.{CompactionStep}
-use Rattle.levels.specs.WholeAnswer.{IsWholeCompacted}
+use Rattle.levels.specs.WholeAnswer.{AreSelected, IsWholeCompacted, PicksInputs}
 use Rattle.levels.specs.WholeRuns.{IsWholeRun}
 use Rattle.levels.specs.declared.selection.Selection.{Selection}
-use Rattle.levels.specs.declared.selection.Selection.TheVariants.{Parts, Picked}
 
 -- which calls the compaction of a level makes
 abbrev pub IsLevelMadeBy : {F : Type 0} → Selection → Ghosts F → Order → State → ℕ → Settings → F →
     F → Result CompactionStep Fault → Type 0
-IsLevelMadeBy Picked g order v level s old new result =
-    IsLevelRun order v level s (change_of g old new) result
-IsLevelMadeBy Parts g order v level s old new result =
-    IsWholeRun g (order_name order) (order_cmp order) (order_short_keys order) v level s old new
-    result
+IsLevelMadeBy selection g order v level s old new result =
+    (PicksInputs selection (order_cmp order) v level
+    × IsLevelRun order v level s (change_of g old new) result)
+    ⊎ IsWholeRun g (order_name order) (order_cmp order) (order_short_keys order) v
+    (AreSelected selection (order_cmp order) v level) s old new result
 
 -- what it answers, of the tables that these files hold
 abbrev pub IsLevelStep : Selection → Order → Files → State → ℕ → Settings →
     Result StepView Fault → Type 0
-IsLevelStep Picked order files v level s =
-    IsInputsCompacted (order_cmp order) (order_short_keys order) files v level s
-IsLevelStep Parts order files v level s =
-    IsWholeCompacted (order_cmp order) (order_short_keys order) files v level s
+IsLevelStep selection order files v level s step =
+    (PicksInputs selection (order_cmp order) v level
+    × IsInputsCompacted (order_cmp order) (order_short_keys order) files v level s step)
+    ⊎ IsWholeCompacted (order_cmp order) (order_short_keys order) files v
+    (AreSelected selection (order_cmp order) v level) s step
 
 -- files that read as the version with these tables, for which the compaction of the level is
 -- refused so

@@ -1,10 +1,15 @@
 -- What the compaction of a level leaves of a version that is known to be lawful, after it was told.
+use Rattle.std.specs.Global.{Vec}
 use Rattle.std.specs.Option.{IfSome}
-use Rattle.std.specs.Prelude.{Bool, Err, IfErr, IfOk, None, Ok, Option, Result, Some, ℕ, ◌≡◌, ◌⊎◌}
+use Rattle.std.specs.Prelude.{Bool, Err, IfErr, IfOk, None, Ok, Option, Result, Some, map, ℕ}
+use Rattle.std.specs.Prelude.{◌≡◌, ◌⊎◌}
 use Rattle.edit.specs.Answers.{UnlessMemory, fault}
+use Rattle.edit.specs.Comparator.{KeyOrder}
 use Rattle.edit.specs.Version.{State}
 use Rattle.edit.specs.fault.Fault.{Fault}
 use Rattle.edit.specs.fault.FaultName.TheVariants.{Memory}
+use Rattle.pick.specs.PickedInputs.{picked_in}
+use Rattle.pick.specs.declared.picked_inputs.Inputs.{Inputs}
 use Rattle.folder.specs.OpenAnswer.{IsStopped}
 use Rattle.folder.specs.declared.folder.Folder.{Ghosts}
 use Rattle.install.specs.FolderChange.{FolderCall, FolderChange}
@@ -17,8 +22,17 @@ use Rattle.store.specs.Step.{StepView}
 use Rattle.store.specs.Telling.{IsGoTold}
 use Rattle.store.specs.declared.compaction_step.CompactionStep.{CompactionStep}
 use Rattle.store.specs.declared.synced_version.SyncedVersion.{SyncedVersion}
+use Rattle.levels.specs.WholeAnswer.{AreSelected, PicksInputs}
 use Rattle.levels.specs.LevelLeft.{IsLevelInstalled, IsLevelLeft}
 use Rattle.levels.specs.LevelMade.{At, IsLevelMade, IsRefusedSo, Way}
+use Rattle.levels.specs.declared.selection.Selection.{Selection}
+
+-- the parts that a selection takes; None if it takes the inputs that the rules pick
+abbrev pub AreTaken : Selection → KeyOrder → State → ℕ → Result (Option (Vec Inputs)) Fault → Type 0
+AreTaken selection cmp v level (Ok None) = PicksInputs selection cmp v level
+AreTaken selection cmp v level (Ok (Some parts)) =
+    AreSelected selection cmp v level (Ok (map picked_in parts.items))
+AreTaken selection cmp v level (Err e) = UnlessMemory e (AreSelected selection cmp v level (Err e))
 
 -- the bottom of a version; None if no file is above it
 abbrev pub IsBottomBelow : State → Option ℕ → Type 0

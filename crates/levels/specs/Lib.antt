@@ -2,7 +2,8 @@
 pub mod WholeAnswer
 pub mod LevelLeft
 pub mod WholeRuns
-pub mod WholeWork
+pub mod Survival
+pub mod ApartParts
 pub mod LevelMade
 pub mod DescentRuns
 pub mod DescentLeft

@@ -7,8 +7,7 @@ use Rattle.edit.specs.Answers.{UnlessMemory, fault}
 use Rattle.edit.specs.Comparator.{KeyOrder, ShortKeys}
 use Rattle.edit.specs.Edit.{Edit, IsEdit, IsEditRefused, edit_bytes}
 use Rattle.edit.specs.Key.{IsInternalKey}
-use Rattle.edit.specs.Version.{IsState, State}
-use Rattle.edit.specs.VersionOrder.{snapshot_of}
+use Rattle.edit.specs.Version.{State}
 use Rattle.edit.specs.fault.Fault.{Fault}
 use Rattle.edit.specs.fault.FaultName.TheVariants.{Numbers}
 use Rattle.pick.specs.PickedInputs.{PickedInputs, picked_in}
@@ -31,10 +30,10 @@ use Rattle.store.specs.PickedOutcome.{IsPickedCompacted}
 use Rattle.store.specs.Runs.{HasMade}
 use Rattle.store.specs.Step.{step_in}
 use Rattle.store.specs.declared.compaction_step.CompactionStep.{CompactionStep}
-use Rattle.levels.specs.WholeAnswer.{AreLevelParts, edits_of, next_last, tables_of, whole_step}
+use Rattle.levels.specs.WholeAnswer.{AreSelected, edits_of, next_last, tables_of, whole_step}
 use Rattle.levels.specs.WholeRuns.{ArePartLinks, GroupedAnswer, answers_in, groups_in}
 use Rattle.levels.specs.declared.part_writer.WrittenParts.{WrittenParts}
-use Rattle.levels.specs.declared.ready_manifest.ReadyManifest.{ReadyManifest}
+use Rattle.levels.specs.declared.selection.Selection.{Selection}
 
 -- what is kept of parts after one more, which has this answer
 pub record IsTakenIn (before after : WrittenParts) (a : Answer) : Type 0 where
@@ -92,17 +91,20 @@ IsPartWritten g cmp short_keys v s p before after old new result =
     IsPartRefused g cmp short_keys v s p before.last old new result
     ⊎ IsPartDone g cmp short_keys v s p before after old new result
 
--- at this place are inputs that are a part of a level
+-- they are what a selection takes of a level
+abbrev pub AreSelectedParts : KeyOrder → State → List PickedInputs → Type 0
+AreSelectedParts cmp v parts = (selection : Selection) × (level : ℕ)
+    × AreSelected selection cmp v level (Ok parts)
+
+-- at this place of selected parts is one
 pub record IsPartAt (cmp : KeyOrder) (v : State) (parts : List Inputs) (place : ℕ) : Type 0 where
-  pub level : ℕ
-  pub are_parts : AreLevelParts cmp v level (Ok (map picked_in parts))
+  pub are_parts : AreSelectedParts cmp v (map picked_in parts)
   pub within : place < length parts
 
--- from one place on, below another, are inputs that are parts of a level
+-- from one place on, below another, are selected parts
 pub record AreRangeAt (cmp : KeyOrder) (v : State) (parts : List Inputs) (from to : ℕ) : Type 0
   where
-    pub level : ℕ
-    pub are_parts : AreLevelParts cmp v level (Ok (map picked_in parts))
+    pub are_parts : AreSelectedParts cmp v (map picked_in parts)
     pub ordered : from ≤ to
     pub within : to ≤ length parts
 
@@ -165,29 +167,10 @@ IsRangeWritten {F = F} g cmp short_keys v s parts from to before after old new r
     (OnOk result (AreWrittenBefore g first cmp short_keys v s parts new to after))
     × IfErr result (λ e. ArePartsWritten g cmp short_keys v s parts first new (Err e))
 
--- a manifest that has the edit as which these bytes read
-pub record IsManifestReady (name : List ℕ) (cmp : KeyOrder) (v : State) (edits : List ℕ)
-    (m : ReadyManifest) : Type 0 where
-  pub edit : Edit
-  pub read : IsEdit edits edit
-  pub deleted : m.deleted.keys ≡ edit.deleted
-  pub bytes : m.edit.items ≡ edit_bytes edit
-  pub again : IsEdit m.edit.items edit
-  pub manifest : m.bytes.items ≡ manifest_bytes name cmp v m.edit.items
-  pub snapshot : IsEdit (edit_bytes (snapshot_of name cmp v)) (snapshot_of name cmp v)
-  pub state : IsState v.pointers v.files
-
--- there are no parts, so nothing was written
-pub record IsEndBefore {F X : Type 0} (g : Ghosts F) (cmp : KeyOrder) (v : State) (level : ℕ)
-    (old new : F) (result : Result X Fault) : Type 0 where
-  pub nothing : IsUnchanged (change_of g old new) result
-  pub why : IfErr result (λ e. UnlessMemory e (AreLevelParts cmp v level (Err e)))
-
 -- tables of parts were written, and then it was refused
 pub record IsEndWithin {F X : Type 0} (g : Ghosts F) (cmp : KeyOrder) (short_keys : ShortKeys)
-    (v : State) (level : ℕ) (s : Settings) (old new : F) (result : Result X Fault) : Type 0 where
-  pub parts : List PickedInputs
-  pub are_parts : AreLevelParts cmp v level (Ok parts)
+    (v : State) (parts : List PickedInputs) (s : Settings) (old new : F) (result : Result X Fault)
+    : Type 0 where
   pub e : Fault
   pub is : IsErrAnd result (λ f. f ≡ e)
   pub written : ArePartsWritten g cmp short_keys v s parts old new (Err e)
@@ -195,19 +178,16 @@ pub record IsEndWithin {F X : Type 0} (g : Ghosts F) (cmp : KeyOrder) (short_key
 -- tables of all parts were written, and then there was no memory for the manifest, or the edits
 -- read as none
 pub record IsEndUnready {F X : Type 0} (g : Ghosts F) (cmp : KeyOrder) (short_keys : ShortKeys)
-    (v : State) (level : ℕ) (s : Settings) (old new : F) (result : Result X Fault) : Type 0 where
-  pub parts : List PickedInputs
-  pub are_parts : AreLevelParts cmp v level (Ok parts)
+    (v : State) (parts : List PickedInputs) (s : Settings) (old new : F) (result : Result X Fault)
+    : Type 0 where
   pub w : WrittenParts
   pub written : ArePartsWritten g cmp short_keys v s parts old new (Ok w)
   pub why : IsErrAnd result (λ e. UnlessMemory e (IsEditRefused w.edits.items e))
 
 -- tables of all parts were written, and then the manifest, as an installation does it
 pub record IsEndInstalled {F : Type 0} (g : Ghosts F) (name : List ℕ) (cmp : KeyOrder)
-    (short_keys : ShortKeys) (v : State) (opened level : ℕ) (s : Settings) (old new : F)
-    (result : Result CompactionStep Fault) : Type 0 where
-  pub parts : List PickedInputs
-  pub are_parts : AreLevelParts cmp v level (Ok parts)
+    (short_keys : ShortKeys) (v : State) (opened : ℕ) (parts : List PickedInputs) (s : Settings)
+    (old new : F) (result : Result CompactionStep Fault) : Type 0 where
   pub w : WrittenParts
   pub at : F
   pub written : ArePartsWritten g cmp short_keys v s parts old at (Ok w)
@@ -220,10 +200,9 @@ pub record IsEndInstalled {F : Type 0} (g : Ghosts F) (name : List ℕ) (cmp : K
       ++ current_calls (manifest_of v)) (g.calls at) (g.calls new) (g.tells at) (g.tells new) result
   pub step : IfOk result (λ step. step_in step ≡ whole_step v (answers_in written.links) edit)
 
-abbrev pub IsPartsEnd : {F : Type 0} → Ghosts F → List ℕ → KeyOrder → ShortKeys → State → ℕ → ℕ →
-    Settings → F → F → Result CompactionStep Fault → Type 0
-IsPartsEnd g name cmp short_keys v opened level s old new result =
-    IsEndBefore g cmp v level old new result
-    ⊎ (IsEndWithin g cmp short_keys v level s old new result
-    ⊎ (IsEndUnready g cmp short_keys v level s old new result
-    ⊎ IsEndInstalled g name cmp short_keys v opened level s old new result))
+abbrev pub IsPartsEnd : {F : Type 0} → Ghosts F → List ℕ → KeyOrder → ShortKeys → State → ℕ →
+    List PickedInputs → Settings → F → F → Result CompactionStep Fault → Type 0
+IsPartsEnd g name cmp short_keys v opened parts s old new result =
+    IsEndWithin g cmp short_keys v parts s old new result
+    ⊎ (IsEndUnready g cmp short_keys v parts s old new result
+    ⊎ IsEndInstalled g name cmp short_keys v opened parts s old new result)

@@ -1,6 +1,7 @@
--- What the compaction of a whole level answers: of all its parts, from one version.
-use Rattle.std.specs.Prelude.{Err, List, Ok, Result, Some, [], flat_map, length, nat_lt, ℕ, ◌+◌}
-use Rattle.std.specs.Prelude.{◌-◌, ◌^◌, ◌∷◌, ◌≡◌}
+-- Which parts of a level are compacted together, and what that answers, from one version.
+use Rattle.std.specs.List.{sum_by}
+use Rattle.std.specs.Prelude.{Bool, Err, List, Ok, Result, Some, [], filter, flat_map, length}
+use Rattle.std.specs.Prelude.{nat_le, nat_lt, ℕ, ◌&&◌, ◌+◌, ◌-◌, ◌^◌, ◌∷◌, ◌≡◌}
 use Rattle.edit.specs.Answers.{IsThen, fault, ◌>>=◌}
 use Rattle.edit.specs.Comparator.{KeyOrder, ShortKeys}
 use Rattle.edit.specs.Edit.{Edit, IsEdit, edit_bytes}
@@ -9,6 +10,7 @@ use Rattle.edit.specs.fault.Fault.{Fault}
 use Rattle.edit.specs.fault.FaultName.TheVariants.{NoInput, Numbers}
 use Rattle.pick.specs.Parts.{IsPartsAnswer}
 use Rattle.pick.specs.PickedInputs.{PickedInputs}
+use Rattle.pick.specs.declared.picked_inputs.InputFile.{InputFile}
 use Rattle.folder.specs.Calls.{Files}
 use Rattle.folder.specs.Levels.{file_numbers}
 use Rattle.folder.specs.LoadedTables.{IsLoaded}
@@ -16,10 +18,14 @@ use Rattle.folder.specs.ReadsAs.{IsFileIn}
 use Rattle.keep.specs.TestResult.{test_result}
 use Rattle.compact.specs.GroupedAnswer.{table_sizes}
 use Rattle.compact.specs.OneThread.{Answer}
+use Rattle.compact.specs.declared.request_conditions.TheConstants.{MAX_INPUTS}
 use Rattle.compact.specs.declared.settings.Settings.{Settings}
 use Rattle.checks.specs.LawfulTables.{IsLawfulTables}
 use Rattle.store.specs.FolderRequest.{compaction_from, manifest_of}
+use Rattle.store.specs.InputsCompaction.{ArePartsFound}
 use Rattle.store.specs.Step.{StepView}
+use Rattle.levels.specs.declared.selection.Selection.{Selection}
+use Rattle.levels.specs.declared.selection.Selection.TheVariants.{Fitting, Whole}
 
 -- ---- parts, one after the other
 
@@ -55,7 +61,11 @@ parts_result cmp short_keys v loaded s last (p ∷ parts) = do
   rest ← parts_result cmp short_keys v loaded s (next_last last a) parts
   Ok (a ∷ rest)
 
--- ---- a level
+-- ---- which parts
+
+-- which parts are compacted together, or the refusal
+abbrev pub Choosing : Type 1
+Choosing = Result (List PickedInputs) Fault → Type 0
 
 -- parts, or NoInput if there is none
 abbrev pub some_parts : List PickedInputs → Result (List PickedInputs) Fault
@@ -63,26 +73,55 @@ some_parts [] = Err (fault NoInput)
 some_parts (p ∷ parts) = Ok (p ∷ parts)
 
 -- The parts of a level. The first refusal counts: that of them; NoInput, if the level has no file.
-abbrev pub AreLevelParts : KeyOrder → State → ℕ → Result (List PickedInputs) Fault → Type 0
+abbrev pub AreLevelParts : KeyOrder → State → ℕ → Choosing
 AreLevelParts cmp v level = IsThen (IsPartsAnswer cmp v level)
     (λ parts answer. answer ≡ some_parts parts)
 
--- The answers for all parts of a level of a version with the bytes of its tables. The first refusal
--- counts: of a table; of a version that isn't lawful; of a level without parts; of their
--- compactions.
-abbrev pub IsLoadedWhole : KeyOrder → ShortKeys → State → List (ℕ × List ℕ) → ℕ → Settings →
+-- whether a part fits: it has at most 256 inputs, and their files at most so many bytes together
+abbrev pub fits : ℕ → PickedInputs → Bool
+fits memory p = nat_le (length p.files) MAX_INPUTS
+    && nat_le (sum_by (λ (i : InputFile). i.meta.size) p.files) memory
+
+-- the parts of a level that fit, perhaps none, or the first refusal: that of the version's files, or
+-- of the parts
+abbrev pub ArePartsFitting : ℕ → KeyOrder → State → ℕ → Choosing
+ArePartsFitting memory cmp v level = IsThen (ArePartsFound cmp v level)
+    (λ parts answer. answer ≡ Ok (filter (fits memory) parts))
+
+-- the same, if there is such a part
+abbrev pub AreSomeFitting : ℕ → KeyOrder → State → ℕ → Choosing
+AreSomeFitting memory cmp v level (Ok []) = ⊥
+AreSomeFitting memory cmp v level (Ok (p ∷ parts)) =
+    ArePartsFitting memory cmp v level (Ok (p ∷ parts))
+AreSomeFitting memory cmp v level (Err e) = ArePartsFitting memory cmp v level (Err e)
+
+-- the parts that a selection takes of a level
+abbrev pub AreSelected : Selection → KeyOrder → State → ℕ → Choosing
+AreSelected Whole cmp v level = AreLevelParts cmp v level
+AreSelected (Fitting memory) cmp v level = AreSomeFitting memory cmp v level
+
+-- A selection takes no part of a level, since none fits, and so the inputs that the rules pick.
+abbrev pub PicksInputs : Selection → KeyOrder → State → ℕ → Type 0
+PicksInputs Whole cmp v level = ⊥
+PicksInputs (Fitting memory) cmp v level = ArePartsFitting memory cmp v level (Ok [])
+
+-- ---- a level
+
+-- The answers for chosen parts of a level of a version with the bytes of its tables. The first
+-- refusal counts: of a table; of a version that isn't lawful; of the choice; of their compactions.
+abbrev pub IsLoadedWhole : KeyOrder → ShortKeys → State → List (ℕ × List ℕ) → Choosing → Settings →
     Result (List Answer) Fault → Type 0
-IsLoadedWhole cmp short_keys v loaded level s =
+IsLoadedWhole cmp short_keys v loaded AreChosen s =
     IsThen (IsLawfulTables cmp v loaded) (λ tables.
-    IsThen (AreLevelParts cmp v level) (λ parts answer.
+    IsThen AreChosen (λ parts answer.
     answer ≡ parts_result cmp short_keys v loaded s (manifest_of v) parts))
 
 -- the same with tables in a folder: first all of them are read, by level and in version order
-abbrev pub IsVersionWhole : KeyOrder → ShortKeys → Files → State → ℕ → Settings →
+abbrev pub IsVersionWhole : KeyOrder → ShortKeys → Files → State → Choosing → Settings →
     Result (List Answer) Fault → Type 0
-IsVersionWhole cmp short_keys files v level s =
+IsVersionWhole cmp short_keys files v AreChosen s =
     IsThen (IsLoaded (IsFileIn files) (file_numbers cmp v))
-    (λ loaded. IsLoadedWhole cmp short_keys v loaded level s)
+    (λ loaded. IsLoadedWhole cmp short_keys v loaded AreChosen s)
 
 -- ---- its step
 
@@ -101,8 +140,8 @@ abbrev pub IsWholeStep : State → List Answer → Result StepView Fault → Typ
 IsWholeStep v answers step = (e : Edit) × IsEdit (edits_of answers) e
     × (step ≡ Ok (whole_step v answers e))
 
--- what the compaction of a level of a version answers
-abbrev pub IsWholeCompacted : KeyOrder → ShortKeys → Files → State → ℕ → Settings →
+-- what the compaction of chosen parts of a version answers
+abbrev pub IsWholeCompacted : KeyOrder → ShortKeys → Files → State → Choosing → Settings →
     Result StepView Fault → Type 0
-IsWholeCompacted cmp short_keys files v level s =
-    IsThen (IsVersionWhole cmp short_keys files v level s) (IsWholeStep v)
+IsWholeCompacted cmp short_keys files v AreChosen s =
+    IsThen (IsVersionWhole cmp short_keys files v AreChosen s) (IsWholeStep v)

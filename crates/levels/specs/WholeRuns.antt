@@ -1,5 +1,5 @@
--- Which calls the compaction of a whole level makes on a folder, be it one that tells what it holds
--- or not.
+-- Which calls the compaction of chosen parts of a level makes on a folder, be it one that tells what
+-- it holds or not.
 use Rattle.std.specs.Prelude.{IfErr, IfOk, List, Ok, OnOk, Result, Some, [], flat_map, length, map}
 use Rattle.std.specs.Prelude.{ℕ, ◌++◌, ◌+◌, ◌∷◌, ◌≡◌, ◌⊎◌}
 use Rattle.table.specs.TableBytes.{AreBytes}
@@ -25,7 +25,7 @@ use Rattle.store.specs.PickedOutcome.{IsPickedCompacted}
 use Rattle.store.specs.Runs.{HasMade}
 use Rattle.store.specs.Step.{step_in}
 use Rattle.store.specs.declared.compaction_step.CompactionStep.{CompactionStep}
-use Rattle.levels.specs.WholeAnswer.{AreLevelParts, edits_of, next_last, whole_step}
+use Rattle.levels.specs.WholeAnswer.{Choosing, edits_of, next_last, whole_step}
 
 -- an answer that is installed: with its inputs, and the groups in which its tables are written
 pub record GroupedAnswer : Type 0 where
@@ -94,13 +94,13 @@ pub record AreWholeInstalled {F : Type 0} (g : Ghosts F) (name : List ℕ) (cmp 
   pub refused : IfErr result
       (λ e. UnlessMemory e ((e ≡ fault Device) ⊎ (e ≡ fault Changed)))
 
--- The parts of the level were compacted in their order, each from this version. The tables of the
--- first of them were written, and then it was refused; or all were, and the manifest.
+-- The chosen parts were compacted in their order, each from this version. The tables of the first
+-- of them were written, and then it was refused; or all were, and the manifest.
 pub record IsWholeWritten {F : Type 0} (g : Ghosts F) (name : List ℕ) (cmp : KeyOrder)
-    (short_keys : ShortKeys) (v : State) (level : ℕ) (s : Settings) (old new : F)
+    (short_keys : ShortKeys) (v : State) (AreChosen : Choosing) (s : Settings) (old new : F)
     (result : Result CompactionStep Fault) : Type 0 where
   pub parts : List PickedInputs
-  pub are_parts : AreLevelParts cmp v level (Ok parts)
+  pub are_parts : AreChosen (Ok parts)
   pub links : List GroupedAnswer
   pub chain : ArePartLinks g old [] cmp short_keys v s (manifest_of v) parts links
   pub written : AreTablesWritten links (change_of g old new) result
@@ -108,8 +108,8 @@ pub record IsWholeWritten {F : Type 0} (g : Ghosts F) (name : List ℕ) (cmp : K
       × AreWholeInstalled g name cmp v links old new result)
 
 -- no call that writes was made; or these were
-abbrev pub IsWholeRun : {F : Type 0} → Ghosts F → List ℕ → KeyOrder → ShortKeys → State → ℕ →
-    Settings → F → F → Result CompactionStep Fault → Type 0
-IsWholeRun g name cmp short_keys v level s old new result =
+abbrev pub IsWholeRun : {F : Type 0} → Ghosts F → List ℕ → KeyOrder → ShortKeys → State →
+    Choosing → Settings → F → F → Result CompactionStep Fault → Type 0
+IsWholeRun g name cmp short_keys v AreChosen s old new result =
     IsUnchanged (change_of g old new) result
-    ⊎ IsWholeWritten g name cmp short_keys v level s old new result
+    ⊎ IsWholeWritten g name cmp short_keys v AreChosen s old new result

@@ -34,12 +34,12 @@ use crate::descent_end::DescentEnd;
 use crate::level_step::take_level;
 use crate::selection::Descent;
 use board::Watch;
-use checks::Workers;
+use checks::{Workers, test_by_order};
 use edit::{Fault, FaultName, Version};
 use folder::{ReadsTables, WritesTables};
 use std::alloc::Global;
 use std::thread::Threads;
-use store::{CleanWatch, SyncedVersion, bottom, clean, next_level, test_opened};
+use store::{CleanWatch, SyncedVersion, bottom, clean, next_level};
 
 /// Compacts the first level of what a folder was `opened` as that has a file, and so on with what
 /// that leaves, until all files are at the bottom. The bottom is the deepest level that had a file,
@@ -124,7 +124,7 @@ fn test_asked<F: ReadsTables, W: Watch + Sync, R: Threads + Sync>(
     let Some(memory) = test else {
         return Ok(());
     };
-    test_opened(workers, folder, opened, memory)?;
+    test_by_order(workers, folder, opened.order, &opened.version, memory)?;
     Ok(())
 }
 

@@ -1,6 +1,7 @@
-//! The compaction of a whole level.
+//! The compaction of a level: of all its parts, or of what else is selected of it.
 
-ghost use Rattle.std.specs.Prelude.{◌≡◌, ◌<◌, ◌^◌, ℕ, List, length, codes, unwrap_or, Some, Ok};
+ghost use Rattle.std.specs.Prelude.{◌≡◌, ◌<◌, ◌^◌, ℕ, List, length, map, codes, unwrap_or};
+ghost use Rattle.std.specs.Prelude.{Some, Ok};
 ghost use Rattle.checks.specs.LawfulTables.{IsLawfulTables};
 ghost use Rattle.folder.specs.Calls.{Files, Tells};
 ghost use Rattle.folder.specs.Manifest.{order_name};
@@ -13,25 +14,30 @@ ghost use Rattle.folder.specs.declared.order.Order.{Order};
 ghost use Rattle.install.specs.FolderChange.{change_of};
 ghost use Rattle.install.specs.Install.{version_with};
 ghost use Rattle.keep.specs.Tables.{NumberedContents};
+ghost use Rattle.pick.specs.PickedInputs.{picked_in};
 ghost use Rattle.store.specs.OrderView.{order_by, order_view};
 ghost use Rattle.store.specs.Step.{step_in};
-ghost use Rattle.levels.specs.PartsEnd.{IsPartsEnd};
-ghost use Rattle.levels.specs.WholeAnswer.{IsWholeCompacted};
+ghost use Rattle.levels.specs.PartsEnd.{AreSelectedParts, IsPartsEnd};
+ghost use Rattle.levels.specs.WholeAnswer.{AreLevelParts, AreSelected, IsWholeCompacted};
 ghost use Rattle.levels.specs.LevelLeft.{IsLevelLeft, IsWholeLeft};
+ghost use Rattle.levels.specs.LevelMade.{IsLevelMadeBy, IsLevelStep};
 ghost use Rattle.levels.specs.WholeRuns.{IsWholeRun};
-ghost use Rattle.levels.specs.declared.selection.Selection.TheVariants.{Parts};
+ghost use Rattle.levels.specs.declared.selection.Selection.{Selection};
 
-use crate::level_parts::level_parts;
+use crate::level_parts::selected_parts;
 use crate::part_writer::write_parts;
-use crate::ready_manifest::ready_manifest;
+use crate::selection::Selection;
 use board::Watch;
-use checks::{SharedComparator, Workers};
+use checks::{SharedComparator, Workers, test_by_order};
 use compact::passed_law;
 use edit::{Fault, Version};
 use folder::{Bytewise, Order, ReadsTables, Shortlex, WritesTables};
-use install::install_manifest;
+use pick::Inputs;
 use std::thread::Threads;
-use store::{CompactionStep, Settings, SyncedVersion, manifest_of, test_opened, version_is_state};
+use store::{
+    CompactionStep, Settings, SyncedVersion, WrittenTables, compact_opened, name_edits,
+    version_is_state,
+};
 use table::table_reads_back;
 
 /// Compacts a whole `level` of what a folder was `opened` as: all its parts, and installs them by
@@ -66,7 +72,8 @@ pub fn compact_level<F: ReadsTables + WritesTables, W: Watch + Sync, R: Threads 
         IsOpened (IsFileIn files) (Ok (opened.now.order, opened.now.version)) →
         FolderAnswers step_in (F.failed folder.old) (F.failed folder.new) result
         (IsWholeCompacted (order_cmp opened.now.order) (order_short_keys opened.now.order)
-        files opened.now.version level settings.now)) }
+        files opened.now.version (AreLevelParts (order_cmp opened.now.order)
+        opened.now.version level) settings.now)) }
     // What is left of the folder then: what it held; tables that no version names; or the edited
     // version, which is lawful and answers each readable get as before.
     ensures left { IfCurrent (F.tells folder.old) opened.now.manifest (λ files.
@@ -77,23 +84,25 @@ pub fn compact_level<F: ReadsTables + WritesTables, W: Watch + Sync, R: Threads 
     // those of one thread's answers for the parts of this level, in their order, up to one that
     // fails. The tables of the inputs are what reads of the folder may give.
     ensures runs { IsWholeRun F.Folder (order_name opened.now.order) (order_cmp opened.now.order)
-        (order_short_keys opened.now.order) opened.now.version level settings.now folder.old
-        folder.new result }
+        (order_short_keys opened.now.order) opened.now.version
+        (AreLevelParts (order_cmp opened.now.order) opened.now.version level) settings.now
+        folder.old folder.new result }
     // If CURRENT is another one, the answer is never Ok.
     ensures other { IsOkOnlyIfCurrent (F.tells folder.old) opened.now.manifest result }
     ensures device { ReportsDevice F.Folder folder.old folder.new result }
 {
-    test_opened(workers, folder, opened, memory)?;
-    compact_tested(workers, folder, opened, level, settings)
+    test_by_order(workers, folder, opened.order, &opened.version, memory)?;
+    compact_selected(workers, folder, opened, level, Selection::Whole, settings)
 }
 
-/// Compacts a whole `level` of what a folder was `opened` as, and installs it. It tests nothing of
-/// the version but the tables of inputs: its caller knows that the version is lawful.
-pub(crate) fn compact_tested<F: ReadsTables + WritesTables, W: Watch + Sync, R: Threads + Sync>(
+/// Compacts what a `selection` takes of a `level` of what a folder was `opened` as, and installs
+/// it. It tests no table but those of inputs: its caller knows that the version is lawful.
+pub(crate) fn compact_selected<F: ReadsTables + WritesTables, W: Watch + Sync, R: Threads + Sync>(
     workers: &Workers<'_, R, W>,
     folder: &mut F,
     opened: &SyncedVersion,
     level: u64,
+    selection: Selection,
     settings: &Settings<'_>,
 ) -> Result<CompactionStep, Fault>
     ensures answer { (files : Files) (loaded : List (ℕ × List ℕ)) (tables : List NumberedContents) →
@@ -102,27 +111,73 @@ pub(crate) fn compact_tested<F: ReadsTables + WritesTables, W: Watch + Sync, R: 
         ReadsAs (order_cmp opened.now.order) opened.now.order opened.now.version loaded files →
         IsLawfulTables (order_cmp opened.now.order) opened.now.version loaded (Ok tables) →
         FolderAnswers step_in (F.failed folder.old) (F.failed folder.new) result
-        (IsWholeCompacted (order_cmp opened.now.order) (order_short_keys opened.now.order) files
-        opened.now.version level settings.now) }
+        (IsLevelStep selection opened.now.order files opened.now.version level settings.now) }
     ensures left { (files : Files) (loaded : List (ℕ × List ℕ)) (tables : List NumberedContents) →
         Tells (F.tells folder.old) files →
         files (codes "CURRENT") ≡ Some (current_text opened.now.manifest) →
         ReadsAs (order_cmp opened.now.order) opened.now.order opened.now.version loaded files →
         IsLawfulTables (order_cmp opened.now.order) opened.now.version loaded (Ok tables) →
-        IsLevelLeft Parts (order_view opened.now.order) (version_with opened.now.version loaded) level
-        settings.now (change_of F.Folder folder.old folder.new) result }
-    ensures runs { IsWholeRun F.Folder (order_name opened.now.order) (order_cmp opened.now.order)
-        (order_short_keys opened.now.order) opened.now.version level settings.now folder.old
-        folder.new result }
+        IsLevelLeft selection (order_view opened.now.order)
+        (version_with opened.now.version loaded) level settings.now
+        (change_of F.Folder folder.old folder.new) result }
+    ensures runs { IsLevelMadeBy selection F.Folder opened.now.order opened.now.version level
+        settings.now folder.old folder.new result }
+    ensures other { IsOkOnlyIfCurrent (F.tells folder.old) opened.now.manifest result }
+    ensures device { ReportsDevice F.Folder folder.old folder.new result }
+{
+    let Some(parts) = selected_parts(workers.alloc(), opened, level, selection)? else {
+        return compact_opened(workers, folder, opened, level, settings, None);
+    };
+    compact_chosen(workers, folder, opened, &parts, settings)
+}
+
+/// Compacts `parts` that a selection takes of what a folder was `opened` as, and installs them.
+fn compact_chosen<F: ReadsTables + WritesTables, W: Watch + Sync, R: Threads + Sync>(
+    workers: &Workers<'_, R, W>,
+    folder: &mut F,
+    opened: &SyncedVersion,
+    parts: &[Inputs],
+    settings: &Settings<'_>,
+) -> Result<CompactionStep, Fault>
+    requires chosen { AreSelectedParts (order_cmp opened.now.order) opened.now.version
+        (map picked_in parts.now) }
+    ensures answer { (selection : Selection) (level : ℕ) (files : Files)
+        (loaded : List (ℕ × List ℕ)) (tables : List NumberedContents) →
+        AreSelected selection (order_cmp opened.now.order) opened.now.version level
+        (Ok (map picked_in parts.now)) → Tells (F.tells folder.old) files →
+        files (codes "CURRENT") ≡ Some (current_text opened.now.manifest) →
+        ReadsAs (order_cmp opened.now.order) opened.now.order opened.now.version loaded files →
+        IsLawfulTables (order_cmp opened.now.order) opened.now.version loaded (Ok tables) →
+        FolderAnswers step_in (F.failed folder.old) (F.failed folder.new) result
+        (IsWholeCompacted (order_cmp opened.now.order) (order_short_keys opened.now.order) files
+        opened.now.version (AreSelected selection (order_cmp opened.now.order) opened.now.version
+        level) settings.now) }
+    ensures left { (selection : Selection) (level : ℕ) (files : Files)
+        (loaded : List (ℕ × List ℕ)) (tables : List NumberedContents) →
+        AreSelected selection (order_cmp opened.now.order) opened.now.version level
+        (Ok (map picked_in parts.now)) → Tells (F.tells folder.old) files →
+        files (codes "CURRENT") ≡ Some (current_text opened.now.manifest) →
+        ReadsAs (order_cmp opened.now.order) opened.now.order opened.now.version loaded files →
+        IsLawfulTables (order_cmp opened.now.order) opened.now.version loaded (Ok tables) →
+        IsLevelLeft selection (order_view opened.now.order)
+        (version_with opened.now.version loaded) level settings.now
+        (change_of F.Folder folder.old folder.new) result }
+    ensures runs { (selection : Selection) (level : ℕ) →
+        AreSelected selection (order_cmp opened.now.order) opened.now.version level
+        (Ok (map picked_in parts.now)) →
+        IsWholeRun F.Folder (order_name opened.now.order) (order_cmp opened.now.order)
+        (order_short_keys opened.now.order) opened.now.version
+        (AreSelected selection (order_cmp opened.now.order) opened.now.version level) settings.now
+        folder.old folder.new result }
     ensures other { IsOkOnlyIfCurrent (F.tells folder.old) opened.now.manifest result }
     ensures device { ReportsDevice F.Folder folder.old folder.new result }
 {
     match opened.order {
         Order::Bytewise => {
-            compact_lawful::<Bytewise, F, W, R>(workers, folder, opened, level, settings)
+            compact_lawful::<Bytewise, F, W, R>(workers, folder, opened, parts, settings)
         }
         Order::Shortlex => {
-            compact_lawful::<Shortlex, F, W, R>(workers, folder, opened, level, settings)
+            compact_lawful::<Shortlex, F, W, R>(workers, folder, opened, parts, settings)
         }
     }
 }
@@ -137,27 +192,37 @@ fn compact_lawful<
     workers: &Workers<'_, R, W>,
     folder: &mut F,
     opened: &SyncedVersion,
-    level: u64,
+    parts: &[Inputs],
     settings: &Settings<'_>,
 ) -> Result<CompactionStep, Fault>
-    requires { length C.name_bytes < 2 ^ 32 }
-    ensures answer { (files : Files) (order : Order) (loaded : List (ℕ × List ℕ))
-        (tables : List NumberedContents) → Tells (F.tells folder.old) files →
+    requires name { length C.name_bytes < 2 ^ 32 }
+    requires chosen { AreSelectedParts C.cmp opened.now.version (map picked_in parts.now) }
+    ensures answer { (selection : Selection) (level : ℕ) (files : Files) (order : Order)
+        (loaded : List (ℕ × List ℕ)) (tables : List NumberedContents) →
+        AreSelected selection C.cmp opened.now.version level (Ok (map picked_in parts.now)) →
+        Tells (F.tells folder.old) files →
         files (codes "CURRENT") ≡ Some (current_text opened.now.manifest) →
         ReadsAs C.cmp order opened.now.version loaded files →
         IsLawfulTables C.cmp opened.now.version loaded (Ok tables) →
         FolderAnswers step_in (F.failed folder.old) (F.failed folder.new) result
-        (IsWholeCompacted C.cmp C.short_keys files opened.now.version level settings.now) }
-    ensures left { (files : Files) (order : Order) (loaded : List (ℕ × List ℕ))
-        (tables : List NumberedContents) → Tells (F.tells folder.old) files →
+        (IsWholeCompacted C.cmp C.short_keys files opened.now.version
+        (AreSelected selection C.cmp opened.now.version level) settings.now) }
+    ensures left { (selection : Selection) (level : ℕ) (files : Files) (order : Order)
+        (loaded : List (ℕ × List ℕ)) (tables : List NumberedContents) →
+        AreSelected selection C.cmp opened.now.version level (Ok (map picked_in parts.now)) →
+        Tells (F.tells folder.old) files →
         files (codes "CURRENT") ≡ Some (current_text opened.now.manifest) →
         order_name order ≡ C.name_bytes →
         ReadsAs C.cmp order opened.now.version loaded files →
         IsLawfulTables C.cmp opened.now.version loaded (Ok tables) →
-        IsLevelLeft Parts (order_by order C.cmp C.short_keys) (version_with opened.now.version loaded)
-        level settings.now (change_of F.Folder folder.old folder.new) result }
-    ensures runs { IsWholeRun F.Folder C.name_bytes C.cmp C.short_keys opened.now.version level
-        settings.now folder.old folder.new result }
+        IsLevelLeft selection (order_by order C.cmp C.short_keys)
+        (version_with opened.now.version loaded) level settings.now
+        (change_of F.Folder folder.old folder.new) result }
+    ensures runs { (selection : Selection) (level : ℕ) →
+        AreSelected selection C.cmp opened.now.version level (Ok (map picked_in parts.now)) →
+        IsWholeRun F.Folder C.name_bytes C.cmp C.short_keys opened.now.version
+        (AreSelected selection C.cmp opened.now.version level) settings.now folder.old folder.new
+        result }
     ensures other { IsOkOnlyIfCurrent (F.tells folder.old) opened.now.manifest result }
     ensures device { ReportsDevice F.Folder folder.old folder.new result }
 {
@@ -165,10 +230,10 @@ fn compact_lawful<
     passed_law::<C>();
     small_logs(&opened.version);
     version_is_state::<C>(workers.alloc(), &opened.version);
-    compact_parts::<C, F, W, R>(workers, folder, opened, level, settings)
+    compact_parts::<C, F, W, R>(workers, folder, opened, parts, settings)
 }
 
-/// Compacts a whole `level` of the version that a folder was `opened` as, and installs the outcome.
+/// Compacts `parts` of the version that a folder was `opened` as, and installs the outcome.
 fn compact_parts<
     C: SharedComparator + 'static,
     F: ReadsTables + WritesTables,
@@ -178,27 +243,21 @@ fn compact_parts<
     workers: &Workers<'_, R, W>,
     folder: &mut F,
     opened: &SyncedVersion,
-    level: u64,
+    parts: &[Inputs],
     settings: &Settings<'_>,
 ) -> Result<CompactionStep, Fault>
-    requires { length C.name_bytes < 2 ^ 32 }
+    requires name { length C.name_bytes < 2 ^ 32 }
+    requires chosen { AreSelectedParts C.cmp opened.now.version (map picked_in parts.now) }
     ensures end { IsPartsEnd F.Folder C.name_bytes C.cmp C.short_keys opened.now.version
-        opened.now.manifest level settings.now folder.old folder.new result }
+        opened.now.manifest (map picked_in parts.now) settings.now folder.old folder.new result }
     ensures device { ReportsDevice F.Folder folder.old folder.new result }
 {
-    let alloc = workers.alloc();
-    let version = &opened.version;
-    let number = manifest_of(version);
-    let parts = level_parts::<C>(alloc, version, level)?;
-    let written = write_parts::<C, F, W, R>(workers, folder, version, &parts, settings)?;
-    let ready = ready_manifest::<C>(alloc, version, &written.edits)?;
-    install_manifest(alloc, folder, opened.manifest, number, &ready.bytes)?;
-    Ok(CompactionStep {
+    let written = write_parts::<C, F, W, R>(workers, folder, &opened.version, parts, settings)?;
+    let tables = WrittenTables {
         outputs: written.outputs,
-        deleted: ready.deleted,
-        manifest: number,
-        edit: ready.edit,
-    })
+        edits: written.edits,
+    };
+    name_edits::<C, F>(workers.alloc(), folder, opened, tables)
 }
 
 /// The log numbers of a version are below 2^64. A call does nothing.

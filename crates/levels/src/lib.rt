@@ -16,12 +16,12 @@
 //! compacted: between those of two parts is one number that nothing uses.
 //!
 //! [`compact_levels`] compacts one level after the other, until all files are in one level. Of each
-//! it takes what the [`Descent`] selects: the inputs that the rules pick, or all its parts, as
-//! above. It tests the version once, if that is asked for. It tells a `CleanWatch` of each
-//! compaction that was installed; then it asks it for names, and removes the files of these that
-//! the version doesn't need.
+//! it takes the parts that the [`Descent`] selects, as above: all of them, or those that fit. If
+//! none fits, it takes the inputs that the rules pick. It tests the version once, if that is asked
+//! for. It tells a `CleanWatch` of each compaction that was installed; then it asks it for names,
+//! and removes the files of these that the version doesn't need.
 //!
-//! Laws: [`whole_is_work`], [`edits_join`], [`joined_applies`].
+//! Laws: [`levels_survive`], [`descents_survive`], [`edits_join`], [`joined_applies`].
 #![tactic(auto)]
 
 mod all_levels;
@@ -30,8 +30,8 @@ mod join_laws;
 mod level_compaction;
 mod level_parts;
 mod level_step;
+mod part_laws;
 mod part_writer;
-mod ready_manifest;
 mod selection;
 mod work_laws;
 
@@ -39,5 +39,6 @@ pub use all_levels::compact_levels;
 pub use descent_end::DescentEnd;
 pub use join_laws::{edits_join, joined_applies};
 pub use level_compaction::compact_level;
+pub use part_laws::parts_stay;
 pub use selection::{Descent, Selection};
-pub use work_laws::whole_is_work;
+pub use work_laws::{descents_survive, levels_survive};

@@ -1,8 +1,7 @@
-//! Compacts the parts of a level, one after the other, and writes their tables.
+//! Compacts parts of a level, one after the other, and writes their tables.
 
-ghost use Rattle.std.specs.Prelude.{◌≡◌, ◌+◌, ◌++◌, [], ℕ, map, slice_get, Some, Ok};
+ghost use Rattle.std.specs.Prelude.{◌≡◌, ◌+◌, ◌++◌, [], ℕ, map, slice_get, Some};
 ghost use Rattle.std.specs.Prelude.{IfErr, OnOk};
-ghost use Rattle.table.specs.TableBytes.{AreBytes};
 ghost use Rattle.edit.specs.Answers.{fault};
 ghost use Rattle.edit.specs.fault.FaultName.TheVariants.{Memory};
 ghost use Rattle.folder.specs.Reports.{ReportsDevice};
@@ -11,10 +10,10 @@ ghost use Rattle.compact.specs.AnswerIn.{answer_in};
 ghost use Rattle.compact.specs.GroupedAnswer.{table_sizes};
 ghost use Rattle.pick.specs.PickedInputs.{picked_in};
 ghost use Rattle.store.specs.FolderRequest.{manifest_of};
-ghost use Rattle.levels.specs.WholeAnswer.{AreLevelParts};
 ghost use Rattle.pick.specs.declared.picked_inputs.Inputs.{Inputs};
-ghost use Rattle.levels.specs.PartsEnd.{ArePartsWritten, AreRangeAt, IsOutcomeWritten, IsPartAt};
-ghost use Rattle.levels.specs.PartsEnd.{IsPartWritten, IsRangeWritten};
+ghost use Rattle.levels.specs.PartsEnd.{ArePartsWritten, AreRangeAt, AreSelectedParts};
+ghost use Rattle.levels.specs.PartsEnd.{IsOutcomeWritten, IsPartAt, IsPartWritten};
+ghost use Rattle.levels.specs.PartsEnd.{IsRangeWritten};
 
 use board::Watch;
 use checks::{HeldTables, SharedComparator, Workers};
@@ -24,7 +23,7 @@ use install::write_group;
 use pick::Inputs;
 use std::alloc::Global;
 use std::thread::Threads;
-use store::{Settings, manifest_of, outcome_of_picked};
+use store::{OutcomeSettings, Settings, edit_is_bytes, manifest_of, outcome_of_picked};
 
 /// What is kept of parts whose tables were written.
 #[derive(Drop)]
@@ -78,7 +77,7 @@ fn push_sizes(outputs: &mut Vec<(u64, u64)>, tables: &[(u64, Vec<u8>)]) -> Resul
     Ok(())
 }
 
-/// The parts of a level of a version, and what their compactions are asked to keep to.
+/// Parts of a level of a version, and what their compactions are asked to keep to.
 #[derive(Clone, Copy)]
 struct PartsTask<'a> {
     version: &'a Version,
@@ -86,8 +85,8 @@ struct PartsTask<'a> {
     settings: &'a Settings<'a>,
 }
 
-/// Compacts the `parts` of a level of a `version` in their order, and writes their tables. Nothing
-/// is installed.
+/// Compacts `parts` of a level of a `version` in their order, and writes their tables. Nothing is
+/// installed.
 ///
 /// The first that applies, of each part in turn:
 ///
@@ -106,7 +105,7 @@ pub(crate) fn write_parts<
     parts: &[Inputs],
     settings: &Settings<'_>,
 ) -> Result<WrittenParts, Fault>
-    requires { (level : ℕ) × AreLevelParts C.cmp version.now level (Ok (map picked_in parts.now)) }
+    requires { AreSelectedParts C.cmp version.now (map picked_in parts.now) }
     ensures written { ArePartsWritten F.Folder C.cmp C.short_keys version.now settings.now
         (map picked_in parts.now) folder.old folder.new result }
     ensures device { ReportsDevice F.Folder folder.old folder.new result }
@@ -178,23 +177,19 @@ fn write_part<
         return Err(Fault::of(FaultName::Numbers));
     };
     let none = HeldTables::none(workers.alloc());
+    let asked = OutcomeSettings {
+        first: Some(first),
+        settings: *task.settings,
+    };
     let outcome = outcome_of_picked::<C, F, W, R>(
         workers,
         folder,
         none,
         task.version,
         part,
-        Some(first),
-        task.settings,
+        &asked,
     )?;
     write_outcome(workers, folder, &outcome, first, written)
-}
-
-/// An edit is bytes. A call does nothing.
-fn edit_is_bytes(edit: &[u8])
-    ensures { AreBytes edit.now }
-{
-    let _bytes = edit;
 }
 
 /// Writes the tables of the `outcome` of a part, and takes it in. Its outputs have the numbers from

@@ -5,10 +5,11 @@ use store::Settings;
 /// Which inputs of a level a compaction takes.
 #[derive(Clone, Copy)]
 pub enum Selection {
-    /// What the rules pick of it.
-    Picked,
     /// All its parts, which are installed by one manifest.
-    Parts,
+    Whole,
+    /// Those of its parts that fit, in the same way: each has at most 256 inputs, whose files have
+    /// at most so many bytes together. If none fits, what the rules pick of it.
+    Fitting(u64),
 }
 
 /// What is asked of the compaction of all levels.

@@ -5,8 +5,7 @@ use Rattle.folder.proofs.ReportLemmas.{reports_after, reports_handed, reports_st
 use Rattle.install.specs.Install.{current_calls, manifest_calls}
 use Rattle.install.specs.InstallCalls.{IsInstallCalls}
 use Rattle.store.proofs.Flow.{no_value}
-use Rattle.store.proofs.NoDevice.{handed_other}
-use Rattle.levels.proofs.PartsOver.{edit_other}
+use Rattle.store.proofs.NoDevice.{edit_other, handed_other}
 use Rattle.adoption.specs.TakingSteps.{IsJoinedManifest}
 use Rattle.adoption.proofs.JoinedEnds.{manifest_done, manifest_refused, unready_end}
 use Rattle.adoption.proofs.joined_installation.install_joined.Goals as goal

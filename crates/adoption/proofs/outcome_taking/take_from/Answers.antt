@@ -3,7 +3,7 @@ use Rattle.folder.specs.ReadsAs.{IsFileIn}
 use Rattle.install.specs.Install.{tables_in}
 use Rattle.adoption.specs.Adoption.{IsGivenTaken}
 use Rattle.adoption.specs.AdoptionIn.{adoption_of, given_in}
-use Rattle.adoption.specs.TakenIn.{step_taken, version_in}
+use Rattle.adoption.specs.TakenIn.{outcome_taken, version_in}
 use Rattle.adoption.specs.TakenOutcomes.{Given, IsGivenNext}
 use Rattle.adoption.proofs.AdoptionSteps.{both_behind, both_refused}
 use Rattle.adoption.proofs.TakenEnds.{end_before, end_of, next_held}
@@ -14,8 +14,8 @@ returns-in-Ok-clause-answer g c files source told told_source =
     let cmp = g.C.Comparator.cmp in
     let t = c.args.taken in
     let given = given_in c.in-Ok.given in
-    both_behind step_taken g.F.Folder g.G.Folder c.args.folder.now c.take_given.new.folder c.args.source.now c.outcome_after.new.source c.take_given.result (IsGivenNext cmp (IsFileIn source) t.opened.now.version (version_in t))
-    (λ (given : Given). IsGivenTaken cmp files (version_in t) given t.comparison) given (next_held cmp t.opened.now.version (version_in t) (g.G.Folder.tells c.args.source.now) source (Ok given) told_source c.in-Ok.ensures.answer)
+    both_behind outcome_taken g.F.Folder g.G.Folder c.args.folder.now c.take_given.new.folder c.args.source.now c.outcome_after.new.source c.take_given.result (IsGivenNext cmp (IsFileIn source) t.opened.now.version (version_in t))
+    (λ (given : Given). IsGivenTaken cmp files given t.comparison) given (next_held cmp t.opened.now.version (version_in t) (g.G.Folder.tells c.args.source.now) source (Ok given) told_source c.in-Ok.ensures.answer)
     (c.take_given.ensures.answer files told)
 
 pub returns-in-Ok-clause-taken : goal.returns-in-Ok-clause-taken
@@ -32,8 +32,8 @@ returns-clause-answer g c files source told told_source =
     let v = version_in t in
     let tells = g.G.Folder.tells c.args.source.now in
     let e = c.in-Err.fault in
-    both_refused step_taken g.F.Folder g.G.Folder c.args.folder.now c.args.folder.now c.args.source.now c.outcome_after.new.source e (IsGivenNext cmp tells t.opened.now.version v) (IsGivenNext cmp (IsFileIn source) t.opened.now.version v)
-    (λ (given : Given). IsGivenTaken cmp files v given t.comparison) (next_held cmp t.opened.now.version v tells source (Err e) told_source) c.in-Err.ensures.answer
+    both_refused outcome_taken g.F.Folder g.G.Folder c.args.folder.now c.args.folder.now c.args.source.now c.outcome_after.new.source e (IsGivenNext cmp tells t.opened.now.version v) (IsGivenNext cmp (IsFileIn source) t.opened.now.version v)
+    (λ (given : Given). IsGivenTaken cmp files given t.comparison) (next_held cmp t.opened.now.version v tells source (Err e) told_source) c.in-Err.ensures.answer
 
 pub returns-clause-taken : goal.returns-clause-taken
 returns-clause-taken g c first =

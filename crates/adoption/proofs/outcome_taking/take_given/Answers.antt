@@ -2,9 +2,9 @@ use Rattle.std.proofs.Common.{◌≡◌, Ok, Err, refl, inl, arith}
 use Rattle.folder.proofs.OpeningLemmas.{hands_on}
 use Rattle.folder.proofs.ReportLemmas.{reports_handed, reports_then}
 use Rattle.store.proofs.Flow.{answers_behind, no_value}
-use Rattle.adoption.specs.Adoption.{IsGivenTaken, IsGivenTested, adopted_step}
+use Rattle.adoption.specs.Adoption.{IsGivenTaken, IsGivenTested, adopted_outcome}
 use Rattle.adoption.specs.AdoptionIn.{given_in}
-use Rattle.adoption.specs.TakenIn.{step_taken, version_in}
+use Rattle.adoption.specs.TakenIn.{outcome_taken}
 use Rattle.adoption.proofs.ComparedOutputs.{lengths_read}
 use Rattle.adoption.proofs.TakenSteps.{taking_since}
 use Rattle.adoption.proofs.outcome_taking.take_given.Goals as goal
@@ -19,7 +19,7 @@ returns-in_err-test_outputs-clause-answer g c files told =
     let t = c.args.taken in
     let given = given_in c.args.given in
     let e = c.in_err-test_outputs.field-0.0 in
-    hands_on step_taken (failed c.args.folder.now) (failed c.args.folder.now) (failed c.test_outputs.new.folder) c.from_residual.result e (IsGivenTested cmp files given t.comparison) (IsGivenTaken cmp files (version_in t) given t.comparison)
+    hands_on outcome_taken (failed c.args.folder.now) (failed c.args.folder.now) (failed c.test_outputs.new.folder) c.from_residual.result e (IsGivenTested cmp files given t.comparison) (IsGivenTaken cmp files given t.comparison)
     c.from_residual.ensures.1 (omega arith) c.test_outputs.ensures.device.later (c.in_err-test_outputs.ensures.answer files told) (λ h. (Err e, (h, refl)))
 
 pub returns-in_err-test_outputs-clause-taken : goal.returns-in_err-test_outputs-clause-taken
@@ -35,8 +35,8 @@ returns-clause-answer g c files told =
     let failed = g.F.Folder.failed in
     let t = c.args.taken in
     let given = given_in c.args.given in
-    answers_behind step_taken (failed c.args.folder.now) (failed c.test_outputs.new.folder) (failed c.write_taken.new.folder) c.write_taken.result (IsGivenTested cmp files given t.comparison)
-    (λ passed answer. answer ≡ Ok (adopted_step (version_in t) given)) (λ passed answer. answer ≡ Ok (adopted_step (version_in t) given)) tt
+    answers_behind outcome_taken (failed c.args.folder.now) (failed c.test_outputs.new.folder) (failed c.write_taken.new.folder) c.write_taken.result (IsGivenTested cmp files given t.comparison)
+    (λ passed answer. answer ≡ Ok (adopted_outcome given)) (λ passed answer. answer ≡ Ok (adopted_outcome given)) tt
     c.test_outputs.ensures.device.later c.write_taken.ensures.device.later (c.in_ok-test_outputs.ensures.answer files told) (λ a h. h) c.write_taken.ensures.answer
 
 pub returns-clause-taken : goal.returns-clause-taken

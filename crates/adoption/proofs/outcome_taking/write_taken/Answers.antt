@@ -1,40 +1,40 @@
-use Rattle.std.proofs.Common.{◌≡◌, ℕ, List, [], ◌∷◌, ◌++◌, Result, Ok, refl, sym, ap, subst, ◌∙◌, arith, inl, inr}
-use Rattle.std.specs.Global.{Vec}
+use Rattle.std.proofs.Common.{◌≡◌, ℕ, List, [], ◌∷◌, ◌++◌, Result, Ok, refl, ap, subst, ◌∙◌, arith, inl, inr}
 use Rattle.edit.specs.fault.Fault.{Fault}
-use Rattle.folder.proofs.OpeningLemmas.{refuses}
-use Rattle.folder.proofs.ReportLemmas.{reports_after, reports_handed, reports_steady}
+use Rattle.folder.proofs.ReportLemmas.{reports_steady}
 use Rattle.folder.specs.CallSequence.{MakesCalls}
 use Rattle.install.specs.Install.{table_calls, tables_in}
-use Rattle.store.specs.Step.{StepView, step_in}
+use Rattle.compact.specs.AnswerIn.{answer_in}
+use Rattle.compact.specs.OneThread.{Answer}
+use Rattle.store.specs.Outcome.{OutcomeView, outcome_in}
 use Rattle.store.proofs.Answered.{equal_value}
-use Rattle.store.proofs.Flow.{no_refusal, no_value, stopped_on}
+use Rattle.store.proofs.Flow.{stopped_on}
 use Rattle.store.proofs.NoDevice.{handed_memory}
-use Rattle.adoption.specs.Adoption.{adopted_step}
+use Rattle.adoption.specs.Adoption.{adopted_outcome}
 use Rattle.adoption.specs.AdoptionIn.{given_in}
-use Rattle.adoption.specs.TakenIn.{step_taken, version_in}
-use Rattle.adoption.proofs.AdoptionSteps.{never_refused, tells_itself}
+use Rattle.adoption.specs.TakenIn.{outcome_taken}
+use Rattle.adoption.proofs.AdoptionSteps.{never_refused}
 use Rattle.adoption.proofs.TakenSteps.{memory_answers, nothing_written, written_done, written_refused}
 use Rattle.adoption.proofs.outcome_taking.write_taken.Goals as goal
 
-pub returns-in_err-step-clause-answer : goal.returns-in_err-step-clause-answer
-returns-in_err-step-clause-answer g c =
+pub returns-in_err-made-clause-answer : goal.returns-in_err-made-clause-answer
+returns-in_err-made-clause-answer g c =
     let failed = g.F.Folder.failed in
-    let e = c.in_err-step.field-0.0 in
-    memory_answers step_taken (failed c.args.folder.now) (failed c.args.folder.now) c.from_residual.result e (λ answer. answer ≡ Ok (adopted_step (version_in c.args.taken) (given_in c.args.given))) (never_refused _ e c.in_err-step.ensures) c.from_residual.ensures.1
+    let e = c.in_err-made.field-0.0 in
+    memory_answers outcome_taken (failed c.args.folder.now) (failed c.args.folder.now) c.from_residual.result e (λ answer. answer ≡ Ok (adopted_outcome (given_in c.args.given))) (never_refused _ e c.in_err-made.ensures) c.from_residual.ensures.1
 
-pub returns-in_err-step-clause-taken : goal.returns-in_err-step-clause-taken
-returns-in_err-step-clause-taken g c = inl (nothing_written g.F.Folder c.args.folder.now c.from_residual.result c.in_err-step.field-0.0 c.from_residual.ensures.1)
+pub returns-in_err-made-clause-taken : goal.returns-in_err-made-clause-taken
+returns-in_err-made-clause-taken g c = inl (nothing_written g.F.Folder c.args.folder.now c.from_residual.result c.in_err-made.field-0.0 c.from_residual.ensures.1)
 
-pub returns-in_err-step-clause-device : goal.returns-in_err-step-clause-device
-returns-in_err-step-clause-device g c =
-    let e = c.in_err-step.field-0.0 in
-    reports_steady c.from_residual.result refl (handed_memory c.from_residual.result e c.from_residual.ensures.1 (never_refused _ e c.in_err-step.ensures))
+pub returns-in_err-made-clause-device : goal.returns-in_err-made-clause-device
+returns-in_err-made-clause-device g c =
+    let e = c.in_err-made.field-0.0 in
+    reports_steady c.from_residual.result refl (handed_memory c.from_residual.result e c.from_residual.ensures.1 (never_refused _ e c.in_err-made.ensures))
 
 pub returns-in_err-edits-clause-answer : goal.returns-in_err-edits-clause-answer
 returns-in_err-edits-clause-answer g c =
     let failed = g.F.Folder.failed in
     let e = c.in_err-edits.field-0.0 in
-    memory_answers step_taken (failed c.args.folder.now) (failed c.args.folder.now) c.from_residual-in_err-edits.result e (λ answer. answer ≡ Ok (adopted_step (version_in c.args.taken) (given_in c.args.given))) c.in_err-edits.ensures.memory c.from_residual-in_err-edits.ensures.1
+    memory_answers outcome_taken (failed c.args.folder.now) (failed c.args.folder.now) c.from_residual-in_err-edits.result e (λ answer. answer ≡ Ok (adopted_outcome (given_in c.args.given))) c.in_err-edits.ensures.memory c.from_residual-in_err-edits.ensures.1
 
 pub returns-in_err-edits-clause-taken : goal.returns-in_err-edits-clause-taken
 returns-in_err-edits-clause-taken g c = inl (nothing_written g.F.Folder c.args.folder.now c.from_residual-in_err-edits.result c.in_err-edits.field-0.0 c.from_residual-in_err-edits.ensures.1)
@@ -47,26 +47,29 @@ returns-in_err-edits-clause-device g c =
 pub returns-in_err-write_group-clause-answer : goal.returns-in_err-write_group-clause-answer
 returns-in_err-write_group-clause-answer g c =
     let failed = g.F.Folder.failed in
-    stopped_on step_taken (failed c.args.folder.now) (failed c.args.folder.now) (failed c.write_group.new.folder) c.from_residual-in_err-write_group.result c.in_err-write_group.field-0.0
-    (λ answer. answer ≡ Ok (adopted_step (version_in c.args.taken) (given_in c.args.given))) c.from_residual-in_err-write_group.ensures.1 (omega arith) c.write_group.ensures.later c.in_err-write_group.ensures.refused
+    stopped_on outcome_taken (failed c.args.folder.now) (failed c.args.folder.now) (failed c.write_group.new.folder) c.from_residual-in_err-write_group.result c.in_err-write_group.field-0.0
+    (λ answer. answer ≡ Ok (adopted_outcome (given_in c.args.given))) c.from_residual-in_err-write_group.ensures.1 (omega arith) c.write_group.ensures.later c.in_err-write_group.ensures.refused
 
 pub returns-in_err-write_group-clause-taken : goal.returns-in_err-write_group-clause-taken
 returns-in_err-write_group-clause-taken g c =
     let f = g.F.Folder in
     let old = c.args.folder.now in
     let new = c.write_group.new.folder in
+    let same : answer_in c.in_ok-made.made.outcome ≡ answer_in c.args.given.outcome = ap (λ (o : OutcomeView). o.answer) (equal_value outcome_in _ c.in_ok-made.made c.in_ok-made.ensures) in
     written_refused f (given_in c.args.given) old new c.args.taken c.write_group.result c.from_residual-in_err-write_group.result c.in_err-write_group.field-0.0 c.in_err-write_group.was c.from_residual-in_err-write_group.ensures.1
-    (subst (λ (ts : List (ℕ × Vec ℕ)). MakesCalls (table_calls (tables_in ts ∷ [])) (f.calls old) (f.calls new) (f.tells old) (f.tells new) c.write_group.result) c.deref-3.ensures.value c.write_group.ensures.runs)
+    (subst (λ (ts : List (ℕ × List ℕ)). MakesCalls (table_calls (ts ∷ [])) (f.calls old) (f.calls new) (f.tells old) (f.tells new) c.write_group.result)
+    (ap tables_in c.deref-3.ensures.value ∙ ap (λ (a : Answer). a.tables) same) c.write_group.ensures.runs)
 
 pub returns-clause-answer : goal.returns-clause-answer
-returns-clause-answer g c =
-    ap (λ (step : StepView). Ok step) (equal_value step_in _ c.in_ok-step.step c.in_ok-step.ensures ∙ ap (λ v. adopted_step v (given_in c.args.given)) c.version_left.ensures)
+returns-clause-answer g c = ap (λ (o : OutcomeView). Ok o) (equal_value outcome_in _ c.in_ok-made.made c.in_ok-made.ensures)
 
 pub returns-clause-taken : goal.returns-clause-taken
 returns-clause-taken g c =
     let f = g.F.Folder in
     let old = c.args.folder.now in
     let new = c.write_group.new.folder in
+    let same : answer_in c.in_ok-made.made.outcome ≡ answer_in c.args.given.outcome = ap (λ (o : OutcomeView). o.answer) (equal_value outcome_in _ c.in_ok-made.made c.in_ok-made.ensures) in
     written_done f (given_in c.args.given) old new c.args.taken c.write_group.result c.in_ok-write_group.field-0 _ c.in_ok-write_group.was refl refl refl
-    (c.in_ok-edits.ensures.ok ∙ ap (λ (b : List ℕ). b ++ c.deref-2.result.now) c.deref.ensures.value ∙ ap (λ (b : List ℕ). c.args.taken.edits.items ++ b) c.deref-2.ensures.value)
-    (subst (λ (ts : List (ℕ × Vec ℕ)). MakesCalls (table_calls (tables_in ts ∷ [])) (f.calls old) (f.calls new) (f.tells old) (f.tells new) c.write_group.result) c.deref-3.ensures.value c.write_group.ensures.runs)
+    (c.in_ok-edits.ensures.ok ∙ ap (λ (b : List ℕ). b ++ c.deref-2.result.now) c.deref.ensures.value ∙ ap (λ (b : List ℕ). c.args.taken.edits.items ++ b) (c.deref-2.ensures.value ∙ ap (λ (a : Answer). a.edit) same))
+    (subst (λ (ts : List (ℕ × List ℕ)). MakesCalls (table_calls (ts ∷ [])) (f.calls old) (f.calls new) (f.tells old) (f.tells new) c.write_group.result)
+    (ap tables_in c.deref-3.ensures.value ∙ ap (λ (a : Answer). a.tables) same) c.write_group.ensures.runs)

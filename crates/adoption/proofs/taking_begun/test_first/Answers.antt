@@ -20,26 +20,26 @@ returns-in_default-clause-answer g c files told =
 pub returns-in_default-clause-device : goal.returns-in_default-clause-device
 returns-in_default-clause-device g c = let q : Result (Unit {0}) Fault = Ok tt in reports_steady q refl tt
 
-pub returns-in_err-test_opened-clause-answer : goal.returns-in_err-test_opened-clause-answer
-returns-in_err-test_opened-clause-answer g c files told =
+pub returns-in_err-test_by_order-clause-answer : goal.returns-in_err-test_by_order-clause-answer
+returns-in_err-test_by_order-clause-answer g c files told =
     let o = c.args.opened.now in
     let cmp = order_cmp o.order in
     let failed = g.F.Folder.failed in
-    let e = c.in_err-test_opened.field-0.0 in
-    subst (λ (comparison : Comparison). FolderAnswers (λ u. u) (failed c.args.folder.now) (failed c.test_opened.new.folder) c.from_residual.result (IsFirstTested cmp files o.version comparison)) (sym c.in-With.is)
-    (hands_on (λ u. u) (failed c.args.folder.now) (failed c.args.folder.now) (failed c.test_opened.new.folder) c.from_residual.result e (IsTested (IsFileIn files) cmp o.version) (IsFirstTested cmp files o.version (With c.in-With.field-0))
-    c.from_residual.ensures.1 (omega arith) c.test_opened.ensures.device.later (c.in_err-test_opened.ensures.answer files told)
+    let e = c.in_err-test_by_order.field-0.0 in
+    subst (λ (comparison : Comparison). FolderAnswers (λ u. u) (failed c.args.folder.now) (failed c.test_by_order.new.folder) c.from_residual.result (IsFirstTested cmp files o.version comparison)) (sym c.in-With.is)
+    (hands_on (λ u. u) (failed c.args.folder.now) (failed c.args.folder.now) (failed c.test_by_order.new.folder) c.from_residual.result e (IsTested (IsFileIn files) cmp o.version) (IsFirstTested cmp files o.version (With c.in-With.field-0))
+    c.from_residual.ensures.1 (omega arith) c.test_by_order.ensures.device.later (c.in_err-test_by_order.ensures.answer files told)
     (λ h. first_refused (IsTested (IsFileIn files) cmp o.version) (λ totals (answer : Result (Unit {0}) Fault). answer ≡ Ok tt) e h))
 
-pub returns-in_err-test_opened-clause-device : goal.returns-in_err-test_opened-clause-device
-returns-in_err-test_opened-clause-device g c = reports_handed c.from_residual.result c.in_err-test_opened.was c.test_opened.ensures.device c.from_residual.ensures.1
+pub returns-in_err-test_by_order-clause-device : goal.returns-in_err-test_by_order-clause-device
+returns-in_err-test_by_order-clause-device g c = reports_handed c.from_residual.result c.in_err-test_by_order.was c.test_by_order.ensures.device c.from_residual.ensures.1
 
 pub returns-clause-answer : goal.returns-clause-answer
 returns-clause-answer g c files told =
     let o = c.args.opened.now in
     let cmp = order_cmp o.order in
     subst (λ (comparison : Comparison). IsFirstTested cmp files o.version comparison (Ok tt)) (sym c.in-With.is)
-    (first_passed (IsTested (IsFileIn files) cmp o.version) (λ totals (answer : Result (Unit {0}) Fault). answer ≡ Ok tt) c.in_ok-test_opened.field-0 (Ok tt) (c.in_ok-test_opened.ensures.answer files told) refl)
+    (first_passed (IsTested (IsFileIn files) cmp o.version) (λ totals (answer : Result (Unit {0}) Fault). answer ≡ Ok tt) c.in_ok-test_by_order.field-0 (Ok tt) (c.in_ok-test_by_order.ensures.answer files told) refl)
 
 pub returns-clause-device : goal.returns-clause-device
-returns-clause-device g c = let q : Result (Unit {0}) Fault = Ok tt in reports_after q c.in_ok-test_opened.was c.test_opened.ensures.device tt
+returns-clause-device g c = let q : Result (Unit {0}) Fault = Ok tt in reports_after q c.in_ok-test_by_order.was c.test_by_order.ensures.device tt

@@ -19,7 +19,7 @@ use Rattle.store.specs.Descent.{IsNextLevel}
 use Rattle.store.specs.FolderRequest.{manifest_of}
 use Rattle.store.specs.declared.synced_version.SyncedVersion.{SyncedVersion}
 use Rattle.levels.proofs.Descending.{at_least_one, by_memory, clause_of, found_next, never_numbers, none_begun, one_ended, one_more, same_tells, taken_on, taken_refused, taken_stopped}
-use Rattle.levels.proofs.DescentRows.{all_made, last_refused, last_stopped, linked, no_more, removal_refused, removal_stopped, row_more}
+use Rattle.levels.proofs.DescentRows.{last_refused, last_stopped, linked, no_more, removal_refused, removal_stopped, row_more}
 use Rattle.levels.specs.DescentLeft.{IsDescended, IsNextLevelRefused, folder_version}
 use Rattle.levels.specs.DescentRuns.{IsDescentRun}
 use Rattle.levels.specs.LevelMade.{at_by, way_by}
@@ -87,9 +87,8 @@ returns-in_default-2-clause-left g t c files loaded tables told current reads so
     let at = subst (λ (n : Option ℕ). IsNextLevel o.version c.args.course.now.bottom n) c.in-Some.is c.in_ok-level.ensures.next in
     let by = teller_by g.T.InstallWatch.tells g.T.CleanWatch.lists g.T.RemovalWatch.tells g.T.CleanWatch.ends in
     let way = way_by selection o.order s c.args.course.now.bottom in
-    let all = all_made g.F.Folder by way o.version first c.args.told.now c.in-Some.level at mid c.take_level.new.told c.in_ok-next.field-0 (c.in_ok-next.ensures.runs c.args.course.now.bottom) in
     let taken_now = c.in_ok-next.ensures.left c.args.course.now.bottom files loaded tables told current reads sound in
-    taken_stopped selection o.order s c.args.course.now.bottom o.version o.manifest loaded tables sound (calls first) (tells first) (failed first) files told (record { reads = reads; named = current }) c.in-Some.level at (calls mid) (tells mid) (failed mid) c.in_ok-next.field-0 taken_now all
+    taken_stopped selection o.order s c.args.course.now.bottom o.version o.manifest loaded tables sound (calls first) (tells first) (failed first) files told (record { reads = reads; named = current }) c.in-Some.level at (calls mid) (tells mid) (failed mid) c.in_ok-next.field-0 taken_now
 
 pub returns-in_err-cleaned-clause-left : goal.returns-in_err-cleaned-clause-left
 returns-in_err-cleaned-clause-left g t c files loaded tables told current reads sound enough =
@@ -104,7 +103,6 @@ returns-in_err-cleaned-clause-left g t c files loaded tables told current reads 
     let at = subst (λ (n : Option ℕ). IsNextLevel o.version c.args.course.now.bottom n) c.in-Some.is c.in_ok-level.ensures.next in
     let by = teller_by g.T.InstallWatch.tells g.T.CleanWatch.lists g.T.RemovalWatch.tells g.T.CleanWatch.ends in
     let way = way_by selection o.order s c.args.course.now.bottom in
-    let all = all_made g.F.Folder by way o.version first c.args.told.now c.in-Some.level at mid c.take_level.new.told c.in_ok-next.field-0 (c.in_ok-next.ensures.runs c.args.course.now.bottom) in
     let taken_now = c.in_ok-next.ensures.left c.args.course.now.bottom files loaded tables told current reads sound in
     let next = c.in-Some-2.next in
     let goes = taken_on selection o.order s c.args.course.now.bottom o.version o.manifest loaded tables sound (calls first) (tells first) (failed first) files told (record { reads = reads; named = current }) c.in-Some.level at (calls mid) (tells mid) (failed mid) c.in_ok-next.field-0 next c.in-Some-2.is taken_now in
@@ -116,7 +114,7 @@ returns-in_err-cleaned-clause-left g t c files loaded tables told current reads 
     let count = steady (failed first) (failed first) (failed mid) c.in_ok-next.field-0 c.take_level.result c.in_ok-next.was refl c.take_level.ensures.device.later c.take_level.ensures.device.at_once in
     let e = c.in_err-cleaned.field-0.0 in
     let p = err_from_is_err_and c.from_residual-in_err-cleaned.result c.from_residual-in_err-cleaned.ensures.1 in
-    let left = one_ended selection o.order s c.args.course.now.bottom o.version o.manifest loaded tables sound (calls first) (tells first) (failed first) files told (record { reads = reads; named = current }) c.in-Some.level at (calls mid) (tells mid) goes.taken.step i all (calls after) (tells after) stays (failed mid) (failed after) (Err e) count c.in_err-cleaned.ensures.refused in
+    let left = one_ended selection o.order s c.args.course.now.bottom o.version o.manifest loaded tables sound (calls first) (tells first) (failed first) files told (record { reads = reads; named = current }) c.in-Some.level at (calls mid) (tells mid) goes.taken.step i (calls after) (tells after) stays (failed mid) (failed after) (Err e) count c.in_err-cleaned.ensures.refused in
     subst (λ (r : Result DescentEnd Fault). IsDescended way (folder_version o.version o.manifest loaded) tables (call_by (calls first) (calls after) (tells first) (tells after) (failed first) (failed after)) r)
     (sym (p.1 ∙ ap (λ (f : Fault). Err f) p.2)) left
 
@@ -133,7 +131,6 @@ returns-in_default-3-clause-left g t c files loaded tables told current reads so
     let at = subst (λ (n : Option ℕ). IsNextLevel o.version c.args.course.now.bottom n) c.in-Some.is c.in_ok-level.ensures.next in
     let by = teller_by g.T.InstallWatch.tells g.T.CleanWatch.lists g.T.RemovalWatch.tells g.T.CleanWatch.ends in
     let way = way_by selection o.order s c.args.course.now.bottom in
-    let all = all_made g.F.Folder by way o.version first c.args.told.now c.in-Some.level at mid c.take_level.new.told c.in_ok-next.field-0 (c.in_ok-next.ensures.runs c.args.course.now.bottom) in
     let taken_now = c.in_ok-next.ensures.left c.args.course.now.bottom files loaded tables told current reads sound in
     let next = c.in-Some-2.next in
     let goes = taken_on selection o.order s c.args.course.now.bottom o.version o.manifest loaded tables sound (calls first) (tells first) (failed first) files told (record { reads = reads; named = current }) c.in-Some.level at (calls mid) (tells mid) (failed mid) c.in_ok-next.field-0 next c.in-Some-2.is taken_now in
@@ -143,7 +140,7 @@ returns-in_default-3-clause-left g t c files loaded tables told current reads so
     let after = c.clean.new.folder in
     let stays = stays_of next.order o.order next.version w next.manifest (manifest_of o.version) ts (calls mid) (calls after) (tells mid) (tells after) goes.order_is goes.version_is goes.manifest_is (c.clean.ensures.stays ts) in
     let count = steady (failed first) (failed first) (failed mid) c.in_ok-next.field-0 c.take_level.result c.in_ok-next.was refl c.take_level.ensures.device.later c.take_level.ensures.device.at_once in
-    one_ended selection o.order s c.args.course.now.bottom o.version o.manifest loaded tables sound (calls first) (tells first) (failed first) files told (record { reads = reads; named = current }) c.in-Some.level at (calls mid) (tells mid) goes.taken.step i all (calls after) (tells after) stays (failed mid) (failed after) (Ok Stopped) count tt
+    one_ended selection o.order s c.args.course.now.bottom o.version o.manifest loaded tables sound (calls first) (tells first) (failed first) files told (record { reads = reads; named = current }) c.in-Some.level at (calls mid) (tells mid) goes.taken.step i (calls after) (tells after) stays (failed mid) (failed after) (Ok Stopped) count tt
 
 pub returns-then-steps-eq0-clause-left : goal.returns-then-steps-eq0-clause-left
 returns-then-steps-eq0-clause-left g t c files loaded tables told current reads sound enough =
@@ -158,7 +155,6 @@ returns-then-steps-eq0-clause-left g t c files loaded tables told current reads 
     let at = subst (λ (n : Option ℕ). IsNextLevel o.version c.args.course.now.bottom n) c.in-Some.is c.in_ok-level.ensures.next in
     let by = teller_by g.T.InstallWatch.tells g.T.CleanWatch.lists g.T.RemovalWatch.tells g.T.CleanWatch.ends in
     let way = way_by selection o.order s c.args.course.now.bottom in
-    let all = all_made g.F.Folder by way o.version first c.args.told.now c.in-Some.level at mid c.take_level.new.told c.in_ok-next.field-0 (c.in_ok-next.ensures.runs c.args.course.now.bottom) in
     let taken_now = c.in_ok-next.ensures.left c.args.course.now.bottom files loaded tables told current reads sound in
     let next = c.in-Some-2.next in
     let goes = taken_on selection o.order s c.args.course.now.bottom o.version o.manifest loaded tables sound (calls first) (tells first) (failed first) files told (record { reads = reads; named = current }) c.in-Some.level at (calls mid) (tells mid) (failed mid) c.in_ok-next.field-0 next c.in-Some-2.is taken_now in
@@ -180,7 +176,6 @@ returns-clause-left g t c files loaded tables told current reads sound enough =
     let at = subst (λ (n : Option ℕ). IsNextLevel o.version c.args.course.now.bottom n) c.in-Some.is c.in_ok-level.ensures.next in
     let by = teller_by g.T.InstallWatch.tells g.T.CleanWatch.lists g.T.RemovalWatch.tells g.T.CleanWatch.ends in
     let way = way_by selection o.order s c.args.course.now.bottom in
-    let all = all_made g.F.Folder by way o.version first c.args.told.now c.in-Some.level at mid c.take_level.new.told c.in_ok-next.field-0 (c.in_ok-next.ensures.runs c.args.course.now.bottom) in
     let taken_now = c.in_ok-next.ensures.left c.args.course.now.bottom files loaded tables told current reads sound in
     let next = c.in-Some-2.next in
     let goes = taken_on selection o.order s c.args.course.now.bottom o.version o.manifest loaded tables sound (calls first) (tells first) (failed first) files told (record { reads = reads; named = current }) c.in-Some.level at (calls mid) (tells mid) (failed mid) c.in_ok-next.field-0 next c.in-Some-2.is taken_now in
@@ -193,13 +188,13 @@ returns-clause-left g t c files loaded tables told current reads sound enough =
     let last = c.descend.new.folder in
     let cleaned = c.in-Some-3.cleaned in
     let again = subst (λ (x : Option SyncedVersion). IfSome x (λ n. (n.order ≡ next.order) × (n.version ≡ next.version) × (n.manifest ≡ next.manifest))) c.in-Some-3.is c.in_ok-cleaned.ensures.reopened in
-    let found = found_next selection o.order s c.args.course.now.bottom o.version o.manifest loaded tables sound (calls first) (tells first) (failed first) files told (record { reads = reads; named = current }) c.in-Some.level at (calls mid) (tells mid) goes.taken.step i all (calls after) (tells after) stays in
+    let found = found_next selection o.order s c.args.course.now.bottom o.version o.manifest loaded tables sound (calls first) (tells first) (failed first) files told (record { reads = reads; named = current }) c.in-Some.level at (calls mid) (tells mid) goes.taken.step i (calls after) (tells after) stays in
     let rise = i.compacted.edited.rises in
     let some = at_least_one c.args.steps c.if-steps-eq0.false in
     let counted = steady (failed first) (failed mid) (failed after) c.in_ok-cleaned.field-0 c.clean.result c.in_ok-cleaned.was count c.clean.ensures.device.later c.clean.ensures.device.at_once in
     let rest = clause_of selection s c.args.course.now.bottom (c.args.steps - 1) (calls after) (calls last) (tells after) (tells last) (failed after) (failed last) c.descend.result o.order cleaned.order w cleaned.version (manifest_of o.version) cleaned.manifest
     (again.0 ∙ goes.order_is) (again.1 ∙ goes.version_is) (again.2 ∙ goes.manifest_is) c.descend.ensures.left found.0 ts i.compacted.edited.tables_next found.1 found.2.named found.2.reads i.compacted.edited.lawful (omega (arith, rise, enough, some)) in
-    one_more selection o.order s c.args.course.now.bottom o.version o.manifest loaded tables sound (calls first) (tells first) (failed first) files told (record { reads = reads; named = current }) c.in-Some.level at (calls mid) (tells mid) goes.taken.step i all (calls after) (tells after) stays (calls last) (tells last) (failed after) (failed last) c.descend.result counted rest
+    one_more selection o.order s c.args.course.now.bottom o.version o.manifest loaded tables sound (calls first) (tells first) (failed first) files told (record { reads = reads; named = current }) c.in-Some.level at (calls mid) (tells mid) goes.taken.step i (calls after) (tells after) stays (calls last) (tells last) (failed after) (failed last) c.descend.result counted rest
 
 -- ---- the device
 

@@ -1,5 +1,0 @@
-use Rattle.std.proofs.Common.{arith}
-use Rattle.levels.proofs.part_writer.edit_is_bytes.Goals as goal
-
-pub returns : goal.returns
-returns c i = omega (arith, c.type_inv.edit i)

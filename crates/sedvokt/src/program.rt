@@ -219,7 +219,7 @@ fn level_of(work: CompactWork<'_>) -> Option<u64> {
     match work {
         CompactWork::Written { level, .. }
         | CompactWork::Installed(Levels::One(level) | Levels::Whole(level)) => Some(level),
-        CompactWork::Installed(Levels::All | Levels::AllWhole) => None,
+        CompactWork::Installed(Levels::All) => None,
     }
 }
 

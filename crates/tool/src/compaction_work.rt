@@ -50,8 +50,7 @@ fn levels_compacted<R: Host>(
     let change = begin_change(session)?;
     match levels {
         Levels::One(level) | Levels::Whole(level) => compact_one(change, line, levels, level),
-        Levels::All => compact_all(change, line, Selection::Picked),
-        Levels::AllWhole => compact_all(change, line, Selection::Parts),
+        Levels::All => compact_all(change, line),
     }
 }
 
@@ -64,7 +63,7 @@ fn is_due(alloc: Global, version: &Version, levels: Levels) -> Result<bool, Faul
             }
             Ok(!version.files::<Bytewise>(alloc, level)?.is_empty())
         }
-        Levels::All | Levels::AllWhole => {
+        Levels::All => {
             let bottom = bottom(alloc, version)?;
             Ok(next_level(alloc, version, bottom)?.is_some())
         }
@@ -84,11 +83,11 @@ fn nothing_compacted<R: Host>(
             outcome_of(&mut session, line, Choice::Picked(level), None)?;
             Err(Fault::of(FaultName::NoInput).into())
         }
-        Levels::All | Levels::AllWhole => {
+        Levels::All => {
             let (rt, telling) = (session.rt, session.telling);
             let progress = session.progress();
             let version = &session.opened.version;
-            StepPrinter::new(rt, telling, &progress, version, line, false)?.end()?;
+            StepPrinter::new(rt, telling, &progress, version, line)?.end()?;
             if line.options.cleans {
                 clean_folder(session, line.options.is_json)?;
             }
@@ -153,12 +152,10 @@ fn step_made<R: Host>(
 }
 
 /// Compacts the first level that has a file, again and again, until all files are at the bottom.
-/// Each step is printed when it is installed, and each file when it is removed: after each step, or
-/// after the last one if whole levels are compacted.
+/// Each step is printed when it is installed, and each file that is removed after it.
 fn compact_all<R: Host>(
     change: Session<'_, R, SyncedVersion>,
     line: &CompactLine<'_>,
-    selection: Selection,
 ) -> Result<(), Refusal> {
     let progress = change.progress();
     let Session {
@@ -168,24 +165,18 @@ fn compact_all<R: Host>(
         opened,
         ..
     } = change;
-    let options = &line.options;
-    let is_whole = matches!(selection, Selection::Parts);
-    let cleans = options.cleans && !is_whole;
-    let mut steps = StepPrinter::new(rt, telling, &progress, &opened.version, line, cleans)?;
+    let mut steps = StepPrinter::new(rt, telling, &progress, &opened.version, line)?;
+    let testing = &line.options.testing;
     let descent = Descent {
-        selection,
+        selection: Selection::Fitting(bytes_of(testing.memory)),
         settings: line.settings,
-        test: test_of(&options.testing),
+        test: test_of(testing),
     };
     let workers = checkers_of(rt, rt.alloc(), line.settings.workers, &progress);
     let end = levels::compact_levels(&workers, &mut disk, opened, &descent, &mut steps);
     progress.erase();
-    if let Err(fault) = end {
-        return Err(refused_at(rt, telling.folder, &disk, fault));
+    match end {
+        Ok(_) => steps.end(),
+        Err(fault) => Err(refused_at(rt, telling.folder, &disk, fault)),
     }
-    let manifest = steps.end()?;
-    if options.cleans && is_whole {
-        clean_named(rt, telling.folder, &mut disk, manifest, options.is_json)?;
-    }
-    Ok(())
 }

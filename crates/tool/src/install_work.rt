@@ -4,10 +4,11 @@ use crate::clean_work::clean_named;
 use crate::compaction_notes::{note_of, tell_room};
 use crate::folder_change::begin_change;
 use crate::outcome_refusal::outcome_explained;
-use crate::printed_work::{DoneWork, print_installed, unprinted};
+use crate::printed_work::{DoneWork, print_compaction, unprinted};
 use adoption::{
     Comparison, TakenOutcome, TakenOutcomes, begin_taking, install_taken, take_outcome,
 };
+use answers::CompactionEnd;
 use disk::Disk;
 use folder::Fault;
 use refusals::explained;
@@ -15,9 +16,8 @@ use session::{
     Host, Opened, ProgressLine, Refusal, Session, Telling, bytes_of, refused_at, sizes_tested,
     tell_time,
 };
-use std::alloc::Global;
 use std::collections::BTreeSet;
-use store::{CompactionStep, SyncedVersion, checkers};
+use store::{DeletedFile, SyncedVersion, checkers};
 use usage::InstallLine;
 
 /// What is asked for, and who watches.
@@ -36,7 +36,16 @@ struct Gathered<'o> {
     /// How many they are.
     done: u64,
     taken: TakenOutcomes<'o>,
-    step: CompactionStep,
+    joined: JoinedFiles,
+}
+
+/// The files of outcomes together.
+#[derive(Drop)]
+struct JoinedFiles {
+    /// The number and the length of each new table, in order.
+    outputs: Vec<(u64, u64)>,
+    /// The inputs, by level and number.
+    deleted: BTreeSet<DeletedFile>,
 }
 
 /// Installs in a folder the outcomes that others have, by one manifest, and prints what was
@@ -63,9 +72,9 @@ pub fn install_outcomes<'x, R: Host>(
         progress: &progress,
         opened: &opened,
     };
-    let step = outcomes_installed(&task, &mut disk)?;
+    let (joined, manifest) = outcomes_installed(&task, &mut disk)?;
     tell_time(rt, "install", begun);
-    tell_installed(&task, &mut disk, &step)
+    tell_installed(&task, &mut disk, &joined, manifest)
 }
 
 /// The folder of a session, in which outcomes are to be installed. No table is missing.
@@ -78,11 +87,11 @@ fn to_install<R: Host>(
     begin_change(session)
 }
 
-/// Installs all outcomes in a folder, and answers what they do together.
+/// Installs all outcomes in a folder. Answers their files, and the manifest's number.
 fn outcomes_installed<'x, R: Host>(
     task: &InstallTask<'_, 'x, R>,
     folder: &mut Disk<'x, R>,
-) -> Result<CompactionStep, Refusal> {
+) -> Result<(JoinedFiles, u64), Refusal> {
     let (rt, line) = (task.rt, task.line);
     let mut gathered = no_outcome(task, folder)?;
     for out in line.outs.iter() {
@@ -91,16 +100,13 @@ fn outcomes_installed<'x, R: Host>(
     let Gathered {
         done,
         taken,
-        mut step,
+        joined,
     } = gathered;
     let workers = checkers(rt, rt.alloc(), task.progress);
     let installed = install_taken(&workers, folder, &taken, bytes_of(line.testing.memory));
     task.progress.erase();
     match installed {
-        Ok(manifest) => {
-            step.manifest = manifest;
-            Ok(step)
-        }
+        Ok(manifest) => Ok((joined, manifest)),
         Err(fault) => {
             let refusal = refused_at(rt, task.telling.folder, folder, fault);
             let last = done.saturating_sub(1);
@@ -129,7 +135,10 @@ where
         Ok(taken) => Ok(Gathered {
             done: 0,
             taken,
-            step: no_step(rt.alloc()),
+            joined: JoinedFiles {
+                outputs: Vec::new(rt.alloc()),
+                deleted: BTreeSet::new(rt.alloc()),
+            },
         }),
         Err(fault) => {
             task.progress.erase();
@@ -147,15 +156,19 @@ fn with_outcome<'x, 'o, R: Host>(
     out: &'x str,
 ) -> Result<Gathered<'o>, Refusal> {
     let rt = task.rt;
-    let Gathered { done, taken, step } = before;
+    let Gathered {
+        done,
+        taken,
+        joined,
+    } = before;
     let mut source = Disk::new(rt, out);
     let workers = checkers(rt, rt.alloc(), task.progress);
     let answer = take_outcome(&workers, folder, &mut source, taken);
-    match with_taken(answer, step) {
-        Ok((taken, step)) => Ok(Gathered {
+    match with_taken(answer, joined) {
+        Ok((taken, joined)) => Ok(Gathered {
             done: done.saturating_add(1),
             taken,
-            step,
+            joined,
         }),
         Err(fault) => Err(refused_of_either(task, out, done, &source, folder, fault)),
     }
@@ -180,39 +193,32 @@ fn refused_of_either<'x, R: Host>(
     outcome_explained(rt, telling, task.line, done, task.opened, refusal)
 }
 
-/// Outcomes after one more, and what they do, where those before it did this.
+/// Outcomes after one more, and their files, if those before it had these.
 fn with_taken<'o>(
     answer: Result<TakenOutcome<'o>, Fault>,
-    before: CompactionStep,
-) -> Result<(TakenOutcomes<'o>, CompactionStep), Fault> {
-    let TakenOutcome { taken, step } = answer?;
+    before: JoinedFiles,
+) -> Result<(TakenOutcomes<'o>, JoinedFiles), Fault> {
+    let TakenOutcome { taken, made } = answer?;
     let mut joined = before;
-    joined.outputs.extend_from_slice(&step.outputs)?;
-    for file in step.deleted.iter() {
+    joined.outputs.extend_from_slice(&made.outputs)?;
+    for file in made.deleted.iter() {
         joined.deleted.insert(*file)?;
     }
     Ok((taken, joined))
-}
-
-/// What no outcome does.
-fn no_step(alloc: Global) -> CompactionStep {
-    CompactionStep {
-        outputs: Vec::new(alloc),
-        deleted: BTreeSet::new(alloc),
-        manifest: 0,
-        edit: Vec::new(alloc),
-    }
 }
 
 /// Prints what was installed, and removes files after it if that is asked for.
 fn tell_installed<'x, R: Host>(
     task: &InstallTask<'_, 'x, R>,
     folder: &mut Disk<'x, R>,
-    step: &CompactionStep,
+    joined: &JoinedFiles,
+    manifest: u64,
 ) -> Result<(), Refusal> {
     let (rt, telling, before) = (task.rt, task.telling, &task.opened.version);
-    let note = note_of(rt, telling, before, &step.outputs, &step.deleted);
-    if let Err(refusal) = print_installed(rt, 0, step, false) {
+    let (outputs, deleted) = (&joined.outputs, &joined.deleted);
+    let note = note_of(rt, telling, before, outputs, deleted);
+    let end = CompactionEnd::Installed(manifest);
+    if let Err(refusal) = print_compaction(rt, 0, outputs, deleted, end, false) {
         return Err(unprinted(rt.alloc(), telling.folder, DoneWork::Version, refusal));
     }
     if let Some(note) = note {

@@ -7,7 +7,7 @@ use answers::CompactionEnd;
 use folder::FaultName;
 use refusals::sizes_in_turn;
 use session::{Host, Opened, Refusal, RefusalText, Session, bytes_of, in_words, said};
-use store::{Choice, CompactionOutcome, EDIT, checkers_of, outcome};
+use store::{Choice, CompactionOutcome, EDIT, OutcomeSettings, checkers_of, outcome};
 use usage::{CompactLine, CompactWork, Testing};
 
 /// Compacts a level of a folder, which is only read, and writes the outcome into another one. What
@@ -76,13 +76,16 @@ pub(crate) fn outcome_of<R: Host>(
 ) -> Result<CompactionOutcome, Refusal> {
     let rt = session.rt;
     let progress = session.progress();
+    let asked = OutcomeSettings {
+        first,
+        settings: line.settings,
+    };
     let made = outcome(
         &checkers_of(rt, rt.alloc(), line.settings.workers, &progress),
         &mut session.disk,
         &session.opened,
         choice,
-        first,
-        &line.settings,
+        &asked,
         test_of(&line.options.testing),
     );
     session.ended(&progress, made)

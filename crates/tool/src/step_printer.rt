@@ -37,8 +37,6 @@ pub(crate) struct StepPrinter<'t, R> {
     has_told_filters: bool,
     /// How many steps are done.
     done: u64,
-    /// The number of the manifest of the last step.
-    manifest: Option<u64>,
     /// When the step began, if that is told.
     begun: Option<Beginning>,
     /// Why the lines of a step could not be printed, or why it was refused to go on after it. No
@@ -47,15 +45,13 @@ pub(crate) struct StepPrinter<'t, R> {
 }
 
 impl<'t, R: Eprint + Clock + AllocGlobal> StepPrinter<'t, R> {
-    /// Who prints the steps from a version on. The first one begins. Files are removed after each
-    /// if `cleans`.
+    /// Who prints the steps from a version on. The first one begins.
     pub fn new(
         rt: &'t R,
         telling: Telling<'t>,
         progress: &'t ProgressLine<'t, R>,
         version: &Version,
         line: &CompactLine<'_>,
-        cleans: bool,
     ) -> Result<StepPrinter<'t, R>, Fault> {
         let bottom = bottom(rt.alloc(), version)?;
         let before = version_total(rt.alloc(), version)?;
@@ -66,7 +62,7 @@ impl<'t, R: Eprint + Clock + AllocGlobal> StepPrinter<'t, R> {
             progress,
             file_size: line.settings.options.file_size,
             is_json,
-            removals: if cleans {
+            removals: if line.options.cleans {
                 Some(RemovalPrinter::new(rt, is_json))
             } else {
                 None
@@ -76,7 +72,6 @@ impl<'t, R: Eprint + Clock + AllocGlobal> StepPrinter<'t, R> {
             after: None,
             has_told_filters: false,
             done: 0,
-            manifest: None,
             begun: telling.begin(rt),
             refusal: None,
         };
@@ -85,34 +80,34 @@ impl<'t, R: Eprint + Clock + AllocGlobal> StepPrinter<'t, R> {
     }
 
     /// Whether all steps could be printed, and none was the last one for a reason. If so, it is
-    /// told what was made of all files. The answer is the manifest of the last step, if there was
-    /// one.
-    pub fn end(self) -> Result<Option<u64>, Refusal> {
+    /// told what was made of all files.
+    pub fn end(self) -> Result<(), Refusal> {
         let StepPrinter {
             rt,
             telling,
             bottom,
             before,
             after,
-            manifest,
+            done,
             refusal,
             ..
         } = self;
         if let Some(refusal) = refusal {
             return Err(refusal);
         }
-        if manifest.is_none() {
+        if done == 0 {
             tell_no_step(rt, telling, bottom, before.files);
         } else if let Some(after) = after {
             tell_made(rt, telling, before, after);
         }
-        Ok(manifest)
+        Ok(())
     }
 
     /// Has the line of progress show the step that begins at a version.
     fn show_left(&self, version: &Version) {
         let alloc = self.rt.alloc();
-        if let Ok(Some(left)) = work_left(alloc, version, self.bottom, self.file_size) {
+        let memory = self.telling.memory;
+        if let Ok(Some(left)) = work_left(alloc, version, self.bottom, self.file_size, memory) {
             self.progress.begin_step(self.done, left);
         }
     }
@@ -148,7 +143,6 @@ impl<'t, R: Host> InstallWatch for StepPrinter<'t, R> {
         after: Option<&Version>,
     ) -> bool {
         self.progress.erase();
-        self.manifest = Some(step.manifest);
         tell_step(self.rt, level, self.begun);
         let note = self.note_of(before, step);
         if let Err(refusal) = print_installed(self.rt, level, step, self.is_json) {

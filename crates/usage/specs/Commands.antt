@@ -40,7 +40,7 @@ rule_of_argument (Value id name help) = value_rule id.now
 rule_of_argument (WantedValue id name help) = wanted (value_rule id.now)
 rule_of_argument (Number id name help) = number_rule id.now
 rule_of_argument (WantedNumber id name help) = wanted (number_rule id.now)
-rule_of_argument Memory = memory_rule
+rule_of_argument (Memory help) = memory_rule
 
 -- the command that is described so
 abbrev pub app_of_description : Description → App

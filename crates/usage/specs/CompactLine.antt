@@ -17,11 +17,11 @@ use Rattle.usage.specs.declared.compact_request.CompactWork.{CompactWork}
 use Rattle.usage.specs.declared.compact_request.CompactWork.TheVariants.{Installed, Written}
 use Rattle.usage.specs.declared.requests.InstallLine.{InstallLine}
 use Rattle.usage.specs.declared.compact_request.Levels.{Levels}
-use Rattle.usage.specs.declared.compact_request.Levels.TheVariants.{One, Whole, AllWhole}
+use Rattle.usage.specs.declared.compact_request.Levels.TheVariants.{One, Whole}
 use Rattle.usage.specs.declared.compact_request.Levels.TheVariants.{All as AllLevels}
 
--- the rows give this number of `--level`, or `--all`, each without `--whole`, or with it and without
--- `--no-verify`
+-- the rows give this number of `--level`, without `--whole`, or with it and without `--no-verify`;
+-- or `--all`, without `--whole`
 abbrev pub HasLevels : Levels → List Row → Type 0
 HasLevels (One level) rows = IsNumberOf (one_of (codes "level") rows) (Some level)
     × (is_flagged (codes "all") rows ≡ false) × (is_flagged (codes "whole") rows ≡ false)
@@ -30,9 +30,6 @@ HasLevels (Whole level) rows = IsNumberOf (one_of (codes "level") rows) (Some le
     × (is_flagged (codes "no-verify") rows ≡ false)
 HasLevels AllLevels rows = IsNumberOf (one_of (codes "level") rows) None
     × (is_flagged (codes "all") rows ≡ true) × (is_flagged (codes "whole") rows ≡ false)
-HasLevels AllWhole rows = IsNumberOf (one_of (codes "level") rows) None
-    × (is_flagged (codes "all") rows ≡ true) × (is_flagged (codes "whole") rows ≡ true)
-    × (is_flagged (codes "no-verify") rows ≡ false)
 
 -- the rows give these levels, and none of `--out`, `--part` and `--first-number`; or this level,
 -- this number of `--part`, this text of `--out`, this number of `--first-number`, and no `--clean`

@@ -10,10 +10,6 @@ use std::alloc::Global;
 /// The most MiB of memory that may be asked for, 2^24.
 const MAX_MEMORY: u64 = 16_777_216;
 
-/// What help says of `--memory`.
-const MEMORY_HELP: &str =
-    "How many MiB of tables the test may hold:\n1 to 16777216; 128 if it is left out";
-
 /// An argument of a command. First comes its name, which for an option is the word after `--`. Last
 /// comes what help says of it.
 #[derive(Clone, Copy)]
@@ -39,7 +35,7 @@ pub(crate) enum Argument<'a> {
     /// The same, of one that must be given.
     WantedNumber(&'a str, &'a str, &'a str),
     /// `--memory MIB`.
-    Memory,
+    Memory(&'a str),
 }
 
 /// The argument, for `clap`.
@@ -62,7 +58,7 @@ pub(crate) fn arg_of<'a>(alloc: Global, argument: Argument<'a>) -> Arg<'a>
         Argument::WantedValue(id, name, help) => value(alloc, id, name, help).required(true),
         Argument::Number(id, name, help) => number(alloc, id, name, help),
         Argument::WantedNumber(id, name, help) => number(alloc, id, name, help).required(true),
-        Argument::Memory => value(alloc, "memory", "MIB", MEMORY_HELP).value_parser(
+        Argument::Memory(help) => value(alloc, "memory", "MIB", help).value_parser(
             ValueParser::unsigned(1, MAX_MEMORY),
         ),
     }

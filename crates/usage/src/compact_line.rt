@@ -48,7 +48,7 @@ fn options_of<'a>(values: &ArgMatches<'a>) -> Result<CompactOptions<'a>, Unread>
 /// What is compacted, and where the outcome goes. `Rules` if one of these holds:
 ///
 /// - not exactly one of `--level` and `--all` is given;
-/// - `--whole` is given with `--no-verify`;
+/// - `--whole` is given with `--all` or `--no-verify`;
 /// - `--out` is given with `--clean`;
 /// - `--part` or `--first-number` is given without `--out`.
 fn work_of<'a>(values: &ArgMatches<'a>) -> Result<CompactWork<'a>, Unread>
@@ -81,7 +81,6 @@ fn levels_of(values: &ArgMatches<'_>) -> Result<Levels, Unread>
         (Some(level), false, false) => Ok(Levels::One(level)),
         (Some(level), false, true) if !is_flagged(values, "no-verify") => Ok(Levels::Whole(level)),
         (None, true, false) => Ok(Levels::All),
-        (None, true, true) if !is_flagged(values, "no-verify") => Ok(Levels::AllWhole),
         _ => Err(Unread::Rules),
     }
 }

@@ -53,8 +53,7 @@ pub enum Levels {
     One(u64),
     /// All files of this level, with one manifest.
     Whole(u64),
-    /// Each level from 0 down, until all files are at the deepest level that has any.
+    /// Each level from 0 down, until all files are at the deepest level that has any. Of a level
+    /// first all parts that fit into the test's memory, with one manifest.
     All,
-    /// The same, by all files of a level at once, with one manifest for each level.
-    AllWhole,
 }

@@ -95,6 +95,10 @@ pub(crate) const JSON: Argument<'static> = Argument::Flag(
         one too, after the line of its name",
 );
 
+pub(crate) const MEMORY: Argument<'static> = Argument::Memory(
+    "How many MiB of tables the test may hold:\n1 to 16777216; 128 if it is left out",
+);
+
 pub(crate) const NO_VERIFY: Argument<'static> = Argument::Flag(
     "no-verify",
     "Takes the version for lawful and tests only what it\n\

@@ -2,7 +2,7 @@
 
 use crate::argument::Argument;
 use crate::descriptions::{
-    Description, FAIL_ON_LOGS, FOLDER, JSON, NO_LOCK, NO_VERIFY, SEQUENCE, TEXT, UTF8,
+    Description, FAIL_ON_LOGS, FOLDER, JSON, MEMORY, NO_LOCK, NO_VERIFY, SEQUENCE, TEXT, UTF8,
 };
 use crate::rule::Rule;
 
@@ -14,7 +14,7 @@ pub(crate) const STATS: Description<'static> = Description {
 
 Examples: sedvokt stats DIR --text
           sedvokt stats DIR --json",
-    arguments: &[FOLDER, TEXT, JSON, Argument::Memory, FAIL_ON_LOGS, NO_LOCK],
+    arguments: &[FOLDER, TEXT, JSON, MEMORY, FAIL_ON_LOGS, NO_LOCK],
     rules: &[],
 };
 
@@ -39,7 +39,7 @@ Examples: sedvokt verify DIR
             "all-faults",
             "Prints what is wrong with each file, and goes on",
         ),
-        Argument::Memory,
+        MEMORY,
         FAIL_ON_LOGS,
         NO_LOCK,
     ],
@@ -78,7 +78,7 @@ Examples: sedvokt get DIR k00001 --text
         Argument::Flag("raw", "Prints the bytes of the value, nothing around them"),
         JSON,
         NO_VERIFY,
-        Argument::Memory,
+        MEMORY,
         FAIL_ON_LOGS,
         NO_LOCK,
     ],
@@ -129,7 +129,7 @@ Examples: sedvokt scan DIR --text --limit 10
         UTF8,
         JSON,
         NO_VERIFY,
-        Argument::Memory,
+        MEMORY,
         FAIL_ON_LOGS,
         NO_LOCK,
     ],
@@ -158,7 +158,7 @@ Example: sedvokt history DIR k00001 --text",
         UTF8,
         JSON,
         NO_VERIFY,
-        Argument::Memory,
+        MEMORY,
         FAIL_ON_LOGS,
         NO_LOCK,
     ],

@@ -2,7 +2,8 @@
 
 use crate::argument::Argument;
 use crate::descriptions::{
-    CLEANS, Description, FAIL_ON_LOGS, FOLDER, JSON, NO_VERIFY, SNAPSHOT, SNAPSHOT_RULE, SNAPSHOTS,
+    CLEANS, Description, FAIL_ON_LOGS, FOLDER, JSON, MEMORY, NO_VERIFY, SNAPSHOT, SNAPSHOT_RULE,
+    SNAPSHOTS,
 };
 use crate::rule::Rule;
 
@@ -16,22 +17,20 @@ manifest that is installed.
 Examples: sedvokt compact DIR --level 0
           sedvokt compact DIR --level 1 --whole
           sedvokt compact DIR --all --snapshots 900,1151 --clean
-          sedvokt compact DIR --all --whole
           sedvokt compact DIR --level 0 --out OUT",
     arguments: &[
         FOLDER,
         Argument::Number("level", "N", "The level: 0 to 5"),
         Argument::Flag(
             "all",
-            "All levels: each that has files, from 0 down, again\n\
-                and again until all files are at one level: the\n\
-                deepest that has files, or level 1",
+            "All levels: each that has files, from 0 down, until\n\
+                all files are at one level: the deepest that has\n\
+                files, or level 1",
         ),
         Argument::Flag(
             "whole",
             "All files of the level, in parts that share no user\n\
-                key, one after the other, with one manifest for all\n\
-                of them; with --all: so each level, once",
+                key, one after the other, with one manifest for all",
         ),
         Argument::Value(
             "out",
@@ -55,7 +54,11 @@ Examples: sedvokt compact DIR --level 0
         ),
         NO_VERIFY,
         FAIL_ON_LOGS,
-        Argument::Memory,
+        Argument::Memory(
+            "How many MiB of tables the test may hold, and a part\n\
+                of a level that --all takes with others: 1 to\n\
+                16777216; 128 if it is left out",
+        ),
         Argument::Number(
             "workers",
             "W",
@@ -86,18 +89,15 @@ Examples: sedvokt compact DIR --level 0
     ],
     rules: &[
         Rule::One("levels", &["level", "all"]),
-        Rule::AtMostOne("whole or out", &["whole", "out"]),
-        Rule::AtMostOne("whole or part", &["whole", "part"]),
-        Rule::AtMostOne("whole or number", &["whole", "first-number"]),
         Rule::AtMostOne("whole or trust", &["whole", "no-verify"]),
-        Rule::AtMostOne("out or all", &["out", "all"]),
+        Rule::AtMostOne("whole, all or out", &["whole", "all", "out"]),
+        Rule::AtMostOne("whole, all or part", &["whole", "all", "part"]),
+        Rule::AtMostOne("whole, all or number", &["whole", "all", "first-number"]),
         Rule::AtMostOne("out or clean", &["out", "clean"]),
         // `clap` lets an option go without the one that it needs if something excludes that one.
         Rule::Needs("number", "first-number", "out"),
         Rule::Needs("one part", "part", "out"),
-        Rule::AtMostOne("part or all", &["part", "all"]),
         Rule::AtMostOne("part or clean", &["part", "clean"]),
-        Rule::AtMostOne("number or all", &["first-number", "all"]),
         Rule::AtMostOne("number or clean", &["first-number", "clean"]),
         SNAPSHOT_RULE,
     ],
@@ -169,7 +169,7 @@ It is for a database DIR and the folder OUT of the last example of compact.",
             "Does not test whether the new tables keep what the\n\
                 inputs have: a program that is trusted wrote them",
         ),
-        Argument::Memory,
+        MEMORY,
         CLEANS,
     ],
     rules: &[

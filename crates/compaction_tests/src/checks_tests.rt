@@ -1,4 +1,4 @@
-use crate::range_checks_tests::version_after;
+use crate::tested_tables::version_after;
 use board::Open;
 use checks::*;
 use coding::{Fault, FaultName};

@@ -1,6 +1,8 @@
 //! The tests of `compact`: rows of the whole, over ranges and workers.
 
+mod edits;
 mod gates;
+mod refused_rows;
 mod rows;
 pub(crate) mod tables;
 mod tests;

@@ -6,7 +6,7 @@ ghost use Rattle.cut.specs.Plan.{encoded_blocks};
 ghost use Rattle.cut.specs.OutputPlan.{lists_in};
 
 use crate::compact_tests::tables::{A, B, C, C_DELETED};
-use crate::range_checks_tests::version_after;
+use crate::tested_tables::version_after;
 use coding::Fault;
 use cut::{Plan, plan};
 use ikey::Bytewise;

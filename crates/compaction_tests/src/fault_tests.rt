@@ -1,7 +1,7 @@
 //! All that is wrong with versions, with the tables of a folder in one range of user keys and in
 //! several.
 
-use crate::range_checks_tests::{
+use crate::tested_tables::{
     A_AND_U, A_AT_THREE, B_AT_TWO, OLDER_ABOVE, SEVERAL_RANGES, SHARED_KEY, U_AT_NINE, U_AT_ONE,
     U_AT_SEVEN, opened_after,
 };

@@ -1,7 +1,7 @@
 //! Which entries of a range are kept. Rows of `compact_tests` have more lists of snapshots, and
 //! deletions.
 
-use crate::range_checks_tests::version_after;
+use crate::tested_tables::version_after;
 use coding::{Fault, FaultName};
 use ikey::{Bytewise, Kind};
 use keep::{

@@ -26,8 +26,12 @@ mod request_tests;
 #[cfg(test)]
 mod scan_tests;
 #[cfg(test)]
+mod seat_tests;
+#[cfg(test)]
 mod split_tests;
 #[cfg(test)]
 mod stats_tests;
 #[cfg(test)]
 mod store_tests;
+#[cfg(test)]
+mod tested_tables;

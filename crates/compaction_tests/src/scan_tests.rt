@@ -1,10 +1,10 @@
 //! The rows of versions, with the tables of a folder in one range of user keys and in several.
 
-use crate::range_checks_tests::{
+use crate::store_tests::rows::U4_DELETED;
+use crate::tested_tables::{
     A_AND_U, A_AT_THREE, B_AT_TWO, SEVERAL_RANGES, U_AT_NINE, U_AT_SEVEN, opened_after,
     version_after,
 };
-use crate::store_tests::rows::U4_DELETED;
 use board::Open;
 use checks::checkers;
 use coding::{Fault, FaultName};

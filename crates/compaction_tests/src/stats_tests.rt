@@ -1,10 +1,10 @@
 //! How much versions have at their levels, with the tables of a folder in one range of user keys
 //! and in several.
 
-use crate::range_checks_tests::{
+use crate::scan_tests::{DELETED, DELETION_ABOVE, Held, VALUES};
+use crate::tested_tables::{
     A_AND_U, A_AT_THREE, B_AT_TWO, SEVERAL_RANGES, U_AT_SEVEN, opened_after,
 };
-use crate::scan_tests::{DELETED, DELETION_ABOVE, Held, VALUES};
 use board::Open;
 use checks::checkers;
 use coding::FaultName;

@@ -1,7 +1,8 @@
 //! The removal of files that a version doesn't need.
 
-use crate::install_tests::crashes::{made_at, make_left};
-use crate::install_tests::tests::{BEFORE, MANIFEST, read_as};
+use crate::crashes::make_left;
+use crate::install_rows::{BEFORE, MANIFEST};
+use crate::known_versions::read_as;
 use coding::Fault;
 use folder::{FolderFault, Opened, open};
 use install::{RemovalWatch, is_obsolete_file, pending_current, remove_obsolete};
@@ -224,25 +225,12 @@ fn are_left(alloc: Global, steps: &[ShelfStep], is_last: bool) -> bool {
     false
 }
 
-/// The first moment at which a crash leaves what it should not.
-fn wrong_moment(alloc: Global, steps: &[ShelfStep]) -> Option<usize> {
-    let end = steps.len().saturating_mul(2);
-    for moment in 0..end.saturating_add(1) {
-        if let Some(made) = made_at(steps, moment)
-            && !are_left(alloc, made, moment == end)
-        {
-            return Some(moment);
-        }
-    }
-    None
-}
-
 #[test]
 fn obsolete_files(rt: HostRuntime) {
     let mut shelf = Shelf::new(rt.alloc(), FILES);
     assert!(rt; is_cleaned(rt.alloc(), &mut shelf));
     assert_eq!(rt; shelf.steps().len(), SYNCS + 4);
-    assert_eq!(rt; wrong_moment(rt.alloc(), shelf.steps()), None);
+    assert!(rt; are_left(rt.alloc(), shelf.steps(), true));
     assert!(rt; is_left_alone(rt.alloc()));
 }
 

@@ -3,7 +3,8 @@
 ghost use Rattle.std.specs.Prelude.{◌≡◌};
 
 use crate::folder_disk_tests::{has, make_folder, new_path, remove_folder};
-use crate::folder_system_tests::{is_told, path_of};
+use crate::folder_system_tests::path_of;
+use crate::folder_told_tests::is_told;
 use board::Open;
 use coding::{Fault, FaultName};
 use disk::Disk;

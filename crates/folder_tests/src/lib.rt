@@ -1,12 +1,17 @@
-//! The tests of `folder`, `install` and `clean`: folders that are opened and loaded, and
-//! installations and removals that are cut short or fail. So is a whole compaction of a folder that
-//! was never synced, and that of a whole level.
+//! The tests of folders: of those that are opened and loaded, and of installations, compactions,
+//! removals and outcomes that are cut short or of which a call fails.
 #![tactic(auto)]
 
+#[cfg(test)]
+mod acts;
+#[cfg(test)]
+mod calls;
 #[cfg(test)]
 mod clean_tests;
 #[cfg(test)]
 mod compaction_crash_tests;
+#[cfg(test)]
+mod crashes;
 #[cfg(test)]
 mod folder_disk_tests;
 #[cfg(test)]
@@ -20,14 +25,20 @@ mod folder_shelf_tests;
 #[cfg(test)]
 mod folder_system_tests;
 #[cfg(test)]
+mod folder_told_tests;
+#[cfg(test)]
 mod folder_write_tests;
+#[cfg(test)]
+mod install_rows;
 #[cfg(test)]
 mod install_tests;
 #[cfg(test)]
-mod silent_folder_tests;
+mod known_versions;
 #[cfg(test)]
-mod silent_rows;
+mod rows;
+#[cfg(test)]
+mod silent_folder_tests;
 #[cfg(test)]
 mod silent_shelf;
 #[cfg(test)]
-mod whole_level_tests;
+mod steps;

@@ -2,15 +2,16 @@
 
 use crate::adoption_tests::rows::{FIRST_PART, INSTALLED, OWN, REFUSED_ROWS, Row, SECOND_PART};
 use crate::store_tests::rows::{CURRENT, Files, T_AND_V};
-use crate::store_tests::tests::step_lines;
+use crate::store_tests::tests::is_answer;
 use adoption::{begin_taking, install_taken, take_outcome};
+use answers::{CompactionEnd, compaction_lines};
 use coding::{Fault, FaultName};
 use folder::open;
 use shelf::Shelf;
 use std::alloc::Global;
 use std::test::*;
 use std::thread::Threads;
-use store::{CompactionStep, Open, SyncedVersion, checkers, sync_version};
+use store::{Open, SyncedVersion, checkers, sync_version};
 
 /// How many bytes of tables are held while a version is tested.
 const MEMORY: u64 = 1_073_741_824;
@@ -23,22 +24,6 @@ fn files_of(row: &Row) -> [(&'static str, &'static [u8]); 4] {
         ("000007.ldb", row.seven),
         ("000008.ldb", T_AND_V),
     ]
-}
-
-/// Whether an answer has these lines, or is this refusal.
-fn is_answer(
-    alloc: Global,
-    answer: &Result<CompactionStep, Fault>,
-    wanted: Result<&str, FaultName>,
-) -> bool {
-    match (answer, wanted) {
-        (Ok(step), Ok(text)) => match step_lines(alloc, step) {
-            Ok(lines) => lines.as_slice() == text.as_bytes(),
-            Err(_) => false,
-        },
-        (Err(fault), Err(name)) => *fault == Fault::of(name),
-        _ => false,
-    }
 }
 
 /// Whether a folder holds these files.
@@ -61,7 +46,7 @@ fn synced(alloc: Global, folder: &mut Shelf<'_>) -> Result<SyncedVersion, Fault>
 #[derive(Drop)]
 struct End<'f> {
     folder: Shelf<'f>,
-    answer: Result<CompactionStep, Fault>,
+    answer: Result<Vec<u8>, Fault>,
 }
 
 /// Installs the outcome of a row in a folder.
@@ -86,7 +71,7 @@ fn installed<'f, R: Threads + Sync>(
     End { folder, answer }
 }
 
-/// Takes in the outcome of a row and installs it: the step, with the manifest's number.
+/// Takes in the outcome of a row and installs it: the lines that tell of it.
 fn taken_in<R: Threads + Sync>(
     rt: &R,
     alloc: Global,
@@ -94,20 +79,21 @@ fn taken_in<R: Threads + Sync>(
     source: &mut Shelf<'_>,
     opened: &SyncedVersion,
     row: &Row,
-) -> Result<CompactionStep, Fault> {
+) -> Result<Vec<u8>, Fault> {
     let workers = checkers(rt, alloc, &Open);
     let none = begin_taking(&workers, folder, opened, row.comparison, MEMORY)?;
     let one = take_outcome(&workers, folder, source, none)?;
-    let mut step = one.step;
-    step.manifest = install_taken(&workers, folder, &one.taken, MEMORY)?;
-    Ok(step)
+    let manifest = install_taken(&workers, folder, &one.taken, MEMORY)?;
+    let end = CompactionEnd::Installed(manifest);
+    let lines = compaction_lines(alloc, &one.made.outputs, &one.made.deleted, end)?;
+    Ok(lines.into_bytes())
 }
 
 /// Whether the installation of a row has its answer and leaves its files.
 fn is_answered<R: Threads + Sync>(rt: &R, alloc: Global, row: &Row) -> bool {
     let files = files_of(row);
     let end = installed(rt, alloc, Shelf::new(alloc, &files), row);
-    is_answer(alloc, &end.answer, row.answer) && holds(&end.folder, row.left)
+    is_answer(&end.answer, row.answer) && holds(&end.folder, row.left)
 }
 
 /// Whether an outcome that was installed is refused if it is installed again, and the folder stays.
@@ -115,7 +101,7 @@ fn is_refused_twice<R: Threads + Sync>(rt: &R, alloc: Global, row: &Row) -> bool
     let files = files_of(row);
     let first = installed(rt, alloc, Shelf::new(alloc, &files), row);
     let second = installed(rt, alloc, first.folder, row);
-    is_answer(alloc, &second.answer, Err(FaultName::Apply)) && holds(&second.folder, row.left)
+    is_answer(&second.answer, Err(FaultName::Apply)) && holds(&second.folder, row.left)
 }
 
 /// Whether the outcomes of two parts that were made of one version are installed one after the
@@ -124,9 +110,8 @@ fn are_installed_in_turn<R: Threads + Sync>(rt: &R, alloc: Global) -> bool {
     let files = files_of(&FIRST_PART);
     let first = installed(rt, alloc, Shelf::new(alloc, &files), &FIRST_PART);
     let second = installed(rt, alloc, first.folder, &SECOND_PART);
-    is_answer(alloc, &first.answer, FIRST_PART.answer)
+    is_answer(&first.answer, FIRST_PART.answer)
         && is_answer(
-            alloc,
             &second.answer,
             Ok("output 20 127\ndeleted 1 8\ninstalled MANIFEST-000011\n"),
         )

@@ -1,5 +1,6 @@
 //! Compactions and their answers.
 
+use crate::compact_tests::edits::*;
 use crate::compact_tests::gates::Wait;
 use crate::compact_tests::tables::*;
 use coding::FaultName;
@@ -10,16 +11,16 @@ use keep::Snapshots;
 pub(crate) type Parting = (u16, u16, u16);
 
 /// Into one range.
-const WHOLE: Parting = (0, 0, 0);
+pub(crate) const WHOLE: Parting = (0, 0, 0);
 
 /// Into three ranges, at `c` and `f`.
-const AT_C_AND_F: Parting = (0x6300, 0x0300, 2);
+pub(crate) const AT_C_AND_F: Parting = (0x6300, 0x0300, 2);
 
 /// Into two ranges, at `c`.
 const AT_C: Parting = (0x6300, 0, 1);
 
 /// Into 4,096 ranges, from `f` on; a range begins at each of `g` and `u` too.
-const AT_MANY: Parting = (0x6600, 1, 4_095);
+pub(crate) const AT_MANY: Parting = (0x6600, 1, 4_095);
 
 /// Ranges and a number of workers.
 pub(crate) type Run = (Parting, u64);
@@ -38,7 +39,7 @@ const EACH_RUN: &[Run] = &[
 ];
 
 /// No worker, and more than there may be.
-const NO_WORKERS: &[Run] = &[(WHOLE, 0), (AT_C_AND_F, 0), (AT_MANY, 65)];
+pub(crate) const NO_WORKERS: &[Run] = &[(WHOLE, 0), (AT_C_AND_F, 0), (AT_MANY, 65)];
 
 /// What a compaction answers.
 #[derive(Clone, Copy)]
@@ -73,7 +74,7 @@ pub(crate) struct Row {
 }
 
 /// What rows have if they say nothing else. Without tables there is no input.
-const PLAIN: Row = Row {
+pub(crate) const PLAIN: Row = Row {
     name: "",
     files: b"",
     from: 0,
@@ -113,103 +114,6 @@ const SMALLEST: Row = Row {
     file_size: 1,
     ..PLAIN
 };
-
-/// File 7 of level 1, the deletion of `u` at 4 over `u` at 2.
-/// `edit: file 1 7 125 u@4 del .. u@2 put`
-const DELETED_FILE: &[u8] = b"\x07\x01\x07\x7d\x09u\0\x04\0\0\0\0\0\0\x09u\x01\x02\0\0\0\0\0\0";
-
-/// Log 3, previous log 0, next file 9, last sequence 4, the compact pointer of level 1 at `u` at
-/// 2, and file 7 of level 1 deleted.
-/// `edit: log 3, previous 0, next 9, last 4, pointer 1 u@2 put, delete 1 7`
-const NOTHING_LEFT: &[u8] =
-    b"\x02\x03\x09\0\x03\x09\x04\x04\x05\x01\x09u\x01\x02\0\0\0\0\0\0\x06\x01\x07";
-
-/// `edit: file 1 7 125 u@4 del .. u@2 put, file 3 3 1 t@1 put .. v@1 put`
-const DELETED_FILE_ABOVE: &[u8] = b"\
-    \x07\x01\x07\x7d\x09u\0\x04\0\0\0\0\0\0\x09u\x01\x02\0\0\0\0\0\0\x07\x03\x03\x01\x09t\x01\x01\
-    \0\0\0\0\0\0\x09v\x01\x01\0\0\0\0\0\0";
-
-/// `edit: log 3, previous 0, next 10, last 4, pointer 1 u@2 put, delete 1 7, file 2 9 113 u@4 del
-/// .. u@4 del`
-const DELETION_LEFT: &[u8] = b"\
-    \x02\x03\x09\0\x03\x0a\x04\x04\x05\x01\x09u\x01\x02\0\0\0\0\0\0\x06\x01\x07\x07\x02\x09q\x09u\
-    \0\x04\0\0\0\0\0\0\x09u\0\x04\0\0\0\0\0\0";
-
-/// Files 7, 8 and 9 of level 0: `a` at 1 and `f` at 4, `b` at 2 and `g` at 5, and the deletion of
-/// `c` at 3. Files 4, 5 and 6 of level 2: `bb`, `d` and `ff`, of 120, 60 and 60 bytes.
-/// `edit: file 0 7 127 a@1 put .. f@4 put, file 0 8 127 b@2 put .. g@5 put, file 0 9 113 c@3 del
-/// .. c@3 del, file 2 4 120 bb@1 put .. bb@1 put, file 2 5 60 d@1 put .. d@1 put, file 2 6 60 ff@1
-/// put .. ff@1 put`
-const APART_FILES: &[u8] = b"\
-    \x07\0\x07\x7f\x09a\x01\x01\0\0\0\0\0\0\x09f\x01\x04\0\0\0\0\0\0\x07\0\x08\x7f\x09b\x01\x02\0\
-    \0\0\0\0\0\x09g\x01\x05\0\0\0\0\0\0\x07\0\x09q\x09c\0\x03\0\0\0\0\0\0\x09c\0\x03\0\0\0\0\0\0\
-    \x07\x02\x04x\x0abb\x01\x01\0\0\0\0\0\0\x0abb\x01\x01\0\0\0\0\0\0\x07\x02\x05\x3c\x09d\x01\x01\
-    \0\0\0\0\0\0\x09d\x01\x01\0\0\0\0\0\0\x07\x02\x06\x3c\x0aff\x01\x01\0\0\0\0\0\0\x0aff\x01\x01\
-    \0\0\0\0\0\0";
-
-/// File 7 of level 0: `a` at 1, `f` at 9 and at 4, and `g` at 5. File 4 of level 2: `f` at 6, of
-/// 120 bytes.
-/// `edit: file 0 7 151 a@1 put .. g@5 put, file 2 4 120 f@6 put .. f@6 put`
-const WAITING_FILES: &[u8] = b"\
-    \x07\0\x07\x97\x01\x09a\x01\x01\0\0\0\0\0\0\x09g\x01\x05\0\0\0\0\0\0\x07\x02\x04x\x09f\x01\x06\
-    \0\0\0\0\0\0\x09f\x01\x06\0\0\0\0\0\0";
-
-/// Files 7 and 8 of level 0: `a` at 1 and `c` at 3, and `b` at 2.
-/// `edit: file 0 7 127 a@1 put .. c@3 put, file 0 8 114 b@2 put .. b@2 put`
-const A_C_AND_B: &[u8] = b"\
-    \x07\0\x07\x7f\x09a\x01\x01\0\0\0\0\0\0\x09c\x01\x03\0\0\0\0\0\0\x07\0\x08r\x09b\x01\x02\0\0\0\
-    \0\0\0\x09b\x01\x02\0\0\0\0\0\0";
-
-/// Log 3, previous log 0, next file 8, last sequence 9, and the compact pointer of level 0 at `c`
-/// at 3. Files 7 and 8 of level 0 are deleted. The new files 5, 6 and 7 of level 1 have 114 bytes
-/// each: `a` at 1, `b` at 2 and `c` at 3.
-/// `edit: log 3, previous 0, next 8, last 9, pointer 0 c@3 put, delete 0 7, delete 0 8, file 1 5
-/// 114 a@1 put .. a@1 put, file 1 6 114 b@2 put .. b@2 put, file 1 7 114 c@3 put .. c@3 put`
-const EACH_EDIT: &[u8] = b"\
-    \x02\x03\x09\0\x03\x08\x04\x09\x05\0\x09c\x01\x03\0\0\0\0\0\0\x06\0\x07\x06\0\x08\x07\x01\x05r\
-    \x09a\x01\x01\0\0\0\0\0\0\x09a\x01\x01\0\0\0\0\0\0\x07\x01\x06r\x09b\x01\x02\0\0\0\0\0\0\x09b\
-    \x01\x02\0\0\0\0\0\0\x07\x01\x07r\x09c\x01\x03\0\0\0\0\0\0\x09c\x01\x03\0\0\0\0\0\0";
-
-/// File 7 of level 0: `u` at 9, 5 and 3.
-/// `edit: file 0 7 136 u@9 put .. u@3 put`
-const U_THRICE: &[u8] = b"\x07\0\x07\x88\x01\x09u\x01\x09\0\0\0\0\0\0\x09u\x01\x03\0\0\0\0\0\0";
-
-/// Log 3, previous log 0, next file 6, last sequence 9, and the compact pointer of level 0 at `u`
-/// at 3. File 7 of level 0 is deleted. The new file 5 of level 1 has 202 bytes: `u` from 9 to 3.
-/// `edit: log 3, previous 0, next 6, last 9, pointer 0 u@3 put, delete 0 7, file 1 5 202 u@9 put ..
-/// u@3 put`
-const THRICE_EDIT: &[u8] = b"\
-    \x02\x03\x09\0\x03\x06\x04\x09\x05\0\x09u\x01\x03\0\0\0\0\0\0\x06\0\x07\x07\x01\x05\xca\x01\x09\
-    u\x01\x09\0\0\0\0\0\0\x09u\x01\x03\0\0\0\0\0\0";
-
-/// Files 7 and 8 of level 0: `u` at 9 and `v` at 1, and `u` at 5 and 3.
-/// `edit: file 0 7 127 u@9 put .. v@1 put, file 0 8 125 u@5 put .. u@3 put`
-const U_AND_V: &[u8] = b"\
-    \x07\0\x07\x7f\x09u\x01\x09\0\0\0\0\0\0\x09v\x01\x01\0\0\0\0\0\0\x07\0\x08\x7d\x09u\x01\x05\0\
-    \0\0\0\0\0\x09u\x01\x03\0\0\0\0\0\0";
-
-/// Files 7 and 8 of level 0: `u` at 9 and 5, and `u` at 7 and 3.
-/// `edit: file 0 7 125 u@9 put .. u@5 put, file 0 8 125 u@7 put .. u@3 put`
-const NEWER_AND_OLDER: &[u8] = b"\
-    \x07\0\x07\x7d\x09u\x01\x09\0\0\0\0\0\0\x09u\x01\x05\0\0\0\0\0\0\x07\0\x08\x7d\x09u\x01\x07\0\
-    \0\0\0\0\0\x09u\x01\x03\0\0\0\0\0\0";
-
-/// File 7 of level 0: `u` at 12 and 9.
-/// `edit: file 0 7 125 u@12 put .. u@9 put`
-const ABOVE_LAST: &[u8] = b"\x07\0\x07\x7d\x09u\x01\x0c\0\0\0\0\0\0\x09u\x01\x09\0\0\0\0\0\0";
-
-/// Files 7, 8 and 9 of level 0, each `u` at 5.
-/// `edit: file 0 7 114 u@5 put .. u@5 put, file 0 8 114 u@5 put .. u@5 put, file 0 9 114 u@5 put
-/// .. u@5 put`
-const SAME: &[u8] = b"\
-    \x07\0\x07r\x09u\x01\x05\0\0\0\0\0\0\x09u\x01\x05\0\0\0\0\0\0\x07\0\x08r\x09u\x01\x05\0\0\0\0\
-    \0\0\x09u\x01\x05\0\0\0\0\0\0\x07\0\x09r\x09u\x01\x05\0\0\0\0\0\0\x09u\x01\x05\0\0\0\0\0\0";
-
-/// Files 7 and 8 of level 0: `a` at 1 and `u` at 5, and `u` at 9.
-/// `edit: file 0 7 127 a@1 put .. u@5 put, file 0 8 114 u@9 put .. u@9 put`
-const A_U_AND_U: &[u8] = b"\
-    \x07\0\x07\x7f\x09a\x01\x01\0\0\0\0\0\0\x09u\x01\x05\0\0\0\0\0\0\x07\0\x08r\x09u\x01\x09\0\0\0\
-    \0\0\0\x09u\x01\x09\0\0\0\0\0\0";
 
 /// Rows that have tables and an edit.
 pub(crate) const WRITTEN: &[Row] = &[
@@ -385,107 +289,6 @@ pub(crate) const LISTED: &[Row] = &[
         tables: &[U9_U5, U7_U3],
         snapshots: Snapshots::Listed(&[3, 6]),
         answer: Answer::Tables(&[(9, U9_U5_U3)], b""),
-        ..PLAIN
-    },
-];
-
-/// The first sequence that no snapshot may have, 2^56 - 1.
-const TOO_HIGH: u64 = 72_057_594_037_927_935;
-
-/// Rows that are refused.
-pub(crate) const REFUSED: &[Row] = &[
-    Row {
-        name: "no input, level 6 and a high snapshot",
-        files: SAME,
-        level: 6,
-        snapshots: Snapshots::From(TOO_HIGH),
-        ..PLAIN
-    },
-    Row {
-        name: "no input and no workers",
-        files: SAME,
-        runs: NO_WORKERS,
-        answer: Answer::Refused(FaultName::Workers, None),
-        ..PLAIN
-    },
-    Row {
-        name: "a high oldest snapshot, and a spoilt block",
-        files: SAME,
-        tables: &[U5_BLOCK],
-        snapshots: Snapshots::From(TOO_HIGH),
-        answer: Answer::Refused(FaultName::Snapshot, None),
-        ..PLAIN
-    },
-    Row {
-        name: "a high listed snapshot, and a spoilt block",
-        files: SAME,
-        tables: &[U5_BLOCK],
-        snapshots: Snapshots::Listed(&[TOO_HIGH]),
-        answer: Answer::Refused(FaultName::Snapshot, None),
-        ..PLAIN
-    },
-    Row {
-        name: "a high last sequence, and a spoilt block",
-        files: SAME,
-        tables: &[U5_BLOCK],
-        last_sequence: TOO_HIGH,
-        answer: Answer::Refused(FaultName::Snapshot, None),
-        ..PLAIN
-    },
-    Row {
-        name: "a snapshot that is listed twice, and a spoilt block",
-        files: SAME,
-        tables: &[U5_BLOCK],
-        snapshots: Snapshots::Listed(&[6, 6]),
-        answer: Answer::Refused(FaultName::SnapshotList, None),
-        ..PLAIN
-    },
-    Row {
-        name: "a snapshot above the last sequence, and a spoilt block",
-        files: SAME,
-        tables: &[U5_BLOCK],
-        snapshots: Snapshots::Listed(&[10]),
-        answer: Answer::Refused(FaultName::SnapshotList, None),
-        ..PLAIN
-    },
-    Row {
-        name: "two spoilt blocks around an input, and job 0 after job 2",
-        files: SAME,
-        tables: &[U5_BLOCK, U5, U5_BLOCK],
-        runs: &[(WHOLE, 2), (AT_C_AND_F, 2), (AT_MANY, 2)],
-        wait: Wait::ForTheLast,
-        boards: 1,
-        answer: Answer::Refused(FaultName::Trailer, Some(0)),
-        ..PLAIN
-    },
-    Row {
-        name: "two spoilt blocks",
-        files: SAME,
-        tables: &[U5_BLOCK, U5_BLOCK],
-        answer: Answer::Refused(FaultName::Trailer, Some(0)),
-        ..PLAIN
-    },
-    Row {
-        name: "another magic between two of one key",
-        files: SAME,
-        tables: &[U5, U5_MAGIC, U5],
-        answer: Answer::Refused(FaultName::Magic, Some(1)),
-        ..PLAIN
-    },
-    Row {
-        name: "two of one key, and no number left",
-        files: SAME,
-        tables: &[U5, U5],
-        first_number: u64::MAX,
-        answer: Answer::Refused(FaultName::Duplicate, None),
-        ..PLAIN
-    },
-    Row {
-        name: "no number left",
-        files: SAME,
-        tables: &[U5],
-        first_number: u64::MAX,
-        answer: Answer::Refused(FaultName::Numbers, None),
         ..PLAIN
     },
 ];

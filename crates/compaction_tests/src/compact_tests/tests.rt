@@ -1,9 +1,10 @@
 //! Rows of the whole: each has one answer, for all ranges, numbers of workers and orders of jobs.
 
 use crate::compact_tests::gates::Held;
-use crate::compact_tests::rows::{Answer, LISTED, Parting, REFUSED, Row, Run, WRITTEN};
+use crate::compact_tests::refused_rows::REFUSED;
+use crate::compact_tests::rows::{Answer, LISTED, Parting, Row, Run, WRITTEN};
 use crate::compact_tests::tables::{A_F, U4_DELETED_U2};
-use crate::range_checks_tests::version_after;
+use crate::tested_tables::version_after;
 use coding::Fault;
 use compact::{Request, compact, matches_metadata};
 use edit::Outcome;

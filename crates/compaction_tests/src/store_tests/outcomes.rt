@@ -6,14 +6,15 @@ use crate::store_tests::tests::{MEMORY, files_of, holds};
 use answers::{CompactionEnd, compaction_lines};
 use coding::{Fault, FaultName};
 use edit::Outcome;
-use folder::{FolderFault, open};
-use shelf::{Failing, Shelf};
+use folder::open;
+use shelf::Shelf;
 use std::alloc::Global;
 use std::process::Abort;
 use std::test::*;
 use std::thread::Threads;
 use store::{
-    Choice, CompactionOutcome, EDIT, Open, checkers, files_to_compact, outcome, write_outcome,
+    Choice, CompactionOutcome, EDIT, Open, OutcomeSettings, checkers, files_to_compact, outcome,
+    write_outcome,
 };
 
 /// The compaction of a folder, the first number that is asked for, the answer, and the files of the
@@ -77,13 +78,16 @@ fn outcome_of<R: Threads + Sync>(
     let opened = open(alloc, folder)?;
     let choice = Choice::Picked(asked.row.level);
     let test = if is_tested { Some(MEMORY) } else { None };
+    let kept = OutcomeSettings {
+        first: asked.first,
+        settings: asked.row.settings,
+    };
     outcome(
         &checkers(rt, alloc, &Open),
         folder,
         &opened,
         choice,
-        asked.first,
-        &asked.row.settings,
+        &kept,
         test,
     )
 }
@@ -144,33 +148,6 @@ fn outcomes_that_are_written(rt: HostRuntime) {
             "{:?}",
             asked.first
         );
-    }
-}
-
-/// The calls that write the outcome of one table: two for it, two for its edit, one for the folder,
-/// one that names the edit, and one for the folder again.
-const CALLS: u64 = 7;
-
-/// Whether a failing call ends the writing of an outcome of one table, and the edit isn't there
-/// before the folder is synced.
-fn ends_there<R: Threads + Sync + Abort>(rt: &R, alloc: Global, call: u64) -> bool {
-    let files = files_of(&KEPT);
-    let mut database = Shelf::new(alloc, &files);
-    let made = outcome_of(rt, alloc, &mut database, &OUTCOMES[0], false).expect(rt, "an outcome");
-    let mut folder = Shelf::new(alloc, NO_FILES).failing(Failing {
-        call,
-        fault: FolderFault::Device,
-        is_half_done: false,
-    });
-    let answer = write_outcome(rt, &mut folder, &made.outcome);
-    let has_edit = folder.file(EDIT).is_some();
-    answer == Err(Fault::of(FaultName::Device)) && folder.calls() == call && has_edit == (call > 6)
-}
-
-#[test]
-fn an_outcome_that_is_half_written(rt: HostRuntime) {
-    for call in 1..CALLS + 1 {
-        assert!(rt; ends_there(&rt, rt.alloc(), call), "{call}");
     }
 }
 

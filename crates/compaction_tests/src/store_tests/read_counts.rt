@@ -1,8 +1,8 @@
 //! How often a compaction reads the files of its folder.
 
-use crate::range_checks_tests::{B_AT_TWO, U_AT_NINE, U_AT_ONE};
 use crate::store_tests::rows::{CURRENT, DEFAULTS, Files};
 use crate::store_tests::tests::{MEMORY, step_lines};
+use crate::tested_tables::{B_AT_TWO, U_AT_NINE, U_AT_ONE};
 use shelf::Shelf;
 use std::process::Abort;
 use std::test::*;

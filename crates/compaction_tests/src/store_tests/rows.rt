@@ -2,7 +2,6 @@
 
 use coding::FaultName;
 use keep::Snapshots;
-use levels::DescentEnd;
 use store::Settings;
 use table::Options;
 
@@ -163,45 +162,6 @@ pub(crate) const KEPT: Row = Row {
     ],
     ..PLAIN
 };
-
-/// A compaction of all levels: over the first `files` files of the folder of [`KEPT`], told to stop
-/// after `most` steps. Then how it ends, the lines that it tells, and files that it leaves.
-pub(crate) struct Descent {
-    pub files: usize,
-    pub most: u64,
-    pub end: Result<DescentEnd, FaultName>,
-    pub lines: &'static str,
-    pub left: Files,
-}
-
-pub(crate) const DESCENTS: &[Descent] = &[
-    Descent {
-        files: 4,
-        most: 9,
-        end: Ok(DescentEnd::AtBottom),
-        lines: "output 10 113\ndeleted 1 7\ninstalled MANIFEST-000009\n\
-        output 12 127\ndeleted 2 10\ndeleted 3 8\ninstalled MANIFEST-000011\n",
-        left: &[
-            ("CURRENT", b"MANIFEST-000011\n"),
-            ("000010.ldb", U4_DELETED),
-            ("000012.ldb", T_AND_V),
-        ],
-    },
-    Descent {
-        files: 4,
-        most: 1,
-        end: Ok(DescentEnd::Stopped),
-        lines: "output 10 113\ndeleted 1 7\ninstalled MANIFEST-000009\n",
-        left: &[NINE, ("MANIFEST-000009", DELETION_LEFT)],
-    },
-    Descent {
-        files: 3,
-        most: 9,
-        end: Err(FaultName::Missing),
-        lines: "",
-        left: &[("CURRENT", CURRENT), ("000007.ldb", TWO_ENTRIES)],
-    },
-];
 
 /// The tables and manifests that are left. `tests/cases` has the settings at their limits and past
 /// them, all refusals and more.

@@ -1,24 +1,21 @@
 //! Compactions of folders in memory.
 
 use crate::store_tests::rows::{
-    CURRENT, DEFAULTS, DESCENTS, Descent, Files, KEPT, LINES, ONE_FILE, PLAIN, REFUSALS, ROWS, Row,
-    TWO_ENTRIES,
+    CURRENT, DEFAULTS, Files, LINES, ONE_FILE, PLAIN, REFUSALS, ROWS, Row, TWO_ENTRIES,
 };
 use answers::{CompactionEnd, compaction_lines};
 use coding::{Fault, FaultName};
-use edit::Version;
 use folder::{FolderFault, Opened, file_numbers, open};
 use ikey::Bytewise;
 use keep::Snapshots;
-use levels::{DescentEnd, Selection, compact_levels};
 use shelf::{Failing, Shelf};
 use std::alloc::Global;
 use std::process::Abort;
 use std::test::*;
 use std::thread::Threads;
 use store::{
-    CleanWatch, CompactionStep, InstallWatch, Open, RemovalWatch, Settings, checkers, compact_dir,
-    compact_opened, opened_after, sync_version,
+    CompactionStep, Open, Settings, checkers, compact_dir, compact_opened, opened_after,
+    sync_version,
 };
 
 /// How many bytes of tables are held while a version is tested.
@@ -64,7 +61,7 @@ pub(crate) fn step_lines(alloc: Global, step: &CompactionStep) -> Result<Vec<u8>
 }
 
 /// Whether an answer is this text, or this refusal.
-fn is_answer(answer: &Result<Vec<u8>, Fault>, wanted: Result<&str, FaultName>) -> bool {
+pub(crate) fn is_answer(answer: &Result<Vec<u8>, Fault>, wanted: Result<&str, FaultName>) -> bool {
     match (answer, wanted) {
         (Ok(lines), Ok(text)) => lines.as_slice() == text.as_bytes(),
         (Err(fault), Err(name)) => *fault == Fault::of(name),
@@ -140,98 +137,6 @@ fn is_known_after<R: Threads + Sync + Abort>(rt: &R, alloc: Global, row: &Row) -
 fn inputs_that_are_compacted_alone(rt: HostRuntime) {
     for row in ROWS {
         assert!(rt; is_known_after(&rt, rt.alloc(), row), "{}", row.name);
-    }
-}
-
-/// Who collects the lines of compactions, and stops after some.
-#[derive(Drop)]
-struct Collected {
-    alloc: Global,
-    lines: Vec<u8>,
-    left: u64,
-}
-
-impl Collected {
-    /// Whether these are the lines.
-    fn has(&self, lines: &str) -> bool {
-        self.lines.as_slice() == lines.as_bytes()
-    }
-}
-
-impl InstallWatch for Collected {
-    fn installed(
-        &mut self,
-        _level: u64,
-        step: &CompactionStep,
-        _before: &Version,
-        _after: Option<&Version>,
-    ) -> bool {
-        if let Ok(lines) = step_lines(self.alloc, step) {
-            let _ = self.lines.extend_from_slice(&lines);
-        }
-        self.left = self.left.saturating_sub(1);
-        self.left > 0
-    }
-}
-
-impl RemovalWatch for Collected {
-    fn removed(&mut self, _name: &str) {}
-}
-
-impl CleanWatch for Collected {
-    fn names(&mut self, _opened: &Opened) -> Option<Vec<String>> {
-        Some(Vec::new(self.alloc))
-    }
-
-    fn cleaned(&mut self, _opened: &Opened) -> bool {
-        true
-    }
-}
-
-/// How the compaction of all levels of a folder ends.
-fn descent<R: Threads + Sync>(
-    rt: &R,
-    alloc: Global,
-    folder: &mut Shelf<'_>,
-    settings: &Settings<'_>,
-    told: &mut Collected,
-) -> Result<DescentEnd, Fault> {
-    let opened = open(alloc, folder)?;
-    let opened = sync_version(alloc, folder, opened)?;
-    let all = levels::Descent {
-        selection: Selection::Picked,
-        settings: *settings,
-        test: Some(MEMORY),
-    };
-    compact_levels(&checkers(rt, alloc, &Open), folder, opened, &all, told)
-}
-
-/// Whether all levels of the folder of a row are compacted so.
-fn is_descent<R: Threads + Sync>(rt: &R, alloc: Global, row: &Descent) -> bool {
-    let files = files_of(&KEPT);
-    let count = row.files.min(files.len());
-    let mut folder = Shelf::new(alloc, &files[..count]);
-    let mut told = Collected {
-        alloc,
-        lines: Vec::new(alloc),
-        left: row.most,
-    };
-    let answer = descent(rt, alloc, &mut folder, &DEFAULTS, &mut told);
-    is_end(answer, row) && told.has(row.lines) && holds(&folder, row.left)
-}
-
-/// Whether a compaction of all levels ends as its row says.
-fn is_end(answer: Result<DescentEnd, Fault>, row: &Descent) -> bool {
-    match answer {
-        Ok(end) => row.end == Ok(end),
-        Err(fault) => row.end == Err(fault.name) && fault == Fault::of(fault.name),
-    }
-}
-
-#[test]
-fn all_levels_that_are_compacted(rt: HostRuntime) {
-    for row in DESCENTS {
-        assert!(rt; is_descent(&rt, rt.alloc(), row), "{}", row.lines);
     }
 }
 

@@ -1,5 +1,5 @@
 use Rattle.std.proofs.Common.{◌≡◌, ◌-◌, length}
-use Rattle.compaction_tests.proofs.board_tests.spend_all.Given as goal
+use Rattle.compaction_tests.proofs.seat_tests.spend_all.Given as goal
 
 abbrev pub invariant-loop-job : goal.invariant-loop-job
 invariant-loop-job l = l.seat.board ≡ l.board

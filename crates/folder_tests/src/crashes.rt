@@ -1,7 +1,9 @@
 //! What a crash leaves of the calls that were made, for tests.
 
+use crate::known_versions::{Files, read_as};
 use folder::{Folder, FolderFault};
 use shelf::{Shelf, ShelfCall, ShelfStep};
+use std::alloc::Global;
 
 /// The calls made by a moment, the newest first. At an even moment half as many calls are done. At
 /// an odd one the crash comes inside the next call, which is then among them.
@@ -9,7 +11,7 @@ use shelf::{Shelf, ShelfCall, ShelfStep};
 /// None if a crash leaves the same as at the moment before. A call that makes, renames or removes a
 /// file counts from inside it on. A sync of the folder counts after it is done, a sync of a file
 /// with the next call.
-pub(crate) fn made_at(steps: &[ShelfStep], moment: usize) -> Option<&[ShelfStep]> {
+fn made_at(steps: &[ShelfStep], moment: usize) -> Option<&[ShelfStep]> {
     let taken = moment.saturating_add(1) / 2;
     let (_later, made) = steps.split_at(steps.len().saturating_sub(taken));
     let is_another = match made.first() {
@@ -23,6 +25,18 @@ pub(crate) fn made_at(steps: &[ShelfStep], moment: usize) -> Option<&[ShelfStep]
         None => true,
     };
     is_another.then_some(made)
+}
+
+/// Whether a call does this to this name.
+pub(crate) fn is_named(step: &ShelfStep, (act, name): (&str, &str)) -> bool {
+    let (done, of) = match &step.call {
+        ShelfCall::Create(name, _) => ("create", name.as_str()),
+        ShelfCall::Sync(name) => ("sync", name.as_str()),
+        ShelfCall::Rename(_, to) => ("rename", to.as_str()),
+        ShelfCall::Remove(name) => ("remove", name.as_str()),
+        ShelfCall::SyncFolder => ("sync", "."),
+    };
+    done == act && of == name
 }
 
 /// Whether a crash leaves all of a call after which the `later` ones were made, the newest first:
@@ -90,4 +104,79 @@ pub(crate) fn make_left(
         }
     }
     Ok(choices == 0)
+}
+
+/// What a folder of these files reads as after a crash leaves of these calls what `choice` picks.
+/// None if there is no such choice.
+fn read_crashed(alloc: Global, files: Files, steps: &[ShelfStep], choice: u64) -> Option<u64> {
+    let mut shelf = Shelf::new(alloc, files);
+    match make_left(&mut shelf, steps, choice) {
+        Ok(true) => Some(read_as(alloc, &mut shelf)),
+        Ok(false) => None,
+        Err(_) => Some(0),
+    }
+}
+
+/// Whether crashes may leave one version of a folder of these files after these calls, and whether
+/// the other one. None if some crash leaves neither. The versions are known by their next files.
+pub(crate) fn found(
+    alloc: Global,
+    files: Files,
+    steps: &[ShelfStep],
+    (one, other): (u64, u64),
+) -> Option<(bool, bool)> {
+    let mut found = (false, false);
+    for choice in 0..u64::MAX {
+        match read_crashed(alloc, files, steps, choice) {
+            None => break,
+            Some(next_file) if next_file == one => found.0 = true,
+            Some(next_file) if next_file == other => found.1 = true,
+            Some(_) => return None,
+        }
+    }
+    Some(found)
+}
+
+/// How many renames of these calls, the newest first, were synced; and how many were begun.
+pub(crate) fn renames(steps: &[ShelfStep]) -> (usize, usize) {
+    let (mut synced, mut begun): (usize, usize) = (0, 0);
+    for step in steps.iter().rev() {
+        match step.call {
+            ShelfCall::Rename(_, _) => begun = begun.saturating_add(1),
+            ShelfCall::SyncFolder if step.is_done => synced = begun,
+            _ => {}
+        }
+    }
+    (synced, begun)
+}
+
+/// Whether crashes after these calls leave just what they should of these versions, each after the
+/// rename of the one before: that of the renames that were synced, and that of those begun.
+fn leaves(alloc: Global, files: Files, steps: &[ShelfStep], versions: &[u64]) -> bool {
+    let (synced, begun) = renames(steps);
+    match (versions.get(synced), versions.get(begun)) {
+        (Some(older), Some(newer)) => {
+            found(alloc, files, steps, (*older, *newer)) == Some((true, synced < begun))
+        }
+        _ => false,
+    }
+}
+
+/// The first moment, beginning with this one, at which a crash leaves what it should not.
+pub(crate) fn wrong_moment(
+    alloc: Global,
+    files: Files,
+    steps: &[ShelfStep],
+    from: usize,
+    versions: &[u64],
+) -> Option<usize> {
+    let end = steps.len().saturating_mul(2);
+    for moment in from..end.saturating_add(1) {
+        if let Some(made) = made_at(steps, moment)
+            && !leaves(alloc, files, made, versions)
+        {
+            return Some(moment);
+        }
+    }
+    None
 }

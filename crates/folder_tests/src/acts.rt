@@ -139,16 +139,22 @@ impl RemovalWatch for Told {
 
 impl CleanWatch for Told {
     fn names(&mut self, _opened: &Opened) -> Option<Vec<String>> {
-        let mut names = Vec::new(self.alloc);
-        for name in self.row.steps.get(self.steps.saturating_sub(1))?.listed {
-            names.push(String::from_str(self.alloc, name).ok()?).ok()?;
-        }
-        Some(names)
+        let step = self.row.steps.get(self.steps.saturating_sub(1))?;
+        names_of(self.alloc, step.listed)
     }
 
     fn cleaned(&mut self, _opened: &Opened) -> bool {
         true
     }
+}
+
+/// Names, each in a string of its own.
+fn names_of(alloc: Global, listed: &[&str]) -> Option<Vec<String>> {
+    let mut names = Vec::new(alloc);
+    for name in listed {
+        names.push(String::from_str(alloc, name).ok()?).ok()?;
+    }
+    Some(names)
 }
 
 /// What a folder is opened as, synced.

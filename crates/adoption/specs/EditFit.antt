@@ -35,8 +35,8 @@ IsNumbered cmp v pointer numbers (Ok p) = numbered_answer cmp v pointer numbers 
 IsNumbered cmp v pointer numbers (Err e) = (e ≡ fault Apply)
     × ((refused : Fault) × (numbered_answer cmp v pointer numbers ≡ Err refused))
 
--- whether the files of these numbers are a closed choice for the level of inputs: these if they are,
--- else Apply
+-- whether the files of these numbers are a closed choice for the level of inputs: these if they
+-- are, else Apply
 abbrev pub IsClosedOf : KeyOrder → State → List ℕ → PickedInputs → Result PickedInputs Fault →
     Type 0
 IsClosedOf cmp v numbers p (Ok same) = (same ≡ p)

@@ -121,8 +121,8 @@ pub record AreInstalledTogether {F : Type 0} (g : Ghosts F) (name : List ℕ) (c
       IsLawfulAfter cmp first loaded comparison outcomes v
   pub number : IfOk result (λ n. n ≡ manifest_of first)
 
--- why nothing was installed of a folder that tells files: the device failed, or the last version was
--- refused
+-- why nothing was installed of a folder that tells files: the device failed, or the last version
+-- was refused
 abbrev pub IsWhyNone : {F : Type 0} → Ghosts F → KeyOrder → F → F → TakenOutcomes →
     Result ℕ Fault → Type 0
 IsWhyNone g cmp old new t result = (files : Files) → Tells (g.tells old) files → IfErr result

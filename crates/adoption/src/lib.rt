@@ -13,8 +13,8 @@
 //! outputs aren't compared, [`install_taken`] tests the last version, with tables of the folder.
 //!
 //! Each outcome is tested against the version that those before it leave, and its tables are
-//! written. Then [`install_taken`] installs all of them by one manifest, as a compaction is: a crash
-//! at any moment leaves the version before all of them or the one after.
+//! written. Then [`install_taken`] installs all of them by one manifest, as a compaction is: a
+//! crash at any moment leaves the version before all of them or the one after.
 //!
 //! The database may have been in use meanwhile. So the counters of the edit that is installed are
 //! those of the version now.

@@ -87,8 +87,8 @@ pub fn take_outcome<'o, F: Folder, G: Folder, W: Watch + Sync, R: Threads + Sync
     // If both folders tell files: the outcome, or its first refusal.
     ensures answer { (files given : Files) → Tells (F.tells folder.old) files →
         Tells (G.tells source.old) given →
-        AnswersFrom outcome_taken (HasEitherFailed F.Folder G.Folder folder.old folder.new source.old
-        source.new) result (IsTakenFrom (order_cmp taken.entry.opened.now.order) files given
+        AnswersFrom outcome_taken (HasEitherFailed F.Folder G.Folder folder.old folder.new
+        source.old source.new) result (IsTakenFrom (order_cmp taken.entry.opened.now.order) files given
         taken.entry.opened.now.version (version_in taken.entry) taken.entry.comparison) }
     // If outcomes were taken in from a folder on, this one was after them; or it was refused, and
     // the folder stands for what was opened.
@@ -120,8 +120,8 @@ fn take_from<
 ) -> Result<TakenOutcome<'o>, Fault>
     ensures answer { (files given : Files) → Tells (F.tells folder.old) files →
         Tells (G.tells source.old) given →
-        AnswersFrom outcome_taken (HasEitherFailed F.Folder G.Folder folder.old folder.new source.old
-        source.new) result (IsTakenFrom C.cmp files given
+        AnswersFrom outcome_taken (HasEitherFailed F.Folder G.Folder folder.old folder.new
+        source.old source.new) result (IsTakenFrom C.cmp files given
         taken.entry.opened.now.version (version_in taken.entry) taken.entry.comparison) }
     ensures taken { (first : F) → IsTakingEnd F.Folder C.cmp first folder.old folder.new
         taken.entry result }

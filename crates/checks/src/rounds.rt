@@ -19,8 +19,8 @@ pub(crate) const MAX_TABLES: usize = MAX_JOBS as usize;
 /// in order.
 ///
 /// Refused as the first invalid table is, by the first test of `table::check` that it fails,
-/// whichever worker is first; the gate of `workers` is told which one it is. The only other fault is
-/// Memory.
+/// whichever worker is first; the gate of `workers` is told which one it is. The only other fault
+/// is Memory.
 pub fn check_tables<'t, C: SharedComparator, W: Watch + Sync, R: Threads + Sync>(
     workers: &Workers<'_, R, W>,
     loaded: &'t [(u64, Vec<u8>)],

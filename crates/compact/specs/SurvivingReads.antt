@@ -63,9 +63,9 @@ pub record KeepsReads (cmp : KeyOrder) (v : State) (tables : List NumberedConten
       ≡ true →
       get_of after (tables_after cmp r.picked answer tables) user at ≡ get_of v tables user at
 
--- What an answer leaves of each lawful version with files at levels up to 6 over which the request's
--- inputs are, whoever chose them. The bytes of the edit read as an edit, and in the version that any
--- such edit makes reads survive.
+-- What an answer leaves of each lawful version with files at levels up to 6 over which the
+-- request's inputs are, whoever chose them. The bytes of the edit read as an edit, and in the
+-- version that any such edit makes reads survive.
 pub record LeavesClosedReads (cmp : KeyOrder) (r : RequestView) (answer : Answer) : Type 0 where
   pub reads : (v : State) (tables : List NumberedContents) →
       IsLawful cmp v tables → All (λ (f : NewFile). f.level ≤ LAST_LEVEL) v.files →

@@ -1,4 +1,5 @@
-//! What no clause says of seats: which one draws what, that two threads draw, and that calls succeed.
+//! What no clause says of seats: which one draws what, that two threads draw, and that calls
+//! succeed.
 
 ghost use Rattle.std.specs.Prelude.{◌≡◌, All, IfSome};
 

@@ -47,8 +47,8 @@ pub fn open<F: Folder>(alloc: Global, folder: &mut F) -> Result<Opened, Fault>
     // CURRENT names the manifest of this number.
     ensures named { IfOk result
         (λ r. F.tells folder.old (codes "CURRENT") (Some (current_text r.manifest))) }
-    // Of any folder, also one that tells nothing: CURRENT was read, then that manifest, and no other
-    // file, and the version is what these bytes say.
+    // Of any folder, also one that tells nothing: CURRENT was read, then that manifest, and no
+    // other file, and the version is what these bytes say.
     ensures read { IfOk result (λ r. IsVersionRead (F.readings folder.old) (F.readings folder.new)
         r.order r.version r.manifest) }
     ensures device { ReportsDevice F.Folder folder.old folder.new result }

@@ -31,8 +31,8 @@ pub(crate) const NEWER_B: &[u8] = b"\
     \xa1\xb0\0\x09\x02b\x01\x02\0\0\0\0\0\0\0\x15\0\0\0\0\x01\0\0\0\0x\xb9Y\xc4\x1a\x08\x27\x16\0\0\
     \0\0\0\0\0\0\0\0\0\0\0\0\0\0\0\0\0\0\0\0\0\0\0\0\0\0\0\0\0\0\0\0\0\0W\xfb\x80\x8b\x24uG\xdb";
 
-/// The known versions with their tables, by level: those of `install_tests`, of a folder of one file
-/// and of one of three levels. Each has a last sequence of 4.
+/// The known versions with their tables, by level: those of `install_tests`, of a folder of one
+/// file and of one of three levels. Each has a last sequence of 4.
 const KNOWN: &[(u64, Tables)] = &[
     (8, &[(6, b"six"), (7, b"seven")]),
     (9, &[(6, b"six")]),

@@ -64,8 +64,8 @@ const MANIFEST: &[u8] = b"\
     \x09a\x01\x01\0\0\0\0\0\0\x09a\x01\x01\0\0\0\0\0\0\x07\x01\x12r\x09b\x01\x02\0\0\0\0\0\0\x09b\
     \x01\x02\0\0\0\0\0\0\x07\x03\x10r\x09b\x01\x01\0\0\0\0\0\0\x09b\x01\x01\0\0\0\0\0\0";
 
-/// A folder of two files at level 1, and one at level 3 that overlaps the second. So level 1 has two
-/// parts of 114 bytes. After their compaction level 2 has one of 114 bytes and one of 228.
+/// A folder of two files at level 1, and one at level 3 that overlaps the second. So level 1 has
+/// two parts of 114 bytes. After their compaction level 2 has one of 114 bytes and one of 228.
 const LEVELS: Files = &[
     ("CURRENT", b"MANIFEST-000015\n"),
     ("MANIFEST-000015", MANIFEST),
@@ -92,8 +92,8 @@ const WHOLE: Row = Row {
     ],
 };
 
-/// Compactions of one level; of all levels, if all parts fit, if the largest one has a byte too many,
-/// and if none fits; two outcomes, which are installed together; and one that is written.
+/// Compactions of one level; of all levels, if all parts fit, if the largest one has a byte too
+/// many, and if none fits; two outcomes, which are installed together; and one that is written.
 pub(crate) const ROWS: &[Row] = &[
     Row {
         name: "a compaction",

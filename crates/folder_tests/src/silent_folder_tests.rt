@@ -151,8 +151,8 @@ fn stays(alloc: Global, row: &Row, run: &mut Run) -> bool {
     row.versions.get(renamed) == Some(&version) && is_told(run)
 }
 
-/// Whether of what a row does just the calls up to a place are made, if the one there fails, and what
-/// was told stays.
+/// Whether of what a row does just the calls up to a place are made, if the one there fails, and
+/// what was told stays.
 fn ends_at<R: Threads + Sync>(
     rt: &R,
     alloc: Global,
@@ -175,8 +175,8 @@ fn ends_at<R: Threads + Sync>(
     )
 }
 
-/// The first call of a row, by its number, for whose failure this does not hold: half done or not at
-/// all.
+/// The first call of a row, by its number, for whose failure this does not hold: half done or not
+/// at all.
 fn wrong_failure<R: Threads + Sync>(
     rt: &R,
     alloc: Global,
@@ -235,8 +235,8 @@ fn crashes_of_each_row(rt: HostRuntime) {
     }
 }
 
-/// Whether the answer is that of what went wrong: Device after a call on another folder that failed,
-/// which was the last one there.
+/// Whether the answer is that of what went wrong: Device after a call on another folder that
+/// failed, which was the last one there.
 fn is_refused(run: &Run, wrong: Wrong) -> bool {
     match wrong {
         Wrong::SourceCall(place, call) => match run.sources.get(place) {

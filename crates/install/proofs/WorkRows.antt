@@ -1,6 +1,6 @@
 -- Moments of steps, one after the other; what the last calls of an installation name.
-use Rattle.std.proofs.Common.{◌≡◌, ◌⊎◌, ℕ, List, [], ◌∷◌, ◌++◌, codes, Option, Some, None, refl, sym, ap, subst, ◌∙◌, inl, inr, append_assoc}
-use Rattle.folder.specs.Calls.{Created, Done, Files, FolderSynced, FolderView, Renamed, Step, Synced, with_moved, with_value}
+use Rattle.std.proofs.Common.{◌≡◌, ◌⊎◌, ℕ, List, [], ◌∷◌, ◌++◌, codes, Some, None, refl, sym, ap, subst, ◌∙◌, inl, inr, append_assoc}
+use Rattle.folder.specs.Calls.{Created, Done, Files, FolderSynced, FolderView, Renamed, Step, Synced}
 use Rattle.folder.specs.Crash.{IsMoment, Leads, LeavesOnly, MayLeave, World}
 use Rattle.folder.specs.Names.{current_text, manifest_name, temporary_name}
 use Rattle.folder.proofs.PutLemmas.{moved_to, put_same}

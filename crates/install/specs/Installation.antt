@@ -30,8 +30,8 @@ naming_link p folder = record {
   to = record { folder = folder; place = place_at p.next };
 }
 
--- An installation is two pieces of work: the tables are written, and then the next version is named.
--- A refusal may come in each of the two.
+-- An installation is two pieces of work: the tables are written, and then the next version is
+-- named. A refusal may come in each of the two.
 abbrev pub IsInstallation : {F : Type 0} → Ghosts F → Place → List (List (ℕ × List ℕ)) → F → F →
     Result (Unit {0}) Fault → Type 0
 IsInstallation {F = F} g p groups old new result =
@@ -45,8 +45,9 @@ abbrev pub ReadsEither : Place → List (ℕ × List ℕ) → Files → Type 0
 ReadsEither p tables files = Reads p.now tables files
     ⊎ Reads p.next (tables_of p.next (p.tables ++ tables)) files
 
--- If the folder stands for the version before, a crash at any moment of an installation leaves it or
--- the next one. At Ok the folder stands for the next one. Without a crash it reads as one of them.
+-- If the folder stands for the version before, a crash at any moment of an installation leaves it
+-- or the next one. At Ok the folder stands for the next one. Without a crash it reads as one of
+-- them.
 abbrev pub InstallationSurvives : {F : Type 0} → Ghosts F → Type 0
 InstallationSurvives {F = F} g = (p : Place) (groups : List (List (ℕ × List ℕ))) (old new : F)
     (result : Result (Unit {0}) Fault) (tables : List (ℕ × List ℕ)) (start : World) →

@@ -22,8 +22,8 @@ pub record Made : Type 0 where
   pub edit : List ℕ
 
 -- Where work on a folder is: the version that CURRENT names; the tables of the outcomes that were
--- written since, and their edits, one after the other; how many these are; and the version that they
--- would make.
+-- written since, and their edits, one after the other; how many these are; and the version that
+-- they would make.
 pub record Place : Type 0 where
   pub now : NamedVersion
   pub tables : List (ℕ × List ℕ)
@@ -84,8 +84,8 @@ pub record IsPieceDone {F : Type 0} (g : Ghosts F) (at : At F) (l : WorkLink F)
   pub runs : MakesCalls (calls_of at.place l.piece) (g.calls at.folder) (g.calls l.to.folder)
       (g.tells at.folder) (g.tells l.to.folder) result
 
--- Pieces of work were done one after the other, and these calls are theirs. At Ok all were done; else
--- the last one perhaps in part.
+-- Pieces of work were done one after the other, and these calls are theirs. At Ok all were done;
+-- else the last one perhaps in part.
 abbrev pub IsWorkOn : {F : Type 0} → Ghosts F → At F → At F → Result (Unit {0}) Fault →
     List (WorkLink F) → Type 0
 IsWorkOn g at new result [] = new ≡ at
@@ -107,7 +107,8 @@ tables_after p tables (l ∷ links) =
     tables_after l.to.place (tables_then p l.piece l.to.place.now tables) links
 
 -- files that read as a version that was named at the beginning or by one of these pieces
-abbrev pub ReadsOneOf : {F : Type 0} → Place → List (ℕ × List ℕ) → List (WorkLink F) → Files → Type 0
+abbrev pub ReadsOneOf : {F : Type 0} → Place → List (ℕ × List ℕ) → List (WorkLink F) → Files →
+    Type 0
 ReadsOneOf p tables [] files = Reads p.now tables files
 ReadsOneOf p tables (l ∷ links) files = Reads p.now tables files
     ⊎ ReadsOneOf l.to.place (tables_then p l.piece l.to.place.now tables) links files
@@ -124,9 +125,9 @@ IsSettledEnd (Err e) [] = Unit {0}
 IsSettledEnd (Err e) (l ∷ []) = NamesNothing l.piece
 IsSettledEnd (Err e) (l ∷ (k ∷ links)) = IsSettledEnd (Err e) (k ∷ links)
 
--- What work leaves of a folder that stands for a version with these tables: a crash at any moment, and
--- no crash, leaves a version that was named. At Ok it stands for the last one, and if tables couldn't
--- be written or files couldn't be removed.
+-- What work leaves of a folder that stands for a version with these tables: a crash at any moment,
+-- and no crash, leaves a version that was named. At Ok it stands for the last one, and if tables
+-- couldn't be written or files couldn't be removed.
 abbrev pub WorkSurvives : {F : Type 0} → Ghosts F → Type 0
 WorkSurvives {F = F} g = (old : F) (new : At F) (v : NamedVersion)
     (tables : List (ℕ × List ℕ))

@@ -1,6 +1,6 @@
 //! The removal of files that a version doesn't need.
 //!
-//! `compact_levels` of `store` calls it after each installation, on the same folder value. Why
+//! `compact_levels` of `levels` has it done after each installation, on the same folder value. Why
 //! that changes nothing for the steps:
 //!
 //! 1. At Ok an installation leaves a folder that stands for the edited version by its manifest: the

@@ -1,7 +1,6 @@
 -- Parts that stand apart, whichever of them were installed.
-use Rattle.std.proofs.Common.{◌≡◌, ◌≢◌, ℕ, zero, suc, ◌<◌, ◌^◌, Bool, true, false, List, [], ◌∷◌, Some, Option, Ok, refl, sym, ap, subst, ◌∙◌, inl, inr, eqb-true, eq-eqb}
-use Rattle.std.specs.Prelude.{Contains, nat_eq, slice_get, unwrap_or}
-use Rattle.std.specs.List.{All}
+use Rattle.std.proofs.Common.{◌≡◌, ◌≢◌, ℕ, zero, suc, true, false, List, [], ◌∷◌, Some, refl, sym, ap, subst, ◌∙◌, eqb-true, eq-eqb}
+use Rattle.std.specs.Prelude.{Contains, nat_eq, slice_get}
 use Rattle.std.specs.Cmp.{IsTotalOrder}
 use Rattle.std.specs.declared.cmp.Ordering.{Ordering}
 use Rattle.std.proofs.lemmas.List.Elements.{All-contains}
@@ -9,23 +8,16 @@ use Rattle.table.specs.ReadBackLaw.{ReadBackLaw}
 use Rattle.edit.proofs.Edits.{one_edit}
 use Rattle.edit.specs.Comparator.{IsExact, ShortKeys}
 use Rattle.edit.specs.Version.{State, applied}
-use Rattle.edit.specs.declared.meta.NewFile.{NewFile}
 use Rattle.pick.specs.PickedInputs.{PickedInputs}
 use Rattle.pick.specs.declared.picked_inputs.InputFile.{InputFile}
 use Rattle.pick.proofs.ApartChoices.{is_there, refuted}
 use Rattle.pick.proofs.Lists.{any_from, any_gives}
 use Rattle.keep.specs.Lawful.{IsLawful}
-use Rattle.keep.specs.Tables.{NumberedContents}
 use Rattle.keep.proofs.Members.{first_in, later_in}
 use Rattle.checks.proofs.LawfulLemmas.{sound_checked, sound_lawful}
-use Rattle.checks.specs.LawfulTables.{IsLawfulTables}
 use Rattle.compact.specs.ClosedInputs.{is_input}
-use Rattle.compact.specs.OneThread.{Answer}
 use Rattle.compact.specs.PassedRequest.{PassedLaw}
-use Rattle.compact.specs.declared.settings.Settings.{Settings}
 use Rattle.install.specs.Install.{next_version_tables}
-use Rattle.store.specs.ClosedLaws.{EditedWithin}
-use Rattle.store.specs.FolderRequest.{compaction_from, manifest_of}
 use Rattle.store.specs.OutputRanges.{IsOldOrOutput}
 use Rattle.store.proofs.PartFiles.{held_in}
 use Rattle.compact.proofs.SafeInputs.{closed_safe}

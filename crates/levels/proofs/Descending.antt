@@ -1,5 +1,5 @@
 -- Compactions of one level after the other, with a removal after each: what they leave.
-use Rattle.std.proofs.Common.{arith, Err, List, Ok, Option, Result, Some, [], ap, inl, inr, map, refl, subst, suc, sym, true, zero, ℕ, ◌++◌, ◌+◌, ◌^◌, ◌∙◌, ◌∷◌, ◌≡◌, ◌≢◌, ◌≤◌}
+use Rattle.std.proofs.Common.{arith, Err, List, Ok, Option, Result, Some, [], ap, inl, inr, refl, subst, suc, sym, true, zero, ℕ, ◌+◌, ◌^◌, ◌∙◌, ◌∷◌, ◌≡◌, ◌≢◌, ◌≤◌}
 use Rattle.std.specs.Option.{IfSome}
 use Rattle.std.specs.Prelude.{IfErr, OnOk, codes, ◌⊎◌}
 use Rattle.std.specs.declared.cmp.Ordering.{Ordering}
@@ -9,7 +9,7 @@ use Rattle.edit.specs.Answers.{UnlessMemory, fault}
 use Rattle.edit.specs.Version.{State}
 use Rattle.edit.specs.fault.Fault.{Fault}
 use Rattle.edit.specs.fault.FaultName.TheVariants.{Device, Memory, Numbers}
-use Rattle.folder.specs.Calls.{Done, Files, Step, Tells}
+use Rattle.folder.specs.Calls.{Files, Step, Tells}
 use Rattle.folder.specs.Folder.{TellsSame}
 use Rattle.folder.specs.Names.{current_text}
 use Rattle.folder.specs.OpenAnswer.{IsStopped}

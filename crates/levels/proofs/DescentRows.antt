@@ -1,23 +1,17 @@
 -- Compactions of one level after the other, with a removal after each: which calls they make, of any
 -- folder.
-use Rattle.std.proofs.Common.{append_assoc, map, Bool, Err, IsErrAnd, List, None, Ok, Option, Result, Some, [], ap, false, inl, inr, is_some, refl, subst, sym, true, ℕ, ◌++◌, ◌∙◌, ◌∷◌, ◌≡◌}
-use Rattle.std.proofs.lemmas.List.{map-append}
+use Rattle.std.proofs.Common.{Bool, Err, IsErrAnd, List, None, Ok, Option, Result, Some, [], ap, false, inl, inr, is_some, refl, subst, sym, true, ℕ, ◌∙◌, ◌∷◌, ◌≡◌}
 use Rattle.std.specs.Option.{IfSome}
 use Rattle.std.specs.Prelude.{IfOk}
 use Rattle.edit.specs.Answers.{fault, ◌>>=◌}
-use Rattle.edit.specs.Edit.{edit_bytes}
 use Rattle.edit.specs.Version.{State, applied_by}
 use Rattle.edit.specs.fault.Fault.{Fault}
 use Rattle.edit.specs.fault.FaultName.TheVariants.{Memory}
-use Rattle.folder.specs.Calls.{Call, Done, Step}
 use Rattle.folder.specs.Folder.{TellsSame}
 use Rattle.folder.specs.Manifest.{order_name}
-use Rattle.folder.specs.Orders.{order_cmp}
 use Rattle.folder.specs.declared.folder.Folder.{Ghosts}
 use Rattle.folder.specs.declared.order.Order.{Order}
 use Rattle.install.specs.FolderChange.{FolderChange, change_of}
-use Rattle.install.specs.Install.{current_calls, manifest_bytes, manifest_calls, table_calls}
-use Rattle.compact.specs.declared.settings.Settings.{Settings}
 use Rattle.store.specs.Cleaning.{CleanTeller, IsCleaned, IsListRemoved, NamedVersion, named_version}
 use Rattle.store.specs.Descent.{IsNextLevel}
 use Rattle.store.specs.FolderRequest.{manifest_of}
@@ -29,10 +23,8 @@ use Rattle.store.specs.declared.synced_version.SyncedVersion.{SyncedVersion}
 use Rattle.levels.specs.DescentRuns.{DescentLink, IsDescentRun, IsGoing, IsLinkCleaned, IsLinkInstalled, IsStopTold}
 use Rattle.levels.specs.LevelMade.{At, IsLevelMade, IsLevelMadeBy, IsMadeTold, Way, at_by, way_by}
 use Rattle.levels.specs.LevelTaken.{IsLevelBegun}
-use Rattle.levels.specs.WholeRuns.{groups_in}
 use Rattle.levels.specs.declared.descent_end.DescentEnd.{DescentEnd}
 use Rattle.levels.specs.declared.descent_end.DescentEnd.TheVariants.{AtBottom, Stopped}
-use Rattle.levels.specs.declared.selection.Selection.{Selection}
 
 abbrev Told : Type 1
 Told = List ℕ → Option (List ℕ) → Type 0

@@ -1,24 +1,22 @@
 -- What a crash leaves of compactions of levels, one after the other.
-use Rattle.std.proofs.Common.{◌≡◌, ◌⊎◌, ℕ, List, [], ◌∷◌, Bool, Some, None, Option, Result, Ok, Err, IfOk, OnOk, refl, sym, ap, subst, ◌∙◌, inl, inr}
-use Rattle.edit.proofs.Edits.{not_both, one_edit}
+use Rattle.std.proofs.Common.{◌≡◌, ◌⊎◌, ℕ, List, [], ◌∷◌, Bool, Some, None, Option, Result, Ok, Err, OnOk, refl, sym, ap, subst, ◌∙◌, inl, inr}
+use Rattle.edit.proofs.Edits.{one_edit}
 use Rattle.edit.specs.Answers.{◌>>=◌}
 use Rattle.edit.specs.fault.Fault.{Fault}
-use Rattle.edit.specs.fault.FaultName.TheVariants.{Numbers}
-use Rattle.edit.specs.Answers.{fault}
 use Rattle.edit.specs.Version.{State, applied_by}
 use Rattle.folder.proofs.Binds.{ok_is}
-use Rattle.folder.specs.Calls.{Files, Step}
+use Rattle.folder.specs.Calls.{Step}
 use Rattle.folder.specs.Crash.{LeavesOnly, World}
 use Rattle.folder.specs.Manifest.{order_name}
 use Rattle.folder.specs.declared.folder.Folder.{Ghosts}
 use Rattle.folder.specs.declared.order.Order.{Order}
-use Rattle.install.specs.ReadsOf.{NamedVersion, Reads, Stands}
+use Rattle.install.specs.ReadsOf.{NamedVersion}
 use Rattle.folder.specs.CallSequence.{MakesCalls}
 use Rattle.folder.specs.Orders.{order_cmp}
 use Rattle.install.specs.FolderChange.{change_of}
 use Rattle.install.specs.ObsoleteFile.{AreObsolete, IsObsoleteFile}
 use Rattle.install.specs.Removal.{removal_calls}
-use Rattle.install.specs.Work.{At as WorkAt, Cleared, IsSettledEnd, WorkLink, WorkSurvives, begun, place_at}
+use Rattle.install.specs.Work.{Cleared, IsSettledEnd, WorkLink, WorkSurvives, place_at}
 use Rattle.install.proofs.WorkRows.{leaves_then}
 use Rattle.store.specs.Cleaning.{CleanTeller, IsCleaned, IsListRemoved, named_version}
 use Rattle.store.specs.FolderRequest.{manifest_of}
@@ -28,8 +26,7 @@ use Rattle.levels.specs.DescentRuns.{AreLinksMade, DescentLink, IsLinkInstalled,
 use Rattle.levels.specs.LevelMade.{At, IsMadeTold, way_by}
 use Rattle.levels.specs.declared.selection.Selection.{Selection}
 use Rattle.compact.specs.declared.settings.Settings.{Settings}
-use Rattle.store.specs.Step.{StepView}
-use Rattle.levels.specs.Survival.{AreSurvived, DescentsSurvive, HeldVersion, IsLinkSurvived, IsNextBy, IsNumbered, LeavesEither, LevelsSurvive, ReadsHeld, StandsHeld}
+use Rattle.levels.specs.Survival.{AreSurvived, DescentsSurvive, HeldVersion, IsNumbered, LeavesEither, LevelsSurvive, ReadsHeld, StandsHeld}
 use Rattle.levels.specs.declared.descent_end.DescentEnd.{DescentEnd}
 use Rattle.levels.proofs.StepSurvives.{either, kept}
 use Rattle.levels.proofs.WholeWork.{done_of, done_runs}

@@ -1,7 +1,7 @@
 -- The edits of parts' answers, by their requests alone: no matter what the inputs' tables hold.
 use Rattle.std.proofs.Common.{◌≡◌, ◌≢◌, ℕ, zero, suc, ◌+◌, ◌-◌, ◌<◌, ◌≤◌, ◌^◌, nat_eq, Bool, true, false, not, List, [], ◌∷◌, ◌++◌, length, map, Some, None, Option, Result, Ok, Err, is_some, refl, sym, ap, subst, ◌∙◌, inl, inr, arith, eqb-true, eq-eqb, if◌then◌else◌, ◌&&◌}
 use Rattle.std.specs.Prelude.{Contains, nat_le, nat_lt, unwrap_or}
-use Rattle.std.specs.List.{All, AllByRecursion, flat_map, list_all, list_any}
+use Rattle.std.specs.List.{AllByRecursion, flat_map, list_all}
 use Rattle.std.specs.List.Sorted.{IsStrictlySortedBy}
 use Rattle.std.specs.Option.{option_or}
 use Rattle.std.specs.Cmp.{IsTotalOrder}
@@ -43,7 +43,7 @@ use Rattle.reads.specs.MergedLists.{entries_of_lists, merged}
 use Rattle.reads.proofs.FallingEntries.{each_of}
 use Rattle.keep.proofs.Members.{first_in, first_or_later, from_map, in_flat_map, in_map, later_in, none_in}
 use Rattle.keep.specs.DropRule.{kept}
-use Rattle.keep.specs.Marks.{CompactionContext, heads}
+use Rattle.keep.specs.Marks.{heads}
 use Rattle.keep.specs.Runs.{are_distinct}
 use Rattle.cut.specs.Outputs.{outputs}
 use Rattle.cut.specs.Stops.{stops}

@@ -22,7 +22,7 @@ use Rattle.keep.specs.Tables.{NumberedContents}
 use Rattle.reads.proofs.Levels.{at_level, from_level}
 use Rattle.keep.proofs.Members.{from_map}
 use Rattle.compact.specs.ClosedInputs.{is_input}
-use Rattle.compact.specs.InputsOver.{AreInputsOver, as_file, input_numbers}
+use Rattle.compact.specs.InputsOver.{as_file, input_numbers}
 use Rattle.compact.proofs.ChosenNumbers.{chosen_is}
 use Rattle.compact.proofs.FileKeys.{range_rises, user_upto}
 use Rattle.store.specs.FolderRequest.{manifest_of}

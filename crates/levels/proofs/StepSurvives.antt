@@ -13,18 +13,17 @@ use Rattle.table.specs.TableBytes.{AreBytes}
 use Rattle.edit.proofs.Edits.{one_edit}
 use Rattle.edit.specs.Answers.{fault, ◌>>=◌}
 use Rattle.edit.specs.fault.Fault.{Fault}
-use Rattle.edit.specs.fault.FaultName.TheVariants.{Comparator, Numbers, SplitCount, Apply}
+use Rattle.edit.specs.fault.FaultName.TheVariants.{Numbers, SplitCount}
 use Rattle.edit.specs.Comparator.{ShortKeys}
-use Rattle.edit.specs.Edit.{Edit, IsEdit, edit_bytes}
-use Rattle.edit.specs.Version.{State, applied, applied_by, names_another}
+use Rattle.edit.specs.Edit.{IsEdit, edit_bytes}
+use Rattle.edit.specs.Version.{State, applied_by, names_another}
 use Rattle.edit.specs.VersionOrder.{level_files}
 use Rattle.edit.specs.declared.meta.FileMeta.{FileMeta}
-use Rattle.edit.specs.declared.meta.NewFile.{NewFile}
 use Rattle.pick.specs.PickedInputs.{IsPicked, PickedInputs, input_at}
 use Rattle.pick.specs.declared.picked_inputs.InputFile.{InputFile}
 use Rattle.reads.proofs.Levels.{from_level}
 use Rattle.keep.proofs.Members.{from_filter, from_map}
-use Rattle.folder.proofs.Binds.{bind_ok, ok_is}
+use Rattle.folder.proofs.Binds.{bind_ok}
 use Rattle.folder.specs.Calls.{Step, ToldFiles}
 use Rattle.folder.specs.CallSequence.{AreMadeBy, MakesCalls}
 use Rattle.folder.specs.Crash.{LeavesOnly, World}
@@ -32,18 +31,17 @@ use Rattle.folder.specs.Manifest.{order_name}
 use Rattle.folder.specs.Orders.{order_cmp, order_short_keys}
 use Rattle.folder.specs.declared.folder.Folder.{Ghosts}
 use Rattle.folder.specs.declared.order.Order.{Order}
-use Rattle.install.specs.FolderChange.{FolderChange, change_of}
+use Rattle.install.specs.FolderChange.{change_of}
 use Rattle.install.specs.Install.{IsEditedBy, table_calls}
 use Rattle.install.specs.Installation.{InstallationSurvives, IsInstallation, place_with}
 use Rattle.install.specs.Naming.{tables_of as named_tables}
-use Rattle.install.specs.ReadsOf.{NamedVersion, Reads, Stands}
+use Rattle.install.specs.ReadsOf.{NamedVersion}
 use Rattle.install.specs.Work.{WorkSurvives, begun}
 use Rattle.compact.specs.InputsOver.{as_file}
 use Rattle.compact.specs.OneThread.{Answer, compaction_result}
 use Rattle.reads.specs.TestResult.{test_result}
 use Rattle.compact.specs.Request.{RequestView}
 use Rattle.compact.specs.declared.settings.Settings.{Settings}
-use Rattle.store.specs.Compaction.{IsUnchanged}
 use Rattle.store.specs.CompactionWork.{CompactionsSurvive}
 use Rattle.store.specs.FolderRequest.{compaction_from, first_output, manifest_of, request_from}
 use Rattle.store.specs.OpenedAfter.{IsOpenedAfter}
@@ -58,10 +56,10 @@ use Rattle.levels.specs.WholeAnswer.{AreSelected, edits_of, tables_of, whole_ste
 use Rattle.levels.specs.WholeRuns.{GroupedAnswer, IsWholeWritten, answers_in, groups_in}
 use Rattle.levels.specs.declared.selection.Selection.{Selection}
 use Rattle.levels.proofs.NextNumbered.{next_numbered}
-use Rattle.levels.proofs.PartEdits.{HasOutputs, IsEditOver, has_outputs, next_there, own_edit}
+use Rattle.levels.proofs.PartEdits.{IsEditOver, has_outputs, next_there, own_edit}
 use Rattle.levels.proofs.SelectedParts.{among, selected_placed}
 use Rattle.levels.proofs.PartStep.{thread_at}
-use Rattle.levels.proofs.WholeWork.{AreOver, after, are_over, done_of, edited_by, installed, next, order_total, stopped}
+use Rattle.levels.proofs.WholeWork.{AreOver, after, are_over, done_of, edited_by, installed, order_total, stopped}
 
 -- ---- picked inputs are files of the version
 

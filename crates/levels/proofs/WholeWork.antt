@@ -1,7 +1,7 @@
 -- The compaction of a whole level as an installation of all its answers.
-use Rattle.std.proofs.Common.{◌≡◌, ◌≢◌, ◌⊎◌, ℕ, ◌+◌, ◌<◌, ◌≤◌, not, false, true, List, [], ◌∷◌, ◌++◌, length, map, Some, Option, Result, Ok, Err, OnOk, refl, sym, ap, subst, ◌∙◌, inl, inr, arith}
+use Rattle.std.proofs.Common.{◌≡◌, ◌≢◌, ℕ, ◌+◌, ◌<◌, ◌≤◌, not, false, true, List, [], ◌∷◌, ◌++◌, length, map, Some, Option, Result, Ok, Err, OnOk, refl, sym, ap, subst, ◌∙◌, inl, inr, arith}
 use Rattle.std.specs.Prelude.{Contains, fold}
-use Rattle.std.specs.List.{All, flat_map, list_all, list_any}
+use Rattle.std.specs.List.{list_any}
 use Rattle.std.specs.Option.{option_or}
 use Rattle.std.specs.Cmp.{IsTotalOrder}
 use Rattle.std.specs.declared.cmp.Ordering.{Ordering}
@@ -10,9 +10,8 @@ use Rattle.std.proofs.lemmas.Grind.{flat_map-append}
 use Rattle.std.proofs.lemmas.List.{append-nil}
 use Rattle.std.proofs.lemmas.List.Elements.{All-contains}
 use Rattle.edit.proofs.Applied.{after_is}
-use Rattle.edit.proofs.Edits.{one_edit}
 use Rattle.edit.specs.Comparator.{ShortKeys}
-use Rattle.edit.specs.Edit.{Edit, IsEdit, edit_bytes}
+use Rattle.edit.specs.Edit.{IsEdit}
 use Rattle.edit.specs.Version.{State, applied, are_apart, are_new, files_after, has_number, has_place, is_deleted, undeleted_files, with_file, with_pointer}
 use Rattle.edit.specs.declared.meta.NewFile.{NewFile}
 use Rattle.edit.specs.fault.Fault.{Fault}
@@ -21,33 +20,29 @@ use Rattle.pick.proofs.Lists.{and_both}
 use Rattle.reads.specs.Lawful.{IsBelowNextFile}
 use Rattle.folder.specs.Calls.{Call, Done, Step}
 use Rattle.folder.specs.CallSequence.{MakesCalls}
-use Rattle.folder.specs.Levels.{file_numbers}
-use Rattle.folder.specs.Orders.{order_cmp, order_short_keys}
+use Rattle.folder.specs.Orders.{order_cmp}
 use Rattle.folder.specs.ReadsAs.{IsOneOf}
 use Rattle.folder.specs.declared.folder.Folder.{Ghosts}
 use Rattle.folder.specs.declared.order.Order.{Order}
 use Rattle.folder.specs.declared.order.Order.TheVariants.{Bytewise, Shortlex}
 use Rattle.install.specs.GroupedInstallation.{tables_of_groups}
-use Rattle.install.specs.Install.{IsEditedBy, numbers_of, table_calls}
+use Rattle.install.specs.Install.{IsEditedBy, table_calls}
 use Rattle.install.specs.Installation.{IsInstallation, place_with, tables_link}
 use Rattle.install.specs.Naming.{naming_calls}
 use Rattle.install.specs.ReadsOf.{NamedVersion}
 use Rattle.install.specs.Work.{IsPieceDone, Place, begun}
 use Rattle.install.proofs.Numbers.{in_files}
 use Rattle.keep.proofs.Members.{first_in, from_filter, later_in}
-use Rattle.compact.specs.OneThread.{Answer}
 use Rattle.compact.specs.declared.settings.Settings.{Settings}
 use Rattle.compact.proofs.AppliedEdit.{all_tests, none_tests}
 use Rattle.store.specs.FolderRequest.{manifest_of}
-use Rattle.store.specs.declared.compaction_step.CompactionStep.{CompactionStep}
-use Rattle.store.proofs.PartFiles.{ArePlaced, part_by, part_placed}
+use Rattle.store.proofs.PartFiles.{ArePlaced}
 use Rattle.store.proofs.TablesAfter.{HasNumber, number_of}
 use Rattle.levels.specs.PartsEnd.{last_after}
 use Rattle.levels.specs.WholeAnswer.{edits_of, next_last, tables_of}
-use Rattle.levels.specs.WholeRuns.{ArePartLinks, GroupedAnswer, IsWholeWritten, answers_in, groups_in}
+use Rattle.levels.specs.WholeRuns.{ArePartLinks, GroupedAnswer, answers_in, groups_in}
 use Rattle.levels.specs.Survival.{IsNumbered}
 use Rattle.levels.proofs.PartEdits.{IsEditOver, apart_of, at_least, below_manifest, edits_two, next_there, no_number, own_edit}
-use Rattle.levels.proofs.PartsBase.{level_parts}
 
 -- ---- the edits of all answers as one
 

@@ -1,6 +1,7 @@
 -- Parts of a level that are compacted and installed one after the other, in any order.
 use Rattle.std.specs.List.{All}
-use Rattle.std.specs.Prelude.{Contains, List, Ok, Some, false, slice_get, unwrap_or, ℕ, ◌<◌, ◌^◌, ◌≡◌, ◌≢◌, ◌≤◌}
+use Rattle.std.specs.Prelude.{Contains, List, Ok, Some, false, slice_get, unwrap_or}
+use Rattle.std.specs.Prelude.{ℕ, ◌<◌, ◌^◌, ◌≡◌, ◌≢◌, ◌≤◌}
 use Rattle.edit.specs.Comparator.{KeyOrder, ShortKeys}
 use Rattle.edit.specs.Key.{IsInternalKey}
 use Rattle.edit.specs.Version.{State}
@@ -20,8 +21,8 @@ use Rattle.compact.specs.declared.settings.Settings.{Settings}
 use Rattle.store.specs.ClosedLaws.{EditedWithin}
 use Rattle.store.specs.FolderRequest.{compaction_from, manifest_of}
 
--- Inputs of a level that stand apart: they are closed over the version, and share no user key with a
--- file of the level, or of the next one, that stays.
+-- Inputs of a level that stand apart: they are closed over the version, and share no user key with
+-- a file of the level, or of the next one, that stays.
 pub record StandApart (cmp : KeyOrder) (v : State) (level : ℕ) (p : PickedInputs) : Type 0 where
   pub own : p.level ≡ level
   pub over : AreInputsOver cmp v p

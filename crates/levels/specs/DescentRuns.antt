@@ -19,8 +19,8 @@ use Rattle.levels.specs.LevelMade.{At, IsLevelMade, IsLevelMadeBy, Way, at_by}
 use Rattle.levels.specs.declared.descent_end.DescentEnd.{DescentEnd}
 use Rattle.levels.specs.declared.descent_end.DescentEnd.TheVariants.{AtBottom, Stopped}
 
--- A compaction in a row of them, and the removal after it: its level, its step, and the version that
--- it leaves; the folder, and who is told, as they are after each of the two.
+-- A compaction in a row of them, and the removal after it: its level, its step, and the version
+-- that it leaves; the folder, and who is told, as they are after each of the two.
 pub record DescentLink (F W : Type 0) : Type 0 where
   pub level : ℕ
   pub step : CompactionStep

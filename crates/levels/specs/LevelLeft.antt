@@ -26,8 +26,8 @@ use Rattle.levels.specs.WholeAnswer.{tables_of, whole_step}
 use Rattle.levels.specs.declared.selection.Selection.{Selection}
 use Rattle.levels.specs.declared.selection.Selection.TheVariants.{Whole}
 
--- these outputs and this step are those of one thread's answer for the inputs that the rules pick of
--- a level of a version with the bytes of its tables
+-- these outputs and this step are those of one thread's answer for the inputs that the rules pick
+-- of a level of a version with the bytes of its tables
 abbrev pub IsPickedAnswered : OrderView → LoadedVersion → ℕ → Settings → List (ℕ × List ℕ) →
     StepView → Type 0
 IsPickedAnswered by v level s outputs step = (p : PickedInputs) × (a : Answer)

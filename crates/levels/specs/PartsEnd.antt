@@ -158,8 +158,8 @@ pub record AreWrittenBefore {F : Type 0} (g : Ghosts F) (first : F) (cmp : KeyOr
   pub whole : IsWhole v (answers_in links) w
   pub device : ReportsDevice {X = Unit {0}} g first at (Ok tt)
 
--- If the parts before a range were written, so were then those of it, up to a call that failed or to
--- a refusal.
+-- If the parts before a range were written, so were then those of it, up to a call that failed or
+-- to a refusal.
 abbrev pub IsRangeWritten : {F X : Type 0} → Ghosts F → KeyOrder → ShortKeys → State → Settings →
     List PickedInputs → ℕ → ℕ → WrittenParts → WrittenParts → F → F → Result X Fault → Type 0
 IsRangeWritten {F = F} g cmp short_keys v s parts from to before after old new result =
@@ -196,8 +196,9 @@ pub record IsEndInstalled {F : Type 0} (g : Ghosts F) (name : List ℕ) (cmp : K
   pub again : IsEdit (edit_bytes edit) edit
   pub installs : IsGroupedInstallation g (asked_of name cmp v opened (manifest_of v)
       (groups_in written.links) (edit_bytes edit)) old new result
-  pub runs : MakesCalls (manifest_calls (manifest_of v) (manifest_bytes name cmp v (edit_bytes edit))
-      ++ current_calls (manifest_of v)) (g.calls at) (g.calls new) (g.tells at) (g.tells new) result
+  pub runs : MakesCalls (manifest_calls (manifest_of v)
+      (manifest_bytes name cmp v (edit_bytes edit)) ++ current_calls (manifest_of v))
+      (g.calls at) (g.calls new) (g.tells at) (g.tells new) result
   pub step : IfOk result (λ step. step_in step ≡ whole_step v (answers_in written.links) edit)
 
 abbrev pub IsPartsEnd : {F : Type 0} → Ghosts F → List ℕ → KeyOrder → ShortKeys → State → ℕ →

@@ -1,6 +1,7 @@
 -- What a crash leaves of compactions of levels, of a folder that tells what it holds or not.
 use Rattle.std.specs.List.{All}
-use Rattle.std.specs.Prelude.{IfOk, List, Ok, OnOk, Result, [], unwrap_or, ℕ, ◌<◌, ◌^◌, ◌∷◌, ◌≡◌, ◌⊎◌}
+use Rattle.std.specs.Prelude.{IfOk, List, Ok, OnOk, Result, [], unwrap_or}
+use Rattle.std.specs.Prelude.{ℕ, ◌<◌, ◌^◌, ◌∷◌, ◌≡◌, ◌⊎◌}
 use Rattle.edit.specs.Version.{IsState, State}
 use Rattle.edit.specs.declared.meta.NewFile.{NewFile}
 use Rattle.edit.specs.fault.Fault.{Fault}
@@ -19,8 +20,8 @@ use Rattle.levels.specs.LevelMade.{At, IsLevelMadeBy, Way}
 use Rattle.levels.specs.declared.descent_end.DescentEnd.{DescentEnd}
 use Rattle.levels.specs.declared.selection.Selection.{Selection}
 
--- What a compaction asks of a version, so that its edit makes another one: each number is below next
--- file. The rest holds of each version that was opened.
+-- What a compaction asks of a version, so that its edit makes another one: each number is below
+-- next file. The rest holds of each version that was opened.
 pub record IsNumbered (v : State) : Type 0 where
   pub state : IsState v.pointers v.files
   pub below : All (λ (f : NewFile). IsBelowNextFile v.next_file f.meta.number) v.files
@@ -61,18 +62,20 @@ LevelsSurvive {F = F} g = (selection : Selection) (level : ℕ) (s : Settings) (
     × LeavesEither v next start (g.calls old) (g.calls new)
     × OnOk result (StandsHeld next start (g.calls new)) × IfOk result (IsNextBy v.named next.named)
 
--- A compaction in a row of them that was told, and the removal after it: before it was told, a crash
--- leaves the version before or the next one; from then on the next one, for which the folder stands.
+-- A compaction in a row of them that was told, and the removal after it: before it was told, a
+-- crash leaves the version before or the next one; from then on the next one, for which the folder
+-- stands.
 pub record IsLinkSurvived {F W : Type 0} (g : Ghosts F) (v next : HeldVersion) (start : World)
     (at : At F W) (l : DescentLink F W) : Type 0 where
   pub is_next : next.named ≡ named_version v.named.order l.next (manifest_of v.named.version)
   pub leaves : LeavesEither v next start (g.calls at.folder) (g.calls l.installed.folder)
   pub installed : StandsHeld next start (g.calls l.installed.folder)
-  pub stays : LeavesOnly start (g.calls l.installed.folder) (g.calls l.after.folder) (ReadsHeld next)
+  pub stays : LeavesOnly start (g.calls l.installed.folder) (g.calls l.after.folder)
+      (ReadsHeld next)
   pub stands : StandsHeld next start (g.calls l.after.folder)
 
--- Compactions in a row, and what was done after them: a crash leaves the version that they leave, or
--- a next one. If anything was told of that, the folder stands for the next one.
+-- Compactions in a row, and what was done after them: a crash leaves the version that they leave,
+-- or a next one. If anything was told of that, the folder stands for the next one.
 abbrev pub AreSurvived : {F W : Type 0} → Ghosts F → HeldVersion → World → At F W → At F W →
     List (DescentLink F W) → Type 0
 AreSurvived g v start at end [] = (next : HeldVersion)

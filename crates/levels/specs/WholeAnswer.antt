@@ -82,8 +82,8 @@ abbrev pub fits : ℕ → PickedInputs → Bool
 fits memory p = nat_le (length p.files) MAX_INPUTS
     && nat_le (sum_by (λ (i : InputFile). i.meta.size) p.files) memory
 
--- the parts of a level that fit, perhaps none, or the first refusal: that of the version's files, or
--- of the parts
+-- the parts of a level that fit, perhaps none, or the first refusal: that of the version's files,
+-- or of the parts
 abbrev pub ArePartsFitting : ℕ → KeyOrder → State → ℕ → Choosing
 ArePartsFitting memory cmp v level = IsThen (ArePartsFound cmp v level)
     (λ parts answer. answer ≡ Ok (filter (fits memory) parts))

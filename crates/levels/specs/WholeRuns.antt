@@ -1,5 +1,5 @@
--- Which calls the compaction of chosen parts of a level makes on a folder, be it one that tells what
--- it holds or not.
+-- Which calls the compaction of chosen parts of a level makes on a folder, be it one that tells
+-- what it holds or not.
 use Rattle.std.specs.Prelude.{IfErr, IfOk, List, Ok, OnOk, Result, Some, [], flat_map, length, map}
 use Rattle.std.specs.Prelude.{ℕ, ◌++◌, ◌+◌, ◌∷◌, ◌≡◌, ◌⊎◌}
 use Rattle.table.specs.TableBytes.{AreBytes}
@@ -85,8 +85,9 @@ pub record AreWholeInstalled {F : Type 0} (g : Ghosts F) (name : List ℕ) (cmp 
   pub at : F
   pub written : MakesCalls {T = Unit {0}} {E = Fault} (table_calls (groups_in links)) (g.calls old)
       (g.calls at) (g.tells old) (g.tells at) (Ok tt)
-  pub runs : MakesCalls (manifest_calls (manifest_of v) (manifest_bytes name cmp v (edit_bytes edit))
-      ++ current_calls (manifest_of v)) (g.calls at) (g.calls new) (g.tells at) (g.tells new) result
+  pub runs : MakesCalls (manifest_calls (manifest_of v)
+      (manifest_bytes name cmp v (edit_bytes edit)) ++ current_calls (manifest_of v))
+      (g.calls at) (g.calls new) (g.tells at) (g.tells new) result
   pub changed : IfErr result (λ e. e ≡ fault Changed → g.calls new ≡ g.calls old ++ map Done
       (calls_before_rename (manifest_of v) (groups_in links)
       (manifest_bytes name cmp v (edit_bytes edit))))

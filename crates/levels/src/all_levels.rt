@@ -78,9 +78,9 @@ pub fn compact_levels<
         (call_of F.Folder folder.old folder.new) told.old told.new result }
     // Of any folder, also one that tells nothing: the calls are those of such compactions and
     // removals, in turn, each of the version and in the folder that the one before it leaves, up to
-    // one that fails. The tables of each are what reads may give after the calls before it, removals
-    // too. Each step is told after all its calls, and each file; the next compaction is begun only
-    // if that is said after both.
+    // one that fails. The tables of each are what reads may give after the calls before it,
+    // removals too. Each step is told after all its calls, and each file; the next compaction is
+    // begun only if that is said after both.
     ensures runs { IsAllLevelsRun F.Folder
         (teller_by T.InstallWatch.tells T.lists T.RemovalWatch.tells T.ends)
         (way_by descent.now.selection opened.order descent.now.settings) opened.version

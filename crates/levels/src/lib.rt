@@ -21,7 +21,8 @@
 //! for. It tells a `CleanWatch` of each compaction that was installed; then it asks it for names,
 //! and removes the files of these that the version doesn't need.
 //!
-//! Laws: [`levels_survive`], [`descents_survive`], [`edits_join`], [`joined_applies`].
+//! Laws: [`levels_survive`], [`descents_survive`], [`parts_stay`], [`edits_join`],
+//! [`joined_applies`].
 #![tactic(auto)]
 
 mod all_levels;

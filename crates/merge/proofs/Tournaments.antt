@@ -137,11 +137,11 @@ lowest_bit node =
     ]
 
 -- the places of the two below a node are places
-pub left_within : (number : ℕ) (winners : List ℕ) (node : ℕ) → IsBracket number winners → node < number → get_or winners (2 * node) 0 < number
-left_within number winners node bracket inner = bracket.within (2 * node) (let size = bracket.size in omega (arith, size, inner))
+pub left_in : (number : ℕ) (winners : List ℕ) (node : ℕ) → IsBracket number winners → node < number → get_or winners (2 * node) 0 < number
+left_in number winners node bracket inner = bracket.within (2 * node) (let size = bracket.size in omega (arith, size, inner))
 
-pub right_within : (number : ℕ) (winners : List ℕ) (node : ℕ) → IsBracket number winners → node < number → get_or winners (2 * node + 1) 0 < number
-right_within number winners node bracket inner = bracket.within (2 * node + 1) (let size = bracket.size in omega (arith, size, inner))
+pub right_in : (number : ℕ) (winners : List ℕ) (node : ℕ) → IsBracket number winners → node < number → get_or winners (2 * node + 1) 0 < number
+right_in number winners node bracket inner = bracket.within (2 * node + 1) (let size = bracket.size in omega (arith, size, inner))
 
 -- ---- a match is played
 

@@ -73,7 +73,7 @@ fn winner<'c, C: Comparator, S: Cursor<'c, C>>(cursors: &[S], one: usize, other:
 }
 
 /// Plays the match at a node: the winner of the winners of the two nodes below it.
-#[tactic(auto, using(crate::proofs::Tournaments::left_within, crate::proofs::Tournaments::right_within))]
+#[tactic(auto, using(crate::proofs::Tournaments::left_in, crate::proofs::Tournaments::right_in))]
 fn play<'c, C: Comparator, S: Cursor<'c, C>>(cursors: &[S], winners: &mut [usize], node: usize)
     requires some { 0 < node }
     requires within { node < length cursors.now }

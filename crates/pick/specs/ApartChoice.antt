@@ -1,5 +1,5 @@
--- Choices that stand apart: they share no user key with a file that stays, at the compaction's level
--- or at the next one.
+-- Choices that stand apart: they share no user key with a file that stays, at the compaction's
+-- level or at the next one.
 use Rattle.std.specs.Prelude.{◌≡◌, ◌⊎◌, ℕ, ◌+◌, Bool, true, false, List, ◌++◌, filter}
 use Rattle.std.specs.Prelude.{Contains}
 use Rattle.std.specs.List.{AllByRecursion}
@@ -60,9 +60,9 @@ ApartIsClosed cmp = (v : State) (level : ℕ) (chosen : FileMeta → Bool) → H
     IsClosedChoice cmp v level chosen
 
 -- The law that a choice that stands apart still does after another such choice was compacted, with
--- which it shares no file. Each file of both levels was there then, or lies within the range of what
--- was compacted. So of choices that stand apart and share no file each stays closed, in whatever
--- order the others are compacted.
+-- which it shares no file. Each file of both levels was there then, or lies within the range of
+-- what was compacted. So of choices that stand apart and share no file each stays closed, in
+-- whatever order the others are compacted.
 abbrev pub StaysApart : KeyOrder → Type 0
 StaysApart cmp = (v after : State) (level : ℕ) (staying compacted : FileMeta → Bool) →
     HaveRanges cmp v level → IsApartChoice cmp v level staying →

@@ -53,8 +53,8 @@ is_needed_below cmp upper lower f = overlaps cmp upper f
     || list_any (λ (g : FileMeta). goes_on cmp (Some g.largest) f) lower
     || lies_among cmp (upper ++ lower) f
 
--- Which files of a version are chosen is a test of them. A choice for a level is closed if each file
--- of the level, and of the next one, that has to go with the chosen ones is chosen itself.
+-- Which files of a version are chosen is a test of them. A choice for a level is closed if each
+-- file of the level, and of the next one, that has to go with the chosen ones is chosen itself.
 pub record IsClosedChoice (cmp : KeyOrder) (v : State) (level : ℕ) (chosen : FileMeta → Bool)
     : Type 0 where
   pub above : AllByRecursion
@@ -81,8 +81,8 @@ missing_among cmp level files next chosen =
     && is_needed_below cmp (filter chosen files) (filter chosen next) f)
     next))
 
--- the first file that a choice for a level misses: in version order one of the level, or else one of
--- the next
+-- the first file that a choice for a level misses: in version order one of the level, or else one
+-- of the next
 abbrev pub first_missing : KeyOrder → State → ℕ → (FileMeta → Bool) → Option InputFile
 first_missing cmp v level chosen =
     missing_among cmp level (level_files cmp v level) (level_files cmp v (level + 1)) chosen
@@ -96,8 +96,8 @@ abbrev pub IsToldClosed : KeyOrder → State → ℕ → (FileMeta → Bool) →
 IsToldClosed cmp v level chosen missing = (missing ≡ None → IsClosedChoice cmp v level chosen)
     × (IsClosedChoice cmp v level chosen → missing ≡ None)
 
--- the answer for the files of these numbers: Level if the level is above 5, else the first file that
--- is missing
+-- the answer for the files of these numbers: Level if the level is above 5, else the first file
+-- that is missing
 abbrev pub missing_answer : KeyOrder → State → ℕ → List ℕ → Result (Option InputFile) Fault
 missing_answer cmp v level numbers =
     if nat_lt LAST_INPUT_LEVEL level

@@ -48,7 +48,8 @@ ArePartsFrom cmp v level before (f ∷ files) (part ∷ parts) =
 -- the inputs of a part, with this key in the compact pointer
 abbrev pub part_inputs : KeyOrder → State → ℕ → List ℕ → (FileMeta → Bool) → PickedInputs
 part_inputs cmp v level key part =
-    these_inputs cmp v level (chosen_files cmp v level part) (chosen_files cmp v (level + 1) part) key
+    these_inputs cmp v level (chosen_files cmp v level part)
+    (chosen_files cmp v (level + 1) part) key
 
 -- The compact pointer that each part sets: that of the level, so that it stays. If there is none it
 -- is the greatest key of the level, by which a compaction picks as without one.

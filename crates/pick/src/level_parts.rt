@@ -8,7 +8,8 @@
 //! Each part is the least such set around one of its files. It sets the compact pointer that the
 //! level has.
 
-ghost use Rattle.std.specs.Prelude.{◌≡◌, ◌≤◌, ◌+◌, ◌++◌, true, Ok, OnOk, IfErr, IsOkAnd, map, filter};
+ghost use Rattle.std.specs.Prelude.{◌≡◌, ◌≤◌, ◌+◌, ◌++◌, true, Ok, OnOk, IfErr, IsOkAnd};
+ghost use Rattle.std.specs.Prelude.{map, filter};
 ghost use Rattle.std.specs.List.{list_any};
 ghost use Rattle.edit.specs.Answers.{EqualOrMemory, HoldsOrMemory, fault};
 ghost use Rattle.edit.specs.fault.FaultName.TheVariants.{Memory};

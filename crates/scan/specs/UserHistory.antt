@@ -12,9 +12,9 @@ pub record IsEntryOf (user : List ℕ) (entries : List Entry) (found : Entry) : 
   pub kind : kind_of entry.key ≡ kind_of found.key
   pub value : entry.value ≡ found.value
 
--- What was found are the entries of a user key: each sequence that an entry of the key has is there,
--- with the kind and the value of such an entry, and nothing else is. The newest comes first, and no
--- sequence comes twice.
+-- What was found are the entries of a user key: each sequence that an entry of the key has is
+-- there, with the kind and the value of such an entry, and nothing else is. The newest comes first,
+-- and no sequence comes twice.
 pub record AreEntriesOf (user : List ℕ) (entries found : List Entry) : Type 0 where
   pub each : (e : Entry) → Contains entries e → user_of e.key ≡ user →
       (own : Entry) × Contains found own × (sequence_of own.key ≡ sequence_of e.key)

@@ -16,8 +16,8 @@ use Rattle.store.specs.VersionSync.{AlwaysReadsBy, sync_calls}
 use Rattle.store.specs.declared.compaction_step.CompactionStep.{CompactionStep}
 
 -- If the folder stands for a version, a crash at any moment of the calls that install an answer
--- leaves it or the next one, each with its manifest. At Ok the folder stands for the next one, which
--- the answer's edit makes (`EditedVersion`).
+-- leaves it or the next one, each with its manifest. At Ok the folder stands for the next one,
+-- which the answer's edit makes (`EditedVersion`).
 abbrev pub CompactionsSurvive : {F : Type 0} → Ghosts F → Type 0
 CompactionsSurvive {F = F} g = (v next : NamedVersion) (answer : Answer) (old new : F)
     (result : Result CompactionStep Fault) (tables : List (ℕ × List ℕ)) (start : World) →

@@ -1,5 +1,6 @@
 -- Which calls a compaction makes on a folder, be it one that tells what it holds or not.
-use Rattle.std.specs.Prelude.{◌≡◌, ◌⊎◌, ℕ, List, ◌++◌, codes, map, None, Some, Result, Ok, IfErr, IfOk}
+use Rattle.std.specs.Prelude.{◌≡◌, ◌⊎◌, ℕ, List, ◌++◌, codes, map}
+use Rattle.std.specs.Prelude.{None, Some, Result, Ok, IfErr, IfOk}
 use Rattle.std.specs.List.{flat_map}
 use Rattle.table.specs.Key.{IsInternalKey}
 use Rattle.table.specs.TableBytes.{AreBytes}

@@ -8,17 +8,17 @@
 //! 3. Without a test [`compact_opened`] reads the inputs alone: its caller knows that the version
 //!    is lawful. [`opened_after`] makes what a folder is opened as after it: the next one's.
 //! 4. Parts of the compaction of all levels: [`bottom`] and [`next_level`] say which levels it
-//!    takes; [`tell_step`] tells a [`CleanWatch`] of a compaction that was installed; [`clean`] asks
-//!    it for names, and removes the files of these that the version doesn't need.
+//!    takes; [`tell_step`] tells a [`CleanWatch`] of a compaction that was installed; [`clean`]
+//!    asks it for names, and removes the files of these that the version doesn't need.
 //! 5. [`outcome`] only reads: it answers the outcome of a [`Choice`] of inputs, with the numbers
 //!    that are asked for, after a test of the version or without one. [`write_outcome`] writes it
 //!    into another folder. [`files_to_compact`] names the files that it needs of a level without a
-//!    test; [`parts_to_compact`] are the parts of a level. [`outcome_of_picked`] answers the outcome
-//!    of inputs that its caller found.
+//!    test; [`parts_to_compact`] are the parts of a level. [`outcome_of_picked`] answers the
+//!    outcome of inputs that its caller found.
 //! 6. Parts of these calls, for those who compact whole levels or install an outcome later:
 //!    [`version_is_state`], [`test_files`], [`load_inputs`], [`checked_inputs`], [`bytes_of`],
-//!    [`manifest_of`], [`outcome_answer`], [`edit_is_bytes`]. [`name_edits`] installs what was written
-//!    of several compactions, by one manifest.
+//!    [`manifest_of`], [`outcome_answer`], [`edit_is_bytes`]. [`name_edits`] installs what was
+//!    written of several compactions, by one manifest.
 //! 7. All tell a [`Watch`] of the work; [`Open`] is the one that does nothing.
 //!
 //! What the clauses say. They are of a folder that tells contracts what it holds, but for `device`,

@@ -66,8 +66,8 @@ fn print_made<R: Host>(
 }
 
 /// The outcome of the compaction of a choice, whose first new table has this number, if it is
-/// given. The version is tested before, if that is asked for, but for the sizes of its tables. If it
-/// isn't, nothing but the inputs is read.
+/// given. The version is tested before, if that is asked for, but for the sizes of its tables. If
+/// it isn't, nothing but the inputs is read.
 pub(crate) fn outcome_of<R: Host>(
     session: &mut Session<'_, R, Opened>,
     line: &CompactLine<'_>,

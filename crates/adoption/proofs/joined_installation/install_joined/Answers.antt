@@ -1,10 +1,9 @@
-use Rattle.std.proofs.Common.{◌≡◌, ℕ, List, refl, sym, subst, inl, inr}
+use Rattle.std.proofs.Common.{ℕ, List, refl, subst}
 use Rattle.edit.specs.Answers.{UnlessMemory}
 use Rattle.edit.specs.Edit.{IsEditRefused}
 use Rattle.folder.proofs.ReportLemmas.{reports_after, reports_handed, reports_steady}
 use Rattle.install.specs.Install.{current_calls, manifest_calls}
 use Rattle.install.specs.InstallCalls.{IsInstallCalls}
-use Rattle.store.proofs.Flow.{no_value}
 use Rattle.store.proofs.NoDevice.{edit_other, handed_other}
 use Rattle.adoption.specs.TakingSteps.{IsJoinedManifest}
 use Rattle.adoption.proofs.JoinedEnds.{manifest_done, manifest_refused, unready_end}

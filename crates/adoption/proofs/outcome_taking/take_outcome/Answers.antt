@@ -1,4 +1,4 @@
-use Rattle.std.proofs.Common.{refl, sym, subst}
+use Rattle.std.proofs.Common.{sym, subst}
 use Rattle.folder.specs.Orders.{order_cmp}
 use Rattle.folder.specs.declared.order.Order.{Order}
 use Rattle.adoption.specs.BothFolders.{AnswersFrom, HasEitherFailed}

@@ -1,5 +1,4 @@
-use Rattle.std.proofs.Common.{◌≡◌, ℕ, List, [], ◌∷◌, ◌++◌, Result, Ok, refl, ap, subst, ◌∙◌, arith, inl, inr}
-use Rattle.edit.specs.fault.Fault.{Fault}
+use Rattle.std.proofs.Common.{◌≡◌, ℕ, List, [], ◌∷◌, ◌++◌, Ok, refl, ap, subst, ◌∙◌, arith, inl}
 use Rattle.folder.proofs.ReportLemmas.{reports_steady}
 use Rattle.folder.specs.CallSequence.{MakesCalls}
 use Rattle.install.specs.Install.{table_calls, tables_in}

@@ -1,4 +1,4 @@
-use Rattle.std.proofs.Common.{ℕ, List, Some, Result, Ok, codes, refl, subst, arith, inl}
+use Rattle.std.proofs.Common.{ℕ, Some, Result, Ok, codes, refl, subst, arith, inl}
 use Rattle.table.specs.TableBytes.{AreBytes}
 use Rattle.folder.specs.fault.Fault.{Fault}
 use Rattle.compact.specs.GroupedAnswer.{joined_answer}

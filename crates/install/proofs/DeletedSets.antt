@@ -19,7 +19,7 @@ deleted_total = then_total (on_total (λ (f : DeletedFile). f.level) nat_cmp_tot
 abbrev put : List DeletedFile → DeletedFile → List DeletedFile
 put = insert_key deleted_cmp
 
-abbrev puts : List DeletedFile → List DeletedFile → List DeletedFile
+abbrev pub puts : List DeletedFile → List DeletedFile → List DeletedFile
 puts = fold (insert_key deleted_cmp)
 
 one_place : (a b : DeletedFile) → a.level ≡ b.level → a.number ≡ b.number → a ≡ b
@@ -146,7 +146,7 @@ or_last true true c = refl
 or_last true false c = refl
 or_last false b c = refl
 
-and_both : (a b : Bool) → a ≡ true → b ≡ true → (a && b) ≡ true
+pub and_both : (a b : Bool) → a ≡ true → b ≡ true → (a && b) ≡ true
 and_both true b x y = y
 and_both false b x y = x
 

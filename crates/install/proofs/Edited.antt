@@ -194,9 +194,12 @@ module _ (cmp : List ℕ → List ℕ → Ordering) (order : Order) (v next : St
       let new' = (both_true (list_all (has_place v.files) h.edit.deleted) (are_new (undeleted_files h.edit.deleted v.files) h.edit.added) tests).1 in
       subst AreDistinct h.added (apart_distinct h.edit.added (both_true (are_apart h.edit.added) _ new').0)
 
+  pub outputs_free : AreApart cmp v outputs []
+  outputs_free = outputs_apart cmp v outputs [] (λ n m. (table_free n m, output_small n m, tt)) distinct
+
   pub apart_of : (manifest : List ℕ) → Apart cmp v outputs number manifest
   apart_of manifest = record {
-    outputs_apart = outputs_apart cmp v outputs [] (λ n m. (table_free n m, output_small n m, tt)) distinct;
+    outputs_apart = outputs_free;
     manifest_free = manifest_free;
     manifest_other = other_filed outputs [] (manifest_name number) (λ n. low_apart (table_name n) (manifest_name number) 98 (table_end n) (manifest_end number small) (omega arith)) tt;
     temporary_free = temporary_free;

@@ -6,12 +6,12 @@ mod NumberSets
 mod ObsoleteNames
 pub mod Changes
 pub mod Parts
-mod Outputs
+pub mod Outputs
 mod Switch
 pub mod Moments
-mod Options
+pub mod Options
 pub mod Numbers
-mod Edited
+pub mod Edited
 mod Installed
 mod Files
 mod Current

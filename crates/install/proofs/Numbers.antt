@@ -126,7 +126,7 @@ is_itself : (n : ℕ) → nat_eq n n ≡ true
 is_itself n = grind arith
 
 -- a number of a level is one of the levels
-of_levels : (of : ℕ → List ℕ) (level k l n : ℕ) → level ≤ l → l < level + k → IsOneOf (of l) n → IsOneOf (by_level of level k) n
+pub of_levels : (of : ℕ → List ℕ) (level k l n : ℕ) → level ≤ l → l < level + k → IsOneOf (of l) n → IsOneOf (by_level of level k) n
 of_levels of level zero l n low high m = absurd (omega arith)
 of_levels of level (suc k) l n low high m = elim (by_test (nat_eq level l) (level ≡ l) (eqb-true level l)) [
   | inl same ↦ among_first (of level) (by_level of (level + 1) k) n (subst (λ (j : ℕ). IsOneOf (of j) n) (sym (eqb-true level l same)) m)

@@ -1,7 +1,7 @@
 //! The parts of an installation: a group of tables, and all that follows the tables.
 
 ghost use Rattle.std.specs.Prelude.{◌≡◌, ◌∷◌, ◌++◌, [], ◌≤◌, ℕ, List, IfErr, OnOk, codes};
-ghost use Rattle.std.specs.Prelude.{string_bytes};
+ghost use Rattle.std.specs.Prelude.{Some, string_bytes};
 ghost use Rattle.std.specs.declared.cmp.Ordering.{Ordering};
 ghost use Rattle.edit.specs.Version.{State};
 ghost use Rattle.folder.specs.Calls.{Done, FolderSynced, Renamed};
@@ -162,6 +162,8 @@ fn write_temporary<F: Folder>(alloc: Global, folder: &mut F, number: u64) -> Res
 fn test_current<F: Folder>(alloc: Global, folder: &mut F, opened: u64) -> Result<(), Fault>
     ensures answer { FolderAnswers (λ u. u) (F.failed folder.old) (F.failed folder.new) result
         (IsCurrentAnswer (F.tells folder.old) opened) }
+    ensures again { OnOk result (F.readings folder.new ≡ F.readings folder.old
+        ++ (codes "CURRENT", Some (current_text opened)) ∷ []) }
     ensures device { ReportsDevice F.Folder folder.old folder.new result }
     ensures reads { OnlyReads F.Folder folder.old folder.new }
 {

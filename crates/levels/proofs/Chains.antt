@@ -1,5 +1,5 @@
 -- The answers of parts whose tables were written, one after the other.
-use Rattle.std.proofs.Common.{◌≡◌, ◌≢◌, ℕ, zero, suc, ◌+◌, ◌-◌, ◌<◌, ◌≤◌, ◌^◌, Bool, true, List, [], ◌∷◌, ◌++◌, append_assoc, length, map, slice_get, Some, None, Option, Result, Ok, Err, refl, sym, ap, subst, ◌∙◌, inl, inr, arith}
+use Rattle.std.proofs.Common.{◌≡◌, ℕ, zero, suc, ◌+◌, ◌-◌, ◌<◌, ◌≤◌, ◌^◌, Bool, true, List, [], ◌∷◌, ◌++◌, append_assoc, length, map, slice_get, Some, None, Option, Result, Ok, Err, refl, sym, ap, subst, ◌∙◌, inl, inr, arith}
 use Rattle.std.specs.Prelude.{Contains, nat_lt, unwrap_or}
 use Rattle.std.specs.List.{All}
 use Rattle.std.specs.Cmp.{IsTotalOrder}
@@ -22,10 +22,10 @@ use Rattle.folder.specs.declared.folder.Folder.{Ghosts}
 use Rattle.folder.specs.declared.order.Order.{Order}
 use Rattle.install.specs.GroupedInstallation.{tables_of_groups}
 use Rattle.install.specs.Install.{table_calls}
-use Rattle.levels.proofs.FreeOutputs.{AreApart, outputs_free}
+use Rattle.install.proofs.Edited.{outputs_free}
+use Rattle.install.proofs.Outputs.{AreApart}
 use Rattle.pick.specs.Parts.{ArePartsBy, IsPartsAnswer, part_inputs, part_key}
 use Rattle.pick.specs.PickedInputs.{PickedInputs}
-use Rattle.pick.specs.declared.picked_inputs.InputFile.{InputFile}
 use Rattle.keep.specs.Lawful.{IsBelowNextFile, IsLawful}
 use Rattle.keep.specs.Tables.{NumberedContents}
 use Rattle.keep.specs.TestResult.{test_result}
@@ -41,6 +41,7 @@ use Rattle.store.specs.FolderRequest.{compaction_from, manifest_of, request_from
 use Rattle.store.specs.InputsCompaction.{input_numbers}
 use Rattle.levels.specs.WholeRuns.{GroupedAnswer}
 use Rattle.store.specs.PickedOutcome.{IsPickedCompacted}
+use Rattle.store.proofs.ClosedJoint.{some_input}
 use Rattle.store.proofs.Flow.{loaded_in}
 use Rattle.store.proofs.PartFiles.{AreParts, ArePlaced, answered}
 use Rattle.store.proofs.PlacedInputs.{same_compaction}
@@ -129,10 +130,6 @@ one_key cmp v level parts h p q at to = by (part_key cmp v level) told.by_key
 next_is : (next : Option ℕ) (number : ℕ) → IsBelowNextFile next number → (next ≡ Some (unwrap_or next 0)) × (0 < unwrap_or next 0)
 next_is None number h = absurd h
 next_is (Some n) number h = (refl, omega (arith, h))
-
-some_input : (files : List InputFile) → files ≢ [] → (i : InputFile) × Contains files i
-some_input [] h = absurd (h refl)
-some_input (i ∷ files) h = (i, first_in i files)
 
 -- ---- rows of links
 

@@ -12,7 +12,7 @@ use Rattle.edit.specs.Comparator.{IsExact, ShortKeys}
 use Rattle.edit.specs.Edit.{Edit, IsEdit, IsEditRefused, edit_bytes}
 use Rattle.edit.specs.Version.{IsState, State}
 use Rattle.edit.specs.fault.Fault.{Fault}
-use Rattle.edit.specs.fault.FaultName.TheVariants.{Changed, Device, Numbers}
+use Rattle.edit.specs.fault.FaultName.TheVariants.{Device, Numbers}
 use Rattle.pick.specs.PickedInputs.{PickedInputs}
 use Rattle.folder.specs.CallSequence.{MakesCalls}
 use Rattle.folder.specs.Calls.{Call, Files, Step, Tells}
@@ -25,7 +25,7 @@ use Rattle.folder.specs.declared.order.Order.{Order}
 use Rattle.install.proofs.Moments.{made_by}
 use Rattle.install.specs.FolderChange.{change_of}
 use Rattle.install.specs.GroupedInstallation.{tables_of_groups}
-use Rattle.install.specs.Install.{IsEditedBy, IsStoppedOrChanged, SurvivesCrash, install_calls, manifest_bytes, next_version_tables, table_calls, version_with}
+use Rattle.install.specs.Install.{IsEditedBy, SurvivesCrash, install_calls, manifest_bytes, next_version_tables, table_calls, version_with}
 use Rattle.keep.specs.Tables.{NumberedContents}
 use Rattle.keep.specs.TestResult.{test_result}
 use Rattle.compact.specs.OneThread.{Answer}
@@ -37,7 +37,7 @@ use Rattle.store.proofs.Flow.{first_passed, first_refused, no_value}
 use Rattle.store.proofs.InstallPart.{refused_on, survives_on}
 use Rattle.store.proofs.PartFiles.{ArePlaced}
 use Rattle.store.proofs.PlacedInputs.{not_missing, same_compaction, tables_pass}
-use Rattle.store.proofs.RunPart.{handed_calls}
+use Rattle.store.proofs.RunPart.{handed_calls, stopped_as}
 use Rattle.store.proofs.StepPart.{current_named}
 use Rattle.store.specs.FolderRequest.{compaction_from, manifest_of}
 use Rattle.store.specs.InputsCompaction.{IsPickedAnswer}
@@ -45,7 +45,7 @@ use Rattle.store.specs.OrderView.{order_by}
 use Rattle.store.specs.Step.{StepView, step_in, with_inputs}
 use Rattle.store.specs.declared.compaction_step.CompactionStep.{CompactionStep}
 use Rattle.levels.proofs.Chains.{AreAnswered, WholeRow, all_answered, next_refused, whole_row}
-use Rattle.levels.proofs.FreeOutputs.{AreApart}
+use Rattle.install.proofs.Outputs.{AreApart}
 use Rattle.levels.proofs.PartsBase.{slice_in}
 use Rattle.levels.proofs.SelectedParts.{AreAmong, among, among_low, among_placed}
 use Rattle.levels.proofs.Rows.{known_edited, known_read}
@@ -56,13 +56,6 @@ use Rattle.levels.specs.WholeAnswer.{AreSelected, Choosing, IsVersionWhole, IsWh
 use Rattle.levels.specs.WholeRuns.{ArePartLinks, GroupedAnswer, IsWholeRun, answers_in, groups_in}
 use Rattle.levels.specs.declared.part_writer.WrittenParts.{WrittenParts}
 use Rattle.levels.specs.declared.selection.Selection.{Selection}
-
-stopped_as : {T : Type 0} (before now : ℕ) (r : Result T Fault) → IfErr r (λ e. UnlessMemory e (IsStoppedOrChanged before now e)) → IfErr r (λ e. UnlessMemory e ((e ≡ fault Device) ⊎ (e ≡ fault Changed)))
-stopped_as before now (Ok x) given = tt
-stopped_as before now (Err e) given = unless_from e (IsStoppedOrChanged before now e) ((e ≡ fault Device) ⊎ (e ≡ fault Changed)) (λ h. elim h [
-  | inl stopped ↦ inl stopped.0
-  | inr changed ↦ inr changed
-]) given
 
 abbrev refusal : Fault → Result (PickedInputs × Answer) Fault
 refusal e = Err e

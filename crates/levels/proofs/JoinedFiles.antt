@@ -2,13 +2,12 @@
 use Rattle.std.proofs.Common.{◌≡◌, Bool, true, false, not, cond, ◌&&◌, ◌||◌, List, [], ◌∷◌, ◌++◌, Option, Some, None, refl, sym, ap, ◌∙◌}
 use Rattle.std.specs.List.{AllByRecursion, filter, fold, list_all, list_any}
 use Rattle.std.specs.List.Sorted.{IsStrictlySortedBy}
-use Rattle.std.specs.BTreeSet.{insert_key}
 use Rattle.std.specs.Option.{option_map, option_or}
 use Rattle.std.specs.Ordering.{is_eq, match_ordering}
 use Rattle.std.specs.declared.cmp.Ordering.{Ordering}
 use Rattle.std.specs.declared.cmp.Ordering.TheVariants.{Less, Equal, Greater}
 use Rattle.std.proofs.lemmas.List.Sums.{fold-append}
-use Rattle.edit.specs.Edit.{Edit, deleted_cmp}
+use Rattle.edit.specs.Edit.{Edit}
 use Rattle.edit.specs.Version.{State, are_apart, are_new, files_after, has_number, has_place, is_deleted, is_same_place, number_cmp, place_of, undeleted_files, with_file, with_pointer}
 use Rattle.edit.specs.declared.meta.DeletedFile.{DeletedFile}
 use Rattle.edit.specs.declared.meta.NewFile.{NewFile}
@@ -18,7 +17,8 @@ use Rattle.edit.proofs.Kept.{new_on, taken_is}
 use Rattle.edit.proofs.RisingFiles.{number_total, rising_filter, same_file}
 use Rattle.edit.proofs.Tested.{both_false, both_true, by_test, is_eq-nat_cmp, list_any-filter, not_is_true}
 use Rattle.install.specs.JoinedEdits.{JoinedApplies, joined_edit}
-use Rattle.install.proofs.DeletedSets.{all_puts, any_puts}
+use Rattle.install.proofs.DeletedSets.{all_puts, and_both, any_puts, puts}
+use Rattle.install.proofs.Options.{made, option_parts}
 
 -- ---- a file that passes a test is put in before it or after it
 
@@ -79,10 +79,6 @@ new_then files (f ∷ one) two new =
     let free = not_taken files f one new in
     new_on files f (one ++ two) free ∙ new_then (with_file files f) one two (sym (new_on files f one free) ∙ new)
 
-and_both : (a b : Bool) → a ≡ true → b ≡ true → (a && b) ≡ true
-and_both true b x y = y
-and_both false b x y = x
-
 not_false : (a : Bool) → a ≡ false → not a ≡ true
 not_false true e = absurd cc
 not_false false e = refl
@@ -106,9 +102,6 @@ kept_twice one two both same (f ∷ files) =
 neither : (a b : Bool) → not (a || b) ≡ (not a && not b)
 neither true b = refl
 neither false b = refl
-
-abbrev puts : List DeletedFile → List DeletedFile → List DeletedFile
-puts = fold (insert_key deleted_cmp)
 
 undeleted_both : (one two : List DeletedFile) (files : List NewFile) → undeleted_files (puts one two) files ≡ undeleted_files two (undeleted_files one files)
 undeleted_both one two files =
@@ -164,20 +157,6 @@ files_joined files middle after one two a b up first later places apart =
     )
 
 -- ---- versions
-
-abbrev made : State → Edit → List NewFile → State
-made v e files = record {
-  log_number = option_or e.log_number v.log_number;
-  previous_log = option_or e.previous_log v.previous_log;
-  next_file = option_or e.next_file v.next_file;
-  last_sequence = option_or e.last_sequence v.last_sequence;
-  pointers = fold with_pointer v.pointers e.pointers;
-  files = files;
-}
-
-option_parts : {A B : Type 0} (f : A → B) (o : Option A) (y : B) → option_map f o ≡ Some y → (x : A) × (o ≡ Some x) × (f x ≡ y)
-option_parts f None y h = absurd (cc h)
-option_parts f (Some x) y h = let e : f x ≡ y = cc h in (x, refl, e)
 
 or_three : {A : Type 0} (a b c : Option A) → option_or (option_or a b) c ≡ option_or a (option_or b c)
 or_three None b c = refl

@@ -7,7 +7,7 @@ use Rattle.edit.specs.Version.{State}
 use Rattle.folder.specs.Levels.{file_numbers}
 use Rattle.folder.specs.ReadsAs.{IsOneOf}
 use Rattle.install.specs.Install.{next_version_tables, numbers_of, table_bytes_of}
-use Rattle.levels.proofs.FreeOutputs.{among_outputs}
+use Rattle.install.proofs.Outputs.{among_outputs}
 use Rattle.pick.proofs.Lists.{cases}
 
 pub one_or_not : (ns : List ℕ) (n : ℕ) → IsOneOf ns n ⊎ (IsOneOf ns n → ⊥)

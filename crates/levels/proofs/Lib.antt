@@ -1,5 +1,4 @@
 pub mod JoinedFiles
-pub mod FreeOutputs
 pub mod LaidTables
 pub mod StayingInputs
 pub mod PartStep

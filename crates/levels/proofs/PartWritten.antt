@@ -28,7 +28,7 @@ use Rattle.store.specs.InputsCompaction.{IsPickedAnswer}
 use Rattle.store.specs.PickedOutcome.{IsPickedCompacted}
 use Rattle.store.proofs.InstallPart.{still}
 use Rattle.store.proofs.RunPart.{handed_calls}
-use Rattle.levels.specs.PartsEnd.{IsOutcomeWritten, IsPartDone, IsPartWritten, IsRefusedFor, IsTakenIn}
+use Rattle.levels.specs.PartsEnd.{IsOutcomeWritten, IsPartWritten, IsRefusedFor, IsTakenIn}
 use Rattle.levels.specs.declared.part_writer.WrittenParts.{WrittenParts}
 use Rattle.levels.proofs.Ends.{ended_calls}
 use Rattle.levels.proofs.FewOutputs.{first_told}
@@ -149,9 +149,3 @@ module _ {F X : Type 0} (g : Ghosts F) (cmp : List ℕ → List ℕ → Ordering
       bytes = made.bytes;
     };
   })
-
--- what was written if it is not refused
-pub part_ok : {F X : Type 0} (g : Ghosts F) (cmp : List ℕ → List ℕ → Ordering) (short_keys : ShortKeys) (v : State) (s : Settings) (p : PickedInputs) (before after : WrittenParts) (old new : F) (x : X)
-    → IsPartWritten g cmp short_keys v s p before after old new (Ok x) → IsPartDone g cmp short_keys v s p before after old new (Ok x)
-part_ok g cmp short_keys v s p before after old new x (inl refused) = absurd refused.nothing.refused
-part_ok g cmp short_keys v s p before after old new x (inr done) = done

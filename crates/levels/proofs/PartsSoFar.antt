@@ -198,11 +198,6 @@ module _ {F : Type 0} (g : Ghosts F) (first : F) (cmp : List ℕ → List ℕ �
 
 -- ---- a range
 
--- there is none in it
-pub range_none : {F X : Type 0} (g : Ghosts F) (cmp : List ℕ → List ℕ → Ordering) (short_keys : ShortKeys) (v : State) (s : Settings) (parts : List PickedInputs) (from to : ℕ) (w : WrittenParts) (old : F) (x : X) → from ≡ to
-    → IsRangeWritten g cmp short_keys v s parts from to w w old old (Ok x)
-range_none g cmp short_keys v s parts from to w old x same first so_far = (subst (λ (n : ℕ). AreWrittenBefore g first cmp short_keys v s parts old n w) same so_far, tt)
-
 -- one
 pub range_one : {F : Type 0} (g : Ghosts F) (cmp : List ℕ → List ℕ → Ordering) (short_keys : ShortKeys) (v : State) (s : Settings) (parts : List PickedInputs) (from to : ℕ) (before after : WrittenParts) (old new : F) (p : PickedInputs) (r : Result (Unit {0}) Fault)
     → slice_get parts from ≡ Some p → from < length parts → from + 1 ≡ to → ReportsDevice g old new r → IsPartWritten g cmp short_keys v s p before after old new r
@@ -219,23 +214,6 @@ range_one g cmp short_keys v s parts from to before after old new p (Ok x) next 
     part_done g cmp short_keys v s p before after old new x (inr done) = done
 range_one g cmp short_keys v s parts from to before after old new p (Err e) next lt same device written first so_far =
     (tt, parts_stopped g first cmp short_keys v s parts old from before so_far p next after new e (Err e) refl device.later written)
-
-module _ {F : Type 0} (g : Ghosts F) (cmp : List ℕ → List ℕ → Ordering) (short_keys : ShortKeys) (v : State) (s : Settings) (parts : List PickedInputs) (from middle to : ℕ) (before between after : WrittenParts) (old mid new : F) where
-  -- the first half stopped
-  pub range_stopped : {X Y : Type 0} (one : Result X Fault) (e : Fault) (r : Result Y Fault) → one ≡ Err e → IsErrAnd r (λ f. f ≡ e) → IsRangeWritten g cmp short_keys v s parts from middle before between old mid one
-      → IsRangeWritten g cmp short_keys v s parts from to before between old mid r
-  range_stopped one e (Ok y) was is h first so_far = absurd is
-  range_stopped {X = X} one e (Err f) was is h first so_far = (
-    tt,
-    subst (λ (d : Fault). ArePartsWritten g cmp short_keys v s parts first mid (Err d)) (sym is)
-        (subst (λ (q : Result X Fault). IfErr q (λ d. ArePartsWritten g cmp short_keys v s parts first mid (Err d))) was (h first so_far).1),
-  )
-
-  -- both halves
-  pub range_joined : {X Y : Type 0} (one : Result X Fault) (x : X) (r : Result Y Fault) → one ≡ Ok x → IsRangeWritten g cmp short_keys v s parts from middle before between old mid one → IsRangeWritten g cmp short_keys v s parts middle to between after mid new r
-      → IsRangeWritten g cmp short_keys v s parts from to before after old new r
-  range_joined {X = X} one x r was h k first so_far =
-      k first (subst (λ (q : Result X Fault). OnOk q (AreWrittenBefore g first cmp short_keys v s parts mid middle between)) was (h first so_far).0)
 
 -- all
 module _ {F : Type 0} (g : Ghosts F) (cmp : List ℕ → List ℕ → Ordering) (short_keys : ShortKeys) (v : State) (s : Settings) (parts : List PickedInputs) (w after : WrittenParts) (old new : F) (outputs : w.outputs.items ≡ []) (edits : w.edits.items ≡ []) (last : w.last ≡ manifest_of v) (count : ℕ) (is : count ≡ length parts) where

@@ -39,6 +39,7 @@ use Rattle.compact.proofs.SafeInputs.{closed_safe}
 use Rattle.store.specs.Compaction.{EditedVersion}
 use Rattle.store.specs.FolderRequest.{compaction_from, last_of, manifest_of}
 use Rattle.store.specs.OutputRanges.{IsOldOrOutput}
+use Rattle.store.proofs.ClosedJoint.{below_next}
 use Rattle.store.proofs.TablesAfter.{HasNumber, number_of, one_number}
 use Rattle.install.specs.JoinedEdits.{joined_edit}
 use Rattle.levels.specs.WholeAnswer.{edits_of, next_last, part_result, tables_of}
@@ -63,8 +64,20 @@ same_bytes (i ∷ files) f g h =
     ap (λ (b : List ℕ). b ∷ map (λ (j : InputFile). f j.meta.number) files) (h i (first_in i files))
     ∙ ap (λ (bs : List (List ℕ)). g i.meta.number ∷ bs) (same_bytes files f g (λ j at. h j (later_in i files j at)))
 
-below_next : (next : Option ℕ) (m n : ℕ) → next ≡ Some m → IsBelowNextFile next n → n < m
-below_next next m n is h = subst (λ (o : Option ℕ). IsBelowNextFile o n) is h
+pub numbers_joined : (one two : List (ℕ × List ℕ)) → numbers_of (one ++ two) ≡ numbers_of one ++ numbers_of two
+numbers_joined [] two = refl
+numbers_joined (t ∷ one) two = ap (λ (ns : List ℕ). t.0 ∷ ns) (numbers_joined one two)
+
+pub other_place : (f : NewFile) (d : DeletedFile) → d.number < f.meta.number → is_same_place (place_of f) d ≡ false
+other_place f d lt = by (nat_eq f.meta.number d.number) refl
+  where
+    and_false : (b : Bool) → (b && false) ≡ false
+    and_false true = refl
+    and_false false = refl
+
+    by : (b : Bool) → nat_eq f.meta.number d.number ≡ b → is_same_place (place_of f) d ≡ false
+    by true e = absurd (let same = eqb-true f.meta.number d.number e in omega (arith, same, lt))
+    by false e = ap (λ (b : Bool). (f.level == d.level) && b) e ∙ and_false (f.level == d.level)
 
 module _ (cmp : List ℕ → List ℕ → Ordering) (total : IsTotalOrder cmp) (exact : IsExact cmp) (short_keys : ShortKeys) (reads_back : ReadBackLaw cmp short_keys) (passes : PassedLaw cmp)
     (v : State) (loaded : List (ℕ × List ℕ)) (tables : List NumberedContents) (s : Settings) (level : ℕ) (five : level ≤ 5)
@@ -191,9 +204,6 @@ module _ (cmp : List ℕ → List ℕ → Ordering) (total : IsTotalOrder cmp) (
 
     -- ---- its edit
 
-    pub edit_numbers : map (λ (f : NewFile). f.meta.number) (own_edit step).added ≡ numbers_of a.tables
-    edit_numbers = added_numbers step
-
     pub from_deleted : (d : DeletedFile) → Contains (own_edit step).deleted d → (i : InputFile) × Contains p.files i × (deletion_of i ≡ d)
     from_deleted d at = elim (all_only deleted_cmp tied [] (map deletion_of p.files) d at) [
       | inl none ↦ absurd (none_in d none)
@@ -248,21 +258,6 @@ module _ (cmp : List ℕ → List ℕ → Ordering) (total : IsTotalOrder cmp) (
   edits_more : (answers : List Answer) (a : Answer) → edits_of (answers ++ a ∷ []) ≡ edits_of answers ++ a.edit
   edits_more [] a = append-nil a.edit
   edits_more (b ∷ answers) a = ap (λ (bs : List ℕ). b.edit ++ bs) (edits_more answers a) ∙ sym (append_assoc b.edit (edits_of answers) a.edit)
-
-  numbers_joined : (one two : List (ℕ × List ℕ)) → numbers_of (one ++ two) ≡ numbers_of one ++ numbers_of two
-  numbers_joined [] two = refl
-  numbers_joined (t ∷ one) two = ap (λ (ns : List ℕ). t.0 ∷ ns) (numbers_joined one two)
-
-  other_place : (f : NewFile) (d : DeletedFile) → d.number < f.meta.number → is_same_place (place_of f) d ≡ false
-  other_place f d lt = by (nat_eq f.meta.number d.number) refl
-    where
-      and_false : (b : Bool) → (b && false) ≡ false
-      and_false true = refl
-      and_false false = refl
-
-      by : (b : Bool) → nat_eq f.meta.number d.number ≡ b → is_same_place (place_of f) d ≡ false
-      by true e = absurd (let same = eqb-true f.meta.number d.number e in omega (arith, same, lt))
-      by false e = ap (λ (b : Bool). (f.level == d.level) && b) e ∙ and_false (f.level == d.level)
 
   own_place : (i : InputFile) (d : DeletedFile) → deletion_of i ≡ d → is_same_place (place_of (as_file i)) d ≡ true
   own_place i d is =
@@ -412,7 +407,3 @@ module _ (cmp : List ℕ → List ℕ → Ordering) (total : IsTotalOrder cmp) (
   pub known_read : (done : List Answer) (last : ℕ) (rest : List PickedInputs) → Known done last rest → done ≢ [] → (e : Edit) × IsEdit (edits_of done) e
   known_read done last rest (inl (none, is, here)) there = absurd (there none)
   known_read done last rest (inr (w, held, joined, here)) there = (joined.edit, joined.read)
-
-  pub known_small : (done : List Answer) (last : ℕ) (rest : List PickedInputs) → Known done last rest → done ≢ [] → manifest_of v < 2 ^ 64
-  known_small done last rest (inl (none, is, here)) there = absurd (there none)
-  known_small done last rest (inr (w, held, joined, here)) there = let small = joined.small in let higher = joined.higher in omega (arith, small, higher)

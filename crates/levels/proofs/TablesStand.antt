@@ -14,7 +14,7 @@ use Rattle.install.specs.GroupedInstallation.{tables_of_groups}
 use Rattle.install.specs.Install.{IsBeforeOrAfter, SurvivesCrash, table_calls, version_with}
 use Rattle.install.proofs.Changes.{change_by}
 use Rattle.install.proofs.Moments.{leads_split, made_by, moment_made}
-use Rattle.levels.proofs.FreeOutputs.{AreApart, tables_passed}
+use Rattle.install.proofs.Outputs.{AreApart, tables_passed}
 
 module _ (cmp : List ℕ → List ℕ → Ordering) (order : Order) (v : State) (tables : List (ℕ × List ℕ)) (groups : List (List (ℕ × List ℕ))) (apart : AreApart cmp v (tables_of_groups groups) []) where
   -- whatever part of these calls was made

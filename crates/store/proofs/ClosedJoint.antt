@@ -138,10 +138,10 @@ numbered_above first [] n h m = absurd m
 numbered_above first (q ∷ outputs) n h (inl same) = let is : q.number ≡ first = h.0 in omega (arith, same, is)
 numbered_above first (q ∷ outputs) n h (inr m) = let le = numbered_above (first + 1) outputs n h.1 m in omega (arith, le)
 
-below_next : (next : Option ℕ) (m n : ℕ) → next ≡ Some m → IsBelowNextFile next n → n < m
+pub below_next : (next : Option ℕ) (m n : ℕ) → next ≡ Some m → IsBelowNextFile next n → n < m
 below_next next m n is h = subst (λ (o : Option ℕ). IsBelowNextFile o n) is h
 
-some_input : (files : List InputFile) → files ≢ [] → (i : InputFile) × Contains files i
+pub some_input : (files : List InputFile) → files ≢ [] → (i : InputFile) × Contains files i
 some_input [] h = absurd (h refl)
 some_input (i ∷ files) h = (i, first_in i files)
 

@@ -25,7 +25,6 @@ mod NamesThere
 mod Runs
 mod WholeOutcomes
 mod GroupRuns
-mod AfterEdit
 mod Descending
 pub mod CleanParts
 pub mod PartFiles

@@ -26,6 +26,7 @@ calls_err : {F X Y : Type 0} {g : Ghosts F} (one two : List Call) (opened : ℕ)
 calls_err {X = X} {Y = Y} {g = g} one two opened old new e h = record {
   runs = record { steps = h.runs.steps; made = h.runs.made; appended = h.runs.appended; change = h.runs.change };
   left = h.left;
+  again = tt;
   refused = h.refused;
   same_current = h.same_current;
   other_current = h.other_current;
@@ -36,6 +37,7 @@ calls_ok : {F X Y : Type 0} {g : Ghosts F} (one two : List Call) (opened : ℕ) 
 calls_ok {X = X} {Y = Y} {g = g} one two opened old new x y h = record {
   runs = record { steps = h.runs.steps; made = h.runs.made; appended = h.runs.appended; change = h.runs.change };
   left = tt;
+  again = h.again;
   refused = tt;
   same_current = λ files told is. tt;
   other_current = λ files told other. h.other_current files told other;

@@ -178,12 +178,6 @@ pub never_device_at : {X : Type 0} (before now : ℕ) (r : Result X Fault) (P : 
 never_device_at before now (Ok x) P other given = tt
 never_device_at before now (Err e) P other given = λ same. absurd (other e (unless_device e (P e) same given) same)
 
--- nor does a refusal that `?` hands on say anything of the device
-pub handed_never : {X : Type 0} (before now : ℕ) (r : Result X Fault) (e : Fault) (P : Type 0) → IsErrAnd r (λ f. f ≡ e) → (P → e.name ≢ Device) → UnlessMemory e P → IfErr r (HasDeviceFailed before now)
-handed_never before now (Ok x) e P h other given = absurd h
-handed_never before now (Err f) e P h other given =
-    subst (λ (x : Fault). HasDeviceFailed before now x) (sym h) (λ same. absurd (other (unless_device e P same given) same))
-
 -- if the only refusal is Memory, nothing is said of the device
 pub memory_alone : {X : Type 0} (before now : ℕ) (r : Result X Fault) → IfErr r (λ e. e ≡ fault Memory) → IfErr r (HasDeviceFailed before now)
 memory_alone before now (Ok x) h = tt

@@ -1,9 +1,7 @@
 -- The part of a number, as the code finds it.
-use Rattle.std.proofs.Common.{◌≡◌, ◌⊎◌, ℕ, zero, suc, ◌-◌, ◌<◌, ◌≤◌, List, [], ◌∷◌, map, length, get_or, Some, None, Option, Result, Ok, Err, refl, sym, ap, subst, ◌∙◌, inl, inr, arith}
-use Rattle.std.specs.Prelude.{slice_get}
+use Rattle.std.proofs.Common.{◌≡◌, ℕ, zero, suc, ◌-◌, ◌<◌, ◌≤◌, List, [], map, length, get_or, Option, Ok, refl, ap, subst, ◌∙◌, arith}
 use Rattle.std.specs.Option.{ok_or, option_map}
-use Rattle.std.proofs.lemmas.List.{length-map}
-use Rattle.std.proofs.lemmas.Option.{slice_get-map, slice_get_past, slice_get_read}
+use Rattle.std.proofs.lemmas.Option.{slice_get-map, slice_get_read}
 use Rattle.folder.specs.Answers.{fault}
 use Rattle.folder.specs.fault.FaultName.TheVariants.{NoInput}
 use Rattle.pick.specs.PickedInputs.{PickedInputs, picked_in}
@@ -16,10 +14,3 @@ numbered_at parts (suc k) x some le is =
     let one : suc k - 1 ≡ k = omega (arith) in
     let at = slice_get_read parts (length parts) k x refl (omega (arith, le)) (subst (λ (n : ℕ). x ≡ get_or parts n x) one is) in
     ap (λ (o : Option PickedInputs). ok_or o (fault NoInput)) (slice_get-map picked_in parts k ∙ ap (option_map picked_in) at)
-
-pub numbered_none : (parts : List Inputs) (number : ℕ) → (number ≡ 0) ⊎ (length parts < number) → part_of_number number (map picked_in parts) ≡ Err (fault NoInput)
-numbered_none parts zero h = refl
-numbered_none parts (suc k) (inl none) = absurd (omega (arith, none))
-numbered_none parts (suc k) (inr past) =
-    let count : length (map picked_in parts) ≡ length parts = length-map parts picked_in in
-    ap (λ (o : Option PickedInputs). ok_or o (fault NoInput)) (slice_get_past (map picked_in parts) k (omega (arith, count, past)))

@@ -37,7 +37,9 @@ use Rattle.compact.specs.InputsOver.{as_file}
 use Rattle.compact.specs.declared.settings.Settings.{Settings}
 use Rattle.store.specs.FolderRequest.{compaction_from, first_output, last_of}
 use Rattle.store.specs.InputsCompaction.{IsOrderlyAnswer, are_stated, input_numbers, input_tables}
-use Rattle.store.proofs.InputNumbers.{loaded_at, none_missing, number_among, of_levels, one_table, same_bytes}
+use Rattle.install.proofs.Numbers.{of_levels}
+use Rattle.install.proofs.Outputs.{loaded_at}
+use Rattle.store.proofs.InputNumbers.{none_missing, number_among, one_table, same_bytes}
 use Rattle.store.proofs.Loaded.{bytes_found, found_loaded}
 use Rattle.store.proofs.OrderlyFiles.{orderly}
 use Rattle.store.proofs.PartFiles.{ArePlaced}

@@ -60,7 +60,7 @@ handed_err {T = T} r (Err f) e P was h given =
     let at : P e = subst (λ (a : Result T Fault). IfErr a P) was given in
     subst P (sym h) at
 
-stopped_as : {T : Type 0} (before now : ℕ) (r : Result T Fault) → IfErr r (λ e. UnlessMemory e (IsStoppedOrChanged before now e)) → IfErr r (λ e. UnlessMemory e ((e ≡ fault Device) ⊎ (e ≡ fault Changed)))
+pub stopped_as : {T : Type 0} (before now : ℕ) (r : Result T Fault) → IfErr r (λ e. UnlessMemory e (IsStoppedOrChanged before now e)) → IfErr r (λ e. UnlessMemory e ((e ≡ fault Device) ⊎ (e ≡ fault Changed)))
 stopped_as before now (Ok x) given = tt
 stopped_as before now (Err e) given = unless_from e (IsStoppedOrChanged before now e) ((e ≡ fault Device) ⊎ (e ≡ fault Changed)) (λ h. elim h [
   | inl stopped ↦ inl stopped.0

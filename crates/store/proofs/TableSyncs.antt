@@ -1,6 +1,6 @@
 -- Calls that sync tables, in parts.
 use Rattle.std.proofs.Common.{◌≡◌, ℕ, ◌+◌, ◌-◌, ◌<◌, suc, List, [], ◌∷◌, ◌++◌, map, take, drop, length, get_or, sym, ap, ◌∙◌, drop-cons, arith}
-use Rattle.std.proofs.lemmas.List.{map-append, take_more, take-append-drop, append-nil}
+use Rattle.std.proofs.lemmas.List.{map-append, take_more, take-append-drop}
 use Rattle.std.proofs.lemmas.List.Concat.{flat_map-append}
 use Rattle.folder.specs.Calls.{Call, Synced}
 use Rattle.folder.specs.Levels.{by_level}
@@ -50,10 +50,3 @@ levels_around of numbers piece total level low is all =
 pub levels_left : (of : ℕ → List ℕ) (numbers total : List ℕ) (level : ℕ) → numbers ++ by_level of level (7 - level) ≡ total
     → table_syncs numbers ++ table_syncs (by_level of level (7 - level)) ≡ table_syncs total
 levels_left of numbers total level all = sym (syncs_append numbers (by_level of level (7 - level))) ∙ ap table_syncs all
-
--- no level is left
-pub levels_done : (of : ℕ → List ℕ) (numbers total : List ℕ) (level : ℕ) → level ≡ 7 → numbers ++ by_level of level (7 - level) ≡ total → numbers ≡ total
-levels_done of numbers total level past all =
-    let none' : 7 - level ≡ 0 = omega arith in
-    let nothing : by_level of level (7 - level) ≡ [] = ap (by_level of level) none' in
-    sym (append-nil numbers) ∙ ap (λ (t : List ℕ). numbers ++ t) (sym nothing) ∙ all

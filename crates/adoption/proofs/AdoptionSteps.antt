@@ -1,5 +1,5 @@
 -- The steps of an adoption, as parts of a call.
-use Rattle.std.proofs.Common.{◌≡◌, ◌⊎◌, ℕ, List, Result, Ok, Err, IfOk, refl, subst, inl, inr, codes}
+use Rattle.std.proofs.Common.{◌≡◌, ◌⊎◌, ℕ, List, Result, Ok, Err, IfOk, refl, inl, inr, codes}
 use Rattle.edit.proofs.Refusals.{only_memory, unless_from}
 use Rattle.edit.specs.Answers.{EqualOrMemory, FailsOrMemory, HoldsOrMemory, IsThen, UnlessMemory, fault}
 use Rattle.edit.specs.fault.Fault.{Fault}
@@ -18,26 +18,9 @@ use Rattle.store.specs.InputsCompaction.{input_numbers}
 use Rattle.adoption.specs.Adoption.{Adoption, IsEditGiven, IsGiven}
 use Rattle.adoption.specs.BothFolders.{AnswersFrom, HasEitherFailed}
 
-pub tells_itself : (tells : ToldFiles) → TellsSame tells tells
-tells_itself tells name held = (λ h. h, λ h. h)
-
 -- what has a value is refused as Memory alone
 pub never_refused : {Y : Type 0} (y : Y) (e : Fault) → FailsOrMemory e (Ok y) → e ≡ fault Memory
 never_refused {Y = Y} y e h = only_memory e (Ok y ≡ Err e) (no_refusal y e) h
-
--- what one answer is, another is too
-pub answers_with : {X Y : Type 0} (view : X → Y) (before now : ℕ) (r : Result X Fault) (IsFirst IsAnswer : Result Y Fault → Type 0)
-    → ((a : Result Y Fault) → IsFirst a → IsAnswer a) → FolderAnswers view before now r IsFirst → FolderAnswers view before now r IsAnswer
-answers_with view before now (Ok x) IsFirst IsAnswer f given = f (Ok (view x)) given
-answers_with view before now (Err e) IsFirst IsAnswer f given =
-    unless_from e (IsStopped before now e ⊎ IsFirst (Err e)) (IsStopped before now e ⊎ IsAnswer (Err e)) (λ g. elim g [ inl stopped ↦ inl stopped | inr found ↦ inr (f (Err e) found) ]) given
-
--- a value, or a refusal, that was answered
-pub ok_answers : {X Y : Type 0} (view : X → Y) (before now : ℕ) (r : Result X Fault) (x : X) (IsAnswer : Result Y Fault → Type 0) → r ≡ Ok x → FolderAnswers view before now r IsAnswer → IsAnswer (Ok (view x))
-ok_answers {X = X} view before now r x IsAnswer is given = subst (λ (q : Result X Fault). FolderAnswers view before now q IsAnswer) is given
-
-pub err_answers : {X Y : Type 0} (view : X → Y) (before now : ℕ) (r : Result X Fault) (e : Fault) (IsAnswer : Result Y Fault → Type 0) → r ≡ Err e → FolderAnswers view before now r IsAnswer → UnlessMemory e (IsStopped before now e ⊎ IsAnswer (Err e))
-err_answers {X = X} view before now r e IsAnswer is given = subst (λ (q : Result X Fault). FolderAnswers view before now q IsAnswer) is given
 
 -- the answer of a step after one that had this value
 pub holds_behind : {X Y B : Type 0} (view : X → B) (r : Result X Fault) (IsFirst : Result Y Fault → Type 0) (IsNext : Y → Result B Fault → Type 0) (a : Y) → IsFirst (Ok a) → HoldsOrMemory view r (IsNext a) → HoldsOrMemory view r (IsThen IsFirst IsNext)
@@ -52,12 +35,6 @@ equal_holds view (Err e) answer IsAnswer f given = unless_from e (answer ≡ Err
 pub ok_with : {T E : Type 0} (r : Result T E) (P Q : T → Type 0) → ((x : T) → P x → Q x) → IfOk r P → IfOk r Q
 ok_with (Ok x) P Q f h = f x h
 ok_with (Err e) P Q f h = tt
-
--- a refusal of a first step is one of the whole
-pub refused_with : {Y Z : Type 0} (before now : ℕ) (e : Fault) (IsFirst : Result Z Fault → Type 0) (IsAnswer : Result Y Fault → Type 0)
-    → (IsFirst (Err e) → IsAnswer (Err e)) → UnlessMemory e (IsStopped before now e ⊎ IsFirst (Err e)) → UnlessMemory e (IsStopped before now e ⊎ IsAnswer (Err e))
-refused_with before now e IsFirst IsAnswer f given =
-    unless_from e (IsStopped before now e ⊎ IsFirst (Err e)) (IsStopped before now e ⊎ IsAnswer (Err e)) (λ g. elim g [ inl stopped ↦ inl stopped | inr found ↦ inr (f found) ]) given
 
 -- ---- two folders
 

@@ -17,6 +17,7 @@ use Rattle.store.specs.FolderRequest.{manifest_of}
 use Rattle.store.specs.InputsCompaction.{IsOrderly}
 use Rattle.adoption.specs.Adoption.{Adoption, adopted}
 use Rattle.adoption.specs.AdoptedOutcome.{IsAdopted}
+use Rattle.store.proofs.ClosedJoint.{below_next}
 use Rattle.adoption.proofs.AdoptedSo.{IsAdoptedSo, IsCounted, adopted_so, counted_so, numbers_same, rising_all}
 
 -- a number of some levels is one of a level among them
@@ -26,9 +27,6 @@ at_level of level (suc k) n m = elim (among_append (of level) (by_level of (leve
   | inl a ↦ (level, omega arith, a)
   | inr b ↦ (let rest = at_level of (level + 1) k n b in let lt = rest.1 in (rest.0, omega (arith, lt), rest.2))
 ]
-
-below_of : (next : Option ℕ) (m n : ℕ) → next ≡ Some m → IsBelowNextFile next n → n < m
-below_of next m n is h = subst (λ (o : Option ℕ). IsBelowNextFile o n) is h
 
 -- a number of files has one of them
 numbered_below : (next : Option ℕ) (files : List FileMeta) (n : ℕ) → ((f : FileMeta) → Contains files f → IsBelowNextFile next f.number) → IsOneOf (map (λ (f : FileMeta). f.number) files) n → IsBelowNextFile next n
@@ -42,7 +40,7 @@ orderly_below cmp v orderly free n m =
     let l = at_level (numbers_at cmp v) 0 7 n m in
     let lt = l.1 in
     let level = orderly l.0 (omega (arith, lt)) in
-    below_of v.next_file (manifest_of v) n free
+    below_next v.next_file (manifest_of v) n free
     (numbered_below v.next_file (level_files cmp v l.0) n (λ f at. All-contains (λ (g : FileMeta). IsBelowNextFile v.next_file g.number) (level_files cmp v l.0) f level.below_next at) l.2)
 
 module _ (cmp : KeyOrder) (v : State) (a : Adoption) (tables : List (ℕ × List ℕ)) (ad : IsAdopted cmp v (a, tables)) where

@@ -1,5 +1,5 @@
 -- What the installation of outcomes that were taken in leaves of a folder, from its steps.
-use Rattle.std.proofs.Common.{◌≡◌, ◌⊎◌, ℕ, List, [], ◌∷◌, Result, Ok, Err, IfErr, IsErrAnd, refl, sym, ap, subst, ◌∙◌, inl, inr}
+use Rattle.std.proofs.Common.{◌≡◌, ◌⊎◌, ℕ, List, [], ◌∷◌, Result, Ok, Err, IfErr, IfOk, IsErrAnd, refl, sym, ap, subst, ◌∙◌, inl, inr}
 use Rattle.std.specs.Cmp.{IsTotalOrder}
 use Rattle.edit.proofs.Edits.{not_both}
 use Rattle.edit.proofs.Refusals.{unless_from}
@@ -15,18 +15,15 @@ use Rattle.folder.specs.ReadsAs.{ReadsAs}
 use Rattle.folder.specs.Reports.{OnlyReads, ReportsDevice}
 use Rattle.folder.specs.declared.folder.Folder.{Ghosts}
 use Rattle.folder.specs.declared.order.Order.{Order}
-use Rattle.install.specs.FolderChange.{change_of}
-use Rattle.install.specs.GroupedInstallation.{IsGroupedInstallation, asked_of}
-use Rattle.install.specs.Install.{IsEditedBy, SurvivesCrash, current_calls, manifest_calls, next_version_tables, table_calls, version_with}
-use Rattle.install.specs.InstallCalls.{IsInstallCalls}
+use Rattle.install.specs.Install.{manifest_bytes, next_version_tables, table_calls}
 use Rattle.install.proofs.Grouped.{groups_installed}
-use Rattle.store.proofs.Flow.{no_value}
-use Rattle.store.proofs.NamedEnds.{done_install, handed_install}
-use Rattle.store.proofs.InstallPart.{refused_ok}
+use Rattle.compact.specs.GroupedAnswer.{table_sizes}
 use Rattle.store.specs.FolderRequest.{manifest_of}
+use Rattle.store.specs.NamedEdits.{AreNamed, IsNaming}
+use Rattle.store.specs.Step.{step_in}
+use Rattle.store.specs.declared.compaction_step.CompactionStep.{CompactionStep}
 use Rattle.adoption.specs.TakenIn.{AreInstalledTogether, AreTaken, IsTakenInstalled, IsTakingStopped, version_in}
 use Rattle.adoption.specs.TakenOutcomes.{AreTakenInTurn, Given, IsLawfulAfter, IsLawfulSoFar, edits_in, given_tables, groups_of}
-use Rattle.adoption.specs.TakingSteps.{IsJoinedEnd, IsJoinedManifest, IsManifestInstalled}
 use Rattle.adoption.specs.Adoption.{IsLastTested}
 use Rattle.adoption.specs.declared.comparison.Comparison.{Comparison}
 use Rattle.adoption.specs.declared.comparison.Comparison.TheVariants.{LeftOut, With}
@@ -34,48 +31,11 @@ use Rattle.adoption.proofs.TakenTables.{TablesAfter, loaded_in_turn}
 use Rattle.folder.specs.OpenAnswer.{FolderAnswers, IsStopped}
 use Rattle.adoption.specs.declared.taken_outcomes.TakenOutcomes.{TakenOutcomes}
 use Rattle.adoption.proofs.TakenEnds.{nothing_since, read_now, taken_still, version_tables}
-use Rattle.adoption.proofs.TakenSteps.{nothing_written}
 use Rattle.adoption.proofs.TakenTurns.{edited_in_turn, groups_joined, one_edit_of}
-
--- ---- the ends of the last step
-
-module _ {F : Type 0} (g : Ghosts F) (name : List ℕ) (cmp : KeyOrder) (t : TakenOutcomes) (old : F) where
-  pub unready_end : (r : Result ℕ Fault) (e : Fault) → IsErrAnd r (λ f. f ≡ e) → UnlessMemory e (IsEditRefused t.edits.items e) → IsJoinedEnd g name cmp t old old r
-  unready_end (Ok n) e h why = absurd h
-  unready_end (Err f) e h why = inl (record {
-    nothing = nothing_written g old (Err f) e h;
-    why = subst (λ (d : Fault). UnlessMemory d (IsEditRefused t.edits.items d)) (sym h) why;
-  })
-
-  module _ (new : F) (manifest : List ℕ) (ready : IsJoinedManifest name cmp t.opened.now.version t.edits.items manifest) where
-    abbrev number : ℕ
-    number = manifest_of t.opened.now.version
-
-    pub manifest_refused : {X : Type 0} (q : Result X Fault) (r : Result ℕ Fault) (e : Fault) → q ≡ Err e → IsErrAnd r (λ f. f ≡ e) → IsInstallCalls g (manifest_calls number manifest) (current_calls number) t.opened.now.manifest old new q → IsJoinedEnd g name cmp t old new r
-    manifest_refused q r e was h calls = inr (record {
-      manifest = manifest;
-      ready = ready;
-      calls = handed_install (manifest_calls number manifest) (current_calls number) t.opened.now.manifest old new q r e was h calls;
-      number = refused_ok r e (λ (n : ℕ). n ≡ number) h;
-    })
-
-    pub manifest_done : {X : Type 0} (q : Result X Fault) (x : X) (n : ℕ) → q ≡ Ok x → n ≡ number → IsInstallCalls g (manifest_calls number manifest) (current_calls number) t.opened.now.manifest old new q → IsJoinedEnd g name cmp t old new (Ok n)
-    manifest_done q x n was is calls = inr (record {
-      manifest = manifest;
-      ready = ready;
-      calls = done_install (manifest_calls number manifest) (current_calls number) t.opened.now.manifest old new q x n was calls;
-      number = is;
-    })
 
 -- ---- the end
 
-abbrev refused_as : Fault → Result ℕ Fault
-refused_as e = Err e
-
-same_refused : (e f : Fault) → refused_as e ≡ refused_as f → e ≡ f
-same_refused e f h = cc h
-
-module _ {F : Type 0} (g : Ghosts F) (name : List ℕ) (cmp : KeyOrder) (total : IsTotalOrder cmp) (t : TakenOutcomes) (start old new : F) (some : t.edits.items ≡ [] → ⊥) where
+module _ {F : Type 0} (g : Ghosts F) (name : List ℕ) (cmp : KeyOrder) (total : IsTotalOrder cmp) (t : TakenOutcomes) (start old new : F) (some : t.written.edits.items ≡ [] → ⊥) where
   abbrev first : State
   first = t.opened.now.version
 
@@ -89,51 +49,39 @@ module _ {F : Type 0} (g : Ghosts F) (name : List ℕ) (cmp : KeyOrder) (total :
   AreLawful outcomes = (files : Files) (order : Order) (loaded : List (ℕ × List ℕ)) → Tells (g.tells start) files → ReadsAs cmp order first loaded files → IsLawfulAfter cmp first loaded t.comparison outcomes v
 
   -- the edits read as an edit
-  unready : (outcomes : List Given) → AreTakenInTurn cmp first outcomes v → t.edits.items ≡ edits_in outcomes → (e : Fault) → IsEditRefused t.edits.items e → ⊥
+  unready : (outcomes : List Given) → AreTakenInTurn cmp first outcomes v → t.written.edits.items ≡ edits_in outcomes → (e : Fault) → IsEditRefused t.written.edits.items e → ⊥
   unready [] turn is e h = some is
   unready (o ∷ before) turn is e h =
       let one = one_edit_of cmp first v o before turn in
-      not_both t.edits.items e one.edit h (subst (λ (b : List ℕ). IsEdit b one.edit) (sym is) one.read)
+      not_both t.written.edits.items e one.edit h (subst (λ (b : List ℕ). IsEdit b one.edit) (sym is) one.read)
 
-  installed : (outcomes : List Given) → AreTakenInTurn cmp first outcomes v → t.edits.items ≡ edits_in outcomes → AreWritten outcomes → ReportsDevice {X = Unit {0}} g start old (Ok tt) → AreLawful outcomes → (r : Result ℕ Fault) → IsManifestInstalled g name cmp t old new r
-      → AreInstalledTogether g name cmp t.comparison first v t.opened.now.manifest start new r
-  installed [] turn is written device lawful r i = absurd (some is)
-  installed (o ∷ before) turn is written device lawful r i =
+  installed : (outcomes : List Given) → AreTakenInTurn cmp first outcomes v → t.written.outputs.items ≡ table_sizes (given_tables outcomes) → t.written.edits.items ≡ edits_in outcomes → AreWritten outcomes → ReportsDevice {X = Unit {0}} g start old (Ok tt) → AreLawful outcomes → (r : Result CompactionStep Fault)
+      → AreNamed g name cmp first t.opened.now.manifest t.written old new r → AreInstalledTogether g name cmp t.comparison first v t.opened.now.manifest start new r
+  installed [] turn outputs is written device lawful r n = absurd (some is)
+  installed (o ∷ before) turn outputs is written device lawful r n =
       let outcomes = o ∷ before in
-      let one = one_edit_of cmp first v o before turn in
-      let edit = i.ready.edit in
-      let read = subst (λ (b : List ℕ). IsEdit b edit) is i.ready.read in
-      let edited = edited_in_turn cmp first v outcomes one edit (edit_bytes edit) read i.ready.again in
-      let number = manifest_of first in
-      let all : IsGroupedInstallation g (asked_of name cmp first t.opened.now.manifest number (groups_of outcomes) (edit_bytes edit)) start new r =
-      groups_installed name cmp first t.opened.now.manifest number (groups_of outcomes) (edit_bytes edit) i.manifest one.low total i.ready.manifest i.ready.state i.ready.snapshot start old new tt r written device.at_once device.later i.calls in
+      let read = subst (λ (b : List ℕ). IsEdit b n.edit) is n.read in
       record {
         outcomes = outcomes;
         in_turn = turn;
-        edit = edit;
+        together = groups_joined outcomes;
+        edit = n.edit;
         read = read;
-        edited = edited;
-        runs = all.runs;
-        changed = all.left;
-        survives = λ order loaded named. subst (λ (ts : List (ℕ × List ℕ)). IsEditedBy cmp first number ts (edit_bytes edit) v → SurvivesCrash cmp order (version_with first loaded) (version_with v (next_version_tables cmp v ts loaded)) (change_of g start new) r)
-            (groups_joined outcomes) (all.survives order v loaded named) edited;
-        before = λ order loaded named. all.before order v loaded named (subst (λ (ts : List (ℕ × List ℕ)). IsEditedBy cmp first number ts (edit_bytes edit) v) (sym (groups_joined outcomes)) edited);
-        refused = all.refused;
-        same_current = all.same_current;
-        other_current = λ files told other. no_value r _ (all.other_current files told other);
+        edited = edited_in_turn cmp first v outcomes (one_edit_of cmp first v o before turn) n.edit (edit_bytes n.edit) read n.again;
+        installs = groups_installed name cmp first t.opened.now.manifest (manifest_of first) (groups_of outcomes) (edit_bytes n.edit) (manifest_bytes name cmp first (edit_bytes n.edit)) n.small total refl n.state n.snapshot start old new tt r written device.at_once device.later n.calls;
         lawful = λ files order loaded told reads. lawful files order loaded told reads;
-        number = i.number;
+        step = subst (λ (outs : List (ℕ × ℕ)). IfOk r (λ step. step_in step ≡ record { outputs = outs; deleted = n.edit.deleted; manifest = manifest_of first; edit = edit_bytes n.edit })) outputs n.step;
       }
 
-  pub installed_end : (r : Result ℕ Fault) (taken : AreTaken g cmp first t.comparison start old v t.edits.items) → AreLawful taken.outcomes → IsJoinedEnd g name cmp t old new r
-      → (IsTakingStopped g cmp first start new r × ((e : Fault) → r ≡ Err e → UnlessMemory e ⊥)) ⊎ AreInstalledTogether g name cmp t.comparison first v t.opened.now.manifest start new r
-  installed_end (Ok n) taken lawful (inl u) = absurd u.nothing.refused
+  pub installed_end : (r : Result CompactionStep Fault) (taken : AreTaken g cmp first t.comparison start old v t.written) → AreLawful taken.outcomes → IsNaming g name cmp first t.opened.now.manifest t.written old new r
+      → (IsTakingStopped g cmp first start new r × IfErr r (λ e. UnlessMemory e ⊥)) ⊎ AreInstalledTogether g name cmp t.comparison first v t.opened.now.manifest start new r
+  installed_end (Ok step) taken lawful (inl u) = absurd u.nothing.refused
   installed_end (Err e) taken lawful (inl u) =
       inl (
-        nothing_since g cmp first t.comparison start old v t.edits.items taken new e u.nothing,
-        λ f is. subst (λ (d : Fault). UnlessMemory d ⊥) (same_refused e f is) (unless_from e (IsEditRefused t.edits.items e) ⊥ (unready taken.outcomes taken.in_turn taken.edits_are e) u.why),
+        nothing_since g cmp first t.comparison start old v t.written taken new e u.nothing,
+        unless_from e (IsEditRefused t.written.edits.items e) ⊥ (unready taken.outcomes taken.in_turn taken.edits_are e) u.why,
       )
-  installed_end r taken lawful (inr i) = inr (installed taken.outcomes taken.in_turn taken.edits_are taken.runs taken.device lawful r i)
+  installed_end r taken lawful (inr n) = inr (installed taken.outcomes taken.in_turn taken.outputs_are taken.edits_are taken.runs taken.device lawful r n)
 
 -- ---- with the test of the last version
 
@@ -150,34 +98,34 @@ last_lawful cmp first v LeftOut tells tested (o ∷ before) turn some order load
 
 module _ {F : Type 0} (g : Ghosts F) (name : List ℕ) (cmp : KeyOrder) (t : TakenOutcomes) (start old : F) where
   -- the last version was refused
-  pub last_refused : (new : F) (q : Result (Unit {0}) Fault) (r : Result ℕ Fault) (e : Fault) → q ≡ Err e → IsErrAnd r (λ f. f ≡ e) → OnlyReads g old new
+  pub last_refused : (new : F) (q : Result (Unit {0}) Fault) (r : Result CompactionStep Fault) (e : Fault) → q ≡ Err e → IsErrAnd r (λ f. f ≡ e) → OnlyReads g old new
       → ((files : Files) → Tells (g.tells old) files → FolderAnswers (λ u. u) (g.failed old) (g.failed new) q (IsLastTested cmp files (version_in t) t.comparison)) → IsTakenInstalled g name cmp start old new t r
-  last_refused new q (Ok n) e was h reads answer = absurd h
+  last_refused new q (Ok step) e was h reads answer = absurd h
   last_refused new q (Err f) e was h reads answer =
       λ taken. inr (inl (
-        nothing_since g cmp t.opened.now.version t.comparison start old (version_in t) t.edits.items taken new f (record { calls = reads.calls; same = reads.same; refused = tt }),
+        nothing_since g cmp t.opened.now.version t.comparison start old (version_in t) t.written taken new f (record { calls = reads.calls; same = reads.same; refused = tt }),
         λ files told. subst (λ (d : Fault). UnlessMemory d (IsStopped (g.failed old) (g.failed new) d ⊎ IsLastTested cmp files (version_in t) t.comparison (Err d))) (sym h)
             (subst (λ (x : Result (Unit {0}) Fault). FolderAnswers (λ u. u) (g.failed old) (g.failed new) x (IsLastTested cmp files (version_in t) t.comparison)) was (answer files told)),
       ))
 
   -- it was not, and the manifest was made
-  pub last_passed : (total : IsTotalOrder cmp) (mid new : F) (some : t.edits.items ≡ [] → ⊥) (r : Result ℕ Fault) → OnlyReads g old mid → ReportsDevice {X = Unit {0}} g old mid (Ok tt) → ((files : Files) → Tells (g.tells old) files → IsLastTested cmp files (version_in t) t.comparison (Ok tt))
-      → IsJoinedEnd g name cmp t mid new r → IsTakenInstalled g name cmp start old new t r
+  pub last_passed : (total : IsTotalOrder cmp) (mid new : F) (some : t.written.edits.items ≡ [] → ⊥) (r : Result CompactionStep Fault) → OnlyReads g old mid → ReportsDevice {X = Unit {0}} g old mid (Ok tt) → ((files : Files) → Tells (g.tells old) files → IsLastTested cmp files (version_in t) t.comparison (Ok tt))
+      → IsNaming g name cmp t.opened.now.version t.opened.now.manifest t.written mid new r → IsTakenInstalled g name cmp start old new t r
   last_passed total mid new some r reads device tested h taken =
       let first = t.opened.now.version in
       let v = version_in t in
-      let since = taken_still g cmp first t.comparison start old mid v t.edits.items taken reads device in
+      let since = taken_still g cmp first t.comparison start old mid v t.written taken reads device in
       elim (installed_end g name cmp total t start mid new some r since (λ files order loaded told read.
       last_lawful cmp first v t.comparison (g.tells old) tested taken.outcomes taken.in_turn (λ is. some (taken.edits_are ∙ ap edits_in is)) order loaded (taken.lawful files order loaded told read)
-      (read_now g cmp first t.comparison start old v t.edits.items taken files order loaded told read)) h) [
+      (read_now g cmp first t.comparison start old v t.written taken files order loaded told read)) h) [
         | inl stopped ↦ inr (inl (stopped.0, λ files told. why_none r files stopped.1))
         | inr made ↦ inr (inr made)
       ]
     where
-      why_none : (q : Result ℕ Fault) (files : Files) → ((e : Fault) → q ≡ Err e → UnlessMemory e ⊥) → IfErr q (λ e. UnlessMemory e (IsStopped (g.failed old) (g.failed new) e ⊎ IsLastTested cmp files (version_in t) t.comparison (Err e)))
-      why_none (Ok n) files h = tt
-      why_none (Err e) files h = unless_from e ⊥ (IsStopped (g.failed old) (g.failed new) e ⊎ IsLastTested cmp files (version_in t) t.comparison (Err e)) (λ none. absurd none) (h e refl)
+      why_none : (q : Result CompactionStep Fault) (files : Files) → IfErr q (λ e. UnlessMemory e ⊥) → IfErr q (λ e. UnlessMemory e (IsStopped (g.failed old) (g.failed new) e ⊎ IsLastTested cmp files (version_in t) t.comparison (Err e)))
+      why_none (Ok step) files h = tt
+      why_none (Err e) files h = unless_from e ⊥ (IsStopped (g.failed old) (g.failed new) e ⊎ IsLastTested cmp files (version_in t) t.comparison (Err e)) (λ none. absurd none) h
 
 -- no outcome was taken
-pub none_end : {F : Type 0} (g : Ghosts F) (name : List ℕ) (cmp : KeyOrder) (t : TakenOutcomes) (start old : F) (r : Result ℕ Fault) → t.edits.items ≡ [] → IsErrAnd r (λ e. e ≡ fault Apply) → IsTakenInstalled g name cmp start old old t r
+pub none_end : {F : Type 0} (g : Ghosts F) (name : List ℕ) (cmp : KeyOrder) (t : TakenOutcomes) (start old : F) (r : Result CompactionStep Fault) → t.written.edits.items ≡ [] → IsErrAnd r (λ e. e ≡ fault Apply) → IsTakenInstalled g name cmp start old old t r
 none_end g name cmp t start old r none is taken = inl (record { none = none; reads = record { same = λ n held. ((λ x. x), (λ x. x)); calls = refl }; refused = is })

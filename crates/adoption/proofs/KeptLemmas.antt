@@ -1,9 +1,8 @@
 -- Walks over what is kept and over what outputs hold, side by side.
-use Rattle.std.proofs.Common.{◌≡◌, ℕ, zero, suc, ◌+◌, ◌<◌, ◌≤◌, Bool, true, false, not, ◌&&◌, List, [], ◌∷◌, length, drop, add-one, Option, Some, None, Ok, Err, refl, sym, ap, subst, ◌∙◌, arith, if◌then◌else◌}
+use Rattle.std.proofs.Common.{◌≡◌, ℕ, zero, suc, ◌+◌, ◌<◌, Bool, true, false, ◌&&◌, List, [], ◌∷◌, length, drop, add-one, Option, Some, None, Ok, Err, refl, sym, ap, subst, ◌∙◌, arith, if◌then◌else◌}
 use Rattle.std.specs.Prelude.{◌↔◌, slice_get}
 use Rattle.std.specs.Option.{option_map}
 use Rattle.std.proofs.lemmas.Option.{none-some, same_Some}
-use Rattle.std.proofs.lemmas.List.{drop_all}
 use Rattle.std.specs.Str.{bytes_eq}
 use Rattle.std.proofs.lemmas.Slice.Eq.{bytes_eq-Decides}
 use Rattle.edit.proofs.Binds.{ok_is}
@@ -101,18 +100,6 @@ module _ (kept all left : List Entry) (place : ℕ) (key value : List ℕ) (is_k
 pub one_next : (e : Entry) (es : List Entry) → begins_with e es ≡ true → 0 < length es
 one_next e [] h = absurd cc
 one_next e (f ∷ fs) h = omega arith
-
--- at the end of the kept entries
-pub walked_all : (kept all left : List Entry) (place : ℕ) (more : Bool) → length kept ≤ place → (more ≡ true) ↔ (0 < length left) → IsWalkedTo kept all place left → (not more ≡ true) ↔ (kept ≡ all)
-walked_all kept all left place more le some h =
-    let none : drop place kept ≡ [] = drop_all place kept le in
-    by more left some (λ same. sym none ∙ h.0 same) (λ is. h.1 (none ∙ is))
-  where
-    by : (more : Bool) (left : List Entry) → (more ≡ true) ↔ (0 < length left) → (kept ≡ all → [] ≡ left) → ([] ≡ left → kept ≡ all) → (not more ≡ true) ↔ (kept ≡ all)
-    by true [] some f g = let lt = some.0 refl in absurd (omega (arith, lt))
-    by true (e ∷ es) some f g = (λ is. absurd (cc is), λ same. absurd (cc (f same)))
-    by false [] some f g = (λ is. g refl, λ same. refl)
-    by false (e ∷ es) some f g = absurd (cc (some.1 (omega arith)))
 
 -- ---- the run of the whole range
 

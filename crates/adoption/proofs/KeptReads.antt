@@ -39,7 +39,8 @@ use Rattle.checks.specs.TableReadings.{tables_reading}
 use Rattle.checks.specs.LawfulTables.{IsLawfulTables}
 use Rattle.keep.specs.DropRule.{kept}
 use Rattle.store.proofs.Flow.{no_refusal}
-use Rattle.store.proofs.InputNumbers.{loaded_at, one_table}
+use Rattle.install.proofs.Outputs.{loaded_at}
+use Rattle.store.proofs.InputNumbers.{one_table}
 use Rattle.store.proofs.Loaded.{bytes_found, found_loaded}
 use Rattle.store.proofs.TablesAfter.{one_number}
 use Rattle.store.specs.InputsCompaction.{are_stated, input_numbers, input_tables}
@@ -92,7 +93,7 @@ use Rattle.compact.specs.RequestOverVersion.{output_entries}
 use Rattle.compact.specs.SurvivingReads.{tables_after}
 use Rattle.checks.proofs.FoundTables.{own_bytes}
 use Rattle.store.proofs.Loaded.{held_by}
-use Rattle.adoption.proofs.SameTables.{same_get, same_lawful}
+use Rattle.store.proofs.SameTables.{same_get, same_lawful}
 use Rattle.store.proofs.TablesAfter.{read_after, reads_after, same_after}
 use Rattle.store.specs.InputsCompaction.{RangesRise}
 use Rattle.adoption.specs.Adoption.{compared_request, outputs_in_edit}

@@ -1,9 +1,9 @@
 -- Tables that files hold.
-use Rattle.std.proofs.Common.{◌≡◌, ℕ, List, [], ◌∷◌, map, Option, Ok, refl, sym, ap, ◌∙◌, inl, inr}
+use Rattle.std.proofs.Common.{◌≡◌, ℕ, List, [], ◌∷◌, refl, sym, ap, ◌∙◌}
 use Rattle.std.specs.List.{AllZip}
 use Rattle.folder.specs.Calls.{Files}
-use Rattle.folder.specs.LoadedTables.{IsTableAnswer, IsTableOf}
-use Rattle.folder.specs.ReadsAs.{IsFileIn, IsOneOf}
+use Rattle.folder.specs.LoadedTables.{IsTableOf}
+use Rattle.folder.specs.ReadsAs.{IsFileIn}
 use Rattle.store.proofs.InputNumbers.{one_table}
 
 -- ---- what is loaded
@@ -19,8 +19,3 @@ one_loaded files (n ∷ numbers) (t ∷ one) (s ∷ two) h k =
     let number : t.0 ≡ s.0 = h.0.0 ∙ sym k.0.0 in
     let bytes : t.1 ≡ s.1 = one_table files n s.1 t.1 k.0.1 h.0.1 in
     ap (λ (x : ℕ). (x, t.1) ∷ one) number ∙ (ap (λ (x : List ℕ). (s.0, x) ∷ one) bytes ∙ ap (λ (xs : List (ℕ × List ℕ)). s ∷ xs) (one_loaded files numbers one two h.1 k.1))
-
--- tables of some numbers are loaded if each number has its table
-pub all_loaded : (tells : List ℕ → Option (List ℕ) → Type 0) (numbers : List ℕ) (of : ℕ → List ℕ) → ((n : ℕ) → IsOneOf numbers n → IsTableAnswer tells n (Ok (of n))) → AllZip (IsTableOf tells) numbers (map (λ (n : ℕ). (n, of n)) numbers)
-all_loaded tells [] of h = tt
-all_loaded tells (n ∷ numbers) of h = ((refl, h n (inl refl)), all_loaded tells numbers of (λ k m. h k (inr m)))

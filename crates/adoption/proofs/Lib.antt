@@ -7,7 +7,6 @@ pub mod AdoptedSo
 pub mod LaidTables
 pub mod EditedVersion
 pub mod SortedMembers
-pub mod SameTables
 pub mod KeptReads
 pub mod TakenTurns
 pub mod TakenTables

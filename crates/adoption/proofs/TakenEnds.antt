@@ -35,7 +35,9 @@ use Rattle.keep.specs.Tables.{NumberedContents}
 use Rattle.checks.specs.LawfulTables.{IsLawfulTables}
 use Rattle.store.proofs.InstallPart.{still}
 use Rattle.install.specs.FolderChange.{change_of}
+use Rattle.compact.specs.GroupedAnswer.{table_sizes}
 use Rattle.store.specs.Compaction.{IsUnchanged}
+use Rattle.store.specs.declared.named_edits.WrittenTables.{WrittenTables}
 use Rattle.levels.proofs.Ends.{ended_calls}
 use Rattle.levels.proofs.LaidTables.{laid_twice}
 use Rattle.levels.proofs.TablesStand.{version_stays}
@@ -107,7 +109,10 @@ lawful_more cmp total exact first v (With s) g a tables old outputs (o ∷ befor
 calls_more : (before : List Given) (o : Given) → table_calls (groups_of (o ∷ before)) ≡ table_calls (groups_of before) ++ table_calls (o.1 ∷ [])
 calls_more before o = map-append _ (groups_of before) (o.1 ∷ [])
 
-module _ {F : Type 0} (g : Ghosts F) (cmp : KeyOrder) (first : State) (comparison : Comparison) (start old : F) (v : State) (edits : List ℕ) (t : AreTaken g cmp first comparison start old v edits) where
+sizes_more : (before : List Given) (o : Given) → table_sizes (given_tables (o ∷ before)) ≡ table_sizes (given_tables before) ++ table_sizes o.1
+sizes_more before o = map-append _ (given_tables before) o.1
+
+module _ {F : Type 0} (g : Ghosts F) (cmp : KeyOrder) (first : State) (comparison : Comparison) (start old : F) (v : State) (written : WrittenTables) (t : AreTaken g cmp first comparison start old v written) where
   -- what was told when just their tables had been written
   told_after : TellsThrough (map Done (table_calls (groups_of t.outcomes))) (g.tells start) (g.tells old)
   told_after = subst (λ (s : List Step). TellsThrough s (g.tells start) (g.tells old)) t.runs.made t.runs.change
@@ -157,11 +162,12 @@ module _ {F : Type 0} (g : Ghosts F) (cmp : KeyOrder) (first : State) (compariso
       lawful_with files order loaded told reads =
           lawful_more cmp total exact first v comparison g a tables old outputs t.outcomes t.in_turn ad order loaded (t.lawful files order loaded told reads) (read_now files order loaded told reads)
 
-      pub taken_more : {X : Type 0} (x : X) (w : State) (bytes : List ℕ) → w ≡ a.next → bytes ≡ edits ++ a.edit → MakesCalls {E = Fault} (table_calls (tables ∷ [])) (g.calls old) (g.calls new) (g.tells old) (g.tells new) (Ok x) → ReportsDevice g old new (Ok x)
-          → AreTaken g cmp first comparison start new w bytes
-      taken_more {X = X} x w bytes is same runs device = subst (λ (s : State). AreTaken g cmp first comparison start new s bytes) (sym is) (record {
+      pub taken_more : {X : Type 0} (x : X) (w : State) (after : WrittenTables) → w ≡ a.next → after.outputs.items ≡ written.outputs.items ++ table_sizes tables → after.edits.items ≡ written.edits.items ++ a.edit
+          → MakesCalls {E = Fault} (table_calls (tables ∷ [])) (g.calls old) (g.calls new) (g.tells old) (g.tells new) (Ok x) → ReportsDevice g old new (Ok x) → AreTaken g cmp first comparison start new w after
+      taken_more {X = X} x w after is sizes same runs device = subst (λ (s : State). AreTaken g cmp first comparison start new s after) (sym is) (record {
         outcomes = all;
         in_turn = turn;
+        outputs_are = sizes ∙ ap (λ (o : List (ℕ × ℕ)). o ++ table_sizes tables) t.outputs_are ∙ sym (sizes_more t.outcomes (a, tables));
         edits_are = same ∙ ap (λ (b : List ℕ). b ++ a.edit) t.edits_are;
         runs = let all_made = all_runs {Y = X} (Ok x) runs in record { steps = all_made.steps; made = all_made.made; appended = all_made.appended; change = all_made.change };
         device = let both = reports_then {first = Ok tt} refl t.device device in reports_after {first = Ok x} (Ok tt) refl both tt;
@@ -172,20 +178,20 @@ module _ {F : Type 0} (g : Ghosts F) (cmp : KeyOrder) (first : State) (compariso
 
 module _ {F : Type 0} (g : Ghosts F) (cmp : KeyOrder) (old new : F) (t : TakenOutcomes) where
   pub end_before : (start : F) (e : Fault) → IsUnchanged {T = TakenOutcome} (change_of g old new) (Err e) → IsTakingEnd g cmp start old new t (Err e)
-  end_before start e none = λ taken. nothing_since g cmp t.opened.now.version t.comparison start old (version_in t) t.edits.items taken new e none
+  end_before start e none = λ taken. nothing_since g cmp t.opened.now.version t.comparison start old (version_in t) t.written taken new e none
 
   pub end_of : (total : IsTotalOrder cmp) (exact : IsExact cmp) (a : Adoption) (tables : List (ℕ × List ℕ)) → IsAdopted cmp (version_in t) (a, tables) → has_opened_inputs t.opened.now.version (a, tables) ≡ true
       → (start : F) (r : Result TakenOutcome Fault) → ReportsDevice g old new r → IsTakingOf g cmp (a, tables) old new t r → IsTakingEnd g cmp start old new t r
   end_of total exact a tables ad opened start (Ok x) device (inl none) = absurd none.refused
   end_of total exact a tables ad opened start (Ok x) device (inr (outputs, written)) =
       λ taken. (
-        written.opened,
-        written.compared,
-        taken_more g cmp t.opened.now.version t.comparison start old (version_in t) t.edits.items taken a tables ad opened new total exact outputs x (version_in x.taken) x.taken.edits.items written.version written.edits written.runs device,
+        written.taken.opened,
+        written.taken.compared,
+        taken_more g cmp t.opened.now.version t.comparison start old (version_in t) t.written taken a tables ad opened new total exact outputs x (version_in x.taken) x.taken.written written.taken.version written.taken.outputs written.taken.edits written.runs device,
       )
   end_of total exact a tables ad opened start (Err e) device (inl none) = end_before start e none
   end_of total exact a tables ad opened start (Err e) device (inr (outputs, written)) =
-      λ taken. written_stopped g cmp t.opened.now.version t.comparison start old (version_in t) t.edits.items taken a tables ad opened new e written.runs
+      λ taken. written_stopped g cmp t.opened.now.version t.comparison start old (version_in t) t.written taken a tables ad opened new e written.runs
 
 -- ---- the begin
 
@@ -205,22 +211,24 @@ first_lawful cmp first (With s) files loaded read h = version_tables cmp first f
 first_lawful cmp first LeftOut files loaded read h = tt
 
 pub taken_none : {F : Type 0} (g : Ghosts F) (cmp : KeyOrder) (first : State) (comparison : Comparison) (old new : F) → OnlyReads g old new → ReportsDevice {X = Unit {0}} g old new (Ok tt) → ((files : Files) → Tells (g.tells old) files → IsFirstTested cmp files first comparison (Ok tt))
-    → AreTaken g cmp first comparison old new first []
-taken_none g cmp first comparison old new reads device tested = record {
+    → (w : WrittenTables) → w.outputs.items ≡ [] → w.edits.items ≡ [] → AreTaken g cmp first comparison old new first w
+taken_none g cmp first comparison old new reads device tested w outputs edits = record {
   outcomes = [];
   in_turn = refl;
-  edits_are = refl;
+  outputs_are = outputs;
+  edits_are = edits;
   runs = record { steps = []; made = refl; appended = reads.calls ∙ sym (append-nil (g.calls old)); change = λ s told. (s, refl, still (g.tells old) (g.tells new) reads.same s.files told) };
   device = device;
   lawful = λ files order loaded told read. first_lawful cmp first comparison files loaded read.loaded (tested files told);
 }
 
 -- and the same after more was read
-abbrev pub taken_still : {F : Type 0} (g : Ghosts F) (cmp : KeyOrder) (first : State) (comparison : Comparison) (start old new : F) (v : State) (edits : List ℕ) → AreTaken g cmp first comparison start old v edits → OnlyReads g old new → ReportsDevice {X = Unit {0}} g old new (Ok tt)
-    → AreTaken g cmp first comparison start new v edits
-taken_still g cmp first comparison start old new v edits t reads device = record {
+abbrev pub taken_still : {F : Type 0} (g : Ghosts F) (cmp : KeyOrder) (first : State) (comparison : Comparison) (start old new : F) (v : State) (w : WrittenTables) → AreTaken g cmp first comparison start old v w → OnlyReads g old new → ReportsDevice {X = Unit {0}} g old new (Ok tt)
+    → AreTaken g cmp first comparison start new v w
+taken_still g cmp first comparison start old new v w t reads device = record {
   outcomes = t.outcomes;
   in_turn = t.in_turn;
+  outputs_are = t.outputs_are;
   edits_are = t.edits_are;
   runs = record { steps = t.runs.steps; made = t.runs.made; appended = reads.calls ∙ t.runs.appended; change = λ s told. let last = t.runs.change s told in (last.0, last.1, still (g.tells old) (g.tells new) reads.same last.0.files last.2) };
   device = reports_then {first = Ok tt} refl t.device device;

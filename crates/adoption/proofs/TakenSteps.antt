@@ -1,5 +1,5 @@
 -- The steps of taking an outcome in, as parts of a call.
-use Rattle.std.proofs.Common.{◌≡◌, ◌⊎◌, ℕ, [], ◌∷◌, ◌++◌, Result, Ok, Err, IsErrAnd, refl, sym, subst, ◌∙◌, inl, inr}
+use Rattle.std.proofs.Common.{◌≡◌, ◌⊎◌, ℕ, [], ◌∷◌, Result, Ok, Err, IsErrAnd, refl, sym, subst, ◌∙◌, inl, inr}
 use Rattle.edit.specs.Answers.{UnlessMemory, fault}
 use Rattle.edit.specs.fault.Fault.{Fault}
 use Rattle.edit.specs.fault.FaultName.TheVariants.{Memory}
@@ -15,9 +15,8 @@ use Rattle.store.proofs.InstallPart.{refused_ok}
 use Rattle.store.proofs.RunPart.{calls_since, handed_calls, passed_calls}
 use Rattle.install.specs.FolderChange.{change_of}
 use Rattle.store.specs.Compaction.{IsUnchanged}
-use Rattle.adoption.specs.TakenIn.{version_in}
 use Rattle.adoption.specs.TakenOutcomes.{Given}
-use Rattle.adoption.specs.TakingSteps.{AreTestedOutputs, IsTakingOf, IsWritten, IsWrittenTaking}
+use Rattle.adoption.specs.TakingSteps.{AreTestedOutputs, IsOneMore, IsTakingOf, IsWritten, IsWrittenTaking}
 use Rattle.adoption.specs.declared.taken_outcomes.TakenOutcome.{TakenOutcome}
 use Rattle.adoption.specs.declared.taken_outcomes.TakenOutcomes.{TakenOutcomes}
 
@@ -32,20 +31,13 @@ module _ {F : Type 0} (g : Ghosts F) (given : Given) (old new : F) (t : TakenOut
   pub written_refused : {X : Type 0} (r : Result X Fault) (q : Result TakenOutcome Fault) (e : Fault) → r ≡ Err e → IsErrAnd q (λ f. f ≡ e) → MakesCalls (table_calls (given.1 ∷ [])) (g.calls old) (g.calls new) (g.tells old) (g.tells new) r → IsWrittenTaking g given old new t q
   written_refused r q e was is runs = inr (record {
     runs = handed_calls (table_calls (given.1 ∷ [])) (g.calls old) (g.calls new) (g.tells old) (g.tells new) r q e was is runs;
-    opened = refused_ok q e (λ (one : TakenOutcome). one.taken.opened.now ≡ t.opened.now) is;
-    compared = refused_ok q e (λ (one : TakenOutcome). one.taken.comparison ≡ t.comparison) is;
-    version = refused_ok q e (λ (one : TakenOutcome). version_in one.taken ≡ given.0.next) is;
-    edits = refused_ok q e (λ (one : TakenOutcome). one.taken.edits.items ≡ t.edits.items ++ given.0.edit) is;
+    taken = refused_ok q e (λ (one : TakenOutcome). IsOneMore given t one.taken) is;
   })
 
-  pub written_done : {X : Type 0} (r : Result X Fault) (x : X) (one : TakenOutcome) → r ≡ Ok x → one.taken.opened.now ≡ t.opened.now → one.taken.comparison ≡ t.comparison → version_in one.taken ≡ given.0.next → one.taken.edits.items ≡ t.edits.items ++ given.0.edit
-      → MakesCalls (table_calls (given.1 ∷ [])) (g.calls old) (g.calls new) (g.tells old) (g.tells new) r → IsWrittenTaking g given old new t (Ok one)
-  written_done r x one was opened compared version edits runs = inr (record {
+  pub written_done : {X : Type 0} (r : Result X Fault) (x : X) (one : TakenOutcome) → r ≡ Ok x → IsOneMore given t one.taken → MakesCalls (table_calls (given.1 ∷ [])) (g.calls old) (g.calls new) (g.tells old) (g.tells new) r → IsWrittenTaking g given old new t (Ok one)
+  written_done r x one was taken runs = inr (record {
     runs = passed_calls (table_calls (given.1 ∷ [])) (g.calls old) (g.calls new) (g.tells old) (g.tells new) r x one was runs;
-    opened = opened;
-    compared = compared;
-    version = version;
-    edits = edits;
+    taken = taken;
   })
 
 -- ---- told from an earlier state of the folder on, which was only read since
@@ -57,10 +49,7 @@ module _ {F : Type 0} (g : Ghosts F) (cmp : KeyOrder) (given : Given) (old mid n
   written : IsWritten g given mid new t r → IsWritten g given old new t r
   written w = record {
     runs = calls_since (table_calls (given.1 ∷ [])) (g.calls old) (g.calls mid) (g.calls new) (g.tells old) (g.tells mid) (g.tells new) r reads.calls (λ files told. told_still (g.tells old) (g.tells mid) files reads.same told) w.runs;
-    opened = w.opened;
-    compared = w.compared;
-    version = w.version;
-    edits = w.edits;
+    taken = w.taken;
   }
 
   pub taking_since : AreTestedOutputs g cmp t.comparison given old → IsWrittenTaking g given mid new t r → IsTakingOf g cmp given old new t r

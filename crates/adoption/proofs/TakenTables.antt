@@ -20,12 +20,11 @@ use Rattle.install.specs.GroupedInstallation.{tables_of_groups}
 use Rattle.install.specs.Install.{next_version_tables, numbers_of, table_bytes_of, table_calls}
 use Rattle.install.proofs.Moments.{made_by}
 use Rattle.install.proofs.Numbers.{after_edit, in_files, in_version}
-use Rattle.store.proofs.InputNumbers.{loaded_at}
 use Rattle.store.specs.FolderRequest.{manifest_of}
-use Rattle.levels.proofs.FreeOutputs.{AreApart, filed, outputs_free, tables_passed}
+use Rattle.install.proofs.Edited.{outputs_free}
+use Rattle.install.proofs.Outputs.{AreApart, filed, loaded_at, loads, tables_passed}
 use Rattle.levels.proofs.LaidTables.{passed_by}
 use Rattle.adoption.specs.TakenOutcomes.{AreTakenInTurn, Given, edits_in, given_tables, groups_of}
-use Rattle.adoption.proofs.LaidTables.{all_loaded}
 use Rattle.adoption.proofs.TakenTurns.{AreOneEdit, edited_in_turn, groups_joined, one_edit_of}
 
 kept_written : (tables : List (ℕ × List ℕ)) (done : List (List ℕ × List ℕ)) (w : World) → AllWritten (filed tables done) w → AllWritten done w
@@ -86,7 +85,7 @@ pub loaded_in_turn : (cmp : KeyOrder) (first v : State) (outcomes : List Given) 
     → ((n : ℕ) → IsOneOf (numbers_of (given_tables outcomes)) n → now (table_name n) ≡ Some (table_bytes_of (given_tables outcomes ++ loaded) n))
     → AllZip (IsTableOf (IsFileIn now)) (file_numbers cmp v) (next_version_tables cmp v (given_tables outcomes) loaded)
 loaded_in_turn cmp first v outcomes one now loaded read found =
-    all_loaded (IsFileIn now) (file_numbers cmp v) (table_bytes_of (given_tables outcomes ++ loaded)) at
+    loads (IsFileIn now) (file_numbers cmp v) (table_bytes_of (given_tables outcomes ++ loaded)) at
   where
     old : (n : ℕ) → IsOneOf (file_numbers cmp first) n → IsTableAnswer (IsFileIn now) n (Ok (table_bytes_of (given_tables outcomes ++ loaded) n))
     old n m =

@@ -1,9 +1,9 @@
 -- Outcomes that are taken in one after the other: their edits together make the version that they
 -- make one after the other.
-use Rattle.std.proofs.Common.{◌≡◌, ◌⊎◌, ℕ, ◌+◌, ◌-◌, ◌<◌, ◌≤◌, ◌^◌, max, nat_eq, nat_lt, Bool, true, false, not, ◌&&◌, ◌==◌, List, [], ◌∷◌, ◌++◌, map, unwrap_or, Some, None, is_some, refl, sym, ap, subst, ◌∙◌, inl, inr, arith, eqb-true}
+use Rattle.std.proofs.Common.{◌≡◌, ◌⊎◌, ℕ, ◌+◌, ◌-◌, ◌<◌, ◌≤◌, ◌^◌, max, nat_eq, nat_lt, Bool, true, false, not, ◌==◌, List, [], ◌∷◌, ◌++◌, map, unwrap_or, Some, None, is_some, refl, sym, ap, subst, ◌∙◌, inl, inr, arith, eqb-true}
 use Rattle.std.specs.Prelude.{Contains}
 use Rattle.std.specs.List.{AllByRecursion, list_all}
-use Rattle.std.proofs.lemmas.Bool.{eq-eqb, ltb-true}
+use Rattle.std.proofs.lemmas.Bool.{ltb-true}
 use Rattle.std.proofs.lemmas.List.{append-nil, map-append}
 use Rattle.edit.specs.Comparator.{KeyOrder}
 use Rattle.edit.specs.Edit.{Edit, IsEdit, deleted_cmp}
@@ -29,6 +29,7 @@ use Rattle.install.specs.JoinedEdits.{joined_edit}
 use Rattle.install.proofs.DeletedSets.{tied}
 use Rattle.install.proofs.JoinedBytes.{edits_join}
 use Rattle.levels.proofs.JoinedFiles.{joined_applies}
+use Rattle.levels.proofs.Rows.{numbers_joined, other_place}
 use Rattle.adoption.specs.Adoption.{Adoption, adopted, adopted_next}
 use Rattle.adoption.specs.AdoptedOutcome.{IsAdopted}
 use Rattle.adoption.specs.TakenOutcomes.{AreTakenInTurn, Given, edits_in, given_tables, groups_of, has_opened_inputs}
@@ -49,10 +50,6 @@ test_at p (y ∷ xs) x h at = elim (first_or_later y xs x at) [
   | inr later ↦ test_at p xs x (and_second (p y) (list_all p xs) h) later
 ]
 
-numbers_joined : (one two : List (ℕ × List ℕ)) → numbers_of (one ++ two) ≡ numbers_of one ++ numbers_of two
-numbers_joined [] two = refl
-numbers_joined (t ∷ one) two = ap (λ (ns : List ℕ). t.0 ∷ ns) (numbers_joined one two)
-
 groups_append : (groups : List (List (ℕ × List ℕ))) (tables : List (ℕ × List ℕ)) → tables_of_groups (groups ++ tables ∷ []) ≡ tables_of_groups groups ++ tables
 groups_append [] tables = append-nil tables
 groups_append (g ∷ groups) tables = ap (λ (ts : List (ℕ × List ℕ)). g ++ ts) (groups_append groups tables) ∙ sym (joined g (tables_of_groups groups) tables)
@@ -64,17 +61,6 @@ groups_append (g ∷ groups) tables = ap (λ (ts : List (ℕ × List ℕ)). g ++
 pub groups_joined : (outcomes : List Given) → tables_of_groups (groups_of outcomes) ≡ given_tables outcomes
 groups_joined [] = refl
 groups_joined (o ∷ before) = groups_append (groups_of before) o.1 ∙ ap (λ (ts : List (ℕ × List ℕ)). ts ++ o.1) (groups_joined before)
-
-other_place : (f : NewFile) (d : DeletedFile) → d.number < f.meta.number → is_same_place (place_of f) d ≡ false
-other_place f d lt = by (nat_eq f.meta.number d.number) refl
-  where
-    and_false : (b : Bool) → (b && false) ≡ false
-    and_false true = refl
-    and_false false = refl
-
-    by : (b : Bool) → nat_eq f.meta.number d.number ≡ b → is_same_place (place_of f) d ≡ false
-    by true e = absurd (let same = eqb-true f.meta.number d.number e in omega (arith, same, lt))
-    by false e = ap (λ (b : Bool). (f.level == d.level) && b) e ∙ and_false (f.level == d.level)
 
 same_number : (f : NewFile) (d : DeletedFile) → is_same_place (place_of f) d ≡ true → f.meta.number ≡ d.number
 same_number f d h = eqb-true f.meta.number d.number (and_second (f.level == d.level) (nat_eq f.meta.number d.number) h)

@@ -1,27 +1,28 @@
 -- What is left of a folder by outcomes that are taken in and installed.
-use Rattle.std.specs.Prelude.{◌≡◌, ◌≢◌, ◌⊎◌, ℕ, List, [], ◌++◌, map, codes, unwrap_or, Some}
+use Rattle.std.specs.Prelude.{◌≡◌, ◌⊎◌, ℕ, List, [], unwrap_or}
 use Rattle.std.specs.Prelude.{Result, Ok, Err, IfErr, IfOk, IsErrAnd, OnOk}
 use Rattle.edit.specs.Answers.{UnlessMemory, fault}
 use Rattle.edit.specs.fault.Fault.{Fault}
-use Rattle.edit.specs.fault.FaultName.TheVariants.{Apply, Changed}
+use Rattle.edit.specs.fault.FaultName.TheVariants.{Apply}
 use Rattle.edit.specs.Comparator.{KeyOrder}
 use Rattle.edit.specs.Edit.{Edit, IsEdit, edit_bytes}
 use Rattle.edit.specs.Version.{State}
 use Rattle.folder.specs.CallSequence.{MakesCalls}
-use Rattle.folder.specs.Calls.{Done, Files, Tells}
-use Rattle.folder.specs.Manifest.{order_name}
-use Rattle.folder.specs.Names.{current_text}
+use Rattle.folder.specs.Calls.{Files, Tells}
 use Rattle.folder.specs.OpenAnswer.{IsStopped}
 use Rattle.folder.specs.ReadsAs.{ReadsAs}
 use Rattle.folder.specs.Reports.{OnlyReads, ReportsDevice}
 use Rattle.folder.specs.declared.folder.Folder.{Ghosts}
 use Rattle.folder.specs.declared.order.Order.{Order}
 use Rattle.install.specs.FolderChange.{change_of}
-use Rattle.install.specs.Install.{IsEditedBy, IsStoppedOrChanged, SurvivesCrash}
-use Rattle.install.specs.Install.{calls_before_rename, install_calls, manifest_bytes}
-use Rattle.install.specs.Install.{next_version_tables, table_calls, version_with}
+use Rattle.install.specs.GroupedInstallation.{IsGroupedInstallation, asked_of, tables_of_groups}
+use Rattle.install.specs.Install.{IsEditedBy, SurvivesCrash, table_calls, version_with}
+use Rattle.compact.specs.GroupedAnswer.{table_sizes}
 use Rattle.store.specs.FolderRequest.{manifest_of}
 use Rattle.store.specs.Outcome.{OutcomeView, outcome_in}
+use Rattle.store.specs.Step.{step_in}
+use Rattle.store.specs.declared.compaction_step.CompactionStep.{CompactionStep}
+use Rattle.store.specs.declared.named_edits.WrittenTables.{WrittenTables}
 use Rattle.adoption.specs.Adoption.{IsLastTested}
 use Rattle.adoption.specs.TakenOutcomes.{AreTakenInTurn, Given, IsLawfulAfter, IsLawfulSoFar}
 use Rattle.adoption.specs.TakenOutcomes.{edits_in, given_tables, groups_of}
@@ -40,10 +41,11 @@ outcome_taken t = outcome_in t.made
 -- tables were written. If outputs are compared and the folder read as that version, it was lawful,
 -- and what they leave is.
 pub record AreTaken {F : Type 0} (g : Ghosts F) (cmp : KeyOrder) (first : State)
-    (comparison : Comparison) (old new : F) (v : State) (edits : List ℕ) : Type 0 where
+    (comparison : Comparison) (old new : F) (v : State) (w : WrittenTables) : Type 0 where
   pub outcomes : List Given
   pub in_turn : AreTakenInTurn cmp first outcomes v
-  pub edits_are : edits ≡ edits_in outcomes
+  pub outputs_are : w.outputs.items ≡ table_sizes (given_tables outcomes)
+  pub edits_are : w.edits.items ≡ edits_in outcomes
   pub runs : MakesCalls {T = Unit {0}} {E = Fault} (table_calls (groups_of outcomes))
       (g.calls old) (g.calls new) (g.tells old) (g.tells new) (Ok tt)
   pub device : ReportsDevice {X = Unit {0}} g old new (Ok tt)
@@ -68,63 +70,51 @@ pub record IsTakingStopped {F T : Type 0} (g : Ghosts F) (cmp : KeyOrder) (first
 abbrev pub IsTakingEnd : {F : Type 0} → Ghosts F → KeyOrder → F → F → F → TakenOutcomes →
     Result TakenOutcome Fault → Type 0
 IsTakingEnd g cmp start old new t (Ok one) =
-    AreTaken g cmp t.opened.now.version t.comparison start old (version_in t) t.edits.items →
+    AreTaken g cmp t.opened.now.version t.comparison start old (version_in t) t.written →
     (one.taken.opened.now ≡ t.opened.now) × (one.taken.comparison ≡ t.comparison)
     × AreTaken g cmp t.opened.now.version t.comparison start new (version_in one.taken)
-    one.taken.edits.items
+    one.taken.written
 IsTakingEnd g cmp start old new t (Err e) =
-    AreTaken g cmp t.opened.now.version t.comparison start old (version_in t) t.edits.items →
+    AreTaken g cmp t.opened.now.version t.comparison start old (version_in t) t.written →
     IsTakingStopped {T = TakenOutcome} g cmp t.opened.now.version start new (Err e)
 
 -- no outcome was taken, so that nothing is installed
 pub record IsNoneTaken {F T : Type 0} (g : Ghosts F) (t : TakenOutcomes) (old new : F)
     (result : Result T Fault) : Type 0 where
-  pub none : t.edits.items ≡ []
+  pub none : t.written.edits.items ≡ []
   pub reads : OnlyReads g old new
   pub refused : IsErrAnd result (λ e. e ≡ fault Apply)
 
 -- All outcomes were installed by one manifest, up to a call that failed: their tables, and the edit
--- as which their edits read. A crash at any moment leaves the first version or the one after all of
--- them. At Ok it is the latter, and at Changed the former. That one is lawful, and gets answer as
--- they should.
+-- as which their edits read. It makes the version after all of them, which is lawful, and gets
+-- answer as they should. A crash at any moment leaves the first version or that one. At Ok it is
+-- the latter, and at Changed the former. At Ok the step has all tables, and deletes what the edit
+-- does.
 pub record AreInstalledTogether {F : Type 0} (g : Ghosts F) (name : List ℕ) (cmp : KeyOrder)
     (comparison : Comparison) (first v : State) (opened : ℕ) (old new : F)
-    (result : Result ℕ Fault) : Type 0 where
+    (result : Result CompactionStep Fault) : Type 0 where
   pub outcomes : List Given
   pub in_turn : AreTakenInTurn cmp first outcomes v
+  pub together : tables_of_groups (groups_of outcomes) ≡ given_tables outcomes
   pub edit : Edit
   pub read : IsEdit (edits_in outcomes) edit
   pub edited : IsEditedBy cmp first (manifest_of first) (given_tables outcomes) (edit_bytes edit) v
-  pub runs : MakesCalls (install_calls (manifest_of first) (groups_of outcomes)
-      (manifest_bytes name cmp first (edit_bytes edit))) (g.calls old) (g.calls new) (g.tells old)
-      (g.tells new) result
-  pub changed : IfErr result (λ e. e ≡ fault Changed → g.calls new ≡ g.calls old ++ map Done
-      (calls_before_rename (manifest_of first) (groups_of outcomes)
-      (manifest_bytes name cmp first (edit_bytes edit))))
-  pub survives : (order : Order) (loaded : List (ℕ × List ℕ)) → order_name order ≡ name →
-      SurvivesCrash cmp order (version_with first loaded)
-      (version_with v (next_version_tables cmp v (given_tables outcomes) loaded))
-      (change_of g old new) result
-  pub before : (order : Order) (loaded : List (ℕ × List ℕ)) → order_name order ≡ name →
-      IfErr result (λ e. e ≡ fault Changed → SurvivesCrash cmp order (version_with first loaded)
-      (version_with first loaded) (change_of g old new) result)
-  pub refused : IfErr result
-      (λ e. UnlessMemory e (IsStoppedOrChanged (g.failed old) (g.failed new) e))
-  -- Changed isn't answered if CURRENT is the one that was opened, and Ok isn't if it is another one
-  pub same_current : (files : Files) → Tells (g.tells old) files →
-      files (codes "CURRENT") ≡ Some (current_text opened) →
-      IfErr result (λ e. UnlessMemory e (IsStopped (g.failed old) (g.failed new) e))
-  pub other_current : (files : Files) → Tells (g.tells old) files →
-      files (codes "CURRENT") ≢ Some (current_text opened) → OnOk result ⊥
+  pub installs : IsGroupedInstallation g (asked_of name cmp first opened (manifest_of first)
+      (groups_of outcomes) (edit_bytes edit)) old new result
   pub lawful : (files : Files) (order : Order) (loaded : List (ℕ × List ℕ)) →
       Tells (g.tells old) files → ReadsAs cmp order first loaded files →
       IsLawfulAfter cmp first loaded comparison outcomes v
-  pub number : IfOk result (λ n. n ≡ manifest_of first)
+  pub step : IfOk result (λ step. step_in step ≡ record {
+    outputs = table_sizes (given_tables outcomes);
+    deleted = edit.deleted;
+    manifest = manifest_of first;
+    edit = edit_bytes edit;
+  })
 
 -- why nothing was installed of a folder that tells files: the device failed, or the last version
 -- was refused
 abbrev pub IsWhyNone : {F : Type 0} → Ghosts F → KeyOrder → F → F → TakenOutcomes →
-    Result ℕ Fault → Type 0
+    Result CompactionStep Fault → Type 0
 IsWhyNone g cmp old new t result = (files : Files) → Tells (g.tells old) files → IfErr result
     (λ e. UnlessMemory e (IsStopped (g.failed old) (g.failed new) e
     ⊎ IsLastTested cmp files (version_in t) t.comparison (Err e)))
@@ -132,9 +122,9 @@ IsWhyNone g cmp old new t result = (files : Files) → Tells (g.tells old) files
 -- If outcomes were taken in from the first state of a folder on: there was none; or nothing was
 -- installed; or they were installed.
 abbrev pub IsTakenInstalled : {F : Type 0} → Ghosts F → List ℕ → KeyOrder → F → F → F →
-    TakenOutcomes → Result ℕ Fault → Type 0
+    TakenOutcomes → Result CompactionStep Fault → Type 0
 IsTakenInstalled g name cmp start old new t result =
-    AreTaken g cmp t.opened.now.version t.comparison start old (version_in t) t.edits.items →
+    AreTaken g cmp t.opened.now.version t.comparison start old (version_in t) t.written →
     IsNoneTaken g t old new result
     ⊎ ((IsTakingStopped g cmp t.opened.now.version start new result
     × IsWhyNone g cmp old new t result)

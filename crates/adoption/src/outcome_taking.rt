@@ -27,7 +27,7 @@ use install::write_group;
 use pick::InputFile;
 use std::alloc::Global;
 use std::thread::Threads;
-use store::{manifest_of, outcome_answer};
+use store::{CompactionOutcome, WrittenTables, manifest_of, outcome_answer};
 
 /// Takes in the outcome that `source` holds, after those that were `taken`: tests it against the
 /// version that they leave, and writes its tables. Nothing is installed yet: [`install_taken`] does
@@ -206,25 +206,29 @@ fn write_taken<'o, F: Folder, R: Threads + Sync>(
         ..
     } = given;
     let made = outcome_answer(alloc, &picked, outcome)?;
-    let edits = joined(alloc, &taken.edits, &made.outcome.edit)?;
+    let written = one_more(taken.written, &made)?;
     write_group(rt, folder, &made.outcome.tables)?;
     Ok(TakenOutcome {
         taken: TakenOutcomes {
             opened: taken.opened,
             comparison: taken.comparison,
             next: Some(next),
-            edits,
+            written,
         },
         made,
     })
 }
 
-/// Bytes, and then others.
-fn joined(alloc: Global, first: &[u8], then: &[u8]) -> Result<Vec<u8>, Fault>
-    ensures ok { IfOk result (λ v. v.items ≡ first.now ++ then.now) }
+/// Tables that were written, and then those of one more outcome.
+fn one_more(before: WrittenTables, made: &CompactionOutcome) -> Result<WrittenTables, Fault>
+    ensures outputs { IfOk result
+        (λ w. w.outputs.items ≡ before.outputs.items ++ made.now.outputs.items) }
+    ensures edits { IfOk result
+        (λ w. w.edits.items ≡ before.edits.items ++ made.now.outcome.edit.items) }
     ensures memory { IfErr result (λ e. e ≡ fault Memory) }
 {
-    let mut bytes = Vec::from_slice(alloc, first)?;
-    bytes.extend_from_slice(then)?;
-    Ok(bytes)
+    let mut written = before;
+    written.outputs.extend_from_slice(&made.outputs)?;
+    written.edits.extend_from_slice(&made.outcome.edit)?;
+    Ok(written)
 }

@@ -5,7 +5,7 @@ ghost use Rattle.adoption.specs.TakenIn.{version_in};
 
 use crate::comparison::Comparison;
 use edit::Version;
-use store::{CompactionOutcome, SyncedVersion};
+use store::{CompactionOutcome, SyncedVersion, WrittenTables};
 
 /// Outcomes that were taken in, one after the other. Each was tested against the version that those
 /// before it leave, and its tables were written. No version names these tables yet.
@@ -17,8 +17,8 @@ pub struct TakenOutcomes<'o> {
     pub comparison: Comparison<'o>,
     /// The version that they leave. None before the first one.
     pub next: Option<Version>,
-    /// The bytes of their edits, one after the other.
-    pub edits: Vec<u8>,
+    /// Their tables, and the bytes of their edits, one after the other.
+    pub written: WrittenTables,
 }
 
 /// Outcomes with one more.

@@ -1,6 +1,6 @@
 //! Begins to take outcomes in.
 
-ghost use Rattle.std.specs.Prelude.{◌≡◌, [], IfOk};
+ghost use Rattle.std.specs.Prelude.{◌≡◌, IfOk};
 ghost use Rattle.folder.specs.Calls.{Files, Tells};
 ghost use Rattle.folder.specs.OpenAnswer.{FolderAnswers};
 ghost use Rattle.folder.specs.Orders.{order_cmp};
@@ -15,7 +15,7 @@ use checks::{Workers, test_by_order};
 use edit::Fault;
 use folder::ReadsTables;
 use std::thread::Threads;
-use store::SyncedVersion;
+use store::{SyncedVersion, WrittenTables};
 
 /// No outcome yet, for what a folder was `opened` as. If outputs are to be compared, it tests that
 /// version, once for all outcomes: as long as it is lawful, so is each one that they leave. It only
@@ -36,7 +36,7 @@ pub fn begin_taking<'o, F: ReadsTables, W: Watch + Sync, R: Threads + Sync>(
         (IsFirstTested (order_cmp opened.now.order) files opened.now.version comparison.entry) }
     ensures begun { IfOk result (λ t. (t.opened.now ≡ opened.now)
         × (t.comparison ≡ comparison.entry) × AreTaken F.Folder (order_cmp opened.now.order)
-        opened.now.version comparison.entry folder.old folder.new (version_in t) t.edits.items) }
+        opened.now.version comparison.entry folder.old folder.new (version_in t) t.written) }
     ensures device { ReportsDevice F.Folder folder.old folder.new result }
     ensures reads { OnlyReads F.Folder folder.old folder.new }
 {
@@ -45,7 +45,10 @@ pub fn begin_taking<'o, F: ReadsTables, W: Watch + Sync, R: Threads + Sync>(
         opened,
         comparison,
         next: None,
-        edits: Vec::new(workers.alloc()),
+        written: WrittenTables {
+            outputs: Vec::new(workers.alloc()),
+            edits: Vec::new(workers.alloc()),
+        },
     })
 }
 

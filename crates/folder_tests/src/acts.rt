@@ -207,7 +207,7 @@ fn install<R: Threads + Sync>(
     for source in sources {
         taken = take_outcome(&workers, folder, source, taken)?.taken;
     }
-    install_taken(&workers, folder, &taken, MEMORY)
+    Ok(install_taken(&workers, folder, taken, MEMORY)?.manifest)
 }
 
 /// Writes the outcome of a compaction of level 1 of another folder into a folder.

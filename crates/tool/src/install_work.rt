@@ -16,8 +16,7 @@ use session::{
     Host, Opened, ProgressLine, Refusal, Session, Telling, bytes_of, refused_at, sizes_tested,
     tell_time,
 };
-use std::collections::BTreeSet;
-use store::{DeletedFile, SyncedVersion, checkers};
+use store::{CompactionStep, SyncedVersion, checkers};
 use usage::InstallLine;
 
 /// What is asked for, and who watches.
@@ -28,24 +27,6 @@ struct InstallTask<'t, 'x, R> {
     line: &'x InstallLine<'x>,
     progress: &'t ProgressLine<'x, R>,
     opened: &'t SyncedVersion,
-}
-
-/// Outcomes that were taken in, one after the other, and what they do together.
-#[derive(Drop)]
-struct Gathered<'o> {
-    /// How many they are.
-    done: u64,
-    taken: TakenOutcomes<'o>,
-    joined: JoinedFiles,
-}
-
-/// The files of outcomes together.
-#[derive(Drop)]
-struct JoinedFiles {
-    /// The number and the length of each new table, in order.
-    outputs: Vec<(u64, u64)>,
-    /// The inputs, by level and number.
-    deleted: BTreeSet<DeletedFile>,
 }
 
 /// Installs in a folder the outcomes that others have, by one manifest, and prints what was
@@ -72,9 +53,9 @@ pub fn install_outcomes<'x, R: Host>(
         progress: &progress,
         opened: &opened,
     };
-    let (joined, manifest) = outcomes_installed(&task, &mut disk)?;
+    let step = outcomes_installed(&task, &mut disk)?;
     tell_time(rt, "install", begun);
-    tell_installed(&task, &mut disk, &joined, manifest)
+    tell_installed(&task, &mut disk, &step)
 }
 
 /// The folder of a session, in which outcomes are to be installed. No table is missing.
@@ -87,29 +68,24 @@ fn to_install<R: Host>(
     begin_change(session)
 }
 
-/// Installs all outcomes in a folder. Answers their files, and the manifest's number.
+/// Installs all outcomes in a folder.
 fn outcomes_installed<'x, R: Host>(
     task: &InstallTask<'_, 'x, R>,
     folder: &mut Disk<'x, R>,
-) -> Result<(JoinedFiles, u64), Refusal> {
+) -> Result<CompactionStep, Refusal> {
     let (rt, line) = (task.rt, task.line);
-    let mut gathered = no_outcome(task, folder)?;
-    for out in line.outs.iter() {
-        gathered = with_outcome(task, folder, gathered, out)?;
+    let mut taken = no_outcome(task, folder)?;
+    for (done, out) in line.outs.iter().enumerate() {
+        taken = with_outcome(task, folder, taken, done as u64, out)?;
     }
-    let Gathered {
-        done,
-        taken,
-        joined,
-    } = gathered;
     let workers = checkers(rt, rt.alloc(), task.progress);
-    let installed = install_taken(&workers, folder, &taken, bytes_of(line.testing.memory));
+    let installed = install_taken(&workers, folder, taken, bytes_of(line.testing.memory));
     task.progress.erase();
     match installed {
-        Ok(manifest) => Ok((joined, manifest)),
+        Ok(step) => Ok(step),
         Err(fault) => {
             let refusal = refused_at(rt, task.telling.folder, folder, fault);
-            let last = done.saturating_sub(1);
+            let last = line.outs.len().saturating_sub(1) as u64;
             Err(outcome_explained(rt, task.telling, line, last, task.opened, refusal))
         }
     }
@@ -119,7 +95,7 @@ fn outcomes_installed<'x, R: Host>(
 fn no_outcome<'t, 'x, R: Host>(
     task: &InstallTask<'t, 'x, R>,
     folder: &mut Disk<'x, R>,
-) -> Result<Gathered<'t>, Refusal>
+) -> Result<TakenOutcomes<'t>, Refusal>
 where
     'x: 't,
 {
@@ -132,14 +108,7 @@ where
     let workers = checkers(rt, rt.alloc(), task.progress);
     let memory = bytes_of(line.testing.memory);
     match begin_taking(&workers, folder, task.opened, comparison, memory) {
-        Ok(taken) => Ok(Gathered {
-            done: 0,
-            taken,
-            joined: JoinedFiles {
-                outputs: Vec::new(rt.alloc()),
-                deleted: BTreeSet::new(rt.alloc()),
-            },
-        }),
+        Ok(taken) => Ok(taken),
         Err(fault) => {
             task.progress.erase();
             let refusal = refused_at(rt, task.telling.folder, folder, fault);
@@ -148,28 +117,19 @@ where
     }
 }
 
-/// The same with the outcome of one more folder.
+/// The same with the outcome of one more folder, after as many others.
 fn with_outcome<'x, 'o, R: Host>(
     task: &InstallTask<'_, 'x, R>,
     folder: &mut Disk<'x, R>,
-    before: Gathered<'o>,
+    before: TakenOutcomes<'o>,
+    done: u64,
     out: &'x str,
-) -> Result<Gathered<'o>, Refusal> {
+) -> Result<TakenOutcomes<'o>, Refusal> {
     let rt = task.rt;
-    let Gathered {
-        done,
-        taken,
-        joined,
-    } = before;
     let mut source = Disk::new(rt, out);
     let workers = checkers(rt, rt.alloc(), task.progress);
-    let answer = take_outcome(&workers, folder, &mut source, taken);
-    match with_taken(answer, joined) {
-        Ok((taken, joined)) => Ok(Gathered {
-            done: done.saturating_add(1),
-            taken,
-            joined,
-        }),
+    match take_outcome(&workers, folder, &mut source, before) {
+        Ok(TakenOutcome { taken, made: _made }) => Ok(taken),
         Err(fault) => Err(refused_of_either(task, out, done, &source, folder, fault)),
     }
 }
@@ -193,32 +153,16 @@ fn refused_of_either<'x, R: Host>(
     outcome_explained(rt, telling, task.line, done, task.opened, refusal)
 }
 
-/// Outcomes after one more, and their files, if those before it had these.
-fn with_taken<'o>(
-    answer: Result<TakenOutcome<'o>, Fault>,
-    before: JoinedFiles,
-) -> Result<(TakenOutcomes<'o>, JoinedFiles), Fault> {
-    let TakenOutcome { taken, made } = answer?;
-    let mut joined = before;
-    joined.outputs.extend_from_slice(&made.outputs)?;
-    for file in made.deleted.iter() {
-        joined.deleted.insert(*file)?;
-    }
-    Ok((taken, joined))
-}
-
 /// Prints what was installed, and removes files after it if that is asked for.
 fn tell_installed<'x, R: Host>(
     task: &InstallTask<'_, 'x, R>,
     folder: &mut Disk<'x, R>,
-    joined: &JoinedFiles,
-    manifest: u64,
+    step: &CompactionStep,
 ) -> Result<(), Refusal> {
     let (rt, telling, before) = (task.rt, task.telling, &task.opened.version);
-    let (outputs, deleted) = (&joined.outputs, &joined.deleted);
-    let note = note_of(rt, telling, before, outputs, deleted);
-    let end = CompactionEnd::Installed(manifest);
-    if let Err(refusal) = print_compaction(rt, 0, outputs, deleted, end, false) {
+    let note = note_of(rt, telling, before, &step.outputs, &step.deleted);
+    let end = CompactionEnd::Installed(step.manifest);
+    if let Err(refusal) = print_compaction(rt, 0, &step.outputs, &step.deleted, end, false) {
         return Err(unprinted(rt.alloc(), telling.folder, DoneWork::Version, refusal));
     }
     if let Some(note) = note {

@@ -83,9 +83,9 @@ fn taken_in<R: Threads + Sync>(
     let workers = checkers(rt, alloc, &Open);
     let none = begin_taking(&workers, folder, opened, row.comparison, MEMORY)?;
     let one = take_outcome(&workers, folder, source, none)?;
-    let manifest = install_taken(&workers, folder, &one.taken, MEMORY)?;
-    let end = CompactionEnd::Installed(manifest);
-    let lines = compaction_lines(alloc, &one.made.outputs, &one.made.deleted, end)?;
+    let step = install_taken(&workers, folder, one.taken, MEMORY)?;
+    let end = CompactionEnd::Installed(step.manifest);
+    let lines = compaction_lines(alloc, &step.outputs, &step.deleted, end)?;
     Ok(lines.into_bytes())
 }
 

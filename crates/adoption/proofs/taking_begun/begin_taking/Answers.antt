@@ -1,10 +1,9 @@
-use Rattle.std.proofs.Common.{Err, List, Ok, Result, arith, refl, subst, sym, ℕ, ◌≡◌}
+use Rattle.std.proofs.Common.{Ok, Result, arith, refl}
 use Rattle.edit.specs.fault.Fault.{Fault}
 use Rattle.folder.proofs.OpeningLemmas.{hands_on}
 use Rattle.folder.proofs.ReportLemmas.{reports_after, reports_handed}
 use Rattle.folder.specs.Orders.{order_cmp}
 use Rattle.adoption.specs.Adoption.{IsFirstTested}
-use Rattle.adoption.specs.TakenIn.{AreTaken}
 use Rattle.adoption.proofs.TakenEnds.{taken_none}
 use Rattle.adoption.proofs.taking_begun.begin_taking.Goals as goal
 
@@ -28,8 +27,7 @@ returns-clause-begun g c =
     let q : Result (Unit {0}) Fault = Ok tt in (
       refl,
       refl,
-      subst (λ (es : List ℕ). AreTaken g.F.Folder (order_cmp o.order) o.version c.args.comparison c.args.folder.now c.test_first.new.folder o.version es) (sym c.new.ensures.items)
-          (taken_none g.F.Folder (order_cmp o.order) o.version c.args.comparison c.args.folder.now c.test_first.new.folder c.test_first.ensures.reads (reports_after q c.in_ok-test_first.was c.test_first.ensures.device tt) c.in_ok-test_first.ensures.answer),
+      taken_none g.F.Folder (order_cmp o.order) o.version c.args.comparison c.args.folder.now c.test_first.new.folder c.test_first.ensures.reads (reports_after q c.in_ok-test_first.was c.test_first.ensures.device tt) c.in_ok-test_first.ensures.answer _ c.new.ensures.items c.new-2.ensures.items,
     )
 
 pub returns-clause-device : goal.returns-clause-device

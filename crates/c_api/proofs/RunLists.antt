@@ -5,8 +5,7 @@ use Rattle.std.specs.Option.{option_map}
 use Rattle.std.proofs.lemmas.List.{take_more, flat_map_more, map-append}
 use Rattle.std.proofs.lemmas.Option.{same_Some, slice_get-get_or}
 use Rattle.reads.specs.EncodedEntry.{Entry}
-use Rattle.c_api.specs.Runs.{bytes_of, lengths_of}
-use Rattle.c_api.specs.declared.run_arrays.EntryLengths.{EntryLengths}
+use Rattle.c_api.specs.Runs.{bytes_of}
 
 -- one more of a list that is seen, if it is what a place has
 pub map_got : {X Y : Type 0} (f : X → Y) (xs : List X) (i : ℕ) (d : X) (y : Y) → i < length xs → option_map f (slice_get xs i) ≡ Some y
@@ -37,11 +36,3 @@ module _ (xs : List Entry) (i : ℕ) (k v : List ℕ) (lt : i < length xs) (key 
       ∙ ap (λ (a : List ℕ). done ++ (a ++ here.value)) keyed
       ∙ ap (λ (b : List ℕ). done ++ (k ++ b)) valued
       ∙ sym (append_assoc done k v)
-
-  -- how long its key and its value are
-  pub lengths_here : option_map lengths_of (slice_get xs i) ≡ Some (lengths_of (record { key = k; value = v }))
-  lengths_here =
-      let told : List ℕ → List ℕ → EntryLengths = λ a b. lengths_of (record { key = a; value = b }) in
-      ap (option_map lengths_of) at
-      ∙ ap (λ (a : List ℕ). Some (told a here.value)) keyed
-      ∙ ap (λ (b : List ℕ). Some (told k b)) valued

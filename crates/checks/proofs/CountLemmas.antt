@@ -1,8 +1,8 @@
 -- Tables that are tested and counted, one file after the other.
-use Rattle.std.proofs.Common.{◌≡◌, ℕ, ◌+◌, ◌<◌, ◌≤◌, zero, suc, Bool, true, false, List, [], ◌∷◌, ◌++◌, length, take, drop, get_or, Option, refl, sym, ap, ap₂, subst, ◌∙◌, arith, drop-cons, if◌then◌else◌}
+use Rattle.std.proofs.Common.{◌≡◌, ℕ, ◌+◌, ◌<◌, zero, suc, Bool, true, false, List, [], ◌∷◌, ◌++◌, length, take, drop, get_or, Option, sym, ap, ap₂, subst, ◌∙◌, arith, drop-cons, if◌then◌else◌}
 use Rattle.std.specs.List.{AllZip}
 use Rattle.std.specs.declared.cmp.Ordering.{Ordering}
-use Rattle.std.proofs.lemmas.List.{take_more, take_all}
+use Rattle.std.proofs.lemmas.List.{take_more}
 use Rattle.table.specs.TableContents.{Contents}
 use Rattle.split.specs.Ranges.{KeyRange}
 use Rattle.folder.specs.meta.FileMeta.{FileMeta}
@@ -46,25 +46,6 @@ module _ (cmp : List ℕ → List ℕ → Ordering) (next : Option ℕ) (range :
   pub not_stated : (k : ℕ) (f : FileMeta) (x : Contents) → k < length metas → f ≡ get_or metas k f → x ≡ get_or xs k x → (IsStatedBy cmp next f x → ⊥) → AreStatedBy cmp next metas xs → ⊥
   not_stated k f x lt is at isnt all =
       isnt (subst (λ (g : FileMeta). IsStatedBy cmp next g x) (sym is) (subst (λ (y : Contents). IsStatedBy cmp next (get_or metas k f) y) (sym at) (zip_at (IsStatedBy cmp next) metas xs k f x all lt)))
-
-  pub counted_wholly : (k count : ℕ) → length metas ≤ k → count + counts_of cmp range (drop k metas) (drop k xs) ≡ counts_of cmp range metas xs → count ≡ counts_of cmp range metas xs
-  counted_wholly k count le h = none_left (drop k metas) (drop k xs) (all_dropped metas k le) h
-    where
-      all_dropped : (ms : List FileMeta) (k : ℕ) → length ms ≤ k → drop k ms ≡ []
-      all_dropped [] zero le = refl
-      all_dropped [] (suc k) le = refl
-      all_dropped (m ∷ ms) zero le = absurd (omega arith)
-      all_dropped (m ∷ ms) (suc k) le = all_dropped ms k (omega arith)
-
-      none_left : (ms : List FileMeta) (ys : List Contents) → ms ≡ [] → count + counts_of cmp range ms ys ≡ counts_of cmp range metas xs → count ≡ counts_of cmp range metas xs
-      none_left [] ys e h = by count (counts_of cmp range metas xs) h
-        where
-          by : (a b : ℕ) → a + 0 ≡ b → a ≡ b
-          by a b h = omega (arith, h)
-      none_left (m ∷ ms) ys e h = absurd cc
-
-  pub stated_wholly : (k : ℕ) → length metas ≤ k → AreStatedBy cmp next (take k metas) (take k xs) → AreStatedBy cmp next metas xs
-  stated_wholly k le h = subst (λ (ms : List FileMeta). AreStatedBy cmp next ms xs) (take_all k metas le) (subst (λ (ys : List Contents). AreStatedBy cmp next (take k metas) ys) (take_all k xs (omega (arith, same, le))) h)
 
 -- what one file's table counts for a range
 pub count_none : (cmp : List ℕ → List ℕ → Ordering) (range : KeyRange) (f : FileMeta) (x : Contents) → starts_in cmp range f ≡ false → 0 ≡ count_of cmp range f x

@@ -43,9 +43,6 @@ module _ (cmp : List ℕ → List ℕ → Ordering) where
   pub held_through : (old mid : ToldFiles) → TellsSame old mid → (tables others : List NumberedContents) → (AreHeldBy cmp mid tables → AreHeldBy cmp mid others) → AreHeldBy cmp old tables → AreHeldBy cmp old others
   held_through old mid same tables others f are = held_more mid old (λ name held. (same name held).1) others (f (held_same old mid same tables are))
 
-  pub held_back : (old new : ToldFiles) → TellsSame old new → (tables : List NumberedContents) → AreHeldBy cmp new tables → AreHeldBy cmp old tables
-  held_back old new same tables h = held_more new old (λ name held. (same name held).1) tables h
-
   module _ (tells : ToldFiles) where
     abbrev IsOf : NumberedContents → Type 0
     IsOf t = IsTableBy cmp tells t.number t.contents

@@ -1,18 +1,14 @@
 -- The tables of a lawful version, step by step.
-use Rattle.std.proofs.Common.{◌≡◌, ◌≢◌, ℕ, Bool, true, false, List, Result, Ok, Err, IsErrAnd, if◌then◌else◌, refl, sym, ap, subst, ◌∙◌, inl, inr}
-use Rattle.std.specs.List.{list_all}
-use Rattle.std.specs.Option.{is_some}
+use Rattle.std.proofs.Common.{◌≡◌, ℕ, List, Result, Ok, Err, IsErrAnd, refl, sym, ap, subst, ◌∙◌}
 use Rattle.std.specs.declared.cmp.Ordering.{Ordering}
 use Rattle.ikey.proofs.Refusals.{unless_from}
-use Rattle.ikey.specs.Answers.{HoldsOrMemory, UnlessMemory, fault}
+use Rattle.ikey.specs.Answers.{HoldsOrMemory, UnlessMemory}
 use Rattle.ikey.specs.fault.Fault.{Fault}
-use Rattle.ikey.specs.fault.FaultName.TheVariants.{Device, Lawless, Missing}
 use Rattle.folder.specs.Version.{State}
 use Rattle.reads.specs.Lawful.{IsLawful}
-use Rattle.reads.specs.Tables.{NumberedContents, table_of_number}
+use Rattle.reads.specs.Tables.{NumberedContents}
 use Rattle.checks.specs.TableReadings.{tables_reading}
 use Rattle.checks.specs.LawfulTables.{IsLawfulAnswer, IsLawfulTables}
-use Rattle.checks.proofs.TableRefusals.{no_device}
 
 abbrev refusal : {Y : Type 0} → Fault → Result Y Fault
 refusal e = Err e
@@ -53,18 +49,3 @@ module _ (cmp : List ℕ → List ℕ → Ordering) (v : State) (loaded : List (
   pub sound_checked : (tables : List NumberedContents) → IsLawfulTables cmp v loaded (Ok tables) → tables_reading cmp loaded ≡ Ok tables
   sound_checked tables (Ok first, h) = h.0 ∙ ap (λ (ts : List NumberedContents). answer ts) (sym h.1.0)
   sound_checked tables (Err e, h) = absurd (no_refusal tables e h.1)
-
-  missing_other : (b : Bool) (u : Unit {0}) (e : Fault) → (if b then answer u else Err (fault Missing)) ≡ refusal e → e.name ≢ Device
-  missing_other true u e h = absurd (no_refusal u e h)
-  missing_other false u e h = λ same. let is = ap (λ (f : Fault). f.name) (same_refusal {Y = Unit {0}} (fault Missing) e h) ∙ same in cc
-
-  lawless_other : (e : Fault) → e ≡ fault Lawless → e.name ≢ Device
-  lawless_other e h = λ same. let is = sym (ap (λ (f : Fault). f.name) h) ∙ same in cc
-
-  -- no refusal is Device
-  pub sound_other : (e : Fault) → IsLawfulTables cmp v loaded (Err e) → e.name ≢ Device
-  sound_other e (Ok tables, h) = elim h.1 [
-    | inl missing ↦ missing_other (list_all (λ f. is_some (table_of_number tables f.meta.number)) v.files) tt e missing
-    | inr lawless ↦ lawless_other e lawless.1
-  ]
-  sound_other e (Err d, h) = subst (λ (f : Fault). f.name ≢ Device) (sym (same_refusal {Y = List NumberedContents} e d h.1)) (no_device cmp loaded d h.0)

@@ -13,7 +13,6 @@ mod ReadTables
 mod RangeLemmas
 mod SweepLemmas
 mod CountLemmas
-mod NeededSteps
 mod OrderLemmas
 mod SoundNumbers
 pub mod FolderTests

@@ -1,11 +1,9 @@
 -- How many entries a table may have: its index and each of its blocks has no more than it has bytes.
 use Rattle.std.proofs.Common.{◌≡◌, ℕ, zero, suc, ◌+◌, ◌-◌, ◌*◌, ◌≤◌, ◌^◌, ◌==◌, nat_le, not, slice_index, Bool, true, false, List, [], ◌∷◌, length, take, drop, Option, Some, None, Result, Ok, Err, IfOk, if◌then◌else◌, refl, ap, subst, arith}
-use Rattle.std.specs.List.{All}
 use Rattle.std.specs.Option.{option_map_or}
 use Rattle.std.specs.declared.cmp.Ordering.{Ordering}
 use Rattle.std.proofs.lemmas.Bool.{leb-true}
 use Rattle.std.proofs.lemmas.List.{length-append, length-drop}
-use Rattle.std.proofs.lemmas.List.Elements.{All-cons, All-nil}
 use Rattle.ikey.proofs.Binds.{bind_ok, ok_is}
 use Rattle.byteorder.specs.Endian.{little_number}
 use Rattle.ikey.specs.Answers.{fault}
@@ -21,12 +19,10 @@ use Rattle.table.specs.declared.handle.BlockHandle.{BlockHandle}
 use Rattle.table.specs.Footer.{footer_reading}
 use Rattle.table.specs.Handle.{handle_reading}
 use Rattle.ikey.specs.Key.{internal_key_reading}
-use Rattle.reads.specs.Tables.{NumberedContents}
 use Rattle.table.specs.TableContents.{Contents, DataBlock, blocks_of, blocks_reading, contents_of, contents_reading, data_reading, entries_of, index_fits, index_in}
 use Rattle.table.specs.EntryTests.{data_test, is_some_list, last_key_after}
 use Rattle.table.specs.IndexReading.{IndexEntry, block_in, index_entry, index_reading, one_handle, stored_at}
 use Rattle.table.specs.TestResult.{test_result}
-use Rattle.checks.specs.TableReadings.{numbered_reading, tables_reading}
 
 -- ---- a block
 
@@ -203,17 +199,3 @@ pub few_entries : (cmp : List ℕ → List ℕ → Ordering) (bytes : List ℕ) 
 few_entries cmp bytes t h =
     let a = bind_ok (blocks_of cmp bytes) _ t h in
     subst (λ (x : Contents). length x.entries ≤ 2 ^ 60) (ok_is (contents_of bytes a.0) t a.2) (few_blocks_of cmp bytes a.0 a.1)
-
--- a table of no more entries than that
-abbrev pub IsFew : NumberedContents → Type 0
-IsFew t = length t.contents.entries ≤ 2 ^ 60
-
--- and so have all tables that are checked
-pub few_in_each : (cmp : List ℕ → List ℕ → Ordering) (loaded : List (ℕ × List ℕ)) (tables : List NumberedContents) → tables_reading cmp loaded ≡ Ok tables → All IsFew tables
-few_in_each cmp [] tables h = subst (All IsFew) (ok_is [] tables h) (All-nil IsFew)
-few_in_each cmp (t ∷ loaded) tables h =
-    let a = bind_ok (numbered_reading cmp t) _ tables h in
-    let b = bind_ok (tables_reading cmp loaded) _ tables a.2 in
-    let c = bind_ok (contents_reading cmp t.1) _ a.0 a.1 in
-    let one : IsFew a.0 = subst IsFew (ok_is (record { number = t.0; contents = c.0 }) a.0 c.2) (few_entries cmp t.1 c.0 c.1) in
-    subst (All IsFew) (ok_is (a.0 ∷ b.0) tables b.2) (All-cons IsFew a.0 b.0 one (few_in_each cmp loaded b.0 b.1))

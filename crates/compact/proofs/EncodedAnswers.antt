@@ -1,9 +1,6 @@
 -- The answers for the data blocks of a plan, and for its outputs, one by one.
-use Rattle.std.proofs.Common.{◌≡◌, ℕ, List, [], ◌∷◌, map, length, Some, Result, Ok, refl, ap, ◌∙◌}
-use Rattle.std.specs.Prelude.{slice_get}
-use Rattle.std.specs.Option.{option_map}
+use Rattle.std.proofs.Common.{◌≡◌, ℕ, List, [], ◌∷◌, map, length, Result, Ok, refl, ap, ◌∙◌}
 use Rattle.std.proofs.lemmas.List.{length-map}
-use Rattle.std.proofs.lemmas.Option.{slice_get-map}
 use Rattle.ikey.specs.fault.Fault.{Fault}
 use Rattle.ikey.specs.Answers.{◌>>=◌}
 use Rattle.board.specs.CollectedResults.{collected_results}
@@ -27,10 +24,6 @@ pub blocks_length : (p : PlanSeen) → length (block_answers p) ≡ jobs p.optio
 blocks_length p =
     length-map (encoded_blocks p.options (lists_in p.outputs)) good ∙ length-map (parts p.options (lists_in p.outputs)) _
 
-pub block_answer_at : (p : PlanSeen) (job : ℕ) (bytes : List ℕ) → slice_get (encoded_blocks p.options (lists_in p.outputs)) job ≡ Some bytes
-    → slice_get (block_answers p) job ≡ Some (Ok bytes)
-block_answer_at p job bytes is = slice_get-map good (encoded_blocks p.options (lists_in p.outputs)) job ∙ ap (option_map good) is
-
 -- ---- the answers for the outputs of a plan
 
 pub tables_collected : (table_of : List Entry → List ℕ) (outputs : List OutputView) → collected_results (output_answers table_of outputs) ≡ Ok (plan_tables table_of outputs)
@@ -38,7 +31,3 @@ tables_collected table_of outputs = all_good (plan_tables table_of outputs)
 
 pub tables_length : (table_of : List Entry → List ℕ) (outputs : List OutputView) → length (output_answers table_of outputs) ≡ length outputs
 tables_length table_of outputs = length-map (plan_tables table_of outputs) good ∙ length-map outputs _
-
-pub table_answer_at : (table_of : List Entry → List ℕ) (outputs : List OutputView) (job : ℕ) (t : ℕ × List ℕ) → slice_get (plan_tables table_of outputs) job ≡ Some t
-    → slice_get (output_answers table_of outputs) job ≡ Some (Ok t)
-table_answer_at table_of outputs job t is = slice_get-map good (plan_tables table_of outputs) job ∙ ap (option_map good) is

@@ -91,10 +91,6 @@ kept_part cmp r deeper before (e ∷ es) x at =
       | inr later ↦ later_in e es x (kept_part cmp r deeper (Some e) es x later)
     ]
 
-kept_falls_by : (b : Bool) (e : Entry) (rest : List Entry) → ((x : Entry) → Contains rest x → sequence_of x.key < sequence_of e.key) → SequencesFall rest → SequencesFall ((if b then e ∷ [] else []) ++ rest)
-kept_falls_by true e rest lower falling = (of_each (λ (x : Entry). sequence_of x.key < sequence_of e.key) rest lower, falling)
-kept_falls_by false e rest lower falling = falling
-
 -- sequences still fall if a part of them in the middle is left out
 kept_falls : (cmp : List ℕ → List ℕ → Ordering) (r : Readable) (deeper : List FileMeta) (below : List Entry) (before : Option Entry) (es : List Entry) → SequencesFall (es ++ below) → SequencesFall (kept_after cmp r deeper before es ++ below)
 kept_falls cmp r deeper below before [] falling = falling

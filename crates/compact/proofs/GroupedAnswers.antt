@@ -1,12 +1,10 @@
 -- What a merged request answers: the tables of its plan, all at once or in groups, and its edit.
 use Rattle.std.proofs.Common.{◌≡◌, ℕ, zero, suc, ◌+◌, ◌<◌, ◌≤◌, ◌^◌, List, [], ◌∷◌, ◌++◌, length, map, take, drop, get_or, Result, Ok, Err, refl, sym, ap, ◌∙◌, append_assoc, append-nil, arith}
-use Rattle.std.specs.Prelude.{flat_map, slice_get, Some, IfOk, IfErr, IfSome}
+use Rattle.std.specs.Prelude.{flat_map, slice_get, Some, IfOk, IfSome}
 use Rattle.std.specs.declared.cmp.Ordering.{Ordering}
 use Rattle.std.proofs.lemmas.List.{map-append, drop_more, drop_all}
-use Rattle.ikey.specs.Answers.{fault, ◌>>=◌, EqualOrMemory, FailsOrMemory}
+use Rattle.ikey.specs.Answers.{◌>>=◌, EqualOrMemory}
 use Rattle.ikey.specs.fault.Fault.{Fault}
-use Rattle.ikey.specs.fault.FaultName.TheVariants.{Memory}
-use Rattle.ikey.proofs.Refusals.{unless_from, only_memory}
 use Rattle.table.specs.EncodedEntry.{Entry}
 use Rattle.table.specs.Table.{table}
 use Rattle.table.specs.declared.options.Options.{Options}
@@ -49,12 +47,6 @@ module _ (cmp : List ℕ → List ℕ → Ordering) (short_keys : ShortKeys) whe
   module _ (r : RequestView) (runs : List Run) where
     abbrev planning : Result (List OutputView) Fault
     planning = plan_of (table cmp short_keys r.options) r.options r.first_number (outputs_of r.picked.grandparents r.options (joined_run runs))
-
-    -- a plan that is refused
-    pub unplanned : (e : Fault) → FailsOrMemory e planning → FailsOrMemory e (runs_answer cmp short_keys r runs)
-    unplanned e h =
-        unless_from e (planning ≡ Err e) (runs_answer cmp short_keys r runs ≡ Err e)
-        (λ is. ap (λ (plan : Result (List OutputView) Fault). plan >>= λ outputs. Ok (answer_of (table cmp short_keys r.options) r outputs)) is) h
 
     module _ (p : PlanSeen) (same : p.options ≡ r.options) (is : planning ≡ Ok p.outputs) where
       -- the answer of a plan
@@ -128,15 +120,3 @@ size_more table_of (p ∷ ps) (suc place) m lt is sized =
     ∙ ap (λ (ts : List (ℕ × ℕ)). (p.number, length (table_of p.entries)) ∷ ts) (size_more table_of ps place m (omega (arith, lt)) is sized)
 
 -- ---- the tables of a group
-
-module _ {V : Type 0} (view : V → List (ℕ × List ℕ)) (all : List (ℕ × List ℕ)) where
-  pub if_tables : (r : Result V Fault) (groups : List (List (ℕ × List ℕ))) (place : ℕ) → EqualOrMemory view r (Ok all) → slice_get groups place ≡ Some all → IfOk r (λ ts. slice_get groups place ≡ Some (view ts))
-  if_tables (Ok ts) groups place h at = at ∙ ap Some (same all (view ts) h)
-    where
-      same : (a b : List (ℕ × List ℕ)) → ◌≡◌ {A = Result (List (ℕ × List ℕ)) Fault} (Ok a) (Ok b) → a ≡ b
-      same a b h = cc
-  if_tables (Err e) groups place h at = tt
-
-  pub if_memory : (r : Result V Fault) → EqualOrMemory view r (Ok all) → IfErr r (λ e. e ≡ fault Memory)
-  if_memory (Ok ts) h = tt
-  if_memory (Err e) h = only_memory e (Ok all ≡ Err e) (λ no. absurd cc) h

@@ -1,5 +1,5 @@
 -- The answers for the inputs, one by one.
-use Rattle.std.proofs.Common.{◌≡◌, ℕ, zero, suc, ◌+◌, ◌-◌, ◌<◌, Bool, true, false, List, [], ◌∷◌, map, length, Some, Result, Ok, Err, refl, sym, ap, ◌∙◌, arith}
+use Rattle.std.proofs.Common.{◌≡◌, ℕ, zero, suc, ◌+◌, ◌-◌, ◌<◌, Bool, true, List, [], ◌∷◌, map, length, Some, Result, Ok, Err, refl, sym, ap, ◌∙◌, arith}
 use Rattle.std.specs.Prelude.{slice_get, min, get_or}
 use Rattle.std.specs.Option.{option_map}
 use Rattle.std.specs.declared.cmp.Ordering.{Ordering}
@@ -7,7 +7,7 @@ use Rattle.std.proofs.lemmas.List.{length-map}
 use Rattle.std.proofs.lemmas.Option.{same_Some, slice_get-get_or, slice_get-map, slice_get_read}
 use Rattle.ikey.specs.fault.Fault.{Fault}
 use Rattle.ikey.specs.fault.FaultName.TheVariants.{Bounds}
-use Rattle.ikey.specs.Answers.{fault, ◌>>=◌, FailsOrMemory}
+use Rattle.ikey.specs.Answers.{◌>>=◌, FailsOrMemory}
 use Rattle.ikey.proofs.Refusals.{unless_from}
 use Rattle.table.specs.EncodedEntry.{Entry}
 use Rattle.table.specs.TableContents.{Contents, contents_reading}
@@ -49,9 +49,6 @@ module _ (cmp : List ℕ → List ℕ → Ordering) (f : FileMeta) (bytes : List
 
   pub read_stated : (t : Contents) → contents_reading cmp bytes ≡ Ok t → table_matches_metadata f t ≡ true → input_reading cmp f bytes ≡ Ok t.entries
   read_stated t read is = read_by t true read is
-
-  pub read_unstated : (t : Contents) → contents_reading cmp bytes ≡ Ok t → table_matches_metadata f t ≡ false → input_reading cmp f bytes ≡ Err (fault Bounds)
-  read_unstated t read is = read_by t false read is
 
 -- ---- all of them
 

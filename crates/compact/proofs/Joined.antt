@@ -3,7 +3,7 @@ use Rattle.std.proofs.Common.{◌≡◌, ℕ, suc, ◌+◌, ◌<◌, ◌≤◌, 
 use Rattle.std.specs.Prelude.{nat_le, nat_lt, ◌&&◌, if◌then◌else◌, IfOk, IfErr}
 use Rattle.std.specs.declared.cmp.Ordering.{Ordering}
 use Rattle.std.specs.List.{list_all}
-use Rattle.std.proofs.lemmas.Bool.{and_parts, leb-true, ltb-true}
+use Rattle.std.proofs.lemmas.Bool.{and_parts, ltb-true}
 use Rattle.table.specs.declared.options.Options.{Options}
 use Rattle.cut.specs.Plan.{OutputView, plan_of, planned_from, parts}
 use Rattle.ikey.specs.fault.Fault.{Fault}
@@ -129,12 +129,6 @@ module _ (workers : ℕ) (passes : test_result (nat_le 1 workers && nat_le worke
       passed : (b : Bool) → test_result b Workers ≡ Ok tt → b ≡ true
       passed true h = refl
       passed false h = absurd cc
-
-  pub some_worker : 1 ≤ workers
-  some_worker = leb-true 1 workers passed_both.0
-
-  pub few_workers : workers ≤ 64
-  few_workers = leb-true workers 64 passed_both.1
 
   pub inputs_are : (inputs : Result (List (List Entry)) Fault) → by_workers workers inputs ≡ inputs
   inputs_are inputs = ap (λ (w : Result (Unit {0}) Fault). w >>= λ _. inputs) passes

@@ -1,9 +1,9 @@
 -- The entries of planned data blocks: their number, the first and the last.
-use Rattle.std.proofs.Common.{◌≡◌, ◌≢◌, ℕ, zero, suc, ◌+◌, ◌<◌, List, [], ◌∷◌, ◌++◌, length, drop, get_or, refl, sym, ap, subst, ◌∙◌, append-nil, arith}
+use Rattle.std.proofs.Common.{◌≡◌, ◌≢◌, ℕ, zero, suc, ◌+◌, ◌<◌, List, [], ◌∷◌, ◌++◌, length, get_or, refl, sym, ap, subst, ◌∙◌, append-nil, arith}
 use Rattle.std.specs.Prelude.{Option, Some, None, slice_get}
 use Rattle.std.specs.List.{AllByRecursion, last_or}
 use Rattle.std.specs.Option.{option_map}
-use Rattle.std.proofs.lemmas.List.{length-append, length-map, drop_more}
+use Rattle.std.proofs.lemmas.List.{length-map}
 use Rattle.std.proofs.lemmas.Option.{same_Some}
 use Rattle.block.specs.EncodedEntry.{Entry}
 use Rattle.block.specs.BuilderView.{last_key}
@@ -15,12 +15,6 @@ use Rattle.cut.specs.OutputInProgress.{entries_in_blocks}
 use Rattle.cut.specs.Plan.{block_ends_from}
 use Rattle.cut.specs.PlanInvariant.{HaveEntries}
 use Rattle.cut.proofs.Metered.{ended_is}
-
--- the entries of a block and those after it
-pub count_here : (blocks : List PlannedBlock) (i : ℕ) (b : PlannedBlock) → i < length blocks → get_or blocks i b ≡ b → length (entries_in_blocks (drop i blocks)) ≡ length b.entries.entries + length (entries_in_blocks (drop (i + 1) blocks))
-count_here blocks i b lt is =
-    ap (λ (bs : List PlannedBlock). length (entries_in_blocks bs)) (drop_more blocks i b lt ∙ ap (λ (x : PlannedBlock). x ∷ drop (i + 1) blocks) is)
-    ∙ length-append b.entries.entries (entries_in_blocks (drop (i + 1) blocks))
 
 first_same : (q here there : List Entry) (key : List ℕ) → q ≢ [] → option_map (λ (e : Entry). e.key) (slice_get (q ++ here) 0) ≡ Some key → option_map (λ (e : Entry). e.key) (slice_get (q ++ there) 0) ≡ Some key
 first_same [] here there key some is = absurd (some refl)

@@ -1,7 +1,7 @@
 -- How outputs are cut, entry by entry and stop by stop.
 use Rattle.std.proofs.Common.{◌≡◌, ℕ, zero, suc, ◌+◌, ◌-◌, ◌<◌, ◌≤◌, true, false, List, [], ◌∷◌, ◌++◌, length, take, drop, refl, sym, ap, subst, ◌∙◌, append_assoc, append-nil, arith}
 use Rattle.std.specs.Prelude.{Result, Ok, Err, IfOk}
-use Rattle.std.specs.List.{AllByRecursion, flat_map}
+use Rattle.std.specs.List.{AllByRecursion}
 use Rattle.std.proofs.lemmas.Bool.{false≢true}
 use Rattle.std.proofs.lemmas.List.{drop-drop}
 use Rattle.std.proofs.Math.Seq.{take-add}
@@ -14,7 +14,7 @@ use Rattle.keep.specs.MergedLists.{entries_of_lists}
 use Rattle.cut.specs.OutputCuts.{OutputsInProgress, outputs_left}
 use Rattle.cut.specs.PlannedBlocks.{block_lists}
 use Rattle.cut.specs.OutputInProgress.{entries_in_blocks, HasLen, ArePlanned, ends_by}
-use Rattle.cut.specs.Outputs.{ends_before, outputs_after, outputs_in, segments}
+use Rattle.cut.specs.Outputs.{ends_before, outputs_after}
 use Rattle.cut.proofs.Whole.{all_open, all_by}
 
 module _ (o : Options) where
@@ -75,17 +75,7 @@ module _ (o : Options) where
       ap (λ (ps : List (List Entry)). (outputs ++ ps) ++ outputs_after o (e ∷ []) (take n es ++ rest)) (ends_open latest e ends)
       ∙ append_assoc outputs (latest ∷ []) (outputs_after o (e ∷ []) (take n es ++ rest))
       ∙ ap (λ (ps : List (List Entry)). outputs ++ ps) (sym last)
-
   -- ---- one segment more
-
-  pub segment_more : (outputs after : List (List Entry)) (from stop : ℕ) (stops : List ℕ) (behind : List Entry) → after ≡ outputs ++ outputs_after o [] (take (stop - from) behind)
-      → after ++ flat_map (outputs_in o) (segments stop stops (drop (stop - from) behind)) ≡ outputs ++ flat_map (outputs_in o) (segments from (stop ∷ stops) behind)
-  segment_more outputs after from stop stops behind is =
-      ap (λ (ps : List (List Entry)). ps ++ flat_map (outputs_in o) (segments stop stops (drop (stop - from) behind))) is
-      ∙ append_assoc outputs (outputs_in o (take (stop - from) behind)) (flat_map (outputs_in o) (segments stop stops (drop (stop - from) behind)))
-
-  pub segment_last : (outputs : List (List Entry)) (from : ℕ) (behind : List Entry) → outputs ++ outputs_after o [] behind ≡ outputs ++ flat_map (outputs_in o) (segments from [] behind)
-  segment_last outputs from behind = ap (λ (ps : List (List Entry)). outputs ++ ps) (sym (append-nil (outputs_in o behind)))
 
 -- an output that ends before the next entry, and another one begun there, are as it was
 pub ended_then : (s : OutputsInProgress) (taken : ℕ) → 0 < taken → 0 < length s.behind → ends_by s.options s.latest s.behind ≡ true → (rest : List Entry)
@@ -104,11 +94,6 @@ take_some count taken xs le = let sum : taken + (count - taken) ≡ count = omeg
 
 pub drop_some : (count taken : ℕ) (xs : List Entry) → taken ≤ count → drop (count - taken) (drop taken xs) ≡ drop count xs
 drop_some count taken xs le = drop-drop (count - taken) taken xs ∙ (let sum : taken + (count - taken) ≡ count = omega (arith, le) in ap (λ (n : ℕ). drop n xs) sum)
-
-pub take_none : (count : ℕ) (xs : List Entry) → (0 < count → 0 < length xs → ⊥) → take count xs ≡ []
-take_none zero xs none = refl
-take_none (suc n) [] none = refl
-take_none (suc n) (x ∷ xs) none = absurd (none (omega arith) (omega arith))
 
 pub drop_none : (count : ℕ) (xs : List Entry) → (0 < count → 0 < length xs → ⊥) → xs ≡ drop count xs
 drop_none zero xs none = refl

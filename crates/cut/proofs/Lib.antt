@@ -6,7 +6,6 @@ pub mod Lists
 pub mod Appended
 pub mod Keys
 pub mod Indexes
-pub mod IndexKeys
 pub mod Listed
 pub mod Elements
 pub mod RepeatedMarks

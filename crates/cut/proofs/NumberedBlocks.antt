@@ -1,8 +1,8 @@
 -- The data block of a number, among those of all outputs.
-use Rattle.std.proofs.Common.{◌≡◌, ℕ, zero, suc, ◌+◌, ◌-◌, ◌<◌, ◌≤◌, List, [], ◌∷◌, ◌++◌, length, drop, get_or, refl, sym, ap, ◌∙◌, append_assoc, append-nil, arith}
+use Rattle.std.proofs.Common.{◌≡◌, ℕ, zero, suc, ◌+◌, ◌-◌, ◌<◌, ◌≤◌, List, [], ◌∷◌, ◌++◌, length, drop, get_or, refl, ap, ◌∙◌, arith}
 use Rattle.std.specs.Prelude.{slice_get}
 use Rattle.std.specs.List.Sorted.{IsNonDecreasingBy}
-use Rattle.std.proofs.lemmas.List.{drop_more, drop_all, length-append}
+use Rattle.std.proofs.lemmas.List.{length-append}
 use Rattle.std.proofs.lemmas.List.Concat.{length-flat_map}
 use Rattle.std.proofs.lemmas.List.Sorted.{IsNonDecreasingBy-from_default}
 use Rattle.std.proofs.lemmas.List.Sums.{sum_by-cons}
@@ -40,30 +40,6 @@ ends_sorted at outputs = IsNonDecreasingBy-from_default (λ (end : ℕ). end) (o
 pub record AreEnds (outputs : List PlannedOutput) (ends : List ℕ) (end i : ℕ) : Type 0 where
   pub whole : ends ++ output_ends end (drop i outputs) ≡ output_ends 0 outputs
   pub count : end + block_count (drop i outputs) ≡ block_count outputs
-
-module _ (outputs : List PlannedOutput) (ends : List ℕ) (end i : ℕ) (h : AreEnds outputs ends end i) where
-  pub one_end_more : (p : PlannedOutput) (more : List ℕ) (next : ℕ) → i < length outputs → get_or outputs i p ≡ p → next ≡ end + length p.blocks.items → more ≡ ends ++ next ∷ [] → AreEnds outputs more next (i + 1)
-  one_end_more p more next lt is added pushed =
-      let rest : List PlannedOutput = drop (i + 1) outputs in
-      let front : drop i outputs ≡ p ∷ rest = drop_more outputs i p lt ∙ ap (λ (x : PlannedOutput). x ∷ rest) is in
-      record {
-        whole =
-            ap (λ (ns : List ℕ). ns ++ output_ends next rest) pushed
-            ∙ append_assoc ends (next ∷ []) (output_ends next rest)
-            ∙ ap (λ (n : ℕ). ends ++ n ∷ output_ends n rest) added
-            ∙ sym (ap (λ (ps : List PlannedOutput). ends ++ output_ends end ps) front)
-            ∙ h.whole;
-        count = omega (arith, added, h.count, ap block_count front, sum_by-cons (λ (x : PlannedOutput). length x.blocks.items) p rest);
-      }
-
-  pub next_end_within : (p : PlannedOutput) → i < length outputs → get_or outputs i p ≡ p → end + length p.blocks.items ≤ block_count outputs
-  next_end_within p lt is =
-      let rest : List PlannedOutput = drop (i + 1) outputs in
-      let front : drop i outputs ≡ p ∷ rest = drop_more outputs i p lt ∙ ap (λ (x : PlannedOutput). x ∷ rest) is in
-      omega (arith, h.count, ap block_count front, sum_by-cons (λ (x : PlannedOutput). length x.blocks.items) p rest)
-
-  pub all_ends : length outputs ≤ i → ends ≡ output_ends 0 outputs
-  all_ends done = sym (append-nil ends) ∙ sym (ap (λ (ps : List PlannedOutput). ends ++ output_ends end ps) (drop_all i outputs done)) ∙ h.whole
 
 -- ---- the block of a number
 

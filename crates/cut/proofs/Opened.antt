@@ -16,7 +16,6 @@ use Rattle.block.specs.BuilderView.{last_key}
 use Rattle.table.specs.Trailer.{stored_block}
 use Rattle.table.proofs.Stored.{length-stored}
 use Rattle.table.specs.declared.options.Options.{Options}
-use Rattle.table.specs.Options.{AreInLimits}
 use Rattle.table.specs.DataBlocks.{is_full, open_block, blocks_after, data_blocks, flushed, flushed_len}
 use Rattle.table.specs.Table.{stored_blocks}
 use Rattle.cut.specs.declared.planned_block.PlannedBlock.{PlannedBlock}
@@ -28,12 +27,8 @@ use Rattle.cut.specs.OutputInProgress.{entries_in_blocks, stored_len, HasLen, Is
 use Rattle.cut.proofs.Grouped.{all_more}
 use Rattle.cut.proofs.Metered.{ended_is}
 use Rattle.cut.proofs.MeteredLengths.{lengths_law}
-use Rattle.cut.proofs.Places.{last_pushed}
 
 -- ---- the last key
-
-pub ended_push : (q : List Entry) (e : Entry) → last_entry_key (q ++ e ∷ []) ≡ Some e.key
-ended_push q e = ap (option_map (λ (x : Entry). x.key)) (last_pushed None q e)
 
 -- ---- lists
 
@@ -98,18 +93,6 @@ module _ (o : Options) where
       subst (Cut_by blocks) (append_assoc q (e ∷ []) (take n es)) (more_by blocks n (q ++ e ∷ []) es later (one_more blocks q e first cuts))
 
   -- ---- no entry
-
-  pub open_first : (open_one : BlockInProgress) → AreInLimits o → open_one.interval ≡ o.restart_interval → open_one.entries ≡ [] → IsOpen o [] 0 None open_one
-  open_first open_one limits interval none = record {
-    limits = limits;
-    interval = interval;
-    part = ap (is_full o) none;
-    full = tt;
-    lens = tt;
-    cuts = λ rest. ap (λ (q : List Entry). blocks_after o [] (q ++ rest)) none ∙ sym (ap (λ (q : List Entry). blocks_after o q rest) none);
-    flushed_is = refl;
-    last_is = sym (ap last_entry_key none);
-  }
 
   -- ---- entries more
 

@@ -4,11 +4,11 @@ use Rattle.std.specs.Prelude.{nat_le, ◌&&◌}
 use Rattle.std.specs.Global.{Vec}
 use Rattle.std.specs.List.{AllByRecursion, list_all}
 use Rattle.std.specs.declared.cmp.Ordering.{Ordering}
-use Rattle.std.proofs.lemmas.Bool.{cases_lt, lt-leb, le-leb, leb-true, lt-ltb, le-ltb, and_parts}
+use Rattle.std.proofs.lemmas.Bool.{cases_lt, lt-leb, le-leb, leb-true, lt-ltb, and_parts}
 use Rattle.std.proofs.lemmas.List.{length-append, length-map}
 use Rattle.std.proofs.lemmas.List.Sums.{sum_by-cons}
 use Rattle.coding.specs.Answers.{fault}
-use Rattle.coding.specs.declared.fault.FaultName.TheVariants.{Numbers, TooLarge}
+use Rattle.coding.specs.declared.fault.FaultName.TheVariants.{TooLarge}
 use Rattle.coding.specs.Saturated.{saturated}
 use Rattle.block.specs.EncodedEntry.{Entry}
 use Rattle.table.specs.declared.options.Options.{Options}
@@ -128,11 +128,6 @@ module _ (cmp : List ℕ → List ℕ → Ordering) (short_keys : ShortKeys) (o 
       let both = and_parts (nat_le (size b.items) (2 ^ 30)) (list_all (λ (p : PlannedOutput). nat_le p.len (2 ^ 30)) (numbered_from size (number + 1) bs)) small in
       let le = leb-true (size b.items) (2 ^ 30) both.0 in
       (record { planned = h.0; some = some.0; len_is = exact b h.0 le; len_le = le }, each_is (number + 1) bs h.1 some.1 both.1)
-
-  pub plan_numbers : (number : ℕ) (ended : List (Vec PlannedBlock)) (outputs : List (List Entry)) → IsMade o ended outputs → 2 ^ 64 ≤ number + length ended → plan_of T o number outputs ≡ Err (fault Numbers)
-  plan_numbers number ended outputs h over =
-      let count : length outputs ≡ length ended = sym (ap length h.entries) ∙ length-map ended (λ (b : Vec PlannedBlock). entries_in_blocks b.items) in
-      rw (le-ltb (number + length outputs) (2 ^ 64) (omega arith)) refl
 
   tests : (number : ℕ) (ended : List (Vec PlannedBlock)) (outputs : List (List Entry)) → IsMade o ended outputs
       → (list_all (λ (p : PlannedOutput). nat_le p.len (2 ^ 30)) (numbered_from size number ended) && nat_le (block_count (numbered_from size number ended)) (2 ^ 40))

@@ -16,12 +16,6 @@ pub record IsSkipping (all : List Entry) (count : ℕ) (runs : List Run) (left :
   pub rest : drop left (kept_of_runs runs) ≡ drop count all
   pub within : left ≤ 2 ^ 64 - 1 + length (kept_of_runs runs)
 
-pub skipping_first : (all : List Entry) (count : ℕ) (runs : List Run) (entry : ℕ) → drop entry (kept_of_runs runs) ≡ all → count ≤ length all → entry ≤ 2 ^ 64 - 1 → IsSkipping all count runs (entry + count)
-skipping_first all count runs entry is le fits = record {
-  rest = sym (drop-drop count entry (kept_of_runs runs)) ∙ ap (drop count) is;
-  within = omega (arith, le, fits, ap length is, length-drop entry (kept_of_runs runs));
-}
-
 run_behind : (r : Run) (rs : List Run) (left : ℕ) → length r.kept ≤ left → drop (left - length r.kept) (kept_of_runs rs) ≡ drop left (kept_of_runs (r ∷ rs))
 run_behind r rs left le =
     let whole : length r.kept + (left - length r.kept) ≡ left = omega (arith, le) in
@@ -58,18 +52,6 @@ skipping_next all count runs passed left r h some le =
     subst (λ (rs : List Run). IsSkipping all count rs (left - length (slice_index_or runs passed r).kept)) (further passed runs)
     (subst (λ (x : Run). IsSkipping all count (drop 1 (drop passed runs)) (left - length x.kept)) here
     (passed_by all count (drop passed runs) left r h (omega (arith, some, length-drop passed runs)) (subst (λ (x : Run). length x.kept ≤ left) (sym here) le)))
-
--- so few entries are left if no run is, that their number fits
-pub skipped_none : (all : List Entry) (count : ℕ) (runs : List Run) (left : ℕ) → IsSkipping all count runs left → length runs ≡ 0 → left ≤ 2 ^ 64 - 1
-skipped_none all count [] left h none = omega (arith, h.within)
-skipped_none all count (q ∷ qs) left h none = absurd (omega (arith, none))
-
--- if all runs are passed, no entry after is in one
-pub stands_behind : (runs : List Run) (passed left : ℕ) → length runs ≤ passed → IsPlaceInRuns (drop passed runs) left
-stands_behind [] zero left le = tt
-stands_behind [] (suc n) left le = tt
-stands_behind (q ∷ qs) zero left le = absurd (omega (arith, le))
-stands_behind (q ∷ qs) (suc n) left le = stands_behind qs n left (omega (arith, le))
 
 -- the entry after those that are taken off stands in the run that is not passed
 pub stands_in : (runs : List Run) (passed left : ℕ) (r : Run) → left < length (slice_index_or runs passed r).kept → IsPlaceInRuns (drop passed runs) left

@@ -11,7 +11,7 @@ use Rattle.cut.specs.declared.stops.Overlap.{Overlap}
 use Rattle.cut.specs.declared.stops.Stopping.{Stopping}
 use Rattle.cut.specs.Stops.{size_between, is_stop, stops_after}
 use Rattle.cut.specs.OverlapStops.{room_left, stops_since, all_stops, HasOverlapRoom, AreCounted}
-use Rattle.cut.proofs.RepeatedMarks.{running, none_between}
+use Rattle.cut.proofs.RepeatedMarks.{running}
 
 -- the sizes of files together
 abbrev pub sizes : List FileMeta → ℕ
@@ -83,10 +83,6 @@ a_stop gs size o m h e =
       | inl below ↦ absurd (omega (arith, more, none_behind_it gs o.counted m.below (omega (arith, below))))
       | inr above ↦ omega (arith, more, h.room, running gs o.since o.counted m.below h.rises above)
     ])
-
--- nothing is counted yet
-pub counted_none : (gs : List FileMeta) (size below limit : ℕ) → limit ≡ 10 * size → HasOverlapRoom gs size (record { since = below; counted = below; room = limit })
-counted_none gs size below limit e = record { rises = omega arith; room = omega (arith, e, none_between gs size below) }
 
 passes_mark : (gs : List FileMeta) (size since : ℕ) (m : Mark) (rest : List Mark) → is_stop gs size since m ≡ false → stops_after gs size since (m ∷ rest) ≡ stops_after gs size since rest
 passes_mark gs size since m rest s = rw s refl

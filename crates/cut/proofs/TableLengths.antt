@@ -101,9 +101,6 @@ index_len_more keys blocks i offset len b key handle lt is key_is handle_is h =
       fits = omega arith;
     }
 
-pub index_len_none : (keys : IndexKeys) (blocks : List PlannedBlock) → IsIndexLen keys blocks 0 0 4
-index_len_none keys blocks = record { sizes = refl; offset_is = omega arith; fits = omega arith }
-
 index_some : (keys : IndexKeys) (at : ℕ) (blocks : List PlannedBlock) → blocks ≢ [] → planned_index_entries keys at blocks ≢ []
 index_some keys at [] some = λ _. some refl
 index_some keys at (b ∷ bs) some = λ none. absurd (cc)

@@ -34,10 +34,6 @@ pub next_fits : (at sequence : ℕ) (next : Option ℕ) → at < 2 ^ 56 → IsNe
 next_fits at sequence None fits h = tt
 next_fits at sequence (Some n) fits h = omega arith
 
-pub less_left : (at sequence : ℕ) (next : Option ℕ) → IsNext at sequence next → left_of next < left_of (Some at)
-less_left at sequence None h = omega arith
-less_left at sequence (Some n) h = omega arith
-
 -- the entries with sequences above the next one were found
 pub record AreWalked (user : List ℕ) (entries : List Entry) (next : Option ℕ) (found : List Entry) : Type 0 where
   pub each : (e : Entry) → Contains entries e → user_of e.key ≡ user → IsPassed next (sequence_of e.key) → (own : Entry) × Contains found own × (sequence_of own.key ≡ sequence_of e.key)

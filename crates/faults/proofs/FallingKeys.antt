@@ -4,7 +4,7 @@ use Rattle.std.specs.Prelude.{Contains, nat_le}
 use Rattle.std.specs.List.{filter, filter_map}
 use Rattle.std.specs.Cmp.{IsTotalOrder}
 use Rattle.std.specs.Option.{option_map}
-use Rattle.std.proofs.lemmas.Bool.{leb-false, leb-true}
+use Rattle.std.proofs.lemmas.Bool.{leb-false, lt-leb}
 use Rattle.std.proofs.lemmas.List.{map-append}
 use Rattle.table.specs.Comparator.{IsExact, KeyOrder}
 use Rattle.table.specs.Key.{sequence_of, user_of}
@@ -19,7 +19,7 @@ use Rattle.faults.specs.VersionFault.{MisplacedKey}
 use Rattle.faults.specs.KeyFaults.{SearchedEntry, break_after, first_break, is_of, misplaced_at, misplaced_keys, read_file, searched_in, searched_of, users_of}
 use Rattle.faults.proofs.KeySteps.{key_of}
 use Rattle.faults.proofs.MisplacedLemmas.{are_misplaced, pairs_filter}
-use Rattle.faults.proofs.UserEntries.{false_of, of_user, searched, user_is}
+use Rattle.faults.proofs.UserEntries.{of_user, searched, user_is}
 
 -- of one user key, the first key has the greater sequence
 abbrev pub IsKeyNewer : List ℕ → List ℕ → Type 0
@@ -55,13 +55,10 @@ none_rest file sequence (f ∷ rest) h = by (nat_le sequence (sequence_of f.key)
     by true k = absurd cc
     by false k = k
 
-not_up : (m n : ℕ) → n < m → nat_le m n ≡ false
-not_up m n lt = false_of (nat_le m n) (λ h. absurd (omega (arith, leb-true m n h)))
-
 none_from : (file sequence : ℕ) (rest : List SearchedEntry) → ((e : SearchedEntry) → Contains rest e → sequence_of e.key < sequence) → Pairs IsHigher rest → break_after file sequence rest ≡ None
 none_from file sequence [] below pairs = refl
 none_from file sequence (f ∷ rest) below pairs =
-    ap (λ (b : Bool). cond b (Some (file, f.file)) (break_after f.file (sequence_of f.key) rest)) (not_up sequence (sequence_of f.key) (below f (first_in f rest)))
+    ap (λ (b : Bool). cond b (Some (file, f.file)) (break_after f.file (sequence_of f.key) rest)) (lt-leb sequence (sequence_of f.key) (below f (first_in f rest)))
     ∙ none_from f.file (sequence_of f.key) rest pairs.0 pairs.1
 
 none_first : (es : List SearchedEntry) → Pairs IsHigher es → first_break es ≡ None

@@ -25,19 +25,18 @@ pub memory_handed : {X : Type 0} (before now : ℕ) (r : Result X Fault) (e : Fa
 memory_handed before now (Ok x) e is h = absurd is
 memory_handed before now (Err f) e is h = subst (λ (d : Fault). UnlessMemory d (IsStopped before now d)) (sym (is ∙ h)) tt
 
+-- a device that failed after a time failed after an earlier time
+pub stopped_since : (before middle now : ℕ) (e : Fault) → before ≤ middle → middle ≤ now → UnlessMemory e (IsStopped middle now e) → UnlessMemory e (IsStopped before now e)
+stopped_since before middle now e one two h = unless_from e (IsStopped middle now e) (IsStopped before now e) (λ s. (s.0, failed_since before middle now one two s.1)) h
+
 -- a refusal that `?` hands on, if more calls came before it
 pub stopped_handed : {X : Type 0} (before middle now : ℕ) (r : Result X Fault) (e : Fault) → IsErrAnd r (λ f. f ≡ e) → before ≤ middle → middle ≤ now → UnlessMemory e (IsStopped middle now e) → IfErr r (λ e. UnlessMemory e (IsStopped before now e))
 stopped_handed before middle now (Ok x) e is one two h = absurd is
 stopped_handed before middle now (Err f) e is one two h =
-    subst (λ (d : Fault). UnlessMemory d (IsStopped before now d)) (sym is)
-    (unless_from e (IsStopped middle now e) (IsStopped before now e) (λ s. (s.0, failed_since before middle now one two s.1)) h)
+    subst (λ (d : Fault). UnlessMemory d (IsStopped before now d)) (sym is) (stopped_since before middle now e one two h)
 
 pub memory_of : (before now : ℕ) (e : Fault) → e ≡ fault Memory → UnlessMemory e (IsStopped before now e)
 memory_of before now e h = subst (λ (f : Fault). UnlessMemory f (IsStopped before now f)) (sym h) tt
-
--- a device that failed after a time failed after an earlier time
-pub stopped_since : (before middle now : ℕ) (e : Fault) → before ≤ middle → middle ≤ now → UnlessMemory e (IsStopped middle now e) → UnlessMemory e (IsStopped before now e)
-stopped_since before middle now e one two h = unless_from e (IsStopped middle now e) (IsStopped before now e) (λ s. (s.0, failed_since before middle now one two s.1)) h
 
 -- the device stopped it, if it has no refusal of its own
 pub stopped_only : (before now : ℕ) (e : Fault) (Own : Type 0) → (Own → ⊥) → UnlessMemory e (IsStopped before now e ⊎ Own) → UnlessMemory e (IsStopped before now e)
@@ -48,17 +47,6 @@ pub stopped_answer : {X Y : Type 0} (view : X → Y) (before now : ℕ) (r : Res
 stopped_answer view before now (Ok x) IsAnswer e is h = absurd is
 stopped_answer view before now (Err f) IsAnswer e is h =
     subst (λ (d : Fault). UnlessMemory d (IsStopped before now d ⊎ IsAnswer (Err d))) (sym is) (unless_from e (IsStopped before now e) (IsStopped before now e ⊎ IsAnswer (Err e)) (λ s. inl s) h)
-
--- and of one that is no refusal of its own
-pub handed_answer : {X Y : Type 0} (view : X → Y) (before middle now : ℕ) (r : Result X Fault) (IsAnswer : Result Y Fault → Type 0) (e : Fault) (Own : Type 0) → IsErrAnd r (λ f. f ≡ e) → before ≤ middle → middle ≤ now → (Own → ⊥) → UnlessMemory e (IsStopped middle now e ⊎ Own) → FolderAnswers view before now r IsAnswer
-handed_answer view before middle now r IsAnswer e Own is one two none h =
-    stopped_answer view before now r IsAnswer e is
-    (unless_from e (IsStopped middle now e ⊎ Own) (IsStopped before now e) (λ g. elim g [ inl s ↦ (s.0, failed_since before middle now one two s.1) | inr own ↦ absurd (none own) ]) h)
-
--- what only the device or memory refuse, after a call that refuses so too
-pub stopped_or : {X : Type 0} (before middle now : ℕ) (r : Result X Fault) (e : Fault) → IsErrAnd r (λ f. f ≡ e) → before ≤ middle → middle ≤ now → UnlessMemory e (IsStopped middle now e ⊎ ⊥) → IfErr r (λ e. UnlessMemory e (IsStopped before now e))
-stopped_or before middle now r e is one two given =
-    stopped_handed before middle now r e is one two (unless_from e (IsStopped middle now e ⊎ ⊥) (IsStopped middle now e) (λ g. elim g [ inl stopped ↦ stopped | inr none ↦ absurd none ]) given)
 
 pub ok_weaker : {X : Type 0} (r : Result X Fault) (P Q : X → Type 0) → ((x : X) → P x → Q x) → IfOk r P → IfOk r Q
 ok_weaker (Ok x) P Q f h = f x h

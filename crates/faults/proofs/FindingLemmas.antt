@@ -1,5 +1,5 @@
 -- What is wrong with files, by what is found of their tables and by what these hold.
-use Rattle.std.proofs.Common.{◌≡◌, ℕ, ◌+◌, ◌-◌, ◌<◌, Bool, true, false, cond, List, [], ◌∷◌, ◌++◌, length, map, take, drop, get_or, Option, Some, None, Result, Ok, Err, refl, sym, ap, ◌∙◌, arith}
+use Rattle.std.proofs.Common.{◌≡◌, ℕ, ◌+◌, ◌-◌, ◌<◌, Bool, true, false, cond, List, [], ◌∷◌, ◌++◌, length, map, take, drop, get_or, Option, Some, None, Result, Ok, Err, refl, sym, ap, subst, ◌∙◌, arith}
 use Rattle.std.specs.Prelude.{◌&&◌, nat_eq, not, unwrap_or}
 use Rattle.std.specs.List.{AllByRecursion, IsDistinct, filter, fold}
 use Rattle.std.specs.BTreeSet.{insert_key}
@@ -21,8 +21,10 @@ use Rattle.faults.specs.KeyFaults.{is_as_stated, is_deep, is_top, metas_where, s
 use Rattle.faults.specs.Findings.{FoundFile, faults_of_found, finding_faults, finding_of, found_faults, found_file, found_in, is_deep_found, is_sound_finding, is_top_found, metas_found, searched_found}
 use Rattle.faults.specs.declared.file_fault.FileFault.{FileFault}
 use Rattle.faults.specs.declared.file_fault.FileFault.TheVariants.{NotBelow}
-use Rattle.faults.specs.declared.tested_file.TestedFile.{TestedFile}
-use Rattle.faults.proofs.TellingLemmas.{next_of}
+use Rattle.faults.specs.declared.table_test.TestedFile.{TestedFile}
+use Rattle.faults.specs.ToldFaults.{IsPart, IsTold}
+use Rattle.faults.specs.declared.fault_count.FaultCount.{FaultCount}
+use Rattle.faults.proofs.TellingLemmas.{next_of, told_more, told_stops}
 
 -- the key of an entry that is there
 pub key_there : (o : Option Entry) (key : List ℕ) → Some key ≡ option_map (λ e. e.key) o → key ≡ option_map_or (λ (e : Entry). e.key) o []
@@ -97,7 +99,7 @@ files_found [] = refl
 files_found (t ∷ ts) = ap (λ (fs : List NewFile). level_file_in t.file ∷ fs) (files_found ts)
 
 -- the faults of the next file, and of those after it
-pub next_file : (cmp : KeyOrder) (next : Option ℕ) (tested : List TestedFile) (i : ℕ) (t : TestedFile) (faults : List FileFault) → i < length tested → t ≡ get_or tested i t
+next_file : (cmp : KeyOrder) (next : Option ℕ) (tested : List TestedFile) (i : ℕ) (t : TestedFile) (faults : List FileFault) → i < length tested → t ≡ get_or tested i t
     → found_faults cmp next (found_in t) (map (λ (t : TestedFile). level_file_in t.file) (take (length tested - (i + 1)) (drop (i + 1) tested))) ≡ faults
     → faults_of_found cmp next (map found_in (drop i tested)) ≡ map (OfFile t.file.meta.now.number) faults ++ faults_of_found cmp next (map found_in (drop (i + 1) tested))
 next_file cmp next tested i t faults lt is own =
@@ -108,6 +110,29 @@ next_file cmp next tested i t faults lt is own =
     ∙ ap (λ (fs : List NewFile). map (OfFile t.file.meta.now.number) (found_faults cmp next (found_in t) fs) ++ rest) (sym (files_found behind))
     ∙ ap (λ (ts : List TestedFile). map (OfFile t.file.meta.now.number) (found_faults cmp next (found_in t) (map (λ (t : TestedFile). level_file_in t.file) ts)) ++ rest) (sym whole)
     ∙ ap (λ (xs : List FileFault). map (OfFile t.file.meta.now.number) xs ++ rest) own
+
+module _ {T : Type 0} (tells : T → VersionFault → Bool → T → Type 0) (cmp : KeyOrder) (next : Option ℕ) (tested : List TestedFile) (i : ℕ) (t : TestedFile) (faults : List FileFault) (lt : i < length tested) (is : t ≡ get_or tested i t)
+    (own : found_faults cmp next (found_in t) (map (λ (t : TestedFile). level_file_in t.file) (take (length tested - (i + 1)) (drop (i + 1) tested))) ≡ faults) (old now new : T) (m n : FaultCount) (goes : m.goes ≡ true) where
+  abbrev all : List VersionFault
+  all = faults_of_found cmp next (map found_in tested)
+
+  abbrev from : ℕ → List VersionFault
+  from k = faults_of_found cmp next (map found_in (drop k tested))
+
+  abbrev front : List VersionFault
+  front = map (OfFile t.file.meta.now.number) faults
+
+  module _ (p : IsPart tells all old 0 (from i) now m) (q : IsTold tells front now m.count new n) where
+    there : IsPart tells all old 0 (front ++ from (i + 1)) now m
+    there = subst (λ (fs : List VersionFault). IsPart tells all old 0 fs now m) (next_file cmp next tested i t faults lt is own) p
+
+    -- all of the next file was told, and more is wanted
+    pub next_files : n.goes ≡ true → IsPart tells all old 0 (from (i + 1)) new n
+    next_files more = told_more tells all front (from (i + 1)) old now new 0 m goes there n q more
+
+    -- the taker said to stop there
+    pub files_stop : n.goes ≡ false → IsTold tells all old 0 new n
+    files_stop stops = told_stops tells all front (from (i + 1)) old now new 0 m goes there n q stops
 
 -- ---- their numbers
 

@@ -6,26 +6,27 @@ use Rattle.std.specs.Option.{ForSome, option_map, option_map_or, option_to_list}
 use Rattle.std.specs.Cmp.{IsTotalOrder}
 use Rattle.std.specs.Ordering.{is_lt}
 use Rattle.std.specs.Str.{bytes_eq}
-use Rattle.std.specs.declared.cmp.Ordering.{Ordering}
-use Rattle.std.specs.declared.cmp.Ordering.TheVariants.{Less, Equal, Greater}
-use Rattle.std.proofs.lemmas.List.{take_all}
+use Rattle.std.specs.declared.cmp.Ordering.TheVariants.{Less}
+use Rattle.std.proofs.lemmas.List.{length-map, take_all}
 use Rattle.std.proofs.lemmas.List.Elements.{Contains-append_cases, Contains-append_left, Contains-append_right}
 use Rattle.std.proofs.lemmas.Slice.Eq.{bytes_eq-Decides}
+use Rattle.std.proofs.lemmas.Bool.{both_ways}
 use Rattle.table.specs.Comparator.{IsExact, KeyOrder}
 use Rattle.table.specs.Key.{user_of}
 use Rattle.table.specs.EntriesFrom.{NeverFalls}
 use Rattle.reads.specs.Boundaries.{KeysRise}
 use Rattle.reads.specs.Ranges.{IsIn, KeyRange}
 use Rattle.table.specs.EncodedEntry.{Entry}
+use Rattle.table.proofs.Steps.{past_end}
 use Rattle.merge.specs.MergedLists.{entries_of_lists}
+use Rattle.checks.proofs.CommonRanges.{less_is, not_less}
 use Rattle.reads.proofs.Members.{first_in, first_or_later, from_filter, from_flat_map, from_map, in_filter, in_flat_map, in_map, none_in}
 use Rattle.reads.proofs.Orders.{not_before_itself}
 use Rattle.reads.proofs.Pairs.{Pairs, pairs_append, pairs_from, pairs_map, pairs_to, pairs_unmap}
 use Rattle.faults.specs.VersionFault.{MisplacedKey}
 use Rattle.faults.specs.KeyFaults.{FileEntries, SearchedEntry, first_break, is_of, misplaced_at, searched_in, searched_of}
 use Rattle.faults.specs.KeyWalk.{AreAllFrom, AreMisplacedIn, IsBelowBound, IsNextUser, after_user, found_keys, with_user}
-use Rattle.faults.proofs.TellingLemmas.{none_behind}
-use Rattle.faults.proofs.UserEntries.{files_after, files_part, lists_of, not_both, of_user, other_files, own_files, parts_length, searched, user_is}
+use Rattle.faults.proofs.UserEntries.{files_after, files_part, lists_of, of_user, other_files, own_files, parts_length, searched, user_is}
 
 -- ---- a misplaced key
 
@@ -125,10 +126,17 @@ fewer cmp total exact upper fs user upcoming falls =
     omega (arith, parts_length cmp total exact fs user, some_there next.entry (searched_of (map (with_user user) fs)) own)
 
 -- a list that was written over wholly
-pub written : {X : Type 0} (n : ℕ) (new old after : List X) → n ≡ length old → length new ≡ length old → new ≡ after → take n (new ++ drop (length new) old) ≡ after
+written : {X : Type 0} (n : ℕ) (new old after : List X) → n ≡ length old → length new ≡ length old → new ≡ after → take n (new ++ drop (length new) old) ≡ after
 written n new old after len same is =
-    let none : drop (length new) old ≡ [] = none_behind old (length new) (omega (arith, same)) in
+    let none : drop (length new) old ≡ [] = past_end old (length new) (omega (arith, same)) in
     ap (λ xs. take n (new ++ xs)) none ∙ ap (take n) (append-nil new) ∙ take_all n new (omega (arith, len, same)) ∙ is
+
+-- files that a call was lent, and that lost the entries of a user key
+pub left_is : (n : ℕ) (files lent new : List FileEntries) (user own : List ℕ) → lent ≡ files → own ≡ user → n ≡ length lent → new ≡ map (after_user own) lent → take n (new ++ drop (length new) files) ≡ map (after_user user) files
+left_is n files lent new user own same is room after =
+    let now : new ≡ map (after_user user) files = after ∙ ap (λ (u : List ℕ). map (after_user u) lent) is ∙ ap (map (after_user user)) same in
+    let long : length new ≡ length files = ap (λ (fs : List FileEntries). length fs) now ∙ length-map files (after_user user) in
+    written n new files (map (after_user user) files) (room ∙ ap (λ (fs : List FileEntries). length fs) same) long now
 
 module _ (cmp : KeyOrder) (total : IsTotalOrder cmp) (exact : IsExact cmp) (range : KeyRange) (all : List SearchedEntry) where
   -- all entries that are left are of later user keys
@@ -213,9 +221,6 @@ module _ (cmp : KeyOrder) (total : IsTotalOrder cmp) (exact : IsExact cmp) (rang
     within_of : option_map_or (λ limit. is_lt (cmp user limit)) range.lower false ≡ false → IsIn cmp range user
     within_of h = record { from = from_of range.lower h; before = next.within }
       where
-        not_less : (o : Ordering) → is_lt o ≡ false → o ≢ Less
-        not_less o h e = not_both (is_lt o) (ap is_lt e) h
-
         same_limit : (l x : List ℕ) → Some l ≡ Some x → l ≡ x
         same_limit l x e = ap (λ (o : Option (List ℕ)). option_map_or (λ (k : List ℕ). k) o l) e
 
@@ -226,14 +231,9 @@ module _ (cmp : KeyOrder) (total : IsTotalOrder cmp) (exact : IsExact cmp) (rang
     before_out : option_map_or (λ limit. is_lt (cmp user limit)) range.lower false ≡ true → IsIn cmp range user → ⊥
     before_out h within = by range.lower h within.from
       where
-        less_of : (o : Ordering) → is_lt o ≡ true → o ≡ Less
-        less_of Less h = refl
-        less_of Equal h = absurd cc
-        less_of Greater h = absurd cc
-
         by : (lower : Option (List ℕ)) → option_map_or (λ limit. is_lt (cmp user limit)) lower false ≡ true → ForSome lower (λ l. cmp user l ≢ Less) → ⊥
         by None h from = absurd cc
-        by (Some l) h from = from l refl (less_of (cmp user l) h)
+        by (Some l) h from = from l refl (less_is (cmp user l) h)
 
     -- what is added
     record IsNew (k : MisplacedKey) : Type 0 where
@@ -278,7 +278,7 @@ module _ (cmp : KeyOrder) (total : IsTotalOrder cmp) (exact : IsExact cmp) (rang
       where
         by : (b : Bool) → bytes_eq user u ≡ b → filter (is_of u) (searched_of fs) ≡ filter (is_of u) all → IsGone fs u ⊎ (user ≡ u)
         by true e same = inr ((bytes_eq-Decides user u).0 e)
-        by false e same = absurd (gone_misplaced after u k gone (other_files cmp total exact fs user u (λ h. not_both (bytes_eq user u) ((bytes_eq-Decides user u).1 h) e) ∙ same) is)
+        by false e same = absurd (gone_misplaced after u k gone (other_files cmp total exact fs user u (λ h. both_ways (bytes_eq user u) e ((bytes_eq-Decides user u).1 h)) ∙ same) is)
 
     pub walk_more : (after_keys : List MisplacedKey) → after_keys ≡ keys ++ new → IsWalkedTo after after_keys
     walk_more after_keys pushed = subst (IsWalkedTo after) (sym pushed) (record {
@@ -308,4 +308,4 @@ module _ (cmp : KeyOrder) (total : IsTotalOrder cmp) (exact : IsExact cmp) (rang
           where
             by : (b : Bool) → bytes_eq user u ≡ b → filter (is_of u) (searched_of fs) ≡ filter (is_of u) all → IsGone after u ⊎ (filter (is_of u) (searched_of after) ≡ filter (is_of u) all)
             by true e same = inl (subst (IsGone after) ((bytes_eq-Decides user u).0 e) user_gone)
-            by false e same = inr (other_files cmp total exact fs user u (λ h. not_both (bytes_eq user u) ((bytes_eq-Decides user u).1 h) e) ∙ same)
+            by false e same = inr (other_files cmp total exact fs user u (λ h. both_ways (bytes_eq user u) e ((bytes_eq-Decides user u).1 h)) ∙ same)

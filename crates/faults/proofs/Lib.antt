@@ -8,7 +8,6 @@ pub mod SoundFiles
 pub mod RangeEntries
 pub mod SearchLemmas
 pub mod TakenFiles
-pub mod KeyBytes
 pub mod FileLists
 pub mod SearchOrder
 pub mod FallingKeys

@@ -2,7 +2,7 @@
 use Rattle.std.proofs.Common.{◌≡◌, ℕ, zero, suc, ◌^◌, Bool, true, false, not, nat_eq, nat_le, nat_lt, List, [], ◌∷◌, length, drop, take, Option, Some, None, Err, refl, sym, ap, ◌∙◌, arith}
 use Rattle.std.specs.Prelude.{unwrap_or}
 use Rattle.std.specs.Option.{option_map, option_or, ok_or}
-use Rattle.std.proofs.lemmas.Bool.{leb-true, ltb-true}
+use Rattle.std.proofs.lemmas.Bool.{le-ltb, lt-leb, ltb-true}
 use Rattle.std.proofs.lemmas.Bool.Decides.{Decides-ltb, nat_tests}
 use Rattle.std.proofs.lemmas.Option.{same_Some}
 use Rattle.table.specs.Answers.{◌>>=◌, fault}
@@ -13,13 +13,12 @@ use Rattle.table.specs.TableContents.{contents_reading, index_in}
 use Rattle.table.proofs.CheckedTables.{index_refused}
 use Rattle.folder.specs.meta.FileMeta.{FileMeta}
 use Rattle.faults.specs.Findings.{finding_of, is_long, is_too_long}
-use Rattle.faults.specs.declared.table_finding.TableFinding.TheVariants.{Unreadable}
-use Rattle.faults.proofs.UserEntries.{false_of}
+use Rattle.faults.specs.declared.table_test.TableFinding.TheVariants.{Unreadable}
 
 -- ---- they are refused
 
 not_most : (n : ℕ) → nat_lt (2 ^ 30) n ≡ true → nat_le n (2 ^ 30) ≡ false
-not_most n h = false_of (nat_le n (2 ^ 30)) (λ k. absurd (omega (arith, leb-true n (2 ^ 30) k, ltb-true (2 ^ 30) n h)))
+not_most n h = lt-leb n (2 ^ 30) (ltb-true (2 ^ 30) n h)
 
 no_index : (bytes : List ℕ) → is_long bytes ≡ true → index_in bytes ≡ Err (fault Size)
 no_index bytes h = rw (not_most (length bytes) h) refl
@@ -34,7 +33,7 @@ long_found cmp f (Some bytes) h = ap (finding_of f) (sym (refused cmp bytes h))
 -- ---- a byte after the most that a table may have
 
 none_below : (n : ℕ) → false ≡ nat_lt n 0
-none_below n = sym (false_of (nat_lt n 0) (λ h. absurd (omega (arith, ltb-true n 0 h))))
+none_below n = sym (le-ltb n 0 (omega arith))
 
 one_more : (n m : ℕ) → nat_lt n m ≡ nat_lt (suc n) (suc m)
 one_more n m = grind (arith, nat_tests)

@@ -3,7 +3,6 @@ use Rattle.std.proofs.Common.{◌≡◌, ℕ, zero, suc, ◌+◌, ◌<◌, ◌�
 use Rattle.std.specs.Prelude.{◌⊎◌, Contains}
 use Rattle.std.specs.BTreeSet.{insert_key}
 use Rattle.std.specs.List.{cons_option, filter, filter_map, fold}
-use Rattle.std.specs.List.Sorted.{IsStrictlySortedBy}
 use Rattle.std.specs.Cmp.{IsTotalOrder}
 use Rattle.std.specs.Ordering.{match_ordering}
 use Rattle.std.specs.declared.cmp.Ordering.{Ordering}
@@ -12,12 +11,10 @@ use Rattle.std.proofs.lemmas.List.Elements.{All-from_recursion, Contains-append_
 use Rattle.std.proofs.lemmas.Option.{same_Some}
 use Rattle.table.specs.Comparator.{IsExact, KeyOrder}
 use Rattle.table.specs.Key.{user_of}
-use Rattle.folder.proofs.Inserted.{sorted_all}
-use Rattle.folder.proofs.Inserted as inserted
 use Rattle.merge.specs.InRange.{is_in_range}
 use Rattle.merge.proofs.InRange.{holds_tells}
 use Rattle.reads.specs.Ranges.{IsCover, IsIn, KeyRange, range_at}
-use Rattle.reads.proofs.FallingEntries.{each_of, of_each}
+use Rattle.reads.proofs.FallingEntries.{of_each}
 use Rattle.reads.proofs.Members.{first_in, first_or_later, from_filter, in_filter, in_map, later_in, none_in}
 use Rattle.reads.proofs.Orders.{not_before_itself}
 use Rattle.reads.proofs.Pairs.{Pairs, pairs_append}
@@ -26,15 +23,9 @@ use Rattle.faults.specs.KeyFaults.{SearchedEntry, is_of, misplaced_at, misplaced
 use Rattle.faults.specs.KeyWalk.{AreMisplacedIn}
 use Rattle.faults.specs.RangeKeys.{keys_from, keys_in}
 use Rattle.faults.specs.FaultLaws.{AreMisplaced}
+use Rattle.faults.proofs.FileLists.{put_pairs}
 use Rattle.faults.proofs.KeySteps.{IsEarlier, misplaced_entry, misplaced_user, of_pairs, rising_pairs}
 use Rattle.faults.proofs.UserEntries.{of_user}
-
--- ---- the same of all elements
-
-pub in_of : {X : Type 0} (xs : List X) (x : X) → inserted.IsIn xs x → Contains xs x
-in_of [] x h = absurd h
-in_of (y ∷ xs) x (inl same) = subst (Contains (y ∷ xs)) (sym same) (first_in y xs)
-in_of (y ∷ xs) x (inr later) = later_in y xs x (in_of xs x later)
 
 pub pairs_filter : {X : Type 0} (R : X → X → Type 0) (p : X → Bool) (xs : List X) → Pairs R xs → Pairs R (filter p xs)
 pairs_filter R p [] h = tt
@@ -84,17 +75,8 @@ module _ (cmp : KeyOrder) (total : IsTotalOrder cmp) (exact : IsExact cmp) (entr
   abbrev Rises : List (List ℕ) → Type 0
   Rises users = Pairs (λ (a b : List ℕ). cmp a b ≡ Less) users
 
-  rises_of : (users : List (List ℕ)) → IsStrictlySortedBy cmp users → Rises users
-  unfolding IsStrictlySortedBy
-  rises_of [] h = tt
-  rises_of (u ∷ us) h = (λ w at. each_of (λ (x : List ℕ). cmp u x ≡ Less) us h.0 w at, rises_of us h.1)
-
-  none_sorted : IsStrictlySortedBy cmp []
-  unfolding IsStrictlySortedBy
-  none_sorted = tt
-
   users_rise : Rises (users_of cmp entries)
-  users_rise = rises_of (users_of cmp entries) (sorted_all cmp total [] (map (λ (x : SearchedEntry). user_of x.key) entries) none_sorted)
+  users_rise = put_pairs cmp total (map (λ (x : SearchedEntry). user_of x.key) entries)
 
   -- ---- the keys among these
 

@@ -4,8 +4,7 @@ use Rattle.std.specs.Prelude.{Contains, slice_get}
 use Rattle.std.specs.Cmp.{IsTotalOrder}
 use Rattle.std.specs.Option.{option_map, option_map_or}
 use Rattle.std.specs.Ordering.{is_lt}
-use Rattle.std.specs.declared.cmp.Ordering.{Ordering}
-use Rattle.std.specs.declared.cmp.Ordering.TheVariants.{Less, Equal, Greater}
+use Rattle.std.specs.declared.cmp.Ordering.TheVariants.{Less}
 use Rattle.std.proofs.lemmas.List.Elements.{Contains-append_left, Contains-append_right}
 use Rattle.std.proofs.lemmas.Option.{none-some, same_Some}
 use Rattle.table.specs.Comparator.{IsExact, KeyOrder}
@@ -17,15 +16,8 @@ use Rattle.reads.proofs.EntriesInOrder.{behind_bound}
 use Rattle.reads.proofs.FallingEntries.{each_of}
 use Rattle.reads.proofs.Members.{first_in, from_flat_map, none_in}
 use Rattle.reads.proofs.Orders.{not_before_itself}
+use Rattle.checks.proofs.CommonRanges.{less_is, not_less}
 use Rattle.faults.specs.KeyWalk.{AreAllFrom, IsBelowBound, IsNextUser}
-
-less_of : (o : Ordering) → is_lt o ≡ true → o ≡ Less
-less_of Less h = refl
-less_of Equal h = absurd cc
-less_of Greater h = absurd cc
-
-not_less : (o : Ordering) → is_lt o ≡ false → o ≡ Less → ⊥
-not_less o h e = let both : true ≡ false = sym (ap is_lt e) ∙ h in absurd cc
 
 in_lists : (lists : List (List Entry)) (place : ℕ) (list : List Entry) → slice_get lists place ≡ Some list → (e : Entry) → Contains list e → Contains (entries_of_lists lists) e
 in_lists [] place list h e at = absurd (none-some list h)
@@ -46,7 +38,7 @@ module _ (cmp : KeyOrder) where
 
   within_of : (user : List ℕ) (upper : Option (List ℕ)) → option_map_or (λ limit. is_lt (cmp user limit)) upper true ≡ true → IsBelowBound cmp upper user
   within_of user None h = λ x e. absurd cc
-  within_of user (Some l) h = λ x e. subst (λ (k : List ℕ). cmp user k ≡ Less) (same_Some l x e) (less_of (cmp user l) h)
+  within_of user (Some l) h = λ x e. subst (λ (k : List ℕ). cmp user k ≡ Less) (same_Some l x e) (less_is (cmp user l) h)
 
   module _ (total : IsTotalOrder cmp) (exact : IsExact cmp) (lists : List (List Entry)) (place : ℕ) (m : IsMerging cmp lists (Some place)) (user : List ℕ) (is : user_of m.least.first.key ≡ user) where
     pub next_is : (upper : Option (List ℕ)) → option_map_or (λ limit. is_lt (cmp user limit)) upper true ≡ true → IsNextUser cmp upper (entries_of_lists lists) user

@@ -1,10 +1,11 @@
 -- Nothing is wrong with a version exactly if it passes its test.
-use Rattle.std.proofs.Common.{◌≡◌, ℕ, ◌-◌, ◌<◌, Bool, true, false, cond, not, ◌&&◌, ◌||◌, List, [], ◌∷◌, ◌++◌, length, map, get_or, Option, Some, None, Result, Ok, Err, refl, sym, ap, subst, ◌∙◌, inl, inr}
-use Rattle.std.specs.Prelude.{◌⊎◌, Contains, nat_eq, nat_lt, slice_get, slice_index}
+use Rattle.std.proofs.Common.{◌≡◌, ℕ, ◌-◌, ◌<◌, Bool, true, false, cond, not, ◌&&◌, List, [], ◌∷◌, ◌++◌, length, map, get_or, Option, Some, None, Result, Ok, Err, refl, sym, ap, subst, ◌∙◌, inl, inr}
+use Rattle.std.specs.Prelude.{Contains, nat_eq, nat_lt, slice_get, slice_index}
 use Rattle.std.specs.List.{AllZip, filter}
 use Rattle.std.specs.Cmp.{IsTotalOrder}
 use Rattle.std.specs.Ordering.{is_lt}
 use Rattle.std.specs.Str.{bytes_eq}
+use Rattle.std.proofs.lemmas.Bool.{and_from, or_left, or_right}
 use Rattle.std.proofs.lemmas.Bool.Decides.{Decides-eqb, Decides-ltb}
 use Rattle.std.proofs.lemmas.List.Elements.{All-contains, Contains-get_or}
 use Rattle.std.proofs.lemmas.Slice.Eq.{bytes_eq-Decides}
@@ -14,6 +15,9 @@ use Rattle.table.specs.Comparator.{IsExact, KeyOrder}
 use Rattle.table.specs.Key.{IsInternalKey}
 use Rattle.table.specs.EncodedEntry.{Entry}
 use Rattle.table.specs.TableContents.{Contents}
+use Rattle.table.proofs.CheckedTables.{entries_read}
+use Rattle.table.proofs.KeyBytes.{table_keys}
+use Rattle.table.proofs.Tables.{reads_tables}
 use Rattle.folder.specs.Version.{IsState, State}
 use Rattle.folder.specs.meta.FileMeta.{FileMeta}
 use Rattle.folder.specs.meta.NewFile.{NewFile}
@@ -29,6 +33,7 @@ use Rattle.reads.specs.TableOrder.{AreFalling, IsNewer}
 use Rattle.reads.specs.Tables.{NumberedContents, all_entries, table_entries, table_of_number}
 use Rattle.reads.proofs.Answers.{entries_are}
 use Rattle.reads.proofs.Apart.{AreTwo, distinct_pairs}
+use Rattle.reads.proofs.FallingEntries.{each_of}
 use Rattle.reads.proofs.FileOrder.{IsRange, is_range}
 use Rattle.reads.proofs.LawfulVersions.{entries_fall, lawful_of}
 use Rattle.reads.proofs.Members.{first_in, first_or_later, from_flat_map, from_map, in_map, later_in, none_in}
@@ -53,7 +58,6 @@ use Rattle.faults.specs.declared.file_fault.FileFault.TheVariants.{Overlaps}
 use Rattle.faults.proofs.FallingKeys.{falls_if_none, newer_searched, none_misplaced, same_keys, searched_newer}
 use Rattle.faults.proofs.FileLists.{Follows, all_follow, all_listed, lend}
 use Rattle.faults.proofs.FindingLemmas.{key_there}
-use Rattle.faults.proofs.KeyBytes.{internal_keys}
 use Rattle.faults.proofs.NumberLemmas.{all_numbers, some_found}
 use Rattle.faults.proofs.SearchOrder.{all_again, before, files_again, from_search, in_order, items, search_list, searched_is}
 use Rattle.faults.proofs.SoundFiles.{IsHeldFile, first_there, held_table, last_there, reading_of_table, sound_held}
@@ -109,17 +113,6 @@ none_table f (Ok x) h = none_three (nat_eq f.size (length x.bytes)) (bytes_eq f.
 below_is : (next : Option ℕ) (n : ℕ) → IsBelowNextFile next n → is_below next n ≡ true
 below_is None n h = absurd h
 below_is (Some next) n h = (Decides-ltb n next).1 h
-
-all_true : (a b c : Bool) → a ≡ true → b ≡ true → c ≡ true → (a && (b && c)) ≡ true
-all_true true true true h k l = refl
-all_true true true false h k l = absurd cc
-all_true true false c h k l = absurd cc
-all_true false b c h k l = absurd cc
-
-or_true : (a b : Bool) → (a ≡ true) ⊎ (b ≡ true) → (a || b) ≡ true
-or_true true b h = refl
-or_true false b (inl h) = absurd cc
-or_true false b (inr h) = h
 
 -- a file of a deep level doesn't overlap one of its level, if they are disjoint
 apart_by : (one two three : Bool) → (one ≡ true → two ≡ true → three ≡ true) → ((one && two) && not three) ≡ false
@@ -228,7 +221,7 @@ module _ (cmp : KeyOrder) (total : IsTotalOrder cmp) (exact : IsExact cmp) (file
         let held = held_of f at in
         let t = held.contents in
         let bounds : (nat_eq m.size (length t.bytes) && (bytes_eq m.smallest m.smallest && bytes_eq m.largest m.largest)) ≡ true =
-        all_true (nat_eq m.size (length t.bytes)) (bytes_eq m.smallest m.smallest) (bytes_eq m.largest m.largest) ((Decides-eqb m.size (length t.bytes)).1 held.size) ((bytes_eq-Decides m.smallest m.smallest).1 refl) ((bytes_eq-Decides m.largest m.largest).1 refl) in
+        and_from (nat_eq m.size (length t.bytes)) _ ((Decides-eqb m.size (length t.bytes)).1 held.size) (and_from (bytes_eq m.smallest m.smallest) (bytes_eq m.largest m.largest) ((bytes_eq-Decides m.smallest m.smallest).1 refl) ((bytes_eq-Decides m.largest m.largest).1 refl)) in
         let is : matches_metadata v.next_file m (length t.bytes) m.smallest m.largest ≡ true = rw (clean_below cmp files v.next_file all clean f at) bounds in
         (stated_tests cmp tables v.next_file m t m.smallest m.largest (there_of f at) (held_table cmp files m held).read (first_there cmp files m held) (last_there cmp files m held) total true (sym is)).0 refl
 
@@ -273,7 +266,10 @@ module _ (cmp : KeyOrder) (total : IsTotalOrder cmp) (exact : IsExact cmp) (file
         let there = in_all f from.there in
         let held = held_of f there in
         let table = held_table cmp files f.meta held in
-        internal_keys cmp total held.contents.bytes held.contents (bytes_of bytes f.meta.number held.contents.bytes table.there) table.read e
+        let x = held.contents in
+        let fits = bytes_of bytes f.meta.number x.bytes table.there in
+        let is = (reads_tables cmp total).found x.bytes x.entries fits (entries_read cmp x.bytes x table.read) in
+        each_of (λ (y : Entry). IsInternalKey y.key) x.entries (table_keys cmp x.bytes x.entries fits is) e
         (subst (λ (es : List Entry). Contains es e) (entries_are tables f.meta.number held.contents (there_of f there)) from.held)
 
     pub lawful_if_none : HoldBytes files → misplaced_keys cmp (searched_entries cmp files all) ≡ [] → IsLawful cmp v tables
@@ -308,11 +304,11 @@ module _ (cmp : KeyOrder) (total : IsTotalOrder cmp) (exact : IsExact cmp) (file
         let small : m.smallest ≡ smallest_of x = key_there (slice_get x.entries 0) m.smallest (sym is.smallest) in
         let large : m.largest ≡ largest_of x = key_there (slice_get x.entries (length x.entries - 1)) m.largest (sym is.largest) in
         ap (is_as_stated m) (reading_of_table cmp files m.number x table)
-        ∙ all_true (nat_eq m.size (length x.bytes)) (bytes_eq m.smallest (smallest_of x)) (bytes_eq m.largest (largest_of x)) ((Decides-eqb m.size (length x.bytes)).1 is.size) ((bytes_eq-Decides m.smallest (smallest_of x)).1 small) ((bytes_eq-Decides m.largest (largest_of x)).1 large)
+        ∙ and_from (nat_eq m.size (length x.bytes)) _ ((Decides-eqb m.size (length x.bytes)).1 is.size) (and_from (bytes_eq m.smallest (smallest_of x)) (bytes_eq m.largest (largest_of x)) ((bytes_eq-Decides m.smallest (smallest_of x)).1 small) ((bytes_eq-Decides m.largest (largest_of x)).1 large))
 
     disjoint_is : (f g : FileMeta) → AreDisjoint cmp f g → are_disjoint cmp f g ≡ true
-    disjoint_is f g (inl h) = or_true (lies_before cmp f g) (lies_before cmp g f) (inl (ap is_lt h))
-    disjoint_is f g (inr h) = or_true (lies_before cmp f g) (lies_before cmp g f) (inr (ap is_lt h))
+    disjoint_is f g (inl h) = or_left (lies_before cmp f g) (lies_before cmp g f) (ap is_lt h)
+    disjoint_is f g (inr h) = or_right (lies_before cmp f g) (lies_before cmp g f) (ap is_lt h)
 
     clean_if_lawful : (fs : List NewFile) → ((f : NewFile) → Contains fs f → Contains v.files f) → Pairs AreTwo fs → AreClean cmp files v.next_file fs
     clean_if_lawful [] among two = tt

@@ -1,14 +1,13 @@
 -- In version order, a file overlaps none of those after one that it ends before.
-use Rattle.std.proofs.Common.{◌≡◌, ℕ, zero, suc, ◌+◌, ◌-◌, ◌<◌, ◌≤◌, Bool, true, false, cond, List, [], ◌∷◌, ◌++◌, length, map, take, drop, get_or, ◌⊎◌, inl, inr, refl, sym, ap, ◌∙◌, arith, drop-cons}
+use Rattle.std.proofs.Common.{◌≡◌, ℕ, zero, suc, ◌+◌, ◌-◌, ◌<◌, ◌≤◌, Bool, true, false, cond, List, [], ◌∷◌, ◌++◌, length, map, take, drop, get_or, ◌⊎◌, inl, inr, refl, sym, ap, ◌∙◌, arith}
 use Rattle.std.proofs.lemmas.List.{append-nil, length-drop, take_all}
 use Rattle.std.specs.Prelude.{◌&&◌, ◌||◌, nat_eq, nat_lt, not}
 use Rattle.std.specs.List.{filter}
 use Rattle.std.specs.Cmp.{IsTotalOrder}
-use Rattle.std.specs.Ordering.{is_le, is_lt, ordering_reverse}
-use Rattle.std.specs.declared.cmp.Ordering.{Ordering}
-use Rattle.std.specs.declared.cmp.Ordering.TheVariants.{Less, Equal, Greater}
+use Rattle.std.specs.Ordering.{is_le, is_lt}
 use Rattle.std.proofs.lemmas.Bool.{and_from, and_parts, eq-eqb, eqb-true, lt-ltb, ltb-true, or_cases, or_left, or_right}
-use Rattle.table.proofs.Ordered.{internal_cmp-total}
+use Rattle.table.proofs.Steps.{next_item}
+use Rattle.merge.proofs.Orders.{less_is, lt_le_trans}
 use Rattle.table.specs.Comparator.{KeyOrder}
 use Rattle.table.specs.Order.{internal_cmp}
 use Rattle.folder.specs.meta.NewFile.{NewFile}
@@ -17,25 +16,7 @@ use Rattle.faults.specs.FileFaults.{are_disjoint, lies_before, overlap, overlap_
 use Rattle.faults.specs.FileOrder.{are_in_order, is_in_order, is_past}
 use Rattle.faults.specs.declared.file_fault.FileFault.{FileFault}
 use Rattle.faults.specs.declared.file_fault.FileFault.TheVariants.{Overlaps}
-use Rattle.faults.specs.declared.tested_file.TestedFile.{TestedFile}
-
-less_is : (o : Ordering) → is_lt o ≡ true → o ≡ Less
-less_is Less h = refl
-less_is Equal h = absurd cc
-less_is Greater h = absurd cc
-
-is_less : (o : Ordering) → o ≡ Less → is_lt o ≡ true
-is_less o h = ap is_lt h
-
-module _ {K : Type 0} {cmp : K → K → Ordering} (total : IsTotalOrder cmp) where
-  -- from x < y and y <= z, x < z
-  lt_le : (x y z : K) → cmp x y ≡ Less → is_le (cmp y z) ≡ true → cmp x z ≡ Less
-  lt_le x y z less le = by (cmp y z) refl le
-    where
-      by : (o : Ordering) → cmp y z ≡ o → is_le o ≡ true → cmp x z ≡ Less
-      by Less is h = total.trans x y z less is
-      by Equal is h = total.antisymm x z ∙ ap ordering_reverse (sym (total.congr y z x is)) ∙ sym (total.antisymm x y) ∙ less
-      by Greater is h = absurd cc
+use Rattle.faults.specs.declared.table_test.TestedFile.{TestedFile}
 
 module _ {cmp : KeyOrder} (total : IsTotalOrder cmp) where
   -- what the file is past
@@ -74,8 +55,7 @@ module _ {cmp : KeyOrder} (total : IsTotalOrder cmp) where
       by (inr (inr beside)) (inr same) =
           inr (inr (
             beside.0 ∙ same.0,
-            is_less (internal_cmp cmp f.meta.largest h.meta.smallest)
-                (lt_le (internal_cmp-total total) f.meta.largest g.meta.smallest h.meta.smallest (less_is (internal_cmp cmp f.meta.largest g.meta.smallest) beside.1) same.1),
+            ap is_lt (lt_le_trans cmp total f.meta.largest g.meta.smallest h.meta.smallest (less_is (internal_cmp cmp f.meta.largest g.meta.smallest) beside.1) same.1),
           ))
 
   levels_differ : (a b : ℕ) (rest : Bool) → (a ≡ 0) ⊎ (a < b) → ((nat_lt 0 a && nat_eq a b) && rest) ≡ false
@@ -131,20 +111,6 @@ order_behind cmp i ts b is holds =
     let whole : take (length ts - i) (drop i ts) ≡ drop i ts = take_all (length ts - i) (drop i ts) (omega (arith, length-drop i ts)) in
     ap (λ (xs : List TestedFile). are_in_order cmp (map own xs)) whole ∙ order_drop cmp i ts (sym is ∙ holds)
 
--- the file at a place, and those after it
-at_place : (ts : List TestedFile) (i : ℕ) (t : TestedFile) → i < length ts → t ≡ get_or ts i t → drop i ts ≡ t ∷ drop (suc i) ts
-at_place ts i t lt is = drop-cons ts i t lt ∙ ap (λ (x : TestedFile). x ∷ drop (suc i) ts) (sym is)
-
--- whether files are in order, by the first two of them
-pub order_step : (cmp : KeyOrder) (ts : List TestedFile) (i : ℕ) (s t : TestedFile) → 1 ≤ i → i < length ts → s ≡ get_or ts (i - 1) s → t ≡ get_or ts i t
-    → are_in_order cmp (map own (drop (i - 1) ts)) ≡ (is_in_order cmp (own s) (own t) && are_in_order cmp (map own (drop i ts)))
-order_step cmp ts i s t some lt first second =
-    let at : suc (i - 1) ≡ i = omega arith in
-    let here : drop i ts ≡ t ∷ drop (suc i) ts = at_place ts i t lt second in
-    let parts : drop (i - 1) ts ≡ s ∷ drop i ts = at_place ts (i - 1) s (omega arith) first ∙ ap (λ (k : ℕ). s ∷ drop k ts) at in
-    ap (λ (xs : List TestedFile). are_in_order cmp (map own xs)) (parts ∙ ap (λ (xs : List TestedFile). s ∷ xs) here)
-    ∙ sym (ap (λ (xs : List TestedFile). is_in_order cmp (own s) (own t) && are_in_order cmp (map own xs)) here)
-
 -- no two files are left
 pub order_end : (cmp : KeyOrder) (ts : List TestedFile) (i : ℕ) → length ts ≤ i + 1 → are_in_order cmp (map own (drop i ts)) ≡ true
 order_end cmp [] zero h = refl
@@ -152,12 +118,6 @@ order_end cmp [] (suc i) h = refl
 order_end cmp (t ∷ []) zero h = refl
 order_end cmp (t ∷ s ∷ ts) zero h = absurd (omega arith)
 order_end cmp (t ∷ ts) (suc i) h = order_end cmp ts i (omega arith)
-
-pub both_true : (p q r : Bool) → p ≡ true → r ≡ (p && q) → q ≡ r
-both_true p q r h is = sym (is ∙ ap (λ (b : Bool). b && q) h)
-
-pub both_false : (p q r : Bool) → p ≡ false → r ≡ (p && q) → r ≡ false
-both_false p q r h is = is ∙ ap (λ (b : Bool). b && q) h
 
 -- ---- what a file overlaps
 
@@ -179,11 +139,11 @@ overlaps_parts cmp f (suc i) (t ∷ ts) = by (overlap cmp f (own t)) (overlaps_p
 pub none_from : {cmp : KeyOrder} → IsTotalOrder cmp → (f : NewFile) (t : TestedFile) (i : ℕ) (ts : List TestedFile) (before : List FileFault) → i < length ts → t ≡ get_or ts i t → are_in_order cmp (map own ts) ≡ true → is_past cmp f (own t) ≡ true
     → before ++ overlap_faults cmp f (map own (take i ts)) ≡ before ++ overlap_faults cmp f (map own ts)
 none_from {cmp} total f t i ts before lt is order past =
-    let parts : drop i ts ≡ t ∷ drop (suc i) ts = at_place ts i t lt is in
-    let sorted : are_in_order cmp (own t ∷ map own (drop (suc i) ts)) ≡ true = sym (ap (λ (xs : List TestedFile). are_in_order cmp (map own xs)) parts) ∙ order_drop cmp i ts order in
+    let parts : drop i ts ≡ t ∷ drop (i + 1) ts = next_item ts i t lt is in
+    let sorted : are_in_order cmp (own t ∷ map own (drop (i + 1) ts)) ≡ true = sym (ap (λ (xs : List TestedFile). are_in_order cmp (map own xs)) parts) ∙ order_drop cmp i ts order in
     let none : overlap_faults cmp f (map own (drop i ts)) ≡ [] =
     ap (λ (xs : List TestedFile). overlap_faults cmp f (map own xs)) parts
-    ∙ ap (map (λ (h : NewFile). Overlaps h.meta.number)) (none_behind total f (own t) (map own (drop (suc i) ts)) sorted past) in
+    ∙ ap (map (λ (h : NewFile). Overlaps h.meta.number)) (none_behind total f (own t) (map own (drop (i + 1) ts)) sorted past) in
     let front : List FileFault = overlap_faults cmp f (map own (take i ts)) in
     ap (λ (xs : List FileFault). before ++ xs)
     (sym (append-nil front) ∙ sym (ap (λ (xs : List FileFault). front ++ xs) none) ∙ sym (overlaps_parts cmp f i ts))

@@ -5,6 +5,7 @@ use Rattle.std.specs.List.{AllZip, filter}
 use Rattle.std.specs.Cmp.{IsTotalOrder}
 use Rattle.std.specs.Option.{option_map}
 use Rattle.std.proofs.lemmas.List.Elements.{All-head, All-tail, filter-append}
+use Rattle.std.proofs.lemmas.Bool.{false_from_ne_true}
 use Rattle.table.specs.fault.Fault.{Fault}
 use Rattle.table.specs.Comparator.{KeyOrder}
 use Rattle.table.specs.Key.{user_of}
@@ -28,7 +29,7 @@ use Rattle.faults.specs.KeyWalk.{AreMisplacedIn}
 use Rattle.faults.specs.RangeKeys.{AreSoundIn, IsCursorOf}
 use Rattle.faults.proofs.KeySteps.{key_of}
 use Rattle.faults.proofs.SoundFiles.{first_there, held_table, last_there, reading_of_table, sound_held}
-use Rattle.faults.proofs.UserEntries.{false_of, of_user, searched}
+use Rattle.faults.proofs.UserEntries.{of_user, searched}
 
 -- the entries of a table
 abbrev pub table_file : NumberedContents → FileEntries
@@ -68,7 +69,7 @@ module _ (cmp : KeyOrder) (total : IsTotalOrder cmp) (range : KeyRange) where
       by true is rest = ap (λ (xs : List SearchedEntry). cond (is_of user (searched n e)) (searched n e ∷ xs) xs) rest
       by false is rest =
           let isnt : is_of user (searched n e) ≡ false =
-          false_of (is_of user (searched n e))
+          false_from_ne_true (is_of user (searched n e))
           (λ h. out (subst (λ (u : List ℕ). is_in_range cmp range u ≡ false) (of_user user (searched n e) h) is)) in
           ap (λ (b : Bool). cond b (searched n e ∷ rest_of) rest_of) isnt ∙ rest
         where

@@ -18,7 +18,7 @@ use Rattle.faults.specs.VersionFault.{MisplacedKey, VersionFault, OfKey}
 use Rattle.faults.specs.KeyFaults.{FileEntries, is_of, is_sound, read_file, searched_of}
 use Rattle.faults.specs.KeyWalk.{AreMisplacedIn, misplaced_in}
 use Rattle.faults.specs.RangeKeys.{AreSoundIn, keys_from, keys_in}
-use Rattle.faults.specs.declared.key_fault.KeyFault.{KeyFault}
+use Rattle.faults.specs.declared.key_walk.KeyFault.{KeyFault}
 use Rattle.faults.proofs.RangeEntries.{all_found, found_files, misplaced_same, needed_same, table_file}
 
 -- ---- the tables of a range

@@ -1,5 +1,5 @@
 -- The files of a version in the order of search: of two files the one of newer entries comes first.
-use Rattle.std.proofs.Common.{◌≡◌, ℕ, zero, suc, ◌+◌, ◌<◌, Bool, true, false, cond, not, ◌&&◌, ◌||◌, List, [], ◌∷◌, ◌++◌, length, map, get_or, refl, sym, ap, ap₂, subst, ◌∙◌, inl, inr, arith}
+use Rattle.std.proofs.Common.{◌≡◌, ℕ, zero, suc, ◌+◌, ◌<◌, Bool, true, false, cond, not, ◌&&◌, List, [], ◌∷◌, ◌++◌, length, map, get_or, refl, sym, ap, ap₂, subst, ◌∙◌, inl, inr, arith}
 use Rattle.std.specs.Prelude.{◌⊎◌, Contains, nat_eq, nat_lt}
 use Rattle.std.specs.BTreeSet.{insert_key}
 use Rattle.std.specs.List.{IsDistinct, filter, fold}
@@ -13,6 +13,7 @@ use Rattle.std.proofs.lemmas.List.{map-append}
 use Rattle.std.proofs.lemmas.List.Elements.{Contains-get_or}
 use Rattle.std.proofs.lemmas.List.Sorted.{Contains-permutation, IsPermutation-append_left, IsPermutation-filter_both, IsPermutation-map, IsPermutation-sym, IsPermutation-trans}
 use Rattle.std.proofs.lemmas.Map.Keys.{IsDistinct-IsPermutation}
+use Rattle.std.proofs.lemmas.Bool.{or_cases}
 use Rattle.table.specs.Comparator.{KeyOrder}
 use Rattle.table.specs.Order.{internal_cmp}
 use Rattle.table.proofs.Ordered.{internal_cmp-total}
@@ -27,8 +28,9 @@ use Rattle.reads.specs.FileList.{AreAll, same_file, newer_number}
 use Rattle.reads.proofs.FileOrder.{IsRange, comes_before, newest_first_cmp-total}
 use Rattle.reads.proofs.Members.{first_in, from_filter, from_map, in_map, later_in}
 use Rattle.reads.proofs.OrderedFiles.{Before, depth_at, top_at}
-use Rattle.reads.proofs.Orders.{less_is}
+use Rattle.reads.proofs.Orders.{less_is as number_less}
 use Rattle.reads.proofs.Pairs.{Pairs, pairs_append, pairs_both, pairs_map, pairs_to, pairs_unmap, pairs_weaker, pairs_within}
+use Rattle.checks.proofs.CommonRanges.{less_is}
 use Rattle.faults.specs.FileFaults.{are_disjoint, lies_before, overlap}
 use Rattle.faults.specs.KeyFaults.{is_deep, is_sound, is_top, metas_where, searched_files}
 use Rattle.faults.proofs.FileLists.{Follows, put_pairs}
@@ -45,15 +47,7 @@ itself (x ∷ xs) = ap (λ ys. x ∷ ys) (itself xs)
 
 -- ---- internal keys
 
-less_of : (o : Ordering) → is_lt o ≡ true → o ≡ Less
-less_of Less h = refl
-less_of Equal h = absurd cc
-less_of Greater h = absurd cc
-
 module _ (T : List ℕ → List ℕ → Ordering) (total : IsTotalOrder T) where
-  turned : (a b : List ℕ) → T a b ≡ Less → is_lt (T b a) ≡ false
-  turned a b h = ap is_lt (total.antisymm b a ∙ ap ordering_reverse h)
-
   never_both : (a b : List ℕ) → T a b ≡ Less → (T b a ≡ Less) ⊎ (T b a ≡ Equal) → ⊥
   never_both a b h (inl k) = let both : Greater ≡ Less = sym (total.antisymm b a ∙ ap ordering_reverse h) ∙ k in absurd cc
   never_both a b h (inr k) = let both : Greater ≡ Equal = sym (total.antisymm b a ∙ ap ordering_reverse h) ∙ k in absurd cc
@@ -129,20 +123,16 @@ module _ (cmp : KeyOrder) (total : IsTotalOrder cmp) (all : List NewFile) (follo
   disjoint_by true false three a b h = absurd cc
   disjoint_by false two three a b h = absurd cc
 
-  one_of : (a b : Bool) → (a || b) ≡ true → (a ≡ true) ⊎ (b ≡ true)
-  one_of true b h = inl refl
-  one_of false b h = inr h
-
   deep_two : (f g : NewFile) → Contains (filter is_deep_file all) f → Contains (filter is_deep_file all) g → Follows cmp f g × (overlap cmp f g ≡ false) → Before cmp f g
   deep_two f g i j (inl lt, h) = inl lt
   deep_two f g i j (inr at, h) =
       let below : 0 < f.level = deep_level f (from_filter is_deep_file all f i).1 in
       let level : f.level ≡ g.level = at.0 in
       let disjoint : are_disjoint cmp f.meta g.meta ≡ true = disjoint_by (nat_lt 0 f.level) (nat_eq f.level g.level) (are_disjoint cmp f.meta g.meta) ((Decides-ltb 0 f.level).1 below) ((Decides-eqb f.level g.level).1 level) h in
-      elim (one_of (lies_before cmp f.meta g.meta) (lies_before cmp g.meta f.meta) disjoint) [
-        | inl first ↦ inr (level, depth_at cmp f g below (less_of (T f.meta.largest g.meta.smallest) first))
+      elim (or_cases (lies_before cmp f.meta g.meta) (lies_before cmp g.meta f.meta) disjoint) [
+        | inl first ↦ inr (level, depth_at cmp f g below (less_is (T f.meta.largest g.meta.smallest) first))
         | inr back ↦
-            let behind : T g.meta.smallest f.meta.smallest ≡ Less = up_to T (internal_cmp-total total) g.meta.smallest g.meta.largest f.meta.smallest (ranges g (from_filter is_deep_file all g j).0) (less_of (T g.meta.largest f.meta.smallest) back) in
+            let behind : T g.meta.smallest f.meta.smallest ≡ Less = up_to T (internal_cmp-total total) g.meta.smallest g.meta.largest f.meta.smallest (ranges g (from_filter is_deep_file all g j).0) (less_is (T g.meta.largest f.meta.smallest) back) in
             absurd (never_both T (internal_cmp-total total) g.meta.smallest f.meta.smallest behind (then_less (T f.meta.smallest g.meta.smallest) (nat_cmp f.meta.number g.meta.number) at.1))
       ]
 
@@ -154,7 +144,7 @@ module _ (cmp : KeyOrder) (total : IsTotalOrder cmp) (all : List NewFile) (follo
   top_before : Pairs (Before cmp) (map (at_level 0) (sorted all))
   top_before =
       pairs_map (Before cmp) (at_level 0) (sorted all)
-      (pairs_weaker (λ f g. newer_number f g ≡ Less) (λ f g. Before cmp (at_level 0 f) (at_level 0 g)) (λ f g h. inr (refl, top_at cmp (at_level 0 f) (at_level 0 g) refl (less_is g.number f.number h))) (sorted all)
+      (pairs_weaker (λ f g. newer_number f g ≡ Less) (λ f g. Before cmp (at_level 0 f) (at_level 0 g)) (λ f g h. inr (refl, top_at cmp (at_level 0 f) (at_level 0 g) refl (number_less g.number f.number h))) (sorted all)
       (put_pairs newer_number falling_total (tops all)))
 
   top_level : (f : NewFile) → Contains (map (at_level 0) (sorted all)) f → f.level ≡ 0
@@ -203,7 +193,7 @@ module _ (cmp : KeyOrder) (total : IsTotalOrder cmp) (all : List NewFile) (follo
           ranges f (from_search f (subst (λ (fs : List NewFile). Contains fs f) (files_again list) (in_map file_in items (get_or items k d) (Contains-get_or items k d lt))))
 
       not_back : (f g : NewFile) → is_lt (newest_first_cmp cmp f g) ≡ true → is_lt (newest_first_cmp cmp g f) ≡ false
-      not_back f g h = ap is_lt ((newest_first_cmp-total total).antisymm g f ∙ ap ordering_reverse (less_of (newest_first_cmp cmp f g) h))
+      not_back f g h = ap is_lt ((newest_first_cmp-total total).antisymm g f ∙ ap ordering_reverse (less_is (newest_first_cmp cmp f g) h))
 
       pub in_order : IsSortedBy (λ f g. is_lt (newest_first_cmp cmp (file_in f) (file_in g))) items
       in_order k d le lt =

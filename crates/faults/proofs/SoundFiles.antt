@@ -1,14 +1,15 @@
 -- Files whose tables are what the version states of them.
-use Rattle.std.proofs.Common.{◌≡◌, ℕ, ◌-◌, Bool, true, false, ◌&&◌, List, [], length, Option, Some, None, Result, Ok, Err, refl, sym, ap, subst, ◌∙◌, inl, inr}
+use Rattle.std.proofs.Common.{◌≡◌, ℕ, ◌-◌, true, ◌&&◌, List, [], length, Option, Some, None, Result, Ok, Err, refl, sym, ap, subst, ◌∙◌, inl, inr}
 use Rattle.std.specs.Prelude.{nat_eq, slice_get}
 use Rattle.std.specs.Option.{ok_or, option_map, option_map_or, option_or}
 use Rattle.std.specs.Str.{bytes_eq}
 use Rattle.std.proofs.lemmas.Bool.Decides.{Decides-eqb}
 use Rattle.std.proofs.lemmas.Slice.Eq.{bytes_eq-Decides}
+use Rattle.std.proofs.lemmas.Bool.{and_parts}
 use Rattle.table.specs.Answers.{◌>>=◌, fault}
 use Rattle.table.specs.fault.Fault.{Fault}
 use Rattle.table.specs.fault.FaultName.TheVariants.{Missing}
-use Rattle.table.proofs.Binds.{bind_ok, done, failed, ok_is}
+use Rattle.table.proofs.Binds.{bind_ok, done, ok_is}
 use Rattle.table.specs.Comparator.{KeyOrder}
 use Rattle.table.specs.EncodedEntry.{Entry}
 use Rattle.reads.specs.BuilderView.{last_key}
@@ -23,6 +24,7 @@ use Rattle.folder.specs.Names.{old_table_name, table_name}
 use Rattle.folder.specs.ReadsAs.{IsFileIn}
 use Rattle.checks.specs.HeldTables.{IsTableIn}
 use Rattle.checks.proofs.FoundTables.{own_bytes}
+use Rattle.faults.proofs.FaultAnswers.{no_value}
 use Rattle.faults.specs.FileFaults.{file_reading, largest_of, smallest_of, table_held}
 use Rattle.faults.specs.KeyFaults.{is_as_stated, is_sound}
 
@@ -30,9 +32,6 @@ use Rattle.faults.specs.KeyFaults.{is_as_stated, is_sound}
 
 held_some : (o : Option (List ℕ)) (e : Fault) (bytes : List ℕ) → ok_or o e ≡ done bytes → o ≡ Some bytes
 held_some None e bytes h = absurd (no_value e bytes h)
-  where
-    no_value : (e : Fault) (bytes : List ℕ) → failed {A = List ℕ} e ≡ done bytes → ⊥
-    no_value e bytes h = cc
 held_some (Some b) e bytes h = ap (λ (x : List ℕ). Some x) (ok_is b bytes h)
 
 module _ (files : Files) where
@@ -46,9 +45,6 @@ module _ (files : Files) where
   pub held_is : (n : ℕ) (bytes : List ℕ) → IsTableAnswer (IsFileIn files) n (Ok bytes) → table_held files n ≡ Some bytes
   held_is n bytes (inl h) = ap (λ (o : Option (List ℕ)). option_or o (files (old_table_name n))) h
   held_is n bytes (inr h) = ap (λ (o : Option (List ℕ)). option_or o (files (old_table_name n))) h.0 ∙ h.1
-
-  pub held_none : (n : ℕ) (e : Fault) → IsTableAnswer (IsFileIn files) n (Err e) → table_held files n ≡ None
-  held_none n e h = ap (λ (o : Option (List ℕ)). option_or o (files (old_table_name n))) h.0 ∙ h.1
 
 -- ---- what it holds
 
@@ -70,10 +66,6 @@ pub largest_there : (x : Contents) → HasEntry x.entries → Some (largest_of x
 largest_there x has = key_some (slice_get x.entries (length x.entries - 1)) (last_key [] x.entries) (last_is x.entries has)
 
 -- ---- a file and its table
-
-pub and_parts : (a b : Bool) → (a && b) ≡ true → (a ≡ true) × (b ≡ true)
-and_parts true b h = (refl, h)
-and_parts false b h = absurd cc
 
 module _ (cmp : KeyOrder) (files : Files) where
   pub table_of_reading : (n : ℕ) (x : Contents) → file_reading cmp files n ≡ Ok x → IsTableIn cmp files n x

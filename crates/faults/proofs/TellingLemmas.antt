@@ -1,6 +1,8 @@
 -- Faults that are told, one part after the other.
-use Rattle.std.proofs.Common.{◌≡◌, ℕ, zero, suc, ◌+◌, ◌-◌, ◌<◌, ◌≤◌, ◌^◌, min, Bool, true, false, not, List, [], ◌∷◌, ◌++◌, length, map, drop, get_or, Result, Ok, Err, IsErrAnd, refl, sym, ap, subst, ◌∙◌, inl, inr, arith, append_assoc, drop-cons, add-one}
+use Rattle.std.proofs.Common.{◌≡◌, ℕ, zero, suc, ◌+◌, ◌-◌, ◌<◌, ◌≤◌, ◌^◌, min, Bool, true, false, List, [], ◌∷◌, ◌++◌, length, map, drop, get_or, Result, Ok, Err, IsErrAnd, refl, sym, ap, subst, ◌∙◌, inl, inr, arith, append_assoc, add-one}
+use Rattle.std.proofs.lemmas.Bool.{both_ways}
 use Rattle.table.specs.fault.Fault.{Fault}
+use Rattle.table.proofs.Steps.{next_item, past_end}
 use Rattle.checks.proofs.TakerLemmas.{told_append}
 use Rattle.checks.specs.Takers.{AreToldInTurn}
 use Rattle.faults.specs.VersionFault.{VersionFault}
@@ -9,19 +11,7 @@ use Rattle.faults.specs.declared.fault_count.FaultCount.{FaultCount}
 
 -- the first of what is left of a list
 pub next_of : {A B : Type 0} (f : A → B) (xs : List A) (i : ℕ) (x : A) → i < length xs → x ≡ get_or xs i x → map f (drop i xs) ≡ f x ∷ map f (drop (i + 1) xs)
-next_of f xs i x lt is =
-    ap (map f) (drop-cons xs i x lt)
-    ∙ ap (λ y. f y ∷ map f (drop (suc i) xs)) (sym is)
-    ∙ ap (λ (n : ℕ). f x ∷ map f (drop n xs)) (sym (add-one i))
-
--- a test, and its opposite
-pub not_false : (b : Bool) → not b ≡ false → b ≡ true
-not_false true h = refl
-not_false false h = absurd cc
-
-pub not_true : (b : Bool) → not b ≡ true → b ≡ false
-not_true true h = absurd cc
-not_true false h = refl
+next_of f xs i x lt is = ap (map f) (next_item xs i x lt is)
 
 -- ---- how many
 
@@ -49,18 +39,15 @@ count_most n (x ∷ xs) le =
 regroup : (a b c d : List VersionFault) → a ++ ((b ++ c) ++ d) ≡ (a ++ b) ++ (c ++ d)
 regroup a b c d = simp append_assoc
 
-both : (b : Bool) → b ≡ true → b ≡ false → ⊥
-both b t f = let one : true ≡ false = sym t ∙ f in absurd cc
-
 module _ {T : Type 0} (tells : T → VersionFault → Bool → T → Type 0) where
   -- nothing is told yet
   pub none_told : (faults : List VersionFault) (old : T) (after : FaultCount) → after.goes ≡ true → IsPart tells faults old after.count faults old after
   none_told faults old after goes = record { told = []; parts = refl; taker = (goes, refl); counted = refl }
 
   -- a part, after some of the faults
-  module _ (faults front behind : List VersionFault) (old mid new : T) (before : ℕ) (m n : FaultCount) (goes : m.goes ≡ true) (p : IsPart tells faults old before (front ++ behind) mid m) where
-    pub part_then : (untold : List VersionFault) → IsPart tells front mid m.count untold new n → IsPart tells faults old before (untold ++ behind) new n
-    part_then untold q = record {
+  module _ (faults front behind : List VersionFault) (old mid new : T) (before : ℕ) (m : FaultCount) (goes : m.goes ≡ true) (p : IsPart tells faults old before (front ++ behind) mid m) where
+    pub part_then : (n : FaultCount) (untold : List VersionFault) → IsPart tells front mid m.count untold new n → IsPart tells faults old before (untold ++ behind) new n
+    part_then n untold q = record {
       told = p.told ++ q.told;
       parts = p.parts ∙ ap (λ (fs : List VersionFault). p.told ++ (fs ++ behind)) q.parts ∙ regroup p.told q.told untold behind;
       taker = told_append tells p.told q.told old mid new n.goes (subst (λ (b : Bool). AreToldInTurn tells old p.told b mid) goes p.taker) q.taker;
@@ -68,32 +55,24 @@ module _ {T : Type 0} (tells : T → VersionFault → Bool → T → Type 0) whe
     }
 
     -- all of it was told, and more is wanted
-    pub told_more : IsTold tells front mid m.count new n → n.goes ≡ true → IsPart tells faults old before behind new n
-    told_more q more = elim q.ended [
-      | inl none ↦ subst (λ (fs : List VersionFault). IsPart tells faults old before (fs ++ behind) new n) none (part_then q.untold q.part)
-      | inr stops ↦ absurd (both n.goes more stops)
+    pub told_more : (n : FaultCount) → IsTold tells front mid m.count new n → n.goes ≡ true → IsPart tells faults old before behind new n
+    told_more n q more = elim q.ended [
+      | inl none ↦ subst (λ (fs : List VersionFault). IsPart tells faults old before (fs ++ behind) new n) none (part_then n q.untold q.part)
+      | inr stops ↦ absurd (both_ways n.goes stops more)
     ]
 
     -- the taker said to stop
-    pub told_stops : IsTold tells front mid m.count new n → n.goes ≡ false → IsTold tells faults old before new n
-    told_stops q stops = record { untold = q.untold ++ behind; part = part_then q.untold q.part; ended = inr stops }
+    pub told_stops : (n : FaultCount) → IsTold tells front mid m.count new n → n.goes ≡ false → IsTold tells faults old before new n
+    told_stops n q stops = record { untold = q.untold ++ behind; part = part_then n q.untold q.part; ended = inr stops }
 
     -- a refusal came
     pub told_begun : IsBegun tells front mid m.count new → IsBegun tells faults old before new
-    told_begun q = record { untold = q.untold ++ behind; after = q.after; part = begun_part; goes = q.goes }
-      where
-        begun_part : IsPart tells faults old before (q.untold ++ behind) new q.after
-        begun_part = record {
-          told = p.told ++ q.part.told;
-          parts = p.parts ∙ ap (λ (fs : List VersionFault). p.told ++ (fs ++ behind)) q.part.parts ∙ regroup p.told q.part.told q.untold behind;
-          taker = told_append tells p.told q.part.told old mid new q.after.goes (subst (λ (b : Bool). AreToldInTurn tells old p.told b mid) goes p.taker) q.part.taker;
-          counted = q.part.counted ∙ ap (λ (k : ℕ). count_after k q.part.told) p.counted ∙ sym (count_append before p.told q.part.told);
-        }
+    told_begun q = record { untold = q.untold ++ behind; after = q.after; part = part_then q.after q.untold q.part; goes = q.goes }
 
   -- one fault more
   pub one_told : (f : VersionFault) (behind faults : List VersionFault) (old now new : T) (before : ℕ) (m n : FaultCount) → m.goes ≡ true → IsPart tells faults old before (f ∷ behind) now m → tells now f n.goes new → n.count ≡ next_count m.count → IsPart tells faults old before behind new n
   one_told f behind faults old now new before m n goes p h counted =
-      part_then faults (f ∷ []) behind old now new before m n goes p [] (record { told = f ∷ []; parts = refl; taker = inl (refl, h); counted = counted })
+      part_then faults (f ∷ []) behind old now new before m goes p n [] (record { told = f ∷ []; parts = refl; taker = inl (refl, h); counted = counted })
 
   -- at the end
   pub told_end : (faults : List VersionFault) (old new : T) (before : ℕ) (after : FaultCount) → IsPart tells faults old before [] new after → IsTold tells faults old before new after
@@ -118,15 +97,6 @@ at_again [] i d lt = absurd (omega arith)
 at_again (x ∷ xs) zero d lt = refl
 at_again (x ∷ xs) (suc i) d lt = at_again xs i d (omega arith)
 
-pub none_behind : {A : Type 0} (xs : List A) (i : ℕ) → length xs ≤ i → drop i xs ≡ []
-none_behind [] zero le = refl
-none_behind [] (suc i) le = refl
-none_behind (x ∷ xs) zero le = absurd (omega arith)
-none_behind (x ∷ xs) (suc i) le = none_behind xs i (omega arith)
-
-pub all_left : {A B : Type 0} (f : A → B) (xs : List A) (i : ℕ) → length xs ≤ i → map f (drop i xs) ≡ []
-all_left f xs i le = ap (map f) (none_behind xs i le)
-
 module _ {T : Type 0} (tells : T → VersionFault → Bool → T → Type 0) {A : Type 0} (f : A → VersionFault) (xs : List A) (i : ℕ) (old now new : T) (before : ℕ) (m : FaultCount) (goes : m.goes ≡ true) (p : IsPart tells (map f xs) old before (map f (drop i xs)) now m) where
   -- one more of the list
   pub next_told : (x : A) (n : FaultCount) (more : Bool) → i < length xs → x ≡ get_or xs i x → tells now (f x) more new → n ≡ record { count = next_count m.count; goes = more } → IsPart tells (map f xs) old before (map f (drop (i + 1) xs)) new n
@@ -138,4 +108,4 @@ module _ {T : Type 0} (tells : T → VersionFault → Bool → T → Type 0) {A 
 
   -- the end of the list
   pub list_told : length xs ≤ i → IsTold tells (map f xs) old before now m
-  list_told le = told_end tells (map f xs) old now before m (subst (λ (fs : List VersionFault). IsPart tells (map f xs) old before fs now m) (all_left f xs i le) p)
+  list_told le = told_end tells (map f xs) old now before m (subst (λ (fs : List VersionFault). IsPart tells (map f xs) old before fs now m) (ap (map f) (past_end xs i le)) p)

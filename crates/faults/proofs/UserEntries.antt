@@ -9,6 +9,7 @@ use Rattle.std.specs.declared.cmp.Ordering.TheVariants.{Less, Equal, Greater}
 use Rattle.std.proofs.lemmas.List.{length-append, length-map}
 use Rattle.std.proofs.lemmas.List.Elements.{Contains-append_left, Contains-append_right, filter-append}
 use Rattle.std.proofs.lemmas.Slice.Eq.{bytes_eq-Decides}
+use Rattle.std.proofs.lemmas.Bool.{both_ways, false_from_ne_true}
 use Rattle.table.specs.Comparator.{IsExact, KeyOrder}
 use Rattle.table.specs.Key.{user_of, sequence_of, kind_of, kind_number}
 use Rattle.table.specs.Order.{internal_cmp}
@@ -16,17 +17,11 @@ use Rattle.table.specs.EncodedEntry.{Entry}
 use Rattle.table.specs.EntriesFrom.{NeverFalls}
 use Rattle.reads.proofs.FallingEntries.{each_of, of_each}
 use Rattle.reads.proofs.Members.{from_flat_map, from_map, in_flat_map, in_map}
+use Rattle.reads.proofs.Orders.{not_before_itself}
 use Rattle.faults.specs.KeyFaults.{FileEntries, SearchedEntry, is_of, searched_in, searched_of}
 use Rattle.faults.specs.KeyWalk.{after_user, entries_after_user, entries_of_user, is_user, with_user}
 
 -- ---- tests
-
-pub false_of : (b : Bool) → (b ≡ true → ⊥) → b ≡ false
-false_of true h = absurd (h refl)
-false_of false h = refl
-
-pub not_both : (b : Bool) → b ≡ true → b ≡ false → ⊥
-not_both b t f = let both : true ≡ false = sym t ∙ f in absurd cc
 
 pub of_user : (user : List ℕ) (e : SearchedEntry) → is_of user e ≡ true → user_of e.key ≡ user
 of_user user e h = (bytes_eq-Decides (user_of e.key) user).0 h
@@ -60,7 +55,7 @@ other_left n user other isnt (e ∷ es) = by (is_user user e) refl (other_left n
         → filter (is_of other) (map (searched n) (cond b (entries_after_user user es) (e ∷ es))) ≡ cond (is_of other (searched n e)) (searched n e ∷ rest_of) rest_of
     by true is rest =
         let own : user_of e.key ≡ user = of_user user (searched n e) is in
-        let isnt_other : is_of other (searched n e) ≡ false = false_of (is_of other (searched n e)) (λ h. isnt (sym own ∙ of_user other (searched n e) h)) in
+        let isnt_other : is_of other (searched n e) ≡ false = false_from_ne_true (is_of other (searched n e)) (λ h. isnt (sym own ∙ of_user other (searched n e) h)) in
         rest ∙ sym (ap (λ (c : Bool). cond c (searched n e ∷ rest_of) rest_of) isnt_other)
     by false is rest = refl
 
@@ -122,7 +117,7 @@ module _ (cmp : KeyOrder) (total : IsTotalOrder cmp) (exact : IsExact cmp) where
   -- from the first entry of another user key on
   from_other : (user : List ℕ) (e : Entry) (es : List Entry) → NeverFalls cmp (e ∷ es) → IsFrom user e → is_user user e ≡ false → AllByRecursion (IsAfter user) (e ∷ es)
   from_other user e es falls from isnt =
-      let first : IsAfter user e = after_other (user_of e.key) user from (λ same. not_both (is_user user e) ((bytes_eq-Decides (user_of e.key) user).1 same) isnt) in
+      let first : IsAfter user e = after_other (user_of e.key) user from (λ same. both_ways (is_user user e) isnt ((bytes_eq-Decides (user_of e.key) user).1 same)) in
       (first, all_after user e es falls.0 first)
 
   -- what comes after the front is of later user keys
@@ -137,15 +132,9 @@ module _ (cmp : KeyOrder) (total : IsTotalOrder cmp) (exact : IsExact cmp) where
   none_own : (n : ℕ) (user : List ℕ) (es : List Entry) → AllByRecursion (IsAfter user) es → filter (is_of user) (map (searched n) es) ≡ []
   none_own n user [] h = refl
   none_own n user (e ∷ es) h =
-      let isnt : is_of user (searched n e) ≡ false = false_of (is_of user (searched n e)) (λ is. itself (of_user user (searched n e) is)) in
+      let isnt : is_of user (searched n e) ≡ false =
+      false_from_ne_true (is_of user (searched n e)) (λ is. not_before_itself cmp total user (subst (λ (u : List ℕ). cmp user u ≡ Less) (of_user user (searched n e) is) h.0)) in
       ap (λ (b : Bool). cond b (searched n e ∷ filter (is_of user) (map (searched n) es)) (filter (is_of user) (map (searched n) es))) isnt ∙ none_own n user es h.1
-    where
-      itself : user_of e.key ≡ user → ⊥
-      itself same =
-          let less : cmp user user ≡ Less = subst (λ (u : List ℕ). cmp user u ≡ Less) same h.0 in
-          let back : cmp user user ≡ ordering_reverse (cmp user user) = total.antisymm user user in
-          let both : Less ≡ Greater = sym less ∙ back ∙ ap ordering_reverse less in
-          absurd cc
 
   -- the front has all entries of the user key
   own_front : (n : ℕ) (user : List ℕ) (es : List Entry) → NeverFalls cmp es → AllByRecursion (IsFrom user) es → filter (is_of user) (map (searched n) es) ≡ map (searched n) (entries_of_user user es)

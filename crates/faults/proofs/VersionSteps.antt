@@ -1,9 +1,10 @@
 -- What is told of a version: of its files, and then of its user keys.
-use Rattle.std.proofs.Common.{◌≡◌, ℕ, ◌+◌, ◌-◌, ◌^◌, min, Bool, true, false, List, [], ◌++◌, length, map, get_or, Option, Result, Ok, IsErrAnd, sym, ap, subst, ◌∙◌, append-nil, inl, inr, arith}
+use Rattle.std.proofs.Common.{◌≡◌, ℕ, ◌+◌, ◌-◌, ◌^◌, min, Bool, true, false, List, [], ◌++◌, length, map, get_or, Option, Result, Ok, IsErrAnd, refl, sym, ap, subst, ◌∙◌, append-nil, inl, inr, arith}
 use Rattle.std.specs.Prelude.{◌⊎◌, Contains}
 use Rattle.std.specs.BTreeSet.{insert_key}
 use Rattle.std.specs.List.{filter, fold}
 use Rattle.std.specs.Cmp.{IsTotalOrder}
+use Rattle.std.proofs.lemmas.Bool.{and_parts}
 use Rattle.std.proofs.lemmas.List.Elements.{Contains-append_cases, Contains-get_or}
 use Rattle.table.specs.Answers.{UnlessMemory}
 use Rattle.table.specs.fault.Fault.{Fault}
@@ -30,7 +31,6 @@ use Rattle.faults.proofs.FaultAnswers.{stopped_answer}
 use Rattle.faults.proofs.FindingLemmas.{faults_same, searched_same}
 use Rattle.faults.proofs.MisplacedLemmas.{ranges_are}
 use Rattle.faults.proofs.SearchLemmas.{falling_total}
-use Rattle.faults.proofs.SoundFiles.{and_parts}
 use Rattle.faults.proofs.TellingLemmas.{begun_at, count_most, none_told, part_then, told_begun, told_more, told_stops}
 
 -- ---- the files that are searched are sound
@@ -95,77 +95,92 @@ module _ {T : Type 0} (tells : T → VersionFault → Bool → T → Type 0) (fa
 
 -- ---- of the files, and then of the keys
 
-module _ {T : Type 0} (tells : T → VersionFault → Bool → T → Type 0) (front keys : List VersionFault) (old : T) (none : FaultCount) (is_none : none.count ≡ 0) (goes : none.goes ≡ true) where
-  abbrev whole : List VersionFault
-  whole = front ++ keys
+abbrev begins : FaultCount
+begins = record { count = 0; goes = true }
 
-  start : IsPart tells whole old 0 whole old none
-  start = subst (λ (n : ℕ). IsPart tells whole old n whole old none) is_none (none_told tells whole old none goes)
-
-  at_start : (new : T) (after : FaultCount) → IsTold tells front old 0 new after → IsTold tells front old none.count new after
-  at_start new after h = subst (λ (n : ℕ). IsTold tells front old n new after) (sym is_none) h
-
-  -- nothing yet
-  pub whole_untold : IsBegun tells whole old 0 old
-  whole_untold = begun_at tells whole whole old old 0 none start goes
-
-  -- a refusal among the files
-  pub files_begun : (new : T) → IsBegun tells front old 0 new → IsBegun tells whole old 0 new
-  files_begun new h = told_begun tells whole front keys old old new 0 none none goes start (subst (λ (n : ℕ). IsBegun tells front old n new) (sym is_none) h)
-
-  -- the taker said to stop there
-  pub files_stop : (new : T) (after : FaultCount) → IsTold tells front old 0 new after → after.goes ≡ false → IsTold tells whole old 0 new after
-  files_stop new after h stops = told_stops tells whole front keys old old new 0 none after goes start (at_start new after h) stops
-
-  -- all of the files
-  files_done : (mid : T) (m : FaultCount) → IsTold tells front old 0 mid m → m.goes ≡ true → IsPart tells whole old 0 keys mid m
-  files_done mid m h more = told_more tells whole front keys old old mid 0 none m goes start (at_start mid m h) more
-
-  pub keys_untold : (mid : T) (m : FaultCount) → IsTold tells front old 0 mid m → m.goes ≡ true → IsBegun tells whole old 0 mid
-  keys_untold mid m h more = begun_at tells whole keys old mid 0 m (files_done mid m h more) more
-
-  last_part : (mid : T) (m : FaultCount) → IsTold tells front old 0 mid m → m.goes ≡ true → IsPart tells whole old 0 (keys ++ []) mid m
-  last_part mid m h more = subst (λ (fs : List VersionFault). IsPart tells whole old 0 fs mid m) (sym (append-nil keys)) (files_done mid m h more)
-
-  -- a refusal among the keys
-  pub keys_begun : (mid new : T) (m : FaultCount) → IsTold tells front old 0 mid m → m.goes ≡ true → IsBegun tells keys mid m.count new → IsBegun tells whole old 0 new
-  keys_begun mid new m h more k = told_begun tells whole keys [] old mid new 0 m m more (last_part mid m h more) k
-
-  -- all of the keys, or the taker said to stop
-  pub keys_told : (mid new : T) (m after : FaultCount) → IsTold tells front old 0 mid m → m.goes ≡ true → IsTold tells keys mid m.count new after → IsTold tells whole old 0 new after
-  keys_told mid new m after h more k = record {
-    untold = k.untold ++ [];
-    part = part_then tells whole keys [] old mid new 0 m after more (last_part mid m h more) k.untold k.part;
-    ended = elim k.ended [ inl all ↦ inl (append-nil k.untold ∙ all) | inr stops ↦ inr stops ];
-  }
-
--- ---- what these are
-
-module _ (cmp : KeyOrder) (total : IsTotalOrder cmp) (exact : IsExact cmp) (files : Files) (v : State) where
-  abbrev pub all_of : List NewFile
+module _ (cmp : KeyOrder) (files : Files) (v : State) where
+  abbrev all_of : List NewFile
   all_of = all_files cmp v
 
-  abbrev pub front_of : List VersionFault
-  front_of = faults_of_files cmp files v.next_file all_of
+  abbrev IsFound : List FoundFile → Type 0
+  IsFound found = found ≡ map (found_file cmp files) all_of
 
-  abbrev pub keys_of : List VersionFault
-  keys_of = map OfKey (misplaced_keys cmp (searched_entries cmp files all_of))
+  pub found_is : (lent : List NewFile) (tested found : List FoundFile) → lent ≡ all_of → tested ≡ map (found_file cmp files) lent → found ≡ tested → IsFound found
+  found_is lent tested found order is same = same ∙ is ∙ ap (map (found_file cmp files)) order
 
-  module _ (lent : List NewFile) (found : List FoundFile) (same : lent ≡ all_of) (is : found ≡ map (found_file cmp files) lent) where
-    found_all : found ≡ map (found_file cmp files) all_of
-    found_all = is ∙ ap (map (found_file cmp files)) same
+  module _ {T : Type 0} (tells : T → VersionFault → Bool → T → Type 0) (old : T) (before : ℕ) where
+    abbrev front : List VersionFault
+    front = faults_of_files cmp files v.next_file all_of
 
-    pub front_is : (next : Option ℕ) → next ≡ v.next_file → faults_of_found cmp next found ≡ front_of
-    front_is next own = ap (λ (n : Option ℕ). faults_of_found cmp n found) own ∙ ap (faults_of_found cmp v.next_file) found_all ∙ faults_same cmp files v.next_file all_of
+    abbrev keys : List VersionFault
+    keys = map OfKey (misplaced_keys cmp (searched_entries cmp files all_of))
 
-    pub metas_are : (metas : List FileMeta) → metas ≡ searched_found found → metas ≡ searched_files cmp files all_of
-    metas_are metas own = own ∙ ap searched_found found_all ∙ searched_same cmp files all_of
+    abbrev whole : List VersionFault
+    whole = front ++ keys
 
-    pub metas_sound : (metas : List FileMeta) → metas ≡ searched_found found → AreSoundIn cmp files metas
-    metas_sound metas own = subst (AreSoundIn cmp files) (sym (metas_are metas own)) (all_sound cmp files all_of)
+    start : IsPart tells whole old 0 whole old begins
+    start = none_told tells whole old begins refl
 
-    pub keys_are : (metas : List FileMeta) (boundaries : List (List ℕ)) → IsCover cmp boundaries → metas ≡ searched_found found
-        → map OfKey (keys_from cmp boundaries (misplaced_keys cmp (searched_of (map (read_file cmp files) metas))) 0 (length boundaries + 1)) ≡ keys_of
-    keys_are metas boundaries cover own =
-        ap (λ (ms : List FileMeta). map OfKey (keys_from cmp boundaries (misplaced_keys cmp (searched_of (map (read_file cmp files) ms))) 0 (length boundaries + 1))) (metas_are metas own)
-        ∙ ap (map OfKey) (ranges_are cmp total exact (searched_entries cmp files all_of) boundaries cover)
+    -- a refusal before any file
+    pub refused_first : (now : ℕ) (r : Result ℕ Fault) (e : Fault) → IsErrAnd r (λ f. f ≡ e) → UnlessMemory e (IsStopped before now e) → AreFaultsTold tells whole old old before now r
+    refused_first now r e is stopped = faults_begun tells whole old old before now r e is (begun_at tells whole whole old old 0 begins start refl) stopped
+
+    module _ (next : Option ℕ) (found : List FoundFile) (own : next ≡ v.next_file) (is_found : IsFound found) where
+      front_is : faults_of_found cmp next found ≡ front
+      front_is = ap (λ (n : Option ℕ). faults_of_found cmp n found) own ∙ ap (faults_of_found cmp v.next_file) is_found ∙ faults_same cmp files v.next_file all_of
+
+      -- one among the files
+      pub refused_files : (new : T) (now : ℕ) (r : Result ℕ Fault) (e : Fault) → IsErrAnd r (λ f. f ≡ e) → IsBegun tells (faults_of_found cmp next found) old 0 new → UnlessMemory e (IsStopped before now e) → AreFaultsTold tells whole old new before now r
+      refused_files new now r e is h stopped =
+          faults_begun tells whole old new before now r e is (told_begun tells whole front keys old old new 0 begins refl start (subst (λ (fs : List VersionFault). IsBegun tells fs old 0 new) front_is h)) stopped
+
+      module _ (mid : T) (m : FaultCount) (told : IsTold tells (faults_of_found cmp next found) old 0 mid m) where
+        files_told : IsTold tells front old 0 mid m
+        files_told = subst (λ (fs : List VersionFault). IsTold tells fs old 0 mid m) front_is told
+
+        -- the taker said to stop there
+        pub stopped_files : (now : ℕ) → m.goes ≡ false → AreFaultsTold tells whole old mid before now (Ok m.count)
+        stopped_files now stops = faults_told tells whole old mid before now (Ok m.count) m refl (told_stops tells whole front keys old old mid 0 begins refl start m files_told stops)
+
+        module _ (more : m.goes ≡ true) where
+          files_done : IsPart tells whole old 0 keys mid m
+          files_done = told_more tells whole front keys old old mid 0 begins refl start m files_told more
+
+          -- a refusal before any key
+          pub refused_between : (now : ℕ) (r : Result ℕ Fault) (e : Fault) → IsErrAnd r (λ f. f ≡ e) → UnlessMemory e (IsStopped before now e) → AreFaultsTold tells whole old mid before now r
+          refused_between now r e is stopped = faults_begun tells whole old mid before now r e is (begun_at tells whole keys old mid 0 m files_done more) stopped
+
+          module _ (total : IsTotalOrder cmp) (exact : IsExact cmp) (boundaries : List (List ℕ)) (cover : IsCover cmp boundaries) (metas : List FileMeta) (searched : metas ≡ searched_files cmp files all_of) where
+            abbrev ranges : List VersionFault
+            ranges = map OfKey (keys_from cmp boundaries (misplaced_keys cmp (searched_of (map (read_file cmp files) metas))) 0 (length boundaries + 1))
+
+            keys_are : ranges ≡ keys
+            keys_are =
+                ap (λ (ms : List FileMeta). map OfKey (keys_from cmp boundaries (misplaced_keys cmp (searched_of (map (read_file cmp files) ms))) 0 (length boundaries + 1))) searched
+                ∙ ap (map OfKey) (ranges_are cmp total exact (searched_entries cmp files all_of) boundaries cover)
+
+            last_part : IsPart tells whole old 0 (keys ++ []) mid m
+            last_part = subst (λ (fs : List VersionFault). IsPart tells whole old 0 fs mid m) (sym (append-nil keys)) files_done
+
+            -- one among the keys
+            pub refused_keys : (new : T) (now : ℕ) (r : Result ℕ Fault) (e : Fault) → IsErrAnd r (λ f. f ≡ e) → IsBegun tells ranges mid m.count new → UnlessMemory e (IsStopped before now e) → AreFaultsTold tells whole old new before now r
+            refused_keys new now r e is k stopped =
+                faults_begun tells whole old new before now r e is (told_begun tells whole keys [] old mid new 0 m more last_part (subst (λ (fs : List VersionFault). IsBegun tells fs mid m.count new) keys_are k)) stopped
+
+            -- all of the keys, or the taker said to stop
+            pub told_keys : (new : T) (now : ℕ) (after : FaultCount) → IsTold tells ranges mid m.count new after → AreFaultsTold tells whole old new before now (Ok after.count)
+            told_keys new now after k =
+                let h : IsTold tells keys mid m.count new after = subst (λ (fs : List VersionFault). IsTold tells fs mid m.count new after) keys_are k in
+                faults_told tells whole old new before now (Ok after.count) after refl (record {
+                  untold = h.untold ++ [];
+                  part = part_then tells whole keys [] old mid new 0 m more last_part after h.untold h.part;
+                  ended = elim h.ended [ inl all ↦ inl (append-nil h.untold ∙ all) | inr stops ↦ inr stops ];
+                })
+
+  -- the files that are searched
+  module _ (found : List FoundFile) (is_found : IsFound found) (metas : List FileMeta) (own : metas ≡ searched_found found) where
+    pub metas_are : metas ≡ searched_files cmp files all_of
+    metas_are = own ∙ ap searched_found is_found ∙ searched_same cmp files all_of
+
+    pub metas_sound : AreSoundIn cmp files metas
+    metas_sound = subst (AreSoundIn cmp files) (sym metas_are) (all_sound cmp files all_of)

@@ -18,9 +18,9 @@ use Rattle.faults.specs.FileFaults.{file_reading, largest_of, overlap_faults, sm
 use Rattle.faults.specs.declared.file_fault.FileFault.{FileFault}
 use Rattle.faults.specs.declared.file_fault.FileFault.TheVariants.{NotBelow, Refused, Length}
 use Rattle.faults.specs.declared.file_fault.FileFault.TheVariants.{Smallest, Largest}
-use Rattle.faults.specs.declared.table_finding.TableFinding.{TableFinding}
-use Rattle.faults.specs.declared.table_finding.TableFinding.TheVariants.{Readable, Unreadable}
-use Rattle.faults.specs.declared.tested_file.TestedFile.{TestedFile}
+use Rattle.faults.specs.declared.table_test.TableFinding.{TableFinding}
+use Rattle.faults.specs.declared.table_test.TableFinding.TheVariants.{Readable, Unreadable}
+use Rattle.faults.specs.declared.table_test.TestedFile.{TestedFile}
 
 -- whether these are more bytes than a table may have
 abbrev pub is_long : List ℕ → Bool

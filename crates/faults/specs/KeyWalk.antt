@@ -14,7 +14,7 @@ use Rattle.faults.specs.KeyFaults.{FileEntries, SearchedEntry, break_after, firs
 use Rattle.faults.specs.KeyFaults.{misplaced_at}
 use Rattle.faults.specs.declared.entry_order.EntryOrder.{EntryOrder}
 use Rattle.faults.specs.declared.entry_order.EntryOrder.TheVariants.{Begun, Falling, Broken}
-use Rattle.faults.specs.declared.key_fault.KeyFault.{KeyFault}
+use Rattle.faults.specs.declared.key_walk.KeyFault.{KeyFault}
 
 -- a fault of a user key
 abbrev pub misplaced_in : KeyFault → MisplacedKey

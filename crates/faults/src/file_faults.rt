@@ -4,22 +4,17 @@ ghost use Rattle.std.specs.Prelude.{◌≡◌, ◌++◌, ◌&&◌, map, not, tru
 ghost use Rattle.std.specs.Prelude.{unwrap_or};
 ghost use Rattle.table.specs.Answers.{EqualOrMemory, fault};
 ghost use Rattle.table.specs.fault.FaultName.TheVariants.{Memory};
-ghost use Rattle.std.specs.Ordering.{is_le};
-ghost use Rattle.table.specs.Order.{internal_cmp};
 ghost use Rattle.reads.specs.StatedFiles.{is_below};
 ghost use Rattle.reads.specs.FileList.{level_file_in};
-ghost use Rattle.faults.specs.FileFaults.{are_disjoint, lies_before, overlap, overlap_faults};
-ghost use Rattle.faults.specs.FileFaults.{unless};
+ghost use Rattle.faults.specs.FileFaults.{lies_before, overlap, overlap_faults, unless};
 ghost use Rattle.faults.specs.FileOrder.{are_in_order, is_in_order, is_past};
 ghost use Rattle.faults.specs.Findings.{faults_of_found, finding_faults, found_faults};
 ghost use Rattle.faults.specs.Findings.{found_in};
 ghost use Rattle.faults.specs.ToldFaults.{IsTelling};
 
-use crate::fault_count::{FaultCount, tell_file};
-use crate::fault_taker::FaultTaker;
+use crate::fault_count::{FaultCount, FaultTaker, tell_file};
 use crate::file_fault::FileFault;
-use crate::table_finding::TableFinding;
-use crate::tested_file::TestedFile;
+use crate::table_test::{TableFinding, TestedFile};
 use folder::FileMeta;
 use reads::{LevelFile, is_below};
 use std::alloc::Global;
@@ -34,15 +29,16 @@ pub(crate) fn tell_files<C: Comparator, T: FaultTaker>(
     tested: &[TestedFile<'_>],
     next: Option<u64>,
     taker: &mut T,
-    told: FaultCount,
 ) -> Result<FaultCount, Fault>
-    requires { told.goes ≡ true }
     ensures told { IsTelling T.tells (faults_of_found C.cmp next (map found_in tested.now))
-        taker.old told.count taker.new result }
+        taker.old 0 taker.new result }
     ensures memory { IfErr result (λ e. e ≡ fault Memory) }
 {
     let is_ordered = are_in_order::<C>(tested);
-    let mut told = told;
+    let mut told = FaultCount {
+        count: 0,
+        goes: true,
+    };
     for place in 0..tested.len() {
         let file = &tested[place];
         let faults = file_faults::<C>(alloc, next, file, &tested[place + 1..], is_ordered)?;
@@ -70,16 +66,8 @@ fn are_in_order<C: Comparator>(tested: &[TestedFile<'_>]) -> bool
 fn is_in_order<C: Comparator>(file: &LevelFile<'_>, other: &LevelFile<'_>) -> bool
     ensures { result ≡ is_in_order C.cmp (level_file_in file.now) (level_file_in other.now) }
 {
-    file.level < other.level
-        || file.level == other.level && begins_first::<C>(file.meta, other.meta)
-}
-
-/// Whether a file doesn't begin after another one.
-fn begins_first<C: Comparator>(file: &FileMeta, other: &FileMeta) -> bool
-    ensures { result ≡ is_le (internal_cmp C.cmp file.now.smallest other.now.smallest) }
-{
-    let smallest = file.smallest.as_key();
-    smallest.compare::<C>(&other.smallest.as_key()).is_le()
+    let (smallest, next) = (file.meta.smallest.as_key(), other.meta.smallest.as_key());
+    file.level < other.level || file.level == other.level && smallest.compare::<C>(&next).is_le()
 }
 
 /// What is wrong with a file of which this was found, if these come after it. `is_ordered` says
@@ -188,14 +176,9 @@ fn is_past<C: Comparator>(file: &LevelFile<'_>, other: &LevelFile<'_>) -> bool
 fn overlap<C: Comparator>(file: &LevelFile<'_>, other: &LevelFile<'_>) -> bool
     ensures { result ≡ overlap C.cmp (level_file_in file.now) (level_file_in other.now) }
 {
-    file.level > 0 && file.level == other.level && !are_disjoint::<C>(file.meta, other.meta)
-}
-
-/// Whether two files have no internal key in common, by their ranges.
-fn are_disjoint<C: Comparator>(file: &FileMeta, other: &FileMeta) -> bool
-    ensures { result ≡ are_disjoint C.cmp file.now other.now }
-{
-    lies_before::<C>(file, other) || lies_before::<C>(other, file)
+    file.level > 0
+        && file.level == other.level
+        && !(lies_before::<C>(file.meta, other.meta) || lies_before::<C>(other.meta, file.meta))
 }
 
 /// Whether a file ends before another one begins.

@@ -15,11 +15,21 @@ ghost use Rattle.faults.specs.KeyWalk.{break_of, found_keys, misplaced_in, with_
 
 use crate::entry_order::EntryOrder;
 use crate::file_cursor::FileCursor;
-use crate::key_fault::KeyFault;
 use merge::least_place;
 use reads::Range;
 use std::alloc::Global;
 use table::{Comparator, Cursor, Fault};
+
+/// A user key whose entries are not in their order, and the numbers of two files that hold it.
+#[derive(Drop)]
+pub(crate) struct KeyFault {
+    /// The user key.
+    pub user: Vec<u8>,
+    /// The file that is searched first.
+    pub file: u64,
+    /// The file that has an entry which isn't older. It may be the same file.
+    pub other: u64,
+}
 
 /// The user keys of `range` whose entries in these files are not in their order, in the order of
 /// the keys. The files are given in the order of search.

@@ -13,21 +13,16 @@
 mod entry_order;
 mod fault_count;
 mod fault_laws;
-mod fault_taker;
 mod file_cursor;
 mod file_fault;
 mod file_faults;
-mod key_fault;
 mod key_walk;
 mod range_faults;
 mod search_order;
-mod table_finding;
-mod table_length;
 mod table_test;
-mod tested_file;
 mod version_faults;
 
+pub use fault_count::FaultTaker;
 pub use fault_laws::{misplaced_law, no_fault_law};
-pub use fault_taker::FaultTaker;
 pub use file_fault::FileFault;
 pub use version_faults::all_faults;

@@ -15,11 +15,9 @@ ghost use Rattle.faults.specs.KeyWalk.{AreMisplacedIn, misplaced_in};
 ghost use Rattle.faults.specs.RangeKeys.{AreSoundIn, IsCursorOf, keys_from};
 ghost use Rattle.faults.specs.ToldFaults.{IsTelling};
 
-use crate::fault_count::{FaultCount, tell_keys};
-use crate::fault_taker::FaultTaker;
+use crate::fault_count::{FaultCount, FaultTaker, tell_keys};
 use crate::file_cursor::FileCursor;
-use crate::key_fault::KeyFault;
-use crate::key_walk::key_faults;
+use crate::key_walk::{KeyFault, key_faults};
 use checks::{HeldTables, SharedComparator, Split, Workers, hold_next, needed_files, numbers_of};
 use folder::{FileMeta, Gate, ReadsTables};
 use reads::{NumberedTable, Range};

@@ -9,8 +9,7 @@ ghost use Rattle.reads.specs.FileList.{same_file, newer_number, level_file_in};
 ghost use Rattle.faults.specs.Findings.{found_in, is_deep_found, is_sound_finding};
 ghost use Rattle.faults.specs.Findings.{is_top_found, metas_found, searched_found};
 
-use crate::table_finding::TableFinding;
-use crate::tested_file::TestedFile;
+use crate::table_test::{TableFinding, TestedFile};
 use folder::FileMeta;
 use std::alloc::Global;
 use std::cmp::Ordering;
@@ -27,40 +26,19 @@ pub(crate) fn searched_files<'v>(
         ≡ searched_found (map found_in tested.now)) }
     ensures memory { IfErr result (λ e. e ≡ fault Memory) }
 {
-    let mut files = top_files(alloc, tested)?;
+    let mut files = Vec::new(alloc);
+    let mut deep = Vec::new(alloc);
+    for file in tested {
+        let is_sound = is_sound(file);
+        if file.file.level == 0 && is_sound {
+            files.push(file.file.meta)?;
+        }
+        if file.file.level != 0 && is_sound {
+            deep.push(file.file.meta)?;
+        }
+    }
     files.sort_unstable_by(|file, other| falling_order(file, other));
-    let mut deep = deep_files(alloc, tested)?;
     files.append(&mut deep)?;
-    Ok(files)
-}
-
-/// The sound files of level 0, in order.
-fn top_files<'v>(alloc: Global, tested: &[TestedFile<'v>]) -> Result<Vec<&'v FileMeta>, Fault>
-    ensures files { IfOk result (λ v. map (λ f. f.now) v.items
-        ≡ metas_found is_top_found (map found_in tested.now)) }
-    ensures memory { IfErr result (λ e. e ≡ fault Memory) }
-{
-    let mut files = Vec::new(alloc);
-    for file in tested {
-        if file.file.level == 0 && is_sound(file) {
-            files.push(file.file.meta)?;
-        }
-    }
-    Ok(files)
-}
-
-/// The sound files of the other levels, in order.
-fn deep_files<'v>(alloc: Global, tested: &[TestedFile<'v>]) -> Result<Vec<&'v FileMeta>, Fault>
-    ensures files { IfOk result (λ v. map (λ f. f.now) v.items
-        ≡ metas_found is_deep_found (map found_in tested.now)) }
-    ensures memory { IfErr result (λ e. e ≡ fault Memory) }
-{
-    let mut files = Vec::new(alloc);
-    for file in tested {
-        if file.file.level != 0 && is_sound(file) {
-            files.push(file.file.meta)?;
-        }
-    }
     Ok(files)
 }
 

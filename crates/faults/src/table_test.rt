@@ -9,15 +9,35 @@ ghost use Rattle.folder.specs.Reports.{OnlyReads, ReportsDevice};
 ghost use Rattle.table.specs.TableContents.{contents_reading};
 ghost use Rattle.reads.specs.FileList.{level_file_in};
 ghost use Rattle.faults.specs.FileFaults.{file_reading, table_held};
-ghost use Rattle.faults.specs.Findings.{IsTestAnswer, finding_of, found_in};
+ghost use Rattle.faults.specs.Findings.{IsTestAnswer, finding_of, found_in, is_long, is_too_long};
 
-use crate::table_finding::TableFinding;
-use crate::table_length::is_too_long;
-use crate::tested_file::TestedFile;
 use folder::{FileMeta, Folder, old_table_name, table_name};
 use reads::LevelFile;
 use std::alloc::Global;
-use table::{Comparator, Fault, FaultName, SoundTable, check};
+use table::{Comparator, Fault, FaultName, MAX_TABLE_LEN, SoundTable, check};
+
+/// What the test of a file's table finds.
+#[derive(Clone, Copy)]
+pub(crate) enum TableFinding {
+    /// The table is missing, or invalid: the name of the first test that it fails.
+    Unreadable(FaultName),
+    /// It can be read.
+    Readable {
+        /// Its bytes.
+        length: u64,
+        /// Whether its smallest key is the one that the version states.
+        has_smallest: bool,
+        /// Whether its largest key is the one that the version states.
+        has_largest: bool,
+    },
+}
+
+/// A file of a version, and what the test of its table finds.
+#[derive(Clone, Copy)]
+pub(crate) struct TestedFile<'v> {
+    pub file: LevelFile<'v>,
+    pub finding: TableFinding,
+}
 
 /// The files in order, each with what the test of its table finds. It only reads.
 ///
@@ -66,7 +86,41 @@ fn table_finding<C: Comparator, F: Folder>(
     read_finding::<C, F>(alloc, folder, file)
 }
 
-/// The same of a table that is read. It only reads.
+/// Whether the table of a number has more bytes than a table may have. It only reads, one byte at
+/// most.
+fn is_too_long<F: Folder>(alloc: Global, folder: &mut F, number: u64) -> Result<bool, Fault>
+    ensures answer { (held : Files) → Tells (F.tells folder.old) held →
+        FolderAnswers (λ long. long) (F.failed folder.old) (F.failed folder.new) result
+        (λ answer. answer ≡ Ok (is_too_long (table_held held number))) }
+    ensures device { ReportsDevice F.Folder folder.old folder.new result }
+    ensures reads { OnlyReads F.Folder folder.old folder.new }
+{
+    let name = table_name(alloc, number)?;
+    let old_name = old_table_name(alloc, number)?;
+    let first = is_file_long(folder, name.as_str())?;
+    if let Some(long) = first {
+        return Ok(long);
+    }
+    let second = is_file_long(folder, old_name.as_str())?;
+    Ok(second.unwrap_or(false))
+}
+
+/// Whether a file has more bytes than a table may have. None if no file has this name. It only
+/// reads.
+fn is_file_long<F: Folder>(folder: &mut F, name: &str) -> Result<Option<bool>, Fault>
+    ensures answer { (held : Files) → Tells (F.tells folder.old) held →
+        FolderAnswers (λ long. long) (F.failed folder.old) (F.failed folder.new) result
+        (λ answer. answer ≡ Ok (option_map is_long (held name.now))) }
+    ensures device { ReportsDevice F.Folder folder.old folder.new result }
+    ensures reads { OnlyReads F.Folder folder.old folder.new }
+{
+    let Some(part) = folder.read_part(name, MAX_TABLE_LEN as u64, 1)? else {
+        return Ok(None);
+    };
+    Ok(Some(!part.as_slice().is_empty()))
+}
+
+/// What the test of a table that is read finds. It only reads.
 fn read_finding<C: Comparator, F: Folder>(
     alloc: Global,
     folder: &mut F,

@@ -6,8 +6,7 @@ ghost use Rattle.folder.specs.Orders.{order_cmp};
 ghost use Rattle.folder.specs.Reports.{OnlyReads, ReportsDevice};
 ghost use Rattle.faults.specs.AllFaults.{AreFaultsTold, version_faults};
 
-use crate::fault_count::FaultCount;
-use crate::fault_taker::FaultTaker;
+use crate::fault_count::FaultTaker;
 use crate::file_faults::tell_files;
 use crate::range_faults::tell_ranges;
 use crate::search_order::searched_files;
@@ -92,13 +91,7 @@ fn all_faults_by<
     let alloc = workers.alloc();
     let files = all_files::<C>(alloc, version)?;
     let tested = tested_files::<C, F>(alloc, folder, &files)?;
-    let begun = tell_files::<C, T>(
-        alloc,
-        &tested,
-        version.next_file(),
-        taker,
-        FaultCount::none(),
-    )?;
+    let begun = tell_files::<C, T>(alloc, &tested, version.next_file(), taker)?;
     if !begun.goes {
         return Ok(begun.count);
     }

@@ -33,17 +33,11 @@ fn merged<R: Files + AllocGlobal + Threads + Sync>(
 ) -> Result<(u64, Vec<u8>), Refusal> {
     let first = read_block(rt, line.a)?;
     let second = read_block(rt, line.b)?;
-    let answer = blocks(
-        rt,
-        rt.alloc(),
-        first.as_slice(),
-        second.as_slice(),
-        &line.at,
-    );
+    let answer = blocks(rt, rt.alloc(), &first, &second, &line.at);
     answer.map_err(|fault| {
-        if is_refused(rt, first.as_slice(), fault) {
+        if is_refused(rt, &first, fault) {
             refused_alone(rt.alloc(), line.a, fault)
-        } else if is_refused(rt, second.as_slice(), fault) {
+        } else if is_refused(rt, &second, fault) {
             refused_alone(rt.alloc(), line.b, fault)
         } else {
             refused_together(rt.alloc(), line, fault)
@@ -53,28 +47,22 @@ fn merged<R: Files + AllocGlobal + Threads + Sync>(
 
 /// The bytes of a block's file. Device if there are more than 2^30: no test refuses that.
 fn read_block<R: Files + AllocGlobal>(rt: &R, path: &str) -> Result<Vec<u8>, Refusal> {
-    read_file(rt, path).map_err(|refusal| {
-        if refusal.fault.name == FaultName::Size {
-            too_large(rt.alloc(), path)
-        } else {
-            refusal
+    let read = read_file(rt, path);
+    match &read {
+        Err(refusal) if refusal.fault.name == FaultName::Size => {
+            let wrong = "it has more than 1073741824 bytes";
+            let told = said(rt.alloc(), path, wrong, REMEDY);
+            Err(Refusal::new(Fault::of(FaultName::Device), told))
         }
-    })
-}
-
-/// The refusal of a block's file of more than 2^30 bytes.
-fn too_large(alloc: Global, path: &str) -> Refusal {
-    let told = said(alloc, path, "it has more than 1073741824 bytes", REMEDY);
-    Refusal::new(Fault::of(FaultName::Device), told)
+        _ => read,
+    }
 }
 
 /// Whether a block is refused so by itself. A block that can't be read again, since memory is
 /// short, is not.
 fn is_refused<R: AllocGlobal + Threads + Sync>(rt: &R, bytes: &[u8], fault: Fault) -> bool {
-    match blocks(rt, rt.alloc(), bytes, NO_ENTRIES, &[]) {
-        Ok(_) => false,
-        Err(again) => again.name == fault.name && fault.name != FaultName::Memory,
-    }
+    let answer = blocks(rt, rt.alloc(), bytes, NO_ENTRIES, &[]);
+    fault.name != FaultName::Memory && matches!(answer, Err(again) if again.name == fault.name)
 }
 
 /// The refusal of the block in one file.

@@ -33,13 +33,8 @@ fn faults_told<R: Host>(session: &mut Session<'_, R>, memory: u64) -> Result<u64
         refusal: None,
     };
     let workers = checkers(rt, rt.alloc(), &progress);
-    let told = all_faults(
-        &workers,
-        &mut session.disk,
-        &session.opened,
-        memory,
-        &mut printer,
-    );
+    let (folder, opened) = (&mut session.disk, &session.opened);
+    let told = all_faults(&workers, folder, opened, memory, &mut printer);
     let count = session.ended(&progress, told);
     match printer.refusal {
         Some(refusal) => Err(refusal),
@@ -60,17 +55,11 @@ impl<'t, R: Print + Eprint + Clock + AllocGlobal> FaultPrinter<'t, R> {
     /// Prints a line. The answer is whether it could be printed.
     fn print(&mut self, line: Result<Vec<u8>, Fault>) -> bool {
         self.progress.erase();
-        match self.printed(line) {
-            Ok(()) => true,
-            Err(refusal) => {
-                self.refusal = Some(refusal);
-                false
-            }
-        }
-    }
-
-    fn printed(&self, line: Result<Vec<u8>, Fault>) -> Result<(), Refusal> {
-        print_lines(self.rt, &line?)
+        self.refusal = match line {
+            Ok(line) => print_lines(self.rt, &line).err(),
+            Err(fault) => Some(Refusal::from(fault)),
+        };
+        self.refusal.is_none()
     }
 }
 

@@ -1,6 +1,6 @@
 //! All entries of a key in a folder.
 
-use crate::json_logs::push_logs;
+use crate::row_printer::push_logs;
 use crate::version_verdict::test_unless_skipped;
 use answers::{EntryPlace, entry_json, entry_line, json_line};
 use checks::Fault;
@@ -15,8 +15,10 @@ pub fn history_answer<R: Host>(session: &mut Session<'_, R>, line: &HistoryLine<
     test_unless_skipped(session, &line.testing)?;
     let alloc = session.rt.alloc();
     let found = history_of(session, &line.key);
-    let entries = session.done(found)?;
-    let mut lines = history_lines(alloc, line, &entries)?;
+    let mut lines = Vec::new(alloc);
+    for entry in &session.done(found)? {
+        lines.extend_from_slice(entry_text(alloc, line, entry)?.as_bytes())?;
+    }
     push_logs(alloc, &mut lines, line.is_json, session.logs)?;
     Ok(lines)
 }
@@ -35,19 +37,6 @@ fn history_of<'r, R: Host>(
     }
 }
 
-/// What is printed of entries.
-fn history_lines(
-    alloc: Global,
-    line: &HistoryLine<'_>,
-    entries: &[PlacedEntry],
-) -> Result<Vec<u8>, Fault> {
-    let mut lines = Vec::new(alloc);
-    for entry in entries {
-        lines.extend_from_slice(entry_text(alloc, line, entry)?.as_bytes())?;
-    }
-    Ok(lines)
-}
-
 /// What is printed of an entry.
 fn entry_text(alloc: Global, line: &HistoryLine<'_>, found: &PlacedEntry) -> Result<String, Fault> {
     let key = found.entry.key.as_key();
@@ -63,6 +52,5 @@ fn entry_text(alloc: Global, line: &HistoryLine<'_>, found: &PlacedEntry) -> Res
     if !line.is_json {
         return entry_line(alloc, line.spelling, place, value);
     }
-    let object = entry_json(alloc, line.spelling, place, value)?;
-    json_line(alloc, &object)
+    json_line(alloc, &entry_json(alloc, line.spelling, place, value)?)
 }

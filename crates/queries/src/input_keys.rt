@@ -29,20 +29,16 @@ pub fn keys_in_input<R: Files + AllocGlobal>(
 fn keys_of_lines(alloc: Global, spelling: Spelling, lines: &[u8]) -> Result<Vec<Vec<u8>>, Refusal> {
     let mut keys = Vec::new(alloc);
     for line in lines.split(|byte| *byte == b'\n') {
-        let Some(key) = key_of_line(alloc, spelling, line)? else {
+        let key = match str::from_utf8(line) {
+            Ok(text) => spelling.bytes_of(alloc, text)?,
+            Err(_) => None,
+        };
+        let Some(key) = key else {
             return Err(no_key(alloc, keys.len().saturating_add(1), line, spelling));
         };
         keys.push(key)?;
     }
     Ok(keys)
-}
-
-/// The key of a line; None if it is the text of none.
-fn key_of_line(alloc: Global, spelling: Spelling, line: &[u8]) -> Result<Option<Vec<u8>>, Fault> {
-    match str::from_utf8(line) {
-        Ok(text) => spelling.bytes_of(alloc, text),
-        Err(_) => Ok(None),
-    }
 }
 
 /// The refusal of the line of this number.

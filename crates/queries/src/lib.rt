@@ -9,7 +9,6 @@ mod block_files;
 mod fault_printer;
 mod history_printer;
 mod input_keys;
-mod json_logs;
 mod needed_files;
 mod row_printer;
 mod stats_printer;

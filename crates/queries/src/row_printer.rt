@@ -1,11 +1,11 @@
 //! The rows of a folder, which are printed as they are found.
 
-use crate::json_logs::push_logs;
-use answers::{Open, count_json, json_line, push_row, push_row_json};
+use answers::{Open, count_json, json_line, logs_json, push_row, push_row_json};
 use checks::{Fault, FaultName, checkers};
 use refusals::sizes_in_turn;
 use scan::{RowChoice, RowCounter, RowTaker, prefix_end, scan_unverified, scan_version};
 use session::{Answer, Host, Order, ProgressLine, Refusal, Session, bytes_of, print_lines, said};
+use std::alloc::Global;
 use std::time::Clock;
 use usage::{RowOptions, RowOutput, ScanLine, Testing};
 
@@ -83,12 +83,29 @@ fn print_rows<R: Host>(
     };
     let scanned = scanned(session, &line.testing, choice, &progress, &mut printer);
     let done = session.ended(&progress, scanned);
-    let mut lines = printer.end()?;
+    let RowPrinter { lines, refusal, .. } = printer;
+    if let Some(refusal) = refusal {
+        return Err(refusal);
+    }
+    let mut lines = lines;
     if done.is_ok() {
         push_logs(rt.alloc(), &mut lines, line.is_json, session.logs)?;
     }
     print_lines(rt, &lines)?;
     done
+}
+
+/// Appends the JSON line of the logs, unless none has writes. Nothing of answers that aren't JSON.
+pub(crate) fn push_logs(
+    alloc: Global,
+    lines: &mut Vec<u8>,
+    is_json: bool,
+    logs: Option<u64>,
+) -> Result<(), Fault> {
+    if is_json && logs != Some(0) {
+        lines.extend_from_slice(json_line(alloc, &logs_json(alloc, logs)?)?.as_bytes())?;
+    }
+    Ok(())
 }
 
 /// Tells the rows of a folder, and tests it before, if that is asked for.
@@ -139,11 +156,7 @@ struct RowPrinter<'t, R> {
 impl<'t, R: Print + Eprint + Clock + AllocGlobal> RowPrinter<'t, R> {
     /// Adds the line of a row, and writes the lines if there are enough of them.
     fn push(&mut self, key: &[u8], value: &[u8]) -> Result<(), Refusal> {
-        let value = if self.line.output == RowOutput::Pairs {
-            Some(value)
-        } else {
-            None
-        };
+        let value = (self.line.output == RowOutput::Pairs).then_some(value);
         let spelling = self.line.spelling;
         if self.line.is_json {
             push_row_json(self.rt.alloc(), &mut self.lines, spelling, key, value)?;
@@ -157,25 +170,11 @@ impl<'t, R: Print + Eprint + Clock + AllocGlobal> RowPrinter<'t, R> {
         }
         Ok(())
     }
-
-    /// The lines that are not written yet, unless a row could not be printed.
-    fn end(self) -> Answer {
-        let RowPrinter { lines, refusal, .. } = self;
-        match refusal {
-            Some(refusal) => Err(refusal),
-            None => Ok(lines),
-        }
-    }
 }
 
 impl<'t, R: Print + Eprint + Clock + AllocGlobal> RowTaker for RowPrinter<'t, R> {
     fn row(&mut self, key: &[u8], value: &[u8]) -> bool {
-        match self.push(key, value) {
-            Ok(()) => true,
-            Err(refusal) => {
-                self.refusal = Some(refusal);
-                false
-            }
-        }
+        self.refusal = self.push(key, value).err();
+        self.refusal.is_none()
     }
 }

@@ -3,7 +3,7 @@
 use answers::{json_line, stats_json, stats_text};
 use checks::checkers;
 use refusals::sizes_in_turn;
-use scan::{FileTotal, VersionStats, version_stats};
+use scan::{FileTotal, version_stats};
 use session::{Answer, Host, Refusal, Session, bytes_of, logs_with_writes, unneeded_files};
 use usage::StatsLine;
 
@@ -14,7 +14,11 @@ pub fn stats_answer<R: Host>(session: &mut Session<'_, R>, line: &StatsLine<'_>)
     sizes_in_turn(session.rt, session.telling.folder, &session.opened)?;
     let logs = logs_counted(session)?;
     let unnamed = unneeded_counted(session)?;
-    let stats = version_counted(session, bytes_of(line.memory))?;
+    let progress = session.progress();
+    let workers = checkers(session.rt, alloc, &progress);
+    let (folder, opened) = (&mut session.disk, &session.opened);
+    let counted = version_stats(&workers, folder, opened, bytes_of(line.memory));
+    let stats = session.ended(&progress, counted)?;
     if !line.is_json {
         return Ok(stats_text(alloc, line.spelling, &stats, logs, unnamed)?);
     }
@@ -22,28 +26,12 @@ pub fn stats_answer<R: Host>(session: &mut Session<'_, R>, line: &StatsLine<'_>)
     Ok(json_line(alloc, &object)?.into_bytes())
 }
 
-/// The statistics of a version, which is tested before.
-fn version_counted<R: Host>(
-    session: &mut Session<'_, R>,
-    memory: u64,
-) -> Result<VersionStats, Refusal> {
-    let rt = session.rt;
-    let progress = session.progress();
-    let workers = checkers(rt, rt.alloc(), &progress);
-    let counted = version_stats(&workers, &mut session.disk, &session.opened, memory);
-    session.ended(&progress, counted)
-}
-
 /// The logs that have a byte.
 fn logs_counted<R: Host>(session: &Session<'_, R>) -> Result<FileTotal, Refusal> {
     let (rt, folder) = (session.rt, session.telling.folder);
-    let logs = logs_with_writes(rt, folder, None).map_err(|error| Refusal::of_listing(
-        rt.alloc(),
-        folder,
-        &error,
-    ))?;
+    let logs = logs_with_writes(rt, folder, None);
     let mut total = FileTotal::none();
-    for log in &logs {
+    for log in &logs.map_err(|error| Refusal::of_listing(rt.alloc(), folder, &error))? {
         total = total.with(log.bytes);
     }
     Ok(total)
@@ -51,8 +39,8 @@ fn logs_counted<R: Host>(session: &Session<'_, R>) -> Result<FileTotal, Refusal>
 
 /// The files that the version doesn't need.
 fn unneeded_counted<R: Host>(session: &Session<'_, R>) -> Result<FileTotal, Refusal> {
-    let files = unneeded_files(session.rt, session.telling.folder, &session.opened)?;
     let mut total = FileTotal::none();
+    let files = unneeded_files(session.rt, session.telling.folder, &session.opened)?;
     for bytes in &files.lengths {
         total = total.with(*bytes);
     }

@@ -45,10 +45,7 @@ fn refusal_of(alloc: Global, path: &str, fault: Fault) -> Refusal {
 
 /// The words of a file that has the name of a manifest, of a log or of CURRENT. None of any other.
 fn of_other_file(path: &str) -> Option<Words> {
-    let name = match path.rsplit_once('/') {
-        Some((_, name)) => name,
-        None => path,
-    };
+    let name = path.rsplit('/').next().unwrap_or(path);
     if name.starts_with("MANIFEST-") || name == CURRENT {
         return Some(Words {
             wrong: "it is no table, but a manifest, or names one",

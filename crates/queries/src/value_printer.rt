@@ -34,7 +34,8 @@ pub fn values_answer<R: Host>(
     Ok(lines)
 }
 
-/// Appends what is printed of the value of a key.
+/// Appends what is printed of the value of a key. Its line has the key too, unless it is the only
+/// one that is given.
 fn push_value<R: Host>(
     session: &mut Session<'_, R>,
     lines: &mut Vec<u8>,
@@ -48,9 +49,18 @@ fn push_value<R: Host>(
     };
     let answer = value_of(session, line, key, form);
     let answer = session.done(answer)?;
-    push_answer(session, lines, line, key, answer.as_deref())?;
+    let answer = answer.as_deref();
+    if line.is_json {
+        let alloc = session.rt.alloc();
+        let object = value_json(alloc, line.spelling, key, answer, session.logs)?;
+        lines.extend_from_slice(json_line(alloc, &object)?.as_bytes())?;
+    } else if line.is_raw || is_alone(line) {
+        lines.extend_from_slice(answer.unwrap_or(&[]))?;
+    } else {
+        push_named_value(lines, line.spelling, key, answer.unwrap_or(NO_VALUE))?;
+    }
     if is_alone(line) {
-        tell_absent(session, line, key, answer.as_deref());
+        tell_absent(session, line, key, answer);
     }
     Ok(())
 }
@@ -62,43 +72,13 @@ fn value_of<R: Host>(
     key: &[u8],
     form: ValueForm,
 ) -> Result<Option<Vec<u8>>, Fault> {
-    unverified_value(
-        session.rt.alloc(),
-        &mut session.disk,
-        &session.opened,
-        key,
-        line.at,
-        form,
-    )
-}
-
-/// Appends what is printed of the answer of a key. Its line has the key too, unless it is the only
-/// one that is given.
-fn push_answer<R: Host>(
-    session: &Session<'_, R>,
-    lines: &mut Vec<u8>,
-    line: &GetLine<'_>,
-    key: &[u8],
-    answer: Option<&[u8]>,
-) -> Result<(), Fault> {
-    if line.is_json {
-        let alloc = session.rt.alloc();
-        let object = value_json(alloc, line.spelling, key, answer, session.logs)?;
-        lines.extend_from_slice(json_line(alloc, &object)?.as_bytes())?;
-    } else if line.is_raw || is_alone(line) {
-        lines.extend_from_slice(answer.unwrap_or(&[]))?;
-    } else {
-        push_named_value(lines, line.spelling, key, answer.unwrap_or(NO_VALUE))?;
-    }
-    Ok(())
+    let (folder, opened) = (&mut session.disk, &session.opened);
+    unverified_value(session.rt.alloc(), folder, opened, key, line.at, form)
 }
 
 /// Whether one key alone is given.
 fn is_alone(line: &GetLine<'_>) -> bool {
-    match &line.keys {
-        KeySource::Given(keys) => keys.len() == 1,
-        KeySource::Input => false,
-    }
+    matches!(&line.keys, KeySource::Given(keys) if keys.len() == 1)
 }
 
 /// Tells that a key has no value, if its line doesn't, and if it may have been meant as text.
@@ -109,7 +89,9 @@ fn tell_absent<R: Host>(
     answer: Option<&[u8]>,
 ) {
     let (rt, folder) = (session.rt, session.telling.folder);
-    if session.telling.is_quiet || is_found(line, answer) {
+    let is_line = !line.is_raw && !line.is_json;
+    let is_found = matches!(answer, Some(bytes) if !is_line || bytes != NO_VALUE);
+    if session.telling.is_quiet || is_found {
         return;
     }
     if line.is_raw {
@@ -119,14 +101,6 @@ fn tell_absent<R: Host>(
         let _ = eprintln!(rt;
             "sedvokt: {folder}: the key was read as hexadecimal; for text give --text"
         );
-    }
-}
-
-/// Whether this answer is a value.
-fn is_found(line: &GetLine<'_>, answer: Option<&[u8]>) -> bool {
-    match answer {
-        Some(bytes) => line.is_raw || line.is_json || bytes != NO_VALUE,
-        None => false,
     }
 }
 

@@ -18,26 +18,17 @@ pub fn version_answer<R: Host>(session: &Session<'_, R>, line: &ManifestLine<'_>
     Ok(json_line(alloc, &object)?.into_bytes())
 }
 
-/// Tests the version of a folder. The answer is what is printed of a lawful one.
+/// Tests the version of a folder. The answer is what is printed of a lawful one: a line, or JSON.
 pub fn verdict_answer<R: Host>(session: &mut Session<'_, R>, line: &VerifyLine<'_>) -> Answer {
     let memory = bytes_of(line.memory);
-    match line.form {
-        VerdictForm::Line => lawful_answer(session, memory),
-        VerdictForm::Json => lawful_object(session, memory),
-        VerdictForm::AllFaults => print_faults(session, memory),
+    if line.form == VerdictForm::AllFaults {
+        return print_faults(session, memory);
     }
-}
-
-/// The line of a lawful version.
-fn lawful_answer<R: Host>(session: &mut Session<'_, R>, memory: u64) -> Answer {
-    let tested = version_tested(session, memory)?;
-    Ok(lawful_line(session.rt.alloc(), tested)?)
-}
-
-/// The JSON line of a lawful version.
-fn lawful_object<R: Host>(session: &mut Session<'_, R>, memory: u64) -> Answer {
     let tested = version_tested(session, memory)?;
     let (rt, logs) = (session.rt, session.logs);
+    if line.form == VerdictForm::Line {
+        return Ok(lawful_line(rt.alloc(), tested)?);
+    }
     let missing = match logs {
         Some(_) => missing_log(rt, session.telling.folder, &session.opened.version)?,
         None => None,

@@ -8,6 +8,6 @@ abbrev pub invariant-loop-place : goal.invariant-loop-place
 invariant-loop-place g l =
     let cmp = g.C.Comparator.cmp in
     record {
-      part : IsPart g.T.FaultTaker.tells (faults_of_found cmp l.next (map found_in l.tested)) l.fn.taker l.fn.told.count (faults_of_found cmp l.next (map found_in (drop l.place l.tested))) l.taker l.told;
+      part : IsPart g.T.FaultTaker.tells (faults_of_found cmp l.next (map found_in l.tested)) l.fn.taker 0 (faults_of_found cmp l.next (map found_in (drop l.place l.tested))) l.taker l.told;
       goes : l.told.goes ≡ true;
     }

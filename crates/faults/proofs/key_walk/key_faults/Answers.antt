@@ -1,13 +1,12 @@
-use Rattle.std.proofs.Common.{◌≡◌, ℕ, List, [], ◌++◌, length, map, take, drop, refl, sym, ap, subst, ◌∙◌, arith}
+use Rattle.std.proofs.Common.{◌≡◌, ℕ, List, [], ◌++◌, length, map, refl, sym, ap, subst, ◌∙◌, arith}
 use Rattle.std.specs.Prelude.{suc, ◌≤◌}
 use Rattle.std.specs.List.{AllByRecursion}
-use Rattle.std.proofs.lemmas.List.{length-map}
 use Rattle.merge.specs.MergedLists.{entries_of_lists}
 use Rattle.reads.specs.Ranges.{key_range}
 use Rattle.table.specs.EntriesFrom.{NeverFalls}
 use Rattle.faults.specs.KeyFaults.{FileEntries, first_break, searched_of}
-use Rattle.faults.specs.KeyWalk.{AreAllFrom, IsNextUser, after_user, break_of, found_keys, misplaced_in, with_user}
-use Rattle.faults.proofs.KeySteps.{IsWalkedTo, fewer, own_entries, walk_begin, walk_end, walk_more, written}
+use Rattle.faults.specs.KeyWalk.{AreAllFrom, IsNextUser, break_of, found_keys, misplaced_in, with_user}
+use Rattle.faults.proofs.KeySteps.{IsWalkedTo, fewer, left_is, own_entries, walk_begin, walk_end, walk_more}
 use Rattle.faults.proofs.key_walk.key_faults.Goals as goal
 
 pub loop-is_there-init : goal.loop-is_there-init
@@ -38,11 +37,7 @@ loop-is_there-preserved g c =
     let user : List ℕ = now.user.items in
     let lent : c.deref_mut.result.now ≡ files = c.deref_mut.ensures.value in
     let own : c.deref-in-loop-is_there.result.now ≡ user = c.deref-in-loop-is_there.ensures.value in
-    let after : List FileEntries = map (after_user user) files in
-    let new : c.take_user.new.files ≡ after = c.in_ok-order.ensures.rest ∙ ap (λ (u : List ℕ). map (after_user u) c.deref_mut.result.now) own ∙ ap (map (after_user user)) lent in
-    let long : length c.take_user.new.files ≡ length files = ap (λ (fs : List FileEntries). length fs) new ∙ length-map files (after_user user) in
-    let room : now.files.len ≡ length files = sym c.deref_mut.ensures.len ∙ ap (λ (fs : List FileEntries). length fs) lent in
-    let left : take now.files.len (c.take_user.new.files ++ drop (length c.take_user.new.files) files) ≡ after = written now.files.len c.take_user.new.files files after room long new in
+    let left = left_is now.files.len files c.deref_mut.result.now c.take_user.new.files user c.deref-in-loop-is_there.result.now lent own (sym c.deref_mut.ensures.len) c.in_ok-order.ensures.rest in
     let order : break_of c.in_ok-order.order [] ≡ first_break (searched_of (map (with_user user) files)) =
     c.in_ok-order.ensures.order ∙ ap (λ (u : List ℕ). first_break (searched_of (map (with_user u) c.deref_mut.result.now))) own ∙ ap (λ (fs : List FileEntries). first_break (searched_of (map (with_user user) fs))) lent in
     let pushed : map misplaced_in c.push_fault.new.faults.items ≡ map misplaced_in now.faults.items ++ found_keys cmp range.lower user (break_of c.in_ok-order.order []) =
@@ -65,11 +60,7 @@ loop-is_there-smaller g c =
     let user : List ℕ = now.user.items in
     let lent : c.deref_mut.result.now ≡ files = c.deref_mut.ensures.value in
     let own : c.deref-in-loop-is_there.result.now ≡ user = c.deref-in-loop-is_there.ensures.value in
-    let after : List FileEntries = map (after_user user) files in
-    let new : c.take_user.new.files ≡ after = c.in_ok-order.ensures.rest ∙ ap (λ (u : List ℕ). map (after_user u) c.deref_mut.result.now) own ∙ ap (map (after_user user)) lent in
-    let long : length c.take_user.new.files ≡ length files = ap (λ (fs : List FileEntries). length fs) new ∙ length-map files (after_user user) in
-    let room : now.files.len ≡ length files = sym c.deref_mut.ensures.len ∙ ap (λ (fs : List FileEntries). length fs) lent in
-    let left : take now.files.len (c.take_user.new.files ++ drop (length c.take_user.new.files) files) ≡ after = written now.files.len c.take_user.new.files files after room long new in
+    let left = left_is now.files.len files c.deref_mut.result.now c.take_user.new.files user c.deref-in-loop-is_there.result.now lent own (sym c.deref_mut.ensures.len) c.in_ok-order.ensures.rest in
     let less = fewer cmp g.met.C.Comparator.total g.met.C.Comparator.exact range.upper files user (now.invariant.some c.loop-is_there-test.true) now.invariant.ordered in
     subst (λ (fs : List FileEntries). suc (length (searched_of fs)) ≤ length (searched_of files)) (sym left) (omega (arith, less))
 

@@ -10,7 +10,7 @@ use Rattle.checks.specs.NeededFiles.{is_file_needed}
 use Rattle.checks.proofs.FileTables.{lent_numbers}
 use Rattle.checks.proofs.FoundTables.{held_found, held_unfound}
 use Rattle.faults.specs.KeyWalk.{misplaced_in}
-use Rattle.faults.proofs.FaultAnswers.{memory_handed, memory_stopped, ok_weaker, stopped_or}
+use Rattle.faults.proofs.FaultAnswers.{memory_handed, memory_stopped, ok_weaker, stopped_handed, stopped_only}
 use Rattle.faults.proofs.RangeSteps.{never_unfound, range_keys}
 use Rattle.faults.proofs.range_faults.range_faults.Goals as goal
 
@@ -31,7 +31,10 @@ pub returns-in_err-is_held-clause-errors : goal.returns-in_err-is_held-clause-er
 returns-in_err-is_held-clause-errors g c files told own sound =
     let cmp = g.C.Comparator.cmp in
     let failed = g.F.Folder.failed in
-    stopped_or (failed c.args.folder.now) (failed c.args.folder.now) (failed c.hold_next.new.folder) c.from_residual-in_err-is_held.result c.in_err-is_held.field-0.0 c.from_residual-in_err-is_held.ensures.1 (omega arith) c.hold_next.ensures.device.later (c.in_err-is_held.ensures.answer files told own)
+    let before = failed c.args.folder.now in
+    let now = failed c.hold_next.new.folder in
+    let e = c.in_err-is_held.field-0.0 in
+    stopped_handed before before now c.from_residual-in_err-is_held.result e c.from_residual-in_err-is_held.ensures.1 (omega arith) c.hold_next.ensures.device.later (stopped_only before now e ⊥ (λ no. no) (c.in_err-is_held.ensures.answer files told own))
 
 pub returns-then-not-is_held-clause-errors : goal.returns-then-not-is_held-clause-errors
 returns-then-not-is_held-clause-errors g c files told own sound =

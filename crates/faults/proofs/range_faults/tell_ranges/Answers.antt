@@ -1,4 +1,5 @@
 use Rattle.std.proofs.Common.{Bor, ◌≡◌, ℕ, ◌+◌, ◌-◌, ◌<◌, List, ◌++◌, length, map, refl, sym, ap, subst, ◌∙◌, arith}
+use Rattle.std.proofs.lemmas.Bool.{not-false, not-true}
 use Rattle.folder.specs.meta.FileMeta.{FileMeta}
 use Rattle.folder.proofs.CountLemmas.{steady}
 use Rattle.folder.proofs.ReportLemmas.{reads_then}
@@ -12,11 +13,11 @@ use Rattle.faults.specs.KeyFaults.{misplaced_keys, read_file, searched_of}
 use Rattle.faults.specs.KeyWalk.{misplaced_in}
 use Rattle.faults.specs.RangeKeys.{keys_from, keys_in}
 use Rattle.faults.specs.ToldFaults.{IsPart}
-use Rattle.faults.specs.declared.key_fault.KeyFault.{KeyFault}
+use Rattle.faults.specs.declared.key_walk.KeyFault.{KeyFault}
 use Rattle.faults.proofs.FaultAnswers.{stopped_handed}
 use Rattle.faults.proofs.MisplacedLemmas.{part_is}
 use Rattle.faults.proofs.RangeSteps.{none_left, told_left}
-use Rattle.faults.proofs.TellingLemmas.{begun_at, handed_begun, none_told, not_false, not_true, told_end, told_more, told_stops}
+use Rattle.faults.proofs.TellingLemmas.{begun_at, handed_begun, none_told, told_end, told_more, told_stops}
 use Rattle.faults.proofs.range_faults.tell_ranges.Goals as goal
 
 abbrev now_of : Bor FileMeta → FileMeta
@@ -44,7 +45,7 @@ loop-number-preserved g c =
     let failed = g.F.Folder.failed in
     let met = g.met.C.Comparator g.world.𝓛 g.world.𝓜 g.world.𝓡 ((λ s x. x), (λ x. x), (λ x. x), λ x. x) in
     let now = c.loop-number in
-    let more = not_false _ c.if-not-told.false in
+    let more = not-false _ c.if-not-told.false in
     record {
       told = λ files told sound.
           let entries = searched_of (map (read_file cmp files) (map now_of c.args.files.now)) in
@@ -57,8 +58,8 @@ loop-number-preserved g c =
           let step = told_left cmp c.args.split.now keys all now.number c.in_ok-faults.faults.items lt own in
           let behind : List VersionFault = map OfKey (keys_from cmp c.args.split.now keys (now.number + 1) (all - (now.number + 1))) in
           let whole : List VersionFault = map OfKey (keys_from cmp c.args.split.now keys 0 all) in
-          told_more g.T.FaultTaker.tells whole (map (λ k. OfKey (misplaced_in k)) c.deref.result.now) behind c.args.taker.now now.taker c.tell_keys-told.new.taker c.args.told.count now.told c.tell_keys-told.result now.invariant.goes
-          (subst (λ (fs : List VersionFault). IsPart g.T.FaultTaker.tells whole c.args.taker.now c.args.told.count fs now.taker now.told) (step ∙ ap (λ (ks : List KeyFault). map (λ k. OfKey (misplaced_in k)) ks ++ behind) (sym c.deref.ensures.value)) (now.invariant.told files told sound)) c.tell_keys-told.ensures more;
+          told_more g.T.FaultTaker.tells whole (map (λ k. OfKey (misplaced_in k)) c.deref.result.now) behind c.args.taker.now now.taker c.tell_keys-told.new.taker c.args.told.count now.told now.invariant.goes
+          (subst (λ (fs : List VersionFault). IsPart g.T.FaultTaker.tells whole c.args.taker.now c.args.told.count fs now.taker now.told) (step ∙ ap (λ (ks : List KeyFault). map (λ k. OfKey (misplaced_in k)) ks ++ behind) (sym c.deref.ensures.value)) (now.invariant.told files told sound)) c.tell_keys-told.result c.tell_keys-told.ensures more;
       held = held_through g.C.Comparator.cmp (tells c.args.folder.now) (tells now.folder) now.invariant.reads.same now.held c.range_faults.new.held c.in_ok-faults.ensures.held now.invariant.held;
       goes = more;
       reads = reads_then now.invariant.reads c.range_faults.ensures.reads;
@@ -100,8 +101,8 @@ returns-then-not-told-clause-told g c files told sound =
     let step = told_left cmp c.args.split.now keys all now.number c.in_ok-faults.faults.items lt own in
     let behind : List VersionFault = map OfKey (keys_from cmp c.args.split.now keys (now.number + 1) (all - (now.number + 1))) in
     let whole : List VersionFault = map OfKey (keys_from cmp c.args.split.now keys 0 all) in
-    told_stops g.T.FaultTaker.tells whole (map (λ k. OfKey (misplaced_in k)) c.deref.result.now) behind c.args.taker.now now.taker c.tell_keys-told.new.taker c.args.told.count now.told c.tell_keys-told.result now.invariant.goes
-    (subst (λ (fs : List VersionFault). IsPart g.T.FaultTaker.tells whole c.args.taker.now c.args.told.count fs now.taker now.told) (step ∙ ap (λ (ks : List KeyFault). map (λ k. OfKey (misplaced_in k)) ks ++ behind) (sym c.deref.ensures.value)) (now.invariant.told files told sound)) c.tell_keys-told.ensures (not_true _ c.if-not-told.true)
+    told_stops g.T.FaultTaker.tells whole (map (λ k. OfKey (misplaced_in k)) c.deref.result.now) behind c.args.taker.now now.taker c.tell_keys-told.new.taker c.args.told.count now.told now.invariant.goes
+    (subst (λ (fs : List VersionFault). IsPart g.T.FaultTaker.tells whole c.args.taker.now c.args.told.count fs now.taker now.told) (step ∙ ap (λ (ks : List KeyFault). map (λ k. OfKey (misplaced_in k)) ks ++ behind) (sym c.deref.ensures.value)) (now.invariant.told files told sound)) c.tell_keys-told.result c.tell_keys-told.ensures (not-true _ c.if-not-told.true)
 
 pub returns-clause-told : goal.returns-clause-told
 returns-clause-told g c files told sound =

@@ -6,7 +6,7 @@ use Rattle.folder.specs.OpenAnswer.{FolderAnswers}
 use Rattle.checks.proofs.FolderTests.{told_still}
 use Rattle.faults.specs.FileFaults.{file_reading, table_held}
 use Rattle.faults.specs.Findings.{finding_of, is_too_long}
-use Rattle.faults.specs.declared.table_finding.TableFinding.{TableFinding}
+use Rattle.faults.specs.declared.table_test.TableFinding.{TableFinding}
 use Rattle.faults.proofs.LongTables.{long_found}
 use Rattle.faults.proofs.table_test.table_finding.Goals as goal
 

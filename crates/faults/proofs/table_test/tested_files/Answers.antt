@@ -1,11 +1,12 @@
-use Rattle.std.proofs.Common.{◌≡◌, Result, Ok, Err, map, arith}
+use Rattle.std.proofs.Common.{◌≡◌, Result, Ok, map, arith}
 use Rattle.table.specs.fault.Fault.{Fault}
+use Rattle.folder.proofs.OpeningLemmas.{hands_on}
 use Rattle.checks.proofs.FolderTests.{told_still}
 use Rattle.reads.specs.FileList.{level_file_in}
 use Rattle.faults.specs.FileFaults.{file_reading}
 use Rattle.faults.specs.Findings.{IsTestAnswer, finding_of, found_in}
-use Rattle.faults.specs.declared.table_finding.TableFinding.{TableFinding}
-use Rattle.faults.proofs.FaultAnswers.{handed_answer, no_value}
+use Rattle.faults.specs.declared.table_test.TableFinding.{TableFinding}
+use Rattle.faults.proofs.FaultAnswers.{no_value}
 use Rattle.faults.proofs.table_test.tested_files.Goals as goal
 
 pub returns-in_err-finding-clause-answer : goal.returns-in_err-finding-clause-answer
@@ -15,8 +16,8 @@ returns-in_err-finding-clause-answer g c held told =
     let failed = g.F.Folder.failed in
     let now = c.loop-file in
     let f = c.file-item.result in
-    let own : Result TableFinding Fault = Ok (finding_of f.meta.now (file_reading cmp held f.meta.now.number)) in
+    let of : TableFinding = finding_of f.meta.now (file_reading cmp held f.meta.now.number) in
+    let own : Result TableFinding Fault = Ok of in
     let e = c.in_err-finding.field-0.0 in
-    handed_answer (λ v. map found_in v.items) (failed c.args.folder.now) (failed now.folder) (failed c.table_finding.new.folder) c.from_residual-in_err-finding.result (IsTestAnswer cmp held (map level_file_in c.args.files.now)) e (let r : Result TableFinding Fault = Err e in r ≡ own) c.from_residual-in_err-finding.ensures.1 (omega (arith, now.invariant.failures)) c.table_finding.ensures.device.later
-    (λ h. no_value e (finding_of f.meta.now (file_reading cmp held f.meta.now.number)) h)
-    (c.in_err-finding.ensures.answer held (told_still (tells c.args.folder.now) (tells now.folder) held now.invariant.reads.same told))
+    hands_on (λ v. map found_in v.items) (failed c.args.folder.now) (failed now.folder) (failed c.table_finding.new.folder) c.from_residual-in_err-finding.result e (λ a. a ≡ own) (IsTestAnswer cmp held (map level_file_in c.args.files.now)) c.from_residual-in_err-finding.ensures.1 (omega (arith, now.invariant.failures)) c.table_finding.ensures.device.later
+    (c.in_err-finding.ensures.answer held (told_still (tells c.args.folder.now) (tells now.folder) held now.invariant.reads.same told)) (λ h. absurd (no_value e of h))

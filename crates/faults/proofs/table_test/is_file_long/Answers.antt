@@ -3,7 +3,7 @@ use Rattle.std.specs.Option.{option_map}
 use Rattle.table.specs.fault.Fault.{Fault}
 use Rattle.faults.specs.Findings.{is_long}
 use Rattle.faults.proofs.LongTables.{long_part, no_part}
-use Rattle.faults.proofs.table_length.is_file_long.Goals as goal
+use Rattle.faults.proofs.table_test.is_file_long.Goals as goal
 
 abbrev answer : Option Bool → Result (Option Bool) Fault
 answer o = Ok o

@@ -23,10 +23,7 @@ type Reading<T> = Result<T, Option<Limit>>;
 /// The limit that the first field of an edit passes which can't be read. None if it is refused for
 /// another reason.
 pub(crate) fn limit_passed(record: &[u8]) -> Option<Limit> {
-    match fields_read(record) {
-        Ok(()) => None,
-        Err(limit) => limit,
-    }
+    fields_read(record).err().flatten()
 }
 
 /// Reads all fields of an edit. Each has a byte at least.

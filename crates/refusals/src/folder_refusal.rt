@@ -71,11 +71,11 @@ pub fn is_of_no_file(name: FaultName) -> bool {
 
 /// What is told of the file that is refused. None if it isn't known, or if it is no file.
 fn file_told<R: Host>(rt: &R, telling: Telling<'_>, refusal: &Refusal) -> Option<RefusalText> {
-    let folder = telling.folder;
-    match refusal.fault.name {
-        FaultName::Lawless | FaultName::Bounds => {
-            unlawful_refusal(rt, telling, refusal.fault.name)
-        }
+    let (alloc, folder) = (rt.alloc(), telling.folder);
+    let name = refusal.fault.name;
+    let mut disk = Disk::new(rt, folder);
+    match name {
+        FaultName::Lawless | FaultName::Bounds => unlawful_refusal(rt, telling, name),
         FaultName::Missing => missing_told(rt, folder, refusal.file.as_ref()?.as_str()),
         FaultName::LogShape
         | FaultName::LogChecksum
@@ -84,19 +84,12 @@ fn file_told<R: Host>(rt: &R, telling: Telling<'_>, refusal: &Refusal) -> Option
         | FaultName::Comparator
         | FaultName::Apply => {
             let file = refusal.file.as_ref()?.as_str();
-            let found = manifest_refusal(
-                rt.alloc(),
-                &mut Disk::new(rt, folder),
-                folder,
-                file,
-                refusal.fault.name,
-            );
-            found.ok()?
+            manifest_refusal(alloc, &mut disk, folder, file, name).ok()?
         }
-        name => {
+        _ => {
             let number = telling.refused.number()?;
-            let file = table_file_name(rt.alloc(), &mut Disk::new(rt, folder), number).ok()?;
-            told_of_file(rt.alloc(), folder, file.as_str(), of_file(name))
+            let file = table_file_name(alloc, &mut disk, number).ok()?;
+            told_of_file(alloc, folder, file.as_str(), of_file(name))
         }
     }
 }

@@ -12,11 +12,9 @@
 
 mod edit_fields;
 mod folder_refusal;
-mod key_sequences;
 mod manifest_refusal;
 mod settings_refusal;
 mod stated_tables;
-mod table_file;
 mod table_turns;
 mod unlawful_version;
 mod words;

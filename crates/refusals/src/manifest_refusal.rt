@@ -45,7 +45,7 @@ pub(crate) fn manifest_refusal<F: Folder>(
         _ => misfit_text(alloc, &edits, number_of(alloc, file)),
     };
     if let Some((wrong, remedy)) = detail {
-        return Ok(RefusalText::new(alloc, path, Ok(wrong), remedy));
+        return Ok(RefusalText::new(alloc, path, wrong, remedy));
     }
     Ok(told(alloc, path, of_file(name)))
 }
@@ -59,7 +59,7 @@ fn number_of(alloc: Global, file: &str) -> u64 {
 }
 
 /// What the edits of a manifest tell, up to the first that can't be read.
-#[derive(Drop)]
+#[derive(Default, Drop)]
 struct EditsSeen {
     /// The first comparator that is named.
     comparator: Option<String>,
@@ -76,15 +76,7 @@ struct EditsSeen {
 
 /// What the edits of a manifest tell. It takes the memory of one record at a time.
 fn edits_seen(alloc: Global, bytes: &[u8]) -> Result<EditsSeen, Fault> {
-    let mut seen = EditsSeen {
-        comparator: None,
-        other: None,
-        log_number: None,
-        next_file: None,
-        last_sequence: None,
-        adds_twice: false,
-        limit: None,
-    };
+    let mut seen = EditsSeen::default();
     let mut records = RecordReader::new(bytes);
     while let Some(record) = records.next(alloc)? {
         match VersionEdit::decode(alloc, &record) {
@@ -160,20 +152,14 @@ fn adds_twice(alloc: Global, files: &[NewFile]) -> Result<bool, Fault> {
 fn field_text(alloc: Global, edits: &EditsSeen) -> Option<Text> {
     match edits.limit? {
         Limit::Level(level) => {
-            let wrong = format!(in alloc;
-                "it names level {level}, and LevelDB's levels end at 6"
-            ).ok()?;
-            Some((
-                wrong,
-                "use the program that wrote it, or restore the folder from a copy",
-            ))
+            let wrong = format!(in alloc; "it names level {level}, and LevelDB's levels end at 6");
+            let remedy = "use the program that wrote it, or restore the folder from a copy";
+            Some((wrong, remedy))
         }
         Limit::Key => {
             let wrong = "a key in it has more than 65535 bytes, the most that is compacted here";
-            Some((
-                String::from_str(alloc, wrong).ok()?,
-                "leave its compaction to LevelDB, which has no such limit",
-            ))
+            let remedy = "leave its compaction to LevelDB, which has no such limit";
+            Some((String::from_str(alloc, wrong), remedy))
         }
     }
 }
@@ -181,7 +167,7 @@ fn field_text(alloc: Global, edits: &EditsSeen) -> Option<Text> {
 /// What is wrong with the comparators that edits name. None if nothing is.
 fn comparator_text(alloc: Global, edits: &EditsSeen) -> Option<Text> {
     let Some(first) = &edits.comparator else {
-        let wrong = String::from_str(alloc, "no record names a comparator").ok()?;
+        let wrong = String::from_str(alloc, "no record names a comparator");
         let remedy = "open the database once with LevelDB, which writes the manifest anew";
         return Some((wrong, remedy));
     };
@@ -189,31 +175,26 @@ fn comparator_text(alloc: Global, edits: &EditsSeen) -> Option<Text> {
         let wrong = format!(in alloc;
             "it names the comparator {first:?}, and only leveldb.BytewiseComparator and \
                 subcompaction.ShortlexComparator are known"
-        )
-        .ok()?;
+        );
         return Some((wrong, "compact it with the program that wrote it"));
     }
     let other = edits.other.as_ref()?;
     let wrong = format!(in alloc;
         "it names a second comparator, {other:?}: the database is damaged"
-    ).ok()?;
+    );
     Some((wrong, "restore the folder from a copy"))
 }
 
 /// Why the edits of the manifest of this `number` don't fit together.
 fn misfit_text(alloc: Global, edits: &EditsSeen, number: u64) -> Option<Text> {
     if let Some(counter) = edits.unset() {
-        let wrong = format!(in alloc;
-            "no record sets the {counter}: the database is damaged"
-        ).ok()?;
-        return Some((
-            wrong,
-            "restore the folder from a copy, or have LevelDB repair it",
-        ));
+        let wrong = format!(in alloc; "no record sets the {counter}: the database is damaged");
+        let remedy = "restore the folder from a copy, or have LevelDB repair it";
+        return Some((wrong, remedy));
     }
     let next = edits.next_file.unwrap_or(0);
     if number >= next {
-        let wrong = format!(in alloc; "its number is not below the next file number, {next}").ok()?;
+        let wrong = format!(in alloc; "its number is not below the next file number, {next}");
         return Some((wrong, "open the database once with LevelDB, which mends it"));
     }
     let (wrong, remedy) = if edits.adds_twice {
@@ -229,5 +210,5 @@ fn misfit_text(alloc: Global, edits: &EditsSeen, number: u64) -> Option<Text> {
                 manifest anew",
         )
     };
-    Some((String::from_str(alloc, wrong).ok()?, remedy))
+    Some((String::from_str(alloc, wrong), remedy))
 }

@@ -28,18 +28,16 @@ pub(crate) fn settings_refusal(
         FaultName::SnapshotList => list_text(alloc, settings.snapshots)?,
         _ => return None,
     };
-    RefusalText::new(alloc, folder, Ok(wrong), remedy)
+    RefusalText::new(alloc, folder, wrong, remedy)
 }
 
 /// What is told of a level that can't be compacted, or that has no file.
 fn level_text(alloc: Global, level: u64, name: FaultName) -> Option<Text> {
     if name == FaultName::Level {
-        let wrong = format!(in alloc; "level {level} cannot be compacted").ok()?;
+        let wrong = format!(in alloc; "level {level} cannot be compacted");
         return Some((wrong, "give a level from 0 to 5"));
     }
-    let wrong = format!(in alloc;
-        "there is nothing to compact at level {level}: it has no file"
-    ).ok()?;
+    let wrong = format!(in alloc; "there is nothing to compact at level {level}: it has no file");
     Some((wrong, "manifest shows which levels have files"))
 }
 
@@ -48,47 +46,33 @@ fn outside(alloc: Global, option: &str, value: u64, most: u64) -> Option<Text> {
     if (1..=most).contains(&value) {
         return None;
     }
-    let wrong = format!(in alloc; "{option} {value} is outside 1 to {most}").ok()?;
+    let wrong = format!(in alloc; "{option} {value} is outside 1 to {most}");
     Some((wrong, "give a number within these limits"))
 }
 
 /// What is told of the option of the outputs that is outside its limits. None if none is.
 fn options_text(alloc: Global, settings: &Settings<'_>) -> Option<Text> {
-    let options = &settings.options;
-    match outside(alloc, "--block-size", options.block_size, MAX_BLOCK_SIZE) {
-        Some(text) => Some(text),
-        None => outside(
-            alloc,
-            "--file-size",
-            options.file_size,
-            MAX_TABLE_LEN as u64,
-        ),
-    }
+    let (block, file) = (settings.options.block_size, settings.options.file_size);
+    let file = outside(alloc, "--file-size", file, MAX_TABLE_LEN as u64);
+    outside(alloc, "--block-size", block, MAX_BLOCK_SIZE).or(file)
 }
 
 /// What is told of a snapshot that is 2^56 - 1 or more. None if there is none.
 fn snapshot_text(alloc: Global, snapshots: Snapshots<'_>) -> Option<Text> {
     let (option, sequence) = match snapshots {
         Snapshots::From(sequence) => ("--snapshot", sequence),
-        Snapshots::Listed(list) => ("--snapshots", first_beyond(list)?),
+        Snapshots::Listed(list) => {
+            let beyond = list.iter().find(|sequence| **sequence >= MAX_SEQUENCE);
+            ("--snapshots", *beyond?)
+        }
     };
     if sequence < MAX_SEQUENCE {
         return None;
     }
     let wrong = format!(in alloc;
         "{option} has {sequence}, and snapshots are below {MAX_SEQUENCE}"
-    ).ok()?;
+    );
     Some((wrong, "give an earlier sequence"))
-}
-
-/// The first sequence of a list that is 2^56 - 1 or more.
-fn first_beyond(list: &[u64]) -> Option<u64> {
-    for sequence in list {
-        if *sequence >= MAX_SEQUENCE {
-            return Some(*sequence);
-        }
-    }
-    None
 }
 
 /// What is told of a list of snapshots that is too long, doesn't rise, or has one above the last
@@ -99,19 +83,15 @@ fn list_text(alloc: Global, snapshots: Snapshots<'_>) -> Option<Text> {
     };
     let count = list.len();
     if count > MAX_SNAPSHOTS {
-        let wrong = format!(in alloc; "--snapshots has {count} sequences").ok()?;
+        let wrong = format!(in alloc; "--snapshots has {count} sequences");
         return Some((wrong, "give at most 4096"));
     }
     if let Some((before, after)) = first_fall(list) {
-        let wrong = format!(in alloc;
-            "--snapshots does not rise: {after} comes after {before}"
-        ).ok()?;
+        let wrong = format!(in alloc; "--snapshots does not rise: {after} comes after {before}");
         return Some((wrong, "give rising sequences"));
     }
     let greatest = list.last()?;
-    let wrong = format!(in alloc;
-        "--snapshots has {greatest}, which is above the last sequence"
-    ).ok()?;
+    let wrong = format!(in alloc; "--snapshots has {greatest}, which is above the last sequence");
     Some((wrong, "leave it out"))
 }
 

@@ -1,12 +1,12 @@
-//! Which new table is not as an edit states it. No contract says which one it is.
+//! The file of a table, and which new table is not as an edit states it. No contract says which one
+//! it is.
 
 ghost use Rattle.folder.specs.Reports.{OnlyReads};
 
-use crate::table_file::table_file;
 use coding::Fault;
 use edit::{FileMeta, VersionEdit};
 use faults::FileFault;
-use folder::{Folder, Order};
+use folder::{Folder, Order, old_table_name, table_name};
 use ikey::{Bytewise, Comparator, Shortlex};
 use std::alloc::Global;
 use table::check;
@@ -57,4 +57,23 @@ fn unlike_stated<C: Comparator, F: Folder>(
         return Ok(Some(FileFault::Largest));
     }
     Ok(None)
+}
+
+/// The name and the bytes of the table of a number, under its name or its older one.
+pub(crate) fn table_file<F: Folder>(
+    alloc: Global,
+    folder: &mut F,
+    number: u64,
+) -> Result<Option<(String, Vec<u8>)>, Fault>
+    ensures reads { OnlyReads F.Folder folder.old folder.new }
+{
+    let name = table_name(alloc, number)?;
+    if let Some(bytes) = folder.read(name.as_str())? {
+        return Ok(Some((name, bytes)));
+    }
+    let name = old_table_name(alloc, number)?;
+    match folder.read(name.as_str())? {
+        Some(bytes) => Ok(Some((name, bytes))),
+        None => Ok(None),
+    }
 }

@@ -1,6 +1,6 @@
 //! The tables of a version, of which one is too large to be read: each is refused in its turn.
 
-use crate::table_file::table_file;
+use crate::stated_tables::table_file;
 use coding::{Fault, FaultName};
 use disk::{Disk, SystemFiles};
 use folder::{Opened, Order, Version, file_numbers};

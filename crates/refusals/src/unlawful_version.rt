@@ -2,7 +2,7 @@
 
 ghost use Rattle.folder.specs.Reports.{OnlyReads};
 
-use crate::key_sequences::sequences_of;
+use crate::stated_tables::table_file;
 use crate::words::{Stated, file_fault};
 use checks::{Open, checkers};
 use coding::{Fault, FaultName};
@@ -10,9 +10,10 @@ use disk::Disk;
 use edit::{LEVELS, Version};
 use faults::{FaultTaker, FileFault, all_faults};
 use folder::{Folder, Opened, Order, open};
-use ikey::Bytewise;
+use ikey::{Bytewise, Comparator, KeyBuf, Kind, MAX_SEQUENCE, MAX_USER_KEY, Shortlex};
 use session::{Host, RefusalText, Telling, path_in, table_file_name};
 use std::alloc::Global;
+use table::{Cursor, TableCursor, check};
 use texts::text_of;
 
 /// What a manifest states of a table.
@@ -64,31 +65,20 @@ impl<'t, R: Host> FaultTaker for FaultFinder<'t, R> {
         if !is_refused_so(fault, self.name) {
             return true;
         }
-        let mut folder = Disk::new(self.rt, self.path);
+        let (alloc, path) = (self.rt.alloc(), self.path);
+        let mut folder = Disk::new(self.rt, path);
         let version = &self.opened.version;
-        let told = file_told(
-            self.rt.alloc(),
-            &mut folder,
-            self.path,
-            version,
-            number,
-            fault,
-        );
+        let told = file_told(alloc, &mut folder, path, version, number, fault);
         self.told = told.unwrap_or(None);
         false
     }
 
     fn key_fault(&mut self, user: &[u8], file: u64, other: u64) -> bool {
         if self.name == FaultName::Lawless {
-            let mut folder = Disk::new(self.rt, self.path);
+            let (alloc, path) = (self.rt.alloc(), self.path);
+            let mut folder = Disk::new(self.rt, path);
             let files = KeyFiles { user, file, other };
-            let told = key_told(
-                self.rt.alloc(),
-                &mut folder,
-                self.path,
-                self.opened.order,
-                files,
-            );
+            let told = key_told(alloc, &mut folder, path, self.opened.order, files);
             self.told = told.unwrap_or(None);
         }
         false
@@ -191,4 +181,82 @@ fn key_told<F: Folder>(
     };
     let remedy = "restore the folder from a copy, or have LevelDB compact all of it";
     Ok(RefusalText::new(alloc, path.as_str(), wrong, remedy))
+}
+
+/// The sequences that a table has of a user key.
+#[derive(Clone, Copy)]
+struct KeySequences {
+    greatest: u64,
+    least: u64,
+    /// The first one that it has twice.
+    repeated: Option<u64>,
+}
+
+impl KeySequences {
+    /// The same with the next sequence in the table's order.
+    fn with(self, sequence: u64) -> KeySequences {
+        let is_repeated = self.repeated.is_none() && sequence == self.least;
+        KeySequences {
+            greatest: self.greatest,
+            least: sequence,
+            repeated: if is_repeated {
+                Some(sequence)
+            } else {
+                self.repeated
+            },
+        }
+    }
+}
+
+/// The sequences that the table of a number has of a user key. None if it has none, or can't be
+/// read.
+fn sequences_of<F: Folder>(
+    alloc: Global,
+    folder: &mut F,
+    order: Order,
+    number: u64,
+    user: &[u8],
+) -> Result<Option<KeySequences>, Fault>
+    ensures reads { OnlyReads F.Folder folder.old folder.new }
+{
+    let Some((_, bytes)) = table_file(alloc, folder, number)? else {
+        return Ok(None);
+    };
+    match order {
+        Order::Bytewise => sequences_in::<Bytewise>(alloc, &bytes, user),
+        Order::Shortlex => sequences_in::<Shortlex>(alloc, &bytes, user),
+    }
+}
+
+/// The same in the bytes of a table.
+fn sequences_in<C: Comparator>(
+    alloc: Global,
+    bytes: &[u8],
+    user: &[u8],
+) -> Result<Option<KeySequences>, Fault> {
+    if user.len() > MAX_USER_KEY {
+        return Ok(None);
+    }
+    let table = check::<C>(alloc, bytes)?;
+    let first = KeyBuf::new(alloc, user, MAX_SEQUENCE, Kind::Put)?;
+    let mut cursor = TableCursor::new(alloc, &table)?;
+    cursor.seek(first.as_key())?;
+    let mut found: Option<KeySequences> = None;
+    while cursor.valid() {
+        let key = cursor.key();
+        if key.user() != user {
+            return Ok(found);
+        }
+        let sequence = key.sequence();
+        found = match found {
+            Some(before) => Some(before.with(sequence)),
+            None => Some(KeySequences {
+                greatest: sequence,
+                least: sequence,
+                repeated: None,
+            }),
+        };
+        cursor.advance()?;
+    }
+    Ok(found)
 }

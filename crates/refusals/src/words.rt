@@ -2,10 +2,10 @@
 
 use faults::FileFault;
 use session::{RefusalText, Words, of_file, told, told_of_file};
-use std::alloc::Global;
+use std::alloc::{AllocError, Global};
 
-/// What is wrong, and what to do about it.
-pub(crate) type Text = (String, &'static str);
+/// What is wrong, unless there was no memory for it, and what to do about it.
+pub(crate) type Text = (Result<String, AllocError>, &'static str);
 
 /// Who states what a table is.
 #[derive(Clone, Copy)]

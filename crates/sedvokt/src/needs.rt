@@ -47,9 +47,9 @@ impl<'a> Needs<'a> {
 /// What a command line needs.
 pub(crate) fn needs_of<'a>(line: &Line<'a>) -> Needs<'a> {
     match line {
-        Line::Blocks(line) => of_files(line.a, false),
-        Line::Dump(line) => of_files(line.table, false),
-        Line::Table(line) => of_files(line.table, line.is_json),
+        Line::Blocks(line) => of(line.a, false, Access::None, None),
+        Line::Dump(line) => of(line.table, false, Access::None, None),
+        Line::Table(line) => of(line.table, line.is_json, Access::None, None),
         Line::Manifest(line) => of_read(line.folder, line.is_json, "manifest"),
         Line::Stats(line) => of_read(line.folder, line.is_json, "stats").holding(line.memory),
         Line::Verify(line) => {
@@ -89,11 +89,6 @@ pub(crate) fn needs_of<'a>(line: &Line<'a>) -> Needs<'a> {
 /// What a command needs that reads a folder while none of this program changes it.
 fn of_read<'a>(subject: &'a str, is_json: bool, step: &'static str) -> Needs<'a> {
     of(subject, is_json, Access::Read, Some(step))
-}
-
-/// What a command needs that is about files alone, or about a table.
-fn of_files(subject: &str, is_json: bool) -> Needs<'_> {
-    of(subject, is_json, Access::None, None)
 }
 
 /// What a command needs that does this with a folder.

@@ -94,8 +94,7 @@ fn taken_folder<'a, R: Files + AllocGlobal>(
 
 /// The words of the process. `InvalidData` if one is no text.
 fn words_given<R: Env + AllocGlobal>(rt: &R) -> io::Result<Vec<String>> {
-    let words = env::args(rt)?.collect(rt.alloc())?;
-    Ok(words)
+    Ok(env::args(rt)?.collect(rt.alloc())?)
 }
 
 /// Does what a command line asks for.

@@ -2,7 +2,7 @@
 
 use answers::{Told, refusal_json, status};
 use coding::{Fault, FaultName};
-use session::{Refusal, RefusalParts, in_words};
+use session::{Refusal, in_words};
 use usage::Usage;
 
 /// The status of work that was done, and of help or a version that was asked for.
@@ -38,27 +38,27 @@ pub(crate) fn report_refusal<R: Eprint + AllocGlobal>(
     status(&refusal.fault)
 }
 
+/// A path, what is wrong with it, and what to do, if that is told.
+type Parts<'a> = (&'a str, &'a str, Option<&'a str>);
+
 /// What is told of a refusal of work on `path`.
-fn parts_of<'a>(path: &'a str, refusal: &'a Refusal) -> RefusalParts<'a> {
+fn parts_of<'a>(path: &'a str, refusal: &'a Refusal) -> Parts<'a> {
     match &refusal.told {
-        Some(text) => text.parts(),
+        Some(text) => (text.path.as_str(), text.wrong.as_str(), text.remedy),
         None => {
             let words = in_words(refusal.fault.name);
-            RefusalParts {
-                path,
-                wrong: words.wrong,
-                remedy: Some(words.remedy),
-            }
+            (path, words.wrong, Some(words.remedy))
         }
     }
 }
 
 /// Tells them as a JSON object. If there is no memory for that, nothing is told.
-fn tell_json<R: Eprint + AllocGlobal>(rt: &R, fault: &Fault, parts: RefusalParts<'_>) {
+fn tell_json<R: Eprint + AllocGlobal>(rt: &R, fault: &Fault, parts: Parts<'_>) {
+    let (path, wrong, remedy) = parts;
     let told = Told {
-        path: Some(parts.path),
-        wrong: Some(parts.wrong),
-        remedy: parts.remedy,
+        path: Some(path),
+        wrong: Some(wrong),
+        remedy,
     };
     let alloc = rt.alloc();
     let Ok(name) = format!(in alloc; "{fault}") else {
@@ -70,16 +70,12 @@ fn tell_json<R: Eprint + AllocGlobal>(rt: &R, fault: &Fault, parts: RefusalParts
 }
 
 /// Tells them as text.
-fn tell_text<R: Eprint>(rt: &R, parts: RefusalParts<'_>) {
-    let (path, wrong) = (parts.path, parts.wrong);
-    match parts.remedy {
-        Some(remedy) => {
-            let _ = eprintln!(rt; "sedvokt: {path}: {wrong}; {remedy}");
-        }
-        None => {
-            let _ = eprintln!(rt; "sedvokt: {path}: {wrong}");
-        }
-    }
+fn tell_text<R: Eprint>(rt: &R, parts: Parts<'_>) {
+    let (path, wrong, remedy) = parts;
+    let _ = match remedy {
+        Some(remedy) => eprintln!(rt; "sedvokt: {path}: {wrong}; {remedy}"),
+        None => eprintln!(rt; "sedvokt: {path}: {wrong}"),
+    };
 }
 
 /// Tells a fault of usage, and answers its status.

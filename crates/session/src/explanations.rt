@@ -22,14 +22,6 @@ pub const NO_FOLDER: Words = Words {
 /// The words of a refusal that is about a folder or a machine; if there are none, those of a file
 /// that is refused so.
 pub fn in_words(name: FaultName) -> Words {
-    match of_work(name) {
-        Some(words) => words,
-        None => of_file(name),
-    }
-}
-
-/// The words of a refusal that is about no file.
-fn of_work(name: FaultName) -> Option<Words> {
     let (wrong, remedy) = match name {
         FaultName::Locked => (
             "another program, or another sedvokt, uses the database",
@@ -59,11 +51,11 @@ fn of_work(name: FaultName) -> Option<Words> {
         ),
         name => return of_settings(name),
     };
-    Some(Words { wrong, remedy })
+    Words { wrong, remedy }
 }
 
-/// The words of a refusal of what was asked for.
-fn of_settings(name: FaultName) -> Option<Words> {
+/// The words of a refusal of what was asked for, or of a file.
+fn of_settings(name: FaultName) -> Words {
     let (wrong, remedy) = match name {
         FaultName::NoInput => (
             "there is nothing to compact at this level: it has no file",
@@ -88,21 +80,13 @@ fn of_settings(name: FaultName) -> Option<Words> {
             "an output would have more than 1073741824 bytes, or all more than 2^40 data blocks",
             "give a smaller --file-size, or a larger --block-size",
         ),
-        _ => return None,
+        name => return of_file(name),
     };
-    Some(Words { wrong, remedy })
+    Words { wrong, remedy }
 }
 
-/// The words of a file that is refused.
+/// The words of a file that is refused: here those of a manifest, or of CURRENT.
 pub fn of_file(name: FaultName) -> Words {
-    match of_manifest(name) {
-        Some(words) => words,
-        None => of_table(name),
-    }
-}
-
-/// The words of a manifest that is refused, or of CURRENT.
-fn of_manifest(name: FaultName) -> Option<Words> {
     let (wrong, remedy) = match name {
         FaultName::LogShape => (
             "it is not laid out as a log of whole records: the database is damaged",
@@ -129,9 +113,9 @@ fn of_manifest(name: FaultName) -> Option<Words> {
             "it names no manifest: the database is damaged",
             "restore the folder from a copy",
         ),
-        _ => return None,
+        name => return of_table(name),
     };
-    Some(Words { wrong, remedy })
+    Words { wrong, remedy }
 }
 
 /// The words of a table that is refused.

@@ -171,23 +171,24 @@ fn is_replayed(version: &Version, number: u64) -> bool {
     number >= version.log_number().unwrap_or(0) || Some(number) == version.previous_log()
 }
 
-/// Whether a compaction of the `version`, or one after it, may give a new file this `name`. Its
-/// number is then next file or above of a manifest and of a temporary file, and above next file of
-/// a table.
+/// Whether a compaction of the `version`, or one after it, may replace a folder's file of this
+/// `name`, which is no folder itself. Its number is then next file or above of a manifest and of a
+/// temporary file, and above next file of a table.
 ///
 /// An interrupted compaction leaves such a file. So does a copy whose manifest was taken before its
 /// tables.
-pub(crate) fn is_replaceable(version: &Version, name: &str) -> bool {
+pub(crate) fn may_be_replaced<R: Files + AllocGlobal>(
+    rt: &R,
+    folder: &str,
+    version: &Version,
+    name: &str,
+) -> bool {
     let next = version.next_file().unwrap_or(0);
-    match name.strip_suffix(".ldb") {
+    let is_free = match name.strip_suffix(".ldb") {
         Some(digits) => matches!(number_in(digits), Some(number) if number > next),
         None => matches!(number_of_manifest(name), Some(number) if number >= next),
-    }
-}
-
-/// Whether a folder's file is a folder itself, or can't be looked at.
-pub(crate) fn is_folder<R: Files + AllocGlobal>(rt: &R, folder: &str, name: &str) -> bool {
-    !matches!(length_of(rt, folder, name), Ok(Some(_)))
+    };
+    is_free && matches!(length_of(rt, folder, name), Ok(Some(_)))
 }
 
 /// The number of a manifest, `MANIFEST-%06d`, or of a temporary file, `%06d.dbtmp`.
@@ -198,21 +199,14 @@ fn number_of_manifest(name: &str) -> Option<u64> {
     }
 }
 
-/// The number that these `digits` are, as `%06d` writes them. None if it writes no number so.
+/// The number that these `digits` are, as `%06d` writes them: at least six, and no zero before more
+/// than six. None if it writes no number so.
 fn number_in(digits: &str) -> Option<u64> {
-    if is_number(digits.as_bytes()) {
+    let bytes = digits.as_bytes();
+    let is_written = bytes.len() == DIGITS || bytes.len() > DIGITS && !bytes.starts_with(b"0");
+    if is_written && bytes.iter().all(|digit| digit.is_ascii_digit()) {
         digits.parse().ok()
     } else {
         None
     }
-}
-
-/// Whether these are digits as `%06d` writes them: at least six, and no zero before more than six.
-fn is_number(digits: &[u8]) -> bool {
-    for digit in digits {
-        if !digit.is_ascii_digit() {
-            return false;
-        }
-    }
-    digits.len() == DIGITS || digits.len() > DIGITS && !digits.starts_with(b"0")
 }

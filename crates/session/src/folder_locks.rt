@@ -104,10 +104,8 @@ fn pending_in<R: Files + AllocGlobal>(rt: &R, folder: &str) -> io::Result<Option
 fn pending_refusal(alloc: Global, pending: &str) -> Refusal {
     let wrong = "a program was about to rename it to CURRENT, and what it names would be lost";
     let remedy = "open the database once with the program that wrote it";
-    Refusal::new(
-        Fault::of(FaultName::Changed),
-        said(alloc, pending, wrong, remedy),
-    )
+    let told = said(alloc, pending, wrong, remedy);
+    Refusal::new(Fault::of(FaultName::Changed), told)
 }
 
 /// The refusal of a folder that can't be locked, to change it or to read it.
@@ -210,7 +208,7 @@ pub fn no_database<R: SystemFiles + AllocGlobal>(rt: &R, folder: &str) -> Option
             let remedy = "restore the folder from a copy, or have LevelDB repair it";
             told_of_file(alloc, folder, CURRENT, Words { wrong, remedy })
         }
-        Err(error) if error.kind() == ErrorKind::NotFound => { told(alloc, folder, NO_FOLDER) }
+        Err(error) if error.kind() == ErrorKind::NotFound => told(alloc, folder, NO_FOLDER),
         _ => {
             let wrong = "this folder holds no LevelDB database: it has no CURRENT";
             said(alloc, folder, wrong, "give the folder of a database")
@@ -220,10 +218,6 @@ pub fn no_database<R: SystemFiles + AllocGlobal>(rt: &R, folder: &str) -> Option
 
 /// Whether a folder has a file with the name of a manifest.
 fn has_manifest<R: SystemFiles + AllocGlobal>(rt: &R, folder: &str) -> io::Result<bool> {
-    for name in &names_at(rt, folder)? {
-        if name.starts_with("MANIFEST-") {
-            return Ok(true);
-        }
-    }
-    Ok(false)
+    let names = names_at(rt, folder)?;
+    Ok(names.iter().any(|name| name.starts_with("MANIFEST-")))
 }

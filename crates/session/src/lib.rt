@@ -14,7 +14,6 @@
 #![tactic(auto)]
 
 mod amount_texts;
-mod edit_inputs;
 mod explanations;
 mod filter_blocks;
 mod folder_files;
@@ -23,8 +22,6 @@ mod host;
 mod opened_folder;
 mod progress_line;
 mod refusal;
-mod refused_table;
-mod replaced_folder;
 mod reporter;
 mod tested_sizes;
 mod user_files;
@@ -32,9 +29,8 @@ mod user_files;
 pub use amount_texts::total_text;
 pub use disk::Disk;
 pub use edit::{FileMeta, LAST_LEVEL, LEVELS};
-pub use edit_inputs::deleted_files;
 pub use explanations::{CLOSE_ONCE, Words, in_words, of_file};
-pub use filter_blocks::have_filter;
+pub use filter_blocks::{deleted_files, have_filter};
 pub use folder::{Bytewise, Comparator, Opened, Order, Shortlex, manifest_name};
 pub use folder_files::{
     UnneededFiles, is_there, logs_with_writes, missing_log, names_in, path_in, replayed_log,
@@ -42,11 +38,12 @@ pub use folder_files::{
 };
 pub use folder_locks::{Access, locked, no_database};
 pub use host::Host;
-pub use opened_folder::{Session, bytes_of, open_in, open_session, print_lines, refused_at};
+pub use opened_folder::{
+    Session, bytes_of, open_in, open_session, print_lines, refused_at, refused_opened,
+    tell_replaced,
+};
 pub use progress_line::{ProgressLine, WorkLeft};
-pub use refusal::{Answer, Refusal, RefusalParts, RefusalText, said, told, told_of_file};
-pub use refused_table::RefusedTable;
-pub use replaced_folder::{refused_opened, tell_replaced};
-pub use reporter::{Beginning, Telling, tell_time};
+pub use refusal::{Answer, Refusal, RefusalText, said, told, told_of_file};
+pub use reporter::{Beginning, RefusedTable, Telling, tell_time};
 pub use tested_sizes::{bytes_of_files, large_table, size_refusal, sizes_tested, table_file_name};
 pub use user_files::{read_file, replace_file, sync_folder_of};

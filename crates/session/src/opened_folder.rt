@@ -1,18 +1,17 @@
 //! The work on a folder as each command begins it and ends it: it is opened, refusals are told, and
 //! lines are printed.
 
-use crate::explanations::CLOSE_ONCE;
-use crate::folder_files::{Log, logs_with_writes, missing_log};
+use crate::explanations::{CLOSE_ONCE, Words};
+use crate::folder_files::{Log, logs_with_writes, missing_log, path_in};
 use crate::folder_locks::Access;
 use crate::progress_line::ProgressLine;
-use crate::refusal::{Refusal, RefusalText};
-use crate::replaced_folder::refused_opened;
+use crate::refusal::{Refusal, RefusalText, told_of_file};
 use crate::reporter::{Beginning, Telling, log_named, tell_time};
 use crate::tested_sizes::too_large;
 use coding::{Fault, FaultName};
 use disk::{Disk, SystemFiles};
 use edit::Version;
-use folder::{Opened, open};
+use folder::{CURRENT, Folder, Opened, number_in_current, open};
 use std::alloc::Global;
 use std::io;
 use std::io::{ErrorKind, Write};
@@ -22,6 +21,12 @@ use std::time::Clock;
 /// What to do if there is no room for a file.
 const NO_ROOM: &str = "clean removes files that no version needs; the database is as it was after \
     the last step that was told";
+
+/// What is told of CURRENT if it names another manifest than before.
+const REPLACED: Words = Words {
+    wrong: "it names another manifest by now: another program has changed the database meanwhile",
+    remedy: "run it again",
+};
 
 /// The bytes of a MiB.
 const MEBIBYTE: u64 = 1 << 20;
@@ -185,6 +190,51 @@ pub fn refused_at<R: SystemFiles + AllocGlobal>(
         _ => RefusalText::of(alloc, path, text, None),
     };
     Refusal::new(fault, told)
+}
+
+/// The refusal of work on what the folder at a path was opened as, told as [`refused_at`] tells it.
+/// If a file is missing, and CURRENT names another manifest by now than this one, that is told.
+pub fn refused_opened<R: SystemFiles + AllocGlobal>(
+    rt: &R,
+    path: &str,
+    folder: &Disk<'_, R>,
+    manifest: Option<u64>,
+    fault: Fault,
+) -> Refusal {
+    if fault.name == FaultName::Missing
+        && let Some(manifest) = manifest
+        && is_replaced(rt, path, manifest)
+    {
+        return Refusal::new(fault, told_of_file(rt.alloc(), path, CURRENT, REPLACED));
+    }
+    refused_at(rt, path, folder, fault)
+}
+
+/// Tells if CURRENT names another manifest than when the folder was `opened`: a file that is
+/// missing may be the other program's doing.
+pub fn tell_replaced<R: SystemFiles + Eprint + AllocGlobal>(
+    rt: &R,
+    telling: Telling<'_>,
+    opened: &Opened,
+) {
+    if !telling.is_quiet
+        && is_replaced(rt, telling.folder, opened.manifest)
+        && let Ok(current) = path_in(rt.alloc(), telling.folder, CURRENT)
+    {
+        let Words { wrong, remedy } = REPLACED;
+        let _ = eprintln!(rt; "sedvokt: {current}: {wrong}; {remedy}");
+    }
+}
+
+/// Whether CURRENT names another manifest than that of this number.
+fn is_replaced<R: SystemFiles + AllocGlobal>(rt: &R, path: &str, manifest: u64) -> bool {
+    match Disk::new(rt, path).read(CURRENT) {
+        Ok(Some(bytes)) => match number_in_current(rt.alloc(), &bytes) {
+            Ok(number) => number != manifest,
+            Err(_) => false,
+        },
+        _ => false,
+    }
 }
 
 /// Writes lines to the standard output.

@@ -1,7 +1,6 @@
 //! A line of progress on the standard error.
 
-use crate::refused_table::RefusedTable;
-use crate::reporter::{LONG, Telling};
+use crate::reporter::{LONG, RefusedTable, Telling};
 use board::{Watch, Work};
 use folder::Gate;
 use std::alloc::{AllocError, Global};

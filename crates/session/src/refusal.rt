@@ -30,11 +30,11 @@ pub type Answer = Result<Vec<u8>, Refusal>;
 #[derive(Drop)]
 pub struct RefusalText {
     /// The file or folder that it is about.
-    path: String,
+    pub path: String,
     /// What is wrong.
-    wrong: String,
+    pub wrong: String,
     /// What to do, if that is told.
-    remedy: Option<&'static str>,
+    pub remedy: Option<&'static str>,
 }
 
 impl RefusalText {
@@ -63,26 +63,6 @@ impl RefusalText {
             remedy,
         })
     }
-
-    /// The same, lent.
-    pub fn parts(&self) -> RefusalParts<'_> {
-        RefusalParts {
-            path: self.path.as_str(),
-            wrong: self.wrong.as_str(),
-            remedy: self.remedy,
-        }
-    }
-}
-
-/// What is told of a refusal, lent.
-#[derive(Clone, Copy)]
-pub struct RefusalParts<'a> {
-    /// The file or folder that it is about.
-    pub path: &'a str,
-    /// What is wrong.
-    pub wrong: &'a str,
-    /// What to do, if that is told.
-    pub remedy: Option<&'a str>,
 }
 
 impl From<Fault> for Refusal {
@@ -158,12 +138,8 @@ impl Refusal {
 
     /// The refusal that the file at `path` isn't there.
     pub fn of_missing(alloc: Global, path: &str) -> Refusal {
-        let told = said(
-            alloc,
-            path,
-            "it is missing",
-            "give the path of a file that is there",
-        );
+        let remedy = "give the path of a file that is there";
+        let told = said(alloc, path, "it is missing", remedy);
         Refusal::new(Fault::of(FaultName::Missing), told)
     }
 

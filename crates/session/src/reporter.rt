@@ -4,13 +4,13 @@ ghost use Rattle.std.specs.Prelude.{◌≡◌, false, IfSome};
 
 use crate::amount_texts::grouped;
 use crate::explanations::CLOSE_ONCE;
-use crate::folder_files::{Log, is_folder, is_replaceable, logs_with_writes, names_at, path_in};
-use crate::refused_table::RefusedTable;
+use crate::folder_files::{Log, logs_with_writes, may_be_replaced, names_at, path_in};
 use edit::Version;
 use folder::{Opened, manifest_name};
 use ikey::MAX_SEQUENCE;
 use std::alloc::{AllocError, Global};
 use std::rt::Files;
+use std::sync::atomic::{AtomicBool, AtomicU64, Ordering};
 use std::time::{Clock, Instant};
 
 /// The milliseconds after which somebody who watches is told how long work takes.
@@ -79,11 +79,8 @@ impl<'a> Telling<'a> {
     /// would replay isn't known. Nothing is told if the folder can't be listed.
     pub(crate) fn tell_unopened_logs<R: Files + Eprint + AllocGlobal>(self, rt: &R) {
         if let Ok(logs) = logs_with_writes(rt, self.folder, None) {
-            self.tell_each(
-                rt,
-                &logs,
-                "in which there may be writes that are in no table",
-            );
+            let about = "in which there may be writes that are in no table";
+            self.tell_each(rt, &logs, about);
         }
     }
 
@@ -131,7 +128,7 @@ impl<'a> Telling<'a> {
         version: &Version,
         name: &str,
     ) -> bool {
-        is_replaceable(version, name) && !is_folder(rt, self.folder, name)
+        may_be_replaced(rt, self.folder, version, name)
     }
 
     /// Tells of the files that compactions from this version on may replace, but for those that are
@@ -198,6 +195,39 @@ pub fn tell_time<R: Eprint + Clock>(rt: &R, step: &str, begun: Option<Beginning>
         let millis = taken.as_millis();
         if millis >= u128::from(begun.patience) {
             let _ = eprintln!(rt; "{step}: {millis} ms");
+        }
+    }
+}
+
+/// The number of the table that is why work on a folder is refused, as far as it is known. Workers
+/// share it.
+#[derive(Drop)]
+pub struct RefusedTable {
+    is_known: AtomicBool,
+    number: AtomicU64,
+}
+
+impl RefusedTable {
+    /// None is known yet.
+    pub fn none() -> RefusedTable {
+        RefusedTable {
+            is_known: AtomicBool::new(false),
+            number: AtomicU64::new(0),
+        }
+    }
+
+    /// Keeps the number of a table.
+    pub(crate) fn keep(&self, number: u64) {
+        self.number.store(number, Ordering::SeqCst);
+        self.is_known.store(true, Ordering::SeqCst);
+    }
+
+    /// The number that was kept last. None if none was.
+    pub fn number(&self) -> Option<u64> {
+        if self.is_known.load(Ordering::SeqCst) {
+            Some(self.number.load(Ordering::SeqCst))
+        } else {
+            None
         }
     }
 }

@@ -5,8 +5,8 @@ ghost use Rattle.folder.specs.Reports.{OnlyReads};
 
 use crate::explanations::{Words, of_file};
 use crate::folder_files::path_in;
+use crate::opened_folder::refused_opened;
 use crate::refusal::{Refusal, told_of_file};
-use crate::replaced_folder::refused_opened;
 use coding::{Fault, FaultName};
 use disk::{Disk, SystemFiles};
 use edit::FileMeta;
@@ -87,19 +87,14 @@ pub fn bytes_of_files(files: &[&FileMeta]) -> u64 {
     bytes
 }
 
-/// The refusal of a folder's file of this name, which isn't read since it has more than 2^30 bytes.
+/// The refusal of a folder's file of this name, which isn't read since it has more than 2^30 bytes:
+/// of a table as Size, and of CURRENT as Apply, since no manifest's name is that long. No test
+/// refuses any other file for its length, so not to read it is Device.
 pub(crate) fn too_large(alloc: Global, folder: &str, name: &str) -> Refusal {
-    let (fault, words) = of_large(name);
-    Refusal::new(Fault::of(fault), told_of_file(alloc, folder, name, words))
-}
-
-/// How such a file is refused: a table as Size, and CURRENT as Apply, since no manifest's name is
-/// that long. No test refuses any other file for its length, so not to read it is Device.
-fn of_large(name: &str) -> (FaultName, Words) {
-    if name.ends_with(".ldb") || name.ends_with(".sst") {
-        return (FaultName::Size, of_file(FaultName::Size));
-    }
-    let (fault, wrong, remedy) = if name == CURRENT {
+    let (fault, wrong, remedy) = if name.ends_with(".ldb") || name.ends_with(".sst") {
+        let Words { wrong, remedy } = of_file(FaultName::Size);
+        (FaultName::Size, wrong, remedy)
+    } else if name == CURRENT {
         (
             FaultName::Apply,
             "it has more than 1073741824 bytes: the database is damaged",
@@ -118,5 +113,6 @@ fn of_large(name: &str) -> (FaultName, Words) {
             "restore the file from a copy",
         )
     };
-    (fault, Words { wrong, remedy })
+    let told = told_of_file(alloc, folder, name, Words { wrong, remedy });
+    Refusal::new(Fault::of(fault), told)
 }

@@ -17,10 +17,8 @@ pub fn read_file<R: Files + AllocGlobal>(rt: &R, path: &str) -> Result<Vec<u8>, 
         ErrorKind::IsADirectory => {
             let wrong = "it is a folder, and a file is wanted";
             let remedy = "verify, scan and get take the folder of a database";
-            Refusal::new(
-                Fault::of(FaultName::Device),
-                said(alloc, path, wrong, remedy),
-            )
+            let told = said(alloc, path, wrong, remedy);
+            Refusal::new(Fault::of(FaultName::Device), told)
         }
         ErrorKind::FileTooLarge => Refusal::of_file(alloc, path, Fault::of(FaultName::Size)),
         _ => Refusal::of_call(alloc, path, "read", &error),
@@ -89,21 +87,12 @@ fn swap_in<R: Files + AllocGlobal>(
     bytes: &[u8],
     permissions: Option<Permissions>,
 ) -> Result<(), Refusal> {
-    match fs::canonicalize(rt, path) {
-        Ok(target) => swap_in_at(rt, path, target.as_str(), bytes, permissions),
-        Err(_) => swap_in_at(rt, path, path, bytes, permissions),
-    }
-}
-
-/// The same, of the `target` to which the path leads.
-fn swap_in_at<R: Files + AllocGlobal>(
-    rt: &R,
-    path: &str,
-    target: &str,
-    bytes: &[u8],
-    permissions: Option<Permissions>,
-) -> Result<(), Refusal> {
     let alloc = rt.alloc();
+    let found = fs::canonicalize(rt, path);
+    let target = match &found {
+        Ok(target) => target.as_str(),
+        Err(_) => path,
+    };
     let temporary = format!(in alloc; "{target}.sedvokt.tmp")?;
     let name = temporary.as_str();
     let made = made_anew(rt, name);

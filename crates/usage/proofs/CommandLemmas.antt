@@ -8,10 +8,10 @@ use Rattle.clap.specs.declared.builder.command.Command.TheViews.{out-Command}
 use Rattle.clap.specs.Words.{AddsArg, App, Rule, app_of, rule_of, with_rule, with_subcommand}
 use Rattle.clap.specs.declared.builder.value_parser.ValueParser.{ValueParser}
 use Rattle.std.proofs.lemmas.List.{map_push}
-use Rattle.usage.specs.Apps.{app_of_name, with_commands, with_rules}
-use Rattle.usage.specs.Commands.{Extends, IsArgument, IsCommand, rule_of_argument}
+use Rattle.usage.specs.Apps.{with_commands, with_rules}
+use Rattle.usage.specs.Commands.{Extends, IsArgument, IsCommand, app_of_description, rule_of_argument}
 use Rattle.usage.specs.declared.argument.Argument.{Argument}
-use Rattle.usage.specs.declared.descriptions.CommandName.{CommandName}
+use Rattle.usage.specs.declared.descriptions.Description.{Description}
 
 -- a test that fails adds nothing
 or_false : (a b : Bool) → b ≡ false → (a || b) ≡ a
@@ -55,22 +55,22 @@ one_more first old new arguments i d a lt before is adds =
     )
 
 -- the program with the first of some commands
-abbrev pub with_first : App → List CommandName → ℕ → App
-with_first app names i = with_commands (map app_of_name (take i names)) app
+abbrev pub with_first : App → List Description → ℕ → App
+with_first app told i = with_commands (map app_of_description (take i told)) app
 
 -- and with one more
-with_first-more : (app : App) (names : List CommandName) (i : ℕ) (d : CommandName) → i < length names
-    → with_first app names (i + 1) ≡ with_subcommand (with_first app names i) (app_of_name (get_or names i d)).top
-with_first-more app names i d lt =
-    ap (λ (known : List App). with_commands known app) (map-take-more app_of_name names i d lt)
-    ∙ with_commands-push app (map app_of_name (take i names)) (app_of_name (get_or names i d))
+with_first-more : (app : App) (told : List Description) (i : ℕ) (d : Description) → i < length told
+    → with_first app told (i + 1) ≡ with_subcommand (with_first app told i) (app_of_description (get_or told i d)).top
+with_first-more app told i d lt =
+    ap (λ (known : List App). with_commands known app) (map-take-more app_of_description told i d lt)
+    ∙ with_commands-push app (map app_of_description (take i told)) (app_of_description (get_or told i d))
 
 -- the program with one command more
-pub command_added : {E : Type 0} (app : App) (names : List CommandName) (i : ℕ) (d : CommandName) (old new : Command) (made : Result Command E) → i < length names
-    → app_of old ≡ with_first app names i → IfOk made (IsCommand (app_of_name (get_or names i d))) → ((sub : App) → IfOk made (IsCommand sub) → app_of new ≡ with_subcommand (app_of old) sub.top)
-    → app_of new ≡ with_first app names (i + 1)
-command_added app names i d old new made lt before is adds =
-    adds (app_of_name (get_or names i d)) is ∙ ap (λ (a : App). with_subcommand a (app_of_name (get_or names i d)).top) before ∙ sym (with_first-more app names i d lt)
+pub command_added : {E : Type 0} (app : App) (told : List Description) (i : ℕ) (d : Description) (old new : Command) (made : Result Command E) → i < length told
+    → app_of old ≡ with_first app told i → IfOk made (IsCommand (app_of_description (get_or told i d))) → ((sub : App) → IfOk made (IsCommand sub) → app_of new ≡ with_subcommand (app_of old) sub.top)
+    → app_of new ≡ with_first app told (i + 1)
+command_added app told i d old new made lt before is adds =
+    adds (app_of_description (get_or told i d)) is ∙ ap (λ (a : App). with_subcommand a (app_of_description (get_or told i d)).top) before ∙ sym (with_first-more app told i d lt)
 
 -- whether an argument is one of all subcommands
 abbrev pub is_global : Arg → Bool

@@ -1,14 +1,8 @@
 -- The commands of the program and their arguments.
-use Rattle.std.specs.Prelude.{List, [], ◌∷◌, Some, codes, map, true}
+use Rattle.std.specs.Prelude.{List, [], ◌∷◌, Some, codes, true}
 use Rattle.clap.specs.Words.{App, Rule, Text, new_app, new_rule, with_rule, with_subcommand}
 use Rattle.clap.specs.declared.builder.action.ArgAction.TheVariants.{Append, SetTrue}
 use Rattle.clap.specs.declared.builder.value_parser.ValueParser.TheVariants as parser
-use Rattle.usage.specs.declared.descriptions.CommandName.{CommandName}
-use Rattle.usage.specs.declared.descriptions.CommandName.TheVariants.{Blocks, Clean, Compact, Dump}
-use Rattle.usage.specs.declared.descriptions.CommandName.TheVariants.{Files}
-use Rattle.usage.specs.declared.descriptions.CommandName.TheVariants.{Get, History, Install}
-use Rattle.usage.specs.declared.descriptions.CommandName.TheVariants.{Job, Manifest, Scan, Stats}
-use Rattle.usage.specs.declared.descriptions.CommandName.TheVariants.{Verify}
 
 -- the rule, of an argument that must be given
 abbrev pub wanted : Rule → Rule
@@ -62,56 +56,51 @@ abbrev pub bare_app : App
 bare_app = with_verbosity (let app = new_app (codes "sedvokt") in
     record app { top = record app.top { has_version = true; subcommand_required = true } })
 
--- the command of a name
-abbrev pub app_of_name : CommandName → App
-app_of_name Stats = command_app (codes "stats") (place_rule (codes "DIR") ∷ flag_rule (codes "text")
+-- the commands, in the order of help
+abbrev pub command_apps : List App
+command_apps = command_app (codes "stats") (place_rule (codes "DIR") ∷ flag_rule (codes "text")
     ∷ flag_rule (codes "json") ∷ memory_rule ∷ flag_rule (codes "fail-on-logs")
     ∷ flag_rule (codes "no-lock") ∷ [])
-app_of_name Verify = command_app (codes "verify") (new_rule (codes "DIR")
-    ∷ value_rule (codes "table") ∷ flag_rule (codes "json") ∷ flag_rule (codes "all-faults")
-    ∷ memory_rule ∷ flag_rule (codes "fail-on-logs") ∷ flag_rule (codes "no-lock") ∷ [])
-app_of_name Get = command_app (codes "get") (place_rule (codes "DIR") ∷ places_rule (codes "KEY")
+    ∷ command_app (codes "verify") (new_rule (codes "DIR") ∷ value_rule (codes "table")
+    ∷ flag_rule (codes "json") ∷ flag_rule (codes "all-faults") ∷ memory_rule
+    ∷ flag_rule (codes "fail-on-logs") ∷ flag_rule (codes "no-lock") ∷ [])
+    ∷ command_app (codes "get") (place_rule (codes "DIR") ∷ places_rule (codes "KEY")
     ∷ flag_rule (codes "stdin") ∷ number_rule (codes "at") ∷ flag_rule (codes "text")
     ∷ flag_rule (codes "utf8") ∷ flag_rule (codes "raw") ∷ flag_rule (codes "json")
     ∷ flag_rule (codes "no-verify") ∷ memory_rule ∷ flag_rule (codes "fail-on-logs")
     ∷ flag_rule (codes "no-lock") ∷ [])
-app_of_name History = command_app (codes "history") (place_rule (codes "DIR")
-    ∷ place_rule (codes "KEY") ∷ flag_rule (codes "text") ∷ flag_rule (codes "utf8")
-    ∷ flag_rule (codes "json") ∷ flag_rule (codes "no-verify") ∷ memory_rule
-    ∷ flag_rule (codes "fail-on-logs") ∷ flag_rule (codes "no-lock") ∷ [])
-app_of_name Scan = command_app (codes "scan") (place_rule (codes "DIR") ∷ value_rule (codes "from")
+    ∷ command_app (codes "scan") (place_rule (codes "DIR") ∷ value_rule (codes "from")
     ∷ value_rule (codes "to") ∷ value_rule (codes "prefix") ∷ number_rule (codes "at")
     ∷ number_rule (codes "limit") ∷ flag_rule (codes "keys") ∷ flag_rule (codes "count")
     ∷ flag_rule (codes "text") ∷ flag_rule (codes "utf8") ∷ flag_rule (codes "json")
     ∷ flag_rule (codes "no-verify") ∷ memory_rule ∷ flag_rule (codes "fail-on-logs")
     ∷ flag_rule (codes "no-lock") ∷ [])
-app_of_name Manifest = command_app (codes "manifest") (place_rule (codes "DIR")
-    ∷ flag_rule (codes "text") ∷ flag_rule (codes "json") ∷ flag_rule (codes "fail-on-logs")
+    ∷ command_app (codes "history") (place_rule (codes "DIR") ∷ place_rule (codes "KEY")
+    ∷ flag_rule (codes "text") ∷ flag_rule (codes "utf8") ∷ flag_rule (codes "json")
+    ∷ flag_rule (codes "no-verify") ∷ memory_rule ∷ flag_rule (codes "fail-on-logs")
     ∷ flag_rule (codes "no-lock") ∷ [])
-app_of_name Dump = command_app (codes "dump") (place_rule (codes "TABLE") ∷ flag_rule (codes "text")
+    ∷ command_app (codes "manifest") (place_rule (codes "DIR") ∷ flag_rule (codes "text")
+    ∷ flag_rule (codes "json") ∷ flag_rule (codes "fail-on-logs") ∷ flag_rule (codes "no-lock")
     ∷ [])
-app_of_name Files = command_app (codes "files") (place_rule (codes "DIR")
-    ∷ flag_rule (codes "json") ∷ flag_rule (codes "no-lock") ∷ [])
-app_of_name Compact = command_app (codes "compact") (place_rule (codes "DIR")
-    ∷ number_rule (codes "level") ∷ flag_rule (codes "all") ∷ flag_rule (codes "whole")
-    ∷ value_rule (codes "out") ∷ number_rule (codes "part") ∷ number_rule (codes "first-number")
+    ∷ command_app (codes "dump") (place_rule (codes "TABLE") ∷ flag_rule (codes "text") ∷ [])
+    ∷ command_app (codes "files") (place_rule (codes "DIR") ∷ flag_rule (codes "json")
+    ∷ flag_rule (codes "no-lock") ∷ [])
+    ∷ command_app (codes "compact") (place_rule (codes "DIR") ∷ number_rule (codes "level")
+    ∷ flag_rule (codes "all") ∷ flag_rule (codes "whole") ∷ value_rule (codes "out")
+    ∷ number_rule (codes "part") ∷ number_rule (codes "first-number")
     ∷ flag_rule (codes "no-verify") ∷ flag_rule (codes "fail-on-logs") ∷ memory_rule
     ∷ number_rule (codes "workers") ∷ number_rule (codes "ranges") ∷ number_rule (codes "snapshot")
     ∷ value_rule (codes "snapshots") ∷ number_rule (codes "block-size")
-    ∷ number_rule (codes "file-size") ∷ flag_rule (codes "clean") ∷ flag_rule (codes "json")
-    ∷ [])
-app_of_name Clean = command_app (codes "clean") (place_rule (codes "DIR")
-    ∷ flag_rule (codes "dry-run") ∷ [])
-app_of_name Job = command_app (codes "job") (place_rule (codes "DIR")
-    ∷ wanted (number_rule (codes "level")) ∷ flag_rule (codes "parts") ∷ [])
-app_of_name Install = command_app (codes "install") (place_rule (codes "DIR")
-    ∷ wanted (places_rule (codes "OUT")) ∷ number_rule (codes "snapshot")
-    ∷ value_rule (codes "snapshots") ∷ flag_rule (codes "no-verify") ∷ memory_rule
-    ∷ flag_rule (codes "clean") ∷ [])
-app_of_name Blocks = command_app (codes "blocks") (place_rule (codes "A") ∷ place_rule (codes "B")
-    ∷ wanted (value_rule (codes "at")) ∷ place_rule (codes "OUT") ∷ [])
+    ∷ number_rule (codes "file-size") ∷ flag_rule (codes "clean") ∷ flag_rule (codes "json") ∷ [])
+    ∷ command_app (codes "clean") (place_rule (codes "DIR") ∷ flag_rule (codes "dry-run") ∷ [])
+    ∷ command_app (codes "job") (place_rule (codes "DIR") ∷ wanted (number_rule (codes "level"))
+    ∷ flag_rule (codes "parts") ∷ [])
+    ∷ command_app (codes "install") (place_rule (codes "DIR") ∷ wanted (places_rule (codes "OUT"))
+    ∷ number_rule (codes "snapshot") ∷ value_rule (codes "snapshots")
+    ∷ flag_rule (codes "no-verify") ∷ memory_rule ∷ flag_rule (codes "clean") ∷ [])
+    ∷ command_app (codes "blocks") (place_rule (codes "A") ∷ place_rule (codes "B")
+    ∷ wanted (value_rule (codes "at")) ∷ place_rule (codes "OUT") ∷ []) ∷ []
 
 -- the program with its commands
 abbrev pub program_app : App
-program_app = with_commands (map app_of_name (Stats ∷ Verify ∷ Get ∷ Scan ∷ History ∷ Manifest
-    ∷ Dump ∷ Files ∷ Compact ∷ Clean ∷ Job ∷ Install ∷ Blocks ∷ [])) bare_app
+program_app = with_commands command_apps bare_app

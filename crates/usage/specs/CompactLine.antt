@@ -11,14 +11,14 @@ use Rattle.compact.specs.options.TheConstants.{DEFAULT_BLOCK_SIZE, DEFAULT_FILE_
 use Rattle.compact.specs.options.TheConstants.{DEFAULT_RESTART_INTERVAL}
 use Rattle.compact.specs.declared.settings.Settings.{Settings}
 use Rattle.usage.specs.Values.{HasTesting, IsNumberOf, IsNumberOr, is_flagged, is_given}
-use Rattle.usage.specs.declared.compact_request.CompactLine.{CompactLine}
-use Rattle.usage.specs.declared.compact_request.CompactOptions.{CompactOptions}
-use Rattle.usage.specs.declared.compact_request.CompactWork.{CompactWork}
-use Rattle.usage.specs.declared.compact_request.CompactWork.TheVariants.{Installed, Written}
+use Rattle.usage.specs.declared.requests.CompactLine.{CompactLine}
+use Rattle.usage.specs.declared.requests.CompactOptions.{CompactOptions}
+use Rattle.usage.specs.declared.requests.CompactWork.{CompactWork}
+use Rattle.usage.specs.declared.requests.CompactWork.TheVariants.{Installed, Written}
 use Rattle.usage.specs.declared.requests.InstallLine.{InstallLine}
-use Rattle.usage.specs.declared.compact_request.Levels.{Levels}
-use Rattle.usage.specs.declared.compact_request.Levels.TheVariants.{One, Whole}
-use Rattle.usage.specs.declared.compact_request.Levels.TheVariants.{All as AllLevels}
+use Rattle.usage.specs.declared.requests.Levels.{Levels}
+use Rattle.usage.specs.declared.requests.Levels.TheVariants.{One, Whole}
+use Rattle.usage.specs.declared.requests.Levels.TheVariants.{All as AllLevels}
 
 -- the rows give this number of `--level`, without `--whole`, or with it and without `--no-verify`;
 -- or `--all`, without `--whole`

@@ -1,11 +1,12 @@
-//! An argument of a command, as `clap` is told of it.
+//! An argument of a command, and a rule that arguments have on each other, as `clap` is told of
+//! them.
 
 ghost use Rattle.usage.specs.Apps.{flag_rule, number_rule, value_rule};
 ghost use Rattle.usage.specs.Commands.{IsArgument, rule_of_argument};
 
 use clap::builder::ValueParser;
-use clap::{Arg, ArgAction, value_parser};
-use std::alloc::Global;
+use clap::{Arg, ArgAction, ArgGroup, Command, value_parser};
+use std::alloc::{AllocError, Global};
 
 /// The most MiB of memory that may be asked for, 2^24.
 const MAX_MEMORY: u64 = 16_777_216;
@@ -36,6 +37,17 @@ pub(crate) enum Argument<'a> {
     WantedNumber(&'a str, &'a str, &'a str),
     /// `--memory MIB`.
     Memory(&'a str),
+}
+
+/// A rule on arguments of a command. First comes the name of its group, which nobody is told.
+#[derive(Clone, Copy)]
+pub(crate) enum Rule<'a> {
+    /// At most one of these is given.
+    AtMostOne(&'a str, &'a [&'a str]),
+    /// One of these is given, and no other.
+    One(&'a str, &'a [&'a str]),
+    /// If the first is given, the second is too.
+    Needs(&'a str, &'a str, &'a str),
 }
 
 /// The argument, for `clap`.
@@ -85,4 +97,28 @@ fn number<'a>(alloc: Global, id: &'a str, name: &'a str, help: &'a str) -> Arg<'
     ensures { IsArgument (number_rule id.entry.now) result }
 {
     value(alloc, id, name, help).value_parser(value_parser!(u64))
+}
+
+/// The command with these rules too.
+pub(crate) fn with_rules<'a>(
+    alloc: Global,
+    command: Command<'a>,
+    rules: &[Rule<'a>],
+) -> Result<Command<'a>, AllocError> {
+    let mut command = command;
+    for rule in rules {
+        command = command.group(group_of(alloc, *rule)?)?;
+    }
+    Ok(command)
+}
+
+/// The group of arguments that has the rule.
+fn group_of<'a>(alloc: Global, rule: Rule<'a>) -> Result<ArgGroup<'a>, AllocError> {
+    match rule {
+        Rule::AtMostOne(id, arguments) => ArgGroup::new(alloc, id).args(arguments),
+        Rule::One(id, arguments) => ArgGroup::new(alloc, id).required(true).args(arguments),
+        Rule::Needs(id, first, second) => {
+            ArgGroup::new(alloc, id).arg(first)?.requires_arg(second)
+        }
+    }
 }

@@ -1,8 +1,9 @@
 //! A command line, read.
 
-ghost use Rattle.std.specs.Prelude.{IfOk, map};
+ghost use Rattle.std.specs.Prelude.{◌≡◌, IfOk, map};
 ghost use Rattle.clap.specs.Words.{found_of, rows_of, subcommand_rows_of};
 ghost use Rattle.usage.specs.Line.{CommandLineGives, IsRead, LineGives, LineOf};
+ghost use Rattle.usage.specs.Verbosity.{IsVerbosity, is_flagged_anywhere, is_flagged_below};
 
 use crate::commands::{program_command, ruled_command};
 use crate::compact_line::{compact_line, install_line};
@@ -10,10 +11,9 @@ use crate::key_lines::{blocks_line, get_line, history_line, scan_line};
 use crate::lines::{
     clean_line, dump_line, files_line, job_line, manifest_line, stats_line, table_line, verify_line,
 };
-use crate::requests::{CommandLine, Line};
+use crate::requests::{CommandLine, Line, Verbosity};
 use crate::usage_fault::Usage;
-use crate::values::{Unread, is_given};
-use crate::verbosity::{is_flagged_below, verbosity_given};
+use crate::values::{Unread, is_flagged, is_given};
 use clap::ArgMatches;
 use clap::error::{Error, ErrorKind};
 use std::alloc::{AllocError, Global};
@@ -46,7 +46,7 @@ pub fn line<'a, S: AsStr>(
     match command_line(alloc, &matches, listed) {
         Ok(line) => Ok(line),
         Err(Unread::Usage(usage)) => Err(usage),
-        Err(Unread::Rules) => Err(complaint(alloc, words)),
+        Err(Unread::Rules) => Err(Usage::from(complaint(alloc, words)?)),
     }
 }
 
@@ -67,6 +67,39 @@ fn command_line<'a>(
         refuses_logs: is_flagged_below(matches, "fail-on-logs"),
         line,
     })
+}
+
+/// How much is told. `Rules` if both `--verbose` and `--quiet` are given, each before the command
+/// or after it.
+fn verbosity_given(matches: &ArgMatches<'_>) -> Result<Verbosity, Unread>
+    ensures { IfOk result (IsVerbosity (rows_of (found_of matches.now))
+        (subcommand_rows_of matches.now)) }
+{
+    let is_verbose = is_flagged_anywhere(matches, "verbose");
+    match (is_verbose, is_flagged_anywhere(matches, "quiet")) {
+        (false, false) => Ok(Verbosity::Normal),
+        (false, true) => Ok(Verbosity::Quiet),
+        (true, false) => Ok(Verbosity::Verbose),
+        (true, true) => Err(Unread::Rules),
+    }
+}
+
+/// Whether a flag is given before the command, or after it.
+fn is_flagged_anywhere(matches: &ArgMatches<'_>, id: &str) -> bool
+    ensures { result ≡ is_flagged_anywhere id.now (rows_of (found_of matches.now))
+        (subcommand_rows_of matches.now) }
+{
+    is_flagged(matches, id) || is_flagged_below(matches, id)
+}
+
+/// Whether a flag is given after the command.
+fn is_flagged_below(matches: &ArgMatches<'_>, id: &str) -> bool
+    ensures { result ≡ is_flagged_below id.now (subcommand_rows_of matches.now) }
+{
+    match matches.subcommand() {
+        Some((_, values)) => is_flagged(values, id),
+        None => false,
+    }
 }
 
 /// The line of a parse.
@@ -113,16 +146,9 @@ fn line_in<'a>(
     }
 }
 
-/// Why words that `clap` accepts make no line: which rule of arguments on each other they break.
-fn complaint<'a, S: AsStr>(alloc: Global, words: &'a [S]) -> Usage {
-    match complaint_of(alloc, words) {
-        Ok(error) => Usage::from(error),
-        Err(_) => Usage::Memory,
-    }
-}
-
-/// The error of commands whose arguments have these rules. The only fault is out of memory.
-fn complaint_of<'a, S: AsStr>(alloc: Global, words: &'a [S]) -> Result<Error, AllocError> {
+/// Why words that `clap` accepts make no line: which rule of arguments on each other they break, as
+/// commands say whose arguments have these rules. The only fault is out of memory.
+fn complaint<'a, S: AsStr>(alloc: Global, words: &'a [S]) -> Result<Error, AllocError> {
     let mut command = ruled_command(alloc)?;
     match command.try_get_matches_from_mut(words) {
         Err(error) => Ok(error),

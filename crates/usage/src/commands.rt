@@ -2,14 +2,13 @@
 
 ghost use Rattle.std.specs.Prelude.{◌≡◌, IfOk, map};
 ghost use Rattle.clap.specs.Words.{App, app_of, new_app, with_subcommand};
-ghost use Rattle.usage.specs.Apps.{app_of_name, bare_app, program_app, with_rules};
+ghost use Rattle.usage.specs.Apps.{bare_app, command_apps, program_app, with_rules};
 ghost use Rattle.usage.specs.Commands.{Extends, IsCommand, app_of_description};
 ghost use Rattle.usage.specs.Commands.{rule_of_argument};
 
-use crate::argument::{Argument, arg_of};
-use crate::descriptions::{COMMANDS, CommandName, Description, VERBOSITY, VERBOSITY_RULES};
+use crate::argument::{Argument, arg_of, with_rules};
+use crate::descriptions::{Description, VERBOSITY, VERBOSITY_RULES};
 use crate::reading_commands::{DUMP, FILES, GET, HISTORY, MANIFEST, SCAN, STATS, VERIFY};
-use crate::rule::with_rules;
 use crate::writing_commands::{BLOCKS, CLEAN, COMPACT, INSTALL, JOB};
 use clap::Command;
 use std::alloc::{AllocError, Global};
@@ -36,8 +35,8 @@ pub(crate) fn program_command<'a>(alloc: Global) -> Result<Command<'a>, AllocErr
     ensures { IfOk result (λ command. app_of command ≡ program_app) }
 {
     let mut command = bare_command(alloc)?;
-    for name in COMMANDS {
-        command = with_command(command, command_of_name(alloc, *name))?;
+    for description in all_descriptions() {
+        command = with_command(command, described(alloc, description))?;
     }
     Ok(command)
 }
@@ -45,38 +44,21 @@ pub(crate) fn program_command<'a>(alloc: Global) -> Result<Command<'a>, AllocErr
 /// The same with the rules that arguments have on each other.
 pub(crate) fn ruled_command<'a>(alloc: Global) -> Result<Command<'a>, AllocError> {
     let mut command = with_rules(alloc, bare_command(alloc)?, VERBOSITY_RULES)?;
-    for name in COMMANDS {
-        let made = with_rules(alloc, command_of_name(alloc, *name)?, VERBOSITY_RULES)?;
-        command = command.subcommand(with_rules(alloc, made, description_of(*name).rules)?)?;
+    for description in all_descriptions() {
+        let made = with_rules(alloc, described(alloc, description)?, VERBOSITY_RULES)?;
+        command = command.subcommand(with_rules(alloc, made, description.rules)?)?;
     }
     Ok(command)
 }
 
-fn command_of_name<'a>(alloc: Global, name: CommandName) -> Result<Command<'a>, AllocError>
-    ensures { IfOk result (IsCommand (app_of_name name)) }
+/// What is told of all commands, in the order of help: those that are wanted most come first.
+fn all_descriptions() -> [Description<'static>; 13]
+    ensures { map app_of_description result ≡ command_apps }
 {
-    described(alloc, description_of(name))
-}
-
-/// What is told of the command of a name.
-fn description_of(name: CommandName) -> Description<'static>
-    ensures { app_of_description result ≡ app_of_name name }
-{
-    match name {
-        CommandName::Stats => STATS,
-        CommandName::Verify => VERIFY,
-        CommandName::Get => GET,
-        CommandName::History => HISTORY,
-        CommandName::Scan => SCAN,
-        CommandName::Manifest => MANIFEST,
-        CommandName::Dump => DUMP,
-        CommandName::Files => FILES,
-        CommandName::Compact => COMPACT,
-        CommandName::Clean => CLEAN,
-        CommandName::Job => JOB,
-        CommandName::Install => INSTALL,
-        CommandName::Blocks => BLOCKS,
-    }
+    [
+        STATS, VERIFY, GET, SCAN, HISTORY, MANIFEST, DUMP, FILES, COMPACT, CLEAN, JOB, INSTALL,
+        BLOCKS,
+    ]
 }
 
 /// The program without its commands.

@@ -6,8 +6,7 @@ ghost use Rattle.usage.specs.CompactLine.{AreNumbers, HasCompact, HasInstall, Ha
 ghost use Rattle.usage.specs.CompactLine.{HasOptions, HasSettings, HasSnapshots, HasWork};
 ghost use Rattle.usage.specs.CompactLine.{IsNumberList, gives_snapshots};
 
-use crate::compact_request::{CompactLine, CompactOptions, CompactWork, Levels};
-use crate::requests::InstallLine;
+use crate::requests::{CompactLine, CompactOptions, CompactWork, InstallLine, Levels};
 use crate::usage_fault::Usage;
 use crate::values::{
     Unread, first_text, is_flagged, is_given, needed_text, number_given, number_or, testing_of,

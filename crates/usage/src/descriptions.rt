@@ -4,8 +4,7 @@
 //! Lines of help have at most 80 columns: what an option says has at most 52 in a line. In examples
 //! DIR is the folder of any database, and 000005 the number of any table.
 
-use crate::argument::Argument;
-use crate::rule::Rule;
+use crate::argument::{Argument, Rule};
 
 /// A command as it is told to `clap`.
 #[derive(Clone, Copy)]
@@ -22,41 +21,6 @@ pub(crate) struct Description<'a> {
     /// Which of them exclude each other, and which need another one.
     pub rules: &'a [Rule<'a>],
 }
-
-/// A command of the program.
-#[derive(Clone, Copy)]
-pub(crate) enum CommandName {
-    Stats,
-    Verify,
-    Get,
-    Scan,
-    History,
-    Manifest,
-    Dump,
-    Files,
-    Compact,
-    Clean,
-    Job,
-    Install,
-    Blocks,
-}
-
-/// All commands, in the order of help: those that are wanted most come first.
-pub(crate) const COMMANDS: &[CommandName] = &[
-    CommandName::Stats,
-    CommandName::Verify,
-    CommandName::Get,
-    CommandName::Scan,
-    CommandName::History,
-    CommandName::Manifest,
-    CommandName::Dump,
-    CommandName::Files,
-    CommandName::Compact,
-    CommandName::Clean,
-    CommandName::Job,
-    CommandName::Install,
-    CommandName::Blocks,
-];
 
 /// How much is told: the program and each of its commands have these two.
 pub(crate) const VERBOSITY: &[Argument<'static>] = &[
@@ -141,9 +105,4 @@ pub(crate) const SNAPSHOTS: Argument<'static> = Argument::Value(
 pub(crate) const CLEANS: Argument<'static> = Argument::Flag(
     "clean",
     "Removes, after each installation, the files that the\nversion does not need any more",
-);
-
-pub(crate) const SNAPSHOT_RULE: Rule<'static> = Rule::AtMostOne(
-    "readable",
-    &["snapshot", "snapshots"],
 );

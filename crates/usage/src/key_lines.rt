@@ -1,12 +1,12 @@
-//! The lines of the commands that are given keys.
+//! The lines of the commands that are given keys, which are read from texts in either spelling.
 
-ghost use Rattle.std.specs.Prelude.{◌≡◌, IfOk, Some};
+ghost use Rattle.std.specs.Prelude.{◌≡◌, IfOk, Some, map, option_map};
 ghost use Rattle.clap.specs.Words.{found_of, rows_of};
+ghost use Rattle.texts.specs.Spelling.{bytes_of};
 ghost use Rattle.texts.specs.Text.{bytes_of_text};
 ghost use Rattle.usage.specs.KeyLines.{HasBlocks, HasGet, HasHistory, HasKeys, HasRowOptions};
 ghost use Rattle.usage.specs.KeyLines.{HasRowOutput, HasScan, gives_bound};
 
-use crate::keys::{bound_in, key_in, keys_in};
 use crate::requests::{
     BlocksLine, GetLine, HistoryLine, KeySource, RowOptions, RowOutput, ScanLine,
 };
@@ -15,7 +15,7 @@ use crate::values::{
     Unread, first_text, is_flagged, is_given, needed_text, number_given, spelling_given, testing_of,
 };
 use clap::ArgMatches;
-use std::alloc::Global;
+use std::alloc::{AllocError, Global};
 use texts::{Spelling, key_of};
 
 /// What is given to `blocks`. Key if the text of its key is invalid.
@@ -151,4 +151,49 @@ fn row_options(
         at: number_given(values, "at")?,
         limit: number_given(values, "limit")?,
     })
+}
+
+/// The key of a text. Hexadecimal or Text, after its spelling, if it stands for no bytes.
+fn key_in(alloc: Global, spelling: Spelling, text: &str) -> Result<Vec<u8>, Unread>
+    ensures { IfOk result (λ key. bytes_of spelling text.now ≡ Some key.items) }
+{
+    match spelling.bytes_of(alloc, text) {
+        Ok(Some(key)) => Ok(key),
+        Ok(None) => match spelling {
+            Spelling::Hexadecimal => Err(Unread::Usage(Usage::Hexadecimal)),
+            Spelling::Text | Spelling::Utf8 => Err(Unread::Usage(Usage::Text)),
+        },
+        // The only fault of reading a key is out of memory.
+        Err(_) => Err(Unread::Usage(Usage::Memory)),
+    }
+}
+
+/// The keys of these texts, in their order.
+fn keys_in(alloc: Global, spelling: Spelling, texts: &[&str]) -> Result<Vec<Vec<u8>>, Unread>
+    ensures { IfOk result (λ keys. map (λ text. bytes_of spelling text.now) texts.now
+        ≡ map (λ key. Some key.items) keys.items) }
+{
+    let mut keys = Vec::with_capacity(alloc, texts.len())?;
+    for text in texts {
+        let key = key_in(alloc, spelling, text)?;
+        if let Err(error) = keys.push(key) {
+            return Err(AllocError::from(error).into());
+        }
+    }
+    Ok(keys)
+}
+
+/// The key of a text, if there is a text.
+fn bound_in(
+    alloc: Global,
+    spelling: Spelling,
+    text: Option<&str>,
+) -> Result<Option<Vec<u8>>, Unread>
+    ensures { IfOk result (λ key. option_map (λ text. bytes_of spelling text.now) text.entry
+        ≡ option_map (λ key. Some key.items) key) }
+{
+    match text {
+        Some(text) => Ok(Some(key_in(alloc, spelling, text)?)),
+        None => Ok(None),
+    }
 }

@@ -4,7 +4,7 @@
 //! [`CommandLine`]: the command with its values, and how much is told of it. Or it answers a
 //! [`Usage`], why the words ask for nothing.
 //!
-//! `descriptions` lists the commands, `reading_commands` and `writing_commands` have their
+//! `commands` lists the commands, `reading_commands` and `writing_commands` have their
 //! arguments and their help. Each takes `-v` or `-q`, before its name or after it.
 //!
 //! What `clap` reads is stated as far as its own contracts say. They say most of commands in which
@@ -17,25 +17,21 @@ mod argument;
 mod command_line;
 mod commands;
 mod compact_line;
-mod compact_request;
 mod descriptions;
 mod key_lines;
-mod keys;
 mod lines;
 mod reading_commands;
 mod requests;
-mod rule;
 mod usage_fault;
 mod values;
-mod verbosity;
 mod writing_commands;
 
 pub use command_line::line;
 pub use compact::Settings;
-pub use compact_request::{CompactLine, CompactOptions, CompactWork, Levels};
 pub use requests::{
-    BlocksLine, CleanLine, CommandLine, DumpLine, FilesLine, GetLine, HistoryLine, InstallLine,
-    JobLine, KeySource, Line, ManifestLine, RowOptions, RowOutput, ScanLine, StatsLine, TableLine,
-    Testing, Verbosity, VerdictForm, VerifyLine,
+    BlocksLine, CleanLine, CommandLine, CompactLine, CompactOptions, CompactWork, DumpLine,
+    FilesLine, GetLine, HistoryLine, InstallLine, JobLine, KeySource, Levels, Line, ManifestLine,
+    RowOptions, RowOutput, ScanLine, StatsLine, TableLine, Testing, Verbosity, VerdictForm,
+    VerifyLine,
 };
 pub use usage_fault::Usage;

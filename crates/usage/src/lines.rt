@@ -111,15 +111,11 @@ pub(crate) fn files_line<'a>(values: &ArgMatches<'a>) -> Result<FilesLine<'a>, U
 pub(crate) fn job_line<'a>(values: &ArgMatches<'a>) -> Result<JobLine<'a>, Unread>
     ensures { IfOk result (λ line. HasJob line (rows_of (found_of values.now))) }
 {
-    let folder = needed_text(values, "DIR")?;
-    match number_given(values, "level")? {
-        Some(level) => Ok(JobLine {
-            folder,
-            level,
-            by_parts: is_flagged(values, "parts"),
-        }),
-        None => Err(Unread::Rules),
-    }
+    Ok(JobLine {
+        folder: needed_text(values, "DIR")?,
+        level: number_given(values, "level")?.ok_or(Unread::Rules)?,
+        by_parts: is_flagged(values, "parts"),
+    })
 }
 
 /// What is given to `clean`.

@@ -1,10 +1,9 @@
 //! What is told of the commands that only read.
 
-use crate::argument::Argument;
+use crate::argument::{Argument, Rule};
 use crate::descriptions::{
     Description, FAIL_ON_LOGS, FOLDER, JSON, MEMORY, NO_LOCK, NO_VERIFY, SEQUENCE, TEXT, UTF8,
 };
-use crate::rule::Rule;
 
 pub(crate) const STATS: Description<'static> = Description {
     name: "stats",

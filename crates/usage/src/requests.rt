@@ -1,7 +1,9 @@
-//! What a command line asks for.
+//! What a command line asks for. Of a command `folder` is the path of its folder; `spelling` is how
+//! keys are given, and how keys and values are printed; `is_json` is whether the answer is printed
+//! as JSON; `testing` is how the version is tested before, and `memory` how many MiB of tables that
+//! may hold, 1 to 2^24.
 
-use crate::compact_request::CompactLine;
-use compact::Snapshots;
+use compact::{Settings, Snapshots};
 use texts::Spelling;
 
 /// What a command line asks for, and how much it asks to be told of it.
@@ -79,42 +81,32 @@ pub struct BlocksLine<'a> {
 pub struct DumpLine<'a> {
     /// The path of the table's file.
     pub table: &'a str,
-    /// How keys and values are printed.
     pub spelling: Spelling,
 }
 
 /// What is asked for of `manifest`.
 #[derive(Clone, Copy)]
 pub struct ManifestLine<'a> {
-    /// The path of the folder.
     pub folder: &'a str,
-    /// How keys are printed.
     pub spelling: Spelling,
-    /// Whether the version is printed as JSON.
     pub is_json: bool,
 }
 
 /// What is asked for of `stats`.
 #[derive(Clone, Copy)]
 pub struct StatsLine<'a> {
-    /// The path of the folder.
     pub folder: &'a str,
-    /// How keys are printed.
     pub spelling: Spelling,
-    /// Whether the answer is printed as JSON.
     pub is_json: bool,
-    /// How many MiB of tables the test before may hold, 1 to 2^24.
     pub memory: u64,
 }
 
 /// What is asked for of `verify` of a folder.
 #[derive(Clone, Copy)]
 pub struct VerifyLine<'a> {
-    /// The path of the folder.
     pub folder: &'a str,
     /// What is printed.
     pub form: VerdictForm,
-    /// How many MiB of tables the test may hold, 1 to 2^24.
     pub memory: u64,
 }
 
@@ -123,26 +115,22 @@ pub struct VerifyLine<'a> {
 pub struct TableLine<'a> {
     /// The path of the table's file.
     pub table: &'a str,
-    /// Whether the answer is printed as JSON.
     pub is_json: bool,
 }
 
 /// What is asked for of `get`.
 #[derive(Drop)]
 pub struct GetLine<'a> {
-    /// The path of the folder.
     pub folder: &'a str,
     /// The user keys.
     pub keys: KeySource,
     /// The sequence, any number. Without it, the version's last sequence.
     pub at: Option<u64>,
-    /// How keys are given and values are printed.
     pub spelling: Spelling,
     /// Whether the bytes of the values are printed themselves.
     pub is_raw: bool,
     /// Whether keys and values are printed as JSON. At most one of the two is asked for.
     pub is_json: bool,
-    /// How the version is tested before.
     pub testing: Testing,
 }
 
@@ -158,48 +146,37 @@ pub enum KeySource {
 /// What is asked for of `history`.
 #[derive(Drop)]
 pub struct HistoryLine<'a> {
-    /// The path of the folder.
     pub folder: &'a str,
     /// The user key.
     pub key: Vec<u8>,
-    /// How the key was given, and how values are printed.
     pub spelling: Spelling,
-    /// Whether entries are printed as JSON.
     pub is_json: bool,
-    /// How the version is tested before.
     pub testing: Testing,
 }
 
 /// What is asked for of `scan`.
 #[derive(Drop)]
 pub struct ScanLine<'a> {
-    /// The path of the folder.
     pub folder: &'a str,
     /// Which keys are printed.
     pub rows: RowOptions,
     /// What is printed of them.
     pub output: RowOutput,
-    /// How keys were given, and how keys and values are printed.
     pub spelling: Spelling,
-    /// Whether they are printed as JSON.
     pub is_json: bool,
-    /// How the version is tested before.
     pub testing: Testing,
 }
 
 /// What is asked for of `files`.
 #[derive(Clone, Copy)]
 pub struct FilesLine<'a> {
-    /// The path of the folder.
     pub folder: &'a str,
-    /// Whether the names are printed as JSON.
     pub is_json: bool,
 }
 
 /// What is asked for of `job`.
 #[derive(Clone, Copy)]
 pub struct JobLine<'a> {
-    /// The path of the folder.
     pub folder: &'a str,
     /// The level, any number.
     pub level: u64,
@@ -207,10 +184,61 @@ pub struct JobLine<'a> {
     pub by_parts: bool,
 }
 
+/// What is asked for of `compact`.
+#[derive(Clone, Copy)]
+pub struct CompactLine<'a> {
+    pub folder: &'a str,
+    /// What is asked for beside the settings.
+    pub options: CompactOptions<'a>,
+    /// The settings of each compaction.
+    pub settings: Settings<'a>,
+}
+
+/// What is asked for of `compact` beside its settings.
+#[derive(Clone, Copy)]
+pub struct CompactOptions<'a> {
+    /// Which levels, and where the outcome goes.
+    pub work: CompactWork<'a>,
+    pub testing: Testing,
+    pub is_json: bool,
+    /// Whether files that no version needs are removed after each installation.
+    pub cleans: bool,
+}
+
+/// What is compacted, and where the outcome goes.
+#[derive(Clone, Copy)]
+pub enum CompactWork<'a> {
+    /// These levels. Each outcome is installed in the folder.
+    Installed(Levels),
+    /// A level, once. The outcome goes into a folder of its own, and the other one is only read. No
+    /// account is told then, and no file is removed.
+    Written {
+        level: u64,
+        /// The number of the part of the level. Without it, what a compaction picks of the level.
+        part: Option<u64>,
+        /// The path of the folder that gets the outcome.
+        out: &'a str,
+        /// The number of the first new table. Without it, the one after the version's next file
+        /// number.
+        first_number: Option<u64>,
+    },
+}
+
+/// Which levels of a folder are compacted.
+#[derive(Clone, Copy)]
+pub enum Levels {
+    /// This level, once.
+    One(u64),
+    /// All files of this level, with one manifest.
+    Whole(u64),
+    /// Each level from 0 down, until all files are at the deepest level that has any. Of a level
+    /// first all parts that fit into the test's memory, with one manifest.
+    All,
+}
+
 /// What is asked for of `install`.
 #[derive(Drop)]
 pub struct InstallLine<'a> {
-    /// The path of the folder.
     pub folder: &'a str,
     /// The paths of the folders that have the outcomes, in their order.
     pub outs: Vec<&'a str>,
@@ -226,7 +254,6 @@ pub struct InstallLine<'a> {
 /// What is asked for of `clean`.
 #[derive(Clone, Copy)]
 pub struct CleanLine<'a> {
-    /// The path of the folder.
     pub folder: &'a str,
     /// Whether the files are only told, and none is removed.
     pub is_dry_run: bool,
@@ -274,6 +301,5 @@ pub struct RowOptions {
 pub struct Testing {
     /// Whether it isn't tested: it was verified before, and no other program changed it since.
     pub is_skipped: bool,
-    /// How many MiB of tables the test may hold, 1 to 2^24.
     pub memory: u64,
 }

@@ -42,10 +42,7 @@ pub(crate) fn needed_text<'a>(values: &ArgMatches<'a>, id: &str) -> Result<&'a s
     ensures { IfOk result
         (λ text. first_of id.now (rows_of (found_of values.now)) ≡ Some text.now) }
 {
-    match first_text(values, id) {
-        Some(text) => Ok(text),
-        None => Err(Unread::Rules),
-    }
+    first_text(values, id).ok_or(Unread::Rules)
 }
 
 /// Whether an argument with a text is given.

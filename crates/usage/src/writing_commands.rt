@@ -1,11 +1,9 @@
 //! What is told of the commands that write, or that are for one which does.
 
-use crate::argument::Argument;
+use crate::argument::{Argument, Rule};
 use crate::descriptions::{
-    CLEANS, Description, FAIL_ON_LOGS, FOLDER, JSON, MEMORY, NO_VERIFY, SNAPSHOT, SNAPSHOT_RULE,
-    SNAPSHOTS,
+    CLEANS, Description, FAIL_ON_LOGS, FOLDER, JSON, MEMORY, NO_VERIFY, SNAPSHOT, SNAPSHOTS,
 };
-use crate::rule::Rule;
 
 pub(crate) const COMPACT: Description<'static> = Description {
     name: "compact",
@@ -99,7 +97,7 @@ Examples: sedvokt compact DIR --level 0
         Rule::Needs("one part", "part", "out"),
         Rule::AtMostOne("part or clean", &["part", "clean"]),
         Rule::AtMostOne("number or clean", &["first-number", "clean"]),
-        SNAPSHOT_RULE,
+        Rule::AtMostOne("readable", &["snapshot", "snapshots"]),
     ],
 };
 
@@ -173,7 +171,7 @@ It is for a database DIR and the folder OUT of the last example of compact.",
         CLEANS,
     ],
     rules: &[
-        SNAPSHOT_RULE,
+        Rule::AtMostOne("readable", &["snapshot", "snapshots"]),
         Rule::AtMostOne("test or snapshot", &["no-verify", "snapshot"]),
         Rule::AtMostOne("test or list", &["no-verify", "snapshots"]),
     ],

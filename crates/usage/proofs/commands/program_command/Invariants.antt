@@ -4,5 +4,5 @@ use Rattle.usage.specs.Apps.{bare_app}
 use Rattle.usage.proofs.CommandLemmas.{with_first}
 use Rattle.usage.proofs.commands.program_command.Given as goal
 
-abbrev pub invariant-loop-name : goal.invariant-loop-name
-invariant-loop-name l = app_of l.command ≡ with_first bare_app l.name-items l.name-index
+abbrev pub invariant-loop-description : goal.invariant-loop-description
+invariant-loop-description l = app_of l.command ≡ with_first bare_app l.description-items l.description-index

@@ -1,13 +1,15 @@
 -- The answers of a folder's tables, step by step.
-use Rattle.std.proofs.Common.{◌≡◌, ℕ, ◌≤◌, List, Option, Result, Ok, Err, refl, ap}
+use Rattle.std.proofs.Common.{◌≡◌, ◌⊎◌, ℕ, ◌≤◌, List, Option, Result, Ok, Err, IfErr, IsErrAnd, refl, sym, ap, ◌∙◌, arith}
 use Rattle.std.specs.declared.cmp.Ordering.{Ordering}
+use Rattle.table.proofs.Refusals.{unless_from, only_memory}
+use Rattle.table.specs.Answers.{EqualOrMemory, HoldsOrMemory, UnlessMemory}
 use Rattle.table.specs.fault.Fault.{Fault}
 use Rattle.edit.specs.Version.{State}
-use Rattle.folder.proofs.OpeningLemmas.{answers_since}
+use Rattle.folder.proofs.OpeningLemmas.{answers_alone, answers_since, hands_on}
 use Rattle.folder.specs.Calls.{Files}
 use Rattle.folder.specs.Levels.{file_numbers}
 use Rattle.folder.specs.LoadedTables.{IsLoaded}
-use Rattle.folder.specs.OpenAnswer.{FolderAnswers, IsOpened}
+use Rattle.folder.specs.OpenAnswer.{FolderAnswers, HasDeviceFailed, IsOpened, IsStopped}
 use Rattle.folder.specs.ReadsAs.{IsFileIn}
 use Rattle.folder.specs.declared.order.Order.{Order}
 use Rattle.checks.specs.Tables.{NumberedContents}
@@ -35,6 +37,31 @@ same_answer x y h = cc
 -- a refusal of one type as that of another
 same_refusal : {Y Z : Type 0} (e d : Fault) → refusal {Y = Y} e ≡ refusal d → refusal {Y = Z} e ≡ refusal d
 same_refusal {Z = Z} e d h = let one : e ≡ d = cc in ap (λ (f : Fault). refusal {Y = Z} f) one
+
+-- what a call answers alone is its answer
+pub answer_holds : {X Y : Type 0} (view : X → Y) (r : Result X Fault) (y : Y)
+    → EqualOrMemory view r (Ok y) → HoldsOrMemory view r (λ a. a ≡ Ok y)
+answer_holds view (Ok x) y given = sym given
+answer_holds view (Err e) y given =
+    unless_from e (Ok y ≡ refusal e) (refusal e ≡ Ok y) (λ same. absurd (no_refusal y e same)) given
+
+-- it is refused for Memory alone
+pub answer_device : {X Y : Type 0} (view : X → Y) (before now : ℕ) (r : Result X Fault) (y : Y)
+    → EqualOrMemory view r (Ok y) → IfErr r (HasDeviceFailed before now)
+answer_device view before now (Ok x) y given = tt
+answer_device view before now (Err e) y given =
+    let memory = only_memory e (Ok y ≡ refusal e) (no_refusal y e) given in
+    λ same. let is = sym (ap (λ (f : Fault). f.name) memory) ∙ same in absurd cc
+
+-- the refusal of a call whose definition answers a value
+pub value_refused : {X Y Z : Type 0} (view : X → Y) (before now : ℕ) (r : Result X Fault) (e : Fault) (z : Z) (y : Y) → IsErrAnd r (λ f. f ≡ e) → before ≤ now → UnlessMemory e (IsStopped before now e ⊎ (refusal e ≡ answer z))
+    → FolderAnswers view before now r (λ a. a ≡ Ok y)
+value_refused view before now r e z y is later given =
+    hands_on view before before now r e (λ a. a ≡ answer z) (λ a. a ≡ answer y) is (omega arith) later given (λ same. absurd (no_refusal z e (sym same)))
+
+-- what is made of a value alone
+pub value_told : {X Y : Type 0} (view : X → Y) (before now : ℕ) (r : Result X Fault) (y : Y) → EqualOrMemory view r (Ok y) → FolderAnswers view before now r (λ a. a ≡ Ok y)
+value_told view before now r y h = answers_alone view before now r (λ a. a ≡ answer y) (λ a. a ≡ answer y) (λ a same. same) (answer_holds view r y h)
 
 -- the folder isn't opened
 pub not_opened : {Y : Type 0} (tells : List ℕ → Option (List ℕ) → Type 0) (answer_of : State → List NumberedContents → Y) (e : Fault) → IsOpened tells (Err e) → IsAnswerOfFolder tells answer_of (Err e)

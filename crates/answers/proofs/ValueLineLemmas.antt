@@ -28,39 +28,32 @@ escaped_as_text : bytes_of Text (codes "\\x6eone") ≡ Some (codes "none")
 unfolding unescaped
 escaped_as_text = refl
 
+-- of the texts of a value and of `none` the right one is read as the value, and it is not `none`
+module _ (spelling : Spelling) (value : List ℕ) where
+  escaped_read : (same : Bool) → bytes_eq value (codes "none") ≡ same → bytes_of spelling (codes "\\x6eone") ≡ Some (codes "none") → bytes_of spelling (value_text spelling value) ≡ Some value
+      → bytes_of spelling (if same then codes "\\x6eone" else value_text spelling value) ≡ Some value
+  escaped_read true is other own = other ∙ ap (λ (b : List ℕ). Some b) (sym ((bytes_eq-Decides value (codes "none")).0 is))
+  escaped_read false is other own = own
+
+  escaped_other : (same : Bool) → bytes_eq value (codes "none") ≡ same → bytes_of spelling (codes "none") ≡ Some (codes "none") → bytes_of spelling (value_text spelling value) ≡ Some value
+      → (if same then codes "\\x6eone" else value_text spelling value) ≡ codes "none" → ⊥
+  escaped_other true is other own h = let long = ap length h in absurd (omega arith)
+  escaped_other false is other own h =
+      let read : value ≡ codes "none" = same_Some _ _ (sym own ∙ ap (bytes_of spelling) h ∙ other) in
+      let same = (bytes_eq-Decides value (codes "none")).1 read in
+      absurd cc
+
 -- the text of a value on a line of its own is read as this value
 lone_read : (spelling : Spelling) (value : List ℕ) → IsBytes value → bytes_of spelling (lone_text spelling value) ≡ Some value
 lone_read Hexadecimal value fits = values_read Hexadecimal value fits
-lone_read Text value fits = step (bytes_eq value (codes "none")) refl
-  where
-    step : (same : Bool) → bytes_eq value (codes "none") ≡ same → bytes_of Text (if same then codes "\\x6eone" else value_text Text value) ≡ Some value
-    step true is = escaped_as_text ∙ ap (λ (b : List ℕ). Some b) (sym ((bytes_eq-Decides value (codes "none")).0 is))
-    step false is = values_read Text value fits
-lone_read Utf8 value fits = step (bytes_eq value (codes "none")) refl
-  where
-    step : (same : Bool) → bytes_eq value (codes "none") ≡ same → bytes_of Utf8 (if same then codes "\\x6eone" else value_text Utf8 value) ≡ Some value
-    step true is = escaped_as_text ∙ ap (λ (b : List ℕ). Some b) (sym ((bytes_eq-Decides value (codes "none")).0 is))
-    step false is = values_read Utf8 value fits
+lone_read Text value fits = escaped_read Text value (bytes_eq value (codes "none")) refl escaped_as_text (values_read Text value fits)
+lone_read Utf8 value fits = escaped_read Utf8 value (bytes_eq value (codes "none")) refl escaped_as_text (values_read Utf8 value fits)
 
 -- it is not `none`
 lone_other : (spelling : Spelling) (value : List ℕ) → IsBytes value → lone_text spelling value ≢ codes "none"
 lone_other Hexadecimal value fits e = none-some value (sym none_as_digits ∙ sym (ap (bytes_of Hexadecimal) e) ∙ values_read Hexadecimal value fits)
-lone_other Text value fits e = step (bytes_eq value (codes "none")) refl e
-  where
-    step : (same : Bool) → bytes_eq value (codes "none") ≡ same → (if same then codes "\\x6eone" else value_text Text value) ≡ codes "none" → ⊥
-    step true is h = let long = ap length h in absurd (omega arith)
-    step false is h =
-        let read : value ≡ codes "none" = same_Some _ _ (sym (values_read Text value fits) ∙ ap (bytes_of Text) h ∙ none_as_text) in
-        let same = (bytes_eq-Decides value (codes "none")).1 read in
-        absurd cc
-lone_other Utf8 value fits e = step (bytes_eq value (codes "none")) refl e
-  where
-    step : (same : Bool) → bytes_eq value (codes "none") ≡ same → (if same then codes "\\x6eone" else value_text Utf8 value) ≡ codes "none" → ⊥
-    step true is h = let long = ap length h in absurd (omega arith)
-    step false is h =
-        let read : value ≡ codes "none" = same_Some _ _ (sym (values_read Utf8 value fits) ∙ ap (bytes_of Utf8) h ∙ none_as_text) in
-        let same = (bytes_eq-Decides value (codes "none")).1 read in
-        absurd cc
+lone_other Text value fits e = escaped_other Text value (bytes_eq value (codes "none")) refl none_as_text (values_read Text value fits) e
+lone_other Utf8 value fits e = escaped_other Utf8 value (bytes_eq value (codes "none")) refl none_as_text (values_read Utf8 value fits) e
 
 -- the text of a line
 line_text-line : (text : List ℕ) → line_text (text ++ codes "\n") ≡ text

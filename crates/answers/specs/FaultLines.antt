@@ -1,19 +1,10 @@
--- The lines of what is wrong with a version, and of a valid table.
+-- The lines and the status of faults, and the line of a valid table.
 use Rattle.std.specs.Prelude.{ℕ, List, ◌++◌, codes, decimal, length, Result, Ok}
 use Rattle.table.specs.Answers.{◌>>=◌}
 use Rattle.table.specs.Saturated.{saturated}
 use Rattle.table.specs.fault.Fault.{Fault}
 use Rattle.table.specs.fault.FaultName.{FaultName}
-use Rattle.table.specs.fault.FaultName.TheVariants.{NoInput, Level, Options, SplitOrder}
-use Rattle.table.specs.fault.FaultName.TheVariants.{SplitCount, Workers, Snapshot, Size}
-use Rattle.table.specs.fault.FaultName.TheVariants.{Short, Magic, Handle, Range, Trailer}
-use Rattle.table.specs.fault.FaultName.TheVariants.{Compressed, BlockType, Block, Key}
-use Rattle.table.specs.fault.FaultName.TheVariants.{Index, Order, Empty, Bounds}
-use Rattle.table.specs.fault.FaultName.TheVariants.{Duplicate, Numbers, TooLarge}
-use Rattle.table.specs.fault.FaultName.TheVariants.{SnapshotList, LogChecksum, LogShape}
-use Rattle.table.specs.fault.FaultName.TheVariants.{EditTag, EditField, Comparator, Apply}
-use Rattle.table.specs.fault.FaultName.TheVariants.{Lawless, Device, Missing, Locked}
-use Rattle.table.specs.fault.FaultName.TheVariants.{Changed, Logs, Memory}
+use Rattle.table.specs.fault.FaultName.TheVariants as fault_name
 use Rattle.table.specs.EncodedEntry.{Entry}
 use Rattle.table.specs.Bytewise.{bytewise_cmp}
 use Rattle.table.specs.TableContents.{table_reading}
@@ -25,44 +16,49 @@ use Rattle.faults.specs.declared.file_fault.FileFault.TheVariants.{Smallest, Lar
 
 -- the name of a fault as text
 abbrev pub name_text : FaultName → List ℕ
-name_text NoInput = codes "NoInput"
-name_text Level = codes "Level"
-name_text Options = codes "Options"
-name_text SplitOrder = codes "SplitOrder"
-name_text SplitCount = codes "SplitCount"
-name_text Workers = codes "Workers"
-name_text Snapshot = codes "Snapshot"
-name_text Size = codes "Size"
-name_text Short = codes "Short"
-name_text Magic = codes "Magic"
-name_text Handle = codes "Handle"
-name_text Range = codes "Range"
-name_text Trailer = codes "Trailer"
-name_text Compressed = codes "Compressed"
-name_text BlockType = codes "BlockType"
-name_text Block = codes "Block"
-name_text Key = codes "Key"
-name_text Index = codes "Index"
-name_text Order = codes "Order"
-name_text Empty = codes "Empty"
-name_text Bounds = codes "Bounds"
-name_text Duplicate = codes "Duplicate"
-name_text Numbers = codes "Numbers"
-name_text TooLarge = codes "TooLarge"
-name_text SnapshotList = codes "SnapshotList"
-name_text LogChecksum = codes "LogChecksum"
-name_text LogShape = codes "LogShape"
-name_text EditTag = codes "EditTag"
-name_text EditField = codes "EditField"
-name_text Comparator = codes "Comparator"
-name_text Apply = codes "Apply"
-name_text Lawless = codes "Lawless"
-name_text Device = codes "Device"
-name_text Missing = codes "Missing"
-name_text Locked = codes "Locked"
-name_text Changed = codes "Changed"
-name_text Logs = codes "Logs"
-name_text Memory = codes "Memory"
+name_text fault_name.NoInput = codes "NoInput"
+name_text fault_name.Level = codes "Level"
+name_text fault_name.Options = codes "Options"
+name_text fault_name.SplitOrder = codes "SplitOrder"
+name_text fault_name.SplitCount = codes "SplitCount"
+name_text fault_name.Workers = codes "Workers"
+name_text fault_name.Snapshot = codes "Snapshot"
+name_text fault_name.Size = codes "Size"
+name_text fault_name.Short = codes "Short"
+name_text fault_name.Magic = codes "Magic"
+name_text fault_name.Handle = codes "Handle"
+name_text fault_name.Range = codes "Range"
+name_text fault_name.Trailer = codes "Trailer"
+name_text fault_name.Compressed = codes "Compressed"
+name_text fault_name.BlockType = codes "BlockType"
+name_text fault_name.Block = codes "Block"
+name_text fault_name.Key = codes "Key"
+name_text fault_name.Index = codes "Index"
+name_text fault_name.Order = codes "Order"
+name_text fault_name.Empty = codes "Empty"
+name_text fault_name.Bounds = codes "Bounds"
+name_text fault_name.Duplicate = codes "Duplicate"
+name_text fault_name.Numbers = codes "Numbers"
+name_text fault_name.TooLarge = codes "TooLarge"
+name_text fault_name.SnapshotList = codes "SnapshotList"
+name_text fault_name.LogChecksum = codes "LogChecksum"
+name_text fault_name.LogShape = codes "LogShape"
+name_text fault_name.EditTag = codes "EditTag"
+name_text fault_name.EditField = codes "EditField"
+name_text fault_name.Comparator = codes "Comparator"
+name_text fault_name.Apply = codes "Apply"
+name_text fault_name.Lawless = codes "Lawless"
+name_text fault_name.Device = codes "Device"
+name_text fault_name.Missing = codes "Missing"
+name_text fault_name.Locked = codes "Locked"
+name_text fault_name.Changed = codes "Changed"
+name_text fault_name.Logs = codes "Logs"
+name_text fault_name.Memory = codes "Memory"
+
+-- the status of a refusal: 3 for Device, else 1
+abbrev pub status_of : FaultName → ℕ
+status_of fault_name.Device = 3
+status_of _ = 1
 
 -- the line of what is wrong with the file of a number
 abbrev pub file_fault_line : ℕ → FileFault → List ℕ

@@ -16,7 +16,7 @@ use Rattle.scan.specs.ChosenRows.{chosen_sequence}
 use Rattle.folder.specs.Orders.{order_cmp}
 use Rattle.folder.specs.Calls.{ToldFiles}
 use Rattle.answers.specs.ValueForms.{value_answer}
-use Rattle.answers.specs.declared.value_form.ValueForm.{ValueForm}
+use Rattle.answers.specs.declared.value_forms.ValueForm.{ValueForm}
 
 -- the answer of the tables, if the version is lawful with them
 abbrev pub IsAnswerOfLoaded : {Y : Type 0} → KeyOrder → State → List (ℕ × List ℕ) →

@@ -8,7 +8,7 @@ use Rattle.serde_json.specs.Written.{compact_text}
 use Rattle.texts.specs.Spelling.{key_text, value_text}
 use Rattle.texts.specs.Text.{text_of_bytes}
 use Rattle.texts.specs.declared.spelling.Spelling.{Spelling}
-use Rattle.texts.specs.declared.spelling.Spelling.TheVariants.{Hexadecimal, Text, Utf8}
+use Rattle.texts.specs.declared.spelling.Spelling.TheVariants.{Utf8}
 use Rattle.answers.specs.declared.history_lines.EntryPlace.{EntryPlace}
 
 -- the members and these fields, one put in after the other
@@ -47,15 +47,13 @@ utf8_data bytes = if is_utf8 bytes then string bytes else hex_object bytes
 
 -- a key as a JSON string
 abbrev pub key_data : Spelling → List ℕ → Data
-key_data Hexadecimal key = string (key_text Hexadecimal key)
-key_data Text key = string (key_text Text key)
 key_data Utf8 key = utf8_data key
+key_data spelling key = string (key_text spelling key)
 
 -- a value as a JSON string
 abbrev pub some_data : Spelling → List ℕ → Data
-some_data Hexadecimal value = string (value_text Hexadecimal value)
-some_data Text value = string (value_text Text value)
 some_data Utf8 value = utf8_data value
+some_data spelling value = string (value_text spelling value)
 
 -- the same; null for none
 abbrev pub value_data : Spelling → Option (List ℕ) → Data

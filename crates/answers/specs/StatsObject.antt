@@ -1,6 +1,6 @@
 -- The JSON object of how much a version has.
 use Rattle.std.specs.Prelude.{List, [], ◌∷◌, map, codes}
-use Rattle.serde_json.specs.Data.{Data, Items, array}
+use Rattle.serde_json.specs.Data.{Data, array}
 use Rattle.serde_json.specs.View.{items_of}
 use Rattle.table.specs.Saturated.{saturated}
 use Rattle.table.specs.Key.{user_of}
@@ -24,13 +24,8 @@ abbrev pub total_object : FileTotal → Data
 total_object total =
     object_of ((codes "bytes", natural total.bytes) ∷ (codes "files", natural total.files) ∷ [])
 
--- the levels, then the logs and the files that no version names
-abbrev pub stats_parts : Items → Data → Data → Data
-stats_parts levels logs unnamed = object_of ((codes "levels", array levels)
-    ∷ (codes "logs", logs) ∷ (codes "unnamed", unnamed) ∷ [])
-
--- with a version's levels
+-- a version's levels, then the logs and the files that no version names
 abbrev pub stats_object : Spelling → List LevelStats → FileTotal → FileTotal → Data
 stats_object spelling levels logs unnamed =
-    stats_parts (items_of (map (level_object spelling) levels)) (total_object logs)
-    (total_object unnamed)
+    object_of ((codes "levels", array (items_of (map (level_object spelling) levels)))
+    ∷ (codes "logs", total_object logs) ∷ (codes "unnamed", total_object unnamed) ∷ [])

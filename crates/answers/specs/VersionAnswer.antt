@@ -45,24 +45,16 @@ abbrev pub file_rows : KeyOrder → State → List AnswerRow
 file_rows cmp v = all_levels (files_at cmp v)
 
 -- the lines of a comparator's name and of counters
-abbrev pub counter_lines : List ℕ → Counters → List ℕ
-counter_lines name n = codes "comparator " ++ (name ++ (codes "\nlog " ++ (decimal n.log
+abbrev pub head_lines : List ℕ → Counters → List ℕ
+head_lines name n = codes "comparator " ++ (name ++ (codes "\nlog " ++ (decimal n.log
     ++ (codes "\nprevious " ++ (decimal n.previous ++ (codes "\nnext " ++ (decimal n.next
     ++ (codes "\nlast " ++ (decimal n.last ++ codes "\n")))))))))
 
--- those of a version
-abbrev pub head_lines : Order → State → List ℕ
-head_lines order v = counter_lines (order_name order) (counters_of v)
-
--- those, then the lines of the pointers, then those of the files in this version order
-abbrev pub lines_by : Spelling → Order → KeyOrder → State → List ℕ
-lines_by spelling order cmp v = head_lines order v
-    ++ rows_lines spelling (pointer_rows v)
-    ++ rows_lines spelling (file_rows cmp v)
-
--- the same with files in the order's own version order
+-- those of a version, then the lines of the pointers, then those of the files
 abbrev pub version_lines : Spelling → Order → State → List ℕ
-version_lines spelling order v = lines_by spelling order (order_cmp order) v
+version_lines spelling order v = head_lines (order_name order) (counters_of v)
+    ++ rows_lines spelling (pointer_rows v)
+    ++ rows_lines spelling (file_rows (order_cmp order) v)
 
 -- a folder is opened, and these are the lines of what that gives
 abbrev pub IsShown : Spelling → ToldFiles → Result (List ℕ) Fault → Type 0
@@ -70,21 +62,13 @@ IsShown spelling tells = IsThen (IsOpened tells)
     (λ opened answer. answer ≡ Ok (version_lines spelling opened.0 opened.1))
 
 -- a comparator's name and counters, as fields
-abbrev pub counter_fields : List ℕ → Counters → List (List ℕ × Data)
-counter_fields name n = (codes "comparator", string name) ∷ (codes "last", natural n.last)
+abbrev pub head_fields : List ℕ → Counters → List (List ℕ × Data)
+head_fields name n = (codes "comparator", string name) ∷ (codes "last", natural n.last)
     ∷ (codes "log", natural n.log) ∷ (codes "next", natural n.next)
     ∷ (codes "previous", natural n.previous) ∷ []
 
--- those of a version
-abbrev pub head_fields : Order → State → List (List ℕ × Data)
-head_fields order v = counter_fields (order_name order) (counters_of v)
-
--- those, with the files in this version order, and the pointers
-abbrev pub object_by : Spelling → Order → KeyOrder → State → Data
-object_by spelling order cmp v = object_of (head_fields order v
-    ++ (codes "files", rows_array spelling (file_rows cmp v))
-    ∷ (codes "pointers", rows_array spelling (pointer_rows v)) ∷ [])
-
--- the same with files in the order's own version order
+-- those of a version, with the files and the pointers
 abbrev pub version_object : Spelling → Order → State → Data
-version_object spelling order v = object_by spelling order (order_cmp order) v
+version_object spelling order v = object_of (head_fields (order_name order) (counters_of v)
+    ++ (codes "files", rows_array spelling (file_rows (order_cmp order) v))
+    ∷ (codes "pointers", rows_array spelling (pointer_rows v)) ∷ [])

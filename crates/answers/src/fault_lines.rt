@@ -1,6 +1,6 @@
 //! The lines of what is wrong with a version.
 
-ghost use Rattle.std.specs.Prelude.{◌≡◌, Ok, string_bytes};
+ghost use Rattle.std.specs.Prelude.{◌≡◌, Ok};
 ghost use Rattle.table.specs.Answers.{EqualOrMemory};
 ghost use Rattle.answers.specs.FaultLines.{fault_count_line, file_fault_line, key_fault_line};
 ghost use Rattle.answers.specs.FaultLines.{name_text};
@@ -17,25 +17,22 @@ use texts::Spelling;
 pub fn file_fault_line(alloc: Global, number: u64, wrong: FileFault) -> Result<Vec<u8>, Fault>
     ensures { EqualOrMemory (λ line. line.items) result (Ok (file_fault_line number wrong)) }
 {
-    Ok(file_fault_text(alloc, number, wrong)?.into_bytes())
-}
-
-/// The same as text.
-fn file_fault_text(alloc: Global, number: u64, wrong: FileFault) -> Result<String, Fault>
-    ensures { EqualOrMemory string_bytes result (Ok (file_fault_line number wrong)) }
-{
     match wrong {
-        FileFault::NotBelow(next) => Ok(format!(in alloc; "{number} not below {next}\n")?),
+        FileFault::NotBelow(next) => {
+            Ok(format!(in alloc; "{number} not below {next}\n")?.into_bytes())
+        }
         FileFault::Refused(name) => {
             let name = name_text(name);
-            Ok(format!(in alloc; "{number} {name}\n")?)
+            Ok(format!(in alloc; "{number} {name}\n")?.into_bytes())
         }
         FileFault::Length { held, stated } => {
-            Ok(format!(in alloc; "{number} length {held}, not {stated}\n")?)
+            Ok(format!(in alloc; "{number} length {held}, not {stated}\n")?.into_bytes())
         }
-        FileFault::Smallest => Ok(format!(in alloc; "{number} smallest\n")?),
-        FileFault::Largest => Ok(format!(in alloc; "{number} largest\n")?),
-        FileFault::Overlaps(other) => Ok(format!(in alloc; "{number} overlaps {other}\n")?),
+        FileFault::Smallest => Ok(format!(in alloc; "{number} smallest\n")?.into_bytes()),
+        FileFault::Largest => Ok(format!(in alloc; "{number} largest\n")?.into_bytes()),
+        FileFault::Overlaps(other) => {
+            Ok(format!(in alloc; "{number} overlaps {other}\n")?.into_bytes())
+        }
     }
 }
 

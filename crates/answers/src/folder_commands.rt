@@ -1,23 +1,20 @@
-//! The commands on a database folder, and what each answers of the version in it.
+//! The commands on a database folder.
 
-ghost use Rattle.std.specs.Prelude.{Ok};
 ghost use Rattle.std.specs.Option.{option_map};
-ghost use Rattle.table.specs.Answers.{EqualOrMemory};
 ghost use Rattle.folder.specs.Calls.{Files, Tells};
 ghost use Rattle.folder.specs.OpenAnswer.{FolderAnswers};
 ghost use Rattle.folder.specs.ReadsAs.{IsFileIn};
 ghost use Rattle.folder.specs.Reports.{OnlyReads, ReportsDevice};
 ghost use Rattle.answers.specs.FolderLines.{IsAnswerOfFolder, got_answer, verified_line};
-ghost use Rattle.answers.specs.VersionAnswer.{IsShown, version_lines};
+ghost use Rattle.answers.specs.VersionAnswer.{IsShown};
 
 use crate::unverified_get::unverified_value;
-use crate::value_form::ValueForm;
-use crate::version_answer::version_lines;
+use crate::value_forms::ValueForm;
+use crate::version_answer::manifest_lines;
 use crate::version_verdict::lawful_line;
 use board::{Watch, Workers};
 use checks::test_by_order;
-use edit::Version;
-use folder::{Bytewise, Folder, Order, ReadsTables, Shortlex, open};
+use folder::{Folder, ReadsTables, open};
 use std::alloc::Global;
 use std::thread::Threads;
 use table::Fault;
@@ -43,23 +40,6 @@ pub fn manifest<F: Folder>(
 {
     let opened = open(alloc, folder)?;
     manifest_lines(alloc, spelling, opened.order, &opened.version)
-}
-
-/// The lines of a `version` of this `order`: what [`manifest`] answers of a folder that is opened
-/// already.
-pub fn manifest_lines(
-    alloc: Global,
-    spelling: Spelling,
-    order: Order,
-    version: &Version,
-) -> Result<Vec<u8>, Fault>
-    ensures { EqualOrMemory (λ v. v.items) result
-        (Ok (version_lines spelling order version.now)) }
-{
-    match order {
-        Order::Bytewise => version_lines::<Bytewise>(alloc, spelling, order, version),
-        Order::Shortlex => version_lines::<Shortlex>(alloc, spelling, order, version),
-    }
 }
 
 /// Checks the version that a folder holds, and answers the line `lawful: F files, E entries`: the

@@ -2,7 +2,7 @@
 
 ghost use Rattle.std.specs.Prelude.{Ok, option_map, string_bytes};
 ghost use Rattle.table.specs.Answers.{EqualOrMemory};
-ghost use Rattle.answers.specs.HistoryLines.{entry_line};
+ghost use Rattle.answers.specs.Dump.{entry_line};
 
 use std::alloc::Global;
 use table::Fault;

@@ -81,9 +81,8 @@ fn key_json(alloc: Global, spelling: Spelling, key: &[u8]) -> Result<Value, Faul
     ensures { EqualOrMemory view result (Ok (key_data spelling key.now)) }
 {
     match spelling {
-        Spelling::Hexadecimal => Ok(Value::from(spelling.key_text(alloc, key)?)),
-        Spelling::Text => Ok(Value::from(spelling.key_text(alloc, key)?)),
         Spelling::Utf8 => utf8_json(alloc, key),
+        _ => Ok(Value::from(spelling.key_text(alloc, key)?)),
     }
 }
 
@@ -91,9 +90,8 @@ fn some_json(alloc: Global, spelling: Spelling, value: &[u8]) -> Result<Value, F
     ensures { EqualOrMemory view result (Ok (some_data spelling value.now)) }
 {
     match spelling {
-        Spelling::Hexadecimal => Ok(Value::from(spelling.value_text(alloc, value)?)),
-        Spelling::Text => Ok(Value::from(spelling.value_text(alloc, value)?)),
         Spelling::Utf8 => utf8_json(alloc, value),
+        _ => Ok(Value::from(spelling.value_text(alloc, value)?)),
     }
 }
 

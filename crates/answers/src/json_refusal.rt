@@ -1,9 +1,22 @@
-//! The JSON line of a refusal.
+//! The status of a refusal, and its JSON line.
+
+ghost use Rattle.std.specs.Prelude.{◌≡◌};
+ghost use Rattle.answers.specs.FaultLines.{status_of};
 
 use crate::json_object::json_line;
 use serde_json::{Map, Value, put};
 use std::alloc::Global;
-use table::Fault;
+use table::{Fault, FaultName};
+
+/// The status with which the program ends after a refusal: 3 for `Device`, else 1.
+pub fn status(fault: &Fault) -> u8
+    ensures { result ≡ status_of fault.now.name }
+{
+    match fault.name {
+        FaultName::Device => 3,
+        _ => 1,
+    }
+}
 
 /// What is told of a refusal beside its name.
 #[derive(Clone, Copy, Debug)]
@@ -19,23 +32,18 @@ pub struct Told<'a> {
 /// The line `{"path":P,"refused":NAME,"remedy":R,"wrong":W}` of a refusal. What isn't given is
 /// left out.
 pub fn refusal_json(alloc: Global, name: &str, told: Told<'_>) -> Result<String, Fault> {
+    let texts = [
+        ("path", told.path),
+        ("refused", Some(name)),
+        ("remedy", told.remedy),
+        ("wrong", told.wrong),
+    ];
     let mut object = Map::new(alloc);
-    put_text(alloc, &mut object, "path", told.path)?;
-    put_text(alloc, &mut object, "refused", Some(name))?;
-    put_text(alloc, &mut object, "remedy", told.remedy)?;
-    put_text(alloc, &mut object, "wrong", told.wrong)?;
-    json_line(alloc, &Value::Object(object))
-}
-
-/// Puts a text into an object under a name, if there is one.
-fn put_text(
-    alloc: Global,
-    object: &mut Map<String, Value>,
-    name: &str,
-    text: Option<&str>,
-) -> Result<(), Fault> {
-    if let Some(text) = text {
-        put(object, alloc, name, Value::try_from_str(alloc, text)?)?;
+    for (field, text) in &texts {
+        if let Some(text) = *text {
+            let value = Value::try_from_str(alloc, text)?;
+            put(&mut object, alloc, field, value)?;
+        }
     }
-    Ok(())
+    json_line(alloc, &Value::Object(object))
 }

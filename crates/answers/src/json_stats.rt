@@ -2,13 +2,12 @@
 
 ghost use Rattle.std.specs.Prelude.{map, Ok};
 ghost use Rattle.table.specs.Answers.{EqualOrMemory};
-ghost use Rattle.serde_json.specs.View.{items_view, view};
-ghost use Rattle.answers.specs.StatsObject.{level_object, stats_object, stats_parts};
-ghost use Rattle.answers.specs.StatsObject.{total_object};
+ghost use Rattle.serde_json.specs.View.{view};
+ghost use Rattle.answers.specs.StatsObject.{level_object, stats_object, total_object};
 
 use crate::json_object::{Cell, NO_KEYS, capped, object};
 use scan::{FileTotal, LevelStats, VersionStats};
-use serde_json::{Value, json};
+use serde_json::{Map, Value, put};
 use std::alloc::Global;
 use table::Fault;
 use texts::Spelling;
@@ -34,20 +33,11 @@ pub fn stats_json(
     let levels = levels_json(alloc, spelling, &stats.levels)?;
     let logs = total_json(alloc, logs)?;
     let unnamed = total_json(alloc, unnamed)?;
-    stats_parts_json(alloc, levels, logs, unnamed)
-}
-
-/// The object of these parts.
-fn stats_parts_json(
-    alloc: Global,
-    levels: Vec<Value>,
-    logs: Value,
-    unnamed: Value,
-) -> Result<Value, Fault>
-    ensures { EqualOrMemory view result
-        (Ok (stats_parts (items_view levels.items) (view logs) (view unnamed))) }
-{
-    Ok(json!(in alloc; {"levels": levels, "logs": logs, "unnamed": unnamed})?)
+    let mut members = Map::new(alloc);
+    put(&mut members, alloc, "levels", Value::Array(levels))?;
+    put(&mut members, alloc, "logs", logs)?;
+    put(&mut members, alloc, "unnamed", unnamed)?;
+    Ok(Value::Object(members))
 }
 
 /// The objects of levels.

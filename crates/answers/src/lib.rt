@@ -19,9 +19,7 @@
 //! No contract says which of these the program calls for a command.
 #![tactic(auto)]
 
-mod bars;
 mod compaction_answer;
-mod exit_status;
 mod fault_lines;
 mod folder_commands;
 mod history_lines;
@@ -33,33 +31,28 @@ mod rows;
 mod scan_row;
 mod stats_table;
 mod table_dump;
-mod table_verdict;
 mod unverified_get;
-mod value_form;
 mod value_forms;
 mod version_answer;
 mod version_verdict;
 
 pub use checks::{Open, VersionTotals};
 pub use compaction_answer::{CompactionEnd, compaction_json, compaction_lines};
-pub use exit_status::status;
 pub use fault_lines::{fault_count_line, file_fault_line, key_fault_line};
-pub use folder_commands::{get_dir, manifest, manifest_lines, verify};
+pub use folder_commands::{get_dir, manifest, verify};
 pub use history_lines::{EntryPlace, entry_line};
 pub use json_answers::{
     count_json, entry_json, lawful_json, logs_json, name_json, push_row_json, removed_json,
     valid_json, value_json,
 };
 pub use json_object::json_line;
-pub use json_refusal::{Told, refusal_json};
+pub use json_refusal::{Told, refusal_json, status};
 pub use json_stats::stats_json;
 pub use scan::FileTotal;
 pub use scan_row::push_row;
 pub use stats_table::stats_text;
 pub use table_dump::dump;
-pub use table_verdict::{table_entries, verify_table};
 pub use unverified_get::unverified_value;
-pub use value_form::ValueForm;
-pub use value_forms::{push_named_value, value_answer, value_lines_law};
-pub use version_answer::version_json;
-pub use version_verdict::lawful_line;
+pub use value_forms::{ValueForm, push_named_value, value_answer, value_lines_law};
+pub use version_answer::{manifest_lines, version_json};
+pub use version_verdict::{lawful_line, table_entries, verify_table};

@@ -1,10 +1,12 @@
-//! The lines of how much a version has.
+//! The lines of how much a version has, with bars.
 
-use crate::bars::bar;
 use scan::{Amounts, FileTotal, LevelStats, VersionStats};
 use std::alloc::Global;
 use table::Fault;
 use texts::Spelling;
+
+/// How many places the longest bar has.
+const PLACES: u64 = 40;
 
 /// The lines of how much a version has, each with its newline:
 ///
@@ -25,10 +27,9 @@ pub fn stats_text(
     unnamed: FileTotal,
 ) -> Result<Vec<u8>, Fault> {
     let mut text = String::new(alloc);
-    let widths = Widths::of(alloc, stats.all)?;
-    push_headings(&mut text, widths)?;
-    push_levels(alloc, &mut text, widths, stats)?;
-    push_amounts(&mut text, widths, "all", stats.all, stats.all.bytes)?;
+    push_headings(alloc, &mut text, stats.all)?;
+    push_levels(alloc, &mut text, stats)?;
+    push_amounts(alloc, &mut text, "all", stats.all, stats.all)?;
     text.push('\n')?;
     push_bounds(alloc, &mut text, spelling, &stats.levels)?;
     push_total(&mut text, "logs", logs)?;
@@ -36,27 +37,15 @@ pub fn stats_text(
     Ok(text.into_bytes())
 }
 
-/// How wide the columns are that have numbers.
-#[derive(Clone, Copy)]
-struct Widths {
-    files: usize,
-    bytes: usize,
-    entries: usize,
-    deletions: usize,
-    hidden: usize,
-}
-
-impl Widths {
-    /// The widths, by the headings and the numbers of all levels, which are the greatest.
-    fn of(alloc: Global, all: Amounts) -> Result<Widths, Fault> {
-        Ok(Widths {
-            files: width(alloc, "files", u128::from(all.files))?,
-            bytes: width(alloc, "bytes", u128::from(all.bytes))?,
-            entries: width(alloc, "entries", all.entries)?,
-            deletions: width(alloc, "deletions", all.deletions)?,
-            hidden: width(alloc, "hidden", all.hidden)?,
-        })
-    }
+/// The heading and the number of each column that has numbers.
+fn columns(amounts: Amounts) -> [(&'static str, u128); 5] {
+    [
+        ("files", u128::from(amounts.files)),
+        ("bytes", u128::from(amounts.bytes)),
+        ("entries", amounts.entries),
+        ("deletions", amounts.deletions),
+        ("hidden", amounts.hidden),
+    ]
 }
 
 /// How wide a column of this heading and this greatest number is.
@@ -64,32 +53,20 @@ fn width(alloc: Global, heading: &str, greatest: u128) -> Result<usize, Fault> {
     Ok(format!(in alloc; "{greatest}")?.len().max(heading.len()))
 }
 
-/// Appends the line of the headings.
-fn push_headings(text: &mut String, widths: Widths) -> Result<(), Fault> {
-    let Widths {
-        files,
-        bytes,
-        entries,
-        deletions,
-        hidden,
-    } = widths;
-    write!(text, "level  {:>files$}  {:>bytes$}", "files", "bytes")?;
-    write!(
-        text,
-        "  {:>entries$}  {:>deletions$}",
-        "entries", "deletions"
-    )?;
-    writeln!(text, "  {:>hidden$}  share", "hidden")?;
+/// Appends the line of the headings. The numbers of `all` levels are the greatest.
+fn push_headings(alloc: Global, text: &mut String, all: Amounts) -> Result<(), Fault> {
+    let columns = columns(all);
+    text.push_str("level")?;
+    for (heading, greatest) in &columns {
+        let width = width(alloc, heading, *greatest)?;
+        write!(text, "  {heading:>width$}")?;
+    }
+    text.push_str("  share\n")?;
     Ok(())
 }
 
 /// Appends a line for each level, with a bar of its bytes if it has any.
-fn push_levels(
-    alloc: Global,
-    text: &mut String,
-    widths: Widths,
-    stats: &VersionStats,
-) -> Result<(), Fault> {
+fn push_levels(alloc: Global, text: &mut String, stats: &VersionStats) -> Result<(), Fault> {
     let levels = &stats.levels;
     let most = levels
         .iter()
@@ -98,7 +75,7 @@ fn push_levels(
         .unwrap_or(0);
     for LevelStats { level, amounts, .. } in levels {
         let subject = format!(in alloc; "{level}")?;
-        push_amounts(text, widths, subject.as_str(), *amounts, stats.all.bytes)?;
+        push_amounts(alloc, text, subject.as_str(), *amounts, stats.all)?;
         if amounts.bytes > 0 {
             let bar = bar(alloc, amounts.bytes, most)?;
             write!(text, "  {bar}")?;
@@ -108,21 +85,34 @@ fn push_levels(
     Ok(())
 }
 
-/// Appends the cells of a line, if there are `all` bytes in all.
+/// The bar of an `amount`: a mark for each place i, from 0 on, with `i * most < amount * 40`. In
+/// its group `most` is the largest amount.
+fn bar(alloc: Global, amount: u64, most: u64) -> Result<String, Fault> {
+    let mut text = String::new(alloc);
+    for place in 0..PLACES {
+        if u128::from(place) * u128::from(most) < u128::from(amount) * u128::from(PLACES) {
+            text.push('#')?;
+        }
+    }
+    Ok(text)
+}
+
+/// Appends the cells of a line, in columns as wide as the amounts of `all` levels need.
 fn push_amounts(
+    alloc: Global,
     text: &mut String,
-    widths: Widths,
     subject: &str,
     amounts: Amounts,
-    all: u64,
+    all: Amounts,
 ) -> Result<(), Fault> {
-    let share = percent(amounts.bytes, all);
+    let (columns, numbers) = (columns(all), columns(amounts));
     write!(text, "{subject:>5}")?;
-    write!(text, "  {:>1$}", amounts.files, widths.files)?;
-    write!(text, "  {:>1$}", amounts.bytes, widths.bytes)?;
-    write!(text, "  {:>1$}", amounts.entries, widths.entries)?;
-    write!(text, "  {:>1$}", amounts.deletions, widths.deletions)?;
-    write!(text, "  {:>1$}", amounts.hidden, widths.hidden)?;
+    for place in 0..5 {
+        let (heading, greatest) = columns[place];
+        let width = width(alloc, heading, greatest)?;
+        write!(text, "  {:>width$}", numbers[place].1)?;
+    }
+    let share = percent(amounts.bytes, all.bytes);
     write!(text, "  {share:>3} %")?;
     Ok(())
 }

@@ -22,20 +22,8 @@ pub fn dump(alloc: Global, spelling: Spelling, bytes: &[u8]) -> Result<Vec<u8>, 
     ensures { EqualOrMemory (λ lines. lines.items) result (table_dump spelling bytes.now) }
 {
     let table = check::<Bytewise>(alloc, bytes)?;
-    lines_of(alloc, spelling, &table)
-}
-
-/// The lines of a table.
-fn lines_of(
-    alloc: Global,
-    spelling: Spelling,
-    table: &SoundTable<'_, Bytewise>,
-) -> Result<Vec<u8>, Fault>
-    ensures { EqualOrMemory (λ lines. lines.items) result
-        (Ok (dump_lines spelling table.now.entries)) }
-{
     let mut out = String::new(alloc);
-    push_lines(alloc, &mut out, spelling, table)?;
+    push_lines(alloc, &mut out, spelling, &table)?;
     Ok(out.into_bytes())
 }
 

@@ -12,8 +12,7 @@ ghost use Rattle.folder.specs.Orders.{order_cmp};
 ghost use Rattle.folder.specs.Reports.{OnlyReads, ReportsDevice};
 ghost use Rattle.checks.specs.Tables.{NumberedContents};
 
-use crate::value_form::ValueForm;
-use crate::value_forms::value_answer;
+use crate::value_forms::{ValueForm, value_answer};
 use edit::Version;
 use folder::{Bytewise, Folder, Opened, Order, Shortlex};
 use scan::{get_unverified, sequence_of};

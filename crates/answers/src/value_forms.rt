@@ -9,16 +9,19 @@ ghost use Rattle.texts.specs.Spelling.{ArePrintable, ReadBack};
 ghost use Rattle.answers.specs.ValueForms.{ValueLinesDiffer, lone_text, value_answer, value_line};
 ghost use Rattle.answers.specs.ValueForms.{named_value_line, value_line_text};
 
-use crate::value_form::ValueForm;
 use std::alloc::Global;
 use table::Fault;
 use texts::Spelling;
 
-/// The line of a key without a value, but for its newline.
-const NONE: &str = "none";
-
-/// The text of the bytes that look like that line.
-const ESCAPED_NONE: &str = "\\x6eone";
+/// In which form the value of a key is answered.
+#[derive(Clone, Copy, PartialEq, Eq)]
+pub enum ValueForm {
+    /// Its text and a newline; the line `none` if the key has no value. The text of the four bytes
+    /// `none` is `\x6eone` here.
+    Line(Spelling),
+    /// The bytes of the value and nothing else; no answer if the key has no value.
+    Raw,
+}
 
 /// What is printed of a value, or of none, in a form; None if nothing is.
 pub fn value_answer(
@@ -58,19 +61,13 @@ fn value_line(alloc: Global, spelling: Spelling, value: Option<Vec<u8>>) -> Resu
         (Ok (value_line spelling (option_map (λ bytes. bytes.items) value))) }
 {
     match value {
-        Some(bytes) => line_of(alloc, spelling, bytes.as_slice()),
+        Some(bytes) => {
+            let mut line = lone_text(alloc, spelling, bytes.as_slice())?.into_bytes();
+            line.push(b'\n')?;
+            Ok(line)
+        }
         None => Ok(Vec::from_slice(alloc, b"none\n")?),
     }
-}
-
-/// The line of a value.
-fn line_of(alloc: Global, spelling: Spelling, value: &[u8]) -> Result<Vec<u8>, Fault>
-    ensures { EqualOrMemory (λ line. line.items) result
-        (Ok (value_line spelling (Some value.now))) }
-{
-    let mut line = lone_text(alloc, spelling, value)?.into_bytes();
-    line.push(b'\n')?;
-    Ok(line)
 }
 
 /// The text of a value on a line of its own.
@@ -80,8 +77,8 @@ fn lone_text(alloc: Global, spelling: Spelling, value: &[u8]) -> Result<String, 
     match spelling {
         Spelling::Hexadecimal => spelling.value_text(alloc, value),
         Spelling::Text | Spelling::Utf8 => {
-            if value == NONE.as_bytes() {
-                return Ok(String::from_str(alloc, ESCAPED_NONE)?);
+            if value == "none".as_bytes() {
+                return Ok(String::from_str(alloc, "\\x6eone")?);
             }
             spelling.value_text(alloc, value)
         }

@@ -1,16 +1,16 @@
 //! The lines that show a version, and its JSON object.
 
-ghost use Rattle.std.specs.Prelude.{◌≡◌, ◌++◌, ◌≤◌, IfErr, Ok, OnOk, map, string_bytes, unwrap_or};
+ghost use Rattle.std.specs.Prelude.{◌≡◌, ◌++◌, ◌≤◌, IfErr, Ok, OnOk, map, string_bytes};
 ghost use Rattle.table.specs.Answers.{EqualOrMemory, fault};
 ghost use Rattle.table.specs.fault.FaultName.TheVariants.{Memory};
 ghost use Rattle.edit.specs.declared.meta.TheConstants.{LAST_LEVEL};
+ghost use Rattle.folder.specs.Orders.{order_cmp};
 ghost use Rattle.serde_json.specs.View.{members_view, view};
 ghost use Rattle.answers.specs.Objects.{members_of};
 ghost use Rattle.answers.specs.Rows.{listed};
 ghost use Rattle.answers.specs.Seen.{seen};
-ghost use Rattle.answers.specs.VersionAnswer.{counter_fields, counter_lines, counters_of};
-ghost use Rattle.answers.specs.VersionAnswer.{file_rows, head_fields, head_lines, lines_by};
-ghost use Rattle.answers.specs.VersionAnswer.{object_by, pointer_row, pointer_rows};
+ghost use Rattle.answers.specs.VersionAnswer.{counters_of, file_rows, head_fields, head_lines};
+ghost use Rattle.answers.specs.VersionAnswer.{pointer_row, pointer_rows, version_lines};
 ghost use Rattle.answers.specs.VersionAnswer.{version_object};
 
 use crate::json_object::{Cell, NO_KEYS, members};
@@ -22,18 +22,20 @@ use std::alloc::Global;
 use table::{Comparator, Fault};
 use texts::Spelling;
 
-/// The lines of a version, with files in the version order of this comparator.
-pub(crate) fn version_lines<C: Comparator>(
+/// The lines of a `version` of this `order`: what [`manifest`](crate::manifest) answers of a folder
+/// that is opened already.
+pub fn manifest_lines(
     alloc: Global,
     spelling: Spelling,
     order: Order,
     version: &Version,
 ) -> Result<Vec<u8>, Fault>
-    ensures { EqualOrMemory (λ v. v.items) result (Ok (lines_by spelling order C.cmp version.now)) }
+    ensures { EqualOrMemory (λ v. v.items) result
+        (Ok (version_lines spelling order version.now)) }
 {
-    let mut text = head_text(alloc, order, version)?;
+    let mut text = head_text(alloc, order.name(), Counters::of(version))?;
     let pointers = pointer_rows(alloc, version)?;
-    let files = file_rows::<C>(alloc, version)?;
+    let files = file_rows(alloc, order, version)?;
     push_rows(alloc, &mut text, spelling, &pointers)?;
     push_rows(alloc, &mut text, spelling, &files)?;
     Ok(text.into_bytes())
@@ -55,24 +57,9 @@ pub fn version_json(
 ) -> Result<Value, Fault>
     ensures { EqualOrMemory view result (Ok (version_object spelling order version.now)) }
 {
-    match order {
-        Order::Bytewise => json_by::<Bytewise>(alloc, spelling, order, version),
-        Order::Shortlex => json_by::<Shortlex>(alloc, spelling, order, version),
-    }
-}
-
-/// The same with files in the version order of this comparator.
-fn json_by<C: Comparator>(
-    alloc: Global,
-    spelling: Spelling,
-    order: Order,
-    version: &Version,
-) -> Result<Value, Fault>
-    ensures { EqualOrMemory view result (Ok (object_by spelling order C.cmp version.now)) }
-{
-    let files = objects(alloc, spelling, &file_rows::<C>(alloc, version)?)?;
+    let files = objects(alloc, spelling, &file_rows(alloc, order, version)?)?;
     let pointers = objects(alloc, spelling, &pointer_rows(alloc, version)?)?;
-    let mut members = head_members(alloc, order, version)?;
+    let mut members = head_members(alloc, order.name(), Counters::of(version))?;
     put(&mut members, alloc, "files", Value::Array(files))?;
     put(&mut members, alloc, "pointers", Value::Array(pointers))?;
     Ok(Value::Object(members))
@@ -92,33 +79,17 @@ impl Counters {
         ensures { result ≡ counters_of version.now }
     {
         Counters {
-            last: counter(version.last_sequence()),
-            log: counter(version.log_number()),
-            next: counter(version.next_file()),
-            previous: counter(version.previous_log()),
+            last: version.last_sequence().unwrap_or(0),
+            log: version.log_number().unwrap_or(0),
+            next: version.next_file().unwrap_or(0),
+            previous: version.previous_log().unwrap_or(0),
         }
     }
 }
 
-/// A counter, 0 if it was never set.
-fn counter(number: Option<u64>) -> u64
-    ensures { result ≡ unwrap_or number 0 }
-{
-    number.unwrap_or(0)
-}
-
-/// The lines of the comparator and the counters.
-fn head_text(alloc: Global, order: Order, version: &Version) -> Result<String, Fault>
-    ensures { EqualOrMemory string_bytes result (Ok (head_lines order version.now)) }
-{
-    let name = order.name();
-    let counters = Counters::of(version);
-    counters_text(alloc, name, counters)
-}
-
-/// The same of a comparator's name and of counters.
-fn counters_text(alloc: Global, name: &str, counters: Counters) -> Result<String, Fault>
-    ensures { EqualOrMemory string_bytes result (Ok (counter_lines name.now counters)) }
+/// The lines of a comparator's name and of counters.
+fn head_text(alloc: Global, name: &str, counters: Counters) -> Result<String, Fault>
+    ensures { EqualOrMemory string_bytes result (Ok (head_lines name.now counters)) }
 {
     let Counters {
         last,
@@ -131,24 +102,10 @@ fn counters_text(alloc: Global, name: &str, counters: Counters) -> Result<String
     )?)
 }
 
-/// The members of the comparator and the counters.
-fn head_members(alloc: Global, order: Order, version: &Version) -> Result<Map<String, Value>, Fault>
+/// The members of these.
+fn head_members(alloc: Global, name: &str, counters: Counters) -> Result<Map<String, Value>, Fault>
     ensures { EqualOrMemory (λ m. members_view m.entries) result
-        (Ok (members_of (head_fields order version.now))) }
-{
-    let name = order.name();
-    let counters = Counters::of(version);
-    counters_members(alloc, name, counters)
-}
-
-/// The same of a comparator's name and of counters.
-fn counters_members(
-    alloc: Global,
-    name: &str,
-    counters: Counters,
-) -> Result<Map<String, Value>, Fault>
-    ensures { EqualOrMemory (λ m. members_view m.entries) result
-        (Ok (members_of (counter_fields name.now counters))) }
+        (Ok (members_of (head_fields name.now counters))) }
 {
     let fields = [
         ("comparator", Cell::Text(name)),
@@ -185,8 +142,19 @@ fn push_pointer<'v>(rows: &mut Vec<Row<'v>>, version: &'v Version, level: u64) -
     Ok(())
 }
 
-/// The files: by level, and in the version order of this comparator.
-fn file_rows<C: Comparator>(alloc: Global, version: &Version) -> Result<Vec<Row<'_>>, Fault>
+/// The files: by level, and in the version order of this `order`.
+fn file_rows(alloc: Global, order: Order, version: &Version) -> Result<Vec<Row<'_>>, Fault>
+    ensures { EqualOrMemory (λ rows. map seen rows.items) result
+        (Ok (file_rows (order_cmp order) version.now)) }
+{
+    match order {
+        Order::Bytewise => rows_by::<Bytewise>(alloc, version),
+        Order::Shortlex => rows_by::<Shortlex>(alloc, version),
+    }
+}
+
+/// The same by this comparator.
+fn rows_by<C: Comparator>(alloc: Global, version: &Version) -> Result<Vec<Row<'_>>, Fault>
     ensures { EqualOrMemory (λ rows. map seen rows.items) result
         (Ok (file_rows C.cmp version.now)) }
 {

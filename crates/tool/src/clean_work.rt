@@ -25,14 +25,8 @@ pub fn clean_folder<R: Host>(session: Session<'_, R>, is_json: bool) -> Result<(
         opened,
         ..
     } = begin_change(session)?;
-    remove_files(
-        rt,
-        telling.folder,
-        &mut disk,
-        &opened.into_opened(),
-        files,
-        is_json,
-    )
+    let opened = opened.into_opened();
+    remove_files(rt, telling.folder, &mut disk, &opened, files, is_json)
 }
 
 /// The lines of the files that a folder's version doesn't need. Nothing is written.
@@ -71,10 +65,7 @@ fn remove_files<R: SystemFiles + Print + AllocGlobal>(
     if let Err(fault) = remove_obsolete(rt.alloc(), folder, opened, &names, &mut printer) {
         return Err(refused_at(rt, path, folder, fault));
     }
-    match printer.take_refusal(path) {
-        Some(refusal) => Err(refusal),
-        None => Ok(()),
-    }
+    printer.take_refusal(path).map_or(Ok(()), Err)
 }
 
 /// Removes the files of a folder that the version doesn't need that was installed by the manifest
@@ -113,10 +104,8 @@ pub(crate) struct RemovalPrinter<'t, R> {
     rt: &'t R,
     /// Whether the lines are JSON.
     is_json: bool,
-    /// How many bytes each file has, in the order of their removal.
+    /// How many bytes each file has that is to be removed, the first one's last.
     lengths: Vec<u64>,
-    /// How many are removed.
-    removed: usize,
     /// Why the first line that could not be printed was not.
     refusal: Option<Refusal>,
 }
@@ -128,15 +117,14 @@ impl<'t, R: AllocGlobal> RemovalPrinter<'t, R> {
             rt,
             is_json,
             lengths: Vec::new(rt.alloc()),
-            removed: 0,
             refusal: None,
         }
     }
 
-    /// Files of these `lengths` will be removed.
+    /// Files of these `lengths` will be removed, in this order.
     pub fn begin(&mut self, lengths: Vec<u64>) {
         self.lengths = lengths;
-        self.removed = 0;
+        self.lengths.reverse();
     }
 
     /// The refusal if a line of the files of a `folder` could not be printed.
@@ -161,15 +149,9 @@ impl<'t, R: Print + AllocGlobal> RemovalPrinter<'t, R> {
 
 impl<'t, R: Print + AllocGlobal> RemovalWatch for RemovalPrinter<'t, R> {
     fn removed(&mut self, name: &str) {
-        let length = match self.lengths.get(self.removed) {
-            Some(length) => *length,
-            None => 0,
-        };
-        self.removed = self.removed.saturating_add(1);
-        if self.refusal.is_none()
-            && let Err(refusal) = self.print(name, length)
-        {
-            self.refusal = Some(refusal);
+        let length = self.lengths.pop().unwrap_or(0);
+        if self.refusal.is_none() {
+            self.refusal = self.print(name, length).err();
         }
     }
 }

@@ -21,8 +21,7 @@ pub(crate) fn version_total(alloc: Global, version: &Version) -> Result<FileTota
 }
 
 /// The same with these files too.
-fn with_files(total: FileTotal, files: &[&FileMeta]) -> FileTotal {
-    let mut total = total;
+fn with_files(mut total: FileTotal, files: &[&FileMeta]) -> FileTotal {
     for file in files {
         total = total.with(file.size);
     }
@@ -62,23 +61,15 @@ pub(crate) fn note_of<R: SystemFiles + AllocGlobal>(
     if telling.is_quiet {
         return None;
     }
-    let inputs = deleted_files(rt.alloc(), before, deleted).ok()?;
+    let alloc = rt.alloc();
+    let inputs = deleted_files(alloc, before, deleted).ok()?;
     let mut folder = Disk::new(rt, telling.folder);
     Some(CompactionNote {
         taken: total_of(&inputs),
         made: total_of(outputs),
-        loses_filters: are_filters_lost(rt.alloc(), &mut folder, &inputs, outputs) == Ok(true),
+        loses_filters: have_filter(alloc, &mut folder, &inputs) == Ok(true)
+            && have_filter(alloc, &mut folder, outputs) == Ok(false),
     })
-}
-
-/// Whether one of these inputs has a filter block, and no output has.
-fn are_filters_lost<R: SystemFiles + AllocGlobal>(
-    alloc: Global,
-    folder: &mut Disk<'_, R>,
-    inputs: &[(u64, u64)],
-    outputs: &[(u64, u64)],
-) -> Result<bool, Fault> {
-    Ok(have_filter(alloc, folder, inputs)? && !have_filter(alloc, folder, outputs)?)
 }
 
 impl CompactionNote {
@@ -108,13 +99,11 @@ pub(crate) fn tell_made<R: Eprint + AllocGlobal>(
     before: FileTotal,
     after: FileTotal,
 ) {
-    if telling.is_quiet {
-        return;
-    }
     let alloc = rt.alloc();
-    let before = total_text(alloc, before.files, before.bytes);
-    let after = total_text(alloc, after.files, after.bytes);
-    if let (Ok(before), Ok(after)) = (before, after) {
+    if !telling.is_quiet
+        && let Ok(before) = total_text(alloc, before.files, before.bytes)
+        && let Ok(after) = total_text(alloc, after.files, after.bytes)
+    {
         let _ = eprintln!(rt; "{before} into {after}");
     }
 }
@@ -122,11 +111,9 @@ pub(crate) fn tell_made<R: Eprint + AllocGlobal>(
 /// Tells how many files the version of a folder doesn't need, and what removes them. Nothing is
 /// told if there is none, or if they can't be counted.
 pub(crate) fn tell_room<R: SystemFiles + Eprint + AllocGlobal>(rt: &R, telling: Telling<'_>) {
-    if telling.is_quiet {
-        return;
-    }
     let folder = telling.folder;
-    if let Ok(total) = unneeded_total(rt, folder)
+    if !telling.is_quiet
+        && let Ok(total) = unneeded_total(rt, folder)
         && total.files > 0
         && let Ok(files) = total_text(rt.alloc(), total.files, total.bytes)
     {
@@ -157,22 +144,20 @@ pub(crate) fn tell_no_step<R: Eprint>(rt: &R, telling: Telling<'_>, bottom: u64,
         let _ = eprintln!(rt;
             "sedvokt: {folder}: there is nothing to compact: no level has a file"
         );
-        return;
-    }
-    if bottom >= LAST_LEVEL {
+    } else if bottom >= LAST_LEVEL {
         let _ = eprintln!(rt;
             "sedvokt: {folder}: all files are at level {bottom}, the last one, where nothing is \
                 compacted"
         );
-        return;
-    }
-    let rewritten = if files == 1 {
-        "the file"
     } else {
-        "some of them, and --all then the others"
-    };
-    let _ = eprintln!(rt;
-        "sedvokt: {folder}: all files are at level {bottom}, where --all leaves them; \
-            compact --level {bottom} rewrites {rewritten}"
-    );
+        let rewritten = if files == 1 {
+            "the file"
+        } else {
+            "some of them, and --all then the others"
+        };
+        let _ = eprintln!(rt;
+            "sedvokt: {folder}: all files are at level {bottom}, where --all leaves them; \
+                compact --level {bottom} rewrites {rewritten}"
+        );
+    }
 }

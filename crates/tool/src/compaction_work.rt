@@ -4,8 +4,9 @@ use crate::clean_work::{clean_folder, clean_named};
 use crate::compaction_notes::{note_of, tell_room};
 use crate::folder_change::begin_change;
 use crate::outcome_work::{outcome_of, test_of};
-use crate::printed_work::{DoneWork, print_installed, tell_step, unprinted};
+use crate::printed_work::{DoneWork, print_compaction, tell_step, unprinted};
 use crate::step_printer::StepPrinter;
+use answers::CompactionEnd;
 use folder::{Bytewise, Fault, FaultName, Version};
 use levels::{Descent, Selection, compact_level};
 use refusals::sizes_in_turn;
@@ -30,7 +31,12 @@ pub fn compact_folder<R: Host>(
         sizes_in_turn(rt, telling.folder, &session.opened)?;
     }
     if is_due(rt.alloc(), &session.opened.version, levels)? {
-        levels_compacted(session, line, levels)?;
+        telling.tell_replaceable(rt, &session.opened.version, &[]);
+        let change = begin_change(session)?;
+        match levels {
+            Levels::One(level) | Levels::Whole(level) => compact_one(change, line, levels, level)?,
+            Levels::All => compact_all(change, line)?,
+        }
     } else {
         nothing_compacted(session, line, levels)?;
     }
@@ -38,35 +44,13 @@ pub fn compact_folder<R: Host>(
     Ok(())
 }
 
-/// Compacts these levels, of which one has inputs.
-fn levels_compacted<R: Host>(
-    session: Session<'_, R>,
-    line: &CompactLine<'_>,
-    levels: Levels,
-) -> Result<(), Refusal> {
-    session
-        .telling
-        .tell_replaceable(session.rt, &session.opened.version, &[]);
-    let change = begin_change(session)?;
-    match levels {
-        Levels::One(level) | Levels::Whole(level) => compact_one(change, line, levels, level),
-        Levels::All => compact_all(change, line),
-    }
-}
-
 /// Whether there is a level to compact.
 fn is_due(alloc: Global, version: &Version, levels: Levels) -> Result<bool, Fault> {
     match levels {
         Levels::One(level) | Levels::Whole(level) => {
-            if level >= LAST_LEVEL {
-                return Ok(false);
-            }
-            Ok(!version.files::<Bytewise>(alloc, level)?.is_empty())
+            Ok(level < LAST_LEVEL && !version.files::<Bytewise>(alloc, level)?.is_empty())
         }
-        Levels::All => {
-            let bottom = bottom(alloc, version)?;
-            Ok(next_level(alloc, version, bottom)?.is_some())
-        }
+        Levels::All => Ok(next_level(alloc, version, bottom(alloc, version)?)?.is_some()),
     }
 }
 
@@ -87,7 +71,8 @@ fn nothing_compacted<R: Host>(
             let (rt, telling) = (session.rt, session.telling);
             let progress = session.progress();
             let version = &session.opened.version;
-            StepPrinter::new(rt, telling, &progress, version, line)?.end()?;
+            let mut steps = StepPrinter::new(rt, telling, &progress, version, line)?;
+            steps.end()?;
             if line.options.cleans {
                 clean_folder(session, line.options.is_json)?;
             }
@@ -108,15 +93,11 @@ fn compact_one<R: Host>(
     let begun = telling.begin(rt);
     let step = step_made(&mut change, line, levels, level)?;
     tell_step(rt, level, begun);
-    let note = note_of(
-        rt,
-        telling,
-        &change.opened.version,
-        &step.outputs,
-        &step.deleted,
-    );
+    let (before, outputs, deleted) = (&change.opened.version, &step.outputs, &step.deleted);
+    let note = note_of(rt, telling, before, outputs, deleted);
+    let end = CompactionEnd::Installed(step.manifest);
     let is_json = line.options.is_json;
-    if let Err(refusal) = print_installed(rt, level, &step, is_json) {
+    if let Err(refusal) = print_compaction(rt, level, outputs, deleted, end, is_json) {
         return Err(unprinted(rt.alloc(), telling.folder, DoneWork::Version, refusal));
     }
     if let Some(note) = note {

@@ -2,7 +2,6 @@
 
 use folder::Fault;
 use session::{Answer, Host, Session};
-use std::alloc::Global;
 use store::{Inputs, files_to_compact, parts_to_compact};
 use usage::JobLine;
 
@@ -11,32 +10,22 @@ use usage::JobLine;
 pub fn job_answer<R: Host>(session: &mut Session<'_, R>, line: &JobLine<'_>) -> Answer {
     let alloc = session.rt.alloc();
     if line.by_parts {
-        let parts = parts_to_compact(alloc, &session.opened, line.level);
-        let parts = session.done(parts)?;
-        return Ok(part_lines(alloc, &parts)?.into_bytes());
+        let parts = session.done(parts_to_compact(alloc, &session.opened, line.level))?;
+        let mut lines = String::new(alloc);
+        for (place, part) in parts.iter().enumerate() {
+            push_part(&mut lines, place as u64 + 1, part)?;
+        }
+        return Ok(lines.into_bytes());
     }
     let lines = files_to_compact(alloc, &mut session.disk, &session.opened, line.level);
     session.done(lines)
 }
 
-/// The lines of parts: one a file.
-fn part_lines(alloc: Global, parts: &[Inputs]) -> Result<String, Fault> {
-    let mut lines = String::new(alloc);
-    for (place, part) in parts.iter().enumerate() {
-        push_part(&mut lines, place as u64 + 1, part)?;
-    }
-    Ok(lines)
-}
-
-/// Appends the lines of the part of a `number`.
+/// Appends the lines of the part of a `number`: one a file.
 fn push_part(lines: &mut String, number: u64, part: &Inputs) -> Result<(), Fault> {
     for file in &part.files {
-        let meta = &file.meta;
-        writeln!(
-            lines,
-            "part {number} {} {} {}",
-            file.level, meta.number, meta.size
-        )?;
+        let (level, meta) = (file.level, &file.meta);
+        writeln!(lines, "part {number} {level} {} {}", meta.number, meta.size)?;
     }
     Ok(())
 }

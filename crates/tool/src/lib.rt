@@ -15,7 +15,6 @@ mod outcome_refusal;
 mod outcome_work;
 mod printed_work;
 mod step_printer;
-mod work_left;
 
 pub use clean_work::{clean_folder, removable_answer};
 pub use compaction_work::compact_folder;

@@ -55,14 +55,8 @@ pub(crate) fn fill<R: SystemFiles + AllocGlobal + Threads + Sync>(
     let mut folder = Disk::owned_as(rt, out, database);
     let written = write_outcome(rt, &mut folder, outcome);
     written.map_err(|fault| refused_at(rt, out, &folder, fault))?;
-    if is_new {
-        let path = out.trim_end_matches('/');
-        sync_folder_of(rt, path).map_err(|error| Refusal::of_call(
-            rt.alloc(),
-            out,
-            "sync its folder",
-            &error,
-        ))?;
+    if is_new && let Err(error) = sync_folder_of(rt, out.trim_end_matches('/')) {
+        return Err(Refusal::of_call(rt.alloc(), out, "sync its folder", &error));
     }
     Ok(())
 }
@@ -85,12 +79,10 @@ fn is_made<R: Files + AllocGlobal>(rt: &R, out: &str) -> Result<bool, Refusal> {
 fn claimed<R: SystemFiles + AllocGlobal>(rt: &R, out: &str) -> Result<File, Refusal> {
     let mut how = OpenOptions::new();
     how.read(true);
-    let folder = rt.open_own(&how, out).map_err(|error| Refusal::of_call(
-        rt.alloc(),
-        out,
-        "open it",
-        &error,
-    ))?;
+    let folder = match rt.open_own(&how, out) {
+        Ok(folder) => folder,
+        Err(error) => return Err(Refusal::of_call(rt.alloc(), out, "open it", &error)),
+    };
     let is_held = matches!(folder.try_lock(), Err(TryLockError::WouldBlock));
     if is_held || state_of(rt, out)? != OutState::Empty {
         let wrong = "it was empty, and another program writes into it by now";

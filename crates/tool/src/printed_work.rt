@@ -5,7 +5,7 @@ use session::{Beginning, Refusal, RefusalText, print_lines, tell_time};
 use std::alloc::Global;
 use std::collections::BTreeSet;
 use std::time::Clock;
-use store::{CompactionStep, DeletedFile};
+use store::DeletedFile;
 
 /// Work that is done by the time its lines can't be written.
 #[derive(Clone, Copy)]
@@ -55,25 +55,12 @@ pub(crate) fn print_compaction<R: Print + AllocGlobal>(
 ) -> Result<(), Refusal> {
     let alloc = rt.alloc();
     let text = if is_json {
-        json_line(
-            alloc,
-            &compaction_json(alloc, level, outputs, deleted, end)?,
-        )?
+        let object = compaction_json(alloc, level, outputs, deleted, end)?;
+        json_line(alloc, &object)?
     } else {
         compaction_lines(alloc, outputs, deleted, end)?
     };
     print_lines(rt, text.as_bytes())
-}
-
-/// Prints the lines of a compaction of a level, which is installed, or its JSON line.
-pub(crate) fn print_installed<R: Print + AllocGlobal>(
-    rt: &R,
-    level: u64,
-    step: &CompactionStep,
-    is_json: bool,
-) -> Result<(), Refusal> {
-    let end = CompactionEnd::Installed(step.manifest);
-    print_compaction(rt, level, &step.outputs, &step.deleted, end, is_json)
 }
 
 /// Tells how long the compaction of a level took, if its beginning is known.

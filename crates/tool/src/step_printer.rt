@@ -2,16 +2,18 @@
 //! each.
 
 use crate::clean_work::{RemovalPrinter, files_named};
-use crate::compaction_notes::{CompactionNote, note_of, tell_made, tell_no_step, version_total};
-use crate::printed_work::{DoneWork, print_installed, tell_step, unprinted};
-use crate::work_left::work_left;
-use answers::FileTotal;
-use disk::{Disk, SystemFiles};
-use folder::{Fault, Opened, Version};
+use crate::compaction_notes::{note_of, tell_made, tell_no_step, version_total};
+use crate::printed_work::{DoneWork, print_compaction, tell_step, unprinted};
+use answers::{CompactionEnd, FileTotal};
+use disk::Disk;
+use folder::{Bytewise, Fault, Opened, Version};
 use install::RemovalWatch;
-use session::{Beginning, Host, ProgressLine, Refusal, Telling, UnneededFiles};
+use session::{
+    Beginning, Host, LAST_LEVEL, ProgressLine, Refusal, Telling, UnneededFiles, WorkLeft,
+    bytes_of_files,
+};
 use std::time::Clock;
-use store::{CleanWatch, CompactionStep, InstallWatch, bottom};
+use store::{CleanWatch, CompactionStep, InstallWatch, bottom, next_level};
 use usage::CompactLine;
 
 /// Who prints the steps of a compaction of all levels. If files are removed after each, it lists
@@ -25,8 +27,10 @@ pub(crate) struct StepPrinter<'t, R> {
     file_size: u64,
     /// Whether the lines are JSON.
     is_json: bool,
-    /// Who prints the files that are removed after each step. None if none is removed then.
-    removals: Option<RemovalPrinter<'t, R>>,
+    /// Whether files are removed after each step.
+    cleans: bool,
+    /// Who prints these.
+    removals: RemovalPrinter<'t, R>,
     /// The level to which all files go.
     bottom: u64,
     /// All files before the first step.
@@ -55,18 +59,14 @@ impl<'t, R: Eprint + Clock + AllocGlobal> StepPrinter<'t, R> {
     ) -> Result<StepPrinter<'t, R>, Fault> {
         let bottom = bottom(rt.alloc(), version)?;
         let before = version_total(rt.alloc(), version)?;
-        let is_json = line.options.is_json;
         let steps = StepPrinter {
             rt,
             telling,
             progress,
             file_size: line.settings.options.file_size,
-            is_json,
-            removals: if line.options.cleans {
-                Some(RemovalPrinter::new(rt, is_json))
-            } else {
-                None
-            },
+            is_json: line.options.is_json,
+            cleans: line.options.cleans,
+            removals: RemovalPrinter::new(rt, line.options.is_json),
             bottom,
             before,
             after: None,
@@ -81,45 +81,52 @@ impl<'t, R: Eprint + Clock + AllocGlobal> StepPrinter<'t, R> {
 
     /// Whether all steps could be printed, and none was the last one for a reason. If so, it is
     /// told what was made of all files.
-    pub fn end(self) -> Result<(), Refusal> {
-        let StepPrinter {
-            rt,
-            telling,
-            bottom,
-            before,
-            after,
-            done,
-            refusal,
-            ..
-        } = self;
-        if let Some(refusal) = refusal {
+    pub fn end(&mut self) -> Result<(), Refusal> {
+        if let Some(refusal) = self.refusal.take() {
             return Err(refusal);
         }
-        if done == 0 {
-            tell_no_step(rt, telling, bottom, before.files);
-        } else if let Some(after) = after {
-            tell_made(rt, telling, before, after);
+        if self.done == 0 {
+            tell_no_step(self.rt, self.telling, self.bottom, self.before.files);
+        } else if let Some(after) = self.after {
+            tell_made(self.rt, self.telling, self.before, after);
         }
         Ok(())
     }
 
     /// Has the line of progress show the step that begins at a version.
     fn show_left(&self, version: &Version) {
-        let alloc = self.rt.alloc();
-        let memory = self.telling.memory;
-        if let Ok(Some(left)) = work_left(alloc, version, self.bottom, self.file_size, memory) {
+        if let Ok(Some(left)) = self.work_left(version) {
             self.progress.begin_step(self.done, left);
         }
     }
-}
 
-impl<'t, R: SystemFiles + Eprint + Clock + AllocGlobal> StepPrinter<'t, R> {
-    /// What is to be told of a step, unless it was told before that filters are gone.
-    fn note_of(&self, before: &Version, step: &CompactionStep) -> Option<CompactionNote> {
-        if self.has_told_filters {
-            return None;
+    /// What is left above the bottom of a version. None if no file is above it.
+    ///
+    /// A level takes one step if it is level 0, or if all that comes down to it is no larger
+    /// together with the next level than the parts that a step takes. Else one file is moved down a
+    /// step, of its own or from above.
+    fn work_left(&self, version: &Version) -> Result<Option<WorkLeft>, Fault> {
+        let alloc = self.rt.alloc();
+        let bottom = self.bottom.min(LAST_LEVEL);
+        let Some(level) = next_level(alloc, version, bottom)? else {
+            return Ok(None);
+        };
+        let (mut steps, mut bytes) = (0u64, 0u64);
+        for level in 0..bottom {
+            let files = version.files::<Bytewise>(alloc, level)?;
+            let below = version.files::<Bytewise>(alloc, level + 1)?;
+            let new_files = bytes.div_ceil(self.file_size.max(1));
+            let come = new_files.saturating_add(files.len() as u64);
+            bytes = bytes.saturating_add(bytes_of_files(&files));
+            let together = bytes.saturating_add(bytes_of_files(&below));
+            let is_one = level == 0 || together <= self.telling.memory;
+            steps = steps.saturating_add(if is_one { come.min(1) } else { come });
         }
-        note_of(self.rt, self.telling, before, &step.outputs, &step.deleted)
+        Ok(Some(WorkLeft {
+            level,
+            steps,
+            bytes,
+        }))
     }
 
     /// Ends a step, and begins the next one.
@@ -142,18 +149,24 @@ impl<'t, R: Host> InstallWatch for StepPrinter<'t, R> {
         before: &Version,
         after: Option<&Version>,
     ) -> bool {
+        let (rt, outputs, deleted) = (self.rt, &step.outputs, &step.deleted);
         self.progress.erase();
-        tell_step(self.rt, level, self.begun);
-        let note = self.note_of(before, step);
-        if let Err(refusal) = print_installed(self.rt, level, step, self.is_json) {
+        tell_step(rt, level, self.begun);
+        let note = if self.has_told_filters {
+            None
+        } else {
+            note_of(rt, self.telling, before, outputs, deleted)
+        };
+        let end = CompactionEnd::Installed(step.manifest);
+        if let Err(refusal) = print_compaction(rt, level, outputs, deleted, end, self.is_json) {
             let folder = self.telling.folder;
-            self.refusal = Some(unprinted(self.rt.alloc(), folder, DoneWork::Step, refusal));
+            self.refusal = Some(unprinted(rt.alloc(), folder, DoneWork::Step, refusal));
             return false;
         }
         if let Some(note) = note {
-            self.has_told_filters = note.tell_filters(self.rt, self.telling);
+            self.has_told_filters = note.tell_filters(rt, self.telling);
         }
-        if self.removals.is_none() {
+        if !self.cleans {
             self.end_step(after);
         }
         true
@@ -162,15 +175,13 @@ impl<'t, R: Host> InstallWatch for StepPrinter<'t, R> {
 
 impl<'t, R: Host> RemovalWatch for StepPrinter<'t, R> {
     fn removed(&mut self, name: &str) {
-        if let Some(removals) = &mut self.removals {
-            removals.removed(name);
-        }
+        self.removals.removed(name);
     }
 }
 
 impl<'t, R: Host> CleanWatch for StepPrinter<'t, R> {
     fn names(&mut self, opened: &Opened) -> Option<Vec<String>> {
-        if self.removals.is_none() {
+        if !self.cleans {
             return Some(Vec::new(self.rt.alloc()));
         }
         let folder = self.telling.folder;
@@ -178,9 +189,7 @@ impl<'t, R: Host> CleanWatch for StepPrinter<'t, R> {
         match files_named(self.rt, folder, &mut disk, Some(opened.manifest)) {
             Ok((_, files)) => {
                 let UnneededFiles { names, lengths } = files;
-                if let Some(removals) = &mut self.removals {
-                    removals.begin(lengths);
-                }
+                self.removals.begin(lengths);
                 Some(names)
             }
             Err(refusal) => {
@@ -191,14 +200,12 @@ impl<'t, R: Host> CleanWatch for StepPrinter<'t, R> {
     }
 
     fn cleaned(&mut self, opened: &Opened) -> bool {
-        let Some(removals) = &mut self.removals else {
-            return true;
-        };
-        self.refusal = removals.take_refusal(self.telling.folder);
-        if self.refusal.is_some() {
-            return false;
+        if self.cleans {
+            self.refusal = self.removals.take_refusal(self.telling.folder);
+            if self.refusal.is_none() {
+                self.end_step(Some(&opened.version));
+            }
         }
-        self.end_step(Some(&opened.version));
-        true
+        self.refusal.is_none()
     }
 }

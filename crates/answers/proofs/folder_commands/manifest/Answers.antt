@@ -2,7 +2,7 @@ use Rattle.std.proofs.Common.{◌≡◌, Ok, Err, refl, arith}
 use Rattle.folder.proofs.OpeningLemmas.{answers_alone, hands_on}
 use Rattle.folder.proofs.ReportLemmas.{reports_after, reports_handed}
 use Rattle.folder.specs.OpenAnswer.{IsOpened}
-use Rattle.answers.proofs.ShowingLemmas.{answer_device, answer_holds}
+use Rattle.answers.proofs.FolderLineLemmas.{answer_device, answer_holds}
 use Rattle.answers.specs.VersionAnswer.{IsShown, version_lines}
 use Rattle.answers.proofs.folder_commands.manifest.Goals as goal
 

@@ -7,8 +7,7 @@ use Rattle.folder.proofs.ToldLemmas.{opened_in, told_still}
 use Rattle.folder.specs.OpenAnswer.{IsOpened}
 use Rattle.folder.specs.Orders.{order_cmp}
 use Rattle.folder.specs.ReadsAs.{IsFileIn}
-use Rattle.answers.proofs.FolderLineLemmas.{answer_of_tested, not_opened, opened_as, refused_answer}
-use Rattle.answers.proofs.ShowingLemmas.{answer_device, answer_holds}
+use Rattle.answers.proofs.FolderLineLemmas.{answer_device, answer_holds, answer_of_tested, not_opened, opened_as, refused_answer}
 use Rattle.answers.specs.FolderLines.{IsAnswerOfFolder, IsAnswerOfVersion, lawful_line, verified_line}
 use Rattle.answers.proofs.folder_commands.verify.Goals as goal
 

@@ -5,9 +5,8 @@ use Rattle.checks.proofs.LawfulLemmas.{sound_checked, sound_lawful}
 use Rattle.folder.proofs.ReportLemmas.{reports_after, reports_handed}
 use Rattle.folder.specs.Levels.{file_numbers}
 use Rattle.checks.specs.Gets.{get_of}
+use Rattle.answers.proofs.FolderLineLemmas.{answer_device, value_refused, value_told}
 use Rattle.answers.proofs.HeldTables.{hold_tables}
-use Rattle.answers.proofs.ShowingLemmas.{answer_device}
-use Rattle.answers.proofs.UnverifiedLemmas.{value_refused, value_told}
 use Rattle.answers.specs.FolderLines.{got_answer}
 use Rattle.answers.specs.ValueForms.{value_answer}
 use Rattle.answers.proofs.unverified_get.value_by.Goals as goal

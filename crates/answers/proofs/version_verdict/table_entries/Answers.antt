@@ -7,7 +7,7 @@ use Rattle.table.specs.TableContents.{blocks_of, table_reading}
 use Rattle.table.specs.declared.tally.Tally.{Tally}
 use Rattle.answers.specs.FaultLines.{counted_entries}
 use Rattle.answers.proofs.TableLemmas.{from_contents}
-use Rattle.answers.proofs.table_verdict.table_entries.Goals as goal
+use Rattle.answers.proofs.version_verdict.table_entries.Goals as goal
 
 pub returns : goal.returns
 returns c =

@@ -1,7 +1,7 @@
 //! All entries of a key in a folder.
 
 use crate::row_printer::push_logs;
-use crate::version_verdict::test_unless_skipped;
+use crate::version_printer::test_unless_skipped;
 use answers::{EntryPlace, entry_json, entry_line, json_line};
 use checks::Fault;
 use scan::{Kind, PlacedEntry, key_history};

@@ -14,7 +14,7 @@ mod row_printer;
 mod stats_printer;
 mod table_files;
 mod value_printer;
-mod version_verdict;
+mod version_printer;
 
 pub use block_files::blocks_answer;
 pub use history_printer::history_answer;
@@ -24,4 +24,4 @@ pub use row_printer::rows_answer;
 pub use stats_printer::stats_answer;
 pub use table_files::{table_answer, table_verdict};
 pub use value_printer::values_answer;
-pub use version_verdict::{verdict_answer, version_answer};
+pub use version_printer::{verdict_answer, version_answer};

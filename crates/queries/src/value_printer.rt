@@ -1,7 +1,7 @@
 //! The values of keys in a folder.
 
 use crate::row_printer::AT_ONCE;
-use crate::version_verdict::test_unless_skipped;
+use crate::version_printer::test_unless_skipped;
 use answers::{ValueForm, json_line, push_named_value, unverified_value, value_json};
 use checks::Fault;
 use session::{Answer, Host, Refusal, Session, print_lines};

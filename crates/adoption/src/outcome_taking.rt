@@ -88,8 +88,8 @@ pub fn take_outcome<'o, F: Folder, G: Folder, W: Watch + Sync, R: Threads + Sync
     ensures answer { (files given : Files) → Tells (F.tells folder.old) files →
         Tells (G.tells source.old) given →
         AnswersFrom outcome_taken (HasEitherFailed F.Folder G.Folder folder.old folder.new
-        source.old source.new) result (IsTakenFrom (order_cmp taken.entry.opened.now.order) files given
-        taken.entry.opened.now.version (version_in taken.entry) taken.entry.comparison) }
+        source.old source.new) result (IsTakenFrom (order_cmp taken.entry.opened.now.order) files
+        given taken.entry.opened.now.version (version_in taken.entry) taken.entry.comparison) }
     // If outcomes were taken in from a folder on, this one was after them; or it was refused, and
     // the folder stands for what was opened.
     ensures taken { (first : F) → IsTakingEnd F.Folder (order_cmp taken.entry.opened.now.order)

@@ -1,7 +1,6 @@
 //! What a command line asks for. Of a command `folder` is the path of its folder; `spelling` is how
-//! keys are given, and how keys and values are printed; `is_json` is whether the answer is printed
-//! as JSON; `testing` is how the version is tested before, and `memory` how many MiB of tables that
-//! may hold, 1 to 2^24.
+//! keys are given, and keys and values printed; `is_json` is whether the answer is JSON; `testing`
+//! is how the version is tested before; `memory` how many MiB of tables that may hold, 1 to 2^24.
 
 use compact::{Settings, Snapshots};
 use texts::Spelling;
@@ -210,16 +209,14 @@ pub struct CompactOptions<'a> {
 pub enum CompactWork<'a> {
     /// These levels. Each outcome is installed in the folder.
     Installed(Levels),
-    /// A level, once. The outcome goes into a folder of its own, and the other one is only read. No
-    /// account is told then, and no file is removed.
+    /// A level, once. The outcome goes into a folder of its own, and the other one is only read.
     Written {
         level: u64,
         /// The number of the part of the level. Without it, what a compaction picks of the level.
         part: Option<u64>,
         /// The path of the folder that gets the outcome.
         out: &'a str,
-        /// The number of the first new table. Without it, the one after the version's next file
-        /// number.
+        /// The number of the first new table. Without it, that after the version's next file.
         first_number: Option<u64>,
     },
 }
@@ -231,8 +228,7 @@ pub enum Levels {
     One(u64),
     /// All files of this level, with one manifest.
     Whole(u64),
-    /// Each level from 0 down, until all files are at the deepest level that has any. Of a level
-    /// first all parts that fit into the test's memory, with one manifest.
+    /// Each level down to the deepest that has files: first all parts that fit into the memory.
     All,
 }
 
@@ -244,8 +240,7 @@ pub struct InstallLine<'a> {
     pub outs: Vec<&'a str>,
     /// The sequences at which gets have to answer as before. None is given if the test is skipped.
     pub snapshots: Snapshots<'a>,
-    /// How each outcome is tested before: it is compared with the inputs, unless the test is
-    /// skipped.
+    /// How each outcome is tested before: it is compared with the inputs, unless that is skipped.
     pub testing: Testing,
     /// Whether files that no version needs are removed after the installation.
     pub cleans: bool,
